@@ -1,12 +1,11 @@
 -- What is kept goes on by one more record.
-use Rattle.audit_devices.proofs.Words.{if◌then◌else◌, ◌++◌, ◌==◌, ◌∙◌, ◌∷◌, ◌≡◌, ◌≤◌, ◌⊎◌, Bool, Carried, DeviceId, Effect, Entry, Happening, History, IsIn}
-use Rattle.audit_devices.proofs.Words.{IsPartitionedBy, Keeps, List, Network, None, NoneLater, NoteBody, Nothing, Option, Scenario, Shown, Shows, Some}
-use Rattle.audit_devices.proofs.Words.{[], ap, arith, effect_by, effect_of, false, filter, inl, inr, is_before, last_or, members_in}
-use Rattle.audit_devices.proofs.Words.{ne_eqb, option_map_or, place_of, records_before, refl, subject_of, subst, sym, time_of, true, ℕ}
+use Rattle.audit_devices.proofs.{Partitions.parted_on, Steps.quiet}
+use Rattle.audit_devices.proofs.Words.{◌++◌, ◌==◌, ◌∙◌, ◌∷◌, ◌≡◌, ◌≤◌, ◌⊎◌, Bool, Carried, DeviceId, Effect, Entry, Happening, History, IsIn, IsPartitionedBy}
+use Rattle.audit_devices.proofs.Words.{Keeps, List, Network, None, NoneLater, NoteBody, Nothing, Option, Scenario, Shown, Shows, Some, [], ap, arith, effect_by}
+use Rattle.audit_devices.proofs.Words.{effect_of, false, filter, if◌then◌else◌, inl, inr, is_before, last_or, members_in, ne_eqb, option_map_or, place_of}
+use Rattle.audit_devices.{proofs.Words.{records_before, refl, subject_of, subst, sym, time_of, true, ℕ}, specs.Keeping.{IsOfRecord, latest_of, shown_before}}
 use Rattle.run_law.proofs.{records.Order.{all_kept, before_is, is_there}, runs.Places.{chain, in_left, in_parts, in_right}}
-use Rattle.run_law.specs.records.{Order.{AllBefore, IsBefore}, Ranks.{key, rank}}
-use Rattle.tte_lemmas.proofs.Lists.{filter_off, filter_on, last_pushed}
-use Rattle.audit_devices.{proofs.{Partitions.parted_on, Steps.quiet}, specs.Keeping.{IsOfRecord, latest_of, shown_before}}
+use Rattle.{run_law.specs.records.{Order.{AllBefore, IsBefore}, Ranks.{key, rank}}, tte_lemmas.proofs.Lists.{filter_off, filter_on, last_pushed}}
 use Rattle.run_law.specs.declared.note.NoteBody.TheVariants as notes
 
 -- ---- the test of places

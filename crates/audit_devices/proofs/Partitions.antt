@@ -1,8 +1,7 @@
 -- Lists whose elements that pass a test are the first.
-use Rattle.audit_devices.proofs.Words.{if◌then◌else◌, ◌++◌, ◌<◌, ◌∙◌, ◌∷◌, ◌≡◌, ◌≤◌, Bool, IsIn, IsPartitionPoint, IsPartitionedBy, List, [], ap, arith}
-use Rattle.audit_devices.proofs.Words.{cases_lt, false, filter, inl, inr, length, length-append, refl, suc, sym, take, true, zero, ℕ}
-use Rattle.audit_devices.proofs.Words.{◌⊎◌, Option, Some, last_or, subst}
-use Rattle.std.proofs.{Common.get_or, Math.{ListN.get_or-append, Seq.get_or-append_seam}}
+use Rattle.audit_devices.proofs.Words.{◌++◌, ◌<◌, ◌∙◌, ◌∷◌, ◌≡◌, ◌≤◌, ◌⊎◌, Bool, IsIn, IsPartitionPoint, IsPartitionedBy, List, Option, Some, [], ap, arith}
+use Rattle.audit_devices.proofs.Words.{cases_lt, false, filter, if◌then◌else◌, inl, inr, last_or, length, length-append, refl, subst, suc, sym, take, true}
+use Rattle.{audit_devices.proofs.Words.{zero, ℕ}, std.proofs.{Common.get_or, Math.{ListN.get_or-append, Seq.get_or-append_seam}}}
 
 pub in_index : {X : Type 0} (xs : List X) (i : ℕ) (d : X) → i < length xs → IsIn (get_or xs i d) xs
 in_index [] i d lt = absurd (omega (arith, lt))

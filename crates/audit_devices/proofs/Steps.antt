@@ -4,13 +4,12 @@ use Rattle.audit_devices.proofs.Words.{◌&&◌, ◌++◌, ◌+ℤ◌, ◌+◌, 
 use Rattle.audit_devices.proofs.Words.{Joins, List, None, NoneLater, Nothing, Scenario, Shown, Shows, Some, Summarizes, Turns, Units, [], ap, arith, cases_lt}
 use Rattle.audit_devices.proofs.Words.{changes_adjustment, cons_option, effect_of, false, filter, filter_map, heard_at, hearing_by, if◌then◌else◌, inl, inr}
 use Rattle.audit_devices.proofs.Words.{is_joined_by, last_or, ne_eqb, option_map_or, points_by, pos, refl, silence, subst, sym, time_of, true, ℕ, ℤ}
-use Rattle.audit_devices.specs.Following.{changed_to, joined_to}
-use Rattle.std.proofs.lemmas.{Bool.eq-eqb, List.{append-nil, Elements.{filter-append, filter_map-append}, Folds.list_any-append, Sums.fold-append}}
-use Rattle.run_law.proofs.{records.Order.after_more, runs.Places.{in_left, in_right}}
-use Rattle.run_law.specs.control.Corrections.{cycle_after, integration_cycle, recorded_cycle}
+use Rattle.{audit_devices.specs.Following.{changed_to, joined_to}, run_law.specs.control.Corrections.{cycle_after, integration_cycle, recorded_cycle}}
+use Rattle.{run_law.proofs.records.Order.after_more, std.proofs.lemmas.List.{Sums.fold-append, append-nil}, sync_state.specs.declared.state.State.State}
+use Rattle.{run_law.proofs.runs.Places.{in_left, in_right}, std.proofs.lemmas.List.Folds.list_any-append, tte_lemmas.{proofs.{Bools.{no_more as none_more}}}}
 use Rattle.run_law.specs.device.States.{adjustment_after, adjustment_with, cycle_in, has_joined_at, joined_adjustment, state_after, state_with}
-use Rattle.sync_state.specs.declared.state.State.{State}
-use Rattle.tte_lemmas.proofs.{Bools.no_more as none_more, Lists.{after_one, filter_off, filter_on, last_pushed}}
+use Rattle.std.proofs.lemmas.Bool.{eq-eqb}
+use Rattle.{std.proofs.lemmas.List.Elements.{filter-append, filter_map-append}, tte_lemmas.proofs.Lists.{after_one, filter_off, filter_on, last_pushed}}
 
 -- the records, and one more
 abbrev pub with_one : List Happening → Happening → List Happening

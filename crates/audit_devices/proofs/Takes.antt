@@ -1,16 +1,15 @@
 -- What is kept of the frames that were taken.
-use Rattle.audit_devices.proofs.Words.{if◌then◌else◌, ◌&&◌, ◌++◌, ◌<◌, ◌==◌, ◌||◌, ◌∙◌, ◌∷◌, ◌≡◌, ◌⊎◌, AscendAll, Bool, DeviceId, DeviceTakings, Global}
-use Rattle.audit_devices.proofs.Words.{Happening, IsIn, List, Network, None, NoteBody, Option, Some, Taking, Vec, VlId, [], ap, arith, cons_option, false}
-use Rattle.audit_devices.proofs.Words.{filter, filter_map, inl, inr, is_taking_before, last_or, length, members_in, nat_lt, ne_eqb, option_map, option_map_or}
+use Rattle.{audit_devices.proofs.Kept.test_chain, net_plan.specs.declared.ids.LinkId.LinkId, run_law.proofs.{records.Order.before_is, runs.Places.in_parts}}
+use Rattle.{audit_devices.proofs.Partitions.parted_on, std.specs.Prelude.{OnOk, is_ok, option_and_then}, tte_lemmas.proofs.Lists.{set_other, set_same}}
+use Rattle.audit_devices.proofs.Words.{◌&&◌, ◌++◌, ◌<◌, ◌==◌, ◌||◌, ◌∙◌, ◌∷◌, ◌≡◌, ◌⊎◌, AscendAll, Bool, DeviceId, DeviceTakings, Global, Happening, IsIn, List}
+use Rattle.audit_devices.proofs.Words.{Network, None, NoteBody, Option, Some, Taking, Vec, VlId, [], ap, arith, cons_option, false, filter, filter_map}
+use Rattle.audit_devices.proofs.Words.{if◌then◌else◌, inl, inr, is_taking_before, last_or, length, members_in, nat_lt, ne_eqb, option_map, option_map_or}
 use Rattle.audit_devices.proofs.Words.{place_at, place_of, refl, slice_get, slice_set, subst, suc, sym, taken_of, takings_of, time_of, true, zero, ℕ}
-use Rattle.std.proofs.{Common.{Err, Ok, Result}, lemmas.{Bool.{cases_order, eq-eqb, le-ltb}, List.Elements.filter_map-append}}
-use Rattle.std.specs.Prelude.{OnOk, is_ok, option_and_then}
-use Rattle.net_plan.{proofs.SameIds.alike, specs.declared.ids.LinkId.LinkId}
-use Rattle.run_law.{proofs.{records.Order.before_is, runs.Places.in_parts}, specs.{records.Order.{AllBefore, IsBefore}, scenario.Devices.is_end}}
-use Rattle.run_law.specs.timed.{Dispatching.{is_accepted, last_accepted}, Receptions.{is_taken_before, last_taken, taken_cycle}}
-use Rattle.tte_lemmas.proofs.{Bools.{no_more, none_shorter}, Lists.{set_other, set_same}}
-use Rattle.audit_devices.{proofs.{Kept.test_chain, Partitions.parted_on}, specs.Taking.{coming_of, taken_at, taken_by, taking_of}}
-use Rattle.audit_devices.specs.{Takings.{HasTaken, TakesRightly, kept_of, taker_count}, declared.{taking.Taken.Taken, takings.Takings.Takings}}
+use Rattle.audit_devices.specs.{Taking.{coming_of, taken_at, taken_by, taking_of}, Takings.{HasTaken, TakesRightly, kept_of, taker_count}}
+use Rattle.{audit_devices.specs.declared.taking.Taken.Taken, run_law.specs.records.Order.{AllBefore, IsBefore}, tte_lemmas.proofs.Bools.{no_more, none_shorter}}
+use Rattle.{audit_devices.specs.declared.takings.Takings.Takings, std.proofs.lemmas.{Bool.{cases_order, eq-eqb, le-ltb}, List.Elements.filter_map-append}}
+use Rattle.{net_plan.proofs.SameIds.alike, std.proofs.Common.{Err, Ok, Result}}
+use Rattle.run_law.specs.{scenario.Devices.is_end, timed.{Dispatching.{is_accepted, last_accepted}, Receptions.{is_taken_before, last_taken, taken_cycle}}}
 use Rattle.run_law.specs.declared.note.NoteBody.TheVariants as notes
 
 -- ---- the last one

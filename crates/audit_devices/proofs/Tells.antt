@@ -1,12 +1,10 @@
 -- What a record tells of a device is told by its effect.
-use Rattle.std.proofs.Common.{arith}
 use Rattle.audit_devices.proofs.Words.{◌+◌, ◌==◌, ◌≡◌, Bool, Corrects, DeviceId, Effect, Happening, Hearing, Hears, Joins, None, NoteBody, Nothing, Option}
 use Rattle.audit_devices.proofs.Words.{Scenario, Some, Turns, Units, carried_by, changes_adjustment, effect_by, false, hearing_by, if◌then◌else◌, is_joined_by}
-use Rattle.audit_devices.{proofs.Words.{option_map, true, ℕ}, specs.Effects.heard_on}
-use Rattle.pcf_values.specs.declared.channel.Channel.{Channel}
-use Rattle.run_law.specs.{control.Corrections.{cycle_after, heard_by}, declared.judgement.Judgement.TheVariants.{Integrates, Outside, Within}}
+use Rattle.{audit_devices.{proofs.Words.{option_map, true, ℕ}, specs.Effects.heard_on}, sync_state.specs.declared.state.State.State}
+use Rattle.{pcf_values.specs.declared.channel.Channel.Channel, run_law.specs.control.Corrections.{cycle_after, heard_by}, std.proofs.Common.arith}
+use Rattle.{run_law.specs.declared.judgement.Judgement.TheVariants.{Integrates, Outside, Within}, sync_state.specs.declared.state.State.TheVariants.Joining}
 use Rattle.run_law.specs.{device.States.{adjustment_with, cycle_in, joined_adjustment, state_with}, scenario.Devices.{channel_of, channel_of_link}}
-use Rattle.sync_state.specs.declared.state.State.{State, TheVariants.Joining}
 use Rattle.run_law.specs.declared.note.NoteBody.TheVariants as notes
 
 abbrev pub state_by : State → Effect → State

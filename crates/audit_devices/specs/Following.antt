@@ -1,14 +1,13 @@
 -- How what is shown of a device goes on by one record.
 use Rattle.std.specs.Prelude.{◌++◌, ◌+ℤ◌, ◌+◌, ◌-ℤ◌, ◌∷◌, ◌≡◌, List, Some, [], pos, ℕ, ℤ}
-use Rattle.membership.specs.{Hearing.Hearing, Summary.{Summarizes, Summary, silence}}
-use Rattle.net_plan.specs.declared.{ids.DeviceId.DeviceId, network.Network.Network}
-use Rattle.run_law.specs.{declared.note.NoteBody.NoteBody, records.Happenings.{Happening, time_of}}
-use Rattle.run_law.specs.scenario.{Devices.plan_of, Scenarios.Scenario}
-use Rattle.sync_state.specs.{Plan.expected_at, declared.state.State.TheVariants.Joining}
-use Rattle.tte_units.specs.declared.units.Units.{Units}
 use Rattle.audit_devices.specs.{Effects.carried_by, Showing.{IsReading, IsSteady, Shown, heard_by_then, points_by}}
 use Rattle.audit_devices.specs.declared.{effect.Carried.Carried, shown.Readings.Readings}
 use Rattle.audit_devices.specs.declared.effect.Effect.{Effect, TheVariants.{Corrects, Hears, Joins, Nothing, Turns}}
+use Rattle.{membership.specs.Hearing.Hearing, sync_state.specs.Plan.expected_at}
+use Rattle.{membership.specs.Summary.{Summarizes, Summary, silence}, net_plan.specs.declared.ids.DeviceId.DeviceId}
+use Rattle.{net_plan.specs.declared.network.Network.Network, sync_state.specs.declared.state.State.TheVariants.Joining}
+use Rattle.run_law.specs.{declared.note.NoteBody.NoteBody, records.Happenings.{Happening, time_of}}
+use Rattle.{run_law.specs.scenario.{Devices.plan_of, Scenarios.Scenario}, tte_units.specs.declared.units.Units.Units}
 
 -- the adjustment has just changed to this, and this cycle is next
 abbrev pub changed_to : Shown → ℤ → ℕ → ℕ → ℕ → Shown

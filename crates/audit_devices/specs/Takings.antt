@@ -1,10 +1,9 @@
 -- What is kept of the frames that were taken.
 use Rattle.std.specs.{Option.option_map_or, Prelude.{◌<◌, ◌≡◌, List, [], false, length, slice_get, true, ℕ}}
-use Rattle.net_plan.specs.declared.{ids.{DeviceId.DeviceId, VlId.VlId}, network.Network.Network}
-use Rattle.run_law.specs.{declared.note.NoteBody.NoteBody, records.{Happenings.Happening, Order.IsIn}}
-use Rattle.run_law.specs.scenario.Devices.{is_end}
-use Rattle.audit_devices.specs.{Taking.{AscendAll, takings_of}, declared.taking.Taking.Taking}
-use Rattle.audit_devices.specs.declared.takings.{DeviceTakings.DeviceTakings, Takings.Takings}
+use Rattle.{audit_devices.specs.Taking.{AscendAll, takings_of}, net_plan.specs.declared.network.Network.Network}
+use Rattle.audit_devices.specs.declared.{taking.Taking.Taking, takings.{DeviceTakings.DeviceTakings, Takings.Takings}}
+use Rattle.{net_plan.specs.declared.ids.{DeviceId.DeviceId, VlId.VlId}, run_law.specs.declared.note.NoteBody.NoteBody}
+use Rattle.run_law.specs.{records.{Happenings.Happening, Order.IsIn}, scenario.Devices.is_end}
 use Rattle.run_law.specs.declared.note.NoteBody.TheVariants as notes
 
 -- what is kept of the virtual link

@@ -23,10 +23,9 @@ pub(crate) struct History {
 }
 
 impl History {
-    ghost use Rattle.run_law.specs.records.{Happenings.Happening, Order.AllBefore, Ranks.place_of};
-    ghost use Rattle.run_law.specs.scenario.Scenarios.{Scenario};
     ghost use Rattle.audit_devices.specs.{Following.IsMet, Keeping.{IsInOrder, Keeps, latest_of, shown_before}};
-    ghost use Rattle.audit_devices.specs.Lasting.{Lasts};
+    ghost use Rattle.{audit_devices.specs.Lasting.Lasts, run_law.specs.records.Ranks.place_of};
+    ghost use Rattle.run_law.specs.{records.{Happenings.Happening, Order.AllBefore}, scenario.Scenarios.Scenario};
 
     /// Nothing but what is shown at first.
     pub(crate) fn new(alloc: Global, first: Shown) -> History

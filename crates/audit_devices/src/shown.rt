@@ -1,8 +1,7 @@
 ghost use Rattle.std.specs.Int.{int_div_euclid};
 ghost use Rattle.std.specs.Prelude.{◌++◌, ◌+ℤ◌, ◌+◌, ◌-ℤ◌, ◌-◌, ◌^◌, ◌∷◌, ◌≡◌, ◌≤ℤ◌, ◌≤◌, List, [], neg_ℤ, pos, ℕ};
-ghost use Rattle.net_plan.specs.Ranges.{IsInRange};
+ghost use Rattle.{net_plan.specs.Ranges.IsInRange, run_law.specs.scenario.Devices.start_of};
 ghost use Rattle.run_law.specs.{control.Corrections.correction_value, device.Standpoints.natural};
-ghost use Rattle.run_law.specs.scenario.Devices.{start_of};
 
 use crate::Carried;
 use crate::effect::{Effect, effect_of};
@@ -75,15 +74,14 @@ impl Model for Shown {
 }
 
 impl Shown {
-    ghost use Rattle.net_plan.specs.declared.ids.DeviceId.{DeviceId};
-    ghost use Rattle.audit_devices.specs.law.CorrectionNumbers.{heard_since_point, next_number};
+    ghost use Rattle.audit_devices.specs.Following.{Follows, HearsOne, IsMet, adjustment_at, changed_to, joined_to};
     ghost use Rattle.audit_devices.specs.Reading.{OnlyJoined, ReadBefore};
+    ghost use Rattle.audit_devices.specs.Showing.{IsAfter, IsSteady, NoneLater, Shows, heard_by_then, points_by};
+    ghost use Rattle.audit_devices.specs.law.CorrectionNumbers.{heard_since_point, next_number};
+    ghost use Rattle.{membership.specs.Summary.{Summarizes, Summary}, net_plan.specs.declared.ids.DeviceId.DeviceId};
     ghost use Rattle.run_law.specs.device.States.{adjustment_at_hearing, has_joined_at, state_before};
     ghost use Rattle.run_law.specs.records.Happenings.{Happening, earlier, time_of};
     ghost use Rattle.run_law.specs.scenario.Scenarios.{Scenario, is_turned_on_at};
-    ghost use Rattle.membership.specs.Summary.{Summarizes, Summary};
-    ghost use Rattle.audit_devices.specs.Following.{Follows, HearsOne, IsMet, adjustment_at, changed_to, joined_to};
-    ghost use Rattle.audit_devices.specs.Showing.{IsAfter, IsSteady, NoneLater, Shows, heard_by_then, points_by};
 
     /// What no record shows of the device: it stands as the network says.
     pub fn new(network: &Network, device: DeviceId) -> Shown

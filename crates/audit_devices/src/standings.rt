@@ -18,12 +18,11 @@ pub struct Standings {
 }
 
 impl Standings {
-    ghost use Rattle.net_plan.specs.declared.ids.DeviceId.{DeviceId};
+    ghost use Rattle.audit_devices.specs.{Keeping.{IsSeen, Stands, device_count, records_before}, Lasting.ShowsUpTo};
+    ghost use Rattle.{audit_devices.specs.Showing.{IsSteady, Shows}, net_plan.specs.declared.ids.DeviceId.DeviceId};
     ghost use Rattle.run_law.specs.declared.{judgement.Judgement.Judgement, note.NoteBody.TheVariants.Permanent};
     ghost use Rattle.run_law.specs.{plain.Places.number_of, records.Order.AllBefore, scenario.Scenarios.Scenario};
     ghost use Rattle.run_law.specs.records.{Happenings.{Happening, earlier}, Ranks.{place_at, place_of}};
-    ghost use Rattle.audit_devices.specs.{Keeping.{IsSeen, Stands, device_count, records_before}, Lasting.ShowsUpTo};
-    ghost use Rattle.audit_devices.specs.Showing.{IsSteady, Shows};
 
     /// What no record shows.
     pub fn new(alloc: Global, network: &Network) -> Result<Standings, AllocError>

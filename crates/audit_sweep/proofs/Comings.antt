@@ -1,10 +1,8 @@
 -- What arrives by a passage.
-use Rattle.std.proofs.Common.{arith}
 use Rattle.audit_sweep.proofs.Words.{◌≡◌, Arrival, ArrivesAs, DeviceId, Happening, LinkId, List, None, Option, Scenario, Some, inl, inr, numbered, one, pos}
-use Rattle.audit_sweep.{proofs.Words.{subst, ℕ}, specs.Passing.{IsComing, TakesWith}}
+use Rattle.{audit_sweep.proofs.Words.{subst, ℕ}, run_law.{proofs.runs.SameSteps.same_arrival, specs.control.Wires.Arrives}, std.proofs.Common.arith}
+use Rattle.{audit_sweep.specs.Passing.{IsComing, TakesWith}, net_plan.specs.declared.tables.Way.TheVariants.Up, run_law.specs.runs.DueRecords.IsArrivedRecord}
 use Rattle.audit_sweep.specs.{declared.{passage.Passage.Passage, records.wires.putting.OnWire.OnWire}, records.wires.Receptions.IsArriving}
-use Rattle.net_plan.specs.declared.tables.Way.TheVariants.{Up}
-use Rattle.run_law.{proofs.runs.SameSteps.same_arrival, specs.{control.Wires.Arrives, runs.DueRecords.IsArrivedRecord}}
 use Rattle.run_law.specs.declared.steps.Arrival.TheVariants as arrivals
 
 pub coming : (s : Scenario) (hs : List Happening) (passage : Passage) (h : Happening) (result : Option OnWire) → numbered hs passage.cause ≡ Some h

@@ -1,10 +1,9 @@
 -- Records that stand before a hearing.
-use Rattle.audit_sweep.proofs.Words.{◌∷◌, ◌≡◌, ◌≤◌, DeviceId, Happening, IsHeardBefore, List, NoneLater, NoteBody, []}
-use Rattle.audit_sweep.proofs.Words.{arith, inl, inr, key, members_in, place_of, rank, refl, time_of, ℕ}
+use Rattle.{audit_devices.proofs.law_lemmas.Correcting.time_before, run_law.specs.{device.LocalClocks.changes_adjustment, records.Order.{IsBefore, is_before}}}
+use Rattle.{audit_devices.specs.Reading.OnlyJoined, run_law.{proofs.runs.Places.earlier_time, specs.device.States.is_joined_by}}
+use Rattle.audit_sweep.proofs.Words.{◌∷◌, ◌≡◌, ◌≤◌, DeviceId, Happening, IsHeardBefore, List, NoneLater, NoteBody, [], arith, inl, inr, key, members_in}
+use Rattle.{audit_sweep.proofs.Words.{place_of, rank, refl, time_of, ℕ}, run_law.{proofs.{records.{Order.{has_passed, is_there, time_before as rank_first}}}}}
 use Rattle.std.proofs.Common.{◌<◌, filter}
-use Rattle.audit_devices.{proofs.law_lemmas.Correcting.time_before, specs.Reading.OnlyJoined}
-use Rattle.run_law.proofs.{records.Order.{has_passed, is_there, time_before as rank_first}, runs.Places.earlier_time}
-use Rattle.run_law.specs.{device.{LocalClocks.changes_adjustment, States.is_joined_by}, records.Order.{IsBefore, is_before}}
 use Rattle.run_law.specs.declared.note.NoteBody.TheVariants as notes
 
 rank_before : (u r t q : ℕ) (ks ls : List ℕ) → u ≡ t → IsBefore (u ∷ r ∷ ks) (t ∷ q ∷ ls) → r ≤ q

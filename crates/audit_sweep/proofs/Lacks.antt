@@ -1,13 +1,10 @@
 -- The first that the records of a report lack.
+use Rattle.audit_devices.{proofs.law_lemmas.{Earliest.first_debt_law, Owing.of_amount}, specs.law.FirstDebts.{AreFirsts, Firsts, TellsFirst, earliest}}
+use Rattle.{audit_devices.specs.events.Readings.HaveBegun, audit_sweep.specs.{declared.sweep.Sweep.Sweep, unpaid.{Clocks.IsOnlyEnd, Debtors.device_named}}}
+use Rattle.{audit_devices.specs.law.Owed.Debt, run_law.specs.runs.DueRecords.EndsAt, std.proofs.Common.◌≤ℤ◌, tte_units.specs.Amount.units_of}
 use Rattle.audit_sweep.proofs.Words.{◌+◌, ◌∷◌, ◌≡◌, DeviceId, Happening, IsDue, IsFounded, IsSwept, List, Network, NoteBody, Option, Some, Units, [], amount}
 use Rattle.audit_sweep.{proofs.Words.{ap, founded_of_sound, place_of, pos, refl, scenario_under, subst, sym, ℕ}, specs.unpaid.points.Told.AreOfDevices}
-use Rattle.audit_sweep.specs.{Lacking.TellsFirstLack, Sweeping.SweepsSome, declared.sweep.Sweep.Sweep, unpaid.{Clocks.IsOnlyEnd, Debtors.device_named}}
-use Rattle.std.proofs.Common.{◌≤ℤ◌}
-use Rattle.audit_devices.{proofs.law_lemmas.{Earliest.first_debt_law, Owing.of_amount}, specs.law.FirstDebts.{AreFirsts, Firsts, TellsFirst, earliest}}
-use Rattle.audit_devices.specs.{events.Readings.HaveBegun, law.Owed.Debt}
-use Rattle.net_plan.specs.declared.event.Event.{Event}
-use Rattle.run_law.specs.{records.Causes.device_of, runs.DueRecords.EndsAt}
-use Rattle.tte_units.specs.Amount.{units_of}
+use Rattle.{audit_sweep.specs.{Lacking.TellsFirstLack, Sweeping.SweepsSome}, net_plan.specs.declared.event.Event.Event, run_law.specs.records.Causes.device_of}
 use Rattle.audit_sweep.specs.unpaid.points.Kept as clocks
 use Rattle.audit_sweep.specs.unpaid.emissions.Kept as clusters
 use Rattle.run_law.specs.declared.note.NoteBody.TheVariants as notes

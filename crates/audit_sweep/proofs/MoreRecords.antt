@@ -1,8 +1,6 @@
 -- Records that are sound, and one more.
-use Rattle.audit_sweep.proofs.Words.{◌++◌, ◌∙◌, ◌∷◌, ◌≡◌, List, [], ap, inl, inr, subst, ℕ}
-use Rattle.std.proofs.lemmas.List.{append-nil}
-use Rattle.audit_devices.specs.law.Findings.{AreSound, IsSound}
-use Rattle.run_law.proofs.runs.Grow.{in_two}
+use Rattle.{audit_devices.specs.law.Findings.{AreSound, IsSound}, audit_sweep.proofs.Words.{◌++◌, ◌∙◌, ◌∷◌, ◌≡◌, List, [], ap, inl, inr, subst, ℕ}}
+use Rattle.{run_law.proofs.runs.Grow.in_two, std.proofs.lemmas.List.append-nil}
 
 -- records that are sound, and a further one that is sound given them
 pub sound_more : {N : Type 0} (place : N → List ℕ) (IsDue : List N → N → Type 0) (mark : List ℕ) (ns : List N) (x : N) → AreSound place IsDue mark ns

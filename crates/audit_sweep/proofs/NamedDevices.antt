@@ -1,9 +1,7 @@
 -- The devices that records name.
 use Rattle.audit_sweep.proofs.Words.{◌++◌, ◌∙◌, ◌∷◌, ◌≡◌, DeviceId, Happening, IsBodyOf, IsIn, List, Network, NoteBody, Some, [], ap, inl, inr, subst, sym}
+use Rattle.{audit_sweep.specs.unpaid.Debtors.device_named, net_plan.specs.Belonging.HasDevice, run_law.proofs.runs.Places.in_parts}
 use Rattle.std.proofs.lemmas.Option.{same_Some}
-use Rattle.audit_sweep.specs.unpaid.Debtors.{device_named}
-use Rattle.net_plan.specs.Belonging.{HasDevice}
-use Rattle.run_law.proofs.runs.Places.{in_parts}
 use Rattle.net_plan.specs.declared.event.What.TheVariants as events
 use Rattle.run_law.specs.declared.note.NoteBody.TheVariants as notes
 

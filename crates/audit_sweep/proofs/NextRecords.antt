@@ -1,12 +1,9 @@
 -- What is known of records goes on by the next one.
-use Rattle.std.proofs.{Common.{◌⊎◌, arith, suc, zero}, lemmas.List.map-append}
+use Rattle.{audit_devices.specs.{Effects.subject_of, events.Readings.ReadsOn}, run_law.specs.declared.note.Note.Note, std.proofs.Common.{◌⊎◌, arith, suc, zero}}
+use Rattle.{audit_devices.specs.Showing.IsSteady, net_plan.specs.Belonging.HasDevice, std.proofs.lemmas.List.map-append, tte_lemmas.proofs.Lists.pushed}
 use Rattle.audit_sweep.proofs.Words.{◌++◌, ◌∙◌, ◌∷◌, ◌≡◌, DeviceId, Happening, IsBodyOf, IsCaused, IsDue, KeptRecord, List, Network, NoteBody, Scenario, Some}
 use Rattle.audit_sweep.{proofs.Words.{[], amount, ap, happening, inl, inr, numbered, subst, sym, ℕ}, specs.records.Keeping.{record_of, records_of}}
-use Rattle.audit_sweep.specs.Knowing.{AllShowByCause, AllYoung}
-use Rattle.audit_devices.specs.{Effects.subject_of, Showing.IsSteady, events.Readings.ReadsOn}
-use Rattle.run_law.{proofs.{control.Arrived.arrived_young, records.Happenings.none_numbered}, specs.declared.note.Note.Note}
-use Rattle.net_plan.specs.Belonging.{HasDevice}
-use Rattle.tte_lemmas.proofs.Lists.{pushed}
+use Rattle.{audit_sweep.specs.Knowing.{AllShowByCause, AllYoung}, run_law.proofs.{control.Arrived.arrived_young, records.Happenings.none_numbered}}
 use Rattle.run_law.specs.declared.note.NoteBody.TheVariants as notes
 
 -- of the records with the next one, each is one of them, or the next one

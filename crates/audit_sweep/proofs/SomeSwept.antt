@@ -1,9 +1,8 @@
 -- What is known of a sweep.
 use Rattle.audit_sweep.proofs.Words.{◌+◌, ◌∷◌, ◌≡◌, ◌≤◌, Happening, IsSwept, List, Network, Units, [], amount, arith, inl, inr, place_of, refl, subst, sym}
-use Rattle.audit_sweep.{proofs.Words.{time_of, ℕ}, specs.{Knowing.{IsKnown, KnowsSome}, Sweeping.SweepsSome, declared.{known.Known.Known, sweep.Sweep.Sweep}}}
+use Rattle.{audit_sweep.{proofs.Words.{time_of, ℕ}, specs.Sweeping.SweepsSome}, net_plan.specs.Ranges.IsInRange, run_law.specs.records.Order.IsBefore}
+use Rattle.{audit_sweep.specs.{Knowing.{IsKnown, KnowsSome}, declared.{known.Known.Known, sweep.Sweep.Sweep}}, net_plan.specs.declared.event.Event.Event}
 use Rattle.std.proofs.Common.{◌^◌}
-use Rattle.net_plan.specs.{Ranges.IsInRange, declared.event.Event.Event}
-use Rattle.run_law.specs.records.Order.{IsBefore}
 
 -- it is of its network
 pub of_its_network : (network : Network) (befallen : List Event) (end : Units) (hs : List Happening) (sweep : Sweep)

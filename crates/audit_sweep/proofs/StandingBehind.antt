@@ -1,8 +1,7 @@
 -- A record that stands behind others.
+use Rattle.{audit_devices.proofs.law_lemmas.Correcting.time_before, audit_sweep.specs.Judging.StandsBehind, pcf_values.specs.declared.members.Members.Members}
 use Rattle.audit_sweep.proofs.Words.{DeviceId, Happening, IsHeardBefore, Judgement, List, NoneLater, NoteBody, Units, amount, arith, key, members_in, rank}
-use Rattle.audit_sweep.{proofs.Words.{time_of, ℕ}, specs.Judging.StandsBehind}
-use Rattle.audit_devices.proofs.law_lemmas.Correcting.{time_before}
-use Rattle.pcf_values.specs.declared.members.Members.{Members}
+use Rattle.audit_sweep.proofs.Words.{time_of, ℕ}
 use Rattle.run_law.specs.declared.note.NoteBody.TheVariants as notes
 
 -- none of them is later

@@ -1,7 +1,5 @@
 -- Where a device stands, part by part.
-use Rattle.audit_sweep.proofs.Words.{◌∙◌, ◌≡◌, Bool, Standpoint, ap, ℕ}
-use Rattle.std.proofs.Common.{ℤ}
-use Rattle.sync_state.specs.declared.state.State.{State}
+use Rattle.{audit_sweep.proofs.Words.{◌∙◌, ◌≡◌, Bool, Standpoint, ap, ℕ}, std.proofs.Common.ℤ, sync_state.specs.declared.state.State.State}
 
 unfoldable pub stood : Bool → State → ℕ → ℤ → Standpoint
 stood takes state reading adjustment = record { takes_part = takes; state = state; reading = reading; adjustment = adjustment }

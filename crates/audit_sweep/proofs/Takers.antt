@@ -1,14 +1,11 @@
 -- Switches accept frames, and end systems have them delivered.
-use Rattle.audit_sweep.proofs.Words.{if◌then◌else◌, ◌≡◌, Arrival, ArrivesAs, Bool, DeviceId, Happening, IsCaused, IsDue, LinkId, List, Network, None, NoteBody}
-use Rattle.audit_sweep.proofs.Words.{Option, Scenario, Some, Standpoint, Units, amount, refl, subst, sym, true, ℕ}
-use Rattle.std.{proofs.Common.{false, length}, specs.Prelude.{Err, Ok}}
-use Rattle.audit_devices.specs.Takings.{TakesRightly}
-use Rattle.net_plan.specs.declared.{ids.VlId.VlId, tables.Way.TheVariants.{Down, Up}}
-use Rattle.pcf_values.specs.declared.pcf.Pcf.{Pcf}
-use Rattle.run_law.specs.{control.{Arrivals.{frame_fault, frame_or_fault}, Wires.{Signal, control, timed}}, declared.judgement.Reason.Reason}
+use Rattle.{audit_devices.specs.Takings.TakesRightly, pcf_values.specs.declared.pcf.Pcf.Pcf, std.{proofs.Common.{false, length}, specs.Prelude.{Err, Ok}}}
+use Rattle.audit_sweep.proofs.Words.{◌≡◌, Arrival, ArrivesAs, Bool, DeviceId, Happening, IsCaused, IsDue, LinkId, List, Network, None, NoteBody, Option}
+use Rattle.audit_sweep.proofs.Words.{Scenario, Some, Standpoint, Units, amount, if◌then◌else◌, refl, subst, sym, true, ℕ}
+use Rattle.{net_plan.specs.declared.{ids.VlId.VlId, tables.Way.TheVariants.{Down, Up}}, run_law.specs.control.Arrivals.{frame_fault, frame_or_fault}}
+use Rattle.{run_law.specs.{control.Wires.{Signal, control, timed}, declared.judgement.Reason.Reason}, schedule_tables.specs.declared.entry.Entry.Entry}
 use Rattle.run_law.specs.{device.Standpoints.{clock_of, cycle_at, standpoint}, scenario.Devices.{is_end, is_parent_of, is_relay}}
 use Rattle.run_law.specs.timed.{Arrivals.{entry_arrival, octets_fault, octets_or_fault, row_fault, taken_or_fault}, Receptions.{arrival_of, last_taken}}
-use Rattle.schedule_tables.specs.declared.entry.Entry.{Entry}
 use Rattle.run_law.specs.declared.note.NoteBody.TheVariants as notes
 use Rattle.run_law.specs.declared.steps.Arrival.TheVariants as arrivals
 

@@ -1,8 +1,7 @@
 -- What a record of which this is kept is to the state of a device.
 use Rattle.std.specs.Prelude.{if◌then◌else◌, ◌&&◌, ◌==◌}
 use Rattle.audit_devices.specs.declared.clocks.changing.Bringer.{Bringer, TheVariants.{Corrects, Joins, Other, TurnsOn}}
-use Rattle.audit_sweep.specs.declared.records.kept.Kept.{Kept}
-use Rattle.net_plan.specs.declared.ids.DeviceId.{DeviceId}
+use Rattle.{audit_sweep.specs.declared.records.kept.Kept.Kept, net_plan.specs.declared.ids.DeviceId.DeviceId}
 use Rattle.audit_sweep.specs.declared.records.kept.Kept.TheVariants as kepts
 
 -- it turns it on, corrects its clock, tells it the time, or none of these

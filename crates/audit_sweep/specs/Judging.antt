@@ -1,10 +1,9 @@
 -- What is known of a record before it is judged.
 use Rattle.std.specs.Prelude.{◌^◌, ◌≤ℤ◌, ◌≤◌, List, pos, ℕ}
-use Rattle.net_plan.specs.declared.{event.Event.Event, network.Network.Network}
-use Rattle.report_text.specs.Ranges.{IsBodyOf}
-use Rattle.run_law.specs.{declared.note.NoteBody.NoteBody, records.{Happenings.Happening, Order.AllBefore}}
-use Rattle.run_law.specs.{records.Ranks.{place_at, place_of}, runs.DueRecords.IsEventRecord}
-use Rattle.tte_units.specs.{Amount.amount, declared.units.Units.Units}
+use Rattle.{net_plan.specs.declared.event.Event.Event, tte_units.specs.{Amount.amount, declared.units.Units.Units}}
+use Rattle.{net_plan.specs.declared.network.Network.Network, run_law.specs.records.Ranks.{place_at, place_of}}
+use Rattle.{report_text.specs.Ranges.IsBodyOf, run_law.specs.records.Order.AllBefore}
+use Rattle.run_law.specs.{declared.note.NoteBody.NoteBody, records.Happenings.Happening, runs.DueRecords.IsEventRecord}
 use Rattle.run_law.specs.declared.note.NoteBody.TheVariants as notes
 
 -- where the record is of an event, that befalls so

@@ -1,14 +1,13 @@
 //! What becomes of frames at their arrival.
 
 ghost use Rattle.std.specs.Prelude.{◌↔◌, ◌≡◌, IsTrue, List};
-ghost use Rattle.audit_devices.specs.events.Readings.{scenario_under};
-ghost use Rattle.audit_sweep.specs.records.wires.{Entrances.{IsLastTaken, judged_as}, Signals.on_wire_of};
-ghost use Rattle.device_rules.specs.Answers.{arrival_as};
-ghost use Rattle.net_plan.specs.{Ranges.IsInRange, declared.event.Event.Event};
-ghost use Rattle.run_law.specs.{control.Wires.Signal, records.Happenings.Happening, runs.DueRecords.IsArrivedRecord};
-ghost use Rattle.run_law.specs.timed.Receptions.{ArrivesAs, arrival_of};
-ghost use Rattle.audit_sweep.specs.Knowing.{IsKnown, KnowsSome};
+ghost use Rattle.{audit_devices.specs.events.Readings.scenario_under, audit_sweep.specs.Knowing.{IsKnown, KnowsSome}};
 ghost use Rattle.audit_sweep.specs.Passing.{IsArrivedAs, IsComing, IsPassable, TakesWith};
+ghost use Rattle.audit_sweep.specs.records.wires.{Entrances.{IsLastTaken, judged_as}, Signals.on_wire_of};
+ghost use Rattle.{device_rules.specs.Answers.arrival_as, run_law.specs.control.Wires.Signal};
+ghost use Rattle.net_plan.specs.Ranges.{IsInRange};
+ghost use Rattle.{net_plan.specs.declared.event.Event.Event, run_law.specs.records.Happenings.Happening};
+ghost use Rattle.run_law.specs.{runs.DueRecords.IsArrivedRecord, timed.Receptions.{ArrivesAs, arrival_of}};
 
 use crate::known::Known;
 use crate::passage::Passage;

@@ -1,14 +1,13 @@
 //! What clocks come to: what masters send, corrections, changes of state, and the clocks at the end.
 
 ghost use Rattle.std.specs.Prelude.{◌-◌, ◌^◌, ◌↔◌, ◌≡◌, ◌≤ℤ◌, ◌≤◌, IsTrue, List, pos};
-ghost use Rattle.audit_devices.specs.{Showing.NoneLater, clocks.Points.IsHeard};
+ghost use Rattle.{audit_devices.specs.Showing.NoneLater, run_law.specs.{runs.Runs.IsFounded, timed.Dispatching.Sends}};
+ghost use Rattle.{audit_devices.specs.clocks.Points.IsHeard, audit_sweep.specs.Knowing.{IsKnown, KnowsSome}};
 ghost use Rattle.audit_devices.specs.{events.Readings.scenario_under, law.DueRecords.{IsCorrectedRecord, IsDue}};
-ghost use Rattle.net_plan.specs.{Belonging.HasDevice, Ranges.IsInRange, declared.event.Event.Event};
-ghost use Rattle.net_plan.specs.declared.network.Network.{Network as NetworkValue};
-ghost use Rattle.run_law.specs.records.{Happenings.Happening, Ranks.place_of};
-ghost use Rattle.run_law.specs.{runs.{DueRecords.{EndsAt, IsClockRecord}, Runs.IsFounded}, timed.Dispatching.Sends};
+ghost use Rattle.{net_plan.specs.{Belonging.HasDevice, Ranges.IsInRange}, run_law.specs.records.Ranks.place_of};
+ghost use Rattle.net_plan.specs.declared.{event.Event.Event, network.{Network.{Network as NetworkValue}}};
+ghost use Rattle.run_law.specs.{records.Happenings.Happening, runs.DueRecords.{EndsAt, IsClockRecord}};
 ghost use Rattle.tte_units.specs.Amount.{amount};
-ghost use Rattle.audit_sweep.specs.Knowing.{IsKnown, KnowsSome};
 
 use crate::known::Known;
 use audit_devices::clocks::{Correction, EndClock, Moment, corrects, sends, shows_clock};

@@ -1,16 +1,14 @@
 //! How devices hear frames: what becomes of those that are permanent, and what compression masters send.
 
 ghost use Rattle.std.specs.Prelude.{◌<◌, ◌^◌, ◌↔◌, ◌∷◌, ◌≡◌, ◌≤◌, IsTrue, List, ℕ};
-ghost use Rattle.audit_devices.specs.Showing.{NoneLater, Shows};
+ghost use Rattle.{audit_devices.specs.Showing.{NoneLater, Shows}, run_law.specs.device.States.state_at_hearing};
 ghost use Rattle.audit_devices.specs.{events.Readings.scenario_under, permanence.Hearers.IsHearer};
-ghost use Rattle.device_rules.specs.Widths.{IsWide};
-ghost use Rattle.net_plan.specs.{Belonging.HasDevice, Ranges.IsInRange, declared.event.Event.Event};
-ghost use Rattle.run_law.specs.{control.Emissions.Emits, device.States.state_at_hearing};
+ghost use Rattle.audit_sweep.specs.{Hearings.{IsHeardBefore, IsRipenedOrNone}, Knowing.{IsKnown, KnowsSome}};
+ghost use Rattle.{audit_sweep.specs.Passing.IsPassable, net_plan.specs.Belonging.HasDevice};
+ghost use Rattle.{device_rules.specs.Widths.IsWide, tte_units.{specs.{declared.{units.{Units.{Units as UnitsValue}}}}}};
+ghost use Rattle.{net_plan.specs.{Ranges.IsInRange, declared.event.Event.Event}, run_law.specs.control.Emissions.Emits};
 ghost use Rattle.run_law.specs.control.Permanence.{BecomesPermanent, IsJudgedBy, before_permanence, ripe_as};
 ghost use Rattle.run_law.specs.{declared.steps.Ripe.TheVariants.Dropped, records.Happenings.{Happening, earlier}};
-ghost use Rattle.tte_units.specs.declared.units.Units.{Units as UnitsValue};
-ghost use Rattle.audit_sweep.specs.{Hearings.{IsHeardBefore, IsRipenedOrNone}, Knowing.{IsKnown, KnowsSome}};
-ghost use Rattle.audit_sweep.specs.Passing.{IsPassable};
 
 use crate::known::Known;
 use crate::passage::Passage;

@@ -2,11 +2,10 @@
 
 ghost use Rattle.std.specs.Prelude.{◌+◌, ◌↔◌, ◌≡◌, ◌≤ℤ◌, IsTrue, List, length, pos};
 ghost use Rattle.audit_devices.specs.{events.Readings.scenario_under, law.DueRecords.{IsCaused, IsDue}};
-ghost use Rattle.net_plan.specs.{Ranges.IsInRange, declared.event.Event.Event};
-ghost use Rattle.run_law.specs.records.{Happenings.{Happening, happening}, Order.AllBefore, Ranks.place_of};
-ghost use Rattle.run_law.specs.runs.Runs.{IsFounded};
-ghost use Rattle.tte_units.specs.Amount.{amount};
 ghost use Rattle.audit_sweep.specs.{Judging.{Befalls, IsJudgeable, StandsBehind}, Knowing.{IsKnown, KnowsSome}};
+ghost use Rattle.{net_plan.specs.Ranges.IsInRange, tte_units.specs.Amount.amount};
+ghost use Rattle.{net_plan.specs.declared.event.Event.Event, run_law.specs.records.Happenings.{Happening, happening}};
+ghost use Rattle.run_law.specs.{records.{Order.AllBefore, Ranks.place_of}, runs.Runs.IsFounded};
 
 use crate::arriving::{arrives_as, is_taken};
 use crate::changing::is_changed;

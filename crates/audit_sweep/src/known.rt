@@ -2,14 +2,13 @@
 
 ghost use Rattle.std.specs.Prelude.{◌++◌, ◌^◌, ◌↔◌, ◌∷◌, ◌≡◌, ◌≤◌, IfOk, List, OnOk, Some, []};
 ghost use Rattle.audit_devices.specs.{Effects.{carried_by, subject_of}, events.Remembering.{Remembers, RemembersSome}};
-ghost use Rattle.audit_devices.specs.{Showing.IsReading, events.Readings.scenario_under, law.DueRecords.IsDue};
-ghost use Rattle.net_plan.specs.{Belonging.HasDevice, Ranges.IsInRange, declared.event.Event.Event};
-ghost use Rattle.net_plan.specs.declared.ids.DeviceId.{DeviceId as DeviceIdValue};
-ghost use Rattle.net_plan.specs.declared.network.Network.{Network as NetworkValue};
-ghost use Rattle.run_law.specs.records.{Happenings.{Happening, happening}, Order.AllBefore, Ranks.place_of};
-ghost use Rattle.run_law.specs.runs.{DueRecords.EndsAt, Runs.IsFounded};
-ghost use Rattle.tte_units.specs.declared.units.Units.{Units as UnitsValue};
-ghost use Rattle.audit_sweep.specs.{Judging.IsJudgeable, Knowing.{IsKnown, KnowsSome}};
+ghost use Rattle.{audit_devices.specs.Showing.IsReading, audit_sweep.specs.Judging.IsJudgeable};
+ghost use Rattle.{audit_devices.specs.events.Readings.scenario_under, audit_sweep.specs.Knowing.{IsKnown, KnowsSome}};
+ghost use Rattle.{audit_devices.specs.law.DueRecords.IsDue, run_law.specs.records.Happenings.{Happening, happening}};
+ghost use Rattle.net_plan.specs.{Belonging.HasDevice, declared.{ids.{DeviceId.{DeviceId as DeviceIdValue}}}};
+ghost use Rattle.{net_plan.specs.Ranges.IsInRange, tte_units.{specs.{declared.{units.{Units.{Units as UnitsValue}}}}}};
+ghost use Rattle.net_plan.specs.declared.{event.Event.Event, network.{Network.{Network as NetworkValue}}};
+ghost use Rattle.run_law.specs.{records.{Order.AllBefore, Ranks.place_of}, runs.{DueRecords.EndsAt, Runs.IsFounded}};
 
 use crate::records::dispatches::Exits;
 use crate::records::{KeptRecords, OutOfMemory};

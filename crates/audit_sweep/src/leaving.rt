@@ -1,12 +1,11 @@
 //! What becomes of control frames at their leaving.
 
 ghost use Rattle.std.specs.Prelude.{◌↔◌, ◌≡◌, IsTrue, List};
-ghost use Rattle.audit_devices.specs.events.Readings.{scenario_under};
-ghost use Rattle.audit_sweep.specs.records.wires.Departings.{IsDeparted};
-ghost use Rattle.device_rules.specs.Answers.{departure_as};
-ghost use Rattle.net_plan.specs.{Ranges.IsInRange, declared.event.Event.Event};
-ghost use Rattle.run_law.specs.{control.{Leaving.Departs, Losses.IsSendLost}, records.Happenings.Happening};
-ghost use Rattle.audit_sweep.specs.{Knowing.{IsKnown, KnowsSome}, Passing.IsPassable};
+ghost use Rattle.{audit_devices.specs.events.Readings.scenario_under, run_law.specs.records.Happenings.Happening};
+ghost use Rattle.audit_sweep.specs.{Knowing.{IsKnown, KnowsSome}, records.wires.Departings.IsDeparted};
+ghost use Rattle.{audit_sweep.specs.Passing.IsPassable, run_law.specs.control.{Leaving.Departs, Losses.IsSendLost}};
+ghost use Rattle.{device_rules.specs.Answers.departure_as, net_plan.specs.declared.event.Event.Event};
+ghost use Rattle.net_plan.specs.Ranges.{IsInRange};
 
 use crate::known::Known;
 use crate::passage::Passage;

@@ -1,14 +1,12 @@
 //! What becomes of control frames that are permanent.
 
 ghost use Rattle.std.specs.Prelude.{◌-◌, ◌^◌, ◌↔◌, ◌≡◌, ◌≤◌, IsTrue, List, pos, ℕ};
-ghost use Rattle.audit_devices.specs.events.Readings.{clock_reading, scenario_under};
-ghost use Rattle.drift_clock.specs.Reach.{IsReach};
-ghost use Rattle.net_plan.specs.{Belonging.HasDevice, Ranges.IsInRange, declared.event.Event.Event};
-ghost use Rattle.run_law.specs.{control.Permanence.waits_for, records.Happenings.Happening};
-ghost use Rattle.transparent_clock.specs.Points.{point_of};
+ghost use Rattle.{audit_devices.specs.events.Readings.{clock_reading, scenario_under}, drift_clock.specs.Reach.IsReach};
+ghost use Rattle.{audit_sweep.specs.Knowing.{IsKnown, KnowsSome}, run_law.specs.control.Permanence.waits_for};
+ghost use Rattle.audit_sweep.specs.{Passing.IsPassable, Ripenings.{IsPermanentOrNone, IsPointReached, waiting_clock}};
+ghost use Rattle.{net_plan.specs.{Belonging.HasDevice, Ranges.IsInRange}, transparent_clock.specs.Points.point_of};
+ghost use Rattle.{net_plan.specs.declared.event.Event.Event, run_law.specs.records.Happenings.Happening};
 ghost use Rattle.tte_units.specs.Amount.{amount};
-ghost use Rattle.audit_sweep.specs.{Knowing.{IsKnown, KnowsSome}, Passing.IsPassable};
-ghost use Rattle.audit_sweep.specs.Ripenings.{IsPermanentOrNone, IsPointReached, waiting_clock};
 
 use crate::known::Known;
 use crate::passage::Passage;

@@ -1,10 +1,9 @@
 //! Where devices stand when something comes to them.
 
 ghost use Rattle.std.specs.Prelude.{◌&&◌, ◌^◌, ◌≡◌, ◌≤◌, List, not};
-ghost use Rattle.audit_devices.specs.events.Readings.{scenario_under};
+ghost use Rattle.{audit_devices.specs.events.Readings.scenario_under, audit_sweep.specs.Knowing.{IsKnown, KnowsSome}};
 ghost use Rattle.net_plan.specs.{Belonging.HasDevice, declared.event.Event.Event};
 ghost use Rattle.run_law.specs.{device.{Standpoints.standpoint, States.is_off}, records.Happenings.Happening};
-ghost use Rattle.audit_sweep.specs.Knowing.{IsKnown, KnowsSome};
 
 use crate::known::Known;
 use audit_devices::events::reading_law;

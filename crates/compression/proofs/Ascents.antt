@@ -1,8 +1,7 @@
 -- Lists in rising order, and their first and last elements.
+use Rattle.{compression.specs.Ascent.{IsAscending, MayFollow, last_from, offset_at, spread}, std.proofs.Common.{subst, suc, sym, w64, zero, ℕ, ℤ}}
 use Rattle.std.proofs.Common.{◌++◌, ◌-◌, ◌<ℤ◌, ◌<◌, ◌^◌, ◌∙◌, ◌∷◌, ◌≡◌, ◌≤ℤ◌, FitsSigned, IsTrue, List, None, Some, [], ap, arith, get_or, length, pos, refl}
-use Rattle.std.{proofs.{Common.{subst, suc, sym, w64, zero, ℕ, ℤ}, lemmas.{Int.ints, Option.slice_get-get_or}}, specs.List.last_or}
-use Rattle.std.specs.Prelude.{int_le, slice_get}
-use Rattle.compression.specs.Ascent.{IsAscending, MayFollow, last_from, offset_at, spread}
+use Rattle.std.{proofs.lemmas.{Int.ints, Option.slice_get-get_or}, specs.{List.last_or, Prelude.{int_le, slice_get}}}
 
 at_length : {X : Type 0} (x : X) (xs : List X) → slice_get (x ∷ xs) (length xs) ≡ last_or (Some x) xs
 at_length x [] = refl

@@ -1,12 +1,10 @@
 -- What is emitted next, and a collector after it.
+use Rattle.compression.{proofs.Rows.{emission-within, row-emissions, row-head, row-rest}, specs.declared.compressed.Compressed.Compressed}
+use Rattle.compression.{proofs.Standing.AreClusters-unique, specs.{Emission.{compressed, emission}, Least.IsLeast, Row.{IsCollection, IsRow, IsSound}}}
+use Rattle.compression.specs.{Clusters.{AreClusters, Cluster, Point}, Collecting.{Collecting, emissions}, Stands.{EmittedInOrder, StandsForPoints}}
+use Rattle.{compression.specs.Middle.{middle_of, relative}, std.{proofs.Common.{take, w64, ℤ}, specs.Prelude.All}, tte_lemmas.proofs.Lists.drop-front}
 use Rattle.std.proofs.Common.{◌*ℤ◌, ◌++◌, ◌+ℤ◌, ◌<ℤ◌, ◌^◌, ◌∙◌, ◌∷◌, ◌≡◌, ◌≤ℤ◌, FitsSigned, List, [], ap, arith, length, map, neg_ℤ, pos, refl, subst, sym}
-use Rattle.std.proofs.{Common.{take, w64, ℤ}, lemmas.{Int.ints, List.{append_assoc, length-map, map-append}}}
-use Rattle.std.{proofs.lemmas.List.Elements.{All-cons, All-from_recursion, All-map, All-push, All-weaker}, specs.Prelude.All}
-use Rattle.tte_lemmas.proofs.Lists.{drop-front}
-use Rattle.compression.proofs.{Rows.{emission-within, row-emissions, row-head, row-rest}, Standing.AreClusters-unique}
-use Rattle.compression.specs.{Clusters.{AreClusters, Cluster, Point}, Collecting.{Collecting, emissions}, Emission.{compressed, emission}, Least.IsLeast}
-use Rattle.compression.specs.{Middle.{middle_of, relative}, Row.{IsCollection, IsRow, IsSound}, Stands.{EmittedInOrder, StandsForPoints}}
-use Rattle.compression.specs.declared.compressed.Compressed.{Compressed}
+use Rattle.std.proofs.lemmas.{Int.ints, List.{Elements.{All-cons, All-from_recursion, All-map, All-push, All-weaker}, append_assoc, length-map, map-append}}
 
 -- the middle of a collection's points
 pub middle-within : (ow : ℤ) (c : Cluster) → IsCollection ow c → (pos 0 ≤ℤ middle_of (relative c.points)) × (middle_of (relative c.points) ≤ℤ (pos 2 *ℤ ow))

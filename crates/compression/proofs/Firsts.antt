@@ -1,10 +1,9 @@
 -- The first point of each master, and the members that they make.
-use Rattle.std.proofs.Common.{◌++◌, ◌^◌, ◌∙◌, ◌∷◌, ◌≡◌, ◌≤◌, Bool, List, [], ap, arith, cond, false, inl, inr, max, not, refl, subst, sym, true, ℕ}
-use Rattle.std.proofs.lemmas.{Bool.{cases_Bool, cases_eq, eq-eqb, ne_eqb, or_left, or_parts, or_right}, List.{append-nil, append_assoc, Folds.list_any-append}}
-use Rattle.std.proofs.lemmas.{List.Sums.fold-append, Nat.{pow_pos, Bits.{and_pow, bit_at-pow_other, bit_at-pow_same, bit_at-zero, bit_at_or}}}
-use Rattle.std.specs.{Int.bit_at, List.AllByRecursion, Prelude.{◌==◌, Contains, bit_and, bit_or, fold}}
 use Rattle.compression.{proofs.Elements.{in_cases, in_head, in_none, in_tail}, specs.Clusters.{Cluster, Point, firsts, has_master, members_of, with_first}}
-use Rattle.compression.specs.Role.{has_point_of}
+use Rattle.{compression.specs.Role.has_point_of, std.{proofs.lemmas.{List.Folds.list_any-append, Nat.pow_pos}, specs.{Int.bit_at, List.AllByRecursion}}}
+use Rattle.std.proofs.Common.{◌++◌, ◌^◌, ◌∙◌, ◌∷◌, ◌≡◌, ◌≤◌, Bool, List, [], ap, arith, cond, false, inl, inr, max, not, refl, subst, sym, true, ℕ}
+use Rattle.std.{proofs.lemmas.Bool.{cases_Bool, cases_eq, eq-eqb, ne_eqb, or_left, or_parts, or_right}, specs.Prelude.{◌==◌, Contains, bit_and, bit_or, fold}}
+use Rattle.std.proofs.lemmas.{List.{Sums.fold-append, append-nil, append_assoc}, Nat.Bits.{and_pow, bit_at-pow_other, bit_at-pow_same, bit_at-zero, bit_at_or}}
 
 -- one more point at the end
 pub firsts-push : (xs : List Point) (p : Point) → firsts (xs ++ p ∷ []) ≡ with_first (firsts xs) p

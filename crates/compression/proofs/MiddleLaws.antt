@@ -1,9 +1,8 @@
 -- Where the middle of points lies.
-use Rattle.std.proofs.{Common.{◌+ℤ◌, ◌-ℤ◌, ◌-◌, ◌∙◌, ◌∷◌, ◌≡◌, List, [], ap, arith, get_or, inl, inr, length, pos, subst, suc, sym, ℕ, ℤ}, lemmas.Int.ints}
-use Rattle.std.{proofs.lemmas.List.Elements.{All-head, All-tail}, specs.Prelude.All}
+use Rattle.{compression.proofs.Middles.{middle_of-inner, middle_of-within}, std.proofs.lemmas.{Int.ints, List.Elements.{All-head, All-tail}}}
+use Rattle.compression.specs.{Ascent.{IsAscending, offset_at}, Middle.{AllButOne, LiesWithin, MiddleAmongOthers, MiddleFromFirstToLast, middle_of, relative}}
+use Rattle.std.{proofs.Common.{◌+ℤ◌, ◌-ℤ◌, ◌-◌, ◌∙◌, ◌∷◌, ◌≡◌, List, [], ap, arith, get_or, inl, inr, length, pos, subst, suc, sym, ℕ, ℤ}, specs.Prelude.All}
 use Rattle.tte_units.{proofs.Means.mean_of-floor, specs.Mean.{IsMean, mean_of}}
-use Rattle.compression.{proofs.Middles.{middle_of-inner, middle_of-within}, specs.Ascent.{IsAscending, offset_at}}
-use Rattle.compression.specs.Middle.{AllButOne, LiesWithin, MiddleAmongOthers, MiddleFromFirstToLast, middle_of, relative}
 
 -- the second of three or more
 second : (low high a b c : ℤ) (more : List ℤ) → IsAscending (a ∷ b ∷ c ∷ more) → AllButOne (LiesWithin low high) (a ∷ b ∷ c ∷ more) → LiesWithin low high b

@@ -1,8 +1,7 @@
 -- What the middle of a list of points is by their places.
-use Rattle.std.proofs.Common.{◌+◌, ◌-ℤ◌, ◌-◌, ◌<◌, ◌∙◌, ◌∷◌, ◌≡◌, ◌≢◌, ◌≤ℤ◌, ◌≤◌, List, [], ap, arith, get_or, inl, inr, length, map, pos, refl, subst, suc}
-use Rattle.std.proofs.{Common.{sym, ℕ, ℤ}, lemmas.{Bool.cases_lt, Int.ints}}
-use Rattle.tte_units.{proofs.Means.mean_of-floor, specs.Mean.{IsMean, mean_of}}
 use Rattle.compression.{proofs.Ascents.offset_at-within, specs.{Ascent.{IsAscending, offset_at, spread}, Middle.{last_but_one, middle_of, relative}}}
+use Rattle.std.proofs.Common.{◌+◌, ◌-ℤ◌, ◌-◌, ◌<◌, ◌∙◌, ◌∷◌, ◌≡◌, ◌≢◌, ◌≤ℤ◌, ◌≤◌, List, [], ap, arith, get_or, inl, inr, length, map, pos, refl, subst, suc}
+use Rattle.{std.proofs.{Common.{sym, ℕ, ℤ}, lemmas.{Bool.cases_lt, Int.ints}}, tte_units.{proofs.Means.mean_of-floor, specs.Mean.{IsMean, mean_of}}}
 
 only_mean : (s m : ℤ) → IsMean s s m → m ≡ s
 only_mean s m h = omega (arith, ints, h.least, h.most)

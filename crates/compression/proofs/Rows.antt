@@ -1,8 +1,7 @@
 -- Rows of collections, as points are taken and clusters are emitted.
+use Rattle.compression.{proofs.Middles.middle_of-within, specs.{Ascent.{IsAscending, MayFollow, last_from}, Emission.emission, Middle.{middle_of, relative}}}
+use Rattle.{compression.specs.{Clusters.Cluster, Row.{IsCollection, IsRow}}, std.{proofs.lemmas.Int.ints, specs.List.{AllByRecursion, last_or}}}
 use Rattle.std.proofs.Common.{◌*ℤ◌, ◌++◌, ◌+ℤ◌, ◌-ℤ◌, ◌<ℤ◌, ◌<◌, ◌∷◌, ◌≡◌, ◌≤ℤ◌, List, None, Some, [], ap, arith, length, pos, refl, subst, sym, ℤ}
-use Rattle.std.{proofs.lemmas.Int.ints, specs.List.{AllByRecursion, last_or}}
-use Rattle.compression.{proofs.Middles.middle_of-within, specs.{Ascent.{IsAscending, MayFollow, last_from}, Clusters.Cluster, Emission.emission}}
-use Rattle.compression.specs.{Middle.{middle_of, relative}, Row.{IsCollection, IsRow}}
 
 -- a list with a last element
 pub last_split : {X : Type 0} (xs : List X) (x : X) → last_or None xs ≡ Some x → (front : List X) × (xs ≡ front ++ x ∷ [])

@@ -1,12 +1,11 @@
 -- One master's points do not split those of the others.
-use Rattle.std.proofs.Common.{◌&&◌, ◌+ℤ◌, ◌<ℤ◌, ◌<◌, ◌∙◌, ◌∷◌, ◌≡◌, ◌≢◌, ◌≤ℤ◌, ◌≤◌, List, [], ap, arith, false, inl, inr, length, pos, refl, subst, sym, true}
-use Rattle.std.proofs.{Common.{ℕ, ℤ}, lemmas.Bool.{and_from, and_parts, cases_Bool, cases_eq, cases_lt, eq-eqb, eqb-false, eqb-true, or_cases, or_parts}}
-use Rattle.std.{proofs.lemmas.Int.ints, specs.{List.AllByRecursion, Prelude.{◌==◌, Contains, int_le}}}
-use Rattle.tte_lemmas.proofs.Integers.{int_le-from}
 use Rattle.compression.proofs.Elements.{Ordered, Ordered-beyond, Ordered-from, from_beyond, in_cases, in_filter, in_filter_from, in_head, in_none, in_tail}
 use Rattle.compression.{proofs.{Firsts.{Counts, counts, firsts-has}, Held.held-start}, specs.OneCluster.{Holds, IsDropped, IsKept, OneCluster}}
 use Rattle.compression.proofs.{Growth.{counted, end_of-least, end_of-one, end_of-two, window_end}, Times.{first_end, in_rest, not_before, only_first}}
 use Rattle.compression.specs.Clusters.{AreClusters, Cluster, Point, beyond, cluster_of, end_of, firsts, has_master, of_cycle_within}
+use Rattle.std.proofs.Common.{◌&&◌, ◌+ℤ◌, ◌<ℤ◌, ◌<◌, ◌∙◌, ◌∷◌, ◌≡◌, ◌≢◌, ◌≤ℤ◌, ◌≤◌, List, [], ap, arith, false, inl, inr, length, pos, refl, subst, sym, true}
+use Rattle.{std.{proofs.Common.{ℕ, ℤ}, specs.{List.AllByRecursion, Prelude.{◌==◌, Contains, int_le}}}, tte_lemmas.proofs.Integers.int_le-from}
+use Rattle.std.proofs.lemmas.{Bool.{and_from, and_parts, cases_Bool, cases_eq, cases_lt, eq-eqb, eqb-false, eqb-true, or_cases, or_parts}, Int.ints}
 
 -- what counts in the first window: the opener, and then points of other masters
 window_counts : (ow : ℤ) (o : Point) (ps : List Point) → pos 0 ≤ℤ ow → (k : Counts (o ∷ []) (of_cycle_within o.cycle o.reading (window_end ow o) ps))

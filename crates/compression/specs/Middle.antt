@@ -1,7 +1,6 @@
 -- The middle of a cluster's points.
 use Rattle.std.specs.Prelude.{◌+ℤ◌, ◌-ℤ◌, ◌∷◌, ◌≤ℤ◌, ◌≤◌, ◌⊎◌, All, List, [], length, map, pos, ℤ, ⊤}
-use Rattle.tte_units.specs.Mean.{mean_of}
-use Rattle.compression.specs.Ascent.{IsAscending, last_from}
+use Rattle.{compression.specs.Ascent.{IsAscending, last_from}, tte_units.specs.Mean.mean_of}
 
 -- the points, relative to the first
 abbrev pub relative : List ℤ → List ℤ

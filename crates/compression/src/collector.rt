@@ -43,11 +43,10 @@ impl Model for Collector {
 const LEAST_READING: Units = Units(-(READING_LIMIT as i64));
 
 impl Collector {
-    ghost use Rattle.tte_units.specs.Reading.{greatest_reading};
-    ghost use Rattle.compression.specs.Clusters.{AreClusters, Cluster, Point, point_at};
+    ghost use Rattle.compression.specs.{Clusters.{AreClusters, Cluster, Point, point_at}, Stands.StandsForPoints};
     ghost use Rattle.compression.specs.{Collecting.{emissions, fresh, with_joined, with_opened}, Emission.compressed};
-    ghost use Rattle.compression.specs.{Least.IsLeast, Role.{has_point_of, open_at, role}, Stands.StandsForPoints};
-    ghost use Rattle.compression.specs.declared.compressed.Compressed.{Compressed};
+    ghost use Rattle.{compression.specs.Least.IsLeast, tte_units.specs.Reading.greatest_reading};
+    ghost use Rattle.compression.specs.{Role.{has_point_of, open_at, role}, declared.compressed.Compressed.Compressed};
 
     /// A collector without points.
     ///

@@ -1,17 +1,15 @@
 -- The row by which a frame enters a device.
-use Rattle.std.proofs.Common.{◌&&◌, ◌==◌, ◌∙◌, ◌∷◌, ◌≡◌, Bool, List, None, Option, Some, [], ap, arith, cond, false, if◌then◌else◌, length, refl, slice_get}
-use Rattle.std.{proofs.{Common.{subst, sym, true, ℕ}, lemmas.Bool.{eq-eqb, eqb-true, false≢true}}, specs.Prelude.{find, option_and_then, option_map}}
-use Rattle.std.{proofs.lemmas.Option.same_Some, specs.{BTreeMap.get, Option.option_map_or}}
-use Rattle.net_plan.{proofs.SameIds.same_link, specs.Places.link_at}
-use Rattle.net_plan.specs.{Ranges.{IsInRange, IsVlInRange}, declared.{ids.{DeviceId.DeviceId, LinkId.LinkId, VlId.VlId}, network.Network.Network}}
-use Rattle.net_plan.specs.declared.tables.{Link.Link, Row.Row, VirtualLink.VirtualLink, Way.{Way, TheVariants.{Down, Up}}}
-use Rattle.run_law.specs.{device.Standpoints.Standpoint, machines.Calls.IsLinkAt, scenario.{Devices.is_parent_of, Ways.{is_way, is_way_of, way_to}}}
-use Rattle.run_law.specs.timed.Arrivals.{entry_arrival, entry_entering, entry_of, is_row_with, row_fault, taken_or_fault, timed_arrival}
-use Rattle.schedule_tables.specs.declared.entry.Entry.{Entry}
-use Rattle.tte_lemmas.proofs.{Lists.in_all, Options.opened}
-use Rattle.device_rules.{proofs.KeptRows.made, specs.Headings.{heading_fault, heading_of}}
+use Rattle.{device_rules.proofs.KeptRows.made, net_plan.proofs.SameIds.same_link, std.proofs.{Common.{subst, sym, true, ℕ}, lemmas.Option.same_Some}}
 use Rattle.device_rules.specs.{Entering.{AreEntrances, HasPeriod, comes_by, entering_by, entrance_cmp, first_entering, is_of}, declared.heading.Heading.Heading}
+use Rattle.{device_rules.specs.Headings.{heading_fault, heading_of}, net_plan.specs.declared.tables.{VirtualLink.VirtualLink, Way.TheVariants.{Down, Up}}}
 use Rattle.device_rules.specs.declared.entrances.{EnteringRow.EnteringRow, Entrance.Entrance, Entrances.Entrances, Which.{TheVariants.{Into, On}, Which}}
+use Rattle.{net_plan.specs.{Places.link_at, declared.{ids.VlId.VlId, tables.Way.Way}}, run_law.specs.{machines.Calls.IsLinkAt, scenario.Devices.is_parent_of}}
+use Rattle.net_plan.specs.{Ranges.{IsInRange, IsVlInRange}, declared.{ids.{DeviceId.DeviceId, LinkId.LinkId}, network.Network.Network, tables.Link.Link}}
+use Rattle.{net_plan.specs.declared.tables.Row.Row, schedule_tables.specs.declared.entry.Entry.Entry, std.specs.Prelude.{find, option_and_then, option_map}}
+use Rattle.{run_law.specs.{device.Standpoints.Standpoint, scenario.Ways.{is_way, is_way_of, way_to}}, std.proofs.lemmas.Bool.{eq-eqb, eqb-true, false≢true}}
+use Rattle.run_law.specs.timed.Arrivals.{entry_arrival, entry_entering, entry_of, is_row_with, row_fault, taken_or_fault, timed_arrival}
+use Rattle.std.proofs.Common.{◌&&◌, ◌==◌, ◌∙◌, ◌∷◌, ◌≡◌, Bool, List, None, Option, Some, [], ap, arith, cond, false, if◌then◌else◌, length, refl, slice_get}
+use Rattle.{std.specs.{BTreeMap.get, Option.option_map_or}, tte_lemmas.proofs.{Lists.in_all, Options.opened}}
 use Rattle.run_law.specs.declared.judgement.Reason.TheVariants as reasons
 use Rattle.run_law.specs.declared.steps.Arrival.TheVariants as arrivals
 

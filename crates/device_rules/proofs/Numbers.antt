@@ -1,9 +1,7 @@
 -- Numbers of units that are not negative.
-use Rattle.std.proofs.Common.{◌*ℤ◌, ◌*◌, ◌+ℤ◌, ◌+◌, ◌≡◌, pos, refl, ℕ, ℤ}
-use Rattle.net_plan.{proofs.InRange.its_amount, specs.{Ranges.IsInRange, declared.{ids.DeviceId.DeviceId, network.Network.Network}}}
-use Rattle.run_law.specs.scenario.Devices.{expected_by, plan_of}
-use Rattle.sync_state.specs.Plan.{expected_at}
-use Rattle.tte_units.specs.Amount.{amount}
+use Rattle.{net_plan.{proofs.InRange.its_amount, specs.declared.{ids.DeviceId.DeviceId, network.Network.Network}}, sync_state.specs.Plan.expected_at}
+use Rattle.{net_plan.specs.Ranges.IsInRange, tte_units.specs.Amount.amount}
+use Rattle.{run_law.specs.scenario.Devices.{expected_by, plan_of}, std.proofs.Common.{◌*ℤ◌, ◌*◌, ◌+ℤ◌, ◌+◌, ◌≡◌, pos, refl, ℕ, ℤ}}
 
 by_parts : (n r e : ℕ) (z : ℤ) → z ≡ pos r → ((pos n *ℤ z) +ℤ pos e) ≡ pos (n * r + e)
 by_parts n r e z h = rw h refl

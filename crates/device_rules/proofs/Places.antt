@@ -1,10 +1,8 @@
 -- The links of a network, and the end systems at them.
-use Rattle.std.proofs.Common.{◌&&◌, ◌<◌, ◌==◌, ◌∙◌, ◌≡◌, ◌≤◌, Bool, List, Some, ap, arith, false, get_or, length, refl, slice_get, subst, sym, true, ℕ}
-use Rattle.std.proofs.lemmas.Option.{slice_get_past, slice_get_read}
 use Rattle.net_plan.specs.{Places.link_at, declared.{ids.{DeviceId.DeviceId, LinkId.LinkId}, network.Network.Network, tables.Link.Link}}
-use Rattle.pcf_values.specs.declared.members.Members.{Members}
-use Rattle.run_law.specs.{control.Arrivals.{are_others, is_of_other_member}, scenario.Devices.{is_end, member_of}}
-use Rattle.tte_lemmas.proofs.Naturals.{unequal}
+use Rattle.{pcf_values.specs.declared.members.Members.Members, run_law.specs.scenario.Devices.{is_end, member_of}, tte_lemmas.proofs.Naturals.unequal}
+use Rattle.{run_law.specs.control.Arrivals.{are_others, is_of_other_member}, std.proofs.lemmas.Option.{slice_get_past, slice_get_read}}
+use Rattle.std.proofs.Common.{◌&&◌, ◌<◌, ◌==◌, ◌∙◌, ◌≡◌, ◌≤◌, Bool, List, Some, ap, arith, false, get_or, length, refl, slice_get, subst, sym, true, ℕ}
 
 -- what was read at a place of a list
 pub read_at : {X : Type 0} (xs ys : List X) (i : ℕ) (x : X) → xs ≡ ys → i < length xs → x ≡ get_or xs i x → slice_get ys i ≡ Some x

@@ -1,20 +1,17 @@
 -- Time-triggered frames that a device takes.
-use Rattle.std.proofs.Common.{◌++◌, ◌<◌, ◌==◌, ◌∙◌, ◌∷◌, ◌≡◌, ◌≤◌, Bool, List, None, Option, Some, [], ap, arith, cond, false, length, map, refl, slice_get}
-use Rattle.std.proofs.Common.{subst, suc, sym, true, zero, ⊎_elim, ℕ, ℤ}
-use Rattle.std.proofs.lemmas.{Bool.{cases_Bool, eqb-true}, List.{Elements.{All-head, All-map, All-tail, filter-append}, length-map}}
-use Rattle.std.specs.{BTreeMap.get, Int.int_rem_euclid, List.{All, last_or}, Prelude.{IfSome, filter, find, option_and_then, option_map, unwrap_or}}
-use Rattle.net_plan.{proofs.SameIds.same_vl, specs.declared.ids.{DeviceId.DeviceId, LinkId.LinkId, VlId.VlId}}
-use Rattle.net_plan.specs.{Ranges.{IsInRange, IsRowInRange, IsVlInRange}, declared.{network.Network.Network, tables.{Row.Row, VirtualLink.VirtualLink}}}
-use Rattle.run_law.specs.{declared.{judgement.Reason.Reason, steps.Arrival.Arrival}, device.Standpoints.{Standpoint, clock_of, cycle_at, offset_in_cycle}}
-use Rattle.run_law.specs.machines.{Calls.IsLinkAt, Nodes.TakenFrame}
-use Rattle.run_law.specs.timed.Arrivals.{entry_arrival, entry_entering, entry_of, octets_or_fault, row_fault, taken_by, taken_or_fault, timed_arrival}
-use Rattle.schedule_tables.specs.declared.entry.Entry.{Entry}
-use Rattle.tte_units.specs.declared.units.Units.{Units}
-use Rattle.tte_lemmas.proofs.Lists.{find_of, in_all, last_kept, last_pushed, some_at}
 use Rattle.device_rules.{proofs.Entered.{by_entry, entered_at, none_mapped, some_mapped}, specs.Entering.{entering_by, entrance_cmp, fault_of, first_entering}}
-use Rattle.device_rules.proofs.KeptRows.{enters, made}
-use Rattle.device_rules.specs.{Headings.{heading_fault, heading_of}, declared.{entrances.Which.TheVariants.Into, heading.Heading.Heading, intake.Intake.Intake}}
+use Rattle.device_rules.{proofs.KeptRows.{enters, made}, specs.{Headings.{heading_fault, heading_of}, declared.{heading.Heading.Heading, intake.Intake.Intake}}}
 use Rattle.device_rules.specs.{Intakes.{HasTaken, IsWhole, Takes, cycle_of, last_by, last_in, row_arrival}, declared.entrances.EnteringRow.EnteringRow}
+use Rattle.{device_rules.specs.declared.entrances.Which.TheVariants.Into, run_law.specs.device.Standpoints.{Standpoint, clock_of, cycle_at, offset_in_cycle}}
+use Rattle.{net_plan.proofs.SameIds.same_vl, run_law.specs.machines.Calls.IsLinkAt, std.specs.{BTreeMap.get, Int.int_rem_euclid, List.{All, last_or}}}
+use Rattle.{net_plan.specs.Ranges.{IsInRange, IsRowInRange, IsVlInRange}, std.specs.Prelude.{IfSome, filter, find, option_and_then, option_map, unwrap_or}}
+use Rattle.{net_plan.specs.declared.ids.DeviceId.DeviceId, run_law.specs.declared.steps.Arrival.Arrival, std.proofs.lemmas.Bool.{cases_Bool, eqb-true}}
+use Rattle.{net_plan.specs.declared.ids.{LinkId.LinkId, VlId.VlId}, run_law.specs.machines.Nodes.TakenFrame, tte_units.specs.declared.units.Units.Units}
+use Rattle.{net_plan.specs.declared.network.Network.Network, run_law.specs.declared.judgement.Reason.Reason, schedule_tables.specs.declared.entry.Entry.Entry}
+use Rattle.{net_plan.specs.declared.tables.{Row.Row, VirtualLink.VirtualLink}, tte_lemmas.proofs.Lists.{find_of, in_all, last_kept, last_pushed, some_at}}
+use Rattle.run_law.specs.timed.Arrivals.{entry_arrival, entry_entering, entry_of, octets_or_fault, row_fault, taken_by, taken_or_fault, timed_arrival}
+use Rattle.std.proofs.Common.{◌++◌, ◌<◌, ◌==◌, ◌∙◌, ◌∷◌, ◌≡◌, ◌≤◌, Bool, List, None, Option, Some, [], ap, arith, cond, false, length, map, refl, slice_get}
+use Rattle.std.proofs.{Common.{subst, suc, sym, true, zero, ℕ, ℤ, ⊎_elim}, lemmas.List.{Elements.{All-head, All-map, All-tail, filter-append}, length-map}}
 use Rattle.run_law.specs.declared.judgement.Reason.TheVariants as reasons
 use Rattle.run_law.specs.declared.steps.Arrival.TheVariants as arrivals
 

@@ -1,12 +1,9 @@
 -- What a correction point comes to.
-use Rattle.std.proofs.Common.{if◌then◌else◌, ◌∙◌, ◌≡◌, ◌≤◌, ◌⊎◌, Bool, None, Option, Some, ap, arith, false, inl, inr, nat_le, option_and_then, refl, true, ℕ}
+use Rattle.{clock_correction.specs.Correction.correction_of, membership.specs.declared.frame.HeardFrame.HeardFrame, tte_units.specs.declared.units.Units.Units}
+use Rattle.{device_rules.specs.Answers.in_units, membership.specs.{BestFrame.Qualifies, Members.count_of, Summary.Summary}, sync_state.specs.Standing.Standing}
+use Rattle.{pcf_values.specs.declared.channel.Channel.TheVariants.{A, B}, sync_state.specs.Verdicts.{SomeQualifies, deviation_by, deviation_on}}
+use Rattle.std.proofs.Common.{◌∙◌, ◌≡◌, ◌≤◌, ◌⊎◌, Bool, None, Option, Some, ap, arith, false, if◌then◌else◌, inl, inr, nat_le, option_and_then, refl, true, ℕ}
 use Rattle.std.proofs.{Common.{ℤ, ⊎_elim}, lemmas.Bool.leb-true}
-use Rattle.clock_correction.specs.Correction.{correction_of}
-use Rattle.membership.specs.{BestFrame.Qualifies, Members.count_of, Summary.Summary, declared.frame.HeardFrame.HeardFrame}
-use Rattle.pcf_values.specs.declared.channel.Channel.TheVariants.{A, B}
-use Rattle.sync_state.specs.{Standing.Standing, Verdicts.{SomeQualifies, deviation_by, deviation_on}}
-use Rattle.tte_units.specs.declared.units.Units.{Units}
-use Rattle.device_rules.specs.Answers.{in_units}
 
 -- the deviation that a best frame shows, where there is one that qualifies
 abbrev shown_by : Standing → Option HeardFrame → Option Units

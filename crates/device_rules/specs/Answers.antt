@@ -1,12 +1,11 @@
 -- What the answers of the rules say, in the words of runs.
 use Rattle.std.specs.Prelude.{Option, option_map, ℤ}
-use Rattle.net_plan.specs.declared.{ids.DeviceId.DeviceId, network.Network.Network}
-use Rattle.run_law.specs.{control.Leaving.{Departure, leaves, on_cut_way, too_old}, declared.steps.Arrival.Arrival}
-use Rattle.run_law.specs.scenario.Devices.{plan_of}
-use Rattle.sync_state.specs.{Standing.Standing, declared.answers.Verdict.Verdict}
-use Rattle.tte_units.specs.declared.units.Units.{Units}
 use Rattle.device_rules.specs.declared.correcting.{PointStanding.PointStanding, PointVerdict.PointVerdict}
 use Rattle.device_rules.specs.declared.{leaving.Departed.Departed, timed.TimedArrival.TimedArrival}
+use Rattle.{net_plan.specs.declared.ids.DeviceId.DeviceId, tte_units.specs.declared.units.Units.Units}
+use Rattle.{net_plan.specs.declared.network.Network.Network, sync_state.specs.declared.answers.Verdict.Verdict}
+use Rattle.run_law.specs.{control.Leaving.{Departure, leaves, on_cut_way, too_old}, declared.steps.Arrival.Arrival}
+use Rattle.{run_law.specs.scenario.Devices.plan_of, sync_state.specs.Standing.Standing}
 use Rattle.device_rules.specs.declared.correcting.PointVerdict.TheVariants as points
 use Rattle.device_rules.specs.declared.leaving.Departed.TheVariants as departed
 use Rattle.device_rules.specs.declared.timed.TimedArrival.TheVariants as timed

@@ -1,9 +1,8 @@
 -- What a judgement reads of the octets of a time-triggered frame.
 use Rattle.std.specs.Prelude.{◌==◌, ◌∷◌, Bool, List, Option, [], length, nat_lt, not, ℕ}
-use Rattle.pcf_codec.specs.{EtherType.least_type, Fields.field}
-use Rattle.run_law.specs.{declared.judgement.Reason.Reason, device.{Standpoints.first_reason, States.is_synchronised}}
-use Rattle.sync_state.specs.declared.state.State.{State}
-use Rattle.device_rules.specs.declared.heading.Heading.{Heading}
+use Rattle.{device_rules.specs.declared.heading.Heading.Heading, run_law.specs.declared.judgement.Reason.Reason}
+use Rattle.{pcf_codec.specs.{EtherType.least_type, Fields.field}, sync_state.specs.declared.state.State.State}
+use Rattle.run_law.specs.device.{Standpoints.first_reason, States.is_synchronised}
 use Rattle.run_law.specs.declared.judgement.Reason.TheVariants as reasons
 
 -- the heading of octets: how many they are, the marker, the id of the virtual link, and the EtherType

@@ -1,13 +1,12 @@
 //! How protocol control frames that arrive are judged.
 
 ghost use Rattle.std.specs.Prelude.{◌&&◌, ◌*◌, ◌+ℤ◌, ◌+◌, ◌<◌, ◌^◌, ◌≡◌, ◌≤◌, IfOk, IfSome, int_lt, pos};
-ghost use Rattle.net_plan.specs.Ranges.{IsInRange};
+ghost use Rattle.device_rules.specs.{Arriving.{IsGrownSo, young_clock}, Widths.IsLocal};
+ghost use Rattle.{net_plan.specs.Ranges.IsInRange, tte_units.specs.Amount.amount};
 ghost use Rattle.run_law.specs.control.Arrivals.{are_others, clock_on_arrival, control_arrival, frame_fault};
 ghost use Rattle.run_law.specs.control.Arrivals.{frame_or_fault, frame_taken, is_cold_start, is_gate_shut};
 ghost use Rattle.run_law.specs.control.Arrivals.{is_of_other_domain, is_of_other_member, point_on_arrival, refused};
 ghost use Rattle.run_law.specs.{device.Standpoints.offset_in_cycle, scenario.Devices.{is_end, member_of}};
-ghost use Rattle.tte_units.specs.Amount.{amount};
-ghost use Rattle.device_rules.specs.{Arriving.{IsGrownSo, young_clock}, Widths.IsLocal};
 
 use crate::Standpoint;
 use crate::frames::member_of;

@@ -1,10 +1,8 @@
 //! What a compression master collects.
 
 ghost use Rattle.std.specs.Prelude.{◌≡◌, ◌*◌, int_lt, pos};
-ghost use Rattle.device_rules.specs.Widths.{IsWide};
-ghost use Rattle.net_plan.specs.Ranges.{IsInRange};
+ghost use Rattle.{device_rules.specs.Widths.IsWide, net_plan.specs.Ranges.IsInRange, tte_units.specs.Amount.amount};
 ghost use Rattle.run_law.specs.control.Collections.{dispatch_value, is_number, point_fault};
-ghost use Rattle.tte_units.specs.Amount.{amount};
 
 use crate::network::{cycle_of, dmax, place_in_cycle, precision};
 use crate::standpoint::{is_synchronised, shown};

@@ -1,12 +1,11 @@
 //! The rows by which time-triggered frames enter devices.
 
 ghost use Rattle.std.specs.{BTreeMap.get, Prelude.{◌++◌, ◌∷◌, ◌≡◌, IfOk, IfSome, List, OnOk, [], ℕ}};
-ghost use Rattle.net_plan.specs.{Ranges.IsInRange, declared.network.Network.Network as NetworkValue};
-ghost use Rattle.net_plan.specs.declared.tables.{Row.Row, Way.TheVariants.{Down, Up}};
-ghost use Rattle.run_law.specs.scenario.Ways.{is_way};
-ghost use Rattle.schedule_tables.specs.Entries.{IsEntry, IsEntryInRange};
 ghost use Rattle.device_rules.specs.Entering.{AreEntrances, AreRows, HasPeriod, HaveEntries, IsEnteredSo, comes_by};
 ghost use Rattle.device_rules.specs.{Entering.{entering_by, entrance_cmp, entrance_of, is_of}, Headings.heading_of};
+ghost use Rattle.net_plan.specs.{Ranges.IsInRange, declared.tables.{Row.Row, Way.TheVariants.{Down, Up}}};
+ghost use Rattle.net_plan.specs.declared.network.Network.{Network as NetworkValue};
+ghost use Rattle.{run_law.specs.scenario.Ways.is_way, schedule_tables.specs.Entries.{IsEntry, IsEntryInRange}};
 
 use crate::network::way_to;
 use crate::{Heading, Standpoint};

@@ -1,11 +1,9 @@
 //! The headings of time-triggered frames.
 
 ghost use Rattle.std.specs.Prelude.{◌≡◌, ◌≤◌, ◌<◌, ◌+◌, None, ℕ, length};
-ghost use Rattle.device_rules.specs.Headings.{heading_fault, heading_of};
-ghost use Rattle.net_plan.specs.Ranges.{IsInRange};
+ghost use Rattle.{device_rules.specs.Headings.{heading_fault, heading_of}, run_law.specs.records.Frames.tt_frame};
+ghost use Rattle.{net_plan.specs.Ranges.IsInRange, sync_state.specs.declared.state.State.TheVariants.Synchronised};
 ghost use Rattle.pcf_codec.specs.Fields.{field};
-ghost use Rattle.run_law.specs.records.Frames.{tt_frame};
-ghost use Rattle.sync_state.specs.declared.state.State.TheVariants.{Synchronised};
 
 use crate::standpoint::is_synchronised;
 use byteorder::{BigEndian, ByteOrder};

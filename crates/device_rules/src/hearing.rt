@@ -1,11 +1,9 @@
 //! How compressed frames are heard.
 
 ghost use Rattle.std.specs.Prelude.{◌≡◌, ◌&&◌, ◌+ℤ◌, nat_le, pos};
-ghost use Rattle.device_rules.specs.Widths.{IsWide};
-ghost use Rattle.net_plan.specs.Ranges.{IsInRange};
+ghost use Rattle.{device_rules.specs.Widths.IsWide, membership.specs.Members.count_of, net_plan.specs.Ranges.IsInRange};
 ghost use Rattle.run_law.specs.{control.Collections.observation_window, scenario.Devices.plan_of};
 ghost use Rattle.run_law.specs.control.Hearing.{heard_as, heard_by_schedule, heard_enough, is_in_schedule, last_cycle};
-ghost use Rattle.membership.specs.Members.{count_of};
 
 use crate::network::{expected_at, precision};
 use crate::standpoint::shown;

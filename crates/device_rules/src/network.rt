@@ -1,13 +1,10 @@
 //! What the network says of a device and of its times.
 
 ghost use Rattle.std.specs.{Int.int_div_euclid, Prelude.{◌*◌, ◌+◌, ◌<◌, ◌^◌, ◌≡◌, ◌≤ℤ◌, ◌≤◌, pos}};
-ghost use Rattle.net_plan.specs.Ranges.{IsInRange};
-ghost use Rattle.run_law.specs.device.Standpoints.{cycle_at, offset_in_cycle};
+ghost use Rattle.{device_rules.specs.Widths.IsLocal, run_law.specs.device.Standpoints.{cycle_at, offset_in_cycle}};
+ghost use Rattle.{net_plan.specs.Ranges.IsInRange, sync_state.specs.Plan.expected_at, tte_units.specs.Amount.amount};
 ghost use Rattle.run_law.specs.scenario.Devices.{expected_by, is_cm, is_cm_role, is_end, is_parent_of, is_relay};
 ghost use Rattle.run_law.specs.scenario.{Devices.{is_relay_role, plan_of}, Ways.{way_to, wire_of}};
-ghost use Rattle.sync_state.specs.Plan.{expected_at};
-ghost use Rattle.tte_units.specs.Amount.{amount};
-ghost use Rattle.device_rules.specs.Widths.{IsLocal};
 
 use net_plan::{DeviceId, LinkId, Network, Role, Way};
 

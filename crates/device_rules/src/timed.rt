@@ -1,10 +1,9 @@
 //! How time-triggered frames that arrive are judged.
 
 ghost use Rattle.std.specs.Prelude.{◌%◌, ◌&&◌, ◌==◌, ◌≡◌, nat_le};
-ghost use Rattle.net_plan.specs.Ranges.{IsInRange};
-ghost use Rattle.run_law.specs.timed.Arrivals.{is_taken_in, row_fault, taken_by, taken_or_fault};
-ghost use Rattle.schedule_tables.specs.declared.entry.Entry.{Entry};
 ghost use Rattle.device_rules.specs.{Answers.arrival_as, Entering.{HasPeriod, entering_by, fault_of}};
+ghost use Rattle.{net_plan.specs.Ranges.IsInRange, schedule_tables.specs.declared.entry.Entry.Entry};
+ghost use Rattle.run_law.specs.timed.Arrivals.{is_taken_in, row_fault, taken_by, taken_or_fault};
 
 use crate::network::{cycle_at, is_end, place_in_cycle};
 use crate::{EnteringRow, Standpoint};

@@ -1,6 +1,5 @@
 -- Clocks whose rate is steady between turns.
-use Rattle.std.proofs.Common.{refl}
-use Rattle.drift_clock.{proofs.Readings.{IsLawful, keeps_clock_laws}, specs.ClockLaws.AlwaysKeepsClockLaws}
+use Rattle.{drift_clock.{proofs.Readings.{IsLawful, keeps_clock_laws}, specs.ClockLaws.AlwaysKeepsClockLaws}, std.proofs.Common.refl}
 use Rattle.drift_clock.specs.{Segment.{fresh_segment, segment_count, segment_reading, stepped_segment}, SegmentLaws.{advances, counts_time, keeps_count}}
 
 -- the program's clocks count exactly

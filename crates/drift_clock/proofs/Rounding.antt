@@ -1,7 +1,6 @@
 -- A count rounded down to whole grains.
-use Rattle.std.proofs.Common.{◌%◌, ◌*◌, ◌+◌, ◌-◌, ◌<◌, ◌^◌, ◌≡◌, ◌≤◌, arith, ℕ}
-use Rattle.std.proofs.{Math.Nat.{lt-mul-div-succ, lt_of_mul-lt-mul_left, mul-div-le, mul-le-mul_left}, lemmas.Nat.le-div}
-use Rattle.drift_clock.specs.{ClockLaws.Measures, Counts.{Advances, rounded}}
+use Rattle.{drift_clock.specs.ClockLaws.Measures, std.proofs.{Common.{◌%◌, ◌*◌, ◌+◌, ◌-◌, ◌<◌, ◌^◌, ◌≡◌, ◌≤◌, arith, ℕ}, lemmas.Nat.le-div}}
+use Rattle.{drift_clock.specs.Counts.{Advances, rounded}, std.proofs.Math.Nat.{lt-mul-div-succ, lt_of_mul-lt-mul_left, mul-div-le, mul-le-mul_left}}
 
 pub rounded-zero : (grain : ℕ) → rounded grain 0 ≡ 0
 rounded-zero grain = omega (arith, mul-div-le 0 (grain * 10 ^ 9))

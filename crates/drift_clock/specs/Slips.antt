@@ -1,7 +1,6 @@
 -- How far a clock is off while it goes on by a value.
 use Rattle.std.specs.{Int.abs_diff, Prelude.{◌*◌, ◌+◌, ◌-◌, ◌≤◌, pos, ℕ}}
-use Rattle.tte_units.specs.Slip.{slip_of}
-use Rattle.drift_clock.specs.{ClockLaws.KeepsClockLaws, Reach.IsReach}
+use Rattle.{drift_clock.specs.{ClockLaws.KeepsClockLaws, Reach.IsReach}, tte_units.specs.Slip.slip_of}
 
 -- the slip over v of a clock of this grain: each of the four roundings is one of a grain
 abbrev pub grained_slip : ℕ → ℕ → ℕ → ℕ

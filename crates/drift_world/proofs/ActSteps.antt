@@ -1,16 +1,14 @@
 -- A device acts once.
+use Rattle.drift_world.{proofs.ActRecords.{AreProper, IsFine, IsOwn, both_put, order_then, proper, there_then}, specs.Acting.{IsDueAt, IsIdle, act_cursor}}
+use Rattle.{drift_world.proofs.{Fits.{all_put_some, have_octets}, HiddenCauses.settled_in_order}, world_state.specs.declared.outcomes.Outcomes.Outcomes}
+use Rattle.{drift_world.proofs.Showings.shows_of, run_law.specs.{declared.steps.Act.Act, machines.{Answers.IsActOf, Calls.MayAct}}, std.specs.List.slice_get}
 use Rattle.drift_world.proofs.Words.{◌<◌, ◌≡◌, ◌⊎◌, ArePutIn, Bool, ComesFirst, DeviceId, Happening, HasActed, IsAt, IsBefore, IsDueNow, IsIn, IsOf, IsSomePut}
 use Rattle.drift_world.proofs.Words.{Kept, List, Moment, Network, Node, Note, Scenario, Settled, Some, Stands, StandsBehind, StandsFor, Units, act_place, false}
 use Rattle.drift_world.proofs.Words.{happenings, inl, inr, keeps, length, map, moment_of, place_of, refl, settled_at, slice_get_within, stored_as, subst, sym}
-use Rattle.drift_world.proofs.Words.{true, world_of, ℕ}
-use Rattle.drift_world.proofs.{ActRecords.{AreProper, IsFine, IsOwn, both_put, order_then, proper, there_then}, Fits.{all_put_some, have_octets}}
-use Rattle.drift_world.{proofs.{HiddenCauses.settled_in_order, Showings.shows_of}, specs.{Acting.{IsDueAt, IsIdle, act_cursor}, declared.state.State.State}}
-use Rattle.std.specs.{List.slice_get, Prelude.All}
-use Rattle.run_law.specs.{declared.steps.Act.Act, machines.{Answers.IsActOf, Calls.MayAct}}
-use Rattle.sync_state.specs.declared.state.State.{State as Standing}
+use Rattle.{drift_world.{proofs.Words.{true, world_of, ℕ}, specs.declared.state.State.State}, world_law.specs.world.{Calls.{IsSet, IsStateOf}, World.AreStored}}
+use Rattle.{std.specs.Prelude.All, world_law.specs.steps.Acting.Acts}
+use Rattle.{sync_state.{specs.{declared.{state.{State.{State as Standing}}}}}, world_state.specs.Acting.{AreOutcomes, HasItsRow, bodies_of}}
 use Rattle.world_law.proofs.steps_lemmas.{acting.{ActedSteps.{acted_step, last_acted_step}, Kept.may_act_now, Stage.{Stage, stage_of}}, steps.Passed.no_task}
-use Rattle.world_law.specs.{steps.Acting.Acts, world.{Calls.{IsSet, IsStateOf}, World.AreStored}}
-use Rattle.world_state.specs.{Acting.{AreOutcomes, HasItsRow, bodies_of}, declared.outcomes.Outcomes.Outcomes}
 use Rattle.run_law.specs.declared.steps.Act.TheVariants as acts
 
 -- what an act dispatches is a row of the network

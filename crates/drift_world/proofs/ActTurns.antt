@@ -1,13 +1,11 @@
 -- A device acts again and again at one instant.
+use Rattle.drift_world.{proofs.{Fits.{have_octets, sound_same}, Words.{subst, sym, true, world_of, ℕ}}, specs.Acting.{IsDueAt, SettlesFrom, act_cursor}}
 use Rattle.drift_world.proofs.Words.{◌+◌, ◌<◌, ◌∙◌, ◌≡◌, ◌≤◌, Bool, ComesFirst, DeviceId, Happening, HasActed, IsAt, IsBefore, IsDueNow, IsIn, IsSound, Kept}
 use Rattle.drift_world.proofs.Words.{List, Network, NoSourceBefore, Node, Note, Scenario, Settled, Some, Stands, StandsBehind, World, act_place, ap, arith}
 use Rattle.drift_world.proofs.Words.{behind, false, happenings, inl, inr, keeps, length, length-map, map, moment_of, none_yet, place_of, refl, settled_at}
-use Rattle.drift_world.proofs.Words.{subst, sym, true, world_of, ℕ}
+use Rattle.{drift_world.specs.declared.state.State.State, run_law.specs.declared.steps.Act.Act, world_law.proofs.giving.Given.some_same}
 use Rattle.std.specs.{List.slice_get, Prelude.All}
-use Rattle.run_law.specs.declared.steps.Act.{Act}
-use Rattle.world_law.proofs.giving.Given.{some_same}
 use Rattle.world_law.{proofs.steps_lemmas.growing.Repeating.{acts_add_up, acts_are_bounded, no_act_yet}, specs.steps.Repeating.HasActedTimes}
-use Rattle.drift_world.{proofs.Fits.{have_octets, sound_same}, specs.{Acting.{IsDueAt, SettlesFrom, act_cursor}, declared.state.State.State}}
 
 -- the state stands, and the device's acts come first, but that there may be no numbers
 pub record IsStill {C M : Type 0} (reading : C → ℕ → ℕ) (stands : M → Network → DeviceId → Node → Type 0) (network : Network) (device : DeviceId) (time : ℕ)

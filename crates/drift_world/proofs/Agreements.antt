@@ -1,11 +1,10 @@
 -- How the clocks of a network go on by an event: what they read up to then stays, and from then on they read what the
 -- event makes of them.
+use Rattle.{drift_clock.{proofs.Histories.up_to-all, specs.{RateSteps.up_to, Readings.value_after}}, net_plan.specs.declared.event.Event.Event}
 use Rattle.drift_world.proofs.Words.{◌++◌, ◌∷◌, ◌≡◌, ◌≤◌, DeviceId, IsIn, IsLawful, List, Network, None, Option, RateStep, Some, [], amount, ap, arith}
 use Rattle.drift_world.{proofs.Words.{cases_lt, clock_after, inl, inr, le-leb, option_map_or, rate_steps, reading_of, refl, ℕ, ℤ}, specs.Running.clock_of}
-use Rattle.std.{proofs.lemmas.{Bool.lt-leb, List.{Elements.{filter-append, filter_map-append}, Sums.fold-append}}, specs.List.All}
-use Rattle.drift_clock.{proofs.Histories.up_to-all, specs.{RateSteps.up_to, Readings.value_after}}
-use Rattle.net_plan.specs.declared.event.Event.{Event}
-use Rattle.run_law.{proofs.scenario.Rated.{Holds, step_at}, specs.scenario.Rates.step_by}
+use Rattle.{run_law.proofs.scenario.Rated.{Holds, step_at}, std.proofs.lemmas.List.{Elements.{filter-append, filter_map-append}, Sums.fold-append}}
+use Rattle.{run_law.specs.scenario.Rates.step_by, std.{proofs.lemmas.Bool.lt-leb, specs.List.All}}
 use Rattle.net_plan.specs.declared.event.What.TheVariants as events
 
 -- ---- the steps of more events

@@ -1,14 +1,12 @@
 -- An event is applied to a state.
-use Rattle.drift_world.proofs.{Beginnings.found, Words.{turns_on, unwrap_or, waiting_as, way_as, way_now, ℕ}}
+use Rattle.{drift_world.proofs.Beginnings.found, net_plan.specs.declared.event.Event.Event, world_law.proofs.{giving.Given.some_same, lists.Lists.filter_yes}}
 use Rattle.drift_world.proofs.Words.{◌++◌, ◌<◌, ◌↔◌, ◌∙◌, ◌∷◌, ◌≡◌, ◌⊎◌, AreWays, Befallen, Bool, DeviceId, Down, IsIn, LinkId, List, Network, None, Option}
 use Rattle.drift_world.proofs.Words.{Some, Up, Waiting, Waits, Way, WayNow, WayState, What, [], amount, ap, arith, befell_as, both_ways, breaks_at, false}
 use Rattle.drift_world.proofs.Words.{filter, inl, inr, is_broken, le-leb, length, list_any, map, nat_le, not, refl, scenario, slice_get-map, sym, true}
-use Rattle.std.{proofs.{Common.{◌||◌, cond}, lemmas.List.Elements.filter_map-append}, specs.List.{cons_option, filter_map, last_or, slice_get}}
-use Rattle.std.specs.Option.{option_map}
-use Rattle.net_plan.specs.declared.event.Event.{Event}
-use Rattle.run_law.specs.scenario.{Scenarios.{events_up_to, last_set}, Ways.{cut_set, hold_set, wire_of, wire_set}}
-use Rattle.world_law.proofs.{giving.Given.some_same, lists.Lists.filter_yes, steps_lemmas.steps.AppliedParts.broken_more}
-use Rattle.world_state.specs.Applying.{way_after}
+use Rattle.{drift_world.proofs.Words.{turns_on, unwrap_or, waiting_as, way_as, way_now, ℕ}, run_law.specs.scenario.Ways.{cut_set, hold_set, wire_of, wire_set}}
+use Rattle.{run_law.specs.scenario.Scenarios.{events_up_to, last_set}, std.proofs.lemmas.List.Elements.filter_map-append, world_state.specs.Applying.way_after}
+use Rattle.std.proofs.Common.{◌||◌, cond}
+use Rattle.{std.specs.{List.{cons_option, filter_map, last_or, slice_get}, Option.option_map}, world_law.proofs.steps_lemmas.steps.AppliedParts.broken_more}
 
 -- ---- the ways
 

@@ -1,10 +1,9 @@
 -- What may become of a frame that arrives, kind by kind.
-use Rattle.drift_world.proofs.Words.{if◌then◌else◌, Bool, DeviceId, Down, LinkId, List, Network, None, Ok, Option, Pcf, Some, Units, Up, VlId, Way, false}
-use Rattle.drift_world.proofs.Words.{field, is_parent_of, length, true, with_clock, ℕ}
-use Rattle.run_law.specs.{control.Arrivals.{clock_on_arrival, control_arrival, frame_fault, frame_or_fault, point_on_arrival}, declared.judgement.Reason.Reason}
-use Rattle.run_law.specs.{declared.steps.Arrival.Arrival, device.Standpoints.{Standpoint, clock_of, cycle_at}, scenario.Devices.{is_end, is_relay}}
+use Rattle.drift_world.proofs.Words.{Bool, DeviceId, Down, LinkId, List, Network, None, Ok, Option, Pcf, Some, Units, Up, VlId, Way, false, field}
+use Rattle.{drift_world.proofs.Words.{if◌then◌else◌, is_parent_of, length, true, with_clock, ℕ}, schedule_tables.specs.declared.entry.Entry.Entry}
+use Rattle.run_law.specs.{control.Arrivals.{clock_on_arrival, control_arrival, frame_fault, frame_or_fault, point_on_arrival}, declared.steps.Arrival.Arrival}
+use Rattle.run_law.specs.{declared.judgement.Reason.Reason, device.Standpoints.{Standpoint, clock_of, cycle_at}, scenario.Devices.{is_end, is_relay}}
 use Rattle.run_law.specs.timed.Arrivals.{entry_arrival, entry_entering, octets_fault, octets_or_fault, row_fault, taken_or_fault, timed_arrival}
-use Rattle.schedule_tables.specs.declared.entry.Entry.{Entry}
 use Rattle.run_law.specs.declared.steps.Arrival.TheVariants as arrivals
 
 -- the frame as it arrives

@@ -2,11 +2,10 @@
 use Rattle.drift_world.{proofs.Foremost.{first_later, higher, not_earlier, of_run}, specs.declared.next.Turn.TheVariants.{Ends, Gives, GoesOn}}
 use Rattle.drift_world.proofs.{Nearings.{less_nears, nears_behind}, Words.{cases_lt, inl, inr, keeps, length, numbers_of, refl, subst, true, world_of, ℕ}}
 use Rattle.drift_world.{proofs.Sources.{due_time, nothing_before, slot_high, slot_low}, specs.Turns.{GivesAt, IsNextRank, IsPassed, TurnsTo, WorkSays}}
-use Rattle.drift_world.{proofs.Turning.says_then, specs.{Nearing.{Nears, distance}, Sourcing.{IsRipePlace, due_place}, declared.state.State.State}}
+use Rattle.{drift_world.{proofs.Turning.says_then, specs.Nearing.{Nears, distance}}, net_plan.specs.declared.ids.DeviceId.DeviceId}
 use Rattle.drift_world.proofs.Words.{◌+◌, ◌-◌, ◌<◌, ◌∙◌, ◌∷◌, ◌≡◌, ◌≤◌, ◌⊎◌, AreFirsts, AreTimed, AreUnderWay, Due, DueAt, Err, IfOk, IfSome, IsBefore, IsFirst}
 use Rattle.drift_world.proofs.Words.{IsRunning, IsWell, List, Network, Node, None, Note, Ok, Option, Result, Scenario, Some, Stands, Turn, [], ap, arith}
-use Rattle.net_plan.specs.declared.ids.DeviceId.{DeviceId}
-use Rattle.world_state.specs.timers.Times.{IsFirst as IsFirstDue}
+use Rattle.{drift_world.specs.{Sourcing.{IsRipePlace, due_place}, declared.state.State.State}, world_state.{specs.{timers.{Times.{IsFirst as IsFirstDue}}}}}
 
 -- what stands at a time and a rank is not before a place of this time and a lower rank
 aside_by_rank : (t now high rank : ℕ) (rest more : List ℕ) → now ≤ t → (t ≡ now → rank < high) → IsBefore (t ∷ high ∷ rest) (now ∷ rank ∷ more) → ⊥

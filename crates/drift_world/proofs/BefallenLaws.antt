@@ -1,17 +1,16 @@
 -- What comes of the events of an instant is settled, as its law asks for it.
-use Rattle.drift_world.{proofs.{Alike.with_ports, Fits.{all_put_some, have_octets}}, specs.declared.state.State.State}
-use Rattle.drift_world.proofs.{HiddenCauses.InOrder, Puts.{is_put_in, one_put_in, order_put, some_put_in}, Words.{way_as, way_now, wire_at, world_of, ℕ}}
+use Rattle.{drift_world.proofs.Alike.with_ports, std.specs.List.filter_map, world_law.proofs.runs.Worlds.length_is}
+use Rattle.{drift_world.{proofs.Fits.{all_put_some, have_octets}, specs.declared.state.State.State}, run_law.proofs.law.FirstPlaces.numbered_within}
+use Rattle.{drift_world.proofs.HiddenCauses.InOrder, run_law.specs.records.Causes.IsOfThisTime, world_state.specs.declared.queue.Entry.Entry}
+use Rattle.{drift_world.proofs.Puts.{is_put_in, one_put_in, order_put, some_put_in}, world_law.specs.steps.Befalling.{ArePutBy, befell_bodies, bodies_of}}
 use Rattle.drift_world.proofs.Words.{◌+◌, ◌<◌, ◌↔◌, ◌∙◌, ◌∷◌, ◌≡◌, ◌⊎◌, ArePutIn, AreUnderWay, AreWays, Befallen, Bool, Content, DeviceId, Happening}
 use Rattle.drift_world.proofs.Words.{Integrating, IsIn, IsPermutation-sym, IsPutOn, IsSomePut, Kept, Link, LinkId, List, Network, Node, None, Note, OnWire}
 use Rattle.drift_world.proofs.Words.{Option, Port, Scenario, Settled, Some, Stands, StandsBehind, Up, WayNow, WayState, What, Wire, World, [], ap, arith}
 use Rattle.drift_world.proofs.Words.{at_port, befell_as, behind, delay_at, false, given_of, happenings, hidden, if◌then◌else◌, in_permuted, inl, inr, is_broken}
 use Rattle.drift_world.proofs.Words.{is_cut, is_given, is_mapped, length, length-map, link_at, map, none_yet, numbered, on_wire, option_map_or, rank_of, refl}
 use Rattle.drift_world.proofs.Words.{same_Some, settled_at, signal_as, signal_of, slice_get-map, slice_get_within, subst, sym, time_of, time_on_port, true}
-use Rattle.std.{proofs.Common.{All, option_and_then, option_map, slice_get}, specs.List.filter_map}
-use Rattle.run_law.{proofs.law.FirstPlaces.numbered_within, specs.records.Causes.IsOfThisTime}
-use Rattle.world_law.{proofs.runs.Worlds.length_is, specs.steps.Befalling.{ArePutBy, befell_bodies, bodies_of}}
+use Rattle.{drift_world.proofs.Words.{way_as, way_now, wire_at, world_of, ℕ}, std.proofs.Common.{All, option_and_then, option_map, slice_get}}
 use Rattle.world_law.proofs.steps_lemmas.{befalling.{Befell.befell_step, Seen.{on_within, put_event, put_in_more, sent_on, wires_of}}, steps.Applied.no_coming}
-use Rattle.world_state.specs.declared.queue.Entry.{Entry}
 use Rattle.world_state.{proofs.Befallings.{IsFreshOf, ports_settled}, specs.Befalling.{AreSettledBy, bare, entry_of, lost_on, record_of, sent_up, turned_on}}
 use Rattle.net_plan.specs.declared.event.What.TheVariants as events
 use Rattle.run_law.specs.declared.judgement.Why.TheVariants as whys

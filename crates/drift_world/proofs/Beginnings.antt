@@ -1,10 +1,8 @@
 -- A fresh world.
 use Rattle.drift_world.proofs.Words.{◌<◌, ◌∙◌, ◌≡◌, AreUnderWay, AreWays, DeviceId, Down, Link, LinkId, List, Network, Option, Some, Up, Way, WayNow, []}
 use Rattle.drift_world.proofs.Words.{amount, ap, arith, false, inl, inr, length, map, option_map_or, scenario, slice_get-get_or, slice_get-map, sym, way_as}
-use Rattle.drift_world.proofs.Words.{way_now, ℕ}
-use Rattle.std.{proofs.{Common.replicate, lemmas.{List.{get_or-replicate, length-replicate}, Option.slice_get_cases}}, specs.List.{IsDistinct, slice_get}}
-use Rattle.std.specs.Option.{option_map}
-use Rattle.world_state.specs.Beginning.{first_way}
+use Rattle.{drift_world.proofs.Words.{way_now, ℕ}, std.specs.{List.{IsDistinct, slice_get}, Option.option_map}}
+use Rattle.{std.proofs.{Common.replicate, lemmas.{List.{get_or-replicate, length-replicate}, Option.slice_get_cases}}, world_state.specs.Beginning.first_way}
 
 pub found : {X : Type 0} (xs : List X) (i : ℕ) → i < length xs → (x : X) × (slice_get xs i ≡ Some x)
 found xs i lt =

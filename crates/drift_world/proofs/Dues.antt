@@ -1,10 +1,8 @@
 -- A timer that is right for the reading at which a machine acts next.
-use Rattle.drift_world.{proofs.{Foremost.node_of, Words.{sym, ℕ}}, specs.{Acting.IsNextDue, Stepping.{ActsAt, IsDueBy, IsDueTimed}, declared.state.State.State}}
+use Rattle.{drift_world.{proofs.Foremost.node_of, specs.Acting.IsNextDue}, run_law.specs.machines.Tasks.IsDueReading, world_law.proofs.giving.Given.some_same}
 use Rattle.drift_world.proofs.Words.{◌+◌, ◌<◌, ◌∙◌, ◌≡◌, DeviceId, IsWell, Kept, List, Network, Node, None, Option, Some, ap, arith, ints, keeps, length, subst}
-use Rattle.std.proofs.Common.{slice_get}
-use Rattle.run_law.specs.machines.Tasks.{IsDueReading}
-use Rattle.tte_units.specs.declared.units.Units.{Units}
-use Rattle.world_law.proofs.giving.Given.{some_same}
+use Rattle.{drift_world.proofs.Words.{sym, ℕ}, std.proofs.Common.slice_get}
+use Rattle.{drift_world.specs.{Stepping.{ActsAt, IsDueBy, IsDueTimed}, declared.state.State.State}, tte_units.specs.declared.units.Units.Units}
 
 module _ {C M : Type 0} (reading : C → ℕ → ℕ) (stands : M → Network → DeviceId → Node → Type 0) (network : Network) where
   -- one that is right for the machine is right for the reading

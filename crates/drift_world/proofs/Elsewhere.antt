@@ -1,10 +1,9 @@
 -- An event leaves all devices as they were but one.
-use Rattle.drift_world.proofs.Words.{if◌then◌else◌, ◌+◌, ◌<◌, ◌==◌, ◌↔◌, ◌∙◌, ◌∷◌, ◌≡◌, ◌≤◌, AreTimed, Bool, DeviceId, IfSome, IsIn, IsTimed, List, Network}
-use Rattle.drift_world.proofs.Words.{Node, None, Option, Some, Units, Waits, What, [], amount, ap, arith, breaks_at, cases_eq, clock_after, eqb-true}
-use Rattle.drift_world.proofs.Words.{false, false_from_ne_true, filter, in_filter, inl, inr, length, not, option_map_or, refl, subst, sym, true, ℕ, ℤ}
+use Rattle.{drift_world.{proofs.Timings.still_timed, specs.declared.state.State.State}, world_state.specs.Applying.{IsElsewhere, device_in}}
+use Rattle.drift_world.proofs.Words.{◌+◌, ◌<◌, ◌==◌, ◌↔◌, ◌∙◌, ◌∷◌, ◌≡◌, ◌≤◌, AreTimed, Bool, DeviceId, IfSome, IsIn, IsTimed, List, Network, Node, None}
+use Rattle.drift_world.proofs.Words.{Option, Some, Units, Waits, What, [], amount, ap, arith, breaks_at, cases_eq, clock_after, eqb-true, false}
+use Rattle.drift_world.proofs.Words.{false_from_ne_true, filter, if◌then◌else◌, in_filter, inl, inr, length, not, option_map_or, refl, subst, sym, true, ℕ, ℤ}
 use Rattle.std.proofs.Common.{◌≢◌, All, slice_get}
-use Rattle.world_state.specs.Applying.{IsElsewhere, device_in}
-use Rattle.drift_world.{proofs.Timings.still_timed, specs.declared.state.State.State}
 use Rattle.net_plan.specs.declared.event.What.TheVariants as events
 
 -- ---- what an event does to another device

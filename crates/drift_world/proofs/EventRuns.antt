@@ -1,11 +1,9 @@
 -- Where only events of the present instant are worked off, the records given are the run behind them.
 use Rattle.drift_world.proofs.Words.{◌+◌, ◌<◌, ◌∷◌, ◌≡◌, ◌≤◌, AreSettled, DeviceId, Happening, IsBefore, IsDue, IsIn, IsScenarioRun, List, Network, Node, Note}
 use Rattle.drift_world.proofs.Words.{Scenario, Stands, World, [], amount, ap, append-nil, arith, chain, happenings, inl, inr, never_self, place_of, refl, subst}
-use Rattle.drift_world.proofs.Words.{sym, true, ℕ}
-use Rattle.net_plan.specs.declared.event.Event.{Event}
+use Rattle.{drift_world.proofs.Words.{sym, true, ℕ}, world_law.{proofs.runs.{Next.none_due, Sourced.sourced}, specs.world.World.IsWorkedOff}}
+use Rattle.{net_plan.specs.declared.event.Event.Event, world_law.{proofs.runs.Firsts.source_before, specs.source.{Next.NoneDueBefore, Sources.IsSource}}}
 use Rattle.run_law.proofs.runs.Grow.{move_mark}
-use Rattle.world_law.{proofs.runs.{Firsts.source_before, Next.none_due, Sourced.sourced}, specs.source.{Next.NoneDueBefore, Sources.IsSource}}
-use Rattle.world_law.specs.world.World.{IsWorkedOff}
 
 -- ---- what is before the place behind the events
 

@@ -1,8 +1,7 @@
 -- The first of what is settled is the record that is given, with its frame and its octets.
-use Rattle.std.proofs.Common.{arith}
-use Rattle.drift_world.proofs.{HiddenCauses.change_or_other, Words.{sym, ℕ}}
+use Rattle.{drift_world.proofs.HiddenCauses.change_or_other, std.proofs.Common.arith}
 use Rattle.drift_world.proofs.Words.{◌∙◌, ◌∷◌, ◌≡◌, DeviceId, Happening, List, Network, Node, Note, NoteBody, Option, Pcf, Scenario, Stands, World, [], ap}
-use Rattle.drift_world.proofs.Words.{append-nil, frame_by, happening, happenings, hidden, hidden_body, length, map, note_of, octets_by, refl}
+use Rattle.drift_world.proofs.Words.{append-nil, frame_by, happening, happenings, hidden, hidden_body, length, map, note_of, octets_by, refl, sym, ℕ}
 
 same_frame : (network : Network) (hs : List Happening) (given : ℕ) (body : NoteBody) → frame_by network hs (hidden_body given body) ≡ frame_by network hs body
 same_frame network hs given body =

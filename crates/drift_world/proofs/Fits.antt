@@ -1,9 +1,8 @@
 -- What is settled stays fit to be given.
-use Rattle.drift_world.proofs.Words.{◌+◌, ◌<◌, ◌∷◌, ◌≡◌, AreApart, AreBelow, AreUnderWay, AtPort, Bool, Content, HasItsOctets, IsPermutation}
-use Rattle.drift_world.proofs.Words.{IsPermutation-sym, IsPutAt, IsShort, IsSized, IsSomePut, IsSound, List, Network, None, Option, Settled, Some, Waits, ap}
-use Rattle.drift_world.{proofs.Words.{arith, departure_body, in_permuted, inr, length, refl, subst, sym, ℕ}, specs.declared.state.State.State}
-use Rattle.std.proofs.{Common.All, lemmas.Grind.elements}
-use Rattle.world_state.specs.{Leaving.departed, declared.queue.Entry.Entry}
+use Rattle.drift_world.proofs.Words.{◌+◌, ◌<◌, ◌∷◌, ◌≡◌, AreApart, AreBelow, AreUnderWay, AtPort, Bool, Content, HasItsOctets, IsPermutation, IsPermutation-sym}
+use Rattle.drift_world.proofs.Words.{IsPutAt, IsShort, IsSized, IsSomePut, IsSound, List, Network, None, Option, Settled, Some, Waits, ap, arith}
+use Rattle.drift_world.{proofs.Words.{departure_body, in_permuted, inr, length, refl, subst, sym, ℕ}, specs.declared.state.State.State}
+use Rattle.{std.proofs.{Common.All, lemmas.Grind.elements}, world_state.specs.{Leaving.departed, declared.queue.Entry.Entry}}
 
 abbrev pub have_octets : Settled → Type 0
 have_octets z = HasItsOctets z.body z.octets

@@ -1,12 +1,11 @@
 -- What comes first of all that a state has under way.
-use Rattle.drift_world.{proofs.Sources.{due_time, nothing_before, slot_high, slot_low}, specs.{Sourcing.{IsRipePlace, due_place}, declared.state.State.State}}
+use Rattle.{drift_world.proofs.Sources.{due_time, nothing_before, slot_high, slot_low}, world_state.{specs.{timers.{Times.{IsFirst as IsFirstDue}}}}}
 use Rattle.drift_world.proofs.Words.{◌+◌, ◌-◌, ◌<◌, ◌^◌, ◌∙◌, ◌∷◌, ◌≡◌, ◌≤◌, ◌⊎◌, AreFirsts, AreTimed, AreUnderWay, AtPort, Content, DeviceId, Due, DueAt}
 use Rattle.drift_world.proofs.Words.{HasNothingBefore, IfSome, IsBefore, IsFirst, IsIn, IsRunning, IsWell, Kept, List, Network, Node, None, OnWire, Option}
 use Rattle.drift_world.proofs.Words.{Port, Some, Wire, [], ap, arith, at_port, both_ways, cases_lt, false, get_or_from_slice_get, inl, inr, is_given, keeps}
 use Rattle.drift_world.proofs.Words.{length, never, never_self, numbers_of, on_wire, rank_of, refl, slice_get-get_or, subst, sym, true, wire_at, wire_place, ℕ}
-use Rattle.std.proofs.Common.{All, get_or, slice_get}
-use Rattle.world_law.specs.world.World.{port_place}
-use Rattle.world_state.specs.{Views.port_at, declared.queue.Entry.Entry, timers.Times.{IsFirst as IsFirstDue}}
+use Rattle.{drift_world.specs.{Sourcing.{IsRipePlace, due_place}, declared.state.State.State}, world_state.specs.{Views.port_at, declared.queue.Entry.Entry}}
+use Rattle.{std.proofs.Common.{All, get_or, slice_get}, world_law.specs.world.World.port_place}
 
 -- ---- places of one time, or of a later one
 

@@ -1,12 +1,10 @@
 -- Under events within the hypothesis each way of a link takes some time.
-use Rattle.drift_world.proofs.Words.{if◌then◌else◌, ◌+ℤ◌, ◌<ℤ◌, ◌==◌, ◌∙◌, ◌∷◌, ◌≡◌, ◌≤ℤ◌, ◌≤◌, ◌⊎◌, AreWithinHypothesis, Bool, DeviceId, IsIn, IsInRange}
-use Rattle.drift_world.proofs.Words.{IsSomeAnd, IsWithinHypothesis, Link, LinkId, List, Network, None, Option, Some, Units, Way, What, [], amount, and_parts}
-use Rattle.drift_world.proofs.Words.{ap, arith, cases_lt, delay_at, eqb-true, false, in_all, in_filter, inl, inr, ints, link_at, nat_le, option_map_or, parted}
-use Rattle.drift_world.proofs.Words.{pos, refl, scenario, subst, sym, target_by, true, unwrap_or, ℕ}
+use Rattle.drift_world.proofs.Words.{◌+ℤ◌, ◌<ℤ◌, ◌==◌, ◌∙◌, ◌∷◌, ◌≡◌, ◌≤ℤ◌, ◌≤◌, ◌⊎◌, AreWithinHypothesis, Bool, DeviceId, IsIn, IsInRange, IsSomeAnd}
+use Rattle.drift_world.proofs.Words.{IsWithinHypothesis, Link, LinkId, List, Network, None, Option, Some, Units, Way, What, [], amount, and_parts, ap, arith}
+use Rattle.drift_world.proofs.Words.{cases_lt, delay_at, eqb-true, false, if◌then◌else◌, in_all, in_filter, inl, inr, ints, link_at, nat_le, option_map_or}
+use Rattle.{drift_world.proofs.Words.{parted, pos, refl, scenario, subst, sym, target_by, true, unwrap_or, ℕ}, net_plan.specs.declared.event.Event.Event}
+use Rattle.{run_law.specs.scenario.{Scenarios.events_up_to, Ways.{is_way, is_way_of, wire_of, wire_set}}, world_law.specs.world.World.IsForward}
 use Rattle.std.{proofs.Common.filter_map, specs.List.last_or}
-use Rattle.net_plan.specs.declared.event.Event.{Event}
-use Rattle.run_law.specs.scenario.{Scenarios.events_up_to, Ways.{is_way, is_way_of, wire_of, wire_set}}
-use Rattle.world_law.specs.world.World.{IsForward}
 use Rattle.net_plan.specs.declared.event.What.TheVariants as events
 use Rattle.run_law.specs.declared.outside.Outside.TheVariants as outside
 

@@ -1,15 +1,13 @@
 -- A world as it is at first is sound, and it stands.
+use Rattle.{drift_world.proofs.Beginnings.{first_ways_are, found, found_in, none_under_way}, world_law.proofs.steps_lemmas.steps.Beginnings.begun}
+use Rattle.{drift_world.proofs.{Fitting.none_apart, Forwards.forward, Steadiness.steady}, world_state.specs.{Beginning.first_way, Keeping.sound_one}}
 use Rattle.drift_world.proofs.Words.{◌++◌, ◌+◌, ◌<◌, ◌∙◌, ◌∷◌, ◌≡◌, AreApart, AreBelow, AreUnderWay, AreWays, AreWithinHypothesis, DeviceId, HasItsOctets}
 use Rattle.drift_world.proofs.Words.{IsInRange, IsLawful, IsLinkInRange, IsOfNetwork, IsShort, IsSound, KeepsRules, List, Network, Node, Settled, StandsUnder}
 use Rattle.drift_world.proofs.Words.{Waits, [], amount, ap, arith, at_port, begins_at_zero, in_all, ints, keeps, keeps_clock_laws, length, length-map, map}
 use Rattle.drift_world.proofs.Words.{on_wire, one, reading_of, refl, scenario, slice_get-get_or, slice_get-map, subst, sym, way_as, world_of, ℕ, ℤ}
-use Rattle.std.{proofs.{Common.{All, filter_map, slice_get}, lemmas.List.{length-replicate, Elements.All-nil}}, specs.Option.option_map}
-use Rattle.net_plan.specs.declared.event.Event.{Event}
-use Rattle.run_law.specs.law.FirstLaws.{IsEventInRange}
-use Rattle.world_state.specs.{Beginning.first_way, Keeping.sound_one}
-use Rattle.world_law.proofs.steps_lemmas.steps.Beginnings.{begun}
-use Rattle.drift_world.proofs.{Beginnings.{first_ways_are, found, found_in, none_under_way}, Fitting.none_apart, Forwards.forward, Steadiness.steady}
-use Rattle.drift_world.specs.{Beginning.{AreFresh, IsFirstState}, declared.state.State.State}
+use Rattle.{drift_world.specs.{Beginning.{AreFresh, IsFirstState}, declared.state.State.State}, std.proofs.Common.{All, filter_map, slice_get}}
+use Rattle.{net_plan.specs.declared.event.Event.Event, run_law.specs.law.FirstLaws.IsEventInRange, std.proofs.lemmas.List.{Elements.All-nil, length-replicate}}
+use Rattle.std.specs.Option.{option_map}
 
 none_within : (network : Network) → AreWithinHypothesis network []
 none_within network before behind e order = absurd (from before order)

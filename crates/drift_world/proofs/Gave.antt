@@ -1,16 +1,14 @@
 -- Once a record is given the state is sound again.
-use Rattle.drift_world.{proofs.Fitting.{apart_more, below_one_more}, specs.declared.state.State.State}
-use Rattle.drift_world.proofs.{Sendings.link_within, Words.{settled_at, stored_as, subst, sym, waiting_as, way_from, wire_entry, with_first, world_of, ℕ}}
+use Rattle.drift_world.{proofs.{Fitting.{apart_more, below_one_more}, Words.{way_from, wire_entry, with_first, world_of, ℕ}}, specs.declared.state.State.State}
+use Rattle.{drift_world.proofs.Sendings.link_within, world_state.{proofs.UnderWays.sound_with, specs.{Frames.IsOneMore, declared.queue.Entry.Entry}}}
 use Rattle.drift_world.proofs.Words.{◌+◌, ◌<◌, ◌↔◌, ◌∙◌, ◌∷◌, ◌≡◌, ◌⊎◌, Accepted, AreApart, AreUnderWay, Arrived, Bool, Changed, ChangesOnly, Compressed}
-use Rattle.drift_world.proofs.Words.{Content, Delivered, DeviceId, Dropped, DueAt, Giving, HasItsOctets, IfSome, IsGivenOut, IsIn, IsInRange}
-use Rattle.drift_world.proofs.Words.{IsPermutation, IsPermutation-sym, IsPutOn, Left, LinkId, List, Lost, Network, None, NoteBody, Option, Pcf, Permanent}
-use Rattle.drift_world.proofs.Words.{Settled, Some, Timed, TtSent, Waits, WayState, ap, arith, at_port, changed_device, delay_by}
-use Rattle.drift_world.proofs.Words.{in_permuted, inl, inr, length, link_at, map, named_settled, not, numbers_of, on_wire, rank_of, receiver_of, refl}
-use Rattle.std.{proofs.{Common.slice_get, lemmas.List.Elements.{All-map, All-weaker}}, specs.{Option.option_map, Prelude.All}}
-use Rattle.run_law.specs.declared.note.NoteBody.TheVariants.{Clock, Corrected, Event, Sent}
-use Rattle.world_law.{proofs.steps_lemmas.hearing.Receptions.receiver_in, specs.world.Moves.named_body}
-use Rattle.world_state.specs.declared.queue.Entry.{Entry}
-use Rattle.world_state.{proofs.UnderWays.sound_with, specs.{Frames.IsOneMore, Giving.{awaited_by, control_on_wire, place_on_wire, timed_on_wire}}}
+use Rattle.drift_world.proofs.Words.{Content, Delivered, DeviceId, Dropped, DueAt, Giving, HasItsOctets, IfSome, IsGivenOut, IsIn, IsInRange, IsPermutation}
+use Rattle.drift_world.proofs.Words.{IsPermutation-sym, IsPutOn, Left, LinkId, List, Lost, Network, None, NoteBody, Option, Pcf, Permanent, Settled, Some}
+use Rattle.drift_world.proofs.Words.{Timed, TtSent, Waits, WayState, ap, arith, at_port, changed_device, delay_by, in_permuted, inl, inr, length, link_at, map}
+use Rattle.drift_world.proofs.Words.{named_settled, not, numbers_of, on_wire, rank_of, receiver_of, refl, settled_at, stored_as, subst, sym, waiting_as}
+use Rattle.{run_law.specs.declared.note.NoteBody.TheVariants.{Clock, Corrected, Event, Sent}, std.proofs.lemmas.List.Elements.{All-map, All-weaker}}
+use Rattle.{std.{proofs.Common.slice_get, specs.{Option.option_map, Prelude.All}}, world_law.specs.world.Moves.named_body}
+use Rattle.{world_law.proofs.steps_lemmas.hearing.Receptions.receiver_in, world_state.specs.Giving.{awaited_by, control_on_wire, place_on_wire, timed_on_wire}}
 
 -- ---- what is put to ports
 

@@ -1,15 +1,13 @@
 -- The first of what is settled is given: the world stands again.
-use Rattle.drift_world.proofs.Words.{◌++◌, ◌+◌, ◌∙◌, ◌∷◌, ◌≡◌, Accepted, Arrived, Changed, Compressed, Content, Delivered, DeviceId, Dropped, Giving, Happening}
-use Rattle.drift_world.proofs.Words.{Holding, IfSome, IsGivenOut, IsOf, IsPutOn, IsStoredBy, Kept, Left, List, Lost, Network, NoSourceBefore, Node, None, Note}
-use Rattle.drift_world.proofs.Words.{NoteBody, Option, Pcf, Permanent, DueAt, Scenario, Settled, Some, Stands, StandsBehind, Timed, TtSent, WayState, [], ap}
-use Rattle.drift_world.proofs.Words.{at_port, behind, happening, happenings, length, map, named_settled, note_of, octets_in, on_wire, place_of, refl}
-use Rattle.drift_world.proofs.Words.{settled_at, stored_as, subst, sym, waiting_as, wire_entry, with_first, ℕ}
-use Rattle.std.specs.{List.filter_map, Option.option_map}
-use Rattle.run_law.specs.declared.note.NoteBody.TheVariants.{Clock, Corrected, Event, Sent}
-use Rattle.world_law.{proofs.giving.Given.given_step, specs.world.Moves.named}
-use Rattle.world_state.specs.declared.queue.Entry.{Entry}
+use Rattle.{drift_world.proofs.{FirstSettled.first_is, Launches.given_out, Sendings.puts, Storings.taken_by}, world_law.proofs.giving.Given.given_step}
+use Rattle.drift_world.proofs.Words.{◌++◌, ◌+◌, ◌∙◌, ◌∷◌, ◌≡◌, Accepted, Arrived, Changed, Compressed, Content, Delivered, DeviceId, Dropped, DueAt, Giving}
+use Rattle.drift_world.proofs.Words.{Happening, Holding, IfSome, IsGivenOut, IsOf, IsPutOn, IsStoredBy, Kept, Left, List, Lost, Network, NoSourceBefore, Node}
+use Rattle.drift_world.proofs.Words.{None, Note, NoteBody, Option, Pcf, Permanent, Scenario, Settled, Some, Stands, StandsBehind, Timed, TtSent, WayState, []}
+use Rattle.drift_world.proofs.Words.{ap, at_port, behind, happening, happenings, length, map, named_settled, note_of, octets_in, on_wire, place_of, refl}
+use Rattle.drift_world.{proofs.Words.{settled_at, stored_as, subst, sym, waiting_as, wire_entry, with_first, ℕ}, specs.declared.state.State.State}
+use Rattle.{run_law.specs.declared.note.NoteBody.TheVariants.{Clock, Corrected, Event, Sent}, world_state.specs.declared.queue.Entry.Entry}
+use Rattle.{std.specs.{List.filter_map, Option.option_map}, world_law.specs.world.Moves.named}
 use Rattle.world_state.{proofs.Apart.{given_then, ports_kept, put_from, wires_kept}, specs.Giving.{MayBeGiven, control_on_wire, timed_on_wire}}
-use Rattle.drift_world.{proofs.{FirstSettled.first_is, Launches.given_out, Sendings.puts, Storings.taken_by}, specs.declared.state.State.State}
 
 no_port_at : (f : DueAt → Entry Content) → ((p : DueAt) → at_port (f p) ≡ None) → (o : Option DueAt) → IfSome (option_map f o) (λ one. at_port one ≡ None)
 no_port_at f none None = tt

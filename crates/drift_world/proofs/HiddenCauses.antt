@@ -1,11 +1,10 @@
 -- What is settled is in the order of its places, also where the causes that are to come are hidden.
-use Rattle.drift_world.proofs.Words.{if◌then◌else◌, ◌++◌, ◌<◌, ◌∙◌, ◌∷◌, ◌≡◌, ◌≤◌, ◌⊎◌, AreSettled, Changed}
-use Rattle.drift_world.proofs.Words.{DeviceId, Happening, IsBefore, IsIn, List, Network, Node, NoneBefore, Note, NoteBody}
-use Rattle.drift_world.proofs.Words.{Scenario, Stands, World, [], ap, append_assoc, arith, cases_lt, chain, happenings, hidden, hidden_body, in_right}
-use Rattle.drift_world.proofs.Words.{inl, inr, le-ltb, length, lt-ltb, map, nat_lt, never_self, none_yet, parted, place_of, rank, refl, subst, sym, time_of, ℕ}
-use Rattle.run_law.specs.{declared.judgement.Why.Why, records.Ranks.{key, members_in}}
-use Rattle.sync_state.specs.declared.state.State.{State}
-use Rattle.world_law.proofs.{putting.PutShown.hidden_rank, steps_lemmas.acting.Stays.out_mapped}
+use Rattle.drift_world.proofs.Words.{◌++◌, ◌<◌, ◌∙◌, ◌∷◌, ◌≡◌, ◌≤◌, ◌⊎◌, AreSettled, Changed, DeviceId, Happening, IsBefore, IsIn, List, Network, Node}
+use Rattle.drift_world.proofs.Words.{NoneBefore, Note, NoteBody, Scenario, Stands, World, [], ap, append_assoc, arith, cases_lt, chain, happenings, hidden}
+use Rattle.drift_world.proofs.Words.{hidden_body, if◌then◌else◌, in_right, inl, inr, le-ltb, length, lt-ltb, map, nat_lt, never_self, none_yet, parted}
+use Rattle.{drift_world.proofs.Words.{place_of, rank, refl, subst, sym, time_of, ℕ}, world_law.proofs.steps_lemmas.acting.Stays.out_mapped}
+use Rattle.run_law.specs.declared.judgement.Why.{Why}
+use Rattle.{run_law.specs.records.Ranks.{key, members_in}, sync_state.specs.declared.state.State.State, world_law.proofs.putting.PutShown.hidden_rank}
 
 -- none is before one that stands before it
 abbrev pub InOrder : List Happening → Type 0

@@ -2,12 +2,10 @@
 use Rattle.drift_world.proofs.Words.{◌*◌, ◌++◌, ◌<ℤ◌, ◌^◌, ◌∙◌, ◌∷◌, ◌≡◌, ◌≤ℤ◌, ◌≤◌, DeviceId, IfNone, IfSome, IsBefore, IsInRange, IsScenarioRun}
 use Rattle.drift_world.proofs.Words.{IsWithinHypothesis, Kept, List, Network, Node, None, Note, Option, Scenario, Some, StandsUnder, Units, World, [], amount}
 use Rattle.drift_world.proofs.Words.{ap, append-nil, arith, cases_lt, false_from_ne_true, happening, happenings, inl, inr, ints, never_self, place_of, pos}
-use Rattle.drift_world.proofs.Words.{refl, subst, sym, units_of, unsigned_abs, ℕ, ℤ}
+use Rattle.drift_world.{proofs.Words.{refl, subst, sym, units_of, unsigned_abs, ℕ, ℤ}, specs.Later.{ComesBehind, IsOpenFrom, MayApplyAgain}}
+use Rattle.{drift_world.specs.Running.{HasReached, IsOpenTo, Reaches}, run_law.specs.declared.outside.Outside.TheVariants.Late}
+use Rattle.{net_plan.specs.declared.event.Event.Event, run_law.proofs.runs.NetworkRuns.one_more, tte_lemmas.{proofs.{Integers.{whole as whole_time}}}}
 use Rattle.std.{proofs.{Common.negsuc, lemmas.Bool.true≢false}, specs.Prelude.option_to_list}
-use Rattle.net_plan.specs.declared.event.Event.{Event}
-use Rattle.run_law.{proofs.runs.NetworkRuns.one_more, specs.declared.outside.Outside.TheVariants.Late}
-use Rattle.tte_lemmas.proofs.Integers.{whole as whole_time}
-use Rattle.drift_world.specs.{Later.{ComesBehind, IsOpenFrom, MayApplyAgain}, Running.{HasReached, IsOpenTo, Reaches}}
 
 -- ---- times
 

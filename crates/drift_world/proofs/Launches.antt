@@ -1,15 +1,13 @@
 -- What a record launches, as its law asks for it.
-use Rattle.drift_world.{proofs.Awaits.{awaits, none_awaited}, specs.{Giving.IsGiver, declared.state.State.State}}
+use Rattle.{drift_world.proofs.Awaits.{awaits, none_awaited}, world_law.specs.world.{Moves.{AreAwaited, AreGiven}, World.{IsGivenBy, port_place}}}
 use Rattle.drift_world.proofs.Words.{◌+◌, ◌<◌, ◌∙◌, ◌∷◌, ◌≡◌, AreBelow, AreUnderWay, AreWays, Arrived, ArrivedAt, AtPort, Bool, Compressed, Content, DeviceId}
 use Rattle.drift_world.proofs.Words.{Down, Giving, Happening, IfNone, IfSome, IsGivenOut, IsInRange, IsLinkInRange, IsOf, IsSomeAnd, Link, LinkId, List}
 use Rattle.drift_world.proofs.Words.{Network, None, NoteBody, Option, Pcf, Scenario, Some, Up, Waits, WayNow, WayState, [], ap, arith, at_port, delay_at}
 use Rattle.drift_world.proofs.Words.{delay_by, false, given_of, if◌then◌else◌, in_all, inl, inr, is_broken, is_given, is_parent_of, length, map, option_map_or}
 use Rattle.drift_world.proofs.Words.{refl, same_Some, slice_get-map, slice_get_within, subst, sym, time_of, true, waiting_as, way_as, way_from, way_now, ℕ}
-use Rattle.std.specs.List.{filter_map, slice_get}
-use Rattle.run_law.specs.{control.Leaving.Gives, declared.note.NoteBody.TheVariants.Sent, scenario.Ways.hold_at}
-use Rattle.tte_lemmas.proofs.Options.{mapped}
-use Rattle.world_law.specs.world.{Moves.{AreAwaited, AreGiven}, World.{IsGivenBy, port_place}}
-use Rattle.world_state.specs.{Giving.{ArePutTo, HasItsFrame, entry_at_port, giver_of, hold_by}, declared.queue.Entry.Entry}
+use Rattle.{drift_world.specs.Giving.IsGiver, run_law.specs.{control.Leaving.Gives, scenario.Ways.hold_at}, tte_lemmas.proofs.Options.mapped}
+use Rattle.{drift_world.specs.declared.state.State.State, std.specs.List.{filter_map, slice_get}, world_state.specs.declared.queue.Entry.Entry}
+use Rattle.{run_law.specs.declared.note.NoteBody.TheVariants.Sent, world_state.specs.Giving.{ArePutTo, HasItsFrame, entry_at_port, giver_of, hold_by}}
 
 within_and : {X : Type 0} (P : X → Type 0) (xs : List X) (i : ℕ) (o : Option X) → slice_get xs i ≡ o → IsSomeAnd o P → i < length xs
 within_and P xs i None e and = absurd and

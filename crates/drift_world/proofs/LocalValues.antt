@@ -1,12 +1,10 @@
 -- The values that local clocks show, where the machines' adjustments are small.
+use Rattle.{clock_correction.specs.Deviation.IsSmall, drift_world.proofs.Agreements.reads_value, net_plan.specs.declared.event.Event.Event}
 use Rattle.drift_world.proofs.Words.{◌+◌, ◌<◌, ◌^◌, ◌∙◌, ◌≡◌, ◌≤◌, Bool, DeviceId, DeviceState, Happening, IfSome, IsComplete, IsHeld, Kept, List, Network}
 use Rattle.drift_world.proofs.Words.{Node, Note, Option, Scenario, Shows, Stands, Units, ap, arith, false, happenings, inl, inr, ints, is_broken, keeps, length}
-use Rattle.drift_world.proofs.Words.{local_shown, reading_of, subst, sym, true, world_of, ℕ, ℤ}
-use Rattle.clock_correction.specs.Deviation.{IsSmall}
-use Rattle.net_plan.specs.declared.event.Event.{Event}
-use Rattle.world_law.{proofs.giving.Given.{no_later_breaks, some_same}, specs.world.World.HaveBefallen}
-use Rattle.world_state.specs.declared.kept.Kept.TheVariants.{Out, Sound}
-use Rattle.drift_world.{proofs.Agreements.reads_value, specs.{Locals.{AreSmall, IsLocalValue}, Running.clock_of, declared.state.State.State}}
+use Rattle.{drift_world.proofs.Words.{local_shown, reading_of, subst, sym, true, world_of, ℕ, ℤ}, world_state.specs.declared.kept.Kept.TheVariants.{Out, Sound}}
+use Rattle.{drift_world.specs.{Locals.{AreSmall, IsLocalValue}, declared.state.State.State}, world_law.proofs.giving.Given.{no_later_breaks, some_same}}
+use Rattle.{drift_world.specs.Running.clock_of, world_law.specs.world.World.HaveBefallen}
 use Rattle.sync_state.specs.declared.state.State.TheVariants as states
 
 -- the machine of a sound device has a small adjustment

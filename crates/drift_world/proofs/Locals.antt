@@ -1,15 +1,13 @@
 -- The local clock of a device, as a world shows it, is that of the records.
-use Rattle.drift_world.proofs.Words.{◌++◌, ◌+◌, ◌<◌, ◌∙◌, ◌∷◌, ◌≡◌, ◌≤◌, Bool, DeviceId, DeviceState, Happening, IsBefore, IsComplete}
-use Rattle.drift_world.proofs.Words.{IsDue, IsIn, IsScenarioRun, Kept, List, Network, Node, Note, Option, RateStep, Scenario, Shows, Stands, Units, World, []}
-use Rattle.drift_world.proofs.Words.{amount, ap, append-nil, arith, breaks_at, chain, false, filter, happenings, inl, inr, is_broken, keeps, le-leb, length}
-use Rattle.drift_world.proofs.Words.{list_any, local_shown, nat_le, never_self, numbered_in, place_of, rate_steps, reading_of, refl, scenario, subst, suc}
-use Rattle.drift_world.proofs.Words.{sym, time_of, true, world_of, ℕ, ℤ}
+use Rattle.{drift_clock.specs.Readings.value_after, drift_world.specs.Running.clock_of, run_law.{proofs.runs.Places.either_way, specs.records.Happenings.up_to}}
+use Rattle.{drift_world.proofs.{Agreements.{all_come, reads_value}, Words.{true, world_of, ℕ, ℤ}}, run_law.specs.device.States.{adjustment_after, state_after}}
+use Rattle.drift_world.proofs.Words.{◌++◌, ◌+◌, ◌<◌, ◌∙◌, ◌∷◌, ◌≡◌, ◌≤◌, Bool, DeviceId, DeviceState, Happening, IsBefore, IsComplete, IsDue, IsIn}
+use Rattle.drift_world.proofs.Words.{IsScenarioRun, Kept, List, Network, Node, Note, Option, RateStep, Scenario, Shows, Stands, Units, World, [], amount, ap}
+use Rattle.drift_world.proofs.Words.{append-nil, arith, breaks_at, chain, false, filter, happenings, inl, inr, is_broken, keeps, le-leb, length, list_any}
+use Rattle.drift_world.proofs.Words.{local_shown, nat_le, never_self, numbered_in, place_of, rate_steps, reading_of, refl, scenario, subst, suc, sym, time_of}
+use Rattle.{drift_world.specs.{Locals.{HasCome, IsLocalClock}, declared.state.State.State}, world_law.proofs.devices.Shown.{all_past, held_shows}}
+use Rattle.{net_plan.specs.declared.event.Event.Event, world_law.proofs.{devices.{Resting.IsWorked, TurnedOn.all_up_to}, giving.Given.some_same}}
 use Rattle.std.specs.List.{All}
-use Rattle.drift_clock.specs.Readings.{value_after}
-use Rattle.net_plan.specs.declared.event.Event.{Event}
-use Rattle.run_law.{proofs.runs.Places.either_way, specs.{device.States.{adjustment_after, state_after}, records.Happenings.up_to}}
-use Rattle.world_law.proofs.{devices.{Resting.IsWorked, Shown.{all_past, held_shows}, TurnedOn.all_up_to}, giving.Given.some_same}
-use Rattle.drift_world.{proofs.Agreements.{all_come, reads_value}, specs.{Locals.{HasCome, IsLocalClock}, Running.clock_of, declared.state.State.State}}
 use Rattle.sync_state.specs.declared.state.State.TheVariants as states
 
 -- ---- what has been up to a time

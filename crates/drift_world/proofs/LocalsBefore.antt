@@ -1,10 +1,9 @@
 -- The local clock of a device before the records of the present time, as a world shows it, is that of the records.
-use Rattle.drift_world.proofs.Words.{◌++◌, ◌<◌, ◌∙◌, ◌∷◌, ◌≡◌, Bool, DeviceId, DeviceState, Happening, IsBefore, IsHeld, IsIn, IsLocalClockBefore, Kept}
-use Rattle.drift_world.proofs.Words.{List, Network, Node, Note, Option, Scenario, Shows, Stands, Units, World, [], ap, append-nil, arith, false, happenings}
-use Rattle.drift_world.proofs.Words.{inl, inr, is_broken, keeps, length, local_shown, never_self, refl, subst, sym, true, world_of, ℕ, ℤ}
-use Rattle.run_law.specs.device.States.{adjustment_before, state_before}
+use Rattle.drift_world.proofs.{Locals.no_first, Words.{is_broken, keeps, length, local_shown, never_self, refl, subst, sym, true, world_of, ℕ, ℤ}}
+use Rattle.drift_world.proofs.Words.{◌++◌, ◌<◌, ◌∙◌, ◌∷◌, ◌≡◌, Bool, DeviceId, DeviceState, Happening, IsBefore, IsHeld, IsIn, IsLocalClockBefore, Kept, List}
+use Rattle.drift_world.proofs.Words.{Network, Node, Note, Option, Scenario, Shows, Stands, Units, World, [], ap, append-nil, arith, false, happenings, inl, inr}
+use Rattle.{drift_world.specs.declared.state.State.State, run_law.specs.device.States.{adjustment_before, state_before}}
 use Rattle.world_law.{proofs.giving.Given.some_same, specs.world.World.IsKept}
-use Rattle.drift_world.{proofs.Locals.no_first, specs.declared.state.State.State}
 use Rattle.sync_state.specs.declared.state.State.TheVariants as states
 
 -- ---- where only events of the instant are worked off

@@ -1,15 +1,13 @@
 -- The first of what is settled may be given, where the state stands.
+use Rattle.{drift_world.proofs.{FirstSettled.first_of, HiddenCauses.change_or_other}, world_state.specs.Giving.{CameBy, HasItsFrame, IsYoung, MayBeGiven}}
+use Rattle.{drift_world.proofs.Sendings.link_within, run_law.proofs.law.FirstPlaces.founded_at, std.proofs.Common.slice_get}
 use Rattle.drift_world.proofs.Words.{◌+◌, ◌<◌, ◌^◌, ◌∙◌, ◌∷◌, ◌≡◌, ◌≤◌, Accepted, Arrived, ArrivedAt, Arrives, Changed, Compressed, Delivered, DeviceId}
 use Rattle.drift_world.proofs.Words.{Dropped, Happening, HasItsOctets, IsCaused, IsDue, IsFounded, IsInRange, Left, LinkId, List, Lost, Network, Node, None}
 use Rattle.drift_world.proofs.Words.{Note, NoteBody, Option, Pcf, Permanent, Scenario, Settled, Some, Stands, TtSent, Units, World, [], amount, ap, append-nil}
 use Rattle.drift_world.proofs.Words.{arith, frame_by, happenings, hidden_body, length, link_at, numbered_in, place_of, refl, same_Some, settled_at}
-use Rattle.drift_world.proofs.Words.{slice_get_within, subst, sym, time_of, with_clock, ℕ}
-use Rattle.drift_world.proofs.{FirstSettled.first_of, HiddenCauses.change_or_other, Sendings.link_within}
-use Rattle.std.{proofs.Common.slice_get, specs.Prelude.{option_and_then, option_map}}
-use Rattle.run_law.proofs.{control.Arrived.arrived_young, law.FirstPlaces.founded_at}
-use Rattle.run_law.specs.{declared.note.NoteBody.TheVariants.{Clock, Corrected, Event, Sent}, runs.DueRecords.IsArrivedRecord}
-use Rattle.world_law.proofs.{frames.Proper.{arrived_so, launched_frame}, steps_lemmas.hearing.Receptions.receiver_in}
-use Rattle.world_state.specs.Giving.{CameBy, HasItsFrame, IsYoung, MayBeGiven}
+use Rattle.{drift_world.proofs.Words.{slice_get_within, subst, sym, time_of, with_clock, ℕ}, world_law.proofs.frames.Proper.{arrived_so, launched_frame}}
+use Rattle.{run_law.{proofs.control.Arrived.arrived_young, specs.runs.DueRecords.IsArrivedRecord}, std.specs.Prelude.{option_and_then, option_map}}
+use Rattle.{run_law.specs.declared.note.NoteBody.TheVariants.{Clock, Corrected, Event, Sent}, world_law.proofs.steps_lemmas.hearing.Receptions.receiver_in}
 
 -- it may be given but for its octets
 record MayBut (network : Network) (body : NoteBody) (frame : Option Pcf) : Type 0 where

@@ -1,14 +1,12 @@
 -- A world comes nearer to a time, turn by turn.
-use Rattle.drift_world.proofs.{Foremost.node_of, Showings.shows_of, Words.{reading_for, refl, slice_get_within, subst, suc, sym, true, zero, ℕ}}
+use Rattle.{drift_world.proofs.{Foremost.node_of, Showings.shows_of}, run_law.specs.machines.Tasks.IsPending, std.proofs.Math.Nat.mul-le-mul_right}
 use Rattle.drift_world.proofs.Words.{◌*◌, ◌+◌, ◌-◌, ◌<◌, ◌∙◌, ◌∷◌, ◌≡◌, ◌≤ℤ◌, ◌≤◌, AreTimed, Befallen, Bool, Content, DeviceId, Err, IsPutOn, IsRunning, IsWell}
 use Rattle.drift_world.proofs.Words.{Kept, List, Network, Node, None, Ok, OnOk, Option, Result, Settled, Some, Turn, WayState, [], ap, arith, cases_lt, false}
 use Rattle.drift_world.proofs.Words.{get_or_from_slice_get, if◌then◌else◌, inl, inr, ints, keeps, le-ltb, length, length_permutation, lt-ltb, nat_lt, pos}
-use Rattle.drift_world.specs.{Nearing.{IsIdleAt, IsLess, IsNoFarther, Nears, acting, burden, come, distance}, Turns.IsActive}
-use Rattle.drift_world.specs.declared.{next.Turn.TheVariants.{Ends, Gives, GoesOn}, state.State.State}
-use Rattle.std.proofs.{Common.{drop, slice_get}, Math.Nat.mul-le-mul_right, lemmas.List.length-drop}
-use Rattle.run_law.specs.machines.Tasks.{IsPending}
-use Rattle.world_law.proofs.giving.Given.{some_same}
-use Rattle.world_state.specs.{Befalling.AreSettledBy, declared.queue.Entry.Entry}
+use Rattle.{drift_world.proofs.Words.{reading_for, refl, slice_get_within, subst, suc, sym, true, zero, ℕ}, world_state.specs.Befalling.AreSettledBy}
+use Rattle.{drift_world.specs.Nearing.{IsIdleAt, IsLess, IsNoFarther, Nears, acting, burden, come, distance}, world_state.specs.declared.queue.Entry.Entry}
+use Rattle.{drift_world.specs.Turns.IsActive, std.proofs.{Common.{drop, slice_get}, lemmas.List.length-drop}}
+use Rattle.{drift_world.specs.declared.{next.Turn.TheVariants.{Ends, Gives, GoesOn}, state.State.State}, world_law.proofs.giving.Given.some_same}
 
 -- ---- times that have come
 

@@ -1,21 +1,18 @@
 -- A device that began off, and that no event turned on, is off.
-use Rattle.std.{proofs.Common.{arith, fold}, specs.Prelude.MatchBool}
-use Rattle.drift_world.proofs.Words.{if◌then◌else◌, ◌&&◌, ◌++◌, ◌==◌, ◌∙◌, ◌∷◌, ◌≡◌, Bool, DeviceId, Happening, Integrating, IsCaused, IsDue, IsIn}
-use Rattle.drift_world.proofs.Words.{Joining, LinkId, List, None, NoteBody, Off, Option, Scenario, Some, Units, [], amount, and_parts, any_in, ap, append_assoc}
-use Rattle.drift_world.proofs.Words.{false, false_from_ne_true, in_filter, in_parts, inl, inr, is_turned_on_at, nat_lt, numbered_in, refl, subst, sym, time_of}
-use Rattle.drift_world.proofs.Words.{true, turns_on, ℕ, ℤ}
-use Rattle.compression.specs.Clusters.{point_at}
-use Rattle.net_plan.{proofs.SameIds.one_device, specs.declared.{event.{Event.Event, What.TheVariants.On}, tables.Device.Device}}
-use Rattle.pcf_values.specs.declared.members.Members.{Members}
-use Rattle.run_law.proofs.{control.Verdicts.role_not, law.FirstPlaces.in_at, scenario.Devices.on_by}
-use Rattle.run_law.specs.control.{Collections.{master_of, observation_window, point_fault, points_of}, Corrections.{ComesToCorrection, next_cycle}}
-use Rattle.run_law.specs.control.{Emissions.Emits, Hearing.heard_as, Permanence.{BecomesPermanent, IsCollectedOrDropped, before_permanence, ripe_as}}
-use Rattle.run_law.specs.{declared.judgement.{Judgement.TheVariants.Integrates, Reason.Reason, Why.Why}, device.StateChanges.ChangesState}
+use Rattle.{compression.specs.Clusters.point_at, net_plan.proofs.SameIds.one_device, std.proofs.Common.{arith, fold}, world_law.specs.device.Own.moves}
+use Rattle.drift_world.proofs.Words.{◌&&◌, ◌++◌, ◌==◌, ◌∙◌, ◌∷◌, ◌≡◌, Bool, DeviceId, Happening, Integrating, IsCaused, IsDue, IsIn, Joining, LinkId, List}
+use Rattle.drift_world.proofs.Words.{None, NoteBody, Off, Option, Scenario, Some, Units, [], amount, and_parts, any_in, ap, append_assoc, false}
+use Rattle.drift_world.proofs.Words.{false_from_ne_true, if◌then◌else◌, in_filter, in_parts, inl, inr, is_turned_on_at, nat_lt, numbered_in, refl, subst, sym}
+use Rattle.{drift_world.proofs.Words.{time_of, true, turns_on, ℕ, ℤ}, run_law.specs.{declared.judgement.Why.Why, scenario.Devices.{is_cm, plan_of, start_of}}}
+use Rattle.{net_plan.specs.declared.{event.Event.Event, tables.Device.Device}, run_law.specs.{device.StateChanges.ChangesState, runs.DueRecords.IsEventRecord}}
+use Rattle.{net_plan.specs.declared.event.What.TheVariants.On, sync_state.specs.{Standing.{point_in, state_at_start}, declared.plan.SyncPlan.SyncPlan}}
+use Rattle.{pcf_values.specs.declared.members.Members.Members, run_law.specs.declared.judgement.Reason.Reason, traffic_law.proofs.spans.Forward.ripe_integrates}
+use Rattle.{run_law.{proofs.{control.Verdicts.role_not, scenario.Devices.on_by}, specs.records.Happenings.earlier}, sync_state.specs.declared.state.State.State}
+use Rattle.{run_law.{proofs.law.FirstPlaces.in_at, specs.{control.{Emissions.Emits, Hearing.heard_as}, scenario.Faults.BeginsOn}}, std.specs.Prelude.MatchBool}
+use Rattle.run_law.specs.{control.Collections.{master_of, observation_window, point_fault, points_of}, declared.judgement.Judgement.TheVariants.Integrates}
+use Rattle.run_law.specs.control.{Corrections.{ComesToCorrection, next_cycle}, Permanence.{BecomesPermanent, IsCollectedOrDropped, before_permanence, ripe_as}}
 use Rattle.run_law.specs.device.States.{adjustment_at_hearing, has_joined_at, state_after, state_at_hearing, state_before, state_with}
-use Rattle.run_law.specs.{records.Happenings.earlier, runs.DueRecords.IsEventRecord, scenario.{Devices.{is_cm, plan_of, start_of}, Faults.BeginsOn}}
-use Rattle.sync_state.specs.{Standing.{point_in, state_at_start}, declared.{answers.Verdict.TheVariants.Corrected, plan.SyncPlan.SyncPlan, state.State.State}}
-use Rattle.traffic_law.proofs.spans.Forward.{ripe_integrates}
-use Rattle.world_law.{proofs.devices.OwnRecords.{joins_no_other, keeps_state}, specs.device.Own.moves}
+use Rattle.{sync_state.specs.declared.answers.Verdict.TheVariants.Corrected, world_law.proofs.devices.OwnRecords.{joins_no_other, keeps_state}}
 use Rattle.run_law.specs.declared.judgement.Why.TheVariants as whys
 use Rattle.run_law.specs.declared.note.NoteBody.TheVariants as notes
 use Rattle.run_law.specs.declared.steps.Ripe.TheVariants as ripe

@@ -1,15 +1,13 @@
 -- A world goes on by an event.
+use Rattle.drift_world.{proofs.{Agreements.{clock_more, reads_same, reads_value}, EventRuns.run_behind_events}, specs.Running.{HoldsATime, IsOpenTo, clock_of}}
+use Rattle.{drift_world.{proofs.{Forwards.forward, Steadiness.steady, Suits.suits}, specs.Following.Follows}, std.proofs.lemmas.List.Elements.All-push}
 use Rattle.drift_world.proofs.Words.{◌++◌, ◌<◌, ◌∙◌, ◌∷◌, ◌≡◌, ◌≤ℤ◌, ◌≤◌, DeviceId, DeviceState, Err, FitsWorld, IfOk, IsIn, IsLawful, IsOfNetwork, IsRunOf}
 use Rattle.drift_world.proofs.Words.{IsWithinHypothesis, Kept, List, Network, Node, Note, Ok, OnOk, OutOfMemory, Result, Some, Stands, StandsUnder, World, []}
 use Rattle.drift_world.proofs.Words.{amount, ap, arith, begins_at_zero, behind_events, clock_after, in_get, in_parts, inl, inr, ints, keeps, keeps_clock_laws}
 use Rattle.drift_world.proofs.Words.{length, one, pos, reading_of, refl, scenario, slice_get_within, subst, sym, true, unsigned_abs, world_of, ℕ, ℤ}
-use Rattle.std.proofs.{Common.slice_get, lemmas.List.Elements.All-push}
-use Rattle.net_plan.specs.declared.event.{Event.Event, What.TheVariants.On}
-use Rattle.run_law.{proofs.scenario.Devices.all_within, specs.law.FirstLaws.IsEventInRange}
-use Rattle.world_law.specs.source.Applying.{note_of_event}
-use Rattle.world_state.specs.Applying.{IsShown}
-use Rattle.drift_world.proofs.{Agreements.{clock_more, reads_same, reads_value}, EventRuns.run_behind_events, Forwards.forward, Steadiness.steady, Suits.suits}
-use Rattle.drift_world.specs.{Following.Follows, Running.{HoldsATime, IsOpenTo, clock_of}, declared.state.State.State}
+use Rattle.{drift_world.specs.declared.state.State.State, net_plan.specs.declared.event.What.TheVariants.On, world_law.specs.source.Applying.note_of_event}
+use Rattle.{net_plan.specs.declared.event.Event.Event, run_law.{proofs.scenario.Devices.all_within, specs.law.FirstLaws.IsEventInRange}}
+use Rattle.{std.proofs.Common.slice_get, world_state.specs.Applying.IsShown}
 
 -- an event of a time from 0 on, with a hold from 0 on, is in range
 in_range : (event : Event) (time : ℕ) → event.time.0 ≡ pos time → HoldsATime event.what → IsEventInRange event

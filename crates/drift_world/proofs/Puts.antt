@@ -1,12 +1,11 @@
 -- A record that is put in at its place.
-use Rattle.drift_world.proofs.{HiddenCauses.InOrder, Words.{subst, suc, sym, true, units_of, with_clock, zero, ℕ}}
+use Rattle.{drift_world.proofs.HiddenCauses.InOrder, run_law.proofs.runs.Places.{either_way, in_left}, std.proofs.lemmas.List.take-append-drop}
 use Rattle.drift_world.proofs.Words.{◌++◌, ◌+◌, ◌<◌, ◌∙◌, ◌∷◌, ◌≡◌, ◌≤◌, ArePutIn, AtPort, Bool, Happening, IsBefore, IsPutAt, IsSomePut, List, Network, None}
-use Rattle.drift_world.proofs.Words.{NoneBefore, NoteBody, Scenario, Settled, Some, [], ap, arith, chain, departure_body, false, frame_from}
-use Rattle.drift_world.proofs.Words.{if◌then◌else◌, in_parts, in_right, inl, inr, length, map, never_self, own_place, place_of, refl, settled_as, settled_at}
-use Rattle.std.{proofs.{Common.{drop, get_or, take}, lemmas.List.take-append-drop}, specs.Option.option_and_then}
-use Rattle.run_law.{proofs.runs.Places.{either_way, in_left}, specs.{control.Leaving.{Departure, leaves, on_cut_way, too_old}, records.Order.AllBefore}}
-use Rattle.world_law.specs.world.{Moves.IsPutIn, World.IsAtPort}
-use Rattle.world_state.specs.Leaving.{frame_after}
+use Rattle.drift_world.proofs.Words.{NoneBefore, NoteBody, Scenario, Settled, Some, [], ap, arith, chain, departure_body, false, frame_from, if◌then◌else◌}
+use Rattle.drift_world.proofs.Words.{in_parts, in_right, inl, inr, length, map, never_self, own_place, place_of, refl, settled_as, settled_at, subst, suc, sym}
+use Rattle.{drift_world.proofs.Words.{true, units_of, with_clock, zero, ℕ}, run_law.specs.control.Leaving.{Departure, leaves, on_cut_way, too_old}}
+use Rattle.{run_law.specs.records.Order.AllBefore, std.proofs.Common.{drop, get_or, take}, world_state.specs.Leaving.frame_after}
+use Rattle.{std.specs.Option.option_and_then, world_law.specs.world.{Moves.IsPutIn, World.IsAtPort}}
 
 pub map_parts : {X Y : Type 0} (f : X → Y) (xs ys : List X) → map f (xs ++ ys) ≡ map f xs ++ map f ys
 map_parts f [] ys = refl

@@ -1,19 +1,17 @@
 -- A frame that waits is permanent: its machine may be asked, and the state stands behind it.
+use Rattle.{drift_world.proofs.Fits.{all_put, all_put_some, have_octets}, world_law.proofs.steps_lemmas.ripening.RipenedSteps.{ripened_step, waits_within}}
+use Rattle.{drift_world.proofs.Fitting.cause_of, run_law.{proofs.records.Order.all_of, specs.machines.Calls.MayTake}, world_law.specs.world.Moves.IsWithout}
+use Rattle.{drift_world.proofs.HiddenCauses.{InOrder, settled_in_order}, world_state.specs.Ripening.{AreSettledSo, joined_record, judged_so, ripe_record}}
+use Rattle.{drift_world.proofs.Puts.{one_put_in, two_put_in}, world_state.proofs.{Swaps.{stayed, stays, was_there}, queue_lemmas.Bags.each_apart}}
 use Rattle.drift_world.proofs.Words.{◌+◌, ◌<◌, ◌^◌, ◌↔◌, ◌∙◌, ◌∷◌, ◌≡◌, ◌≤ℤ◌, ◌≤◌, AreApart, ArePutIn, ComesFirst, DeviceId, Happening, IsAt, IsIn}
-use Rattle.drift_world.proofs.Words.{IsPermutation, IsPermutation-map, IsPutAt, Joining, Kept, List, Moment, Network, Node, Note, Option, Scenario}
-use Rattle.drift_world.proofs.Words.{Settled, Some, Stands, StandsBehind, StandsFor, Units, Waiting, Waits, [], ap, arith, behind, false, frame_from}
+use Rattle.drift_world.proofs.Words.{IsPermutation, IsPermutation-map, IsPutAt, Joining, Kept, List, Moment, Network, Node, Note, Option, Scenario, Settled}
+use Rattle.drift_world.proofs.Words.{Some, Stands, StandsBehind, StandsFor, Units, Waiting, Waits, [], ap, arith, behind, false, frame_from}
 use Rattle.drift_world.proofs.Words.{get_or_from_slice_get, happenings, in_get, is_mapped, is_set, keeps, length, map, moment_of, none_yet, pos, refl}
 use Rattle.drift_world.proofs.Words.{ripe_place, settled_as, settled_at, slice_get_within, slice_set, subst, sym, units_of, waiting_as, world_of, ℕ}
-use Rattle.drift_world.proofs.{Fits.{all_put, all_put_some, have_octets}, Fitting.cause_of, HiddenCauses.{InOrder, settled_in_order}}
-use Rattle.drift_world.{proofs.Puts.{one_put_in, two_put_in}, specs.declared.state.State.State}
-use Rattle.std.{proofs.{Common.{All, nat_eq}, lemmas.Map.Keys.{IsDistinct-IsPermutation, IsDistinct-head, IsDistinct-tail}}, specs.List.slice_get}
-use Rattle.std.specs.Option.{option_and_then}
-use Rattle.run_law.{proofs.records.{Members.from_map, Order.all_of}, specs.{declared.{judgement.Judgement.Judgement, steps.Ripe.Ripe}, machines.Calls.MayTake}}
-use Rattle.tte_lemmas.proofs.Naturals.{flips}
-use Rattle.world_law.{proofs.giving.Given.some_same, specs.world.Moves.IsWithout}
-use Rattle.world_law.{proofs.steps_lemmas.ripening.{Asking.may_ask, RipenedSteps.{ripened_step, waits_within}}, specs.steps.Ripening.{HasRipened, ripe_bodies}}
-use Rattle.world_state.proofs.queue_lemmas.Bags.{each_apart}
-use Rattle.world_state.{proofs.Swaps.{stayed, stays, was_there}, specs.Ripening.{AreSettledSo, joined_record, judged_so, ripe_record}}
+use Rattle.{drift_world.specs.declared.state.State.State, run_law.specs.declared.steps.Ripe.Ripe, world_law.proofs.giving.Given.some_same}
+use Rattle.{run_law.{proofs.records.Members.from_map, specs.declared.judgement.Judgement.Judgement}, world_law.proofs.steps_lemmas.ripening.Asking.may_ask}
+use Rattle.{std.{proofs.Common.{All, nat_eq}, specs.{List.slice_get, Option.option_and_then}}, tte_lemmas.proofs.Naturals.flips}
+use Rattle.{std.proofs.lemmas.Map.Keys.{IsDistinct-IsPermutation, IsDistinct-head, IsDistinct-tail}, world_law.specs.steps.Ripening.{HasRipened, ripe_bodies}}
 use Rattle.run_law.specs.declared.judgement.Judgement.TheVariants as judgements
 use Rattle.run_law.specs.declared.judgement.Why.TheVariants as whys
 use Rattle.run_law.specs.declared.note.NoteBody.TheVariants as kinds

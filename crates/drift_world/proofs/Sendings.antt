@@ -1,13 +1,11 @@
 -- What a record puts on a wire, as its law asks for it.
-use Rattle.drift_world.proofs.{Launches.delay_is, Words.{time_of, time_on_port, timed, way_as, way_from, wire_entry, ℕ}}
+use Rattle.{drift_world.proofs.Launches.delay_is, std.specs.{List.{filter_map, slice_get}, Option.option_map}, world_law.specs.world.Moves.ArePut}
 use Rattle.drift_world.proofs.Words.{◌+◌, ◌<◌, ◌∙◌, ◌∷◌, ◌≡◌, AreWays, Arrives, Content, DeviceId, DueAt, Happening, HasItsOctets, IsPermutation-sym, IsPutOn}
 use Rattle.drift_world.proofs.Words.{Launch, Left, Link, LinkId, List, None, NoteBody, Ok, OnWire, Option, Pcf, Scenario, Signal, Some, Timed, TtSent, Way}
 use Rattle.drift_world.proofs.Words.{WayState, Wire, [], ap, control, delay_at, delay_by, given_of, in_permuted, inl, inr, is_given, launched, length, link_at}
 use Rattle.drift_world.proofs.Words.{map, octets_in, octets_of, on_wire, receiver_of, refl, same_Some, signal_as, slice_get_within, subst, sym, target_by}
-use Rattle.std.specs.{List.{filter_map, slice_get}, Option.option_map}
-use Rattle.run_law.specs.declared.note.NoteBody.TheVariants.{Event, Sent}
-use Rattle.world_law.specs.world.Moves.{ArePut}
-use Rattle.world_state.specs.declared.{contents.Signal.{Signal as SignalSent}, queue.Entry.Entry}
+use Rattle.{drift_world.proofs.Words.{time_of, time_on_port, timed, way_as, way_from, wire_entry, ℕ}, world_state.specs.declared.queue.Entry.Entry}
+use Rattle.{run_law.specs.declared.note.NoteBody.TheVariants.{Event, Sent}, world_state.{specs.{declared.{contents.{Signal.{Signal as SignalSent}}}}}}
 use Rattle.world_state.specs.declared.contents.Signal.TheVariants as signals
 
 pub link_within : (xs : List Link) (i : ℕ) (way : Way) (o : Option Link) (device : DeviceId) → slice_get xs i ≡ o → option_map (target_by way) o ≡ Some device

@@ -1,10 +1,8 @@
 -- A delay or a hold that an event within the hypothesis sets is short.
+use Rattle.{drift_world.{proofs.Beginnings.found, specs.Running.HoldsATime}, net_plan.specs.declared.event.Event.Event, world_state.specs.Applying.SetsShort}
 use Rattle.drift_world.proofs.Words.{◌+ℤ◌, ◌<ℤ◌, ◌^◌, ◌≡◌, ◌≤ℤ◌, ◌≤◌, ◌⊎◌, IsInRange, IsLinkInRange, IsOfNetwork, IsSomeAnd, IsWithinHypothesis, Link, List}
 use Rattle.drift_world.proofs.Words.{Network, Option, What, amount, arith, cases_lt, in_all, inl, inr, ints, pos, subst, sym, unsigned_abs, ℤ}
 use Rattle.std.proofs.Common.{negsuc}
-use Rattle.net_plan.specs.declared.event.Event.{Event}
-use Rattle.world_state.specs.Applying.{SetsShort}
-use Rattle.drift_world.{proofs.Beginnings.found, specs.Running.HoldsATime}
 use Rattle.net_plan.specs.declared.event.What.TheVariants as events
 use Rattle.run_law.specs.declared.outside.Outside.TheVariants as outside
 

@@ -1,16 +1,14 @@
 -- What is on a wire, by the record that put it there.
-use Rattle.drift_world.proofs.{Arrivals.control_so, Words.{true, way_from, zero, ℕ}}
+use Rattle.{drift_world.proofs.Arrivals.control_so, run_law.specs.records.Happenings.earlier, std.proofs.Common.{option_and_then, option_map}}
 use Rattle.drift_world.proofs.Words.{◌+◌, ◌==◌, ◌∙◌, ◌∷◌, ◌≡◌, ◌≤◌, ◌⊎◌, Bool, DeviceId, Err, Happening, IsCaused, IsDue, IsFounded, IsIn, IsInRange, Launch}
 use Rattle.drift_world.proofs.Words.{LinkId, List, None, NoteBody, Ok, OnWire, Option, Pcf, Result, Scenario, Signal, Some, Up, VlId, Way, [], ap, arith}
 use Rattle.drift_world.proofs.Words.{control, eq-eqb, false, field, filter, frame_by, frame_from, if◌then◌else◌, in_filter, inl, inr, is_cut, launched, nat_lt}
 use Rattle.drift_world.proofs.Words.{numbered, numbered_in, octets_by, octets_from, option_map_or, place_of, refl, signal_of, subst, suc, sym, time_of, timed}
-use Rattle.std.proofs.{Common.{option_and_then, option_map}, lemmas.Bool.ne_eqb}
-use Rattle.pcf_codec.specs.{Decoding.decoded, EtherType.pcf_type, declared.refusal.PcfRefusal.PcfRefusal}
+use Rattle.{drift_world.proofs.Words.{true, way_from, zero, ℕ}, run_law.specs.timed.Dispatching.is_accepted, world_state.proofs.Made.{made_type, plain_signal}}
+use Rattle.{pcf_codec.specs.{Decoding.decoded, EtherType.pcf_type}, std.proofs.lemmas.Bool.ne_eqb, world_law.specs.world.World.IsOnWire}
+use Rattle.{pcf_codec.specs.declared.refusal.PcfRefusal.PcfRefusal, run_law.specs.{device.Standpoints.standpoint, timed.Receptions.{ArrivesAs, arrival_of}}}
 use Rattle.run_law.proofs.law.{FirstDeliveries.last_in, FirstPlaces.{IsFoundedAt, by_number, founded_at, number_is, numbered_front, numbered_within}}
-use Rattle.run_law.specs.{device.Standpoints.standpoint, records.{Frames.tt_frame, Happenings.earlier}, timed.Dispatching.is_accepted}
-use Rattle.run_law.specs.timed.Receptions.{ArrivesAs, arrival_of}
-use Rattle.world_law.{proofs.{frames.Proper.{launch_signal as signal_in}, steps_lemmas.hearing.OneMaster.decoded_of}, specs.world.World.IsOnWire}
-use Rattle.world_state.proofs.Made.{made_type, plain_signal}
+use Rattle.{run_law.specs.records.Frames.tt_frame, world_law.{proofs.{frames.{Proper.{launch_signal as signal_in}}, steps_lemmas.hearing.OneMaster.decoded_of}}}
 use Rattle.net_plan.specs.declared.event.What.TheVariants as events
 use Rattle.run_law.specs.declared.note.NoteBody.TheVariants as kinds
 use Rattle.run_law.specs.declared.steps.Arrival.TheVariants as arrivals

@@ -1,17 +1,14 @@
 -- What comes first of what a state has under way.
-use Rattle.drift_world.proofs.Words.{if◌then◌else◌, ◌+◌, ◌-◌, ◌<◌, ◌^◌, ◌∙◌, ◌∷◌, ◌≡◌, ◌≤ℤ◌, ◌≤◌, ◌⊎◌, AreFirsts, AreNotBefore, AreTimed, AreUnderWay, Bool}
-use Rattle.drift_world.proofs.Words.{Content, DeviceId, Down, Due, Happening, HasNothingBefore, IfNone, IfSome, IsBefore, IsDue, IsFirst, IsFounded}
-use Rattle.drift_world.proofs.Words.{IsIn, IsInRange, IsLinkInRange, IsSized, Kept, List, Network, Node, None, Note, Option, DueAt, Scenario, Some, Stands, Up}
-use Rattle.drift_world.proofs.Words.{Waiting, Waits, Way, [], act_place, amount, ap, arith, at_port, cases_eq, cases_lt, chain, get_or_from_slice_get, given_of}
-use Rattle.drift_world.proofs.Words.{happenings, in_all, inl, inr, keeps, le-ltb, length, lt-ltb, map, never, numbers_of, on_wire, place_of, pos}
-use Rattle.drift_world.proofs.Words.{reading_for, refl, ripe_place, slice_get_within, subst, sym, waiting_as, world_of, ℕ}
-use Rattle.drift_world.specs.{Sourcing.{IsRipePlace, due_place}, declared.state.State.State}
-use Rattle.std.proofs.Common.{All, slice_get}
-use Rattle.run_law.{proofs.runs.Places.before_later, specs.machines.Tasks.{IsPending, Task}}
-use Rattle.tte_lemmas.proofs.Options.{some_same}
-use Rattle.world_law.{proofs.frames.Proper.{IsReceiver, received}, specs.world.{Moves.NothingBefore, World.IsWaitingFor}}
-use Rattle.world_law.proofs.steps_lemmas.ripening.Ripens.{come_of}
-use Rattle.world_state.{proofs.UnderWays.{port_numbers, wire_numbers}, specs.{declared.queue.Entry.Entry, timers.Times.{IsFirst as IsFirstDue}}}
+use Rattle.drift_world.proofs.Words.{◌+◌, ◌-◌, ◌<◌, ◌^◌, ◌∙◌, ◌∷◌, ◌≡◌, ◌≤ℤ◌, ◌≤◌, ◌⊎◌, AreFirsts, AreNotBefore, AreTimed, AreUnderWay, Bool, Content, DeviceId}
+use Rattle.drift_world.proofs.Words.{Down, Due, DueAt, Happening, HasNothingBefore, IfNone, IfSome, IsBefore, IsDue, IsFirst, IsFounded, IsIn, IsInRange}
+use Rattle.drift_world.proofs.Words.{IsLinkInRange, IsSized, Kept, List, Network, Node, None, Note, Option, Scenario, Some, Stands, Up, Waiting, Waits, Way, []}
+use Rattle.drift_world.proofs.Words.{act_place, amount, ap, arith, at_port, cases_eq, cases_lt, chain, get_or_from_slice_get, given_of, happenings}
+use Rattle.drift_world.proofs.Words.{if◌then◌else◌, in_all, inl, inr, keeps, le-ltb, length, lt-ltb, map, never, numbers_of, on_wire, place_of, pos}
+use Rattle.{drift_world.proofs.Words.{reading_for, refl, ripe_place, slice_get_within, subst, sym, waiting_as, world_of, ℕ}, std.proofs.Common.{All, slice_get}}
+use Rattle.{drift_world.specs.{Sourcing.{IsRipePlace, due_place}, declared.state.State.State}, run_law.specs.machines.Tasks.{IsPending, Task}}
+use Rattle.{run_law.proofs.runs.Places.before_later, tte_lemmas.proofs.Options.some_same, world_law.specs.world.World.IsWaitingFor}
+use Rattle.{world_law.proofs.frames.Proper.{IsReceiver, received}, world_state.{specs.{declared.queue.Entry.Entry, timers.{Times.{IsFirst as IsFirstDue}}}}}
+use Rattle.{world_law.{proofs.steps_lemmas.ripening.Ripens.come_of, specs.world.Moves.NothingBefore}, world_state.proofs.UnderWays.{port_numbers, wire_numbers}}
 
 -- what is not before the first is not before a place that the first is not before
 pub not_sooner : (q first p : List ℕ) → (IsBefore q first → ⊥) → (IsBefore first p → ⊥) → IsBefore q p → ⊥

@@ -1,17 +1,13 @@
 -- An event within the hypothesis suits the world: it turns on only a device that is off, and has octets sent only by an
 -- end system.
-use Rattle.drift_world.proofs.{EventRuns.none_coming, Offs.{begins_off, stays_off}, Words.{parted, refl, scenario, subst, sym, true, ℕ}}
+use Rattle.{drift_world.proofs.EventRuns.none_coming, net_plan.specs.declared.event.Event.Event, schedule_tables.proofs.Margins.master_ends}
+use Rattle.{drift_world.proofs.Offs.{begins_off, stays_off}, run_law.{proofs.scenario.Devices.broken_by, specs.scenario.Faults.{Breaks, IsBroken, TurnsOn}}}
 use Rattle.drift_world.proofs.Words.{◌++◌, ◌<◌, ◌∙◌, ◌≡◌, AreWithinHypothesis, DeviceId, FitsWorld, Happening, IsHeld, IsOfNetwork, IsSomeAnd}
 use Rattle.drift_world.proofs.Words.{IsWithinHypothesis, Link, LinkId, List, Network, Node, None, Note, Off, Option, Some, Stands, What, World, amount, any_in}
 use Rattle.drift_world.proofs.Words.{ap, append-nil, breaks_at, false, happenings, in_filter, inl, inr, is_broken, length, link_at, nat_le, option_map_or}
-use Rattle.std.proofs.lemmas.Bool.{cases_Bool}
-use Rattle.net_plan.specs.{Places.{device_at, is_end_system, is_master}, declared.{event.Event.Event, tables.Device.Device}}
-use Rattle.precision_law.proofs.Plain.{any_is, any_of_in}
-use Rattle.run_law.{proofs.scenario.Devices.broken_by, specs.scenario.{Devices.is_end, Faults.{Breaks, IsBroken, TurnsOn}}}
-use Rattle.schedule_tables.proofs.Margins.{master_ends}
-use Rattle.sync_state.specs.declared.state.State.{State}
-use Rattle.world_law.specs.world.World.{IsFromEnd}
-use Rattle.world_state.specs.Applying.{IsShown}
+use Rattle.{drift_world.proofs.Words.{parted, refl, scenario, subst, sym, true, ℕ}, net_plan.specs.Places.{device_at, is_end_system, is_master}}
+use Rattle.{net_plan.specs.declared.tables.Device.Device, precision_law.proofs.Plain.{any_is, any_of_in}, sync_state.specs.declared.state.State.State}
+use Rattle.{run_law.specs.scenario.Devices.is_end, std.proofs.lemmas.Bool.cases_Bool, world_law.specs.world.World.IsFromEnd, world_state.specs.Applying.IsShown}
 use Rattle.net_plan.specs.declared.event.What.TheVariants as events
 use Rattle.run_law.specs.declared.outside.Outside.TheVariants as outside
 

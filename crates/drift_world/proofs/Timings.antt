@@ -1,11 +1,9 @@
 -- Timers that are right, and stay so.
-use Rattle.drift_world.{proofs.Fits.sized_so, specs.declared.state.State.State}
+use Rattle.{drift_world.proofs.Fits.sized_so, std.proofs.Common.{All, slice_get}}
 use Rattle.drift_world.proofs.Words.{◌*◌, ◌+◌, ◌<◌, ◌^◌, ◌↔◌, ◌∙◌, ◌≡◌, ◌≤ℤ◌, ◌≤◌, ◌⊎◌, AreTimed, Bool, ChangesOnly, DeviceId, IsIn, IsRunning, IsSized}
 use Rattle.drift_world.proofs.Words.{IsTimed, Kept, List, Network, Node, None, Option, Some, Units, Waits, ap, arith, cases_eq, cases_lt, inl, inr, ints, keeps}
 use Rattle.drift_world.{proofs.Words.{length, never, pos, refl, subst, sym, ℕ}, specs.Stepping.{ActsAt, IsRekeyed, IsRipeAt, MayRekey, SetsOnly}}
-use Rattle.std.proofs.Common.{All, slice_get}
-use Rattle.run_law.specs.machines.Tasks.{IsDueReading}
-use Rattle.world_state.specs.Timing.{IsLeastPoint, IsTimeFor}
+use Rattle.{drift_world.specs.declared.state.State.State, run_law.specs.machines.Tasks.IsDueReading, world_state.specs.Timing.{IsLeastPoint, IsTimeFor}}
 
 -- ---- a time at which a clock reads so much
 

@@ -1,17 +1,16 @@
 -- A turn of a world: what comes first, and what the steps keep.
-use Rattle.drift_world.{proofs.{Fits.{sound_same, sound_timers}, Foremost.timers_later, Sources.{of_world, sooner_too}}, specs.declared.state.State.State}
-use Rattle.drift_world.{proofs.HiddenCauses.{InOrder, settled_in_order}, specs.declared.{next.Turn.TheVariants.{Ends, Gives, GoesOn}, source.Source.Source}}
+use Rattle.{drift_world.proofs.Fits.{sound_same, sound_timers}, world_law.proofs.{acts.NoActs.nothing_comes_before, runs.Worlds.nothing_settled_is_all}}
+use Rattle.{drift_world.proofs.{Foremost.timers_later, HiddenCauses.{InOrder, settled_in_order}}, world_law.proofs.steps_lemmas.steps.Passed.none_hidden}
+use Rattle.drift_world.{proofs.Sources.{of_world, sooner_too}, specs.{Stepping.IsRekeyed, declared.{source.Source.Source, state.State.State}}}
 use Rattle.drift_world.proofs.{Timings.{passed, rekeyed, unchanged}, Words.{numbers_of, own_place, place_of, refl, settled_at, subst, sym, true, world_of, ℕ}}
 use Rattle.drift_world.proofs.Words.{◌++◌, ◌+◌, ◌<◌, ◌^◌, ◌↔◌, ◌∙◌, ◌∷◌, ◌≡◌, ◌≤◌, AreFirsts, AreSettled, AreTimed, Bool, ChangesOnly, ComesFirst, DeviceId}
 use Rattle.drift_world.proofs.Words.{Due, DueAt, Err, Happening, HasItsOctets, HasNothingBefore, IsAt, IsBefore, IsIn, IsRunning, IsScenarioRun, IsSound}
 use Rattle.drift_world.proofs.Words.{IsWell, List, Network, NoSourceBefore, Node, Note, Ok, OnErr, OnOk, Option, Result, Scenario, Settled, Some, SourceFirst}
 use Rattle.drift_world.proofs.Words.{Stands, Turn, [], ap, append-nil, arith, chain, happenings, inl, inr, keeps, length, length-map, map, never_self}
-use Rattle.drift_world.specs.Stepping.{IsRekeyed}
 use Rattle.drift_world.specs.Turns.{HasRoom, IsAfter, IsAhead, IsForemost, IsKept, IsNow, IsPassed, IsStep, IsThere, MayWork, PassSays, TurnSays, given_in}
 use Rattle.drift_world.specs.{Turns.{own_numbers, source_place}, declared.source.Source.TheVariants.{Act, Arrival, Clock, Departure, Events, Later, Ripening}}
+use Rattle.{drift_world.specs.declared.next.Turn.TheVariants.{Ends, Gives, GoesOn}, run_law.proofs.runs.Places.{before_later, before_later_time}}
 use Rattle.std.proofs.Common.{All, slice_get}
-use Rattle.run_law.proofs.runs.Places.{before_later, before_later_time}
-use Rattle.world_law.proofs.{acts.NoActs.nothing_comes_before, runs.Worlds.nothing_settled_is_all, steps_lemmas.steps.Passed.none_hidden}
 
 -- ---- a source and what is settled
 

@@ -1,13 +1,12 @@
 -- What a device has to do, and where its acts lead.
 use Rattle.std.specs.Prelude.{◌<ℤ◌, ◌≡◌, ◌⊎◌, Bool, List, Option, Some, false, pos, slice_get, true, ℕ}
-use Rattle.net_plan.specs.declared.{ids.DeviceId.DeviceId, network.Network.Network}
-use Rattle.run_law.specs.{declared.note.Note.Note, records.{Happenings.Happening, Order.{IsBefore, IsIn, behind}}}
-use Rattle.run_law.specs.{machines.Nodes.Node, records.Ranks.place_of}
-use Rattle.run_law.specs.{machines.Tasks.{IsDueReading, IsPending, Task, reading_for}, scenario.Scenarios.Scenario}
-use Rattle.tte_units.specs.declared.units.Units.{Units}
-use Rattle.world_law.specs.world.{Calls.{IsDueNow, moment_of}, World.{Stands, act_place}}
-use Rattle.world_state.specs.{Keeping.keeps, declared.kept.Kept.Kept}
-use Rattle.drift_world.specs.{Views.world_of, declared.state.State.State}
+use Rattle.{drift_world.specs.Views.world_of, run_law.specs.machines.Nodes.Node, world_state.specs.Keeping.keeps}
+use Rattle.{drift_world.specs.declared.state.State.State, world_law.specs.world.World.{Stands, act_place}}
+use Rattle.{net_plan.specs.declared.ids.DeviceId.DeviceId, world_law.specs.world.Calls.{IsDueNow, moment_of}}
+use Rattle.{net_plan.specs.declared.network.Network.Network, run_law.specs.records.Order.{IsBefore, IsIn, behind}}
+use Rattle.{run_law.specs.{declared.note.Note.Note, records.Ranks.place_of}, world_state.specs.declared.kept.Kept.Kept}
+use Rattle.run_law.specs.{machines.Tasks.{IsDueReading, IsPending, Task, reading_for}, records.Happenings.Happening}
+use Rattle.{run_law.specs.scenario.Scenarios.Scenario, tte_units.specs.declared.units.Units.Units}
 
 -- in each scenario for which the state stands the device has something to do now
 abbrev pub IsDueAt : {C M : Type 0} → (C → ℕ → ℕ) → (M → Network → DeviceId → Node → Type 0) → Network → State C M

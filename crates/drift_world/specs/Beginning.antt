@@ -1,10 +1,8 @@
 -- How a world begins.
 use Rattle.std.specs.Prelude.{◌*◌, ◌≡◌, ◌≤◌, All, List, Some, [], false, length, map, replicate, slice_get, true, ℕ}
-use Rattle.net_plan.specs.declared.{ids.DeviceId.DeviceId, network.Network.Network}
-use Rattle.run_law.specs.machines.Nodes.{Node, begun_node}
-use Rattle.tte_units.specs.Amount.{amount}
+use Rattle.{drift_world.specs.declared.state.State.State, run_law.specs.machines.Nodes.{Node, begun_node}}
+use Rattle.{net_plan.specs.declared.{ids.DeviceId.DeviceId, network.Network.Network}, tte_units.specs.Amount.amount}
 use Rattle.world_state.specs.{Beginning.first_way, Keeping.sound_one, timers.Times.never}
-use Rattle.drift_world.specs.declared.state.State.{State}
 
 -- there is a machine for each device, which has just begun
 pub record AreFresh {M : Type 0} (stands : M → Network → DeviceId → Node

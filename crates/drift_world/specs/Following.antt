@@ -1,11 +1,9 @@
 -- How the clocks of a network go on by an event.
 use Rattle.std.specs.Prelude.{◌++◌, ◌∷◌, ◌≡◌, ◌≤ℤ◌, ◌≤◌, List, Some, [], pos, slice_get, ℕ, ℤ}
+use Rattle.{drift_world.specs.declared.state.State.State, world_law.specs.source.Agreeing.scenario}
 use Rattle.net_plan.specs.declared.{event.Event.Event, ids.DeviceId.DeviceId, network.Network.Network}
-use Rattle.run_law.specs.records.Order.{IsIn}
-use Rattle.tte_units.specs.Amount.{amount}
-use Rattle.world_law.specs.{device.Ready.IsSteady, source.Agreeing.scenario, world.World.IsForward}
-use Rattle.world_state.specs.Applying.{clock_after}
-use Rattle.drift_world.specs.declared.state.State.{State}
+use Rattle.{run_law.specs.records.Order.IsIn, tte_units.specs.Amount.amount}
+use Rattle.{world_law.specs.{device.Ready.IsSteady, world.World.IsForward}, world_state.specs.Applying.clock_after}
 
 -- up to the present time the clocks read what they read, and from then on what the event makes of them
 pub record Follows {C M : Type 0} (after_step : C → ℕ → ℤ → C) (reading : C → ℕ → ℕ) (network : Network) (f g : DeviceId

@@ -1,14 +1,11 @@
 -- Events of a later time, and times behind the end.
 use Rattle.std.specs.Prelude.{if◌then◌else◌, ◌&&◌, ◌+◌, ◌<ℤ◌, ◌∷◌, ◌≡◌, ◌≤ℤ◌, ◌≤◌, List, [], false, int_lt, pos, true}
 use Rattle.std.specs.Prelude.{ℕ, ℤ}
-use Rattle.net_plan.specs.{Belonging.IsOfNetwork, declared.{event.Event.Event, ids.DeviceId.DeviceId}}
-use Rattle.net_plan.specs.declared.network.Network.{Network}
-use Rattle.run_law.specs.{declared.note.Note.Note, machines.Nodes.Node, runs.DueRecords.IsRunOf}
-use Rattle.run_law.specs.scenario.Hypothesis.{IsWithinHypothesis}
-use Rattle.tte_units.specs.{Amount.{amount, units_of}, declared.units.Units.Units}
-use Rattle.world_law.specs.world.World.{World}
-use Rattle.world_state.specs.declared.kept.Kept.{Kept}
-use Rattle.drift_world.specs.Running.{StandsUnder, reading_of}
+use Rattle.{drift_world.specs.Running.{StandsUnder, reading_of}, run_law.specs.scenario.Hypothesis.IsWithinHypothesis}
+use Rattle.{net_plan.specs.Belonging.IsOfNetwork, run_law.specs.machines.Nodes.Node, world_law.specs.world.World.World}
+use Rattle.net_plan.specs.declared.{event.Event.Event, ids.DeviceId.DeviceId, network.Network.Network}
+use Rattle.{run_law.specs.{declared.note.Note.Note, runs.DueRecords.IsRunOf}, tte_units.specs.Amount.{amount, units_of}}
+use Rattle.{tte_units.specs.declared.units.Units.Units, world_state.specs.declared.kept.Kept.Kept}
 
 -- it may befall at its time: that is not past, where it is the present time nothing of it but events is worked off, and
 -- the end has not come

@@ -1,11 +1,10 @@
 -- How a world comes nearer to a time, turn by turn.
 use Rattle.std.specs.Prelude.{if◌then◌else◌, ◌*◌, ◌+◌, ◌-◌, ◌<◌, ◌∷◌, ◌≡◌, ◌≤◌, ◌⊎◌, List, Some, [], drop, length}
 use Rattle.std.specs.Prelude.{nat_lt, slice_get, ℕ}
-use Rattle.net_plan.specs.declared.{ids.DeviceId.DeviceId, network.Network.Network}
-use Rattle.run_law.specs.{machines.Nodes.Node, scenario.Scenarios.Scenario}
-use Rattle.world_state.specs.declared.kept.Kept.{Kept}
-use Rattle.drift_world.specs.{Acting.IsIdle, Showing.IsOf, declared.next.Turn.{Turn, TheVariants.{Ends, Gives, GoesOn}}}
-use Rattle.drift_world.specs.declared.state.State.{State}
+use Rattle.{drift_world.specs.Acting.IsIdle, net_plan.specs.declared.{ids.DeviceId.DeviceId, network.Network.Network}}
+use Rattle.drift_world.specs.Showing.{IsOf}
+use Rattle.drift_world.specs.declared.{next.Turn.{TheVariants.{Ends, Gives, GoesOn}, Turn}, state.State.State}
+use Rattle.{run_law.specs.{machines.Nodes.Node, scenario.Scenarios.Scenario}, world_state.specs.declared.kept.Kept.Kept}
 
 -- how many of these times have come
 abbrev pub come : ℕ → List ℕ → ℕ

@@ -1,10 +1,9 @@
 -- The first of the frames that wait at a device.
 use Rattle.std.specs.Prelude.{◌≡◌, ◌≤ℤ◌, Some, pos, slice_get, ℕ}
-use Rattle.net_plan.specs.declared.ids.DeviceId.{DeviceId}
+use Rattle.{drift_world.specs.declared.state.State.State, world_law.specs.world.World.ripe_place}
+use Rattle.{net_plan.specs.declared.ids.DeviceId.DeviceId, world_state.specs.declared.contents.Waits.Waits}
 use Rattle.run_law.specs.{declared.steps.Ripe.{Ripe, TheVariants.{Dropped, Integrates}}, records.Order.{IsBefore, IsIn}}
-use Rattle.world_law.specs.world.World.{ripe_place}
-use Rattle.world_state.specs.{Frames.first_of, Views.waiting_as, declared.contents.Waits.Waits}
-use Rattle.drift_world.specs.declared.state.State.{State}
+use Rattle.world_state.specs.{Frames.first_of, Views.waiting_as}
 
 -- the frame waits at the device, its clock reads its point or more, and none such is before it
 pub record IsFirstRipe {C M : Type 0} (reading : C → ℕ

@@ -2,13 +2,12 @@
 use Rattle.std.specs.Prelude.{◌-◌, ◌<ℤ◌, ◌<◌, ◌^◌, ◌∷◌, ◌≡◌, ◌≤ℤ◌, ◌≤◌, ◌⊎◌, All, Bool, Err, IfNone, List, MatchResult}
 use Rattle.std.specs.Prelude.{None, Ok, Option, Result, Some, [], false, length, option_to_list, pos, slice_get, true}
 use Rattle.std.specs.Prelude.{ℕ, ℤ}
-use Rattle.net_plan.specs.{Belonging.IsOfNetwork, declared.event.{Event.Event, What.{What, TheVariants.Hold}}}
-use Rattle.net_plan.specs.declared.{ids.DeviceId.DeviceId, network.Network.Network}
+use Rattle.{net_plan.specs.Belonging.IsOfNetwork, world_law.specs.source.Agreeing.scenario}
+use Rattle.{net_plan.specs.declared.event.Event.Event, tte_units.specs.declared.units.Units.Units}
+use Rattle.net_plan.specs.declared.{event.What.{TheVariants.Hold, What}, ids.DeviceId.DeviceId, network.Network.Network}
 use Rattle.run_law.specs.{declared.{note.{Note.Note, NoteBody.{TheVariants.{Event as Befalls}}}}, machines.Nodes.Node}
 use Rattle.run_law.specs.{law.FirstLaws.IsEventInRange, scenario.Hypothesis.{AreWithinHypothesis, IsWithinHypothesis}}
-use Rattle.tte_units.specs.declared.units.Units.{Units}
-use Rattle.world_law.specs.{source.Agreeing.scenario, world.World.{Stands, World}}
-use Rattle.world_state.specs.{Keeping.keeps, declared.kept.Kept.Kept}
+use Rattle.{world_law.specs.world.World.{Stands, World}, world_state.specs.{Keeping.keeps, declared.kept.Kept.Kept}}
 pub use Rattle.traffic_law.specs.safety.Under.{clock_of, last_time, reading_of}
 
 -- the events are the network's, their times are none below 0, and each is within the fault hypothesis; the records

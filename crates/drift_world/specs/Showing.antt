@@ -1,10 +1,8 @@
 -- What the parts of a state show of a scenario.
 use Rattle.std.specs.Prelude.{◌<◌, ◌≡◌, Some, length, map, slice_get, ℕ}
-use Rattle.net_plan.specs.declared.{ids.DeviceId.DeviceId, network.Network.Network}
-use Rattle.run_law.specs.scenario.Scenarios.{Scenario, is_broken}
-use Rattle.world_law.specs.world.World.{AreWays, IsClockOf}
-use Rattle.world_state.specs.Views.{way_as}
-use Rattle.drift_world.specs.declared.state.State.{State}
+use Rattle.{drift_world.specs.declared.state.State.State, world_state.specs.Views.way_as}
+use Rattle.{net_plan.specs.declared.ids.DeviceId.DeviceId, world_law.specs.world.World.{AreWays, IsClockOf}}
+use Rattle.{net_plan.specs.declared.network.Network.Network, run_law.specs.scenario.Scenarios.{Scenario, is_broken}}
 
 -- the clocks, the ways and what is broken are those of the scenario
 pub record IsOf {C M : Type 0} (reading : C → ℕ

@@ -1,9 +1,8 @@
 -- What a state keeps.
 use Rattle.std.specs.{List.IsDistinct, Prelude.{◌+◌, ◌<◌, ◌^◌, ◌≡◌, ◌≤◌, All, List, length, map, nat_eq, ℕ}}
-use Rattle.net_plan.specs.declared.network.Network.{Network}
-use Rattle.world_state.specs.{Giving.HasItsOctets, Sound.{AreBelow, AreUnderWay, IsShort}}
-use Rattle.world_state.specs.declared.contents.Waits.{Waits}
-use Rattle.drift_world.specs.declared.state.State.{State}
+use Rattle.{drift_world.specs.declared.state.State.State, world_state.specs.declared.contents.Waits.Waits}
+use Rattle.{net_plan.specs.declared.network.Network.Network, world_state.specs.Sound.{AreBelow, AreUnderWay, IsShort}}
+use Rattle.world_state.specs.Giving.{HasItsOctets}
 
 -- each device has a clock, which may be read from the present time on, a machine and a mark whether it is broken, and
 -- each link its ways

@@ -1,19 +1,18 @@
 -- How a world goes on, one source after the other.
 use Rattle.std.specs.Prelude.{◌++◌, ◌+◌, ◌-◌, ◌<◌, ◌^◌, ◌∷◌, ◌≡◌, ◌≤ℤ◌, ◌≤◌, ◌⊎◌, Err, List, None, Ok, Option, Result}
 use Rattle.std.specs.{Prelude.{Some, [], false, length, pos, slice_get, true, ℕ}, VecDeque.{deque_capacity, deque_len}}
-use Rattle.net_plan.specs.{Ranges.IsInRange, declared.{ids.DeviceId.DeviceId, network.Network.Network}}
-use Rattle.run_law.specs.{declared.note.Note.Note, machines.{Calls.HasDue, Nodes.Node}, records.Order.{IsBefore, IsIn}}
-use Rattle.run_law.specs.{runs.DueRecords.IsScenarioRun, scenario.Scenarios.Scenario}
-use Rattle.tte_units.specs.Amount.{amount, units_of}
-use Rattle.world_law.specs.world.World.{Stands, act_place, clock_place, ripe_place}
-use Rattle.world_state.specs.{Frames.first_of, Keeping.keeps, Views.waiting_as}
-use Rattle.world_state.specs.{Places.own_place, declared.{kept.Kept.Kept, queue.DueAt.DueAt, timers.Due.Due}}
-use Rattle.world_state.specs.{declared.contents.{Settled.Settled, Waits.Waits}, queue.Places.{IsFirst, numbers_of}}
-use Rattle.drift_world.specs.Nearing.{IsLess, Nears}
-use Rattle.drift_world.specs.{Sourcing.{HasNothingBefore, IsRipePlace, due_place}, Views.world_of, Wells.IsWell}
-use Rattle.drift_world.specs.declared.{next.Turn.{Turn, TheVariants.{Ends, Gives, GoesOn}}, source.Source.Source}
+use Rattle.{drift_world.specs.{Nearing.{IsLess, Nears}, Views.world_of}, tte_units.specs.Amount.{amount, units_of}}
+use Rattle.drift_world.specs.{Sourcing.{HasNothingBefore, IsRipePlace, due_place}, declared.source.Source.Source}
+use Rattle.{drift_world.specs.{Wells.IsWell, declared.state.State.State}, world_state.specs.declared.queue.DueAt.DueAt}
+use Rattle.drift_world.specs.declared.{next.Turn.TheVariants.{Ends, Gives, GoesOn}, source.Source.TheVariants.Ripening}
+use Rattle.{drift_world.specs.declared.next.Turn.Turn, world_state.specs.declared.{kept.Kept.Kept, timers.Due.Due}}
 use Rattle.drift_world.specs.declared.source.Source.TheVariants.{Act, Arrival, Clock, Departure, Events, Later}
-use Rattle.drift_world.specs.declared.{source.Source.TheVariants.Ripening, state.State.State}
+use Rattle.net_plan.specs.{Ranges.IsInRange, declared.{ids.DeviceId.DeviceId, network.Network.Network}}
+use Rattle.{run_law.specs.{declared.note.Note.Note, machines.Calls.HasDue}, world_state.specs.Places.own_place}
+use Rattle.{run_law.specs.machines.Nodes.Node, world_state.specs.{Frames.first_of, Keeping.keeps, Views.waiting_as}}
+use Rattle.run_law.specs.{records.Order.{IsBefore, IsIn}, runs.DueRecords.IsScenarioRun, scenario.Scenarios.Scenario}
+use Rattle.world_law.specs.world.World.{Stands, act_place, clock_place, ripe_place}
+use Rattle.world_state.specs.{declared.contents.{Settled.Settled, Waits.Waits}, queue.Places.{IsFirst, numbers_of}}
 
 -- the place of a source, at the present time
 abbrev pub source_place : ℕ → Source → List ℕ

@@ -1,10 +1,9 @@
 -- A world as its law sees it, from the parts of its state.
 use Rattle.std.specs.Prelude.{◌∷◌, List, filter_map, map}
-use Rattle.net_plan.specs.declared.network.Network.{Network}
+use Rattle.{drift_world.specs.declared.state.State.State, world_state.specs.declared.kept.Kept.Kept}
+use Rattle.{net_plan.specs.declared.network.Network.Network, world_state.specs.declared.contents.Settled.Settled}
 use Rattle.world_law.specs.world.World.{World}
 use Rattle.world_state.specs.Views.{at_port, befell_as, on_wire, settled_at, stored_as, waiting_as, way_as}
-use Rattle.world_state.specs.declared.{contents.Settled.Settled, kept.Kept.Kept}
-use Rattle.drift_world.specs.declared.state.State.{State}
 
 -- the world of a state
 abbrev pub world_of : {C M : Type 0} → Network → State C M → World C (Kept M)

@@ -1,9 +1,8 @@
 ghost use Rattle.std.specs.Prelude.{◌+◌, ◌<◌, ◌∷◌, ◌≡◌, ◌≤◌, List, OnErr, OnOk, [], false, length, true, ℕ};
-ghost use Rattle.net_plan.specs.Ranges.{IsInRange};
-ghost use Rattle.run_law.specs.{declared.note.Note.Note, records.Order.behind, scenario.Scenarios.Scenario};
-ghost use Rattle.world_law.specs.world.{Moves.StandsBehind, World.Stands};
-ghost use Rattle.world_state.specs.Keeping.{keeps};
-ghost use Rattle.drift_world.specs.{Sound.IsSound, Stepping.{ChangesOnly, IsRunning}, Views.world_of};
+ghost use Rattle.{drift_world.specs.{Sound.IsSound, Views.world_of}, run_law.specs.records.Order.behind};
+ghost use Rattle.{drift_world.specs.Stepping.{ChangesOnly, IsRunning}, run_law.specs.scenario.Scenarios.Scenario};
+ghost use Rattle.{net_plan.specs.Ranges.IsInRange, world_state.specs.Keeping.keeps};
+ghost use Rattle.{run_law.specs.declared.note.Note.Note, world_law.specs.world.{Moves.StandsBehind, World.Stands}};
 
 use crate::state::State;
 use drift_clock::Clock;

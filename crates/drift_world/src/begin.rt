@@ -1,6 +1,5 @@
 ghost use Rattle.std.specs.Prelude.{◌≡◌, length, IfOk, false};
-ghost use Rattle.net_plan.specs.Ranges.{IsInRange};
-ghost use Rattle.drift_world.specs.Beginning.{IsFirstState};
+ghost use Rattle.{drift_world.specs.Beginning.IsFirstState, net_plan.specs.Ranges.IsInRange};
 
 use crate::state::State;
 use device_rules::frames::MadeFrame;

@@ -1,10 +1,9 @@
 ghost use Rattle.std.specs.Prelude.{◌+◌, ◌<◌, ◌≡◌, List, false, length, ℕ};
-ghost use Rattle.net_plan.specs.Ranges.{IsInRange};
+ghost use Rattle.{drift_world.specs.Sound.IsSound, net_plan.specs.Ranges.IsInRange};
+ghost use Rattle.{drift_world.specs.Stepping.{ChangesOnly, IsAt, StandsPast}, world_state.specs.Hearing.arrived};
+ghost use Rattle.{run_law.specs.records.Ranks.{place_of, rank}, world_state.specs.Places.IsPutAt};
 ghost use Rattle.world_state.specs.{Giving.{HasItsOctets, changed_device}, queue.Places.{IsFirst, numbers_of}};
-ghost use Rattle.world_state.specs.{Hearing.arrived, Places.IsPutAt};
 ghost use Rattle.world_state.specs.{Views.settled_at, declared.{contents.{Settled.{Settled as SettledValue}}}};
-ghost use Rattle.run_law.specs.records.Ranks.{place_of, rank};
-ghost use Rattle.drift_world.specs.{Sound.IsSound, Stepping.{ChangesOnly, IsAt, StandsPast}};
 
 use crate::state::State;
 use drift_clock::Clock;

@@ -1,6 +1,5 @@
 ghost use Rattle.std.specs.Prelude.{◌<◌, ◌^◌, ◌≡◌, ◌≤ℤ◌, IfSome, Some, length, pos, slice_get};
-ghost use Rattle.tte_units.specs.Amount.{amount};
-ghost use Rattle.drift_world.specs.{Locals.{IsWide, Shows}, Sound.IsSized};
+ghost use Rattle.{drift_world.specs.{Locals.{IsWide, Shows}, Sound.IsSized}, tte_units.specs.Amount.amount};
 
 use crate::state::State;
 use drift_clock::Clock;

@@ -1,6 +1,5 @@
 ghost use Rattle.std.specs.Prelude.{◌≡◌, ◌<◌, ◌+◌, pos, ◌≤ℤ◌, Some, IfSome, IfNone, length, slice_get};
-ghost use Rattle.run_law.specs.records.Order.{IsIn};
-ghost use Rattle.drift_world.specs.Ripening.{IsFirstRipe};
+ghost use Rattle.{drift_world.specs.Ripening.IsFirstRipe, run_law.specs.records.Order.IsIn};
 ghost use Rattle.world_state.specs.declared.contents.Waits.{Waits as WaitsValue};
 
 use crate::state::State;

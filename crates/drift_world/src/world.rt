@@ -1,10 +1,9 @@
 ghost use Rattle.std.specs.Prelude.{◌++◌, ◌+◌, ◌<ℤ◌, ◌<◌, ◌^◌, ◌∷◌, ◌≡◌, ◌≤ℤ◌, IfNone, IfOk, IfSome, List, MatchResult};
 ghost use Rattle.std.specs.Prelude.{OnErr, [], false, length, pos, true};
-ghost use Rattle.net_plan.specs.declared.{event.Event.Event as EventValue, network.Network.Network};
-ghost use Rattle.run_law.specs.{declared.note.Note.Note as NoteValue, records.Happenings.happenings};
-ghost use Rattle.run_law.specs.{runs.DueRecords.IsRunOf, scenario.Hypothesis.IsWithinHypothesis};
-ghost use Rattle.tte_units.specs.Amount.{amount, units_of};
-ghost use Rattle.world_law.specs.source.Agreeing.{scenario};
+ghost use Rattle.net_plan.specs.declared.{event.{Event.{Event as EventValue}}, network.Network.Network};
+ghost use Rattle.run_law.specs.{declared.{note.{Note.{Note as NoteValue}}}, scenario.Hypothesis.IsWithinHypothesis};
+ghost use Rattle.{run_law.specs.records.Happenings.happenings, world_law.specs.source.Agreeing.scenario};
+ghost use Rattle.{run_law.specs.runs.DueRecords.IsRunOf, tte_units.specs.Amount.{amount, units_of}};
 
 mod on_wire;
 
@@ -30,8 +29,7 @@ pub struct World<'a, C: Clock, M: Machine + Drop> {
 }
 
 impl<'a, C: Clock, M: Machine + Drop> Model for World<'a, C, M> {
-    ghost use Rattle.world_law.specs.world.World.{World};
-    ghost use Rattle.world_state.specs.declared.kept.Kept.{Kept};
+    ghost use Rattle.{world_law.specs.world.World.World, world_state.specs.declared.kept.Kept.Kept};
 
     ghost Value = { World C (Kept M) };
 

@@ -1,18 +1,15 @@
 -- What an end system knows of an accepted network.
-use Rattle.end_system.proofs.Words.{if◌then◌else◌, ◌*◌, ◌+ℤ◌, ◌+◌, ◌<ℤ◌, ◌==◌, ◌^◌, ◌∙◌, ◌≡◌, ◌≤ℤ◌, ◌≤◌, A, B, Bool, Channel, DeviceId, IsInRange, IsOwnOf}
-use Rattle.end_system.proofs.Words.{IsSomeAnd, Link, LinkId, Network, None, Option, Own, Row, RowId, Some, SyncPlan, Units, amount, amount_most, ap, arith}
-use Rattle.end_system.proofs.Words.{cases_Bool, end_plan, eqb-true, expected_offset, false, false≢true, in_all, inl, inr, ints, link_at, not, option_and_then}
-use Rattle.end_system.proofs.Words.{option_map_or, pos, refl, subst, sym, true, ℕ, ℤ, ⊎_elim}
-use Rattle.std.proofs.Common.{◌*ℤ◌, is_some}
-use Rattle.net_plan.{proofs.{InRange.its_amount, SameIds.{same_device, same_link}, Shape.child_of}, specs.Paths.IsUplink}
-use Rattle.net_plan.specs.{Places.{IsEndSystem, IsSwitchOf, device_at, is_end_system, is_master}, Ranges.{IsDeviceInRange, IsWithin}}
-use Rattle.net_plan.specs.declared.tables.{Device.Device, Role.{Role, TheVariants.{Client, Cm, Master, Relay}}}
-use Rattle.run_law.{proofs.scenario.Devices.end_test, specs.{machines.Calls.IsLinkAt, records.Frames.dispatched_frame}}
-use Rattle.run_law.specs.scenario.{Devices.{IsParentOf, channel_of, has_role, is_cm, is_cm_role, is_relay, is_relay_role, plan_of}, Ways.wire_of}
-use Rattle.schedule_tables.specs.Rules.{KeepsRules}
-use Rattle.tte_lemmas.proofs.{Naturals.eqb_same, Options.one as one_some}
-use Rattle.tte_units.specs.Amount.{units_of}
-use Rattle.end_system.{proofs.Values.at_least, specs.Owns.{IsLinkOf, IsUplinkOf, channel_by, wire_by}}
+use Rattle.{end_system.proofs.Values.at_least, net_plan.proofs.Shape.child_of, std.proofs.Common.{◌*ℤ◌, is_some}, tte_units.specs.Amount.units_of}
+use Rattle.end_system.proofs.Words.{◌*◌, ◌+ℤ◌, ◌+◌, ◌<ℤ◌, ◌==◌, ◌^◌, ◌∙◌, ◌≡◌, ◌≤ℤ◌, ◌≤◌, A, B, Bool, Channel, DeviceId, IsInRange, IsOwnOf, IsSomeAnd, Link}
+use Rattle.end_system.proofs.Words.{LinkId, Network, None, Option, Own, Row, RowId, Some, SyncPlan, Units, amount, amount_most, ap, arith, cases_Bool, end_plan}
+use Rattle.end_system.proofs.Words.{eqb-true, expected_offset, false, false≢true, if◌then◌else◌, in_all, inl, inr, ints, link_at, not, option_and_then}
+use Rattle.end_system.{proofs.Words.{option_map_or, pos, refl, subst, sym, true, ℕ, ℤ, ⊎_elim}, specs.Owns.{IsLinkOf, IsUplinkOf, channel_by, wire_by}}
+use Rattle.{net_plan.proofs.InRange.its_amount, run_law.{proofs.scenario.Devices.end_test, specs.scenario.Ways.wire_of}, tte_lemmas.proofs.Naturals.eqb_same}
+use Rattle.{net_plan.{proofs.SameIds.{same_device, same_link}, specs.Ranges.{IsDeviceInRange, IsWithin}}, run_law.specs.records.Frames.dispatched_frame}
+use Rattle.net_plan.specs.Paths.{IsUplink}
+use Rattle.net_plan.specs.{Places.{IsEndSystem, IsSwitchOf, device_at, is_end_system, is_master}, declared.tables.Role.TheVariants.{Client, Cm, Master, Relay}}
+use Rattle.{net_plan.specs.declared.tables.{Device.Device, Role.Role}, schedule_tables.specs.Rules.KeepsRules, tte_lemmas.{proofs.{Options.{one as one_some}}}}
+use Rattle.run_law.specs.{machines.Calls.IsLinkAt, scenario.Devices.{IsParentOf, channel_of, has_role, is_cm, is_cm_role, is_relay, is_relay_role, plan_of}}
 use Rattle.schedule_tables.specs.declared.rule.Rule.TheVariants as rules
 
 pub some_of : {X : Type 0} (o : Option X) (P : X → Type 0) → IsSomeAnd o P → (x : X) × (o ≡ Some x) × P x

@@ -1,15 +1,13 @@
 -- The dispatch that comes next, among the slots of a device.
+use Rattle.end_system.proofs.{Advance.{done_now, done_still, was_done}, Words.{option_map_or, pos, refl, subst, suc, sym, turn_of, value_of, zero, ℕ, ℤ}}
+use Rattle.{end_system.proofs.{RowSearch.is_of, Tasks.later_value}, run_law.specs.machines.Tasks.offset_of, schedule_tables.specs.Slots.place_by}
+use Rattle.{end_system.proofs.Values.at_least, std.proofs.Common.{◌-◌, ◌/◌}, tte_lemmas.proofs.Naturals.cases_of}
 use Rattle.end_system.proofs.Words.{◌%◌, ◌*◌, ◌++◌, ◌+◌, ◌-ℤ◌, ◌<ℤ◌, ◌<◌, ◌^◌, ◌∙◌, ◌∷◌, ◌≡◌, ◌≤ℤ◌, ◌≤◌, AreRowsOf, ClockTask, Contains, DeviceId, Dispatch}
 use Rattle.end_system.proofs.Words.{IsAtSlot, IsBelow, IsDispatch, IsOwnOf, IsSlotOf, List, Network, None, Option, Own, Row, RowId, Rows, SentBy, Slot, Some}
-use Rattle.end_system.proofs.Words.{Standing, SyncPlan, Synchronised, Units, [], amount, ap, arith, dispatching, inl, inr, ints, mul-le-mul_right}
-use Rattle.end_system.proofs.Words.{numbers_of, option_map_or, pos, refl, subst, suc, sym, turn_of, value_of, zero, ℕ, ℤ}
-use Rattle.end_system.{proofs.{Advance.{done_now, done_still, was_done}, RowSearch.is_of, Tasks.later_value, Values.at_least}, specs.Deeds.{IsSooner, Leaves}}
-use Rattle.end_system.specs.RowSlots.{IsFirstFrom, IsNextFrom, IsSlotIn}
-use Rattle.std.proofs.{Common.{◌-◌, ◌/◌}, Math.Nat.{div-add-mod, mod-lt}}
-use Rattle.run_law.specs.machines.Tasks.{offset_of}
+use Rattle.end_system.proofs.Words.{Standing, SyncPlan, Synchronised, Units, [], amount, ap, arith, dispatching, inl, inr, ints, mul-le-mul_right, numbers_of}
+use Rattle.{end_system.specs.Deeds.{IsSooner, Leaves}, std.proofs.Math.Nat.{div-add-mod, mod-lt}, tte_lemmas.proofs.Lists.{none_in, period_divides}}
+use Rattle.{end_system.specs.RowSlots.{IsFirstFrom, IsNextFrom, IsSlotIn}, schedule_tables.specs.{Dispatches.dispatch_order, declared.slot.Place.Place}}
 use Rattle.schedule_tables.proofs.{NextLemmas.{place_is as row_place_is}, OrderLemmas.{below_more, below_one_way, not_below_more, same_or_below}}
-use Rattle.schedule_tables.specs.{Dispatches.dispatch_order, Slots.place_by, declared.slot.Place.Place}
-use Rattle.tte_lemmas.proofs.{Lists.{none_in, period_divides}, Naturals.cases_of}
 
 -- ---- slots, and rows that leave in a cycle
 

@@ -3,12 +3,10 @@ use Rattle.end_system.proofs.Words.{◌*◌, ◌+ℤ◌, ◌+◌, ◌-ℤ◌, �
 use Rattle.end_system.proofs.Words.{IsAgenda, IsBelow, IsCorrection, IsDispatch, IsOwnOf, IsSending, IsSomeAnd, List, MayCall, Moment, Network, Node, None}
 use Rattle.end_system.proofs.Words.{Option, Own, Row, RowId, Some, Standing, Units, [], amount, ap, arith, below_itself, correcting, dispatching, false, inl}
 use Rattle.end_system.proofs.Words.{inr, ints, is_end, mul-le-mul_right, option_map_or, pos, refl, sending, slice_get, subst, sym, true, value_of, ℕ, ℤ}
-use Rattle.end_system.specs.{Agendas.{HasReading, IsFirstDue, IsLeastReading}, Deeds.{IsAhead, IsSooner, Leaves}}
-use Rattle.std.proofs.Common.{negsuc, unsigned_abs}
+use Rattle.{end_system.specs.{Agendas.{HasReading, IsFirstDue, IsLeastReading}, Deeds.{IsAhead, IsSooner, Leaves}}, std.proofs.Common.{negsuc, unsigned_abs}}
 use Rattle.run_law.specs.{machines.Nodes.acting, records.Order.IsBefore}
 use Rattle.run_law.specs.machines.Tasks.{HasFrame, IsDueReading, IsFirstTask, IsPending, Task, doing, emitting, offset_of, order_of, reading_for}
-use Rattle.schedule_tables.specs.Dispatches.{dispatch_order}
-use Rattle.tte_lemmas.proofs.{Bools.not_both, Integers.{never_both, through}, Naturals.{cases_of, none_less}}
+use Rattle.{schedule_tables.specs.Dispatches.dispatch_order, tte_lemmas.proofs.{Bools.not_both, Integers.{never_both, through}, Naturals.{cases_of, none_less}}}
 use Rattle.end_system.specs.declared.agenda.Due.TheVariants as dues
 
 -- ---- what is pending is ahead

@@ -1,16 +1,15 @@
 -- What an agenda holds.
 use Rattle.std.specs.Prelude.{◌+ℤ◌, ◌+◌, ◌-ℤ◌, ◌<ℤ◌, ◌^◌, ◌≡◌, ◌≤ℤ◌, ◌⊎◌, IfSome, IsSomeAnd, List, None, Option, Some}
 use Rattle.std.specs.Prelude.{[], neg_ℤ, pos, true, ℕ, ℤ}
-use Rattle.net_plan.specs.{Places.is_master, declared.{ids.{DeviceId.DeviceId, RowId.RowId}, network.Network.Network}}
-use Rattle.run_law.specs.machines.{Nodes.{ClockTask, correcting, dispatching, sending}, Tasks.value_of}
-use Rattle.run_law.specs.scenario.Devices.{has_role}
-use Rattle.sync_state.specs.{Standing.{Standing, next_point}, declared.answers.Verdict.Verdict}
+use Rattle.end_system.specs.{Deeds.{IsNextCorrection, IsNextDispatch, IsNextSending, Leaves}, declared.rows.Rows.Rows}
+use Rattle.{end_system.specs.Owns.IsOwnOf, net_plan.specs.Places.is_master}
+use Rattle.{end_system.specs.{RowSlots.AreRowsOf, declared.own.Own.Own}, run_law.specs.machines.Tasks.value_of}
+use Rattle.end_system.specs.declared.{agenda.{Agenda.Agenda, Appointment.Appointment, Due.Due}, rows.Dispatch.Dispatch}
+use Rattle.{net_plan.specs.declared.ids.{DeviceId.DeviceId, RowId.RowId}, tte_units.specs.declared.units.Units.Units}
+use Rattle.{net_plan.specs.declared.network.Network.Network, sync_state.specs.Standing.{Standing, next_point}}
+use Rattle.run_law.specs.{machines.Nodes.{ClockTask, correcting, dispatching, sending}, scenario.Devices.has_role}
 use Rattle.sync_state.specs.declared.answers.Verdict.TheVariants.{AsyncClique, Cleared, Corrected, SyncClique}
-use Rattle.sync_state.specs.declared.state.State.TheVariants.{Synchronised}
-use Rattle.tte_units.specs.declared.units.Units.{Units}
-use Rattle.end_system.specs.{Deeds.{IsNextCorrection, IsNextDispatch, IsNextSending, Leaves}, Owns.IsOwnOf}
-use Rattle.end_system.specs.{RowSlots.AreRowsOf, declared.agenda.{Agenda.Agenda, Appointment.Appointment, Due.Due}}
-use Rattle.end_system.specs.declared.{own.Own.Own, rows.{Dispatch.Dispatch, Rows.Rows}}
+use Rattle.sync_state.specs.declared.{answers.Verdict.Verdict, state.State.TheVariants.Synchronised}
 use Rattle.end_system.specs.declared.agenda.Due.TheVariants as dues
 
 -- the reading at which the deed is done

@@ -1,8 +1,7 @@
 -- A device that is broken.
 use Rattle.std.specs.Prelude.{◌≡◌, true}
-use Rattle.net_plan.specs.declared.{ids.DeviceId.DeviceId, network.Network.Network}
-use Rattle.run_law.specs.machines.Nodes.{Node}
-use Rattle.end_system.specs.declared.broken.Broken.{Broken}
+use Rattle.{end_system.specs.declared.broken.Broken.Broken, net_plan.specs.declared.network.Network.Network}
+use Rattle.{net_plan.specs.declared.ids.DeviceId.DeviceId, run_law.specs.machines.Nodes.Node}
 
 -- the machine stands as a device that broke in its state and with its adjustment
 pub record StandsBroken (b : Broken) (network : Network) (device : DeviceId) (node : Node) : Type 0 where

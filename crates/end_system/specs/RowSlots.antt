@@ -1,11 +1,10 @@
 -- The slots of the rows that a device dispatches.
 use Rattle.std.specs.List.{Contains}
 use Rattle.std.specs.Prelude.{◌%◌, ◌*◌, ◌+◌, ◌-ℤ◌, ◌<◌, ◌∷◌, ◌≡◌, ◌≤◌, List, None, Option, Some, [], pos, ℕ, ℤ}
-use Rattle.net_plan.specs.{Ranges.IsInRange, declared.{ids.DeviceId.DeviceId, network.Network.Network}}
-use Rattle.schedule_tables.specs.{Dispatches.IsBelow, Slots.{AreSlots, numbers_of}}
-use Rattle.schedule_tables.specs.declared.slot.{Slot.Slot, Whose.TheVariants.SentBy}
-use Rattle.tte_units.specs.Amount.{amount}
-use Rattle.end_system.specs.declared.{own.Own.Own, rows.{Dispatch.Dispatch, Rows.Rows}}
+use Rattle.{end_system.specs.declared.{own.Own.Own, rows.Rows.Rows}, net_plan.specs.declared.ids.DeviceId.DeviceId}
+use Rattle.{end_system.specs.declared.rows.Dispatch.Dispatch, net_plan.specs.declared.network.Network.Network}
+use Rattle.{net_plan.specs.Ranges.IsInRange, schedule_tables.specs.Dispatches.IsBelow, tte_units.specs.Amount.amount}
+use Rattle.schedule_tables.specs.{Slots.{AreSlots, numbers_of}, declared.slot.{Slot.Slot, Whose.TheVariants.SentBy}}
 
 -- the numbers of a slot's turn among its device's, which are compared from the left
 abbrev pub turn_of : Slot → List ℕ

@@ -1,13 +1,12 @@
 ghost use Rattle.std.specs.Prelude.{◌*◌, ◌+ℤ◌, ◌+◌, ◌-ℤ◌, ◌<ℤ◌, ◌<◌, ◌^◌, ◌≡◌, ◌≤ℤ◌, ◌≤◌, IfSome, None, [], neg_ℤ, pos};
 ghost use Rattle.std.specs.Prelude.{ℕ};
-ghost use Rattle.clock_correction.specs.Deviation.{IsSmall};
-ghost use Rattle.net_plan.specs.declared.{ids.DeviceId.DeviceId, network.Network.Network};
-ghost use Rattle.run_law.specs.{device.States.is_synchronised, machines.Nodes.sending};
-ghost use Rattle.sync_state.specs.Standing.{next_point};
-ghost use Rattle.tte_units.specs.Amount.{amount};
+ghost use Rattle.{clock_correction.specs.Deviation.IsSmall, run_law.specs.device.States.is_synchronised};
 ghost use Rattle.end_system.specs.Agendas.{IsAgenda, IsAt, IsCorrection, IsDispatch, IsEarlier, IsFirstDue};
-ghost use Rattle.end_system.specs.{Agendas.{IsLeastReading, IsLocal, IsSending}, Deeds.IsNextSending};
-ghost use Rattle.end_system.specs.{Owns.{HasOwnRange, IsOwnOf}, RowSlots.{AreRowsOf, AreSomeRows, IsAtSlot}};
+ghost use Rattle.end_system.specs.{Agendas.{IsLeastReading, IsLocal, IsSending}, Owns.{HasOwnRange, IsOwnOf}};
+ghost use Rattle.end_system.specs.{Deeds.IsNextSending, RowSlots.{AreRowsOf, AreSomeRows, IsAtSlot}};
+ghost use Rattle.net_plan.specs.declared.{ids.DeviceId.DeviceId, network.Network.Network};
+ghost use Rattle.{run_law.specs.machines.Nodes.sending, sync_state.specs.Standing.next_point};
+ghost use Rattle.tte_units.specs.Amount.{amount};
 
 use crate::own::Own;
 use crate::rows::{Dispatch, Rows};

@@ -1,7 +1,6 @@
 ghost use Rattle.std.specs.Prelude.{◌≡◌, true};
+ghost use Rattle.{end_system.specs.Broken.StandsBroken, run_law.specs.machines.Nodes.Node};
 ghost use Rattle.net_plan.specs.declared.{ids.DeviceId.DeviceId, network.Network.Network};
-ghost use Rattle.run_law.specs.machines.Nodes.{Node};
-ghost use Rattle.end_system.specs.Broken.{StandsBroken};
 
 use net_plan::LinkId;
 use pcf_values::Pcf;

@@ -1,11 +1,9 @@
 ghost use Rattle.std.specs.Prelude.{◌*◌, ◌+ℤ◌, ◌+◌, ◌<ℤ◌, ◌<◌, ◌^◌, ◌≡◌, ◌≤ℤ◌, ◌≤◌, length, neg_ℤ, pos};
-ghost use Rattle.net_plan.specs.{Paths.IsUplink, Places.{IsEndSystem, is_master}, Ranges.IsInRange};
-ghost use Rattle.run_law.specs.{control.Hearing.is_in_schedule, records.Frames.dispatched_frame};
-ghost use Rattle.run_law.specs.scenario.Devices.{has_role};
-ghost use Rattle.schedule_tables.specs.Rules.{KeepsRules};
-ghost use Rattle.sync_state.specs.Plan.{expected_at};
-ghost use Rattle.tte_units.specs.Amount.{amount};
 ghost use Rattle.end_system.specs.Owns.{HasOwnRange, IsOwnOf, IsUplinkOf, channel_by, end_plan, wire_by};
+ghost use Rattle.{net_plan.specs.{Paths.IsUplink, Ranges.IsInRange}, tte_units.specs.Amount.amount};
+ghost use Rattle.{net_plan.specs.Places.{IsEndSystem, is_master}, run_law.specs.records.Frames.dispatched_frame};
+ghost use Rattle.run_law.specs.{control.Hearing.is_in_schedule, scenario.Devices.has_role};
+ghost use Rattle.{schedule_tables.specs.Rules.KeepsRules, sync_state.specs.Plan.expected_at};
 
 use membership::one;
 use net_plan::{DeviceId, LinkId, Network, Role};

@@ -1,13 +1,12 @@
 ghost use Rattle.std.specs.Prelude.{◌%◌, ◌*◌, ◌++◌, ◌+◌, ◌-ℤ◌, ◌<ℤ◌, ◌<◌, ◌^◌, ◌∷◌, ◌≡◌, ◌≤ℤ◌, ◌≤◌, IfOk, IfSome, List};
 ghost use Rattle.std.specs.Prelude.{OnOk, Some, [], length, pos, ℕ, ℤ};
-ghost use Rattle.clock_correction.specs.Deviation.{IsSmall};
-ghost use Rattle.net_plan.specs.{Ranges.IsInRange, declared.ids.DeviceId.DeviceId as DeviceIdValue};
-ghost use Rattle.net_plan.specs.declared.network.Network.{Network as NetworkValue};
-ghost use Rattle.run_law.specs.machines.Nodes.{ClockTask, dispatching};
-ghost use Rattle.sync_state.specs.{Standing.Standing, declared.state.State.TheVariants.Synchronised};
-ghost use Rattle.tte_units.specs.Amount.{amount};
+ghost use Rattle.{clock_correction.specs.Deviation.IsSmall, run_law.specs.machines.Nodes.{ClockTask, dispatching}};
 ghost use Rattle.end_system.specs.{Agendas.{IsDispatch, IsLocal}, Owns.{HasOwnRange, IsOwnOf}};
 ghost use Rattle.end_system.specs.RowSlots.{AreRowsOf, AreSomeRows, IsAtSlot, IsFirstFrom};
+ghost use Rattle.net_plan.specs.{Ranges.IsInRange, declared.{network.{Network.{Network as NetworkValue}}}};
+ghost use Rattle.net_plan.specs.declared.ids.DeviceId.{DeviceId as DeviceIdValue};
+ghost use Rattle.sync_state.specs.{Standing.Standing, declared.state.State.TheVariants.Synchronised};
+ghost use Rattle.tte_units.specs.Amount.{amount};
 
 use crate::OutOfMemory;
 use crate::agenda::reading_at;

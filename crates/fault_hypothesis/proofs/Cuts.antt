@@ -1,13 +1,12 @@
 -- Which channel is the faulty one, behind one more event.
+use Rattle.{fault_hypothesis.{proofs.Befalling.stands_where, specs.Watching.AreOfNetwork}, net_plan.specs.Belonging.{HasLink, IsOfNetwork}, std.specs.List.Any}
+use Rattle.{fault_hypothesis.proofs.Standing.some_both, net_plan.specs.declared.{event.Event.Event, ids.LinkId.LinkId, tables.{Link.Link, Way.Way}}}
+use Rattle.{net_plan.proofs.TableFacts.cuts_or_not, schedule_tables.specs.Rules.KeepsRules, std.{proofs.Common.true, specs.Prelude.{MatchOption, is_some}}}
+use Rattle.{net_plan.specs.Places.{IsSwitchOf, device_at, link_at}, tte_lemmas.proofs.Lists.{any_behind, any_first, any_none, any_of, none_stands, some_at}}
+use Rattle.net_plan.specs.Rules.{HasOffSwitch}
+use Rattle.{net_plan.specs.declared.{network.Network.Network, tables.Device.Device}, schedule_tables.specs.declared.rule.Rule.TheVariants.{Joints, Masters}}
+use Rattle.{pcf_values.specs.declared.channel.Channel.Channel, run_law.specs.scenario.Faults.{Cuts, CutsOn, IsFaulty, IsFirstCutOn, IsLinkOf}}
 use Rattle.std.proofs.Common.{◌++◌, ◌↔◌, ◌∙◌, ◌∷◌, ◌≡◌, ◌⊎◌, List, None, Option, Some, [], ap, append_assoc, arith, false, inl, inr, refl, subst, suc, sym}
-use Rattle.std.{proofs.Common.true, specs.{List.Any, Prelude.{MatchOption, is_some}}}
-use Rattle.net_plan.{proofs.TableFacts.cuts_or_not, specs.{Belonging.{HasLink, IsOfNetwork}, Places.{IsSwitchOf, device_at, link_at}, Rules.HasOffSwitch}}
-use Rattle.net_plan.specs.declared.{event.Event.Event, ids.LinkId.LinkId, network.Network.Network, tables.{Device.Device, Link.Link, Way.Way}}
-use Rattle.pcf_values.specs.declared.channel.Channel.{Channel}
-use Rattle.run_law.specs.scenario.Faults.{Cuts, CutsOn, IsFaulty, IsFirstCutOn, IsLinkOf}
-use Rattle.schedule_tables.specs.{Rules.KeepsRules, declared.rule.Rule.TheVariants.{Joints, Masters}}
-use Rattle.tte_lemmas.proofs.Lists.{any_behind, any_first, any_none, any_of, none_stands, some_at}
-use Rattle.fault_hypothesis.{proofs.{Befalling.stands_where, Standing.some_both}, specs.Watching.AreOfNetwork}
 use Rattle.net_plan.specs.declared.event.What.TheVariants as events
 
 -- each link of a network that keeps the rules is of a channel

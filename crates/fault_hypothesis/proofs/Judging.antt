@@ -1,11 +1,10 @@
 -- What the values that a watch keeps say of an event.
-use Rattle.std.proofs.Common.{◌++◌, ◌↔◌, ◌∙◌, ◌∷◌, ◌≡◌, ◌≢◌, Bool, List, None, Option, Some, [], ap, false, refl, subst, true, ℕ}
-use Rattle.std.{proofs.lemmas.Bool.{lt-ltb, ltb-true}, specs.Prelude.{IsSomeAnd, IsTrue, is_some, nat_lt, not}}
-use Rattle.net_plan.specs.{Places.link_at, declared.{event.{Event.Event, What.TheVariants.{Break, Cut, Send}}, ids.{DeviceId.DeviceId, LinkId.LinkId}}}
-use Rattle.net_plan.specs.declared.{network.Network.Network, tables.{Link.Link, Way.Way}}
-use Rattle.pcf_values.specs.declared.channel.Channel.{Channel}
-use Rattle.run_law.specs.scenario.Faults.{IsBroken, IsFaulty, IsLinkOf}
+use Rattle.net_plan.specs.{Places.link_at, declared.{ids.{DeviceId.DeviceId, LinkId.LinkId}, network.Network.Network, tables.{Link.Link, Way.Way}}}
+use Rattle.{net_plan.specs.declared.event.{Event.Event, What.TheVariants.{Break, Cut, Send}}, run_law.specs.scenario.Faults.{IsBroken, IsFaulty, IsLinkOf}}
+use Rattle.{pcf_values.specs.declared.channel.Channel.Channel, std.specs.Prelude.{IsSomeAnd, IsTrue, is_some, nat_lt, not}}
 use Rattle.run_law.specs.scenario.Hypothesis.{BreaksSecond, CutsOtherChannel, LeavesTooFew, SendsUnbroken, sound_masters}
+use Rattle.std.proofs.Common.{◌++◌, ◌↔◌, ◌∙◌, ◌∷◌, ◌≡◌, ◌≢◌, Bool, List, None, Option, Some, [], ap, false, refl, subst, true, ℕ}
+use Rattle.std.proofs.lemmas.Bool.{lt-ltb, ltb-true}
 
 -- a break is a second one where a device is broken
 pub second_by : (admitted : List Event) (event : Event) (device : DeviceId) (broken : Option DeviceId)

@@ -1,13 +1,11 @@
 -- What a watch keeps stands so behind one more event.
+use Rattle.{fault_hypothesis.{proofs.Befalling.{any_last, any_left}, specs.Watching.AreOfNetwork}, run_law.specs.scenario.Hypothesis.IsWithinHypothesis}
+use Rattle.{net_plan.proofs.SameIds.same_device, std.specs.Prelude.{slice_get, slice_set}, tte_lemmas.proofs.Lists.{any_none, any_parts}}
+use Rattle.net_plan.specs.{Belonging.{HasDevice, IsOfNetwork}, declared.{event.Event.Event, ids.DeviceId.DeviceId, network.Network.Network}}
+use Rattle.{run_law.specs.declared.outside.Outside.TheVariants.SecondBreak, std.proofs.lemmas.{Bool.cases_order, List.{get_or-replicate, length-replicate}}}
+use Rattle.{run_law.specs.scenario.Faults.{Breaks, IsBroken, IsTurnedOn, TurnsOn}, std.proofs.lemmas.Option.{get_or_from_slice_get, slice_get_within}}
 use Rattle.std.proofs.Common.{◌++◌, ◌<◌, ◌↔◌, ◌∙◌, ◌∷◌, ◌≡◌, ◌≤◌, Bool, List, Option, Some, [], ap, arith, false, inl, inr, length, refl, suc, sym, true, zero}
-use Rattle.std.proofs.{Common.ℕ, Math.ListN.replicate, lemmas.{Bool.cases_order, List.{get_or-replicate, length-replicate}}}
-use Rattle.std.{proofs.lemmas.Option.{get_or_from_slice_get, slice_get_within}, specs.Prelude.{slice_get, slice_set}}
-use Rattle.net_plan.{proofs.SameIds.same_device, specs.{Belonging.{HasDevice, IsOfNetwork}, declared.{event.Event.Event, ids.DeviceId.DeviceId}}}
-use Rattle.net_plan.specs.declared.network.Network.{Network}
-use Rattle.run_law.specs.{declared.outside.Outside.TheVariants.SecondBreak, scenario.Faults.{Breaks, IsBroken, IsTurnedOn, TurnsOn}}
-use Rattle.run_law.specs.scenario.Hypothesis.{IsWithinHypothesis}
-use Rattle.tte_lemmas.proofs.Lists.{any_none, any_parts}
-use Rattle.fault_hypothesis.{proofs.Befalling.{any_last, any_left}, specs.Watching.AreOfNetwork}
+use Rattle.std.proofs.{Common.ℕ, Math.ListN.replicate}
 use Rattle.net_plan.specs.declared.event.What.TheVariants as events
 
 -- one more event of the network

@@ -1,10 +1,9 @@
 -- The conditions in the order in which they are judged.
-use Rattle.std.{proofs.Common.{◌+◌, ◌-◌, ◌<◌, ◌∙◌, ◌∷◌, ◌≡◌, ◌≤◌, ◌⊎◌, List, [], ap, arith, inl, inr, refl, suc, sym, zero, ℕ}, specs.List.slice_index_or}
-use Rattle.std.proofs.lemmas.Bool.{cases_lt, cases_order}
+use Rattle.{fault_hypothesis.specs.Own.{behind_own, first_own}, run_law.specs.scenario.Hypothesis.{Violates, condition_number}}
+use Rattle.net_plan.specs.declared.event.Event.{Event}
+use Rattle.{net_plan.specs.declared.network.Network.Network, run_law.specs.declared.outside.Outside.Outside, std.proofs.lemmas.Bool.{cases_lt, cases_order}}
 use Rattle.run_law.specs.declared.outside.Outside.TheVariants.{Channel, Hold, Late, NotBroken, NotMaster, NotOff, Order, Rate, SecondBreak, TooFewMasters, Wire}
-use Rattle.run_law.specs.{declared.outside.Outside.Outside, scenario.Hypothesis.{Violates, condition_number}}
-use Rattle.net_plan.specs.declared.{event.Event.Event, network.Network.Network}
-use Rattle.fault_hypothesis.specs.Own.{behind_own, first_own}
+use Rattle.std.{proofs.Common.{◌+◌, ◌-◌, ◌<◌, ◌∙◌, ◌∷◌, ◌≡◌, ◌≤◌, ◌⊎◌, List, [], ap, arith, inl, inr, refl, suc, sym, zero, ℕ}, specs.List.slice_index_or}
 
 -- the conditions, by their numbers
 abbrev pub conditions : List Outside

@@ -1,9 +1,8 @@
 -- The best frame of a channel after one more frame.
-use Rattle.std.proofs.Common.{◌++◌, ◌<ℤ◌, ◌<◌, ◌∙◌, ◌∷◌, ◌≡◌, ◌⊎◌, All, List, None, Option, Some, [], ap, append_assoc, arith, inl, inr, subst, sym, ℕ, ℤ}
-use Rattle.std.proofs.lemmas.{Bool.cases_order, Int.{by_lt_z, ints}, List.Elements.{All-append, All-cons, All-nil, All-push, All-weaker}}
-use Rattle.pcf_values.specs.declared.channel.Channel.{Channel}
 use Rattle.membership.specs.{BestFrame.{IsBehind, IsBest, IsBestOf, IsBetterOf, IsLevel}, Hearing.{Hearing, IsWithinOn, within_on}, Members.count_of}
-use Rattle.membership.specs.declared.frame.HeardFrame.{HeardFrame}
+use Rattle.{membership.specs.declared.frame.HeardFrame.HeardFrame, std.proofs.lemmas.List.Elements.{All-append, All-cons, All-nil, All-push, All-weaker}}
+use Rattle.{pcf_values.specs.declared.channel.Channel.Channel, std.proofs.lemmas.{Bool.cases_order, Int.{by_lt_z, ints}}}
+use Rattle.std.proofs.Common.{◌++◌, ◌<ℤ◌, ◌<◌, ◌∙◌, ◌∷◌, ◌≡◌, ◌⊎◌, All, List, None, Option, Some, [], ap, append_assoc, arith, inl, inr, subst, sym, ℕ, ℤ}
 
 -- behind it or level with it
 abbrev pub IsNoBetter : HeardFrame → HeardFrame → Type 0

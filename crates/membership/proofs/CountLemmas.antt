@@ -1,10 +1,9 @@
 -- The ones of a number are its bits that are set.
+use Rattle.{membership.specs.Members.{IsMember, count_of, single, union}, std.proofs.{Math.Nat.pow-suc, lemmas.Nat.Bits.{bit_at-lt, bit_at-suc, bit_at_lowest}}}
+use Rattle.{pcf_values.specs.declared.members.Members.Members, std.proofs.lemmas.{Bool.Decides.nat_tests, Nat.{and_le_l, ones_le_self, or_disjoint}}}
 use Rattle.std.proofs.Common.{◌%◌, ◌*◌, ◌+◌, ◌/◌, ◌<◌, ◌==◌, ◌^◌, ◌∙◌, ◌∷◌, ◌≡◌, Bool, List, [], add-one, ap, arith, bit_or, cond, count_by, count_ones, refl}
-use Rattle.std.{proofs.{Common.{suc, sym, zero, ℕ}, Math.Nat.pow-suc, lemmas.List.Sums.sum_by-cons}, specs.{Int.{Count.ones_step, bit_at}, List.range_with_len}}
-use Rattle.std.proofs.lemmas.{Bool.Decides.nat_tests, Nat.{Bits.{bit_at-lt, bit_at-suc, bit_at_lowest}, and_le_l, ones_le_self, or_disjoint}}
-use Rattle.pcf_values.specs.declared.members.Members.{Members}
-use Rattle.tte_lemmas.proofs.Naturals.{or_half, or_parity}
-use Rattle.membership.specs.Members.{IsMember, count_of, single, union}
+use Rattle.{std.{proofs.{Common.{suc, sym, zero, ℕ}, lemmas.List.Sums.sum_by-cons}, specs.Int.Count.ones_step}, tte_lemmas.proofs.Naturals.{or_half, or_parity}}
+use Rattle.std.specs.{Int.bit_at, List.range_with_len}
 
 count_agrees : (p q : ℕ → Bool) (xs : List ℕ) → ((i : ℕ) → p i ≡ q i) → count_by p xs ≡ count_by q xs
 count_agrees p q [] same = refl

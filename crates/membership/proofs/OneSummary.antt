@@ -1,11 +1,10 @@
 -- What is kept of a list of frames is one.
+use Rattle.{membership.proofs.{BestLemmas.IsNoBetter, SetLemmas.same_members}, std.proofs.Common.{suc, sym, ℕ, ℤ}}
+use Rattle.{membership.{proofs.SummaryLemmas.none_exactly, specs.declared.frame.HeardFrame.HeardFrame}, pcf_values.specs.declared.members.Members.Members}
+use Rattle.{membership.specs.BestFrame.{IsBehind, IsBest, IsBestOf}, pcf_values.specs.declared.channel.Channel.{Channel, TheVariants.{A, B}}}
+use Rattle.{membership.specs.Hearing.{Hearing, IsWithinOn, within_on}, std.proofs.lemmas.List.{get_or-append-add, get_or_append_left, get_or_at, length-append}}
+use Rattle.{membership.specs.{Members.{IsMember, count_of}, Summary.{Summarizes, Summary}}, std.proofs.lemmas.{Bool.{cases_order, true≢false}, Int.ints}}
 use Rattle.std.proofs.Common.{◌++◌, ◌+◌, ◌-◌, ◌<ℤ◌, ◌<◌, ◌↔◌, ◌∙◌, ◌∷◌, ◌≡◌, ◌⊎◌, List, None, Option, Some, ap, arith, get_or, inl, inr, length, refl, subst}
-use Rattle.std.proofs.{Common.{suc, sym, ℕ, ℤ}, lemmas.{Bool.{cases_order, true≢false}, Int.ints}}
-use Rattle.std.proofs.lemmas.List.{get_or-append-add, get_or_append_left, get_or_at, length-append}
-use Rattle.pcf_values.specs.declared.{channel.Channel.{Channel, TheVariants.{A, B}}, members.Members.Members}
-use Rattle.membership.{proofs.{BestLemmas.IsNoBetter, SetLemmas.same_members, SummaryLemmas.none_exactly}, specs.BestFrame.{IsBehind, IsBest, IsBestOf}}
-use Rattle.membership.specs.{Hearing.{Hearing, IsWithinOn, within_on}, Members.{IsMember, count_of}, Summary.{Summarizes, Summary}}
-use Rattle.membership.specs.declared.frame.HeardFrame.{HeardFrame}
 
 never_both : (m n : ℕ) (p q : ℤ) → ((m < n) ⊎ ((m ≡ n) × (p <ℤ q))) → (((n < m) ⊎ ((n ≡ m) × (q <ℤ p))) ⊎ ((n ≡ m) × (q ≡ p))) → ⊥
 never_both m n p q (inl a) (inl (inl b)) = absurd (omega (arith, a, b))

@@ -1,9 +1,8 @@
 -- The members of the frames outside after one more frame.
-use Rattle.std.proofs.{Common.{◌++◌, ◌∷◌, ◌≡◌, Any, List, [], arith, false, inl, inr, true, ℕ}, lemmas.Bool.both_ways}
-use Rattle.std.proofs.lemmas.List.{get_or_append_left, length-append, Quantifiers.Any-push}
-use Rattle.pcf_values.specs.declared.members.Members.{Members}
-use Rattle.tte_lemmas.proofs.Lists.{any_parts}
-use Rattle.membership.{proofs.SetLemmas.union-members, specs.{Hearing.{Hearing, IsOutside}, Members.{IsMember, union}, Summary.AreOutside}}
+use Rattle.{membership.{proofs.SetLemmas.union-members, specs.{Members.{IsMember, union}, Summary.AreOutside}}, tte_lemmas.proofs.Lists.any_parts}
+use Rattle.{membership.specs.Hearing.{Hearing, IsOutside}, pcf_values.specs.declared.members.Members.Members, std.proofs.lemmas.List.Quantifiers.Any-push}
+use Rattle.std.proofs.{Common.{◌++◌, ◌∷◌, ◌≡◌, Any, List, [], arith, false, inl, inr, true, ℕ}, lemmas.List.{get_or_append_left, length-append}}
+use Rattle.std.proofs.lemmas.Bool.{both_ways}
 
 pub Any-append_left : {X : Type 0} (P : X → Type 0) (xs ys : List X) → Any P xs → Any P (xs ++ ys)
 Any-append_left P xs ys any =

@@ -1,8 +1,7 @@
 -- Sets of masters by their bits.
-use Rattle.std.proofs.{Common.{◌↔◌, ◌∙◌, ◌≡◌, ◌⊎◌, ap, arith, inl, inr, sym, ℕ}, lemmas.Bool.cases_eq}
-use Rattle.std.{proofs.lemmas.Nat.Bits.{bit_at-lt, bit_at-pow_other, bit_at-pow_same, bit_at-zero, bit_at_or, same_from_bits}, specs.Int.bit_at}
+use Rattle.{membership.specs.Members.{IsMember, none, single, union}, std.{proofs.Common.{◌↔◌, ◌∙◌, ◌≡◌, ◌⊎◌, ap, arith, inl, inr, sym, ℕ}, specs.Int.bit_at}}
 use Rattle.pcf_values.specs.declared.members.Members.{Members}
-use Rattle.membership.specs.Members.{IsMember, none, single, union}
+use Rattle.std.proofs.lemmas.{Bool.cases_eq, Nat.Bits.{bit_at-lt, bit_at-pow_other, bit_at-pow_same, bit_at-zero, bit_at_or, same_from_bits}}
 
 pub single-members : (k i : ℕ) → IsMember i (single k) ↔ (i ≡ k)
 single-members k i = grind (arith, bit_at-pow_same, cases_eq, bit_at-pow_other)

@@ -1,10 +1,9 @@
 -- What is kept after one more frame.
+use Rattle.membership.{proofs.BestLemmas.{best_after, best_stays}, specs.{Hearing.{Hearing, IsWithinOn, within_on}, declared.frame.HeardFrame.HeardFrame}}
+use Rattle.membership.{proofs.{OutsideLemmas.{outside_after, outside_stays}, SetLemmas.none-members}, specs.Summary.{Summarizes, Summary, best_on, silence}}
+use Rattle.{membership.specs.BestFrame.{IsBestOf, IsBetterOf, NoneWithin}, pcf_values.specs.declared.channel.Channel.{Channel, TheVariants.{A, B}}}
+use Rattle.{membership.specs.Members.{none, union}, std.proofs.lemmas.{Bool.both_ways, List.{Elements.All-nil, get_or_at, length-append}}}
 use Rattle.std.proofs.Common.{◌++◌, ◌↔◌, ◌∙◌, ◌∷◌, ◌≡◌, All, Bool, IsNone, List, None, Option, Some, [], ap, arith, false, length, refl, subst, sym, true}
-use Rattle.std.proofs.lemmas.{Bool.both_ways, List.{get_or_at, length-append, Elements.All-nil}}
-use Rattle.pcf_values.specs.declared.channel.Channel.{Channel, TheVariants.{A, B}}
-use Rattle.membership.proofs.{BestLemmas.{best_after, best_stays}, OutsideLemmas.{outside_after, outside_stays}, SetLemmas.none-members}
-use Rattle.membership.specs.{BestFrame.{IsBestOf, IsBetterOf, NoneWithin}, Hearing.{Hearing, IsWithinOn, within_on}, Members.{none, union}}
-use Rattle.membership.specs.{Summary.{Summarizes, Summary, best_on, silence}, declared.frame.HeardFrame.HeardFrame}
 
 pub silence_summarizes : Summarizes silence []
 silence_summarizes = grind (arith, All-nil, none-members)

@@ -1,7 +1,6 @@
 use Rattle.std.specs.Prelude.{◌++◌, ◌<ℤ◌, ◌<◌, ◌∷◌, ◌≡◌, ◌≤◌, ◌⊎◌, All, IsSomeAnd, List, None, Option, Some, ℕ}
-use Rattle.pcf_values.specs.declared.channel.Channel.{Channel}
-use Rattle.membership.specs.{Hearing.{Hearing, IsWithinOn, within_on}, Members.count_of}
-use Rattle.membership.specs.declared.frame.HeardFrame.{HeardFrame}
+use Rattle.membership.specs.{Hearing.{Hearing, IsWithinOn, within_on}, declared.frame.HeardFrame.HeardFrame}
+use Rattle.{membership.specs.Members.count_of, pcf_values.specs.declared.channel.Channel.Channel}
 
 -- the frame has fewer members than the other, or as many and an earlier point
 abbrev pub IsBehind : HeardFrame → HeardFrame → Type 0

@@ -1,6 +1,5 @@
 use Rattle.std.specs.Prelude.{◌≡◌, Bool, false, true}
-use Rattle.pcf_values.specs.declared.channel.Channel.{Channel}
-use Rattle.membership.specs.declared.frame.HeardFrame.{HeardFrame}
+use Rattle.{membership.specs.declared.frame.HeardFrame.HeardFrame, pcf_values.specs.declared.channel.Channel.Channel}
 
 -- a frame that was heard, the channel that brought it, and whether it came within its time
 pub record Hearing : Type 0 where

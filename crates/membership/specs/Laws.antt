@@ -1,7 +1,6 @@
 use Rattle.std.specs.{Int.bit_at, List.range_with_len, Prelude.{◌+◌, ◌<◌, ◌==◌, ◌^◌, ◌≡◌, List, count_by, ℕ}}
-use Rattle.pcf_values.specs.declared.members.Members.{Members}
-use Rattle.membership.specs.{Hearing.Hearing, Members.{IsMember, count_of, single, union}}
-use Rattle.membership.specs.Summary.{Summarizes, Summary}
+use Rattle.{membership.specs.Hearing.Hearing, pcf_values.specs.declared.members.Members.Members}
+use Rattle.membership.specs.{Members.{IsMember, count_of, single, union}, Summary.{Summarizes, Summary}}
 
 -- a set of masters with numbers below the width has as many as there are bits set below it
 abbrev pub CountIsOfMembers : Type 0

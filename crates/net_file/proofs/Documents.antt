@@ -1,8 +1,6 @@
 -- When a text is a document.
+use Rattle.{net_file.specs.Schema.parsed, std.specs.{Prelude.{IsUtf8, if◌then◌else◌}, Str.is_utf8}, toml.specs.{Data.Members, Parse.parse_document}}
 use Rattle.std.proofs.{Common.{◌≡◌, Bool, List, None, Option, false, refl, true, ℕ}, lemmas.Str.{IsUtf8-from_is_utf8, is_utf8-from_IsUtf8}}
-use Rattle.std.specs.{Prelude.{if◌then◌else◌, IsUtf8}, Str.is_utf8}
-use Rattle.toml.specs.{Data.Members, Parse.parse_document}
-use Rattle.net_file.specs.Schema.{parsed}
 
 barred : (b : Bool) (o : Option Members) → (b ≡ true → ⊥) → (if b then o else None) ≡ None
 barred true o h = absurd (h refl)

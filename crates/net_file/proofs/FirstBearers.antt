@@ -1,9 +1,8 @@
 -- What a name means.
+use Rattle.{net_file.specs.Numbering.{MeansFirstBearer, first_of}, std.specs.{List.position_from, Prelude.{MatchOption, bytes_eq, is_some, slice_get}}}
+use Rattle.{net_plan.specs.Bearers.{HasNoBearer, IsFirstBearer}, std.{proofs.lemmas.Bool.false≢true, specs.Cmp.Lexicographic.bytes_decides}}
 use Rattle.std.proofs.Common.{◌+◌, ◌<◌, ◌∙◌, ◌∷◌, ◌≡◌, ◌≢◌, Bool, List, None, Option, Some, [], ap, arith, cond, false, refl, subst, suc, sym, true, zero, ℕ}
-use Rattle.std.{proofs.lemmas.Bool.false≢true, specs.{Cmp.Lexicographic.bytes_decides, List.position_from, Prelude.{MatchOption, bytes_eq, is_some, slice_get}}}
-use Rattle.net_plan.specs.Bearers.{HasNoBearer, IsFirstBearer}
 use Rattle.tte_lemmas.proofs.Lists.{same_name}
-use Rattle.net_file.specs.Numbering.{MeansFirstBearer, first_of}
 
 -- the answer of a search that begins its count at s
 abbrev Finds : ℕ → List (List ℕ) → List ℕ → Option ℕ → Type 0

@@ -1,9 +1,8 @@
 -- How a numbering grows by a name.
+use Rattle.{indexmap.specs.IndexMap.insert_entry, std.{proofs.{Common.{sym, take, true, ℕ}, lemmas.Bool.false≢true}, specs.Prelude.{IfSome, bytes_eq}}}
+use Rattle.{net_file.specs.Numbering.{IsBelow, Numbering, first_of, with_name}, std.proofs.lemmas.List.{length-map, length-take, map-append, take_more}}
 use Rattle.std.proofs.Common.{◌++◌, ◌+◌, ◌<◌, ◌∷◌, ◌≡◌, Bool, Bor, List, None, Option, Some, [], ap, arith, cond, false, get_or, length, map, refl, subst, suc}
-use Rattle.std.{proofs.{Common.{sym, take, true, ℕ}, lemmas.{Bool.false≢true, List.{length-map, length-take, map-append, take_more}}}, specs.List.position_from}
-use Rattle.std.specs.{Map.lookup, Option.option_or, Prelude.{IfSome, bytes_eq}}
-use Rattle.indexmap.specs.IndexMap.{insert_entry}
-use Rattle.net_file.specs.Numbering.{IsBelow, Numbering, first_of, with_name}
+use Rattle.std.specs.{List.position_from, Map.lookup, Option.option_or}
 
 abbrev pub Entries : Type 0
 Entries = List (Bor (List ℕ) × ℕ)

@@ -1,7 +1,6 @@
 -- Ranges of the numbers of the whole document.
-use Rattle.std.{proofs.Common.{◌≡◌, ◌≤◌, ◌⊎◌, None, Option, Some, arith, inl, inr, refl, suc, zero, ℕ}, specs.{Option.unwrap_or, Prelude.IfSome}}
-use Rattle.net_plan.specs.Ranges.{IsWithin}
-use Rattle.tte_units.specs.{Amount.units_of, declared.units.Units.Units}
+use Rattle.{net_plan.specs.Ranges.IsWithin, std.specs.{Option.unwrap_or, Prelude.IfSome}, tte_units.specs.Amount.units_of}
+use Rattle.{std.proofs.Common.{◌≡◌, ◌≤◌, ◌⊎◌, None, Option, Some, arith, inl, inr, refl, suc, zero, ℕ}, tte_units.specs.declared.units.Units.Units}
 
 pub one_or_two : (n : ℕ) → 1 ≤ n → n ≤ 2 → (n ≡ 1) ⊎ (n ≡ 2)
 one_or_two zero a b = absurd (omega (arith, a))

@@ -1,8 +1,7 @@
 -- The numbers of things by their names.
 use Rattle.std.specs.{Borrow.Bor, List.position_from, Option.option_or}
 use Rattle.std.specs.Prelude.{if◌then◌else◌, ◌<◌, IfSome, List, MatchOption, None, Option, Some, bytes_eq, ℕ}
-use Rattle.indexmap.specs.IndexMap.{IndexMap, get_by}
-use Rattle.net_plan.specs.Bearers.{HasNoBearer, IsFirstBearer}
+use Rattle.{indexmap.specs.IndexMap.{IndexMap, get_by}, net_plan.specs.Bearers.{HasNoBearer, IsFirstBearer}}
 
 -- which number a name has
 abbrev pub Numbering : Type 0

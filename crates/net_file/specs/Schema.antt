@@ -1,15 +1,14 @@
 -- The tables of a network file: the keys of each in their order, and what each may hold.
 use Rattle.std.specs.{Option.unwrap_or, Prelude.{not, ℕ}, Str.is_utf8}
 use Rattle.std.specs.Prelude.{◌++◌, ◌^◌, ◌∷◌, ◌≡◌, Err, IsUtf8, List, None, Ok, Option, Some, [], if◌then◌else◌, length}
-use Rattle.net_plan.specs.{Bearers.{device_names, link_names, vl_names}, Places.{is_end_system, is_master}}
-use Rattle.net_plan.specs.declared.{network.Network.Network, tables.{Device.Device, Link.Link, Role.Role, Row.Row}}
-use Rattle.net_plan.specs.declared.tables.VirtualLink.{VirtualLink}
-use Rattle.toml.specs.{Data.{Data, Items, Members, item, no_items, table}, Parse.parse_document}
-use Rattle.tte_units.specs.Amount.{units_of}
 use Rattle.net_file.specs.{Numbering.{Numbering, first_of}, declared.refusal.FileRefusal.TheVariants.NotToml}
 use Rattle.net_file.specs.Reading.{named, nothing_else, number, tables, time, time_if_there, whole, word}
-use Rattle.net_file.specs.{Steps.{◌>>=◌, Read, only_if}, declared.{keys.KeyName.KeyName, spots.Place.Place}}
+use Rattle.{net_file.specs.{Steps.{◌>>=◌, Read, only_if}, declared.spots.Place.Place}, toml.specs.Parse.parse_document}
 use Rattle.net_file.specs.Values.{channel_of, ethertype_of, hex_number, name_of, role_of, speed_of, way_of}
+use Rattle.{net_file.specs.declared.keys.KeyName.KeyName, toml.specs.Data.{Data, Items, Members, item, no_items, table}}
+use Rattle.net_plan.specs.{Bearers.{device_names, link_names, vl_names}, declared.tables.VirtualLink.VirtualLink}
+use Rattle.net_plan.specs.{Places.{is_end_system, is_master}, declared.{network.Network.Network, tables.Device.Device}}
+use Rattle.{net_plan.specs.declared.tables.{Link.Link, Role.Role, Row.Row}, tte_units.specs.Amount.units_of}
 use Rattle.net_plan.specs.declared.tables.Role.TheVariants as roles
 use Rattle.net_file.specs.declared.keys.KeyName.TheVariants as keys
 use Rattle.net_file.specs.declared.spots.TableName.TheVariants as places

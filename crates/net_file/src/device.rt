@@ -1,8 +1,7 @@
 ghost use Rattle.std.specs.{List.All, Prelude.{◌<◌, ◌^◌, ◌≡◌, ◌≤◌, IfOk, IfSome, [], is_some, length, not}};
-ghost use Rattle.net_plan.specs.{Places.{is_end_system, is_master}, Ranges.IsDeviceInRange};
-ghost use Rattle.toml.specs.View.{items_view, view};
 ghost use Rattle.net_file.specs.{Reading.{whole, word}, Schema.{device_keys, device_of, each}, Steps.{Gives, only_if}};
-ghost use Rattle.net_file.specs.Values.{channel_of};
+ghost use Rattle.{net_file.specs.Values.channel_of, toml.specs.View.{items_view, view}};
+ghost use Rattle.net_plan.specs.{Places.{is_end_system, is_master}, Ranges.IsDeviceInRange};
 ghost use Rattle.net_file.specs.declared.keys.KeyName.TheVariants as keys;
 
 use crate::index::next_index;

@@ -1,7 +1,5 @@
 ghost use Rattle.std.specs.Prelude.{◌≡◌, IfOk};
-ghost use Rattle.net_plan.specs.Ranges.{IsInRange};
-ghost use Rattle.toml.specs.View.{view};
-ghost use Rattle.net_file.specs.Schema.{document_of};
+ghost use Rattle.{net_file.specs.Schema.document_of, net_plan.specs.Ranges.IsInRange, toml.specs.View.view};
 
 use crate::reader::Reader;
 use crate::spots::Place;

@@ -1,8 +1,7 @@
 ghost use Rattle.std.specs.{Prelude.{◌≡◌, ◌≤◌, ◌⊎◌, IfOk, MatchResult, None, Some, length}, Str.is_utf8};
-ghost use Rattle.net_plan.specs.Ranges.{IsInRange};
-ghost use Rattle.toml.specs.{Data.table, Parse.parse_document, View.view};
-ghost use Rattle.net_file.specs.{Schema.{network_in, network_of, network_read, parsed}, Steps.Gives};
-ghost use Rattle.net_file.specs.declared.refusal.FileRefusal.TheVariants.{NotToml, OutOfMemory};
+ghost use Rattle.net_file.specs.Schema.{network_in, network_of, network_read, parsed};
+ghost use Rattle.net_file.specs.{Steps.Gives, declared.refusal.FileRefusal.TheVariants.{NotToml, OutOfMemory}};
+ghost use Rattle.{net_plan.specs.Ranges.IsInRange, toml.specs.{Data.table, Parse.parse_document, View.view}};
 
 use crate::device::read_devices;
 use crate::document::{DOCUMENT, read_document};

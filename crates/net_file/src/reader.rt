@@ -1,11 +1,10 @@
 ghost use Rattle.std.specs.Prelude.{◌<◌, ◌^◌, ◌≡◌, ◌≢◌, ◌≤◌, Err, IfOk, IfSome, MatchResult, Ok, is_some, ℕ};
-ghost use Rattle.net_plan.specs.{NameText.IsNameText, Ranges.IsWithin};
-ghost use Rattle.toml.specs.{Data.{as_table, get}, View.{items_view, table_view, view}};
-ghost use Rattle.net_file.specs.{KeyTexts.key_text, Numbering.{IsBelow, numbering}};
+ghost use Rattle.{net_file.specs.KeyTexts.key_text, net_plan.specs.Ranges.IsWithin, toml.specs.Data.{as_table, get}};
+ghost use Rattle.net_file.specs.{Numbering.{IsBelow, numbering}, declared.refusal.FileRefusal.TheVariants.Range};
 ghost use Rattle.net_file.specs.Reading.{are_keys_of, are_tables, has_only, integer_of, is_key_of, named, nothing_else};
 ghost use Rattle.net_file.specs.Reading.{number, spot, tables, text_of, time, time_if_there, value_of, whole, word};
 ghost use Rattle.net_file.specs.Values.{channel_of, ethertype_of, hex_number, name_of, role_of, speed_of, way_of};
-ghost use Rattle.net_file.specs.declared.refusal.FileRefusal.TheVariants.{Range};
+ghost use Rattle.{net_plan.specs.NameText.IsNameText, toml.specs.View.{items_view, table_view, view}};
 
 use crate::names::Names;
 use crate::spots::Place;

@@ -1,6 +1,5 @@
 ghost use Rattle.std.specs.{List.{AllPass, list_all}, Prelude.{◌<◌, ◌^◌, ◌≡◌, ◌≢◌, ◌≤◌, IfSome, IsTrue, length}};
-ghost use Rattle.byteorder.specs.Endian.{big_number};
-ghost use Rattle.net_plan.specs.NameText.{IsNameText, is_name_character};
+ghost use Rattle.{byteorder.specs.Endian.big_number, net_plan.specs.NameText.{IsNameText, is_name_character}};
 ghost use Rattle.net_file.specs.Values.{channel_of, ethertype_of, hex_number, is_name_text, name_of, number_within};
 ghost use Rattle.net_file.specs.Values.{role_of, speed_of, way_of};
 

@@ -1,8 +1,7 @@
 use Rattle.std.specs.Prelude.{◌≡◌, ◌⊎◌, Bool, IsSomeAnd, Option, Some, false, slice_get, true}
-use Rattle.pcf_values.specs.declared.channel.Channel.{Channel}
-use Rattle.net_plan.specs.declared.{ids.{DeviceId.DeviceId, LinkId.LinkId}, network.Network.Network}
-use Rattle.net_plan.specs.declared.tables.{Device.Device, Link.Link, Role.Role}
-use Rattle.net_plan.specs.declared.tables.Role.TheVariants.{Client, Cm, Master, Relay}
+use Rattle.{net_plan.specs.declared.ids.DeviceId.DeviceId, pcf_values.specs.declared.channel.Channel.Channel}
+use Rattle.net_plan.specs.declared.{ids.LinkId.LinkId, tables.{Device.Device, Link.Link, Role.Role}}
+use Rattle.net_plan.specs.declared.{network.Network.Network, tables.Role.TheVariants.{Client, Cm, Master, Relay}}
 
 -- the device of this id
 abbrev pub device_at : Network → DeviceId → Option Device

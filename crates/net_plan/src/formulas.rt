@@ -1,7 +1,6 @@
 ghost use Rattle.std.specs.Prelude.{◌*◌, ◌+◌, ◌<◌, ◌^◌, ◌≡◌, ◌≤ℤ◌, ◌≤◌, length, max, pos};
-ghost use Rattle.tte_units.specs.Amount.{amount};
 ghost use Rattle.net_plan.specs.Bounds.{IsBeta, IsGreatest, IsOfPathFrom, IsOfPathOn, gamma_of, jitter_of, jitter_on};
-ghost use Rattle.net_plan.specs.{Paths.IsTree, Ranges.IsInRange};
+ghost use Rattle.{net_plan.specs.{Paths.IsTree, Ranges.IsInRange}, tte_units.specs.Amount.amount};
 
 use crate::{DeviceId, LinkId, Network, Path};
 use pcf_values::Channel;

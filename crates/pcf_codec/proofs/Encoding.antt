@@ -1,8 +1,7 @@
 -- The octets that `encode` writes.
+use Rattle.{byteorder.specs.{Endian.big_bytes, Numbers.big_number-reads_back}, pcf_values.specs.declared.pcf.Pcf.Pcf, std.proofs.lemmas.List.get_or-drop}
 use Rattle.std.proofs.Common.{◌++◌, ◌+◌, ◌-◌, ◌<◌, ◌^◌, ◌∙◌, ◌≡◌, ◌≤◌, List, [], arith, drop, get_or, inl, inr, length, refl, replicate, slice_set, suc, sym}
-use Rattle.std.proofs.{Common.{zero, ℕ}, lemmas.List.get_or-drop}
-use Rattle.byteorder.specs.{Endian.big_bytes, Numbers.big_number-reads_back}
-use Rattle.pcf_values.specs.declared.pcf.Pcf.{Pcf}
+use Rattle.std.proofs.Common.{zero, ℕ}
 use borrow.Rule.Slice.PartMut.{mid_of, put_mid}
 use Rattle.pcf_codec.specs.{Encoded.encoded, EtherType.pcf_type, Spelling.{IsPadding, IsReserved, Spells, code_of, pcf_length}}
 

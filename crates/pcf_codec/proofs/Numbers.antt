@@ -1,7 +1,6 @@
 -- Numbers of octets.
-use Rattle.std.proofs.{Common.{◌++◌, ◌<◌, ◌^◌, ◌∙◌, ◌≡◌, List, ap, drop, length, sym, ℕ}, Math.Seq.drop-append_seam}
-use Rattle.byteorder.specs.{Endian.{big_bytes, big_number}, Numbers.big_number-reads_back}
-use Rattle.pcf_codec.specs.Fields.{field}
+use Rattle.{byteorder.specs.Endian.{big_bytes, big_number}, pcf_codec.specs.Fields.field, std.proofs.Math.Seq.drop-append_seam}
+use Rattle.{byteorder.specs.Numbers.big_number-reads_back, std.proofs.Common.{◌++◌, ◌<◌, ◌^◌, ◌∙◌, ◌≡◌, List, ap, drop, length, sym, ℕ}}
 
 -- a number that was written behind some octets is read there
 pub read_behind : (front rest : List ℕ) (at size x : ℕ) → length front ≡ at → x < 256 ^ size → field at size (front ++ (big_bytes size x ++ rest)) ≡ x

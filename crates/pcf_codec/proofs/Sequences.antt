@@ -1,11 +1,10 @@
 -- The frames of a stream, in pieces.
-use Rattle.std.proofs.Common.{◌*◌, ◌++◌, ◌+◌, ◌-◌, ◌∙◌, ◌∷◌, ◌≡◌, ◌≤◌, Err, List, Ok, Result, [], ap, append_assoc, arith, drop, inl, inr, length}
-use Rattle.std.proofs.{Common.{length-append, length-drop, length-take, refl, subst, sym, take, ℕ}, Math.Seq.drop-append_seam}
-use Rattle.std.proofs.lemmas.{Bool.{cases_lt, le-ltb, lt-ltb}, List.{append-nil, drop-append-le, nil_from_length}}
-use Rattle.pcf_values.specs.declared.pcf.Pcf.{Pcf}
-use Rattle.pcf_codec.proofs.Outcomes.{is_spelling}
+use Rattle.{pcf_codec.proofs.Outcomes.is_spelling, pcf_values.specs.declared.pcf.Pcf.Pcf, std.proofs.lemmas.Bool.{cases_lt, le-ltb, lt-ltb}}
 use Rattle.pcf_codec.specs.{Decoding.decoded, Sequence.{IsLongestFront, IsRefusedFrame, IsUnfinished, SpellsAll}, declared.refusal.PcfRefusal.PcfRefusal}
 use Rattle.pcf_codec.specs.{Reading.{Reading, Reads, fed, holding, judgement_of, reading_of, refused, taken_of, waiting}, Spelling.{Spells, pcf_length}}
+use Rattle.std.proofs.Common.{◌*◌, ◌++◌, ◌+◌, ◌-◌, ◌∙◌, ◌∷◌, ◌≡◌, ◌≤◌, Err, List, Ok, Result, [], ap, append_assoc, arith, drop, inl, inr, length}
+use Rattle.std.proofs.{Common.{length-append, length-drop, length-take, refl, subst, sym, take, ℕ}, lemmas.List.{append-nil, drop-append-le, nil_from_length}}
+use Rattle.std.proofs.Math.Seq.{drop-append_seam}
 
 -- a sequence has sixty octets a frame
 pub length-spelling : (octets : List ℕ) (ps : List Pcf) → SpellsAll octets ps → length octets ≡ 60 * length ps

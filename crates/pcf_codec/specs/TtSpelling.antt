@@ -1,8 +1,7 @@
 -- The head of a time-triggered frame.
 use Rattle.std.specs.Prelude.{◌<◌, ◌≡◌, ◌≢◌, ◌≤◌, ◌⊎◌, List, length, ℕ}
-use Rattle.pcf_values.specs.declared.tt.TtHead.{TtHead}
-use Rattle.pcf_codec.specs.{EtherType.{least_type, pcf_type}, Fields.field, declared.refusal.TtRefusal.TtRefusal}
-use Rattle.pcf_codec.specs.declared.refusal.TtRefusal.TheVariants.{EtherType, Length}
+use Rattle.{pcf_codec.specs.EtherType.{least_type, pcf_type}, pcf_values.specs.declared.tt.TtHead.TtHead}
+use Rattle.pcf_codec.specs.{Fields.field, declared.refusal.TtRefusal.{TheVariants.{EtherType, Length}, TtRefusal}}
 
 -- how many octets an Ethernet frame has, without its check sequence (IEEE 802.3)
 pub record IsFrameLength (n : ℕ) : Type 0 where

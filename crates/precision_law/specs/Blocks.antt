@@ -1,14 +1,13 @@
 -- How the network stands when the block of a cycle is over.
 use Rattle.std.specs.Prelude.{◌*◌, ◌+ℤ◌, ◌+◌, ◌-ℤ◌, ◌<ℤ◌, ◌<◌, ◌≡◌, ◌≤ℤ◌, ◌≤◌, ◌⊎◌, Some, false, pos, suc, true, ℕ, ℤ}
-use Rattle.net_plan.specs.declared.ids.DeviceId.{DeviceId}
-use Rattle.run_law.specs.{control.Corrections.has_cleared, records.Happenings.{Happening, earlier, time_of}}
-use Rattle.run_law.specs.declared.judgement.Why.{TheVariants.{AsyncClique, Correction, Frame, On, SyncClique}, Why}
-use Rattle.run_law.specs.{device.LocalClocks.changed_at, records.Order.IsIn}
-use Rattle.run_law.specs.device.States.{adjustment_before, cycle_in, is_joined_by, state_after}
-use Rattle.sync_state.specs.declared.state.State.{State, TheVariants.Synchronised}
+use Rattle.{net_plan.specs.declared.ids.DeviceId.DeviceId, sync_state.specs.declared.state.State.State}
 use Rattle.precision_law.specs.{Anchors.{IsAnchored, IsAnchoredIn}, Views.{IsDispatch, IsFirm, IsGood, IsGoodEnd, View}}
 use Rattle.precision_law.specs.{Epochs.{epoch_cycle, epoch_time, has_time, is_corrected}, Standings.IsNearHull}
 use Rattle.precision_law.specs.Hulls.{Hull, IsInHull, IsNarrow, IsOverBefore, first_correction, hull_of}
+use Rattle.run_law.specs.{control.Corrections.has_cleared, records.Happenings.{Happening, earlier, time_of}}
+use Rattle.run_law.specs.declared.judgement.Why.{TheVariants.{AsyncClique, Correction, Frame, On, SyncClique}, Why}
+use Rattle.{run_law.specs.device.LocalClocks.changed_at, sync_state.specs.declared.state.State.TheVariants.Synchronised}
+use Rattle.run_law.specs.{device.States.{adjustment_before, cycle_in, is_joined_by, state_after}, records.Order.IsIn}
 use Rattle.run_law.specs.declared.note.NoteBody.TheVariants as notes
 
 -- ---- devices

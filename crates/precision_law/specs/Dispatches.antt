@@ -1,11 +1,9 @@
 -- When the masters of a run dispatch the frames of a cycle.
 use Rattle.std.specs.Prelude.{◌*◌, ◌+ℤ◌, ◌+◌, ◌-ℤ◌, ◌≡◌, ◌≤ℤ◌, ◌≤◌, List, false, pos, suc, zero, ℕ, ℤ}
-use Rattle.net_plan.specs.declared.ids.DeviceId.{DeviceId}
-use Rattle.run_law.specs.{declared.note.Note.Note, records.{Happenings.{Happening, happenings, time_of}, Order.IsIn}}
-use Rattle.run_law.specs.scenario.Scenarios.{Scenario, is_broken}
-use Rattle.schedule_tables.specs.Margins.{dispatch_spread}
+use Rattle.{net_plan.specs.declared.ids.DeviceId.DeviceId, schedule_tables.specs.Margins.dispatch_spread}
+use Rattle.{precision_law.specs.Precision.IsRunUpTo, run_law.specs.{declared.note.Note.Note, records.Order.IsIn}}
+use Rattle.run_law.specs.{records.Happenings.{Happening, happenings, time_of}, scenario.Scenarios.{Scenario, is_broken}}
 use Rattle.tte_units.specs.Amount.{amount}
-use Rattle.precision_law.specs.Precision.{IsRunUpTo}
 use Rattle.run_law.specs.declared.note.NoteBody.TheVariants as notes
 
 -- by the record, up to the time t, a master that is correct then dispatched the frame of the cycle

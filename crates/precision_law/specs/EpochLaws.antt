@@ -1,15 +1,13 @@
 -- What a device's clock was last set to fixes since then.
 use Rattle.std.specs.{Option.option_map_or, Prelude.{if◌then◌else◌, pos, true, ℕ, ℤ}}
 use Rattle.std.specs.Prelude.{◌+ℤ◌, ◌+◌, ◌-ℤ◌, ◌<ℤ◌, ◌<◌, ◌≡◌, ◌≤ℤ◌, ◌≤◌, List, None, Option, Some, false}
-use Rattle.net_plan.specs.declared.ids.DeviceId.{DeviceId}
+use Rattle.{net_plan.specs.declared.ids.DeviceId.DeviceId, precision_law.specs.Blocks.{adjustment_left, state_left}}
+use Rattle.precision_law.specs.Epochs.{cycle_set, epoch_cycle, epoch_time, has_time, is_corrected, is_correction}
+use Rattle.precision_law.specs.{Epochs.last_setting, Readings.IsFirstRead, Views.{IsView, View}}
 use Rattle.run_law.specs.{control.Corrections.{has_cleared, next_cycle, recorded_cycle}, scenario.Scenarios.Scenario}
 use Rattle.run_law.specs.{device.LocalClocks.{Reaches, changed_at}, records.Happenings.{Happening, earlier}}
 use Rattle.run_law.specs.{device.States.{adjustment_after, adjustment_with, cycle_in}, scenario.Devices.start_of}
-use Rattle.sync_state.specs.Standing.{adjustment_at_start}
-use Rattle.tte_units.specs.declared.units.Units.{Units}
-use Rattle.precision_law.specs.Blocks.{adjustment_left, state_left}
-use Rattle.precision_law.specs.Epochs.{cycle_set, epoch_cycle, epoch_time, has_time, is_corrected, is_correction}
-use Rattle.precision_law.specs.{Epochs.last_setting, Readings.IsFirstRead, Views.{IsView, View}}
+use Rattle.{sync_state.specs.Standing.adjustment_at_start, tte_units.specs.declared.units.Units.Units}
 
 -- the adjustment that the last record which set it shows, or that of the start
 abbrev pub set_adjustment : Scenario → DeviceId → Option Happening → Units

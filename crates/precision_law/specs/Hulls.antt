@@ -2,10 +2,9 @@
 use Rattle.std.specs.Int.{int_max, int_min}
 use Rattle.std.specs.Prelude.{◌&&◌, ◌*◌, ◌+ℤ◌, ◌-ℤ◌, ◌<◌, ◌==◌, ◌≡◌, ◌≤ℤ◌, Bool, List, None, Option, Some, false}
 use Rattle.std.specs.Prelude.{filter, fold, int_le, not, option_and_then, pos, suc, zero, ℕ, ℤ}
-use Rattle.net_plan.specs.declared.ids.DeviceId.{DeviceId}
-use Rattle.run_law.specs.{declared.note.NoteBody.NoteBody, records.Happenings.{Happening, time_of}}
+use Rattle.{net_plan.specs.declared.ids.DeviceId.DeviceId, run_law.specs.records.Happenings.{Happening, time_of}}
+use Rattle.{precision_law.specs.{Sizes.Sizes, Views.{IsDispatch, View}}, run_law.specs.declared.note.NoteBody.NoteBody}
 use Rattle.run_law.specs.scenario.Scenarios.{is_broken}
-use Rattle.precision_law.specs.{Sizes.Sizes, Views.{IsDispatch, View}}
 use Rattle.run_law.specs.declared.note.NoteBody.TheVariants as notes
 
 -- from an instant to another, which may lie before time 0

@@ -2,12 +2,11 @@
 -- the clock was last set with the first and with the last dispatch of that cycle.
 use Rattle.std.specs.Prelude.{◌*◌, ◌+ℤ◌, ◌+◌, ◌-ℤ◌, ◌<ℤ◌, ◌≤ℤ◌, ◌≤◌, List, pos, suc, zero, ℕ, ℤ}
 use Rattle.net_plan.specs.{Bounds.IsBeta, declared.{ids.DeviceId.DeviceId, network.Network.Network}}
-use Rattle.run_law.specs.{declared.note.Note.Note, device.LocalClocks.{Reaches, local, local_before}}
-use Rattle.run_law.specs.law.Safety.{IsInStep, IsInStepBefore}
+use Rattle.precision_law.specs.{Dispatches.AreFromTo, Epochs.epoch_cycle, Precision.IsRunUpTo}
+use Rattle.{run_law.specs.declared.note.Note.Note, tte_units.specs.Amount.amount}
+use Rattle.run_law.specs.{device.LocalClocks.{Reaches, local, local_before}, law.Safety.{IsInStep, IsInStepBefore}}
 use Rattle.run_law.specs.{records.Happenings.{Happening, earlier, happenings, up_to}, scenario.Scenarios.Scenario}
 use Rattle.schedule_tables.specs.Margins.{clock_error, dispatch_spread, drift_of, reach_error}
-use Rattle.tte_units.specs.Amount.{amount}
-use Rattle.precision_law.specs.{Dispatches.AreFromTo, Epochs.epoch_cycle, Precision.IsRunUpTo}
 
 -- what an ideal clock that began the cycle at an instant shows at t
 abbrev pub ideal : Network → ℕ → ℤ → ℕ → ℤ

@@ -1,16 +1,13 @@
 -- What a device that joins comes to by its first correction.
 use Rattle.std.specs.Prelude.{◌++◌, ◌+◌, ◌-ℤ◌, ◌∷◌, ◌≡◌, ◌≤◌, List, ℕ}
-use Rattle.membership.specs.Summary.{Summarizes, Summary}
-use Rattle.net_plan.specs.declared.ids.DeviceId.{DeviceId}
-use Rattle.run_law.specs.{control.Corrections.{heard_since, standing_before}, declared.note.Note.Note}
-use Rattle.run_law.specs.device.{LocalClocks.{local, local_before}, States.state_after}
-use Rattle.run_law.specs.law.Safety.{AreClose, IsInStep, IsInStepBefore}
+use Rattle.{membership.specs.Summary.{Summarizes, Summary}, tte_units.specs.declared.units.Units.Units}
+use Rattle.{net_plan.specs.declared.ids.DeviceId.DeviceId, schedule_tables.specs.Margins.dispatch_spread}
+use Rattle.{precision_law.specs.Dispatches.IsDispatchOf, run_law.specs.law.Safety.{AreClose, IsInStep, IsInStepBefore}}
+use Rattle.{precision_law.specs.Precision.IsRunUpTo, run_law.specs.{declared.note.Note.Note, device.States.state_after}}
+use Rattle.run_law.specs.{control.Corrections.{heard_since, standing_before}, device.LocalClocks.{local, local_before}}
 use Rattle.run_law.specs.{records.Happenings.{Happening, earlier, happenings, time_of}, scenario.Scenarios.Scenario}
-use Rattle.schedule_tables.specs.Margins.{dispatch_spread}
-use Rattle.sync_state.specs.{Verdicts.HasVerdict, declared.answers.Verdict.TheVariants.Corrected}
-use Rattle.sync_state.specs.declared.state.State.TheVariants.{Joining}
-use Rattle.tte_units.specs.declared.units.Units.{Units}
-use Rattle.precision_law.specs.{Dispatches.IsDispatchOf, Precision.IsRunUpTo}
+use Rattle.sync_state.specs.Verdicts.{HasVerdict}
+use Rattle.sync_state.specs.declared.{answers.Verdict.TheVariants.Corrected, state.State.TheVariants.Joining}
 use Rattle.run_law.specs.declared.note.NoteBody.TheVariants as notes
 
 -- by the record a device that is joining corrects its clock

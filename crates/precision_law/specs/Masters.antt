@@ -1,12 +1,11 @@
 -- What the fault hypothesis leaves: enough good masters, and a channel that loses nothing.
 use Rattle.std.specs.Prelude.{◌≡◌, ◌≤◌, Some, false, true, ℕ}
-use Rattle.membership.specs.Members.{IsMember, count_of}
-use Rattle.net_plan.specs.{Places.{IsSwitchOf, is_master}, declared.ids.{DeviceId.DeviceId, LinkId.LinkId}}
-use Rattle.net_plan.specs.declared.tables.Way.{Way}
+use Rattle.{membership.specs.Members.{IsMember, count_of}, net_plan.specs.Places.{IsSwitchOf, is_master}}
+use Rattle.{net_plan.specs.declared.ids.DeviceId.DeviceId, run_law.specs.scenario.Faults.{BeginsOn, IsLinkOf}}
+use Rattle.{net_plan.specs.declared.{ids.LinkId.LinkId, tables.Way.Way}, run_law.specs.law.FirstLaws.IsLawful}
 use Rattle.pcf_values.specs.declared.{channel.Channel.Channel, members.Members.Members}
-use Rattle.run_law.specs.{law.FirstLaws.IsLawful, scenario.{Devices.{has_role, member_of}, Faults.{BeginsOn, IsLinkOf}}}
-use Rattle.run_law.specs.scenario.{Scenarios.{Scenario, is_broken}, Ways.is_cut}
 use Rattle.precision_law.specs.Views.{IsBad, IsGood, IsSound, IsSoundSwitch, IsView, View}
+use Rattle.run_law.specs.scenario.{Devices.{has_role, member_of}, Scenarios.{Scenario, is_broken}, Ways.is_cut}
 
 -- the device is a good master that began on
 pub record IsFirstMaster (v : View) (device : DeviceId) : Type 0 where

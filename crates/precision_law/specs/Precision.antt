@@ -1,14 +1,12 @@
 -- The precision: in each run within the fault hypothesis the clocks of correct synchronised devices stay together,
 -- and only switches of the faulty channel lose the common time.
 use Rattle.std.specs.Prelude.{◌*◌, ◌^◌, ◌≡◌, ◌≤◌, List, true, ℕ}
-use Rattle.net_plan.specs.{Places.IsSwitchOf, declared.ids.DeviceId.DeviceId}
-use Rattle.pcf_values.specs.declared.channel.Channel.{Channel}
-use Rattle.run_law.specs.{declared.{judgement.Why.Why, note.Note.Note}, law.{FirstLaws.IsLawful, Safety.ClocksAgree}}
-use Rattle.run_law.specs.records.{Happenings.{Happening, happenings, time_of}, Order.IsIn}
-use Rattle.run_law.specs.{runs.DueRecords.IsScenarioRun, scenario.{Devices.is_end, Scenarios.Scenario}}
-use Rattle.sync_state.specs.declared.state.State.{State}
-use Rattle.tte_units.specs.Amount.{amount}
-use Rattle.precision_law.specs.{Blocks.IsClique, Views.{Covers, IsSound}}
+use Rattle.{net_plan.specs.Places.IsSwitchOf, run_law.specs.law.{FirstLaws.IsLawful, Safety.ClocksAgree}}
+use Rattle.{net_plan.specs.declared.ids.DeviceId.DeviceId, pcf_values.specs.declared.channel.Channel.Channel}
+use Rattle.{precision_law.specs.{Blocks.IsClique, Views.{Covers, IsSound}}, sync_state.specs.declared.state.State.State}
+use Rattle.run_law.specs.{declared.{judgement.Why.Why, note.Note.Note}, scenario.{Devices.is_end, Scenarios.Scenario}}
+use Rattle.run_law.specs.{records.Happenings.{Happening, happenings, time_of}, runs.DueRecords.IsScenarioRun}
+use Rattle.{run_law.specs.records.Order.IsIn, tte_units.specs.Amount.amount}
 use Rattle.run_law.specs.declared.note.NoteBody.TheVariants as notes
 
 -- the records are those of a run that goes as far as this time, of an accepted network within the fault hypothesis

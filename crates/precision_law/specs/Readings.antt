@@ -1,9 +1,7 @@
 -- How the clocks of a lawful scenario read.
 use Rattle.std.specs.Prelude.{◌*◌, ◌+ℤ◌, ◌+◌, ◌-◌, ◌<ℤ◌, ◌<◌, ◌≡◌, ◌≤ℤ◌, ◌≤◌, ◌⊎◌, pos, ℕ, ℤ}
-use Rattle.drift_clock.specs.Reach.{IsReach}
-use Rattle.net_plan.specs.declared.ids.DeviceId.{DeviceId}
-use Rattle.run_law.specs.{law.FirstLaws.IsLawful, scenario.Scenarios.Scenario}
-use Rattle.precision_law.specs.Sizes.{Sizes, sizes_of}
+use Rattle.{drift_clock.specs.Reach.IsReach, run_law.specs.{law.FirstLaws.IsLawful, scenario.Scenarios.Scenario}}
+use Rattle.{net_plan.specs.declared.ids.DeviceId.DeviceId, precision_law.specs.Sizes.{Sizes, sizes_of}}
 
 -- a clock that begins at 0, never falls, drifts little over two cycles, and goes on by little in one unit
 pub record IsSteady (n : Sizes) (reading : ℕ → ℕ) : Type 0 where

@@ -1,12 +1,11 @@
 -- What the precision is of: a run up to a time, with a channel that loses nothing.
 use Rattle.std.specs.Prelude.{◌*◌, ◌+◌, ◌^◌, ◌∷◌, ◌≡◌, ◌≤◌, ◌⊎◌, List, [], false, pos, true, ℕ}
-use Rattle.net_plan.specs.{Bounds.IsBeta, Places.IsSwitchOf, declared.ids.DeviceId.DeviceId}
-use Rattle.pcf_values.specs.declared.channel.Channel.{Channel}
-use Rattle.run_law.specs.{law.FirstLaws.IsLawful, records.{Happenings.Happening, Order.{IsBefore, IsIn}}}
-use Rattle.run_law.specs.{records.Ranks.place_of, runs.{DueRecords.IsDue, Runs.IsRun}, scenario.Devices.is_end}
-use Rattle.run_law.specs.scenario.{Faults.IsFaulty, Scenarios.{Scenario, events_up_to, is_broken}}
-use Rattle.tte_units.specs.Amount.{amount}
-use Rattle.precision_law.specs.Sizes.{Sizes, sizes_of}
+use Rattle.net_plan.specs.Bounds.{IsBeta}
+use Rattle.{net_plan.specs.Places.IsSwitchOf, run_law.specs.runs.Runs.IsRun, tte_units.specs.Amount.amount}
+use Rattle.{net_plan.specs.declared.ids.DeviceId.DeviceId, pcf_values.specs.declared.channel.Channel.Channel}
+use Rattle.{precision_law.specs.Sizes.{Sizes, sizes_of}, run_law.specs.records.{Order.{IsBefore, IsIn}, Ranks.place_of}}
+use Rattle.run_law.specs.{law.FirstLaws.IsLawful, runs.DueRecords.IsDue, scenario.{Devices.is_end, Faults.IsFaulty}}
+use Rattle.run_law.specs.{records.Happenings.Happening, scenario.Scenarios.{Scenario, events_up_to, is_broken}}
 use Rattle.run_law.specs.declared.note.NoteBody.TheVariants as notes
 
 -- a scenario, a time, its records up to this time, the sizes of its network, and a channel

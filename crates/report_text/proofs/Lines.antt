@@ -1,7 +1,6 @@
 -- The lines of records, from their pieces.
+use Rattle.{net_plan.specs.declared.{event.What.What, network.Network.Network}, trace_text.specs.{EventLine.{what_text, what_words}, Steps.space}}
 use Rattle.std.{proofs.Common.{◌++◌, ◌∷◌, ◌≡◌, List, refl, ℕ}, specs.List.join_with_byte}
-use Rattle.net_plan.specs.declared.{event.What.What, network.Network.Network}
-use Rattle.trace_text.specs.{EventLine.{what_text, what_words}, Steps.space}
 use Rattle.net_plan.specs.declared.event.What.TheVariants as events
 
 -- an event's text stands behind the words before it

@@ -1,13 +1,12 @@
 -- Which records have a line.
 use Rattle.std.specs.{Int.w64, Prelude.{◌<◌, ◌^◌, FitsSigned, length, ℕ, ⊤}}
-use Rattle.net_plan.specs.{Belonging.{HasDevice, HasLink, HasVl, IsOfNetwork}, declared.ids.DeviceId.DeviceId}
-use Rattle.net_plan.specs.declared.{ids.{LinkId.LinkId, VlId.VlId}, network.Network.Network}
+use Rattle.net_plan.specs.{Belonging.{HasDevice, HasLink, HasVl, IsOfNetwork}, declared.network.Network.Network}
+use Rattle.{net_plan.specs.declared.ids.{DeviceId.DeviceId, VlId.VlId}, run_law.specs.declared.note.NoteBody.NoteBody}
+use Rattle.{net_plan.specs.declared.ids.LinkId.LinkId, tte_units.specs.declared.units.Units.Units}
 use Rattle.run_law.specs.declared.judgement.Reason.{Reason, TheVariants.{RefusedKind, RefusedLength, RefusedReserved}}
-use Rattle.run_law.specs.declared.note.{Note.Note, NoteBody.NoteBody}
+use Rattle.{run_law.specs.declared.note.Note.Note, trace_text.specs.Ranges.IsWhatInRange}
 use Rattle.run_law.specs.declared.note.NoteBody.TheVariants.{Accepted, Arrived, Clock, Compressed, Corrected, Delivered}
 use Rattle.run_law.specs.declared.note.NoteBody.TheVariants.{Dropped, Event, Left, Lost, Permanent, Sent, State, TtSent}
-use Rattle.trace_text.specs.Ranges.{IsWhatInRange}
-use Rattle.tte_units.specs.declared.units.Units.{Units}
 
 -- the device and the link are the network's
 abbrev pub HasPassage : Network → DeviceId → LinkId → Type 0

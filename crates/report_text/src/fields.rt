@@ -1,9 +1,7 @@
 ghost use Rattle.std.specs.{Fmt.signed_decimal, List.join_with_byte};
 ghost use Rattle.std.specs.Prelude.{◌++◌, ◌+◌, ◌∷◌, ◌≡◌, ◌≤◌, [], codes, length};
 ghost use Rattle.net_plan.specs.Belonging.{HasDevice, HasLink, HasVl, device_name, link_name, vl_name};
-ghost use Rattle.net_plan.specs.Ranges.{IsInRange};
-ghost use Rattle.trace_text.specs.Steps.{space};
-ghost use Rattle.tte_io.specs.Line.{line_limit};
+ghost use Rattle.{net_plan.specs.Ranges.IsInRange, trace_text.specs.Steps.space, tte_io.specs.Line.line_limit};
 ghost use Rattle.report_text.specs.{NoteLine.{passage_words, stream_words}, NoteWords.members_text};
 
 use net_plan::{DeviceId, LinkId, Network, VlId};

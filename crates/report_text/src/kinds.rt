@@ -1,11 +1,9 @@
 ghost use Rattle.std.specs.{Fmt.signed_decimal, List.join_with_byte};
 ghost use Rattle.std.specs.Prelude.{◌++◌, ◌+◌, ◌∷◌, ◌≡◌, ◌≤◌, [], codes, decimal, length};
 ghost use Rattle.net_plan.specs.{Belonging.{HasDevice, HasLink, HasVl, IsOfNetwork, device_name}, Ranges.IsInRange};
-ghost use Rattle.run_law.specs.plain.Bodies.{body_of};
-ghost use Rattle.trace_text.specs.Steps.{space};
-ghost use Rattle.tte_io.specs.Line.{line_limit};
 ghost use Rattle.report_text.specs.NoteLine.{body_text, body_words, longest_body, passage_words, stream_words};
-ghost use Rattle.report_text.specs.{NoteWords.{judgement_text, members_text}, Ranges.IsBodyOf};
+ghost use Rattle.{report_text.specs.NoteWords.{judgement_text, members_text}, run_law.specs.plain.Bodies.body_of};
+ghost use Rattle.{report_text.specs.Ranges.IsBodyOf, trace_text.specs.Steps.space, tte_io.specs.Line.line_limit};
 ghost use Rattle.run_law.specs.declared.note.NoteBody.TheVariants as bodies;
 
 use crate::fields::{push_device, push_members, push_passage, push_stream, push_units};

@@ -1,7 +1,6 @@
 ghost use Rattle.std.specs.{List.join_with_byte, Prelude.{◌++◌, ◌+◌, ◌≡◌, ◌≤◌, length}};
-ghost use Rattle.trace_text.specs.Steps.{space};
-ghost use Rattle.tte_io.specs.Line.{line_limit};
 ghost use Rattle.report_text.specs.NoteWords.{judgement_text, reason_words, state_text, why_text};
+ghost use Rattle.{trace_text.specs.Steps.space, tte_io.specs.Line.line_limit};
 
 use run_law::{Judgement, Reason, Why};
 use sync_state::State;

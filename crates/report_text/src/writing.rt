@@ -1,9 +1,8 @@
 ghost use Rattle.std.specs.{Fmt.signed_decimal, Io.KnownBytes.Appends};
 ghost use Rattle.std.specs.Prelude.{◌++◌, ◌≡◌, ◌≤◌, MatchResult, OnErr, OnOk, codes, decimal, length};
-ghost use Rattle.net_plan.specs.{Belonging.IsOfNetwork, Ranges.IsInRange};
+ghost use Rattle.{net_plan.specs.Belonging.IsOfNetwork, report_text.specs.{NoteLine.note_line, Ranges.IsNoteOf}};
+ghost use Rattle.{net_plan.specs.Ranges.IsInRange, tte_io.specs.{Faults.{Rose, next_count}, Told.AppendsFront}};
 ghost use Rattle.run_law.specs.declared.note.NoteBody.TheVariants as bodies;
-ghost use Rattle.tte_io.specs.{Faults.{Rose, next_count}, Told.AppendsFront};
-ghost use Rattle.report_text.specs.{NoteLine.note_line, Ranges.IsNoteOf};
 
 use crate::fields::push_units;
 use crate::kinds::{push_body, push_event, push_plain};

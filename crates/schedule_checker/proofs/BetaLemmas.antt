@@ -1,10 +1,8 @@
 -- The rules that speak of beta, at a beta of the network.
-use Rattle.std.{proofs.Common.{◌*◌, ◌+◌, ◌∙◌, ◌≡◌, ◌≤◌, ap, arith, pos, subst, sym, ℕ}, specs.Prelude.unsigned_abs}
-use Rattle.net_plan.specs.{Bounds.{BetaIsUnique, IsBeta, gamma_of}, declared.{ids.DeviceId.DeviceId, network.Network.Network}}
-use Rattle.pcf_values.specs.declared.channel.Channel.{Channel, TheVariants.{A, B}}
-use Rattle.schedule_tables.specs.Delays.{DelaysFit, PrecisionFits}
-use Rattle.tte_units.specs.{Amount.amount, declared.units.Units.Units}
-use Rattle.schedule_checker.specs.Timing.{DelaysFitOn, errors_of}
+use Rattle.{net_plan.specs.{Bounds.{BetaIsUnique, IsBeta, gamma_of}, declared.network.Network.Network}, schedule_tables.specs.Delays.{DelaysFit, PrecisionFits}}
+use Rattle.{net_plan.specs.declared.ids.DeviceId.DeviceId, schedule_checker.specs.Timing.{DelaysFitOn, errors_of}, tte_units.specs.declared.units.Units.Units}
+use Rattle.{pcf_values.specs.declared.channel.Channel.{Channel, TheVariants.{A, B}}, std.proofs.Common.{◌*◌, ◌+◌, ◌∙◌, ◌≡◌, ◌≤◌, ap, arith, pos, subst, sym, ℕ}}
+use Rattle.{std.specs.Prelude.unsigned_abs, tte_units.specs.Amount.amount}
 
 -- a beta is no negative number
 pub beta_is_whole : (n : Network) (beta : Units) → IsBeta n beta.0 → beta.0 ≡ pos (amount beta)

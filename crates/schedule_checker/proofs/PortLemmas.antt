@@ -1,11 +1,10 @@
 -- What holds of a network's entries, said of the rows of its ports.
+use Rattle.{net_plan.specs.declared.{ids.DeviceId.DeviceId, network.Network.Network, tables.Link.Link}, schedule_tables.specs.declared.entry.Entry.Entry}
+use Rattle.{net_plan.specs.declared.tables.Row.Row, tte_units.specs.Amount.amount}
+use Rattle.schedule_checker.{proofs.EntryPlaces.{all_of_earlier, all_of_entries, earlier_of_all, entries_of_all}, specs.Ports.{AreApart, ComesBehind}}
+use Rattle.schedule_tables.specs.{Entries.{AreEntries, EntryIsOne, IsEntry, source_by, source_of}, Schedule.{ComesInTime, StandsApart, leaves}}
 use Rattle.std.proofs.Common.{◌+◌, ◌==◌, ◌∙◌, ◌∷◌, ◌≡◌, ◌≢◌, ◌≤◌, Bool, List, Option, Some, [], ap, arith, cond, false, length, refl, subst, suc, sym, take, ℕ}
 use Rattle.std.{proofs.lemmas.{Bool.Decides.Decides-like, List.Sums.sum_by-cons}, specs.{Bool.Decides, List.{All, count_by, slice_get}, Option.option_map_or}}
-use Rattle.net_plan.specs.declared.{ids.DeviceId.DeviceId, network.Network.Network, tables.{Link.Link, Row.Row}}
-use Rattle.schedule_tables.specs.{Entries.{AreEntries, EntryIsOne, IsEntry, source_by, source_of}, Schedule.{ComesInTime, StandsApart, leaves}}
-use Rattle.schedule_tables.specs.declared.entry.Entry.{Entry}
-use Rattle.tte_units.specs.Amount.{amount}
-use Rattle.schedule_checker.{proofs.EntryPlaces.{all_of_earlier, all_of_entries, earlier_of_all, entries_of_all}, specs.Ports.{AreApart, ComesBehind}}
 
 -- ---- rows of one port
 

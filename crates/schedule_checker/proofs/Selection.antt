@@ -1,8 +1,7 @@
 -- What holds of each element of a list, or of some, said by their places.
-use Rattle.std.proofs.Common.{◌<◌, ◌∷◌, ◌≡◌, Bool, List, Some, [], arith, false, get_or, length, refl, subst, suc, sym, take, true}
-use Rattle.std.proofs.{Common.{zero, ℕ}, lemmas.{Bool.false≢true, Option.{get_or_from_slice_get, slice_get-get_or, slice_get_within}}}
-use Rattle.std.specs.{Bool.{Decides, MatchBool}, List.{All, AllWithin, HoldsAt, slice_get}}
-use Rattle.tte_lemmas.proofs.Lists.{some_at}
+use Rattle.std.proofs.Common.{◌<◌, ◌∷◌, ◌≡◌, Bool, List, Some, [], arith, false, get_or, length, refl, subst, suc, sym, take, true, zero, ℕ}
+use Rattle.{std.{proofs.lemmas.Bool.false≢true, specs.Bool.{Decides, MatchBool}}, tte_lemmas.proofs.Lists.some_at}
+use Rattle.std.{proofs.lemmas.Option.{get_or_from_slice_get, slice_get-get_or, slice_get_within}, specs.List.{All, AllWithin, HoldsAt, slice_get}}
 
 -- each element has the property
 abbrev pub Each : {X : Type 0} → (X → Type 0) → List X → Type 0

@@ -1,9 +1,8 @@
 -- Lists whose elements are judged by place.
+use Rattle.{net_plan.specs.Rules.ExactlyOne, std.specs.Bool.{Decides, MatchBool}}
 use Rattle.std.proofs.Common.{◌<◌, ◌∙◌, ◌∷◌, ◌≡◌, Bool, List, Some, [], ap, arith, cond, eqb, false, get_or, length, refl, subst, suc, sym, take, true, zero, ℕ}
-use Rattle.std.proofs.lemmas.{Bool.{false≢true, Decides.{Decides-eqb, Decides-like}}, List.{get_or-take, length-take}}
-use Rattle.std.{proofs.lemmas.Option.{get_or_from_slice_get, same_Some, slice_get-get_or, slice_get_within}, specs.Bool.{Decides, MatchBool}}
-use Rattle.std.specs.{List.{All, AllWithin, HoldsAt, filter, slice_get}, Prelude.IsSomeAnd}
-use Rattle.net_plan.specs.Rules.{ExactlyOne}
+use Rattle.std.proofs.lemmas.{Bool.Decides.{Decides-eqb, Decides-like}, Option.{get_or_from_slice_get, same_Some, slice_get-get_or, slice_get_within}}
+use Rattle.std.{proofs.lemmas.{Bool.false≢true, List.{get_or-take, length-take}}, specs.{List.{All, AllWithin, HoldsAt, filter, slice_get}, Prelude.IsSomeAnd}}
 
 -- what `all` answers, at a test of P
 pub decides_all : {X : Type 0} (P Q : X → Type 0) (xs : List X) (r : Bool) → ((x : X) → P x → Q x → ⊥)

@@ -1,9 +1,8 @@
 -- The first rule that is broken is told.
+use Rattle.{net_plan.specs.declared.network.Network.Network, schedule_checker.specs.declared.parts.{PlanRule.PlanRule, ShapeRule.ShapeRule}}
+use Rattle.{schedule_checker.proofs.OneRefusal.same_rule, schedule_tables.specs.{Numbers.number_of, declared.rule.Rule.Rule}}
+use Rattle.{schedule_checker.specs.Judging.{BreaksAt, plan_rule, shape_rule}, schedule_tables.specs.Rules.{IsFirstBroken, IsKept, KeepsBelow}}
 use Rattle.std.proofs.{Common.{◌+◌, ◌<◌, ◌∷◌, ◌≡◌, ◌≤◌, List, [], arith, get_or, length, refl, subst, suc, zero, ℕ, ⊎_elim}, lemmas.Bool.cases_lt}
-use Rattle.net_plan.specs.declared.network.Network.{Network}
-use Rattle.schedule_tables.specs.{Numbers.number_of, Rules.{IsFirstBroken, IsKept, KeepsBelow}, declared.rule.Rule.Rule}
-use Rattle.schedule_checker.{proofs.OneRefusal.same_rule, specs.{Judging.{BreaksAt, plan_rule, shape_rule}, declared.parts.PlanRule.PlanRule}}
-use Rattle.schedule_checker.specs.declared.parts.ShapeRule.{ShapeRule}
 use Rattle.schedule_checker.specs.declared.parts.PlanRule.TheVariants as plans
 use Rattle.schedule_checker.specs.declared.parts.ShapeRule.TheVariants as shapes
 

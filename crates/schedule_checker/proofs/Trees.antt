@@ -1,8 +1,7 @@
 -- The rules of a network's shape make its links trees.
-use Rattle.std.proofs.Common.{arith}
-use Rattle.net_plan.specs.{Paths.IsTree, Rules.{KeepsShapeRules, RulesGiveTrees}, declared.network.Network.Network}
-use Rattle.schedule_tables.specs.Rules.{KeepsBelow}
+use Rattle.{net_plan.specs.{Paths.IsTree, Rules.{KeepsShapeRules, RulesGiveTrees}, declared.network.Network.Network}, schedule_tables.specs.Rules.KeepsBelow}
 use Rattle.schedule_tables.specs.declared.rule.Rule.TheVariants.{CompressionMasters, Connections, DevicesDiffer, Joints, Limits, LinksDiffer, Masters}
+use Rattle.std.proofs.Common.{arith}
 
 shape : (n : Network) → KeepsBelow 8 n → KeepsShapeRules n
 shape n kept = record {

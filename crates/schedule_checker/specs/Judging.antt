@@ -1,15 +1,14 @@
 -- Where the rules are judged.
 use Rattle.std.specs.Prelude.{◌<◌, length, ℕ}
-use Rattle.net_plan.specs.{Bounds.IsBeta, Paths.IsTree, Ranges.IsInRange, declared.network.Network.Network}
-use Rattle.schedule_tables.specs.{Entries.AreEntries, Rules.IsKeptAt, declared.rule.Rule.Rule}
+use Rattle.{net_plan.specs.{Bounds.IsBeta, declared.network.Network.Network}, schedule_tables.specs.Entries.AreEntries}
+use Rattle.{net_plan.specs.{Paths.IsTree, Ranges.IsInRange}, schedule_checker.specs.Groups.AreGroups}
+use Rattle.schedule_checker.specs.declared.{judge.Plan.Plan, parts.{PlanRule.PlanRule, ShapeRule.ShapeRule}}
+use Rattle.schedule_tables.specs.{Rules.IsKeptAt, declared.rule.Rule.{Rule, TheVariants.{VlNamesDiffer, WindowEnds}}}
 use Rattle.schedule_tables.specs.declared.rule.Rule.TheVariants.{BothChannels, CompressionMasters, Connections}
 use Rattle.schedule_tables.specs.declared.rule.Rule.TheVariants.{Correction, Delays, DevicesDiffer, Forwarding, Joints}
 use Rattle.schedule_tables.specs.declared.rule.Rule.TheVariants.{Limits, LinksDiffer, LinksOnce, Masters, Periods}
 use Rattle.schedule_tables.specs.declared.rule.Rule.TheVariants.{Precision, RowsOfDevice, ScheduleStart, Senders}
 use Rattle.schedule_tables.specs.declared.rule.Rule.TheVariants.{Settling, Sources, Spacing, Targets, VlIdsDiffer}
-use Rattle.schedule_tables.specs.declared.rule.Rule.TheVariants.{VlNamesDiffer, WindowEnds}
-use Rattle.schedule_checker.specs.Groups.{AreGroups}
-use Rattle.schedule_checker.specs.declared.{judge.Plan.Plan, parts.{PlanRule.PlanRule, ShapeRule.ShapeRule}}
 use Rattle.schedule_checker.specs.declared.parts.PlanRule.TheVariants as plans
 use Rattle.schedule_checker.specs.declared.parts.ShapeRule.TheVariants as shapes
 

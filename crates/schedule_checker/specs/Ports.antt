@@ -1,9 +1,8 @@
 -- How the rows of a port, and those of a switch, follow one another.
 use Rattle.std.specs.Prelude.{◌<◌, ◌≡◌, ◌⊎◌}
-use Rattle.net_plan.specs.declared.network.Network.{Network}
+use Rattle.{net_plan.specs.declared.network.Network.Network, schedule_tables.specs.declared.entry.Entry.Entry}
 use Rattle.schedule_tables.specs.{Entries.{source_of, target_of}, Schedule.{Coincide, IsClearBefore}}
-use Rattle.schedule_tables.specs.{Windows.window_end, declared.entry.Entry.Entry}
-use Rattle.tte_units.specs.Amount.{amount}
+use Rattle.{schedule_tables.specs.Windows.window_end, tte_units.specs.Amount.amount}
 
 -- if both entries are of one link and way and occur in one cycle, one of them is clear before the other
 abbrev pub AreApart : Network → Entry → Entry → Type 0

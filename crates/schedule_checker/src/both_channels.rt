@@ -1,10 +1,9 @@
 //! The rule that a virtual link goes by both channels.
 ghost use Rattle.std.specs.Prelude.{◌<◌, ◌↔◌, IfSome, IsSomeAnd, IsTrue, length, slice_get};
-ghost use Rattle.net_plan.specs.Ranges.{IsInRange};
-ghost use Rattle.schedule_tables.specs.{Entries.AreEntries, Schedule.{EntersOn, GoesByBothChannels, LeavesOn}};
-ghost use Rattle.schedule_checker.specs.Groups.{AreGroups, AreKin};
+ghost use Rattle.{net_plan.specs.Ranges.IsInRange, schedule_checker.specs.Groups.{AreGroups, AreKin}};
 ghost use Rattle.schedule_checker.specs.Routes.{EntersAlike, EntersAllAlike, EntersEndSystem, IsEntering};
 ghost use Rattle.schedule_checker.specs.Routes.{IsEnteringEnd, IsLeaving, LeavesOnBoth, TargetIsAlike};
+ghost use Rattle.schedule_tables.specs.{Entries.AreEntries, Schedule.{EntersOn, GoesByBothChannels, LeavesOn}};
 
 use crate::groups::Groups;
 use crate::roles::is_end_system;

@@ -1,7 +1,6 @@
 ghost use Rattle.std.specs.Prelude.{◌≡◌, IfErr, IfOk, OnOk};
-ghost use Rattle.net_plan.specs.Ranges.{IsInRange};
-ghost use Rattle.schedule_tables.specs.{Numbers.number_of, Rules.KeepsRules};
-ghost use Rattle.schedule_checker.specs.Refusals.{IsUnfitBy};
+ghost use Rattle.{net_plan.specs.Ranges.IsInRange, schedule_tables.specs.Rules.KeepsRules};
+ghost use Rattle.{schedule_checker.specs.Refusals.IsUnfitBy, schedule_tables.specs.Numbers.number_of};
 
 use crate::groups::groups_of;
 use crate::judge::{Broken, Plan, judge_plan, judge_shape};

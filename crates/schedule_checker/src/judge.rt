@@ -1,7 +1,6 @@
 ghost use Rattle.std.specs.Prelude.{◌≡◌, ◌≢◌, ◌≤◌, ◌<◌, ◌↔◌, OnOk, IfErr, IfNone, IfSome, IsTrue};
-ghost use Rattle.net_plan.specs.Ranges.{IsInRange};
+ghost use Rattle.{net_plan.specs.Ranges.IsInRange, schedule_tables.specs.Numbers.number_of};
 ghost use Rattle.schedule_checker.specs.Judging.{BreaksAt, IsPlan, places_of, plan_rule, shape_rule};
-ghost use Rattle.schedule_tables.specs.Numbers.{number_of};
 ghost use Rattle.schedule_tables.specs.Rules.{IsFirstBroken, IsKept, IsKeptAt, KeepsBelow, KeepsRules};
 
 use crate::groups::Groups;

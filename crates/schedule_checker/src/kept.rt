@@ -1,7 +1,6 @@
 ghost use Rattle.std.specs.Prelude.{◌<◌, ◌↔◌, IsTrue};
-ghost use Rattle.net_plan.specs.Ranges.{IsInRange};
+ghost use Rattle.{net_plan.specs.Ranges.IsInRange, schedule_tables.specs.Rules.IsKeptAt};
 ghost use Rattle.schedule_checker.specs.Judging.{IsPlan, places_of, plan_rule, shape_rule};
-ghost use Rattle.schedule_tables.specs.Rules.{IsKeptAt};
 
 use crate::both_channels::goes_by_both_channels;
 use crate::judge::Plan;

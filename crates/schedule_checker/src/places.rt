@@ -1,6 +1,5 @@
 ghost use Rattle.std.specs.Prelude.{◌≡◌};
-ghost use Rattle.net_plan.specs.Ranges.{IsInRange};
-ghost use Rattle.schedule_checker.specs.Judging.{places_of};
+ghost use Rattle.{net_plan.specs.Ranges.IsInRange, schedule_checker.specs.Judging.places_of};
 
 use net_plan::Network;
 use schedule_tables::Rule;

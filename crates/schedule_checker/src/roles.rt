@@ -1,6 +1,5 @@
 ghost use Rattle.std.specs.Prelude.{◌↔◌, IsTrue};
-ghost use Rattle.net_plan.specs.Places.{IsEndSystem};
-ghost use Rattle.schedule_tables.specs.Schedule.{IsSwitch};
+ghost use Rattle.{net_plan.specs.Places.IsEndSystem, schedule_tables.specs.Schedule.IsSwitch};
 
 use net_plan::{DeviceId, Network};
 

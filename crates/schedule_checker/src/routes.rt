@@ -1,10 +1,9 @@
 //! The rules of the ways by which a virtual link's frames go.
 ghost use Rattle.std.specs.Prelude.{◌<◌, ◌↔◌, All, IfSome, IsSomeAnd, IsTrue, length, slice_get, take};
-ghost use Rattle.net_plan.specs.Ranges.{IsInRange};
-ghost use Rattle.schedule_tables.specs.Entries.{AreEntries, IsOnChannel};
-ghost use Rattle.schedule_tables.specs.Schedule.{EntersAnew, GoesOnceByLink, HasSource};
+ghost use Rattle.{net_plan.specs.Ranges.IsInRange, schedule_tables.specs.Entries.{AreEntries, IsOnChannel}};
 ghost use Rattle.schedule_checker.specs.{Groups.{AreGroups, HasRowsOf}, Routes.ShareChannel};
 ghost use Rattle.schedule_checker.specs.Routes.{EntersAgain, EntersSource, GoesElsewhere, IsEnteredElsewhere};
+ghost use Rattle.schedule_tables.specs.Schedule.{EntersAnew, GoesOnceByLink, HasSource};
 
 use crate::groups::Groups;
 use crate::roles::{is_end_system, is_switch};

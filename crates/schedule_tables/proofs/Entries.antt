@@ -1,12 +1,11 @@
 -- Entries of the schedule.
+use Rattle.{net_plan.specs.declared.ids.DeviceId.DeviceId, std.{proofs.lemmas.Nat.{mod-mul-add, mod_below}, specs.Prelude.{option_and_then, option_map}}}
+use Rattle.{net_plan.specs.declared.{network.Network.Network, tables.Row.Row}, schedule_tables.specs.{Entries.{IsEntry, source_of}, declared.entry.Entry.Entry}}
+use Rattle.{net_plan.specs.declared.tables.{Link.Link, VirtualLink.VirtualLink}, schedule_tables.specs.declared.rule.Rule.TheVariants.{Forwarding, Sources}}
+use Rattle.{schedule_tables.specs.{Rules.KeepsRules, Schedule.Coincide, Windows.OccursIn}, std.proofs.lemmas.Bool.{cases_eq, cases_lt}}
 use Rattle.std.proofs.Common.{◌%◌, ◌*◌, ◌+◌, ◌-◌, ◌/◌, ◌<◌, ◌^◌, ◌∙◌, ◌∷◌, ◌≡◌, ◌≢◌, ◌≤◌, ◌⊎◌, None, Option, Some, [], ap, arith, div-add-mod', inl, inr, min}
-use Rattle.std.proofs.{Common.{pow-add, pow_mono, pow_pos, subst, suc, sym, zero, ℕ}, Math.Nat.{min-eq_left, min_comm, mod-mod}}
-use Rattle.std.{proofs.lemmas.{Bool.{cases_eq, cases_lt}, Nat.{mod-mul-add, mod_below}}, specs.{List.Contains, Prelude.{option_and_then, option_map}}}
-use Rattle.net_plan.specs.declared.{ids.DeviceId.DeviceId, network.Network.Network, tables.{Link.Link, Row.Row, VirtualLink.VirtualLink}}
-use Rattle.tte_lemmas.proofs.Lists.{period_power}
-use Rattle.tte_units.specs.Amount.{amount}
-use Rattle.schedule_tables.specs.{Entries.{IsEntry, source_of}, Rules.KeepsRules, Schedule.Coincide, Windows.OccursIn, declared.entry.Entry.Entry}
-use Rattle.schedule_tables.specs.declared.rule.Rule.TheVariants.{Forwarding, Sources}
+use Rattle.std.{proofs.{Common.{pow-add, pow_mono, pow_pos, subst, suc, sym, zero, ℕ}, Math.Nat.{min-eq_left, min_comm, mod-mod}}, specs.List.Contains}
+use Rattle.{tte_lemmas.proofs.Lists.period_power, tte_units.specs.Amount.amount}
 
 -- an entry is made of its row, its virtual link and its link
 pub entry_by : (o : Option VirtualLink) (p : Option Link) (row : Row) (entry : Entry)

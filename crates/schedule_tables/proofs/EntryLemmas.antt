@@ -1,9 +1,8 @@
 -- The entries of rows.
-use Rattle.std.{proofs.Common.{◌++◌, ◌∙◌, ◌∷◌, ◌≡◌, List, Some, [], arith, length, subst, sym, ℕ, ⊎_elim}, specs.Prelude.slice_get}
-use Rattle.net_plan.specs.{Ranges.{IsLinkInRange, IsRowInRange, IsVlInRange}, declared.{network.Network.Network, tables.{Link.Link, Row.Row}}}
-use Rattle.net_plan.specs.declared.tables.VirtualLink.{VirtualLink}
-use Rattle.tte_lemmas.proofs.{Lists.{in_all, pushed}, Options.one}
-use Rattle.schedule_tables.specs.{Entries.{EntriesAreInRange, EntryIsOne, IsEntry}, declared.entry.Entry.Entry}
+use Rattle.{net_plan.specs.Ranges.{IsLinkInRange, IsRowInRange, IsVlInRange}, schedule_tables.specs.Entries.{EntriesAreInRange, EntryIsOne, IsEntry}}
+use Rattle.{net_plan.specs.declared.{network.Network.Network, tables.{Link.Link, VirtualLink.VirtualLink}}, schedule_tables.specs.declared.entry.Entry.Entry}
+use Rattle.{net_plan.specs.declared.tables.Row.Row, std.proofs.Common.{◌++◌, ◌∙◌, ◌∷◌, ◌≡◌, List, Some, [], arith, length, subst, sym, ℕ, ⊎_elim}}
+use Rattle.{std.specs.Prelude.slice_get, tte_lemmas.proofs.{Lists.{in_all, pushed}, Options.one}}
 
 pub in_range : EntriesAreInRange
 in_range n i e range is = record {

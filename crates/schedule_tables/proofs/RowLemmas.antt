@@ -1,10 +1,8 @@
 -- The rows of a network with their places and windows.
+use Rattle.{net_plan.specs.declared.network.Network.Network, schedule_tables.specs.Windows.window_of, std.proofs.lemmas.Option.slice_get_read}
+use Rattle.schedule_tables.{proofs.EntryLemmas.one_entry, specs.{TablesOf.{AreTimedRows, IsTimedRow}, declared.{entry.Entry.Entry, tables.TimedRow.TimedRow}}}
+use Rattle.{schedule_tables.specs.Entries.IsEntry, std.specs.Prelude.slice_get, tte_lemmas.proofs.Lists.pushed}
 use Rattle.std.proofs.Common.{◌++◌, ◌+◌, ◌<◌, ◌∙◌, ◌∷◌, ◌≡◌, List, Some, [], ap, arith, get_or, length, length-append, refl, subst, sym, ℕ, ⊎_elim}
-use Rattle.std.{proofs.lemmas.Option.slice_get_read, specs.Prelude.slice_get}
-use Rattle.net_plan.specs.declared.network.Network.{Network}
-use Rattle.tte_lemmas.proofs.Lists.{pushed}
-use Rattle.schedule_tables.{proofs.EntryLemmas.one_entry, specs.{Entries.IsEntry, TablesOf.{AreTimedRows, IsTimedRow}, Windows.window_of}}
-use Rattle.schedule_tables.specs.declared.{entry.Entry.Entry, tables.TimedRow.TimedRow}
 
 -- one more row
 pub rows_more : (n : Network) (count : ℕ) (rows : List TimedRow) (row : TimedRow) → AreTimedRows n count rows → IsTimedRow n count row

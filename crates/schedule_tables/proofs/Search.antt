@@ -1,10 +1,9 @@
 -- A search among things in order, each with its numbers; and the first slot that is not below a bound.
+use Rattle.schedule_tables.{proofs.OrderLemmas.{Compares, below_itself, below_mono, lt_false, lt_true, slot_cmp, slot_compares}, specs.declared.slot.Slot.Slot}
+use Rattle.{schedule_tables.specs.Dispatches.IsBelow, std.{proofs.lemmas.Bool.{cases_Bool, cases_lt}, specs.List.Sorted.{IsPartitionPoint, IsPartitionedBy}}}
+use Rattle.{schedule_tables.specs.Slots.{AreBelow, AreInOrder, IsFirstSlot, key_of}, std.proofs.lemmas.Option.{get_or_from_slice_get, slice_get_within}}
 use Rattle.std.proofs.Common.{◌<◌, ◌∙◌, ◌≡◌, ◌≤◌, List, Some, ap, arith, false, get_or, is_lt, length, refl, subst, sym, true, ℕ, ⊎_elim}
-use Rattle.std.proofs.lemmas.{Bool.{cases_Bool, cases_lt}, Option.{get_or_from_slice_get, slice_get_within}}
-use Rattle.std.specs.{List.{AllPairs, Contains, Sorted.{IsPartitionPoint, IsPartitionedBy}}, Prelude.slice_get, declared.cmp.Ordering.Ordering}
-use Rattle.tte_lemmas.proofs.Naturals.{above_or_same}
-use Rattle.schedule_tables.proofs.OrderLemmas.{Compares, below_itself, below_mono, lt_false, lt_true, slot_cmp, slot_compares}
-use Rattle.schedule_tables.specs.{Dispatches.IsBelow, Slots.{AreBelow, AreInOrder, IsFirstSlot, key_of}, declared.slot.Slot.Slot}
+use Rattle.{std.specs.{List.{AllPairs, Contains}, Prelude.slice_get, declared.cmp.Ordering.Ordering}, tte_lemmas.proofs.Naturals.above_or_same}
 
 -- the comparison is that of the numbers, of which each thing has as many
 pub record IsOrder {X : Type 0} (numbers : X → List ℕ) (cmp : X → X → Ordering) : Type 0 where

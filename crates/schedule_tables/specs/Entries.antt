@@ -1,10 +1,9 @@
 -- Rows of the schedule, with the virtual link and the link that they name.
 use Rattle.std.specs.Prelude.{◌≡◌, List, Some, length, slice_get, ℕ}
-use Rattle.net_plan.specs.{Places.IsSwitchOf, Ranges.{IsInRange, IsLinkInRange, IsRowInRange, IsVlInRange}}
-use Rattle.net_plan.specs.declared.{ids.DeviceId.DeviceId, network.Network.Network, tables.{Link.Link, Way.Way}}
-use Rattle.net_plan.specs.declared.tables.Way.TheVariants.{Down, Up}
-use Rattle.pcf_values.specs.declared.channel.Channel.{Channel}
-use Rattle.schedule_tables.specs.declared.entry.Entry.{Entry}
+use Rattle.net_plan.specs.{Places.IsSwitchOf, declared.tables.Way.Way}
+use Rattle.net_plan.specs.{Ranges.{IsInRange, IsLinkInRange, IsRowInRange, IsVlInRange}, declared.tables.Link.Link}
+use Rattle.net_plan.specs.declared.{ids.DeviceId.DeviceId, network.Network.Network, tables.Way.TheVariants.{Down, Up}}
+use Rattle.{pcf_values.specs.declared.channel.Channel.Channel, schedule_tables.specs.declared.entry.Entry.Entry}
 
 -- the entry is the row at the place, with its virtual link and its link
 pub record IsEntry (network : Network) (place : ℕ) (entry : Entry) : Type 0 where

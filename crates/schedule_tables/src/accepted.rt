@@ -1,6 +1,5 @@
 ghost use Rattle.std.specs.Prelude.{◌≡◌};
-ghost use Rattle.net_plan.specs.{Paths.IsTree, Ranges.IsInRange};
-ghost use Rattle.schedule_tables.specs.Rules.{KeepsRules};
+ghost use Rattle.{net_plan.specs.{Paths.IsTree, Ranges.IsInRange}, schedule_tables.specs.Rules.KeepsRules};
 
 use net_plan::{Network, rules_give_trees};
 use std::marker::Model;

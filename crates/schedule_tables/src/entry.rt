@@ -1,7 +1,6 @@
 ghost use Rattle.std.specs.Prelude.{◌≡◌, ◌<◌, ◌≤◌, IfOk, length, pos};
-ghost use Rattle.net_plan.specs.Ranges.{IsInRange};
+ghost use Rattle.{net_plan.specs.Ranges.IsInRange, schedule_tables.specs.Windows.port_time};
 ghost use Rattle.schedule_tables.specs.Entries.{AreEntries, IsEntry, IsEntryInRange, source_of, target_of};
-ghost use Rattle.schedule_tables.specs.Windows.{port_time};
 
 use crate::OutOfMemory;
 use net_plan::{DeviceId, Link, Network, Row, RowId, VirtualLink, Way};

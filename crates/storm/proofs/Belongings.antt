@@ -1,11 +1,9 @@
 -- A network that keeps the rules has devices and links.
-use Rattle.std.proofs.{Common.{◌+◌, ◌<◌, ◌∷◌, ◌≡◌, Bool, List, Some, [], ap, arith, cond, inl, inr, length, refl, suc, true, zero, ℕ}, lemmas.Bool.cases_Bool}
-use Rattle.std.{proofs.lemmas.List.Sums.{length-filter, sum_by-cons}, specs.{List.count_by, Prelude.slice_get}}
-use Rattle.net_plan.{proofs.TableFacts.link_within, specs.{Paths.IsUplink, Places.is_master, declared.ids.{DeviceId.DeviceId, LinkId.LinkId}}}
-use Rattle.net_plan.specs.declared.{network.Network.Network, tables.Device.Device}
-use Rattle.pcf_values.specs.declared.channel.Channel.{Channel, TheVariants.A}
-use Rattle.schedule_tables.specs.{Rules.KeepsRules, declared.rule.Rule.TheVariants.Masters}
-use Rattle.storm.{proofs.Masters.{master_uplink, master_within}, specs.Striking.IsMaster}
+use Rattle.net_plan.{proofs.TableFacts.link_within, specs.declared.{ids.{DeviceId.DeviceId, LinkId.LinkId}, network.Network.Network, tables.Device.Device}}
+use Rattle.{net_plan.specs.{Paths.IsUplink, Places.is_master}, schedule_tables.specs.Rules.KeepsRules, std.specs.List.count_by, storm.specs.Striking.IsMaster}
+use Rattle.{pcf_values.specs.declared.channel.Channel.{Channel, TheVariants.A}, schedule_tables.specs.declared.rule.Rule.TheVariants.Masters}
+use Rattle.std.{proofs.Common.{◌+◌, ◌<◌, ◌∷◌, ◌≡◌, Bool, List, Some, [], ap, arith, cond, inl, inr, length, refl, suc, true, zero, ℕ}, specs.Prelude.slice_get}
+use Rattle.{std.proofs.lemmas.{Bool.cases_Bool, List.Sums.{length-filter, sum_by-cons}}, storm.proofs.Masters.{master_uplink, master_within}}
 
 -- where some elements of a list pass a test, one stands at a place of it
 pub one_counted : {X : Type 0} (p : X → Bool) (xs : List X) → 0 < count_by p xs → (k : ℕ) × (x : X) × (slice_get xs k ≡ Some x) × (p x ≡ true)

@@ -1,9 +1,8 @@
 -- What the kinds of events draw.
-use Rattle.std.{proofs.Common.{◌∙◌, ◌≡◌, List, None, Option, Some, ap, subst, sym}, specs.Prelude.{IsSomeAnd, MatchOption}}
-use Rattle.net_plan.specs.{Places.link_at, declared.{event.{Event.Event, What.What}, ids.LinkId.LinkId, network.Network.Network, tables.{Link.Link, Way.Way}}}
-use Rattle.tte_units.specs.declared.units.Units.{Units}
-use Rattle.storm.specs.{Choosing.{choice_of, hold_of, link_of, way_of, wire_of}, Events.{IsChosen, IsDrawn}, declared.draw.Choice.Choice}
-use Rattle.storm.specs.declared.draw.{Choice.TheVariants.{Hold, Wire}, Draw.Draw}
+use Rattle.{net_plan.specs.{Places.link_at, declared.tables.Way.Way}, storm.specs.{Events.{IsChosen, IsDrawn}, declared.draw.{Choice.Choice, Draw.Draw}}}
+use Rattle.{net_plan.specs.declared.{event.Event.Event, ids.LinkId.LinkId, network.Network.Network}, storm.specs.declared.draw.Choice.TheVariants.{Hold, Wire}}
+use Rattle.{net_plan.specs.declared.{event.What.What, tables.Link.Link}, std.specs.Prelude.{IsSomeAnd, MatchOption}, tte_units.specs.declared.units.Units.Units}
+use Rattle.{std.proofs.Common.{◌∙◌, ◌≡◌, List, None, Option, Some, ap, subst, sym}, storm.specs.Choosing.{choice_of, hold_of, link_of, way_of, wire_of}}
 use Rattle.net_plan.specs.declared.event.What.TheVariants as kinds
 
 -- what is chosen is drawn where the words choose its kind

@@ -1,9 +1,8 @@
 -- Only the last event of a storm is the end.
-use Rattle.std.{proofs.Common.{◌*◌, ◌∙◌, ◌≡◌, List, None, Some, ap, inl, inr, sym, ℕ}, specs.Prelude.{IsSomeAnd, Option}}
-use Rattle.net_plan.specs.{Places.link_at, declared.{event.{Event.Event, What.{What, TheVariants.End}}, network.Network.Network}}
-use Rattle.tte_units.specs.declared.units.Units.{Units}
-use Rattle.storm.specs.{Choosing.{choice_of, link_of}, Events.{IsChosen, IsEventOf, IsStormEvent}, declared.draw.Choice.Choice}
-use Rattle.storm.specs.declared.draw.{Choice.TheVariants.{Cut, Heal, Hold, On, Rate, Strike, Wire}, Draw.Draw}
+use Rattle.{net_plan.specs.{Places.link_at, declared.{event.What.What, network.Network.Network}}, tte_units.specs.declared.units.Units.Units}
+use Rattle.{net_plan.specs.declared.event.{Event.Event, What.TheVariants.End}, std.proofs.Common.{◌*◌, ◌∙◌, ◌≡◌, List, None, Some, ap, inl, inr, sym, ℕ}}
+use Rattle.{std.specs.Prelude.{IsSomeAnd, Option}, storm.specs.{Choosing.{choice_of, link_of}, declared.draw.Draw.Draw}}
+use Rattle.storm.specs.{Events.{IsChosen, IsEventOf, IsStormEvent}, declared.draw.Choice.{Choice, TheVariants.{Cut, Heal, Hold, On, Rate, Strike, Wire}}}
 
 some_and : {X : Type 0} (o : Option X) (P : X → Type 0) → IsSomeAnd o P → ((x : X) → P x → ⊥) → ⊥
 some_and None P is none = is

@@ -1,11 +1,9 @@
 -- The masters of a network: the last one, and the uplinks that they have.
-use Rattle.std.proofs.{Common.{◌+◌, ◌<◌, ◌∙◌, ◌≡◌, None, Option, Some, ap, arith, inl, inr, length, refl, subst, true, ℕ}, lemmas.Bool.cases_order}
-use Rattle.std.{proofs.lemmas.Option.slice_get_within, specs.Prelude.{IsSomeAnd, MatchOption, slice_get}}
-use Rattle.net_plan.specs.{Paths.IsUplink, Places.{IsEndSystem, device_at, is_master}, declared.ids.{DeviceId.DeviceId, LinkId.LinkId}}
-use Rattle.net_plan.specs.declared.{network.Network.Network, tables.Device.Device}
-use Rattle.pcf_values.specs.declared.channel.Channel.{Channel}
-use Rattle.schedule_tables.{proofs.Margins.master_ends, specs.{Rules.KeepsRules, declared.rule.Rule.TheVariants.Connections}}
-use Rattle.storm.specs.Striking.{IsLastMaster, IsMaster}
+use Rattle.{net_plan.specs.Paths.IsUplink, schedule_tables.proofs.Margins.master_ends, std.proofs.lemmas.Bool.cases_order}
+use Rattle.{net_plan.specs.Places.{IsEndSystem, device_at, is_master}, schedule_tables.specs.{Rules.KeepsRules, declared.rule.Rule.TheVariants.Connections}}
+use Rattle.{net_plan.specs.declared.{ids.DeviceId.DeviceId, network.Network.Network, tables.Device.Device}, storm.specs.Striking.{IsLastMaster, IsMaster}}
+use Rattle.{net_plan.specs.declared.ids.LinkId.LinkId, pcf_values.specs.declared.channel.Channel.Channel, std.specs.Prelude.{IsSomeAnd, MatchOption, slice_get}}
+use Rattle.std.proofs.{Common.{◌+◌, ◌<◌, ◌∙◌, ◌≡◌, None, Option, Some, ap, arith, inl, inr, length, refl, subst, true, ℕ}, lemmas.Option.slice_get_within}
 
 -- the device is the last master below a place, or there is none below it
 abbrev pub IsLastBelow : Network → Option DeviceId → ℕ → Type 0

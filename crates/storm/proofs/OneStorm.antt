@@ -1,18 +1,14 @@
 -- There is one storm of a seed.
+use Rattle.{net_plan.specs.{Places.link_at, declared.{event.{Event.Event, What.What}, tables.Link.Link}}, storm.specs.declared.draw.{Choice.Choice, Draw.Draw}}
+use Rattle.{net_plan.specs.declared.{ids.DeviceId.DeviceId, network.Network.Network, tables.Device.Device}, storm.proofs.Within.{any_split, broken_is_master}}
+use Rattle.{pcf_codec.specs.Spelling.Spells, std.{proofs.lemmas.Bool.cases_order, specs.{List.Any, Prelude.IsSomeAnd}}, storm.proofs.Storms.storms_within}
+use Rattle.{pcf_values.specs.declared.pcf.Pcf.Pcf, schedule_tables.specs.Rules.KeepsRules, storm.proofs.{Masters.master_is_end, SameOctets.same_octets}}
+use Rattle.{run_law.{proofs.scenario.Devices.within_front, specs.scenario.Faults.{Breaks, IsBroken}}, tte_units.specs.declared.units.Units.Units}
+use Rattle.run_law.specs.{declared.outside.Outside.TheVariants.SecondBreak, scenario.Hypothesis.{AreWithinHypothesis, IsWithinHypothesis}}
+use Rattle.{schedule_tables.specs.declared.rule.Rule.TheVariants.Connections, storm.specs.Choosing.{channel_of, choice_of, hold_of, link_of, way_of, wire_of}}
 use Rattle.std.proofs.Common.{◌++◌, ◌∙◌, ◌∷◌, ◌≡◌, ◌⊎◌, List, None, Option, Some, [], ap, append_assoc, arith, inl, inr, length, refl, subst, sym, ℕ}
-use Rattle.std.{proofs.lemmas.Bool.cases_order, specs.{List.Any, Prelude.IsSomeAnd}}
-use Rattle.net_plan.specs.{Places.link_at, declared.{event.{Event.Event, What.What}, ids.DeviceId.DeviceId, network.Network.Network, tables.Device.Device}}
-use Rattle.net_plan.specs.declared.tables.Link.{Link}
-use Rattle.pcf_codec.specs.Spelling.{Spells}
-use Rattle.pcf_values.specs.declared.pcf.Pcf.{Pcf}
-use Rattle.run_law.{proofs.scenario.Devices.within_front, specs.{declared.outside.Outside.TheVariants.SecondBreak, scenario.Faults.{Breaks, IsBroken}}}
-use Rattle.run_law.specs.scenario.Hypothesis.{AreWithinHypothesis, IsWithinHypothesis}
-use Rattle.schedule_tables.specs.{Rules.KeepsRules, declared.rule.Rule.TheVariants.Connections}
-use Rattle.tte_lemmas.proofs.Lists.{any_behind, any_first, any_of}
-use Rattle.tte_units.specs.declared.units.Units.{Units}
-use Rattle.storm.{proofs.{Masters.master_is_end, Storms.storms_within}, specs.{Words.draw_at, declared.draw.Draw.Draw}}
-use Rattle.storm.{proofs.SameOctets.same_octets, specs.{Events.{AreStormEvents, IsChosen, IsEventOf, IsStormEvent, time_of}, declared.draw.Choice.Choice}}
-use Rattle.storm.{proofs.Within.{any_split, broken_is_master}, specs.{Choosing.{channel_of, choice_of, hold_of, link_of, way_of, wire_of}, Laws.StormIsOne}}
+use Rattle.{storm.specs.Events.{AreStormEvents, IsChosen, IsEventOf, IsStormEvent, time_of}, tte_lemmas.proofs.Lists.{any_behind, any_first, any_of}}
+use Rattle.storm.specs.{Laws.StormIsOne, Words.draw_at}
 use Rattle.storm.specs.{Striking.{IsLastMaster, SendsForged, Strikes, forged}, declared.draw.Choice.TheVariants.{Cut, Heal, Hold, On, Rate, Strike, Wire}}
 use Rattle.net_plan.specs.declared.event.What.TheVariants as kinds
 

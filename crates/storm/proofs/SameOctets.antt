@@ -1,11 +1,8 @@
 -- Two spellings of one frame, of bytes and with zeros in the padding, are the same octets.
-use Rattle.std.proofs.Common.{◌*◌, ◌+◌, ◌-◌, ◌<◌, ◌^◌, ◌∙◌, ◌≡◌, ◌≤◌, List, ap, arith, drop, inl, inr, subst, suc, sym, zero, ℕ}
-use Rattle.std.{proofs.lemmas.{Bool.{cases_lt, cases_order}, List.{ext_get_or, get_or-drop}}, specs.Prelude.slice_index}
-use Rattle.byteorder.specs.{Endian.big_from, Numbers.big_from-lt}
+use Rattle.{byteorder.specs.{Endian.big_from, Numbers.big_from-lt}, pcf_values.specs.declared.pcf.Pcf.Pcf, tte_lemmas.proofs.Naturals.same_heads}
 use Rattle.hex.specs.Hex.{IsBytes}
-use Rattle.pcf_codec.specs.{Fields.field, Spelling.{IsPadding, Spells}}
-use Rattle.pcf_values.specs.declared.pcf.Pcf.{Pcf}
-use Rattle.tte_lemmas.proofs.Naturals.{same_heads}
+use Rattle.{pcf_codec.specs.{Fields.field, Spelling.{IsPadding, Spells}}, std.proofs.lemmas.{Bool.{cases_lt, cases_order}, List.{ext_get_or, get_or-drop}}}
+use Rattle.std.{proofs.Common.{◌*◌, ◌+◌, ◌-◌, ◌<◌, ◌^◌, ◌∙◌, ◌≡◌, ◌≤◌, List, ap, arith, drop, inl, inr, subst, suc, sym, zero, ℕ}, specs.Prelude.slice_index}
 
 same_tails : (x y p r s : ℕ) → x ≡ y → x * p + r ≡ y * p + s → r ≡ s
 same_tails x y p r s heads same = let tops = ap (λ (b : ℕ). b * p) heads in omega (arith, same, tops)

@@ -1,12 +1,9 @@
 -- The events of a storm, one after another: their times, and that they are within the hypothesis.
+use Rattle.{fault_hypothesis.proofs.Befalling.stands_where, net_plan.specs.declared.network.Network.Network, storm.proofs.Within.{end_within, step_within}}
+use Rattle.{net_plan.specs.declared.event.Event.Event, std.proofs.Math.Nat.mul-le-mul_right, tte_units.specs.{Amount.amount, declared.units.Units.Units}}
+use Rattle.{run_law.specs.scenario.Hypothesis.IsWithinHypothesis, storm.specs.{Events.{AreNoLater, AreStormEvents, IsStormEvent, time_of}, Words.draw_at}}
 use Rattle.std.proofs.Common.{◌*◌, ◌++◌, ◌+◌, ◌/◌, ◌^◌, ◌∙◌, ◌∷◌, ◌≡◌, ◌≤ℤ◌, ◌≤◌, List, [], ap, append_assoc, arith, inl, inr, length, length-append, pos, refl}
-use Rattle.std.proofs.{Common.{subst, sym, ℕ}, Math.Nat.mul-le-mul_right, lemmas.Int.ints}
-use Rattle.fault_hypothesis.proofs.Befalling.{stands_where}
-use Rattle.net_plan.specs.declared.{event.Event.Event, network.Network.Network}
-use Rattle.run_law.specs.scenario.Hypothesis.{IsWithinHypothesis}
-use Rattle.tte_units.specs.{Amount.amount, declared.units.Units.Units}
-use Rattle.storm.{proofs.Within.{end_within, step_within}, specs.{Events.{AreNoLater, AreStormEvents, IsStormEvent, time_of}, Laws.StormsAreWithin}}
-use Rattle.storm.specs.Words.{draw_at}
+use Rattle.{std.proofs.{Common.{subst, sym, ℕ}, lemmas.Int.ints}, storm.specs.Laws.StormsAreWithin}
 
 -- the time of an event of a storm
 pub storm_time : (network : Network) (seed cycles : ℕ) (before : List Event) (n : ℕ) (event : Event) → IsStormEvent network seed cycles before n event

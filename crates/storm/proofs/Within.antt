@@ -1,13 +1,12 @@
 -- Which events of a storm are within the hypothesis.
-use Rattle.std.proofs.Common.{◌*◌, ◌++◌, ◌^◌, ◌↔◌, ◌∙◌, ◌∷◌, ◌≡◌, ◌≤ℤ◌, List, None, Option, Some, [], ap, arith, false, inl, inr, pos, refl, subst, suc, sym}
-use Rattle.std.{proofs.{Common.{true, zero}, lemmas.{Bool.cases_Bool, Int.ints}}, specs.{List.Any, Prelude.{IsSomeAnd, unsigned_abs}}}
-use Rattle.fault_hypothesis.specs.{Watching.Watches, declared.watch.Watch.Watch}
-use Rattle.net_plan.specs.{Places.{device_at, is_master}, declared.{event.Event.Event, ids.DeviceId.DeviceId, network.Network.Network, tables.Device.Device}}
+use Rattle.{fault_hypothesis.specs.{Watching.Watches, declared.watch.Watch.Watch}, run_law.specs.declared.outside.Outside.TheVariants.{TooFewMasters, Wire}}
+use Rattle.{net_plan.specs.{Places.{device_at, is_master}, declared.event.Event.Event}, tte_units.specs.declared.{rates.Ppb.Ppb, units.Units.Units}}
+use Rattle.{net_plan.specs.declared.{ids.DeviceId.DeviceId, network.Network.Network, tables.Device.Device}, run_law.specs.scenario.Faults.{Breaks, IsBroken}}
 use Rattle.run_law.specs.declared.outside.Outside.TheVariants.{Channel as OtherChannel, Hold, Late, NotBroken, NotMaster, NotOff, Order, Rate, SecondBreak}
-use Rattle.run_law.specs.{declared.outside.Outside.TheVariants.{TooFewMasters, Wire}, scenario.Faults.{Breaks, IsBroken}}
-use Rattle.run_law.specs.scenario.Hypothesis.{AreWithinHypothesis, ComesTooEarly, IsWithinHypothesis}
-use Rattle.tte_units.specs.{Amount.amount, declared.{rates.Ppb.Ppb, units.Units.Units}}
-use Rattle.storm.specs.{Events.{AreNoLater, IsEventOf, substitute}, Known.KnowsBroken, Striking.IsMaster, declared.draw.Draw.Draw}
+use Rattle.{run_law.specs.scenario.Hypothesis.{AreWithinHypothesis, ComesTooEarly, IsWithinHypothesis}, storm.specs.Events.{AreNoLater, IsEventOf, substitute}}
+use Rattle.std.proofs.Common.{◌*◌, ◌++◌, ◌^◌, ◌↔◌, ◌∙◌, ◌∷◌, ◌≡◌, ◌≤ℤ◌, List, None, Option, Some, [], ap, arith, false, inl, inr, pos, refl, subst, suc, sym}
+use Rattle.{std.{proofs.Common.{true, zero}, specs.List.Any}, storm.specs.Striking.IsMaster, tte_units.specs.Amount.amount}
+use Rattle.{std.{proofs.lemmas.{Bool.cases_Bool, Int.ints}, specs.Prelude.{IsSomeAnd, unsigned_abs}}, storm.specs.{Known.KnowsBroken, declared.draw.Draw.Draw}}
 use Rattle.net_plan.specs.declared.event.What.TheVariants as kinds
 
 -- where something holds of some element, the list stands in front of it and behind

@@ -1,11 +1,10 @@
 -- The events of a storm, step by step.
 use Rattle.std.specs.Prelude.{◌*◌, ◌++◌, ◌+◌, ◌/◌, ◌<◌, ◌∷◌, ◌≡◌, ◌≤ℤ◌, ◌⊎◌, IsSomeAnd, List, [], length, pos, ℕ}
-use Rattle.net_plan.specs.{Places.link_at, declared.{event.{Event.Event, What.What}, network.Network.Network}}
-use Rattle.run_law.specs.scenario.Hypothesis.{IsWithinHypothesis}
-use Rattle.tte_units.specs.{Amount.{amount, units_of}, declared.units.Units.Units}
+use Rattle.{net_plan.specs.Places.link_at, storm.specs.Words.draw_at, tte_units.specs.Amount.{amount, units_of}}
+use Rattle.{net_plan.specs.declared.event.{Event.Event, What.What}, tte_units.specs.declared.units.Units.Units}
+use Rattle.{net_plan.specs.declared.network.Network.Network, run_law.specs.scenario.Hypothesis.IsWithinHypothesis}
 use Rattle.storm.specs.{Choosing.{choice_of, device_of, hold_of, link_of, rate_of, way_of, wire_of}, Striking.Strikes}
-use Rattle.storm.specs.{Words.draw_at, declared.draw.Choice.Choice}
-use Rattle.storm.specs.declared.draw.{Choice.TheVariants.{Cut, Heal, Hold, On, Rate, Strike, Wire}, Draw.Draw}
+use Rattle.storm.specs.declared.draw.{Choice.{Choice, TheVariants.{Cut, Heal, Hold, On, Rate, Strike, Wire}}, Draw.Draw}
 use Rattle.net_plan.specs.declared.event.What.TheVariants as kinds
 
 -- this befalls the network where an event of this kind is chosen, given the events before

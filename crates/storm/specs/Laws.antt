@@ -1,9 +1,8 @@
 -- What holds of all storms.
 use Rattle.std.specs.Prelude.{◌≡◌, ◌≤◌, List, ℕ}
-use Rattle.net_plan.specs.declared.{event.Event.Event, network.Network.Network}
-use Rattle.run_law.specs.scenario.Hypothesis.{AreWithinHypothesis}
+use Rattle.{net_plan.specs.declared.event.Event.Event, storm.specs.Events.{AreStormEvents, IsStorm}}
+use Rattle.{net_plan.specs.declared.network.Network.Network, run_law.specs.scenario.Hypothesis.AreWithinHypothesis}
 use Rattle.schedule_tables.specs.Rules.{KeepsRules}
-use Rattle.storm.specs.Events.{AreStormEvents, IsStorm}
 
 -- there is one storm of a seed over so many cycles on a network
 abbrev pub StormIsOne : Type 0

@@ -1,15 +1,12 @@
 -- The strikes of a storm: a master breaks, and then sends forged frames.
 use Rattle.std.specs.Prelude.{◌%◌, ◌+◌, ◌/◌, ◌<◌, ◌≡◌, ◌⊎◌, IsSomeAnd, List, Some, slice_index, true, ℕ}
-use Rattle.hex.specs.Hex.{IsBytes}
-use Rattle.membership.specs.Members.{single}
-use Rattle.net_plan.specs.{Paths.IsUplink, Places.{device_at, is_master}, declared.event.{Event.Event, What.What}}
-use Rattle.net_plan.specs.declared.{event.What.TheVariants.{Break, Send}, ids.{DeviceId.DeviceId, LinkId.LinkId}}
-use Rattle.net_plan.specs.declared.{network.Network.Network, tables.Device.Device}
-use Rattle.pcf_codec.specs.Spelling.{IsPadding, Spells}
-use Rattle.pcf_values.specs.declared.pcf.{Pcf.Pcf, PcfKind.TheVariants.Integration}
-use Rattle.run_law.specs.scenario.Faults.{IsBroken}
-use Rattle.tte_units.specs.{Amount.amount, declared.units.Units.Units}
-use Rattle.storm.specs.{Choosing.channel_of, declared.draw.Draw.Draw}
+use Rattle.{hex.specs.Hex.IsBytes, pcf_values.specs.declared.pcf.Pcf.Pcf, run_law.specs.scenario.Faults.IsBroken}
+use Rattle.{membership.specs.Members.single, storm.specs.{Choosing.channel_of, declared.draw.Draw.Draw}}
+use Rattle.{net_plan.specs.Paths.IsUplink, tte_units.specs.Amount.amount}
+use Rattle.net_plan.specs.{Places.{device_at, is_master}, declared.{event.Event.Event, ids.DeviceId.DeviceId}}
+use Rattle.net_plan.specs.declared.{event.What.TheVariants.{Break, Send}, network.Network.Network, tables.Device.Device}
+use Rattle.{net_plan.specs.declared.{event.What.What, ids.LinkId.LinkId}, tte_units.specs.declared.units.Units.Units}
+use Rattle.{pcf_codec.specs.Spelling.{IsPadding, Spells}, pcf_values.specs.declared.pcf.PcfKind.TheVariants.Integration}
 
 -- the device is a master
 abbrev pub IsMaster : Network → DeviceId → Type 0

@@ -1,11 +1,9 @@
 ghost use Rattle.std.specs.Prelude.{◌<◌, ◌^◌, ◌≡◌, ◌≤ℤ◌, ◌≤◌, IfSome, List, MatchOption, Some, pos};
-ghost use Rattle.fault_hypothesis.specs.Watching.{Watches};
-ghost use Rattle.net_plan.specs.{Belonging.{HasLink, IsOfNetwork}, Places.link_at, Ranges.{IsInRange, IsWithin}};
-ghost use Rattle.net_plan.specs.declared.event.Event.{Event as EventValue};
-ghost use Rattle.schedule_tables.specs.Rules.{KeepsRules};
-ghost use Rattle.trace_text.specs.Ranges.{IsEventInRange, IsRate, IsTime, IsWhatInRange};
+ghost use Rattle.{fault_hypothesis.specs.Watching.Watches, net_plan.specs.Ranges.{IsInRange, IsWithin}};
+ghost use Rattle.net_plan.specs.{Belonging.{HasLink, IsOfNetwork}, declared.{event.{Event.{Event as EventValue}}}};
+ghost use Rattle.{net_plan.specs.Places.link_at, schedule_tables.specs.Rules.KeepsRules, storm.specs.Known.KnowsBroken};
 ghost use Rattle.storm.specs.{Choosing.{hold_of, rate_of, wire_of}, Events.{IsDrawn, IsEventOf, substitute}};
-ghost use Rattle.storm.specs.Known.{KnowsBroken};
+ghost use Rattle.trace_text.specs.Ranges.{IsEventInRange, IsRate, IsTime, IsWhatInRange};
 
 use crate::draw::{Choice, Draw};
 use crate::strike::{forged_send, last_master};

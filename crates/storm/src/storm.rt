@@ -1,10 +1,8 @@
 ghost use Rattle.std.specs.Prelude.{◌*◌, ◌+◌, ◌^◌, ◌≡◌, ◌≤ℤ◌, ◌≤◌, IfNone, IfSome, List, MatchOption, pos};
-ghost use Rattle.fault_hypothesis.specs.Watching.{Watches};
-ghost use Rattle.net_plan.specs.{Belonging.IsOfNetwork, Ranges.IsInRange, declared.event.Event.Event as EventValue};
-ghost use Rattle.run_law.specs.scenario.Hypothesis.{IsWithinHypothesis};
-ghost use Rattle.trace_text.specs.Ranges.{IsEventInRange};
-ghost use Rattle.tte_units.specs.Amount.{amount};
-ghost use Rattle.storm.specs.Events.{AreNoLater, IsStormEvent, time_of};
+ghost use Rattle.{fault_hypothesis.specs.Watching.Watches, run_law.specs.scenario.Hypothesis.IsWithinHypothesis};
+ghost use Rattle.net_plan.specs.{Belonging.IsOfNetwork, declared.{event.{Event.{Event as EventValue}}}};
+ghost use Rattle.{net_plan.specs.Ranges.IsInRange, tte_units.specs.Amount.amount};
+ghost use Rattle.{storm.specs.Events.{AreNoLater, IsStormEvent, time_of}, trace_text.specs.Ranges.IsEventInRange};
 
 use crate::chosen::chosen_event;
 use crate::words::Words;

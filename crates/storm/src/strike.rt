@@ -1,10 +1,7 @@
 ghost use Rattle.std.specs.Prelude.{◌<◌, ◌^◌, ◌≡◌, ◌≤ℤ◌, ◌≤◌, IfSome, MatchOption, length, pos, slice_index, ℕ};
-ghost use Rattle.hex.specs.Hex.{IsBytes};
-ghost use Rattle.net_plan.specs.{Belonging.IsOfNetwork, Ranges.IsInRange};
-ghost use Rattle.net_plan.specs.declared.ids.DeviceId.{DeviceId as DeviceIdValue};
-ghost use Rattle.pcf_codec.specs.Spelling.{IsPadding, Spells};
-ghost use Rattle.schedule_tables.specs.Rules.{KeepsRules};
-ghost use Rattle.trace_text.specs.Ranges.{IsFrame, IsWhatInRange};
+ghost use Rattle.{hex.specs.Hex.IsBytes, net_plan.specs.Ranges.IsInRange, schedule_tables.specs.Rules.KeepsRules};
+ghost use Rattle.net_plan.specs.{Belonging.IsOfNetwork, declared.{ids.{DeviceId.{DeviceId as DeviceIdValue}}}};
+ghost use Rattle.{pcf_codec.specs.Spelling.{IsPadding, Spells}, trace_text.specs.Ranges.{IsFrame, IsWhatInRange}};
 ghost use Rattle.storm.specs.Striking.{IsLastMaster, IsMaster, SendsForged, forged};
 
 use crate::draw::Draw;

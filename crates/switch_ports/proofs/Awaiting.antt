@@ -1,16 +1,14 @@
 -- What a switch has still to dispatch, from call to call.
-use Rattle.switch_ports.{proofs.{EachRow.all_each, RowKeys.{fit_reopened, fit_taken, of_taken}, RowOrder.chained_each, Words.ℤ}, specs.Departing.{Reopens, last_of}}
-use Rattle.switch_ports.proofs.Words.{◌&&◌, ◌*◌, ◌++◌, ◌+ℤ◌, ◌+◌, ◌<ℤ◌, ◌<◌, ◌==◌, ◌^◌, ◌∙◌, ◌∷◌, ◌≡◌, ◌≤ℤ◌, ◌≤◌, AreChained, AreEach, Awaits}
-use Rattle.switch_ports.proofs.Words.{AwaitsIn, AwaitsSo, Bool, Changes, ClockTask, Contains, Departure, Departures, DeviceId, HasDepartures, Held}
-use Rattle.switch_ports.proofs.Words.{Integrating, IsBegun, IsDeparture, IsInRange, IsLeaving, Joining, KnowsNext, LeavingRow, List, Moment, Network, Node}
-use Rattle.switch_ports.proofs.Words.{None, Off, Option, Row, RowId, Some, StandsAs, State, Switch, Synchronised, TakenFrame, VlId, [], amount, amount_most, ap}
-use Rattle.switch_ports.proofs.Words.{arith, cases_Bool, dispatch_at, dispatching, false, get_or, held_by, held_in, if◌then◌else◌, in_none, inl, inr, int_lt}
-use Rattle.switch_ports.proofs.Words.{ints, length, option_and_then, option_map, option_map_or, pos, refl, subst, sym, through, true, value_of, with_taking, ℕ}
+use Rattle.{run_law.specs.machines.Tasks.offset_of, std.{proofs.Common.Global, specs.{List.{All, last_or}, Prelude.{filter, ⊤}, declared.vec.Vec.Vec}}}
+use Rattle.{schedule_tables.proofs.EntryLemmas.in_range, switch_ports.{proofs.{EachRow.all_each, RowOrder.chained_each}, specs.Departing.{Reopens, last_of}}}
+use Rattle.{std.proofs.lemmas.{Bool.and_from, List.Elements.{Contains-get_or, filter-append}}, switch_ports.proofs.RowKeys.{fit_reopened, fit_taken, of_taken}}
+use Rattle.switch_ports.proofs.Words.{◌&&◌, ◌*◌, ◌++◌, ◌+ℤ◌, ◌+◌, ◌<ℤ◌, ◌<◌, ◌==◌, ◌^◌, ◌∙◌, ◌∷◌, ◌≡◌, ◌≤ℤ◌, ◌≤◌, AreChained, AreEach, Awaits, AwaitsIn}
+use Rattle.switch_ports.proofs.Words.{AwaitsSo, Bool, Changes, ClockTask, Contains, Departure, Departures, DeviceId, HasDepartures, Held, Integrating, IsBegun}
+use Rattle.switch_ports.proofs.Words.{IsDeparture, IsInRange, IsLeaving, Joining, KnowsNext, LeavingRow, List, Moment, Network, Node, None, Off, Option, Row}
+use Rattle.switch_ports.proofs.Words.{RowId, Some, StandsAs, State, Switch, Synchronised, TakenFrame, VlId, [], amount, amount_most, ap, arith, cases_Bool}
+use Rattle.switch_ports.proofs.Words.{dispatch_at, dispatching, false, get_or, held_by, held_in, if◌then◌else◌, in_none, inl, inr, int_lt, ints, length}
+use Rattle.switch_ports.proofs.Words.{option_and_then, option_map, option_map_or, pos, refl, subst, sym, through, true, value_of, with_taking, ℕ, ℤ}
 use Rattle.switch_ports.specs.Leaving.{HasRow, IsFirstOf, IsFit, IsFresh, awaited_of, is_dispatch_in, reopened, value_in, with_held}
-use Rattle.std.{proofs.{Common.Global, lemmas.{Bool.and_from, List.Elements.{Contains-get_or, filter-append}}}, specs.List.{All, last_or}}
-use Rattle.std.specs.{Prelude.{filter, ⊤}, declared.vec.Vec.Vec}
-use Rattle.run_law.specs.machines.Tasks.{offset_of}
-use Rattle.schedule_tables.proofs.EntryLemmas.{in_range}
 use Rattle.tte_lemmas.proofs.{Bools.{both_left, both_right, turned}, Integers.{int_lt-from, int_lt-is}, Lists.{got_within, last_kept, last_pushed}}
 
 -- ---- the clock goes on

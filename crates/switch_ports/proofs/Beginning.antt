@@ -1,12 +1,11 @@
 -- How a switch stands at the beginning.
+use Rattle.run_law.specs.{machines.Nodes.begun_node, scenario.Devices.start_of}
+use Rattle.switch_ports.proofs.{Awaiting.{awaits_fresh, departs_fresh}, Fair.HasRoom, Hearings.{fresh_stands, nothing_done, silent, times_three, times_two}}
+use Rattle.switch_ports.proofs.{CorrectedStands.{and_then_same, silent_now}, Words.{option_and_then, plan_of, pos, reading_of, refl, silence, sym, ℕ, ℤ}}
+use Rattle.{switch_ports.proofs.Rooms.{expected_is, room}, sync_state.specs.Standing.{adjustment_at_start, begun, state_at_start}}
 use Rattle.switch_ports.proofs.Words.{◌*◌, ◌+ℤ◌, ◌+◌, ◌^◌, ◌∙◌, ◌≡◌, ◌≤ℤ◌, ◌≤◌, DeviceId, HasTaken, IfSome, IsAccepted, IsBegun, IsFair, IsSiteOf, IsSmall}
 use Rattle.switch_ports.proofs.Words.{IsWithin, Joining, Network, None, Option, Some, Standing, StandsAs, Switch, SyncPlan, Units, [], amount, ap, arith}
 use Rattle.switch_ports.proofs.Words.{correction_at, correction_value, expected_by, fresh, ints, its_amount, last_cycle, never_less, next_point}
-use Rattle.switch_ports.proofs.Words.{option_and_then, plan_of, pos, reading_of, refl, silence, sym, ℕ, ℤ}
-use Rattle.run_law.specs.{machines.Nodes.begun_node, scenario.Devices.start_of}
-use Rattle.sync_state.specs.Standing.{adjustment_at_start, begun, state_at_start}
-use Rattle.switch_ports.proofs.{Awaiting.{awaits_fresh, departs_fresh}, CorrectedStands.{and_then_same, silent_now}, Fair.HasRoom}
-use Rattle.switch_ports.proofs.{Hearings.{fresh_stands, nothing_done, silent, times_three, times_two}, Rooms.{expected_is, room}}
 
 small_within : (u : Units) → IsWithin 0 (2 ^ 40) u → IsSmall u.0
 small_within u h = let a = h.least in let b = h.most in (omega (arith, ints, a, b), omega (arith, ints, a, b))

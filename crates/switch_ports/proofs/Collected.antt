@@ -1,13 +1,12 @@
 -- How a compression master stands when it has collected a frame.
+use Rattle.{compression.specs.Clusters.{Point, point_at}, std.proofs.{Common.All, lemmas.List.Elements.All-append}, switch_ports.proofs.Awaiting.awaits_called}
+use Rattle.{compression.specs.declared.taken.Taken.Taken, run_law.specs.control.Collections.ripe_by_role, switch_ports.proofs.MasterBits.{IsBit, master_is}}
+use Rattle.{run_law.specs.control.Permanence.IsCollectionOutcome, switch_ports.proofs.Words.{pos, refl, subst, suc, sym, through, true, zero, ℕ, ℤ}}
+use Rattle.{run_law.specs.declared.steps.Ripe.Ripe, switch_ports.{proofs.Pending.window_is, specs.{Members.member_numbers, Steps.CollectsSo}}}
 use Rattle.switch_ports.proofs.Words.{◌++◌, ◌<◌, ◌∙◌, ◌∷◌, ◌≡◌, ◌≤ℤ◌, ◌⊎◌, All-contains, All-contains_itself, AreClusters, Channel, Collecting, Contains}
 use Rattle.switch_ports.proofs.Words.{Contains-append_left, Contains-append_right, DeviceId, HasCollected, List, Moment, Network, Node, Option, Pcf, Phase}
 use Rattle.switch_ports.proofs.Words.{StandsAs, Switch, Units, [], after_permanence, ap, arith, called, further, get_or, in_head, inl, inr, is_cm, master_of}
-use Rattle.switch_ports.proofs.Words.{pos, refl, subst, suc, sym, through, true, zero, ℕ, ℤ}
-use Rattle.std.proofs.{Common.All, lemmas.List.Elements.All-append}
-use Rattle.compression.specs.{Clusters.{Point, point_at}, declared.taken.Taken.Taken}
-use Rattle.run_law.specs.{control.{Collections.ripe_by_role, Permanence.IsCollectionOutcome}, declared.steps.Ripe.Ripe}
 use Rattle.tte_lemmas.proofs.Bools.{not_both}
-use Rattle.switch_ports.{proofs.{Awaiting.awaits_called, MasterBits.{IsBit, master_is}, Pending.window_is}, specs.{Members.member_numbers, Steps.CollectsSo}}
 use Rattle.compression.specs.declared.taken.Taken.TheVariants as takens
 
 one_at : (P : Point → Type 0) (x : Point) → P x → (k : ℕ) (d : Point) → k < 1 → P (get_or (x ∷ []) k d)

@@ -1,22 +1,17 @@
 -- How a switch stands once its correction point has come.
-use Rattle.switch_ports.proofs.Words.{if◌then◌else◌, ◌*◌, ◌++◌, ◌+ℤ◌, ◌+◌, ◌-ℤ◌, ◌<ℤ◌, ◌<◌, ◌∙◌, ◌∷◌, ◌≡◌, ◌≤ℤ◌, ◌≤◌, A, Awaits, B, Bool, Channel, Collecting}
-use Rattle.switch_ports.proofs.Words.{Contains, Departures, DeviceId, HasCollected, HasDepartures, HasTaken, HeardFrame, IfSome, Intake, Integrating, IsFair}
-use Rattle.switch_ports.proofs.Words.{IsSiteOf, IsSmall, Joining, Moment, Network, Node, None, Option, Some, Standing, StandsAs, Summary, Switch, SyncPlan}
-use Rattle.switch_ports.proofs.Words.{Synchronised, Units, [], acting, after, amount, ap, arith, best_on, called, correcting, correction_at, correction_value}
-use Rattle.switch_ports.proofs.Words.{expected_at, expected_by, false, fresh, further, in_none, inl, inr, ints, is_cm, is_timed, its_amount, last_cycle, nat_le}
-use Rattle.switch_ports.proofs.Words.{never_less, next_point, option_and_then, pos, reading_of, refl, silence, subst, sym, through, true, ℕ, ℤ}
-use Rattle.std.proofs.lemmas.List.Elements.{Contains-append_cases}
-use Rattle.clock_correction.specs.Correction.{correction_of}
-use Rattle.compression.proofs.Elements.{in_cases}
-use Rattle.membership.{proofs.SummaryLemmas.silence_summarizes, specs.{BestFrame.Qualifies, Members.count_of, Summary.Summarizes}}
-use Rattle.run_law.specs.{device.States.is_synchronised, machines.Answers.after_correction}
-use Rattle.sync_state.specs.{Calls.reached_point, Verdicts.{HasVerdict, SomeQualifies, deviation_by, deviation_on}, declared.answers.Verdict.Verdict}
-use Rattle.sync_state.specs.declared.answers.Verdict.TheVariants.{AsyncClique, Cleared, Corrected, SyncClique}
-use Rattle.tte_lemmas.proofs.Naturals.{less_than_next}
-use Rattle.tte_units.specs.Mean.{mean_of}
-use Rattle.switch_ports.proofs.Awaiting.{awaits_cleared, awaits_reopened, departs_reopened, departs_stopped}
+use Rattle.{clock_correction.specs.Correction.correction_of, membership.proofs.SummaryLemmas.silence_summarizes, run_law.specs.device.States.is_synchronised}
+use Rattle.{compression.proofs.Elements.in_cases, switch_ports.{proofs.Verdicts.next_small, specs.Departing.Reopens}, tte_lemmas.proofs.Naturals.less_than_next}
+use Rattle.{membership.specs.{BestFrame.Qualifies, Members.count_of, Summary.Summarizes}, switch_ports.specs.Steps.Corrects, tte_units.specs.Mean.mean_of}
+use Rattle.{run_law.specs.machines.Answers.after_correction, switch_ports.proofs.Awaiting.{awaits_cleared, awaits_reopened, departs_reopened, departs_stopped}}
+use Rattle.{std.proofs.lemmas.List.Elements.Contains-append_cases, sync_state.specs.Verdicts.{HasVerdict, SomeQualifies, deviation_by, deviation_on}}
 use Rattle.switch_ports.proofs.{Hearings.{fresh_collects, nothing_done, silent, site_due, times_three, times_two}, Rooms.{expected_is, small_expected}}
-use Rattle.switch_ports.{proofs.Verdicts.next_small, specs.{Departing.Reopens, Steps.Corrects}}
+use Rattle.switch_ports.proofs.Words.{◌*◌, ◌++◌, ◌+ℤ◌, ◌+◌, ◌-ℤ◌, ◌<ℤ◌, ◌<◌, ◌∙◌, ◌∷◌, ◌≡◌, ◌≤ℤ◌, ◌≤◌, A, Awaits, B, Bool, Channel, Collecting, Contains}
+use Rattle.switch_ports.proofs.Words.{Departures, DeviceId, HasCollected, HasDepartures, HasTaken, HeardFrame, IfSome, Intake, Integrating, IsFair, IsSiteOf}
+use Rattle.switch_ports.proofs.Words.{IsSmall, Joining, Moment, Network, Node, None, Option, Some, Standing, StandsAs, Summary, Switch, SyncPlan, Synchronised}
+use Rattle.switch_ports.proofs.Words.{Units, [], acting, after, amount, ap, arith, best_on, called, correcting, correction_at, correction_value, expected_at}
+use Rattle.switch_ports.proofs.Words.{expected_by, false, fresh, further, if◌then◌else◌, in_none, inl, inr, ints, is_cm, is_timed, its_amount, last_cycle}
+use Rattle.switch_ports.proofs.Words.{nat_le, never_less, next_point, option_and_then, pos, reading_of, refl, silence, subst, sym, through, true, ℕ, ℤ}
+use Rattle.sync_state.specs.{Calls.reached_point, declared.answers.Verdict.{TheVariants.{AsyncClique, Cleared, Corrected, SyncClique}, Verdict}}
 use Rattle.schedule_tables.specs.declared.rule.Rule.TheVariants as rules
 
 -- ---- the correction is not less than a precision below

@@ -1,16 +1,13 @@
 -- The rows' frames that a switch has still to dispatch.
+use Rattle.{net_plan.specs.declared.tables.VirtualLink.VirtualLink, std.proofs.lemmas.Bool.both_ways, switch_ports.proofs.Awaiting.{held_of, held_so, value_is}}
+use Rattle.{run_law.specs.machines.Tasks.HasFrame, schedule_tables.{proofs.EntryLemmas.one_entry, specs.Windows.OccursIn}, tte_lemmas.proofs.Options.mapped}
+use Rattle.std.proofs.Common.{◌%◌}
 use Rattle.switch_ports.proofs.Words.{◌&&◌, ◌+ℤ◌, ◌-ℤ◌, ◌<ℤ◌, ◌==◌, ◌∙◌, ◌≡◌, ◌≤ℤ◌, ◌⊎◌, All-contains, Awaits, AwaitsIn, AwaitsSo, Contains, Departure}
-use Rattle.switch_ports.proofs.Words.{Departures, Device, DeviceId, Dispatch, Entry, Held, IfSome, IsAccepted, IsDeparture, IsEntry, IsLeaving}
-use Rattle.switch_ports.proofs.Words.{IsPending, IsSomeAnd, LeavingRow, Network, Node, None, Option, Precedes, RowId, Some, StandsAs, State}
-use Rattle.switch_ports.proofs.Words.{Switch, Synchronised, TakenFrame, Task, VlId, amount, ap, arith, correcting, dispatch_at, dispatching, doing, emitting}
-use Rattle.switch_ports.proofs.Words.{false, held_by, held_in, inl, inr, ints, is_end, is_end_system, nat_le, option_and_then, option_map, option_map_or}
-use Rattle.switch_ports.proofs.Words.{reading_for, refl, sending, subst, sym, true, value_of, ℕ, ℤ}
-use Rattle.std.proofs.{Common.◌%◌, lemmas.Bool.both_ways}
-use Rattle.net_plan.specs.declared.tables.VirtualLink.{VirtualLink}
-use Rattle.run_law.specs.machines.Tasks.{HasFrame}
-use Rattle.schedule_tables.{proofs.EntryLemmas.one_entry, specs.Windows.OccursIn}
-use Rattle.tte_lemmas.proofs.Options.{mapped}
-use Rattle.switch_ports.{proofs.Awaiting.{held_of, held_so, value_is}, specs.{Departing.last_of, Leaving.{IsFirstOf, dispatch_by, is_dispatch_in, value_in}}}
+use Rattle.switch_ports.proofs.Words.{Departures, Device, DeviceId, Dispatch, Entry, Held, IfSome, IsAccepted, IsDeparture, IsEntry, IsLeaving, IsPending}
+use Rattle.switch_ports.proofs.Words.{IsSomeAnd, LeavingRow, Network, Node, None, Option, Precedes, RowId, Some, StandsAs, State, Switch, Synchronised}
+use Rattle.switch_ports.proofs.Words.{TakenFrame, Task, VlId, amount, ap, arith, correcting, dispatch_at, dispatching, doing, emitting, false, held_by, held_in}
+use Rattle.switch_ports.proofs.Words.{inl, inr, ints, is_end, is_end_system, nat_le, option_and_then, option_map, option_map_or, reading_for, refl, sending}
+use Rattle.switch_ports.{proofs.Words.{subst, sym, true, value_of, ℕ, ℤ}, specs.{Departing.last_of, Leaving.{IsFirstOf, dispatch_by, is_dispatch_in, value_in}}}
 use Rattle.schedule_tables.specs.declared.rule.Rule.TheVariants as rules
 
 -- ---- no switch is a sender

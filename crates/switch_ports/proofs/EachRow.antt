@@ -1,6 +1,5 @@
 -- Rows that leave a switch, one by one.
-use Rattle.switch_ports.proofs.Words.{◌<◌, AreEach, Departure, List, get_or, length, subst, sym}
-use Rattle.std.specs.List.{All}
+use Rattle.{std.specs.List.All, switch_ports.proofs.Words.{◌<◌, AreEach, Departure, List, get_or, length, subst, sym}}
 
 -- what is true of each of them then
 pub all_each : (P Q : Departure → Type 0) (f : Departure → Departure) (old new : List Departure) → AreEach f old new → ((d : Departure) → P d → Q (f d))

@@ -1,12 +1,11 @@
 -- How a compression master stands when it has sent a frame.
+use Rattle.{run_law.specs.{machines.Tasks.{IsFirstTask, order_of}, records.Order.IsBefore}, switch_ports.proofs.Words.{suc, sym, ℕ, ℤ}}
+use Rattle.std.{proofs.Common.{All, negsuc}, specs.{Int.int_max, List.AllByRecursion, Prelude.unsigned_abs}}
+use Rattle.switch_ports.proofs.{Pending.{IsClocked, IsEmission, emission_pending, kind_of, some_window}, Waiting.{first_opened, opened_beyond}}
 use Rattle.switch_ports.proofs.Words.{◌++◌, ◌+ℤ◌, ◌<ℤ◌, ◌<◌, ◌∙◌, ◌∷◌, ◌≡◌, ◌≤ℤ◌, All-contains, All-contains_itself, Cluster, Collecting, Compressed, Contains}
 use Rattle.switch_ports.proofs.Words.{Contains-append_left, Contains-append_right, DeviceId, IfSome, IsLeast, IsPending, IsSomeAnd, List, MayCall, Moment}
 use Rattle.switch_ports.proofs.Words.{Network, Node, None, Option, Phase, Some, StandsAs, StandsForPoints, Switch, Task, Units, [], ap, arith, compressed}
 use Rattle.switch_ports.proofs.Words.{correcting, dispatching, doing, emitting, get_or, in_head, inl, inr, ints, neg_ℤ, pos, reading_for, refl, sending, subst}
-use Rattle.switch_ports.proofs.Words.{suc, sym, ℕ, ℤ}
-use Rattle.std.{proofs.Common.{All, negsuc}, specs.{Int.int_max, List.AllByRecursion, Prelude.unsigned_abs}}
-use Rattle.run_law.specs.{machines.Tasks.{IsFirstTask, order_of}, records.Order.IsBefore}
-use Rattle.switch_ports.proofs.{Pending.{IsClocked, IsEmission, emission_pending, kind_of, some_window}, Waiting.{first_opened, opened_beyond}}
 
 -- the device that has sent one frame more
 abbrev pub with_sent : Node → Compressed → Node

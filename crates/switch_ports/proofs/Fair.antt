@@ -1,11 +1,9 @@
 -- What frames that are heard within their time show at the next correction point.
+use Rattle.{membership.specs.BestFrame.IsBetterOf, run_law.proofs.control.Verdicts.{enough_not, in_time_by}, switch_ports.specs.Steps.IsHeardSo}
+use Rattle.{std.specs.Prelude.int_le, switch_ports.proofs.Words.{ℕ, ℤ}}
 use Rattle.switch_ports.proofs.Words.{◌&&◌, ◌*◌, ◌+ℤ◌, ◌+◌, ◌-ℤ◌, ◌<ℤ◌, ◌≡◌, ◌≤ℤ◌, ◌≤◌, ◌⊎◌, A, B, Bool, Channel, HeardFrame, IfSome, Integrating, Joining}
 use Rattle.switch_ports.proofs.Words.{Members, None, Off, Option, Pcf, Some, State, Summary, SyncPlan, Synchronised, Units, arith, best_on, expected_at, false}
 use Rattle.switch_ports.proofs.Words.{heard_as, inl, inr, ints, is_timed, last_cycle, mul-le-mul_right, nat_le, pos, refl, ripe_as, subst, suc, sym, true, zero}
-use Rattle.switch_ports.{proofs.Words.{ℕ, ℤ}, specs.Steps.IsHeardSo}
-use Rattle.std.specs.Prelude.{int_le}
-use Rattle.membership.specs.BestFrame.{IsBetterOf}
-use Rattle.run_law.proofs.control.Verdicts.{enough_not, in_time_by}
 use Rattle.run_law.specs.declared.steps.Ripe.TheVariants as ripe
 
 -- ---- what stays the best

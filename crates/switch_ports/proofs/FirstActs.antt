@@ -1,15 +1,13 @@
 -- What a switch does first.
+use Rattle.{run_law.specs.{machines.{Calls.HasDue, Tasks.{IsFirstTask, order_of}}, records.Order.IsBefore}, schedule_tables.specs.Dispatches.dispatch_order}
+use Rattle.{std.specs.Prelude.{◌↔◌, IsNone}, tte_lemmas.proofs.Options.same_next}
+use Rattle.switch_ports.proofs.{Awaiting.value_is, Dispatching.{IsDispatch, dispatch_bound, dispatch_is, leaves_so, next_is, next_of, no_dispatch, not_sooner}}
+use Rattle.switch_ports.proofs.Pending.{IsCorrection, IsEmission, correction_bound, correction_pending, emission_at, kind_of, no_correction, pending_correction}
 use Rattle.switch_ports.proofs.Words.{◌*◌, ◌+ℤ◌, ◌+◌, ◌-ℤ◌, ◌<ℤ◌, ◌<◌, ◌∙◌, ◌∷◌, ◌≡◌, ◌≤ℤ◌, ◌≤◌, ◌⊎◌, All-contains, Cluster, Compressed, Contains, DeviceId}
 use Rattle.switch_ports.proofs.Words.{Dispatch, IfSome, IsAccepted, IsLeast, IsLeaving, IsPending, LeavingRow, List, MayCall, Moment, Network, Node, None}
 use Rattle.switch_ports.proofs.Words.{Option, Precedes, Row, RowId, Some, StandsAs, Switch, Task, Units, [], acting, amount, ap, arith, cases_Bool, correcting}
 use Rattle.switch_ports.proofs.Words.{dispatch_at, dispatching, doing, emission, emissions, emitting, held_in, in_none, inl, inr, ints, its_amount}
 use Rattle.switch_ports.proofs.Words.{mul-le-mul_right, nat_le, next_point, option_map_or, pos, reading_for, refl, sending, subst, sym, through, ℕ, ℤ}
-use Rattle.std.specs.Prelude.{◌↔◌, IsNone}
-use Rattle.run_law.specs.{machines.{Calls.HasDue, Tasks.{IsFirstTask, order_of}}, records.Order.IsBefore}
-use Rattle.schedule_tables.specs.Dispatches.{dispatch_order}
-use Rattle.tte_lemmas.proofs.Options.{same_next}
-use Rattle.switch_ports.proofs.{Awaiting.value_is, Dispatching.{IsDispatch, dispatch_bound, dispatch_is, leaves_so, next_is, next_of, no_dispatch, not_sooner}}
-use Rattle.switch_ports.proofs.Pending.{IsCorrection, IsEmission, correction_bound, correction_pending, emission_at, kind_of, no_correction, pending_correction}
 use Rattle.schedule_tables.specs.declared.rule.Rule.TheVariants as rules
 
 -- no collection is due

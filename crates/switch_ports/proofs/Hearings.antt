@@ -1,18 +1,15 @@
 -- How a switch stands when it has heard a frame.
+use Rattle.{compression.specs.Clusters.Point, membership.specs.Summary.Summarizes, sync_state.specs.Calls.heard_frame}
+use Rattle.{membership.proofs.SummaryLemmas.silence_summarizes, switch_ports.proofs.{Ranges.expected_most, Rooms.{expected_is, room}}}
+use Rattle.{run_law.specs.machines.Answers.{with_heard, with_joined}, switch_ports.proofs.Words.{ripe_as, silence, subst, sym, through, true, ℕ, ℤ}}
+use Rattle.switch_ports.proofs.{Awaiting.{awaits_called, departs_stopped}, Fair.{HasRoom, IsHeardBefore, ahead, behind, kept, not_earlier, within_in}}
 use Rattle.switch_ports.proofs.Words.{◌*ℤ◌, ◌*◌, ◌+ℤ◌, ◌+◌, ◌-ℤ◌, ◌<ℤ◌, ◌<◌, ◌^◌, ◌∙◌, ◌≡◌, ◌≤ℤ◌, ◌≤◌, A, B, Bool, Channel, ClockTask, Collecting, Compressed}
 use Rattle.switch_ports.proofs.Words.{Contains, Departures, DeviceId, HasCollected, HasTaken, HeardFrame, IfSome, Intake, Integrating, IsFair, IsSiteOf}
 use Rattle.switch_ports.proofs.Words.{IsSmall, Joining, List, MayCall, Moment, Network, Node, Off, Option, Pcf, Phase, Some, Standing, StandsAs}
 use Rattle.switch_ports.proofs.Words.{StandsForPoints, State, Summary, Switch, SyncPlan, Synchronised, Units, [], after, amount, amount_most, ap, arith}
 use Rattle.switch_ports.proofs.Words.{best_on, called, correcting, correction_at, correction_value, doing, expected_at, expected_by, fresh, further, heard_as}
 use Rattle.switch_ports.proofs.Words.{ints, is_timed, its_amount, last_cycle, mul-le-mul_right, neg_ℤ, never_less, plan_of, point_in, pos, reading_of, refl}
-use Rattle.switch_ports.proofs.Words.{ripe_as, silence, subst, sym, through, true, ℕ, ℤ}
-use Rattle.compression.specs.Clusters.{Point}
-use Rattle.membership.{proofs.SummaryLemmas.silence_summarizes, specs.Summary.Summarizes}
-use Rattle.run_law.specs.machines.Answers.{with_heard, with_joined}
-use Rattle.sync_state.specs.{Calls.heard_frame, Integration.joined_by}
-use Rattle.tte_lemmas.proofs.Naturals.{none_less}
-use Rattle.switch_ports.proofs.{Awaiting.{awaits_called, departs_stopped}, Fair.{HasRoom, IsHeardBefore, ahead, behind, kept, not_earlier, within_in}}
-use Rattle.switch_ports.{proofs.{Ranges.expected_most, Rooms.{expected_is, room}}, specs.{Standpoints.IsPoint, Steps.{Hears, Joins}}}
+use Rattle.{switch_ports.specs.{Standpoints.IsPoint, Steps.{Hears, Joins}}, sync_state.specs.Integration.joined_by, tte_lemmas.proofs.Naturals.none_less}
 use Rattle.run_law.specs.declared.steps.Ripe.TheVariants as ripe
 
 -- a frame comes to its point

@@ -1,16 +1,14 @@
 -- The frames of one master at a compression master.
-use Rattle.switch_ports.proofs.Words.{if◌then◌else◌, ◌++◌, ◌+ℤ◌, ◌-ℤ◌, ◌<ℤ◌, ◌<◌, ◌==◌, ◌^◌, ◌∙◌, ◌∷◌, ◌≡◌, ◌≤ℤ◌, ◌≤◌, ◌⊎◌, All-contains_itself, Bool, Cluster}
-use Rattle.switch_ports.proofs.Words.{Contains, Contains-append_right, Device, DeviceId, IfSome, IsAccepted, IsSomeAnd, List, MayCall, Members, Moment, Network}
-use Rattle.switch_ports.proofs.Words.{Node, None, Option, Phase, Some, StandsAs, Switch, Units, [], ap, arith, cases_Bool, compressed, emission, emissions}
-use Rattle.switch_ports.proofs.Words.{emitting, false, get_or, in_all, in_head, inl, inr, ints, is_master, length, length-map, master_of, masters}
-use Rattle.switch_ports.proofs.Words.{option_and_then, refl, slice_get, subst, suc, sym, true, unwrap_or, zero, ℕ, ℤ}
-use Rattle.std.proofs.{Common.{All, IsTrue}, Math.Pow.pow-lt, lemmas.{Nat.Bits.bit_at-trailing_zeros, Option.{same_Some, slice_get_cases}}}
-use Rattle.std.specs.{Int.{trailing_zeros, w32}, Prelude.is_some}
-use Rattle.compression.{proofs.{Elements.in_filter_from, Rooms.room_for_each_master, Rows.last_split, Sound.open_at-some}, specs.Role.{has_point_of, open_at}}
-use Rattle.membership.proofs.SetLemmas.{single-members}
-use Rattle.net_plan.specs.{Places.device_at, Ranges.IsDeviceInRange, Rules.most_masters}
-use Rattle.run_law.specs.machines.Calls.{IsOneMaster}
-use Rattle.switch_ports.{proofs.{Pending.emission_pending, Waiting.{in_map, to_map}}, specs.Members.member_numbers}
+use Rattle.{compression.{proofs.{Elements.in_filter_from, Sound.open_at-some}, specs.Role.{has_point_of, open_at}}, membership.proofs.SetLemmas.single-members}
+use Rattle.{compression.proofs.Rooms.room_for_each_master, std.proofs.lemmas.{Nat.Bits.bit_at-trailing_zeros, Option.{same_Some, slice_get_cases}}}
+use Rattle.{compression.proofs.Rows.last_split, net_plan.specs.{Ranges.IsDeviceInRange, Rules.most_masters}, std.specs.Int.{trailing_zeros, w32}}
+use Rattle.{net_plan.specs.Places.device_at, std.{proofs.{Common.{All, IsTrue}, Math.Pow.pow-lt}, specs.Prelude.is_some}}
+use Rattle.{run_law.specs.machines.Calls.IsOneMaster, switch_ports.{proofs.Waiting.{in_map, to_map}, specs.Members.member_numbers}}
+use Rattle.switch_ports.proofs.{Pending.emission_pending, Words.{option_and_then, refl, slice_get, subst, suc, sym, true, unwrap_or, zero, ℕ, ℤ}}
+use Rattle.switch_ports.proofs.Words.{◌++◌, ◌+ℤ◌, ◌-ℤ◌, ◌<ℤ◌, ◌<◌, ◌==◌, ◌^◌, ◌∙◌, ◌∷◌, ◌≡◌, ◌≤ℤ◌, ◌≤◌, ◌⊎◌, All-contains_itself, Bool, Cluster, Contains}
+use Rattle.switch_ports.proofs.Words.{Contains-append_right, Device, DeviceId, IfSome, IsAccepted, IsSomeAnd, List, MayCall, Members, Moment, Network, Node}
+use Rattle.switch_ports.proofs.Words.{None, Option, Phase, Some, StandsAs, Switch, Units, [], ap, arith, cases_Bool, compressed, emission, emissions, emitting}
+use Rattle.switch_ports.proofs.Words.{false, get_or, if◌then◌else◌, in_all, in_head, inl, inr, ints, is_master, length, length-map, master_of, masters}
 use Rattle.schedule_tables.specs.declared.rule.Rule.TheVariants as rules
 
 -- a device with this member number, if it is there

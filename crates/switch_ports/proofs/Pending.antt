@@ -1,14 +1,13 @@
 -- What a switch has still to do.
+use Rattle.{compression.proofs.ClusterFacts.no_cluster, run_law.specs.machines.Tasks.IsDueReading, std.specs.Prelude.{◌↔◌, IsNone, int_le}}
+use Rattle.{std.proofs.lemmas.Bool.both_ways, switch_ports.proofs.Dispatching.{IsDispatch, dispatch_bound, dispatch_is, next_is, no_dispatch, pending_dispatch}}
 use Rattle.switch_ports.proofs.{CorrectedStands.number_of, Waiting.{in_map, to_map, unsent, waits}, Words.{sending, subst, sym, true, ℕ, ℤ}}
-use Rattle.switch_ports.{proofs.Dispatching.{IsDispatch, dispatch_bound, dispatch_is, next_is, no_dispatch, pending_dispatch}, specs.Due.least_of}
 use Rattle.switch_ports.proofs.Words.{◌++◌, ◌-ℤ◌, ◌<ℤ◌, ◌<◌, ◌∙◌, ◌≡◌, ◌≤ℤ◌, ◌⊎◌, All-contains, AreClusters, Cluster, Compressed, Contains}
 use Rattle.switch_ports.proofs.Words.{Contains-append_right, DeviceId, Dispatch, IfSome, Integrating, IsLeast, IsPending, Joining, List, Network, Node, None}
 use Rattle.switch_ports.proofs.Words.{Off, Option, Some, StandsAs, State, Switch, Synchronised, Task, Units, [], amount, ap, arith, cases_Bool, compressed}
 use Rattle.switch_ports.proofs.Words.{correcting, correction_value, dispatching, doing, emission, emissions, emitting, in_none, inl, inr, int_lt, ints, is_cm}
 use Rattle.switch_ports.proofs.Words.{its_amount, next_point, observation_window, option_and_then, option_map, point_in, pos, reading_for, reading_of, refl}
-use Rattle.std.{proofs.lemmas.Bool.both_ways, specs.Prelude.{◌↔◌, IsNone, int_le}}
-use Rattle.compression.proofs.ClusterFacts.{no_cluster}
-use Rattle.run_law.specs.machines.Tasks.{IsDueReading}
+use Rattle.switch_ports.specs.Due.{least_of}
 
 -- ---- collections
 

@@ -1,11 +1,8 @@
 -- A site's numbers.
-use Rattle.switch_ports.{proofs.Amounts.zero_least, specs.{Standpoints.IsSiteInRange, declared.site.Site.Site}}
+use Rattle.{net_plan.specs.Ranges.IsLinkInRange, schedule_tables.specs.Rules.KeepsRules, std.proofs.Common.All, tte_units.specs.Amount.units_of}
+use Rattle.{std.proofs.lemmas.List.Elements.All-map, switch_ports.{proofs.Amounts.zero_least, specs.{Standpoints.IsSiteInRange, declared.site.Site.Site}}}
 use Rattle.switch_ports.proofs.Words.{◌*◌, ◌+◌, ◌^◌, ◌≡◌, ◌≤ℤ◌, ◌≤◌, Bool, DeviceId, IsInRange, IsSiteOf, IsWithin, Link, List, Network, Port, SyncPlan, amount}
 use Rattle.switch_ports.proofs.Words.{amount_most, arith, expected_by, false, if◌then◌else◌, ints, is_cm, its_amount, map, port_of, pos, subst, sym, true, ℕ, ℤ}
-use Rattle.std.proofs.{Common.All, lemmas.List.Elements.All-map}
-use Rattle.net_plan.specs.Ranges.{IsLinkInRange}
-use Rattle.schedule_tables.specs.Rules.{KeepsRules}
-use Rattle.tte_units.specs.Amount.{units_of}
 use Rattle.schedule_tables.specs.declared.rule.Rule.TheVariants as rules
 
 small_offset : (b : Bool) (d p q : ℕ) → d ≤ 2 ^ 40 → p ≤ 2 ^ 40 → q ≤ 2 ^ 40 → (if b then d + (2 * p + q) else 2 * d + (2 * p + q)) ≤ 2 ^ 43

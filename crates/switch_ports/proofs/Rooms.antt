@@ -1,10 +1,9 @@
 -- What the numbers of an accepted network leave room for.
-use Rattle.switch_ports.proofs.{Fair.HasRoom, Words.{slice_get-get_or, subst, sym, true, ℕ, ℤ}}
+use Rattle.{compression.proofs.Elements.in_filter, switch_ports.proofs.Fair.HasRoom}
+use Rattle.{schedule_tables.{proofs.Margins.master_ends, specs.Delays.pcf_port_time}, switch_ports.proofs.Words.{slice_get-get_or, subst, sym, true, ℕ, ℤ}}
 use Rattle.switch_ports.proofs.Words.{◌*ℤ◌, ◌*◌, ◌+ℤ◌, ◌+◌, ◌∙◌, ◌∷◌, ◌≡◌, ◌≤ℤ◌, ◌≤◌, A, Bool, Contains, Device, DeviceId, IsAccepted, IsSomeAnd, Link, LinkId}
 use Rattle.switch_ports.proofs.Words.{List, Network, None, Option, Some, [], amount, ap, arith, expected_at, expected_by, false, if◌then◌else◌, in_all, in_head}
 use Rattle.switch_ports.proofs.Words.{ints, is_cm, is_end_system, is_master, its_amount, length, link_at, masters, plan_of, pos, refl, slice_get}
-use Rattle.compression.proofs.Elements.{in_filter}
-use Rattle.schedule_tables.{proofs.Margins.master_ends, specs.Delays.pcf_port_time}
 use Rattle.schedule_tables.specs.declared.rule.Rule.TheVariants as rules
 
 some_there : {X : Type 0} (o : Option X) (P : X → Type 0) → IsSomeAnd o P → (x : X) × (o ≡ Some x)

@@ -1,15 +1,13 @@
 -- The keys of what the rows have still to dispatch, from row to row.
-use Rattle.switch_ports.{proofs.{EachRow.all_each, RowOrder.chained_each}, specs.{Departing.{IsReady, IsReopeningAt, Sets, bound_of}, Leaving.AreKeys}}
-use Rattle.switch_ports.proofs.Words.{◌*◌, ◌+◌, ◌<◌, ◌==◌, ◌^◌, ◌∙◌, ◌≡◌, ◌≤◌, ◌⊎◌, AreChained, Bool, Changes, Contains, Departure, Departures}
-use Rattle.switch_ports.proofs.Words.{Held, IfSome, IsTakingAt, LeavingRow, List, None, Option, Precedes, Some, amount_most, ap, arith, cases_Bool}
-use Rattle.switch_ports.proofs.Words.{dispatch_at, eqb-true, false, get_or, held_by, if◌then◌else◌, in_all, inl, inr, int_lt, ints, its_amount, length, map}
-use Rattle.switch_ports.proofs.Words.{option_and_then, option_map, option_map_or, refl, slice_get, slice_get-get_or, slice_set, subst, sym, true, with_taking, ℕ, ℤ}
-use Rattle.switch_ports.specs.Leaving.{IsFirstOf, IsFit, IsHeldFit, IsLast, awaited_of, closed, dispatch_by, key_at, key_by, reopened}
-use Rattle.switch_ports.specs.{Leaving.with_held, declared.departures.Taking.Taking}
-use Rattle.device_rules.specs.least_key.Trees.{no_key}
-use Rattle.std.proofs.{Common.{◌%◌, ◌≢◌, Global, Vec, replicate}, lemmas.{Bool.{cases_eq, eq-eqb}, List.Elements.Contains-get_or}}
-use Rattle.std.proofs.lemmas.List.{ext_get_or, get_or-map, get_or-replicate, get_or-set_other, get_or-set_same, get_or_default, length-map}
-use Rattle.std.{proofs.lemmas.List.{length-replicate, length-set, map-set}, specs.{List.All, Prelude.{nat_eq, nat_lt}}}
+use Rattle.{device_rules.specs.least_key.Trees.no_key, std.specs.{List.All, Prelude.{nat_eq, nat_lt}}, switch_ports.proofs.EachRow.all_each}
+use Rattle.std.proofs.{Common.{◌%◌, ◌≢◌, Global, Vec, replicate}, lemmas.{Bool.{cases_eq, eq-eqb}, List.{Elements.Contains-get_or, length-set, map-set}}}
+use Rattle.std.proofs.lemmas.List.{ext_get_or, get_or-map, get_or-replicate, get_or-set_other, get_or-set_same, get_or_default, length-map, length-replicate}
+use Rattle.switch_ports.{proofs.RowOrder.chained_each, specs.{Departing.{IsReady, IsReopeningAt, Sets, bound_of}, declared.departures.Taking.Taking}}
+use Rattle.switch_ports.proofs.Words.{◌*◌, ◌+◌, ◌<◌, ◌==◌, ◌^◌, ◌∙◌, ◌≡◌, ◌≤◌, ◌⊎◌, AreChained, Bool, Changes, Contains, Departure, Departures, Held, IfSome}
+use Rattle.switch_ports.proofs.Words.{IsTakingAt, LeavingRow, List, None, Option, Precedes, Some, amount_most, ap, arith, cases_Bool, dispatch_at, eqb-true}
+use Rattle.switch_ports.proofs.Words.{false, get_or, held_by, if◌then◌else◌, in_all, inl, inr, int_lt, ints, its_amount, length, map, option_and_then}
+use Rattle.switch_ports.proofs.Words.{option_map, option_map_or, refl, slice_get, slice_get-get_or, slice_set, subst, sym, true, with_taking, ℕ, ℤ}
+use Rattle.switch_ports.specs.Leaving.{AreKeys, IsFirstOf, IsFit, IsHeldFit, IsLast, awaited_of, closed, dispatch_by, key_at, key_by, reopened, with_held}
 
 -- ---- rows in their ranges
 
@@ -171,7 +169,7 @@ fresh_keys rows none =
     (λ k lt.
     let inside : k < length rows = omega (arith, lt, length-replicate (length rows) no_key) in
     get_or-replicate (length rows) k no_key 0 inside ∙ sym (no_key_of (get_or rows k no_departure).of (get_or rows k no_departure).awaited
-        (none k no_departure inside)) ∙ sym (get_or-map key_by rows k no_departure 0 inside))
+    (none k no_departure inside)) ∙ sym (get_or-map key_by rows k no_departure 0 inside))
 
 -- ---- one departure is another
 

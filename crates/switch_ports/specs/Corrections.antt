@@ -1,10 +1,8 @@
 -- When a switch corrects its clock.
 use Rattle.std.specs.Prelude.{if◌then◌else◌, ◌*◌, ◌+◌, ◌-ℤ◌, None, Option, Some, int_lt, option_and_then, pos, ℕ, ℤ}
-use Rattle.net_plan.specs.declared.network.Network.{Network}
-use Rattle.run_law.specs.{control.Corrections.correction_value, machines.Nodes.Node}
-use Rattle.sync_state.specs.Standing.{next_point}
-use Rattle.tte_units.specs.{Amount.amount, declared.units.Units.Units}
-use Rattle.switch_ports.specs.declared.site.Site.{Site}
+use Rattle.{net_plan.specs.declared.network.Network.Network, run_law.specs.control.Corrections.correction_value}
+use Rattle.{run_law.specs.machines.Nodes.Node, sync_state.specs.Standing.next_point}
+use Rattle.{switch_ports.specs.declared.site.Site.Site, tte_units.specs.{Amount.amount, declared.units.Units.Units}}
 
 -- the reading at which a clock of this adjustment shows the value, where it was below when the adjustment changed
 abbrev pub reading_of : ℤ → ℤ → ℤ → Option Units

@@ -4,15 +4,14 @@ use Rattle.std.specs.Prelude.{◌*◌, ◌+ℤ◌, ◌+◌, ◌<ℤ◌, ◌<◌,
 use Rattle.std.specs.Prelude.{Some, filter, length, option_and_then, slice_index_or, slice_set, ℕ, ℤ}
 use Rattle.net_plan.specs.declared.{ids.{DeviceId.DeviceId, RowId.RowId, VlId.VlId}, network.Network.Network}
 use Rattle.run_law.specs.{declared.steps.Arrival.Arrival, machines.Nodes.{ClockTask, TakenFrame, dispatching}}
-use Rattle.run_law.specs.machines.Tasks.{value_of}
+use Rattle.{run_law.specs.machines.Tasks.value_of, tte_units.specs.Amount.amount}
 use Rattle.schedule_tables.specs.{Entries.{IsEntry, source_of}, declared.entry.Entry.Entry}
-use Rattle.sync_state.specs.declared.answers.Verdict.TheVariants.{AsyncClique, Cleared, Corrected, SyncClique}
-use Rattle.sync_state.specs.declared.{answers.Verdict.Verdict, state.State.{State, TheVariants.Synchronised}}
-use Rattle.tte_units.specs.Amount.{amount}
 use Rattle.switch_ports.specs.Leaving.{AreChained, AreEach, AreEachUpTo, AreKeys, AreLeaving, HasRow, IsFirstOf, IsFit}
 use Rattle.switch_ports.specs.Leaving.{IsLeaving, held_by, key_by, reopened, with_taking}
-use Rattle.switch_ports.specs.declared.departures.Departure.{Departure}
-use Rattle.switch_ports.specs.declared.{departures.{Departures.Departures, Held.Held}, standpoint.Standpoint.Standpoint}
+use Rattle.switch_ports.specs.declared.departures.{Departure.Departure, Held.Held}
+use Rattle.switch_ports.specs.declared.{departures.Departures.Departures, standpoint.Standpoint.Standpoint}
+use Rattle.sync_state.specs.declared.answers.Verdict.TheVariants.{AsyncClique, Cleared, Corrected, SyncClique}
+use Rattle.sync_state.specs.declared.{answers.Verdict.Verdict, state.State.{State, TheVariants.Synchronised}}
 use Rattle.run_law.specs.declared.steps.Arrival.TheVariants as arrivals
 
 -- ---- what holds at any time

@@ -2,12 +2,11 @@
 use Rattle.std.specs.{List.{All, Contains}, Option.option_map_or, Prelude.{map, slice_index_or, unwrap_or, ℕ, ℤ}}
 use Rattle.std.specs.Prelude.{◌%◌, ◌&&◌, ◌*◌, ◌+◌, ◌-ℤ◌, ◌<ℤ◌, ◌<◌, ◌==◌, ◌^◌, ◌≡◌, ◌≤ℤ◌, ◌≤◌, ◌⊎◌, Bool, IfSome, List}
 use Rattle.std.specs.Prelude.{None, Option, Some, if◌then◌else◌, int_lt, length, nat_le, option_map, pos, slice_get}
-use Rattle.device_rules.specs.least_key.Trees.{no_key}
+use Rattle.{device_rules.specs.least_key.Trees.no_key, tte_units.specs.{Amount.amount, declared.units.Units.Units}}
 use Rattle.net_plan.specs.{Ranges.IsWithin, declared.{ids.{DeviceId.DeviceId, RowId.RowId}, network.Network.Network}}
-use Rattle.schedule_tables.specs.{Entries.{IsEntry, source_of}, declared.entry.Entry.Entry}
-use Rattle.tte_units.specs.{Amount.amount, declared.units.Units.Units}
-use Rattle.switch_ports.specs.declared.departures.{Departure.Departure, Dispatch.Dispatch, Held.Held}
-use Rattle.switch_ports.specs.declared.departures.{LeavingRow.LeavingRow, Taking.Taking}
+use Rattle.{schedule_tables.specs.Entries.{IsEntry, source_of}, switch_ports.specs.declared.departures.Taking.Taking}
+use Rattle.{schedule_tables.specs.declared.entry.Entry.Entry, switch_ports.specs.declared.departures.Held.Held}
+use Rattle.switch_ports.specs.declared.departures.{Departure.Departure, Dispatch.Dispatch, LeavingRow.LeavingRow}
 
 -- ---- rows
 

@@ -1,13 +1,12 @@
 ghost use Rattle.std.specs.Int.{int_rem_euclid};
 ghost use Rattle.std.specs.Prelude.{◌*◌, ◌+ℤ◌, ◌+◌, ◌<◌, ◌^◌, ◌≡◌, ◌≤ℤ◌, IfOk, int_lt, length, pos};
-ghost use Rattle.net_plan.specs.{Ranges.IsInRange, declared.{ids.DeviceId.DeviceId, network.Network.Network}};
-ghost use Rattle.pcf_codec.specs.Decoding.{decoded};
+ghost use Rattle.{device_rules.specs.Arriving.IsGrownSo, pcf_codec.specs.Decoding.decoded};
+ghost use Rattle.net_plan.specs.Ranges.{IsInRange};
+ghost use Rattle.{net_plan.specs.declared.ids.DeviceId.DeviceId, run_law.specs.scenario.Devices.is_parent_of};
+ghost use Rattle.{net_plan.specs.declared.network.Network.Network, run_law.specs.control.Arrivals.point_on_arrival};
 ghost use Rattle.run_law.specs.control.Arrivals.{control_arrival, frame_fault, frame_or_fault, frame_taken};
 ghost use Rattle.run_law.specs.control.Arrivals.{is_gate_shut, is_of_other_domain, is_of_other_member};
-ghost use Rattle.run_law.specs.{control.Arrivals.point_on_arrival, device.Standpoints.clock_of};
-ghost use Rattle.run_law.specs.scenario.Devices.{is_parent_of};
-ghost use Rattle.tte_units.specs.Amount.{amount, units_of};
-ghost use Rattle.device_rules.specs.Arriving.{IsGrownSo};
+ghost use Rattle.{run_law.specs.device.Standpoints.clock_of, tte_units.specs.Amount.{amount, units_of}};
 ghost use Rattle.switch_ports.specs.{Sites.IsSiteOf, Standpoints.{IsAlive, IsSiteInRange, standpoint_of}};
 
 use crate::{Site, Standpoint};

@@ -1,9 +1,7 @@
 ghost use Rattle.std.specs.Prelude.{◌*◌, ◌+◌, ◌^◌, ◌≡◌, ◌≤◌, IfSome, option_and_then};
-ghost use Rattle.clock_correction.specs.Deviation.{IsSmall};
-ghost use Rattle.run_law.specs.control.Hearing.{last_cycle};
-ghost use Rattle.sync_state.specs.Standing.{next_point};
-ghost use Rattle.tte_units.specs.Amount.{amount, units_of};
+ghost use Rattle.{clock_correction.specs.Deviation.IsSmall, run_law.specs.control.Hearing.last_cycle};
 ghost use Rattle.switch_ports.specs.{Corrections.correction_at, Standpoints.IsSiteInRange};
+ghost use Rattle.{sync_state.specs.Standing.next_point, tte_units.specs.Amount.{amount, units_of}};
 
 use crate::Site;
 use sync_state::Sync;

@@ -2,14 +2,12 @@
 
 ghost use Rattle.std.specs.Prelude.{◌*◌, ◌+◌, ◌-ℤ◌, ◌<◌, ◌^◌, ◌≡◌, ◌≤ℤ◌, ◌≤◌, IfOk, None, OnOk};
 ghost use Rattle.std.specs.Prelude.{length, map, option_map, pos};
-ghost use Rattle.clock_correction.specs.Deviation.{IsSmall};
-ghost use Rattle.net_plan.specs.{Ranges.{IsInRange, IsWithin}, declared.network.Network.Network as NetworkValue};
-ghost use Rattle.schedule_tables.specs.Entries.{IsEntry};
-ghost use Rattle.tte_units.specs.Amount.{amount};
-ghost use Rattle.switch_ports.specs.Departing.{Changes, IsBegun, IsReady, KnowsNext};
+ghost use Rattle.{clock_correction.specs.Deviation.IsSmall, schedule_tables.specs.Entries.IsEntry};
+ghost use Rattle.net_plan.specs.{Ranges.{IsInRange, IsWithin}, declared.{network.{Network.{Network as NetworkValue}}}};
+ghost use Rattle.{switch_ports.specs.Departing.{Changes, IsBegun, IsReady, KnowsNext}, tte_units.specs.Amount.amount};
 ghost use Rattle.switch_ports.specs.Leaving.{AreLeaving, IsFirstOf, IsFit, IsTakingFit, awaited_of, closed};
-ghost use Rattle.switch_ports.specs.Leaving.{dispatch_by, fresh_row, held_by, is_dispatch_in, key_by, place_in, reopened};
-ghost use Rattle.switch_ports.specs.{Leaving.{value_in, with_held, with_taking}};
+ghost use Rattle.switch_ports.specs.Leaving.{dispatch_by, fresh_row, held_by, is_dispatch_in, key_by, place_in};
+ghost use Rattle.switch_ports.specs.Leaving.{reopened, value_in, with_held, with_taking};
 
 use device_rules::least_key::{Keys, NO_KEY, key_of, order_of};
 use net_plan::{DeviceId, LinkId, Network, RowId, VlId};

@@ -1,7 +1,6 @@
 ghost use Rattle.std.specs.Prelude.{◌<ℤ◌, ◌≡◌, ◌≤ℤ◌, IfSome, IsFalse, IsSomeAnd, IsTrue};
-ghost use Rattle.net_plan.specs.declared.{ids.DeviceId.DeviceId, network.Network.Network};
-ghost use Rattle.run_law.specs.records.Frames.{integration_frame};
-ghost use Rattle.switch_ports.specs.{Due.least_of, Sites.IsSiteOf};
+ghost use Rattle.{net_plan.specs.declared.ids.DeviceId.DeviceId, switch_ports.specs.{Due.least_of, Sites.IsSiteOf}};
+ghost use Rattle.{net_plan.specs.declared.network.Network.Network, run_law.specs.records.Frames.integration_frame};
 
 use crate::{Site, Switch};
 use net_plan::LinkId;

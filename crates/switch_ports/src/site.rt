@@ -1,9 +1,7 @@
 ghost use Rattle.std.specs.Prelude.{◌<◌, ◌≡◌, IfOk, length, map};
-ghost use Rattle.net_plan.specs.Ranges.{IsInRange, IsLinkInRange};
-ghost use Rattle.schedule_tables.specs.Schedule.{IsSwitch};
-ghost use Rattle.tte_units.specs.Amount.{units_of};
+ghost use Rattle.{net_plan.specs.Ranges.{IsInRange, IsLinkInRange}, switch_ports.specs.Sites.{port_in, port_of}};
+ghost use Rattle.{schedule_tables.specs.Schedule.IsSwitch, tte_units.specs.Amount.units_of};
 ghost use Rattle.switch_ports.specs.Sites.{IsSiteOf, expected_in, is_below, is_other_member, peer_below, peer_of};
-ghost use Rattle.switch_ports.specs.Sites.{port_in, port_of};
 
 use membership::one;
 use net_plan::{DeviceId, Link, LinkId, Network, Role};

@@ -1,7 +1,6 @@
 ghost use Rattle.std.specs.Prelude.{◌≡◌, ◌+◌, ◌^◌, ◌+ℤ◌};
-ghost use Rattle.clock_correction.specs.Deviation.{IsSmall};
+ghost use Rattle.{clock_correction.specs.Deviation.IsSmall, run_law.specs.device.States.{is_off, is_synchronised}};
 ghost use Rattle.net_plan.specs.Ranges.{IsWithin};
-ghost use Rattle.run_law.specs.device.States.{is_off, is_synchronised};
 
 use sync_state::State;
 use tte_units::Units;

@@ -1,12 +1,11 @@
 //! Frames that are no control frames.
 
 ghost use Rattle.std.specs.Prelude.{◌≡◌, ◌≤◌, List, length};
+ghost use Rattle.{device_rules.specs.Intakes.{HasTaken, IsWhole, last_by}, run_law.specs.timed.Arrivals.timed_arrival};
 ghost use Rattle.net_plan.specs.{Ranges.IsInRange, declared.{ids.DeviceId.DeviceId, network.Network.Network}};
-ghost use Rattle.run_law.specs.{machines.{Calls.IsLinkAt, Nodes.TakenFrame}, timed.Arrivals.timed_arrival};
-ghost use Rattle.device_rules.specs.Intakes.{HasTaken, IsWhole, last_by};
-ghost use Rattle.tte_units.specs.Amount.{amount};
-ghost use Rattle.switch_ports.specs.{Departing.{IsKeptSo, IsReady}, Intakes.IsTakenSo, Sites.IsSiteOf};
-ghost use Rattle.switch_ports.specs.Standpoints.{IsAlive, standpoint_of};
+ghost use Rattle.{run_law.specs.machines.{Calls.IsLinkAt, Nodes.TakenFrame}, switch_ports.specs.Intakes.IsTakenSo};
+ghost use Rattle.switch_ports.specs.{Departing.{IsKeptSo, IsReady}, Standpoints.{IsAlive, standpoint_of}};
+ghost use Rattle.{switch_ports.specs.Sites.IsSiteOf, tte_units.specs.Amount.amount};
 
 use crate::departures::Taking;
 use crate::{Standpoint, Switch};

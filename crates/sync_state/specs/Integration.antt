@@ -1,10 +1,8 @@
 use Rattle.std.specs.Prelude.{◌-ℤ◌, ◌≡◌, ◌≤◌}
-use Rattle.membership.specs.Members.{count_of}
-use Rattle.pcf_values.specs.declared.pcf.Pcf.{Pcf}
-use Rattle.tte_units.specs.declared.units.Units.{Units}
-use Rattle.sync_state.specs.{Plan.expected_at, Standing.Standing, declared.answers.Joined.Joined}
-use Rattle.sync_state.specs.declared.{plan.SyncPlan.SyncPlan, state.State.TheVariants.Integrating}
-use Rattle.sync_state.specs.declared.sync.TheConstants.{LAST_CYCLE}
+use Rattle.{membership.specs.Members.count_of, sync_state.specs.Plan.expected_at}
+use Rattle.{pcf_values.specs.declared.pcf.Pcf.Pcf, tte_units.specs.declared.units.Units.Units}
+use Rattle.sync_state.specs.{Standing.Standing, declared.{answers.Joined.Joined, plan.SyncPlan.SyncPlan}}
+use Rattle.sync_state.specs.declared.{state.State.TheVariants.Integrating, sync.TheConstants.LAST_CYCLE}
 
 -- the frame integrates the device
 pub record Integrates (s : Standing) (frame : Pcf) : Type 0 where

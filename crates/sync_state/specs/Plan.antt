@@ -1,6 +1,5 @@
 use Rattle.std.specs.Prelude.{◌*ℤ◌, ◌+ℤ◌, ◌+◌, ◌^◌, ◌≤ℤ◌, pos, ℕ, ℤ}
-use Rattle.tte_units.specs.Reading.{greatest_reading, least_reading}
-use Rattle.sync_state.specs.declared.plan.SyncPlan.{SyncPlan}
+use Rattle.{sync_state.specs.declared.plan.SyncPlan.SyncPlan, tte_units.specs.Reading.{greatest_reading, least_reading}}
 
 -- the cycle's length and the expected offset are within their ranges
 pub record IsPlan (plan : SyncPlan) : Type 0 where

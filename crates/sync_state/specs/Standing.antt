@@ -1,7 +1,6 @@
 use Rattle.std.specs.Prelude.{◌≡◌, None, Option, Some, pos, unwrap_or, ℕ}
-use Rattle.tte_units.specs.declared.units.Units.{Units}
-use Rattle.sync_state.specs.declared.{plan.SyncPlan.SyncPlan, state.State.State}
-use Rattle.sync_state.specs.declared.state.State.TheVariants.{Integrating, Joining, Off, Synchronised}
+use Rattle.{sync_state.specs.declared.plan.SyncPlan.SyncPlan, tte_units.specs.declared.units.Units.Units}
+use Rattle.sync_state.specs.declared.state.State.{State, TheVariants.{Integrating, Joining, Off, Synchronised}}
 
 -- where a device stands: its state, its adjustment, the cycle of its next correction point, and the cycle by whose
 -- frame it joined last

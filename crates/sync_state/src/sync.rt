@@ -1,12 +1,11 @@
 ghost use Rattle.std.specs.Prelude.{◌++◌, ◌+ℤ◌, ◌+◌, ◌^◌, ◌↔◌, ◌∷◌, ◌≡◌, ◌≤ℤ◌, ◌≤◌, IfNone, IfSome, IsSomeAnd, IsTrue};
 ghost use Rattle.std.specs.Prelude.{List, Option, SomeIff, [], neg_ℤ, pos, ℕ};
-ghost use Rattle.clock_correction.specs.Deviation.{IsSmall};
-ghost use Rattle.membership.specs.Summary.{Summary, best_on};
-ghost use Rattle.tte_units.specs.{Reading.{greatest_reading, least_reading}, declared.units.Units.Units};
+ghost use Rattle.{clock_correction.specs.Deviation.IsSmall, sync_state.specs.Plan.IsPlan};
+ghost use Rattle.{membership.specs.Summary.{Summary, best_on}, sync_state.specs.Verdicts.members_of_best};
 ghost use Rattle.sync_state.specs.Calls.{CarriesOn, StandsAfter, after, heard_frame, reached_point, turned_on};
 ghost use Rattle.sync_state.specs.{Integration.{Integrates, joined_by}, Standing.{IsAtIntegration, begun, next_point}};
-ghost use Rattle.sync_state.specs.{Plan.IsPlan, Verdicts.members_of_best};
 ghost use Rattle.sync_state.specs.Verdicts.{HasVerdict, IfCorrected, IsNear, IsOutnumbered, deviation_on};
+ghost use Rattle.tte_units.specs.{Reading.{greatest_reading, least_reading}, declared.units.Units.Units};
 
 use crate::{Joined, State, SyncPlan, Verdict};
 use clock_correction::{correction, deviation};

@@ -1,10 +1,9 @@
 -- When a text is the decimal of a number.
 use Rattle.std.proofs.Common.{◌-◌, ◌<◌, ◌^◌, ◌∙◌, ◌∷◌, ◌≡◌, ◌≤◌, Bool, List, None, Option, Some, [], ap, arith, cond, false, get_or, length, refl, subst, suc}
-use Rattle.std.proofs.{Common.{sym, true, zero, ℕ}, lemmas.Bool.{and_parts, Decides.nat_tests}}
-use Rattle.std.proofs.lemmas.Fmt.{decimal-digits_value, decimal_digit, decimal_is_IsNumeral, decimal_nonempty, first_decimal}
-use Rattle.std.{proofs.lemmas.Str.Parse.{IsNumeralModel, digit_at, numerals_by_value, tells_digits}, specs.Char.{digit_value, is_ascii_digit}}
-use Rattle.std.specs.{Cmp.Lexicographic.bytes_decides, Option.SomeIff, Prelude.{◌&&◌, bytes_eq, decimal, nat_le}, Str.Parse.{AllDigits, digits_value}}
-use Rattle.trace_text.specs.Numbers.{number_up_to}
+use Rattle.{std.proofs.{Common.{sym, true, zero, ℕ}, lemmas.Bool.and_parts}, trace_text.specs.Numbers.number_up_to}
+use Rattle.std.proofs.lemmas.{Bool.Decides.nat_tests, Fmt.{decimal-digits_value, decimal_digit, decimal_is_IsNumeral, decimal_nonempty, first_decimal}}
+use Rattle.std.{proofs.lemmas.Str.Parse.{IsNumeralModel, digit_at, numerals_by_value, tells_digits}, specs.Prelude.{◌&&◌, bytes_eq, decimal, nat_le}}
+use Rattle.std.specs.{Char.{digit_value, is_ascii_digit}, Cmp.Lexicographic.bytes_decides, Option.SomeIff, Str.Parse.{AllDigits, digits_value}}
 
 own : IsNumeralModel (AllDigits 10) (digits_value 10)
 own = numerals_by_value (AllDigits 10) tells_digits

@@ -1,10 +1,9 @@
 -- Two digits at a time become an octet, or one that is none spoils the text.
+use Rattle.hex.proofs.HexLemmas.{decode_of-even}
+use Rattle.hex.{proofs.Pairs.{decode_done, decode_err, decode_step, prepend}, specs.Hex.{◌>>=◌, decode_of, decode_pairs, digit_or_error, hex_digit_value}}
+use Rattle.{hex.specs.declared.error.FromHexError.FromHexError, std.proofs.lemmas.Bool.{Decides.nat_tests, cases_lt}, trace_text.specs.WordReading.digit_number}
 use Rattle.std.proofs.Common.{◌%◌, ◌*◌, ◌+◌, ◌<◌, ◌∙◌, ◌≡◌, ◌≤◌, ◌⊎◌, Err, List, None, Ok, Option, Some, ap, arith, drop, inl, inr, length, refl, slice_index}
-use Rattle.std.proofs.{Common.{slice_set, sym, take, ℕ}, lemmas.Bool.{cases_lt, Decides.nat_tests}}
-use Rattle.std.specs.Prelude.{IfSome, IsFalse, IsTrue, MatchResult, Result, false, nat_lt, true, unwrap_or}
-use Rattle.hex.proofs.{HexLemmas.decode_of-even, Pairs.{decode_done, decode_err, decode_step, prepend}}
-use Rattle.hex.specs.{Hex.{◌>>=◌, decode_of, decode_pairs, digit_or_error, hex_digit_value}, declared.error.FromHexError.FromHexError}
-use Rattle.trace_text.specs.WordReading.{digit_number}
+use Rattle.std.{proofs.Common.{slice_set, sym, take, ℕ}, specs.Prelude.{IfSome, IsFalse, IsTrue, MatchResult, Result, false, nat_lt, true, unwrap_or}}
 
 small_value : (c : ℕ) (o : Option ℕ) → hex_digit_value c ≡ o → IfSome o (λ v. v < 16)
 small_value c None e = tt

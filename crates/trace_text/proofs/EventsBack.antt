@@ -1,12 +1,11 @@
 -- An event that is printed reads back.
-use Rattle.std.{proofs.Common.{◌++◌, ◌∙◌, ◌∷◌, ◌≡◌, List, Ok, [], ap, append_assoc, refl, subst, sym, ℕ}, specs.{Fmt.signed_decimal, List.join_with_byte}}
+use Rattle.{hex.specs.Hex.encode_lower, net_plan.specs.declared.event.{Event.Event, What.What}, std.specs.{Fmt.signed_decimal, List.join_with_byte}}
+use Rattle.{net_plan.specs.{Belonging.{IsOfNetwork, device_name, link_name}, Ranges.IsInRange}, trace_text.specs.EventLine.{event_text, what_text, what_words}}
+use Rattle.{net_plan.specs.Rules.{DeviceIsNew, LinkIsNew}, trace_text.specs.{EventWords.{event_word_text, way_text}, Ranges.{IsEventInRange, IsWhatInRange}}}
+use Rattle.{net_plan.specs.declared.network.Network.Network, std.proofs.Common.{◌++◌, ◌∙◌, ◌∷◌, ◌≡◌, List, Ok, [], ap, append_assoc, refl, subst, sym, ℕ}}
 use Rattle.std.specs.Prelude.{codes}
-use Rattle.hex.specs.Hex.{encode_lower}
-use Rattle.net_plan.specs.{Belonging.{IsOfNetwork, device_name, link_name}, Ranges.IsInRange, Rules.{DeviceIsNew, LinkIsNew}, declared.event.Event.Event}
-use Rattle.net_plan.specs.declared.{event.What.What, network.Network.Network}
 use Rattle.trace_text.proofs.{Joining.{AreWords, event_word_is_word, hex_is_word, way_is_word, words_joined}, WordsBack.{time_is_word, units_back, way_back}}
 use Rattle.trace_text.proofs.WordsBack.{device_back, device_is_word, event_word_back, link_back, link_is_word, octets_back, rate_back, rate_is_word}
-use Rattle.trace_text.specs.{EventLine.{event_text, what_text, what_words}, EventWords.{event_word_text, way_text}, Ranges.{IsEventInRange, IsWhatInRange}}
 use Rattle.trace_text.specs.{EventReading.{event_read, event_reader, what_behind, what_reader}, Laws.ReadsBack, Steps.{Words, line_end, outcome, space, words}}
 use Rattle.trace_text.specs.declared.event_word.EventWord.{EventWord, TheVariants.{Break, Cut, End, Heal, Hold, On, Rate, Send, Wire}}
 use Rattle.net_plan.specs.declared.event.What.TheVariants as events

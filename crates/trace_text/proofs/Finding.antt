@@ -1,7 +1,6 @@
 -- The first octet that passes a test, as a place.
+use Rattle.{memchr.specs.Find.IsFirstByte, std.{proofs.lemmas.{Bool.Decides.nat_tests, List.Sums.position_or_len_is}, specs.List.{position, position_or_len}}}
 use Rattle.std.proofs.Common.{◌<◌, ◌∙◌, ◌≡◌, Bool, List, None, Option, Some, ap, arith, cond, false, length, nat_lt, refl, sym, true, ℕ}
-use Rattle.std.{proofs.lemmas.{Bool.Decides.nat_tests, List.Sums.position_or_len_is}, specs.List.{position, position_or_len}}
-use Rattle.memchr.specs.Find.{IsFirstByte}
 
 fails : (b : Bool) → ¬ (b ≡ true) → b ≡ false
 fails false other = refl

@@ -1,12 +1,11 @@
 -- The words of a text that words were joined to.
-use Rattle.std.proofs.Common.{◌%◌, ◌/◌, ◌<◌, ◌∙◌, ◌∷◌, ◌≡◌, Bool, List, [], ap, arith, false, refl, slice_index, suc, true, zero, ℕ}
-use Rattle.std.proofs.lemmas.{Bool.{and_parts, not-true, Decides.nat_tests}, Fmt.decimal_is_IsNumeral, List.Elements.{All-cons, All-nil, All-weaker}}
-use Rattle.std.{proofs.lemmas.List.{Splits.{slice_split_at, slice_split_none}, Sums.AllPass-from_list_all}, specs.Char.digit_value}
-use Rattle.std.specs.{List.{join_with_byte, list_all}, Prelude.{◌^◌, All, decimal, not, ⊤}, Str.Parse.AllDigits}
-use Rattle.hex.specs.Hex.{encode_lower, encode_with, lower_digits}
-use Rattle.net_plan.specs.{NameText.{IsNameText, is_name_character}, declared.tables.Way.{Way, TheVariants.{Down, Up}}}
-use Rattle.trace_text.specs.{EventWords.{event_word_text, way_text}, Steps.{Words, is_space, space, words}, declared.event_word.EventWord.EventWord}
-use Rattle.trace_text.specs.declared.event_word.EventWord.TheVariants.{Break, Cut, End, Heal, Hold, On, Rate, Send, Wire}
+use Rattle.{hex.specs.Hex.{encode_lower, encode_with, lower_digits}, net_plan.specs.declared.tables.Way.{TheVariants.{Down, Up}, Way}}
+use Rattle.{net_plan.specs.NameText.{IsNameText, is_name_character}, trace_text.specs.EventWords.{event_word_text, way_text}}
+use Rattle.std.{proofs.Common.{◌%◌, ◌/◌, ◌<◌, ◌∙◌, ◌∷◌, ◌≡◌, Bool, List, [], ap, arith, false, refl, slice_index, suc, true, zero, ℕ}, specs.Char.digit_value}
+use Rattle.std.{proofs.lemmas.{Bool.Decides.nat_tests, Fmt.decimal_is_IsNumeral}, specs.{List.{join_with_byte, list_all}, Str.Parse.AllDigits}}
+use Rattle.{std.{proofs.lemmas.Bool.{and_parts, not-true}, specs.Prelude.{◌^◌, All, decimal, not, ⊤}}, trace_text.specs.Steps.{Words, is_space, space, words}}
+use Rattle.std.proofs.lemmas.List.{Elements.{All-cons, All-nil, All-weaker}, Splits.{slice_split_at, slice_split_none}, Sums.AllPass-from_list_all}
+use Rattle.trace_text.specs.declared.event_word.EventWord.{EventWord, TheVariants.{Break, Cut, End, Heal, Hold, On, Rate, Send, Wire}}
 
 -- no space is in the text
 abbrev pub IsWord : List ℕ → Type 0

@@ -1,11 +1,10 @@
 -- The devices and links of an event that is read are the network's.
+use Rattle.net_plan.specs.{Bearers.{device_names, link_names}, Belonging.{HasDevice, HasLink, IsOfNetwork}, declared.network.Network.Network}
+use Rattle.{net_plan.specs.declared.{event.{Event.Event, What.What}, tables.{Device.Device, Link.Link}}, tte_units.specs.declared.units.Units.Units}
 use Rattle.std.proofs.Common.{◌+◌, ◌<◌, ◌∷◌, ◌≡◌, Bool, Err, List, None, Ok, Option, Some, [], arith, cond, false, length, refl, subst, true, ℕ}
-use Rattle.std.{proofs.lemmas.List.length-map, specs.{List.position_from, Option.{ok_or, option_map}, Prelude.bytes_eq}}
-use Rattle.net_plan.specs.{Bearers.{device_names, link_names}, Belonging.{HasDevice, HasLink, IsOfNetwork}, declared.event.{Event.Event, What.What}}
-use Rattle.net_plan.specs.declared.{network.Network.Network, tables.{Device.Device, Link.Link}}
-use Rattle.tte_units.specs.declared.units.Units.{Units}
+use Rattle.std.{proofs.lemmas.List.length-map, specs.{List.position_from, Prelude.bytes_eq}}
+use Rattle.{std.specs.Option.{ok_or, option_map}, trace_text.specs.Steps.{◌>>=◌, Read, Reader, Words, and_then, give, line_end, outcome, with_rest, words}}
 use Rattle.trace_text.specs.{EventReading.{event_read, event_reader, what_behind}, Names.{device_id, device_spelled, first_place, link_id, link_spelled}}
-use Rattle.trace_text.specs.Steps.{◌>>=◌, Read, Reader, Words, and_then, give, line_end, outcome, with_rest, words}
 use Rattle.trace_text.specs.{WordReading.{device, event_word, link, octets, rate, units, way}, declared.refusal.LineRefusal.TheVariants.Name}
 use Rattle.trace_text.specs.declared.event_word.EventWord.{EventWord, TheVariants.{Break, Cut, End, Heal, Hold, On, Rate, Send, Wire}}
 use Rattle.net_plan.specs.declared.event.What.TheVariants as events

@@ -1,12 +1,11 @@
 -- The times of an event that is read from a line.
+use Rattle.{net_plan.specs.declared.{event.{Event.Event, What.What}, network.Network.Network}, tte_units.specs.{Amount.units_of, declared.units.Units.Units}}
 use Rattle.std.proofs.{Common.{◌∷◌, ◌≡◌, ◌≤◌, Bool, List, None, Ok, Some, [], arith, cond, false, refl, true, ℕ}, lemmas.{Bool.{and_parts, leb-true}, Int.ints}}
-use Rattle.std.specs.{Option.{ok_or, option_map}, Prelude.{◌&&◌, bytes_eq, decimal, nat_le}, Str.Parse.digits_value}
-use Rattle.net_plan.specs.declared.{event.{Event.Event, What.What}, network.Network.Network}
-use Rattle.tte_units.specs.{Amount.units_of, declared.units.Units.Units}
+use Rattle.{std.specs.{Option.{ok_or, option_map}, Prelude.{◌&&◌, bytes_eq, decimal, nat_le}}, trace_text.specs.declared.refusal.LineRefusal.TheVariants.Number}
+use Rattle.std.specs.Str.Parse.{digits_value}
 use Rattle.trace_text.{proofs.ReadOfNetwork.{Gives, from_outcome, with_any, with_first}, specs.WordReading.{device, event_word, link, octets, rate, units, way}}
 use Rattle.trace_text.specs.{EventReading.{event_read, event_reader, what_behind}, Numbers.latest, Steps.{◌>>=◌, Words, give, line_end, with_rest, words}}
-use Rattle.trace_text.specs.{Ranges.IsTime, declared.refusal.LineRefusal.TheVariants.Number}
-use Rattle.trace_text.specs.declared.event_word.EventWord.{EventWord, TheVariants.{Break, Cut, End, Heal, Hold, On, Rate, Send, Wire}}
+use Rattle.trace_text.specs.{Ranges.IsTime, declared.event_word.EventWord.{EventWord, TheVariants.{Break, Cut, End, Heal, Hold, On, Rate, Send, Wire}}}
 use Rattle.net_plan.specs.declared.event.What.TheVariants as events
 
 -- a number up to the latest is a time

@@ -1,8 +1,7 @@
 -- The words of a text.
 use Rattle.std.proofs.Common.{◌+◌, ◌∷◌, ◌≡◌, ◌≤◌, Bool, List, MatchOption, None, Option, Some, [], arith, cond, drop, false, length, nat_lt, refl, take, true}
-use Rattle.std.proofs.{Common.ℕ, lemmas.{Bool.Decides.nat_tests, List.{Elements.All-from_get_or, Splits.{slice_split_first, slice_split_none}}}}
-use Rattle.std.{proofs.lemmas.List.Sums.fails_before_first, specs.{List.{position_or_len, slice_split}, Prelude.position}}
-use Rattle.trace_text.specs.Steps.{is_space, words}
+use Rattle.{std.{proofs.Common.ℕ, specs.{List.{position_or_len, slice_split}, Prelude.position}}, trace_text.specs.Steps.{is_space, words}}
+use Rattle.std.proofs.lemmas.{Bool.Decides.nat_tests, List.{Elements.All-from_get_or, Splits.{slice_split_first, slice_split_none}, Sums.fails_before_first}}
 
 -- what stands at the first place that passes, if there is one, parts a list
 abbrev PartedAt : (ℕ → Bool) → List ℕ → Option ℕ → Type 0

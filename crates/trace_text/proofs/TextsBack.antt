@@ -1,11 +1,9 @@
 -- A text that reads as an event is its text, but for capital digits.
+use Rattle.{hex.specs.Hex.encode_lower, net_plan.specs.Ranges.IsInRange, std.specs.List.join_with_byte}
+use Rattle.net_plan.specs.{Belonging.{device_name, link_name}, declared.{event.Event.Event, ids.{DeviceId.DeviceId, LinkId.LinkId}, network.Network.Network}}
+use Rattle.{net_plan.specs.declared.{event.What.What, tables.Way.Way}, trace_text.proofs.EventsBack.text_joined, tte_units.specs.declared.units.Units.Units}
 use Rattle.std.proofs.{Common.{◌++◌, ◌∙◌, ◌∷◌, ◌≡◌, Err, List, Ok, [], ap, append-nil, refl, sym, ℕ}, lemmas.List.Splits.join_with_byte-slice_split}
-use Rattle.std.{proofs.lemmas.List.map-append, specs.{Char.to_ascii_lowercase, Fmt.signed_decimal, List.join_with_byte, Result.result_unwrap_or}}
-use Rattle.hex.specs.Hex.{encode_lower}
-use Rattle.net_plan.specs.{Belonging.{device_name, link_name}, Ranges.IsInRange, declared.{event.{Event.Event, What.What}, ids.DeviceId.DeviceId}}
-use Rattle.net_plan.specs.declared.{ids.LinkId.LinkId, network.Network.Network, tables.Way.Way}
-use Rattle.tte_units.specs.declared.units.Units.{Units}
-use Rattle.trace_text.{proofs.EventsBack.text_joined, specs.Laws.PrintsBack}
+use Rattle.{std.{proofs.lemmas.List.map-append, specs.{Char.to_ascii_lowercase, Fmt.signed_decimal, Result.result_unwrap_or}}, trace_text.specs.Laws.PrintsBack}
 use Rattle.trace_text.proofs.Lowering.{device_forth, event_word_forth, link_forth, lower, lower_words, octets_forth, rate_forth, units_forth, way_forth}
 use Rattle.trace_text.specs.{EventLine.what_words, declared.event_word.EventWord.{EventWord, TheVariants.{Break, Cut, End, Heal, Hold, On, Rate, Send, Wire}}}
 use Rattle.trace_text.specs.{EventReading.{event_read, event_reader, what_behind}, WordReading.{device, event_word, link, octets, rate, units, way}}

@@ -1,20 +1,18 @@
 -- Words that are printed read back.
+use Rattle.{hex.proofs.HexLemmas.decode_of-encode_lower, net_plan.specs.Rules.{DeviceIsNew, LinkIsNew}, std.proofs.lemmas.{Fmt.decimal_is_IsNumeral, Int.ints}}
+use Rattle.{hex.specs.Hex.encode_lower, net_plan.proofs.Bearing.behind, std.specs.{Fmt.signed_decimal, Str.Parse.AllDigits}, tte_lemmas.proofs.Lists.some_at}
+use Rattle.{net_plan.specs.Bearers.IsFirstBearer, std.proofs.lemmas.List.Elements.All-cons, tte_units.specs.{Amount.units_of, declared.rates.Ppb.Ppb}}
+use Rattle.{net_plan.specs.Belonging.{HasDevice, HasLink, device_name, link_name}, std.specs.Prelude.{◌==◌, ◌≤ℤ◌, decimal, neg_ℤ, negsuc, pos, slice_get, ℤ}}
+use Rattle.{net_plan.specs.Ranges.{IsDeviceInRange, IsInRange, IsLinkInRange}, trace_text.specs.declared.refusal.LineRefusal.TheVariants.{Form, Name, Number}}
+use Rattle.{net_plan.specs.declared.{ids.DeviceId.DeviceId, network.Network.Network, tables.Device.Device}, trace_text.proofs.Decimals.number_of_decimal}
+use Rattle.{net_plan.specs.declared.{ids.LinkId.LinkId, tables.Link.Link}, std.proofs.lemmas.Bool.Decides.nat_tests, tte_units.specs.declared.units.Units.Units}
+use Rattle.{net_plan.specs.declared.tables.Way.{TheVariants.{Down, Up}, Way}, std.proofs.lemmas.Option.{get_or_from_slice_get, slice_get-map, slice_get_within}}
 use Rattle.std.proofs.Common.{◌<◌, ◌^◌, ◌∙◌, ◌∷◌, ◌≡◌, ◌≢◌, List, Ok, Option, Some, [], ap, arith, false, length, map, refl, subst, suc, sym, ℕ}
-use Rattle.std.proofs.lemmas.{Bool.Decides.nat_tests, Fmt.decimal_is_IsNumeral, Int.ints, List.Elements.All-cons}
-use Rattle.std.{proofs.lemmas.Option.{get_or_from_slice_get, slice_get-map, slice_get_within}, specs.{Fmt.signed_decimal, List.All}}
-use Rattle.std.specs.{Option.{ok_or, option_and_then, option_map}, Prelude.{◌==◌, ◌≤ℤ◌, decimal, neg_ℤ, negsuc, pos, slice_get, ℤ}, Str.Parse.AllDigits}
-use Rattle.hex.{proofs.HexLemmas.decode_of-encode_lower, specs.Hex.encode_lower}
-use Rattle.net_plan.{proofs.Bearing.behind, specs.{Bearers.IsFirstBearer, Belonging.{HasDevice, HasLink, device_name, link_name}}}
-use Rattle.net_plan.specs.{Ranges.{IsDeviceInRange, IsInRange, IsLinkInRange}, Rules.{DeviceIsNew, LinkIsNew}, declared.ids.{DeviceId.DeviceId, LinkId.LinkId}}
-use Rattle.net_plan.specs.declared.{network.Network.Network, tables.{Device.Device, Link.Link, Way.{Way, TheVariants.{Down, Up}}}}
-use Rattle.tte_lemmas.proofs.Lists.{some_at}
-use Rattle.tte_units.specs.{Amount.units_of, declared.{rates.Ppb.Ppb, units.Units.Units}}
-use Rattle.trace_text.proofs.{Bearing.place_found, Decimals.number_of_decimal}
-use Rattle.trace_text.{proofs.Joining.{IsWord, decimal_is_word, name_is_word}, specs.declared.refusal.LineRefusal.TheVariants.{Form, Name, Number}}
+use Rattle.{std.specs.List.All, trace_text.specs.declared.event_word.EventWord.{EventWord, TheVariants.{Break, Cut, End, Heal, Hold, On, Rate, Send, Wire}}}
+use Rattle.{std.specs.Option.{ok_or, option_and_then, option_map}, trace_text.proofs.{Bearing.place_found, Joining.{IsWord, decimal_is_word, name_is_word}}}
 use Rattle.trace_text.specs.{EventWords.{event_word_spelled, event_word_text, way_spelled, way_text}, Names.{device_id, device_spelled, link_id, link_spelled}}
 use Rattle.trace_text.specs.{Numbers.{fastest, latest, minus, number_up_to, ppb_of, rate_spelled, units_spelled}, Steps.{Read, Words, is_space, with_rest}}
 use Rattle.trace_text.specs.{Ranges.{IsFrame, IsRate, IsTime}, WordReading.{device, event_word, frame_of, link, octets, octets_spelled, rate, units, way}}
-use Rattle.trace_text.specs.declared.event_word.EventWord.{EventWord, TheVariants.{Break, Cut, End, Heal, Hold, On, Rate, Send, Wire}}
 
 -- a time is written and read
 

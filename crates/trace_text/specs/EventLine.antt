@@ -1,11 +1,9 @@
 -- The line of an event.
 use Rattle.std.specs.{Fmt.signed_decimal, List.join_with_byte, Prelude.{◌*◌, ◌++◌, ◌+◌, ◌∷◌, List, [], codes, ℕ}}
-use Rattle.hex.specs.Hex.{encode_lower}
-use Rattle.net_plan.specs.{Belonging.{device_name, link_name}, declared.event.{Event.Event, What.What}}
-use Rattle.net_plan.specs.declared.network.Network.{Network}
-use Rattle.trace_text.specs.{EventWords.{event_word_text, way_text}, Steps.{Words, space}}
+use Rattle.{hex.specs.Hex.encode_lower, net_plan.specs.declared.event.What.What, trace_text.specs.Steps.{Words, space}}
+use Rattle.net_plan.specs.{Belonging.{device_name, link_name}, declared.{event.Event.Event, network.Network.Network}}
+use Rattle.trace_text.specs.{EventWords.{event_word_text, way_text}, declared.event_word.EventWord.TheVariants.Wire}
 use Rattle.trace_text.specs.declared.event_word.EventWord.TheVariants.{Break, Cut, End, Heal, Hold, On, Rate, Send}
-use Rattle.trace_text.specs.declared.event_word.EventWord.TheVariants.{Wire}
 use Rattle.net_plan.specs.declared.event.What.TheVariants as events
 
 -- the words of an event behind its time

@@ -1,10 +1,8 @@
 -- Which events have a line.
 use Rattle.std.specs.Prelude.{◌≤ℤ◌, ◌≤◌, List, length, neg_ℤ, pos, ℕ, ⊤}
-use Rattle.hex.specs.Hex.{IsBytes}
-use Rattle.net_plan.specs.{Ranges.IsWithin, declared.event.{Event.Event, What.What}}
-use Rattle.net_plan.specs.declared.event.What.TheVariants.{Break, Cut, End, Heal, Hold, On, Rate, Send, Wire}
-use Rattle.tte_units.specs.declared.{rates.Ppb.Ppb, units.Units.Units}
-use Rattle.trace_text.specs.Numbers.{fastest, latest}
+use Rattle.{hex.specs.Hex.IsBytes, net_plan.specs.Ranges.IsWithin, trace_text.specs.Numbers.{fastest, latest}}
+use Rattle.{net_plan.specs.declared.event.Event.Event, tte_units.specs.declared.{rates.Ppb.Ppb, units.Units.Units}}
+use Rattle.net_plan.specs.declared.event.What.{TheVariants.{Break, Cut, End, Heal, Hold, On, Rate, Send, Wire}, What}
 
 -- a time of a trace, in units
 abbrev pub IsTime : Units → Type 0

@@ -1,12 +1,11 @@
 -- Where the frames come from that devices take.
 use Rattle.std.specs.Prelude.{◌<◌, ◌≡◌, Some, slice_get, ℕ}
-use Rattle.net_plan.specs.declared.{ids.{DeviceId.DeviceId, LinkId.LinkId, VlId.VlId}, tables.VirtualLink.VirtualLink}
-use Rattle.precision_law.specs.Views.{IsGood, IsView, View}
+use Rattle.{net_plan.specs.declared.ids.DeviceId.DeviceId, precision_law.specs.Views.{IsGood, IsView, View}}
+use Rattle.{net_plan.specs.declared.ids.{LinkId.LinkId, VlId.VlId}, traffic_law.specs.Dispatched.IsRowDispatch}
+use Rattle.{net_plan.specs.declared.tables.VirtualLink.VirtualLink, schedule_tables.specs.Entries.{IsEntry, source_of}}
 use Rattle.run_law.specs.{law.Safety.IsFirstDispatch, records.{Causes.GoesBackTo, Frames.tt_frame_by}}
-use Rattle.run_law.specs.records.Happenings.{Happening, time_of}
-use Rattle.schedule_tables.specs.{Entries.{IsEntry, source_of}, declared.entry.Entry.Entry}
-use Rattle.traffic_law.specs.{Dispatched.IsRowDispatch, Fits.FieldsFit, Passed.ArrivesInSpan, Spans.IsInSpan}
-use Rattle.traffic_law.specs.Taken.{IsTaking}
+use Rattle.{run_law.specs.records.Happenings.{Happening, time_of}, schedule_tables.specs.declared.entry.Entry.Entry}
+use Rattle.traffic_law.specs.{Fits.FieldsFit, Passed.ArrivesInSpan, Spans.IsInSpan, Taken.IsTaking}
 
 -- what lies in the span of an earlier cycle is earlier
 abbrev pub SpansAreApart : Type 0

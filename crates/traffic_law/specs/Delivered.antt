@@ -1,15 +1,14 @@
 -- That frames of the schedule are taken.
 use Rattle.std.specs.Prelude.{◌*◌, ◌+ℤ◌, ◌+◌, ◌≡◌, ◌≤ℤ◌, ◌≤◌, Some, false, pos, slice_get, ℕ}
-use Rattle.net_plan.specs.declared.{ids.{DeviceId.DeviceId, LinkId.LinkId, VlId.VlId}, tables.VirtualLink.VirtualLink}
-use Rattle.precision_law.specs.{Blocks.Stands, Views.{IsGood, IsSoundSwitch, IsView, View}}
-use Rattle.run_law.specs.{device.{LocalClocks.Reaches, States.state_before}, records.Frames.tt_frame_by}
+use Rattle.{net_plan.specs.declared.ids.{DeviceId.DeviceId, LinkId.LinkId}, run_law.specs.device.States.state_before}
+use Rattle.{net_plan.specs.declared.ids.VlId.VlId, precision_law.specs.Blocks.Stands, traffic_law.specs.Spans.IsTimedAt}
+use Rattle.{net_plan.specs.declared.tables.VirtualLink.VirtualLink, schedule_tables.specs.declared.entry.Entry.Entry}
+use Rattle.{precision_law.specs.Views.{IsGood, IsSoundSwitch, IsView, View}, run_law.specs.device.LocalClocks.Reaches}
+use Rattle.{run_law.specs.records.Frames.tt_frame_by, traffic_law.specs.{Coming.HasGoodSources, Passed.arrives_at}}
 use Rattle.run_law.specs.{records.{Happenings.{Happening, time_of}, Order.IsIn}, scenario.Scenarios.is_turned_on_at}
 use Rattle.schedule_tables.specs.{Entries.{IsEntry, IsOnChannel, source_of, target_of}, Windows.{OccursIn, window_end}}
-use Rattle.schedule_tables.specs.declared.entry.Entry.{Entry}
-use Rattle.sync_state.specs.declared.state.State.TheVariants.{Synchronised}
-use Rattle.tte_units.specs.Amount.{amount}
-use Rattle.traffic_law.specs.{Coming.HasGoodSources, Dispatched.IsRowDispatch, Fits.FieldsFit, Passed.arrives_at}
-use Rattle.traffic_law.specs.{Spans.IsTimedAt, Taken.SaysTaken}
+use Rattle.{sync_state.specs.declared.state.State.TheVariants.Synchronised, traffic_law.specs.Dispatched.IsRowDispatch}
+use Rattle.{traffic_law.specs.{Fits.FieldsFit, Taken.SaysTaken}, tte_units.specs.Amount.amount}
 
 -- by the time, the device has taken a frame of the virtual link in the cycle
 pub record HasTaken (v : View) (device : DeviceId) (vl : VlId) (cycle u : ℕ) : Type 0 where

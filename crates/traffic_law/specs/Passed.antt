@@ -1,13 +1,12 @@
 -- Where the octets of a dispatch come from, and when they arrive.
 use Rattle.std.specs.Prelude.{◌*◌, ◌+ℤ◌, ◌+◌, ◌<◌, ◌≡◌, ◌≤ℤ◌, ◌≤◌, ◌⊎◌, Some, false, pos, ℕ}
-use Rattle.net_plan.specs.declared.{ids.{DeviceId.DeviceId, LinkId.LinkId, VlId.VlId}, tables.Way.Way}
-use Rattle.precision_law.specs.Views.{IsGood, IsView, View}
-use Rattle.run_law.specs.{device.Standpoints.{cycle_at, offset_in_cycle}, records.Frames.tt_frame_by}
-use Rattle.run_law.specs.{records.{Happenings.{Happening, numbered, time_of}, Order.IsIn}, scenario.Devices.is_end}
-use Rattle.run_law.specs.{scenario.Ways.delay_at, timed.Dispatching.last_accepted}
+use Rattle.{net_plan.specs.declared.ids.DeviceId.DeviceId, run_law.specs.device.Standpoints.{cycle_at, offset_in_cycle}}
+use Rattle.{net_plan.specs.declared.{ids.LinkId.LinkId, tables.Way.Way}, traffic_law.specs.Dispatched.IsRowDispatch}
+use Rattle.{net_plan.specs.declared.ids.VlId.VlId, run_law.specs.{records.Frames.tt_frame_by, scenario.Devices.is_end}}
+use Rattle.{precision_law.specs.Views.{IsGood, IsView, View}, traffic_law.specs.Spans.{IsInSpan, IsTimedAt, shown_at}}
+use Rattle.run_law.specs.{records.Happenings.{Happening, numbered, time_of}, timed.Dispatching.last_accepted}
+use Rattle.{run_law.specs.{records.Order.IsIn, scenario.Ways.delay_at}, tte_units.specs.Amount.amount}
 use Rattle.schedule_tables.specs.{Entries.IsEntry, Windows.{arrival_of, port_time}, declared.entry.Entry.Entry}
-use Rattle.tte_units.specs.Amount.{amount}
-use Rattle.traffic_law.specs.{Dispatched.IsRowDispatch, Spans.{IsInSpan, IsTimedAt, shown_at}}
 use Rattle.run_law.specs.declared.note.NoteBody.TheVariants as notes
 
 -- the octets are the frame that the sender makes

@@ -1,12 +1,11 @@
 -- Ports: no frame meets a frame of the schedule there.
 use Rattle.std.specs.Prelude.{◌*◌, ◌+ℤ◌, ◌+◌, ◌≡◌, ◌≤ℤ◌, ◌≤◌, ◌⊎◌, List, false, pos, ℕ}
-use Rattle.net_plan.specs.declared.ids.{DeviceId.DeviceId, LinkId.LinkId, VlId.VlId}
-use Rattle.precision_law.specs.{Blocks.Stands, Precision.IsRunUpTo, Views.{IsGood, IsView, View}}
+use Rattle.{net_plan.specs.declared.ids.DeviceId.DeviceId, precision_law.specs.Views.{IsGood, IsView, View}}
+use Rattle.{net_plan.specs.declared.ids.{LinkId.LinkId, VlId.VlId}, traffic_law.specs.Dispatched.IsRowDispatch}
+use Rattle.{precision_law.specs.{Blocks.Stands, Precision.IsRunUpTo}, schedule_tables.specs.Windows.port_time}
 use Rattle.run_law.specs.{control.Leaving.Gives, declared.note.Note.Note, records.Order.IsIn, scenario.Devices.is_end}
 use Rattle.run_law.specs.law.Safety.{FramesAreDelivered, IsSafe, PortsAreApart, time_of_octets}
 use Rattle.run_law.specs.{records.Happenings.{Happening, happenings, time_of}, scenario.Scenarios.Scenario}
-use Rattle.schedule_tables.specs.Windows.{port_time}
-use Rattle.traffic_law.specs.Dispatched.{IsRowDispatch}
 use Rattle.run_law.specs.declared.note.NoteBody.TheVariants as notes
 
 -- ---- two frames of the schedule

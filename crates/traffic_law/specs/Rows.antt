@@ -1,10 +1,9 @@
 -- The room that the schedule leaves its rows.
 use Rattle.std.specs.Prelude.{◌*◌, ◌+◌, ◌≡◌, ◌≤◌, ◌⊎◌, ℕ}
-use Rattle.net_plan.specs.declared.network.Network.{Network}
-use Rattle.precision_law.specs.{Sizes.Sizes, Views.{IsView, View}}
-use Rattle.schedule_tables.specs.{Delays.pcf_port_time, Entries.IsEntry, Rules.KeepsRules, Schedule.IsClearBefore}
+use Rattle.{net_plan.specs.declared.network.Network.Network, schedule_tables.specs.Schedule.IsClearBefore}
+use Rattle.{precision_law.specs.Sizes.Sizes, schedule_tables.specs.Entries.IsEntry, tte_units.specs.Amount.amount}
+use Rattle.{precision_law.specs.Views.{IsView, View}, schedule_tables.specs.{Delays.pcf_port_time, Rules.KeepsRules}}
 use Rattle.schedule_tables.specs.{Windows.{OccursIn, port_time, window_end}, declared.entry.Entry.Entry}
-use Rattle.tte_units.specs.Amount.{amount}
 
 -- no row comes before the schedule begins
 abbrev pub RowsComeInSchedule : Type 0

@@ -1,11 +1,9 @@
 -- The span of a cycle: from behind its last correction to the first of the next cycle.
 use Rattle.std.specs.Prelude.{◌*◌, ◌+ℤ◌, ◌+◌, ◌≡◌, ◌≤ℤ◌, ◌≤◌, pos, ℕ, ℤ}
-use Rattle.net_plan.specs.declared.ids.DeviceId.{DeviceId}
-use Rattle.precision_law.specs.Blocks.{IsInBlock, IsOldAt, Stands, adjustment_left, state_left}
-use Rattle.precision_law.specs.{Hulls.first_correction, Standings.ShowsIn, Views.{IsGood, IsView, View}}
-use Rattle.run_law.specs.device.LocalClocks.{Reaches}
-use Rattle.sync_state.specs.declared.state.State.TheVariants.{Synchronised}
-use Rattle.traffic_law.specs.Rows.{IsInSchedule}
+use Rattle.{net_plan.specs.declared.ids.DeviceId.DeviceId, precision_law.specs.Views.{IsGood, IsView, View}}
+use Rattle.precision_law.specs.{Blocks.{IsInBlock, IsOldAt, Stands, adjustment_left, state_left}, Standings.ShowsIn}
+use Rattle.{precision_law.specs.Hulls.first_correction, sync_state.specs.declared.state.State.TheVariants.Synchronised}
+use Rattle.{run_law.specs.device.LocalClocks.Reaches, traffic_law.specs.Rows.IsInSchedule}
 
 -- the time lies in the span of cycle n
 pub record IsInSpan (v : View) (n t : ℕ) : Type 0 where

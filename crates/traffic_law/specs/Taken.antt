@@ -1,16 +1,14 @@
 -- The records by which devices take frames of the schedule.
 use Rattle.std.specs.Prelude.{◌++◌, ◌+◌, ◌∷◌, ◌≡◌, ◌≤ℤ◌, ◌⊎◌, List, Some, false, length, ℕ}
-use Rattle.net_plan.specs.declared.{ids.{DeviceId.DeviceId, LinkId.LinkId, VlId.VlId}, tables.Way.Way}
-use Rattle.pcf_codec.specs.Fields.{field}
-use Rattle.precision_law.specs.{Blocks.state_left, Views.{IsView, View}}
-use Rattle.run_law.specs.{control.Wires.{launched, time_on_port, timed}, declared.note.NoteBody.NoteBody}
-use Rattle.run_law.specs.{device.Standpoints.{cycle_at, offset_in_cycle}, records.Causes.cause_of}
-use Rattle.run_law.specs.{records.{Happenings.{Happening, numbered, time_of}, Order.IsIn}, scenario.Scenarios.is_broken}
-use Rattle.run_law.specs.{scenario.Ways.delay_at, timed.{Arrivals.is_taken_in, Receptions.last_taken}}
+use Rattle.{net_plan.specs.declared.ids.DeviceId.DeviceId, schedule_tables.specs.declared.entry.Entry.Entry}
+use Rattle.{net_plan.specs.declared.{ids.LinkId.LinkId, tables.Way.Way}, run_law.specs.timed.Receptions.last_taken}
+use Rattle.{net_plan.specs.declared.ids.VlId.VlId, run_law.specs.{records.Causes.cause_of, scenario.Ways.delay_at}}
+use Rattle.{pcf_codec.specs.Fields.field, run_law.specs.records.Order.IsIn, traffic_law.specs.Spans.shown_at}
+use Rattle.{precision_law.specs.{Blocks.state_left, Views.{IsView, View}}, run_law.specs.timed.Arrivals.is_taken_in}
+use Rattle.run_law.specs.{control.Wires.{launched, time_on_port, timed}, device.Standpoints.{cycle_at, offset_in_cycle}}
+use Rattle.run_law.specs.{declared.note.NoteBody.NoteBody, records.Happenings.{Happening, numbered, time_of}}
+use Rattle.{run_law.specs.scenario.Scenarios.is_broken, sync_state.specs.declared.state.State.TheVariants.Synchronised}
 use Rattle.schedule_tables.specs.{Entries.{IsEntry, target_of}, Windows.{OccursIn, window_of}}
-use Rattle.schedule_tables.specs.declared.entry.Entry.{Entry}
-use Rattle.sync_state.specs.declared.state.State.TheVariants.{Synchronised}
-use Rattle.traffic_law.specs.Spans.{shown_at}
 use Rattle.run_law.specs.declared.note.NoteBody.TheVariants as notes
 
 -- the body says that the device took a frame of the virtual link in the cycle

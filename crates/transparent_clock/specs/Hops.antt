@@ -1,7 +1,6 @@
 -- The way of a frame from the device that gives it, over links, to the device where it is permanent.
 use Rattle.std.specs.{Int.abs_diff, Prelude.{◌*◌, ◌+◌, ◌-◌, ◌/◌, ◌^◌, ◌≡◌, ◌≤◌, All, List, length, sum_by, ℕ}}
-use Rattle.drift_clock.specs.ClockLaws.{Measures}
-use Rattle.transparent_clock.specs.Points.{Waits}
+use Rattle.{drift_clock.specs.ClockLaws.Measures, transparent_clock.specs.Points.Waits}
 
 -- one link: how long the frame is held and what the device measures of it, the nominal wire, its jitter, and the delay
 pub record Hop : Type 0 where

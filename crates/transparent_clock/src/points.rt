@@ -1,6 +1,5 @@
 ghost use Rattle.std.specs.Prelude.{◌≡◌, ◌+◌, ◌^◌, pos, neg_ℤ, ◌≤ℤ◌};
-ghost use Rattle.tte_units.specs.Reading.{least_reading, greatest_reading};
-ghost use Rattle.transparent_clock.specs.Points.{point_of};
+ghost use Rattle.{transparent_clock.specs.Points.point_of, tte_units.specs.Reading.{greatest_reading, least_reading}};
 
 use tte_units::Units;
 

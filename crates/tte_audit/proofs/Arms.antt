@@ -1,13 +1,10 @@
 -- What a record says is an event, or words of a kind of record tell it.
+use Rattle.{net_plan.specs.{Belonging.{HasDevice, device_name}, declared.ids.DeviceId.DeviceId}, pcf_values.specs.declared.members.Members.Members}
+use Rattle.{report_text.specs.NoteLine.body_words, std.specs.Prelude.{MatchOption, bytes_eq}, tte_audit.specs.{Report.saying, declared.kind.KindWord.KindWord}}
+use Rattle.{report_text.specs.{NoteWords.members_text, Ranges.{IsShortCount, IsSignedUnits}}, run_law.specs.declared.plain.bodies.PlainKind.PlainKind}
+use Rattle.{run_law.specs.plain.Bodies.body_of, std.specs.Fmt.signed_decimal, tte_audit.specs.Kinds.Tells, tte_lemmas.proofs.Lists.differ}
 use Rattle.tte_audit.proofs.Words.{◌∷◌, ◌≡◌, IsTextOf, Judgement, List, Network, None, Note, NoteBody, Option, Some, State, Units, What, Words, [], ap}
-use Rattle.tte_audit.proofs.Words.{behind_word, codes, decimal, false, head_word, judgement_text, kind_text, refl, state_text, ℕ}
-use Rattle.std.specs.{Fmt.signed_decimal, Prelude.{MatchOption, bytes_eq}}
-use Rattle.net_plan.specs.{Belonging.{HasDevice, device_name}, declared.ids.DeviceId.DeviceId}
-use Rattle.pcf_values.specs.declared.members.Members.{Members}
-use Rattle.report_text.specs.{NoteLine.body_words, NoteWords.members_text, Ranges.{IsShortCount, IsSignedUnits}}
-use Rattle.tte_lemmas.proofs.Lists.{differ}
-use Rattle.run_law.specs.{declared.plain.bodies.PlainKind.PlainKind, plain.Bodies.body_of}
-use Rattle.tte_audit.specs.{Kinds.Tells, Report.saying, Spellings.first_word, declared.kind.KindWord.KindWord}
+use Rattle.tte_audit.{proofs.Words.{behind_word, codes, decimal, false, head_word, judgement_text, kind_text, refl, state_text, ℕ}, specs.Spellings.first_word}
 use Rattle.run_law.specs.declared.note.NoteBody.TheVariants as bodies
 use Rattle.run_law.specs.declared.plain.bodies.PlainKind.TheVariants as said
 use Rattle.tte_audit.specs.declared.kind.KindWord.TheVariants as kinds

@@ -1,9 +1,7 @@
 -- What was found by its name, or is not there.
-use Rattle.tte_audit.proofs.Words.{◌<◌, ◌∙◌, ◌≡◌, List, None, Option, Some, [], ap, length, sym, ℕ}
-use Rattle.std.proofs.{Common.map, lemmas.Option.{slice_get-map, slice_get_within}}
-use Rattle.std.specs.{Option.{option_map, option_map_or}, Prelude.{IfNone, IfSome, slice_get}}
-use Rattle.net_plan.{proofs.Bearing.behind, specs.Bearers.{HasNoBearer, IsFirstBearer}}
-use Rattle.tte_lemmas.proofs.Lists.{some_at}
+use Rattle.{net_plan.proofs.Bearing.behind, std.proofs.Common.map, tte_lemmas.proofs.Lists.some_at}
+use Rattle.{net_plan.specs.Bearers.{HasNoBearer, IsFirstBearer}, tte_audit.proofs.Words.{◌<◌, ◌∙◌, ◌≡◌, List, None, Option, Some, [], ap, length, sym, ℕ}}
+use Rattle.std.{proofs.lemmas.Option.{slice_get-map, slice_get_within}, specs.{Option.{option_map, option_map_or}, Prelude.{IfNone, IfSome, slice_get}}}
 
 -- the thing is among these and has the name
 abbrev pub Bears : {I X : Type 0} → (I → ℕ) → (X → List ℕ) → List X → List ℕ → I → Type 0

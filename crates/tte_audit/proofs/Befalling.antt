@@ -1,7 +1,6 @@
 -- One more event of a report.
+use Rattle.{std.specs.Prelude.MatchBool, tte_audit.proofs.Words.{refl, subst, sym, true}}
 use Rattle.tte_audit.proofs.Words.{◌++◌, ◌∷◌, ◌≡◌, Any, Bool, End, EndWith, Event, List, None, Option, Some, Units, What, [], any_behind, any_first, ap, false}
-use Rattle.tte_audit.proofs.Words.{refl, subst, sym, true}
-use Rattle.std.specs.Prelude.{MatchBool}
 
 event_at : Units → What → Event
 event_at time what = record { time = time; what = what }

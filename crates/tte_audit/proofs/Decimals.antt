@@ -1,12 +1,10 @@
 -- When a text is the decimal of a number.
-use Rattle.tte_audit.proofs.Words.{◌++◌, ◌<◌, ◌^◌, ◌∙◌, ◌∷◌, ◌≡◌, ◌≤◌, AllDigits, List, Some, Words, [], ap, append-nil, arith, decimal, digits_value}
-use Rattle.tte_audit.proofs.Words.{get_or, length, nat_tests, refl, subst, sym, take, true, ℕ}
-use Rattle.std.proofs.{Common.◌-◌, Math.Nat.pow-le-pow_right, lemmas.{Fmt.{decimal-digits_value, decimal_injective}, Int.Digits.digits_value-lt}}
-use Rattle.std.proofs.lemmas.List.{length-take-le, Splits.{slice_split_at, slice_split_none}}
+use Rattle.{std.proofs.{Common.◌-◌, Math.Nat.pow-le-pow_right}, trace_text.proofs.Joining.decimal_is_word, tte_audit.specs.Spellings.first_word}
+use Rattle.{std.proofs.lemmas.Fmt.{decimal-digits_value, decimal_injective}, tte_audit.proofs.Words.{length, nat_tests, refl, subst, sym, take, true, ℕ}}
+use Rattle.{std.{proofs.lemmas.Int.Digits.digits_value-lt, specs.Char.{digit_value, is_ascii_digit}}, trace_text.specs.Steps.{is_space, space, words}}
+use Rattle.std.proofs.lemmas.{List.{Splits.{slice_split_at, slice_split_none}, length-take-le}, Str.Parse.{IsNumeralModel, numerals_by_value, tells_digits}}
+use Rattle.tte_audit.proofs.Words.{◌++◌, ◌<◌, ◌^◌, ◌∙◌, ◌∷◌, ◌≡◌, ◌≤◌, AllDigits, List, Some, Words, [], ap, append-nil, arith, decimal, digits_value, get_or}
 use Rattle.tte_lemmas.proofs.Lists.{same_name}
-use Rattle.tte_audit.specs.Spellings.{first_word}
-use Rattle.trace_text.{proofs.Joining.decimal_is_word, specs.Steps.{is_space, space, words}}
-use Rattle.std.{proofs.lemmas.Str.Parse.{IsNumeralModel, numerals_by_value, tells_digits}, specs.Char.{digit_value, is_ascii_digit}}
 
 own : IsNumeralModel (AllDigits 10) (digits_value 10)
 own = numerals_by_value (AllDigits 10) tells_digits

@@ -1,8 +1,7 @@
 -- The events of a report, read record by record.
+use Rattle.{run_law.proofs.runs.Grow.in_two, std.{proofs.lemmas.List.Elements.filter_map-append, specs.Prelude.filter_map}}
 use Rattle.tte_audit.proofs.Words.{◌++◌, ◌+◌, ◌∙◌, ◌∷◌, ◌≡◌, ◌≤◌, AreEventsRight, Event, IsEventFault, List, MayCome, Network, None, Note, NoteBody, Option}
 use Rattle.tte_audit.proofs.Words.{Some, Units, [], ap, append-nil, append_assoc, arith, event_by, events_of, inl, inr, length, refl, subst, sym, with_event, ℕ}
-use Rattle.std.{proofs.lemmas.List.Elements.filter_map-append, specs.Prelude.filter_map}
-use Rattle.run_law.proofs.runs.Grow.{in_two}
 use Rattle.run_law.specs.declared.note.NoteBody.TheVariants as notes
 
 more_events : (befallen : List Event) (time : Units) (body : NoteBody) → befallen ++ events_of

@@ -1,7 +1,6 @@
 -- The first LF.
+use Rattle.{memchr.specs.Find.{IsFirstByte, is_byte}, std.{proofs.{Common.nat_lt, lemmas.List.Sums.position_or_len_is}, specs.List.position_or_len}}
 use Rattle.tte_audit.proofs.Words.{◌≡◌, Bool, List, None, Option, Some, ap, arith, false, get_or, is_line_end, length, nat_tests, position, refl, sym, true, ℕ}
-use Rattle.std.{proofs.{Common.nat_lt, lemmas.List.Sums.position_or_len_is}, specs.List.position_or_len}
-use Rattle.memchr.specs.Find.{IsFirstByte, is_byte}
 
 not_so : (b : Bool) → ¬ (b ≡ true) → b ≡ false
 not_so true h = absurd (h refl)

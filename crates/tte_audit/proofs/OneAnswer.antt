@@ -1,11 +1,10 @@
 -- An audit has one answer.
+use Rattle.audit_devices.{proofs.law_lemmas.Sound.{fronts, full_of_run, none_unsound, one_unsound, sound_of_run}, specs.law.Findings.IsUnfoundedAt}
 use Rattle.tte_audit.{proofs.{Meet.{form_or_report, one_form, one_list}, Words.{scenario_of, subst, sym, ℕ}}, specs.Laws.{AnswerLaw, IsOfReport}}
-use Rattle.tte_audit.{proofs.ReportRuns.audit_run, specs.Named.IsNamed}
+use Rattle.{tte_audit.{proofs.ReportRuns.audit_run, specs.Named.IsNamed}, tte_units.specs.Amount.units_of}
 use Rattle.tte_audit.proofs.Words.{◌++◌, ◌∙◌, ◌∷◌, ◌≡◌, ◌⊎◌, Any, AreEventsRight, End, EndWith, Event, IsDue, IsEventFault, IsRefusedBy, List, Network, Note}
 use Rattle.tte_audit.proofs.Words.{Units, [], any_behind, any_first, ap, arith, behind_time, events_of, happenings, inl, inr, length, place_of, refl}
 use Rattle.tte_audit.specs.{Answers.{IsAudited, IsEventsFault, IsFirstLackOf, IsOfFormOrEvents}, Report.IsOfEvents, declared.refusal.AuditRefusal.AuditRefusal}
-use Rattle.audit_devices.{proofs.law_lemmas.Sound.{fronts, full_of_run, none_unsound, one_unsound, sound_of_run}, specs.law.Findings.IsUnfoundedAt}
-use Rattle.tte_units.specs.Amount.{units_of}
 use Rattle.tte_audit.specs.declared.refusal.AuditRefusal.TheVariants as refusals
 
 -- ---- events

@@ -1,11 +1,8 @@
 -- The end of the events of a report.
-use Rattle.tte_audit.{proofs.{Clocked.told, Words.{[], amount, any_behind, any_first, ap, event_by, events_of, inl, inr, subst, sym}}, specs.Report.MayBefall}
+use Rattle.{audit_devices.proofs.events_lemmas.Befalling.soon, compression.proofs.Elements.{in_cases, in_head, in_none, in_tail}, std.specs.List.Contains}
+use Rattle.{net_plan.specs.Ranges.IsInRange, std.specs.Prelude.◌↔◌, tte_audit.{proofs.Clocked.told, specs.Report.MayBefall}}
+use Rattle.{run_law.specs.runs.DueRecords.EndsAt, tte_audit.proofs.Words.{[], amount, any_behind, any_first, ap, event_by, events_of, inl, inr, subst, sym}}
 use Rattle.tte_audit.proofs.Words.{◌++◌, ◌^◌, ◌∷◌, ◌≡◌, ◌≤◌, ◌⊎◌, Any, AreEventsRight, End, EndWith, Event, List, MayCome, Network, Note, NoteBody, Some, Units}
-use Rattle.std.specs.{List.Contains, Prelude.◌↔◌}
-use Rattle.audit_devices.proofs.events_lemmas.Befalling.{soon}
-use Rattle.compression.proofs.Elements.{in_cases, in_head, in_none, in_tail}
-use Rattle.net_plan.specs.Ranges.{IsInRange}
-use Rattle.run_law.specs.runs.DueRecords.{EndsAt}
 use Rattle.run_law.specs.declared.note.NoteBody.TheVariants as notes
 
 abbrev end_at : Units → Event

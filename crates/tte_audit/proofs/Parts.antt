@@ -1,14 +1,11 @@
 -- A report is parted at the ends of its lines.
+use Rattle.{report_text.proofs.SameReports.note_unbroken, run_law.proofs.runs.Grow.in_two, tte_audit.specs.Named.IsNamed, tte_io.specs.Line.lf}
+use Rattle.{report_text.specs.Ranges.{IsNoteInRange, IsNoteOf}, std.proofs.{Common.{◌≢◌, MatchOption, cond, drop, nat_lt}, lemmas.List.Sums.fails_before_first}}
+use Rattle.std.{proofs.lemmas.List.Elements.{All-from_get_or, All-nil, All-push}, specs.List.{join_with_byte, position_or_len, slice_split}}
+use Rattle.std.proofs.lemmas.List.Splits.{join_with_byte-slice_split, length-slice_split, slice_split_at, slice_split_first, slice_split_none}
 use Rattle.tte_audit.proofs.Words.{◌++◌, ◌+◌, ◌∙◌, ◌∷◌, ◌≡◌, ◌≤◌, BeginsWith, BeginsWithLine, BeginsWithRecord, Bool, IsTextOf, List, Network, None, Note}
 use Rattle.tte_audit.proofs.Words.{Option, Some, [], ap, append-nil, append_assoc, arith, codes, concat, false, inl, inr, is_line_end, length, length-append}
-use Rattle.tte_audit.proofs.Words.{nat_tests, note_line, note_text, position, refl, report_of, sym, take, true, ℕ}
-use Rattle.std.proofs.{Common.{◌≢◌, MatchOption, cond, drop, nat_lt}, lemmas.List.Elements.{All-from_get_or, All-nil, All-push}}
-use Rattle.std.proofs.lemmas.List.Splits.{join_with_byte-slice_split, length-slice_split, slice_split_at, slice_split_first, slice_split_none}
-use Rattle.std.{proofs.lemmas.List.Sums.fails_before_first, specs.List.{join_with_byte, position_or_len, slice_split}}
-use Rattle.report_text.{proofs.SameReports.note_unbroken, specs.Ranges.{IsNoteInRange, IsNoteOf}}
-use Rattle.run_law.proofs.runs.Grow.{in_two}
-use Rattle.tte_io.specs.Line.{lf}
-use Rattle.tte_audit.specs.{Named.IsNamed, Report.{AreNumbered, LineThen}}
+use Rattle.tte_audit.{proofs.Words.{nat_tests, note_line, note_text, position, refl, report_of, sym, take, true, ℕ}, specs.Report.{AreNumbered, LineThen}}
 
 -- what stands at the first place that passes, if there is one, parts a list
 abbrev PartedAt : (ℕ → Bool) → List ℕ → Option ℕ → Type 0

@@ -1,10 +1,9 @@
 -- A sweep goes on line by line.
+use Rattle.{audit_sweep.specs.declared.sweep.Sweep.Sweep, std.proofs.Common.{suc, zero}, tte_audit.specs.{Named.IsNamed, Report.IsNextLine}}
+use Rattle.std.specs.Prelude.{◌==◌}
+use Rattle.tte_audit.{proofs.UnderWay.{IsUnderWay, befalls_there, next_record, swept_on, unfounded_at}, specs.declared.refusal.AuditRefusal.AuditRefusal}
 use Rattle.tte_audit.proofs.Words.{◌++◌, ◌+◌, ◌<◌, ◌∙◌, ◌∷◌, ◌≡◌, BeginsWithLine, Bool, IsRefusedBy, List, Network, Note, [], ap, arith, codes, events_of}
-use Rattle.tte_audit.proofs.Words.{false, happenings, length, length-append, note_line, note_text, subst, sym, ℕ}
-use Rattle.std.{proofs.Common.{suc, zero}, specs.Prelude.◌==◌}
-use Rattle.audit_sweep.specs.declared.sweep.Sweep.{Sweep}
-use Rattle.tte_audit.{proofs.UnderWay.{IsUnderWay, befalls_there, next_record, swept_on, unfounded_at}, specs.LineSwept.{IsLineRefused, IsTaken}}
-use Rattle.tte_audit.specs.{Named.IsNamed, Report.IsNextLine, declared.refusal.AuditRefusal.AuditRefusal}
+use Rattle.tte_audit.{proofs.Words.{false, happenings, length, length-append, note_line, note_text, subst, sym, ℕ}, specs.LineSwept.{IsLineRefused, IsTaken}}
 use Rattle.tte_audit.specs.declared.refusal.AuditRefusal.TheVariants as refusals
 
 -- the record of the next line was taken

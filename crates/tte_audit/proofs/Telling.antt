@@ -1,9 +1,8 @@
 -- The records of a report are told one by one.
-use Rattle.tte_audit.{proofs.EventsRead.{events_on, fault_here, fault_on, few_events, right_none, right_on}, specs.declared.passes.Told.Told}
+use Rattle.{std.specs.Prelude.MatchOption, tte_audit.specs.{Telling.AreFollowed, declared.passes.Told.Told}}
+use Rattle.{tte_audit.proofs.EventsRead.{events_on, fault_here, fault_on, few_events, right_none, right_on}, tte_lemmas.proofs.Options.{none_at, some_of}}
 use Rattle.tte_audit.proofs.Words.{◌++◌, ◌+◌, ◌∙◌, ◌∷◌, ◌≡◌, ◌≤◌, AreTold, Event, Follows, IsEventFault, List, MayCome, Network, None, Note, Option, Some, []}
-use Rattle.tte_audit.{proofs.Words.{ap, arith, events_of, false, is_some, length, length-append, subst, sym, true, with_event, ℕ}, specs.Telling.AreFollowed}
-use Rattle.std.specs.Prelude.{MatchOption}
-use Rattle.tte_lemmas.proofs.Options.{none_at, some_of}
+use Rattle.tte_audit.proofs.Words.{ap, arith, events_of, false, is_some, length, length-append, subst, sym, true, with_event, ℕ}
 
 abbrev Judged : Network → List Note → Told → Option ℕ → Type 0
 Judged network notes told fault = MatchOption fault (AreFollowed network notes told) (λ n. IsEventFault network notes n)

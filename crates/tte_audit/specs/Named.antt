@@ -1,7 +1,6 @@
 -- The names of a network's things.
 use Rattle.std.specs.Prelude.{ℕ}
-use Rattle.net_plan.specs.{Ranges.IsInRange, Rules.{DeviceIsNew, LinkIsNew}}
-use Rattle.net_plan.specs.declared.network.Network.{Network}
+use Rattle.net_plan.specs.{Ranges.IsInRange, Rules.{DeviceIsNew, LinkIsNew}, declared.network.Network.Network}
 use Rattle.schedule_tables.specs.Schedule.{VlNameIsNew}
 
 -- the network is in its ranges, and no two devices, no two links and no two virtual links have one name

@@ -1,9 +1,8 @@
 -- The audit of a report of which the events are sought first.
 use Rattle.std.specs.{Prelude.{◌++◌, ◌+◌, ◌<◌, ◌∷◌, ◌≡◌, ◌≤◌, ◌⊎◌, List, [], length, ℕ}}
-use Rattle.audit_sweep.specs.declared.sweep.Sweep.{Sweep}
-use Rattle.net_plan.specs.declared.network.Network.{Network}
-use Rattle.run_law.specs.declared.note.Note.{Note}
-use Rattle.tte_audit.specs.{Following.Follows, LineSwept.IsTaken, declared.swift.{Left.Left, Sought.Sought}}
+use Rattle.{audit_sweep.specs.declared.sweep.Sweep.Sweep, net_plan.specs.declared.network.Network.Network}
+use Rattle.{run_law.specs.declared.note.Note.Note, tte_audit.specs.declared.swift.{Left.Left, Sought.Sought}}
+use Rattle.tte_audit.specs.{Following.Follows, LineSwept.IsTaken}
 use Rattle.tte_audit.specs.Report.{AreEventsRight, BeginsWithRecord, HasNoEvent, IsNextLine, events_of}
 
 -- the octets end with these, which are fewer

@@ -1,10 +1,9 @@
 ghost use Rattle.std.specs.Prelude.{◌<◌, ◌^◌, ◌≡◌, List, MatchResult, length, ℕ};
-ghost use Rattle.audit_sweep.specs.Sweeping.{SweepsSome};
+ghost use Rattle.{audit_sweep.specs.Sweeping.SweepsSome, tte_audit.specs.Answers.{IsAudited, IsRefusedBy}};
 ghost use Rattle.net_plan.specs.declared.network.Network.{Network as NetworkValue};
-ghost use Rattle.report_text.specs.Ranges.{IsBodyOf};
-ghost use Rattle.run_law.specs.declared.note.Note.{Note as NoteValue};
-ghost use Rattle.tte_audit.specs.{Answers.{IsAudited, IsRefusedBy}, LineSwept.IsLineSwept, Named.IsNamed};
-ghost use Rattle.tte_audit.specs.{Report.IsNextLine, Telling.IsReadOf};
+ghost use Rattle.{report_text.specs.Ranges.IsBodyOf, tte_audit.specs.{Report.IsNextLine, Telling.IsReadOf}};
+ghost use Rattle.{run_law.{specs.{declared.{note.{Note.{Note as NoteValue}}}}}, tte_audit.specs.LineSwept.IsLineSwept};
+ghost use Rattle.tte_audit.specs.Named.{IsNamed};
 
 use crate::hints::NameHints;
 use crate::lines::{numbered_record, plain_record};

@@ -1,13 +1,10 @@
 -- The form of words by their count and their first, and the numbers of forms.
-use Rattle.std.proofs.{Common.{◌∷◌, ◌≡◌, ◌≤◌, Bool, List, None, Some, [], arith, cond, false, length, refl, true, ℕ}, lemmas.Bool.and_parts}
-use Rattle.std.{proofs.lemmas.{Bool.Decides.nat_tests, Int.ints}, specs.Option.{option_and_then, option_map}}
-use Rattle.std.specs.{Prelude.{if◌then◌else◌, ◌&&◌, ◌==◌, IfSome, Option, bytes_eq, codes, decimal, nat_le, slice_get}, Str.Parse.digits_value}
-use Rattle.net_plan.specs.declared.tables.Way.{Way}
-use Rattle.trace_text.specs.Numbers.{number_up_to}
-use Rattle.tte_units.specs.Amount.{units_of}
+use Rattle.{net_plan.specs.declared.tables.Way.Way, tte_forms.specs.Forms.{stamp_form, storm_form, two_files_form, vote_form, way_spelled, wire_form}}
+use Rattle.std.proofs.{Common.{◌∷◌, ◌≡◌, ◌≤◌, Bool, List, None, Some, [], arith, cond, false, length, refl, true, ℕ}, lemmas.{Bool.Decides.nat_tests, Int.ints}}
+use Rattle.{std.{proofs.lemmas.Bool.and_parts, specs.Str.Parse.digits_value}, trace_text.specs.Numbers.number_up_to, tte_units.specs.Amount.units_of}
+use Rattle.std.specs.{Option.{option_and_then, option_map}, Prelude.{◌&&◌, ◌==◌, IfSome, Option, bytes_eq, codes, decimal, if◌then◌else◌, nat_le, slice_get}}
 use Rattle.tte_forms.specs.Forms.{IsFormInRange, cycles_spelled, form_of, four_words_form, greatest_granule, if_some, most_cycles, one_file_form, seed_spelled}
-use Rattle.tte_forms.specs.{Forms.{stamp_form, storm_form, two_files_form, vote_form, way_spelled, wire_form}, declared.form.Form.Form}
-use Rattle.tte_forms.specs.declared.form.Form.TheVariants.{Audit, Capture, Check, Run, Show, Stamp, Storm, Vote, Wire}
+use Rattle.tte_forms.specs.declared.form.Form.{Form, TheVariants.{Audit, Capture, Check, Run, Show, Stamp, Storm, Vote, Wire}}
 
 pub no_words : (words : List (List ℕ)) → length words ≤ 0 → None ≡ form_of words
 unfolding form_of

@@ -1,7 +1,6 @@
 -- The octets that a source has left.
-use Rattle.std.proofs.{Common.{◌+◌, ◌<◌, ◌≡◌, List, None, Some, [], arith, replicate, subst, ℕ}, lemmas.List.length-replicate}
-use Rattle.std.specs.Prelude.{IfSome, Option, length}
-use Rattle.tte_forms.specs.Answering.{ForOctets}
+use Rattle.std.{proofs.Common.{◌+◌, ◌<◌, ◌≡◌, List, None, Some, [], arith, replicate, subst, ℕ}, specs.Prelude.{IfSome, Option, length}}
+use Rattle.{std.proofs.lemmas.List.length-replicate, tte_forms.specs.Answering.ForOctets}
 
 -- what holds of octets that were read holds for those that were left
 pub for_read : (left : Option (List ℕ)) (octets : List ℕ) (P : List ℕ → Type 0) → IfSome left (λ all. octets ≡ all) → P octets → ForOctets left P

@@ -1,9 +1,8 @@
 -- Lines put one after another.
-use Rattle.std.proofs.Common.{◌++◌, ◌∙◌, ◌∷◌, ◌≡◌, List, Option, [], ap, append_assoc, inl, inr, length, refl, subst, sym, ℕ}
-use Rattle.std.{proofs.{KnownBytes.{Appends-nil, Appends-trans}, lemmas.List.{append-nil, Folds.concat-append}}, specs.{Io.KnownBytes.Appends, List.concat}}
-use Rattle.tte_io.specs.{Faults.next_count, Told.AppendsFront}
-use Rattle.tte_forms.specs.{Answering.{Ends, Gives}, Putting.{PutFails, PutsLines, PutsNone, PutsSome, Shown, WriteFails, puts_after}}
-use Rattle.tte_forms.specs.declared.status.Status.{Status}
+use Rattle.std.proofs.{Common.{◌++◌, ◌∙◌, ◌∷◌, ◌≡◌, List, Option, [], ap, append_assoc, inl, inr, length, refl, subst, sym, ℕ}, lemmas.List.Folds.concat-append}
+use Rattle.{std.proofs.{KnownBytes.{Appends-nil, Appends-trans}, lemmas.List.append-nil}, tte_forms.specs.Answering.{Ends, Gives}}
+use Rattle.{std.specs.{Io.KnownBytes.Appends, List.concat}, tte_io.specs.{Faults.next_count, Told.AppendsFront}}
+use Rattle.tte_forms.specs.{Putting.{PutFails, PutsLines, PutsNone, PutsSome, Shown, WriteFails, puts_after}, declared.status.Status.Status}
 
 pub PutsLines-none : (s : Shown) → PutsLines [] s s
 PutsLines-none s = record { written = Appends-nil s.written; counted = refl }

@@ -1,10 +1,9 @@
 -- The forms of the words.
 use Rattle.std.specs.{Option.{option_and_then, option_map}, Str.bytes_eq}
 use Rattle.std.specs.Prelude.{◌-◌, ◌==◌, ◌^◌, ◌∷◌, ◌≤◌, List, None, Option, Some, [], codes, if◌then◌else◌, ℕ}
-use Rattle.net_plan.specs.{Ranges.IsWithin, declared.tables.Way.{Way, TheVariants.{Down, Up}}}
-use Rattle.trace_text.specs.Numbers.{number_up_to}
-use Rattle.tte_units.specs.{Amount.units_of, declared.units.Units.Units}
-use Rattle.tte_forms.specs.declared.form.Form.{Form}
+use Rattle.{net_plan.specs.{Ranges.IsWithin, declared.tables.Way.Way}, tte_forms.specs.declared.form.Form.Form}
+use Rattle.{net_plan.specs.declared.tables.Way.TheVariants.{Down, Up}, tte_units.specs.declared.units.Units.Units}
+use Rattle.{trace_text.specs.Numbers.number_up_to, tte_units.specs.Amount.units_of}
 use Rattle.tte_forms.specs.declared.form.Form.TheVariants.{Audit, Capture, Check, Run, Show, Stamp, Storm, Vote, Wire}
 
 -- a command with one file: `show FILE`, `check NETWORK` or `capture FILE`

@@ -1,9 +1,8 @@
 ghost use Rattle.std.specs.Prelude.{◌≡◌, ◌≤◌, IfSome};
 ghost use Rattle.net_plan.specs.Ranges.{IsWithin};
-ghost use Rattle.trace_text.specs.Numbers.{number_up_to};
+ghost use Rattle.{trace_text.specs.Numbers.number_up_to, tte_forms.specs.Forms.{vote_form, way_spelled, wire_form}};
 ghost use Rattle.tte_forms.specs.Forms.{IsFormInRange, cycles_spelled, form_of, four_words_form, granule_spelled};
 ghost use Rattle.tte_forms.specs.Forms.{greatest_granule, one_file_form, stamp_form, storm_form, two_files_form};
-ghost use Rattle.tte_forms.specs.Forms.{vote_form, way_spelled, wire_form};
 
 use crate::{Word, Words};
 use itoa::Buffer;

@@ -1,8 +1,7 @@
 ghost use Rattle.std.specs.Prelude.{◌*◌, ◌<◌, ◌^◌, ◌≡◌, ◌≢◌, ◌≤◌, length};
-ghost use Rattle.pcf_codec.specs.Spelling.{pcf_length};
-ghost use Rattle.tte_forms.specs.{Answering.{Answers, Gives}, Faults.{PutFailed, ReadFailed}, Putting.Over};
+ghost use Rattle.{pcf_codec.specs.Spelling.pcf_length, tte_forms.specs.{Answering.{Answers, Gives}, Putting.Over}};
+ghost use Rattle.tte_forms.specs.{Faults.{PutFailed, ReadFailed}, frames.{Answer.show_answer, Law.ShowsFrames}};
 ghost use Rattle.tte_forms.specs.frames.Answer.{IsShowStatus, file_limit, frame_at, frame_count, frames_answer};
-ghost use Rattle.tte_forms.specs.frames.{Answer.show_answer, Law.ShowsFrames};
 
 mod frame_line;
 

@@ -1,9 +1,8 @@
 -- What comes of the octets to come, where they are told.
 use Rattle.std.proofs.Common.{◌++◌, ◌<◌, ◌∙◌, ◌∷◌, ◌≡◌, ◌≢◌, Bool, Err, List, None, Ok, Option, Result, Some, [], ap, append-nil, append_assoc, arith, false}
-use Rattle.std.proofs.Common.{inl, inr, length, length-append, refl, subst, sym, true, ℕ}
+use Rattle.{std.proofs.Common.{inl, inr, length, length-append, refl, subst, sym, true, ℕ}, tte_io.specs.ReaderState.{LineReaderState, pending, to_come}}
 use Rattle.tte_io.{proofs.FirstLine.{behind_line-append, first_line-append, first_line-too_long}, specs.Line.{IsLine, behind_line, first_line, lf, line_limit}}
-use Rattle.tte_io.specs.{NextLine.{NextLine, TakesLine}, Outcome.{Outcome, TellsOutcome}, ReaderState.{LineReaderState, pending, to_come}}
-use Rattle.tte_io.specs.declared.lines.LineTaken.{LineTaken}
+use Rattle.tte_io.specs.{NextLine.{NextLine, TakesLine}, Outcome.{Outcome, TellsOutcome}, declared.lines.LineTaken.LineTaken}
 use Rattle.tte_io.specs.declared.lines.LineTaken.TheVariants as taken
 
 -- what was to come is what was given, and what is still to come

@@ -1,8 +1,7 @@
 -- A reader of lines gives what it reads, in order.
 use Rattle.std.proofs.Common.{◌++◌, ◌+◌, ◌∙◌, ◌≡◌, ◌≤◌, List, Option, Result, Some, [], ap, append_assoc, arith, length, length-append, refl, sym, ℕ}
-use Rattle.std.proofs.KnownBytes.{Consumes-nil, Consumes-trans}
+use Rattle.{std.proofs.KnownBytes.{Consumes-nil, Consumes-trans}, tte_io.specs.declared.{ends.SourceFailed.SourceFailed, lines.LineTaken.LineTaken}}
 use Rattle.tte_io.specs.{Line.ahead_limit, LinesGiven.{GivesInOrder, HasGiven}, NextLine.NextLine, ReaderState.{LineReaderState, pending}}
-use Rattle.tte_io.specs.declared.{ends.SourceFailed.SourceFailed, lines.LineTaken.LineTaken}
 
 goes_on : (first : Option (List ℕ)) (given : List ℕ) (before : LineReaderState) (left : Option (List ℕ)) (after : LineReaderState)
     (left_after : Option (List ℕ)) (result : Result LineTaken SourceFailed) → HasGiven first given before left

@@ -1,6 +1,5 @@
 ghost use Rattle.std.specs.Prelude.{◌≡◌, ◌≤◌, ◌+◌, ◌*◌, ◌↔◌, [], ◌∷◌, ◌++◌, length, decimal, IsTrue};
-ghost use Rattle.tte_io.specs.Line.{line_limit};
-ghost use Rattle.hex.specs.Hex.{encode_lower};
+ghost use Rattle.{hex.specs.Hex.encode_lower, tte_io.specs.Line.line_limit};
 
 use crate::digits::digit_count;
 use crate::hexadecimal::spell;

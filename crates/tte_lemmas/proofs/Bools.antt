@@ -1,7 +1,6 @@
 -- Facts on tests.
 use Rattle.std.proofs.{Common.{◌==◌, ◌||◌, ◌∙◌, ◌≡◌, Bool, MatchBool, None, Some, ap, arith, false, not, refl, sym, true, ℕ}, lemmas.Bool.eqb-true}
-use Rattle.std.specs.Prelude.{if◌then◌else◌, ◌&&◌}
-use Rattle.tte_lemmas.proofs.Options.{one}
+use Rattle.{std.specs.Prelude.{◌&&◌, if◌then◌else◌}, tte_lemmas.proofs.Options.one}
 
 pub or_none : (a : Bool) → (a || false) ≡ a
 or_none true = refl

@@ -1,18 +1,14 @@
 -- The answer of `wire` is one, and valid input is written to its end.
-use Rattle.std.proofs.Common.{◌∙◌, ◌≡◌, List, ap, inl, inr, length, subst, sym, ℕ}
-use Rattle.drift_world.specs.Running.{behind_events, last_time}
-use Rattle.net_plan.specs.{Bearers.link_names, declared.{event.Event.Event, ids.LinkId.LinkId, network.Network.Network, tables.Way.Way}}
-use Rattle.schedule_checker.specs.Refusals.{RefusalIsOne}
-use Rattle.tte_run.{proofs.captures_lemmas.wires_lemmas.Fronts.{all_whole, either_stops}, specs.captures.pcap.Writing.head_octets}
+use Rattle.{drift_world.specs.Running.{behind_events, last_time}, tte_traces.{proofs.Faults.{end_has_no_fault, fault_one}, specs.FaultLine.fault_status}}
+use Rattle.{net_plan.specs.Bearers.link_names, tte_units.specs.Amount.amount}
+use Rattle.{net_plan.specs.declared.{event.Event.Event, ids.LinkId.LinkId, tables.Way.Way}, tte_traces.proofs.{Admitted.stopped_one, Answers.whole_is}}
+use Rattle.{net_plan.specs.declared.network.Network.Network, tte_run.specs.captures.pcap.Writing.head_octets, world_drive.specs.exact.Records.clock_reading}
+use Rattle.{run_law.proofs.runs.NetworkRuns.run_is_one, schedule_checker.specs.Refusals.RefusalIsOne, tte_forms.specs.Answering.{Answer, with_line}}
+use Rattle.{run_law.specs.declared.note.Note.Note, trace_text.proofs.Bearing.place_found, tte_traces.specs.{Along.IsAllAdmitted, Answer.IsTraceAnswer}}
+use Rattle.{std.proofs.Common.{◌∙◌, ◌≡◌, List, ap, inl, inr, length, subst, sym, ℕ}, tte_traces.specs.declared.fault.TraceFault.TraceFault}
+use Rattle.{tte_forms.{proofs.networks.Answers.{alone_by, one_by}, specs.networks.Accepting.MeansAccepted}, tte_traces.specs.Lines.{AreAdmitted, behind_lines}}
+use Rattle.{tte_forms.specs.declared.status.Status.TheVariants.Done, tte_run.proofs.captures_lemmas.wires_lemmas.Fronts.{all_whole, either_stops}}
 use Rattle.tte_run.specs.captures.wires.Answer.{EndsEither, IsCapture, IsHeaded, IsNamed, IsWireAnswer, IsWireNetworkAnswer, silent_lines, way_lines}
-use Rattle.run_law.{proofs.runs.NetworkRuns.run_is_one, specs.declared.note.Note.Note}
-use Rattle.trace_text.proofs.Bearing.{place_found}
-use Rattle.tte_forms.{proofs.networks.Answers.{alone_by, one_by}, specs.{Answering.{Answer, with_line}, declared.status.Status.TheVariants.Done}}
-use Rattle.tte_forms.specs.networks.Accepting.{MeansAccepted}
-use Rattle.tte_traces.{proofs.{Admitted.stopped_one, Answers.whole_is, Faults.{end_has_no_fault, fault_one}}, specs.{Along.IsAllAdmitted, Answer.IsTraceAnswer}}
-use Rattle.tte_traces.specs.{FaultLine.fault_status, Lines.{AreAdmitted, behind_lines}, declared.fault.TraceFault.TraceFault}
-use Rattle.tte_units.specs.Amount.{amount}
-use Rattle.world_drive.specs.exact.Records.{clock_reading}
 
 -- ---- the packets of a way
 

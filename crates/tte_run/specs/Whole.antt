@@ -1,19 +1,16 @@
 -- What input is valid for each form; it is answered to its end.
 use Rattle.std.specs.Prelude.{◌≡◌, ◌≤◌, IfSome, List, None, Option, Some, [], length, true, ℕ}
-use Rattle.net_plan.specs.declared.{event.Event.Event, ids.LinkId.LinkId, network.Network.Network}
-use Rattle.tte_run.specs.captures.{Law.{IsFile, StandFrom}, wires.Answer.IsNamed}
+use Rattle.{net_plan.specs.declared.{event.Event.Event, ids.LinkId.LinkId}, world_drive.specs.exact.Records.HaveEnded}
+use Rattle.{net_plan.specs.declared.network.Network.Network, tte_forms.specs.declared.status.Status.Status}
+use Rattle.{pcf_codec.specs.Sequence.SpellsAll, tte_audit.specs.Answers.IsAudited, tte_forms.specs.Answering.IsDone}
+use Rattle.{pcf_values.specs.declared.pcf.Pcf.Pcf, tte_forms.specs.{declared.form.Form.Form, frames.Answer.file_limit}}
+use Rattle.tte_forms.specs.declared.form.Form.TheVariants.{Audit, Capture, Check, Run, Show, Stamp, Storm, Vote, Wire}
+use Rattle.{tte_forms.specs.networks.Accepting.MeansAccepted, tte_traces.specs.Lines.{AreAdmitted, behind_lines}}
+use Rattle.{tte_run.specs.captures.Law.{IsFile, StandFrom}, tte_traces.specs.reports.Answer.report_limit}
 use Rattle.tte_run.specs.{captures.pcap.Layout.{IsHead, head_length}, stamps.granules.Granules.least_granule}
+use Rattle.{tte_run.specs.captures.wires.Answer.IsNamed, tte_units.specs.{Amount.amount, declared.units.Units.Units}}
 use Rattle.tte_run.specs.declared.captures.pcap.capture.{CaptureHead.CaptureHead, Packet.Packet}
 use Rattle.tte_run.specs.{declared.votes.law.voters.Voters.Voters, votes.Answer.{AreNamed, MayThey, Names, the_names}}
-use Rattle.pcf_codec.specs.Sequence.{SpellsAll}
-use Rattle.pcf_values.specs.declared.pcf.Pcf.{Pcf}
-use Rattle.tte_audit.specs.Answers.{IsAudited}
-use Rattle.tte_forms.specs.{Answering.IsDone, declared.form.Form.Form}
-use Rattle.tte_forms.specs.declared.form.Form.TheVariants.{Audit, Capture, Check, Run, Show, Stamp, Storm, Vote, Wire}
-use Rattle.tte_forms.specs.{declared.status.Status.Status, frames.Answer.file_limit, networks.Accepting.MeansAccepted}
-use Rattle.tte_traces.specs.{Lines.{AreAdmitted, behind_lines}, reports.Answer.report_limit}
-use Rattle.tte_units.specs.{Amount.amount, declared.units.Units.Units}
-use Rattle.world_drive.specs.exact.Records.{HaveEnded}
 
 -- a file that spells a sequence is shown to its end
 abbrev pub ShowsWhole : List ℕ → Status → Type 0

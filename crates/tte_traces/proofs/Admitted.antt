@@ -1,12 +1,9 @@
 -- The events admitted from the octets of a trace.
+use Rattle.{run_law.specs.declared.outside.Outside.TheVariants.Order, world_drive.proofs.{Order.{not_less, sizes}, exact_lemmas.Events.{last_is, parted}}}
+use Rattle.{run_law.specs.scenario.Hypothesis.IsWithinHypothesis, std.proofs.lemmas.List.Quantifiers.Any-push, tte_lemmas.proofs.Lists.{fronts, none_before}}
+use Rattle.{std.proofs.Common.{◌≤ℤ◌, pos}, trace_text.proofs.ReadTimes.event_time, tte_traces.proofs.Faults.one_event}
+use Rattle.tte_traces.proofs.{EventOrder.{AreInOrder, IsInOrder}, Words.{behind_lines, event_read, first_line, last_time, length, refl, subst, sym, ℕ}}
 use Rattle.tte_traces.proofs.Words.{◌++◌, ◌∙◌, ◌∷◌, ◌≡◌, AreAdmitted, End, Event, IsAdmitted, List, Network, [], amount, ap, append-nil, append_assoc, arith}
-use Rattle.tte_traces.proofs.Words.{behind_lines, event_read, first_line, last_time, length, refl, subst, sym, ℕ}
-use Rattle.tte_traces.proofs.{EventOrder.{AreInOrder, IsInOrder}, Faults.one_event}
-use Rattle.std.proofs.{Common.{◌≤ℤ◌, pos}, lemmas.List.Quantifiers.Any-push}
-use Rattle.run_law.specs.{declared.outside.Outside.TheVariants.Order, scenario.Hypothesis.IsWithinHypothesis}
-use Rattle.trace_text.proofs.ReadTimes.{event_time}
-use Rattle.tte_lemmas.proofs.Lists.{fronts, none_before}
-use Rattle.world_drive.proofs.{Order.{not_less, sizes}, exact_lemmas.Events.{last_is, parted}}
 
 -- ---- no events
 

@@ -1,8 +1,7 @@
 -- The observer of a report puts its lines along the run.
+use Rattle.tte_traces.{proofs.{Fronts.{answer_begins, ended_begins, next_begins}, Words.{report_of, subst, sym, ℕ}}, specs.Report.{PutsReport, StopsReport}}
 use Rattle.tte_traces.proofs.Words.{AreAdmitted, Event, IsFrontOf, IsTraceAnswer, List, Network, None, Note, Option, Some, inl, inr, refl, report_lines}
-use Rattle.tte_traces.proofs.Words.{report_of, subst, sym, ℕ}
-use Rattle.world_drive.specs.Observing.{Sees, Stops}
-use Rattle.tte_traces.{proofs.Fronts.{answer_begins, ended_begins, next_begins}, specs.{Along.{IsShortAt, PutsAlong}, Report.{PutsReport, StopsReport}}}
+use Rattle.{tte_traces.specs.Along.{IsShortAt, PutsAlong}, world_drive.specs.Observing.{Sees, Stops}}
 
 -- what it sees
 abbrev pub report_sees : {O : Type 0} → Sees O

@@ -1,8 +1,7 @@
 -- The answer of `run` is one, and valid input is answered to its end.
-use Rattle.tte_traces.proofs.Words.{◌≡◌, Answer, Done, Event, IsRunAnswer, List, MeansAccepted, Network, report_lines, ℕ}
-use Rattle.schedule_checker.specs.Refusals.{RefusalIsOne}
-use Rattle.tte_forms.{proofs.networks.Answers.{accepted_alone, network_answer_one}, specs.networks.Accepting.IsNetworkAnswer}
-use Rattle.tte_traces.proofs.{Answers.{IsAllAdmitted, trace_answer_one}, Given.all_done}
+use Rattle.{schedule_checker.specs.Refusals.RefusalIsOne, tte_forms.specs.networks.Accepting.IsNetworkAnswer}
+use Rattle.{tte_forms.proofs.networks.Answers.{accepted_alone, network_answer_one}, tte_traces.proofs.Answers.{IsAllAdmitted, trace_answer_one}}
+use Rattle.tte_traces.proofs.{Given.all_done, Words.{◌≡◌, Answer, Done, Event, IsRunAnswer, List, MeansAccepted, Network, report_lines, ℕ}}
 
 -- the octets of a network file and of a trace have one answer
 pub run_one : RefusalIsOne → (octets trace : List ℕ) (a b : Answer) → IsNetworkAnswer (IsRunAnswer trace) octets a

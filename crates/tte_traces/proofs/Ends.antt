@@ -1,16 +1,14 @@
 -- How a run under a trace ends, by how its drive did.
+use Rattle.{std.proofs.KnownBytes.Appends-trans, tte_forms.{proofs.Puts.PutsLines-still, specs.{Answering.Ends, Faults.HasCause, Putting.StopsWriting}}}
+use Rattle.{tte_forms.specs.declared.status.Status.TheVariants.{OutOfMemory, ReadFault, WriteFault}, world_drive.specs.declared.observing.Cut.Cut}
+use Rattle.tte_traces.{proofs.{Admitted.events_admitted, Streams.{for_trace, writes_answer, writes_none, writes_nothing}}, specs.Report.{StopsLines, shown_as}}
+use Rattle.{tte_traces.{proofs.Answers.IsAllAdmitted, specs.Along.{IsShortAt, PutsAlong}}, world_drive.specs.exact.Worlds.ExactWorld}
+use Rattle.{tte_traces.proofs.Given.{faulty_given, front_failed, front_given, whole_failed, whole_given}, world_drive.proofs.exact_lemmas.Given.if_some}
+use Rattle.tte_traces.proofs.{Taken.gave_some, Words.{behind_lines, fault_answer, fault_status, for_more, inl, inr, length, pending, refl, shown_by, subst, ℕ}}
 use Rattle.tte_traces.proofs.Words.{◌++◌, ◌+◌, ◌∙◌, ◌∷◌, ◌≡◌, ◌⊎◌, After, Answer, AreAdmitted, AreRecordsSoFar, Done, Err, Event, ForOctets, GaveEvents, Gives}
 use Rattle.tte_traces.proofs.Words.{GivesOne, IsFault, IsFrontOf, IsTraceAnswer, Line, LinesOf, List, Long, Missing, Network, None, Note, Option, Outlaw}
 use Rattle.tte_traces.proofs.Words.{PutsLines, ReadsOn, Rose, RunEnds, Shown, Some, Status, TakesFew, TooMany, Trace, TraceFault, TraceStop, [], ap}
-use Rattle.tte_traces.proofs.Words.{behind_lines, fault_answer, fault_status, for_more, inl, inr, length, pending, refl, shown_by, subst, ℕ}
-use Rattle.tte_traces.proofs.{Admitted.events_admitted, Answers.IsAllAdmitted, Given.{faulty_given, front_failed, front_given, whole_failed, whole_given}}
-use Rattle.tte_traces.{proofs.{Streams.{for_trace, writes_answer, writes_none, writes_nothing}, Taken.gave_some}, specs.Along.{IsShortAt, PutsAlong}}
-use Rattle.tte_traces.specs.{Report.{StopsLines, shown_as}, Streaming.{ForTrace, StopsBehindLines, TakesLittle, WritesSome}}
-use Rattle.tte_traces.specs.Taking.{EndedBehind, IsStopAt, StoppedBehind, TakesFewFrom}
-use Rattle.std.proofs.KnownBytes.{Appends-trans}
-use Rattle.tte_forms.{proofs.Puts.PutsLines-still, specs.{Answering.Ends, Faults.HasCause, Putting.StopsWriting}}
-use Rattle.tte_forms.specs.declared.status.Status.TheVariants.{OutOfMemory, ReadFault, WriteFault}
-use Rattle.world_drive.{proofs.exact_lemmas.Given.if_some, specs.{declared.observing.Cut.Cut, exact.Worlds.ExactWorld}}
+use Rattle.tte_traces.specs.{Streaming.{ForTrace, StopsBehindLines, TakesLittle, WritesSome}, Taking.{EndedBehind, IsStopAt, StoppedBehind, TakesFewFrom}}
 use Rattle.world_drive.specs.{Driving.{DrivesAll, DrivesCut, DrivesSoFar, HasSeenSoFar, IsCutAt}, Observing.{Sees, Stops, Told, told_by}}
 use Rattle.tte_io.specs.declared.ends.Sink as sinks
 use Rattle.tte_io.specs.declared.ends.Source as sources

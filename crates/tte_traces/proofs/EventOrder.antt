@@ -1,7 +1,6 @@
 -- Events in order.
+use Rattle.{std.proofs.Common.{◌≤ℤ◌, fold, pos, slice_get}, tte_units.specs.Amount.units_of}
 use Rattle.tte_traces.proofs.Words.{◌++◌, ◌∷◌, ◌≡◌, ◌≤◌, EndsAt, Event, List, Some, Units, [], amount, arith, last_time, subst, suc, zero, ℕ}
-use Rattle.std.proofs.Common.{◌≤ℤ◌, fold, pos, slice_get}
-use Rattle.tte_units.specs.Amount.{units_of}
 
 -- the times of the events are from this on, and none is earlier than one before it
 abbrev pub IsInOrder : ℕ → List Event → Type 0

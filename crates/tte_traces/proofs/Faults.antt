@@ -1,9 +1,8 @@
 -- The fault of a trace behind the events admitted is one.
+use Rattle.{run_law.proofs.scenario.Decided.hypothesis_is_decided, std.proofs.lemmas.Bool.cases_order}
+use Rattle.{run_law.specs.scenario.Hypothesis.{IsOutsideBy, IsWithinHypothesis}, trace_text.specs.declared.refusal.LineRefusal.LineRefusal}
 use Rattle.tte_traces.proofs.Words.{◌<◌, ◌≡◌, ◌≤◌, After, Err, Event, HaveEnded, IsAdmitted, IsFault, Line, List, Long, Missing, Network, Ok, Outlaw, Read}
 use Rattle.tte_traces.proofs.Words.{TooMany, TraceFault, [], ap, arith, event_read, first_line, inl, inr, refl, subst, ℕ}
-use Rattle.std.proofs.lemmas.Bool.{cases_order}
-use Rattle.run_law.{proofs.scenario.Decided.hypothesis_is_decided, specs.scenario.Hypothesis.{IsOutsideBy, IsWithinHypothesis}}
-use Rattle.trace_text.specs.declared.refusal.LineRefusal.{LineRefusal}
 
 -- one reading
 pub one_event : (r : Read Event) (d e : Event) → r ≡ Ok d → r ≡ Ok e → d ≡ e

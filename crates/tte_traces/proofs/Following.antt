@@ -1,15 +1,13 @@
 -- One more event of a trace that is taken line by line.
-use Rattle.tte_traces.proofs.Words.{if◌then◌else◌, ◌++◌, ◌+◌, ◌<◌, ◌==◌, ◌^◌, ◌∙◌, ◌∷◌, ◌≡◌, ◌≢◌, ◌≤◌, ◌⊎◌, AreAdmitted, Bool, End, Err, Event, HaveEnded}
-use Rattle.tte_traces.proofs.Words.{IfSome, IsAdmitted, IsFault, IsOfNetwork, LineReaderState, LineTaken, List, Network, None, Ok, Option, Read, ReadsOn}
-use Rattle.tte_traces.proofs.Words.{Result, Some, TakesFew, Trace, TraceFault, TraceStop, [], ap, append-nil, append_assoc, arith, behind_lines, event_read}
-use Rattle.tte_traces.proofs.Words.{false, first_line, inl, inr, length, length-append, pending, refl, subst, suc, sym, true, zero, ℕ}
-use Rattle.std.{proofs.{Common.◌↔◌, lemmas.Bool.false_from_ne_true}, specs.Prelude.{IfErr, IfOk}}
-use Rattle.fault_hypothesis.{proofs.Befalling.{any_last, stands_where}, specs.{Watching.Watches, declared.watch.Watch.Watch}}
-use Rattle.schedule_tables.specs.declared.accepted.Accepted.{Accepted}
-use Rattle.trace_text.specs.Ranges.{IsEventInRange}
-use Rattle.tte_io.proofs.{Coming.outcome_told, FirstLine.{behind_line-append, first_line-append, first_line-too_long}}
-use Rattle.tte_io.specs.{Line.{IsUnbroken, ahead_limit, behind_line, lf, line_limit}, NextLine.NextLine, Outcome.{Outcome, TellsOutcome}, ReaderState.to_come}
-use Rattle.tte_lemmas.proofs.Lists.{any_none, any_parts}
+use Rattle.{fault_hypothesis.proofs.Befalling.{any_last, stands_where}, tte_io.specs.Line.{IsUnbroken, ahead_limit, behind_line, lf, line_limit}}
+use Rattle.{fault_hypothesis.specs.Watching.Watches, std.proofs.{Common.◌↔◌, lemmas.Bool.false_from_ne_true}, trace_text.specs.Ranges.IsEventInRange}
+use Rattle.{fault_hypothesis.specs.declared.watch.Watch.Watch, tte_io.specs.Outcome.{Outcome, TellsOutcome}, tte_lemmas.proofs.Lists.{any_none, any_parts}}
+use Rattle.{schedule_tables.specs.declared.accepted.Accepted.Accepted, tte_io.proofs.FirstLine.{behind_line-append, first_line-append, first_line-too_long}}
+use Rattle.{std.specs.Prelude.{IfErr, IfOk}, tte_io.{proofs.Coming.outcome_told, specs.{NextLine.NextLine, ReaderState.to_come}}}
+use Rattle.tte_traces.proofs.Words.{◌++◌, ◌+◌, ◌<◌, ◌==◌, ◌^◌, ◌∙◌, ◌∷◌, ◌≡◌, ◌≢◌, ◌≤◌, ◌⊎◌, AreAdmitted, Bool, End, Err, Event, HaveEnded, IfSome, IsAdmitted}
+use Rattle.tte_traces.proofs.Words.{IsFault, IsOfNetwork, LineReaderState, LineTaken, List, Network, None, Ok, Option, Read, ReadsOn, Result, Some, TakesFew}
+use Rattle.tte_traces.proofs.Words.{Trace, TraceFault, TraceStop, [], ap, append-nil, append_assoc, arith, behind_lines, event_read, false, first_line}
+use Rattle.tte_traces.proofs.Words.{if◌then◌else◌, inl, inr, length, length-append, pending, refl, subst, suc, sym, true, zero, ℕ}
 use denote.Bor.{Bor}
 use Rattle.tte_traces.proofs.TakenLines.{as_told, ends_so, none_left_after}
 use Rattle.tte_traces.specs.{Following.{Follows, GoesOn, IsFound, IsRefused, Judges, JudgesSo, Reads, ReadsAny, ReadsMore}, Lines.StandWhole}

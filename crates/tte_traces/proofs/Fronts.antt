@@ -1,13 +1,11 @@
 -- What the answer of `run` begins with: the reports of the fronts of its run.
+use Rattle.{report_text.specs.NoteLine.note_line, run_law.specs.records.Order.IsBefore, world_law.specs.source.Applying.place_of_event}
+use Rattle.{run_law.proofs.runs.{NetworkRuns.earlier_run_is_front, Places.before_next_time}, world_drive.proofs.Earlier.{no_further, so_far_at}}
+use Rattle.std.proofs.lemmas.List.{map-append}
 use Rattle.tte_traces.proofs.{Admitted.{admitted_in_order, admitted_one, front_admitted}, Words.{last_time, length, report_lines, report_of, subst, sym, ℕ}}
 use Rattle.tte_traces.proofs.{Answers.{AnswersEither, BeginWith, IsAllAdmitted, all_is_whole, answer_stops}, EventOrder.{last_before, last_of}, Lasting.lasts}
 use Rattle.tte_traces.proofs.Words.{◌++◌, ◌+◌, ◌∙◌, ◌∷◌, ◌≡◌, Answer, AreAdmitted, AreRecordsBefore, AreRecordsSoFar, EndsAt, Event, IsRunAnswer, List, Network}
 use Rattle.tte_traces.proofs.Words.{Note, Units, [], amount, ap, append-nil, append_assoc, arith, behind_events, clock_reading, fault_lines, inl, inr}
-use Rattle.std.proofs.lemmas.List.{map-append}
-use Rattle.report_text.specs.NoteLine.{note_line}
-use Rattle.run_law.{proofs.runs.{NetworkRuns.earlier_run_is_front, Places.before_next_time}, specs.records.Order.IsBefore}
-use Rattle.world_drive.proofs.Earlier.{no_further, so_far_at}
-use Rattle.world_law.specs.source.Applying.{place_of_event}
 
 -- ---- reports
 

@@ -1,14 +1,12 @@
 -- The run up to the next event lasts under this event and those behind it.
-use Rattle.tte_traces.proofs.Words.{if◌then◌else◌, ◌++◌, ◌<◌, ◌∙◌, ◌∷◌, ◌≡◌, ◌≤◌, AreAdmitted, AreRecordsBefore, Bool, Event, HaveEnded, List}
-use Rattle.tte_traces.proofs.Words.{Network, None, Note, Option, Some, [], amount, ap, append-nil, arith, clock_reading, refl, suc, sym, ℕ}
-use Rattle.tte_traces.proofs.{Admitted.admitted_in_order, EventOrder.not_earlier}
-use Rattle.std.{proofs.{Common.{filter, slice_get}, lemmas.{Bool.lt-leb, List.Elements.{filter-append, filter_map-append}}}, specs.List.cons_option}
+use Rattle.{drift_clock.specs.RateSteps.{RateStep, up_to}, net_plan.specs.declared.ids.DeviceId.DeviceId, run_law.proofs.scenario.Rated.{Holds, step_at}}
+use Rattle.{drift_clock.specs.Readings.value_after, std.specs.List.cons_option, tte_traces.proofs.EventOrder.not_earlier, world_law.specs.source.Agreeing.Agree}
+use Rattle.{drift_clock.specs.Segment.{fresh_segment, segment_reading, stepped_segment}, std.proofs.lemmas.List.Elements.{filter-append, filter_map-append}}
+use Rattle.{run_law.specs.records.Order.IsBefore, std.proofs.{Common.{filter, slice_get}, lemmas.Bool.lt-leb}, world_drive.proofs.Order.have_ended}
+use Rattle.{run_law.specs.scenario.Rates.{rate_steps, step_by}, world_law.{proofs.runs.Stays.run_stays_under_more, specs.source.Applying.place_of_event}}
 use Rattle.std.specs.Prelude.{nat_le}
-use Rattle.drift_clock.specs.{RateSteps.{RateStep, up_to}, Readings.value_after, Segment.{fresh_segment, segment_reading, stepped_segment}}
-use Rattle.net_plan.specs.declared.{ids.DeviceId.DeviceId}
-use Rattle.run_law.{proofs.scenario.Rated.{Holds, step_at}, specs.{records.Order.IsBefore, scenario.Rates.{rate_steps, step_by}}}
-use Rattle.world_drive.proofs.Order.{have_ended}
-use Rattle.world_law.{proofs.runs.Stays.run_stays_under_more, specs.source.{Agreeing.Agree, Applying.place_of_event}}
+use Rattle.tte_traces.proofs.{Admitted.admitted_in_order, Words.{Some, [], amount, ap, append-nil, arith, clock_reading, if◌then◌else◌, refl, suc, sym, ℕ}}
+use Rattle.tte_traces.proofs.Words.{◌++◌, ◌<◌, ◌∙◌, ◌∷◌, ◌≡◌, ◌≤◌, AreAdmitted, AreRecordsBefore, Bool, Event, HaveEnded, List, Network, None, Note, Option}
 
 -- ---- later events change nothing before them
 

@@ -1,18 +1,16 @@
 -- What a command over a trace writes is of a run that is safe.
-use Rattle.tte_traces.proofs.{EventRanges.event_in_range, Existing.records_before, Words.ℕ}
+use Rattle.{drift_clock.proofs.ExactSegments.exact_laws, run_law.specs.law.FirstLaws.IsEventInRange, tte_traces.proofs.{EventRanges.event_in_range, Words.ℕ}}
+use Rattle.{drift_clock.specs.Segment.{fresh_segment, segment_reading, stepped_segment}, tte_forms.proofs.Safely.{IsSafeAnswer, none_safe, puts_safely}}
+use Rattle.{run_law.proofs.runs.{NetworkRuns.earlier_run_is_front, Places.before_next_time}, world_drive.proofs.exact_lemmas.Clocks.exact_begins}
+use Rattle.{std.proofs.lemmas.List.Elements.{All-cons, All-nil}, trace_text.proofs.ReadOfNetwork.read_of_network, tte_forms.specs.networks.NoNetworks.answer_by}
+use Rattle.{std.specs.List.All, tte_forms.specs.{Answering.GivesAnswer, Putting.PutsSo}}
+use Rattle.{traffic_law.proofs.safety_lemmas.{Clocked.{ended, own, so_far}, Times.last_in_time}, tte_forms.specs.declared.accepting.NoNetwork.NoNetwork}
+use Rattle.{traffic_law.specs.safety.Under.IsUnder, tte_forms.proofs.{Octets.for_all, OneAnswers.answer_widened}, tte_traces.proofs.Existing.records_before}
 use Rattle.tte_traces.proofs.Words.{◌++◌, ◌+◌, ◌∷◌, ◌≡◌, ◌⊎◌, After, Answer, AreAdmitted, AreAllRecords, AreRecordsSoFar, Done, Event, ForOctets, Gives}
 use Rattle.tte_traces.proofs.Words.{IsFault, IsInRange, IsOfNetwork, IsRunAnswer, IsTraceAnswer, Line, LinesOf, List, Long, MeansAccepted, Missing, Network}
 use Rattle.tte_traces.proofs.Words.{Note, Option, Outlaw, PutsLines, Shown, Status, TooMany, TraceFault, [], amount, ap, behind_events, behind_lines}
 use Rattle.tte_traces.proofs.Words.{clock_reading, fault_lines, fault_status, first_line, for_more, inl, inr, last_time, length, refl, report_lines, subst, sym}
 use Rattle.tte_traces.specs.Safely.{BeginsRunTo, IsGoodRun, IsGoodRunBefore, IsReportToFault, IsWholeReport, OfRunToFault, OfWholeRun, PutsOfRun, RunsSafely}
-use Rattle.std.{proofs.lemmas.List.Elements.{All-cons, All-nil}, specs.List.All}
-use Rattle.drift_clock.{proofs.ExactSegments.exact_laws, specs.Segment.{fresh_segment, segment_reading, stepped_segment}}
-use Rattle.run_law.{proofs.runs.{NetworkRuns.earlier_run_is_front, Places.before_next_time}, specs.law.FirstLaws.IsEventInRange}
-use Rattle.traffic_law.{proofs.safety_lemmas.{Clocked.{ended, own, so_far}, Times.last_in_time}, specs.safety.Under.IsUnder}
-use Rattle.trace_text.proofs.ReadOfNetwork.{read_of_network}
-use Rattle.tte_forms.proofs.{Octets.for_all, OneAnswers.answer_widened, Safely.{IsSafeAnswer, none_safe, puts_safely}}
-use Rattle.tte_forms.specs.{Answering.GivesAnswer, Putting.PutsSo, declared.accepting.NoNetwork.NoNetwork, networks.NoNetworks.answer_by}
-use Rattle.world_drive.proofs.exact_lemmas.Clocks.{exact_begins}
 use Rattle.tte_forms.specs.declared.accepting.NoNetwork.TheVariants as causes
 
 -- ---- what the laws on runs ask

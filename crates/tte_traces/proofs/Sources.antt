@@ -1,8 +1,7 @@
 -- The answer of a command over a trace for its source.
-use Rattle.tte_traces.proofs.Streams.{untouched, writes_nothing}
-use Rattle.tte_traces.proofs.Words.{◌≡◌, Answer, ForOctets, GivesOne, LinesOf, List, Network, Option, RunEnds, Shown, Status, [], for_more, inl, inr, refl, ℕ}
 use Rattle.tte_forms.proofs.{Octets.for_all, OneAnswers.{none_put, one_of}, Puts.PutsLines-none}
-use Rattle.tte_forms.specs.{Answering.GivesAnswer, declared.status.Status.TheVariants.OutOfMemory}
+use Rattle.{tte_forms.specs.{Answering.GivesAnswer, declared.status.Status.TheVariants.OutOfMemory}, tte_traces.proofs.Streams.{untouched, writes_nothing}}
+use Rattle.tte_traces.proofs.Words.{◌≡◌, Answer, ForOctets, GivesOne, LinesOf, List, Network, Option, RunEnds, Shown, Status, [], for_more, inl, inr, refl, ℕ}
 
 -- where there is no memory for a run, nothing was put, whatever the answers are
 pub no_memory : (Is : List ℕ → Answer → Type 0) (lines : LinesOf) (network : Network) (left : Option (List ℕ)) (s : Shown) → lines network [] [] ≡ []

@@ -1,11 +1,9 @@
 -- What a run has written, and what it has taken of its trace by then.
-use Rattle.tte_traces.proofs.Words.{if◌then◌else◌, ◌++◌, ◌==◌, ◌∷◌, ◌≡◌, ◌≤◌, Answer, Bool, Gives, LinesOf, List, Network, None, Option, PutFails, PutsLines}
-use Rattle.tte_traces.proofs.Words.{Shown, Some, Status, [], arith, false, inl, inr, length, refl, subst, suc, sym, true, ℕ}
-use Rattle.std.{proofs.KnownBytes.{Appends-nil, Appends-trans}, specs.{Io.KnownBytes.Appends, List.concat}}
-use Rattle.tte_forms.{proofs.Puts.PutsLines-none, specs.Putting.{PutsNone, WriteFails}}
+use Rattle.{std.{proofs.KnownBytes.{Appends-nil, Appends-trans}, specs.Io.KnownBytes.Appends}, tte_traces.specs.Streaming.{ForTrace, TakesLittle, WritesSome}}
+use Rattle.{std.specs.List.concat, tte_forms.{proofs.Puts.PutsLines-none, specs.Putting.{PutsNone, WriteFails}}, world_drive.proofs.Earlier.records_none}
 use Rattle.tte_io.specs.Line.{behind_line, lf}
-use Rattle.world_drive.proofs.Earlier.{records_none}
-use Rattle.tte_traces.{proofs.Admitted.admitted_none, specs.Streaming.{ForTrace, TakesLittle, WritesSome}}
+use Rattle.tte_traces.proofs.{Admitted.admitted_none, Words.{Status, [], arith, false, if◌then◌else◌, inl, inr, length, refl, subst, suc, sym, true, ℕ}}
+use Rattle.tte_traces.proofs.Words.{◌++◌, ◌==◌, ◌∷◌, ◌≡◌, ◌≤◌, Answer, Bool, Gives, LinesOf, List, Network, None, Option, PutFails, PutsLines, Shown, Some}
 
 -- ---- what was written grew
 

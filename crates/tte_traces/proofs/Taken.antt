@@ -1,13 +1,10 @@
 -- A trace gives its events one after another.
+use Rattle.{drift_world.specs.Running.HoldsATime, std.specs.Prelude.IfErr, trace_text.specs.Ranges.IsWhatInRange, tte_forms.specs.Putting.IsPassedOn}
+use Rattle.{std.proofs.Common.{◌-◌, Bool, false, true}, tte_forms.specs.Faults.{PutFailed, ReadFailed}, tte_traces.proofs.Words.{shown_by, subst, sym, ℕ}}
 use Rattle.tte_traces.proofs.Words.{◌++◌, ◌<◌, ◌^◌, ◌∙◌, ◌∷◌, ◌≡◌, ◌≢◌, AreAdmitted, Err, Event, ForOctets, GaveEvents, IfSome, List, Network, None, Ok, Option}
 use Rattle.tte_traces.proofs.Words.{ReadsOn, Result, Rose, Some, TakesFew, Trace, TraceStop, What, [], ap, arith, behind_lines, length, length-append, refl}
-use Rattle.tte_traces.{proofs.Words.{shown_by, subst, sym, ℕ}, specs.declared.fault.TraceStop.TheVariants.{Fault, ReadFault, WriteFault}}
 use Rattle.tte_traces.specs.{Following.{Follows, GivesEvent, GoesOn, IsRefused, Reads, ReadsMore, TakesNext}, Taking.{EndedBehind, IsStopAt, StoppedBehind}}
-use Rattle.std.{proofs.Common.{◌-◌, Bool, false, true}, specs.Prelude.IfErr}
-use Rattle.drift_world.specs.Running.{HoldsATime}
-use Rattle.trace_text.specs.Ranges.{IsWhatInRange}
-use Rattle.tte_forms.specs.{Faults.{PutFailed, ReadFailed}, Putting.IsPassedOn}
-use Rattle.world_drive.specs.Sources.{GivesNext, MayGive, given_in}
+use Rattle.{tte_traces.specs.declared.fault.TraceStop.TheVariants.{Fault, ReadFault, WriteFault}, world_drive.specs.Sources.{GivesNext, MayGive, given_in}}
 use Rattle.net_plan.specs.declared.event.What.TheVariants as kinds
 use Rattle.tte_io.specs.declared.ends.Sink as sinks
 use Rattle.tte_io.specs.declared.ends.Source as sources

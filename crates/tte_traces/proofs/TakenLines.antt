@@ -1,8 +1,7 @@
 -- A line taken from the octets ahead, or by reads.
-use Rattle.tte_traces.proofs.Words.{◌++◌, ◌∙◌, ◌∷◌, ◌≡◌, ◌≢◌, Bool, Err, LineReaderState, LineTaken, List, Ok, Option, Result, Some, [], ap, append-nil, arith}
-use Rattle.tte_traces.proofs.Words.{false, inl, inr, pending, refl, subst, sym, true, ℕ}
 use Rattle.std.{proofs.KnownBytes.Consumes-nil, specs.Io.KnownBytes.Consumes}
-use Rattle.tte_io.specs.NextLine.{Answers, IsEnd, KeepsLine, NextLine}
+use Rattle.{tte_io.specs.NextLine.{Answers, IsEnd, KeepsLine, NextLine}, tte_traces.proofs.Words.{false, inl, inr, pending, refl, subst, sym, true, ℕ}}
+use Rattle.tte_traces.proofs.Words.{◌++◌, ◌∙◌, ◌∷◌, ◌≡◌, ◌≢◌, Bool, Err, LineReaderState, LineTaken, List, Ok, Option, Result, Some, [], ap, append-nil, arith}
 use Rattle.tte_io.specs.declared.lines.LineTaken.TheVariants as taken
 
 -- the same call with another answer, of which this is so, or from other octets

@@ -1,13 +1,11 @@
 -- What a command over a trace answers, and what `run` does.
 use Rattle.std.specs.Prelude.{◌++◌, ◌+◌, ◌≡◌, ◌⊎◌, List, [], length, ℕ}
-use Rattle.net_plan.specs.declared.{event.Event.Event, network.Network.Network}
-use Rattle.report_text.specs.NoteLine.{report_of}
-use Rattle.run_law.specs.declared.note.Note.{Note}
-use Rattle.tte_forms.specs.{Answering.Answer, Statuses.IsNetworkStatus}
+use Rattle.{net_plan.specs.declared.event.Event.Event, tte_forms.specs.{Answering.Answer, Statuses.IsNetworkStatus}}
+use Rattle.{net_plan.specs.declared.network.Network.Network, tte_traces.specs.FaultLine.{fault_lines, fault_status}}
+use Rattle.{report_text.specs.NoteLine.report_of, run_law.specs.declared.note.Note.Note}
 use Rattle.tte_forms.specs.declared.status.Status.{Status, TheVariants.{Done, OutsideHypothesis, TraceRefused}}
+use Rattle.tte_traces.specs.{Lines.{AreAdmitted, IsFault, behind_lines}, declared.fault.TraceFault.TraceFault}
 use Rattle.world_drive.specs.exact.Records.{AreAllRecords, AreRecordsSoFar, HaveEnded}
-use Rattle.tte_traces.specs.{FaultLine.{fault_lines, fault_status}, Lines.{AreAdmitted, IsFault, behind_lines}}
-use Rattle.tte_traces.specs.declared.fault.TraceFault.{TraceFault}
 
 -- the lines that are put of a run under the events, by these records
 abbrev pub LinesOf : Type 0

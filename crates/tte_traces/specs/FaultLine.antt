@@ -1,9 +1,8 @@
 -- The lines about a trace that is refused.
 use Rattle.std.specs.{Fmt.decimal, Prelude.{◌++◌, ◌∷◌, List, [], codes, ℕ}}
-use Rattle.run_law.specs.{declared.outside.Outside.Outside, scenario.Hypothesis.condition_number}
-use Rattle.trace_text.specs.declared.refusal.LineRefusal.{LineRefusal}
+use Rattle.{run_law.specs.declared.outside.Outside.Outside, trace_text.specs.declared.refusal.LineRefusal.LineRefusal}
+use Rattle.{run_law.specs.scenario.Hypothesis.condition_number, tte_traces.specs.declared.fault.TraceFault.TraceFault}
 use Rattle.tte_forms.specs.declared.status.Status.{Status, TheVariants.{OutsideHypothesis, TooLong, TraceRefused}}
-use Rattle.tte_traces.specs.declared.fault.TraceFault.{TraceFault}
 use Rattle.trace_text.specs.declared.refusal.LineRefusal.TheVariants as refusals
 use Rattle.tte_traces.specs.declared.fault.TraceFault.TheVariants as faults
 

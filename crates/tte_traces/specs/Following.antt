@@ -1,15 +1,14 @@
 -- How a trace that is taken line by line stands to the events that it gave.
 use Rattle.std.specs.Prelude.{◌++◌, ◌+◌, ◌<◌, ◌^◌, ◌↔◌, ◌∷◌, ◌≡◌, ◌≢◌, ◌≤◌, Err, IfSome, List, None, Ok, Option, Result}
 use Rattle.std.specs.Prelude.{Some, [], false, length, true, ℕ}
-use Rattle.fault_hypothesis.specs.Watching.{Watches}
-use Rattle.net_plan.specs.{Belonging.IsOfNetwork, declared.{event.Event.Event, network.Network.Network}}
-use Rattle.run_law.specs.scenario.Hypothesis.{IsWithinHypothesis}
-use Rattle.trace_text.specs.Ranges.{IsEventInRange}
+use Rattle.{fault_hypothesis.specs.Watching.Watches, trace_text.specs.Ranges.IsEventInRange}
+use Rattle.net_plan.specs.Belonging.{IsOfNetwork}
+use Rattle.{net_plan.specs.declared.event.Event.Event, world_drive.specs.exact.Records.HaveEnded}
+use Rattle.{net_plan.specs.declared.network.Network.Network, tte_traces.specs.declared.fault.TraceStop.TraceStop}
+use Rattle.{run_law.specs.scenario.Hypothesis.IsWithinHypothesis, tte_traces.specs.declared.fault.TraceFault.TraceFault}
 use Rattle.tte_io.specs.{Line.{IsUnbroken, ahead_limit, first_line, line_limit}, ReaderState.{LineReaderState, pending}}
-use Rattle.tte_io.specs.declared.lines.LineTaken.{LineTaken}
-use Rattle.world_drive.specs.exact.Records.{HaveEnded}
+use Rattle.{tte_io.specs.declared.lines.LineTaken.LineTaken, tte_traces.specs.declared.lines.Trace.Trace}
 use Rattle.tte_traces.specs.Lines.{AreAdmitted, IsAdmitted, IsFault, StandWhole, behind_lines}
-use Rattle.tte_traces.specs.declared.{fault.{TraceFault.TraceFault, TraceStop.TraceStop}, lines.Trace.Trace}
 use Rattle.tte_io.specs.declared.lines.LineTaken.TheVariants as found
 use Rattle.tte_traces.specs.declared.fault.TraceStop.TheVariants as stops
 

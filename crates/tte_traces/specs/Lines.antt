@@ -1,11 +1,9 @@
 -- A trace judged line by line.
 use Rattle.std.specs.Prelude.{◌++◌, ◌+◌, ◌<◌, ◌^◌, ◌∷◌, ◌≡◌, ◌≢◌, ◌≤◌, Err, List, Ok, [], length, suc, zero, ℕ}
-use Rattle.net_plan.specs.declared.{event.Event.Event, network.Network.Network}
+use Rattle.{net_plan.specs.declared.event.Event.Event, tte_io.specs.Line.{behind_line, first_line, lf, line_limit}}
+use Rattle.{net_plan.specs.declared.network.Network.Network, tte_traces.specs.declared.fault.TraceFault.TraceFault}
 use Rattle.run_law.specs.scenario.Hypothesis.{IsOutsideBy, IsWithinHypothesis}
-use Rattle.trace_text.specs.EventReading.{event_read}
-use Rattle.tte_io.specs.Line.{behind_line, first_line, lf, line_limit}
-use Rattle.world_drive.specs.exact.Records.{HaveEnded}
-use Rattle.tte_traces.specs.declared.fault.TraceFault.{TraceFault}
+use Rattle.{trace_text.specs.EventReading.event_read, world_drive.specs.exact.Records.HaveEnded}
 use Rattle.tte_traces.specs.declared.fault.TraceFault.TheVariants as faults
 
 -- what is left of the octets behind so many lines

@@ -1,9 +1,7 @@
 -- The report of a run, as it is put line by line.
 use Rattle.std.specs.Prelude.{List, None, ℕ}
-use Rattle.net_plan.specs.declared.network.Network.{Network}
-use Rattle.report_text.specs.NoteLine.{report_of}
-use Rattle.run_law.specs.declared.note.Note.{Note}
-use Rattle.tte_forms.specs.Putting.{PutsLines, Shown, StopsWriting}
+use Rattle.{net_plan.specs.declared.network.Network.Network, tte_forms.specs.Putting.{PutsLines, Shown, StopsWriting}}
+use Rattle.{report_text.specs.NoteLine.report_of, run_law.specs.declared.note.Note.Note}
 use Rattle.world_drive.specs.{Observing.Told, declared.observing.Cut.{Cut, TheVariants.{OutOfMemory, WriteFault}}}
 
 -- what is told of a sink, as it shows it; what it passed on is left out

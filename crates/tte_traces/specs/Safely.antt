@@ -1,18 +1,15 @@
 -- What a command over a trace writes is of a run that is safe, and what `run` writes is its report.
 use Rattle.std.specs.Prelude.{◌++◌, ◌+◌, ◌∷◌, ◌≡◌, ◌⊎◌, List, Option, [], length, ℕ}
 use Rattle.drift_clock.specs.Segment.{fresh_segment, segment_reading, stepped_segment}
-use Rattle.drift_world.specs.Running.{last_time}
-use Rattle.net_plan.specs.declared.{event.Event.Event, network.Network.Network}
-use Rattle.report_text.specs.NoteLine.{report_of}
-use Rattle.run_law.specs.{declared.note.Note.Note, records.Happenings.happenings}
+use Rattle.{drift_world.specs.Running.last_time, tte_forms.specs.Safely.PutsSafely}
+use Rattle.{net_plan.specs.declared.event.Event.Event, tte_traces.specs.FaultLine.fault_lines}
+use Rattle.{net_plan.specs.declared.network.Network.Network, run_law.specs.records.Happenings.happenings}
+use Rattle.{report_text.specs.NoteLine.report_of, run_law.specs.declared.note.Note.Note, tte_units.specs.Amount.amount}
 use Rattle.traffic_law.specs.safety.{Headline.{GoesWell, IsRunBefore, IsWholeRun}, Under.scenario_of}
-use Rattle.tte_forms.specs.{Answering.ForOctets, Putting.{PutsLines, PutsSo, Shown}, Safely.PutsSafely}
+use Rattle.tte_forms.specs.{Answering.ForOctets, Putting.{PutsLines, PutsSo, Shown}, networks.NetworkLine.IsRefusalText}
 use Rattle.tte_forms.specs.declared.status.Status.{Status, TheVariants.{Done, OutsideHypothesis, TooLong, TraceRefused}}
-use Rattle.tte_forms.specs.networks.{Accepting.MeansAccepted, NetworkLine.IsRefusalText}
-use Rattle.tte_units.specs.Amount.{amount}
-use Rattle.world_drive.specs.exact.Records.{AreRecordsBefore}
-use Rattle.tte_traces.specs.{FaultLine.fault_lines, Lines.{AreAdmitted, IsFault, behind_lines}}
-use Rattle.tte_traces.specs.declared.fault.TraceFault.{TraceFault}
+use Rattle.{tte_forms.specs.networks.Accepting.MeansAccepted, world_drive.specs.exact.Records.AreRecordsBefore}
+use Rattle.tte_traces.specs.{Lines.{AreAdmitted, IsFault, behind_lines}, declared.fault.TraceFault.TraceFault}
 
 -- ---- runs under the clocks of the program
 

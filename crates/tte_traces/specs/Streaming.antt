@@ -1,13 +1,10 @@
 -- How much of a trace was taken, and what was written by then.
 use Rattle.std.specs.{Io.KnownBytes.Appends, Prelude.{◌++◌, ◌≡◌, List, None, Option, Some, length, ℕ}}
-use Rattle.net_plan.specs.declared.{event.Event.Event, network.Network.Network}
-use Rattle.run_law.specs.declared.note.Note.{Note}
-use Rattle.tte_forms.specs.{Answering.ForOctets, Putting.{IsPassedOn, PutsLines, Shown}}
-use Rattle.tte_forms.specs.networks.Accepting.{MeansAccepted}
-use Rattle.tte_io.specs.Line.{IsUnbroken}
-use Rattle.world_drive.specs.exact.Records.{AreRecordsSoFar}
-use Rattle.tte_traces.specs.{Answer.{LinesOf, report_lines}, Following.TakesFew}
-use Rattle.tte_traces.specs.Lines.{AreAdmitted, StandWhole, behind_lines}
+use Rattle.{net_plan.specs.declared.event.Event.Event, run_law.specs.declared.note.Note.Note}
+use Rattle.{net_plan.specs.declared.network.Network.Network, world_drive.specs.exact.Records.AreRecordsSoFar}
+use Rattle.{tte_forms.specs.Answering.ForOctets, tte_io.specs.Line.IsUnbroken, tte_traces.specs.Following.TakesFew}
+use Rattle.tte_forms.specs.{Putting.{IsPassedOn, PutsLines, Shown}, networks.Accepting.MeansAccepted}
+use Rattle.tte_traces.specs.{Answer.{LinesOf, report_lines}, Lines.{AreAdmitted, StandWhole, behind_lines}}
 
 -- the fact holds for the octets of a trace and for those that were left of it, where the source tells them
 abbrev pub ForTrace : Option (List ℕ) → Option (List ℕ) → (List ℕ → List ℕ → Type 0) → Type 0

@@ -1,10 +1,9 @@
 ghost use Rattle.std.specs.Prelude.{◌++◌, ◌-◌, ◌<◌, ◌^◌, ◌↔◌, ◌∷◌, ◌≡◌, ◌≢◌, ◌≤◌, Err, IfErr, IfOk, IfSome, IsNone};
 ghost use Rattle.std.specs.Prelude.{IsSome, IsTrue, List, MatchOption, MatchResult, Ok, OnOk, Some, [], length, ℕ};
-ghost use Rattle.net_plan.specs.{Belonging.IsOfNetwork, Ranges.IsInRange, declared.event.Event.Event as EventValue};
-ghost use Rattle.net_plan.specs.declared.network.Network.{Network as NetworkValue};
-ghost use Rattle.trace_text.specs.Ranges.{IsEventInRange};
+ghost use Rattle.net_plan.specs.{Belonging.IsOfNetwork, declared.{network.{Network.{Network as NetworkValue}}}};
+ghost use Rattle.net_plan.specs.{Ranges.IsInRange, declared.{event.{Event.{Event as EventValue}}}};
+ghost use Rattle.{trace_text.specs.Ranges.IsEventInRange, world_drive.specs.Sources.given_in};
 ghost use Rattle.tte_forms.specs.{Faults.{PutFailed, ReadFailed}, Putting.{IsPassedOn, Over, PutsNone, shown_by}};
-ghost use Rattle.world_drive.specs.Sources.{given_in};
 ghost use Rattle.tte_traces.specs.Following.{Follows, GoesOn, IsFound, IsRefused, JudgesSo, Reads, TakesNext};
 ghost use Rattle.tte_traces.specs.Lines.{HasEvent, IsAdmitted, IsFault, IsOpen};
 ghost use Rattle.tte_traces.specs.Taking.{EndedBehind, GaveEvents, StoppedBehind};

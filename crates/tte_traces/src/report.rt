@@ -1,8 +1,7 @@
 ghost use Rattle.std.specs.{Io.KnownBytes.Appends, Prelude.{◌≡◌, IfErr, OnErr, OnOk}};
 ghost use Rattle.net_plan.specs.Ranges.{IsInRange};
-ghost use Rattle.report_text.specs.{NoteLine.note_line, Ranges.IsNoteOf};
-ghost use Rattle.tte_io.specs.{Faults.{Rose, next_count}, Told.AppendsFront};
-ghost use Rattle.tte_traces.specs.Report.{PutsReport, StopsReport};
+ghost use Rattle.{report_text.specs.NoteLine.note_line, tte_traces.specs.Report.{PutsReport, StopsReport}};
+ghost use Rattle.{report_text.specs.Ranges.IsNoteOf, tte_io.specs.{Faults.{Rose, next_count}, Told.AppendsFront}};
 
 use drift_world::EventNote;
 use net_plan::{Event, Network};

@@ -1,5 +1,4 @@
-use Rattle.std.{proofs.{Common.{◌+ℤ◌, arith, negsuc, pos, ℤ}, lemmas.Int.ints}, specs.Int.int_div_euclid}
-use Rattle.tte_units.specs.Mean.{IsMean, mean_of}
+use Rattle.{std.{proofs.{Common.{◌+ℤ◌, arith, negsuc, pos, ℤ}, lemmas.Int.ints}, specs.Int.int_div_euclid}, tte_units.specs.Mean.{IsMean, mean_of}}
 
 half-floor : (s : ℤ) → IsMean s (pos 0) (int_div_euclid s (pos 2))
 half-floor (pos n) = record { least = omega (arith, ints); most = omega (arith, ints) }

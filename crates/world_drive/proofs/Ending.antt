@@ -1,13 +1,11 @@
 -- A drive goes on, or ends.
+use Rattle.{std.proofs.Common.{Bool, false, length-append}, tte_io.specs.declared.ends.Sink.Ghosts, world_drive.proofs.Words.{true, units_of, ℕ}}
 use Rattle.world_drive.proofs.{Earlier.{records_none, up_to_end}, More.{PutsSoFar, fails_on, puts_none}, exact_lemmas.{Events.ended_at, Given.amount_after}}
 use Rattle.world_drive.proofs.Words.{◌++◌, ◌+ℤ◌, ◌+◌, ◌<◌, ◌^◌, ◌∙◌, ◌∷◌, ◌≡◌, ◌≤ℤ◌, AreEarlier, AreRecordsBefore, AreRecordsSoFar, Cut, CutsAtEvent}
 use Rattle.world_drive.proofs.Words.{CutsBefore, Err, Event, ExactWorld, IsAsked, List, MayGive, Network, None, Note, Ok, Sees, SeesEvent, SeesUntil, Some}
 use Rattle.world_drive.proofs.Words.{StandsExact, Stops, Told, Units, [], amount, ap, arith, ints, last_is, last_time, length, pos, refl, subst, sym, told_by}
-use Rattle.world_drive.proofs.Words.{true, units_of, ℕ}
 use Rattle.world_drive.specs.{Driving.{DrivesAll, DrivesCut, DrivesSoFar, HasSeenSoFar}, Sources.{Gave, GivesNext, Stopped, given_in}, exact.Worlds.IsReached}
 use Rattle.world_drive.specs.{Observing.{Grows, PutsFurther, start_by}, Seeing.{ComesNext, HasSeen, MayMeet}, exact.Records.{AreAllRecords, HaveEnded}}
-use Rattle.std.proofs.Common.{Bool, false, length-append}
-use Rattle.tte_io.specs.declared.ends.Sink.{Ghosts}
 
 -- ---- what a source gave
 

@@ -1,13 +1,11 @@
 -- An event befalls a world whose earlier records are seen.
-use Rattle.world_drive.{proofs.{Earlier.on_the_way, Order.{have_ended, in_order}}, specs.{Observing.Befell, Seeing.ComesNext}}
+use Rattle.{drift_world.specs.Running.{HasReached, IsOpenTo, MayBefall, behind_events, event_note}, run_law.specs.scenario.Hypothesis.IsWithinHypothesis}
+use Rattle.{net_plan.specs.Belonging.IsOfNetwork, world_drive.specs.Seeing.ComesNext}
+use Rattle.{std.proofs.lemmas.Bool.false_from_ne_true, world_drive.{proofs.{Earlier.on_the_way, Order.{have_ended, in_order}}, specs.Observing.Befell}}
 use Rattle.world_drive.proofs.Words.{◌++◌, ◌+◌, ◌∙◌, ◌∷◌, ◌≡◌, ◌≤ℤ◌, AreRecordsBefore, AreRecordsSoFar, Cut, CutsAtEvent, CutsBefore, Event, ExactWorld}
 use Rattle.world_drive.proofs.Words.{IsAsked, List, Network, None, Note, Reaches, Sees, SeesEvent, SeesUntil, StandsExact, Start, Stops, Told, [], amount, ap}
 use Rattle.world_drive.proofs.Words.{append_assoc, arith, false, fresh_segment, go_on, inl, inr, ints, last_is, last_time, length, pos, refl, segment_reading}
 use Rattle.world_drive.{proofs.Words.{stepped_segment, subst, sym, units_of, unsigned_abs, ℕ}, specs.{exact.Worlds.IsReached, machines.Standing.StandsAsDevice}}
-use Rattle.std.proofs.lemmas.Bool.{false_from_ne_true}
-use Rattle.drift_world.specs.Running.{HasReached, IsOpenTo, MayBefall, behind_events, event_note}
-use Rattle.net_plan.specs.Belonging.{IsOfNetwork}
-use Rattle.run_law.specs.scenario.Hypothesis.{IsWithinHypothesis}
 
 module _ (network : Network) (world : ExactWorld) (events : List Event) (notes : List Note) (event : Event)
     (n : ComesNext network world events notes event) where

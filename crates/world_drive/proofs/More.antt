@@ -1,11 +1,10 @@
 -- More records seen by an observer.
+use Rattle.{run_law.proofs.runs.Places.before_later_time, std.proofs.KnownBytes.{Appends-nil, Appends-trans}, tte_io.specs.declared.ends.Sink.Ghosts}
+use Rattle.{std.proofs.Common.Result, tte_io.specs.Faults.Rose}
 use Rattle.world_drive.proofs.{Earlier.{earlier_at, earlier_joined}, Words.{append_assoc, inl, inr, pos, refl, subst, sym, told_by, true, ℕ}}
 use Rattle.world_drive.proofs.Words.{◌++◌, ◌+◌, ◌<ℤ◌, ◌<◌, ◌∙◌, ◌∷◌, ◌≡◌, ◌≤◌, AreEarlier, AreRecordsBefore, Cut, CutsBefore, Err, Event, ExactWorld, List}
 use Rattle.world_drive.proofs.Words.{Network, None, Note, Ok, Option, Sees, SeesUntil, StandsExact, Start, Stops, Told, Units, [], amount, ap, append-nil}
 use Rattle.world_drive.specs.{Observing.{FailsBy, Grows, PutsFurther}, Seeing.SeesInstant, declared.observing.Cut.TheVariants.{OutOfMemory, WriteFault}}
-use Rattle.std.proofs.{Common.Result, KnownBytes.{Appends-nil, Appends-trans}}
-use Rattle.run_law.proofs.runs.Places.{before_later_time}
-use Rattle.tte_io.specs.{Faults.Rose, declared.ends.Sink.Ghosts}
 
 -- ---- what was put
 

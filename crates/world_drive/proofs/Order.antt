@@ -1,9 +1,8 @@
 -- The order of events.
-use Rattle.world_drive.proofs.Words.{◌++◌, ◌<ℤ◌, ◌∷◌, ◌≡◌, ◌≤ℤ◌, ◌≤◌, Event, List, MayGive, Network, Units, [], arith, inl, inr, ints, last_is, last_time, pos}
-use Rattle.world_drive.{proofs.{Words.{refl, subst, sym, unsigned_abs}, exact_lemmas.Events.last_or_none}, specs.exact.Records.HaveEnded}
+use Rattle.{net_plan.specs.declared.event.What.TheVariants.End, world_drive.proofs.{Words.{refl, subst, sym, unsigned_abs}, exact_lemmas.Events.last_or_none}}
+use Rattle.{run_law.specs.{runs.DueRecords.EndsAt, scenario.Hypothesis.ComesTooEarly}, world_drive.specs.exact.Records.HaveEnded}
 use Rattle.std.proofs.Common.{◌⊎◌, negsuc, ℤ}
-use Rattle.net_plan.specs.declared.event.What.TheVariants.{End}
-use Rattle.run_law.specs.{runs.DueRecords.EndsAt, scenario.Hypothesis.ComesTooEarly}
+use Rattle.world_drive.proofs.Words.{◌++◌, ◌<ℤ◌, ◌∷◌, ◌≡◌, ◌≤ℤ◌, ◌≤◌, Event, List, MayGive, Network, Units, [], arith, inl, inr, ints, last_is, last_time, pos}
 use Rattle.run_law.specs.declared.outside.Outside.TheVariants as conditions
 
 pub not_less : (a b : ℤ) → (b <ℤ a → ⊥) → a ≤ℤ b

@@ -1,11 +1,9 @@
 -- Where the records stand that a world gives one after another.
+use Rattle.{run_law.{proofs.runs.{NetworkRuns.one_more, Places.never_self}, specs.scenario.Scenarios.Scenario}, world_drive.proofs.Words.{true, units_of, ℕ}}
+use Rattle.{run_law.specs.{records.{Happenings.happening, Order.IsBefore}, runs.DueRecords.IsScenarioRun}, world_drive.specs.exact.Records.clock_reading}
+use Rattle.{run_law.specs.records.Ranks.place_of, std.proofs.{Common.length-append, lemmas.Bool.cases_Bool}, world_law.specs.source.Agreeing.scenario}
 use Rattle.world_drive.proofs.Words.{◌++◌, ◌+ℤ◌, ◌<ℤ◌, ◌<◌, ◌∷◌, ◌≡◌, ◌≤◌, AreRecordsBefore, Event, ExactWorld, Happening, List, Network, Note, StandsExact}
 use Rattle.world_drive.proofs.Words.{Units, [], amount, ap, append-nil, arith, cases_lt, false, happenings, inl, inr, ints, left_of, pos, refl, subst, sym}
-use Rattle.world_drive.{proofs.Words.{true, units_of, ℕ}, specs.exact.Records.clock_reading}
-use Rattle.std.proofs.{Common.length-append, lemmas.Bool.cases_Bool}
-use Rattle.run_law.{proofs.runs.{NetworkRuns.one_more, Places.never_self}, specs.records.{Happenings.happening, Order.IsBefore, Ranks.place_of}}
-use Rattle.run_law.specs.{runs.DueRecords.IsScenarioRun, scenario.Scenarios.Scenario}
-use Rattle.world_law.specs.source.Agreeing.{scenario}
 
 -- the last record with its frame
 abbrev pub last_of : Network → List Note → Note → Happening

@@ -1,8 +1,7 @@
 -- How a world comes to a time.
+use Rattle.{std.proofs.{Common.{◌⊎◌, negsuc, ℤ}, lemmas.Bool.cases_Bool}, world_drive.proofs.exact_lemmas.Given.still_ended}
 use Rattle.world_drive.proofs.{Placed.{end_stays, unended_before}, Words.{arith, cases_lt, false, go_on, inl, inr, ints, pos, subst, true, ℕ}}
 use Rattle.world_drive.proofs.Words.{◌+ℤ◌, ◌+◌, ◌<ℤ◌, ◌<◌, ◌^◌, ◌≡◌, ◌≤ℤ◌, Event, ExactWorld, IsAsked, IsPast, List, Network, Note, Reaches, StandsExact, Units}
-use Rattle.world_drive.proofs.exact_lemmas.Given.{still_ended}
-use Rattle.std.proofs.{Common.{◌⊎◌, negsuc, ℤ}, lemmas.Bool.cases_Bool}
 
 -- the world is where it was, or before the time, or it has just come to it
 abbrev pub IsNearing : ExactWorld → ExactWorld → Units → Type 0

@@ -1,14 +1,12 @@
 -- How a drive ends.
 use Rattle.std.specs.Prelude.{◌++◌, ◌+◌, ◌∷◌, ◌≡◌, List, None, Option, Some, [], ℕ}
 use Rattle.drift_world.specs.Running.{last_time}
-use Rattle.net_plan.specs.declared.{event.Event.Event, network.Network.Network}
-use Rattle.run_law.specs.{declared.note.Note.Note, records.Order.IsBefore}
-use Rattle.tte_io.specs.declared.ends.Sink.{Ghosts}
-use Rattle.tte_units.specs.Amount.{amount}
+use Rattle.{net_plan.specs.declared.event.Event.Event, tte_io.specs.declared.ends.Sink.Ghosts}
+use Rattle.{net_plan.specs.declared.network.Network.Network, world_drive.specs.exact.Worlds.{ExactWorld, StandsExact}}
+use Rattle.{run_law.specs.declared.note.Note.Note, world_drive.specs.declared.{driving.Drove.Drove, observing.Cut.Cut}}
+use Rattle.{run_law.specs.records.Order.IsBefore, tte_units.specs.Amount.amount, world_drive.specs.Seeing.HasBefallen}
+use Rattle.world_drive.specs.{Observing.{FailsBy, Grows, Sees, Stops, Told, start_by, told_by}, Sources.{Gave, Stopped}}
 use Rattle.world_drive.specs.exact.Records.{AreAllRecords, AreRecordsBefore, AreRecordsSoFar, HaveEnded}
-use Rattle.world_drive.specs.exact.Worlds.{ExactWorld, StandsExact}
-use Rattle.world_drive.specs.{Observing.{FailsBy, Grows, Sees, Stops, Told, start_by, told_by}, Seeing.HasBefallen}
-use Rattle.world_drive.specs.{Sources.{Gave, Stopped}, declared.{driving.Drove.Drove, observing.Cut.Cut}}
 use Rattle.world_drive.specs.declared.driving.Drove.TheVariants as ends
 
 -- the observer had seen all records up to that of the last of these events, and what was put grew from there

@@ -4,14 +4,12 @@
 use Rattle.std.specs.{Io.KnownBytes.Appends, Prelude.{Some, [], false, length, pos, true, ℕ}}
 use Rattle.std.specs.Prelude.{◌++◌, ◌+◌, ◌^◌, ◌∷◌, ◌≡◌, ◌≤ℤ◌, Bool, IfErr, IfSome, List, None, OnOk, Option, Result}
 use Rattle.drift_clock.specs.Segment.{fresh_segment, segment_reading, stepped_segment}
-use Rattle.drift_world.specs.{Locals.IsComplete, Running.event_note}
-use Rattle.net_plan.specs.declared.{event.Event.Event, network.Network.Network}
-use Rattle.run_law.specs.declared.note.Note.{Note}
-use Rattle.tte_io.specs.{Faults.Rose, declared.ends.Sink.Ghosts}
-use Rattle.tte_units.specs.{Amount.{amount, units_of}, declared.units.Units.Units}
-use Rattle.world_drive.specs.exact.{Records.AreRecordsSoFar, Worlds.{ExactWorld, IsReached, StandsExact}}
-use Rattle.world_drive.specs.machines.Standing.{StandsAsDevice}
+use Rattle.{drift_world.specs.{Locals.IsComplete, Running.event_note}, run_law.specs.declared.note.Note.Note}
+use Rattle.{net_plan.specs.declared.event.Event.Event, tte_units.specs.declared.units.Units.Units}
+use Rattle.{net_plan.specs.declared.network.Network.Network, world_drive.specs.exact.Records.AreRecordsSoFar}
+use Rattle.{tte_io.specs.{Faults.Rose, declared.ends.Sink.Ghosts}, tte_units.specs.Amount.{amount, units_of}}
 use Rattle.world_drive.specs.{Sources.MayGive, declared.observing.Cut.{Cut, TheVariants.{OutOfMemory, WriteFault}}}
+use Rattle.world_drive.specs.{exact.Worlds.{ExactWorld, IsReached, StandsExact}, machines.Standing.StandsAsDevice}
 
 -- ---- what was put
 

@@ -1,15 +1,13 @@
 -- The records of a run seen one after another.
 use Rattle.std.specs.Prelude.{◌++◌, ◌+◌, ◌<ℤ◌, ◌<◌, ◌^◌, ◌∷◌, ◌≡◌, ◌≤ℤ◌, ◌⊎◌, List, None, Some, [], false, length, pos}
 use Rattle.std.specs.Prelude.{true, ℕ}
-use Rattle.drift_world.specs.Running.{last_time}
-use Rattle.net_plan.specs.declared.{event.Event.Event, network.Network.Network}
-use Rattle.run_law.specs.{declared.note.Note.Note, records.{Happenings.{Happening, happenings}, Order.{IsBefore, IsIn}}}
-use Rattle.run_law.specs.records.Ranks.{place_of}
-use Rattle.tte_units.specs.{Amount.amount, declared.units.Units.Units}
-use Rattle.world_drive.specs.exact.Records.{AreRecordsBefore, AreRecordsSoFar}
-use Rattle.world_drive.specs.exact.Worlds.{ExactWorld, IsReached, StandsExact}
-use Rattle.world_law.specs.source.Applying.{place_of_event}
-use Rattle.world_drive.specs.{Observing.{Sees, Start, Stops, Told}, Sources.MayGive, declared.observing.Cut.Cut}
+use Rattle.{drift_world.specs.Running.last_time, run_law.specs.{declared.note.Note.Note, records.Ranks.place_of}}
+use Rattle.{net_plan.specs.declared.event.Event.Event, tte_units.specs.{Amount.amount, declared.units.Units.Units}}
+use Rattle.{net_plan.specs.declared.network.Network.Network, run_law.specs.records.Happenings.{Happening, happenings}}
+use Rattle.{run_law.specs.records.Order.{IsBefore, IsIn}, world_law.specs.source.Applying.place_of_event}
+use Rattle.world_drive.specs.{Observing.{Sees, Start, Stops, Told}, exact.Records.{AreRecordsBefore, AreRecordsSoFar}}
+use Rattle.world_drive.specs.Sources.{MayGive}
+use Rattle.world_drive.specs.{declared.observing.Cut.Cut, exact.Worlds.{ExactWorld, IsReached, StandsExact}}
 
 -- ---- up to a time
 

@@ -1,10 +1,9 @@
 -- Where the events of a run come from.
 use Rattle.std.specs.Prelude.{◌++◌, ◌+◌, ◌<◌, ◌^◌, ◌∷◌, ◌≤ℤ◌, Bool, Err, List, None, Ok, Option, Result, Some, []}
 use Rattle.std.specs.Prelude.{false, length, pos, true, ℕ}
-use Rattle.drift_world.specs.Running.{HoldsATime}
-use Rattle.net_plan.specs.{Belonging.IsOfNetwork, declared.{event.Event.Event, network.Network.Network}}
-use Rattle.run_law.specs.scenario.Hypothesis.{IsWithinHypothesis}
-use Rattle.world_drive.specs.exact.Records.{HaveEnded}
+use Rattle.{drift_world.specs.Running.HoldsATime, net_plan.specs.Belonging.IsOfNetwork}
+use Rattle.{net_plan.specs.declared.event.Event.Event, world_drive.specs.exact.Records.HaveEnded}
+use Rattle.{net_plan.specs.declared.network.Network.Network, run_law.specs.scenario.Hypothesis.IsWithinHypothesis}
 
 -- the event may befall the network after these, of which none is the end
 pub record MayGive (network : Network) (events : List Event) (event : Event) : Type 0 where

@@ -1,11 +1,10 @@
 ghost use Rattle.std.specs.Prelude.{◌++◌, ◌<◌, ◌∷◌, ◌≡◌, IfOk, List, MatchResult, None, Option, Some, [], true, ℕ};
-ghost use Rattle.net_plan.specs.{Ranges.IsInRange, declared.event.Event.Event as EventValue};
-ghost use Rattle.net_plan.specs.declared.network.Network.{Network as NetworkValue};
-ghost use Rattle.run_law.specs.{declared.note.Note.Note as NoteValue, records.Ranks.rank};
-ghost use Rattle.tte_units.specs.Amount.{amount};
+ghost use Rattle.net_plan.specs.{Ranges.IsInRange, declared.{network.{Network.{Network as NetworkValue}}}};
+ghost use Rattle.net_plan.specs.declared.event.Event.{Event as EventValue};
+ghost use Rattle.run_law.specs.{declared.{note.{Note.{Note as NoteValue}}}, records.Ranks.rank};
+ghost use Rattle.{tte_units.specs.Amount.amount, world_drive.{specs.{declared.{observing.{Cut.{Cut as CutValue}}}}}};
 ghost use Rattle.world_drive.specs.Observing.{Befell, IsCompleteExact, IsGiven, MaySee, MaySeeEvent, MaySettle};
 ghost use Rattle.world_drive.specs.Observing.{PutsFurther, Start, Told, instant_of, told_by};
-ghost use Rattle.world_drive.specs.declared.observing.Cut.{Cut as CutValue};
 
 use crate::exact::ExactWorld;
 use drift_world::EventNote;

@@ -1,12 +1,10 @@
 -- What an act leaves as it was.
-use Rattle.std.{proofs.{Common.{◌<ℤ◌, ◌∙◌, ◌≡◌, ◌≤ℤ◌, None, Option, Some, ap, arith, refl, subst, sym, ℤ}, lemmas.Int.ints}, specs.Prelude.{IfSome, IsSomeAnd}}
-use Rattle.compression.specs.declared.compressed.Compressed.{Compressed}
-use Rattle.membership.specs.Summary.{Summary}
-use Rattle.net_plan.specs.declared.{ids.DeviceId.DeviceId, network.Network.Network}
-use Rattle.run_law.specs.{declared.steps.{Act.Act, Moment.Moment, Ripe.Ripe}, machines.{Answers.{IsActOf, after_correction, after_emission}, Calls.HasDue}}
-use Rattle.run_law.specs.machines.{Nodes.Node, Tasks.{IsDueReading, IsPending, Task, reading_for}}
-use Rattle.sync_state.specs.declared.answers.Verdict.{Verdict, TheVariants.Corrected}
-use Rattle.tte_units.specs.declared.units.Units.{Units}
+use Rattle.{compression.specs.declared.compressed.Compressed.Compressed, sync_state.specs.declared.answers.Verdict.{TheVariants.Corrected, Verdict}}
+use Rattle.{membership.specs.Summary.Summary, run_law.specs.{declared.steps.Act.Act, machines.Nodes.Node}, std.specs.Prelude.{IfSome, IsSomeAnd}}
+use Rattle.{net_plan.specs.declared.ids.DeviceId.DeviceId, run_law.specs.declared.steps.{Moment.Moment, Ripe.Ripe}, tte_units.specs.declared.units.Units.Units}
+use Rattle.{net_plan.specs.declared.network.Network.Network, std.proofs.Common.{◌<ℤ◌, ◌∙◌, ◌≡◌, ◌≤ℤ◌, None, Option, Some, ap, arith, refl, subst, sym, ℤ}}
+use Rattle.run_law.specs.machines.{Answers.{IsActOf, after_correction, after_emission}, Calls.HasDue, Tasks.{IsDueReading, IsPending, Task, reading_for}}
+use Rattle.std.proofs.lemmas.Int.{ints}
 use Rattle.run_law.specs.declared.steps.Act.TheVariants as acts
 use Rattle.run_law.specs.declared.steps.Ripe.TheVariants as ripe
 

@@ -1,12 +1,11 @@
 -- What is put to ports leaves the wires as they are, and what is put on a wire the ports.
-use Rattle.std.proofs.{Common.{◌∙◌, ◌∷◌, ◌≡◌, List, None, Option, Some, ap, arith, inl, inr, sym, ℕ}, lemmas.List.Sorted.IsPermutation-sym}
-use Rattle.std.specs.{List.filter_map, Prelude.{◌↔◌, IfNone, IfSome}}
-use Rattle.net_plan.specs.declared.network.Network.{Network}
-use Rattle.run_law.{proofs.records.Order.{given_of, is_given}, specs.{declared.note.NoteBody.NoteBody, records.{Happenings.Happening, Order.IsIn}}}
-use Rattle.run_law.specs.scenario.Scenarios.{Scenario}
-use Rattle.world_law.specs.world.{Moves.{AreGiven, ArePut}, World.{AtPort, OnWire}}
-use Rattle.world_state.{proofs.queue_lemmas.Bags.in_permuted, specs.declared.{contents.{Content.Content, WayState.WayState}, giving.Giving.Giving}}
-use Rattle.world_state.specs.{Giving.{ArePutTo, IsPutOn}, Views.{at_port, on_wire}, declared.queue.Entry.Entry}
+use Rattle.{net_plan.specs.declared.network.Network.Network, world_state.{proofs.queue_lemmas.Bags.in_permuted, specs.declared.contents.Content.Content}}
+use Rattle.{run_law.proofs.records.Order.{given_of, is_given}, std.proofs.lemmas.List.Sorted.IsPermutation-sym, world_state.specs.declared.giving.Giving.Giving}
+use Rattle.{run_law.specs.declared.note.NoteBody.NoteBody, world_law.specs.world.Moves.{AreGiven, ArePut}, world_state.specs.declared.queue.Entry.Entry}
+use Rattle.{run_law.specs.records.Happenings.Happening, world_law.specs.world.World.{AtPort, OnWire}, world_state.specs.Giving.{ArePutTo, IsPutOn}}
+use Rattle.run_law.specs.records.Order.{IsIn}
+use Rattle.{run_law.specs.scenario.Scenarios.Scenario, std.specs.{List.filter_map, Prelude.{◌↔◌, IfNone, IfSome}}, world_state.specs.Views.{at_port, on_wire}}
+use Rattle.{std.proofs.Common.{◌∙◌, ◌∷◌, ◌≡◌, List, None, Option, Some, ap, arith, inl, inr, sym, ℕ}, world_state.specs.declared.contents.WayState.WayState}
 
 -- the wires after a frame is put to ports
 pub wires_kept : (n : ℕ) (network other : Network) (ups downs : List WayState) (body : NoteBody) (giving : Option Giving) (old new : List (Entry Content))

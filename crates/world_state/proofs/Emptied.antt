@@ -1,9 +1,8 @@
 -- All frames of a device are dropped.
+use Rattle.{run_law.{proofs.records.Members.from_map, specs.records.Order.IsIn}, world_state.proofs.Queues.content_of}
 use Rattle.std.proofs.Common.{◌++◌, ◌+◌, ◌<◌, ◌==◌, ◌∙◌, ◌∷◌, ◌≡◌, ◌≤◌, ◌⊎◌, Bool, List, Some, [], ap, arith, cond, filter, inl, inr, length, map, not, refl}
-use Rattle.std.proofs.{Common.{slice_get, slice_set, suc, sym, true, zero, ℕ}, lemmas.{Bool.{eq-eqb, ne_eqb}, List.Elements.filter-append}}
-use Rattle.run_law.{proofs.records.Members.from_map, specs.records.Order.IsIn}
-use Rattle.world_state.specs.{queue.Queues.Queue, declared.queue.Entry.Entry}
-use Rattle.world_state.{proofs.Queues.content_of, specs.{Frames.{AreQueued, frames_in, frames_of}, declared.contents.Waits.Waits}}
+use Rattle.{std.proofs.Common.{slice_get, slice_set, suc, sym, true, zero, ℕ}, world_state.specs.{Frames.{AreQueued, frames_in, frames_of}, queue.Queues.Queue}}
+use Rattle.{std.proofs.lemmas.{Bool.{eq-eqb, ne_eqb}, List.Elements.filter-append}, world_state.specs.declared.{contents.Waits.Waits, queue.Entry.Entry}}
 
 -- it waits elsewhere
 abbrev pub keeps_it : ℕ → Waits → Bool

@@ -1,7 +1,6 @@
 -- Of what is under way one place is first.
-use Rattle.std.{proofs.Common.{◌∷◌, ◌≡◌, List, arith, get_or, subst}, specs.List.Sorted.IsPermutation}
-use Rattle.run_law.{proofs.runs.Places.either_way}
-use Rattle.world_state.specs.{queue.Places.{IsFirst, numbers_of}, declared.queue.{Entry.Entry, DueAt.DueAt}}
+use Rattle.{run_law.proofs.runs.Places.either_way, std.specs.List.Sorted.IsPermutation, world_state.specs.declared.queue.Entry.Entry}
+use Rattle.{std.proofs.Common.{◌∷◌, ◌≡◌, List, arith, get_or, subst}, world_state.specs.{declared.queue.DueAt.DueAt, queue.Places.{IsFirst, numbers_of}}}
 
 -- a place is known by its numbers
 pub by_numbers : (p q : DueAt) → numbers_of p ≡ numbers_of q → p ≡ q

@@ -1,10 +1,9 @@
 -- What a device hears, as its machine asks for it.
-use Rattle.std.{proofs.Common.{◌∙◌, ◌≡◌, ◌≤◌, List, ap, arith, eq-eqb, length, ℕ}, specs.Prelude.Ok}
-use Rattle.net_plan.specs.{Ranges.IsInRange, declared.{ids.{DeviceId.DeviceId, LinkId.LinkId, VlId.VlId}, network.Network.Network}}
-use Rattle.pcf_codec.specs.{Decoding.decoded, Spelling.Spells}
-use Rattle.pcf_values.specs.declared.pcf.Pcf.{Pcf}
-use Rattle.run_law.specs.{control.Wires.{Signal, control, signal_of, timed}, declared.steps.Moment.Moment, machines.{Calls.{MayHear, StandsFor}, Nodes.Node}}
-use Rattle.world_state.{proofs.Made.made_signal, specs.{Hearing.{AreOctetsOf, MayCome}, Views.octets_of, declared.contents.Timed.TheVariants.Made}}
+use Rattle.{net_plan.specs.Ranges.IsInRange, pcf_codec.specs.{Decoding.decoded, Spelling.Spells}, run_law.specs.machines.Nodes.Node, std.specs.Prelude.Ok}
+use Rattle.{net_plan.specs.declared.ids.{DeviceId.DeviceId, LinkId.LinkId}, run_law.specs.{declared.steps.Moment.Moment, machines.Calls.{MayHear, StandsFor}}}
+use Rattle.{net_plan.specs.declared.ids.VlId.VlId, pcf_values.specs.declared.pcf.Pcf.Pcf, world_state.{proofs.Made.made_signal, specs.Views.octets_of}}
+use Rattle.{net_plan.specs.declared.network.Network.Network, world_state.specs.{Hearing.{AreOctetsOf, MayCome}, declared.contents.Timed.TheVariants.Made}}
+use Rattle.{run_law.specs.control.Wires.{Signal, control, signal_of, timed}, std.proofs.Common.{◌∙◌, ◌≡◌, ◌≤◌, List, ap, arith, eq-eqb, length, ℕ}}
 
 -- the octets of a control frame
 pub control_octets : (octets : List ℕ) (frame : Pcf) → Spells octets frame → decoded octets ≡ Ok frame → AreOctetsOf (control (Ok frame)) octets

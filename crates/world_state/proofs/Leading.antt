@@ -1,8 +1,7 @@
 -- Where no change of state follows a record, none is named by it.
-use Rattle.std.{proofs.Common.{◌∙◌, ◌∷◌, ◌≡◌, Bool, List, [], ap, map, refl, sym, ℕ}, specs.Prelude.{if◌then◌else◌, ◌&&◌, ◌==◌}}
-use Rattle.run_law.specs.declared.note.NoteBody.{NoteBody}
+use Rattle.{run_law.specs.declared.note.NoteBody.NoteBody, std.specs.Prelude.{◌&&◌, ◌==◌, if◌then◌else◌}, world_state.specs.declared.contents.Settled.Settled}
+use Rattle.{std.proofs.Common.{◌∙◌, ◌∷◌, ◌≡◌, Bool, List, [], ap, map, refl, sym, ℕ}, world_state.specs.Naming.{LeadsNowhere, named_settled}}
 use Rattle.world_law.specs.world.{Moves.named_body, World.none_yet}
-use Rattle.world_state.specs.{Naming.{LeadsNowhere, named_settled}, declared.contents.Settled.Settled}
 use Rattle.run_law.specs.declared.note.NoteBody.TheVariants as kinds
 
 same_body : (number : ℕ) (first : NoteBody) → LeadsNowhere first → (body : NoteBody) → named_body number first body ≡ body

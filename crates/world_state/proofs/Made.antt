@@ -1,12 +1,10 @@
 -- The frames that senders make, on the wire.
-use Rattle.std.proofs.Common.{◌-◌, ◌<◌, ◌==◌, ◌^◌, ◌∙◌, ◌≡◌, List, None, Option, Some, ap, append_assoc, arith, false, length, length-append, refl}
-use Rattle.std.{proofs.{Common.{replicate, slice_get, sym, ℕ}, lemmas.Bool.ne_eqb}, specs.{Option.option_map_or, Prelude.{if◌then◌else◌, Bool}}}
-use Rattle.device_rules.proofs.frames_lemmas.Made.{made_is}
-use Rattle.net_plan.specs.{Ranges.{IsInRange, IsVlInRange}, declared.{ids.VlId.VlId, network.Network.Network, tables.VirtualLink.VirtualLink}}
-use Rattle.pcf_codec.{proofs.Numbers.read_behind, specs.{Decoding.decoded, EtherType.pcf_type, Fields.field}}
-use Rattle.run_law.specs.{control.Wires.{control, signal_of, timed}, records.Frames.{tt_frame, tt_frame_by}}
-use Rattle.tte_lemmas.proofs.Lists.{in_all}
-use Rattle.world_state.specs.{Views.octets_of, declared.contents.Timed.TheVariants.Made}
+use Rattle.{device_rules.proofs.frames_lemmas.Made.made_is, run_law.specs.{control.Wires.{control, signal_of, timed}, records.Frames.{tt_frame, tt_frame_by}}}
+use Rattle.{net_plan.specs.{Ranges.{IsInRange, IsVlInRange}, declared.ids.VlId.VlId}, pcf_codec.specs.Decoding.decoded, std.specs.Prelude.{Bool, if◌then◌else◌}}
+use Rattle.{net_plan.specs.declared.{network.Network.Network, tables.VirtualLink.VirtualLink}, world_state.specs.declared.contents.Timed.TheVariants.Made}
+use Rattle.{pcf_codec.{proofs.Numbers.read_behind, specs.EtherType.pcf_type}, std.proofs.Common.{slice_get, sym, ℕ}, world_state.specs.Views.octets_of}
+use Rattle.{pcf_codec.specs.Fields.field, std.{proofs.lemmas.Bool.ne_eqb, specs.Option.option_map_or}, tte_lemmas.proofs.Lists.in_all}
+use Rattle.std.proofs.Common.{◌-◌, ◌<◌, ◌==◌, ◌^◌, ◌∙◌, ◌≡◌, List, None, Option, Some, ap, append_assoc, arith, false, length, length-append, refl, replicate}
 
 -- of a virtual link of the network it is the frame of the law
 pub made_octets : (network : Network) (vl : VlId) (cycle : ℕ) → vl.0 < length network.vl

@@ -1,15 +1,13 @@
 -- Queues of devices: one more frame in one, the first taken out, and the first of those that wait at a device.
+use Rattle.{net_plan.specs.declared.ids.DeviceId.DeviceId, world_state.specs.{Ripening.{IsReached, ripe_numbers}, declared.queue.{DueAt.DueAt, Entry.Entry}}}
+use Rattle.{run_law.{proofs.{records.{Members.{from_map, in_map as is_mapped}}}}, world_state.specs.queue.Places.{IsFirst, first_entry, numbers_of}}
+use Rattle.{run_law.proofs.runs.Places.{in_left, in_parts, in_right}, std.specs.{List.Sorted.IsPermutation, Prelude.{IfSome, MatchOption, if◌then◌else◌}}}
+use Rattle.{run_law.specs.records.Order.{IsBefore, IsIn}, std.proofs.lemmas.{Bool.{both_ways, cases_lt}, Int.ints, Option.slice_get_within}}
 use Rattle.std.proofs.Common.{◌++◌, ◌<◌, ◌∙◌, ◌∷◌, ◌≡◌, ◌≤ℤ◌, ◌⊎◌, Bool, List, None, Option, Some, [], ap, arith, false, inl, inr, is_some, length, map, not}
-use Rattle.std.proofs.{Common.{pos, refl, slice_get, slice_set, subst, suc, sym, true, zero, ℕ}, lemmas.{Bool.{both_ways, cases_lt}, Int.ints}}
+use Rattle.std.{proofs.Common.{pos, refl, slice_get, slice_set, subst, suc, sym, true, zero, ℕ}, specs.Option.{option_and_then, option_map, option_map_or}}
 use Rattle.std.proofs.lemmas.List.Sorted.{IsPermutation-append_left, IsPermutation-append_right, IsPermutation-middle, IsPermutation-sym, IsPermutation-trans}
-use Rattle.std.{proofs.lemmas.Option.slice_get_within, specs.{List.Sorted.IsPermutation, Option.{option_and_then, option_map, option_map_or}}}
-use Rattle.std.specs.Prelude.{if◌then◌else◌, IfSome, MatchOption}
-use Rattle.net_plan.specs.declared.ids.DeviceId.{DeviceId}
-use Rattle.run_law.{proofs.{records.Members.{from_map, in_map as is_mapped}, runs.Places.{in_left, in_parts, in_right}}, specs.records.Order.{IsBefore, IsIn}}
-use Rattle.world_law.proofs.giving.Given.{some_same}
-use Rattle.world_state.specs.{queue.Places.{IsFirst, first_entry, numbers_of}, queue.Queues.Queue, declared.queue.{Entry.Entry, DueAt.DueAt}}
-use Rattle.world_state.specs.Frames.{AreQueued, IsFirstAt, IsQueued, NoneAt, first_frame, frames_in, frames_of, queue_place}
-use Rattle.world_state.specs.{Ripening.{IsReached, ripe_numbers}, Timing.IsLeastPoint, declared.contents.Waits.Waits}
+use Rattle.{world_law.proofs.giving.Given.some_same, world_state.specs.{Timing.IsLeastPoint, queue.Queues.Queue}}
+use Rattle.world_state.specs.{Frames.{AreQueued, IsFirstAt, IsQueued, NoneAt, first_frame, frames_in, frames_of, queue_place}, declared.contents.Waits.Waits}
 
 abbrev pub content_of : Entry Waits → Waits
 content_of e = e.content

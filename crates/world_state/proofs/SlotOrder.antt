@@ -1,9 +1,8 @@
 -- The slot of the least key is due first.
-use Rattle.std.proofs.Common.{◌%◌, ◌*◌, ◌+◌, ◌/◌, ◌<◌, ◌^◌, ◌∙◌, ◌≡◌, ◌≢◌, ◌≤◌, ◌⊎◌, All, List, ap, arith, get_or, inl, inr, length, map, replicate, set, sym, ℕ}
-use Rattle.std.proofs.lemmas.{Bool.cases_eq, List.{ext_get_or, get_or-map, get_or-replicate, get_or-set_other, get_or-set_same, get_or_default, length-map, length-replicate, length-set}}
-use Rattle.std.specs.List.{Contains}
-use Rattle.device_rules.specs.least_key.Trees.{no_key}
-use Rattle.world_state.specs.timers.{SlotKeys.{AreKeys, time_of}, Times.{IsFirst, never}}
+use Rattle.{device_rules.specs.least_key.Trees.no_key, world_state.specs.timers.{SlotKeys.{AreKeys, time_of}, Times.{IsFirst, never}}}
+use Rattle.std.proofs.Common.{◌%◌, ◌*◌, ◌+◌, ◌/◌, ◌<◌, ◌^◌, ◌∙◌, ◌≡◌, ◌≢◌, ◌≤◌, ◌⊎◌, All, List, ap, arith, get_or, inl, inr, length, map, replicate, set, sym}
+use Rattle.std.{proofs.{Common.ℕ, lemmas.{Bool.cases_eq, List.length-set}}, specs.List.Contains}
+use Rattle.std.proofs.lemmas.List.{ext_get_or, get_or-map, get_or-replicate, get_or-set_other, get_or-set_same, get_or_default, length-map, length-replicate}
 
 -- the time of a slot is that of its key
 time_at : (keys : List ℕ) (slot d : ℕ) → slot < length keys → get_or (map time_of keys) slot d ≡ get_or keys slot 0 / 2 ^ 64

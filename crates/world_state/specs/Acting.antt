@@ -1,18 +1,15 @@
 -- The records of an act of a device.
 use Rattle.std.specs.Prelude.{◌++◌, ◌<◌, ◌∷◌, ◌≡◌, Bool, List, None, Option, Some, [], false, option_map, true, ℕ}
-use Rattle.compression.specs.declared.compressed.Compressed.{Compressed}
-use Rattle.net_plan.specs.declared.{ids.{DeviceId.DeviceId, VlId.VlId}, network.Network.Network}
-use Rattle.pcf_values.specs.declared.pcf.Pcf.{Pcf}
-use Rattle.run_law.specs.declared.{judgement.Why.Why, note.NoteBody.NoteBody, steps.{Act.Act, Ripe.Ripe}}
-use Rattle.run_law.specs.{records.{Frames.integration_frame, Order.IsIn}, scenario.Scenarios.Scenario}
-use Rattle.run_law.specs.scenario.Ways.{is_cut, way_from}
-use Rattle.schedule_tables.specs.{Entries.IsEntry, declared.entry.Entry.Entry}
-use Rattle.sync_state.specs.declared.{answers.Verdict.Verdict, state.State.State as Standing}
-use Rattle.sync_state.specs.declared.state.State.TheVariants.{Integrating, Joining, Synchronised}
-use Rattle.tte_units.specs.declared.units.Units.{Units}
-use Rattle.world_law.specs.world.{Outcomes.judged_as, World.none_yet}
-use Rattle.world_state.specs.declared.contents.{Holding.Holding, Settled.Settled, Timed.TheVariants.Made}
-use Rattle.world_state.specs.declared.{hands.AtHand.AtHand, outcomes.Outcomes.Outcomes}
+use Rattle.{compression.specs.declared.compressed.Compressed.Compressed, run_law.specs.records.Frames.integration_frame}
+use Rattle.{net_plan.specs.declared.ids.{DeviceId.DeviceId, VlId.VlId}, world_state.specs.declared.hands.AtHand.AtHand}
+use Rattle.{net_plan.specs.declared.network.Network.Network, schedule_tables.specs.declared.entry.Entry.Entry}
+use Rattle.{pcf_values.specs.declared.pcf.Pcf.Pcf, world_law.specs.world.{Outcomes.judged_as, World.none_yet}}
+use Rattle.{run_law.specs.declared.{judgement.Why.Why, steps.Ripe.Ripe}, tte_units.specs.declared.units.Units.Units}
+use Rattle.run_law.specs.{declared.note.NoteBody.NoteBody, scenario.{Scenarios.Scenario, Ways.{is_cut, way_from}}}
+use Rattle.{run_law.specs.{declared.steps.Act.Act, records.Order.IsIn}, schedule_tables.specs.Entries.IsEntry}
+use Rattle.{sync_state.specs.declared.answers.Verdict.Verdict, world_state.specs.declared.contents.Settled.Settled}
+use Rattle.sync_state.specs.declared.state.State.{State as Standing, TheVariants.{Integrating, Joining, Synchronised}}
+use Rattle.world_state.specs.declared.{contents.{Holding.Holding, Timed.TheVariants.Made}, outcomes.Outcomes.Outcomes}
 use Rattle.run_law.specs.declared.judgement.Why.TheVariants as whys
 use Rattle.run_law.specs.declared.note.NoteBody.TheVariants as kinds
 use Rattle.run_law.specs.declared.steps.Act.TheVariants as acts

@@ -1,12 +1,11 @@
 -- What an event makes of the parts of a state.
 use Rattle.std.specs.Option.{option_map_or}
 use Rattle.std.specs.Prelude.{◌<◌, ◌^◌, ◌≡◌, ◌≢◌, IfSome, List, None, Option, Some, slice_get, unwrap_or, ℕ, ℤ}
-use Rattle.net_plan.specs.declared.{event.What.What, ids.{DeviceId.DeviceId, LinkId.LinkId}, network.Network.Network}
-use Rattle.net_plan.specs.declared.tables.Way.{Way}
-use Rattle.run_law.specs.{machines.Nodes.Node, scenario.{Rates.step_by, Ways.{cut_set, hold_set, wire_set}}}
-use Rattle.sync_state.specs.declared.state.State.{State}
-use Rattle.tte_units.specs.{Amount.amount, declared.units.Units.Units}
-use Rattle.world_state.specs.declared.contents.WayState.{WayState}
+use Rattle.net_plan.specs.declared.{event.What.What, ids.LinkId.LinkId, tables.Way.Way}
+use Rattle.{net_plan.specs.declared.ids.DeviceId.DeviceId, run_law.specs.scenario.Ways.{cut_set, hold_set, wire_set}}
+use Rattle.{net_plan.specs.declared.network.Network.Network, world_state.specs.declared.contents.WayState.WayState}
+use Rattle.run_law.specs.{machines.Nodes.Node, scenario.Rates.step_by}
+use Rattle.{sync_state.specs.declared.state.State.State, tte_units.specs.{Amount.amount, declared.units.Units.Units}}
 use Rattle.net_plan.specs.declared.event.What.TheVariants as events
 
 -- a device's clock after what befalls the network at a time

@@ -1,11 +1,10 @@
 -- The frames that wait at devices: each device has a queue of its own.
 use Rattle.std.specs.{Option.option_map_or, Prelude.{option_map, pos, slice_get, ℕ}}
 use Rattle.std.specs.Prelude.{◌∷◌, ◌≡◌, ◌≤ℤ◌, IsPermutation, List, None, Option, Some, flat_map, map, option_and_then}
-use Rattle.net_plan.specs.declared.ids.DeviceId.{DeviceId}
-use Rattle.run_law.specs.{declared.note.NoteBody.NoteBody, records.Order.{IsBefore, IsIn}}
-use Rattle.tte_units.specs.Amount.{amount}
-use Rattle.world_state.specs.{queue.Places.first_entry, queue.Queues.Queue, declared.queue.{Entry.Entry, DueAt.DueAt}}
-use Rattle.world_state.specs.{Ripening.ripe_numbers, declared.contents.Waits.Waits}
+use Rattle.{net_plan.specs.declared.ids.DeviceId.DeviceId, world_state.specs.declared.contents.Waits.Waits}
+use Rattle.{run_law.specs.declared.note.NoteBody.NoteBody, world_state.specs.declared.queue.{DueAt.DueAt, Entry.Entry}}
+use Rattle.{run_law.specs.records.Order.{IsBefore, IsIn}, world_state.specs.queue.{Places.first_entry, Queues.Queue}}
+use Rattle.{tte_units.specs.Amount.amount, world_state.specs.Ripening.ripe_numbers}
 use Rattle.run_law.specs.declared.note.NoteBody.TheVariants as kinds
 
 -- the frames that wait, and the queues of the devices

@@ -1,7 +1,6 @@
 -- What befell a network, where something may come of it.
 use Rattle.net_plan.specs.declared.event.What.TheVariants as events
-use Rattle.net_plan.specs.declared.event.What.{What}
-use Rattle.world_state.specs.declared.packets.Happening.{Happening}
+use Rattle.{net_plan.specs.declared.event.What.What, world_state.specs.declared.packets.Happening.Happening}
 use Rattle.world_state.specs.declared.packets.Happening.TheVariants as kept
 
 -- what befell the network

@@ -1,8 +1,7 @@
 -- What is kept of a device: its machine, or what it shows though it is broken.
 use Rattle.std.specs.Prelude.{◌≡◌, false, true}
 use Rattle.net_plan.specs.declared.{ids.DeviceId.DeviceId, network.Network.Network}
-use Rattle.run_law.specs.machines.Nodes.{Node}
-use Rattle.world_state.specs.declared.kept.Kept.{Kept, TheVariants.{Out, Sound}}
+use Rattle.{run_law.specs.machines.Nodes.Node, world_state.specs.declared.kept.Kept.{Kept, TheVariants.{Out, Sound}}}
 
 -- the machine of a sound device
 abbrev pub sound_one : {M : Type 0} → M → Kept M

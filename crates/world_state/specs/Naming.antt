@@ -1,9 +1,8 @@
 -- Records that follow one that is given.
 use Rattle.std.specs.Prelude.{◌≡◌, false, ℕ}
-use Rattle.net_plan.specs.declared.ids.DeviceId.{DeviceId}
-use Rattle.run_law.specs.declared.{judgement.Why.Why, note.NoteBody.NoteBody}
-use Rattle.world_law.specs.world.Moves.{follows, named_body}
-use Rattle.world_state.specs.declared.contents.Settled.{Settled}
+use Rattle.{net_plan.specs.declared.ids.DeviceId.DeviceId, run_law.specs.declared.note.NoteBody.NoteBody}
+use Rattle.run_law.specs.declared.judgement.Why.{Why}
+use Rattle.{world_law.specs.world.Moves.{follows, named_body}, world_state.specs.declared.contents.Settled.Settled}
 
 -- what follows the first has its number as its cause
 abbrev pub named_settled : ℕ → NoteBody → Settled → Settled

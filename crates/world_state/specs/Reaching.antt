@@ -1,9 +1,8 @@
 -- The first of the frames that wait at a device and are reached.
 use Rattle.std.specs.Prelude.{◌≡◌, None, Option, Some, ℕ}
-use Rattle.net_plan.specs.declared.ids.DeviceId.{DeviceId}
-use Rattle.run_law.specs.records.Order.{IsBefore, IsIn}
-use Rattle.world_state.specs.{Frames.{Waiting, first_of}, Ripening.{IsReached, ripe_numbers}}
-use Rattle.world_state.specs.declared.contents.Waits.{Waits}
+use Rattle.{net_plan.specs.declared.ids.DeviceId.DeviceId, run_law.specs.records.Order.{IsBefore, IsIn}}
+use Rattle.world_state.specs.Frames.{Waiting, first_of}
+use Rattle.world_state.specs.{Ripening.{IsReached, ripe_numbers}, declared.contents.Waits.Waits}
 
 -- it is the first of its device and reached, and no other that is reached is before it
 pub record IsFirstOf (waiting : Waiting) (device : DeviceId) (reading : ℕ) (w : Waits) : Type 0 where

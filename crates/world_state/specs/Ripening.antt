@@ -1,11 +1,9 @@
 -- The record of a frame that is permanent, and the first of those that wait.
 use Rattle.std.specs.Prelude.{◌∷◌, ◌≡◌, ◌≤ℤ◌, List, None, Option, Some, [], pos, ℕ}
-use Rattle.net_plan.specs.declared.ids.DeviceId.{DeviceId}
-use Rattle.run_law.specs.declared.{judgement.Judgement.Judgement, steps.Ripe.Ripe}
-use Rattle.sync_state.specs.declared.state.State.TheVariants.{Joining}
-use Rattle.tte_units.specs.Amount.{amount}
-use Rattle.world_law.specs.world.World.{none_yet}
-use Rattle.world_state.specs.{Places.{IsPutAt, IsSomePut}, declared.contents.{Settled.Settled, Waits.Waits}}
+use Rattle.{net_plan.specs.declared.ids.DeviceId.DeviceId, world_state.specs.Places.{IsPutAt, IsSomePut}}
+use Rattle.{run_law.specs.declared.judgement.Judgement.Judgement, world_state.specs.declared.contents.Settled.Settled}
+use Rattle.{run_law.specs.declared.steps.Ripe.Ripe, tte_units.specs.Amount.amount, world_law.specs.world.World.none_yet}
+use Rattle.{sync_state.specs.declared.state.State.TheVariants.Joining, world_state.specs.declared.contents.Waits.Waits}
 use Rattle.run_law.specs.declared.judgement.Judgement.TheVariants as judgements
 use Rattle.run_law.specs.declared.judgement.Why.TheVariants as whys
 use Rattle.run_law.specs.declared.note.NoteBody.TheVariants as kinds

@@ -1,8 +1,7 @@
 -- What is under way, and how short ways are.
 use Rattle.std.specs.{List.IsDistinct, Prelude.{◌<◌, ◌^◌, ◌≡◌, List, length, map, ℕ}, Str.bytes_eq}
-use Rattle.net_plan.specs.declared.network.Network.{Network}
-use Rattle.run_law.specs.records.Order.{IsIn}
-use Rattle.world_state.specs.{queue.Places.numbers_of, declared.queue.Entry.Entry}
+use Rattle.{net_plan.specs.declared.network.Network.Network, world_state.specs.declared.queue.Entry.Entry}
+use Rattle.{run_law.specs.records.Order.IsIn, world_state.specs.queue.Places.numbers_of}
 use Rattle.world_state.specs.declared.contents.{Content.{Content, TheVariants.{Port, Wire}}, WayState.WayState}
 
 -- the rank of what is under way

@@ -1,7 +1,6 @@
 -- The frames that switches hold.
 use Rattle.std.specs.Prelude.{◌&&◌, ◌==◌, ◌∷◌, ◌≡◌, Bool, IsPermutation, List, None, Option, Some, filter, not, ℕ}
-use Rattle.net_plan.specs.declared.ids.{DeviceId.DeviceId, VlId.VlId}
-use Rattle.run_law.specs.declared.note.NoteBody.{NoteBody}
+use Rattle.{net_plan.specs.declared.ids.{DeviceId.DeviceId, VlId.VlId}, run_law.specs.declared.note.NoteBody.NoteBody}
 use Rattle.world_state.specs.declared.contents.{Holding.Holding, Timed.Timed}
 use Rattle.run_law.specs.declared.note.NoteBody.TheVariants as kinds
 

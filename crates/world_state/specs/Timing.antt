@@ -1,8 +1,7 @@
 -- When a clock reaches what a device waits for.
 use Rattle.std.specs.Prelude.{◌<ℤ◌, ◌<◌, ◌^◌, ◌≡◌, ◌≤ℤ◌, ◌≤◌, ◌⊎◌, List, None, Option, Some, pos, ℕ}
-use Rattle.run_law.specs.records.Order.{IsIn}
-use Rattle.tte_units.specs.declared.units.Units.{Units}
-use Rattle.world_state.specs.{declared.contents.Waits.Waits, timers.Times.never}
+use Rattle.{run_law.specs.records.Order.IsIn, world_state.specs.timers.Times.never}
+use Rattle.{tte_units.specs.declared.units.Units.Units, world_state.specs.declared.contents.Waits.Waits}
 
 -- the least point of the frames that wait at the device, where one does
 abbrev pub IsLeastPoint : List Waits → ℕ → Option Units → Type 0

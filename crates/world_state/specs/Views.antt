@@ -1,13 +1,12 @@
 -- The parts of a state as the law of worlds sees them.
 use Rattle.std.specs.{Option.option_map_or, Prelude.{List, None, Ok, Option, Some, [], replicate, slice_get, ℕ}}
-use Rattle.net_plan.specs.declared.network.Network.{Network}
-use Rattle.run_law.specs.{control.Wires.{Signal, control, signal_of, timed}, records.Frames.tt_frame_by}
-use Rattle.run_law.specs.records.Happenings.{Happening}
-use Rattle.tte_units.specs.Amount.{units_of}
+use Rattle.{net_plan.specs.declared.network.Network.Network, world_state.specs.declared.contents.Timed.Timed}
+use Rattle.run_law.specs.{control.Wires.{Signal, control, signal_of, timed}, records.Happenings.Happening}
+use Rattle.{run_law.specs.records.Frames.tt_frame_by, tte_units.specs.Amount.units_of}
 use Rattle.world_law.specs.world.World.{AtPort, Befell, OnWire, Stored, Waiting, WayNow}
 use Rattle.world_state.specs.declared.contents.{Befallen.Befallen, Holding.Holding, Settled.Settled, WayState.WayState}
 use Rattle.world_state.specs.declared.contents.{Content.{Content, TheVariants.{Port, Wire}}, Signal.{Signal as Sent}}
-use Rattle.world_state.specs.declared.{contents.{Timed.Timed, Waits.Waits}, queue.{DueAt.DueAt, Entry.Entry}}
+use Rattle.world_state.specs.declared.{contents.Waits.Waits, queue.{DueAt.DueAt, Entry.Entry}}
 use Rattle.world_state.specs.declared.contents.Signal.TheVariants as signals
 use Rattle.world_state.specs.declared.contents.Timed.TheVariants as octets
 

@@ -1,7 +1,6 @@
 ghost use Rattle.std.specs.Prelude.{◌≡◌, length, replicate, map, IfOk, false, All, ◌≤◌};
-ghost use Rattle.net_plan.specs.Ranges.{IsInRange};
+ghost use Rattle.{net_plan.specs.Ranges.IsInRange, world_state.specs.Beginning.first_way};
 ghost use Rattle.tte_units.specs.Amount.{amount};
-ghost use Rattle.world_state.specs.Beginning.{first_way};
 
 use crate::OutOfMemory;
 use crate::contents::WayState;

@@ -1,8 +1,7 @@
 ghost use Rattle.std.specs.Prelude.{◌≡◌, Bool, IfNone, IfOk, IfSome, map, true};
-ghost use Rattle.net_plan.specs.declared.{event.What.TheVariants.{Break, On}, ids.DeviceId.DeviceId};
-ghost use Rattle.net_plan.specs.declared.network.Network.{Network};
+ghost use Rattle.net_plan.specs.declared.{event.What.TheVariants.{Break, On}, network.Network.Network};
+ghost use Rattle.{net_plan.specs.declared.ids.DeviceId.DeviceId, sync_state.specs.declared.state.State.TheVariants.Off};
 ghost use Rattle.run_law.specs.machines.{Calls.{MayAct, MayHear, StandsFor}, Nodes.Node, Tasks.IsDueReading};
-ghost use Rattle.sync_state.specs.declared.state.State.TheVariants.{Off};
 ghost use Rattle.world_law.specs.world.{Calls.{HasActed, HasHeard, IsStateOf}, Outcomes.befallen_node};
 ghost use Rattle.world_state.specs.Keeping.{keeps, sound_one};
 

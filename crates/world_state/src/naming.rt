@@ -1,6 +1,5 @@
 ghost use Rattle.std.specs.Prelude.{◌≡◌, false, map};
-ghost use Rattle.run_law.specs.device.States.{is_joined_by};
-ghost use Rattle.world_state.specs.Naming.{LeadsNowhere, named_settled};
+ghost use Rattle.{run_law.specs.device.States.is_joined_by, world_state.specs.Naming.{LeadsNowhere, named_settled}};
 ghost use Rattle.world_law.specs.world.Moves.{follows};
 
 use crate::contents::Settled;

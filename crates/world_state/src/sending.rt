@@ -1,6 +1,5 @@
 ghost use Rattle.std.specs.Prelude.{◌+◌, ◌<◌, ◌^◌, ◌≡◌, ◌≤◌, All, List, length, ℕ};
-ghost use Rattle.net_plan.specs.Ranges.{IsInRange};
-ghost use Rattle.run_law.specs.control.Wires.{time_on_port, timed};
+ghost use Rattle.{net_plan.specs.Ranges.IsInRange, run_law.specs.control.Wires.{time_on_port, timed}};
 ghost use Rattle.world_state.specs.{Giving.{IsPutOn, place_on_wire, wire_entry}, Views.octets_of};
 
 use crate::contents::{Content, Signal, Timed, WayState};

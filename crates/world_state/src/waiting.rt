@@ -1,9 +1,7 @@
 ghost use Rattle.std.specs.Prelude.{◌≡◌, ◌<◌, ◌≤◌, ◌≤ℤ◌, ◌^◌, ◌+◌, pos, length, IfSome, Some};
-ghost use Rattle.net_plan.specs.Ranges.{IsInRange};
+ghost use Rattle.{net_plan.specs.Ranges.IsInRange, world_state.specs.Giving.{CameBy, IsYoung, awaited_by, giver_of}};
+ghost use Rattle.{run_law.specs.control.Permanence.waits_for, world_state.specs.Frames.{IsOneMore, room_of, waiter_of}};
 ghost use Rattle.tte_units.specs.Amount.{amount};
-ghost use Rattle.run_law.specs.control.Permanence.{waits_for};
-ghost use Rattle.world_state.specs.Giving.{CameBy, IsYoung, awaited_by, giver_of};
-ghost use Rattle.world_state.specs.Frames.{IsOneMore, room_of, waiter_of};
 
 use crate::contents::Waits;
 use crate::frames::Frames;

@@ -1,13 +1,11 @@
 -- What a master sends in a stretch without records of it.
-use Rattle.std.proofs.Common.{if◌then◌else◌, ◌*◌, ◌+◌, ◌-◌, ◌<◌, ◌∙◌, ◌≡◌, ◌≤◌, Bool, List, ap, arith, pos, refl, subst, sym, true, ℕ, ℤ}
-use Rattle.audit_devices.specs.Showing.{IsSteady, Shown}
-use Rattle.net_plan.specs.{Places.is_master, declared.ids.DeviceId.DeviceId}
-use Rattle.run_law.specs.{device.States.{state_after, state_before}, records.Happenings.{Happening, earlier}, scenario.{Devices.has_role, Scenarios.Scenario}}
-use Rattle.run_law.specs.timed.Dispatching.{Sends}
-use Rattle.sync_state.specs.declared.state.State.TheVariants.{Integrating, Synchronised}
+use Rattle.audit_devices.{proofs.clocks_lemmas.Reached.{come_reaches, reaches_come}, specs.declared.clocks.finding.{Crossed.Crossed, Series.Series}}
+use Rattle.{audit_devices.specs.Showing.{IsSteady, Shown}, net_plan.specs.declared.ids.DeviceId.DeviceId, run_law.specs.records.Happenings.{Happening, earlier}}
+use Rattle.audit_devices.specs.clocks.{Finding.{CrossesAt, IsNextCrossing, NoneCrossed, value_in}, Sendings.{IsNextSending, IsStretch, NoneSent}}
+use Rattle.{net_plan.specs.Places.is_master, run_law.specs.{scenario.{Devices.has_role, Scenarios.Scenario}, timed.Dispatching.Sends}}
+use Rattle.{run_law.specs.device.States.{state_after, state_before}, sync_state.specs.declared.state.State.TheVariants.{Integrating, Synchronised}}
+use Rattle.std.proofs.Common.{◌*◌, ◌+◌, ◌-◌, ◌<◌, ◌∙◌, ◌≡◌, ◌≤◌, Bool, List, ap, arith, if◌then◌else◌, pos, refl, subst, sym, true, ℕ, ℤ}
 use Rattle.tte_units.specs.Amount.{amount}
-use Rattle.audit_devices.{proofs.clocks_lemmas.Reached.{come_reaches, reaches_come}, specs.clocks.Finding.{CrossesAt, IsNextCrossing, NoneCrossed, value_in}}
-use Rattle.audit_devices.specs.{clocks.Sendings.{IsNextSending, IsStretch, NoneSent}, declared.clocks.finding.{Crossed.Crossed, Series.Series}}
 
 -- the series is that of the beginnings of cycles
 abbrev pub AreBeginnings : Scenario → Series → Type 0

@@ -1,10 +1,9 @@
 -- When a clock reaches a value, by its readings now and a unit of time before.
-use Rattle.std.proofs.Common.{if◌then◌else◌, ◌-◌, ◌∷◌, ◌≡◌, ◌≤◌, Bool, List, None, Option, Some, [], arith, false, filter, pos, refl, subst, suc, true, zero, ℕ}
-use Rattle.std.{proofs.{Common.ℤ, lemmas.{Bool.ltb-true, Int.ints}}, specs.{List.last_or, Option.option_map_or, Prelude.{◌+ℤ◌, ◌-ℤ◌, ◌<ℤ◌, ◌≤ℤ◌, nat_lt}}}
-use Rattle.audit_devices.specs.{Showing.{IsReading, IsSteady, Shown, Shows}, clocks.Crossing.HasCrossed, declared.shown.Readings.Readings}
-use Rattle.net_plan.specs.declared.ids.DeviceId.{DeviceId}
-use Rattle.run_law.specs.{device.LocalClocks.{Reaches, changed_at, changes_adjustment}, records.Happenings.{Happening, earlier, time_of}}
-use Rattle.run_law.specs.scenario.Scenarios.{Scenario}
+use Rattle.{audit_devices.specs.Showing.{IsReading, IsSteady, Shown, Shows}, run_law.specs.device.LocalClocks.{Reaches, changed_at, changes_adjustment}}
+use Rattle.{audit_devices.specs.{clocks.Crossing.HasCrossed, declared.shown.Readings.Readings}, run_law.specs.records.Happenings.{Happening, earlier, time_of}}
+use Rattle.{net_plan.specs.declared.ids.DeviceId.DeviceId, run_law.specs.scenario.Scenarios.Scenario, std.specs.Prelude.{◌+ℤ◌, ◌-ℤ◌, ◌<ℤ◌, ◌≤ℤ◌, nat_lt}}
+use Rattle.std.proofs.Common.{◌-◌, ◌∷◌, ◌≡◌, ◌≤◌, Bool, List, None, Option, Some, [], arith, false, filter, if◌then◌else◌, pos, refl, subst, suc, true, zero, ℕ}
+use Rattle.std.{proofs.{Common.ℤ, lemmas.{Bool.ltb-true, Int.ints}}, specs.{List.last_or, Option.option_map_or}}
 
 -- the last of what is earlier lies before the time
 last_early : (p : Happening → Bool) (t : ℕ) (o : Option Happening) (hs : List Happening) → option_map_or time_of o 0 ≤ t - 1

@@ -1,9 +1,8 @@
 -- When a clock next crosses a value of a series.
-use Rattle.std.proofs.Common.{◌%◌, ◌*◌, ◌+◌, ◌-◌, ◌/◌, ◌<ℤ◌, ◌<◌, ◌^◌, ◌≡◌, ◌≤ℤ◌, ◌≤◌, ◌⊎◌, arith, div-add-mod', inl, inr, mul-le-mul_right, pos, subst, ℕ, ℤ}
-use Rattle.std.{proofs.lemmas.{Bool.cases_lt, Int.ints, Nat.{div_below, mod_below}}, specs.Prelude.{◌+ℤ◌, ◌-ℤ◌}}
 use Rattle.audit_devices.specs.{Showing.Shown, clocks.Finding.{CrossesAt, IsNextCrossing, NoneCrossed, value_in}, declared.clocks.finding.Series.Series}
-use Rattle.audit_devices.specs.events.Readings.{ReadsOn}
-use Rattle.drift_clock.specs.Reach.{IsReach}
+use Rattle.{audit_devices.specs.events.Readings.ReadsOn, drift_clock.specs.Reach.IsReach, std.proofs.lemmas.{Bool.cases_lt, Nat.{div_below, mod_below}}}
+use Rattle.std.proofs.Common.{◌%◌, ◌*◌, ◌+◌, ◌-◌, ◌/◌, ◌<ℤ◌, ◌<◌, ◌^◌, ◌≡◌, ◌≤ℤ◌, ◌≤◌, ◌⊎◌, arith, div-add-mod', inl, inr, mul-le-mul_right, pos, subst, ℕ, ℤ}
+use Rattle.std.{proofs.lemmas.Int.ints, specs.Prelude.{◌+ℤ◌, ◌-ℤ◌}}
 
 -- a value behind what is passed, and the least such
 pub record IsBehind (series : Series) (passed : ℤ) (number : ℕ) : Type 0 where

@@ -1,11 +1,10 @@
 -- What a history had it keeps as it grows.
-use Rattle.std.proofs.Common.{◌++◌, ◌+◌, ◌∙◌, ◌∷◌, ◌≡◌, ◌≤◌, List, None, Option, Some, [], ap, arith, drop, length, map, refl, subst, suc, sym, take, zero, ℕ}
-use Rattle.std.proofs.{Common.ℤ, lemmas.List.{drop-append-le, length-append, length-drop, take-append-le, Elements.recursion_from_All}}
-use Rattle.std.specs.{List.AllByRecursion, Prelude.{All, IfSome}}
-use Rattle.compression.specs.Clusters.{AreClusters, Cluster, Point}
-use Rattle.tte_lemmas.proofs.Lists.{all-push}
 use Rattle.audit_devices.specs.collections.{Gathered.{EndsWith, Gathers, HasRow, IsHeld}, Kept.{History, IsCounted, cluster_kept, clusters_in, kept_in}}
 use Rattle.audit_devices.specs.{collections.Steps.Grows, declared.collections.{gathering.{Gathering.Gathering, Row.Row}, kept.KeptCluster.KeptCluster}}
+use Rattle.{compression.specs.Clusters.{AreClusters, Cluster, Point}, std.proofs.lemmas.List.{drop-append-le, length-append, length-drop, take-append-le}}
+use Rattle.std.proofs.Common.{◌++◌, ◌+◌, ◌∙◌, ◌∷◌, ◌≡◌, ◌≤◌, List, None, Option, Some, [], ap, arith, drop, length, map, refl, subst, suc, sym, take, zero, ℕ}
+use Rattle.std.proofs.Common.{ℤ}
+use Rattle.{std.{proofs.lemmas.List.Elements.recursion_from_All, specs.{List.AllByRecursion, Prelude.{All, IfSome}}}, tte_lemmas.proofs.Lists.all-push}
 
 -- all parts of a list stay where more is appended
 part-same : {X : Type 0} (xs more : List X) (from count : ℕ) → (from + count) ≤ length xs → take count (drop from (xs ++ more)) ≡ take count (drop from xs)

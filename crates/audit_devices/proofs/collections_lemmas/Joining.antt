@@ -1,9 +1,8 @@
 -- What is kept as clusters open and points join.
+use Rattle.audit_devices.specs.{collections.{Kept.{History, cluster_kept}, Steps.Grows}, declared.collections.kept.KeptCluster.KeptCluster}
+use Rattle.{compression.specs.Clusters.{Cluster, point_at}, std.{proofs.Math.Pow.pow-lt, specs.Prelude.bit_or}, tte_lemmas.proofs.Lists.drop-front}
+use Rattle.{compression.specs.Collection.{joined, joined_end, opening}, std.proofs.lemmas.List.{append-nil, drop-append-le, length-append, length-drop}}
 use Rattle.std.proofs.Common.{◌%◌, ◌*◌, ◌++◌, ◌+ℤ◌, ◌+◌, ◌<◌, ◌^◌, ◌∷◌, ◌≡◌, ◌≤◌, List, [], ap, arith, drop, length, refl, suc, sym, take, zero, ℕ, ℤ}
-use Rattle.std.{proofs.{Math.Pow.pow-lt, lemmas.List.{append-nil, drop-append-le, length-append, length-drop}}, specs.Prelude.bit_or}
-use Rattle.compression.specs.{Clusters.{Cluster, point_at}, Collection.{joined, joined_end, opening}}
-use Rattle.tte_lemmas.proofs.Lists.{drop-front}
-use Rattle.audit_devices.specs.{collections.Kept.{History, cluster_kept}, collections.Steps.Grows, declared.collections.kept.KeptCluster.KeptCluster}
 
 pub grows-none : (h : History) → Grows h h
 grows-none h = record {

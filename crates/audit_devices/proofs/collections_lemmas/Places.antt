@@ -1,12 +1,11 @@
 -- What the search for an opening finds.
-use Rattle.std.proofs.Common.{◌+◌, ◌<ℤ◌, ◌<◌, ◌∙◌, ◌∷◌, ◌≡◌, ◌≤ℤ◌, ◌≤◌, List, Option, Some, [], ap, arith, drop, inl, inr, length, map, pos, subst, sym, take}
-use Rattle.std.proofs.{Common.{ℕ, ℤ}, lemmas.{Bool.{cases_eq, cases_lt}, Int.ints, List.{length-append, length-drop, length-take-le}}}
-use Rattle.std.specs.Prelude.{All, slice_get}
-use Rattle.compression.specs.Clusters.{AreClusters}
-use Rattle.tte_lemmas.proofs.Lists.{got_within}
-use Rattle.audit_devices.{proofs.collections_lemmas.Kepts.all-emissions, specs.collections.{Gathered.{HasRow, IsGathered}, Rising.{IsPlaceFor, IsRising}}}
-use Rattle.audit_devices.{proofs.collections_lemmas.Spaced.{rising, spaced}, specs.declared.collections.{emitted.Emitted.Emitted, kept.KeptCluster.KeptCluster}}
+use Rattle.audit_devices.{proofs.collections_lemmas.{Kepts.all-emissions, Spaced.{rising, spaced}}, specs.declared.collections.emitted.Emitted.Emitted}
+use Rattle.{audit_devices.specs.collections.{Gathered.{HasRow, IsGathered}, Rising.{IsPlaceFor, IsRising}}, std.proofs.lemmas.Bool.{cases_eq, cases_lt}}
 use Rattle.audit_devices.specs.{collections.Kept.{History, cluster_kept, emitted, kept_in}, declared.collections.gathering.{Gathering.Gathering, Row.Row}}
+use Rattle.{audit_devices.specs.declared.collections.kept.KeptCluster.KeptCluster, std.proofs.lemmas.List.{length-append, length-drop, length-take-le}}
+use Rattle.{compression.specs.Clusters.AreClusters, std.{proofs.lemmas.Int.ints, specs.Prelude.{All, slice_get}}, tte_lemmas.proofs.Lists.got_within}
+use Rattle.std.proofs.Common.{◌+◌, ◌<ℤ◌, ◌<◌, ◌∙◌, ◌∷◌, ◌≡◌, ◌≤ℤ◌, ◌≤◌, List, Option, Some, [], ap, arith, drop, inl, inr, length, map, pos, subst, sym, take}
+use Rattle.std.proofs.Common.{ℕ, ℤ}
 
 same_at : (ks : List KeptCluster) (i j : ℕ) (k d : KeptCluster) → i ≡ j → slice_get ks i ≡ Some k → slice_get ks j ≡ Some d → k ≡ d
 same_at ks i j k d e at there =

@@ -1,9 +1,8 @@
 -- What is sent for clusters.
-use Rattle.std.proofs.{Common.{◌∙◌, ◌∷◌, ◌≡◌, List, None, Option, Some, [], ap, inl, inr, map, subst, sym}, lemmas.List.Elements.All-contains}
-use Rattle.std.specs.Prelude.{All, Contains}
-use Rattle.compression.{proofs.Elements.{in_cases, in_head, in_none, in_tail}, specs.declared.compressed.Compressed.Compressed}
-use Rattle.audit_devices.specs.{collections.Gathered.Sends, declared.collections.emitted.Emitted.Emitted}
+use Rattle.{audit_devices.specs.collections.Gathered.Sends, compression.specs.declared.compressed.Compressed.Compressed, std.specs.Prelude.{All, Contains}}
 use Rattle.audit_devices.specs.{collections.Kept.{History, as_emitted, clusters_in, emissions_in, emitted}, declared.collections.gathering.Gathering.Gathering}
+use Rattle.{audit_devices.specs.declared.collections.emitted.Emitted.Emitted, compression.proofs.Elements.{in_cases, in_head, in_none, in_tail}}
+use Rattle.std.proofs.{Common.{◌∙◌, ◌∷◌, ◌≡◌, List, None, Option, Some, [], ap, inl, inr, map, subst, sym}, lemmas.List.Elements.All-contains}
 
 pub in_map : {X Y : Type 0} (f : X → Y) (xs : List X) (y : Y) → Contains (map f xs) y → (x : X) × Contains xs x × (f x ≡ y)
 in_map f [] y at = absurd (in_none y at)

@@ -1,9 +1,8 @@
 -- Where the clusters of points lie.
-use Rattle.std.proofs.{Common.{◌*ℤ◌, ◌++◌, ◌+ℤ◌, ◌<ℤ◌, ◌∷◌, ◌≡◌, ◌≤ℤ◌, List, Some, [], arith, map, pos, subst, suc, sym, zero, ℕ, ℤ}, lemmas.Int.ints}
-use Rattle.std.specs.{List.AllByRecursion, Prelude.slice_get}
-use Rattle.compression.proofs.{Elements.{all-filter, beyond-all}, Growth.end_of-most, Times.{first_end, open_beyond}}
-use Rattle.compression.specs.Clusters.{AreClusters, Cluster, Point, beyond}
-use Rattle.audit_devices.specs.{collections.Kept.cluster_kept, collections.Rising.IsRising, declared.collections.kept.KeptCluster.KeptCluster}
+use Rattle.{audit_devices.specs.collections.{Kept.cluster_kept, Rising.IsRising}, compression.proofs.{Elements.{all-filter, beyond-all}, Growth.end_of-most}}
+use Rattle.{audit_devices.specs.declared.collections.kept.KeptCluster.KeptCluster, compression.specs.Clusters.{AreClusters, Cluster, Point, beyond}}
+use Rattle.{compression.proofs.Times.{first_end, open_beyond}, std.{proofs.lemmas.Int.ints, specs.Prelude.slice_get}}
+use Rattle.std.{proofs.Common.{◌*ℤ◌, ◌++◌, ◌+ℤ◌, ◌<ℤ◌, ◌∷◌, ◌≡◌, ◌≤ℤ◌, List, Some, [], arith, map, pos, subst, suc, sym, zero, ℕ, ℤ}, specs.List.AllByRecursion}
 
 -- each ends where it opens or later, and before those behind it open
 abbrev pub AreSpaced : List Cluster → Type 0

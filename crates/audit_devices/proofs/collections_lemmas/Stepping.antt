@@ -1,16 +1,14 @@
 -- What a point does to the clusters that a gathering stands for.
-use Rattle.std.proofs.Common.{◌*ℤ◌, ◌++◌, ◌+ℤ◌, ◌<ℤ◌, ◌∙◌, ◌∷◌, ◌≡◌, ◌≢◌, ◌≤ℤ◌, ◌⊎◌, List, None, Option, Some, [], ap, arith, false, inl, inr, map, pos, refl}
-use Rattle.std.proofs.{Common.{subst, sym, true, ℤ}, lemmas.{Bool.cases_Bool, Int.ints, List.{map-append, Elements.recursion_from_All}}}
-use Rattle.std.specs.{List.{AllByRecursion, last_or}, Prelude.{All, IfSome, int_lt}}
-use Rattle.compression.proofs.{Growth.{AreClusters-opened, AreClusters-within, Grows as Takes}, Rows.{last_or-none, last_split}, Sound.open_at-some}
-use Rattle.compression.{proofs.{Standing.ended_later, Taking.{role_in-ignored, role_in-joined, role_in-opened}}, specs.Clusters.{AreClusters, Cluster, Point}}
-use Rattle.compression.specs.{Collection.{joined, joined_end, opening}, Role.{has_point_of, open_at, role}}
-use Rattle.compression.specs.declared.taken.Taken.TheVariants.{Joined, Opened, OtherCycle, Repeat}
-use Rattle.tte_lemmas.proofs.Lists.{last_pushed}
 use Rattle.audit_devices.proofs.collections_lemmas.{Growing.{all-kept, clusters-same, has-ends}, Spaced.{at-last, before-last, ends-most, opened-most, spaced}}
 use Rattle.audit_devices.specs.collections.{Gathered.{EndsWith, Gathers, HasRow, IsHeld}, Kept.{History, IsCounted, cluster_kept, clusters_in, kept_in}}
-use Rattle.audit_devices.specs.collections.Steps.{Grows, Joins, Opens}
+use Rattle.{audit_devices.specs.collections.Steps.{Grows, Joins, Opens}, compression.specs.Clusters.{AreClusters, Cluster, Point}}
 use Rattle.audit_devices.specs.declared.collections.{gathering.{Gathering.Gathering, Row.Row}, kept.KeptCluster.KeptCluster}
+use Rattle.compression.proofs.{Growth.{AreClusters-opened, AreClusters-within, Grows as Takes}, Taking.{role_in-ignored, role_in-joined, role_in-opened}}
+use Rattle.{compression.{proofs.Rows.{last_or-none, last_split}, specs.Role.{has_point_of, open_at, role}}, std.proofs.lemmas.List.Elements.recursion_from_All}
+use Rattle.{compression.proofs.{Sound.open_at-some, Standing.ended_later}, std.{proofs.Common.{subst, sym, true, ℤ}, specs.List.{AllByRecursion, last_or}}}
+use Rattle.compression.specs.{Collection.{joined, joined_end, opening}, declared.taken.Taken.TheVariants.{Joined, Opened, OtherCycle, Repeat}}
+use Rattle.std.proofs.Common.{◌*ℤ◌, ◌++◌, ◌+ℤ◌, ◌<ℤ◌, ◌∙◌, ◌∷◌, ◌≡◌, ◌≢◌, ◌≤ℤ◌, ◌⊎◌, List, None, Option, Some, [], ap, arith, false, inl, inr, map, pos, refl}
+use Rattle.{std.{proofs.lemmas.{Bool.cases_Bool, Int.ints, List.map-append}, specs.Prelude.{All, IfSome, int_lt}}, tte_lemmas.proofs.Lists.last_pushed}
 
 -- none of these points is later than the reading
 abbrev pub AreBefore : List Point → ℤ → Type 0

@@ -1,7 +1,6 @@
 -- Numbers of 128 bits.
-use Rattle.std.{proofs.{Common.{◌^◌, ◌≡◌, ◌≤ℤ◌, FitsSigned, arith, neg_ℤ, of_z, pos, refl, to_z, ℤ}, lemmas.Int.{ints, to_z-of_z}}, specs.Int.w128}
-use Rattle.tte_units.specs.Mean.{mean_of}
-use Rattle.audit_devices.specs.collections.Small.{IsSmall}
+use Rattle.{audit_devices.specs.collections.Small.IsSmall, std.proofs.Common.{◌^◌, ◌≡◌, ◌≤ℤ◌, FitsSigned, arith, neg_ℤ, of_z, pos, refl, to_z, ℤ}}
+use Rattle.{std.{proofs.lemmas.Int.{ints, to_z-of_z}, specs.Int.w128}, tte_units.specs.Mean.mean_of}
 
 -- sums of a few small numbers fit
 pub fits_wide : (z : ℤ) → neg_ℤ (pos (2 ^ 100)) ≤ℤ z → z ≤ℤ pos (2 ^ 100) → FitsSigned w128 z

@@ -1,13 +1,11 @@
 -- Events within the hypothesis come in the order of time, and set slow rates.
-use Rattle.std.proofs.Common.{◌++◌, ◌^◌, ◌∙◌, ◌∷◌, ◌≡◌, ◌≤ℤ◌, ◌≤◌, List, None, Option, Some, [], append_assoc, arith, inl, inr, pos}
-use Rattle.std.{proofs.{Common.{refl, subst, suc, sym, ℕ}, lemmas.{Bool.cases_lt, Int.ints}}, specs.List.cons_option}
-use Rattle.drift_clock.specs.RateSteps.{RateStep}
-use Rattle.net_plan.specs.{Ranges.IsInRange, declared.{event.Event.Event, ids.DeviceId.DeviceId, network.Network.Network}}
-use Rattle.run_law.{proofs.scenario.Devices.in_turn, specs.scenario.{Hypothesis.{AreWithinHypothesis, IsWithinHypothesis}, Rates.{rate_steps, step_by}}}
-use Rattle.tte_units.specs.Amount.{amount}
-use Rattle.audit_devices.{proofs.events_lemmas.Clocking.{StepsFrom, StepsUpTo, steps_sooner}, specs.events.Readings.HaveBegun}
+use Rattle.{audit_devices.proofs.events_lemmas.Clocking.{StepsFrom, StepsUpTo, steps_sooner}, run_law.specs.scenario.Rates.{rate_steps, step_by}}
+use Rattle.{audit_devices.specs.events.Readings.HaveBegun, net_plan.specs.declared.{event.Event.Event, ids.DeviceId.DeviceId, network.Network.Network}}
+use Rattle.{drift_clock.specs.RateSteps.RateStep, net_plan.specs.Ranges.IsInRange, run_law.proofs.scenario.Devices.in_turn, std.proofs.lemmas.Bool.cases_lt}
+use Rattle.run_law.{proofs.scenario.Rated.{Holds, IsSlow, IsStepAt, slow_event, step_is}, specs.scenario.Hypothesis.{AreWithinHypothesis, IsWithinHypothesis}}
+use Rattle.std.proofs.Common.{◌++◌, ◌^◌, ◌∙◌, ◌∷◌, ◌≡◌, ◌≤ℤ◌, ◌≤◌, List, None, Option, Some, [], append_assoc, arith, inl, inr, pos, refl, subst, suc, sym, ℕ}
+use Rattle.{std.{proofs.lemmas.Int.ints, specs.List.cons_option}, tte_units.specs.Amount.amount}
 use Rattle.run_law.specs.declared.outside.Outside.TheVariants as outside
-use Rattle.run_law.proofs.scenario.Rated.{Holds, IsSlow, IsStepAt, slow_event, step_is}
 
 -- ---- one event
 

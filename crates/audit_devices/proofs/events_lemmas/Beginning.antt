@@ -1,14 +1,12 @@
 -- A history of no event.
-use Rattle.std.proofs.Common.{◌*◌, ◌++◌, ◌+◌, ◌∷◌, ◌≡◌, List, Option, Some, [], ap, arith, false, length, refl, subst, suc, zero, ℕ}
-use Rattle.std.{proofs.lemmas.Option.{get_or_from_slice_get, slice_get_within}, specs.{List.All, Option.option_map_or, Prelude.slice_get}}
-use Rattle.net_plan.specs.{Ranges.IsInRange, declared.{event.What.What, ids.{DeviceId.DeviceId, LinkId.LinkId}, network.Network.Network, tables.Link.Link}}
-use Rattle.net_plan.specs.declared.tables.Way.{Way, TheVariants.{Down, Up}}
-use Rattle.run_law.specs.scenario.Ways.{cut_set, hold_set, wire_of, wire_set}
-use Rattle.tte_lemmas.proofs.Lists.{none_before}
-use Rattle.tte_units.specs.Amount.{amount}
 use Rattle.audit_devices.specs.{declared.events.history.DeviceHistory.DeviceHistory, events.Remembering.{Remembers, TellsDevice, TellsWay, way_place}}
 use Rattle.audit_devices.specs.declared.events.{history.{EventHistory.EventHistory, WayHistory.WayHistory}, settings.Settings.Settings}
 use Rattle.audit_devices.specs.events.{Beginnings.{AreWaysOf, IsUntouched, IsUntouchedDevice, IsUntouchedWay}, Settings.IsSetBy}
+use Rattle.{net_plan.specs.{Ranges.IsInRange, declared.event.What.What}, std.specs.{List.All, Option.option_map_or}, tte_lemmas.proofs.Lists.none_before}
+use Rattle.net_plan.specs.declared.{ids.{DeviceId.DeviceId, LinkId.LinkId}, network.Network.Network, tables.{Link.Link, Way.{TheVariants.{Down, Up}, Way}}}
+use Rattle.{run_law.specs.scenario.Ways.{cut_set, hold_set, wire_of, wire_set}, std.proofs.lemmas.Option.{get_or_from_slice_get, slice_get_within}}
+use Rattle.std.{proofs.Common.{◌*◌, ◌++◌, ◌+◌, ◌∷◌, ◌≡◌, List, Option, Some, [], ap, arith, false, length, refl, subst, suc, zero, ℕ}, specs.Prelude.slice_get}
+use Rattle.tte_units.specs.Amount.{amount}
 
 -- ---- ways
 

@@ -1,20 +1,18 @@
 -- What a history tells once one more event is added.
-use Rattle.std.proofs.Common.{if◌then◌else◌, ◌&&◌, ◌++◌, ◌==◌, ◌||◌, ◌∙◌, ◌∷◌, ◌≡◌, ◌≤ℤ◌, Bool, List, None, Option, Some, [], ap, arith, false, inl, inr}
-use Rattle.std.proofs.Common.{length, nat_le, pos, refl, subst, suc, sym, true, zero, ℕ}
-use Rattle.std.proofs.lemmas.Bool.{and_parts, and_right, cases_Bool, eq-eqb, eqb-true, false_from_ne_true, false≢true}
-use Rattle.std.{proofs.lemmas.List.{Elements.{All-push, filter-append, filter_map-append}, Folds.list_any-append}, specs.List.{Any, cons_option, list_any}}
-use Rattle.std.specs.{Prelude.{filter, slice_get, slice_set}, Result.MatchResult, declared.result.Result.{Result, TheVariants.{Err, Ok}}}
-use Rattle.drift_clock.specs.{RateSteps.RateStep, Segment.{Segment, fresh_segment}}
-use Rattle.net_plan.{proofs.SameIds.{same_device, same_link}, specs.declared.{event.Event.Event, ids.{DeviceId.DeviceId, LinkId.LinkId}}}
-use Rattle.net_plan.specs.declared.{network.Network.Network, tables.Way.{Way, TheVariants.{Down, Up}}}
-use Rattle.run_law.{proofs.scenario.{Devices.{all_within, broken_by, on_by}, Ways.way_itself}, specs.scenario.Faults.{Breaks, TurnsOn}}
-use Rattle.run_law.specs.scenario.{Hypothesis.{IsWithinHypothesis, breaks_at}, Rates.{rate_steps, step_by}, Scenarios.{is_broken, is_turned_on_at, turns_on}}
-use Rattle.run_law.specs.scenario.Ways.{cut_set, hold_set, is_way, is_way_of, wire_of, wire_set}
-use Rattle.tte_lemmas.proofs.{Bools.or_none, Lists.{any_behind, any_first, set_other}}
-use Rattle.tte_units.specs.Amount.{amount}
-use Rattle.audit_devices.{proofs.events_lemmas.Valuing.set_stays, specs.events.Clocks.clocks_after}
+use Rattle.{audit_devices.{proofs.events_lemmas.Valuing.set_stays, specs.events.Clocks.clocks_after}, std.specs.declared.result.Result.TheVariants.{Err, Ok}}
 use Rattle.audit_devices.specs.declared.events.history.{DeviceHistory.DeviceHistory, EventHistory.EventHistory, WayHistory.WayHistory}
 use Rattle.audit_devices.specs.events.{Readings.{HaveBegun, scenario_under}, Remembering.{MayBefall, Remembers, TellsDevice, TellsWay, way_place}}
+use Rattle.{drift_clock.specs.RateSteps.RateStep, net_plan.specs.declared.tables.Way.Way, tte_lemmas.proofs.Bools.or_none, tte_units.specs.Amount.amount}
+use Rattle.{drift_clock.specs.Segment.{Segment, fresh_segment}, run_law.specs.scenario.{Faults.{Breaks, TurnsOn}, Rates.{rate_steps, step_by}}}
+use Rattle.{net_plan.{proofs.SameIds.{same_device, same_link}, specs.declared.ids.DeviceId.DeviceId}, std.specs.Prelude.{filter, slice_get, slice_set}}
+use Rattle.{net_plan.specs.declared.{event.Event.Event, ids.LinkId.LinkId}, std.specs.{List.{Any, cons_option, list_any}, declared.result.Result.Result}}
+use Rattle.{net_plan.specs.declared.{network.Network.Network, tables.Way.TheVariants.{Down, Up}}, tte_lemmas.proofs.Lists.{any_behind, any_first, set_other}}
+use Rattle.run_law.{proofs.scenario.{Devices.{all_within, broken_by, on_by}, Ways.way_itself}, specs.scenario.Hypothesis.{IsWithinHypothesis, breaks_at}}
+use Rattle.run_law.specs.scenario.{Scenarios.{is_broken, is_turned_on_at, turns_on}, Ways.{cut_set, hold_set, is_way, is_way_of, wire_of, wire_set}}
+use Rattle.std.proofs.Common.{◌&&◌, ◌++◌, ◌==◌, ◌||◌, ◌∙◌, ◌∷◌, ◌≡◌, ◌≤ℤ◌, Bool, List, None, Option, Some, [], ap, arith, false, if◌then◌else◌, inl, inr}
+use Rattle.std.proofs.{Common.{length, nat_le, pos, refl, subst, suc, sym, true, zero, ℕ}, lemmas.List.Elements.{All-push, filter-append, filter_map-append}}
+use Rattle.std.proofs.lemmas.{Bool.{and_parts, and_right, cases_Bool, eq-eqb, eqb-true, false_from_ne_true, false≢true}, List.Folds.list_any-append}
+use Rattle.std.specs.Result.{MatchResult}
 use Rattle.net_plan.specs.declared.event.What.TheVariants as events
 use Rattle.run_law.specs.declared.outside.Outside.TheVariants as outside
 

@@ -1,17 +1,15 @@
 -- What a history tells is what the events set.
-use Rattle.std.proofs.Common.{◌*◌, ◌++◌, ◌<◌, ◌∙◌, ◌∷◌, ◌≡◌, ◌≤ℤ◌, ◌≤◌, Bool, List, None, Option, Some, [], ap, arith, false, length, pos, refl, subst, suc}
-use Rattle.std.{proofs.{Common.{sym, true, zero, ℕ}, lemmas.Option.slice_get-get_or}, specs.List.{All, cons_option, Sorted.IsNonDecreasingBy}}
-use Rattle.std.specs.Prelude.{option_map, slice_index_or}
-use Rattle.drift_clock.specs.Segment.{Segment, fresh_segment}
-use Rattle.net_plan.specs.{Belonging.{HasLink, IsOfNetwork}, declared.{event.{Event.Event, What.What}, ids.{DeviceId.DeviceId, LinkId.LinkId}}}
-use Rattle.net_plan.specs.declared.{network.Network.Network, tables.Way.{Way, TheVariants.{Down, Up}}}
-use Rattle.run_law.{proofs.scenario.Devices.all_within, specs.scenario.{Rates.rate_steps, Scenarios.last_set}}
-use Rattle.tte_units.specs.Amount.{amount}
 use Rattle.audit_devices.proofs.events_lemmas.{Adding.cut_event, Befalling.{AreEventsFrom, events_from, steps_from, steps_up_to}, Keeping.begun_more}
-use Rattle.audit_devices.proofs.events_lemmas.{Clocking.{StepsFrom, are_clocks, clock_reads, clocks_up_to}, Valuing.last_is}
+use Rattle.{audit_devices.proofs.events_lemmas.{Clocking.{StepsFrom, are_clocks, clock_reads, clocks_up_to}, Valuing.last_is}, tte_units.specs.Amount.amount}
 use Rattle.audit_devices.specs.declared.events.{history.{DeviceHistory.DeviceHistory, EventHistory.EventHistory}, settings.{Change.Change, Settings.Settings}}
 use Rattle.audit_devices.specs.events.{Beginnings.IsReadyFor, Clocks.{AreClocks, clocks_reading}, Readings.{clock_reading, scenario_under}}
 use Rattle.audit_devices.specs.events.{Remembering.{MayBefall, Remembers, TellsDevice, way_place}, Settings.{IsSetBy, change_to, changes_by, value_at}}
+use Rattle.{drift_clock.specs.Segment.{Segment, fresh_segment}, net_plan.specs.declared.{network.Network.Network, tables.Way.{TheVariants.{Down, Up}, Way}}}
+use Rattle.{net_plan.specs.{Belonging.{HasLink, IsOfNetwork}, declared.ids.{DeviceId.DeviceId, LinkId.LinkId}}, std.specs.Prelude.{option_map, slice_index_or}}
+use Rattle.{net_plan.specs.declared.event.{Event.Event, What.What}, run_law.{proofs.scenario.Devices.all_within, specs.scenario.Scenarios.last_set}}
+use Rattle.{run_law.specs.scenario.Rates.rate_steps, std.{proofs.lemmas.Option.slice_get-get_or, specs.List.{All, Sorted.IsNonDecreasingBy, cons_option}}}
+use Rattle.std.proofs.Common.{◌*◌, ◌++◌, ◌<◌, ◌∙◌, ◌∷◌, ◌≡◌, ◌≤ℤ◌, ◌≤◌, Bool, List, None, Option, Some, [], ap, arith, false, length, pos, refl, subst, suc}
+use Rattle.std.proofs.Common.{sym, true, zero, ℕ}
 
 -- ---- the changes are in the order of time
 

@@ -1,9 +1,7 @@
 -- A slow rate at time 0 is within the hypothesis.
-use Rattle.std.proofs.{Common.{◌≡◌, ◌≤◌, [], arith, pos, unsigned_abs}, lemmas.Int.ints}
-use Rattle.net_plan.specs.declared.{event.Event.Event, ids.DeviceId.DeviceId, network.Network.Network}
-use Rattle.run_law.specs.scenario.Hypothesis.{IsWithinHypothesis}
+use Rattle.{net_plan.specs.declared.{event.Event.Event, ids.DeviceId.DeviceId, network.Network.Network}, tte_units.specs.declared.rates.Ppb.Ppb}
+use Rattle.{run_law.specs.scenario.Hypothesis.IsWithinHypothesis, std.proofs.{Common.{◌≡◌, ◌≤◌, [], arith, pos, unsigned_abs}, lemmas.Int.ints}}
 use Rattle.tte_lemmas.proofs.Lists.{none_before}
-use Rattle.tte_units.specs.declared.rates.Ppb.{Ppb}
 use Rattle.net_plan.specs.declared.event.What.TheVariants as events
 use Rattle.run_law.specs.declared.outside.Outside.TheVariants as outside
 

@@ -1,10 +1,9 @@
 -- When a clock first reaches a value, over the steps of its rate.
-use Rattle.std.proofs.Common.{if◌then◌else◌, ◌<ℤ◌, ◌<◌, ◌∙◌, ◌∷◌, ◌≡◌, ◌≤ℤ◌, ◌≤◌, List, None, Option, Some, [], ap, arith, inl, inr, length, pos, refl, subst}
+use Rattle.audit_devices.{proofs.events_lemmas.Clocking.value_ready, specs.{declared.events.settings.Change.Change, events.Settings.{later_than, value_at}}}
+use Rattle.audit_devices.{proofs.events_lemmas.Valuing.{all_later, value_before}, specs.events.Clocks.{AreClocks, IsReadable, clocks_reading}}
+use Rattle.{audit_devices.specs.events.{Beginnings.IsSought, Reaches.IsFirstReach}, drift_clock.specs.{Reach.IsReach, Segment.{Segment, segment_reading}}}
+use Rattle.std.proofs.Common.{◌<ℤ◌, ◌<◌, ◌∙◌, ◌∷◌, ◌≡◌, ◌≤ℤ◌, ◌≤◌, List, None, Option, Some, [], ap, arith, if◌then◌else◌, inl, inr, length, pos, refl, subst}
 use Rattle.std.{proofs.{Common.{suc, sym, ℕ, ℤ}, lemmas.{Bool.{cases_lt, le-leb, lt-leb}, Int.ints}}, specs.List.{All, AllWithin, Sorted.IsNonDecreasingBy}}
-use Rattle.drift_clock.specs.{Reach.IsReach, Segment.{Segment, segment_reading}}
-use Rattle.audit_devices.{proofs.events_lemmas.{Clocking.value_ready, Valuing.{all_later, value_before}}, specs.events.Beginnings.IsSought}
-use Rattle.audit_devices.specs.events.{Clocks.{AreClocks, IsReadable, clocks_reading}, Reaches.IsFirstReach, Settings.{later_than, value_at}}
-use Rattle.audit_devices.specs.declared.events.settings.Change.{Change}
 
 -- ---- what is left behind a time
 

@@ -1,10 +1,9 @@
 -- The clocks that events set read on.
-use Rattle.std.{proofs.{Common.{◌*◌, ◌+◌, ◌-◌, ◌<◌, ◌^◌, ◌≡◌, ◌≤◌, arith, refl, subst, ℕ}, Math.Nat.mul-le-mul_right, lemmas.Int.ints}, specs.Int.abs_diff}
-use Rattle.drift_clock.specs.{ClockLaws.{AlwaysBeginsAtZero, AlwaysKeepsClockLaws}, Segment.{fresh_segment, segment_reading, stepped_segment}}
-use Rattle.run_law.specs.scenario.Rates.{rate_steps}
-use Rattle.tte_units.specs.Amount.{amount}
-use Rattle.audit_devices.proofs.events_lemmas.{Befalling.{events_from, steps_from}, Clocking.steps_history}
-use Rattle.audit_devices.specs.events.Readings.{ClocksReadOn, clock_reading}
+use Rattle.{audit_devices.proofs.events_lemmas.Befalling.{events_from, steps_from}, drift_clock.specs.Segment.{fresh_segment, segment_reading, stepped_segment}}
+use Rattle.{audit_devices.proofs.events_lemmas.Clocking.steps_history, drift_clock.specs.ClockLaws.{AlwaysBeginsAtZero, AlwaysKeepsClockLaws}}
+use Rattle.{audit_devices.specs.events.Readings.{ClocksReadOn, clock_reading}, std.proofs.Common.{◌*◌, ◌+◌, ◌-◌, ◌<◌, ◌^◌, ◌≡◌, ◌≤◌, arith, refl, subst, ℕ}}
+use Rattle.{run_law.specs.scenario.Rates.rate_steps, std.proofs.{Math.Nat.mul-le-mul_right, lemmas.Int.ints}, tte_units.specs.Amount.amount}
+use Rattle.std.specs.Int.{abs_diff}
 
 -- a reading that grew from 0 in a time of at most 2^60
 bound_of : (rho grain r t zero_time d : ℕ) → t ≤ 2 ^ 60 → rho ≤ 1000000 → grain ≤ 2 ^ 20 → zero_time ≡ 0 → r ≤ d + t

@@ -1,13 +1,10 @@
 -- The value of a setting at a time.
-use Rattle.std.proofs.Common.{if◌then◌else◌, ◌++◌, ◌+◌, ◌-◌, ◌<◌, ◌∙◌, ◌∷◌, ◌≡◌, ◌≤◌, List, None, Option, Some, [], ap, arith, false, length, nat_le}
-use Rattle.std.proofs.{Common.{nat_lt, refl, suc, sym, true, zero, ℕ}, lemmas.{Bool.{le-leb, leb-false, leb-true, lt-leb}, List.Elements.filter_map-append}}
-use Rattle.std.specs.List.{AllWithin, cons_option, last_or, Sorted.{IsNonDecreasingBy, IsPartitionPoint, IsPartitionedBy}}
-use Rattle.std.specs.Prelude.{drop, filter, filter_map, option_map, slice_index_or, unwrap_or}
-use Rattle.net_plan.specs.declared.event.{Event.Event, What.What}
-use Rattle.tte_lemmas.proofs.Lists.{append_none}
-use Rattle.tte_units.specs.Amount.{amount}
-use Rattle.audit_devices.specs.events.Settings.{IsSetBy, change_to, changes_by, later_than, value_at}
-use Rattle.audit_devices.specs.declared.events.settings.{Change.Change, Settings.Settings}
+use Rattle.audit_devices.specs.{declared.events.settings.Settings.Settings, events.Settings.{IsSetBy, change_to, changes_by, later_than, value_at}}
+use Rattle.{audit_devices.specs.declared.events.settings.Change.Change, std.specs.Prelude.{drop, filter, filter_map, option_map, slice_index_or, unwrap_or}}
+use Rattle.{net_plan.specs.declared.event.{Event.Event, What.What}, tte_lemmas.proofs.Lists.append_none, tte_units.specs.Amount.amount}
+use Rattle.std.proofs.Common.{◌++◌, ◌+◌, ◌-◌, ◌<◌, ◌∙◌, ◌∷◌, ◌≡◌, ◌≤◌, List, None, Option, Some, [], ap, arith, false, if◌then◌else◌, length, nat_le, nat_lt}
+use Rattle.std.{proofs.{Common.{refl, suc, sym, true, zero, ℕ}, lemmas.List.Elements.filter_map-append}, specs.List.{AllWithin, cons_option, last_or}}
+use Rattle.std.{proofs.lemmas.Bool.{le-leb, leb-false, leb-true, lt-leb}, specs.List.Sorted.{IsNonDecreasingBy, IsPartitionPoint, IsPartitionedBy}}
 
 -- ---- where the changes up to a time end
 

@@ -1,5 +1,5 @@
 -- What is owed of arrivals is due.
-use Rattle.audit_devices.proofs.law_lemmas.{Numbered.founded_at, Words.{subst, sym, time_of, true, units_of, ℕ}}
+use Rattle.audit_devices.{proofs.law_lemmas.Numbered.founded_at, specs.law.Arrivals.{IsDueByArrival, OwesArrival, TellsArrival, arrival_record}}
 use Rattle.audit_devices.proofs.law_lemmas.Owing.{PaidAt, due_there, found_before, in_whole, next_is_due, next_of, split_at, timely, within}
 use Rattle.audit_devices.proofs.law_lemmas.Words.{◌&&◌, ◌+◌, ◌==◌, ◌||◌, ◌∙◌, ◌∷◌, ◌≡◌, ◌≤◌, ArrivesAs, Bool, DeviceId, Gives, Happening, IsBefore, IsCaused}
 use Rattle.audit_devices.proofs.law_lemmas.Words.{IsDue, IsDueIn, IsFounded, IsIn, IsSplit, LinkId, List, Network, None, NoteBody, Option, Pcf, Reason}
@@ -7,15 +7,13 @@ use Rattle.audit_devices.proofs.law_lemmas.Words.{Scenario, Some, Units, VlId, [
 use Rattle.audit_devices.proofs.law_lemmas.Words.{cases_lt, earlier, eqb-true, false, false_from_ne_true, filter, filter-append, if◌then◌else◌, in_right, inl}
 use Rattle.audit_devices.proofs.law_lemmas.Words.{inr, is_broken, is_turned_on_at, key, last_or, length, members_in, nat_lt, none_kept, not, numbered}
 use Rattle.audit_devices.proofs.law_lemmas.Words.{numbered_in, option_and_then, place_at, place_of, rank, refl, same_earlier, same_some, split, state_after}
-use Rattle.audit_devices.specs.law.{Arrivals.{IsDueByArrival, OwesArrival, TellsArrival, arrival_record}, DebtLaws.ArrivalLaw}
-use Rattle.std.{proofs.lemmas.Bool.{ltb-true, or_cases}, specs.Prelude.{Err, Ok}}
-use Rattle.net_plan.{proofs.SameIds.same_device, specs.declared.tables.Way.{Way, TheVariants.{Down, Up}}}
-use Rattle.run_law.{proofs.runs.SameSteps.same_arrival, specs.declared.steps.Arrival.Arrival}
+use Rattle.{audit_devices.proofs.law_lemmas.Words.{subst, sym, time_of, true, units_of, ℕ}, net_plan.specs.declared.tables.Way.{TheVariants.{Down, Up}, Way}}
+use Rattle.{audit_devices.specs.law.DebtLaws.ArrivalLaw, run_law.specs.declared.steps.Arrival.Arrival, schedule_tables.specs.declared.entry.Entry.Entry}
+use Rattle.{net_plan.proofs.SameIds.same_device, run_law.proofs.runs.SameSteps.same_arrival, std.proofs.lemmas.Bool.{ltb-true, or_cases}}
 use Rattle.run_law.specs.{control.Arrivals.{control_arrival, frame_fault, frame_or_fault}, device.Standpoints.{Standpoint, clock_of, cycle_at, standpoint}}
 use Rattle.run_law.specs.{control.Wires.{Arrives, Launch, Signal, control, launched, time_on_port, timed}, scenario.Devices.{is_end, is_parent_of, is_relay}}
 use Rattle.run_law.specs.{scenario.Ways.{delay_at, receiver_of}, timed.Receptions.{arrival_of, comes_before, is_taken_before, last_taken, taken_cycle}}
-use Rattle.run_law.specs.timed.Arrivals.{entry_arrival, octets_fault, octets_or_fault, row_fault, taken_or_fault, timed_arrival}
-use Rattle.schedule_tables.specs.declared.entry.Entry.{Entry}
+use Rattle.{run_law.specs.timed.Arrivals.{entry_arrival, octets_fault, octets_or_fault, row_fault, taken_or_fault, timed_arrival}, std.specs.Prelude.{Err, Ok}}
 use Rattle.run_law.specs.declared.note.NoteBody.TheVariants as notes
 use Rattle.run_law.specs.declared.steps.Arrival.TheVariants as arrivals
 

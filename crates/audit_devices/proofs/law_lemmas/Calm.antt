@@ -1,9 +1,8 @@
 -- Records behind the last change of a device's adjustment: they bring it to no state with a correction point.
-use Rattle.std.proofs.{Common.arith, lemmas.Bool.eq-eqb}
 use Rattle.audit_devices.proofs.law_lemmas.Words.{◌==◌, ◌∙◌, ◌∷◌, ◌≡◌, ◌⊎◌, Bool, ChangesState, DeviceId, Happening, Integrating, IsIn, Joining, List, NoteBody}
 use Rattle.audit_devices.proofs.law_lemmas.Words.{Off, Scenario, Some, State, Synchronised, Why, [], ap, both_ways, changes_adjustment, eqb-true, false, fold}
-use Rattle.audit_devices.proofs.law_lemmas.Words.{if◌then◌else◌, inl, inr, is_joined_by, numbered, refl, time_of, true, ℕ}
-use Rattle.run_law.{proofs.device.States.joined_changes, specs.device.States.state_with}
+use Rattle.{audit_devices.proofs.law_lemmas.Words.{if◌then◌else◌, inl, inr, is_joined_by, numbered, refl, time_of, true, ℕ}, std.proofs.lemmas.Bool.eq-eqb}
+use Rattle.{run_law.{proofs.device.States.joined_changes, specs.device.States.state_with}, std.proofs.Common.arith}
 use Rattle.run_law.specs.declared.judgement.Why.TheVariants as whys
 use Rattle.run_law.specs.declared.note.NoteBody.TheVariants as notes
 

@@ -5,8 +5,7 @@ use Rattle.audit_devices.proofs.law_lemmas.Words.{List, None, NoteBody, Option, 
 use Rattle.audit_devices.proofs.law_lemmas.Words.{is_joined_by, is_turned_on_at, key, members_in, numbered, place_at, place_of, rank, refl, same_earlier}
 use Rattle.audit_devices.proofs.law_lemmas.Words.{same_some, split, state_after, subst, sym, time_of, true, ℕ}
 use Rattle.audit_devices.specs.law.{Changes.{IsBrought, IsDueByChange, OwesChange, TellsChange}, DebtLaws.ChangeLaw}
-use Rattle.net_plan.specs.declared.event.What.TheVariants.{On}
-use Rattle.run_law.specs.{declared.judgement.Judgement.TheVariants.Integrates, records.Causes.IsOfThisTime}
+use Rattle.{net_plan.specs.declared.event.What.TheVariants.On, run_law.specs.{declared.judgement.Judgement.TheVariants.Integrates, records.Causes.IsOfThisTime}}
 use Rattle.run_law.specs.declared.judgement.Why.TheVariants as whys
 use Rattle.run_law.specs.declared.note.NoteBody.TheVariants as notes
 

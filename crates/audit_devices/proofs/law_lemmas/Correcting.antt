@@ -9,11 +9,9 @@ use Rattle.audit_devices.proofs.law_lemmas.Words.{inr, int_div_euclid, int_le, i
 use Rattle.audit_devices.proofs.law_lemmas.Words.{nat_le, nat_lt, natural, next_point, none_kept, option_map_or, place_at, place_of, plan_of, pos, rank}
 use Rattle.audit_devices.proofs.law_lemmas.Words.{recorded_cycle, refl, split, standing_at, state_after, subst, sym, time_of, units_of, up_to, ℕ, ℤ}
 use Rattle.audit_devices.specs.law.{CorrectionPoints.{IsDueByPoint, IsPointOf, OwesPoint, ShowsVerdict, TellsPoint}, DebtLaws.PointLaw}
-use Rattle.std.{proofs.lemmas.{Bool.{le-leb, leb-true}, List.Elements.filter_map-append}, specs.List.filter_map}
-use Rattle.membership.specs.Hearing.{Hearing}
-use Rattle.run_law.proofs.{device.States.reaches_by, law.FirstPlaces.in_filter, records.Order.{after_more, all_kept, has_passed, makes_none}}
-use Rattle.run_law.specs.control.Corrections.{hearing_by}
-use Rattle.sync_state.specs.declared.answers.Verdict.TheVariants.{Cleared}
+use Rattle.{membership.specs.Hearing.Hearing, run_law.proofs.device.States.reaches_by, std.{proofs.lemmas.Bool.{le-leb, leb-true}, specs.List.filter_map}}
+use Rattle.{run_law.{proofs.law.FirstPlaces.in_filter, specs.control.Corrections.hearing_by}, std.proofs.lemmas.List.Elements.filter_map-append}
+use Rattle.{run_law.proofs.records.Order.{after_more, all_kept, has_passed, makes_none}, sync_state.specs.declared.answers.Verdict.TheVariants.Cleared}
 use Rattle.run_law.specs.declared.judgement.Why.TheVariants as whys
 use Rattle.run_law.specs.declared.note.NoteBody.TheVariants as notes
 

@@ -3,9 +3,8 @@ use Rattle.audit_devices.proofs.law_lemmas.Words.{◌++◌, ◌-◌, ◌<◌, �
 use Rattle.audit_devices.proofs.law_lemmas.Words.{NoneBefore, Option, Some, [], after_last, ap, append-nil, arith, behind_first, cases_lt, chain, earlier}
 use Rattle.audit_devices.proofs.law_lemmas.Words.{false, filter, filter-append, fold, front_founded, if◌then◌else◌, in_parts, in_right, inl, inr, key, last_or}
 use Rattle.audit_devices.proofs.law_lemmas.Words.{le-ltb, length, members_in, nat_lt, never_self, none_kept, not, option_map_or, place_of, rank, refl, split}
-use Rattle.audit_devices.proofs.law_lemmas.Words.{subst, sym, time_of, true, ℕ}
-use Rattle.std.{proofs.{Common.append_assoc, lemmas.Bool.lt-ltb}, specs.List.suffix_len}
-use Rattle.run_law.proofs.{records.Order.{all_kept, in_drop, time_before}, runs.Places.{before_later_time, earlier_time}}
+use Rattle.{audit_devices.proofs.law_lemmas.Words.{subst, sym, time_of, true, ℕ}, run_law.proofs.records.Order.{all_kept, in_drop, time_before}}
+use Rattle.{run_law.proofs.runs.Places.{before_later_time, earlier_time}, std.{proofs.{Common.append_assoc, lemmas.Bool.lt-ltb}, specs.List.suffix_len}}
 
 abbrev Due : Type 1
 Due = List Happening → Happening → Type 0

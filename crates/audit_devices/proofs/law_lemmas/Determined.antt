@@ -2,13 +2,11 @@
 use Rattle.audit_devices.proofs.law_lemmas.Words.{◌+ℤ◌, ◌∙◌, ◌≡◌, ◌⊎◌, AsyncClique, ChangesState, ComesToPoint, Corrected, DeviceId, Happening, HasVerdict}
 use Rattle.audit_devices.proofs.law_lemmas.Words.{IsCaused, IsDue, List, NoteBody, Scenario, State, SyncClique, Units, Verdict, Why, adjustment_before, amount}
 use Rattle.audit_devices.proofs.law_lemmas.Words.{ap, arith, heard_since_point, inl, inr, key, members_in, next_point, place_of, rank, standing_at, subst, sym}
-use Rattle.audit_devices.{proofs.law_lemmas.Words.{true, ℕ}, specs.law.DueRecords.IsCorrectedRecord}
-use Rattle.membership.{proofs.OneSummary.one_summary, specs.Summary.Summary}
-use Rattle.net_plan.proofs.SameIds.{same_device}
-use Rattle.run_law.{proofs.control.Joined.looking_by, specs.{device.States.{is_joined_by, state_before}, records.Happenings.happening, runs.Runs.IsDetermined}}
+use Rattle.{audit_devices.{proofs.law_lemmas.Words.{true, ℕ}, specs.law.DueRecords.IsCorrectedRecord}, run_law.specs.records.Happenings.happening}
+use Rattle.{membership.proofs.OneSummary.one_summary, run_law.proofs.control.Joined.looking_by, sync_state.proofs.LawLemmas.one_verdict}
+use Rattle.{membership.specs.Summary.Summary, net_plan.proofs.SameIds.same_device, tte_lemmas.proofs.Options.one}
 use Rattle.run_law.{proofs.runs.Determined.{no_cause, same_note, same_time, same_units}, specs.declared.judgement.Judgement.TheVariants.Integrates}
-use Rattle.sync_state.{proofs.LawLemmas.one_verdict, specs.declared.state.State.TheVariants.Integrating}
-use Rattle.tte_lemmas.proofs.Options.{one}
+use Rattle.{run_law.specs.{device.States.{is_joined_by, state_before}, runs.Runs.IsDetermined}, sync_state.specs.declared.state.State.TheVariants.Integrating}
 use Rattle.run_law.proofs.runs.Determined as runs_determined
 use Rattle.run_law.specs.declared.judgement.Why.TheVariants as whys
 use Rattle.run_law.specs.declared.note.NoteBody.TheVariants as notes

@@ -1,10 +1,9 @@
 -- What is owed of schedules is due.
-use Rattle.std.proofs.Common.{arith}
 use Rattle.audit_devices.proofs.law_lemmas.{Owing.{PaidAt, due_there, earlier_in, next_is_due, next_of, timely, within}, Words.{units_of, ℕ}}
 use Rattle.audit_devices.proofs.law_lemmas.Words.{◌+◌, ◌∙◌, ◌∷◌, ◌≡◌, ◌≤◌, Bool, DeviceId, Dispatch, Happening, IsBefore, IsCaused, IsDue, IsDueIn, IsFounded}
 use Rattle.audit_devices.proofs.law_lemmas.Words.{LinkId, List, NoteBody, Scenario, VlId, [], amount, ap, earlier, false, inl, inr, is_turned_on_at, key}
 use Rattle.audit_devices.proofs.law_lemmas.Words.{members_in, place_at, place_of, rank, refl, same_earlier, split, state_after, subst, sym, time_of, true}
-use Rattle.audit_devices.specs.law.{DebtLaws.{DispatchLaw, SendingLaw}, Dispatched.{dispatch_record, is_cut_then}}
+use Rattle.{audit_devices.specs.law.{DebtLaws.{DispatchLaw, SendingLaw}, Dispatched.{dispatch_record, is_cut_then}}, std.proofs.Common.arith}
 use Rattle.audit_devices.specs.law.Dispatched.{IsDueByDispatch, IsDueBySending, OwesDispatch, OwesSending, Sending, TellsDispatch, TellsSending}
 use Rattle.run_law.{proofs.{device.States.reaches_by, timed.Rows.at_hand_by}, specs.timed.Dispatching.{Dispatches, IsUp, Sends}}
 use Rattle.run_law.specs.declared.note.NoteBody.TheVariants as notes

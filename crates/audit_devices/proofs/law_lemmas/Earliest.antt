@@ -1,10 +1,9 @@
 -- The earliest of the first times of all kinds of debts.
-use Rattle.audit_devices.{proofs.law_lemmas.AllOwed.debt_law, specs.law.{DebtLaws.IsFirstDebt, FirstDebts.{FirstDebtLaw, TellsFirst, earlier_of}}}
+use Rattle.audit_devices.{proofs.law_lemmas.AllOwed.debt_law, specs.law.{DebtLaws.IsFirstDebt, Dispatched.Sending, Owed.falls_due}}
 use Rattle.audit_devices.proofs.law_lemmas.Words.{◌+◌, ◌∷◌, ◌≡◌, ◌≤◌, ◌⊎◌, AreSound, Debt, DeviceId, Dispatch, Happening, IsDue, IsOwed, IsPaid, LacksNothing}
 use Rattle.audit_devices.proofs.law_lemmas.Words.{LinkId, List, None, Option, Pays, Scenario, Some, [], arith, cases_lt, inl, inr, place_of, refl, subst, ℕ}
-use Rattle.audit_devices.specs.law.{Dispatched.Sending, Owed.falls_due}
+use Rattle.{audit_devices.specs.law.FirstDebts.{FirstDebtLaw, TellsFirst, earlier_of}, compression.specs.declared.compressed.Compressed.Compressed}
 use Rattle.std.proofs.Common.{MatchOption}
-use Rattle.compression.specs.declared.compressed.Compressed.{Compressed}
 use Rattle.audit_devices.specs.law.Owed as debts
 
 -- at this time, the first such, a debt falls due of which this holds and that no record pays

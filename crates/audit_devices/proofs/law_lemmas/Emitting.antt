@@ -1,13 +1,11 @@
 -- What is owed of clusters is due.
-use Rattle.std.proofs.Common.{arith}
 use Rattle.audit_devices.proofs.law_lemmas.{Owing.{PaidAt, due_there, next_is_due, next_of, split_at, timely, within}, Words.{split, subst, sym, time_of, ℕ}}
 use Rattle.audit_devices.proofs.law_lemmas.Words.{◌+◌, ◌∙◌, ◌∷◌, ◌≡◌, AllBefore, Bool, DeviceId, Happening, IsBefore, IsCaused, IsDue, IsDueIn, IsFounded}
 use Rattle.audit_devices.proofs.law_lemmas.Words.{IsReach, IsSplit, List, NoteBody, Scenario, [], ap, append-nil, false_from_ne_true, filter, filter-append}
 use Rattle.audit_devices.proofs.law_lemmas.Words.{if◌then◌else◌, inl, inr, is_before, is_there, key, members_in, none_kept, place_at, place_of, pos, rank, refl}
 use Rattle.audit_devices.specs.law.{DebtLaws.EmissionLaw, Emitted.{IsDueByEmission, OwesEmission, TellsEmission, before_place, emission_place, emission_record}}
-use Rattle.compression.specs.declared.compressed.Compressed.{Compressed}
-use Rattle.drift_clock.proofs.Reaches.{one_reach}
-use Rattle.run_law.{proofs.records.Order.before_is, specs.control.Emissions.Emits}
+use Rattle.{compression.specs.declared.compressed.Compressed.Compressed, run_law.{proofs.records.Order.before_is, specs.control.Emissions.Emits}}
+use Rattle.{drift_clock.proofs.Reaches.one_reach, std.proofs.Common.arith}
 use Rattle.run_law.specs.declared.note.NoteBody.TheVariants as notes
 
 -- ---- the records before a place

@@ -1,10 +1,9 @@
 -- What may be found wrong with the records of a scenario.
-use Rattle.std.proofs.Common.{arith}
 use Rattle.audit_devices.proofs.law_lemmas.{Numbered.by_number, Sound.{founded_of_sound, lacks_in_gaps, next_exactly, none_unsound, one_unsound, run_exactly}}
 use Rattle.audit_devices.proofs.law_lemmas.Words.{◌∷◌, ◌≡◌, ◌⊎◌, DeviceId, Happening, HasAccepted, IsCaused, IsDue, IsFounded, List, NoteBody, Scenario, Some}
 use Rattle.audit_devices.proofs.law_lemmas.Words.{Units, VlId, amount, front_founded, inl, inr, numbered, place_of, refl, subst, sym, ℕ}
-use Rattle.audit_devices.specs.law.Laws.{AuditLaws, GapLaw, NextLaw}
-use Rattle.run_law.{proofs.law.FirstDeliveries.accepted_in, specs.records.Causes.cause_of}
+use Rattle.{audit_devices.specs.law.Laws.{AuditLaws, GapLaw, NextLaw}, run_law.{proofs.law.FirstDeliveries.accepted_in, specs.records.Causes.cause_of}}
+use Rattle.std.proofs.Common.{arith}
 use Rattle.run_law.specs.declared.judgement.Why.TheVariants as whys
 use Rattle.run_law.specs.declared.note.NoteBody.TheVariants as notes
 

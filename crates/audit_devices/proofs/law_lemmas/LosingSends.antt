@@ -3,9 +3,8 @@ use Rattle.audit_devices.proofs.law_lemmas.Owing.{PaidAt, due_there, found_befor
 use Rattle.audit_devices.proofs.law_lemmas.{Owing.{timely, within}, Words.{place_of, rank, refl, same_some, slice_get, split, subst, sym, time_of, ℕ}}
 use Rattle.audit_devices.proofs.law_lemmas.Words.{◌+◌, ◌∙◌, ◌∷◌, ◌≡◌, DeviceId, Gives, Happening, IsBefore, IsCaused, IsDue, IsDueIn, IsFounded, LinkId, List}
 use Rattle.audit_devices.proofs.law_lemmas.Words.{Network, NoteBody, Scenario, Some, [], ahead, ap, arith, inl, inr, key, members_in, numbered, place_at}
-use Rattle.audit_devices.specs.law.{DebtLaws.LossLaw, LostSends.{IsDueBySend, OwesLoss, TellsLoss}}
-use Rattle.net_plan.specs.declared.{event.What.TheVariants.Send, tables.Link.Link}
-use Rattle.run_law.specs.control.Losses.{IsSendLost}
+use Rattle.{audit_devices.specs.law.{DebtLaws.LossLaw, LostSends.{IsDueBySend, OwesLoss, TellsLoss}}, net_plan.specs.declared.event.What.TheVariants.Send}
+use Rattle.{net_plan.specs.declared.tables.Link.Link, run_law.specs.control.Losses.IsSendLost}
 use Rattle.run_law.specs.declared.note.NoteBody.TheVariants as notes
 
 -- a loss is one by other records that have its event

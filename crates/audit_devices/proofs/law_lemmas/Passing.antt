@@ -1,8 +1,9 @@
 -- In a run no device passes a correction point without a record, but a joiner that of the cycle by whose frame it
 -- joined.
-use Rattle.audit_devices.{proofs.law_lemmas.{AllOwed.debt_law, Numbered.{by_number, founded_at}}, specs.law.CorrectionPoints.{IsPointOf, OwesPoint}}
+use Rattle.audit_devices.{proofs.law_lemmas.AllOwed.debt_law, specs.law.{Changes.{OwesChange, TellsChange}, TracedEvents.{OwesEvent, TellsEvent}}}
 use Rattle.audit_devices.proofs.law_lemmas.Calm.{IsCalm, IsTimed, SaysIntegrating, calm, leaves, not_joined, stays_integrating, stays_or_leaves}
 use Rattle.audit_devices.proofs.law_lemmas.{Cuts.{cut_at, in_time, no_later, sorted, stays}, Sound.sound_of_run, Steps.{none_more, reached_by, short_step}}
+use Rattle.{audit_devices.proofs.law_lemmas.Numbered.{by_number, founded_at}, tte_lemmas.proofs.Integers.{int_le-from, int_le-is, int_lt-from, int_lt-is}}
 use Rattle.audit_devices.proofs.law_lemmas.Words.{◌&&◌, ◌*◌, ◌++◌, ◌+ℤ◌, ◌+◌, ◌-ℤ◌, ◌-◌, ◌<◌, ◌==◌, ◌||◌, ◌∙◌, ◌∷◌, ◌≡◌, ◌≤ℤ◌, ◌≤◌, AsyncClique, Bool}
 use Rattle.audit_devices.proofs.law_lemmas.Words.{ChangesState, ComesToPoint, Corrected, Debt, DeviceId, Happening, HasVerdict, Integrating, IsCaused}
 use Rattle.audit_devices.proofs.law_lemmas.Words.{IsClocked, IsDue, IsFounded, IsIn, IsOwed, IsPaid, IsReach, IsRun, Joining, List, None, NoteBody, Off, Option}
@@ -13,17 +14,14 @@ use Rattle.audit_devices.proofs.law_lemmas.Words.{fold, heard_since_point, if◌
 use Rattle.audit_devices.proofs.law_lemmas.Words.{ints, is_broken, is_joined_by, is_turned_on_at, last_or, nat_le, nat_lt, natural, next_point, none_kept}
 use Rattle.audit_devices.proofs.law_lemmas.Words.{numbered, numbered_front, numbered_in, option_map_or, parted, place_of, plan_of, pos, recorded_cycle, refl}
 use Rattle.audit_devices.proofs.law_lemmas.Words.{same_some, slice_get, standing_at, state_after, subst, suc, sym, time_of, true, up_to, ℕ, ℤ}
-use Rattle.audit_devices.specs.law.{Changes.{OwesChange, TellsChange}, TracedEvents.{OwesEvent, TellsEvent}}
-use Rattle.std.{proofs.{Common.{◌^◌, negsuc, unsigned_abs}, lemmas.{Bool.{and_from, cases_Bool, eq-eqb, le-leb, ltb-true}, Int.by_lt_z}}, specs.List.list_any}
-use Rattle.std.specs.Prelude.{◌<ℤ◌}
-use Rattle.membership.specs.Summary.{Summary}
-use Rattle.net_plan.specs.declared.event.{Event.Event, What.{What, TheVariants.On}}
-use Rattle.run_law.proofs.{control.Summaries.{summary_of, verdict_of}, scenario.{Choices.at_integration, Devices.{correct_before, on_by as turned}}}
-use Rattle.run_law.{proofs.{control.Verdicts.cycle_stays, records.Happenings.fold_parts}, specs.{runs.DueRecords.IsEventRecord, scenario.Scenarios.turns_on}}
-use Rattle.run_law.{proofs.device.States.adjustment_kept, specs.{control.Corrections.is_integration_cycle, device.States.{cycle_in, state_with}}}
-use Rattle.run_law.{proofs.{law.FirstPlaces.in_at, runs.Places.in_left}, specs.device.LocalClocks.Reaches}
-use Rattle.sync_state.specs.{Standing.{IsAtIntegration, point_in}, declared.answers.Verdict.TheVariants.Cleared}
-use Rattle.tte_lemmas.proofs.Integers.{int_le-from, int_le-is, int_lt-from, int_lt-is}
+use Rattle.{audit_devices.specs.law.CorrectionPoints.{IsPointOf, OwesPoint}, sync_state.specs.declared.answers.Verdict.TheVariants.Cleared}
+use Rattle.{membership.specs.Summary.Summary, run_law.{proofs.{law.FirstPlaces.in_at, runs.Places.in_left}, specs.device.LocalClocks.Reaches}}
+use Rattle.{net_plan.specs.declared.event.{Event.Event, What.{TheVariants.On, What}}, sync_state.specs.Standing.{IsAtIntegration, point_in}}
+use Rattle.run_law.{proofs.control.Summaries.{summary_of, verdict_of}, specs.{control.Corrections.is_integration_cycle, device.States.{cycle_in, state_with}}}
+use Rattle.run_law.proofs.{control.Verdicts.cycle_stays, device.States.adjustment_kept, records.Happenings.fold_parts, scenario.Choices.at_integration}
+use Rattle.{run_law.{proofs.{scenario.{Devices.{correct_before, on_by as turned}}}}, std.proofs.lemmas.Bool.{and_from, cases_Bool, eq-eqb, le-leb, ltb-true}}
+use Rattle.{run_law.specs.{runs.DueRecords.IsEventRecord, scenario.Scenarios.turns_on}, std.proofs.{Common.{◌^◌, negsuc, unsigned_abs}, lemmas.Int.by_lt_z}}
+use Rattle.std.specs.{List.list_any, Prelude.◌<ℤ◌}
 use Rattle.audit_devices.specs.law.Owed as debts
 use Rattle.run_law.specs.declared.judgement.Why.TheVariants as whys
 use Rattle.run_law.specs.declared.note.NoteBody.TheVariants as notes

@@ -1,14 +1,11 @@
 -- A frame that is dropped when it is permanent is dropped by a gate or for its cycle.
 use Rattle.audit_devices.proofs.law_lemmas.Words.{◌&&◌, ◌*◌, ◌∙◌, ◌∷◌, ◌≡◌, ◌⊎◌, Bool, DeviceId, Happening, LinkId, List, Network, None, Old, Option, Pcf}
 use Rattle.audit_devices.proofs.law_lemmas.Words.{Reason, Scenario, Some, State, Units, [], amount, false, inl, inr, int_div_euclid, int_lt, not, pos, refl}
-use Rattle.audit_devices.proofs.law_lemmas.Words.{ripe_as, sym, true, ℕ, ℤ}
-use Rattle.std.proofs.Common.{MatchBool}
-use Rattle.compression.specs.{Clusters.Point, declared.taken.Taken.Taken}
-use Rattle.run_law.{proofs.control.Verdicts.never_dropped, specs.control.Collections.{dispatch_value, is_number, point_fault, ripe_by_role}}
-use Rattle.run_law.specs.{control.Permanence.{BecomesPermanent, IsCollectedOrDropped, IsPermanenceOutcome}, declared.judgement.Judgement.Judgement}
-use Rattle.run_law.specs.{declared.judgement.Reason.TheVariants.{Cycle, Gate}, device.{Standpoints.{first_reason, offset_in_cycle}, States.is_synchronised}}
-use Rattle.run_law.specs.scenario.Devices.{is_cm}
-use Rattle.tte_lemmas.proofs.Options.{one}
+use Rattle.{audit_devices.proofs.law_lemmas.Words.{ripe_as, sym, true, ℕ, ℤ}, run_law.specs.{declared.judgement.Judgement.Judgement, scenario.Devices.is_cm}}
+use Rattle.{compression.specs.Clusters.Point, std.proofs.Common.MatchBool, tte_lemmas.proofs.Options.one}
+use Rattle.{compression.specs.declared.taken.Taken.Taken, run_law.{proofs.control.Verdicts.never_dropped, specs.device.States.is_synchronised}}
+use Rattle.run_law.specs.{control.Collections.{dispatch_value, is_number, point_fault, ripe_by_role}, device.Standpoints.{first_reason, offset_in_cycle}}
+use Rattle.run_law.specs.{control.Permanence.{BecomesPermanent, IsCollectedOrDropped, IsPermanenceOutcome}, declared.judgement.Reason.TheVariants.{Cycle, Gate}}
 use Rattle.compression.specs.declared.taken.Taken.TheVariants as taken
 use Rattle.run_law.specs.declared.steps.Ripe.TheVariants as ripe
 

@@ -1,5 +1,5 @@
 -- Behind a run an audit and a run have the same records due.
-use Rattle.audit_devices.proofs.law_lemmas.Calm.{IsTimed}
+use Rattle.{audit_devices.proofs.law_lemmas.Calm.IsTimed, run_law.specs.device.LocalClocks.had_come, tte_lemmas.proofs.Integers.{int_le-from, int_le-is}}
 use Rattle.audit_devices.{proofs.law_lemmas.{Cuts.in_behind, Passing.{come_of, counts, last_changed, none_at_start}}, specs.law.CorrectionNumbers.points_come}
 use Rattle.audit_devices.proofs.law_lemmas.{Determined.{caused_in_audit, caused_in_run}, Words.{state_after, subst, suc, sym, time_of, true, zero, ℕ, ℤ}}
 use Rattle.audit_devices.proofs.law_lemmas.Words.{◌&&◌, ◌+ℤ◌, ◌+◌, ◌-ℤ◌, ◌-◌, ◌==◌, ◌||◌, ◌∙◌, ◌∷◌, ◌≡◌, ◌≤◌, Bool, ComesToPoint, DeviceId, Happening}
@@ -8,11 +8,9 @@ use Rattle.audit_devices.proofs.law_lemmas.Words.{Some, Standing, State, Summari
 use Rattle.audit_devices.proofs.law_lemmas.Words.{after_last, amount, and_parts, and_right, ap, arith, changes_adjustment, correction_value, earlier, false}
 use Rattle.audit_devices.proofs.law_lemmas.Words.{heard_since_point, if◌then◌else◌, int_div_euclid, int_le, int_lt, integration_cycle, ints, is_broken}
 use Rattle.audit_devices.proofs.law_lemmas.Words.{is_turned_on_at, nat_lt, natural, next_point, not, place_of, plan_of, pos, recorded_cycle, refl, standing_at}
-use Rattle.std.{proofs.lemmas.Bool.and_from, specs.List.filter_map}
-use Rattle.run_law.{proofs.records.Order.same_kept, specs.device.{LocalClocks.had_come, States.state_before}}
+use Rattle.{run_law.{proofs.records.Order.same_kept, specs.device.States.state_before}, std.proofs.lemmas.Bool.and_from, sync_state.specs.Standing.point_in}
 use Rattle.run_law.specs.control.Corrections.{ComesToCorrection, has_cleared, heard_since, hearing_by, is_integration_cycle, standing_before}
-use Rattle.sync_state.specs.Standing.{point_in}
-use Rattle.tte_lemmas.proofs.Integers.{int_le-from, int_le-is}
+use Rattle.std.specs.List.{filter_map}
 use Rattle.run_law.specs.declared.judgement.Why.TheVariants as whys
 use Rattle.run_law.specs.declared.note.NoteBody.TheVariants as notes
 use Rattle.run_law.specs.runs.DueRecords as runs

@@ -2,8 +2,7 @@
 use Rattle.audit_devices.proofs.law_lemmas.{Cuts.{cut_at, in_time, run_before, run_by}, SameDue.same_due, Words.{subst, suc, sym, time_of, zero, ℕ}}
 use Rattle.audit_devices.proofs.law_lemmas.Words.{◌++◌, ◌+◌, ◌∙◌, ◌∷◌, ◌≡◌, ◌≤◌, AllBefore, Happening, IsClocked, IsDue, IsIn, IsRun, List, NoneBefore}
 use Rattle.audit_devices.proofs.law_lemmas.Words.{Scenario, [], ap, append-nil, arith, cases_lt, earlier, filter-append, le-ltb, nat_lt, none_kept, place_of}
-use Rattle.audit_devices.specs.law.SameRuns.{SameRuns}
-use Rattle.run_law.proofs.records.Happenings.{soon}
+use Rattle.{audit_devices.specs.law.SameRuns.SameRuns, run_law.proofs.records.Happenings.soon}
 use Rattle.run_law.specs.runs.DueRecords as runs
 
 -- the part before a record's place has all records of earlier times

@@ -6,9 +6,8 @@ use Rattle.audit_devices.proofs.law_lemmas.Words.{IsOwed, LinkId, List, None, No
 use Rattle.audit_devices.proofs.law_lemmas.Words.{false_from_ne_true, filter, filter-append, front_founded, heard_since_point, in_parts, inl, inr, ints}
 use Rattle.audit_devices.proofs.law_lemmas.Words.{is_before, is_there, key, last_or, le-ltb, nat_le, nat_lt, none_kept, numbered, numbered_front, numbered_in}
 use Rattle.audit_devices.specs.law.{DebtLaws.SettledLaw, Emitted.before_place}
-use Rattle.std.proofs.lemmas.Bool.{and_left, lt-leb, ne_eqb, or_from}
-use Rattle.run_law.specs.control.{Arrivals.control_arrival, Wires.{Signal, control, timed}}
-use Rattle.run_law.specs.{device.Standpoints.{Standpoint, standpoint}, timed.Receptions.{arrival_of, is_taken_before, last_taken, taken_cycle}}
+use Rattle.run_law.specs.{control.{Arrivals.control_arrival, Wires.{Signal, control, timed}}, device.Standpoints.{Standpoint, standpoint}}
+use Rattle.{run_law.specs.timed.Receptions.{arrival_of, is_taken_before, last_taken, taken_cycle}, std.proofs.lemmas.Bool.{and_left, lt-leb, ne_eqb, or_from}}
 use Rattle.run_law.specs.declared.note.NoteBody.TheVariants as notes
 use Rattle.audit_devices.specs.law.Owed as debts
 

@@ -1,9 +1,8 @@
 -- What may be found wrong with a list of records, of any kinds.
 use Rattle.audit_devices.proofs.law_lemmas.Words.{◌++◌, ◌∙◌, ◌∷◌, ◌≡◌, ◌⊎◌, AllBefore, AreSound, IsBefore, IsFounded, IsIn, IsRun, LacksNothing, List}
 use Rattle.audit_devices.proofs.law_lemmas.Words.{NoneBefore, [], ap, arith, chain, in_parts, in_right, inl, inr, length, never_self, parted, refl, subst, sym}
-use Rattle.audit_devices.{proofs.law_lemmas.Words.ℕ, specs.law.Findings.{IsGap, IsLacking, IsUnfoundedAt}}
-use Rattle.std.proofs.Common.{◌↔◌, append_assoc}
-use Rattle.run_law.{proofs.runs.{Grow.grow, Places.{before_behind, behind, either_way}}, specs.runs.Runs.IsNextOf}
+use Rattle.{audit_devices.proofs.law_lemmas.Words.ℕ, run_law.specs.runs.Runs.IsNextOf, std.proofs.Common.{◌↔◌, append_assoc}}
+use Rattle.{audit_devices.specs.law.Findings.{IsGap, IsLacking, IsUnfoundedAt}, run_law.proofs.runs.{Grow.grow, Places.{before_behind, behind, either_way}}}
 
 -- ---- sound lists
 

@@ -1,8 +1,7 @@
 -- When a clock reaches a value, and how far it goes at one step.
 use Rattle.audit_devices.proofs.law_lemmas.Words.{◌*◌, ◌+◌, ◌-◌, ◌<◌, ◌≡◌, ◌≤ℤ◌, ◌≤◌, IsReach, arith, cases_lt, inl, inr, int_div_euclid, ints, natural, pos}
-use Rattle.audit_devices.proofs.law_lemmas.Words.{subst, suc, zero, ℕ, ℤ}
-use Rattle.std.{proofs.{Common.{◌^◌, negsuc}, lemmas.Int.by_lt_z}, specs.{Int.abs_diff, Prelude.{◌/◌, ◌<ℤ◌}}}
-use Rattle.drift_clock.specs.ClockLaws.{KeepsClockLaws}
+use Rattle.{audit_devices.proofs.law_lemmas.Words.{subst, suc, zero, ℕ, ℤ}, drift_clock.specs.ClockLaws.KeepsClockLaws, std.proofs.Common.{◌^◌, negsuc}}
+use Rattle.std.{proofs.lemmas.Int.by_lt_z, specs.{Int.abs_diff, Prelude.{◌/◌, ◌<ℤ◌}}}
 
 -- ---- the least time at which a value is reached
 

@@ -2,10 +2,8 @@
 use Rattle.audit_devices.proofs.law_lemmas.Owing.{PaidAt, due_there, next_is_due, next_of, of_amount, timely, within}
 use Rattle.audit_devices.proofs.law_lemmas.Words.{◌+◌, ◌∙◌, ◌∷◌, ◌≡◌, ◌≤ℤ◌, ◌≤◌, Happening, IsBefore, IsCaused, IsDue, IsDueIn, IsFounded, List, NoteBody}
 use Rattle.audit_devices.proofs.law_lemmas.Words.{Scenario, Some, Units, [], amount, ap, arith, key, members_in, place_at, place_of, pos, rank, refl, same_some}
-use Rattle.audit_devices.proofs.law_lemmas.Words.{slice_get, split, subst, sym, time_of, units_of, ℕ}
-use Rattle.audit_devices.specs.law.{DebtLaws.EventLaw, TracedEvents.{IsDueByEvent, OwesEvent, TellsEvent}}
-use Rattle.net_plan.specs.declared.event.Event.{Event}
-use Rattle.run_law.specs.runs.DueRecords.{IsEventRecord}
+use Rattle.{audit_devices.proofs.law_lemmas.Words.{slice_get, split, subst, sym, time_of, units_of, ℕ}, run_law.specs.runs.DueRecords.IsEventRecord}
+use Rattle.{audit_devices.specs.law.{DebtLaws.EventLaw, TracedEvents.{IsDueByEvent, OwesEvent, TellsEvent}}, net_plan.specs.declared.event.Event.Event}
 use Rattle.run_law.specs.declared.note.NoteBody.TheVariants as notes
 
 some_event : (s : Scenario) (hs : List Happening) (until line : ℕ) → IsFounded place_of (IsDue s) hs → (o : OwesEvent s until line)

@@ -1,9 +1,7 @@
 -- What becomes of a frame that is collected is determined.
-use Rattle.std.proofs.Common.{◌↔◌, ◌∙◌, ◌≡◌, List, ap, sym}
-use Rattle.compression.specs.{Clusters.Point, declared.taken.Taken.Taken}
-use Rattle.net_plan.specs.declared.network.Network.{Network}
-use Rattle.run_law.{proofs.runs.SameSteps.same_taken, specs.control.{Collections.{IsCollectedAs, ripe_by_role}, Permanence.IsCollectionOutcome}}
-use Rattle.run_law.specs.declared.steps.Ripe.{Ripe}
+use Rattle.{compression.specs.Clusters.Point, run_law.specs.declared.steps.Ripe.Ripe}
+use Rattle.{compression.specs.declared.taken.Taken.Taken, run_law.proofs.runs.SameSteps.same_taken, std.proofs.Common.{◌↔◌, ◌∙◌, ◌≡◌, List, ap, sym}}
+use Rattle.{net_plan.specs.declared.network.Network.Network, run_law.specs.control.{Collections.{IsCollectedAs, ripe_by_role}, Permanence.IsCollectionOutcome}}
 
 pub collects_so : (network : Network) (points : List Point) (point : Point) (taken : Taken) (result : Ripe) → IsCollectedAs network points point taken
     → result ≡ ripe_by_role taken → (is : Ripe) → (is ≡ result) ↔ IsCollectionOutcome network points point is

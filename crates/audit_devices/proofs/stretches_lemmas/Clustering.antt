@@ -1,11 +1,9 @@
 -- The clusters of a gathering are those of its points.
-use Rattle.std.proofs.Common.{◌≡◌, Bool, List, ap, arith, int_eq, map, subst, true, ℕ, ℤ}
-use Rattle.std.{proofs.lemmas.{Bool.{and_from, and_parts, eq-eqb, eqb-true}, Int.ints}, specs.Prelude.{◌&&◌, ◌==◌}}
 use Rattle.audit_devices.specs.{collections.Kept.{History, clusters_in, emissions_in, emitted}, declared.collections.gathering.Gathering.Gathering}
-use Rattle.audit_devices.specs.{declared.collections.emitted.Emitted.Emitted, stretches.Points.{HasPoints, emissions_for}}
-use Rattle.compression.{proofs.Standing.AreClusters-unique, specs.Clusters.{AreClusters, Cluster, Point}}
-use Rattle.net_plan.specs.declared.network.Network.{Network}
-use Rattle.run_law.specs.control.Collections.{observation_window}
+use Rattle.{audit_devices.specs.declared.collections.emitted.Emitted.Emitted, std.proofs.Common.{◌≡◌, Bool, List, ap, arith, int_eq, map, subst, true, ℕ, ℤ}}
+use Rattle.{audit_devices.specs.stretches.Points.{HasPoints, emissions_for}, std.proofs.lemmas.{Bool.{and_from, and_parts, eq-eqb, eqb-true}, Int.ints}}
+use Rattle.{compression.proofs.Standing.AreClusters-unique, net_plan.specs.declared.network.Network.Network}
+use Rattle.{compression.specs.Clusters.{AreClusters, Cluster, Point}, run_law.specs.control.Collections.observation_window, std.specs.Prelude.{◌&&◌, ◌==◌}}
 
 pub clusters_same : (network : Network) (points : List Point) (clusters : List Cluster) (h : History) (g : Gathering) → HasPoints network points h g
     → AreClusters (observation_window network) points clusters → clusters_in h g ≡ clusters

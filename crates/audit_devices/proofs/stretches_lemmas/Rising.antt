@@ -1,16 +1,15 @@
 -- The points of a compression master come in order.
-use Rattle.std.proofs.Common.{if◌then◌else◌, ◌++◌, ◌+ℤ◌, ◌-ℤ◌, ◌<ℤ◌, ◌<◌, ◌∙◌, ◌∷◌, ◌≡◌, ◌≤ℤ◌, ◌≤◌, ◌⊎◌, All, Bool, List, None, Option, Some, [], ap, arith}
-use Rattle.std.proofs.{Common.{false, inl, inr, negsuc, pos, refl, subst, sym, true, unsigned_abs, ℕ, ℤ}, lemmas.{Bool.{cases_lt, eqb-true}, Int.ints}}
-use Rattle.std.{proofs.lemmas.List.Elements.{All-cons, All-nil}, specs.{List.after_last, Prelude.{◌==◌, IfSome, filter_map}}}
-use Rattle.audit_devices.specs.{law.DueRecords.{IsCaused, IsDue}, stretches.{Changes.{change_by, collector_in}, Points.MayBring, Rising.{NeverFall, RisingLaw}}}
-use Rattle.compression.specs.Clusters.{Point, point_at}
-use Rattle.net_plan.specs.{Ranges.IsInRange, declared.ids.{DeviceId.DeviceId, LinkId.LinkId}}
-use Rattle.run_law.{proofs.{control.Arrived.arrived_young, law.FirstPlaces.numbered_in}, specs.{declared.note.NoteBody.NoteBody, scenario.Scenarios.Scenario}}
-use Rattle.run_law.{proofs.records.Order.{in_drop, place_order}, specs.{declared.judgement.Why.TheVariants.On, records.Happenings.{Happening, time_of}}}
-use Rattle.run_law.{proofs.runs.Places.parted, specs.{device.States.cycle_in, runs.Runs.IsFounded}}
+use Rattle.{audit_devices.specs.law.DueRecords.{IsCaused, IsDue}, run_law.proofs.{control.Arrived.arrived_young, records.Order.{in_drop, place_order}}}
+use Rattle.{audit_devices.specs.stretches.{Changes.{change_by, collector_in}, Points.MayBring}, run_law.specs.records.Ranks.{members_in, place_at, place_of}}
+use Rattle.{audit_devices.specs.stretches.Rising.{NeverFall, RisingLaw}, run_law.specs.{records.Order.{AllBefore, IsBefore, IsIn}, scenario.Scenarios.Scenario}}
+use Rattle.{compression.specs.Clusters.{Point, point_at}, net_plan.specs.declared.ids.DeviceId.DeviceId, run_law.proofs.law.FirstPlaces.numbered_in}
+use Rattle.{net_plan.specs.Ranges.IsInRange, std.specs.List.after_last, tte_units.specs.Amount.amount}
+use Rattle.{net_plan.specs.declared.ids.LinkId.LinkId, std.specs.Prelude.{◌==◌, IfSome, filter_map}, tte_units.specs.declared.units.Units.Units}
+use Rattle.{run_law.{proofs.runs.Places.parted, specs.{device.States.cycle_in, runs.Runs.IsFounded}}, std.proofs.lemmas.{Bool.{cases_lt, eqb-true}, Int.ints}}
 use Rattle.run_law.specs.control.{Collections.{ends_stretch, master_of, point_by, points_of}, Permanence.{BecomesPermanent, IsPermanent, ripe_as}}
-use Rattle.run_law.specs.{declared.judgement.Judgement.Judgement, records.{Order.{AllBefore, IsBefore, IsIn}, Ranks.{members_in, place_at, place_of}}}
-use Rattle.tte_units.specs.{Amount.amount, declared.units.Units.Units}
+use Rattle.run_law.specs.{declared.{judgement.{Judgement.Judgement, Why.TheVariants.On}, note.NoteBody.NoteBody}, records.Happenings.{Happening, time_of}}
+use Rattle.std.proofs.Common.{◌++◌, ◌+ℤ◌, ◌-ℤ◌, ◌<ℤ◌, ◌<◌, ◌∙◌, ◌∷◌, ◌≡◌, ◌≤ℤ◌, ◌≤◌, ◌⊎◌, All, Bool, List, None, Option, Some, [], ap, arith, false}
+use Rattle.std.proofs.{Common.{if◌then◌else◌, inl, inr, negsuc, pos, refl, subst, sym, true, unsigned_abs, ℕ, ℤ}, lemmas.List.Elements.{All-cons, All-nil}}
 use Rattle.run_law.specs.declared.judgement.Judgement.TheVariants as judgements
 use Rattle.run_law.specs.declared.note.NoteBody.TheVariants as notes
 

@@ -1,9 +1,8 @@
 -- What the record that a change of state comes from says.
 use Rattle.std.specs.Prelude.{if◌then◌else◌, ◌==◌, List, None, Option, Some, ℕ}
+use Rattle.{audit_devices.specs.declared.clocks.changing.Bringer.Bringer, run_law.specs.device.States.is_joined_by}
 use Rattle.net_plan.specs.declared.{event.What.TheVariants.On, ids.DeviceId.DeviceId}
-use Rattle.run_law.specs.{declared.note.NoteBody.NoteBody, device.States.is_joined_by}
-use Rattle.run_law.specs.records.Happenings.{Happening, numbered, time_of}
-use Rattle.audit_devices.specs.declared.clocks.changing.Bringer.{Bringer}
+use Rattle.run_law.specs.{declared.note.NoteBody.NoteBody, records.Happenings.{Happening, numbered, time_of}}
 use Rattle.audit_devices.specs.declared.clocks.changing.Bringer.TheVariants as bringers
 use Rattle.run_law.specs.declared.note.NoteBody.TheVariants as notes
 

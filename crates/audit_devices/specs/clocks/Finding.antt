@@ -1,7 +1,6 @@
 -- When a clock next crosses one of the values of a series.
 use Rattle.std.specs.Prelude.{◌*◌, ◌+ℤ◌, ◌+◌, ◌-◌, ◌<◌, ◌^◌, ◌≤ℤ◌, ◌≤◌, MatchOption, Option, pos, ℕ, ℤ}
-use Rattle.audit_devices.specs.Showing.{Shown}
-use Rattle.device_rules.specs.Widths.{IsFar}
+use Rattle.{audit_devices.specs.Showing.Shown, device_rules.specs.Widths.IsFar}
 use Rattle.audit_devices.specs.{clocks.Crossing.HasCrossed, declared.clocks.finding.{Crossed.Crossed, Series.Series}}
 
 -- the steps are positive, and the first value is not too far

@@ -1,13 +1,11 @@
 -- The correction point that comes to a device at a time.
 use Rattle.std.specs.Prelude.{◌≡◌, List, None, Option, Some, false, ℕ}
+use Rattle.{audit_devices.specs.declared.clocks.correcting.Point.Point, net_plan.specs.declared.ids.DeviceId.DeviceId}
 use Rattle.audit_devices.specs.law.CorrectionNumbers.{heard_since_point, standing_at}
-use Rattle.device_rules.specs.Answers.{verdict_as}
-use Rattle.membership.specs.Summary.{Summarizes, Summary}
-use Rattle.net_plan.specs.declared.ids.DeviceId.{DeviceId}
-use Rattle.run_law.specs.{control.Corrections.correction_value, device.LocalClocks.Reaches}
-use Rattle.run_law.specs.{records.Happenings.Happening, scenario.Scenarios.{Scenario, is_broken}}
-use Rattle.sync_state.specs.{Standing.next_point, declared.answers.Verdict.Verdict}
-use Rattle.audit_devices.specs.declared.clocks.correcting.Point.{Point}
+use Rattle.{device_rules.specs.Answers.verdict_as, sync_state.specs.Standing.next_point}
+use Rattle.{membership.specs.Summary.{Summarizes, Summary}, sync_state.specs.declared.answers.Verdict.Verdict}
+use Rattle.run_law.specs.{control.Corrections.correction_value, scenario.Scenarios.{Scenario, is_broken}}
+use Rattle.run_law.specs.{device.LocalClocks.Reaches, records.Happenings.Happening}
 
 -- the device's next correction point, which is that of this cycle, comes at the time
 pub record HasPoint (s : Scenario) (hs : List Happening) (device : DeviceId) (t : ℕ) (cycle : ℕ) : Type 0 where

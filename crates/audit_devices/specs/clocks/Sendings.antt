@@ -1,8 +1,7 @@
 -- What a master sends next, where no record of it comes between.
 use Rattle.std.specs.Prelude.{◌+◌, ◌<◌, ◌≡◌, ◌≤◌, List, MatchOption, Option, false, ℕ}
-use Rattle.audit_devices.specs.{Showing.{Shown, Shows}, declared.clocks.sending.Sending.Sending}
-use Rattle.net_plan.specs.declared.ids.DeviceId.{DeviceId}
-use Rattle.run_law.specs.records.Happenings.{Happening, earlier}
+use Rattle.{audit_devices.specs.Showing.{Shown, Shows}, run_law.specs.records.Happenings.{Happening, earlier}}
+use Rattle.{audit_devices.specs.declared.clocks.sending.Sending.Sending, net_plan.specs.declared.ids.DeviceId.DeviceId}
 use Rattle.run_law.specs.{scenario.Scenarios.{Scenario, is_broken, is_turned_on_at}, timed.Dispatching.Sends}
 
 -- at each time later than `after`, up to `until`, the records before show this of the device, and it is correct and not

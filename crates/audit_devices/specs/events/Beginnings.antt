@@ -1,10 +1,9 @@
 -- A history to which no event was added.
 use Rattle.std.specs.{List.All, Prelude.{◌<ℤ◌, ◌∷◌, ◌≡◌, ◌≤◌, ◌⊎◌, List, None, [], false, pos, ℕ, ℤ, ⊤}}
-use Rattle.drift_clock.specs.Segment.{fresh_segment}
-use Rattle.net_plan.specs.declared.tables.Link.{Link}
-use Rattle.tte_units.specs.Amount.{amount}
 use Rattle.audit_devices.specs.declared.events.history.{DeviceHistory.DeviceHistory, WayHistory.WayHistory}
 use Rattle.audit_devices.specs.{declared.events.settings.Settings.Settings, events.Clocks.AreClocks}
+use Rattle.{drift_clock.specs.Segment.fresh_segment, net_plan.specs.declared.tables.Link.Link}
+use Rattle.tte_units.specs.Amount.{amount}
 
 -- the setting has this value, and no change
 pub record IsUntouched {V : Type 0} (initial : V) (settings : Settings V) : Type 0 where

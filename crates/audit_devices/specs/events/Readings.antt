@@ -2,9 +2,8 @@
 use Rattle.std.specs.Prelude.{◌+◌, ◌<◌, ◌^◌, ◌≡◌, ◌≤ℤ◌, ◌≤◌, All, List, pos, ℕ}
 use Rattle.drift_clock.specs.{Readings.reading_at, Segment.{fresh_segment, segment_reading, stepped_segment}}
 use Rattle.net_plan.specs.{Ranges.IsInRange, declared.{event.Event.Event, ids.DeviceId.DeviceId}}
-use Rattle.net_plan.specs.declared.network.Network.{Network}
-use Rattle.run_law.specs.scenario.{Hypothesis.AreWithinHypothesis, Rates.rate_steps, Scenarios.Scenario}
-use Rattle.tte_units.specs.Amount.{amount}
+use Rattle.{net_plan.specs.declared.network.Network.Network, run_law.specs.scenario.Hypothesis.AreWithinHypothesis}
+use Rattle.{run_law.specs.scenario.{Rates.rate_steps, Scenarios.Scenario}, tte_units.specs.Amount.amount}
 
 -- what the clock of a device reads at a time, under the rates that the events set
 abbrev pub clock_reading : Network → List Event → DeviceId → ℕ → ℕ

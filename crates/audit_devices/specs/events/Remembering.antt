@@ -1,16 +1,14 @@
 -- How a history stands to the events that it took.
 use Rattle.std.specs.Prelude.{◌*◌, ◌++◌, ◌+◌, ◌==◌, ◌∷◌, ◌≡◌, Bool, List, MatchResult, None, Option, Result, Some, []}
 use Rattle.std.specs.Prelude.{false, length, nat_le, slice_get, ℕ}
-use Rattle.drift_clock.specs.Segment.{fresh_segment}
-use Rattle.net_plan.specs.{Belonging.IsOfNetwork, Ranges.IsInRange, declared.{event.Event.Event, ids.DeviceId.DeviceId}}
-use Rattle.net_plan.specs.declared.{ids.LinkId.LinkId, network.Network.Network, tables.Way.Way}
-use Rattle.net_plan.specs.declared.tables.Way.TheVariants.{Down, Up}
+use Rattle.audit_devices.specs.declared.events.history.{DeviceHistory.DeviceHistory, EventHistory.EventHistory}
+use Rattle.{audit_devices.specs.declared.events.history.WayHistory.WayHistory, drift_clock.specs.Segment.fresh_segment}
+use Rattle.audit_devices.specs.events.{Clocks.clocks_after, Readings.{HaveBegun, scenario_under}, Settings.IsSetBy}
+use Rattle.net_plan.specs.{Belonging.IsOfNetwork, declared.{event.Event.Event, ids.LinkId.LinkId, tables.Way.Way}}
+use Rattle.{net_plan.specs.Ranges.IsInRange, tte_units.specs.Amount.amount}
+use Rattle.net_plan.specs.declared.{ids.DeviceId.DeviceId, network.Network.Network, tables.Way.TheVariants.{Down, Up}}
 use Rattle.run_law.specs.scenario.{Hypothesis.{AreWithinHypothesis, IsWithinHypothesis}, Rates.rate_steps}
 use Rattle.run_law.specs.scenario.{Scenarios.{is_broken, is_turned_on_at}, Ways.{cut_set, hold_set, wire_of, wire_set}}
-use Rattle.tte_units.specs.Amount.{amount}
-use Rattle.audit_devices.specs.events.{Clocks.clocks_after, Readings.{HaveBegun, scenario_under}, Settings.IsSetBy}
-use Rattle.audit_devices.specs.declared.events.history.{DeviceHistory.DeviceHistory, EventHistory.EventHistory}
-use Rattle.audit_devices.specs.declared.events.history.WayHistory.{WayHistory}
 
 -- the place of a way: the two of a link stand side by side
 abbrev pub way_place : LinkId → Way → ℕ

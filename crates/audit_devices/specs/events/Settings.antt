@@ -1,8 +1,7 @@
 -- Values that events set, and their changes.
 use Rattle.std.specs.Prelude.{if◌then◌else◌, ◌≡◌, List, Option, filter, filter_map, fold, nat_le, nat_lt, option_map, ℕ}
-use Rattle.net_plan.specs.declared.event.{Event.Event, What.What}
-use Rattle.tte_units.specs.Amount.{amount}
 use Rattle.audit_devices.specs.declared.events.settings.{Change.Change, Settings.Settings}
+use Rattle.{net_plan.specs.declared.event.{Event.Event, What.What}, tte_units.specs.Amount.amount}
 
 -- the last value that is set up to a time, or else the initial one
 abbrev pub value_at : {V : Type 0} → V → List (Change V) → ℕ → V

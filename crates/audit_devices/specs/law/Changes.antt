@@ -1,10 +1,8 @@
 -- What is owed of the records that change a device's state: the record of its new state.
 use Rattle.std.specs.Prelude.{◌≡◌, ◌≤◌, List, ℕ}
-use Rattle.net_plan.specs.declared.ids.DeviceId.{DeviceId}
+use Rattle.{audit_devices.specs.law.DueRecords.{ChangesState, IsDue}, net_plan.specs.declared.ids.DeviceId.DeviceId}
 use Rattle.run_law.specs.{declared.{judgement.Why.Why, note.NoteBody.NoteBody}, records.Happenings.{Happening, time_of}}
-use Rattle.run_law.specs.scenario.Scenarios.{Scenario}
-use Rattle.sync_state.specs.declared.state.State.{State}
-use Rattle.audit_devices.specs.law.DueRecords.{ChangesState, IsDue}
+use Rattle.{run_law.specs.scenario.Scenarios.Scenario, sync_state.specs.declared.state.State.State}
 use Rattle.run_law.specs.declared.judgement.Why.TheVariants as whys
 use Rattle.run_law.specs.declared.note.NoteBody.TheVariants as notes
 

@@ -1,12 +1,11 @@
 -- What is owed of correction points: the correction of the clock, or the state that a clique brings.
 use Rattle.std.specs.Prelude.{◌+ℤ◌, ◌≡◌, ◌≤◌, List, ℕ}
-use Rattle.net_plan.specs.declared.ids.DeviceId.{DeviceId}
-use Rattle.run_law.specs.{declared.note.NoteBody.NoteBody, device.States.adjustment_before}
-use Rattle.run_law.specs.{records.Happenings.{Happening, time_of, up_to}, scenario.Scenarios.Scenario}
+use Rattle.{audit_devices.specs.law.CorrectionNumbers.ComesToPoint, net_plan.specs.declared.ids.DeviceId.DeviceId}
+use Rattle.{audit_devices.specs.law.DueRecords.IsDue, run_law.specs.scenario.Scenarios.Scenario}
+use Rattle.run_law.specs.{declared.note.NoteBody.NoteBody, records.Happenings.{Happening, time_of, up_to}}
+use Rattle.{run_law.specs.device.States.adjustment_before, tte_units.specs.declared.units.Units.Units}
 use Rattle.sync_state.specs.declared.answers.Verdict.TheVariants.{AsyncClique, Cleared, Corrected, SyncClique}
 use Rattle.sync_state.specs.declared.{answers.Verdict.Verdict, state.State.TheVariants.Integrating}
-use Rattle.tte_units.specs.declared.units.Units.{Units}
-use Rattle.audit_devices.specs.law.{CorrectionNumbers.ComesToPoint, DueRecords.IsDue}
 use Rattle.run_law.specs.declared.judgement.Why.TheVariants as whys
 use Rattle.run_law.specs.declared.note.NoteBody.TheVariants as notes
 

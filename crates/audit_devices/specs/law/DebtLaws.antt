@@ -1,21 +1,19 @@
 -- What holds of the debts of records.
 use Rattle.std.specs.Prelude.{◌++◌, ◌+◌, ◌<◌, ◌↔◌, ◌∷◌, ◌≡◌, ◌≤◌, List, [], ℕ}
-use Rattle.compression.specs.declared.compressed.Compressed.{Compressed}
-use Rattle.net_plan.specs.declared.ids.{DeviceId.DeviceId, LinkId.LinkId}
-use Rattle.run_law.specs.records.{Happenings.{Happening, time_of}, Order.{IsBefore, IsIn}, Ranks.place_of}
-use Rattle.run_law.specs.{runs.Runs.{IsFounded, IsRun}, scenario.Scenarios.Scenario}
-use Rattle.tte_units.specs.Amount.{amount}
-use Rattle.audit_devices.specs.law.Arrivals.{IsDueByArrival, OwesArrival, TellsArrival}
+use Rattle.{audit_devices.specs.law.Arrivals.{IsDueByArrival, OwesArrival, TellsArrival}, tte_units.specs.Amount.amount}
 use Rattle.audit_devices.specs.law.Changes.{IsDueByChange, OwesChange, TellsChange}
 use Rattle.audit_devices.specs.law.{CorrectionPoints.{IsDueByPoint, OwesPoint, TellsPoint}, Debts.{AreDebts, IsPaid}}
 use Rattle.audit_devices.specs.law.Departures.{IsDueByLeaving, OwesDeparture, TellsDeparture, leaves_at}
 use Rattle.audit_devices.specs.law.Dispatched.{IsDueByDispatch, IsDueBySending, OwesDispatch, OwesSending}
-use Rattle.audit_devices.specs.law.Dispatched.{TellsDispatch, TellsSending}
+use Rattle.{audit_devices.specs.law.Dispatched.{TellsDispatch, TellsSending}, net_plan.specs.declared.ids.LinkId.LinkId}
 use Rattle.audit_devices.specs.law.{DueRecords.IsDue, Permanences.{IsDueByPermanence, OwesPermanence, TellsPermanence}}
 use Rattle.audit_devices.specs.law.Emitted.{IsDueByEmission, OwesEmission, TellsEmission}
 use Rattle.audit_devices.specs.law.{EndClocks.{IsDueByEnd, OwesClock, TellsClock}, Owed.{Debt, IsOwed, Pays, falls_due}}
 use Rattle.audit_devices.specs.law.{Findings.{AreSound, IsLacking}, TracedEvents.{IsDueByEvent, OwesEvent, TellsEvent}}
 use Rattle.audit_devices.specs.law.LostSends.{IsDueBySend, OwesLoss, TellsLoss}
+use Rattle.{compression.specs.declared.compressed.Compressed.Compressed, net_plan.specs.declared.ids.DeviceId.DeviceId}
+use Rattle.run_law.specs.records.{Happenings.{Happening, time_of}, Order.{IsBefore, IsIn}, Ranks.place_of}
+use Rattle.run_law.specs.{runs.Runs.{IsFounded, IsRun}, scenario.Scenarios.Scenario}
 
 -- what a list of records owes up to a time: these are its debts that are paid by what is due so, and when they fall due
 abbrev pub AreOwed : {O : Type 0} → Scenario → List Happening → ℕ → (List Happening → Happening → Type 0)

@@ -1,12 +1,11 @@
 -- The leavings of control frames that a list of records owes.
 use Rattle.std.specs.Prelude.{◌+◌, ◌≡◌, ◌≤◌, List, Some, false, ℕ}
-use Rattle.net_plan.specs.declared.ids.{DeviceId.DeviceId, LinkId.LinkId}
+use Rattle.{audit_devices.specs.law.DueRecords.IsDue, net_plan.specs.declared.ids.LinkId.LinkId}
+use Rattle.{net_plan.specs.declared.ids.DeviceId.DeviceId, run_law.specs.scenario.Scenarios.{Scenario, is_broken}}
 use Rattle.pcf_values.specs.declared.pcf.Pcf.{Pcf}
 use Rattle.run_law.specs.control.Leaving.{Departs, Departure, Gives, leaves, on_cut_way, too_old}
-use Rattle.run_law.specs.declared.{judgement.Reason.TheVariants.Old, note.NoteBody.NoteBody}
-use Rattle.run_law.specs.{records.Happenings.{Happening, numbered, time_of}, scenario.Scenarios.{Scenario, is_broken}}
-use Rattle.run_law.specs.scenario.Ways.{hold_at, way_from}
-use Rattle.audit_devices.specs.law.DueRecords.{IsDue}
+use Rattle.run_law.specs.{declared.judgement.Reason.TheVariants.Old, records.Happenings.{Happening, numbered, time_of}}
+use Rattle.run_law.specs.{declared.note.NoteBody.NoteBody, scenario.Ways.{hold_at, way_from}}
 use Rattle.run_law.specs.declared.note.NoteBody.TheVariants as notes
 
 -- when the frame of a record leaves that the device gave to the link

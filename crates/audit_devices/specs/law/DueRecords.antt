@@ -1,13 +1,12 @@
 -- When a record is due in an audit, given those before it: as in a run, but that the numbers of correction points go by
 -- what the clocks come to.
 use Rattle.std.specs.Prelude.{◌+ℤ◌, ◌+◌, ◌≡◌, ◌≤ℤ◌, List, length, pos, ℕ}
-use Rattle.net_plan.specs.declared.ids.DeviceId.{DeviceId}
-use Rattle.run_law.specs.{declared.{judgement.Why.Why, note.NoteBody.NoteBody}, device.States.adjustment_before}
-use Rattle.run_law.specs.{records.Happenings.{Happening, happening}, scenario.Scenarios.Scenario}
+use Rattle.{audit_devices.specs.law.CorrectionNumbers.ComesToPoint, net_plan.specs.declared.ids.DeviceId.DeviceId}
+use Rattle.run_law.specs.{declared.judgement.Why.Why, scenario.Scenarios.Scenario}
+use Rattle.run_law.specs.{declared.note.NoteBody.NoteBody, records.Happenings.{Happening, happening}}
+use Rattle.{run_law.specs.device.States.adjustment_before, tte_units.specs.{Amount.amount, declared.units.Units.Units}}
 use Rattle.sync_state.specs.declared.answers.Verdict.TheVariants.{AsyncClique, Corrected, SyncClique}
 use Rattle.sync_state.specs.declared.state.State.{State, TheVariants.Integrating}
-use Rattle.tte_units.specs.{Amount.amount, declared.units.Units.Units}
-use Rattle.audit_devices.specs.law.CorrectionNumbers.{ComesToPoint}
 use Rattle.run_law.specs.declared.judgement.Why.TheVariants as whys
 use Rattle.run_law.specs.declared.note.NoteBody.TheVariants as notes
 use Rattle.run_law.specs.device.StateChanges as changes

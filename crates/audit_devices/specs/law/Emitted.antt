@@ -1,11 +1,10 @@
 -- What is owed of clusters: the compression master sends the frame of each.
 use Rattle.std.specs.Prelude.{◌≡◌, ◌≤◌, List, filter, ℕ}
-use Rattle.compression.specs.declared.compressed.Compressed.{Compressed}
-use Rattle.net_plan.specs.declared.ids.DeviceId.{DeviceId}
-use Rattle.run_law.specs.{control.Emissions.Emits, declared.judgement.Judgement.{Judgement, TheVariants.Ignored}}
-use Rattle.run_law.specs.{declared.note.NoteBody.NoteBody, records.{Happenings.{Happening, time_of}, Order.is_before}}
-use Rattle.run_law.specs.{records.Ranks.{place_at, place_of}, scenario.Scenarios.Scenario}
-use Rattle.audit_devices.specs.law.DueRecords.{IsDue}
+use Rattle.{audit_devices.specs.law.DueRecords.IsDue, run_law.specs.scenario.Scenarios.Scenario}
+use Rattle.{compression.specs.declared.compressed.Compressed.Compressed, net_plan.specs.declared.ids.DeviceId.DeviceId}
+use Rattle.run_law.specs.control.Emissions.{Emits}
+use Rattle.run_law.specs.declared.{judgement.Judgement.{Judgement, TheVariants.Ignored}, note.NoteBody.NoteBody}
+use Rattle.run_law.specs.records.{Happenings.{Happening, time_of}, Order.is_before, Ranks.{place_at, place_of}}
 use Rattle.run_law.specs.declared.note.NoteBody.TheVariants as notes
 
 -- the record of what a compression master sends

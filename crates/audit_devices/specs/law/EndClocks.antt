@@ -1,11 +1,10 @@
 -- What is owed at the end of the events: the record of each device's clock.
 use Rattle.std.specs.Prelude.{◌≡◌, ◌≤◌, List, Some, ℕ}
-use Rattle.net_plan.specs.{Places.device_at, declared.{ids.DeviceId.DeviceId, tables.Device.Device}}
-use Rattle.run_law.specs.{declared.note.NoteBody.NoteBody, records.Happenings.{Happening, time_of}}
-use Rattle.run_law.specs.{runs.DueRecords.{EndsAt, IsClockRecord}, scenario.Scenarios.Scenario}
-use Rattle.sync_state.specs.declared.state.State.{State}
-use Rattle.tte_units.specs.{Amount.units_of, declared.units.Units.Units}
-use Rattle.audit_devices.specs.law.DueRecords.{IsDue}
+use Rattle.{audit_devices.specs.law.DueRecords.IsDue, net_plan.specs.Places.device_at}
+use Rattle.{net_plan.specs.declared.ids.DeviceId.DeviceId, run_law.specs.declared.note.NoteBody.NoteBody}
+use Rattle.{net_plan.specs.declared.tables.Device.Device, sync_state.specs.declared.state.State.State}
+use Rattle.run_law.specs.{records.Happenings.{Happening, time_of}, runs.DueRecords.{EndsAt, IsClockRecord}}
+use Rattle.{run_law.specs.scenario.Scenarios.Scenario, tte_units.specs.{Amount.units_of, declared.units.Units.Units}}
 use Rattle.run_law.specs.declared.note.NoteBody.TheVariants as notes
 
 -- the record is due by the end of the events

@@ -1,11 +1,10 @@
 -- The first time of each kind of debts at which one of it is not paid, and the first of all.
 use Rattle.std.specs.Prelude.{◌+◌, ◌∷◌, ◌≡◌, ◌≤◌, List, MatchOption, None, Option, Some, [], min, ℕ}
-use Rattle.compression.specs.declared.compressed.Compressed.{Compressed}
-use Rattle.net_plan.specs.declared.ids.{DeviceId.DeviceId, LinkId.LinkId}
-use Rattle.run_law.specs.{records.{Happenings.Happening, Ranks.place_of}, scenario.Scenarios.Scenario}
-use Rattle.audit_devices.specs.law.{DebtLaws.IsFirstDebt, Debts.IsPaid, Dispatched.{Dispatch, Sending}}
-use Rattle.audit_devices.specs.law.{DueRecords.IsDue}
+use Rattle.audit_devices.specs.law.{DebtLaws.IsFirstDebt, Dispatched.{Dispatch, Sending}, DueRecords.IsDue}
+use Rattle.{audit_devices.specs.law.Debts.IsPaid, run_law.specs.scenario.Scenarios.Scenario}
 use Rattle.audit_devices.specs.law.{Findings.{AreSound, LacksNothing}, Owed.{Debt, IsOwed, Pays, falls_due}}
+use Rattle.{compression.specs.declared.compressed.Compressed.Compressed, net_plan.specs.declared.ids.DeviceId.DeviceId}
+use Rattle.{net_plan.specs.declared.ids.LinkId.LinkId, run_law.specs.records.{Happenings.Happening, Ranks.place_of}}
 use Rattle.audit_devices.specs.law.Owed as debts
 
 -- at this time, the first such, a debt of this kind falls due that no record of the list pays

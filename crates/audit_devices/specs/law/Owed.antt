@@ -1,15 +1,14 @@
 -- All that a list of records owes.
 use Rattle.std.specs.Prelude.{List, ℕ}
-use Rattle.compression.specs.declared.compressed.Compressed.{Compressed}
-use Rattle.net_plan.specs.declared.ids.{DeviceId.DeviceId, LinkId.LinkId}
-use Rattle.run_law.specs.{records.Happenings.Happening, scenario.Scenarios.Scenario}
-use Rattle.tte_units.specs.Amount.{amount}
 use Rattle.audit_devices.specs.law.{Arrivals.{OwesArrival, TellsArrival}, Permanences.{OwesPermanence, TellsPermanence}}
 use Rattle.audit_devices.specs.law.{Changes.{OwesChange, TellsChange}, TracedEvents.{OwesEvent, TellsEvent}}
 use Rattle.audit_devices.specs.law.{CorrectionPoints.{OwesPoint, TellsPoint}, Emitted.{OwesEmission, TellsEmission}}
 use Rattle.audit_devices.specs.law.{Departures.{OwesDeparture, TellsDeparture, leaves_at}, Dispatched.TellsSending}
 use Rattle.audit_devices.specs.law.Dispatched.{Dispatch, OwesDispatch, OwesSending, Sending, TellsDispatch}
 use Rattle.audit_devices.specs.law.{EndClocks.{OwesClock, TellsClock}, LostSends.{OwesLoss, TellsLoss}}
+use Rattle.{compression.specs.declared.compressed.Compressed.Compressed, net_plan.specs.declared.ids.DeviceId.DeviceId}
+use Rattle.{net_plan.specs.declared.ids.LinkId.LinkId, run_law.specs.records.Happenings.Happening}
+use Rattle.{run_law.specs.scenario.Scenarios.Scenario, tte_units.specs.Amount.amount}
 
 -- what a record is owed for: an event by its line; what a record brings, by its number; or what a clock comes to, by
 -- the device and the time or the frame

@@ -1,12 +1,10 @@
 -- An audit numbers correction points as a run does: a list of records is a run where it is one by what is due in an
 -- audit.
 use Rattle.std.specs.Prelude.{◌+◌, ◌↔◌, ◌∷◌, ◌≤ℤ◌, List, [], pos, ℕ}
-use Rattle.drift_clock.specs.ClockLaws.{KeepsClockLaws}
-use Rattle.net_plan.specs.{Ranges.IsInRange, declared.{event.Event.Event, ids.DeviceId.DeviceId}}
-use Rattle.run_law.specs.{records.{Happenings.Happening, Order.IsIn, Ranks.place_of}, runs.Runs.IsRun}
-use Rattle.run_law.specs.scenario.Scenarios.{Scenario}
-use Rattle.tte_units.specs.Amount.{amount}
-use Rattle.audit_devices.specs.law.DueRecords.{IsDue}
+use Rattle.{audit_devices.specs.law.DueRecords.IsDue, run_law.specs.{records.Order.IsIn, scenario.Scenarios.Scenario}}
+use Rattle.{drift_clock.specs.ClockLaws.KeepsClockLaws, net_plan.specs.declared.ids.DeviceId.DeviceId}
+use Rattle.{net_plan.specs.Ranges.IsInRange, run_law.specs.runs.Runs.IsRun, tte_units.specs.Amount.amount}
+use Rattle.{net_plan.specs.declared.event.Event.Event, run_law.specs.records.{Happenings.Happening, Ranks.place_of}}
 use Rattle.run_law.specs.runs.DueRecords as runs
 
 -- the network is in its ranges, its events are of times from 0 on, and its clocks keep the clock laws

@@ -1,10 +1,8 @@
 -- What is owed of the events that befall a network: each has its record.
 use Rattle.std.specs.Prelude.{◌+◌, ◌≡◌, ◌≤ℤ◌, ◌≤◌, List, Some, pos, slice_get, ℕ}
-use Rattle.net_plan.specs.declared.event.{Event.Event, What.What}
+use Rattle.{audit_devices.specs.law.DueRecords.IsDue, tte_units.specs.Amount.amount}
+use Rattle.{net_plan.specs.declared.event.{Event.Event, What.What}, run_law.specs.scenario.Scenarios.Scenario}
 use Rattle.run_law.specs.{declared.note.NoteBody.NoteBody, records.Happenings.Happening, runs.DueRecords.IsEventRecord}
-use Rattle.run_law.specs.scenario.Scenarios.{Scenario}
-use Rattle.tte_units.specs.Amount.{amount}
-use Rattle.audit_devices.specs.law.DueRecords.{IsDue}
 use Rattle.run_law.specs.declared.note.NoteBody.TheVariants as notes
 
 -- the record is due by an event

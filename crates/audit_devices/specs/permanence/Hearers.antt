@@ -2,9 +2,8 @@
 use Rattle.std.specs.Prelude.{◌-◌, ◌≡◌, ◌≤◌, Bool, List, true, ℕ}
 use Rattle.audit_devices.specs.declared.{permanence.hearer.Hearer.Hearer, stretches.stretch.Stretch.Stretch}
 use Rattle.audit_devices.specs.{declared.shown.Readings.Readings, stretches.Points.HasPoints}
-use Rattle.compression.specs.Clusters.{Point}
+use Rattle.{compression.specs.Clusters.Point, run_law.specs.scenario.{Devices.is_cm, Scenarios.{Scenario, is_broken}}}
 use Rattle.run_law.specs.{device.States.{adjustment_at_hearing, state_at_hearing}, records.Happenings.Happening}
-use Rattle.run_law.specs.scenario.{Devices.is_cm, Scenarios.{Scenario, is_broken}}
 
 -- the hearer stands at the time as these records leave its device
 pub record IsHearer (s : Scenario) (judged : List Happening) (t : ℕ) (hearer : Hearer) : Type 0 where

@@ -1,10 +1,9 @@
 -- What a record does to the collections of its device.
 use Rattle.std.specs.Prelude.{None, Option, Some}
-use Rattle.net_plan.specs.declared.ids.DeviceId.{DeviceId}
-use Rattle.run_law.specs.declared.judgement.{Judgement.{Judgement, TheVariants.Integrates}, Why.{Why, TheVariants.On}}
-use Rattle.run_law.specs.declared.note.NoteBody.{NoteBody}
-use Rattle.tte_units.specs.declared.units.Units.{Units}
 use Rattle.audit_devices.specs.declared.stretches.change.Change.{Change, TheVariants.{Ends, Gives}}
+use Rattle.{net_plan.specs.declared.ids.DeviceId.DeviceId, run_law.specs.declared.note.NoteBody.NoteBody}
+use Rattle.run_law.specs.declared.judgement.{Judgement.{Judgement, TheVariants.Integrates}, Why.{TheVariants.On, Why}}
+use Rattle.tte_units.specs.declared.units.Units.{Units}
 use Rattle.run_law.specs.declared.note.NoteBody.TheVariants as notes
 
 -- a frame that is permanent gives its point, but ends the stretch where it tells the device the time

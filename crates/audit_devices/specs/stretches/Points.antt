@@ -4,12 +4,10 @@ use Rattle.audit_devices.specs.{collections.Gathered.Gathers, declared.effect.Ca
 use Rattle.audit_devices.specs.{collections.Kept.{History, emitted}, stretches.Changes.{change_by, collector_in}}
 use Rattle.audit_devices.specs.declared.collections.{emitted.Emitted.Emitted, gathering.Gathering.Gathering}
 use Rattle.audit_devices.specs.declared.stretches.change.Change.{Change, TheVariants.{Ends, Gives}}
-use Rattle.compression.specs.{Clusters.{AreClusters, Cluster, Point, point_at}, Emission.compressed}
-use Rattle.compression.specs.declared.compressed.Compressed.{Compressed}
-use Rattle.net_plan.specs.declared.{ids.DeviceId.DeviceId, network.Network.Network}
+use Rattle.{compression.specs.Clusters.{AreClusters, Cluster, Point, point_at}, run_law.specs.scenario.Devices.is_cm}
+use Rattle.compression.specs.{Emission.compressed, declared.compressed.Compressed.Compressed}
+use Rattle.{net_plan.specs.declared.{ids.DeviceId.DeviceId, network.Network.Network}, tte_units.specs.Amount.amount}
 use Rattle.run_law.specs.{control.Collections.{master_of, observation_window, points_of}, records.Happenings.Happening}
-use Rattle.run_law.specs.scenario.Devices.{is_cm}
-use Rattle.tte_units.specs.Amount.{amount}
 
 -- the points of the stretch behind a change, which a frame with this cycle and these members brings
 abbrev pub points_with : List Point → Change → Carried → List Point

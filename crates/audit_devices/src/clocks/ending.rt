@@ -1,9 +1,8 @@
 ghost use Rattle.std.specs.Prelude.{◌↔◌, ◌≡◌, IsSome, IsTrue, List, pos, ℕ};
-ghost use Rattle.audit_devices.specs.Showing.{Shows};
-ghost use Rattle.net_plan.specs.Places.{device_at};
+ghost use Rattle.{audit_devices.specs.Showing.Shows, run_law.specs.scenario.Scenarios.Scenario};
+ghost use Rattle.{net_plan.specs.Places.device_at, tte_units.{specs.{declared.{units.{Units.{Units as UnitsValue}}}}}};
 ghost use Rattle.run_law.specs.{records.Happenings.{Happening, up_to}, runs.DueRecords.{EndsAt, IsClockRecord}};
-ghost use Rattle.run_law.specs.scenario.Scenarios.{Scenario};
-ghost use Rattle.tte_units.specs.{Amount.amount, declared.units.Units.Units as UnitsValue};
+ghost use Rattle.tte_units.specs.Amount.{amount};
 
 use crate::Shown;
 use net_plan::{DeviceId, Network};

@@ -1,6 +1,5 @@
 ghost use Rattle.std.specs.Prelude.{◌*◌, ◌≡◌, pos};
-ghost use Rattle.net_plan.specs.{Places.is_master, Ranges.IsInRange};
-ghost use Rattle.run_law.specs.scenario.Devices.{has_role};
+ghost use Rattle.{net_plan.specs.{Places.is_master, Ranges.IsInRange}, run_law.specs.scenario.Devices.has_role};
 ghost use Rattle.tte_units.specs.Amount.{amount};
 
 use net_plan::{DeviceId, Network, Role};

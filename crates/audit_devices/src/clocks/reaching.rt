@@ -1,9 +1,8 @@
 ghost use Rattle.std.specs.Prelude.{◌+ℤ◌, ◌^◌, ◌↔◌, ◌≡◌, ◌≤ℤ◌, IsTrue, List, neg_ℤ, pos, ℕ};
-ghost use Rattle.audit_devices.specs.Showing.{IsReading, IsSteady, Shows};
+ghost use Rattle.audit_devices.specs.{Showing.{IsReading, IsSteady, Shows}, clocks.Crossing.HasCrossed};
+ghost use Rattle.{audit_devices.specs.clocks.Moments.StandsAt, run_law.specs.records.Happenings.{Happening, earlier}};
 ghost use Rattle.net_plan.specs.declared.{ids.DeviceId.DeviceId, network.Network.Network};
-ghost use Rattle.run_law.specs.{device.LocalClocks.Reaches, records.Happenings.{Happening, earlier}};
-ghost use Rattle.run_law.specs.{scenario.Scenarios.Scenario, timed.Dispatching.IsUp};
-ghost use Rattle.audit_devices.specs.clocks.{Crossing.HasCrossed, Moments.StandsAt};
+ghost use Rattle.run_law.specs.{device.LocalClocks.Reaches, scenario.Scenarios.Scenario, timed.Dispatching.IsUp};
 
 use crate::clocks::Moment;
 use crate::{Readings, Shown};

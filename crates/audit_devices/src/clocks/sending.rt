@@ -1,12 +1,10 @@
 ghost use Rattle.std.specs.Prelude.{◌*◌, ◌+◌, ◌^◌, ◌↔◌, ◌≡◌, ◌≤◌, IsTrue, List, pos, ℕ};
+ghost use Rattle.audit_devices.specs.clocks.{Finding.{IsSeries, value_in}, Sendings.{IsNextSendingOrNone, IsStretch}};
+ghost use Rattle.{audit_devices.specs.clocks.Moments.StandsAt, run_law.specs.records.Happenings.Happening};
 ghost use Rattle.audit_devices.specs.events.{Readings.scenario_under, Remembering.{Remembers, RemembersSome}};
-ghost use Rattle.net_plan.specs.{Belonging.HasDevice, Ranges.IsInRange, declared.event.Event.Event};
-ghost use Rattle.net_plan.specs.declared.ids.DeviceId.{DeviceId as DeviceIdValue};
-ghost use Rattle.run_law.specs.{device.LocalClocks.Reaches, records.Happenings.Happening, scenario.Scenarios.Scenario};
-ghost use Rattle.run_law.specs.timed.Dispatching.{Sends};
-ghost use Rattle.tte_units.specs.Amount.{amount};
-ghost use Rattle.audit_devices.specs.clocks.{Finding.{IsSeries, value_in}, Moments.StandsAt};
-ghost use Rattle.audit_devices.specs.clocks.Sendings.{IsNextSendingOrNone, IsStretch};
+ghost use Rattle.{net_plan.specs.{Belonging.HasDevice, Ranges.IsInRange}, tte_units.specs.Amount.amount};
+ghost use Rattle.net_plan.specs.declared.{event.Event.Event, ids.{DeviceId.{DeviceId as DeviceIdValue}}};
+ghost use Rattle.run_law.specs.{device.LocalClocks.Reaches, scenario.Scenarios.Scenario, timed.Dispatching.Sends};
 
 use crate::Shown;
 use crate::clocks::network::{begun, is_master};

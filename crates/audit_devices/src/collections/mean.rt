@@ -1,6 +1,5 @@
 ghost use Rattle.std.specs.Prelude.{◌≡◌, ◌^◌, pos, neg_ℤ, ◌<ℤ◌};
-ghost use Rattle.tte_units.specs.Mean.{mean_of};
-ghost use Rattle.audit_devices.specs.collections.Small.{IsSmall};
+ghost use Rattle.{audit_devices.specs.collections.Small.IsSmall, tte_units.specs.Mean.mean_of};
 
 /// The mean of two numbers, rounded towards minus infinity.
 pub(crate) fn mean(a: i128, b: i128) -> i128

@@ -1,12 +1,10 @@
 ghost use Rattle.std.specs.Prelude.{◌↔◌, ◌≡◌, List, Some, true};
 ghost use Rattle.audit_devices.specs.{permanence.Hearers.{Collects, IsHearer, IsMoment}, stretches.Points.HasPoints};
-ghost use Rattle.compression.specs.Clusters.{Point, point_at};
-ghost use Rattle.device_rules.specs.Widths.{IsWide};
-ghost use Rattle.net_plan.specs.Ranges.{IsInRange};
+ghost use Rattle.{compression.specs.Clusters.{Point, point_at}, run_law.specs.scenario.Devices.{is_cm, plan_of}};
+ghost use Rattle.{device_rules.specs.Widths.IsWide, net_plan.specs.Ranges.IsInRange};
 ghost use Rattle.run_law.specs.control.Collections.{master_of, observation_window, point_fault, points_of};
-ghost use Rattle.run_law.specs.control.{Emissions.Emits, Hearing.heard_as};
+ghost use Rattle.run_law.specs.{control.{Emissions.Emits, Hearing.heard_as}, scenario.Scenarios.Scenario};
 ghost use Rattle.run_law.specs.{control.Permanence.{IsCollectedOrDropped, IsJudgedBy}, records.Happenings.Happening};
-ghost use Rattle.run_law.specs.scenario.{Devices.{is_cm, plan_of}, Scenarios.Scenario};
 
 use crate::Readings;
 use crate::permanence::reach::reaches;

@@ -2,10 +2,9 @@ ghost use Rattle.std.specs.Prelude.{◌++◌, ◌∷◌, ◌≡◌, ◌≤ℤ◌
 ghost use Rattle.audit_devices.specs.{Effects.carried_by, collections.Gathered.{Gathers, IsLatest}};
 ghost use Rattle.audit_devices.specs.{Keeping.records_before, stretches.Changes.{change_by, collector_in}};
 ghost use Rattle.audit_devices.specs.stretches.{Keeping.Keeps, Points.{HasPoints, MayBring, points_with}};
-ghost use Rattle.compression.specs.Clusters.{Point};
-ghost use Rattle.net_plan.specs.{Ranges.IsInRange, declared.ids.DeviceId.DeviceId};
-ghost use Rattle.run_law.specs.{control.Collections.points_of, records.{Happenings.Happening, Order.AllBefore}};
-ghost use Rattle.run_law.specs.records.Ranks.{place_of};
+ghost use Rattle.{compression.specs.Clusters.Point, net_plan.specs.Ranges.IsInRange};
+ghost use Rattle.{net_plan.specs.declared.ids.DeviceId.DeviceId, run_law.specs.control.Collections.points_of};
+ghost use Rattle.run_law.specs.records.{Happenings.Happening, Order.AllBefore, Ranks.place_of};
 ghost use Rattle.net_plan.specs.declared.network.Network as networks;
 
 use crate::Carried;

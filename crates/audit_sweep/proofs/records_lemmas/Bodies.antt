@@ -1,9 +1,6 @@
 -- What a record says, by what is kept of it.
-use Rattle.std.proofs.Common.{◌≡◌, ℕ}
-use Rattle.net_plan.specs.declared.ids.DeviceId.{DeviceId}
-use Rattle.run_law.specs.declared.note.NoteBody.{NoteBody}
-use Rattle.tte_units.specs.declared.units.Units.{Units}
-use Rattle.audit_sweep.specs.records.Keeping.{kept_of}
+use Rattle.{audit_sweep.specs.records.Keeping.kept_of, std.proofs.Common.{◌≡◌, ℕ}}
+use Rattle.{net_plan.specs.declared.ids.DeviceId.DeviceId, run_law.specs.declared.note.NoteBody.NoteBody, tte_units.specs.declared.units.Units.Units}
 use Rattle.audit_sweep.specs.declared.records.kept.Kept.TheVariants as kept
 use Rattle.net_plan.specs.declared.event.What.TheVariants as events
 use Rattle.run_law.specs.declared.note.NoteBody.TheVariants as notes

@@ -1,8 +1,7 @@
 -- Looking up what is kept of a record by its number.
+use Rattle.{audit_sweep.specs.declared.records.kept.KeptRecord.KeptRecord, std.proofs.lemmas.Option.{same_Some, slice_get-map, slice_get_past, slice_get_read}}
+use Rattle.{audit_sweep.specs.records.Keeping.{record_of, records_of}, run_law.specs.records.Happenings.{Happening, numbered}, std.specs.Prelude.option_map}
 use Rattle.std.proofs.Common.{◌-◌, ◌<◌, ◌∙◌, ◌≡◌, ◌≤◌, List, None, Option, Some, ap, arith, get_or, length, refl, slice_get, subst, suc, sym, ℕ}
-use Rattle.std.{proofs.lemmas.Option.{same_Some, slice_get-map, slice_get_past, slice_get_read}, specs.Prelude.option_map}
-use Rattle.run_law.specs.records.Happenings.{Happening, numbered}
-use Rattle.audit_sweep.specs.{records.Keeping.{record_of, records_of}, declared.records.kept.KeptRecord.KeptRecord}
 
 from_some : {X Y : Type 0} (f : X → Y) (o : Option X) (y : Y) → option_map f o ≡ Some y → (x : X) × (o ≡ Some x) × (y ≡ f x)
 from_some f None y e = absurd cc

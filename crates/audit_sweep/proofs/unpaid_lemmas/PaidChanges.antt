@@ -1,15 +1,12 @@
 -- What pays the debts of changes of state.
-use Rattle.audit_sweep.proofs.unpaid_lemmas.{Firsts.AreOfRecords, Payers.{one_time, payer_due}, Words.{sym, time_of, true, ℕ}}
+use Rattle.{audit_devices.{proofs.law_lemmas.Changing.change_law, specs.law.DueRecords.ChangesState}, audit_sweep.proofs.unpaid_lemmas.Firsts.AreOfRecords}
+use Rattle.{audit_devices.specs.law.Changes.{IsBrought, IsDueByChange, OwesChange, TellsChange}, audit_sweep.proofs.unpaid_lemmas.Payers.{one_time, payer_due}}
 use Rattle.audit_sweep.proofs.unpaid_lemmas.Words.{◌∙◌, ◌≡◌, ◌≤◌, DeviceId, Happening, IsDue, IsFounded, IsMarked, IsPaid, List, NoteBody, Paid, Pays, Scenario}
 use Rattle.audit_sweep.proofs.unpaid_lemmas.Words.{Some, ap, arith, cause_of, false, is_broken, numbered, numbered_within, paid_by, place_of, refl, same_some}
-use Rattle.audit_sweep.specs.unpaid.Changing.{HasChange}
-use Rattle.audit_devices.{proofs.law_lemmas.Changing.change_law}
-use Rattle.audit_devices.specs.law.{Changes.{IsBrought, IsDueByChange, OwesChange, TellsChange}, DueRecords.ChangesState}
-use Rattle.net_plan.specs.declared.event.What.TheVariants.{On}
-use Rattle.run_law.specs.{declared.judgement.{Judgement.TheVariants.Integrates, Why.Why}, device.States.{is_joined_by, state_before}}
-use Rattle.run_law.specs.records.Causes.{IsOfThisTime}
-use Rattle.sync_state.specs.declared.state.State.{State, TheVariants.{Integrating, Joining, Synchronised}}
-use Rattle.tte_lemmas.proofs.Naturals.{eqb_same}
+use Rattle.{audit_sweep.proofs.unpaid_lemmas.Words.{sym, time_of, true, ℕ}, run_law.specs.declared.judgement.{Judgement.TheVariants.Integrates, Why.Why}}
+use Rattle.{audit_sweep.specs.unpaid.Changing.HasChange, net_plan.specs.declared.event.What.TheVariants.On, sync_state.specs.declared.state.State.State}
+use Rattle.{run_law.specs.device.States.{is_joined_by, state_before}, sync_state.specs.declared.state.State.TheVariants.{Integrating, Joining, Synchronised}}
+use Rattle.{run_law.specs.records.Causes.IsOfThisTime, tte_lemmas.proofs.Naturals.eqb_same}
 use Rattle.audit_devices.specs.law.Owed as debts
 use Rattle.run_law.specs.declared.note.NoteBody.TheVariants as notes
 use Rattle.run_law.specs.declared.judgement.Why.TheVariants as whys

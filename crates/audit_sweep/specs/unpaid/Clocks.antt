@@ -1,9 +1,8 @@
 -- The clocks at the end of the events.
 use Rattle.std.specs.Prelude.{◌∷◌, ◌≡◌, List, MatchOption, Option, [], ℕ}
-use Rattle.audit_sweep.specs.records.places.Placing.{HasRecordAt}
-use Rattle.net_plan.specs.{Belonging.HasDevice, declared.{event.Event.Event, ids.DeviceId.DeviceId}}
-use Rattle.net_plan.specs.declared.network.Network.{Network}
-use Rattle.run_law.specs.{records.Happenings.Happening, runs.DueRecords.EndsAt}
+use Rattle.{audit_sweep.specs.records.places.Placing.HasRecordAt, net_plan.specs.declared.network.Network.Network}
+use Rattle.{net_plan.specs.{Belonging.HasDevice, declared.event.Event.Event}, run_law.specs.runs.DueRecords.EndsAt}
+use Rattle.{net_plan.specs.declared.ids.DeviceId.DeviceId, run_law.specs.records.Happenings.Happening}
 use Rattle.tte_units.specs.Amount.{units_of}
 
 -- the events end at this time, and at no other

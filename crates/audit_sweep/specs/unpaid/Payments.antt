@@ -1,8 +1,7 @@
 -- What records pay of the debts that the records bring which they have as their causes.
 use Rattle.std.specs.Prelude.{◌+◌, ◌<◌, ◌||◌, ◌↔◌, ◌≡◌, ◌≤◌, Bool, List, Some, false, length, not, slice_get, true, ℕ}
-use Rattle.run_law.specs.{declared.{judgement.Reason.Reason, note.NoteBody.NoteBody}, records.Causes.cause_of}
-use Rattle.run_law.specs.records.{Happenings.Happening, Order.IsIn}
-use Rattle.audit_sweep.specs.declared.unpaid.paid.Paid.{Paid}
+use Rattle.{audit_sweep.specs.declared.unpaid.paid.Paid.Paid, run_law.specs.declared.judgement.Reason.Reason}
+use Rattle.run_law.specs.{declared.note.NoteBody.NoteBody, records.{Causes.cause_of, Happenings.Happening, Order.IsIn}}
 use Rattle.run_law.specs.declared.judgement.Reason.TheVariants as reasons
 use Rattle.run_law.specs.declared.note.NoteBody.TheVariants as notes
 

@@ -1,10 +1,9 @@
 //! What is kept of a body.
 
 ghost use Rattle.std.specs.Prelude.{◌≡◌};
-ghost use Rattle.device_rules.specs.Headings.{heading_of};
 ghost use Rattle.audit_sweep.specs.records.Keeping.{kept_of, kept_of_event, sending_of, tells_time};
+ghost use Rattle.{device_rules.specs.Headings.heading_of, run_law.specs.records.Happenings.frame_in};
 ghost use Rattle.pcf_codec.specs.Decoding.{decoded};
-ghost use Rattle.run_law.specs.records.Happenings.{frame_in};
 
 use crate::records::{Kept, Sending};
 use device_rules::Heading;

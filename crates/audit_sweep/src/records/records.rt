@@ -1,12 +1,10 @@
 ghost use Rattle.std.specs.Prelude.{if◌then◌else◌, ◌++◌, ◌==◌, ◌∷◌, ◌≡◌, List, MatchOption, MatchResult, None, Some};
 ghost use Rattle.std.specs.Prelude.{[], option_map, ℕ};
-ghost use Rattle.device_rules.specs.Headings.{heading_of};
-ghost use Rattle.net_plan.specs.Ranges.{IsInRange};
-ghost use Rattle.run_law.specs.{declared.note.Note.Note, records.Frames.tt_frame};
+ghost use Rattle.{audit_sweep.specs.records.Keeping.{record_of, records_of}, run_law.specs.declared.note.Note.Note};
+ghost use Rattle.{device_rules.specs.Headings.heading_of, run_law.specs.records.Happenings.{octets_from, with_clock}};
+ghost use Rattle.{net_plan.specs.Ranges.IsInRange, run_law.specs.records.Frames.tt_frame};
 ghost use Rattle.run_law.specs.records.Happenings.{Happening, frame_by, frame_from, happening, numbered, octets_by};
-ghost use Rattle.run_law.specs.records.Happenings.{octets_from, with_clock};
 ghost use Rattle.tte_units.specs.Amount.{amount};
-ghost use Rattle.audit_sweep.specs.records.Keeping.{record_of, records_of};
 
 use crate::records::{KeptRecord, OutOfMemory, making};
 use device_rules::Heading;

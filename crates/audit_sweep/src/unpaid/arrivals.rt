@@ -1,10 +1,9 @@
 //! The first arrival of which no record tells.
 
 ghost use Rattle.std.specs.Prelude.{◌≡◌, List, ℕ};
-ghost use Rattle.audit_devices.specs.law.FirstDebts.{TellsFirst};
-ghost use Rattle.net_plan.specs.declared.event.Event.{Event};
-ghost use Rattle.run_law.specs.records.Happenings.{Happening};
+ghost use Rattle.{audit_devices.specs.law.FirstDebts.TellsFirst, run_law.specs.records.Happenings.Happening};
 ghost use Rattle.audit_sweep.specs.unpaid.{Debtors.{AreKnown, scenario_of}, Unpaid.TellsUnpaid};
+ghost use Rattle.net_plan.specs.declared.event.Event.{Event};
 ghost use Rattle.audit_devices.specs.law.Owed as debts;
 
 use crate::records::wires::arrival_due;

@@ -1,11 +1,9 @@
 -- The frame of a virtual link as it is written: a head, and zeros behind it.
-use Rattle.std.proofs.Common.{◌++◌, ◌+◌, ◌-◌, ◌<◌, ◌∙◌, ◌≡◌, List, None, Option, Some, [], ap, arith, drop, get_or, length, length-append, replicate}
-use Rattle.std.proofs.{Common.{slice_get, sym, take, ℕ}, Math.Seq.{drop-append_seam, take-append-add}, lemmas.List.take-replicate}
-use Rattle.std.{proofs.lemmas.Option.{slice_get-get_or, slice_get_cases}, specs.Option.option_map_or}
-use Rattle.net_plan.specs.{Padding.padded, Ranges.{IsInRange, IsVlInRange}, declared.{ids.VlId.VlId, network.Network.Network, tables.VirtualLink.VirtualLink}}
-use Rattle.run_law.specs.records.Frames.{tt_frame, tt_frame_by}
-use Rattle.tte_lemmas.proofs.Lists.{in_all}
-use Rattle.device_rules.specs.frames.Made.{head_of, made_frame}
+use Rattle.{device_rules.specs.frames.Made.{head_of, made_frame}, std.proofs.{Math.Seq.{drop-append_seam, take-append-add}, lemmas.List.take-replicate}}
+use Rattle.{net_plan.specs.{Padding.padded, Ranges.{IsInRange, IsVlInRange}, declared.ids.VlId.VlId}, run_law.specs.records.Frames.{tt_frame, tt_frame_by}}
+use Rattle.{net_plan.specs.declared.{network.Network.Network, tables.VirtualLink.VirtualLink}, std.proofs.lemmas.Option.{slice_get-get_or, slice_get_cases}}
+use Rattle.std.proofs.Common.{◌++◌, ◌+◌, ◌-◌, ◌<◌, ◌∙◌, ◌≡◌, List, None, Option, Some, [], ap, arith, drop, get_or, length, length-append, replicate, slice_get}
+use Rattle.{std.{proofs.Common.{sym, take, ℕ}, specs.Option.option_map_or}, tte_lemmas.proofs.Lists.in_all}
 
 -- of a virtual link of the network it is the frame of the law
 pub made_is : (network : Network) (vl : VlId) (cycle : ℕ) → vl.0 < length network.vl

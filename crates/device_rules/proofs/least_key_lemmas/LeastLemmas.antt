@@ -1,9 +1,7 @@
 -- The root of a tree is the least of its keys.
-use Rattle.std.proofs.Common.{◌*◌, ◌+◌, ◌-◌, ◌/◌, ◌<◌, ◌∙◌, ◌≡◌, ◌≤◌, List, ap, arith, drop, get_or, inl, inr, length, subst, suc, sym}
-use Rattle.std.proofs.Common.{zero, ℕ}
-use Rattle.std.proofs.lemmas.{Bool.{cases_eq, cases_lt}, List.{get_or-drop, get_or_default, length-drop}}
-use Rattle.std.{proofs.lemmas.List.Elements.Contains-get_or, specs.List.Contains}
-use Rattle.device_rules.specs.least_key.Trees.{HasLesser, IsTree, node_at}
+use Rattle.{device_rules.specs.least_key.Trees.{HasLesser, IsTree, node_at}, std.proofs.lemmas.List.{get_or-drop, get_or_default, length-drop}}
+use Rattle.std.proofs.Common.{◌*◌, ◌+◌, ◌-◌, ◌/◌, ◌<◌, ◌∙◌, ◌≡◌, ◌≤◌, List, ap, arith, drop, get_or, inl, inr, length, subst, suc, sym, zero, ℕ}
+use Rattle.std.{proofs.lemmas.{Bool.{cases_eq, cases_lt}, List.Elements.Contains-get_or}, specs.List.Contains}
 
 -- ---- the least of all
 

@@ -1,8 +1,7 @@
 -- The frames of virtual links that senders make.
 use Rattle.std.specs.{Option.option_map_or, Prelude.{◌++◌, List, replicate, slice_get, ℕ}}
-use Rattle.byteorder.specs.Endian.{big_bytes}
-use Rattle.net_plan.specs.declared.{ids.VlId.VlId, network.Network.Network, tables.VirtualLink.VirtualLink}
-use Rattle.run_law.specs.records.Frames.{mac_of, tt_frame_by}
+use Rattle.{byteorder.specs.Endian.big_bytes, net_plan.specs.declared.{ids.VlId.VlId, network.Network.Network}}
+use Rattle.{net_plan.specs.declared.tables.VirtualLink.VirtualLink, run_law.specs.records.Frames.{mac_of, tt_frame_by}}
 
 -- what a frame of the virtual link begins with: the marker, the link's id, its sender's address, its EtherType, and
 -- the cycle

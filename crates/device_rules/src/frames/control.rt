@@ -1,9 +1,8 @@
 //! Control frames.
 
 ghost use Rattle.std.specs.Prelude.{◌≡◌, ◌<◌, IfSome};
-ghost use Rattle.net_plan.specs.Ranges.{IsInRange};
+ghost use Rattle.{net_plan.specs.Ranges.IsInRange, run_law.specs.scenario.Devices.member_of};
 ghost use Rattle.run_law.specs.records.Frames.{dispatched_frame, integration_frame, mac_of};
-ghost use Rattle.run_law.specs.scenario.Devices.{member_of};
 
 use membership::one;
 use net_plan::{DeviceId, Network};

@@ -1,9 +1,8 @@
 //! Time-triggered frames.
 
 ghost use Rattle.std.specs.Prelude.{◌<◌, ◌^◌, ◌≡◌, ◌≤◌, drop, length, replicate};
-ghost use Rattle.net_plan.specs.{Padding.padded, Ranges.{IsInRange, IsVlInRange}};
-ghost use Rattle.run_law.specs.records.Frames.{mac_of};
-ghost use Rattle.device_rules.specs.frames.Made.{head_of, made_frame};
+ghost use Rattle.{device_rules.specs.frames.Made.{head_of, made_frame}, net_plan.specs.Ranges.{IsInRange, IsVlInRange}};
+ghost use Rattle.{net_plan.specs.Padding.padded, run_law.specs.records.Frames.mac_of};
 
 use byteorder::{BigEndian, ByteOrder};
 use net_plan::{DeviceId, Network, VirtualLink, VlId};

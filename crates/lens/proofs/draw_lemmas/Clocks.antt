@@ -1,23 +1,22 @@
 -- The clocks of a picture are those of correct synchronised devices at the end of the run.
+use Rattle.{lens.specs.declared.draw.svg.layout.Span.Span, net_plan.specs.declared.ids.DeviceId.DeviceId, run_law.specs.declared.note.NoteBody.NoteBody}
+use Rattle.{lens.specs.{declared.draw.svg.clock.{Ends.Ends, Told.Told}, draw.svg.Clocks.{told_in, with_one}}, std.proofs.lemmas.List.Elements.filter-append}
+use Rattle.{lens.specs.draw.ClockLaws.{IsShown, IsTrueBar, PicturesShowClocks, ShowsClock, ShowsClocks}, tte_traces.proofs.reports_lemmas.Safely.report_well}
+use Rattle.lens.specs.draw.svg.Clocks.{Clocks, apart_of, broken_by, clocks_in, clocks_with, ends_of, ends_with, is_among, local_of, no_clocks, share, told_by}
+use Rattle.{lens.specs.draw.svg.Layout.holds, std.{proofs.lemmas.Int.ints, specs.Option.option_map_or}, tte_units.specs.Amount.amount}
+use Rattle.{lens.specs.draw.svg.Sketching.moment, run_law.specs.law.Safety.AreClose, std.specs.List.{cons_option, list_any}, tte_audit.proofs.OnlyEnd.only_end}
+use Rattle.{net_plan.specs.declared.event.{Event.Event, What.What}, std.proofs.lemmas.Bool.Decides.nat_tests, tte_units.specs.declared.units.Units.Units}
+use Rattle.{net_plan.specs.declared.network.Network.Network, sync_state.specs.declared.state.State.TheVariants.{Integrating, Joining, Off, Synchronised}}
+use Rattle.run_law.{proofs.runs.NetworkRuns.same_notes, specs.{records.{Order.{IsBefore, IsIn}, Ranks.{place_of, rank}}, scenario.Scenarios.Scenario}}
+use Rattle.run_law.{proofs.runs.Places.{in_left, in_parts, in_right, parted}, specs.records.Happenings.{Happening, happenings, time_of, up_to}}
+use Rattle.{run_law.specs.{declared.note.Note.Note, device.LocalClocks.local}, schedule_tables.specs.Rules.KeepsRules, std.proofs.lemmas.List.Sums.fold-append}
+use Rattle.run_law.specs.{device.States.{adjustment_after, adjustment_with, cycle_in, state_after, state_with}, runs.DueRecords.{IsCaused, IsClockRecord}}
+use Rattle.{run_law.specs.scenario.Hypothesis.breaks_at, sync_state.specs.declared.state.State.State, tte_traces.specs.reports.Reports.IsReportOf}
 use Rattle.std.proofs.Common.{◌*◌, ◌++◌, ◌/◌, ◌<◌, ◌∙◌, ◌∷◌, ◌≡◌, ◌≤◌, ◌⊎◌, Bool, List, None, Option, Some, [], ap, append_assoc, arith, false, filter, fold}
 use Rattle.std.proofs.{Common.{inl, inr, map, pos, refl, subst, sym, true, ℕ, ℤ}, Math.Nat.{div-le_of_le-mul, mul-div_cancel, mul-le-mul_left, mul_comm}}
-use Rattle.std.{proofs.lemmas.{Bool.Decides.nat_tests, List.Elements.filter-append}, specs.Prelude.{◌+ℤ◌, ◌==◌, ◌||◌, if◌then◌else◌, int_lt, nat_le, nat_lt}}
-use Rattle.std.{proofs.lemmas.{Int.ints, List.Sums.fold-append}, specs.{List.{cons_option, list_any}, Option.option_map_or}}
-use Rattle.lens.specs.{declared.draw.svg.{clock.Ends.Ends, layout.Span.Span}, draw.ClockLaws.{IsShown, IsTrueBar, PicturesShowClocks, ShowsClock, ShowsClocks}}
-use Rattle.lens.specs.{declared.draw.svg.clock.Told.Told, draw.svg.{Clocks.{told_in, with_one}, Layout.holds, Sketching.moment}}
-use Rattle.lens.specs.draw.svg.Clocks.{Clocks, apart_of, broken_by, clocks_in, clocks_with, ends_of, ends_with, is_among, local_of, no_clocks, share, told_by}
-use Rattle.net_plan.specs.declared.{event.{Event.Event, What.What}, ids.DeviceId.DeviceId, network.Network.Network}
+use Rattle.{std.specs.Prelude.{◌+ℤ◌, ◌==◌, ◌||◌, if◌then◌else◌, int_lt, nat_le, nat_lt}, tte_audit.specs.Report.{event_by, events_of, scenario_of}}
 use Rattle.net_plan.specs.declared.event.What.TheVariants as events
-use Rattle.run_law.{proofs.runs.NetworkRuns.same_notes, specs.{declared.note.NoteBody.NoteBody, records.Order.{IsBefore, IsIn}, scenario.Hypothesis.breaks_at}}
-use Rattle.run_law.{proofs.runs.Places.{in_left, in_parts, in_right, parted}, specs.records.Happenings.{Happening, happenings, time_of, up_to}}
-use Rattle.run_law.specs.{declared.note.Note.Note, device.LocalClocks.local, law.Safety.AreClose, records.Ranks.{place_of, rank}, scenario.Scenarios.Scenario}
-use Rattle.run_law.specs.{device.States.{adjustment_after, adjustment_with, cycle_in, state_after, state_with}, runs.DueRecords.{IsCaused, IsClockRecord}}
 use Rattle.run_law.specs.declared.note.NoteBody.TheVariants as notes
-use Rattle.schedule_tables.specs.Rules.{KeepsRules}
-use Rattle.sync_state.specs.declared.state.State.{State, TheVariants.{Integrating, Joining, Off, Synchronised}}
-use Rattle.tte_audit.{proofs.OnlyEnd.only_end, specs.Report.{event_by, events_of, scenario_of}}
-use Rattle.tte_traces.{proofs.reports_lemmas.Safely.report_well, specs.reports.Reports.IsReportOf}
-use Rattle.tte_units.specs.{Amount.amount, declared.units.Units.Units}
 
 -- ---- what is told
 

@@ -1,26 +1,24 @@
 -- The frames that a picture shows as taken came in their windows.
-use Rattle.std.proofs.Common.{◌*◌, ◌++◌, ◌+◌, ◌/◌, ◌<◌, ◌∙◌, ◌∷◌, ◌≡◌, ◌≤ℤ◌, ◌≤◌, ◌⊎◌, Bool, List, Some, [], ap, append_assoc, arith, false, inl, inr, pos}
-use Rattle.std.proofs.{Common.{refl, subst, sym, ℕ, ℤ}, lemmas.{Bool.Decides.nat_tests, Int.ints, List.append-nil}}
-use Rattle.std.{proofs.lemmas.List.Elements.filter-append, specs.Prelude.{◌+ℤ◌, ◌-ℤ◌, if◌then◌else◌, nat_lt, option_and_then, option_map, unsigned_abs}}
-use Rattle.tte_lemmas.proofs.Integers.{not_below}
-use Rattle.lens.{proofs.draw_lemmas.{Asking.{in_shown, struck_other}, Clocks.{has_happening, share_is}}, specs.declared.draw.svg.mark.Look.TheVariants.Taken}
-use Rattle.lens.{proofs.draw_lemmas.{Falls.no_later, Runs.pictures_show_runs, svg_lemmas.Windows.window_is}, specs.draw.svg.Laws.{AreMarksOf, IsMarkOf, shown}}
-use Rattle.lens.{proofs.why_lemmas.Rows.row_is_one, specs.draw.Picture.clocks_of}
-use Rattle.lens.specs.{declared.draw.svg.{layout.Span.Span, mark.Mark.Mark}, draw.svg.{Bodies.{look_of, scene_of}, Clocks.share, Sketching.{moment, plan_of}}}
+use Rattle.lens.proofs.draw_lemmas.{Asking.{in_shown, struck_other}, Clocks.{has_happening, share_is}, Runs.pictures_show_runs, svg_lemmas.Windows.window_is}
+use Rattle.{lens.proofs.{draw_lemmas.Falls.no_later, why_lemmas.Rows.row_is_one}, std.proofs.lemmas.Bool.Decides.nat_tests, tte_audit.specs.Report.scenario_of}
+use Rattle.{lens.specs.declared.draw.svg.mark.Look.TheVariants.Taken, schedule_tables.{specs.{Windows.{arrival_of as arrival_place, tolerance, window_of}}}}
+use Rattle.{lens.specs.{declared.draw.svg.layout.Span.Span, draw.svg.Sketching.{moment, plan_of}}, net_plan.specs.declared.ids.{DeviceId.DeviceId, VlId.VlId}}
+use Rattle.{lens.specs.declared.draw.svg.mark.Mark.Mark, run_law.{proofs.runs.Places.{in_right, parted}, specs.device.States.adjustment_after}}
+use Rattle.{lens.specs.draw.{Picture.clocks_of, svg.Clocks.share}, run_law.specs.records.Order.IsIn, std.proofs.lemmas.{Int.ints, List.append-nil}}
 use Rattle.lens.specs.draw.{WindowLaws.{PicturesShowWindows, ShowsWindow}, svg.Windows.{came_at, came_by, came_of, row_of, tick_in, window_at, window_by}}
-use Rattle.net_plan.specs.{Ranges.IsInRange, declared.{ids.{DeviceId.DeviceId, LinkId.LinkId, VlId.VlId}, network.Network.Network}}
-use Rattle.run_law.{proofs.runs.{NetworkRuns.same_notes, Places.{in_right, parted}}, specs.{declared.steps.Arrival.Arrival, device.States.adjustment_after}}
-use Rattle.run_law.specs.{control.Wires.{Signal, control, timed}, declared.note.NoteBody.NoteBody, timed.Receptions.{ArrivesAs, arrival_of, last_taken}}
-use Rattle.run_law.specs.{declared.note.Note.Note, records.Order.IsIn, runs.DueRecords.IsCaused, scenario.Scenarios.Scenario}
+use Rattle.{lens.specs.draw.svg.Bodies.{look_of, scene_of}, run_law.specs.declared.steps.Arrival.Arrival, std.proofs.lemmas.List.Elements.filter-append}
+use Rattle.{lens.specs.draw.svg.Laws.{AreMarksOf, IsMarkOf, shown}, schedule_tables.specs.{Entries.IsEntry, declared.{entry.Entry.Entry, window.Window.Window}}}
+use Rattle.{net_plan.specs.Ranges.IsInRange, tte_units.specs.Amount.amount}
+use Rattle.{net_plan.specs.declared.ids.LinkId.LinkId, run_law.specs.scenario.Scenarios.Scenario, std.proofs.Common.{refl, subst, sym, ℕ, ℤ}}
+use Rattle.{net_plan.specs.declared.network.Network.Network, std.specs.Prelude.{◌+ℤ◌, ◌-ℤ◌, if◌then◌else◌, nat_lt, option_and_then, option_map, unsigned_abs}}
+use Rattle.{run_law.proofs.runs.NetworkRuns.same_notes, tte_traces.specs.reports.Reports.IsReportOf, tte_units.specs.declared.units.Units.Units}
+use Rattle.{run_law.specs.{control.Wires.{Signal, control, timed}, declared.note.NoteBody.NoteBody}, traffic_law.proofs.delivery.Taken.never_control}
+use Rattle.{run_law.specs.{declared.note.Note.Note, runs.DueRecords.IsCaused}, schedule_tables.specs.Rules.KeepsRules, tte_lemmas.proofs.Integers.not_below}
 use Rattle.run_law.specs.{device.Standpoints.{clock_of, offset_in_cycle, standpoint}, records.Happenings.{Happening, earlier, happenings, time_of}}
+use Rattle.{run_law.specs.timed.Receptions.{ArrivesAs, arrival_of, last_taken}, traffic_law.proofs.delivery.Faultless.{TakesIn, finds_none}}
+use Rattle.std.proofs.Common.{◌*◌, ◌++◌, ◌+◌, ◌/◌, ◌<◌, ◌∙◌, ◌∷◌, ◌≡◌, ◌≤ℤ◌, ◌≤◌, ◌⊎◌, Bool, List, Some, [], ap, append_assoc, arith, false, inl, inr, pos}
 use Rattle.run_law.specs.declared.note.NoteBody.TheVariants as notes
 use Rattle.run_law.specs.declared.steps.Arrival.TheVariants as arrivals
-use Rattle.schedule_tables.specs.{Entries.IsEntry, Rules.KeepsRules, Windows.{arrival_of as arrival_place, tolerance, window_of}}
-use Rattle.schedule_tables.specs.declared.{entry.Entry.Entry, window.Window.Window}
-use Rattle.traffic_law.proofs.delivery.{Faultless.{TakesIn, finds_none}, Taken.never_control}
-use Rattle.tte_audit.specs.Report.{scenario_of}
-use Rattle.tte_traces.specs.reports.Reports.{IsReportOf}
-use Rattle.tte_units.specs.{Amount.amount, declared.units.Units.Units}
 
 -- ---- the record of a mark
 

@@ -1,17 +1,15 @@
 -- The marks of records put one after another.
-use Rattle.std.proofs.Common.{◌++◌, ◌+◌, ◌<◌, ◌∙◌, ◌∷◌, ◌≡◌, Bool, List, [], ap, append_assoc, arith, false, inl, inr, length, length-append, refl, subst, sym}
-use Rattle.std.{proofs.{Common.{true, ℕ}, lemmas.List.{Elements.All-head, append-nil}}, specs.{List.concat, Prelude.{All, codes, fold, if◌then◌else◌}}}
 use Rattle.lens.{proofs.draw_lemmas.Parts.{fails_before, fails_between}, specs.draw.{Signs.close_line, svg.Clocks.{Clocks, clocks_in, clocks_with}}}
-use Rattle.lens.{proofs.draw_lemmas.svg_lemmas.Painting.span_behind, specs.{declared.draw.svg.{layout.Pen.Pen, window.Came.Came}, draw.svg.Plan.Plan}}
+use Rattle.{lens.proofs.draw_lemmas.svg_lemmas.Painting.span_behind, tte_traces.specs.{declared.reports.records.Records.Records, reports.Reports.AreLeft}}
 use Rattle.lens.specs.{declared.draw.svg.layout.Span.Span, draw.Picture.{back_lines, front_lines, mark_lines, marks_of, pen_behind, picture_lines, windows_of}}
+use Rattle.{lens.specs.declared.draw.svg.window.Came.Came, net_plan.specs.declared.network.Network.Network, report_text.specs.Ranges.{IsNoteInRange, IsNoteOf}}
+use Rattle.{lens.specs.declared.draw.svg.layout.Pen.Pen, tte_forms.{proofs.frames.Frames.Gives-behind, specs.declared.status.Status.Status}}
 use Rattle.lens.specs.draw.{Answer.{back_answer, draw_answer, fitting_answer}, svg.{Layout.pen_at, Sketching.{begun, fits, plan_behind, plan_of, took}}}
-use Rattle.net_plan.specs.declared.network.Network.{Network}
-use Rattle.report_text.specs.{NoteLine.{note_line, note_text, report_of}, Ranges.{IsNoteInRange, IsNoteOf}}
-use Rattle.run_law.specs.declared.note.Note.{Note}
+use Rattle.{lens.specs.draw.svg.Plan.Plan, run_law.specs.declared.note.Note.Note, std.proofs.{Common.{true, ℕ}, lemmas.List.{Elements.All-head, append-nil}}}
+use Rattle.{report_text.specs.NoteLine.{note_line, note_text, report_of}, std.specs.List.concat, tte_forms.specs.Answering.{Answer, Ends, Gives, line_answer}}
+use Rattle.std.proofs.Common.{◌++◌, ◌+◌, ◌<◌, ◌∙◌, ◌∷◌, ◌≡◌, Bool, List, [], ap, append_assoc, arith, false, inl, inr, length, length-append, refl, subst, sym}
+use Rattle.{std.specs.Prelude.{All, codes, fold, if◌then◌else◌}, tte_forms.specs.{Putting.{PutFails, PutsLines, Shown}, networks.Accepting.too_long_answer}}
 use Rattle.tte_forms.{proofs.Puts.{Ends-gives, PutsLines-append, PutsLines-none}, specs.declared.status.Status.TheVariants.{Done, TooLong, WriteFault}}
-use Rattle.tte_forms.{proofs.frames.Frames.Gives-behind, specs.declared.status.Status.Status}
-use Rattle.tte_forms.specs.{Answering.{Answer, Ends, Gives, line_answer}, Putting.{PutFails, PutsLines, Shown}, networks.Accepting.too_long_answer}
-use Rattle.tte_traces.specs.{declared.reports.records.Records.Records, reports.Reports.AreLeft}
 
 -- ---- what is left grows less
 

@@ -1,11 +1,9 @@
 -- Parts of a picture put one after another.
+use Rattle.{lens.specs.draw.Picture.lines_from, tte_forms.proofs.Puts.{PutFails-behind, PutsLines-append, PutsLines-fails, PutsLines-more, PutsLines-none}}
+use Rattle.{lens.specs.draw.Putting.Draws, std.{proofs.Common.{zero, ℕ}, specs.Io.KnownBytes.Appends}, tte_io.specs.{Faults.next_count, Told.AppendsFront}}
 use Rattle.std.proofs.Common.{◌++◌, ◌+◌, ◌-◌, ◌<◌, ◌∙◌, ◌∷◌, ◌≡◌, ◌≤◌, List, [], ap, append_assoc, arith, drop, get_or, length, refl, subst, suc, sym, take}
-use Rattle.std.{proofs.Common.{zero, ℕ}, specs.{Io.KnownBytes.Appends, declared.result.Result.Result}}
-use Rattle.std.{proofs.lemmas.{Grind.flat_map-append, List.{append-nil, take-append-drop, take_more}}, specs.Prelude.{Err, Ok, OnErr, OnOk, flat_map}}
-use Rattle.lens.specs.draw.{Picture.lines_from, Putting.Draws}
-use Rattle.tte_forms.proofs.Puts.{PutFails-behind, PutsLines-append, PutsLines-fails, PutsLines-more, PutsLines-none}
-use Rattle.tte_forms.specs.Putting.{PutFails, PutsLines, Shown}
-use Rattle.tte_io.specs.{Faults.next_count, Told.AppendsFront, declared.ends.SinkFailed.SinkFailed}
+use Rattle.{std.proofs.lemmas.{Grind.flat_map-append, List.{append-nil, take-append-drop, take_more}}, tte_forms.specs.Putting.{PutFails, PutsLines, Shown}}
+use Rattle.{std.specs.{Prelude.{Err, Ok, OnErr, OnOk, flat_map}, declared.result.Result.Result}, tte_io.specs.declared.ends.SinkFailed.SinkFailed}
 
 -- one line, in one put
 pub draws_one : (line : List ℕ) (result : Result (Unit {0}) SinkFailed) (old new : Shown) → OnOk result (Appends old.written new.written line)

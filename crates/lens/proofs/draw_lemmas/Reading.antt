@@ -1,22 +1,20 @@
 -- Two reports with one picture have the same lines.
-use Rattle.std.proofs.Common.{◌≡◌, ℕ, zero, suc, ◌+◌, ◌<◌, Bool, true, false, List, [], ◌∷◌, ◌++◌, None, Option, Some, append_assoc, ap, arith, drop}
-use Rattle.std.proofs.Common.{filter, map, refl, subst, sym, take, ◌∙◌}
-use Rattle.std.specs.{Char.digit_value, Prelude.{All, bytes_eq, codes, decimal, flat_map, if◌then◌else◌, length, ◌==◌}, Str.Parse.AllDigits}
-use Rattle.std.proofs.lemmas.{Bool.Decides.nat_tests, Fmt.decimal_is_IsNumeral, List.Elements.{All-cons, All-head, All-nil, All-tail, All-weaker}}
-use Rattle.lens.{proofs.draw_lemmas.Titles.titles_are, specs.draw.svg.{Elements.window_line, Laws.shown, Layout.{holds, pen_at}, Plan.Plan, Windows.box_of}}
-use Rattle.lens.{proofs.draw_lemmas.svg_lemmas.Plain.note_plain, specs.draw.svg.{Layers.{on_lane, on_mark, opening_of}, Marking.{IsPlain, head_text, is_plain}}}
+use Rattle.lens.{proofs.draw_lemmas.Titles.titles_are, specs.{declared.draw.{putting.Layer.Layer, svg.window.Came.Came}, draw.Signs.{close_line, sign_line}}}
+use Rattle.{lens.proofs.draw_lemmas.svg_lemmas.Plain.note_plain, report_text.{proofs.Splits.{NonePasses, split_once}, specs.Ranges.{IsNoteInRange, IsNoteOf}}}
 use Rattle.lens.specs.declared.draw.{putting.TheConstants.LAYERS, signs.Sign.{Sign, TheVariants.{Arrows, Backdrop, Heading, MarkKey, Shapes, Style, WayKey}}}
-use Rattle.lens.specs.{declared.draw.{putting.Layer.Layer, svg.{layout.Span.Span, window.Came.Came}}, draw.Signs.{close_line, sign_line}}
 use Rattle.lens.specs.declared.draw.svg.element.Element.{Element, TheVariants.{Bar, Caption, Gauge, Opening, Rail, Spread, Tick, Way, Window}}
-use Rattle.lens.specs.draw.{Laws.HaveTitles, Picture.{back_lines, front_lines, layer_lines, lines_from, mark_lines, picture_lines, some_line, windows_of}}
+use Rattle.{lens.specs.declared.draw.svg.layout.Span.Span, net_plan.specs.declared.network.Network.Network, std.proofs.Common.{suc, sym, take, true, zero, ℕ}}
+use Rattle.{lens.specs.draw.{Laws.HaveTitles, svg.{Laws.shown, Plan.Plan}}, net_plan.specs.Ranges.IsInRange, report_text.specs.NoteLine.note_text}
+use Rattle.lens.specs.draw.{Picture.{back_lines, front_lines, layer_lines, lines_from, mark_lines, picture_lines, some_line, windows_of}, svg.Windows.box_of}
 use Rattle.lens.specs.draw.{ReadingLaws.{PicturesAreOne, TitlesArePlain}, svg.{Clocks.{Clocks, clocks_in, gauge_of, spread_of}, Sketching.{moment, plan_of}}}
 use Rattle.lens.specs.draw.svg.Elements.{bar_line, caption_line, element_line, gauge_line, opening_line, rail_line, spread_bar, tick_line, way_line}
+use Rattle.{lens.specs.draw.svg.{Elements.window_line, Layout.{holds, pen_at}}, run_law.specs.declared.note.Note.Note, std.proofs.lemmas.Bool.Decides.nat_tests}
+use Rattle.{lens.specs.draw.svg.Layers.{on_lane, on_mark, opening_of}, std.specs.Prelude.{◌==◌, All, bytes_eq, codes, decimal, flat_map, if◌then◌else◌, length}}
+use Rattle.{lens.specs.draw.svg.Marking.{IsPlain, head_text, is_plain}, std.proofs.lemmas.List.Elements.{All-cons, All-head, All-nil, All-tail, All-weaker}}
+use Rattle.std.proofs.Common.{◌++◌, ◌+◌, ◌<◌, ◌∙◌, ◌∷◌, ◌≡◌, Bool, List, None, Option, Some, [], ap, append_assoc, arith, drop, false, filter, map, refl, subst}
+use Rattle.{std.proofs.lemmas.Fmt.decimal_is_IsNumeral, tte_traces.specs.reports.Reports.IsReportOf, tte_units.specs.declared.units.Units.Units}
+use Rattle.std.specs.{Char.digit_value, Str.Parse.AllDigits}
 use Rattle.lens.specs.declared.draw.putting.Layer.TheVariants as layers
-use Rattle.net_plan.specs.{Ranges.IsInRange, declared.network.Network.Network}
-use Rattle.report_text.{proofs.Splits.{NonePasses, split_once}, specs.{NoteLine.note_text, Ranges.{IsNoteInRange, IsNoteOf}}}
-use Rattle.run_law.specs.declared.note.Note.{Note}
-use Rattle.tte_traces.specs.reports.Reports.{IsReportOf}
-use Rattle.tte_units.specs.declared.units.Units.{Units}
 
 -- ---- which lines are marks
 

@@ -1,10 +1,9 @@
 -- The text of an event has no LF.
-use Rattle.std.proofs.{Common.{◌∷◌, ◌≡◌, ◌≢◌, arith, false, subst, sym, ℕ}, lemmas.{Bool.Decides.nat_tests, List.Elements.All-weaker}}
-use Rattle.std.specs.Fmt.{signed_decimal}
-use Rattle.net_plan.specs.{Belonging.IsOfNetwork, Ranges.IsInRange, declared.{event.Event.Event, network.Network.Network}}
-use Rattle.report_text.proofs.{Texts.{is_lf, line_unbroken}, Visible.{time_visible, what_visible}}
-use Rattle.trace_text.{proofs.EventsBack.text_joined, specs.{EventLine.{event_text, what_words}, Ranges.IsEventInRange}}
-use Rattle.tte_io.specs.Line.{IsUnbroken, lf}
+use Rattle.{net_plan.specs.Belonging.IsOfNetwork, trace_text.{proofs.EventsBack.text_joined, specs.Ranges.IsEventInRange}, tte_io.specs.Line.{IsUnbroken, lf}}
+use Rattle.net_plan.specs.Ranges.{IsInRange}
+use Rattle.{net_plan.specs.declared.event.Event.Event, report_text.proofs.Texts.{is_lf, line_unbroken}, std.proofs.lemmas.Bool.Decides.nat_tests}
+use Rattle.{net_plan.specs.declared.network.Network.Network, std.proofs.lemmas.List.Elements.All-weaker, trace_text.specs.EventLine.{event_text, what_words}}
+use Rattle.{report_text.proofs.Visible.{time_visible, what_visible}, std.{proofs.Common.{◌∷◌, ◌≡◌, ◌≢◌, arith, false, subst, sym, ℕ}, specs.Fmt.signed_decimal}}
 
 no_lf : (octet : ℕ) → is_lf octet ≡ false → octet ≢ lf
 no_lf octet other same = grind (arith, nat_tests)

@@ -1,15 +1,12 @@
 -- What is told of all flows: it has lines, and these are the answer.
-use Rattle.std.{proofs.{Common.{◌∙◌, ◌∷◌, ◌≡◌, List, [], ap, inl, inr, map, refl, subst, sym, ℕ}, lemmas.Option.slice_get_within}, specs.Prelude.All}
-use Rattle.audit_devices.specs.events.Readings.{scenario_under}
-use Rattle.lens.{proofs.flows_lemmas.Missing.missing_none, specs.flows.{Writing.IsWritable, counts.{FlowLists.AreFlows, Told.AreToldOf}, judge.Flows.IsFlow}}
-use Rattle.lens.{proofs.flows_lemmas.judge_lemmas.Rows.receiver_there, specs.{declared.flows.judge.flow.Flow.Flow, flows.counts.Deliveries.deliveries_of}}
+use Rattle.{audit_devices.specs.events.Readings.scenario_under, lens.specs.{declared.flows.judge.flow.Flow.Flow, flows.counts.Deliveries.deliveries_of}}
+use Rattle.{lens.proofs.flows_lemmas.Missing.missing_none, net_plan.specs.declared.network.Network.Network, run_law.specs.records.Happenings.happenings}
+use Rattle.{lens.proofs.flows_lemmas.judge_lemmas.Rows.receiver_there, std.proofs.Common.{◌∙◌, ◌∷◌, ◌≡◌, List, [], ap, inl, inr, map, refl, subst, sym, ℕ}}
 use Rattle.lens.specs.{declared.flows.counts.{deliveries.Delivery.Delivery, told.FlowTold.FlowTold}, flows.Answer.{AreAllTold, IsFlowsAnswer, told_answer}}
-use Rattle.net_plan.specs.declared.network.Network.{Network}
-use Rattle.run_law.{proofs.records.Order.all_of, specs.{declared.note.Note.Note, records.{Happenings.happenings, Order.IsIn}}}
-use Rattle.schedule_tables.specs.Rules.{KeepsRules}
-use Rattle.tte_audit.specs.Report.{events_of}
-use Rattle.tte_traces.specs.reports.Reports.{IsReportOf}
-use Rattle.tte_units.specs.{Amount.amount, declared.units.Units.Units}
+use Rattle.{lens.specs.flows.{Writing.IsWritable, counts.Told.AreToldOf}, schedule_tables.specs.Rules.KeepsRules, std.proofs.lemmas.Option.slice_get_within}
+use Rattle.{lens.specs.flows.counts.FlowLists.AreFlows, tte_traces.specs.reports.Reports.IsReportOf, tte_units.specs.declared.units.Units.Units}
+use Rattle.{lens.specs.flows.judge.Flows.IsFlow, run_law.{proofs.records.Order.all_of, specs.{declared.note.Note.Note, records.Order.IsIn}}}
+use Rattle.{std.specs.Prelude.All, tte_audit.specs.Report.events_of, tte_units.specs.Amount.amount}
 
 in_map : (one : FlowTold) (told : List FlowTold) → IsIn one told → IsIn one.flow (map (λ (t : FlowTold). t.flow) told)
 in_map one [] i = i

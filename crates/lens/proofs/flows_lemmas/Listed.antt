@@ -1,7 +1,6 @@
 -- The line of the next flow.
-use Rattle.std.proofs.{Common.{◌++◌, ◌+◌, ◌<◌, ◌∷◌, ◌≡◌, List, [], drop, get_or, length, take, ℕ}, lemmas.List.{drop_more, take_more}}
-use Rattle.lens.specs.{declared.flows.counts.told.FlowTold.FlowTold, flows.Lines.flow_line}
-use Rattle.net_plan.specs.declared.network.Network.{Network}
+use Rattle.{lens.specs.declared.flows.counts.told.FlowTold.FlowTold, std.proofs.Common.{◌++◌, ◌+◌, ◌<◌, ◌∷◌, ◌≡◌, List, [], drop, get_or, length, take, ℕ}}
+use Rattle.{lens.specs.flows.Lines.flow_line, net_plan.specs.declared.network.Network.Network, std.proofs.lemmas.List.{drop_more, take_more}}
 
 -- the flow of this number, and its line
 pub record IsNext (network : Network) (all : List FlowTold) (n : ℕ) (text : List ℕ) : Type 0 where

@@ -1,14 +1,10 @@
 -- Nothing that is owed is missing.
-use Rattle.std.proofs.Common.{◌≡◌, ◌<◌, ℕ, List, [], ◌∷◌, inl, refl}
-use Rattle.audit_devices.specs.events.Readings.{scenario_under}
-use Rattle.lens.{proofs.flows_lemmas.counts_lemmas.Orders.all_none, specs.declared.flows.{counts.told.FlowTold.FlowTold, judge.flow.Flow.Flow}}
-use Rattle.lens.specs.flows.{Answer.{IsMissing, IsMissingAt}, Laws.NoneIsMissing, counts.Ordered.{AreTimes, IsCountOf}}
-use Rattle.net_plan.specs.declared.network.Network.{Network}
-use Rattle.run_law.specs.{declared.note.Note.Note, records.Happenings.happenings}
-use Rattle.schedule_tables.specs.Rules.{KeepsRules}
+use Rattle.{audit_devices.specs.events.Readings.scenario_under, tte_traces.{proofs.reports_lemmas.Safely.report_well, specs.reports.Reports.IsReportOf}}
+use Rattle.lens.{proofs.flows_lemmas.counts_lemmas.Orders.all_none, specs.flows.{Answer.{IsMissing, IsMissingAt}, counts.Ordered.{AreTimes, IsCountOf}}}
+use Rattle.{lens.specs.declared.flows.{counts.told.FlowTold.FlowTold, judge.flow.Flow.Flow}, std.proofs.Common.{◌<◌, ◌∷◌, ◌≡◌, List, [], inl, refl, ℕ}}
+use Rattle.{lens.specs.flows.Laws.NoneIsMissing, run_law.specs.declared.note.Note.Note, schedule_tables.specs.Rules.KeepsRules, tte_units.specs.Amount.amount}
+use Rattle.{net_plan.specs.declared.network.Network.Network, run_law.specs.records.Happenings.happenings, tte_units.specs.declared.units.Units.Units}
 use Rattle.tte_audit.specs.Report.{events_of}
-use Rattle.tte_traces.{proofs.reports_lemmas.Safely.report_well, specs.reports.Reports.IsReportOf}
-use Rattle.tte_units.specs.{Amount.amount, declared.units.Units.Units}
 
 none_counted : (IsSo : ℕ → Type 0) (n : ℕ) → ((t : ℕ) → IsSo t → ⊥) → IsCountOf IsSo n → n ≡ 0
 none_counted IsSo n none ([], are, is) = is

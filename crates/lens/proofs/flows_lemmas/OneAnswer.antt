@@ -1,15 +1,11 @@
 -- The answer for a report is one.
-use Rattle.std.proofs.Common.{◌≡◌, ℕ, List, [], ◌∷◌, map, inl, inr, refl, sym, ap, subst, ◌∙◌}
-use Rattle.audit_devices.specs.events.Readings.{scenario_under}
+use Rattle.{audit_devices.specs.events.Readings.scenario_under, lens.specs.flows.{Answer.{IsFlowsAnswer, IsMissingAt}, counts.Deliveries.deliveries_of}}
 use Rattle.lens.{proofs.flows_lemmas.counts_lemmas.OneTold.{all_told_one, count_one, flows_one}, specs.declared.flows.counts.told.FlowTold.FlowTold}
-use Rattle.lens.specs.flows.{Answer.{IsFlowsAnswer, IsMissingAt}, Lines.flow_line, counts.Deliveries.deliveries_of}
-use Rattle.net_plan.specs.declared.network.Network.{Network}
-use Rattle.run_law.specs.{declared.note.Note.Note, records.{Happenings.happenings, Order.IsIn}}
-use Rattle.schedule_tables.specs.Rules.{KeepsRules}
-use Rattle.tte_audit.specs.Report.{events_of}
-use Rattle.tte_forms.specs.{Answering.Answer, declared.status.Status.TheVariants.Done}
-use Rattle.tte_traces.{proofs.reports_lemmas.Reports.IsOneFor, specs.reports.Reports.IsReportOf}
-use Rattle.tte_units.specs.{Amount.amount, declared.units.Units.Units}
+use Rattle.{lens.specs.flows.Lines.flow_line, run_law.specs.{declared.note.Note.Note, records.Order.IsIn}, tte_audit.specs.Report.events_of}
+use Rattle.{net_plan.specs.declared.network.Network.Network, run_law.specs.records.Happenings.happenings, tte_traces.proofs.reports_lemmas.Reports.IsOneFor}
+use Rattle.{schedule_tables.specs.Rules.KeepsRules, tte_traces.specs.reports.Reports.IsReportOf, tte_units.specs.{Amount.amount, declared.units.Units.Units}}
+use Rattle.{std.proofs.Common.{◌∙◌, ◌∷◌, ◌≡◌, List, [], ap, inl, inr, map, refl, subst, sym, ℕ}, tte_forms.specs.declared.status.Status.TheVariants.Done}
+use Rattle.tte_forms.specs.Answering.{Answer}
 
 lines_same : (network : Network) (told : List FlowTold) (m n : FlowTold → ℕ) → ((one : FlowTold) → IsIn one told → m one ≡ n one)
     → map (λ (one : FlowTold). flow_line network one (m one)) told ≡ map (λ (one : FlowTold). flow_line network one (n one)) told

@@ -1,19 +1,16 @@
 -- The records of a report, seen one after another.
+use Rattle.{audit_devices.specs.events.Remembering.Remembers, run_law.specs.declared.note.NoteBody.NoteBody, std.proofs.lemmas.List.{append-nil, length-append}}
+use Rattle.{lens.specs.declared.flows.counts.deliveries.Delivery.Delivery, run_law.specs.records.Happenings.{Happening, happening, happenings}}
+use Rattle.{lens.specs.{declared.flows.counts.seen.Seen.Seen, flows.Seeing.{IsReadBy, IsSeenSoFar}}, net_plan.specs.declared.network.Network.Network}
+use Rattle.{lens.specs.flows.counts.{Deliveries.{deliveries_of, delivery_by}, Seen.HasSeen}, report_text.specs.NoteLine.{note_line, note_text, report_of}}
+use Rattle.{report_text.specs.Ranges.IsNoteOf, tte_audit.{proofs.OnlyEnd.ends_soon, specs.{Named.IsNamed, Report.events_of, Telling.IsReadOf}}}
+use Rattle.{run_law.proofs.records.{Happenings.{happenings_on, soon}, Order.{all_of, given_of}}, tte_traces.specs.reports.Reports.{AreLeft, IsReportOf}}
+use Rattle.{run_law.{proofs.runs.NetworkRuns.one_more, specs.{declared.note.Note.Note, records.Ranks.place_of}}, std.proofs.lemmas.List.Elements.All-head}
+use Rattle.{run_law.{proofs.runs.Places.{in_left, in_right}, specs.records.Order.{AllBefore, IsIn}}, tte_units.specs.declared.units.Units.Units}
 use Rattle.std.proofs.Common.{◌++◌, ◌+◌, ◌<◌, ◌^◌, ◌∙◌, ◌∷◌, ◌≡◌, ◌≤◌, List, [], ap, append_assoc, arith, inl, inr, length, refl, subst, sym, ℕ}
-use Rattle.std.{proofs.lemmas.List.{Elements.All-head, append-nil, length-append}, specs.{List.concat, Prelude.{All, Some}}}
-use Rattle.audit_devices.specs.events.Remembering.{Remembers}
-use Rattle.lens.specs.{declared.flows.counts.{deliveries.Delivery.Delivery, seen.Seen.Seen}, flows.counts.Deliveries.{deliveries_of, delivery_by}}
-use Rattle.lens.specs.flows.{Seeing.{IsReadBy, IsSeenSoFar}, counts.Seen.HasSeen}
-use Rattle.net_plan.specs.declared.network.Network.{Network}
-use Rattle.report_text.specs.{NoteLine.{note_line, note_text, report_of}, Ranges.IsNoteOf}
-use Rattle.run_law.{proofs.records.{Happenings.{happenings_on, soon}, Order.{all_of, given_of}}, specs.records.Happenings.{Happening, happening, happenings}}
-use Rattle.run_law.{proofs.runs.{NetworkRuns.one_more, Places.{in_left, in_right}}, specs.{declared.note.NoteBody.NoteBody, records.Order.{AllBefore, IsIn}}}
-use Rattle.run_law.specs.{declared.note.Note.Note, records.Ranks.place_of}
+use Rattle.{std.specs.{List.concat, Prelude.{All, Some}}, tte_units.specs.Amount.amount}
+use Rattle.{tte_audit.{proofs.OneAnswer.same_of, specs.declared.passes.ReportEvents.ReportEvents}, tte_traces.specs.declared.reports.records.Records.Records}
 use Rattle.run_law.specs.declared.note.NoteBody.TheVariants as notes
-use Rattle.tte_audit.{proofs.{OneAnswer.same_of, OnlyEnd.ends_soon}, specs.{Report.events_of, Telling.IsReadOf, declared.passes.ReportEvents.ReportEvents}}
-use Rattle.tte_audit.specs.Named.{IsNamed}
-use Rattle.tte_traces.specs.{reports.Reports.{AreLeft, IsReportOf}, declared.reports.records.Records.Records}
-use Rattle.tte_units.specs.{Amount.amount, declared.units.Units.Units}
 
 -- ---- the events
 

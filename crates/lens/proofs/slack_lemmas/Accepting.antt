@@ -1,19 +1,18 @@
 -- `slack` is done exactly where all rules are kept.
-use Rattle.std.proofs.Common.{◌++◌, ◌+◌, ◌<◌, ◌∙◌, ◌∷◌, ◌≡◌, Bool, List, None, Option, Some, [], ap, arith, false, inl, inr, refl, subst, suc, sym, true, zero}
-use Rattle.std.proofs.{Common.ℕ, lemmas.{Bool.{cases_lt, eq-eqb, eqb-true, le-ltb, lt-ltb}, List.Sums.{sum_by-append, sum_by-cons}}}
-use Rattle.std.specs.Prelude.{if◌then◌else◌, ◌==◌, cond}
-use Rattle.lens.{proofs.slack_lemmas.Deciding.bounds_decide, specs.{declared.slack.{spot.Measure.Measure, step.Step.Step}, slack.forms.Forms.IsInequality}}
+use Rattle.{lens.proofs.slack_lemmas.Deciding.bounds_decide, net_plan.specs.declared.network.Network.Network, std.specs.Prelude.{◌==◌, cond, if◌then◌else◌}}
 use Rattle.lens.{proofs.slack_lemmas.Numbers.{bounds_met, has_number, number_spot}, specs.declared.slack.step.Step.TheVariants.{Judged, Listed, Measured}}
-use Rattle.lens.{proofs.slack_lemmas.Ones.one_of, specs.slack.{Answer.ending_status, Laws.SlackAccepts, Lines.spot_index, Steps.all_steps}}
-use Rattle.lens.specs.{declared.slack.measuring.Ending.{Ending, TheVariants.{Broken, Whole}}, slack.Spots.{IsTightestOf, rule_of, spot_at, spots_of}}
-use Rattle.lens.specs.{declared.slack.spot.Finding.Finding, slack.{Finds.{AreFound, AreOf, shorts_of, some_found}, Tightest.{IsEnough, IsTightestAt, is_short}}}
-use Rattle.net_plan.{proofs.Shape.rules_give_trees, specs.{Paths.IsTree, declared.network.Network.Network}}
-use Rattle.schedule_checker.{proofs.Trees.tree_of, specs.Judging.plan_rule}
-use Rattle.schedule_tables.specs.{Rules.{IsKept, IsKeptAt, KeepsBelow, KeepsRules}, declared.rule.Rule.{Rule, TheVariants.WindowEnds}}
+use Rattle.{lens.{proofs.slack_lemmas.Ones.one_of, specs.slack.{Laws.SlackAccepts, Lines.spot_index, Steps.all_steps}}, schedule_checker.proofs.Trees.tree_of}
+use Rattle.{lens.specs.declared.slack.measuring.Ending.TheVariants.{Broken, Whole}, tte_forms.specs.declared.status.Status.TheVariants.{Done, NetworkRefused}}
+use Rattle.{lens.specs.declared.slack.{measuring.Ending.Ending, spot.Finding.Finding, step.Step.Step}, std.proofs.lemmas.List.Sums.{sum_by-append, sum_by-cons}}
+use Rattle.lens.specs.{declared.slack.spot.Measure.Measure, slack.{Finds.{AreFound, AreOf, shorts_of, some_found}, Tightest.{IsEnough, IsTightestAt, is_short}}}
+use Rattle.{lens.specs.slack.{Answer.ending_status, forms.Forms.IsInequality}, net_plan.proofs.Shape.rules_give_trees, schedule_checker.specs.Judging.plan_rule}
+use Rattle.{lens.specs.slack.Spots.{IsTightestOf, rule_of, spot_at, spots_of}, schedule_tables.specs.declared.rule.Rule.{Rule, TheVariants.WindowEnds}}
+use Rattle.{net_plan.specs.Paths.IsTree, std.proofs.Common.ℕ}
+use Rattle.{schedule_tables.specs.Rules.{IsKept, IsKeptAt, KeepsBelow, KeepsRules}, std.proofs.lemmas.Bool.{cases_lt, eq-eqb, eqb-true, le-ltb, lt-ltb}}
 use Rattle.schedule_tables.specs.declared.rule.Rule.TheVariants.{BothChannels, CompressionMasters, Connections, Correction, Delays, DevicesDiffer, Forwarding}
 use Rattle.schedule_tables.specs.declared.rule.Rule.TheVariants.{Joints, Limits, LinksDiffer, LinksOnce, Masters, Periods, Precision, RowsOfDevice}
 use Rattle.schedule_tables.specs.declared.rule.Rule.TheVariants.{ScheduleStart, Senders, Settling, Sources, Spacing, Targets, VlIdsDiffer, VlNamesDiffer}
-use Rattle.tte_forms.specs.declared.status.Status.TheVariants.{Done, NetworkRefused}
+use Rattle.std.proofs.Common.{◌++◌, ◌+◌, ◌<◌, ◌∙◌, ◌∷◌, ◌≡◌, Bool, List, None, Option, Some, [], ap, arith, false, inl, inr, refl, subst, suc, sym, true, zero}
 use Rattle.lens.specs.declared.slack.spot.Measure.TheVariants as measures
 
 -- ---- counting what is short

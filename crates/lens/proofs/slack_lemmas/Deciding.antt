@@ -1,15 +1,13 @@
 -- A rule that is an inequality is kept at a place exactly where all its bounds there are.
-use Rattle.std.{proofs.{Common.{◌*◌, ◌+◌, ◌<◌, ◌≡◌, ◌≤◌, ◌⊎◌, arith, inl, inr, refl, subst, sym, ℕ}, lemmas.Bool.{cases_lt, le-ltb, lt-ltb}}, specs.Prelude.◌↔◌}
-use Rattle.net_plan.specs.{Bounds.gamma_of, declared.{ids.RowId.RowId, network.Network.Network, tables.Link.Link}}
-use Rattle.schedule_checker.proofs.Selection.{all_of_each, each_of_all}
-use Rattle.schedule_tables.specs.Delays.{CorrectionFits, DelaysFit, ErrorsSettle, PrecisionFits, ScheduleFits, delay_on, pcf_port_time}
-use Rattle.schedule_tables.specs.{Schedule.{ComesInTime, EndsInCycle, IsClearBefore, StandsApart}, Windows.{port_time, window_end}, declared.entry.Entry.Entry}
-use Rattle.schedule_tables.specs.declared.rule.Rule.{Rule}
-use Rattle.schedule_tables.specs.declared.rule.Rule.TheVariants.{Correction, Delays, Forwarding, Precision, ScheduleStart, Settling, Spacing, WindowEnds}
-use Rattle.tte_units.specs.{Amount.amount, OctetTime.octet_time, declared.speed.Speed.Speed}
 use Rattle.lens.specs.{declared.slack.spot.{Beside.TheVariants.{Before, Behind}, Finding.Finding, Spot.Spot}, slack.Spots.{IsSpotAt, device_of, row_of}}
 use Rattle.lens.specs.slack.Bounds.{IsBoundAt, begin_bound, calc_bound, clear_time, correction_bound, end_bound, entering_bound, found, gap_bound}
-use Rattle.lens.specs.slack.{Laws.BoundsDecide, Tightest.IsEnough}
+use Rattle.{lens.specs.slack.{Laws.BoundsDecide, Tightest.IsEnough}, net_plan.specs.Bounds.gamma_of, tte_units.specs.{Amount.amount, OctetTime.octet_time}}
+use Rattle.{net_plan.specs.declared.ids.RowId.RowId, std.proofs.lemmas.Bool.{cases_lt, le-ltb, lt-ltb}, tte_units.specs.declared.speed.Speed.Speed}
+use Rattle.{net_plan.specs.declared.{network.Network.Network, tables.Link.Link}, schedule_tables.specs.declared.{entry.Entry.Entry, rule.Rule.Rule}}
+use Rattle.{schedule_checker.proofs.Selection.{all_of_each, each_of_all}, schedule_tables.specs.Schedule.{ComesInTime, EndsInCycle, IsClearBefore, StandsApart}}
+use Rattle.{schedule_tables.specs.Delays.{CorrectionFits, DelaysFit, ErrorsSettle, PrecisionFits, ScheduleFits, delay_on, pcf_port_time}, std.specs.Prelude.◌↔◌}
+use Rattle.{schedule_tables.specs.Windows.{port_time, window_end}, std.proofs.Common.{◌*◌, ◌+◌, ◌<◌, ◌≡◌, ◌≤◌, ◌⊎◌, arith, inl, inr, refl, subst, sym, ℕ}}
+use Rattle.schedule_tables.specs.declared.rule.Rule.TheVariants.{Correction, Delays, Forwarding, Precision, ScheduleStart, Settling, Spacing, WindowEnds}
 use Rattle.lens.specs.declared.slack.spot.Spot.TheVariants as spots
 use Rattle.tte_units.specs.declared.speed.Speed.TheVariants as speeds
 

@@ -1,7 +1,6 @@
 -- The line of the next finding.
-use Rattle.std.proofs.{Common.{◌++◌, ◌+◌, ◌<◌, ◌∷◌, ◌≡◌, List, [], arith, drop, get_or, length, take, ℕ}, lemmas.List.take_more}
-use Rattle.net_plan.specs.declared.network.Network.{Network}
-use Rattle.lens.{proofs.slack_lemmas.Taken.drop_next, specs.{slack.Lines.finding_line, declared.slack.spot.Finding.Finding}}
+use Rattle.{lens.{proofs.slack_lemmas.Taken.drop_next, specs.{declared.slack.spot.Finding.Finding, slack.Lines.finding_line}}, std.proofs.lemmas.List.take_more}
+use Rattle.{net_plan.specs.declared.network.Network.Network, std.proofs.Common.{◌++◌, ◌+◌, ◌<◌, ◌∷◌, ◌≡◌, List, [], arith, drop, get_or, length, take, ℕ}}
 
 -- the finding of this number, and its line
 pub record IsNext (network : Network) (all : List Finding) (n : ℕ) (text : List ℕ) : Type 0 where

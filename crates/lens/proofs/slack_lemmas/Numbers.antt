@@ -1,15 +1,13 @@
 -- The spots of a rule, by the numbers that its measures give them.
-use Rattle.std.proofs.{Common.{◌*◌, ◌+◌, ◌<◌, ◌∙◌, ◌≡◌, None, Option, Some, ap, arith, inl, inr, length, refl, subst, sym, ℕ}, lemmas.Bool.cases_lt}
-use Rattle.std.{proofs.lemmas.Option.slice_get_within, specs.Prelude.{if◌then◌else◌, ◌%◌, Bool, false, nat_lt, true}}
-use Rattle.net_plan.specs.{Paths.IsTree, Places.device_at, declared.network.Network.Network}
-use Rattle.pcf_values.specs.declared.channel.Channel.{Channel, TheVariants.{A, B}}
-use Rattle.schedule_tables.specs.declared.rule.Rule.{Rule}
+use Rattle.{lens.{proofs.slack_lemmas.Ones.{some_at, some_of}, specs.declared.slack.spot.Measure.Measure}, schedule_tables.specs.declared.rule.Rule.Rule}
+use Rattle.{lens.{proofs.slack_lemmas.Writable.device_by, specs.declared.slack.spot.Spot.Spot}, net_plan.specs.Places.device_at, tte_units.specs.Amount.amount}
+use Rattle.lens.specs.{declared.slack.spot.Beside.TheVariants.{Before, Behind}, slack.Tightest.{ComesFirst, IsEnough, IsFirstTightest, IsTightestAt}}
+use Rattle.{lens.specs.{declared.slack.spot.Finding.Finding, slack.Bounds.{IsBoundAt, clear_time, gap_bound}}, net_plan.specs.declared.network.Network.Network}
+use Rattle.lens.specs.slack.{Lines.spot_index, Spots.{IsFoundAt, IsSpotAt, IsTightestOf, channel_of, device_of, row_of, rule_of, spot_at, spots_of}}
+use Rattle.{net_plan.specs.Paths.IsTree, std.proofs.lemmas.Bool.cases_lt}
+use Rattle.{pcf_values.specs.declared.channel.Channel.{Channel, TheVariants.{A, B}}, std.specs.Prelude.{◌%◌, Bool, false, if◌then◌else◌, nat_lt, true}}
 use Rattle.schedule_tables.specs.declared.rule.Rule.TheVariants.{Correction, Delays, Forwarding, Precision, ScheduleStart, Settling, Spacing, WindowEnds}
-use Rattle.tte_units.specs.Amount.{amount}
-use Rattle.lens.{proofs.slack_lemmas.{Ones.{some_at, some_of}, Writable.device_by}, specs.slack.{Bounds.{IsBoundAt, clear_time, gap_bound}, Lines.spot_index}}
-use Rattle.lens.specs.slack.Spots.{IsFoundAt, IsSpotAt, IsTightestOf, channel_of, device_of, row_of, rule_of, spot_at, spots_of}
-use Rattle.lens.specs.{slack.Tightest.{ComesFirst, IsEnough, IsFirstTightest, IsTightestAt}, declared.slack.spot.Beside.TheVariants.{Before, Behind}}
-use Rattle.lens.specs.declared.slack.spot.{Finding.Finding, Measure.Measure, Spot.Spot}
+use Rattle.std.proofs.{Common.{◌*◌, ◌+◌, ◌<◌, ◌∙◌, ◌≡◌, None, Option, Some, ap, arith, inl, inr, length, refl, subst, sym, ℕ}, lemmas.Option.slice_get_within}
 use Rattle.lens.specs.declared.slack.spot.Measure.TheVariants as measures
 use Rattle.lens.specs.declared.slack.spot.Spot.TheVariants as spots
 

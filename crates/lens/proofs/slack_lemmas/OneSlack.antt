@@ -1,14 +1,13 @@
 -- A network has one answer of `slack`.
-use Rattle.std.proofs.{Common.{◌++◌, ◌+◌, ◌∙◌, ◌∷◌, ◌≡◌, Err, List, Ok, Option, [], ap, arith, inl, inr, refl, subst, suc, sym, zero, ℕ}, lemmas.Bool.cases_lt}
-use Rattle.net_file.specs.{Schema.network_read, declared.refusal.FileRefusal.FileRefusal}
-use Rattle.net_plan.{proofs.Shape.rules_give_trees, specs.{Paths.IsTree, declared.network.Network.Network}}
-use Rattle.schedule_checker.{proofs.{OneRefusal.{refusal_is_one, same_rule}, Trees.tree_of}, specs.Judging.{BreaksAt, plan_rule}}
-use Rattle.schedule_checker.specs.declared.refusal.RuleBroken.{RuleBroken}
-use Rattle.schedule_tables.specs.{Numbers.number_of, Rules.IsFirstBroken, declared.rule.Rule.Rule}
-use Rattle.tte_forms.specs.{Answering.Answer, networks.{Accepting.refused_answer, NetworkLine.file_reason}}
-use Rattle.lens.{proofs.slack_lemmas.Ones.{one_at, one_of}, specs.declared.slack.{spot.Measure.Measure, step.Step.Step}}
+use Rattle.{lens.{proofs.slack_lemmas.Ones.{one_at, one_of}, specs.slack.Spots.{spot_at, spots_of}}, schedule_tables.specs.Rules.IsFirstBroken}
 use Rattle.lens.specs.declared.slack.{measuring.Ending.{Ending, TheVariants.Broken}, spot.Finding.Finding, step.Step.TheVariants.{Judged, Listed, Measured}}
-use Rattle.lens.specs.slack.{Answer.{IsFileAnswer, IsSlackOf, found_answer}, Finds.{AreFound, AreOf, IsFoundIn, some_found}, Spots.{spot_at, spots_of}}
+use Rattle.{lens.specs.declared.slack.spot.Measure.Measure, net_plan.specs.declared.network.Network.Network, schedule_tables.specs.declared.rule.Rule.Rule}
+use Rattle.lens.specs.{declared.slack.step.Step.Step, slack.{Answer.{IsFileAnswer, IsSlackOf, found_answer}, Finds.{AreFound, AreOf, IsFoundIn, some_found}}}
+use Rattle.{net_file.specs.Schema.network_read, tte_forms.specs.Answering.Answer}
+use Rattle.{net_file.specs.declared.refusal.FileRefusal.FileRefusal, tte_forms.specs.networks.{Accepting.refused_answer, NetworkLine.file_reason}}
+use Rattle.{net_plan.{proofs.Shape.rules_give_trees, specs.Paths.IsTree}, schedule_checker.proofs.Trees.tree_of, schedule_tables.specs.Numbers.number_of}
+use Rattle.schedule_checker.{proofs.OneRefusal.{refusal_is_one, same_rule}, specs.{Judging.{BreaksAt, plan_rule}, declared.refusal.RuleBroken.RuleBroken}}
+use Rattle.std.proofs.{Common.{◌++◌, ◌+◌, ◌∙◌, ◌∷◌, ◌≡◌, Err, List, Ok, Option, [], ap, arith, inl, inr, refl, subst, suc, sym, zero, ℕ}, lemmas.Bool.cases_lt}
 
 -- the same was found, and it ends so
 abbrev AreSame : List Finding → List Finding → Ending → Ending → Type 0

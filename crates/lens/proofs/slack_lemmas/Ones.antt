@@ -1,14 +1,13 @@
 -- A spot has one bound of each number, and so one first tightest, which exists where it has any.
-use Rattle.std.proofs.Common.{◌*◌, ◌+◌, ◌<◌, ◌∙◌, ◌≡◌, List, None, Option, Some, ap, arith, inl, inr, length, pos, refl, subst, suc, sym, zero, ℕ}
-use Rattle.std.{proofs.lemmas.{Int.ints, Option.slice_get_within}, specs.Prelude.slice_get}
-use Rattle.net_plan.{proofs.{Beta.beta_is_unique, Trees.paths_are_unique}, specs.{Bounds.{IsBeta, gamma_of}, Paths.IsTree, declared.ids.LinkId.LinkId}}
-use Rattle.net_plan.specs.declared.network.Network.{Network}
-use Rattle.schedule_tables.{proofs.EntryLemmas.one_entry, specs.{Delays.delay_on, Entries.source_of, Windows.window_end, declared.entry.Entry.Entry}}
-use Rattle.tte_lemmas.proofs.Options.{one}
-use Rattle.tte_units.specs.Amount.{amount}
-use Rattle.lens.{proofs.slack_lemmas.Keeping.{Below, IsAt, next_tightest, none_below, tightest_of_all}, specs.declared.slack.spot.{Measure.Measure, Spot.Spot}}
+use Rattle.{lens.proofs.slack_lemmas.Keeping.{Below, IsAt, next_tightest, none_below, tightest_of_all}, schedule_tables.specs.declared.entry.Entry.Entry}
 use Rattle.lens.specs.{declared.slack.spot.Finding.Finding, slack.Bounds.{IsBoundAt, IsEnteringBound, begin_bound, entering_bound, found, gap_bound}}
+use Rattle.{lens.specs.declared.slack.spot.Measure.Measure, net_plan.specs.declared.network.Network.Network, schedule_tables.proofs.EntryLemmas.one_entry}
+use Rattle.{lens.specs.declared.slack.spot.Spot.Spot, net_plan.specs.{Paths.IsTree, declared.ids.LinkId.LinkId}, std.proofs.lemmas.Option.slice_get_within}
 use Rattle.lens.specs.slack.{Keeping.tighter_of, Spots.{IsFoundAt, IsTightestOf, spot_at, spots_of}, Tightest.{ComesFirst, IsFirstTightest, IsTightestAt}}
+use Rattle.{net_plan.proofs.Beta.beta_is_unique, schedule_tables.specs.Delays.delay_on, tte_lemmas.proofs.Options.one, tte_units.specs.Amount.amount}
+use Rattle.{net_plan.{proofs.Trees.paths_are_unique, specs.Bounds.{IsBeta, gamma_of}}, schedule_tables.specs.{Entries.source_of, Windows.window_end}}
+use Rattle.std.proofs.Common.{◌*◌, ◌+◌, ◌<◌, ◌∙◌, ◌≡◌, List, None, Option, Some, ap, arith, inl, inr, length, pos, refl, subst, suc, sym, zero, ℕ}
+use Rattle.std.{proofs.lemmas.Int.ints, specs.Prelude.slice_get}
 use Rattle.lens.specs.declared.slack.spot.Spot.TheVariants as spots
 
 -- each number has one finding at most

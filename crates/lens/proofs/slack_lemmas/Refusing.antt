@@ -1,19 +1,17 @@
 -- The first measure that is short is of the rule that `check` refuses, and its first spot is at the place that is told.
-use Rattle.std.proofs.{Common.{List, refl, ◌*◌, ◌+◌, ◌<◌, ◌∙◌, ◌≡◌, ◌≤◌, ◌⊎◌, Some, ap, arith, inl, inr, subst, sym, ℕ}, lemmas.Bool.cases_lt}
-use Rattle.std.{specs.Prelude.◌/◌}
 use Rattle.lens.proofs.slack_lemmas.{Accepting.{kept_enough, met_kept, rule_inequality, rules_kept, tightest_enough}, Deciding.bounds_decide}
 use Rattle.lens.proofs.slack_lemmas.FirstShort.{AreMet, IsListedIn, ShortMeasure, ShortSpot, all_in, all_rise, listed_or, lists_only, lists_own, none_measured}
 use Rattle.lens.{proofs.slack_lemmas.FirstShort.short_or, specs.{declared.slack.spot.{Finding.Finding, Measure.Measure}, slack.Lines.{spot_index, spot_rule}}}
 use Rattle.lens.{proofs.slack_lemmas.Numbers.{bound_spot, channel_number, has_number, path_number, spot_met}, specs.declared.slack.measuring.Ending.Ending}
-use Rattle.lens.specs.{declared.slack.spot.Spot.Spot, slack.{Finds.IsFoundIn, Steps.{all_steps, rule_steps}, forms.Forms.IsInequality}}
+use Rattle.{lens.specs.{declared.slack.spot.Spot.Spot, slack.Finds.IsFoundIn}, net_plan.specs.Paths.IsTree, std.specs.Prelude.◌/◌}
 use Rattle.lens.specs.slack.{Laws.{IsFirstShort, KeepsOthers, SlackRefuses}, Spots.{IsSpotAt, rule_of, spot_at, spots_of}, Tightest.{IsEnough, IsTightestAt}}
-use Rattle.net_plan.{proofs.Shape.rules_give_trees, specs.{Paths.IsTree, declared.network.Network.Network}}
-use Rattle.pcf_values.specs.declared.channel.Channel.TheVariants.{A, B}
-use Rattle.schedule_checker.proofs.{OneRefusal.same_rule, Trees.tree_of}
+use Rattle.{lens.specs.slack.{Steps.{all_steps, rule_steps}, forms.Forms.IsInequality}, schedule_checker.proofs.{OneRefusal.same_rule, Trees.tree_of}}
+use Rattle.{net_plan.{proofs.Shape.rules_give_trees, specs.declared.network.Network.Network}, pcf_values.specs.declared.channel.Channel.TheVariants.{A, B}}
 use Rattle.schedule_tables.specs.{Numbers.number_of, Rules.{IsFirstBroken, IsKeptAt, KeepsBelow}, declared.rule.Rule.{Rule, TheVariants.WindowEnds}}
 use Rattle.schedule_tables.specs.declared.rule.Rule.TheVariants.{BothChannels, CompressionMasters, Connections, Correction, Delays, DevicesDiffer, Forwarding}
 use Rattle.schedule_tables.specs.declared.rule.Rule.TheVariants.{Joints, Limits, LinksDiffer, LinksOnce, Masters, Periods, Precision, RowsOfDevice}
 use Rattle.schedule_tables.specs.declared.rule.Rule.TheVariants.{ScheduleStart, Senders, Settling, Sources, Spacing, Targets, VlIdsDiffer, VlNamesDiffer}
+use Rattle.std.proofs.{Common.{◌*◌, ◌+◌, ◌<◌, ◌∙◌, ◌≡◌, ◌≤◌, ◌⊎◌, List, Some, ap, arith, inl, inr, refl, subst, sym, ℕ}, lemmas.Bool.cases_lt}
 use Rattle.lens.specs.declared.slack.spot.Measure.TheVariants as measures
 
 inequality_or : (rule : Rule) → IsInequality rule ⊎ (IsInequality rule → ⊥)

@@ -1,14 +1,12 @@
 -- The spots that have one bound, and that of the path of a device, which has one or none.
-use Rattle.std.proofs.{Common.{◌*◌, ◌+◌, ◌∙◌, ◌≡◌, List, None, Some, ap, arith, inl, inr, pos, refl, sym, ℕ}, lemmas.Int.ints}
-use Rattle.net_plan.{proofs.{Beta.beta_is_unique, Trees.paths_are_unique}, specs.{Bounds.{IsBeta, gamma_of}, Paths.{IsPath, IsTree}, Places.IsDeviceOf}}
-use Rattle.net_plan.specs.declared.{ids.{DeviceId.DeviceId, LinkId.LinkId, RowId.RowId}, network.Network.Network}
-use Rattle.pcf_values.specs.declared.channel.Channel.{Channel}
-use Rattle.schedule_checker.specs.Timing.{errors_of}
-use Rattle.schedule_tables.{proofs.EntryLemmas.one_entry, specs.{Delays.delay_on, Entries.{IsEntry, source_of}, Windows.window_end, declared.entry.Entry.Entry}}
-use Rattle.tte_units.specs.Amount.{amount}
-use Rattle.lens.proofs.slack_lemmas.Keeping.{Below, IsAt, next_tightest, none_below, only_one, tightest_of_all}
+use Rattle.lens.{proofs.slack_lemmas.Keeping.{Below, IsAt, next_tightest, none_below, only_one, tightest_of_all}, specs.declared.slack.spot.Finding.Finding}
 use Rattle.lens.specs.slack.{Bounds.{IsBoundAt, IsErrorsBound, IsPrecisionBound, calc_bound, correction_bound, end_bound, found}, Keeping.tighter_of}
-use Rattle.lens.specs.{slack.Tightest.{IsFirstTightest, IsTightestAt}, declared.slack.spot.Finding.Finding}
+use Rattle.{lens.specs.slack.Tightest.{IsFirstTightest, IsTightestAt}, schedule_tables.specs.{Entries.{IsEntry, source_of}, declared.entry.Entry.Entry}}
+use Rattle.net_plan.{proofs.{Beta.beta_is_unique, Trees.paths_are_unique}, specs.{Bounds.{IsBeta, gamma_of}, Paths.{IsPath, IsTree}, Places.IsDeviceOf}}
+use Rattle.{net_plan.specs.declared.{ids.{DeviceId.DeviceId, LinkId.LinkId}, network.Network.Network}, schedule_tables.proofs.EntryLemmas.one_entry}
+use Rattle.{net_plan.specs.declared.ids.RowId.RowId, schedule_checker.specs.Timing.errors_of, schedule_tables.specs.{Delays.delay_on, Windows.window_end}}
+use Rattle.{pcf_values.specs.declared.channel.Channel.Channel, std.proofs.Common.{◌*◌, ◌+◌, ◌∙◌, ◌≡◌, List, None, Some, ap, arith, inl, inr, pos, refl, sym, ℕ}}
+use Rattle.{std.proofs.lemmas.Int.ints, tte_units.specs.Amount.amount}
 use Rattle.lens.specs.declared.slack.spot.Spot.TheVariants as spots
 
 -- ---- numbers of the whole network

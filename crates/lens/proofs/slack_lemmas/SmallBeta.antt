@@ -1,13 +1,11 @@
 -- How great beta is at most.
-use Rattle.std.proofs.Common.{◌*◌, ◌+◌, ◌^◌, ◌∷◌, ◌≡◌, ◌≤◌, List, None, Option, Some, [], arith, inl, inr, length, pos, refl, subst, ℕ}
-use Rattle.std.{proofs.{Math.Nat.mul-le-mul_right, lemmas.{Int.ints, List.Sums.sum_by-cons}}, specs.Option.option_map_or}
-use Rattle.net_plan.{proofs.Trees.paths_are_unique, specs.Bounds.{IsBeta, IsGreatest, IsOfPath, beta_at, gamma_of, jitter_of, jitter_on}}
-use Rattle.net_plan.specs.{Paths.{IsPath, IsTree}, Places.{IsDeviceOf, link_at}, Ranges.{IsInRange, IsLinkInRange}, declared.ids.DeviceId.DeviceId}
-use Rattle.net_plan.specs.declared.{ids.LinkId.LinkId, network.Network.Network, tables.Link.Link}
-use Rattle.pcf_values.specs.declared.channel.Channel.{Channel}
-use Rattle.schedule_tables.specs.{Entries.IsEntryInRange, Windows.{port_time, window_end}, declared.entry.Entry.Entry}
-use Rattle.tte_lemmas.proofs.Lists.{in_all}
-use Rattle.tte_units.specs.{Amount.amount, OctetTime.octet_time, declared.speed.Speed.Speed}
+use Rattle.{net_plan.{proofs.Trees.paths_are_unique, specs.Paths.{IsPath, IsTree}}, std.proofs.{Math.Nat.mul-le-mul_right, lemmas.List.Sums.sum_by-cons}}
+use Rattle.{net_plan.specs.Bounds.{IsBeta, IsGreatest, IsOfPath, beta_at, gamma_of, jitter_of, jitter_on}, pcf_values.specs.declared.channel.Channel.Channel}
+use Rattle.{net_plan.specs.{Places.{IsDeviceOf, link_at}, declared.tables.Link.Link}, tte_units.specs.{OctetTime.octet_time, declared.speed.Speed.Speed}}
+use Rattle.{net_plan.specs.{Ranges.{IsInRange, IsLinkInRange}, declared.ids.{DeviceId.DeviceId, LinkId.LinkId}}, schedule_tables.specs.Entries.IsEntryInRange}
+use Rattle.{net_plan.specs.declared.network.Network.Network, schedule_tables.specs.{Windows.{port_time, window_end}, declared.entry.Entry.Entry}}
+use Rattle.std.proofs.{Common.{◌*◌, ◌+◌, ◌^◌, ◌∷◌, ◌≡◌, ◌≤◌, List, None, Option, Some, [], arith, inl, inr, length, pos, refl, subst, ℕ}, lemmas.Int.ints}
+use Rattle.{std.specs.Option.option_map_or, tte_lemmas.proofs.Lists.in_all, tte_units.specs.Amount.amount}
 use Rattle.tte_units.specs.declared.speed.Speed.TheVariants as speeds
 
 module _ (network : Network) (range : IsInRange network) where

@@ -1,12 +1,10 @@
 -- What was found by the first steps, with what is to be found by the others.
-use Rattle.std.proofs.Common.{◌++◌, ◌+◌, ◌<◌, ◌∙◌, ◌∷◌, ◌≡◌, ◌≤◌, List, [], ap, append_assoc, arith, drop, get_or, inl, inr, length, refl, subst, suc, sym}
-use Rattle.std.{proofs.{Common.{zero, ℕ}, lemmas.List.append-nil}, specs.Prelude.Option}
-use Rattle.net_plan.specs.declared.network.Network.{Network}
-use Rattle.schedule_checker.specs.Judging.{plan_rule}
-use Rattle.schedule_tables.specs.declared.rule.Rule.{Rule}
 use Rattle.lens.specs.declared.slack.{measuring.Ending.{Ending, TheVariants.{Broken, Whole}}, step.Step.{Step, TheVariants.{Judged, Listed, Measured}}}
-use Rattle.lens.specs.{declared.slack.spot.{Finding.Finding, Measure.Measure}, slack.{Finds.{AreFound, AreOf, some_found}, Taking.Takes, Tightest.IsTightestAt}}
-use Rattle.lens.specs.slack.Spots.{spot_at}
+use Rattle.{lens.specs.{declared.slack.spot.Finding.Finding, slack.Finds.{AreFound, AreOf, some_found}}, net_plan.specs.declared.network.Network.Network}
+use Rattle.{lens.specs.declared.slack.spot.Measure.Measure, schedule_checker.specs.Judging.plan_rule, schedule_tables.specs.declared.rule.Rule.Rule}
+use Rattle.{lens.specs.slack.{Spots.spot_at, Taking.Takes, Tightest.IsTightestAt}, std.proofs.{Common.{zero, ℕ}, lemmas.List.append-nil}}
+use Rattle.std.proofs.Common.{◌++◌, ◌+◌, ◌<◌, ◌∙◌, ◌∷◌, ◌≡◌, ◌≤◌, List, [], ap, append_assoc, arith, drop, get_or, inl, inr, length, refl, subst, suc, sym}
+use Rattle.std.specs.Prelude.{Option}
 
 -- these findings stand before those of the steps that are left
 abbrev pub StandBefore : Network → List Step → List Step → List Finding → Type 0

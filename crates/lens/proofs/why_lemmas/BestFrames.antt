@@ -1,27 +1,25 @@
 -- What a correction comes from: the best frames that were heard.
-use Rattle.std.proofs.Common.{◌&&◌, ◌++◌, ◌==◌, ◌∙◌, ◌∷◌, ◌≡◌, ◌≤◌, Bool, List, None, Option, Some, [], ap, append_assoc, arith, false, filter, fold}
-use Rattle.std.{proofs.Common.{if◌then◌else◌, inl, inr, refl, subst, sym, true, ℕ, ℤ}, specs.Prelude.{◌||◌, int_lt, nat_le, nat_lt, option_and_then}}
-use Rattle.std.proofs.lemmas.{Bool.{and_from, cases_Bool, eq-eqb, eqb-true, lt-ltb, ltb-true, or_left, or_right}, List.append-nil}
-use Rattle.audit_devices.{proofs.law_lemmas.Correcting.time_before, specs.{Keeping.records_before, Showing.IsAfter, law.CorrectionNumbers.standing_at}}
-use Rattle.audit_devices.specs.law.DueRecords as audits
-use Rattle.audit_sweep.proofs.{HeardBefore.rank_below, HeardPoints.unchanged_before}
-use Rattle.lens.specs.{declared.why.ground.{Best.Best, Ground.TheVariants.{Clique, Corrected}, Told.Told}, why.Corrections.{told_on, value_of, with_hearing}}
-use Rattle.lens.specs.{declared.why.seeking.Sought.TheVariants.Frame, why.{Seeking.last_sought, past.Pasts.before_corrections}}
+use Rattle.{audit_devices.proofs.law_lemmas.Correcting.time_before, membership.proofs.SummaryLemmas.{hears_on_a, hears_on_b, hears_outside, silence_summarizes}}
+use Rattle.{audit_devices.specs.Keeping.records_before, run_law.proofs.runs.Places.{chain, in_parts}, tte_units.specs.declared.units.Units.Units}
+use Rattle.{audit_devices.specs.Showing.IsAfter, sync_state.specs.Standing.next_point, tte_audit.{proofs.ReportRuns.audit_run, specs.Report.scenario_of}}
+use Rattle.{audit_devices.specs.law.CorrectionNumbers.standing_at, membership.specs.{BestFrame.{IsBehind, IsBetterOf}, Summary.{Summarizes, Summary, best_on}}}
+use Rattle.{audit_sweep.proofs.HeardBefore.rank_below, lens.specs.declared.why.ground.{Best.Best, Told.Told}, run_law.specs.scenario.Scenarios.Scenario}
+use Rattle.{audit_sweep.proofs.HeardPoints.unchanged_before, lens.specs.why.past.Pasts.before_corrections, tte_lemmas.proofs.Integers.{int_lt-from, int_lt-is}}
+use Rattle.{lens.specs.declared.why.ground.Ground.TheVariants.{Clique, Corrected}, std.proofs.Common.{if◌then◌else◌, inl, inr, refl, subst, sym, true, ℕ, ℤ}}
+use Rattle.{lens.specs.declared.why.seeking.Sought.TheVariants.Frame, pcf_values.specs.declared.channel.Channel.{Channel, TheVariants.{A, B}}}
 use Rattle.lens.specs.why.Corrections.{better, channel_ground, clique_ground, corrected_ground, heard_at_point, is_behind, is_clique, said_by, summary_of}
-use Rattle.membership.proofs.{OneSummary.one_summary, SummaryLemmas.{hears_on_a, hears_on_b, hears_outside, silence_summarizes}}
-use Rattle.membership.specs.{BestFrame.{IsBehind, IsBetterOf}, Hearing.Hearing, Members.count_of, Summary.{Summarizes, Summary, best_on}}
-use Rattle.membership.specs.declared.frame.HeardFrame.{HeardFrame}
-use Rattle.net_plan.specs.declared.{ids.DeviceId.DeviceId, network.Network.Network}
-use Rattle.pcf_values.specs.declared.{channel.Channel.{Channel, TheVariants.{A, B}}, members.Members.Members}
-use Rattle.run_law.{proofs.{law.FirstPlaces.{front_founded, in_filter}, records.Order.{has_passed, is_there}}, specs.declared.note.NoteBody.NoteBody}
-use Rattle.run_law.{proofs.records.Members.in_kept, specs.{declared.{judgement.Why.Why, note.Note.Note}, runs.Runs.IsFounded}}
-use Rattle.run_law.{proofs.runs.{Lacking.behind_first, Places.{chain, in_parts}}, specs.{device.States.adjustment_before, scenario.Scenarios.Scenario}}
-use Rattle.run_law.specs.records.{Happenings.{Happening, happenings, time_of}, Order.{IsBefore, IsIn, is_before}, Ranks.{key, members_in, place_of, rank}}
-use Rattle.tte_audit.{proofs.ReportRuns.audit_run, specs.{Named.IsNamed, Report.scenario_of}}
-use Rattle.tte_lemmas.proofs.{Bools.{both_left, both_right, not_both}, Integers.{int_lt-from, int_lt-is}}
-use Rattle.tte_traces.specs.reports.Reports.{IsReportOf}
-use Rattle.tte_units.specs.{declared.units.Units.Units}
-use Rattle.sync_state.specs.{Standing.next_point, declared.state.State.State}
+use Rattle.{lens.specs.why.{Corrections.{told_on, value_of, with_hearing}, Seeking.last_sought}, run_law.specs.records.Ranks.{key, members_in, place_of, rank}}
+use Rattle.{membership.proofs.OneSummary.one_summary, run_law.{proofs.records.Members.in_kept, specs.declared.{judgement.Why.Why, note.Note.Note}}}
+use Rattle.{membership.specs.{Hearing.Hearing, Members.count_of}, run_law.specs.runs.Runs.IsFounded, std.proofs.lemmas.List.append-nil}
+use Rattle.{membership.specs.declared.frame.HeardFrame.HeardFrame, run_law.specs.{declared.note.NoteBody.NoteBody, records.Order.{IsBefore, IsIn, is_before}}}
+use Rattle.{net_plan.specs.declared.{ids.DeviceId.DeviceId, network.Network.Network}, tte_traces.specs.reports.Reports.IsReportOf}
+use Rattle.{pcf_values.specs.declared.members.Members.Members, run_law.{proofs.records.Order.{has_passed, is_there}, specs.device.States.adjustment_before}}
+use Rattle.{run_law.proofs.{law.FirstPlaces.{front_founded, in_filter}, runs.Lacking.behind_first}, tte_lemmas.proofs.Bools.{both_left, both_right, not_both}}
+use Rattle.{run_law.specs.records.Happenings.{Happening, happenings, time_of}, std.specs.Prelude.{◌||◌, int_lt, nat_le, nat_lt, option_and_then}}
+use Rattle.std.proofs.Common.{◌&&◌, ◌++◌, ◌==◌, ◌∙◌, ◌∷◌, ◌≡◌, ◌≤◌, Bool, List, None, Option, Some, [], ap, append_assoc, arith, false, filter, fold}
+use Rattle.{std.proofs.lemmas.Bool.{and_from, cases_Bool, eq-eqb, eqb-true, lt-ltb, ltb-true, or_left, or_right}, sync_state.specs.declared.state.State.State}
+use Rattle.tte_audit.specs.Named.{IsNamed}
+use Rattle.audit_devices.specs.law.DueRecords as audits
 use Rattle.run_law.specs.declared.judgement.Why.TheVariants as whys
 use Rattle.run_law.specs.declared.note.NoteBody.TheVariants as notes
 

@@ -1,24 +1,20 @@
 -- The records that told the best frames of channels are there.
-use Rattle.std.proofs.Common.{if◌then◌else◌, ◌&&◌, ◌<◌, ◌==◌, ◌∙◌, ◌∷◌, ◌≡◌, ◌≤◌, Bool, List, None, Option, Some, [], ap, arith, false, filter, inl, inr}
-use Rattle.std.proofs.{Common.{refl, subst, sym, true, ℕ, ℤ}, lemmas.{Bool.{and_from, eq-eqb}, Int.ints}}
-use Rattle.std.specs.{List.{after_last, last_or}, Option.option_map_or, Prelude.{int_le, nat_le, nat_lt, option_and_then, option_map}}
-use Rattle.audit_devices.specs.{Keeping.records_before, law.{CorrectionNumbers.{heard_since_point, points_come}, CorrectionPoints.IsPointOf}}
-use Rattle.run_law.{proofs.{law.FirstPlaces.{founded_at, in_filter}, runs.Places.{in_parts, in_right}}, specs.device.LocalClocks.changes_adjustment}
-use Rattle.run_law.proofs.records.Members.{in_kept}
-use Rattle.run_law.{proofs.records.Order.{before_is, given_of, has_passed, in_drop, is_there}, specs.records.Order.{IsBefore, IsIn, is_before}}
-use Rattle.run_law.specs.{control.Corrections.hearing_by, declared.note.NoteBody.NoteBody, device.States.adjustment_before, scenario.Scenarios.Scenario}
-use Rattle.run_law.specs.{declared.note.Note.Note, records.{Happenings.{Happening, happenings, numbered, time_of}, Ranks.{key, members_in, place_of, rank}}}
-use Rattle.lens.{proofs.why_lemmas.BestFrames.summarized, specs.{declared.why.seeking.Sought.TheVariants.Frame, why.past.Pasts.before_corrections}}
-use Rattle.lens.{proofs.why_lemmas.Naming.earlier_by, specs.why.Grounds.ground_by}
+use Rattle.{audit_devices.specs.Keeping.records_before, run_law.specs.control.Corrections.hearing_by, tte_traces.specs.reports.Reports.IsReportOf}
+use Rattle.{audit_devices.specs.law.CorrectionNumbers.{heard_since_point, points_come}, std.specs.Prelude.{int_le, nat_le, nat_lt, option_and_then, option_map}}
+use Rattle.{audit_devices.specs.law.CorrectionPoints.IsPointOf, lens.proofs.why_lemmas.BestFrames.summarized, pcf_values.specs.declared.channel.Channel.Channel}
+use Rattle.{lens.proofs.why_lemmas.Naming.earlier_by, membership.specs.Summary.{Summary, best_on}, tte_units.specs.declared.units.Units.Units}
+use Rattle.{lens.specs.declared.why.seeking.Sought.TheVariants.Frame, membership.specs.{BestFrame.{IsBest, IsBestOf}, declared.frame.HeardFrame.HeardFrame}}
 use Rattle.lens.specs.why.Corrections.{channel_ground, clique_ground, corrected_ground, heard_at_point, said_by, told_by, told_on, value_of}
+use Rattle.{lens.specs.why.Grounds.ground_by, std.proofs.lemmas.Int.ints}
 use Rattle.lens.specs.why.{Laws.{BestAreThere, best_number, told_in, told_number}, Seeking.{is_channel, is_frame, is_hearing_of, is_sought, last_sought}}
-use Rattle.membership.specs.{BestFrame.{IsBest, IsBestOf}, Hearing.within_on, Members.count_of, Summary.{Summary, best_on}}
-use Rattle.membership.specs.declared.frame.HeardFrame.{HeardFrame}
-use Rattle.net_plan.specs.declared.{ids.DeviceId.DeviceId, network.Network.Network}
-use Rattle.pcf_values.specs.declared.channel.Channel.{Channel, TheVariants.{A, B}}
-use Rattle.tte_audit.specs.Report.{scenario_of}
-use Rattle.tte_traces.specs.reports.Reports.{IsReportOf}
-use Rattle.tte_units.specs.declared.units.Units.{Units}
+use Rattle.{lens.specs.why.past.Pasts.before_corrections, run_law.specs.{declared.note.{Note.Note, NoteBody.NoteBody}, device.States.adjustment_before}}
+use Rattle.{membership.specs.{Hearing.within_on, Members.count_of}, std.specs.List.{after_last, last_or}, tte_audit.specs.Report.scenario_of}
+use Rattle.{net_plan.specs.declared.{ids.DeviceId.DeviceId, network.Network.Network}, run_law.proofs.runs.Places.{in_parts, in_right}}
+use Rattle.{pcf_values.specs.declared.channel.Channel.TheVariants.{A, B}, run_law.proofs.records.Order.{before_is, given_of, has_passed, in_drop, is_there}}
+use Rattle.run_law.{proofs.law.FirstPlaces.{founded_at, in_filter}, specs.{device.LocalClocks.changes_adjustment, records.Order.{IsBefore, IsIn, is_before}}}
+use Rattle.{run_law.proofs.records.Members.in_kept, std.{proofs.{Common.{subst, sym, true, ℕ, ℤ}, lemmas.Bool.{and_from, eq-eqb}}, specs.Option.option_map_or}}
+use Rattle.run_law.specs.{records.{Happenings.{Happening, happenings, numbered, time_of}, Ranks.{key, members_in, place_of, rank}}, scenario.Scenarios.Scenario}
+use Rattle.std.proofs.Common.{◌&&◌, ◌<◌, ◌==◌, ◌∙◌, ◌∷◌, ◌≡◌, ◌≤◌, Bool, List, None, Option, Some, [], ap, arith, false, filter, if◌then◌else◌, inl, inr, refl}
 use Rattle.run_law.specs.declared.judgement.Why.TheVariants as whys
 use Rattle.run_law.specs.declared.note.NoteBody.TheVariants as notes
 

@@ -1,9 +1,8 @@
 -- Chains of causes: that there is one, and only one, and that it goes back.
+use Rattle.{lens.proofs.why_lemmas.Comings.{IsNoneOrThere, comes_from_earlier}, run_law.specs.records.{Causes.{IsChain, cause_of, last_from}, Ranks.place_of}}
+use Rattle.{lens.specs.why.Chain.IsWholeChain, run_law.specs.runs.Runs.IsFounded, tte_lemmas.proofs.Options.some_same}
+use Rattle.run_law.{proofs.law.FirstPlaces.number_is, specs.{records.Happenings.{Happening, numbered}, runs.DueRecords.IsDue, scenario.Scenarios.Scenario}}
 use Rattle.std.proofs.Common.{◌++◌, ◌<◌, ◌∙◌, ◌∷◌, ◌≡◌, List, Some, [], ap, arith, inl, inr, refl, subst, suc, sym, zero, ℕ}
-use Rattle.run_law.{proofs.law.FirstPlaces.number_is, specs.records.{Causes.{IsChain, cause_of, last_from}, Happenings.{Happening, numbered}, Ranks.place_of}}
-use Rattle.run_law.specs.{runs.{DueRecords.IsDue, Runs.IsFounded}, scenario.Scenarios.Scenario}
-use Rattle.tte_lemmas.proofs.Options.{some_same}
-use Rattle.lens.{proofs.why_lemmas.Comings.{IsNoneOrThere, comes_from_earlier}, specs.why.Chain.IsWholeChain}
 
 -- from the number the causes go by these records to a number
 abbrev pub Along : List Happening → ℕ → List Happening → ℕ → Type 0

@@ -1,22 +1,19 @@
 -- The last collection of a compression master, point after point.
-use Rattle.std.proofs.Common.{◌++◌, ◌∙◌, ◌∷◌, ◌≡◌, ◌≤ℤ◌, List, None, Option, Some, [], ap, append_assoc, false, inl, inr, pos, refl, subst, sym, ℕ, ℤ}
-use Rattle.std.proofs.lemmas.{List.{Elements.filter_map-append, Sums.fold_push, append-nil}}
-use Rattle.std.specs.{List.{AllByRecursion, after_last, cons_option, last_or}, Prelude.{filter_map, fold, option_map}}
-use Rattle.audit_devices.specs.{Effects.carried_by, Keeping.records_before, declared.effect.Carried.Carried}
-use Rattle.audit_devices.proofs.collections_lemmas.Stepping.{AreBefore, are-ignored, are-joined, are-opened}
-use Rattle.compression.proofs.{Elements.{Ordered, Ordered-from}, Rows.last_split, Sound.open_at-some, Standing.AreClusters-unique, Taking.role_in-joined}
-use Rattle.compression.specs.{Clusters.{AreClusters, Cluster, Point}, Collection.{joined, opening}, Role.{open_at, role}}
-use Rattle.compression.specs.declared.taken.Taken.{Taken, TheVariants.{Joined, Opened, OtherCycle, Repeat}}
-use Rattle.net_plan.specs.declared.{ids.DeviceId.DeviceId, network.Network.Network}
-use Rattle.run_law.{proofs.records.Order.after_more, specs.control.Collections.{ends_stretch, master_of, observation_window, point_by, points_of}}
-use Rattle.run_law.specs.{device.States.cycle_in, records.Ranks.{members_in, place_of}}
-use Rattle.run_law.specs.{declared.note.Note.Note, records.{Happenings.{Happening, happening, happenings}, Order.IsIn}}
-use Rattle.tte_lemmas.proofs.Lists.{last_pushed}
-use Rattle.tte_traces.specs.{reports.Reports.{AreLeft, IsReportOf}, declared.reports.records.Records.Records}
-use Rattle.tte_units.specs.declared.units.Units.{Units}
-use Rattle.lens.proofs.why_lemmas.{LastRecords.gone_more, Notes.{IsUnderWay, begun, begun_none, next_missed}}
+use Rattle.audit_devices.{proofs.collections_lemmas.Stepping.{AreBefore, are-ignored, are-joined, are-opened}, specs.declared.effect.Carried.Carried}
+use Rattle.{audit_devices.specs.Effects.carried_by, compression.proofs.Sound.open_at-some, run_law.{proofs.records.Order.after_more, specs.records.Order.IsIn}}
+use Rattle.{audit_devices.specs.Keeping.records_before, compression.proofs.{Rows.last_split, Taking.role_in-joined}, tte_units.specs.declared.units.Units.Units}
+use Rattle.{compression.proofs.{Elements.{Ordered, Ordered-from}, Standing.AreClusters-unique}, tte_traces.specs.reports.Reports.{AreLeft, IsReportOf}}
+use Rattle.{compression.specs.{Clusters.{AreClusters, Cluster, Point}, Collection.{joined, opening}}, lens.specs.declared.why.collecting.Collection.Collection}
+use Rattle.{compression.specs.Role.{open_at, role}, run_law.specs.{declared.note.Note.Note, device.States.cycle_in}, std.proofs.lemmas.List.Sums.fold_push}
+use Rattle.{compression.specs.declared.taken.Taken.TheVariants.{Joined, Opened, OtherCycle, Repeat}, tte_traces.specs.declared.reports.records.Records.Records}
+use Rattle.{compression.specs.declared.taken.Taken.Taken, lens.proofs.why_lemmas.LastRecords.gone_more, net_plan.specs.declared.ids.DeviceId.DeviceId}
+use Rattle.{lens.proofs.why_lemmas.Notes.{IsUnderWay, begun, begun_none, next_missed}, run_law.specs.records.Happenings.{Happening, happening, happenings}}
+use Rattle.{lens.specs.declared.why.ground.Ground.TheVariants.Collected, std.specs.List.{AllByRecursion, after_last, cons_option, last_or}}
 use Rattle.lens.specs.why.Collections.{LastIsOfClusters, behind_point, collected_ground, last_collection, last_of, taken_to, told_of}
-use Rattle.lens.specs.declared.why.{collecting.Collection.Collection, ground.Ground.TheVariants.Collected}
+use Rattle.{net_plan.specs.declared.network.Network.Network, std.{proofs.lemmas.List.Elements.filter_map-append, specs.Prelude.{filter_map, fold, option_map}}}
+use Rattle.run_law.specs.{control.Collections.{ends_stretch, master_of, observation_window, point_by, points_of}, records.Ranks.{members_in, place_of}}
+use Rattle.std.proofs.Common.{◌++◌, ◌∙◌, ◌∷◌, ◌≡◌, ◌≤ℤ◌, List, None, Option, Some, [], ap, append_assoc, false, inl, inr, pos, refl, subst, sym, ℕ, ℤ}
+use Rattle.{std.proofs.lemmas.List.append-nil, tte_lemmas.proofs.Lists.last_pushed}
 
 -- ---- one more record
 

@@ -1,12 +1,11 @@
 -- Each record of a run comes from none, or from an earlier one.
-use Rattle.std.proofs.Common.{◌<◌, ◌∷◌, ◌≡◌, ◌⊎◌, List, Some, arith, inl, inr, refl, subst, sym, ℕ}
-use Rattle.net_plan.specs.declared.ids.{DeviceId.DeviceId, LinkId.LinkId, VlId.VlId}
+use Rattle.{net_plan.specs.declared.ids.DeviceId.DeviceId, run_law.specs.runs.DueRecords.{IsCaused, IsDue}, sync_state.specs.declared.state.State.State}
+use Rattle.{net_plan.specs.declared.ids.{LinkId.LinkId, VlId.VlId}, run_law.specs.timed.Dispatching.Dispatches, tte_units.specs.declared.units.Units.Units}
 use Rattle.run_law.proofs.law.{FirstDeliveries.accepted_in, FirstPlaces.{by_number, founded_at, number_is, numbered_front, numbered_in, numbered_within}}
-use Rattle.run_law.specs.{control.Losses.{IsDropped, IsLost}, declared.{judgement.{Reason.Reason, Why.Why}, note.NoteBody.NoteBody}}
-use Rattle.run_law.specs.{device.StateChanges.ChangesState, records.{Causes.cause_of, Happenings.{Happening, numbered}, Ranks.place_of}}
-use Rattle.run_law.specs.{runs.{DueRecords.{IsCaused, IsDue}, Runs.IsFounded}, scenario.Scenarios.Scenario, timed.Dispatching.Dispatches}
-use Rattle.sync_state.specs.declared.state.State.{State}
-use Rattle.tte_units.specs.{Amount.amount, declared.units.Units.Units}
+use Rattle.run_law.specs.{control.Losses.{IsDropped, IsLost}, declared.{judgement.Reason.Reason, note.NoteBody.NoteBody}, device.StateChanges.ChangesState}
+use Rattle.run_law.specs.{declared.judgement.Why.Why, records.{Causes.cause_of, Ranks.place_of}, runs.Runs.IsFounded, scenario.Scenarios.Scenario}
+use Rattle.{run_law.specs.records.Happenings.{Happening, numbered}, std.proofs.Common.{◌<◌, ◌∷◌, ◌≡◌, ◌⊎◌, List, Some, arith, inl, inr, refl, subst, sym, ℕ}}
+use Rattle.tte_units.specs.Amount.{amount}
 use Rattle.run_law.specs.declared.judgement.Why.TheVariants as whys
 use Rattle.run_law.specs.declared.note.NoteBody.TheVariants as notes
 

@@ -1,11 +1,9 @@
 -- What a compression master sends, by the points of a cluster.
-use Rattle.std.proofs.{Common.{◌*◌, ◌*ℤ◌, ◌+ℤ◌, ◌+◌, ◌-ℤ◌, ◌∙◌, ◌≡◌, List, ap, arith, pos, subst, sym, ℕ, ℤ}, lemmas.Int.ints}
-use Rattle.compression.specs.{Middle.{middle_of, relative}, declared.compressed.Compressed.Compressed}
-use Rattle.run_law.specs.control.Emissions.{Emits}
-use Rattle.run_law.specs.{declared.note.NoteBody.NoteBody, records.Happenings.{Happening, time_of}, runs.DueRecords.IsCaused, scenario.Scenarios.Scenario}
-use Rattle.tte_audit.specs.Report.{scenario_of}
-use Rattle.tte_units.specs.{Amount.amount}
-use Rattle.lens.{proofs.why_lemmas.LastRecords.parted_there, specs.why.Collections.{IsMiddle, MiddlesAreOfClusters}}
+use Rattle.{compression.specs.Middle.{middle_of, relative}, run_law.specs.{declared.note.NoteBody.NoteBody, records.Happenings.{Happening, time_of}}}
+use Rattle.{compression.specs.declared.compressed.Compressed.Compressed, lens.specs.why.Collections.{IsMiddle, MiddlesAreOfClusters}}
+use Rattle.{lens.proofs.why_lemmas.LastRecords.parted_there, std.proofs.Common.{◌*ℤ◌, ◌*◌, ◌+ℤ◌, ◌+◌, ◌-ℤ◌, ◌∙◌, ◌≡◌, List, ap, arith, pos, subst, sym, ℕ, ℤ}}
+use Rattle.{run_law.specs.{control.Emissions.Emits, runs.DueRecords.IsCaused, scenario.Scenarios.Scenario}, tte_audit.specs.Report.scenario_of}
+use Rattle.{std.proofs.lemmas.Int.ints, tte_units.specs.Amount.amount}
 use Rattle.run_law.specs.declared.note.NoteBody.TheVariants as notes
 
 -- the middle is what is left of the reading

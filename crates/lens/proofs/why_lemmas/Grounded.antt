@@ -1,13 +1,10 @@
 -- The ground of a record, by what the record says.
-use Rattle.std.proofs.Common.{◌∙◌, ◌≡◌, List, Option, Some, ap, subst, sym, ℕ, ℤ}
 use Rattle.lens.specs.{declared.why.{ground.Ground.Ground, past.reading.KnownReport.KnownReport}, why.Records.{ComesFrom, IsCorrection, IsState, IsThere}}
-use Rattle.lens.specs.why.{Grounds.{ground_by, ground_of, position_at}, past.Pasts.{IsSomePast, IsSomeReport, ShowsAll}}
-use Rattle.net_plan.specs.declared.{ids.DeviceId.DeviceId, network.Network.Network}
-use Rattle.run_law.{proofs.law.FirstPlaces.number_is, specs.declared.{judgement.Why.Why, note.Note.Note}}
-use Rattle.run_law.specs.{declared.note.NoteBody.NoteBody, records.Happenings.{Happening, happenings, numbered, time_of}, scenario.Scenarios.Scenario}
-use Rattle.sync_state.specs.declared.state.State.{State}
-use Rattle.tte_audit.specs.Report.{events_of, scenario_of}
-use Rattle.tte_units.specs.{Amount.amount, declared.units.Units.Units}
+use Rattle.{lens.specs.why.{Grounds.{ground_by, ground_of, position_at}, past.Pasts.{IsSomePast, IsSomeReport, ShowsAll}}, tte_units.specs.Amount.amount}
+use Rattle.{net_plan.specs.declared.{ids.DeviceId.DeviceId, network.Network.Network}, run_law.specs.declared.{judgement.Why.Why, note.NoteBody.NoteBody}}
+use Rattle.run_law.{proofs.law.FirstPlaces.number_is, specs.{declared.note.Note.Note, scenario.Scenarios.Scenario}}
+use Rattle.{run_law.specs.records.Happenings.{Happening, happenings, numbered, time_of}, std.proofs.Common.{◌∙◌, ◌≡◌, List, Option, Some, ap, subst, sym, ℕ, ℤ}}
+use Rattle.{sync_state.specs.declared.state.State.State, tte_audit.specs.Report.{events_of, scenario_of}, tte_units.specs.declared.units.Units.Units}
 use Rattle.run_law.specs.declared.note.NoteBody.TheVariants as notes
 
 -- what the records of the report show is what some records show

@@ -1,9 +1,8 @@
 -- What the heading of a record's octets tells of the row by which its frame comes.
-use Rattle.std.{proofs.Common.{◌≡◌, None, Option, Some, ap, length, refl, sym}, specs.{Option.option_map_or, Prelude.{option_map}}}
-use Rattle.device_rules.specs.{Headings.heading_of, declared.heading.Heading.Heading}
-use Rattle.net_plan.specs.declared.{ids.{DeviceId.DeviceId, LinkId.LinkId}, network.Network.Network}
-use Rattle.run_law.specs.{records.Happenings.Happening, timed.Arrivals.entry_entering}
-use Rattle.lens.specs.{why.Grounds.{entry_given, unknown_ground}, declared.why.ground.Ground.{TheVariants.{Unknown, Untold}}}
+use Rattle.{device_rules.specs.{Headings.heading_of, declared.heading.Heading.Heading}, lens.specs.why.Grounds.{entry_given, unknown_ground}}
+use Rattle.{lens.specs.declared.why.ground.Ground.TheVariants.{Unknown, Untold}, std.proofs.Common.{◌≡◌, None, Option, Some, ap, length, refl, sym}}
+use Rattle.{net_plan.specs.declared.{ids.{DeviceId.DeviceId, LinkId.LinkId}, network.Network.Network}, run_law.specs.timed.Arrivals.entry_entering}
+use Rattle.{run_law.specs.records.Happenings.Happening, std.specs.{Option.option_map_or, Prelude.option_map}}
 
 -- the heading of a record's octets
 abbrev headed : Option Happening → Option Heading

@@ -1,16 +1,12 @@
 -- How long a frame was held, and how much of that was measured, as its records tell it.
-use Rattle.std.proofs.Common.{◌-◌, ◌∙◌, ◌∷◌, ◌≡◌, Bool, List, Option, Some, ap, arith, false, refl, subst, sym, true, ℕ}
-use Rattle.std.specs.Prelude.{if◌then◌else◌, nat_lt, option_map}
-use Rattle.net_plan.specs.declared.{ids.{DeviceId.DeviceId, LinkId.LinkId}, network.Network.Network}
-use Rattle.pcf_values.specs.declared.pcf.Pcf.{Pcf}
-use Rattle.run_law.proofs.law.FirstPlaces.{founded_at, numbered_front, numbered_in}
-use Rattle.run_law.specs.{control.Leaving.{Departs, Gives, clock_at_leaving, leaves, on_cut_way, too_old}, declared.note.{Note.Note, NoteBody.NoteBody}}
-use Rattle.run_law.specs.{records.{Causes.cause_of, Happenings.{Happening, frame_by, numbered, time_of}, Ranks.place_of}, runs.DueRecords.{IsCaused, IsDue}}
-use Rattle.run_law.specs.{runs.Runs.IsFounded, scenario.{Scenarios.Scenario, Ways.{hold_at, is_cut, way_from}}}
-use Rattle.tte_lemmas.proofs.Options.{mapped, some_same}
-use Rattle.tte_units.specs.Amount.{amount}
-use Rattle.lens.specs.{why.Grounds.{ground_by, ground_of, held_ground}, why.Records.{ComesFrom, clock_given}}
-use Rattle.lens.specs.declared.why.ground.Ground.{Ground, TheVariants.Held}
+use Rattle.lens.specs.{declared.why.ground.Ground.TheVariants.Held, why.{Grounds.{ground_by, ground_of, held_ground}, Records.{ComesFrom, clock_given}}}
+use Rattle.{lens.specs.declared.why.ground.Ground.Ground, run_law.specs.{declared.note.{Note.Note, NoteBody.NoteBody}, runs.DueRecords.{IsCaused, IsDue}}}
+use Rattle.{net_plan.specs.declared.{ids.{DeviceId.DeviceId, LinkId.LinkId}, network.Network.Network}, std.specs.Prelude.{if◌then◌else◌, nat_lt, option_map}}
+use Rattle.{pcf_values.specs.declared.pcf.Pcf.Pcf, run_law.specs.scenario.Scenarios.Scenario, tte_lemmas.proofs.Options.{mapped, some_same}}
+use Rattle.run_law.{proofs.law.FirstPlaces.{founded_at, numbered_front, numbered_in}, specs.records.Happenings.{Happening, frame_by, numbered, time_of}}
+use Rattle.run_law.specs.{control.Leaving.{Departs, Gives, clock_at_leaving, leaves, on_cut_way, too_old}, scenario.Ways.{hold_at, is_cut, way_from}}
+use Rattle.run_law.specs.{records.{Causes.cause_of, Ranks.place_of}, runs.Runs.IsFounded}
+use Rattle.{std.proofs.Common.{◌-◌, ◌∙◌, ◌∷◌, ◌≡◌, Bool, List, Option, Some, ap, arith, false, refl, subst, sym, true, ℕ}, tte_units.specs.Amount.amount}
 use Rattle.run_law.specs.declared.note.NoteBody.TheVariants as notes
 
 -- what leaves has the clock of its leaving

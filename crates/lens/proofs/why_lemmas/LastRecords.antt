@@ -1,19 +1,15 @@
 -- The last record that is looked for, found one record after another.
-use Rattle.std.proofs.Common.{if◌then◌else◌, ◌++◌, ◌∙◌, ◌∷◌, ◌≡◌, Bool, List, None, Option, Some, [], ap, arith, false, filter}
-use Rattle.std.proofs.Common.{inl, inr, length, length-append, refl, subst, suc, sym, true, ℕ}
-use Rattle.std.{proofs.lemmas.{Bool.false_from_ne_true, List.Elements.filter-append, List.append-nil}, specs.{List.last_or, Option.option_map_or}}
-use Rattle.audit_devices.specs.Keeping.{records_before}
-use Rattle.net_plan.specs.declared.network.Network.{Network}
-use Rattle.run_law.proofs.{law.FirstPlaces.{at_length, none_kept, numbered_in}, records.{Happenings.as_many, Order.{all_kept, before_is, is_there}}}
-use Rattle.run_law.proofs.runs.{Lacking.behind_first, NetworkRuns.one_more, Places.{chain, never_self, parted}}
-use Rattle.run_law.specs.{records.{Order.{IsBefore, IsIn, is_before}, Ranks.place_of}, runs.{DueRecords.IsDue, Runs.IsFounded}}
-use Rattle.run_law.specs.{declared.note.Note.Note, records.Happenings.{Happening, happening, happenings, numbered}}
-use Rattle.tte_audit.{proofs.UnderWay.happening_there, specs.{Named.IsNamed, Report.scenario_of}}
-use Rattle.tte_lemmas.proofs.Lists.{last_pushed}
-use Rattle.tte_traces.{proofs.reports_lemmas.Reports.one_notes, specs.{reports.Reports.{AreLeft, IsReportOf}, declared.reports.records.Records.Records}}
-use Rattle.tte_units.specs.declared.units.Units.{Units}
-use Rattle.lens.proofs.why_lemmas.Notes.{IsUnderWay, begun, begun_none, next_gone, next_missed, next_number}
-use Rattle.lens.specs.{why.Records.IsThere, why.Seeking.{is_sought, last_sought}, declared.why.seeking.Sought.Sought}
+use Rattle.{audit_devices.specs.Keeping.records_before, std.proofs.lemmas.Bool.false_from_ne_true, tte_units.specs.declared.units.Units.Units}
+use Rattle.{lens.proofs.why_lemmas.Notes.{IsUnderWay, begun, begun_none, next_gone, next_missed, next_number}, net_plan.specs.declared.network.Network.Network}
+use Rattle.{lens.specs.declared.why.seeking.Sought.Sought, tte_traces.{proofs.reports_lemmas.Reports.one_notes, specs.reports.Reports.{AreLeft, IsReportOf}}}
+use Rattle.{lens.specs.why.Records.IsThere, std.specs.{List.last_or, Option.option_map_or}, tte_audit.specs.Named.IsNamed}
+use Rattle.{lens.specs.why.Seeking.{is_sought, last_sought}, std.proofs.{Common.{refl, subst, suc, sym, true, ℕ}, lemmas.List.Elements.filter-append}}
+use Rattle.run_law.{proofs.law.FirstPlaces.{at_length, none_kept, numbered_in}, specs.records.Happenings.{Happening, happening, happenings, numbered}}
+use Rattle.{run_law.proofs.records.{Happenings.as_many, Order.{all_kept, before_is, is_there}}, tte_traces.specs.declared.reports.records.Records.Records}
+use Rattle.run_law.{proofs.runs.{Lacking.behind_first, Places.{chain, never_self, parted}}, specs.records.{Order.{IsBefore, IsIn, is_before}, Ranks.place_of}}
+use Rattle.{run_law.{proofs.runs.NetworkRuns.one_more, specs.{declared.note.Note.Note, runs.DueRecords.IsDue}}, tte_audit.proofs.UnderWay.happening_there}
+use Rattle.{run_law.specs.runs.Runs.IsFounded, std.proofs.lemmas.List.append-nil, tte_audit.specs.Report.scenario_of, tte_lemmas.proofs.Lists.last_pushed}
+use Rattle.std.proofs.Common.{◌++◌, ◌∙◌, ◌∷◌, ◌≡◌, Bool, List, None, Option, Some, [], ap, arith, false, filter, if◌then◌else◌, inl, inr, length, length-append}
 
 -- the records before the place of one are those that stand before it
 split_before : (network : Network) (octets : List ℕ) (ns : List Note) (end : Units) → IsReportOf network octets ns end → (before later : List Happening)

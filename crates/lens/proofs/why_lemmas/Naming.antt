@@ -1,27 +1,22 @@
 -- The records that a ground names stand earlier in the report.
-use Rattle.std.proofs.Common.{◌*◌, ◌+ℤ◌, ◌+◌, ◌∷◌, ◌≡◌, Bool, List, None, Option, Some, [], ap, arith, false, filter, if◌then◌else◌, inl, inr, length, pos}
-use Rattle.std.{proofs.Common.{refl, subst, sym, true, ℕ, ℤ}, specs.{Option.option_map_or, Prelude.{◌++◌, nat_le, option_and_then, option_map, slice_get}}}
-use Rattle.std.specs.List.{last_or}
-use Rattle.audit_devices.specs.Keeping.{records_before}
-use Rattle.compression.proofs.Rows.{last_split}
-use Rattle.membership.specs.{Members.count_of, Summary.{Summary, best_on}, declared.frame.HeardFrame.HeardFrame}
-use Rattle.net_plan.specs.declared.{ids.{DeviceId.DeviceId, LinkId.LinkId}, network.Network.Network}
-use Rattle.pcf_values.specs.declared.channel.Channel.{Channel, TheVariants.{A, B}}
-use Rattle.run_law.proofs.{law.FirstPlaces.{by_number, front_founded, in_filter, numbered_front, numbered_within}, runs.Places.{in_parts, in_right}}
-use Rattle.run_law.specs.declared.{judgement.{Reason.Reason}, note.{Note.Note, NoteBody.NoteBody}}
-use Rattle.run_law.specs.records.{Happenings.{Happening, happenings, numbered, time_of}, Order.IsIn, Ranks.place_of}
-use Rattle.run_law.specs.{runs.{DueRecords.IsDue, Runs.IsFounded}, scenario.{Devices.is_relay, Scenarios.Scenario, Ways.way_from}, timed.Arrivals.entry_of}
-use Rattle.run_law.specs.device.{Standpoints.{clock_of, offset_in_cycle, standpoint}, States.adjustment_before}
-use Rattle.schedule_tables.specs.{Windows.window_of, declared.entry.Entry.Entry}
-use Rattle.tte_audit.specs.Report.{scenario_of}
-use Rattle.tte_traces.specs.reports.Reports.{IsReportOf}
-use Rattle.tte_units.specs.{Amount.amount, declared.units.Units.Units}
-use Rattle.lens.{proofs.why_lemmas.LastRecords.parted_there, specs.why.Laws.{IsEarlier, NamesEarlier, best_number, named_in, told_number}}
+use Rattle.{audit_devices.specs.Keeping.records_before, lens.specs.why.Collections.collected_ground, tte_traces.specs.reports.Reports.IsReportOf}
+use Rattle.{compression.proofs.Rows.last_split, run_law.specs.{records.{Order.IsIn, Ranks.place_of}, runs.DueRecords.IsDue}, tte_audit.specs.Report.scenario_of}
+use Rattle.{lens.proofs.why_lemmas.LastRecords.parted_there, net_plan.specs.declared.network.Network.Network, std.proofs.Common.{refl, subst, sym, true, ℕ, ℤ}}
 use Rattle.lens.specs.declared.why.{ground.Ground.TheVariants.{Gate, Untold}, seeking.Sought.{Sought, TheVariants.{Cut, Frame, Opening, Taking, Turning}}}
-use Rattle.lens.specs.{declared.why.{ground.Ground.Ground, seeking.Coming.Coming}, why.{Collections.collected_ground, Seeking.{is_sought, last_sought}}}
+use Rattle.{lens.specs.declared.why.ground.Ground.Ground, run_law.specs.{declared.note.{Note.Note, NoteBody.NoteBody}, device.States.adjustment_before}}
+use Rattle.{lens.specs.declared.why.seeking.Coming.Coming, pcf_values.specs.declared.channel.Channel.Channel, schedule_tables.specs.declared.entry.Entry.Entry}
 use Rattle.lens.specs.why.Corrections.{channel_ground, clique_ground, corrected_ground, heard_at_point, is_clique, said_by, told_by, told_on, value_of}
 use Rattle.lens.specs.why.Grounds.{beside_ground, dispatch_ground, dropped_ground, entry_given, ground_by, held_ground, is_by_schedule, is_collected}
 use Rattle.lens.specs.why.Grounds.{length_ground, places_ground, position_at, repeat_ground, row_of, scheduled_ground, unknown_ground, window_ground}
+use Rattle.{lens.specs.why.Laws.{IsEarlier, NamesEarlier, best_number, named_in, told_number}, pcf_values.specs.declared.channel.Channel.TheVariants.{A, B}}
+use Rattle.{lens.specs.why.Seeking.{is_sought, last_sought}, net_plan.specs.declared.ids.DeviceId.DeviceId, run_law.proofs.runs.Places.{in_parts, in_right}}
+use Rattle.{membership.specs.{Members.count_of, declared.frame.HeardFrame.HeardFrame}, std.specs.Prelude.{◌++◌, nat_le, option_and_then, option_map, slice_get}}
+use Rattle.{membership.specs.Summary.{Summary, best_on}, net_plan.specs.declared.ids.LinkId.LinkId, tte_units.specs.{Amount.amount, declared.units.Units.Units}}
+use Rattle.run_law.{proofs.law.FirstPlaces.{by_number, front_founded, in_filter, numbered_front, numbered_within}, specs.declared.judgement.Reason.Reason}
+use Rattle.run_law.specs.{device.Standpoints.{clock_of, offset_in_cycle, standpoint}, records.Happenings.{Happening, happenings, numbered, time_of}}
+use Rattle.{run_law.specs.runs.Runs.IsFounded, std.specs.{List.last_or, Option.option_map_or}}
+use Rattle.{run_law.specs.{scenario.{Devices.is_relay, Scenarios.Scenario, Ways.way_from}, timed.Arrivals.entry_of}, schedule_tables.specs.Windows.window_of}
+use Rattle.std.proofs.Common.{◌*◌, ◌+ℤ◌, ◌+◌, ◌∷◌, ◌≡◌, Bool, List, None, Option, Some, [], ap, arith, false, filter, if◌then◌else◌, inl, inr, length, pos}
 use Rattle.run_law.specs.declared.judgement.Reason.TheVariants as reasons
 use Rattle.run_law.specs.declared.note.NoteBody.TheVariants as notes
 

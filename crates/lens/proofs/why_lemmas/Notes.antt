@@ -1,16 +1,13 @@
 -- Records of a report by their numbers.
+use Rattle.{lens.specs.why.Records.{IsFound, note_at}, run_law.proofs.runs.NetworkRuns.same_notes, tte_units.specs.declared.units.Units.Units}
+use Rattle.{net_plan.specs.declared.network.Network.Network, tte_traces.{proofs.reports_lemmas.Reports.one_notes, specs.reports.Reports.{AreLeft, IsReportOf}}}
+use Rattle.{report_text.specs.{NoteLine.{note_line, note_text, report_of}, Ranges.IsNoteOf}, run_law.proofs.law.FirstPlaces.{at_length, in_at, number_is}}
+use Rattle.{run_law.specs.{declared.note.Note.Note, records.Ranks.place_of, runs.{DueRecords.IsDue, Runs.IsFounded}}, std.specs.Prelude.{option_map, slice_get}}
+use Rattle.{run_law.specs.records.{Happenings.{Happening, happenings, numbered}, Order.IsIn}, std.proofs.Common.{length-append, refl, subst, suc, sym, zero, ℕ}}
 use Rattle.std.proofs.Common.{◌++◌, ◌+◌, ◌<◌, ◌∙◌, ◌∷◌, ◌≡◌, ◌⊎◌, List, None, Option, Result, Some, [], ap, append_assoc, arith, inl, inr, length}
-use Rattle.std.proofs.{Common.{length-append, refl, subst, suc, sym, zero, ℕ}, lemmas.{Bool.cases_lt, List.append-nil, Option.{slice_get-map, slice_get_past}}}
-use Rattle.std.specs.{List.concat, Prelude.{option_map, slice_get}}
-use Rattle.net_plan.specs.declared.network.Network.{Network}
-use Rattle.report_text.specs.{NoteLine.{note_line, note_text, report_of}, Ranges.IsNoteOf}
-use Rattle.run_law.{proofs.{law.FirstPlaces.{at_length, in_at, number_is}, runs.NetworkRuns.same_notes}, specs.declared.note.Note.Note}
-use Rattle.run_law.specs.{records.{Happenings.{Happening, happenings, numbered}, Order.IsIn, Ranks.place_of}, runs.{DueRecords.IsDue, Runs.IsFounded}}
-use Rattle.tte_audit.specs.{Named.IsNamed, Report.scenario_of}
-use Rattle.tte_lemmas.proofs.{Lists.in_all, Options.mapped}
-use Rattle.tte_traces.{proofs.reports_lemmas.Reports.one_notes, specs.{reports.Reports.{AreLeft, IsReportOf}, declared.reports.records.Records.Records}}
-use Rattle.tte_units.specs.declared.units.Units.{Units}
-use Rattle.lens.specs.why.Records.{IsFound, note_at}
+use Rattle.{std.proofs.lemmas.Bool.cases_lt, tte_audit.specs.{Named.IsNamed, Report.scenario_of}, tte_lemmas.proofs.{Lists.in_all, Options.mapped}}
+use Rattle.{std.proofs.lemmas.{List.append-nil, Option.{slice_get-map, slice_get_past}}, tte_traces.specs.declared.reports.records.Records.Records}
+use Rattle.std.specs.List.{concat}
 
 -- ---- records and their numbers
 

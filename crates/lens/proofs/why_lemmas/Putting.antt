@@ -1,11 +1,8 @@
 -- The lines of a record and of its ground put.
-use Rattle.std.{proofs.Common.{◌∷◌, ◌≡◌, Bool, List, [], false, subst, sym, true, ℕ}, specs.{Io.KnownBytes.Appends, Prelude.if◌then◌else◌}}
-use Rattle.net_plan.specs.declared.network.Network.{Network}
-use Rattle.report_text.specs.NoteLine.{note_line}
-use Rattle.run_law.specs.declared.note.Note.{Note}
-use Rattle.tte_forms.{proofs.Puts.{PutsLines-fails, PutsLines-more, PutsLines-none}, specs.Putting.{PutFails, PutsLines, Shown}}
-use Rattle.tte_io.specs.{Faults.next_count, Told.AppendsFront}
-use Rattle.lens.specs.{why.Lines.{ground_line, is_told, told_lines}, declared.why.ground.Ground.Ground}
+use Rattle.{lens.specs.{declared.why.ground.Ground.Ground, why.Lines.{ground_line, is_told, told_lines}}, tte_forms.specs.Putting.{PutFails, PutsLines, Shown}}
+use Rattle.{net_plan.specs.declared.network.Network.Network, report_text.specs.NoteLine.note_line, run_law.specs.declared.note.Note.Note}
+use Rattle.{std.proofs.Common.{◌∷◌, ◌≡◌, Bool, List, [], false, subst, sym, true, ℕ}, tte_forms.proofs.Puts.{PutsLines-fails, PutsLines-more, PutsLines-none}}
+use Rattle.{std.specs.{Io.KnownBytes.Appends, Prelude.if◌then◌else◌}, tte_io.specs.{Faults.next_count, Told.AppendsFront}}
 
 module _ (network : Network) (note : Note) (said : Ground) where
   abbrev line : List ℕ

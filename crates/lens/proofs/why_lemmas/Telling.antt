@@ -1,17 +1,15 @@
 -- The lines of a chain put one record after another.
-use Rattle.std.proofs.Common.{◌++◌, ◌<◌, ◌∙◌, ◌∷◌, ◌≡◌, List, None, Option, Some, [], ap, append_assoc, arith, inl, inr, refl, subst, sym, ℕ}
-use Rattle.std.{proofs.lemmas.{Grind.flat_map-append, List.append-nil}, specs.Prelude.option_map}
-use Rattle.net_plan.specs.declared.network.Network.{Network}
-use Rattle.run_law.specs.{declared.note.Note.Note, records.{Causes.cause_of, Happenings.{Happening, happenings, numbered}}, scenario.Scenarios.Scenario}
-use Rattle.tte_audit.specs.{Named.IsNamed, Report.scenario_of}
-use Rattle.tte_forms.{proofs.Puts.{Ends-gives, PutFails-behind, PutsLines-append, PutsLines-none}, specs.Answering.{Ends, GivesAnswer}}
-use Rattle.tte_forms.specs.{Putting.{PutFails, PutsLines, Shown}, declared.status.Status.{Status, TheVariants.{Done, WriteFault}}}
-use Rattle.tte_traces.{proofs.{Given.PutFails-more, reports_lemmas.Reports.{one_end, one_notes}}, specs.reports.Reports.IsReportOf}
-use Rattle.tte_units.specs.declared.units.Units.{Units}
 use Rattle.lens.proofs.why_lemmas.{Chains.{Along, along_both, along_more, along_there, none_at_zero, whole_of}, past_lemmas.Following.timely_in}
 use Rattle.lens.proofs.why_lemmas.{Comings.{IsNoneOrThere, comes_from_earlier}, Notes.{founded_of, happening_at, none_there, note_in, note_numbered, number_of}}
-use Rattle.lens.specs.{declared.why.ground.Ground.Ground, why.{Grounds.ground_of, past.Pasts.IsTimely}}
+use Rattle.{lens.specs.declared.why.ground.Ground.Ground, tte_forms.specs.Answering.{Ends, GivesAnswer}, tte_traces.specs.reports.Reports.IsReportOf}
 use Rattle.lens.specs.why.{Answer.{IsWhyAnswer, chain_answer}, Lines.{chain_lines, record_lines, told_lines}, Records.{ComesFrom, IsRecordOf, note_at}}
+use Rattle.{lens.specs.why.Grounds.ground_of, std.specs.Prelude.option_map, tte_audit.specs.{Named.IsNamed, Report.scenario_of}}
+use Rattle.{lens.specs.why.past.Pasts.IsTimely, run_law.specs.{declared.note.Note.Note, records.Causes.cause_of}, tte_traces.proofs.Given.PutFails-more}
+use Rattle.{net_plan.specs.declared.network.Network.Network, tte_forms.specs.{Putting.{PutFails, PutsLines, Shown}, declared.status.Status.Status}}
+use Rattle.{run_law.specs.records.Happenings.{Happening, happenings, numbered}, tte_traces.proofs.reports_lemmas.Reports.{one_end, one_notes}}
+use Rattle.{run_law.specs.scenario.Scenarios.Scenario, std.proofs.lemmas.{Grind.flat_map-append, List.append-nil}, tte_units.specs.declared.units.Units.Units}
+use Rattle.std.proofs.Common.{◌++◌, ◌<◌, ◌∙◌, ◌∷◌, ◌≡◌, List, None, Option, Some, [], ap, append_assoc, arith, inl, inr, refl, subst, sym, ℕ}
+use Rattle.tte_forms.{proofs.Puts.{Ends-gives, PutFails-behind, PutsLines-append, PutsLines-none}, specs.declared.status.Status.TheVariants.{Done, WriteFault}}
 
 -- the lines of the records of a chain up to the one that is at hand were put
 pub record IsToldTo (network : Network) (octets : List ℕ) (first note : Note) (old now : Shown) : Type 0 where

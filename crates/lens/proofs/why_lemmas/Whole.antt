@@ -1,16 +1,13 @@
 -- The law: the chains that are told are whole.
-use Rattle.std.proofs.Common.{◌∙◌, ◌∷◌, ◌≡◌, List, None, Some, [], ap, inl, inr, length, refl, subst, sym, ℕ}
-use Rattle.net_plan.specs.declared.{event.What.TheVariants.Send, ids.{DeviceId.DeviceId, LinkId.LinkId, VlId.VlId}, network.Network.Network}
-use Rattle.run_law.{proofs.law.{FirstDeliveries.deliveries_begin, FirstPlaces.numbered_in}, specs.declared.note.{Note.Note, NoteBody.NoteBody}}
-use Rattle.run_law.specs.{law.FirstLaws.IsBeginning, records.{Causes.{cause_of, last_from}, Happenings.{Happening, happenings, numbered}}}
-use Rattle.schedule_checker.specs.Refusals.{RefusalIsOne}
-use Rattle.tte_audit.specs.Report.{behind_time, scenario_of}
-use Rattle.tte_forms.specs.{Answering.Answer, networks.Accepting.IsNetworkAnswer}
-use Rattle.tte_lemmas.proofs.Options.{some_or_none}
-use Rattle.tte_traces.{proofs.reports_lemmas.Reports.report_one, specs.reports.Reports.{IsReportAnswer, IsReportOf}}
-use Rattle.tte_units.specs.declared.units.Units.{Units}
 use Rattle.lens.proofs.why_lemmas.{Chains.{Along, along_there, along_whole, goes_back, none_at_zero, one_along, whole_of}, Notes.founded_of}
-use Rattle.lens.specs.why.{Answer.{IsWhyAnswer, chain_answer, number_refused_answer}, Chain.IsWholeChain, Laws.{HasWhy, WhyLaw}}
+use Rattle.{lens.specs.why.Answer.{IsWhyAnswer, chain_answer, number_refused_answer}, run_law.specs.records.Happenings.{Happening, happenings, numbered}}
+use Rattle.{lens.specs.why.{Chain.IsWholeChain, Laws.{HasWhy, WhyLaw}}, run_law.specs.declared.note.Note.Note, tte_forms.specs.Answering.Answer}
+use Rattle.{net_plan.specs.declared.{event.What.TheVariants.Send, network.Network.Network}, tte_traces.specs.reports.Reports.{IsReportAnswer, IsReportOf}}
+use Rattle.{net_plan.specs.declared.ids.DeviceId.DeviceId, std.proofs.Common.{◌∙◌, ◌∷◌, ◌≡◌, List, None, Some, [], ap, inl, inr, length, refl, subst, sym, ℕ}}
+use Rattle.{net_plan.specs.declared.ids.{LinkId.LinkId, VlId.VlId}, run_law.specs.law.FirstLaws.IsBeginning, tte_lemmas.proofs.Options.some_or_none}
+use Rattle.{run_law.proofs.law.{FirstDeliveries.deliveries_begin, FirstPlaces.numbered_in}, tte_traces.proofs.reports_lemmas.Reports.report_one}
+use Rattle.{run_law.specs.{declared.note.NoteBody.NoteBody, records.Causes.{cause_of, last_from}}, tte_forms.specs.networks.Accepting.IsNetworkAnswer}
+use Rattle.{schedule_checker.specs.Refusals.RefusalIsOne, tte_audit.specs.Report.{behind_time, scenario_of}, tte_units.specs.declared.units.Units.Units}
 use Rattle.run_law.specs.declared.note.NoteBody.TheVariants as notes
 
 -- a beginning has no cause

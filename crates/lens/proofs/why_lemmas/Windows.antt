@@ -1,9 +1,8 @@
 -- The window of a row, by its entry.
-use Rattle.std.{proofs.Common.{◌∙◌, ◌≡◌, Option, Some, ap, sym, ℕ, ℤ}, specs.{Option.option_map_or, Prelude.{option_and_then, option_map, slice_get}}}
-use Rattle.net_plan.specs.{Places.link_at, declared.{network.Network.Network, tables.{Link.Link, VirtualLink.VirtualLink}}}
-use Rattle.run_law.specs.timed.Arrivals.{entry_of}
-use Rattle.schedule_tables.specs.{Entries.IsEntry, Windows.window_of, declared.entry.Entry.Entry}
-use Rattle.lens.specs.{why.Grounds.{places_ground, window_ground}, declared.why.ground.Ground.TheVariants.Untold}
+use Rattle.{lens.specs.declared.why.ground.Ground.TheVariants.Untold, std.specs.{Option.option_map_or, Prelude.{option_and_then, option_map, slice_get}}}
+use Rattle.{lens.specs.why.Grounds.{places_ground, window_ground}, net_plan.specs.declared.tables.Link.Link, schedule_tables.specs.declared.entry.Entry.Entry}
+use Rattle.{net_plan.specs.Places.link_at, run_law.specs.timed.Arrivals.entry_of, schedule_tables.specs.{Entries.IsEntry, Windows.window_of}}
+use Rattle.{net_plan.specs.declared.{network.Network.Network, tables.VirtualLink.VirtualLink}, std.proofs.Common.{◌∙◌, ◌≡◌, Option, Some, ap, sym, ℕ, ℤ}}
 
 -- the entry of a row is the row with its virtual link and its link
 pub entry_is : (network : Network) (place : ℕ) (entry : Entry) → IsEntry network place entry

@@ -1,18 +1,15 @@
 -- Where a frame is taken its position lies in the window.
-use Rattle.std.proofs.Common.{◌+ℤ◌, ◌∙◌, ◌∷◌, ◌≡◌, ◌≤ℤ◌, List, Option, Some, ap, inl, inr, pos, subst, sym, ℕ, ℤ}
-use Rattle.audit_devices.proofs.law_lemmas.Emitting.{before_is_front}
-use Rattle.net_plan.specs.declared.{ids.{DeviceId.DeviceId, LinkId.LinkId, VlId.VlId}, network.Network.Network}
-use Rattle.run_law.{proofs.law.FirstPlaces.{same_earlier, split}, specs.{control.Wires.{Signal, control, timed}, declared.note.{Note.Note, NoteBody.NoteBody}}}
+use Rattle.{audit_devices.proofs.law_lemmas.Emitting.before_is_front, run_law.{proofs.law.FirstPlaces.{same_earlier, split}, specs.scenario.Scenarios.Scenario}}
+use Rattle.{lens.proofs.why_lemmas.LastRecords.parted_there, run_law.specs.{control.Wires.{Signal, control, timed}, declared.note.NoteBody.NoteBody}}
+use Rattle.{lens.proofs.why_lemmas.{Rows.row_is_one, Windows.window_is}, schedule_tables.specs.Windows.window_of, tte_units.specs.declared.units.Units.Units}
+use Rattle.{lens.specs.why.Grounds.{ground_by, ground_of, position_at, row_of, window_ground}, run_law.specs.records.Ranks.{key, members_in, place_of, rank}}
+use Rattle.{lens.specs.why.Laws.{IsInWindow, TakenInWindows}, net_plan.specs.declared.network.Network.Network, traffic_law.proofs.delivery.Taken.never_control}
+use Rattle.{net_plan.specs.declared.ids.{DeviceId.DeviceId, LinkId.LinkId}, run_law.specs.{device.States.adjustment_after, runs.DueRecords.{IsCaused, IsDue}}}
+use Rattle.{net_plan.specs.declared.ids.VlId.VlId, run_law.specs.declared.note.Note.Note, schedule_tables.specs.Rules.KeepsRules}
 use Rattle.run_law.specs.{device.Standpoints.{clock_of, offset_in_cycle, standpoint}, records.Happenings.{Happening, earlier, happenings, numbered, time_of}}
-use Rattle.run_law.specs.{device.States.adjustment_after, records.Ranks.{key, members_in, place_of, rank}, timed.Receptions.{ArrivesAs, arrival_of, last_taken}}
-use Rattle.run_law.specs.{runs.DueRecords.{IsCaused, IsDue}, scenario.Scenarios.Scenario}
-use Rattle.schedule_tables.specs.{Rules.KeepsRules, Windows.window_of}
-use Rattle.traffic_law.{proofs.delivery.{Faultless.{FindsNone, TakesIn, finds_none}, Taken.never_control}, specs.Taken.SaysTaken}
-use Rattle.tte_audit.specs.Report.{scenario_of}
-use Rattle.tte_traces.specs.reports.Reports.{IsReportOf}
-use Rattle.tte_units.specs.declared.units.Units.{Units}
-use Rattle.lens.proofs.why_lemmas.{LastRecords.parted_there, Rows.row_is_one, Windows.window_is}
-use Rattle.lens.specs.why.{Grounds.{ground_by, ground_of, position_at, row_of, window_ground}, Laws.{IsInWindow, TakenInWindows}}
+use Rattle.{run_law.specs.timed.Receptions.{ArrivesAs, arrival_of, last_taken}, traffic_law.proofs.delivery.Faultless.{FindsNone, TakesIn, finds_none}}
+use Rattle.{std.proofs.Common.{◌+ℤ◌, ◌∙◌, ◌∷◌, ◌≡◌, ◌≤ℤ◌, List, Option, Some, ap, inl, inr, pos, subst, sym, ℕ, ℤ}, tte_traces.specs.reports.Reports.IsReportOf}
+use Rattle.{traffic_law.specs.Taken.SaysTaken, tte_audit.specs.Report.scenario_of}
 use Rattle.run_law.specs.declared.note.NoteBody.TheVariants as notes
 use Rattle.run_law.specs.declared.steps.Arrival.TheVariants as arrivals
 

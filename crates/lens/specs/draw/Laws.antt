@@ -1,12 +1,10 @@
 -- What holds of the picture of a report.
 use Rattle.std.specs.Prelude.{◌≡◌, ℕ, true, List, [], ◌∷◌, ◌++◌, fold, length, take}
-use Rattle.lens.specs.{declared.draw.svg.layout.Span.Span, draw.svg.Sketching.{fits, moment, plan_of}}
-use Rattle.lens.specs.draw.{Picture.mark_lines, svg.{Layout.{holds, pen_at}, Marking.head_text}}
+use Rattle.{lens.specs.declared.draw.svg.layout.Span.Span, tte_traces.specs.reports.Reports.IsReportOf}
+use Rattle.{lens.specs.draw.Picture.mark_lines, run_law.specs.declared.note.Note.Note}
 use Rattle.lens.specs.draw.svg.Laws.{AreApart, AreMarksOf, HasArrows, grounds_after, painted_with, shown}
-use Rattle.net_plan.specs.declared.network.Network.{Network}
-use Rattle.run_law.specs.declared.note.Note.{Note}
-use Rattle.tte_traces.specs.reports.Reports.{IsReportOf}
-use Rattle.tte_units.specs.declared.units.Units.{Units}
+use Rattle.{lens.specs.draw.svg.{Layout.{holds, pen_at}, Marking.head_text}, tte_units.specs.declared.units.Units.Units}
+use Rattle.{lens.specs.draw.svg.Sketching.{fits, moment, plan_of}, net_plan.specs.declared.network.Network.Network}
 
 -- there is a line for each record, which begins with its number and its own line as the title
 abbrev pub HaveTitles : Network → List (List ℕ) → List Note → Type 0

@@ -1,12 +1,9 @@
 -- What can be read from the picture of a report.
 use Rattle.std.specs.Prelude.{◌≡◌, ℕ, All, List, map}
-use Rattle.lens.specs.{declared.draw.svg.layout.Span.Span, draw.{Picture.picture_lines, svg.Marking.IsPlain}}
-use Rattle.lens.specs.draw.svg.Laws.{shown}
-use Rattle.net_plan.specs.declared.network.Network.{Network}
-use Rattle.report_text.specs.NoteLine.{note_text}
-use Rattle.run_law.specs.declared.note.Note.{Note}
-use Rattle.tte_traces.specs.reports.Reports.{IsReportOf}
-use Rattle.tte_units.specs.declared.units.Units.{Units}
+use Rattle.{lens.specs.declared.draw.svg.layout.Span.Span, net_plan.specs.declared.network.Network.Network}
+use Rattle.{lens.specs.draw.{Picture.picture_lines, svg.Marking.IsPlain}, run_law.specs.declared.note.Note.Note}
+use Rattle.{lens.specs.draw.svg.Laws.shown, report_text.specs.NoteLine.note_text}
+use Rattle.{tte_traces.specs.reports.Reports.IsReportOf, tte_units.specs.declared.units.Units.Units}
 
 -- the line of each record in the span of a report holds neither `<` nor `&`, so as a title it is read as it is
 abbrev pub TitlesArePlain : Type 0

@@ -1,16 +1,14 @@
 -- What `flows` answers for the records of a report.
 use Rattle.std.specs.Prelude.{◌≡◌, ℕ, List, All, map}
-use Rattle.audit_devices.specs.events.Readings.{scenario_under}
-use Rattle.lens.specs.{declared.flows.counts.told.FlowTold.FlowTold, flows.counts.Deliveries.deliveries_of}
+use Rattle.{audit_devices.specs.events.Readings.scenario_under, lens.specs.declared.flows.counts.told.FlowTold.FlowTold}
 use Rattle.lens.specs.{declared.flows.judge.flow.Flow.Flow, flows.counts.{FlowLists.AreFlows, Ordered.IsCountOf}}
-use Rattle.lens.specs.flows.{Lines.flow_line, counts.Told.IsTold, judge.Fates.IsOwedFrom}
-use Rattle.net_plan.specs.declared.{ids.LinkId.LinkId, network.Network.Network}
-use Rattle.run_law.specs.declared.note.Note.{Note}
-use Rattle.run_law.specs.{records.{Happenings.{Happening, happenings}, Order.IsIn}, scenario.Scenarios.Scenario}
+use Rattle.{lens.specs.flows.Lines.flow_line, run_law.specs.{declared.note.Note.Note, records.Order.IsIn}}
+use Rattle.{lens.specs.flows.counts.Deliveries.deliveries_of, tte_forms.specs.declared.status.Status.TheVariants.Done}
+use Rattle.{lens.specs.flows.{counts.Told.IsTold, judge.Fates.IsOwedFrom}, run_law.specs.scenario.Scenarios.Scenario}
+use Rattle.{net_plan.specs.declared.ids.LinkId.LinkId, tte_units.specs.{Amount.amount, declared.units.Units.Units}}
+use Rattle.{net_plan.specs.declared.network.Network.Network, run_law.specs.records.Happenings.{Happening, happenings}}
+use Rattle.{tte_audit.specs.Report.events_of, tte_forms.specs.Answering.Answer}
 use Rattle.run_law.specs.declared.note.NoteBody.TheVariants as notes
-use Rattle.tte_audit.specs.Report.{events_of}
-use Rattle.tte_forms.specs.{Answering.Answer, declared.status.Status.TheVariants.Done}
-use Rattle.tte_units.specs.{Amount.amount, declared.units.Units.Units}
 
 -- at the time the receiver's clock begins a cycle in which delivery is owed, and no record says that the frame is
 -- delivered

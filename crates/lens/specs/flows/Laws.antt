@@ -1,12 +1,9 @@
 -- What holds of the answer.
 use Rattle.std.specs.Prelude.{◌≡◌, ℕ, List}
-use Rattle.lens.specs.{declared.flows.counts.told.FlowTold.FlowTold, flows.Answer.IsFlowsAnswer}
-use Rattle.net_plan.specs.declared.network.Network.{Network}
-use Rattle.run_law.specs.{declared.note.Note.Note, records.Order.IsIn}
-use Rattle.schedule_tables.specs.Rules.{KeepsRules}
-use Rattle.tte_forms.specs.Answering.{Answer}
-use Rattle.tte_traces.specs.reports.Reports.{IsReportOf}
-use Rattle.tte_units.specs.declared.units.Units.{Units}
+use Rattle.{lens.specs.declared.flows.counts.told.FlowTold.FlowTold, net_plan.specs.declared.network.Network.Network}
+use Rattle.{lens.specs.flows.Answer.IsFlowsAnswer, schedule_tables.specs.Rules.KeepsRules}
+use Rattle.{run_law.specs.{declared.note.Note.Note, records.Order.IsIn}, tte_forms.specs.Answering.Answer}
+use Rattle.{tte_traces.specs.reports.Reports.IsReportOf, tte_units.specs.declared.units.Units.Units}
 
 -- in each answer for a report of an accepted network, no flow misses a frame
 abbrev pub NoneIsMissing : Type 0

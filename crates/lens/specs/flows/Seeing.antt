@@ -1,12 +1,10 @@
 -- What was read of a report.
 use Rattle.std.specs.Prelude.{◌≡◌, ◌++◌, List, ℕ}
-use Rattle.audit_devices.specs.events.Remembering.{Remembers}
-use Rattle.lens.specs.{declared.flows.counts.seen.Seen.Seen, flows.counts.Seen.HasSeen}
-use Rattle.net_plan.specs.declared.network.Network.{Network}
-use Rattle.run_law.specs.declared.note.Note.{Note}
-use Rattle.tte_audit.specs.{Report.events_of, declared.passes.ReportEvents.ReportEvents}
-use Rattle.tte_traces.specs.{reports.Reports.{AreLeft, IsReportOf}, declared.reports.records.Records.Records}
-use Rattle.tte_units.specs.declared.units.Units.{Units}
+use Rattle.{audit_devices.specs.events.Remembering.Remembers, tte_audit.specs.declared.passes.ReportEvents.ReportEvents}
+use Rattle.{lens.specs.declared.flows.counts.seen.Seen.Seen, net_plan.specs.declared.network.Network.Network}
+use Rattle.{lens.specs.flows.counts.Seen.HasSeen, tte_audit.specs.Report.events_of}
+use Rattle.{run_law.specs.declared.note.Note.Note, tte_units.specs.declared.units.Units.Units}
+use Rattle.tte_traces.specs.{declared.reports.records.Records.Records, reports.Reports.{AreLeft, IsReportOf}}
 
 -- the octets are the report of some records
 abbrev pub IsSomeReport : Network → List ℕ → Type 0

@@ -1,15 +1,14 @@
 -- What `slack` answers for the octets of a network file.
 use Rattle.std.specs.Prelude.{if◌then◌else◌, ◌++◌, ◌==◌, ◌∷◌, ◌≡◌, ◌⊎◌, List, [], map, ℕ}
-use Rattle.net_file.specs.declared.refusal.FileRefusal.{FileRefusal}
-use Rattle.net_plan.specs.declared.network.Network.{Network}
-use Rattle.schedule_checker.specs.declared.refusal.RuleBroken.{RuleBroken}
-use Rattle.schedule_tables.specs.{Numbers.number_of, declared.rule.Rule.Rule}
-use Rattle.tte_forms.specs.{Answering.Answer, declared.status.Status.{Status, TheVariants.{Done, NetworkRefused}}}
-use Rattle.tte_forms.specs.networks.Accepting.{IsTooLong, MeansNetwork, MeansNoNetwork, refused_answer, too_long_answer}
-use Rattle.tte_forms.specs.networks.NetworkLine.{file_reason, network_refusal_line, rule_reason}
 use Rattle.lens.specs.declared.slack.{measuring.Ending.{Ending, TheVariants.{Broken, Whole}}, spot.Finding.Finding}
-use Rattle.lens.specs.{declared.slack.step.Step.Step, slack.Finds.{IsFoundIn, shorts_of}}
-use Rattle.lens.specs.slack.{Lines.{finding_line, place_line, sum_line}, Steps.{all_steps, rule_steps}}
+use Rattle.{lens.specs.declared.slack.step.Step.Step, schedule_checker.specs.declared.refusal.RuleBroken.RuleBroken}
+use Rattle.lens.specs.slack.{Finds.{IsFoundIn, shorts_of}, Steps.{all_steps, rule_steps}}
+use Rattle.{lens.specs.slack.Lines.{finding_line, place_line, sum_line}, schedule_tables.specs.declared.rule.Rule.Rule}
+use Rattle.{net_file.specs.declared.refusal.FileRefusal.FileRefusal, net_plan.specs.declared.network.Network.Network}
+use Rattle.schedule_tables.specs.Numbers.{number_of}
+use Rattle.tte_forms.specs.{Answering.Answer, networks.NetworkLine.{file_reason, network_refusal_line, rule_reason}}
+use Rattle.tte_forms.specs.declared.status.Status.{Status, TheVariants.{Done, NetworkRefused}}
+use Rattle.tte_forms.specs.networks.Accepting.{IsTooLong, MeansNetwork, MeansNoNetwork, refused_answer, too_long_answer}
 
 -- the status: done where nothing is broken and nothing is short
 abbrev pub ending_status : List Finding → Ending → Status

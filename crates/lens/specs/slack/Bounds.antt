@@ -1,13 +1,12 @@
 -- What a network has where a rule bounds a number of it, and what the rule wants there at least.
 use Rattle.std.specs.Prelude.{if◌then◌else◌, ◌*◌, ◌+◌, ◌<◌, ◌≡◌, ◌≢◌, ◌⊎◌, List, Some, nat_lt, pos, slice_get, ℕ}
-use Rattle.net_plan.specs.{Bounds.{IsBeta, gamma_of}, Paths.IsPath, Places.IsDeviceOf, declared.ids.DeviceId.DeviceId}
-use Rattle.net_plan.specs.declared.{ids.{LinkId.LinkId, RowId.RowId}, network.Network.Network, tables.Link.Link}
-use Rattle.pcf_values.specs.declared.channel.Channel.{Channel}
-use Rattle.schedule_tables.specs.{Delays.{delay_on, pcf_port_time}, Entries.{IsEntry, source_of, target_of}}
-use Rattle.schedule_tables.specs.{Schedule.Coincide, Windows.{port_time, window_end}, declared.entry.Entry.Entry}
-use Rattle.tte_units.specs.Amount.{amount}
 use Rattle.lens.specs.declared.slack.spot.{Beside.TheVariants.{Before, Behind, Calc, Nothing}, Finding.Finding}
-use Rattle.lens.specs.declared.slack.spot.Spot.{Spot}
+use Rattle.{lens.specs.declared.slack.spot.Spot.Spot, net_plan.specs.declared.ids.{DeviceId.DeviceId, LinkId.LinkId}}
+use Rattle.{net_plan.specs.{Bounds.{IsBeta, gamma_of}, Paths.IsPath, Places.IsDeviceOf}, tte_units.specs.Amount.amount}
+use Rattle.{net_plan.specs.declared.{ids.RowId.RowId, tables.Link.Link}, schedule_tables.specs.Schedule.Coincide}
+use Rattle.{net_plan.specs.declared.network.Network.Network, schedule_tables.specs.declared.entry.Entry.Entry}
+use Rattle.{pcf_values.specs.declared.channel.Channel.Channel, schedule_tables.specs.Windows.{port_time, window_end}}
+use Rattle.schedule_tables.specs.{Delays.{delay_on, pcf_port_time}, Entries.{IsEntry, source_of, target_of}}
 use Rattle.lens.specs.declared.slack.spot.Spot.TheVariants as spots
 
 -- at this spot the network has so much, and so much is wanted

@@ -1,12 +1,11 @@
 -- What is found of a network by steps, and how it ends.
 use Rattle.std.specs.List.{count_by}
 use Rattle.std.specs.Prelude.{◌++◌, ◌+◌, ◌<◌, ◌∷◌, ◌≡◌, ◌⊎◌, List, None, Option, Some, [], suc, zero, ℕ}
-use Rattle.net_plan.specs.declared.network.Network.{Network}
-use Rattle.schedule_checker.specs.Judging.{BreaksAt, plan_rule}
-use Rattle.schedule_tables.specs.{Numbers.number_of, Rules.{IsFirstBroken, IsKept, KeepsBelow}, declared.rule.Rule.Rule}
+use Rattle.lens.specs.declared.slack.{measuring.Ending.{Ending, TheVariants.{Broken, Whole}}, spot.Measure.Measure}
+use Rattle.lens.specs.declared.slack.{spot.Finding.Finding, step.Step.{Step, TheVariants.{Judged, Listed, Measured}}}
 use Rattle.lens.specs.slack.{Spots.{IsTightestOf, spot_at, spots_of}, Tightest.{IsTightestAt, is_short}}
-use Rattle.lens.specs.declared.slack.{measuring.Ending.{Ending, TheVariants.{Broken, Whole}}, spot.Finding.Finding}
-use Rattle.lens.specs.declared.slack.{spot.Measure.Measure, step.Step.{Step, TheVariants.{Judged, Listed, Measured}}}
+use Rattle.{net_plan.specs.declared.network.Network.Network, schedule_checker.specs.Judging.{BreaksAt, plan_rule}}
+use Rattle.schedule_tables.specs.{Numbers.number_of, Rules.{IsFirstBroken, IsKept, KeepsBelow}, declared.rule.Rule.Rule}
 
 -- how many of the findings are short
 abbrev pub shorts_of : List Finding → ℕ

@@ -1,8 +1,9 @@
 -- The lines that `slack` writes.
 use Rattle.std.specs.{Fmt.decimal, Option.option_map_or}
 use Rattle.std.specs.Prelude.{if◌then◌else◌, ◌++◌, ◌-◌, ◌==◌, List, [], codes, nat_lt, slice_get, ℕ}
-use Rattle.net_plan.specs.{Belonging.{device_name, link_name, vl_name}, declared.ids.RowId.RowId}
-use Rattle.net_plan.specs.declared.network.Network.{Network}
+use Rattle.lens.specs.declared.slack.spot.{Beside.{Beside, TheVariants.{Before, Behind, Calc}}, Finding.Finding}
+use Rattle.{lens.specs.{declared.slack.spot.Spot.Spot, slack.Spots.device_of}, net_plan.specs.declared.ids.RowId.RowId}
+use Rattle.net_plan.specs.{Belonging.{device_name, link_name, vl_name}, declared.network.Network.Network}
 use Rattle.pcf_values.specs.declared.channel.Channel.{Channel, TheVariants.{A, B}}
 use Rattle.schedule_tables.specs.{Numbers.number_of, declared.rule.Rule.{Rule, TheVariants.{VlNamesDiffer, WindowEnds}}}
 use Rattle.schedule_tables.specs.declared.rule.Rule.TheVariants.{BothChannels, CompressionMasters, Connections}
@@ -11,8 +12,6 @@ use Rattle.schedule_tables.specs.declared.rule.Rule.TheVariants.{Limits, LinksDi
 use Rattle.schedule_tables.specs.declared.rule.Rule.TheVariants.{Precision, RowsOfDevice, ScheduleStart, Senders}
 use Rattle.schedule_tables.specs.declared.rule.Rule.TheVariants.{Settling, Sources, Spacing, Targets, VlIdsDiffer}
 use Rattle.trace_text.specs.EventWords.{way_text}
-use Rattle.lens.specs.{slack.Spots.device_of, declared.slack.spot.Beside.{Beside, TheVariants.{Before, Behind, Calc}}}
-use Rattle.lens.specs.declared.slack.spot.{Finding.Finding, Spot.Spot}
 use Rattle.lens.specs.declared.slack.spot.Spot.TheVariants as spots
 
 -- the name of a channel

@@ -1,11 +1,10 @@
 -- What a step adds to what was found.
 use Rattle.std.specs.Prelude.{◌++◌, ◌≡◌, List, Option}
-use Rattle.net_plan.specs.declared.network.Network.{Network}
-use Rattle.schedule_checker.specs.Judging.{BreaksAt, plan_rule}
-use Rattle.schedule_tables.specs.{Rules.IsKept, declared.rule.Rule.Rule}
-use Rattle.lens.specs.slack.{Finds.{AreFound, some_found}, Spots.{IsTightestOf, spots_of}}
-use Rattle.lens.specs.declared.slack.{measuring.Ending.{Ending, TheVariants.{Broken, Whole}}, spot.Finding.Finding}
-use Rattle.lens.specs.declared.slack.{spot.Measure.Measure, step.Step.{Step, TheVariants.{Judged, Listed, Measured}}}
+use Rattle.lens.specs.declared.slack.{measuring.Ending.{Ending, TheVariants.{Broken, Whole}}, spot.Measure.Measure}
+use Rattle.lens.specs.declared.slack.{spot.Finding.Finding, step.Step.{Step, TheVariants.{Judged, Listed, Measured}}}
+use Rattle.{lens.specs.slack.Finds.{AreFound, some_found}, schedule_tables.specs.Rules.IsKept}
+use Rattle.{lens.specs.slack.Spots.{IsTightestOf, spots_of}, schedule_tables.specs.declared.rule.Rule.Rule}
+use Rattle.{net_plan.specs.declared.network.Network.Network, schedule_checker.specs.Judging.{BreaksAt, plan_rule}}
 
 -- the rule is kept where it goes on, and otherwise it is broken first at the place that is told
 abbrev pub Judges : Network → Rule → Ending → Type 0

@@ -1,10 +1,9 @@
 -- Which findings and places have a line: those that name what the network has.
 use Rattle.std.specs.Prelude.{◌<◌, length, ℕ}
-use Rattle.net_plan.specs.declared.network.Network.{Network}
+use Rattle.lens.specs.declared.slack.measuring.Ending.{Ending, TheVariants.{Broken, Whole}}
+use Rattle.lens.specs.declared.slack.spot.{Beside.{Beside, TheVariants.{Before, Behind}}, Finding.Finding, Spot.Spot}
+use Rattle.{net_plan.specs.declared.network.Network.Network, schedule_tables.specs.declared.rule.Rule.Rule}
 use Rattle.schedule_checker.specs.Judging.{places_of}
-use Rattle.schedule_tables.specs.declared.rule.Rule.{Rule}
-use Rattle.lens.specs.declared.slack.{measuring.Ending.{Ending, TheVariants.{Broken, Whole}}, spot.Beside.Beside}
-use Rattle.lens.specs.declared.slack.spot.{Beside.TheVariants.{Before, Behind}, Finding.Finding, Spot.Spot}
 use Rattle.lens.specs.declared.slack.spot.Spot.TheVariants as spots
 
 -- the device or the row of the spot is one of the network's

@@ -1,15 +1,14 @@
 -- What `why` answers for a network and the records of a report.
 use Rattle.std.specs.Prelude.{◌∷◌, ◌≡◌, ◌⊎◌, List, None, length, ℕ}
-use Rattle.net_plan.specs.declared.network.Network.{Network}
+use Rattle.lens.specs.why.Chain.{IsWholeChain}
+use Rattle.{lens.specs.why.Lines.{chain_lines, number_refused_line}, net_plan.specs.declared.network.Network.Network}
 use Rattle.run_law.specs.{declared.note.Note.Note, records.Happenings.{Happening, happenings, numbered}}
-use Rattle.tte_audit.specs.Report.{scenario_of}
+use Rattle.{tte_audit.specs.Report.scenario_of, tte_units.specs.declared.units.Units.Units}
 use Rattle.tte_forms.specs.{Answering.{Answer, line_answer}, declared.status.Status.Status}
 use Rattle.tte_forms.specs.declared.status.Status.TheVariants.{AuditRefused, CaptureRefused, Done, FrameRefused}
 use Rattle.tte_forms.specs.declared.status.Status.TheVariants.{GranuleRefused, NameRefused, NetworkRefused}
 use Rattle.tte_forms.specs.declared.status.Status.TheVariants.{NumberRefused, OutOfMemory, OutsideHypothesis, ReadFault}
 use Rattle.tte_forms.specs.declared.status.Status.TheVariants.{TooLong, TraceRefused, Usage, VoteRefused, WriteFault}
-use Rattle.tte_units.specs.declared.units.Units.{Units}
-use Rattle.lens.specs.why.{Chain.IsWholeChain, Lines.{chain_lines, number_refused_line}}
 
 -- the answer where there are only so many records
 abbrev pub number_refused_answer : ℕ → ℕ → Answer

@@ -2,20 +2,18 @@
 -- frames gave it before.
 use Rattle.std.specs.{List.{Contains, last_or}, Prelude.{option_and_then, option_map, pos, ℕ, ℤ}}
 use Rattle.std.specs.Prelude.{◌*◌, ◌+◌, ◌-ℤ◌, ◌≡◌, ◌≤ℤ◌, List, None, Option, Some, fold, if◌then◌else◌, int_lt}
-use Rattle.audit_devices.specs.Keeping.{records_before}
+use Rattle.{audit_devices.specs.Keeping.records_before, tte_units.specs.{Amount.amount, declared.units.Units.Units}}
 use Rattle.compression.specs.{Clusters.{AreClusters, Cluster, Point, point_at}, Collection.{joined, opening}}
-use Rattle.compression.specs.{Middle.{middle_of, relative}, OneCluster.AreInOrder, Role.role_in}
+use Rattle.{compression.specs.Middle.{middle_of, relative}, net_plan.specs.declared.ids.DeviceId.DeviceId}
+use Rattle.{compression.specs.{OneCluster.AreInOrder, Role.role_in}, lens.specs.why.Seeking.last_sought}
 use Rattle.compression.specs.declared.taken.Taken.{Taken, TheVariants.{Joined, Opened, OtherCycle, Repeat}}
-use Rattle.net_plan.specs.declared.{ids.DeviceId.DeviceId, network.Network.Network}
+use Rattle.{lens.specs.declared.why.collecting.Collection.Collection, pcf_values.specs.declared.members.Members.Members}
+use Rattle.{lens.specs.declared.why.collecting.Given.Given, net_plan.specs.declared.network.Network.Network}
+use Rattle.lens.specs.declared.why.{ground.Ground.TheVariants.{Collected, Middle}, seeking.Sought.TheVariants.Opening}
+use Rattle.{lens.specs.declared.why.ground.Ground.Ground, tte_traces.specs.reports.Reports.IsReportOf}
 use Rattle.run_law.specs.{control.Collections.{master_of, observation_window, points_of}, device.States.cycle_in}
 use Rattle.run_law.specs.declared.{judgement.Judgement.Judgement, note.{Note.Note, NoteBody.TheVariants.Compressed}}
 use Rattle.run_law.specs.records.{Happenings.{Happening, happenings, numbered}, Ranks.{members_in, place_of}}
-use Rattle.pcf_values.specs.declared.members.Members.{Members}
-use Rattle.tte_traces.specs.reports.Reports.{IsReportOf}
-use Rattle.tte_units.specs.{Amount.amount, declared.units.Units.Units}
-use Rattle.lens.specs.declared.why.{collecting.{Collection.Collection, Given.Given}, ground.Ground.Ground}
-use Rattle.lens.specs.declared.why.ground.Ground.TheVariants.{Collected, Middle}
-use Rattle.lens.specs.{why.Seeking.last_sought, declared.why.seeking.Sought.TheVariants.Opening}
 
 -- the last collection, where it is open at the reading
 abbrev pub open_in : Option Cluster → ℤ → Option Cluster

@@ -2,20 +2,17 @@
 -- correction point.
 use Rattle.std.specs.Prelude.{if◌then◌else◌, ◌&&◌, ◌==◌, ◌||◌, Bool, List, None, Option, Some, false, fold, int_lt}
 use Rattle.std.specs.Prelude.{nat_le, nat_lt, option_and_then, option_map, true, ℕ, ℤ}
-use Rattle.audit_devices.specs.{Keeping.records_before, law.CorrectionNumbers.heard_since_point}
-use Rattle.clock_correction.specs.Deviation.{deviation_of}
+use Rattle.{audit_devices.specs.Keeping.records_before, lens.specs.why.past.Pasts.before_corrections}
+use Rattle.{audit_devices.specs.law.CorrectionNumbers.heard_since_point, clock_correction.specs.Deviation.deviation_of}
 use Rattle.lens.specs.declared.why.{ground.Ground.TheVariants.{Clique, Corrected}, seeking.Sought.TheVariants.Frame}
-use Rattle.lens.specs.{declared.why.ground.{Best.Best, Ground.Ground, Told.Told}, why.past.Pasts.before_corrections}
-use Rattle.lens.specs.why.Seeking.{last_sought}
-use Rattle.membership.specs.{Hearing.Hearing, Members.{count_of, union}, Summary.{Summary, best_on, silence}}
-use Rattle.membership.specs.declared.frame.HeardFrame.{HeardFrame}
-use Rattle.net_plan.specs.declared.{ids.DeviceId.DeviceId, network.Network.Network}
-use Rattle.pcf_values.specs.declared.channel.Channel.{Channel, TheVariants.{A, B}}
+use Rattle.{lens.specs.declared.why.ground.{Best.Best, Ground.Ground}, net_plan.specs.declared.ids.DeviceId.DeviceId}
+use Rattle.{lens.specs.declared.why.ground.Told.Told, membership.specs.Members.{count_of, union}}
+use Rattle.{lens.specs.why.Seeking.last_sought, pcf_values.specs.declared.channel.Channel.{Channel, TheVariants.{A, B}}}
+use Rattle.membership.specs.{Hearing.Hearing, Summary.{Summary, best_on, silence}, declared.frame.HeardFrame.HeardFrame}
+use Rattle.{net_plan.specs.declared.network.Network.Network, run_law.specs.records.Happenings.{Happening, time_of}}
 use Rattle.run_law.specs.{declared.judgement.Why.TheVariants.{AsyncClique, SyncClique}, device.States.adjustment_before}
-use Rattle.run_law.specs.{declared.judgement.Why.Why, records.Ranks.place_of}
-use Rattle.run_law.specs.{records.Happenings.{Happening, time_of}, scenario.{Devices.plan_of, Scenarios.Scenario}}
-use Rattle.sync_state.specs.Plan.{expected_at}
-use Rattle.tte_units.specs.declared.units.Units.{Units}
+use Rattle.{run_law.specs.{declared.judgement.Why.Why, records.Ranks.place_of}, sync_state.specs.Plan.expected_at}
+use Rattle.{run_law.specs.scenario.{Devices.plan_of, Scenarios.Scenario}, tte_units.specs.declared.units.Units.Units}
 
 -- has the frame fewer members than the other, or as many and an earlier point?
 abbrev pub is_behind : HeardFrame → HeardFrame → Bool

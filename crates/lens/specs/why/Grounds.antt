@@ -2,24 +2,22 @@
 use Rattle.std.specs.Option.{option_map_or}
 use Rattle.std.specs.Prelude.{◌&&◌, ◌*◌, ◌+ℤ◌, ◌+◌, ◌-ℤ◌, ◌-◌, ◌==◌, Bool, List, None, Option, Some, false}
 use Rattle.std.specs.Prelude.{if◌then◌else◌, length, option_and_then, pos, position, slice_get, true, ℕ, ℤ}
-use Rattle.net_plan.specs.declared.{ids.{DeviceId.DeviceId, LinkId.LinkId, VlId.VlId}, network.Network.Network}
-use Rattle.audit_devices.specs.Keeping.{records_before}
-use Rattle.run_law.specs.declared.judgement.Judgement.{Judgement, TheVariants.{Joined, Opened, Outside, Repeat, Within}}
-use Rattle.run_law.specs.{declared.judgement.Reason.Reason, scenario.{Devices.{is_relay, plan_of}, Scenarios.Scenario}}
-use Rattle.run_law.specs.{declared.{judgement.Why.Why, note.NoteBody.NoteBody}, scenario.Ways.{hold_at, way_from}}
-use Rattle.run_law.specs.{device.Standpoints.{clock_of, cycle_at, offset_in_cycle, standpoint}, records.Ranks.place_of}
-use Rattle.run_law.specs.device.States.{adjustment_at_hearing, cycle_in, state_before}
-use Rattle.run_law.specs.{records.Happenings.{Happening, numbered, time_of}, timed.Arrivals.{entry_entering, entry_of}}
-use Rattle.pcf_codec.specs.Fields.{field}
-use Rattle.schedule_tables.specs.{Windows.window_of, declared.{entry.Entry.Entry, window.Window.Window as Places}}
-use Rattle.sync_state.specs.Plan.{expected_at}
-use Rattle.tte_units.specs.{Amount.amount, declared.units.Units.Units}
+use Rattle.{audit_devices.specs.Keeping.records_before, run_law.specs.scenario.Ways.{hold_at, way_from}}
 use Rattle.lens.specs.declared.why.ground.Ground.TheVariants.{Clock, CutBy, Dispatched, Gate, Heard, Held, Length, Line}
 use Rattle.lens.specs.declared.why.ground.Ground.TheVariants.{Local, Missed, Reading, Taken, Unknown, Unsynchronised}
 use Rattle.lens.specs.declared.why.ground.Ground.{Ground, TheVariants.{Untold, Window}}
 use Rattle.lens.specs.declared.why.seeking.{Coming.Coming, Sought.TheVariants.{Cut, Taking, Turning}}
-use Rattle.lens.specs.why.Collections.{collected_ground, sent_ground}
+use Rattle.{lens.specs.why.Collections.{collected_ground, sent_ground}, net_plan.specs.declared.network.Network.Network}
 use Rattle.lens.specs.why.{Corrections.{clique_ground, corrected_ground, is_clique}, Seeking.last_sought}
+use Rattle.{net_plan.specs.declared.ids.{DeviceId.DeviceId, VlId.VlId}, run_law.specs.declared.note.NoteBody.NoteBody}
+use Rattle.{net_plan.specs.declared.ids.LinkId.LinkId, tte_units.specs.{Amount.amount, declared.units.Units.Units}}
+use Rattle.{pcf_codec.specs.Fields.field, sync_state.specs.Plan.expected_at}
+use Rattle.run_law.specs.declared.judgement.Judgement.{Judgement, TheVariants.{Joined, Opened, Outside, Repeat, Within}}
+use Rattle.run_law.specs.{declared.judgement.Reason.Reason, scenario.{Devices.{is_relay, plan_of}, Scenarios.Scenario}}
+use Rattle.run_law.specs.{declared.judgement.Why.Why, device.States.{adjustment_at_hearing, cycle_in, state_before}}
+use Rattle.run_law.specs.{device.Standpoints.{clock_of, cycle_at, offset_in_cycle, standpoint}, records.Ranks.place_of}
+use Rattle.run_law.specs.{records.Happenings.{Happening, numbered, time_of}, timed.Arrivals.{entry_entering, entry_of}}
+use Rattle.schedule_tables.specs.{Windows.window_of, declared.{entry.Entry.Entry, window.{Window.{Window as Places}}}}
 use Rattle.run_law.specs.declared.judgement.Reason.TheVariants as reasons
 use Rattle.run_law.specs.declared.note.NoteBody.TheVariants as notes
 

@@ -1,18 +1,16 @@
 -- What holds of the chains that `why` tells.
 use Rattle.std.specs.Prelude.{◌++◌, ◌<◌, ◌∷◌, ◌≡◌, ◌≤ℤ◌, ◌⊎◌, List, None, Option, Some, [], ℕ, ℤ}
-use Rattle.audit_devices.specs.law.CorrectionPoints.{IsPointOf}
-use Rattle.net_plan.specs.declared.{ids.{DeviceId.DeviceId, LinkId.LinkId, VlId.VlId}, network.Network.Network}
-use Rattle.run_law.specs.{declared.note.Note.Note, law.FirstLaws.IsBeginning, records.Causes.last_from}
-use Rattle.run_law.specs.records.{Happenings.{Happening, happenings, numbered}, Order.IsIn}
-use Rattle.schedule_tables.specs.{Entries.IsEntry, Rules.KeepsRules, declared.entry.Entry.Entry}
-use Rattle.traffic_law.specs.Taken.{SaysTaken}
-use Rattle.tte_audit.specs.Report.{scenario_of}
-use Rattle.tte_forms.specs.Answering.{Answer}
-use Rattle.tte_traces.specs.reports.Reports.{IsReportOf}
-use Rattle.tte_units.specs.declared.units.Units.{Units}
+use Rattle.{audit_devices.specs.law.CorrectionPoints.IsPointOf, net_plan.specs.declared.network.Network.Network}
 use Rattle.lens.specs.declared.why.ground.Ground.TheVariants.{Clique, Corrected, CutBy, Middle, Taken, Unsynchronised}
-use Rattle.lens.specs.declared.why.ground.{Best.Best, Ground.{Ground, TheVariants.Window}, Told.Told}
-use Rattle.lens.specs.why.{Answer.IsWhyAnswer, Chain.IsWholeChain, Grounds.{ground_of, row_of}}
+use Rattle.{lens.specs.declared.why.ground.Ground.TheVariants.Window, schedule_tables.specs.declared.entry.Entry.Entry}
+use Rattle.{lens.specs.declared.why.ground.{Best.Best, Ground.Ground}, net_plan.specs.declared.ids.DeviceId.DeviceId}
+use Rattle.{lens.specs.declared.why.ground.Told.Told, net_plan.specs.declared.ids.{LinkId.LinkId, VlId.VlId}}
+use Rattle.{lens.specs.why.{Answer.IsWhyAnswer, Grounds.{ground_of, row_of}}, run_law.specs.records.Causes.last_from}
+use Rattle.{lens.specs.why.Chain.IsWholeChain, traffic_law.specs.Taken.SaysTaken, tte_audit.specs.Report.scenario_of}
+use Rattle.{run_law.specs.declared.note.Note.Note, schedule_tables.specs.{Entries.IsEntry, Rules.KeepsRules}}
+use Rattle.run_law.specs.{law.FirstLaws.IsBeginning, records.{Happenings.{Happening, happenings, numbered}, Order.IsIn}}
+use Rattle.tte_forms.specs.Answering.{Answer}
+use Rattle.{tte_traces.specs.reports.Reports.IsReportOf, tte_units.specs.declared.units.Units.Units}
 use Rattle.run_law.specs.declared.note.NoteBody.TheVariants as notes
 
 -- each record of a chain stands earlier in the report than the one that comes from it

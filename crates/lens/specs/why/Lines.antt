@@ -1,18 +1,15 @@
 -- The lines that `why` writes.
 use Rattle.std.specs.{Fmt.{decimal, signed_decimal}, Int.{to_be_bytes, w32}, List.flat_map}
-use Rattle.hex.specs.Hex.{encode_lower}
 use Rattle.std.specs.Prelude.{if◌then◌else◌, ◌++◌, ◌∷◌, Bool, List, None, Option, Some, [], codes, false, true, ℕ, ℤ}
-use Rattle.membership.specs.Members.{count_of}
-use Rattle.net_plan.specs.declared.network.Network.{Network}
-use Rattle.pcf_values.specs.declared.members.Members.{Members}
-use Rattle.report_text.specs.{NoteLine.note_line, NoteWords.{members_text, state_text}}
-use Rattle.run_law.specs.{declared.note.Note.Note, records.Happenings.Happening, scenario.Scenarios.Scenario}
-use Rattle.tte_units.specs.declared.units.Units.{Units}
-use Rattle.lens.specs.{why.Grounds.ground_of, declared.why.ground.Ground.Ground}
-use Rattle.lens.specs.declared.why.{collecting.Collection.Collection, ground.{Best.Best, Told.Told}}
+use Rattle.{hex.specs.Hex.encode_lower, membership.specs.Members.count_of, report_text.specs.NoteLine.note_line}
+use Rattle.{lens.specs.declared.why.collecting.Collection.Collection, pcf_values.specs.declared.members.Members.Members}
 use Rattle.lens.specs.declared.why.ground.Ground.TheVariants.{Clique, Clock, Collected, Corrected, CutBy, Dispatched}
 use Rattle.lens.specs.declared.why.ground.Ground.TheVariants.{Gate, Heard, Held, Length, Line, Local, Middle, Missed}
 use Rattle.lens.specs.declared.why.ground.Ground.TheVariants.{Reading, Taken, Unknown, Unsynchronised, Untold, Window}
+use Rattle.{lens.specs.declared.why.ground.{Best.Best, Ground.Ground}, run_law.specs.records.Happenings.Happening}
+use Rattle.{lens.specs.{declared.why.ground.Told.Told, why.Grounds.ground_of}, run_law.specs.declared.note.Note.Note}
+use Rattle.{net_plan.specs.declared.network.Network.Network, report_text.specs.NoteWords.{members_text, state_text}}
+use Rattle.{run_law.specs.scenario.Scenarios.Scenario, tte_units.specs.declared.units.Units.Units}
 
 -- what a channel says to a correction: the record of its best frame, the members of that, and how far the clock is
 -- behind

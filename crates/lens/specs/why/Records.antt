@@ -1,15 +1,13 @@
 -- The records of a report by their numbers.
 use Rattle.std.specs.Prelude.{◌≡◌, List, MatchResult, None, Option, Result, Some, length, option_map, slice_get, suc}
 use Rattle.std.specs.Prelude.{zero, ℕ}
-use Rattle.lens.specs.declared.why.past.past.Permanence.{Permanence}
-use Rattle.net_plan.specs.declared.{ids.DeviceId.DeviceId, network.Network.Network}
-use Rattle.run_law.specs.declared.{judgement.{Judgement.Judgement, Why.Why}, note.{Note.Note, NoteBody.NoteBody}}
-use Rattle.run_law.specs.records.Causes.{cause_of}
-use Rattle.run_law.specs.{records.{Happenings.{Happening, happenings, numbered}, Ranks.place_of}, runs.DueRecords.IsDue}
-use Rattle.run_law.specs.{runs.Runs.IsFounded, scenario.Scenarios.Scenario}
-use Rattle.sync_state.specs.declared.state.State.{State}
-use Rattle.tte_traces.specs.reports.Reports.{IsReportOf}
-use Rattle.tte_units.specs.declared.units.Units.{Units}
+use Rattle.{lens.specs.declared.why.past.past.Permanence.Permanence, net_plan.specs.declared.network.Network.Network}
+use Rattle.{net_plan.specs.declared.ids.DeviceId.DeviceId, run_law.specs.declared.note.{Note.Note, NoteBody.NoteBody}}
+use Rattle.run_law.specs.{declared.judgement.Judgement.Judgement, records.Happenings.{Happening, happenings, numbered}}
+use Rattle.run_law.specs.{declared.judgement.Why.Why, records.{Causes.cause_of, Ranks.place_of}, runs.DueRecords.IsDue}
+use Rattle.run_law.specs.runs.Runs.{IsFounded}
+use Rattle.{run_law.specs.scenario.Scenarios.Scenario, tte_units.specs.declared.units.Units.Units}
+use Rattle.{sync_state.specs.declared.state.State.State, tte_traces.specs.reports.Reports.IsReportOf}
 use Rattle.run_law.specs.declared.note.NoteBody.TheVariants as notes
 
 -- the record of this number, from 1; 0 is the number of none

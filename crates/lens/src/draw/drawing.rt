@@ -2,13 +2,11 @@ ghost use Rattle.std.specs.Prelude.{◌≡◌, ◌⊎◌, IfOk, List};
 ghost use Rattle.lens.specs.declared.draw.svg.layout.Span.{Span as SpanValue};
 ghost use Rattle.lens.specs.draw.{Answer.{IsDrawAnswer, draw_answer, fitting_answer}, svg.Sketching.plan_of};
 ghost use Rattle.lens.specs.{draw.{Picture.windows_of, svg.Clocks.clocks_in}, why.past.Pasts.{IsSomeReport, ShowsAll}};
-ghost use Rattle.net_plan.specs.Ranges.{IsInRange};
+ghost use Rattle.{net_plan.specs.Ranges.IsInRange, tte_forms.specs.{Putting.Over, networks.Accepting.IsNetworkAnswer}};
 ghost use Rattle.run_law.specs.declared.note.Note.{Note as NoteValue};
-ghost use Rattle.tte_audit.specs.Named.{IsNamed};
+ghost use Rattle.{tte_audit.specs.Named.IsNamed, tte_units.{specs.{declared.{units.{Units.{Units as UnitsValue}}}}}};
 ghost use Rattle.tte_forms.specs.{Answering.{ForOctets, Gives, GivesAnswer}, Faults.{HasCause, PutFailed, ReadFailed}};
-ghost use Rattle.tte_forms.specs.{Putting.Over, networks.Accepting.IsNetworkAnswer};
 ghost use Rattle.tte_traces.specs.reports.{Answer.IsAuditStatus, Reports.{AreLeft, IsReportAnswer, IsReportOf}};
-ghost use Rattle.tte_units.specs.declared.units.Units.{Units as UnitsValue};
 
 use crate::draw::marks::put_back;
 use crate::draw::putting::put_front;

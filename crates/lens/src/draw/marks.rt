@@ -1,13 +1,11 @@
 //! The marks of the records, one after another.
 ghost use Rattle.std.specs.Prelude.{◌≡◌, ◌≤◌, List, MatchResult};
-ghost use Rattle.lens.specs.draw.{Answer.back_answer, Picture.{marks_of, pen_behind}, svg.Layout.{pen_at, widest}};
-ghost use Rattle.lens.specs.draw.Putting.{Draws};
-ghost use Rattle.net_plan.specs.Ranges.{IsInRange};
-ghost use Rattle.report_text.specs.Ranges.{IsNoteInRange, IsNoteOf};
-ghost use Rattle.run_law.specs.declared.note.Note.{Note as NoteValue};
-ghost use Rattle.tte_audit.specs.Named.{IsNamed};
-ghost use Rattle.tte_forms.specs.{Answering.Gives, Faults.{HasCause, PutFailed}, Putting.Over};
-ghost use Rattle.tte_traces.specs.reports.{Answer.IsAuditStatus, Reports.AreLeft};
+ghost use Rattle.{lens.specs.draw.Answer.back_answer, run_law.{specs.{declared.{note.{Note.{Note as NoteValue}}}}}};
+ghost use Rattle.{lens.specs.draw.Picture.{marks_of, pen_behind}, tte_forms.specs.Faults.{HasCause, PutFailed}};
+ghost use Rattle.{lens.specs.draw.Putting.Draws, net_plan.specs.Ranges.IsInRange, tte_forms.specs.Answering.Gives};
+ghost use Rattle.{lens.specs.draw.svg.Layout.{pen_at, widest}, tte_traces.specs.reports.Reports.AreLeft};
+ghost use Rattle.{report_text.specs.Ranges.{IsNoteInRange, IsNoteOf}, tte_traces.specs.reports.Answer.IsAuditStatus};
+ghost use Rattle.{tte_audit.specs.Named.IsNamed, tte_forms.specs.Putting.Over};
 
 use crate::draw::signs::CLOSE;
 use crate::draw::svg::{Pen, Span, make_mark_line};

@@ -1,10 +1,8 @@
 //! Where in their windows the frames came that are taken in a part of a run.
 ghost use Rattle.std.specs.Prelude.{◌≡◌, All, IfOk, List};
-ghost use Rattle.audit_devices.specs.events.Readings.{scenario_under};
-ghost use Rattle.lens.specs.draw.Asking.{IsAskable};
+ghost use Rattle.{audit_devices.specs.events.Readings.scenario_under, run_law.specs.records.Happenings.Happening};
+ghost use Rattle.{lens.specs.draw.Asking.IsAskable, net_plan.specs.{Ranges.IsInRange, declared.event.Event.Event}};
 ghost use Rattle.lens.specs.{draw.svg.Windows.{came_of, windows_in}, why.past.Pasts.{IsPast, IsSomePast, clock_at}};
-ghost use Rattle.net_plan.specs.{Ranges.IsInRange, declared.event.Event.Event};
-ghost use Rattle.run_law.specs.records.Happenings.{Happening};
 
 use crate::draw::svg::{Came, Look, Mark, Sketch, came_of};
 use crate::why::past::Past;

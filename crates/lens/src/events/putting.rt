@@ -1,8 +1,7 @@
 ghost use Rattle.std.specs.Prelude.{◌≡◌, ◌≤◌};
-ghost use Rattle.tte_forms.specs.Answering.{AnswersOne, GivesAnswer};
-ghost use Rattle.tte_forms.specs.{Faults.{HasCause, IsWanted, PutFailed, ReadFailed}, Putting.Over};
-ghost use Rattle.tte_forms.specs.networks.{Accepting.IsNetworkAnswer, Checking.IsCheckStatus};
-ghost use Rattle.lens.specs.events.Answer.{IsEventsAnswer};
+ghost use Rattle.{lens.specs.events.Answer.IsEventsAnswer, tte_forms.specs.Putting.Over};
+ghost use Rattle.tte_forms.specs.{Answering.{AnswersOne, GivesAnswer}, networks.Accepting.IsNetworkAnswer};
+ghost use Rattle.tte_forms.specs.{Faults.{HasCause, IsWanted, PutFailed, ReadFailed}, networks.Checking.IsCheckStatus};
 
 use schedule_tables::Accepted;
 use std::alloc::Global;

@@ -1,11 +1,10 @@
 ghost use Rattle.std.specs.Prelude.{◌≡◌, ◌⊎◌, All, List};
 ghost use Rattle.lens.specs.flows.{Answer.{IsFlowsAnswer, told_answer}, Seeing.IsSomeReport, Writing.IsWritable};
-ghost use Rattle.net_plan.specs.Ranges.{IsInRange};
+ghost use Rattle.{net_plan.specs.Ranges.IsInRange, tte_forms.specs.Faults.{HasCause, IsWanted, PutFailed, ReadFailed}};
 ghost use Rattle.run_law.specs.declared.note.Note.{Note as NoteValue};
 ghost use Rattle.tte_forms.specs.{Answering.{ForOctets, Gives, GivesAnswer}, networks.Accepting.IsNetworkAnswer};
-ghost use Rattle.tte_forms.specs.{Faults.{HasCause, IsWanted, PutFailed, ReadFailed}, Putting.Over};
+ghost use Rattle.{tte_forms.specs.Putting.Over, tte_units.{specs.{declared.{units.{Units.{Units as UnitsValue}}}}}};
 ghost use Rattle.tte_traces.specs.reports.{Answer.IsAuditStatus, Reports.{IsReportAnswer, IsReportOf}};
-ghost use Rattle.tte_units.specs.declared.units.Units.{Units as UnitsValue};
 
 use crate::flows::counts::FlowTold;
 use crate::flows::lines::make_flow_line;

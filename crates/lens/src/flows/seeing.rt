@@ -1,12 +1,10 @@
 //! What the records of a report show of the flows.
 
 ghost use Rattle.std.specs.Prelude.{◌≡◌, IfOk, List};
-ghost use Rattle.lens.specs.flows.{Answer.AreAllTold, Seeing.{IsSomeReport, TellsEvents}, counts.Seen.HasSeen};
-ghost use Rattle.net_plan.specs.Ranges.{IsInRange};
-ghost use Rattle.run_law.specs.declared.note.Note.{Note as NoteValue};
-ghost use Rattle.tte_audit.specs.{Named.IsNamed, Report.events_of};
-ghost use Rattle.tte_traces.specs.reports.Reports.{IsReportOf};
-ghost use Rattle.tte_units.specs.declared.units.Units.{Units as UnitsValue};
+ghost use Rattle.{lens.specs.flows.Answer.AreAllTold, tte_audit.specs.{Named.IsNamed, Report.events_of}};
+ghost use Rattle.{lens.specs.flows.Seeing.{IsSomeReport, TellsEvents}, tte_traces.specs.reports.Reports.IsReportOf};
+ghost use Rattle.{lens.specs.flows.counts.Seen.HasSeen, run_law.{specs.{declared.{note.{Note.{Note as NoteValue}}}}}};
+ghost use Rattle.{net_plan.specs.Ranges.IsInRange, tte_units.{specs.{declared.{units.{Units.{Units as UnitsValue}}}}}};
 
 use crate::flows::counts::{FlowTold, OutOfMemory, Seen, flows_of, tell_all};
 use crate::flows::judge::Course;

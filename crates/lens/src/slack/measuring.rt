@@ -1,10 +1,9 @@
 //! What is found of a network, step by step.
 ghost use Rattle.std.specs.Prelude.{◌++◌, ◌<◌, ◌≡◌, All, IfOk, OnOk};
-ghost use Rattle.net_plan.specs.Ranges.{IsInRange};
-ghost use Rattle.schedule_checker.specs.Judging.{IsPlan, plan_rule};
-ghost use Rattle.lens.specs.slack.Finds.{AreOf, IsFoundIn, some_found};
+ghost use Rattle.lens.specs.slack.{Finds.{AreOf, IsFoundIn, some_found}, Writing.{HasEndingPlace, IsWritable}};
 ghost use Rattle.lens.specs.slack.Spots.{IsSpotOf, IsTightestOf, channel_of, spot_at, spots_of};
-ghost use Rattle.lens.specs.slack.{Taking.{Judges, Pushes, Takes}, Writing.{HasEndingPlace, IsWritable}};
+ghost use Rattle.{lens.specs.slack.Taking.{Judges, Pushes, Takes}, schedule_checker.specs.Judging.{IsPlan, plan_rule}};
+ghost use Rattle.net_plan.specs.Ranges.{IsInRange};
 
 use crate::slack::bounds::tightest_at;
 use crate::slack::step::Step;

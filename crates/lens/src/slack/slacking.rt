@@ -3,9 +3,8 @@ ghost use Rattle.lens.specs.declared.slack.spot.Finding.{Finding as FindingValue
 ghost use Rattle.lens.specs.slack.Answer.{IsFileAnswer, IsSlackAnswer, IsSlackAnswerOf, IsSlackOf, broken_answer};
 ghost use Rattle.lens.specs.slack.{Answer.{ending_answer, ending_status, found_answer, told_of}, Finds.shorts_of};
 ghost use Rattle.lens.specs.slack.{Writing.{HasEndingPlace, HasPlace, IsWritable}, forms.Forms.IsInequality};
-ghost use Rattle.net_plan.specs.Ranges.{IsInRange};
-ghost use Rattle.tte_forms.specs.Answering.{AnswersOne, Gives, GivesAnswer};
-ghost use Rattle.tte_forms.specs.{Faults.{HasCause, IsWanted, PutFailed, ReadFailed}, Putting.Over};
+ghost use Rattle.{net_plan.specs.Ranges.IsInRange, tte_forms.specs.Faults.{HasCause, IsWanted, PutFailed, ReadFailed}};
+ghost use Rattle.tte_forms.specs.{Answering.{AnswersOne, Gives, GivesAnswer}, Putting.Over};
 ghost use Rattle.tte_forms.specs.networks.{Checking.IsCheckStatus, NetworkLine.{network_refusal_line, rule_reason}};
 
 use crate::slack::Finding;

@@ -1,13 +1,10 @@
 ghost use Rattle.std.specs.Prelude.{◌≡◌, ◌⊎◌, List};
-ghost use Rattle.report_text.specs.Ranges.{IsNoteOf};
-ghost use Rattle.run_law.specs.declared.note.Note.{Note as NoteValue};
-ghost use Rattle.tte_audit.specs.Named.{IsNamed};
+ghost use Rattle.lens.specs.why.{Answer.{IsWhyAnswer, IsWhyStatus}, past.Pasts.{IsSomeReport, ShowsAll}};
+ghost use Rattle.{lens.specs.why.Records.IsRecordOf, tte_traces.specs.reports.Reports.{IsReportAnswer, IsReportOf}};
+ghost use Rattle.{report_text.specs.Ranges.IsNoteOf, run_law.{specs.{declared.{note.{Note.{Note as NoteValue}}}}}};
+ghost use Rattle.{tte_audit.specs.Named.IsNamed, tte_forms.specs.Faults.{HasCause, IsWanted, PutFailed, ReadFailed}};
 ghost use Rattle.tte_forms.specs.{Answering.{ForOctets, GivesAnswer}, Putting.Over, networks.Accepting.IsNetworkAnswer};
-ghost use Rattle.tte_forms.specs.Faults.{HasCause, IsWanted, PutFailed, ReadFailed};
-ghost use Rattle.tte_traces.specs.reports.Reports.{IsReportAnswer, IsReportOf};
 ghost use Rattle.tte_units.specs.declared.units.Units.{Units as UnitsValue};
-ghost use Rattle.lens.specs.why.past.Pasts.{IsSomeReport, ShowsAll};
-ghost use Rattle.lens.specs.why.{Answer.{IsWhyAnswer, IsWhyStatus}, Records.IsRecordOf};
 
 use crate::why::causes::{giving, record_at};
 use crate::why::ground::ground_of;

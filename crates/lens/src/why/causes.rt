@@ -1,11 +1,9 @@
 //! The records of a report by their numbers and by their causes.
 ghost use Rattle.std.specs.Prelude.{◌≡◌, IfOk, IfSome, List, option_map};
-ghost use Rattle.report_text.specs.Ranges.{IsNoteOf};
-ghost use Rattle.run_law.specs.{declared.note.Note.Note as NoteValue, records.Causes.cause_of};
-ghost use Rattle.tte_audit.specs.Named.{IsNamed};
-ghost use Rattle.tte_traces.specs.reports.Reports.{IsReportOf};
-ghost use Rattle.tte_units.specs.declared.units.Units.{Units as UnitsValue};
-ghost use Rattle.lens.specs.why.{Records.{IsFound, IsRecordOf, note_at}, past.Pasts.IsSomeReport};
+ghost use Rattle.{lens.specs.why.Records.{IsFound, IsRecordOf, note_at}, tte_traces.specs.reports.Reports.IsReportOf};
+ghost use Rattle.{lens.specs.why.past.Pasts.IsSomeReport, run_law.{specs.{declared.{note.{Note.{Note as NoteValue}}}}}};
+ghost use Rattle.{report_text.specs.Ranges.IsNoteOf, run_law.specs.records.Causes.cause_of};
+ghost use Rattle.{tte_audit.specs.Named.IsNamed, tte_units.{specs.{declared.{units.{Units.{Units as UnitsValue}}}}}};
 
 use net_plan::Network;
 use run_law::{Note, NoteBody};

@@ -1,17 +1,15 @@
 //! What a compression master has collected.
 ghost use Rattle.std.specs.Prelude.{◌*◌, ◌++◌, ◌+◌, ◌-ℤ◌, ◌<◌, ◌∷◌, ◌≡◌, IfSome, List, Option, Some, [], option_map};
 ghost use Rattle.std.specs.Prelude.{pos};
-ghost use Rattle.audit_devices.specs.{Effects.carried_by, Keeping.records_before};
+ghost use Rattle.{audit_devices.specs.Effects.carried_by, run_law.specs.control.Collections.{ends_stretch, point_by}};
+ghost use Rattle.{audit_devices.specs.Keeping.records_before, tte_traces.specs.reports.Reports.IsReportOf};
 ghost use Rattle.compression.specs.{Clusters.Cluster, Collection.{joined_end, opening}, Role.{has_point_of, role_in}};
-ghost use Rattle.run_law.specs.{control.Collections.{ends_stretch, point_by}, records.Ranks.place_of};
-ghost use Rattle.run_law.specs.{declared.{note.{Note.{Note as NoteValue}}}, records.Happenings.{Happening, happenings}};
+ghost use Rattle.{device_rules.specs.Widths.IsWide, run_law.specs.records.Ranks.place_of};
 ghost use Rattle.lens.specs.why.Collections.{as_point, behind_point, collected_ground, last_collection, middle_told};
 ghost use Rattle.lens.specs.why.{Collections.{sent_ground, taken_to, told_of}, past.Pasts.{IsSomeReport, ShowsAll}};
-ghost use Rattle.lens.specs.why.Records.{IsThere};
-ghost use Rattle.tte_audit.specs.Named.{IsNamed};
-ghost use Rattle.tte_traces.specs.reports.Reports.{IsReportOf};
-ghost use Rattle.device_rules.specs.Widths.{IsWide};
-ghost use Rattle.tte_units.specs.{Amount.amount, declared.units.Units.Units as UnitsValue};
+ghost use Rattle.{lens.specs.why.Records.IsThere, tte_units.{specs.{declared.{units.{Units.{Units as UnitsValue}}}}}};
+ghost use Rattle.run_law.specs.{declared.{note.{Note.{Note as NoteValue}}}, records.Happenings.{Happening, happenings}};
+ghost use Rattle.{tte_audit.specs.Named.IsNamed, tte_units.specs.Amount.amount};
 
 use crate::why::ground::{Ground, beyond, magnitude};
 use crate::why::past::KnownReport;

@@ -1,14 +1,12 @@
 //! What a correction of a device's clock comes from, or a state by a clique.
 ghost use Rattle.std.specs.Prelude.{◌^◌, ◌≡◌, ◌≤◌, List, option_and_then, true};
-ghost use Rattle.device_rules.specs.Widths.{IsWide};
+ghost use Rattle.{device_rules.specs.Widths.IsWide, tte_units.{specs.{declared.{units.{Units.{Units as UnitsValue}}}}}};
 ghost use Rattle.lens.specs.why.Corrections.{clique_ground, corrected_ground, is_clique, said_by, told_on, value_of};
 ghost use Rattle.lens.specs.why.{Records.{IsCorrection, IsState, IsThere}, past.Pasts.{IsSomeReport, ShowsAll}};
-ghost use Rattle.net_plan.specs.{Belonging.HasDevice, Ranges.IsInRange};
-ghost use Rattle.run_law.specs.declared.{judgement.Why.Why, note.Note.Note as NoteValue};
-ghost use Rattle.run_law.specs.records.Happenings.{Happening, happenings};
-ghost use Rattle.tte_audit.specs.{Named.IsNamed, Report.scenario_of};
-ghost use Rattle.tte_traces.specs.reports.Reports.{IsReportOf};
-ghost use Rattle.tte_units.specs.{Amount.amount, declared.units.Units.Units as UnitsValue};
+ghost use Rattle.{net_plan.specs.{Belonging.HasDevice, Ranges.IsInRange}, tte_audit.specs.Report.scenario_of};
+ghost use Rattle.{run_law.specs.declared.judgement.Why.Why, tte_traces.specs.reports.Reports.IsReportOf};
+ghost use Rattle.run_law.specs.{declared.{note.{Note.{Note as NoteValue}}}, records.Happenings.{Happening, happenings}};
+ghost use Rattle.{tte_audit.specs.Named.IsNamed, tte_units.specs.Amount.amount};
 
 use crate::why::ground::{Best, Ground, Told, beyond, magnitude};
 use crate::why::past::KnownReport;

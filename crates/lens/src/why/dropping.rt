@@ -1,21 +1,18 @@
 //! What a frame that was dropped was judged by.
 ghost use Rattle.std.specs.{Option.option_map_or, Prelude.position};
 ghost use Rattle.std.specs.Prelude.{◌&&◌, ◌*◌, ◌+ℤ◌, ◌+◌, ◌<◌, ◌^◌, ◌≡◌, ◌≤◌, IfSome, List, Some, length, pos};
-ghost use Rattle.audit_devices.specs.events.Readings.{scenario_under};
-ghost use Rattle.device_rules.specs.Widths.{IsLocal};
+ghost use Rattle.{audit_devices.specs.events.Readings.scenario_under, schedule_tables.specs.Entries.IsEntryInRange};
+ghost use Rattle.{device_rules.specs.Widths.IsLocal, run_law.{specs.{declared.{note.{Note.{Note as NoteValue}}}}}};
 ghost use Rattle.lens.specs.why.Grounds.{beside_ground, cycle_before, dropped_ground, entry_given, gate_ground};
 ghost use Rattle.lens.specs.why.Grounds.{length_ground, repeat_ground, unknown_ground, unsynchronised_ground};
 ghost use Rattle.lens.specs.why.{Records.IsThere, past.Pasts.{IsPast, IsSomePast, IsSomeReport, ShowsAll}};
-ghost use Rattle.net_plan.specs.{Belonging.HasDevice, Ranges.IsInRange, declared.event.Event.Event};
-ghost use Rattle.net_plan.specs.declared.network.Network.{Network as NetworkValue};
-ghost use Rattle.run_law.specs.declared.note.Note.{Note as NoteValue};
+ghost use Rattle.{net_plan.specs.{Belonging.HasDevice, Ranges.IsInRange}, tte_traces.specs.reports.Reports.IsReportOf};
+ghost use Rattle.net_plan.specs.declared.{event.Event.Event, network.{Network.{Network as NetworkValue}}};
 ghost use Rattle.run_law.specs.device.Standpoints.{clock_of, cycle_at, offset_in_cycle, standpoint};
 ghost use Rattle.run_law.specs.{records.Happenings.{Happening, happenings, numbered}, scenario.Ways.is_way_of};
-ghost use Rattle.run_law.specs.timed.Arrivals.{entry_entering, is_row_with};
-ghost use Rattle.schedule_tables.specs.Entries.{IsEntryInRange};
-ghost use Rattle.tte_audit.specs.{Named.IsNamed, Report.scenario_of};
-ghost use Rattle.tte_traces.specs.reports.Reports.{IsReportOf};
-ghost use Rattle.tte_units.specs.{Amount.amount, declared.units.Units.Units as UnitsValue};
+ghost use Rattle.{run_law.specs.timed.Arrivals.{entry_entering, is_row_with}, tte_audit.specs.Report.scenario_of};
+ghost use Rattle.{tte_audit.specs.Named.IsNamed, tte_units.{specs.{declared.{units.{Units.{Units as UnitsValue}}}}}};
+ghost use Rattle.tte_units.specs.Amount.{amount};
 
 use crate::why::ground::{Ground, magnitude, place_in_cycle, position_at};
 use crate::why::past::{KnownReport, Past};

@@ -1,19 +1,17 @@
 ghost use Rattle.std.specs.Prelude.{◌*◌, ◌+ℤ◌, ◌+◌, ◌-ℤ◌, ◌-◌, ◌<◌, ◌^◌, ◌≡◌, ◌≤◌, IfSome, List, None, Option, Some};
 ghost use Rattle.std.specs.Prelude.{length, option_map};
-ghost use Rattle.audit_devices.specs.events.Readings.{scenario_under};
-ghost use Rattle.device_rules.specs.Widths.{IsWide};
+ghost use Rattle.{audit_devices.specs.events.Readings.scenario_under, tte_traces.specs.reports.Reports.IsReportOf};
+ghost use Rattle.{device_rules.specs.Widths.IsWide, tte_units.{specs.{declared.{units.{Units.{Units as UnitsValue}}}}}};
 ghost use Rattle.lens.specs.why.{Corrections.is_clique, Grounds.{scheduled_ground, state_ground, window_ground}};
 ghost use Rattle.lens.specs.why.Grounds.{dispatch_ground, ground_of, heard_ground, is_by_schedule, is_collected};
 ghost use Rattle.lens.specs.why.Grounds.{lost_ground, offset_at, permanent_ground, position_at, row_of};
 ghost use Rattle.lens.specs.why.Records.{ComesFrom, IsPermanence, IsState, IsThere, clock_given};
 ghost use Rattle.lens.specs.why.past.Pasts.{IsPast, IsSomePast, IsSomeReport, IsTimely, ShowsAll};
-ghost use Rattle.net_plan.specs.{Belonging.HasDevice, Ranges.IsInRange, declared.event.Event.Event};
+ghost use Rattle.{net_plan.specs.{Belonging.HasDevice, declared.event.Event.Event}, tte_audit.specs.Report.scenario_of};
+ghost use Rattle.{net_plan.specs.Ranges.IsInRange, tte_audit.specs.Named.IsNamed, tte_units.specs.Amount.amount};
 ghost use Rattle.run_law.specs.declared.judgement.Judgement.{Judgement as JudgementValue};
 ghost use Rattle.run_law.specs.{declared.{note.{Note.{Note as NoteValue}}}, device.Standpoints.offset_in_cycle};
 ghost use Rattle.run_law.specs.{records.Happenings.{Happening, happenings, numbered}, scenario.Ways.way_from};
-ghost use Rattle.tte_audit.specs.{Named.IsNamed, Report.scenario_of};
-ghost use Rattle.tte_traces.specs.reports.Reports.{IsReportOf};
-ghost use Rattle.tte_units.specs.{Amount.amount, declared.{units.{Units.{Units as UnitsValue}}}};
 
 use crate::why::collecting::{Collection, collected, sent_for};
 use crate::why::correcting::{clique, corrected};

@@ -1,12 +1,10 @@
 //! The lines of grounds, and of a number that no record has.
 ghost use Rattle.std.specs.{Fmt.{decimal, signed_decimal}, Prelude.{◌++◌, ◌+◌, ◌≡◌, ◌≤◌, MatchResult, codes, length}};
-ghost use Rattle.membership.specs.Members.{count_of};
-ghost use Rattle.net_plan.specs.Ranges.{IsInRange};
-ghost use Rattle.report_text.specs.{NoteWords.members_text, Ranges.IsNoteOf};
-ghost use Rattle.tte_forms.specs.{Faults.PutFailed, Putting.{Over, PutFails, PutsLines}};
-ghost use Rattle.tte_io.specs.Line.{line_limit};
 ghost use Rattle.lens.specs.why.Lines.{against_text, best_text, collection_text, ground_line, ground_text, is_told};
 ghost use Rattle.lens.specs.why.Lines.{number_refused_line, off_text, outside_text, told_lines, told_text, window_text};
+ghost use Rattle.{membership.specs.Members.count_of, report_text.specs.Ranges.IsNoteOf, tte_io.specs.Line.line_limit};
+ghost use Rattle.{net_plan.specs.Ranges.IsInRange, tte_forms.specs.Faults.PutFailed};
+ghost use Rattle.{report_text.specs.NoteWords.members_text, tte_forms.specs.Putting.{Over, PutFails, PutsLines}};
 
 use crate::why::{Best, Collection, Ground, Told};
 use itoa::Buffer;

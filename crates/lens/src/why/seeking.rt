@@ -1,15 +1,14 @@
 //! The last record before another one by which something came about.
 ghost use Rattle.std.specs.Prelude.{if◌then◌else◌, ◌≡◌, List, Some, option_map, true};
-ghost use Rattle.audit_devices.specs.{Effects.carried_by, Keeping.records_before};
+ghost use Rattle.{audit_devices.specs.Effects.carried_by, run_law.specs.scenario.Devices.{channel_of, channel_of_link}};
+ghost use Rattle.{audit_devices.specs.Keeping.records_before, tte_traces.specs.reports.Reports.IsReportOf};
 ghost use Rattle.lens.specs.why.{Records.IsThere, past.Pasts.{IsPast, IsSomeReport, ShowsAll}};
 ghost use Rattle.lens.specs.why.Seeking.{is_channel, is_frame, is_hearing_of, is_sought, last_sought, opens, turns};
-ghost use Rattle.net_plan.specs.declared.{event.Event.Event as EventValue, network.Network.Network as NetworkValue};
+ghost use Rattle.net_plan.specs.declared.event.Event.{Event as EventValue};
+ghost use Rattle.net_plan.specs.declared.network.Network.{Network as NetworkValue};
 ghost use Rattle.run_law.specs.{control.Corrections.{heard_by, hearing_by}, declared.{note.{Note.{Note as NoteValue}}}};
 ghost use Rattle.run_law.specs.records.{Happenings.{Happening, happenings, numbered}, Ranks.place_of};
-ghost use Rattle.run_law.specs.scenario.Devices.{channel_of, channel_of_link};
-ghost use Rattle.run_law.specs.timed.Receptions.{comes_before, is_taken_before};
-ghost use Rattle.tte_audit.specs.Named.{IsNamed};
-ghost use Rattle.tte_traces.specs.reports.Reports.{IsReportOf};
+ghost use Rattle.{run_law.specs.timed.Receptions.{comes_before, is_taken_before}, tte_audit.specs.Named.IsNamed};
 ghost use Rattle.tte_units.specs.declared.units.Units.{Units as UnitsValue};
 
 use crate::why::ground::magnitude;

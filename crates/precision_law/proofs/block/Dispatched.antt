@@ -1,9 +1,8 @@
 -- Good masters dispatch the frames of each cycle.
-use Rattle.run_law.specs.timed.Dispatching.{Sends}
 use Rattle.precision_law.proofs.{block.{Coming.reaches_in_block, Onward.hull_ordered}, words.Blocks.{master_is_end, not_turned_on_then, old_point, turned_at}}
 use Rattle.precision_law.proofs.words.Blocks.{HasPoint, before_narrow, earlier_in_block, early_show, has_corrected, has_lost, joining_of_setting, looking_by}
 use Rattle.precision_law.proofs.words.Clocks.{before_of, before_place, earlier_before, frames_come_first, good_is_correct, in_earlier, natural_of, one_more}
-use Rattle.precision_law.proofs.words.Clocks.{reaches_front, room, same_device, setting_is, sizes_are}
+use Rattle.{precision_law.proofs.words.Clocks.{reaches_front, room, same_device, setting_is, sizes_are}, run_law.specs.timed.Dispatching.Sends}
 use Rattle.precision_law.proofs.words.Laws.{BlocksGoSo, HasTimeAt, IsClique, IsDispatch, IsFirm, IsFirstMaster, IsGood, IsInBlock, IsOldAt, IsView}
 use Rattle.precision_law.proofs.words.Laws.{MastersDispatch, View, first_correction, has_time, is_correction, last_dispatch, last_setting, state_left}
 use Rattle.precision_law.proofs.words.Plans.{Corrected, Device, DeviceId, Event, Integrating, Joining, State, Synchronised, Verdict, amount, device_at}

@@ -1,7 +1,5 @@
 -- The dispatches of a cycle come half as far apart as those of the cycle before, but for the starts.
-use Rattle.run_law.proofs.device.States.{is_in}
-use Rattle.sync_state.proofs.StateFacts.{up_state}
-use Rattle.precision_law.proofs.{block.Goings.next_first, law.Together.before_narrow}
+use Rattle.{precision_law.proofs.{block.Goings.next_first, law.Together.before_narrow}, sync_state.proofs.StateFacts.up_state}
 use Rattle.precision_law.proofs.{block.Starts.{has_start, none_at_start, start_is}, law.Cover.{behind_of, later_end}, words.Laws.{state_left, widened}}
 use Rattle.precision_law.proofs.words.Clocks.{adjustment_is_last, adjustment_stays, anchored_clocks_reach, anchored_clocks_show, before_of}
 use Rattle.precision_law.proofs.words.Clocks.{clocks_reach_sharply, device_of, earlier_before, frames_come_first, master_ends, never_some, over, passes}
@@ -14,6 +12,7 @@ use Rattle.precision_law.proofs.words.Plans.{Device, DeviceId, Synchronised, Uni
 use Rattle.precision_law.proofs.words.Runs.{Happening, IsCaused, IsIn, earlier, founded_at, has_role, in_filter, is_end, is_synchronised, is_turned_on_at}
 use Rattle.precision_law.proofs.words.Std.{◌*◌, ◌+ℤ◌, ◌+◌, ◌-ℤ◌, ◌<ℤ◌, ◌<◌, ◌∙◌, ◌∷◌, ◌≡◌, ◌≤ℤ◌, ◌≤◌, ◌⊎◌, List, None, Option, Some, [], ap, arith, by_lt_z}
 use Rattle.precision_law.proofs.words.Std.{clamps, false, filter, inl, inr, ints, negsuc, option_and_then, option_map_or, pos, refl, subst, suc, true, zero, ℕ}
+use Rattle.run_law.proofs.device.States.{is_in}
 
 -- ---- the ends of a hull
 

@@ -1,9 +1,8 @@
 -- Anchored clocks: how they are set, what they show, and when they reach a value.
-use Rattle.std.proofs.Common.{suc-mul}
 use Rattle.precision_law.proofs.words.Laws.{AnchoredClocksReach, AnchoredClocksShow, AnchorsWiden, ClocksOfOneCycle, ClocksOfTwoCycles, OneFrameAnchors}
 use Rattle.precision_law.proofs.words.Laws.{OneFrameSets, SetClocksHaveReached, SetClocksShow, SharedClocksHalve, StartsAreSet, StartsStayTogether}
-use Rattle.precision_law.proofs.words.{Laws.{TwoFramesAnchor, TwoFramesSet, high_of, low_of, setting}, Plans.{mean_of, mean_of-floor}}
-use Rattle.precision_law.proofs.words.Std.{◌*ℤ◌, ◌*◌, ◌+ℤ◌, ◌+◌, ◌-ℤ◌, ◌≡◌, ◌≤ℤ◌, arith, ints, negsuc, pos, refl, ℕ, ℤ}
+use Rattle.{precision_law.proofs.words.Laws.{TwoFramesAnchor, TwoFramesSet, high_of, low_of, setting}, std.proofs.Common.suc-mul}
+use Rattle.precision_law.proofs.words.{Plans.{mean_of, mean_of-floor}, Std.{◌*ℤ◌, ◌*◌, ◌+ℤ◌, ◌+◌, ◌-ℤ◌, ◌≡◌, ◌≤ℤ◌, arith, ints, negsuc, pos, refl, ℕ, ℤ}}
 
 -- ---- setting a clock
 

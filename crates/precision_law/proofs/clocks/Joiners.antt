@@ -1,8 +1,6 @@
 -- A device whose clock was last set by a frame that told it the time is still joining.
-use Rattle.net_plan.proofs.SameIds.{one_device}
-use Rattle.run_law.proofs.records.{Happenings.{from_earlier, is_earlier}, Members.in_kept}
-use Rattle.tte_lemmas.proofs.Lists.{last_more}
-use Rattle.precision_law.proofs.Plain.{higher_before}
+use Rattle.{net_plan.proofs.SameIds.one_device, tte_lemmas.proofs.Lists.last_more}
+use Rattle.{precision_law.proofs.Plain.higher_before, run_law.proofs.records.{Happenings.{from_earlier, is_earlier}, Members.in_kept}}
 use Rattle.precision_law.proofs.{clocks.Epochs.{Keeps, kept_by_all, kept_if, state_stays}, words.Laws.{IsView, View, epoch_time, last_setting, state_left}}
 use Rattle.precision_law.proofs.{records.Points.{setting_is, sorted_parts}, words.Std.{nat_lt, negsuc, option_map_or, pos, refl, subst, sym, true, ℕ}}
 use Rattle.precision_law.proofs.{records.{Times.{AreSorted, last_some}, Views.in_order}, words.Plans.{DeviceId, Joining, State, Units, amount, state_at_start}}

@@ -1,8 +1,7 @@
 -- The base of a compressed frame lies in the hull of its cycle.
-use Rattle.std.proofs.lemmas.List.{length-map}
 use Rattle.precision_law.proofs.{compression.Emitted.emissions_are_sharp, words.{Laws.{View, base_of, hull_of}, Runs.{Happening, IsIn, same_some, time_of}}}
 use Rattle.precision_law.proofs.compression.Made.{IsBadPoint, IsGoodPoint, bad_is_one, good_member_point, good_or_bad_point, is_of_member, made, not_both}
-use Rattle.precision_law.proofs.compression.Made.{three_have_good}
+use Rattle.{precision_law.proofs.compression.Made.three_have_good, std.proofs.lemmas.List.length-map}
 use Rattle.precision_law.proofs.words.Clocks.{Apart, all_but_one, ascending_from, few_members, one_member, room, short_by_reading, steady}
 use Rattle.precision_law.proofs.words.Laws.{AreGood, BasesAreInHulls, BasesAreNearHulls, Hull, IsBaseIn, IsEmission, IsSteady, IsTidyBefore, IsView, Sizes}
 use Rattle.precision_law.proofs.words.Plans.{DeviceId, LiesWithin, Members, Ordered, Point, count_of, last_from, mean_of-floor, members_of, middle_among_others}

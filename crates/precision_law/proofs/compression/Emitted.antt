@@ -1,9 +1,8 @@
 -- When compression masters send.
-use Rattle.run_law.proofs.records.Order.{contained}
 use Rattle.precision_law.proofs.words.Clocks.{IsClusterOf, TakesWith, behind_last, cluster_from, has_firsts, in_filter_map, never_timed, reach_is_sharp, room}
 use Rattle.precision_law.proofs.words.{Clocks.{same_device, sizes_are, some_if, steady, taken_as, taken_sound}, Laws.{EmissionsAreSharp, IsView, View}}
 use Rattle.precision_law.proofs.words.Plans.{Cluster, Compressed, DeviceId, LinkId, Pcf, Point, Units, amount, cluster_of, emission, in_cases, last_but_one}
-use Rattle.precision_law.proofs.words.Plans.{mean_of, mean_of-floor, middle_of, point_at, relative}
+use Rattle.{precision_law.proofs.words.Plans.{mean_of, mean_of-floor, middle_of, point_at, relative}, run_law.proofs.records.Order.contained}
 use Rattle.precision_law.proofs.words.Runs.{Arrival, Happening, IsArrivedRecord, IsCaused, IsDue, IsFounded, IsIn, Judgement, NoteBody, Signal, arrival_of}
 use Rattle.precision_law.proofs.words.Runs.{control, cycle_in, ends_stretch, founded_at, in_right, master_of, members_in, numbered_in, observation_window}
 use Rattle.precision_law.proofs.words.{Runs.{place_of, point_by, points_of, standpoint, time_of, timed}, Std.{inr, ints, map, pos, refl, subst, sym, ℕ, ℤ}}

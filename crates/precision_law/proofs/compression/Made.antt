@@ -1,6 +1,5 @@
 -- What compressed frames are made of.
-use Rattle.compression.proofs.ClusterFacts.{ends_soon}
-use Rattle.precision_law.proofs.{block.Joins.cm_channel, words.Std.{zero_from_ones, ℕ, ℤ}}
+use Rattle.{compression.proofs.ClusterFacts.ends_soon, precision_law.proofs.{block.Joins.cm_channel, words.Std.{zero_from_ones, ℕ, ℤ}}}
 use Rattle.precision_law.proofs.{compression.Emitted.{in_cluster, point_record}, words.Laws.{MembersAreMasters, ThreeHaveGood, View, clock_in, links_of}}
 use Rattle.precision_law.proofs.{compression.Ripenings.{master_of_bit, ripening}, words.Runs.{member_of, observation_window, points_of, same_some, time_of}}
 use Rattle.precision_law.proofs.{compression.Stretches.points_ordered, hearing.Timely.{cm_of, path_member}, trips.Upward.{path_up, trips_up_take_dmax}}

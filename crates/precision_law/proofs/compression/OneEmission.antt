@@ -1,14 +1,13 @@
 -- A compression master sends at most one frame of a cycle that has a good member.
-use Rattle.compression.{proofs.ClusterFacts.ends_soon, specs.Emission.compressed}
-use Rattle.run_law.{proofs.records.Order.contained, specs.control.Emissions.Emits}
+use Rattle.{compression.proofs.ClusterFacts.ends_soon, precision_law.proofs.words.Plans.{emission, middle_of, one_cluster, one_time_law, relative}}
+use Rattle.{compression.specs.Emission.compressed, run_law.specs.control.Emissions.Emits}
 use Rattle.precision_law.proofs.compression.Emitted.{emissions_are_sharp, gives_point, in_cluster, middle_late, point_record}
 use Rattle.precision_law.proofs.compression.{Made.{IsBadPoint, IsGoodPoint, bad_is_one, front_point, not_both, point_is, point_not_both}, Shrunk.same_beyond}
-use Rattle.precision_law.proofs.compression.Stretches.{IsGivenIn, later_point, points_go_on, points_ordered, read_at}
+use Rattle.{precision_law.proofs.compression.Stretches.{IsGivenIn, later_point, points_go_on, points_ordered, read_at}, run_law.proofs.records.Order.contained}
 use Rattle.precision_law.proofs.words.Clocks.{all_by, ascending_from, before_of, cluster_from, contains, founded_by, has_firsts, has_member, has_one}
 use Rattle.precision_law.proofs.words.Clocks.{higher_before, member_has, middle_near, no_later, one_member, room, sizes_are, steady}
 use Rattle.precision_law.proofs.words.Laws.{EmissionIsOne, HasGood, Hull, IsEmission, IsGoodMember, IsInHull, IsNarrowIfThere, IsTidyBefore, IsView, View}
 use Rattle.precision_law.proofs.words.Plans.{AreClusters, AreInOrder, Cluster, Compressed, DeviceId, IsKept, LiesIn, LiesWithin, Members, Point, amount}
-use Rattle.precision_law.proofs.words.Plans.{emission, middle_of, one_cluster, one_time_law, relative}
 use Rattle.precision_law.proofs.words.Runs.{Happening, IsBefore, IsCaused, IsDue, IsFounded, IsFoundedAt, IsIn, NoteBody, behind_first, in_left, in_parts}
 use Rattle.precision_law.proofs.words.Runs.{in_right, is_cm, key, members_in, never_self, observation_window, parted, place_of, points_of, rank, same_some}
 use Rattle.precision_law.proofs.words.{Runs.time_of, Std.{append_assoc, arith, bit_at, cases_lt, inl, inr, ints, map, pos, refl, subst, sym, true, ℕ, ℤ}}

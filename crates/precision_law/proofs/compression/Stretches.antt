@@ -1,10 +1,9 @@
 -- The points of a compression master as records come.
-use Rattle.run_law.proofs.records.Order.{place_order}
-use Rattle.precision_law.proofs.{compression.{Emitted.{GivesPoint, gives_point}, Ripenings.ripening}, records.Behind.PartsAtLast.{none, some}}
+use Rattle.precision_law.proofs.{compression.Emitted.{GivesPoint, gives_point}, words.{Laws.{IsRipe, IsView, View}, Plans.{DeviceId, Ordered, Point, amount}}}
+use Rattle.{precision_law.proofs.compression.Ripenings.ripening, run_law.proofs.records.Order.place_order}
+use Rattle.precision_law.proofs.{records.Behind.PartsAtLast.{none, some}, words.{Clocks.{ripe_in_order, steady}, Runs.{point_by, points_of, time_of}}}
 use Rattle.precision_law.proofs.words.Clocks.{PartsAtLast, after_last_at, after_more, all_by, behind_last, in_filter_map, not_each, parts_at_last}
-use Rattle.precision_law.proofs.words.{Clocks.{ripe_in_order, steady}, Laws.{IsRipe, IsView, View}, Plans.{DeviceId, Ordered, Point, amount}}
 use Rattle.precision_law.proofs.words.Runs.{Happening, IsBefore, IsDue, IsFounded, IsIn, behind_first, ends_stretch, in_left, in_right, members_in, place_of}
-use Rattle.precision_law.proofs.words.Runs.{point_by, points_of, time_of}
 use Rattle.precision_law.proofs.words.Std.{◌++◌, ◌-◌, ◌<◌, ◌∙◌, ◌∷◌, ◌≡◌, ◌≤ℤ◌, ◌⊎◌, Bool, List, None, Option, Some, [], after_last, ap, append_assoc, arith}
 use Rattle.precision_law.proofs.words.Std.{cons_option, filter_map, filter_map-append, inl, inr, ints, pos, refl, subst, sym, ℕ, ℤ}
 

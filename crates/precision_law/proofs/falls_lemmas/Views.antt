@@ -1,11 +1,10 @@
 -- What a clock shows in a block, and how the hulls of two views of one run lie.
-use Rattle.precision_law.proofs.{records.RunViews.IsViewWith, words.Plans.{Channel, DeviceId}}
+use Rattle.{precision_law.proofs.{records.RunViews.IsViewWith, words.Plans.{Channel, DeviceId}}, schedule_tables.specs.Margins.dispatch_spread}
 use Rattle.precision_law.proofs.words.Blocks.{all_in_hulls, before_narrow, block_ends, earlier_in_block, follows_before, hull_lies, new_shows, old_shows}
 use Rattle.precision_law.proofs.words.{Blocks.{set_shows, view_of}, Laws.{epoch_time, hull_of, last_correction, last_setting, start_hull}}
 use Rattle.precision_law.proofs.words.{Clocks.{good_is_correct, one_more, room, sizes_are}, Runs.{Happening, Scenario, earlier, same_some, time_of}}
 use Rattle.precision_law.proofs.words.Laws.{BlocksCover, BlocksGoSo, HasTimeAt, Hull, IsDispatchOf, IsInBlock, IsView, ShowsIn, View, adjustment_left}
 use Rattle.precision_law.proofs.words.Std.{◌*◌, ◌+ℤ◌, ◌+◌, ◌≡◌, ◌≤ℤ◌, ◌≤◌, ◌⊎◌, List, Some, ap, arith, by_lt_z, inl, inr, ints, pos, refl, suc, zero, ℕ, ℤ}
-use Rattle.schedule_tables.specs.Margins.{dispatch_spread}
 
 -- ---- what a clock of a block shows
 

@@ -1,12 +1,11 @@
 -- One master at most is broken, and no two masters have one member number.
-use Rattle.run_law.proofs.records.Order.{any_in}
-use Rattle.precision_law.proofs.{Plain.{any_of_in, reached}, faults.Masters.breaks_it, words.Laws.{IsBad, IsView, View}}
+use Rattle.{net_plan.proofs.SameIds.same_device, precision_law.proofs.{Plain.{any_of_in, reached}, faults.Masters.breaks_it, words.Laws.{IsBad, IsView, View}}}
 use Rattle.precision_law.proofs.words.Plans.{Device, DeviceId, Event, IsDeviceInRange, Masters, all_at, amount, device_at, is_master}
 use Rattle.precision_law.proofs.words.Runs.{Breaks, IsIn, SecondBreak, breaks_at, events_up_to, in_filter, in_parts, in_right, member_of, parted}
-use Rattle.precision_law.proofs.words.Std.{if◌then◌else◌, ◌++◌, ◌<◌, ◌∙◌, ◌∷◌, ◌≡◌, ◌≤◌, Bool, IfSome, List, Option, Some, [], ap, append_assoc, arith}
-use Rattle.precision_law.proofs.words.Std.{cases_eq, cases_lt, false, filter, inl, inr, is_some, nat_le, refl, slice_get, subst, suc, sym, true, zero, ℕ}
+use Rattle.precision_law.proofs.words.Std.{◌++◌, ◌<◌, ◌∙◌, ◌∷◌, ◌≡◌, ◌≤◌, Bool, IfSome, List, Option, Some, [], ap, append_assoc, arith, cases_eq, cases_lt}
+use Rattle.precision_law.proofs.words.Std.{false, filter, if◌then◌else◌, inl, inr, is_some, nat_le, refl, slice_get, subst, suc, sym, true, zero, ℕ}
+use Rattle.run_law.proofs.records.Order.{any_in}
 use Rattle.net_plan.specs.declared.event.What.TheVariants as events
-use Rattle.net_plan.proofs.SameIds.{same_device}
 
 -- ---- one breaks
 

@@ -1,8 +1,6 @@
 -- Enough masters began on and are good.
-use Rattle.std.proofs.lemmas.Option.{slice_get_within}
-use Rattle.membership.proofs.CountLemmas.{count_of-union_single}
-use Rattle.run_law.proofs.records.Order.{in_any}
-use Rattle.precision_law.proofs.{Plain.le_by, trips.Ascents.master_member}
+use Rattle.{membership.proofs.CountLemmas.count_of-union_single, precision_law.proofs.trips.Ascents.master_member, std.proofs.lemmas.Option.slice_get_within}
+use Rattle.{precision_law.proofs.Plain.le_by, run_law.proofs.records.Order.in_any}
 use Rattle.precision_law.proofs.{faults.Broken.{broke_by, one_bad, one_member}, words.Laws.{EnoughMasters, IsBad, IsFirstMaster, IsGood, IsView, View}}
 use Rattle.precision_law.proofs.words.Plans.{Device, DeviceId, Event, IsMember, Masters, Members, closed, count_of, device_at, is_master, none, single, union}
 use Rattle.precision_law.proofs.words.Runs.{Breaks, TooFewMasters, breaks_at, in_right, is_broken, is_sound_master, member_of, parted, sound_masters}

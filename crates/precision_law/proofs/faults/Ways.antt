@@ -1,9 +1,8 @@
 -- The sound channel: no way of its links is cut, and its switches begin on.
-use Rattle.std.proofs.Common.{filter_map}
-use Rattle.run_law.proofs.{law.FirstDelays.{given, same_way_link}, records.Order.{given_of, has_passed}}
 use Rattle.precision_law.proofs.{Plain.{any_is, any_of_in, some_if}, records.Points.last_in, words.Laws.{IsView, SoundSwitchesBeginOn, SoundWaysAreWhole, View}}
-use Rattle.precision_law.proofs.{trips.Ascents.no_earlier, words.Plans.{link_at, opened}}
+use Rattle.{precision_law.proofs.trips.Ascents.no_earlier, std.proofs.Common.filter_map}
 use Rattle.precision_law.proofs.words.Plans.{A, B, Channel, Device, Event, HasOffSwitch, IsSwitchOf, Joints, Link, LinkId, Way, What, amount, closed, device_at}
+use Rattle.{precision_law.proofs.words.Plans.{link_at, opened}, run_law.proofs.{law.FirstDelays.{given, same_way_link}, records.Order.{given_of, has_passed}}}
 use Rattle.precision_law.proofs.words.Runs.{Cuts, IsFaulty, IsIn, IsLinkOf, Scenario, any_of_none, any_parts, cut_set, events_up_to, in_filter, in_left}
 use Rattle.precision_law.proofs.words.{Runs.{in_right, is_cut, is_way_of, parted}, Std.{refl, slice_get, subst, suc, sym, true, unwrap_or, zero, ℕ}}
 use Rattle.precision_law.proofs.words.Std.{◌++◌, ◌<◌, ◌∙◌, ◌∷◌, ◌≡◌, ◌≤◌, ◌⊎◌, Any, Bool, IsNone, List, None, Option, Some, [], ap, append_assoc, arith, false}

@@ -1,7 +1,5 @@
 -- What a device has heard since its last correction point.
-use Rattle.net_plan.proofs.SameIds.{one_device}
-use Rattle.run_law.proofs.records.Order.{given_of, has_passed}
-use Rattle.tte_lemmas.proofs.Options.{mapped}
+use Rattle.{net_plan.proofs.SameIds.one_device, tte_lemmas.proofs.Options.mapped}
 use Rattle.precision_law.proofs.{records.Behind.behind_last, words.Runs.{in_right, is_integration_cycle, members_in, next_cycle, recorded_cycle, time_of}}
 use Rattle.precision_law.proofs.{records.Points.earlier_before, words.Plans.{Channel, DeviceId, HeardFrame, Hearing, IsBest, LinkId, Members, Units, within_on}}
 use Rattle.precision_law.proofs.{records.{Times.AreSorted, Views.in_order}, words.Laws.{AreBeforeCorrections, HearsBy, IsOfHearer, IsView, View, last_setting}}
@@ -9,7 +7,7 @@ use Rattle.precision_law.proofs.words.Runs.{Happening, IsIn, Judgement, NoteBody
 use Rattle.precision_law.proofs.words.Runs.{channel_of_link, correction_value, has_cleared, heard_by, heard_since, hearing_by, in_filter, in_left, in_parts}
 use Rattle.precision_law.proofs.words.Std.{◌&&◌, ◌++◌, ◌+ℤ◌, ◌+◌, ◌-◌, ◌<◌, ◌==◌, ◌||◌, ◌∙◌, ◌∷◌, ◌≡◌, ◌≤◌, Bool, List, None, Option, Some, [], after_last}
 use Rattle.precision_law.proofs.words.Std.{and_from, ap, append_assoc, both_ways, false, filter, if◌then◌else◌, inl, inr, int_le, int_lt, lt-ltb, nat_lt, not}
-use Rattle.precision_law.proofs.words.Std.{option_map, option_map_or, pos, refl, subst, sym, true, ℕ}
+use Rattle.{precision_law.proofs.words.Std.{option_map, option_map_or, pos, refl, subst, sym, true, ℕ}, run_law.proofs.records.Order.{given_of, has_passed}}
 use Rattle.run_law.specs.declared.note.NoteBody.TheVariants as notes
 
 -- ---- what depends on earlier records alone

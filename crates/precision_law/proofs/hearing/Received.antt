@@ -1,6 +1,6 @@
 -- The frame that the compression master of the sound channel sends in a block is heard by each old device that is to keep
 -- the time.
-use Rattle.precision_law.proofs.block.Onward.{firm_good}
+use Rattle.{net_plan.proofs.SameIds.same_device, precision_law.proofs.block.Onward.firm_good}
 use Rattle.precision_law.proofs.{hearing.{GoodFrames.{IsAtPoint, sooner}, Timely.of_channel_is}, words.Plans.{Synchronised, device_at, is_end_system, opened}}
 use Rattle.precision_law.proofs.{trips.Gates.are_open_from, words.Blocks.{next_first, not_turned_on_then, one_cm, sound_frames_go_down, up_to_then}}
 use Rattle.precision_law.proofs.words.Blocks.{AreUpTo, EndsSo, before_narrow, cm_of, earlier_in_block, ends_so, follows_before, hears_as_at, judged_at}
@@ -15,7 +15,6 @@ use Rattle.precision_law.proofs.words.{Runs.{observation_window, place_of, plan_
 use Rattle.precision_law.proofs.words.Std.{◌+◌, ◌<ℤ◌, ◌<◌, ◌||◌, ◌∙◌, ◌∷◌, ◌≡◌, ◌≤ℤ◌, ◌≤◌, Bool, List, None, Option, Some, [], ap, arith, cases_eq, false}
 use Rattle.precision_law.proofs.words.Std.{false_from_ne_true, if◌then◌else◌, inl, inr, ints, not, option_and_then, option_map_or, pos, refl, subst, suc, sym}
 use Rattle.run_law.specs.declared.note.NoteBody.TheVariants as notes
-use Rattle.net_plan.proofs.SameIds.{same_device}
 
 -- ---- when it is sent
 

@@ -1,7 +1,6 @@
 -- What a device that joins comes to by its first correction.
-use Rattle.sync_state.proofs.LawLemmas.{by_points}
 use Rattle.precision_law.proofs.words.Laws.{ClocksStayTogether, DispatchesStayNear, IsFirstCorrection, IsFixedByPoints, IsRunUpTo, JoinersComeIn}
-use Rattle.precision_law.proofs.words.Plans.{Corrected, DeviceId, HasVerdict}
+use Rattle.{precision_law.proofs.words.Plans.{Corrected, DeviceId, HasVerdict}, sync_state.proofs.LawLemmas.by_points}
 use Rattle.precision_law.proofs.words.{Runs.{Happening, IsCaused, Note, Scenario, happenings, standing_before, time_of}, Std.{◌-ℤ◌, List, subst, sym, ℕ, ℤ}}
 use Rattle.run_law.specs.declared.note.NoteBody.TheVariants as notes
 

@@ -1,6 +1,5 @@
 -- The precision, from what blocks bring.
-use Rattle.sync_state.proofs.StateFacts.{up_state}
-use Rattle.precision_law.proofs.words.Clocks.{IsCutAt, before_of, cut_at, point_timed, same_kept}
+use Rattle.{precision_law.proofs.words.Clocks.{IsCutAt, before_of, cut_at, point_timed, same_kept}, sync_state.proofs.StateFacts.up_state}
 use Rattle.precision_law.proofs.words.Laws.{BlocksCover, BlocksGoSo, ClocksAgreeInBlocks, ClocksStayTogether, ComesTo, FirmDevicesCorrect, HasTimeAt, IsClique}
 use Rattle.precision_law.proofs.words.Laws.{IsFirm, IsRunUpTo, IsSound, IsView, OneChannelIsSound, TimeIsKept, View, has_time, sizes_of, state_left}
 use Rattle.precision_law.proofs.words.Plans.{AsyncClique, Channel, Cleared, Corrected, DeviceId, IsBeta, IsSwitchOf, State, SyncClique, Synchronised, Units}

@@ -1,9 +1,8 @@
 -- A run up to an earlier time.
-use Rattle.run_law.proofs.records.{Happenings.soon, Order.all_kept}
 use Rattle.precision_law.proofs.{Plain.le_by, records.Times.earlier_front, words.{Laws.Covers, Runs.{in_front_of, in_left, in_parts, place_of, split, time_of}}}
 use Rattle.precision_law.proofs.words.Runs.{Happening, IsBefore, IsDue, IsFounded, IsIn, IsRun, IsSplit, Scenario, chain, earlier, earlier_time, front_founded}
 use Rattle.precision_law.proofs.words.Std.{◌++◌, ◌+◌, ◌<◌, ◌∙◌, ◌∷◌, ◌≡◌, ◌≤◌, List, [], ap, append_assoc, arith, cases_lt, inl, inr, lt-ltb, nat_lt, subst}
-use Rattle.precision_law.proofs.words.Std.{sym, ℕ}
+use Rattle.{precision_law.proofs.words.Std.{sym, ℕ}, run_law.proofs.records.{Happenings.soon, Order.all_kept}}
 
 -- the records of a run before an earlier place are the run up to this place
 pub cut_run : {N : Type 0} (place : N → List ℕ) (IsDue : List N → N → Type 0) (mark p : List ℕ) (ns : List N) (at : IsSplit place ns p)

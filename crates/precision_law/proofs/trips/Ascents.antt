@@ -1,16 +1,13 @@
 -- Where frames come from, leg by leg; those that go up are of masters.
-use Rattle.net_plan.specs.declared.ids.VlId.{VlId}
-use Rattle.pcf_codec.specs.{Decoding.decoded, EtherType.pcf_type}
-use Rattle.run_law.{proofs.{law.FirstDelays.given, records.Order.in_any}, specs.control.Leaving.Passes}
-use Rattle.run_law.{proofs.{records.Members.in_kept, scenario.Devices.shown_parent}, specs.{records.Causes.GoesBackTo, timed.Arrivals.taken_or_fault}}
-use Rattle.schedule_tables.{proofs.Margins.master_ends, specs.declared.entry.Entry.Entry}
-use Rattle.tte_lemmas.proofs.Options.{mapped, some_of}
-use Rattle.precision_law.proofs.{Plain.{any_is, device_of}, words.Plans.{device_at, field, is_end_system, is_master, link_at, opened}}
+use Rattle.{net_plan.specs.declared.ids.VlId.VlId, run_law.{proofs.{law.FirstDelays.given, records.Members.in_kept}, specs.control.Leaving.Passes}}
+use Rattle.{pcf_codec.specs.{Decoding.decoded, EtherType.pcf_type}, run_law.proofs.records.Order.in_any}
+use Rattle.{precision_law.proofs.Plain.{any_is, device_of}, run_law.{proofs.scenario.Devices.shown_parent, specs.timed.Arrivals.taken_or_fault}}
 use Rattle.precision_law.proofs.{faults.Masters.bad_is_master, words.{Laws.{FramesUpAreOfMasters, IsBad, IsOfBad, IsOfGood, IsTrip, IsView, Leg, View}, Std.ℕ}}
 use Rattle.precision_law.proofs.{records.Points.within_run, words.Runs.{same_some, signal_of, standpoint, time_of, timed, way_from, way_to}}
 use Rattle.precision_law.proofs.trips.Legs.{HasLeg, IsPutAs, child_channel, child_not_parent, child_ways, gives_down, has_leg, parent_channel, parent_ways}
 use Rattle.precision_law.proofs.trips.{Legs.{receiver_way, same_cycle, trip_more}, Paths.{TakesWith, clocked, frame_is, taken_as, taken_sound}}
 use Rattle.precision_law.proofs.words.Plans.{Device, DeviceId, Down, Event, IsDeviceInRange, Link, LinkId, Members, Network, Pcf, Up, Way, all_at, amount}
+use Rattle.{precision_law.proofs.words.Plans.{device_at, field, is_end_system, is_master, link_at, opened}, schedule_tables.specs.declared.entry.Entry.Entry}
 use Rattle.precision_law.proofs.words.Runs.{AreWithinHypothesis, Arrival, ArrivesAs, Breaks, Gives, Happening, IsCaused, IsIn, Launch, NotBroken, NoteBody}
 use Rattle.precision_law.proofs.words.Runs.{Order, Reason, Signal, Standpoint, are_others, arrival_of, breaks_at, channel_of, channel_of_link, control}
 use Rattle.precision_law.proofs.words.Runs.{cycle_in, events_up_to, founded_at, frame_in, has_role, in_at, in_left, is_broken, is_cut, is_end}
@@ -18,6 +15,7 @@ use Rattle.precision_law.proofs.words.Runs.{is_of_other_member, last_taken, laun
 use Rattle.precision_law.proofs.words.Std.{◌&&◌, ◌++◌, ◌+◌, ◌<◌, ◌==◌, ◌^◌, ◌∙◌, ◌∷◌, ◌≡◌, ◌≤ℤ◌, ◌≤◌, ◌⊎◌, Any, Bool, Err, List, None, Ok, Option, Some, [], ap}
 use Rattle.precision_law.proofs.words.Std.{append_assoc, arith, both_ways, by_lt_z, eq-eqb, eqb-true, false, if◌then◌else◌, inl, inr, ints, le-leb, length}
 use Rattle.precision_law.proofs.words.Std.{nat_le, not-false, option_and_then, option_map_or, refl, subst, suc, sym, true, true_from_ne_false, unwrap_or, zero}
+use Rattle.{run_law.specs.records.Causes.GoesBackTo, schedule_tables.proofs.Margins.master_ends, tte_lemmas.proofs.Options.{mapped, some_of}}
 use Rattle.net_plan.specs.declared.event.What.TheVariants as events
 use Rattle.run_law.specs.declared.note.NoteBody.TheVariants as notes
 use Rattle.run_law.specs.declared.steps.Arrival.TheVariants as arrivals

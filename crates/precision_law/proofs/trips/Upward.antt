@@ -1,7 +1,6 @@
 -- A trip up takes dmax.
-use Rattle.std.proofs.lemmas.List.{length-map}
 use Rattle.precision_law.proofs.{hearing.Timely.trip_in_time, trips.Travels.{jitter_back, jitter_of_legs, last_young, leg_link, many_back, switch_of}}
-use Rattle.precision_law.proofs.words.{Clocks.{child_channel, parent_ways, sizes_are}, Laws.links_of}
+use Rattle.{precision_law.proofs.words.{Clocks.{child_channel, parent_ways, sizes_are}, Laws.links_of}, std.proofs.lemmas.List.length-map}
 use Rattle.precision_law.proofs.words.Laws.{IsInTime, IsLeg, IsPermanentAt, IsTrip, IsView, Leg, TripsDownTakeDmax, TripsUpTakeDmax, View, clock_in, links_back}
 use Rattle.precision_law.proofs.words.Plans.{Channel, Cm, Device, DeviceId, Down, IsChildOf, IsCmOf, IsPath, IsReach, IsSwitchOf, Link, LinkId, Network, Up}
 use Rattle.precision_law.proofs.words.Plans.{Way, amount, closed, device_at, jitter_of, jitter_on, link_at, opened, point_of, target_by, waits_for_point}

@@ -1,11 +1,10 @@
 -- How far a clock may fall back, and how great a correction may be.
 use Rattle.std.specs.Prelude.{◌+ℤ◌, ◌≡◌, ◌≤ℤ◌, ◌≤◌, ◌⊎◌, List, pos, ℕ, ℤ}
-use Rattle.net_plan.specs.declared.{ids.DeviceId.DeviceId, network.Network.Network}
-use Rattle.precision_law.specs.Precision.{IsRunUpTo}
-use Rattle.run_law.specs.{declared.note.Note.Note, device.LocalClocks.{local, local_before}}
-use Rattle.run_law.specs.{law.Safety.{IsInStep, IsInStepBefore}, records.Happenings.{Happening, happenings, time_of}}
-use Rattle.run_law.specs.{records.Order.IsIn, scenario.Scenarios.Scenario}
-use Rattle.tte_units.specs.declared.units.Units.{Units}
+use Rattle.{net_plan.specs.declared.ids.DeviceId.DeviceId, tte_units.specs.declared.units.Units.Units}
+use Rattle.{net_plan.specs.declared.network.Network.Network, run_law.specs.law.Safety.{IsInStep, IsInStepBefore}}
+use Rattle.{precision_law.specs.Precision.IsRunUpTo, run_law.specs.scenario.Scenarios.Scenario}
+use Rattle.run_law.specs.{declared.note.Note.Note, records.Order.IsIn}
+use Rattle.run_law.specs.{device.LocalClocks.{local, local_before}, records.Happenings.{Happening, happenings, time_of}}
 use Rattle.run_law.specs.declared.note.NoteBody.TheVariants as notes
 
 -- the device is correct and synchronised at the time and its clock shows this, after the records of the time or before

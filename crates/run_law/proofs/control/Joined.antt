@@ -1,14 +1,12 @@
 -- A frame tells the time only to a device that looks for it.
-use Rattle.std.{proofs.{Common.{arith, filter}, lemmas.Bool.{both_ways, cases_Bool, false_from_ne_true, ltb-true}}, specs.Prelude.MatchBool}
+use Rattle.{compression.specs.Clusters.Point, net_plan.proofs.SameIds.same_device, std.{proofs.Common.{arith, filter}, specs.Prelude.MatchBool}}
 use Rattle.run_law.proofs.Words.{◌∙◌, ◌∷◌, ◌≡◌, Bool, DeviceId, Happening, Integrates, Integrating, IsCaused, List, Members, Network, NoteBody, Pcf, Scenario}
 use Rattle.run_law.proofs.Words.{State, Units, [], amount, ap, earlier, eqb-true, false, if◌then◌else◌, inl, is_joined_by, nat_lt, observation_window, place_of}
 use Rattle.run_law.{proofs.Words.{refl, ripe_as, state_after, subst, sym, time_of, true, ℕ, ℤ}, specs.declared.judgement.Judgement.TheVariants.Ignored}
-use Rattle.run_law.{proofs.control.Verdicts.{collected_not, looking_ripe}, specs.scenario.{Devices.{is_cm, plan_of}, Scenarios.is_turned_on_at}}
-use Rattle.run_law.{proofs.records.Order.before_is, specs.{control.Hearing.heard_as, records.{Order.is_before, Ranks.key}}}
+use Rattle.{run_law.proofs.control.Verdicts.{collected_not, looking_ripe}, std.proofs.lemmas.Bool.{both_ways, cases_Bool, false_from_ne_true, ltb-true}}
+use Rattle.{run_law.{proofs.records.Order.before_is, specs.{control.Hearing.heard_as, records.Order.is_before}}, sync_state.proofs.StateFacts.before_hearing}
 use Rattle.run_law.specs.{control.Permanence.{IsPermanenceOutcome, before_permanence}, device.States.{has_joined_at, state_at_hearing, state_before}}
-use Rattle.compression.specs.Clusters.{Point}
-use Rattle.net_plan.proofs.SameIds.{same_device}
-use Rattle.sync_state.{proofs.StateFacts.before_hearing, specs.declared.plan.SyncPlan.SyncPlan}
+use Rattle.{run_law.specs.{records.Ranks.key, scenario.{Devices.{is_cm, plan_of}, Scenarios.is_turned_on_at}}, sync_state.specs.declared.plan.SyncPlan.SyncPlan}
 use Rattle.run_law.specs.declared.note.NoteBody.TheVariants as notes
 use Rattle.run_law.specs.declared.steps.Ripe.TheVariants as ripe
 

@@ -1,12 +1,10 @@
 -- What was heard has a summary, and a summary has a verdict.
+use Rattle.{clock_correction.specs.Correction.correction_of, membership.specs.{BestFrame.IsBetterOf, Hearing.Hearing, Members.{count_of, union}}}
+use Rattle.membership.{proofs.SummaryLemmas.{hears_on_a, hears_on_b, hears_outside, same_hearing, silence_summarizes}, specs.Summary.{Summarizes, silence}}
+use Rattle.{membership.specs.declared.frame.HeardFrame.HeardFrame, sync_state.specs.declared.answers.Verdict.TheVariants.{AsyncClique, Corrected, SyncClique}}
+use Rattle.{pcf_values.specs.declared.channel.Channel.Channel, sync_state.specs.{Standing.{IsAtIntegration, Standing}, Verdicts.{HasVerdict, deviation_on}}}
 use Rattle.run_law.proofs.Words.{◌++◌, ◌∷◌, ◌≡◌, ◌⊎◌, A, B, Bool, List, None, Option, Some, Summary, Units, [], append-nil, append_assoc, false, inl, inr, refl}
-use Rattle.run_law.proofs.Words.{subst, sym, true}
-use Rattle.clock_correction.specs.Correction.{correction_of}
-use Rattle.membership.{proofs.SummaryLemmas.{hears_on_a, hears_on_b, hears_outside, same_hearing, silence_summarizes}, specs.BestFrame.IsBetterOf}
-use Rattle.membership.specs.{Hearing.Hearing, Members.{count_of, union}, Summary.{Summarizes, silence}, declared.frame.HeardFrame.HeardFrame}
-use Rattle.pcf_values.specs.declared.channel.Channel.{Channel}
-use Rattle.sync_state.{proofs.StateFacts.deviates, specs.{Standing.{IsAtIntegration, Standing}, Verdicts.{HasVerdict, deviation_on}}}
-use Rattle.sync_state.specs.declared.answers.Verdict.TheVariants.{AsyncClique, Corrected, SyncClique}
+use Rattle.{run_law.proofs.Words.{subst, sym, true}, sync_state.proofs.StateFacts.deviates}
 use Rattle.run_law.proofs.scenario.{Choices.{outnumbered, qualifies}, Decisions.{decided_and, decided_less, decided_less_int, decided_or, decided_same}}
 
 pub better : (o : Option HeardFrame) (later : HeardFrame) → (frame : HeardFrame) × IsBetterOf o later frame

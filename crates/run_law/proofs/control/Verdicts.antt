@@ -1,12 +1,11 @@
 -- What a frame is judged as, and what it ripens to.
-use Rattle.std.proofs.Common.{MatchBool, arith, cond}
+use Rattle.{compression.proofs.Times.one_list_of_clusters, run_law.specs.{control.Collections.ripe_by_role, device.LocalClocks.changes_adjustment}}
+use Rattle.{compression.specs.{Clusters.Point, Role.role}, run_law.specs.scenario.Devices.is_cm}
+use Rattle.{compression.specs.declared.taken.Taken.Taken, run_law.specs.control.Corrections.cycle_after, std.proofs.Common.{MatchBool, arith, cond}}
 use Rattle.run_law.proofs.Words.{◌≡◌, Bool, DeviceId, Happening, Integrates, Integrating, Joining, Judgement, List, Members, Network, None, NoteBody, Option}
 use Rattle.run_law.proofs.Words.{Pcf, Reason, Ripe, Some, State, Synchronised, false, observation_window, option_map, refl, ripe_as, true, ℕ, ℤ}
-use Rattle.run_law.specs.control.{Collections.ripe_by_role, Corrections.cycle_after, Hearing.{heard_as, heard_by_schedule, heard_enough}}
-use Rattle.run_law.specs.{control.Permanence.{IsCollectedOrDropped, IsPermanenceOutcome}, declared.steps.Ripe.TheVariants.Within}
-use Rattle.run_law.specs.{device.LocalClocks.changes_adjustment, scenario.Devices.is_cm}
-use Rattle.compression.{proofs.Times.one_list_of_clusters, specs.{Clusters.Point, Role.role, declared.taken.Taken.Taken}}
-use Rattle.sync_state.specs.declared.{plan.SyncPlan.SyncPlan, state.State.TheVariants.Off}
+use Rattle.run_law.specs.control.{Hearing.{heard_as, heard_by_schedule, heard_enough}, Permanence.{IsCollectedOrDropped, IsPermanenceOutcome}}
+use Rattle.{run_law.specs.declared.steps.Ripe.TheVariants.Within, sync_state.specs.declared.{plan.SyncPlan.SyncPlan, state.State.TheVariants.Off}}
 use Rattle.run_law.specs.declared.steps.Ripe.TheVariants as ripe
 use Rattle.compression.specs.declared.taken.Taken.TheVariants as takings
 use Rattle.run_law.specs.declared.judgement.Judgement.TheVariants as judgements

@@ -1,8 +1,7 @@
 -- The state of a device.
-use Rattle.std.proofs.Common.{arith, filter}
 use Rattle.run_law.proofs.Words.{◌≡◌, Bool, DeviceId, Happening, Integrates, Joining, List, NoteBody, Scenario, State, Synchronised, Units, adjustment_after}
 use Rattle.run_law.proofs.Words.{earlier, false, if◌then◌else◌, is_joined_by, is_off, last_or, option_map_or, refl, time_of, true, ℕ, ℤ}
-use Rattle.run_law.specs.device.{LocalClocks.{Reaches, changes_adjustment}, States.{adjustment_with, is_synchronised}}
+use Rattle.{run_law.specs.device.{LocalClocks.{Reaches, changes_adjustment}, States.{adjustment_with, is_synchronised}}, std.proofs.Common.{arith, filter}}
 use Rattle.run_law.specs.declared.note.NoteBody.TheVariants as notes
 
 -- a clock reaches a value by the records of earlier times

@@ -1,13 +1,12 @@
 -- A broken device is still.
-use Rattle.std.{proofs.{Common.arith, lemmas.Bool.{and_right, both_ways, not_from_true}}, specs.Prelude.{Err, Result}}
-use Rattle.run_law.proofs.Words.{if◌then◌else◌, ◌++◌, ◌∷◌, ◌≡◌, Arrival, ArrivesAs, Bool, ChangesState, DeviceId, Happening, Integrates, IsArrivedRecord}
-use Rattle.run_law.proofs.Words.{IsCaused, IsDropped, IsDue, IsFounded, LinkId, List, Network, NoteBody, Ok, Option, Pcf, Reason, Scenario, Some, Standpoint}
-use Rattle.run_law.proofs.Words.{State, Units, Why, amount, ap, arrival_of, control, control_arrival, eqb-true, false, frame_fault, frame_or_fault, inl, inr}
-use Rattle.run_law.proofs.Words.{is_broken, is_joined_by, is_off, not, place_of, refl, standpoint, subst, sym, true, ℕ}
-use Rattle.run_law.{proofs.law.FirstPlaces.{founded_at, numbered_front, numbered_in}, specs.control.{Arrivals.refused, Losses.IsLost, Wires.{Signal, timed}}}
-use Rattle.run_law.specs.{declared.judgement.Reason.TheVariants.Off, law.FirstLaws.{BrokenAreStill, IsLeftToBroken}}
-use Rattle.run_law.specs.{records.Causes.{IsOfThisTime, device_of}, timed.{Arrivals.{octets_fault, octets_or_fault, timed_arrival}, Receptions.last_taken}}
-use Rattle.pcf_codec.specs.declared.refusal.PcfRefusal.{PcfRefusal}
+use Rattle.{pcf_codec.specs.declared.refusal.PcfRefusal.PcfRefusal, run_law.specs.{control.Wires.{Signal, timed}, declared.judgement.Reason.TheVariants.Off}}
+use Rattle.run_law.proofs.Words.{◌++◌, ◌∷◌, ◌≡◌, Arrival, ArrivesAs, Bool, ChangesState, DeviceId, Happening, Integrates, IsArrivedRecord, IsCaused, IsDropped}
+use Rattle.run_law.proofs.Words.{IsDue, IsFounded, LinkId, List, Network, NoteBody, Ok, Option, Pcf, Reason, Scenario, Some, Standpoint, State, Units, Why}
+use Rattle.run_law.proofs.Words.{amount, ap, arrival_of, control, control_arrival, eqb-true, false, frame_fault, frame_or_fault, if◌then◌else◌, inl, inr}
+use Rattle.{run_law.proofs.Words.{is_broken, is_joined_by, is_off, not, place_of, refl, standpoint, subst, sym, true, ℕ}, std.specs.Prelude.{Err, Result}}
+use Rattle.run_law.{proofs.law.FirstPlaces.{founded_at, numbered_front, numbered_in}, specs.timed.Arrivals.{octets_fault, octets_or_fault, timed_arrival}}
+use Rattle.run_law.specs.{control.{Arrivals.refused, Losses.IsLost}, records.Causes.{IsOfThisTime, device_of}, timed.Receptions.last_taken}
+use Rattle.{run_law.specs.law.FirstLaws.{BrokenAreStill, IsLeftToBroken}, std.proofs.{Common.arith, lemmas.Bool.{and_right, both_ways, not_from_true}}}
 use Rattle.run_law.specs.declared.judgement.Why.TheVariants as whys
 use Rattle.run_law.specs.declared.note.NoteBody.TheVariants as notes
 use Rattle.run_law.specs.declared.steps.Arrival.TheVariants as arrivals

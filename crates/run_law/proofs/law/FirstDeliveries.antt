@@ -1,11 +1,9 @@
 -- The frames that are delivered go back to where they begin.
-use Rattle.run_law.proofs.Words.{if◌then◌else◌, ◌++◌, ◌<◌, ◌∙◌, ◌∷◌, ◌≡◌, ◌⊎◌, Arrival, ArrivesAs, Bool, DeviceId, Down, Happening, IsCaused, IsDue, IsFounded}
-use Rattle.run_law.proofs.Words.{IsIn, Launch, LinkId, List, Network, None, NoteBody, Ok, Option, Pcf, Reason, Scenario, Send, Some, Standpoint, Units, Up, Way}
-use Rattle.run_law.proofs.Words.{[], amount, ap, arith, arrival_of, control, control_arrival, earlier, false, frame_fault, frame_or_fault, inl, inr}
+use Rattle.{pcf_codec.specs.declared.refusal.PcfRefusal.PcfRefusal, run_law.proofs.Words.{sym, time_of, true, zero, ℕ}, std.specs.Prelude.{Err, Result}}
+use Rattle.run_law.proofs.Words.{◌++◌, ◌<◌, ◌∙◌, ◌∷◌, ◌≡◌, ◌⊎◌, Arrival, ArrivesAs, Bool, DeviceId, Down, Happening, IsCaused, IsDue, IsFounded, IsIn, Launch}
+use Rattle.run_law.proofs.Words.{LinkId, List, Network, None, NoteBody, Ok, Option, Pcf, Reason, Scenario, Send, Some, Standpoint, Units, Up, Way, [], amount}
+use Rattle.run_law.proofs.Words.{ap, arith, arrival_of, control, control_arrival, earlier, false, frame_fault, frame_or_fault, if◌then◌else◌, inl, inr}
 use Rattle.run_law.proofs.Words.{is_parent_of, is_relay, last_or, launched, nat_lt, numbered, option_map, place_of, refl, same_some, standpoint, subst, suc}
-use Rattle.run_law.proofs.Words.{sym, time_of, true, zero, ℕ}
-use Rattle.std.specs.Prelude.{Err, Result}
-use Rattle.pcf_codec.specs.declared.refusal.PcfRefusal.{PcfRefusal}
 use Rattle.run_law.proofs.law.FirstPlaces.{by_number, founded_at, in_filter, number_is, numbered_front, numbered_in, numbered_within}
 use Rattle.run_law.specs.{law.FirstLaws.{DeliveriesBegin, IsBeginning}, records.Causes.{GoesBackTo, cause_of}, timed.Dispatching.{HasAccepted, is_accepted}}
 use Rattle.run_law.specs.declared.note.NoteBody.TheVariants as notes

@@ -1,9 +1,8 @@
 -- Records, their numbers and their places.
-use Rattle.std.{proofs.{Common.arith, lemmas.{Bool.lt-ltb, List.length-map}}, specs.List.fold}
-use Rattle.run_law.proofs.Words.{if◌then◌else◌, ◌++◌, ◌<◌, ◌∙◌, ◌∷◌, ◌≡◌, Bool, Happening, IsBefore, IsIn, List, Network, Note, Some, [], ap, append-nil}
-use Rattle.run_law.proofs.Words.{append_assoc, cases_lt, earlier, false, happening, happenings, inl, inr, key, le-ltb, length, members_in, nat_lt, numbered}
-use Rattle.run_law.proofs.Words.{place_of, rank, refl, subst, suc, sym, time_of, true, zero, ℕ}
-use Rattle.run_law.proofs.runs.{NetworkRuns.{one_more, same_notes}, Places.earlier_time}
+use Rattle.run_law.proofs.Words.{◌++◌, ◌<◌, ◌∙◌, ◌∷◌, ◌≡◌, Bool, Happening, IsBefore, IsIn, List, Network, Note, Some, [], ap, append-nil, append_assoc}
+use Rattle.run_law.proofs.Words.{cases_lt, earlier, false, happening, happenings, if◌then◌else◌, inl, inr, key, le-ltb, length, members_in, nat_lt, numbered}
+use Rattle.run_law.proofs.{Words.{place_of, rank, refl, subst, suc, sym, time_of, true, zero, ℕ}, runs.NetworkRuns.{one_more, same_notes}}
+use Rattle.{run_law.proofs.runs.Places.earlier_time, std.{proofs.{Common.arith, lemmas.{Bool.lt-ltb, List.length-map}}, specs.List.fold}}
 
 pub none_numbered : (number : ℕ) (g : Happening) → numbered [] number ≡ Some g → ⊥
 none_numbered zero g e = cc

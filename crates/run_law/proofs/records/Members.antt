@@ -1,7 +1,6 @@
 -- What is among the elements of lists that are made of others.
-use Rattle.std.proofs.Common.{if◌then◌else◌, ◌∙◌, ◌∷◌, ◌≡◌, ◌⊎◌, Bool, List, [], ap, false, filter, inl, inr, refl, subst, true}
-use Rattle.std.specs.Prelude.{flat_map, map}
-use Rattle.run_law.{proofs.runs.Places.{in_left, in_parts, in_right}, specs.records.Order.IsIn}
+use Rattle.{run_law.{proofs.runs.Places.{in_left, in_parts, in_right}, specs.records.Order.IsIn}, std.specs.Prelude.{flat_map, map}}
+use Rattle.std.proofs.Common.{◌∙◌, ◌∷◌, ◌≡◌, ◌⊎◌, Bool, List, [], ap, false, filter, if◌then◌else◌, inl, inr, refl, subst, true}
 
 pub in_map : {X Y : Type 0} (f : X → Y) (xs : List X) (x : X) → IsIn x xs → IsIn (f x) (map f xs)
 in_map f [] x among = absurd among

@@ -1,11 +1,10 @@
 -- Places one before another, and records in a list.
+use Rattle.{compression.proofs.Elements.{in_cases, in_none}, run_law.{proofs.Words.{subst, suc, sym, true, zero, ℕ}, specs.records.Order.is_before}}
 use Rattle.run_law.proofs.Words.{◌&&◌, ◌++◌, ◌+◌, ◌-◌, ◌<◌, ◌==◌, ◌∙◌, ◌∷◌, ◌≡◌, ◌≤◌, ◌⊎◌, Bool, Contains, IsBefore, IsIn, List, None, Option, Some, [], ap}
 use Rattle.run_law.proofs.Words.{arith, cases_lt, cons_option, eqb-true, false, filter_map, if◌then◌else◌, inl, inr, length, nat_lt, not, refl, slice_get}
-use Rattle.run_law.{proofs.{Words.{subst, suc, sym, true, zero, ℕ}, runs.Places.in_parts}, specs.records.Order.is_before}
+use Rattle.{run_law.proofs.runs.Places.in_parts, std.proofs.lemmas.Bool.{and_from, and_parts, cond-true, eq-eqb, lt-ltb, ltb-true, or_cases, or_left, or_right}}
 use Rattle.std.proofs.{Common.{◌||◌, All, cond, drop, filter, length-append, reverse, zero-add}, lemmas.List.Elements.{All-cons, All-head, All-nil, All-tail}}
-use Rattle.std.proofs.lemmas.Bool.{and_from, and_parts, cond-true, eq-eqb, lt-ltb, ltb-true, or_cases, or_left, or_right}
 use Rattle.std.{proofs.lemmas.List.{length-reverse, reverse-append}, specs.List.{after_last, list_any, prefix_len, suffix_len}}
-use Rattle.compression.proofs.Elements.{in_cases, in_none}
 use Rattle.tte_lemmas.proofs.Lists.{all_turned}
 
 -- a place that is before another is of no later time

@@ -1,8 +1,7 @@
 -- The laws of the runs of a network.
-use Rattle.std.proofs.Common.{arith, fold, map}
 use Rattle.run_law.proofs.Words.{◌++◌, ◌∙◌, ◌∷◌, ◌≡◌, Happening, IsDue, IsRun, List, Network, Note, Scenario, [], ap, append-nil, append_assoc, happening}
 use Rattle.run_law.{proofs.Words.{happenings, place_of, refl, subst, sym}, specs.law.Laws.{EarlierRunIsFront, RunGoesOn, RunIsOne}}
-use Rattle.run_law.proofs.runs.{Determined.due_is_determined, FrontOfRun.front_of_run, Grow.grow, OneRun.one_run}
+use Rattle.{run_law.proofs.runs.{Determined.due_is_determined, FrontOfRun.front_of_run, Grow.grow, OneRun.one_run}, std.proofs.Common.{arith, fold, map}}
 
 -- ---- records and happenings
 

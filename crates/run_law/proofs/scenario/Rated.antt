@@ -1,8 +1,7 @@
 -- The rates that events set: each is of its event's time, and slow where the event is within the hypothesis.
-use Rattle.std.proofs.{Common.arith, lemmas.Bool.cases_lt}
+use Rattle.{drift_clock.specs.RateSteps.RateStep, run_law.specs.scenario.{Hypothesis.IsWithinHypothesis, Rates.step_by}, std.proofs.lemmas.Bool.cases_lt}
 use Rattle.run_law.proofs.Words.{◌≡◌, ◌≤◌, DeviceId, Event, List, Network, None, Option, Some, What, inl, inr, refl, subst, unsigned_abs, ℕ}
-use Rattle.run_law.specs.scenario.{Hypothesis.IsWithinHypothesis, Rates.step_by}
-use Rattle.drift_clock.specs.RateSteps.{RateStep}
+use Rattle.std.proofs.Common.{arith}
 use Rattle.net_plan.specs.declared.event.What.TheVariants as events
 use Rattle.run_law.specs.declared.outside.Outside.TheVariants as outside
 

@@ -1,10 +1,7 @@
 -- Rows of the schedule.
-use Rattle.std.{proofs.Common.{arith, filter}, specs.Prelude.IsSome}
-use Rattle.run_law.proofs.Words.{◌≡◌, DeviceId, Happening, List, Network, Some, earlier, inl, inr, last_or, refl, ℕ}
-use Rattle.run_law.specs.timed.{Arrivals.entry_of, Dispatching.HasAtHand}
-use Rattle.net_plan.specs.{Ranges.IsRowInRange, declared.tables.Row.Row}
-use Rattle.schedule_tables.specs.{Entries.IsEntry, declared.entry.Entry.Entry}
-use Rattle.tte_lemmas.proofs.Lists.{some_at}
+use Rattle.{net_plan.specs.Ranges.IsRowInRange, std.{proofs.Common.{arith, filter}, specs.Prelude.IsSome}, tte_lemmas.proofs.Lists.some_at}
+use Rattle.{net_plan.specs.declared.tables.Row.Row, run_law.specs.timed.Arrivals.entry_of, schedule_tables.specs.{Entries.IsEntry, declared.entry.Entry.Entry}}
+use Rattle.run_law.{proofs.Words.{◌≡◌, DeviceId, Happening, List, Network, Some, earlier, inl, inr, last_or, refl, ℕ}, specs.timed.Dispatching.HasAtHand}
 
 pub entry_at : (network : Network) (place : ℕ) (entry : Entry) → IsEntry network place entry → entry_of network entry.row ≡ Some entry
 entry_at network place entry is = rw is.vl (rw is.link refl)

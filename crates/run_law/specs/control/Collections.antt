@@ -4,12 +4,11 @@ use Rattle.std.specs.Prelude.{if◌then◌else◌, ◌&&◌, ◌*◌, ◌+ℤ◌
 use Rattle.std.specs.Prelude.{false, filter_map, int_le, int_lt, not, pos, ℕ, ℤ}
 use Rattle.compression.specs.{Clusters.{AreClusters, Cluster, Point, point_at}, Role.role, declared.taken.Taken.Taken}
 use Rattle.net_plan.specs.declared.{ids.DeviceId.DeviceId, network.Network.Network}
-use Rattle.sync_state.specs.declared.state.State.{State}
-use Rattle.tte_units.specs.Amount.{amount}
 use Rattle.run_law.specs.declared.judgement.{Reason.{Reason, TheVariants.{Cycle, Gate}}, Why.TheVariants.On}
 use Rattle.run_law.specs.{declared.note.NoteBody.NoteBody, device.States.{cycle_in, is_joined_by, is_synchronised}}
-use Rattle.run_law.specs.{declared.steps.Ripe.Ripe, records.Ranks.members_in}
+use Rattle.{run_law.specs.declared.steps.Ripe.Ripe, sync_state.specs.declared.state.State.State}
 use Rattle.run_law.specs.{device.Standpoints.{first_reason, offset_in_cycle}, records.Happenings.Happening}
+use Rattle.{run_law.specs.records.Ranks.members_in, tte_units.specs.Amount.amount}
 use Rattle.compression.specs.declared.taken.Taken.TheVariants as taken
 use Rattle.run_law.specs.declared.note.NoteBody.TheVariants as notes
 use Rattle.run_law.specs.declared.steps.Ripe.TheVariants as ripe

@@ -1,14 +1,11 @@
 -- What a compression master sends.
 use Rattle.std.specs.{List.Contains, Prelude.{◌≡◌, List, false, pos, true, ℕ}}
-use Rattle.compression.specs.{Clusters.{AreClusters, Cluster}, Emission.compressed}
-use Rattle.compression.specs.declared.compressed.Compressed.{Compressed}
-use Rattle.drift_clock.specs.Reach.{IsReach}
-use Rattle.net_plan.specs.declared.ids.DeviceId.{DeviceId}
-use Rattle.tte_units.specs.Amount.{amount}
-use Rattle.run_law.specs.control.{Collections.{observation_window, points_of}, Hearing.heard_as}
-use Rattle.run_law.specs.declared.judgement.Judgement.{Judgement}
-use Rattle.run_law.specs.{device.States.{adjustment_at_hearing, state_at_hearing}, records.Happenings.Happening}
-use Rattle.run_law.specs.scenario.{Devices.{is_cm, plan_of}, Scenarios.{Scenario, is_broken}}
+use Rattle.compression.specs.{Clusters.{AreClusters, Cluster}, declared.compressed.Compressed.Compressed}
+use Rattle.{compression.specs.Emission.compressed, drift_clock.specs.Reach.IsReach, tte_units.specs.Amount.amount}
+use Rattle.{net_plan.specs.declared.ids.DeviceId.DeviceId, run_law.specs.scenario.Scenarios.{Scenario, is_broken}}
+use Rattle.run_law.specs.{control.Collections.{observation_window, points_of}, declared.judgement.Judgement.Judgement}
+use Rattle.run_law.specs.{control.Hearing.heard_as, records.Happenings.Happening}
+use Rattle.run_law.specs.{device.States.{adjustment_at_hearing, state_at_hearing}, scenario.Devices.{is_cm, plan_of}}
 
 -- the compression master sends the frame of a cluster of its present stretch: its reading first reaches the
 -- cluster's emission reading at the time, and it hears the frame so, at that reading

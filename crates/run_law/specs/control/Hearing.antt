@@ -1,10 +1,9 @@
 -- How a device hears a compressed frame.
 use Rattle.std.specs.Prelude.{if◌then◌else◌, ◌&&◌, ◌+ℤ◌, ◌+◌, ◌-ℤ◌, ◌^◌, Bool, int_le, nat_le, ℕ, ℤ}
-use Rattle.membership.specs.Members.{count_of}
-use Rattle.pcf_values.specs.declared.members.Members.{Members}
-use Rattle.sync_state.specs.{Plan.expected_at, declared.{plan.SyncPlan.SyncPlan, state.State.State}}
-use Rattle.sync_state.specs.declared.state.State.TheVariants.{Integrating, Joining, Off, Synchronised}
+use Rattle.{membership.specs.Members.count_of, sync_state.specs.Plan.expected_at}
+use Rattle.{pcf_values.specs.declared.members.Members.Members, sync_state.specs.declared.plan.SyncPlan.SyncPlan}
 use Rattle.run_law.specs.declared.judgement.Judgement.{Judgement, TheVariants.{Ignored, Integrates, Outside, Within}}
+use Rattle.sync_state.specs.declared.state.State.{State, TheVariants.{Integrating, Joining, Off, Synchronised}}
 
 -- the last cycle of a frame that is used
 abbrev pub last_cycle : ℕ

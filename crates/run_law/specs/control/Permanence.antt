@@ -1,17 +1,15 @@
 -- How a protocol control frame becomes permanent.
 use Rattle.std.specs.Prelude.{◌||◌, ◌≡◌, Bool, List, MatchBool, None, Option, Some, false, filter, not, pos, true, ℕ, ℤ}
-use Rattle.compression.specs.{Clusters.{Point, point_at}, declared.taken.Taken.Taken}
-use Rattle.drift_clock.specs.Reach.{IsReach}
-use Rattle.net_plan.specs.declared.{ids.{DeviceId.DeviceId, LinkId.LinkId}, network.Network.Network}
-use Rattle.pcf_values.specs.declared.pcf.Pcf.{Pcf}
-use Rattle.sync_state.specs.declared.state.State.{State}
-use Rattle.transparent_clock.specs.Points.{point_of}
-use Rattle.tte_units.specs.declared.units.Units.{Units}
+use Rattle.{compression.specs.Clusters.{Point, point_at}, tte_units.specs.declared.units.Units.Units}
+use Rattle.{compression.specs.declared.taken.Taken.Taken, sync_state.specs.declared.state.State.State}
+use Rattle.{drift_clock.specs.Reach.IsReach, run_law.specs.records.Order.is_before}
+use Rattle.{net_plan.specs.declared.ids.DeviceId.DeviceId, run_law.specs.records.Ranks.{place_at, place_of}}
+use Rattle.{net_plan.specs.declared.ids.LinkId.LinkId, transparent_clock.specs.Points.point_of}
+use Rattle.{net_plan.specs.declared.network.Network.Network, run_law.specs.declared.judgement.Reason.Reason}
+use Rattle.{pcf_values.specs.declared.pcf.Pcf.Pcf, run_law.specs.{control.Hearing.heard_as, declared.steps.Ripe.Ripe}}
 use Rattle.run_law.specs.control.Collections.{IsCollectedAs, master_of, observation_window, point_fault, points_of}
 use Rattle.run_law.specs.{control.Collections.ripe_by_role, device.States.{adjustment_at_hearing, state_at_hearing}}
-use Rattle.run_law.specs.{control.Hearing.heard_as, records.Order.is_before}
 use Rattle.run_law.specs.{declared.judgement.Judgement.Judgement, records.Happenings.{Happening, numbered, time_of}}
-use Rattle.run_law.specs.{declared.{judgement.Reason.Reason, steps.Ripe.Ripe}, records.Ranks.{place_at, place_of}}
 use Rattle.run_law.specs.scenario.{Devices.{is_cm, is_parent_of, is_relay, plan_of}, Scenarios.{Scenario, is_broken}}
 use Rattle.run_law.specs.declared.judgement.Judgement.TheVariants as judgements
 use Rattle.run_law.specs.declared.note.NoteBody.TheVariants as notes

@@ -2,10 +2,9 @@
 use Rattle.std.specs.{List.last_or, Option.option_map_or}
 use Rattle.std.specs.Prelude.{◌&&◌, ◌+ℤ◌, ◌-ℤ◌, ◌-◌, ◌<ℤ◌, ◌==◌, Bool, List, None, filter, int_le, int_lt, pos, ℕ, ℤ}
 use Rattle.drift_clock.specs.Reach.{IsReach}
-use Rattle.net_plan.specs.declared.ids.DeviceId.{DeviceId}
-use Rattle.run_law.specs.declared.note.NoteBody.{NoteBody}
+use Rattle.{net_plan.specs.declared.ids.DeviceId.DeviceId, run_law.specs.scenario.Scenarios.Scenario}
+use Rattle.run_law.specs.{declared.note.NoteBody.NoteBody, records.Happenings.{Happening, earlier, time_of, up_to}}
 use Rattle.run_law.specs.device.States.{adjustment_after, adjustment_before, is_joined_by}
-use Rattle.run_law.specs.{records.Happenings.{Happening, earlier, time_of, up_to}, scenario.Scenarios.Scenario}
 use Rattle.run_law.specs.declared.note.NoteBody.TheVariants as notes
 
 -- the local clock of the device at a time: its reading and its adjustment

@@ -1,13 +1,12 @@
 -- The state and the adjustment of a device, as the records show them.
 use Rattle.std.specs.{List.list_any, Option.option_map_or}
 use Rattle.std.specs.Prelude.{if◌then◌else◌, ◌&&◌, ◌-ℤ◌, ◌==◌, ◌||◌, Bool, List, false, filter, fold, nat_lt, true, ℕ}
-use Rattle.net_plan.specs.declared.ids.DeviceId.{DeviceId}
+use Rattle.{net_plan.specs.declared.ids.DeviceId.DeviceId, tte_units.specs.declared.units.Units.Units}
+use Rattle.run_law.specs.declared.{judgement.Judgement.TheVariants.Integrates, note.NoteBody.NoteBody}
+use Rattle.run_law.specs.records.Happenings.{Happening, earlier, time_of}
+use Rattle.run_law.specs.scenario.{Devices.{plan_of, start_of}, Scenarios.{Scenario, is_turned_on_at}}
 use Rattle.sync_state.specs.{Plan.expected_at, Standing.{adjustment_at_start, state_at_start}}
 use Rattle.sync_state.specs.declared.state.State.{State, TheVariants.{Integrating, Joining, Off, Synchronised}}
-use Rattle.tte_units.specs.declared.units.Units.{Units}
-use Rattle.run_law.specs.declared.{judgement.Judgement.TheVariants.Integrates, note.NoteBody.NoteBody}
-use Rattle.run_law.specs.{records.Happenings.{Happening, earlier, time_of}, scenario.Devices.{plan_of, start_of}}
-use Rattle.run_law.specs.scenario.Scenarios.{Scenario, is_turned_on_at}
 use Rattle.run_law.specs.declared.note.NoteBody.TheVariants as notes
 
 -- is the device off?

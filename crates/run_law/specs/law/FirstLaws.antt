@@ -1,17 +1,15 @@
 -- First laws of all runs.
 use Rattle.std.specs.List.{All}
 use Rattle.std.specs.Prelude.{◌+◌, ◌<◌, ◌∷◌, ◌≡◌, ◌≤ℤ◌, ◌⊎◌, IsSomeAnd, List, Some, [], false, length, pos, true, ℕ}
-use Rattle.drift_clock.specs.ClockLaws.{KeepsClockLaws}
-use Rattle.net_plan.specs.{Places.link_at, Ranges.IsInRange, declared.event.Event.Event}
-use Rattle.net_plan.specs.declared.{event.What.TheVariants.{Hold, Send}, ids.{DeviceId.DeviceId, LinkId.LinkId}}
-use Rattle.net_plan.specs.declared.{ids.VlId.VlId, tables.Way.{Way, TheVariants.Up}}
-use Rattle.schedule_tables.specs.Rules.{KeepsRules}
-use Rattle.tte_units.specs.{Amount.amount, declared.units.Units.Units}
-use Rattle.run_law.specs.declared.{judgement.Reason.{Reason, TheVariants.Off}, note.{Note.Note, NoteBody.NoteBody}}
+use Rattle.{drift_clock.specs.ClockLaws.KeepsClockLaws, run_law.specs.runs.DueRecords.IsScenarioRun}
+use Rattle.{net_plan.specs.{Places.link_at, Ranges.IsInRange}, run_law.specs.declared.note.Note.Note}
+use Rattle.net_plan.specs.declared.{event.{Event.Event, What.TheVariants.{Hold, Send}}, tables.Way.TheVariants.Up}
+use Rattle.{net_plan.specs.declared.ids.{DeviceId.DeviceId, VlId.VlId}, run_law.specs.declared.note.NoteBody.NoteBody}
+use Rattle.{net_plan.specs.declared.{ids.LinkId.LinkId, tables.Way.Way}, schedule_tables.specs.Rules.KeepsRules}
+use Rattle.run_law.specs.{declared.judgement.Reason.{Reason, TheVariants.Off}, scenario.Hypothesis.AreWithinHypothesis}
 use Rattle.run_law.specs.records.{Causes.{GoesBackTo, device_of}, Happenings.{Happening, happenings, numbered, time_of}}
-use Rattle.run_law.specs.{records.Order.{IsBefore, IsIn}, runs.DueRecords.IsScenarioRun, scenario.Faults.Cuts}
-use Rattle.run_law.specs.scenario.{Hypothesis.AreWithinHypothesis, Scenarios.{Scenario, is_broken}}
-use Rattle.run_law.specs.scenario.Ways.{delay_at, hold_at, is_cut}
+use Rattle.{run_law.specs.records.Order.{IsBefore, IsIn}, tte_units.specs.{Amount.amount, declared.units.Units.Units}}
+use Rattle.run_law.specs.scenario.{Faults.Cuts, Scenarios.{Scenario, is_broken}, Ways.{delay_at, hold_at, is_cut}}
 use Rattle.run_law.specs.declared.note.NoteBody.TheVariants as notes
 
 -- the event's time, and the hold that it sets, if it does, are not negative, as in the text of a trace

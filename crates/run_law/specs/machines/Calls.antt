@@ -1,14 +1,13 @@
 -- When a device may be called.
 use Rattle.std.specs.Prelude.{◌+ℤ◌, ◌+◌, ◌<ℤ◌, ◌^◌, ◌≡◌, ◌≤ℤ◌, ◌≤◌, ◌⊎◌, All, IsSomeAnd, List, Ok, false, length, pos}
 use Rattle.std.specs.Prelude.{true, ℕ, ℤ}
-use Rattle.net_plan.specs.{Places.link_at, Rules.IsChildOf, declared.ids.{DeviceId.DeviceId, LinkId.LinkId}}
-use Rattle.net_plan.specs.declared.network.Network.{Network}
+use Rattle.net_plan.specs.Places.{link_at}
+use Rattle.net_plan.specs.{Rules.IsChildOf, declared.{ids.{DeviceId.DeviceId, LinkId.LinkId}, network.Network.Network}}
 use Rattle.pcf_values.specs.declared.{members.Members.Members, pcf.{Pcf.Pcf, PcfKind.TheVariants.Integration}}
-use Rattle.tte_units.specs.{Amount.amount, declared.units.Units.Units}
-use Rattle.run_law.specs.{control.{Permanence.waits_for, Wires.{control, signal_of}}, declared.steps.Moment.Moment}
+use Rattle.run_law.specs.{control.Permanence.waits_for, machines.Tasks.{IsPending, Task, reading_for}}
+use Rattle.run_law.specs.{control.Wires.{control, signal_of}, scenario.Devices.{IsParentOf, is_end, member_of}}
+use Rattle.{run_law.specs.declared.steps.Moment.Moment, tte_units.specs.{Amount.amount, declared.units.Units.Units}}
 use Rattle.run_law.specs.{device.States.is_off, machines.Nodes.{Node, Phase, acting, arriving, ripening, turning_on}}
-use Rattle.run_law.specs.machines.Tasks.{IsPending, Task, reading_for}
-use Rattle.run_law.specs.scenario.Devices.{IsParentOf, is_end, member_of}
 
 -- the place of a kind of call among those of one instant
 abbrev pub order_of_phase : Phase → ℕ

@@ -1,13 +1,12 @@
 -- Where a device stands by itself: what it was given and what it has done, in whole lists.
 use Rattle.std.specs.List.{last_or}
 use Rattle.std.specs.Prelude.{◌&&◌, ◌+ℤ◌, ◌==◌, Bool, List, None, Option, [], false, filter, not, option_map, ℕ, ℤ}
-use Rattle.compression.specs.{Clusters.Point, declared.compressed.Compressed.Compressed}
+use Rattle.{compression.specs.Clusters.Point, tte_units.specs.Amount.{amount, units_of}}
+use Rattle.{compression.specs.declared.compressed.Compressed.Compressed, net_plan.specs.declared.ids.DeviceId.DeviceId}
 use Rattle.membership.specs.Hearing.{Hearing}
-use Rattle.net_plan.specs.declared.{ids.{DeviceId.DeviceId, RowId.RowId, VlId.VlId}, network.Network.Network}
-use Rattle.sync_state.specs.Standing.{Standing, begun}
-use Rattle.tte_units.specs.Amount.{amount, units_of}
+use Rattle.{net_plan.specs.declared.ids.{RowId.RowId, VlId.VlId}, sync_state.specs.Standing.{Standing, begun}}
+use Rattle.{net_plan.specs.declared.network.Network.Network, run_law.specs.scenario.Devices.{plan_of, start_of}}
 use Rattle.run_law.specs.{declared.steps.Moment.Moment, device.{Standpoints.Standpoint, States.is_off}}
-use Rattle.run_law.specs.scenario.Devices.{plan_of, start_of}
 
 -- the calls of one instant come in this order
 pub data Phase : Type 0 where

@@ -2,11 +2,10 @@
 use Rattle.std.specs.List.{count_by, enumerate_from, list_any}
 use Rattle.std.specs.Prelude.{◌&&◌, ◌*◌, ◌++◌, ◌+ℤ◌, ◌<ℤ◌, ◌<◌, ◌==◌, ◌^◌, ◌∷◌, ◌≡◌, ◌≢◌, ◌⊎◌, Bool, IsSomeAnd, List}
 use Rattle.std.specs.Prelude.{[], false, is_some, not, pos, true, unsigned_abs, ℕ}
-use Rattle.net_plan.specs.{Places.{device_at, is_master, link_at}, declared.event.{Event.Event, What.What}}
-use Rattle.net_plan.specs.declared.{ids.{DeviceId.DeviceId, LinkId.LinkId}, network.Network.Network}
-use Rattle.net_plan.specs.declared.tables.{Device.Device, Way.Way}
-use Rattle.pcf_values.specs.declared.channel.Channel.{Channel}
-use Rattle.tte_units.specs.{Amount.amount, declared.{rates.Ppb.Ppb, units.Units.Units}}
+use Rattle.{net_plan.specs.Places.{device_at, is_master, link_at}, pcf_values.specs.declared.channel.Channel.Channel}
+use Rattle.{net_plan.specs.declared.{event.Event.Event, ids.LinkId.LinkId}, tte_units.specs.declared.units.Units.Units}
+use Rattle.{net_plan.specs.declared.event.What.What, tte_units.specs.{Amount.amount, declared.rates.Ppb.Ppb}}
+use Rattle.net_plan.specs.declared.{ids.DeviceId.DeviceId, network.Network.Network, tables.{Device.Device, Way.Way}}
 use Rattle.run_law.specs.declared.outside.Outside.TheVariants.{Channel as OtherChannel, Hold, Late, NotBroken}
 use Rattle.run_law.specs.declared.outside.Outside.TheVariants.{NotMaster, NotOff, Order, Rate, SecondBreak}
 use Rattle.run_law.specs.declared.outside.Outside.{Outside, TheVariants.{TooFewMasters, Wire}}

@@ -1,7 +1,6 @@
 -- The rates of a device's clock.
 use Rattle.std.specs.{List.filter_map, Prelude.{if◌then◌else◌, ◌==◌, List, None, Option, Some, ℕ}}
-use Rattle.drift_clock.specs.RateSteps.{RateStep}
-use Rattle.net_plan.specs.declared.{event.Event.Event, ids.DeviceId.DeviceId}
+use Rattle.{drift_clock.specs.RateSteps.RateStep, net_plan.specs.declared.{event.Event.Event, ids.DeviceId.DeviceId}}
 use Rattle.net_plan.specs.declared.event.What.{TheVariants.{Break, Cut, End, Heal, Hold, On, Rate, Send, Wire}, What}
 use Rattle.tte_units.specs.Amount.{amount}
 

@@ -1,10 +1,9 @@
 -- What a run is of: a network, its clocks, and the events that befall it.
 use Rattle.std.specs.List.{last_or, list_any}
 use Rattle.std.specs.Prelude.{◌&&◌, ◌==◌, Bool, List, None, Option, false, filter, filter_map, nat_le, unwrap_or, ℕ}
-use Rattle.net_plan.specs.declared.{event.{Event.Event, What.{What, TheVariants.On}}, ids.DeviceId.DeviceId}
-use Rattle.net_plan.specs.declared.network.Network.{Network}
+use Rattle.{net_plan.specs.declared.event.Event.Event, run_law.specs.scenario.Hypothesis.breaks_at}
+use Rattle.net_plan.specs.declared.{event.What.{TheVariants.On, What}, ids.DeviceId.DeviceId, network.Network.Network}
 use Rattle.tte_units.specs.Amount.{amount}
-use Rattle.run_law.specs.scenario.Hypothesis.{breaks_at}
 
 -- a network, what the clock of each device reads at each time, and the events in the order of the trace
 pub record Scenario : Type 0 where

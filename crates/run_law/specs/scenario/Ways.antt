@@ -1,12 +1,11 @@
 -- The ways of the links: who sends and who receives on them, their delays and holds, and whether they are cut.
 use Rattle.std.specs.Option.{option_map_or}
 use Rattle.std.specs.Prelude.{if◌then◌else◌, ◌&&◌, ◌==◌, Bool, None, Option, Some, false, option_map, true, ℕ}
-use Rattle.net_plan.specs.{Places.link_at, declared.event.What.{What, TheVariants.{Cut, Heal, Hold, Wire}}}
-use Rattle.net_plan.specs.declared.{ids.{DeviceId.DeviceId, LinkId.LinkId}, network.Network.Network, tables.Way.Way}
-use Rattle.net_plan.specs.declared.tables.Way.TheVariants.{Down, Up}
-use Rattle.schedule_tables.specs.Entries.{target_by}
-use Rattle.tte_units.specs.Amount.{amount}
-use Rattle.run_law.specs.scenario.{Devices.is_parent_of, Scenarios.{Scenario, last_set}}
+use Rattle.{net_plan.specs.Places.link_at, tte_units.specs.Amount.amount}
+use Rattle.net_plan.specs.declared.{event.What.TheVariants.{Cut, Heal, Hold, Wire}, tables.Way.TheVariants.{Down, Up}}
+use Rattle.{net_plan.specs.declared.{event.What.What, tables.Way.Way}, schedule_tables.specs.Entries.target_by}
+use Rattle.{net_plan.specs.declared.ids.{DeviceId.DeviceId, LinkId.LinkId}, run_law.specs.scenario.Devices.is_parent_of}
+use Rattle.{net_plan.specs.declared.network.Network.Network, run_law.specs.scenario.Scenarios.{Scenario, last_set}}
 
 -- are the two ways one?
 abbrev pub is_way : Way → Way → Bool

@@ -1,14 +1,13 @@
 -- What a synchronised device dispatches.
 use Rattle.std.specs.{List.last_or, Prelude.{true, ℕ}}
 use Rattle.std.specs.Prelude.{◌&&◌, ◌*◌, ◌+◌, ◌==◌, ◌≡◌, ◌≤◌, ◌⊎◌, Bool, List, None, Option, Some, false, filter, pos}
-use Rattle.net_plan.specs.{Places.is_master, declared.ids.{DeviceId.DeviceId, LinkId.LinkId, VlId.VlId}}
-use Rattle.net_plan.specs.declared.network.Network.{Network}
+use Rattle.{net_plan.specs.Places.is_master, run_law.specs.device.{LocalClocks.Reaches, States.state_before}}
+use Rattle.{net_plan.specs.declared.ids.{DeviceId.DeviceId, VlId.VlId}, run_law.specs.declared.note.NoteBody.NoteBody}
+use Rattle.{net_plan.specs.declared.ids.LinkId.LinkId, sync_state.specs.declared.state.State.TheVariants.Synchronised}
+use Rattle.{net_plan.specs.declared.network.Network.Network, run_law.specs.scenario.Devices.{has_role, is_end}}
+use Rattle.run_law.specs.{records.Happenings.{Happening, earlier}, scenario.Scenarios.{Scenario, is_broken}}
 use Rattle.schedule_tables.specs.{Entries.{IsEntry, source_of}, Windows.OccursIn, declared.entry.Entry.Entry}
-use Rattle.sync_state.specs.declared.state.State.TheVariants.{Synchronised}
 use Rattle.tte_units.specs.Amount.{amount}
-use Rattle.run_law.specs.{declared.note.NoteBody.NoteBody, device.{LocalClocks.Reaches, States.state_before}}
-use Rattle.run_law.specs.{records.Happenings.{Happening, earlier}, scenario.Devices.{has_role, is_end}}
-use Rattle.run_law.specs.scenario.Scenarios.{Scenario, is_broken}
 use Rattle.run_law.specs.declared.note.NoteBody.TheVariants as notes
 
 -- the device is synchronised and correct at the time

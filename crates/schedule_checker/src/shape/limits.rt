@@ -1,6 +1,5 @@
 ghost use Rattle.std.specs.Prelude.{◌≡◌, ◌≤◌, ◌↔◌, IfNone, IfSome, IsTrue};
-ghost use Rattle.net_plan.specs.Rules.{IsWithinLimits};
-ghost use Rattle.schedule_checker.specs.Parts.{part_of_limit};
+ghost use Rattle.{net_plan.specs.Rules.IsWithinLimits, schedule_checker.specs.Parts.part_of_limit};
 
 use net_plan::Network;
 

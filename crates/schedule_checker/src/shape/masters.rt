@@ -1,9 +1,8 @@
 ghost use Rattle.std.specs.Prelude.{◌≡◌, ◌≢◌, ◌≤◌, ◌↔◌, ◌≤ℤ◌, ◌+◌, true, IsTrue, IfNone, IfSome, is_some, length};
 ghost use Rattle.std.specs.List.{All, count_by};
-ghost use Rattle.net_plan.specs.Places.{is_master};
+ghost use Rattle.{net_plan.specs.Places.is_master, schedule_checker.specs.Parts.part_of_demand};
 ghost use Rattle.net_plan.specs.Rules.{HasOffSwitch, MastersSuffice, MembersDiffer, masters, most_masters};
 ghost use Rattle.pcf_values.specs.declared.channel.Channel.{Channel as ChannelValue};
-ghost use Rattle.schedule_checker.specs.Parts.{part_of_demand};
 
 use net_plan::{Device, Network, Role};
 use pcf_values::Channel;

@@ -1,6 +1,5 @@
 ghost use Rattle.std.specs.Prelude.{◌≡◌, ◌≤◌, ◌<◌, [], IfOk, length, unsigned_abs};
-ghost use Rattle.audit_devices.specs.events.Remembering.{Remembers, RemembersSome};
-ghost use Rattle.net_plan.specs.Ranges.{IsInRange};
+ghost use Rattle.{audit_devices.specs.events.Remembering.{Remembers, RemembersSome}, net_plan.specs.Ranges.IsInRange};
 
 use crate::judges::networks::master;
 use audit_devices::events::{EventHistory, OutOfMemory, Settings, reading_law};

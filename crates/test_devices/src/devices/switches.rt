@@ -1,6 +1,5 @@
 ghost use Rattle.std.specs.Prelude.{◌≡◌, IfOk, ◌^◌};
-ghost use Rattle.net_plan.specs.Ranges.{IsWithin};
-ghost use Rattle.switch_ports.specs.Standpoints.{IsSiteInRange};
+ghost use Rattle.{net_plan.specs.Ranges.IsWithin, switch_ports.specs.Standpoints.IsSiteInRange};
 
 use device_rules::EnteringRow;
 use device_rules::least_key::{Keys, NO_KEY};
@@ -10,9 +9,7 @@ use run_law::{Arrival, Reason};
 use schedule_tables::Window;
 use std::alloc::{AllocError, Global};
 use std::test::Fail;
-use switch_ports::{
-    Departure, Held, LeavingRow, Peer, Port, Site, Standpoint, Taking,
-};
+use switch_ports::{Departure, Held, LeavingRow, Peer, Port, Site, Standpoint, Taking};
 use sync_state::{State, SyncPlan};
 use tte_units::Units;
 

@@ -1,12 +1,11 @@
 -- When frames of the schedule arrive.
+use Rattle.run_law.{proofs.law.FirstDelays.{given, last_is, sets_wire}, specs.{declared.outside.Outside.TheVariants.Wire, law.FirstLaws.IsLawful}}
+use Rattle.{run_law.specs.scenario.Ways.{delay_at, wire_of, wire_set}, traffic_law.proofs.schedule.Rows.rows_are_in_time}
+use Rattle.schedule_tables.specs.Windows.{arrival_of}
 use Rattle.traffic_law.proofs.Words.{◌*◌, ◌+ℤ◌, ◌+◌, ◌<ℤ◌, ◌≡◌, ◌≤ℤ◌, ◌≤◌, ◌⊎◌, BringsBlocks, Event, IsIn, IsInSpan, Link, LinkId, Option, Scenario, Some, Way}
 use Rattle.traffic_law.proofs.Words.{amount, ap, arith, arrives_at, before_narrow, block_ends, by_lt_z, closed, in_range, inl, inr, ints, link_at}
-use Rattle.traffic_law.proofs.Words.{option_map_or, pos, room, shown_at, subst, time_of, ℕ}
-use Rattle.run_law.{proofs.law.FirstDelays.{given, last_is, sets_wire}, specs.{declared.outside.Outside.TheVariants.Wire, law.FirstLaws.IsLawful}}
-use Rattle.run_law.specs.scenario.Ways.{delay_at, wire_of, wire_set}
-use Rattle.schedule_tables.specs.Windows.{arrival_of}
-use Rattle.traffic_law.proofs.{ports.Dispatched.dispatches_are_in_spans, schedule.{Rows.rows_are_in_time, Values.{cycle_whole, so_far, so_far_in}}}
-use Rattle.traffic_law.{proofs.spans.Spans.synchronised_keep_time, specs.Passed.{ArrivalsAreInWindows, FramesArriveInSpans}}
+use Rattle.traffic_law.{proofs.Words.{option_map_or, pos, room, shown_at, subst, time_of, ℕ}, specs.Passed.{ArrivalsAreInWindows, FramesArriveInSpans}}
+use Rattle.traffic_law.proofs.{ports.Dispatched.dispatches_are_in_spans, schedule.Values.{cycle_whole, so_far, so_far_in}, spans.Spans.synchronised_keep_time}
 
 -- ---- wire delays
 

@@ -1,16 +1,15 @@
 -- Where the frames come from that devices take.
+use Rattle.{net_plan.specs.declared.event.What.TheVariants.Send, traffic_law.proofs.{delivery.Frames.dispatch_shows, ports.Dispatched.dispatches_are_of_rows}}
+use Rattle.{run_law.specs.control.Wires.{Launch, signal_of, time_on_port}, schedule_tables.specs.declared.rule.Rule.TheVariants.VlIdsDiffer}
+use Rattle.{run_law.specs.{law.Safety.IsFirstDispatch, scenario.Ways.is_cut}, traffic_law.specs.Passed.ArrivesInSpan}
 use Rattle.traffic_law.proofs.Words.{◌+◌, ◌<◌, ◌∙◌, ◌∷◌, ◌≡◌, Bool, BringsBlocks, DeviceId, Entry, FieldsFit, Happening, HasGoodSources, IsEntry, IsGood}
 use Rattle.traffic_law.proofs.Words.{IsRowDispatch, IsTaking, IsTimedAt, IsView, KeepsRules, Link, LinkId, List, Network, None, NoteBody, SendersAreBroken}
 use Rattle.traffic_law.proofs.Words.{Signal, Some, Up, View, VirtualLink, VlId, Way, [], ap, arith, arrives_at, begins_late, both_ways, cases_lt, cause_of}
 use Rattle.traffic_law.proofs.Words.{false, field, if◌then◌else◌, inl, inr, ints, is_broken, launched, length, link_at, numbered, octet_time, option_map_or}
 use Rattle.traffic_law.proofs.Words.{port_time, refl, same_some, slice_get, source_by, source_of, subst, suc, sym, time_of, timed, true, tt_frame_by}
-use Rattle.traffic_law.{proofs.{Words.{within_run, zero, ℕ}, ports.Cycles.hulls_grow}, specs.Passed.ArrivesInSpan}
+use Rattle.traffic_law.proofs.{Words.{within_run, zero, ℕ}, ports.{Cycles.hulls_grow, Leavings.hull_proper}, schedule.Rows.rows_go_once}
 use Rattle.traffic_law.proofs.delivery.{Arriving.{arrivals_are_in_windows, frames_arrive_in_spans}, Taken.{left_control, put_on, takings_are_so}}
-use Rattle.traffic_law.proofs.{delivery.{Frames.dispatch_shows, Whole.octets_come_so}, ports.{Dispatched.dispatches_are_of_rows, Leavings.hull_proper}}
-use Rattle.traffic_law.{proofs.schedule.Rows.rows_go_once, specs.Coming.{BeginsAtSender, DispatchesBegin, SpansAreApart, TakingsBegin, TakingsComeByRows}}
-use Rattle.net_plan.specs.declared.event.What.TheVariants.{Send}
-use Rattle.run_law.specs.{control.Wires.{Launch, signal_of, time_on_port}, law.Safety.IsFirstDispatch, scenario.Ways.is_cut}
-use Rattle.schedule_tables.specs.declared.rule.Rule.TheVariants.{VlIdsDiffer}
+use Rattle.traffic_law.{proofs.delivery.Whole.octets_come_so, specs.Coming.{BeginsAtSender, DispatchesBegin, SpansAreApart, TakingsBegin, TakingsComeByRows}}
 use Rattle.run_law.specs.declared.note.NoteBody.TheVariants as notes
 
 -- ---- spans

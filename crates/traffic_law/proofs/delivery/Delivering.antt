@@ -1,4 +1,10 @@
 -- Each frame that is owed is delivered.
+use Rattle.{net_plan.specs.{Bounds.IsGreatest, Places.IsEndSystem}, run_law.specs.declared.note.Note.Note, traffic_law.specs.Delivered.IsSentIn}
+use Rattle.{net_plan.specs.Ranges.{IsInRange, IsVlInRange}, run_law.specs.{device.LocalClocks.local_before, records.{Causes.IsChain, Happenings.happenings}}}
+use Rattle.{precision_law.proofs.law.Precision.{up_to_is, view_at, view_of}, schedule_tables.specs.declared.rule.Rule.TheVariants.BothChannels}
+use Rattle.run_law.{proofs.law.FirstPlaces.{by_number, number_is}, specs.law.Safety.{IsDelivered, IsInStep, IsOwed, IsRowInto, IsWindowEnd, ReachesPlace}}
+use Rattle.{run_law.proofs.scenario.Devices.end_test, schedule_tables.specs.{Schedule.EntersOn, Windows.window_end}, traffic_law.specs.Spans.IsReachedInSpan}
+use Rattle.std.proofs.Common.{max}
 use Rattle.traffic_law.proofs.Words.{◌*◌, ◌+ℤ◌, ◌+◌, ◌-◌, ◌<ℤ◌, ◌<◌, ◌∙◌, ◌∷◌, ◌≡◌, ◌≤ℤ◌, ◌≤◌, DeviceId, Entry, FieldsFit, Happening, HasGoodSources, IsDue}
 use Rattle.traffic_law.proofs.Words.{IsEntry, IsFounded, IsGood, IsIn, IsInSchedule, IsInSpan, IsOnChannel, IsTimedAt, IsView, Joints, LinkId, List, Network}
 use Rattle.traffic_law.proofs.Words.{Reaches, Scenario, Some, Synchronised, Units, View, VirtualLink, VlId, [], adjustment_after, adjustment_left}
@@ -10,14 +16,6 @@ use Rattle.traffic_law.proofs.{delivery.{Arriving.frames_arrive_in_spans, Once.d
 use Rattle.traffic_law.proofs.delivery.{Coming.{dispatches_begin, takings_begin}, Sent.{Brings, arrives_in_time, rows_are_sent}, Since.synchronised_before}
 use Rattle.traffic_law.{proofs.{delivery.Takers.end_delivers, faults.Channels.good_sources, ports.Cycles.same_next}, specs.Ports.{IsRunTo, OwedFramesCome}}
 use Rattle.traffic_law.proofs.{ports.Dispatched.{cycle_is, offset_in_schedule}, spans.Spans.{has_time_at, synchronised_keep_time, values_are_reached_in_spans}}
-use Rattle.traffic_law.specs.{Delivered.IsSentIn, Spans.IsReachedInSpan}
-use Rattle.std.proofs.Common.{max}
-use Rattle.net_plan.specs.{Bounds.IsGreatest, Places.IsEndSystem, Ranges.{IsInRange, IsVlInRange}}
-use Rattle.precision_law.proofs.law.Precision.{up_to_is, view_at, view_of}
-use Rattle.run_law.{proofs.{law.FirstPlaces.{by_number, number_is}, scenario.Devices.end_test}, specs.declared.note.Note.Note}
-use Rattle.run_law.specs.{device.LocalClocks.local_before, law.Safety.{IsDelivered, IsInStep, IsOwed, IsRowInto, IsWindowEnd, ReachesPlace}}
-use Rattle.run_law.specs.records.{Causes.IsChain, Happenings.happenings}
-use Rattle.schedule_tables.specs.{Schedule.EntersOn, Windows.window_end, declared.rule.Rule.TheVariants.BothChannels}
 use Rattle.run_law.specs.declared.note.NoteBody.TheVariants as notes
 
 -- ---- what is owed, in the view of the run up to the end of the last window

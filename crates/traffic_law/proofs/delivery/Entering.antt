@@ -1,14 +1,12 @@
 -- The row by which a frame of the schedule enters a device.
-use Rattle.std.proofs.{Common.{◌%◌, arith, cond, find}, lemmas.Bool.{le-leb, not_from_true}}
+use Rattle.{net_plan.specs.declared.tables.Row.Row, run_law.proofs.scenario.Ways.way_itself, std.proofs.Common.{◌%◌, arith, cond, find}}
+use Rattle.{pcf_codec.specs.EtherType.least_type, tte_lemmas.proofs.{Integers.not_below, Lists.found_passes}}
+use Rattle.{run_law.specs.scenario.Ways.{is_way, is_way_of}, std.proofs.lemmas.Bool.{le-leb, not_from_true}, traffic_law.proofs.schedule.Rows.rows_go_once}
+use Rattle.{run_law.specs.timed.Arrivals.{entry_of, is_row_with, occurs_in, row_entering}, traffic_law.proofs.delivery.{Coming.same_id, Faultless.entering}}
 use Rattle.traffic_law.proofs.Words.{◌&&◌, ◌==◌, ◌||◌, ◌∙◌, ◌∷◌, ◌≡◌, ◌≤ℤ◌, ◌≤◌, Bool, DeviceId, Entry, IsEntry, KeepsRules, Link, LinkId, List, Network, None}
 use Rattle.traffic_law.proofs.Words.{OccursIn, Option, Reason, Some, Standpoint, VirtualLink, Way, [], ap, clock_of, cycle_at, entry_entering, eq-eqb, eqb-true}
 use Rattle.traffic_law.proofs.Words.{false, field, int_lt, is_synchronised, is_taken_in, le-ltb, link_at, nat_le, nat_lt, not, octets_fault, offset_in_cycle}
 use Rattle.traffic_law.proofs.Words.{option_and_then, option_map, option_map_or, refl, row_fault, slice_get, subst, suc, sym, true, way_to, window_of, zero, ℕ}
-use Rattle.traffic_law.proofs.{delivery.{Coming.same_id, Faultless.entering}, schedule.Rows.rows_go_once}
-use Rattle.net_plan.specs.declared.tables.Row.{Row}
-use Rattle.pcf_codec.specs.EtherType.{least_type}
-use Rattle.run_law.{proofs.scenario.Ways.way_itself, specs.{scenario.Ways.{is_way, is_way_of}, timed.Arrivals.{entry_of, is_row_with, occurs_in, row_entering}}}
-use Rattle.tte_lemmas.proofs.{Integers.not_below, Lists.found_passes}
 
 -- ---- the row that is found
 

@@ -1,14 +1,11 @@
 -- What a device has found of a frame of the schedule that it takes.
-use Rattle.std.proofs.{Common.{◌%◌, arith}, lemmas.Bool.{leb-true, not-false, or_parts}}
-use Rattle.traffic_law.proofs.Words.{if◌then◌else◌, ◌==◌, ◌≡◌, ◌≤ℤ◌, ◌⊎◌, Arrival, Bool, DeviceId, Entry, IsEntry, LinkId, List, Network, None}
-use Rattle.traffic_law.proofs.Words.{OccursIn, Option, Reason, Some, Standpoint, Synchronised, VirtualLink, VlId, and_parts, ap, clock_of, cycle_at}
-use Rattle.traffic_law.proofs.Words.{entry_arrival, entry_entering, eqb-true, false, field, inl, inr, int_lt, is_end, is_synchronised, is_taken_in, length}
-use Rattle.traffic_law.proofs.Words.{link_at, nat_le, none_first, not, not_less, octets_fault, octets_or_fault, offset_in_cycle, option_and_then, option_map_or}
-use Rattle.traffic_law.proofs.Words.{refl, row_fault, slice_get, taken_or_fault, timed_arrival, true, way_to, window_of, ℕ}
-use Rattle.net_plan.{proofs.SameIds.one_link}
-use Rattle.run_law.{proofs.{device.States.is_in, scenario.Ways.one_way}, specs.timed.Arrivals.occurs_in}
-use Rattle.schedule_tables.proofs.Entries.{entry_by}
-use Rattle.tte_lemmas.proofs.Lists.{find_at}
+use Rattle.{net_plan.proofs.SameIds.one_link, std.proofs.Common.{◌%◌, arith}, tte_lemmas.proofs.Lists.find_at}
+use Rattle.{run_law.{proofs.{device.States.is_in, scenario.Ways.one_way}, specs.timed.Arrivals.occurs_in}, schedule_tables.proofs.Entries.entry_by}
+use Rattle.{std.proofs.lemmas.Bool.{leb-true, not-false, or_parts}, traffic_law.proofs.Words.{taken_or_fault, timed_arrival, true, way_to, window_of, ℕ}}
+use Rattle.traffic_law.proofs.Words.{◌==◌, ◌≡◌, ◌≤ℤ◌, ◌⊎◌, Arrival, Bool, DeviceId, Entry, IsEntry, LinkId, List, Network, None, OccursIn, Option, Reason, Some}
+use Rattle.traffic_law.proofs.Words.{Standpoint, Synchronised, VirtualLink, VlId, and_parts, ap, clock_of, cycle_at, entry_arrival, entry_entering, eqb-true}
+use Rattle.traffic_law.proofs.Words.{false, field, if◌then◌else◌, inl, inr, int_lt, is_end, is_synchronised, is_taken_in, length, link_at, nat_le, none_first}
+use Rattle.traffic_law.proofs.Words.{not, not_less, octets_fault, octets_or_fault, offset_in_cycle, option_and_then, option_map_or, refl, row_fault, slice_get}
 use Rattle.run_law.specs.declared.steps.Arrival.TheVariants as arrivals
 
 -- ---- the row

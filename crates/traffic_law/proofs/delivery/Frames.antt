@@ -1,9 +1,7 @@
 -- What a frame of the schedule shows.
-use Rattle.traffic_law.proofs.Words.{◌-◌, ◌<◌, ◌∙◌, ◌≡◌, DeviceId, FieldsFit, Happening, IsRowDispatch, IsView, LinkId, List, Network, View, VirtualLink}
-use Rattle.traffic_law.proofs.Words.{VlId, [], ap, append_assoc, arith, field, inl, inr, length, sym, tt_frame_by, ℕ}
-use Rattle.std.proofs.Common.{◌^◌, length-append, replicate}
-use Rattle.pcf_codec.proofs.Numbers.{read_behind}
-use Rattle.traffic_law.proofs.delivery.{Taken.takings_are_so, Whole.{octets_come_so, same_vl}}
+use Rattle.{pcf_codec.proofs.Numbers.read_behind, std.proofs.Common.{◌^◌, length-append, replicate}, traffic_law.proofs.delivery.Taken.takings_are_so}
+use Rattle.traffic_law.proofs.Words.{◌-◌, ◌<◌, ◌∙◌, ◌≡◌, DeviceId, FieldsFit, Happening, IsRowDispatch, IsView, LinkId, List, Network, View, VirtualLink, VlId}
+use Rattle.traffic_law.proofs.{Words.{[], ap, append_assoc, arith, field, inl, inr, length, sym, tt_frame_by, ℕ}, delivery.Whole.{octets_come_so, same_vl}}
 
 -- what the frame shows
 pub record ShowsOf (network : Network) (vl : VirtualLink) (octets : List ℕ) : Type 0 where

@@ -1,4 +1,9 @@
 -- A dispatched frame that comes to a synchronised device is taken, or one was taken before.
+use Rattle.{net_plan.specs.Bounds.gamma_of, run_law.specs.device.States.is_off}
+use Rattle.run_law.proofs.{law.{FirstPlaces.{due_is_there, same_earlier}, FirstSent.{found_before, next_due, next_note}}, records.Order.has_passed}
+use Rattle.{run_law.specs.{control.Wires.Arrives, scenario.Ways.receiver_of, timed.Arrivals.taken_by}, traffic_law.proofs.ports.Ends.ends_differ}
+use Rattle.run_law.specs.{records.Happenings.happening, timed.Receptions.{ArrivesAs, arrival_of, comes_before, is_taken_before, taken_cycle}}
+use Rattle.{std.proofs.lemmas.Bool.{ltb-true, ne_eqb, or_cases}, traffic_law.proofs.delivery.{Coming.on_port, Frames.frame_shows, Taken.{put_on, way_is}}}
 use Rattle.traffic_law.proofs.Words.{◌&&◌, ◌++◌, ◌+ℤ◌, ◌+◌, ◌<◌, ◌==◌, ◌||◌, ◌∙◌, ◌∷◌, ◌≡◌, ◌≢◌, ◌≤◌, Arrival, Bool, BringsBlocks, BringsChannels, DeviceId}
 use Rattle.traffic_law.proofs.Words.{Down, Entry, FieldsFit, Happening, Integrating, IsDue, IsGood, IsIn, IsRowDispatch, IsTimedAt, IsView, KeepsRules, Link}
 use Rattle.traffic_law.proofs.Words.{LinkId, List, Network, None, NoteBody, OccursIn, Option, SaysTaken, Sizes, Some, Standpoint, State, Synchronised, Up, View}
@@ -9,13 +14,7 @@ use Rattle.traffic_law.proofs.Words.{nat_lt, not, numbered, octets_fault, octets
 use Rattle.traffic_law.proofs.Words.{option_map_or, place_of, pos, refl, room, row_fault, shown_at, source_by, split, standpoint, state_after, subst, sym}
 use Rattle.traffic_law.proofs.Words.{taken_or_fault, target_by, target_of, time_of, timed, timed_arrival, true, tt_frame_by, way_from, ℕ}
 use Rattle.traffic_law.proofs.delivery.{Arriving.{arrivals_are_in_windows, delay_lies, frames_arrive_in_spans}, Entering.{enters_by, octets_sound, row_sound}}
-use Rattle.traffic_law.proofs.{delivery.{Coming.on_port, Frames.frame_shows, Taken.{put_on, way_is}}, ports.Ends.ends_differ}
 use Rattle.traffic_law.{proofs.{delivery.Whole.dispatches_are_whole, schedule.Rows.rows_are_in_time}, specs.Delivered.{ArrivalsAreTaken, HasTaken}}
-use Rattle.std.proofs.lemmas.Bool.{ltb-true, ne_eqb, or_cases}
-use Rattle.net_plan.specs.Bounds.{gamma_of}
-use Rattle.run_law.proofs.{law.{FirstPlaces.{due_is_there, same_earlier}, FirstSent.{found_before, next_due, next_note}}, records.Order.has_passed}
-use Rattle.run_law.specs.{control.Wires.Arrives, device.States.is_off, scenario.Ways.receiver_of, timed.Arrivals.taken_by}
-use Rattle.run_law.specs.{records.Happenings.happening, timed.Receptions.{ArrivesAs, arrival_of, comes_before, is_taken_before, taken_cycle}}
 use Rattle.run_law.specs.declared.note.NoteBody.TheVariants as notes
 use Rattle.run_law.specs.declared.steps.Arrival.TheVariants as arrivals
 

@@ -1,4 +1,9 @@
 -- On the sound channel each row of a virtual link dispatches its frame.
+use Rattle.{precision_law.proofs.records.Times.last_some, run_law.specs.control.Losses.IsDispatchedOn, schedule_tables.proofs.Entries.same_or_other}
+use Rattle.{precision_law.specs.Views.IsSoundSwitch, run_law.proofs.records.{Members.in_kept, Order.has_passed}, traffic_law.specs.Spans.ReachesInSpan}
+use Rattle.run_law.proofs.{law.{FirstPlaces.{due_is_there, same_earlier}, FirstSent.{next_due, next_note}}, records.Happenings.{from_earlier, is_earlier}}
+use Rattle.{run_law.specs.{records.Happenings.happening, scenario.Faults.IsLinkOf, timed.Dispatching.HasAtHand}, schedule_tables.specs.Windows.window_end}
+use Rattle.{schedule_tables.specs.declared.rule.Rule.TheVariants.{Forwarding, Sources}, traffic_law.proofs.schedule.Rows.{rows_are_in_time, rows_go_once}}
 use Rattle.traffic_law.proofs.Words.{◌*◌, ◌+◌, ◌<◌, ◌==◌, ◌∙◌, ◌∷◌, ◌≡◌, ◌≢◌, ◌≤◌, ◌⊎◌, Bool, BringsBlocks, BringsChannels, DeviceId, Entry, FieldsFit}
 use Rattle.traffic_law.proofs.Words.{Happening, HasGoodSources, Hull, Integrating, IsBefore, IsDue, IsEntry, IsGood, IsIn, IsInSpan, IsOnChannel, IsRowDispatch}
 use Rattle.traffic_law.proofs.Words.{IsSwitchOf, IsTimedAt, IsView, Link, LinkId, List, None, NoteBody, OccursIn, Option, Reaches, SendersAreBroken, Some}
@@ -8,16 +13,10 @@ use Rattle.traffic_law.proofs.Words.{is_accepted, is_turned_on_at, last_accepted
 use Rattle.traffic_law.proofs.Words.{reaches_by, refl, room, same_some, slice_get, source_of, split, state_after, state_before, state_left, steady, subst, suc}
 use Rattle.traffic_law.proofs.{Words.{sym, target_of, time_of, true, tt_frame_by, way_from, zero, ℕ}, delivery.Arriving.{delay_lies, frames_arrive_in_spans}}
 use Rattle.traffic_law.proofs.delivery.{Coming.{dispatches_begin, spans_are_apart, takings_come_by_rows}, Receiving.{arrivals_are_taken, one_vl, state_is}}
-use Rattle.traffic_law.{proofs.{delivery.Taken.takings_are_so, spans.Spans.has_time_at}, specs.Spans.ReachesInSpan}
-use Rattle.traffic_law.proofs.{delivery.Takers.switch_accepts, schedule.Rows.{rows_are_in_time, rows_go_once}, spans.Forward.synchronised_stay_so}
+use Rattle.traffic_law.proofs.{delivery.{Taken.takings_are_so, Takers.switch_accepts}, spans.{Forward.synchronised_stay_so, Spans.has_time_at}}
 use Rattle.traffic_law.proofs.{faults.Channels.{source_on, switch_channel, switch_no_end, target_on}, spans.Corrected.{earlier_founded, in_places, last_of}}
 use Rattle.traffic_law.proofs.ports.{Cycles.same_hull, Dispatched.{cycle_is, dispatches_are_in_spans, dispatches_are_of_rows, offset_in_schedule, one_clock}}
 use Rattle.traffic_law.{proofs.spans.Reaching.{set_before, values_are_reached}, specs.Delivered.{IsRowSent, IsSentIn, RowsAreSent, SoundSwitchesKeepTime}}
-use Rattle.precision_law.{proofs.records.Times.last_some, specs.Views.IsSoundSwitch}
-use Rattle.run_law.proofs.{law.{FirstPlaces.{due_is_there, same_earlier}, FirstSent.{next_due, next_note}}, records.Happenings.{from_earlier, is_earlier}}
-use Rattle.run_law.{proofs.records.Members.in_kept, specs.scenario.Faults.IsLinkOf}
-use Rattle.run_law.{proofs.records.Order.has_passed, specs.{control.Losses.IsDispatchedOn, records.Happenings.happening, timed.Dispatching.HasAtHand}}
-use Rattle.schedule_tables.{proofs.Entries.same_or_other, specs.{Windows.window_end, declared.rule.Rule.TheVariants.{Forwarding, Sources}}}
 use Rattle.run_law.specs.declared.note.NoteBody.TheVariants as notes
 
 -- all of these at once

@@ -1,11 +1,10 @@
 -- A device that is synchronised right after its clock reaches its schedule was so before.
+use Rattle.{run_law.specs.control.Corrections.correction_value, std.proofs.{Common.suc-mul, Math.Nat.mul-le-mul_right}}
 use Rattle.traffic_law.proofs.Words.{◌*◌, ◌++◌, ◌+◌, ◌==◌, ◌∙◌, ◌∷◌, ◌≡◌, ◌≤◌, DeviceId, Happening, IsCaused, IsFoundedAt, IsIn, IsInSchedule, IsView, Joining}
 use Rattle.traffic_law.proofs.Words.{List, NoteBody, Reaches, Sizes, State, Synchronised, Units, View, amount, ap, arith, before_of, between, cases_lt}
 use Rattle.traffic_law.proofs.Words.{clocks_reach_sharply, earlier, earlier_before, earlier_parts, fold-append, founded_at, in_between, in_left, in_order, inl}
 use Rattle.traffic_law.proofs.Words.{inr, ints, numbered_in, one_device, pos, reaches_by, room, start_of, state_after, state_at_start, state_left, state_with}
 use Rattle.traffic_law.proofs.{Words.{subst, suc, sym, time_of, ℕ, ℤ}, ports.Dispatched.cycle_is, spans.Synchronised.{Keeps, kept_by_all, kept_if}}
-use Rattle.std.proofs.{Common.suc-mul, Math.Nat.mul-le-mul_right}
-use Rattle.run_law.specs.control.Corrections.{correction_value}
 use Rattle.run_law.specs.declared.judgement.Judgement.TheVariants as judgements
 use Rattle.run_law.specs.declared.judgement.Why.TheVariants as whys
 use Rattle.run_law.specs.declared.note.NoteBody.TheVariants as notes

@@ -1,20 +1,17 @@
 -- The records by which devices take frames of the schedule.
-use Rattle.std.{proofs.Common.arith, specs.Prelude.{Err, Ok, Result}}
-use Rattle.traffic_law.proofs.Words.{if◌then◌else◌, ◌&&◌, ◌+ℤ◌, ◌+◌, ◌==◌, ◌∙◌, ◌∷◌, ◌≡◌, ◌≢◌, ◌≤ℤ◌, Arrival, Bool, DeviceId, Down, Happening, IsCaused}
-use Rattle.traffic_law.proofs.Words.{IsFoundedAt, IsIn, IsTaking, IsView, KeepsRules, Link, LinkId, List, Network, None, NoteBody, OccursIn, Option, Pcf}
-use Rattle.traffic_law.proofs.Words.{Reason, Scenario, Signal, Some, Standpoint, Synchronised, Units, Up, View, VlId, Way, [], ap, before_of, cause_of}
-use Rattle.traffic_law.proofs.Words.{clock_of, control, cycle_at, earlier, earlier_before, eq-eqb, eqb-true, false, field, founded_at, in_left, inl, inr}
-use Rattle.traffic_law.proofs.Words.{is_broken, is_relay, is_taken_in, is_turned_on_at, last_taken, launched, length, link_at, not, numbered, numbered_in}
-use Rattle.traffic_law.proofs.Words.{offset_in_cycle, option_map, option_map_or, pos, refl, same_some, shown_at, standpoint, state_after, state_before, subst}
-use Rattle.traffic_law.proofs.Words.{sym, target_by, time_of, timed, true, way_to, window_of, ℕ, ℤ}
-use Rattle.traffic_law.{proofs.{delivery.Faultless.{TakesIn, finds_none}, ports.Ends.ends_differ}, specs.Taken.TakingsAreSo}
-use Rattle.net_plan.specs.declared.event.What.TheVariants.{Send}
-use Rattle.pcf_codec.specs.{Decoding.decoded, EtherType.pcf_type, declared.refusal.PcfRefusal.PcfRefusal}
-use Rattle.precision_law.proofs.records.Points.{same_adjustment}
-use Rattle.run_law.{proofs.law.FirstPlaces.numbered_front, specs.control.Arrivals.{control_arrival, frame_fault, frame_or_fault}}
-use Rattle.run_law.specs.{control.Wires.{Arrives, Launch, signal_of, time_on_port}, device.States.is_off, records.Happenings.{octets_by, octets_from}}
-use Rattle.run_law.specs.{scenario.{Devices.is_parent_of, Ways.{delay_at, is_cut, receiver_of}}, timed.Receptions.{ArrivesAs, arrival_of}}
-use Rattle.sync_state.proofs.StateFacts.{up_state}
+use Rattle.{net_plan.specs.declared.event.What.TheVariants.Send, precision_law.proofs.records.Points.same_adjustment, sync_state.proofs.StateFacts.up_state}
+use Rattle.{pcf_codec.specs.{Decoding.decoded, EtherType.pcf_type}, run_law.proofs.law.FirstPlaces.numbered_front, traffic_law.specs.Taken.TakingsAreSo}
+use Rattle.{pcf_codec.specs.declared.refusal.PcfRefusal.PcfRefusal, run_law.specs.{scenario.Devices.is_parent_of, timed.Receptions.{ArrivesAs, arrival_of}}}
+use Rattle.run_law.specs.control.{Arrivals.{control_arrival, frame_fault, frame_or_fault}, Wires.{Arrives, Launch, signal_of, time_on_port}}
+use Rattle.{run_law.specs.device.States.is_off, std.{proofs.Common.arith, specs.Prelude.{Err, Ok, Result}}}
+use Rattle.{run_law.specs.records.Happenings.{octets_by, octets_from}, traffic_law.proofs.{delivery.Faultless.{TakesIn, finds_none}, ports.Ends.ends_differ}}
+use Rattle.{run_law.specs.scenario.Ways.{delay_at, is_cut, receiver_of}, traffic_law.proofs.Words.{time_of, timed, true, way_to, window_of, ℕ, ℤ}}
+use Rattle.traffic_law.proofs.Words.{◌&&◌, ◌+ℤ◌, ◌+◌, ◌==◌, ◌∙◌, ◌∷◌, ◌≡◌, ◌≢◌, ◌≤ℤ◌, Arrival, Bool, DeviceId, Down, Happening, IsCaused, IsFoundedAt, IsIn}
+use Rattle.traffic_law.proofs.Words.{IsTaking, IsView, KeepsRules, Link, LinkId, List, Network, None, NoteBody, OccursIn, Option, Pcf, Reason, Scenario, Signal}
+use Rattle.traffic_law.proofs.Words.{Some, Standpoint, Synchronised, Units, Up, View, VlId, Way, [], ap, before_of, cause_of, clock_of, control, cycle_at}
+use Rattle.traffic_law.proofs.Words.{earlier, earlier_before, eq-eqb, eqb-true, false, field, founded_at, if◌then◌else◌, in_left, inl, inr, is_broken, is_relay}
+use Rattle.traffic_law.proofs.Words.{is_taken_in, is_turned_on_at, last_taken, launched, length, link_at, not, numbered, numbered_in, offset_in_cycle}
+use Rattle.traffic_law.proofs.Words.{option_map, option_map_or, pos, refl, same_some, shown_at, standpoint, state_after, state_before, subst, sym, target_by}
 use Rattle.run_law.specs.declared.note.NoteBody.TheVariants as notes
 use Rattle.run_law.specs.declared.steps.Arrival.TheVariants as arrivals
 

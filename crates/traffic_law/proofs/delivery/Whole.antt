@@ -1,14 +1,11 @@
 -- Where the octets of a dispatch come from, and how many they are.
-use Rattle.traffic_law.proofs.Words.{if◌then◌else◌, ◌++◌, ◌-◌, ◌<◌, ◌==◌, ◌∙◌, ◌≡◌, ◌≤◌, Bool, Entry, Happening, IsEntry, IsIn, List, Network, None}
-use Rattle.traffic_law.proofs.Words.{Some, VirtualLink, VlId, [], ap, arith, before_of, earlier, eq-eqb, eqb-true, false, false_from_ne_true, filter}
-use Rattle.traffic_law.proofs.Words.{founded_at, in_filter, in_parts, in_range, inl, inr, is_accepted, last_accepted, last_in, last_or, length, numbered}
-use Rattle.traffic_law.proofs.Words.{option_map_or, same_some, slice_get, subst, suc, sym, time_of, true, tt_frame_by, zero, ℕ}
-use Rattle.std.proofs.{Common.{length-append, replicate}, lemmas.List.length-replicate}
-use Rattle.byteorder.specs.{Endian.big_bytes}
-use Rattle.net_plan.specs.Padding.{padded}
-use Rattle.run_law.{proofs.{law.FirstPlaces.by_number, records.Happenings.from_earlier}, specs.records.Frames.{mac_of, tt_frame}}
-use Rattle.run_law.specs.records.Happenings.{octets_by, octets_from}
-use Rattle.traffic_law.{proofs.delivery.Taken.{from_cause, takings_are_so}, specs.{Dispatched.DispatchesAreWhole, Passed.OctetsComeSo}}
+use Rattle.{byteorder.specs.Endian.big_bytes, net_plan.specs.Padding.padded, std.proofs.lemmas.List.length-replicate, traffic_law.specs.Passed.OctetsComeSo}
+use Rattle.{run_law.proofs.{law.FirstPlaces.by_number, records.Happenings.from_earlier}, std.proofs.Common.{length-append, replicate}}
+use Rattle.{run_law.specs.records.{Frames.{mac_of, tt_frame}, Happenings.{octets_by, octets_from}}, traffic_law.specs.Dispatched.DispatchesAreWhole}
+use Rattle.traffic_law.proofs.Words.{◌++◌, ◌-◌, ◌<◌, ◌==◌, ◌∙◌, ◌≡◌, ◌≤◌, Bool, Entry, Happening, IsEntry, IsIn, List, Network, None, Some, VirtualLink, VlId}
+use Rattle.traffic_law.proofs.Words.{[], ap, arith, before_of, earlier, eq-eqb, eqb-true, false, false_from_ne_true, filter, founded_at, if◌then◌else◌}
+use Rattle.traffic_law.proofs.Words.{in_filter, in_parts, in_range, inl, inr, is_accepted, last_accepted, last_in, last_or, length, numbered, option_map_or}
+use Rattle.traffic_law.proofs.{Words.{same_some, slice_get, subst, suc, sym, time_of, true, tt_frame_by, zero, ℕ}, delivery.Taken.{from_cause, takings_are_so}}
 use Rattle.run_law.specs.declared.note.NoteBody.TheVariants as notes
 
 -- ---- the frame that a sender makes

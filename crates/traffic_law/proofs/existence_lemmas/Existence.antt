@@ -1,13 +1,12 @@
 -- There is a run up to each time.
-use Rattle.std.proofs.{Common.{◌++◌, ◌+◌, ◌∙◌, ◌∷◌, ◌≡◌, ◌≤◌, List, [], ap, append_assoc, arith, inl, inr, refl, subst, sym, ℕ}, lemmas.Int.ints}
-use Rattle.net_plan.specs.Ranges.{IsInRange}
-use Rattle.run_law.proofs.{law.FirstPlaces.{IsSplit, front_founded, split}, records.Told.{notes_of, told_from}, runs.Places.{before_next_time, chain, in_parts}}
-use Rattle.run_law.specs.{declared.note.Note.Note, records.Order.{IsBefore, IsIn}, runs.Runs.{IsFounded, IsFull, IsRun}, scenario.Scenarios.Scenario}
-use Rattle.run_law.specs.{records.{Happenings.{Happening, time_of}, Ranks.{key, members_in, place_of, rank}}, runs.DueRecords.{IsDue, IsScenarioRun}}
-use Rattle.tte_units.specs.Amount.{amount}
+use Rattle.{net_plan.specs.Ranges.IsInRange, run_law.{proofs.records.Told.{notes_of, told_from}, specs.{declared.note.Note.Note, scenario.Scenarios.Scenario}}}
+use Rattle.{run_law.proofs.law.FirstPlaces.{IsSplit, front_founded, split}, traffic_law.specs.existence.Laws.{RunsExist, RunsExistToEachMark}}
+use Rattle.run_law.{proofs.runs.Places.{before_next_time, chain, in_parts}, specs.records.{Order.{IsBefore, IsIn}, Ranks.{key, members_in, place_of, rank}}}
+use Rattle.run_law.specs.{records.Happenings.{Happening, time_of}, runs.{DueRecords.{IsDue, IsScenarioRun}, Runs.{IsFounded, IsFull, IsRun}}}
+use Rattle.{std.proofs.Common.{◌++◌, ◌+◌, ◌∙◌, ◌∷◌, ◌≡◌, ◌≤◌, List, [], ap, append_assoc, arith, inl, inr, refl, subst, sym, ℕ}, tte_units.specs.Amount.amount}
+use Rattle.std.proofs.lemmas.Int.{ints}
 use Rattle.traffic_law.proofs.existence_lemmas.{Sweep.IsSized, bounds.{Ranks.fits, Weights.{bound, size_of}}, decisions.Places.place_parts}
 use Rattle.traffic_law.proofs.existence_lemmas.{Times.{IsBoundedBy, IsShaped, never_before_none, run_to_time}, decisions.Ranks.{is_rank, place_decided}}
-use Rattle.traffic_law.specs.existence.Laws.{RunsExist, RunsExistToEachMark}
 
 -- ---- the places of records
 

@@ -1,13 +1,10 @@
 -- The channels of rows, and the devices at their ends.
-use Rattle.std.proofs.Common.{arith, is_some}
-use Rattle.traffic_law.proofs.Words.{◌∙◌, ◌≡◌, Bool, BringsChannels, Device, DeviceId, Entry, HasGoodSources, IsEntry, IsGood, IsOnChannel, IsSwitchOf}
-use Rattle.traffic_law.proofs.Words.{IsView, Joints, KeepsRules, Network, None, Option, Some, View, VirtualLink, VlId, ap, both_ways, closed}
-use Rattle.traffic_law.proofs.Words.{device_at, false, in_all, inl, inr, is_end, is_end_system, not, opened, option_map_or, refl, same_some, slice_get}
-use Rattle.traffic_law.proofs.Words.{source_by, source_of, subst, sym, target_by, target_of, true, ℕ}
-use Rattle.net_plan.specs.{Ranges.{IsDeviceInRange, IsInRange}, declared.tables.Role.TheVariants.Relay}
-use Rattle.pcf_values.specs.declared.channel.Channel.{Channel}
-use Rattle.run_law.proofs.scenario.Devices.{end_test}
-use Rattle.schedule_tables.specs.{Schedule.IsSwitch, declared.rule.Rule.TheVariants.Sources}
+use Rattle.{net_plan.specs.{Ranges.{IsDeviceInRange, IsInRange}, declared.tables.Role.TheVariants.Relay}, pcf_values.specs.declared.channel.Channel.Channel}
+use Rattle.{run_law.proofs.scenario.Devices.end_test, std.proofs.Common.{arith, is_some}}
+use Rattle.{schedule_tables.specs.{Schedule.IsSwitch, declared.rule.Rule.TheVariants.Sources}, traffic_law.proofs.Words.{target_by, target_of, true, ℕ}}
+use Rattle.traffic_law.proofs.Words.{◌∙◌, ◌≡◌, Bool, BringsChannels, Device, DeviceId, Entry, HasGoodSources, IsEntry, IsGood, IsOnChannel, IsSwitchOf, IsView}
+use Rattle.traffic_law.proofs.Words.{Joints, KeepsRules, Network, None, Option, Some, View, VirtualLink, VlId, ap, both_ways, closed, device_at, false, in_all}
+use Rattle.traffic_law.proofs.Words.{inl, inr, is_end, is_end_system, not, opened, option_map_or, refl, same_some, slice_get, source_by, source_of, subst, sym}
 
 -- ---- switches
 

@@ -1,13 +1,11 @@
 -- The switches of the sound channel are synchronised when the span of a cycle begins.
+use Rattle.{net_plan.specs.declared.event.What.TheVariants.On, precision_law.specs.{Blocks.NoneLost, Views.IsFirm}, run_law.specs.scenario.Faults.BeginsOn}
 use Rattle.traffic_law.proofs.Words.{◌<◌, ◌==◌, ◌∙◌, ◌∷◌, ◌≡◌, ◌≤◌, Bool, BringsChannels, ChangesState, Device, DeviceId, Happening, Integrates, IsCaused}
 use Rattle.traffic_law.proofs.Words.{IsFoundedAt, IsIn, IsView, List, Network, None, NoteBody, State, Synchronised, TimedAreNotTurnedOn, View, Why, [], ap}
 use Rattle.traffic_law.proofs.Words.{arith, between, both_ways, device_at, earlier, earlier_parts, false, fold, fold-append, founded_at, has_time}
 use Rattle.traffic_law.proofs.Words.{if◌then◌else◌, in_between, in_left, in_order, inl, inr, is_joined_by, is_turned_on_at, le-ltb, nat_lt, none_kept}
 use Rattle.traffic_law.proofs.Words.{numbered_in, one_device, option_and_then, refl, start_of, state_after, state_at_start, state_left, state_with, subst, suc}
 use Rattle.traffic_law.{proofs.{Words.{sym, time_of, true, zero, ℕ}, spans.Forward.{no_joining, turned_on_by}}, specs.Delivered.SoundSwitchesKeepTime}
-use Rattle.net_plan.specs.declared.event.What.TheVariants.{On}
-use Rattle.precision_law.specs.{Blocks.NoneLost, Views.IsFirm}
-use Rattle.run_law.specs.scenario.Faults.{BeginsOn}
 use Rattle.run_law.specs.declared.judgement.Why.TheVariants as whys
 use Rattle.run_law.specs.declared.note.NoteBody.TheVariants as notes
 

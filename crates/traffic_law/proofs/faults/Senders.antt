@@ -1,13 +1,10 @@
 -- Only a broken device puts octets of its own on a link.
-use Rattle.traffic_law.proofs.Words.{◌++◌, ◌∙◌, ◌∷◌, ◌≡◌, ◌≤ℤ◌, ◌≤◌, Event, IsCaused, IsIn, Link, List, Scenario, SendersAreBroken, [], amount, ap}
-use Rattle.traffic_law.proofs.Words.{append_assoc, arith, both_ways, by_lt_z, eq-eqb, founded_at, in_left, inl, inr, ints, is_broken, link_at, nat_le, opened}
-use Rattle.traffic_law.proofs.Words.{parted, refl, subst, sym, time_of, true, within_run}
-use Rattle.std.proofs.lemmas.Bool.{le-leb, true_from_ne_false}
-use Rattle.precision_law.proofs.{Plain.any_is}
-use Rattle.run_law.proofs.{law.{FirstDelays.given, FirstPlaces.in_at}, records.Order.in_any}
+use Rattle.{precision_law.proofs.Plain.any_is, run_law.proofs.{law.{FirstDelays.given, FirstPlaces.in_at}, records.Order.in_any}, tte_lemmas.proofs.Options.one}
 use Rattle.run_law.{proofs.records.Members.in_kept, specs.{runs.DueRecords.IsEventRecord, scenario.{Faults.{Breaks, IsBroken}, Scenarios.events_up_to}}}
 use Rattle.run_law.specs.{declared.outside.Outside.TheVariants.{NotBroken, Order}, scenario.Hypothesis.{AreWithinHypothesis, breaks_at}}
-use Rattle.tte_lemmas.proofs.Options.{one}
+use Rattle.{std.proofs.lemmas.Bool.{le-leb, true_from_ne_false}, traffic_law.proofs.Words.{parted, refl, subst, sym, time_of, true, within_run}}
+use Rattle.traffic_law.proofs.Words.{◌++◌, ◌∙◌, ◌∷◌, ◌≡◌, ◌≤ℤ◌, ◌≤◌, Event, IsCaused, IsIn, Link, List, Scenario, SendersAreBroken, [], amount, ap}
+use Rattle.traffic_law.proofs.Words.{append_assoc, arith, both_ways, by_lt_z, eq-eqb, founded_at, in_left, inl, inr, ints, is_broken, link_at, nat_le, opened}
 use Rattle.net_plan.specs.declared.event.What.TheVariants as events
 
 -- ---- the order of events

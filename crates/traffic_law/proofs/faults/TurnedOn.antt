@@ -1,16 +1,14 @@
 -- A device that has the common time is not turned on.
+use Rattle.{run_law.proofs.{control.Joined.looking_by, records.Order.any_in, runs.Places.in_right, scenario.Devices.on_by}, traffic_law.proofs.Words.{zero, ℕ}}
+use Rattle.{run_law.specs.{declared.outside.Outside.TheVariants.NotOff, law.FirstLaws.IsLawful}, sync_state.specs.declared.state.State.TheVariants.Off}
+use Rattle.{run_law.specs.scenario.Faults.{BeginsOn, TurnsOn}, traffic_law.proofs.spans.Forward.turned_on_by, tte_lemmas.proofs.Lists.{any_behind, any_first}}
+use Rattle.std.proofs.Common.{Any}
 use Rattle.traffic_law.proofs.Words.{◌++◌, ◌<◌, ◌==◌, ◌∙◌, ◌∷◌, ◌≡◌, Bool, ChangesState, Device, DeviceId, Event, Happening, Integrates, Integrating, IsCaused}
 use Rattle.traffic_law.proofs.Words.{IsFoundedAt, IsIn, IsView, Joining, List, Network, NoteBody, Scenario, State, Synchronised, TimedAreNotTurnedOn, View, Why}
 use Rattle.traffic_law.proofs.Words.{[], amount, ap, append_assoc, arith, before_of, between, both_ways, device_at, earlier, earlier_before, earlier_parts}
 use Rattle.traffic_law.proofs.Words.{eqb-true, false, false_from_ne_true, fold, fold-append, founded_at, has_time, if◌then◌else◌, in_between, in_left, in_order}
 use Rattle.traffic_law.proofs.Words.{in_parts, inl, inr, is_joined_by, is_turned_on_at, le-ltb, nat_lt, none_kept, numbered_in, one_device, option_and_then}
 use Rattle.traffic_law.proofs.Words.{parted, refl, start_of, state_after, state_at_start, state_before, state_left, state_with, subst, suc, sym, time_of, true}
-use Rattle.traffic_law.proofs.{Words.{zero, ℕ}, spans.Forward.turned_on_by}
-use Rattle.std.{proofs.Common.Any}
-use Rattle.run_law.{proofs.control.Joined.looking_by, specs.{declared.outside.Outside.TheVariants.NotOff, scenario.Faults.{BeginsOn, TurnsOn}}}
-use Rattle.run_law.{proofs.{records.Order.any_in, runs.Places.in_right, scenario.Devices.on_by}, specs.law.FirstLaws.IsLawful}
-use Rattle.sync_state.specs.{declared.state.State.TheVariants.Off}
-use Rattle.tte_lemmas.proofs.Lists.{any_behind, any_first}
 use Rattle.net_plan.specs.declared.event.What.TheVariants as events
 use Rattle.run_law.specs.declared.judgement.Why.TheVariants as whys
 use Rattle.run_law.specs.declared.note.NoteBody.TheVariants as notes

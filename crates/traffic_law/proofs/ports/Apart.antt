@@ -1,12 +1,10 @@
 -- No frame meets a frame of the schedule on a port.
+use Rattle.{precision_law.proofs.law.Precision.{view_at, view_of}, run_law.specs.records.Happenings.happenings, std.proofs.Common.max}
+use Rattle.{run_law.specs.law.Safety.{IsControlOnPort, IsTtOnPort, time_of_octets}, traffic_law.proofs.ports.Dispatched.dispatches_are_of_rows}
 use Rattle.traffic_law.proofs.Words.{◌*◌, ◌+◌, ◌<◌, ◌∙◌, ◌≡◌, ◌≢◌, ◌≤◌, BringsBlocks, BringsChannels, DeviceId, GivingsKeepAway, Happening, IsGood, IsIn}
 use Rattle.traffic_law.proofs.Words.{IsRowDispatch, IsView, Link, LinkId, NoteBody, Option, Scenario, Some, View, VlId, ap, arith, inl, inr, length, link_at}
-use Rattle.traffic_law.proofs.Words.{octet_time, option_map_or, port_time, refl, subst, time_of, ℕ}
-use Rattle.std.proofs.Common.{max}
-use Rattle.precision_law.proofs.law.Precision.{view_at, view_of}
-use Rattle.run_law.specs.{law.Safety.{IsControlOnPort, IsTtOnPort, time_of_octets}, records.Happenings.happenings}
-use Rattle.traffic_law.proofs.{delivery.Whole.dispatches_are_whole, ports.{Dispatched.dispatches_are_of_rows, Leavings.leavings_stand_apart}}
-use Rattle.traffic_law.{proofs.ports.TwoDispatches.dispatches_stand_apart, specs.Ports.{IsLeaving, PortsStayApart}}
+use Rattle.traffic_law.proofs.{Words.{octet_time, option_map_or, port_time, refl, subst, time_of, ℕ}, ports.TwoDispatches.dispatches_stand_apart}
+use Rattle.traffic_law.{proofs.{delivery.Whole.dispatches_are_whole, ports.Leavings.leavings_stand_apart}, specs.Ports.{IsLeaving, PortsStayApart}}
 use Rattle.run_law.specs.declared.note.NoteBody.TheVariants as notes
 
 -- ---- what occupies a port

@@ -1,7 +1,6 @@
 -- What two instants of the blocks of a run have in common.
+use Rattle.{precision_law.specs.Hulls.IsOverBefore, traffic_law.proofs.Words.{last_correction, pos, room, same_some, subst, suc, within_run, zero, ℕ}}
 use Rattle.traffic_law.proofs.Words.{◌+ℤ◌, ◌<◌, ◌≡◌, ◌≤ℤ◌, Hull, IsView, Some, Stands, View, ap, arith, cases_lt, has_before, hull_of, inl, inr, ints}
-use Rattle.traffic_law.proofs.Words.{last_correction, pos, room, same_some, subst, suc, within_run, zero, ℕ}
-use Rattle.precision_law.specs.Hulls.{IsOverBefore}
 
 -- the block of a cycle ends at one time
 pub same_end : (v : View) (n a b : ℕ) → IsOverBefore v n a → IsOverBefore v n b → a ≡ b

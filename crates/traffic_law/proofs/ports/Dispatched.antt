@@ -1,12 +1,11 @@
 -- The records of dispatches by the schedule.
+use Rattle.{precision_law.proofs.clocks.Epochs.settings_stay, traffic_law.proofs.{ports.Cycles.same_next, schedule.Rows.rows_are_in_time}}
+use Rattle.sync_state.proofs.StateFacts.{up_state}
 use Rattle.traffic_law.proofs.Words.{◌*◌, ◌+◌, ◌<ℤ◌, ◌∙◌, ◌≡◌, ◌≤◌, BringsBlocks, DeviceId, Entry, Happening, IsCaused, IsEntry, IsInSchedule, IsInSpan}
 use Rattle.traffic_law.proofs.Words.{IsTimedAt, IsView, List, None, Option, Reaches, Sizes, Synchronised, Units, View, adjustment_left, adjustment_stays}
 use Rattle.traffic_law.proofs.Words.{amount, ap, arith, before_of, changed_at, earlier, earlier_before, epoch_time, filter, founded_at, inl, inr, ints}
 use Rattle.traffic_law.proofs.Words.{is_accepted, is_turned_on_at, last_or, option_map_or, pos, reaches_by, state_after, subst, sym, time_of, within_run, ℕ}
-use Rattle.precision_law.proofs.clocks.Epochs.{settings_stay}
-use Rattle.sync_state.proofs.StateFacts.{up_state}
-use Rattle.traffic_law.proofs.{ports.Cycles.same_next, schedule.Rows.rows_are_in_time, spans.Spans.{synchronised_keep_time, values_are_reached_in_spans}}
-use Rattle.traffic_law.specs.Dispatched.{DispatchesAreInSpans, DispatchesAreOfRows}
+use Rattle.traffic_law.{proofs.spans.Spans.{synchronised_keep_time, values_are_reached_in_spans}, specs.Dispatched.{DispatchesAreInSpans, DispatchesAreOfRows}}
 use Rattle.run_law.specs.declared.note.NoteBody.TheVariants as notes
 
 -- ---- what the earlier records fix

@@ -1,9 +1,8 @@
 -- The two ends of a link, and the ways on which a device sends by it.
-use Rattle.std.proofs.Common.{arith}
+use Rattle.{net_plan.{proofs.{Shape.rules_give_trees, TableFacts.no_path}, specs.Places.IsDeviceOf}, schedule_tables.proofs.Margins.shape_rules}
+use Rattle.{net_plan.specs.Paths.IsUplink, std.proofs.Common.arith}
 use Rattle.traffic_law.proofs.Words.{◌≡◌, ◌≢◌, ◌⊎◌, Device, Down, Entry, IsEntry, IsSwitchOf, Joints, KeepsRules, Link, LinkId, Network, Some, Up, Way, ap}
 use Rattle.traffic_law.proofs.Words.{closed, device_at, inr, is_end_system, link_at, opened, refl, same_some, source_by, source_of, sym, true, ℕ}
-use Rattle.net_plan.{proofs.{Shape.rules_give_trees, TableFacts.no_path}, specs.{Paths.IsUplink, Places.IsDeviceOf}}
-use Rattle.schedule_tables.proofs.Margins.{shape_rules}
 
 -- ---- the ends of a link
 

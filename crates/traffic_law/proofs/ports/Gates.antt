@@ -1,4 +1,13 @@
 -- What a synchronised compression master sends was opened by a frame that passed its gate.
+use Rattle.{compression.specs.{Clusters.{Point, point_at}, Emission.emission}, traffic_law.proofs.{delivery.Sent.no_later, ports.Openers.opened_by}}
+use Rattle.{compression.specs.declared.compressed.Compressed.Compressed, run_law.proofs.records.Order.{contained, given_of, none_any, same_kept}}
+use Rattle.{drift_clock.specs.Reach.IsReach, run_law.{proofs.runs.Places.in_right, specs.{control.Emissions.Emits, scenario.Devices.is_cm}}}
+use Rattle.{pcf_values.specs.declared.members.Members.Members, precision_law.proofs.{clocks.Readings.permanence_is_sharp, records.Behind.behind_last}}
+use Rattle.{precision_law.proofs.records.Judged.all_judge, traffic_law.proofs.spans.Forward.no_joining, tte_lemmas.{proofs.{Integers.{whole as not_negative}}}}
+use Rattle.run_law.specs.{control.Collections.{ends_stretch, master_of, observation_window, point_by, point_fault, points_of}, records.Happenings.frame_by}
+use Rattle.{run_law.specs.control.Permanence.{BecomesPermanent, IsCollectedOrDropped, IsJudgedBy, ripe_as}, schedule_tables.specs.Margins.compression_time}
+use Rattle.{run_law.specs.device.States.{adjustment_at_hearing, cycle_in, has_joined_at, state_at_hearing}, traffic_law.proofs.ports.Arrived.arrived_sound}
+use Rattle.std.{proofs.Common.MatchBool, specs.List.after_last}
 use Rattle.traffic_law.proofs.Words.{◌&&◌, ◌*◌, ◌++◌, ◌+ℤ◌, ◌+◌, ◌-ℤ◌, ◌<◌, ◌==◌, ◌||◌, ◌∙◌, ◌∷◌, ◌≡◌, ◌≤ℤ◌, ◌≤◌, Bool, DeviceId, Happening, IsBefore, IsCaused}
 use Rattle.traffic_law.proofs.Words.{IsDue, IsFounded, IsFoundedAt, IsIn, IsView, Joining, Judgement, LinkId, List, Network, None, NoteBody, Option, Pcf}
 use Rattle.traffic_law.proofs.Words.{Reason, Scenario, Sizes, Some, State, Synchronised, TimedAreNotTurnedOn, Units, View, [], adjustment_after}
@@ -8,18 +17,6 @@ use Rattle.traffic_law.proofs.Words.{if◌then◌else◌, in_between, in_left, i
 use Rattle.traffic_law.proofs.Words.{is_turned_on_at, key, le-ltb, lt-ltb, members_in, nat_lt, none_first, not_less, numbered_in, offset_in_cycle, one_device}
 use Rattle.traffic_law.proofs.Words.{option_and_then, option_map_or, parted, place_of, pos, rank, refl, start_of, state_after, state_at_start, state_left}
 use Rattle.traffic_law.proofs.{Words.{state_with, steady, subst, sym, time_of, true, ℕ, ℤ}, spans.Synchronised.{Keeps, kept_by_all, kept_if}}
-use Rattle.traffic_law.proofs.{delivery.Sent.no_later, ports.{Arrived.arrived_sound, Openers.opened_by}, spans.Forward.no_joining}
-use Rattle.std.{proofs.Common.MatchBool, specs.List.after_last}
-use Rattle.compression.specs.{Clusters.{Point, point_at}, Emission.emission, declared.compressed.Compressed.Compressed}
-use Rattle.drift_clock.specs.Reach.{IsReach}
-use Rattle.pcf_values.specs.declared.members.Members.{Members}
-use Rattle.precision_law.proofs.{clocks.Readings.permanence_is_sharp, records.{Behind.behind_last, Judged.all_judge}}
-use Rattle.run_law.proofs.{records.Order.{contained, given_of, none_any, same_kept}, runs.Places.in_right}
-use Rattle.run_law.specs.control.{Collections.{ends_stretch, master_of, observation_window, point_by, point_fault, points_of}, Emissions.Emits}
-use Rattle.run_law.specs.control.Permanence.{BecomesPermanent, IsCollectedOrDropped, IsJudgedBy, ripe_as}
-use Rattle.run_law.specs.{device.States.{adjustment_at_hearing, cycle_in, has_joined_at, state_at_hearing}, records.Happenings.frame_by, scenario.Devices.is_cm}
-use Rattle.schedule_tables.specs.Margins.{compression_time}
-use Rattle.tte_lemmas.proofs.Integers.{whole as not_negative}
 use Rattle.run_law.specs.declared.judgement.Judgement.TheVariants as judgements
 use Rattle.run_law.specs.declared.judgement.Why.TheVariants as whys
 use Rattle.run_law.specs.declared.note.NoteBody.TheVariants as notes

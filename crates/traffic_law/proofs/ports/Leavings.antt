@@ -1,17 +1,16 @@
 -- A frame of the schedule and a control frame do not meet on a port.
+use Rattle.{net_plan.proofs.Shape.rules_give_trees, run_law.specs.{law.Safety.time_of_octets, scenario.Ways.hold_at}, schedule_tables.proofs.Margins.margins}
+use Rattle.{net_plan.specs.declared.tables.Role.Role, precision_law.proofs.Plain.cm_is_no_end, run_law.proofs.law.FirstDelays.hold_most}
+use Rattle.precision_law.{proofs.{sizes.Instants.instants_are_in_order, trips.Legs.relay_not_end}, specs.Hulls.{IsInHull, IsNarrow, start_hull}}
+use Rattle.precision_law.specs.Views.{IsDispatch}
+use Rattle.{run_law.specs.control.Leaving.{Departs, Gives, leaves}, traffic_law.proofs.{ports.Cycles.{hulls_grow, same_hull}, schedule.Rows.rows_are_in_time}}
+use Rattle.{run_law.specs.scenario.Devices.{has_role, is_cm, is_cm_role, is_relay_role}, traffic_law.proofs.ports.Dispatched.dispatches_are_in_spans}
+use Rattle.{schedule_tables.specs.Delays.{delay_by, pcf_port_time}, traffic_law.{proofs.spans.Reaching.begins_soon, specs.Ports.{GivesAt, LeavingsStandApart}}}
 use Rattle.traffic_law.proofs.Words.{◌*◌, ◌+ℤ◌, ◌+◌, ◌<◌, ◌∙◌, ◌∷◌, ◌≡◌, ◌≤ℤ◌, ◌≤◌, ◌⊎◌, Bool, BringsBlocks, Device, DeviceId, Entry, GivingsKeepAway}
 use Rattle.traffic_law.proofs.Words.{Happening, Hull, IsCaused, IsEntry, IsFoundedAt, IsGood, IsIn, IsRowDispatch, IsView, Link, LinkId, Network, NoteBody}
 use Rattle.traffic_law.proofs.Words.{Option, Sizes, Some, Stands, View, VlId, Way, amount, ap, arith, before_narrow, cases_lt, device_at, false, founded_at}
 use Rattle.traffic_law.proofs.Words.{has_before, hull_of, in_all, in_left, in_range, inl, inr, ints, is_end, is_end_system, link_at, numbered_in, octet_time}
 use Rattle.traffic_law.proofs.Words.{option_map_or, port_time, pos, refl, room, same_some, subst, suc, sym, time_of, true, way_from, within_run, zero, ℕ, ℤ}
-use Rattle.traffic_law.{proofs.ports.{Cycles.{hulls_grow, same_hull}, Dispatched.dispatches_are_in_spans}, specs.Ports.{GivesAt, LeavingsStandApart}}
-use Rattle.traffic_law.proofs.{schedule.Rows.rows_are_in_time, spans.Reaching.begins_soon}
-use Rattle.net_plan.{proofs.Shape.rules_give_trees, specs.declared.tables.Role.Role}
-use Rattle.precision_law.proofs.{Plain.cm_is_no_end, sizes.Instants.instants_are_in_order, trips.Legs.relay_not_end}
-use Rattle.precision_law.specs.{Hulls.{IsInHull, IsNarrow, start_hull}, Views.IsDispatch}
-use Rattle.run_law.{proofs.law.FirstDelays.hold_most, specs.{control.Leaving.{Departs, Gives, leaves}, law.Safety.time_of_octets}}
-use Rattle.run_law.specs.scenario.{Devices.{has_role, is_cm, is_cm_role, is_relay_role}, Ways.hold_at}
-use Rattle.schedule_tables.{proofs.Margins.margins, specs.Delays.{delay_by, pcf_port_time}}
 use Rattle.run_law.specs.declared.note.NoteBody.TheVariants as notes
 
 -- ---- hulls

@@ -1,13 +1,11 @@
 -- One row has one dispatch in a cycle.
+use Rattle.{drift_clock.specs.Reach.IsReach, run_law.{proofs.runs.Places.never_self, specs.timed.Dispatching.HasAtHand}}
+use Rattle.{schedule_tables.specs.declared.rule.Rule.TheVariants.Senders, traffic_law.proofs.ports.Dispatched.{dispatches_are_in_spans, one_clock}}
 use Rattle.traffic_law.proofs.Words.{◌*◌, ◌+◌, ◌-ℤ◌, ◌∙◌, ◌∷◌, ◌≡◌, ◌≤ℤ◌, ◌≤◌, BringsBlocks, Device, DeviceId, Entry, Happening, IsBefore, IsEntry, IsGood}
 use Rattle.traffic_law.proofs.Words.{IsIn, IsRowDispatch, IsView, KeepsRules, LinkId, List, Network, NoteBody, Option, View, VlId, [], adjustment_left, amount}
 use Rattle.traffic_law.proofs.Words.{ap, arith, both_ways, cases_lt, changed_at, device_at, false, inl, inr, ints, is_end, is_end_system, key, last_accepted}
 use Rattle.traffic_law.proofs.Words.{members_in, opened, option_map_or, place_of, pos, rank, same_some, subst, sym, time_of, true, ℕ, ℤ}
-use Rattle.drift_clock.specs.Reach.{IsReach}
-use Rattle.run_law.{proofs.runs.Places.never_self, specs.timed.Dispatching.HasAtHand}
-use Rattle.schedule_tables.specs.declared.rule.Rule.TheVariants.{Senders}
-use Rattle.traffic_law.proofs.{ports.Dispatched.{dispatches_are_in_spans, one_clock}, schedule.Rows.rows_go_once, spans.Corrected.{AreInPlaces, in_places}}
-use Rattle.traffic_law.specs.Dispatched.{DispatchesAreOne}
+use Rattle.traffic_law.{proofs.{schedule.Rows.rows_go_once, spans.Corrected.{AreInPlaces, in_places}}, specs.Dispatched.DispatchesAreOne}
 use Rattle.run_law.specs.declared.note.NoteBody.TheVariants as notes
 
 -- ---- records at one place

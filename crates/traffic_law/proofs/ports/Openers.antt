@@ -1,12 +1,9 @@
 -- The point that opened what a compression master sends.
-use Rattle.traffic_law.proofs.Words.{if◌then◌else◌, ◌++◌, ◌+ℤ◌, ◌-ℤ◌, ◌∙◌, ◌∷◌, ◌≡◌, ◌≤ℤ◌, Bool, List, [], and_parts, ap, arith, false, fold, inl}
-use Rattle.traffic_law.proofs.Words.{inr, ints, pos, subst, sym, true, ℕ, ℤ}
-use Rattle.std.proofs.Common.{◌*ℤ◌, Contains, int_le, map}
-use Rattle.compression.{proofs.Elements.{from_beyond, in_cases, in_head, in_none, in_tail}, specs.Middle.{last_but_one, middle_of, relative}}
-use Rattle.compression.proofs.{Firsts.firsts-start, Growth.{end_of-least, end_of-most}, Held.held-start}
+use Rattle.compression.{proofs.{Elements.{from_beyond, in_cases, in_head, in_none, in_tail}, Held.held-start}, specs.Middle.{last_but_one, middle_of, relative}}
+use Rattle.{compression.proofs.{Firsts.firsts-start, Growth.{end_of-least, end_of-most}}, traffic_law.proofs.Words.{pos, subst, sym, true, ℕ, ℤ}}
 use Rattle.compression.specs.Clusters.{AreClusters, Cluster, Point, beyond, cluster_of, end_of, firsts, has_master, of_cycle_within, with_first}
-use Rattle.tte_lemmas.proofs.Integers.{int_le-is}
-use Rattle.tte_units.{proofs.Means.mean_of-floor, specs.Mean.mean_of}
+use Rattle.{std.proofs.Common.{◌*ℤ◌, Contains, int_le, map}, tte_lemmas.proofs.Integers.int_le-is, tte_units.{proofs.Means.mean_of-floor, specs.Mean.mean_of}}
+use Rattle.traffic_law.proofs.Words.{◌++◌, ◌+ℤ◌, ◌-ℤ◌, ◌∙◌, ◌∷◌, ◌≡◌, ◌≤ℤ◌, Bool, List, [], and_parts, ap, arith, false, fold, if◌then◌else◌, inl, inr, ints}
 
 -- ---- the middle of small numbers
 

@@ -1,11 +1,10 @@
 -- Two frames of the schedule do not meet on a port.
+use Rattle.net_plan.specs.Bounds.{gamma_of}
+use Rattle.{schedule_tables.{proofs.EntryLemmas.one_entry, specs.Schedule.IsClearBefore}, traffic_law.specs.Ports.DispatchesStandApart}
 use Rattle.traffic_law.proofs.Words.{◌*◌, ◌+◌, ◌<◌, ◌∙◌, ◌≡◌, ◌≤◌, ◌⊎◌, BringsBlocks, DeviceId, Entry, Happening, Hull, IsEntry, IsGood, IsRowDispatch, IsView}
 use Rattle.traffic_law.proofs.Words.{LinkId, Sizes, View, VlId, amount, ap, arith, before_narrow, cases_lt, clocks_reach_sharply, inl, inr, ints, port_time}
-use Rattle.traffic_law.proofs.Words.{pos, room, steady, subst, sym, time_of, ℕ}
-use Rattle.net_plan.specs.Bounds.{gamma_of}
-use Rattle.schedule_tables.{proofs.EntryLemmas.one_entry, specs.Schedule.IsClearBefore}
-use Rattle.traffic_law.proofs.ports.{Cycles.{hulls_grow, same_hull}, Dispatched.{dispatches_are_in_spans, one_clock}, Ends.same_way}
-use Rattle.traffic_law.{proofs.{ports.OneDispatch.dispatches_are_one, schedule.Rows.{rows_are_in_time, rows_stand_apart}}, specs.Ports.DispatchesStandApart}
+use Rattle.traffic_law.proofs.{Words.{pos, room, steady, subst, sym, time_of, ℕ}, ports.{Cycles.{hulls_grow, same_hull}, OneDispatch.dispatches_are_one}}
+use Rattle.traffic_law.proofs.{ports.{Dispatched.{dispatches_are_in_spans, one_clock}, Ends.same_way}, schedule.Rows.{rows_are_in_time, rows_stand_apart}}
 
 -- the frame of an earlier cycle has left the port
 cycles_apart : BringsBlocks → (v : View) (h g : Happening) (device : DeviceId) (link : LinkId) (cause other : ℕ) (vl second : VlId) (cycle number : ℕ)

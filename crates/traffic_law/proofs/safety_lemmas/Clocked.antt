@@ -1,12 +1,10 @@
 -- The laws, for clocks that keep the clock laws.
-use Rattle.std.proofs.Common.{◌∷◌, List, [], arith, ℕ, ℤ}
-use Rattle.drift_clock.specs.ClockLaws.{AlwaysBeginsAtZero, AlwaysKeepsClockLaws}
-use Rattle.net_plan.specs.declared.{event.Event.Event, network.Network.Network}
-use Rattle.run_law.specs.{declared.note.Note.Note, runs.DueRecords.IsRunOf}
-use Rattle.tte_units.specs.Amount.{amount}
-use Rattle.traffic_law.proofs.safety_lemmas.{Fronts.{goes_well_before, part}, Going.goes_well, Lawful.lawful}
+use Rattle.{drift_clock.specs.ClockLaws.{AlwaysBeginsAtZero, AlwaysKeepsClockLaws}, traffic_law.proofs.safety_lemmas.Fronts.{goes_well_before, part}}
+use Rattle.{net_plan.specs.declared.event.Event.Event, run_law.specs.declared.note.Note.Note, std.proofs.Common.{◌∷◌, List, [], arith, ℕ, ℤ}}
+use Rattle.{net_plan.specs.declared.network.Network.Network, traffic_law.{proofs.safety_lemmas.Lawful.lawful, specs.safety.Headline.IsSafeFront}}
+use Rattle.{run_law.specs.runs.DueRecords.IsRunOf, tte_units.specs.Amount.amount}
+use Rattle.traffic_law.{proofs.safety_lemmas.Going.goes_well, specs.safety.Laws.{EndedRunsAreSafe, FrontRunsAreSafe, OwnRunsAreSafe, RunsSoFarAreSafe}}
 use Rattle.traffic_law.{proofs.safety_lemmas.Times.{end_in_time, last_in_time}, specs.safety.Under.{IsUnder, last_time, reading_of, scenario_of}}
-use Rattle.traffic_law.specs.safety.{Headline.IsSafeFront, Laws.{EndedRunsAreSafe, FrontRunsAreSafe, OwnRunsAreSafe, RunsSoFarAreSafe}}
 
 pub own : {C : Type 0} (fresh : ℕ → C) (after_step : C → ℕ → ℤ → C) (reading : C → ℕ → ℕ) → AlwaysKeepsClockLaws fresh after_step reading
     → AlwaysBeginsAtZero fresh after_step reading → OwnRunsAreSafe fresh after_step reading

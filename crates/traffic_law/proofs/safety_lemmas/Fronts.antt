@@ -1,13 +1,11 @@
 -- The run up to behind the events of a time is one that goes just up to before the time, and then records of events.
+use Rattle.{net_plan.specs.declared.event.What.What, run_law.specs.{law.FirstLaws.IsLawful, records.Order.{IsBefore, IsIn}, scenario.Scenarios.Scenario}}
+use Rattle.{precision_law.proofs.records.Cutting.cut_run, run_law.specs.{declared.note.{Note.Note, NoteBody.NoteBody}, runs.DueRecords.{IsDue, IsScenarioRun}}}
+use Rattle.{run_law.proofs.{law.FirstPlaces.{IsSplit, split}, records.Told.{note_in, notes_of, told}}, traffic_law.specs.safety.Headline.{GoesWell, IsEventOf}}
+use Rattle.run_law.{proofs.runs.{NetworkRuns.same_notes, Places.{before_of_time, in_right, parted}}, specs.records.Ranks.{key, members_in, place_of, rank}}
+use Rattle.{run_law.specs.records.Happenings.{Happening, happenings, time_of}, traffic_law.proofs.safety_lemmas.Going.{goes_well, well_earlier}}
+use Rattle.{run_law.specs.runs.Runs.IsRun, tte_units.{proofs.Amounts.units_are, specs.Amount.amount}}
 use Rattle.std.proofs.{Common.{◌*◌, ◌++◌, ◌+◌, ◌-◌, ◌<◌, ◌^◌, ◌∙◌, ◌∷◌, ◌≡◌, ◌≤◌, List, [], ap, arith, inl, inr, refl, subst, sym, ℕ}, lemmas.List.map-append}
-use Rattle.net_plan.specs.declared.event.What.{What}
-use Rattle.precision_law.proofs.records.Cutting.{cut_run}
-use Rattle.run_law.{proofs.{law.FirstPlaces.{IsSplit, split}, records.Told.{note_in, notes_of, told}}, specs.records.Ranks.{key, members_in, place_of, rank}}
-use Rattle.run_law.{proofs.runs.{NetworkRuns.same_notes, Places.{before_of_time, in_right, parted}}, specs.records.Happenings.{Happening, happenings, time_of}}
-use Rattle.run_law.specs.{declared.note.Note.Note, law.FirstLaws.IsLawful, runs.Runs.IsRun}
-use Rattle.run_law.specs.{declared.note.NoteBody.NoteBody, records.Order.{IsBefore, IsIn}, runs.DueRecords.{IsDue, IsScenarioRun}, scenario.Scenarios.Scenario}
-use Rattle.tte_units.{proofs.Amounts.units_are, specs.Amount.amount}
-use Rattle.traffic_law.{proofs.safety_lemmas.Going.{goes_well, well_earlier}, specs.safety.Headline.{GoesWell, IsEventOf}}
 use Rattle.run_law.specs.declared.note.NoteBody.TheVariants as notes
 
 -- ---- what is behind the front

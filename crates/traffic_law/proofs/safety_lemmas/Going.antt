@@ -1,11 +1,9 @@
 -- A lawful run that goes just as far as a time goes well up to there, and up to each earlier time.
-use Rattle.std.proofs.Common.{◌*◌, ◌+◌, ◌^◌, ◌∷◌, ◌≤◌, List, [], arith, ℕ}
-use Rattle.net_plan.specs.declared.{ids.{DeviceId.DeviceId, VlId.VlId}, tables.VirtualLink.VirtualLink}
-use Rattle.precision_law.proofs.law.Whole.{time_kept}
-use Rattle.run_law.{proofs.records.Happenings.soon, specs.{declared.note.Note.Note, law.{FirstLaws.IsLawful, Safety.{ClocksAgree, IsOwed, IsSafe}}}}
-use Rattle.run_law.specs.{records.Happenings.{Happening, happenings}, runs.DueRecords.IsScenarioRun, scenario.Scenarios.Scenario}
-use Rattle.traffic_law.{proofs.Safe.all_are_safe, specs.{Ports.IsRunTo, safety.Headline.{GoesWell, TimeStays}}}
-use Rattle.tte_units.specs.Amount.{amount}
+use Rattle.{net_plan.specs.declared.{ids.DeviceId.DeviceId, tables.VirtualLink.VirtualLink}, std.proofs.Common.{◌*◌, ◌+◌, ◌^◌, ◌∷◌, ◌≤◌, List, [], arith, ℕ}}
+use Rattle.{net_plan.specs.declared.ids.VlId.VlId, run_law.{proofs.records.Happenings.soon, specs.{declared.note.Note.Note, law.FirstLaws.IsLawful}}}
+use Rattle.{precision_law.proofs.law.Whole.time_kept, run_law.specs.{law.Safety.{ClocksAgree, IsOwed, IsSafe}, scenario.Scenarios.Scenario}}
+use Rattle.{run_law.specs.{records.Happenings.{Happening, happenings}, runs.DueRecords.IsScenarioRun}, traffic_law.specs.safety.Headline.{GoesWell, TimeStays}}
+use Rattle.{traffic_law.{proofs.Safe.all_are_safe, specs.Ports.IsRunTo}, tte_units.specs.Amount.amount}
 
 run_to : (s : Scenario) (ns : List Note) (until : ℕ) → IsLawful s → until ≤ 2 ^ 20 * amount s.network.cycle → IsScenarioRun s ((until + 1) ∷ []) ns
     → IsRunTo s ((until + 1) ∷ []) ns until

@@ -1,11 +1,10 @@
 -- The rates that events within the hypothesis set are a history of a clock.
+use Rattle.{drift_clock.specs.RateSteps.{IsHistory, RateStep}, net_plan.specs.declared.{event.Event.Event, ids.DeviceId.DeviceId, network.Network.Network}}
+use Rattle.run_law.{proofs.runs.Places.{in_left, in_right}, specs.scenario.{Hypothesis.{AreWithinHypothesis, IsWithinHypothesis}, Rates.{rate_steps, step_by}}}
+use Rattle.{run_law.proofs.scenario.Devices.in_turn, std.specs.List.{All, Sorted.IsNonDecreasingBy, cons_option}, tte_units.specs.declared.rates.Ppb.Ppb}
+use Rattle.{run_law.proofs.scenario.Rated.{Holds, IsSlow, IsStepAt, slow_event, slow_what, step_is}, std.proofs.lemmas.List.Elements.{All-cons, All-nil}}
+use Rattle.{run_law.specs.records.Order.IsIn, std.proofs.Common.{zero, ℕ}, tte_units.specs.Amount.amount}
 use Rattle.std.proofs.Common.{◌++◌, ◌∙◌, ◌∷◌, ◌≡◌, ◌≤ℤ◌, ◌≤◌, List, None, Option, Some, [], append_assoc, arith, inl, pos, refl, subst, suc, sym, unsigned_abs}
-use Rattle.std.{proofs.{Common.{zero, ℕ}, lemmas.List.Elements.{All-cons, All-nil}}, specs.List.{All, Sorted.IsNonDecreasingBy, cons_option}}
-use Rattle.drift_clock.specs.RateSteps.{IsHistory, RateStep}
-use Rattle.net_plan.specs.declared.{event.Event.Event, ids.DeviceId.DeviceId, network.Network.Network}
-use Rattle.run_law.proofs.{runs.Places.{in_left, in_right}, scenario.{Devices.in_turn, Rated.{Holds, IsSlow, IsStepAt, slow_event, slow_what, step_is}}}
-use Rattle.run_law.specs.{records.Order.IsIn, scenario.{Hypothesis.{AreWithinHypothesis, IsWithinHypothesis}, Rates.{rate_steps, step_by}}}
-use Rattle.tte_units.specs.{Amount.amount, declared.rates.Ppb.Ppb}
 use Rattle.net_plan.specs.declared.event.What.TheVariants as events
 
 pub slow_rate : (network : Network) (before : List Event) (event : Event) (device : DeviceId) (rate : Ppb) → IsWithinHypothesis network before event

@@ -1,11 +1,9 @@
 -- A network under admitted events, where each device has a clock that keeps the clock laws, is lawful.
-use Rattle.std.proofs.{Common.{◌<◌, ◌∷◌, ◌≤ℤ◌, ◌≤◌, List, [], arith, inl, inr, length, pos, subst, sym, ℕ, ℤ}, lemmas.Int.ints}
-use Rattle.std.{proofs.lemmas.List.Elements.{All-head, All-tail}, specs.List.All}
-use Rattle.drift_clock.specs.ClockLaws.{AlwaysBeginsAtZero, AlwaysKeepsClockLaws}
-use Rattle.net_plan.specs.{Belonging.IsOfNetwork, declared.{event.Event.Event, ids.LinkId.LinkId, network.Network.Network}}
-use Rattle.run_law.specs.{law.FirstLaws.{IsEventInRange, IsLawful}, records.Order.IsIn, scenario.{Faults.Cuts, Rates.rate_steps}}
-use Rattle.tte_units.specs.Amount.{amount}
-use Rattle.traffic_law.{proofs.safety_lemmas.Histories.history, specs.safety.Under.{IsUnder, scenario_of}}
+use Rattle.{drift_clock.specs.ClockLaws.{AlwaysBeginsAtZero, AlwaysKeepsClockLaws}, run_law.specs.law.FirstLaws.{IsEventInRange, IsLawful}}
+use Rattle.{net_plan.specs.{Belonging.IsOfNetwork, declared.{event.Event.Event, ids.LinkId.LinkId}}, run_law.specs.scenario.{Faults.Cuts, Rates.rate_steps}}
+use Rattle.{net_plan.specs.declared.network.Network.Network, traffic_law.{proofs.safety_lemmas.Histories.history, specs.safety.Under.{IsUnder, scenario_of}}}
+use Rattle.{run_law.specs.records.Order.IsIn, std.{proofs.lemmas.Int.ints, specs.List.All}, tte_units.specs.Amount.amount}
+use Rattle.std.proofs.{Common.{◌<◌, ◌∷◌, ◌≤ℤ◌, ◌≤◌, List, [], arith, inl, inr, length, pos, subst, sym, ℕ, ℤ}, lemmas.List.Elements.{All-head, All-tail}}
 
 each_in : {X : Type 0} (P : X → Type 0) (xs : List X) → All P xs → (x : X) → IsIn x xs → P x
 each_in P [] all x i = absurd i

@@ -1,10 +1,9 @@
 -- Events within the hypothesis come in the first 2^20 cycles.
+use Rattle.{net_plan.specs.declared.event.Event.Event, run_law.proofs.{records.Order.contained, runs.Places.parted}, tte_units.specs.Amount.{amount, units_of}}
+use Rattle.{net_plan.specs.declared.{event.What.TheVariants.End, network.Network.Network}, run_law.specs.declared.outside.Outside.TheVariants.Late}
+use Rattle.run_law.specs.{records.Order.IsIn, runs.DueRecords.EndsAt}
 use Rattle.std.proofs.{Common.{◌*◌, ◌<ℤ◌, ◌^◌, ◌∷◌, ◌≤ℤ◌, ◌≤◌, List, [], arith, fold, inl, inr, negsuc, pos, refl, unsigned_abs, ℕ, ℤ}, lemmas.Int.ints}
-use Rattle.net_plan.specs.declared.{event.{Event.Event, What.TheVariants.End}, network.Network.Network}
-use Rattle.run_law.{proofs.{records.Order.contained, runs.Places.parted}, specs.{declared.outside.Outside.TheVariants.Late, records.Order.IsIn}}
-use Rattle.run_law.specs.runs.DueRecords.{EndsAt}
-use Rattle.tte_units.specs.{Amount.{amount, units_of}, declared.units.Units.Units}
-use Rattle.traffic_law.{proofs.safety_lemmas.Lawful.begun, specs.safety.Under.{IsUnder, last_time}}
+use Rattle.{traffic_law.{proofs.safety_lemmas.Lawful.begun, specs.safety.Under.{IsUnder, last_time}}, tte_units.specs.declared.units.Units.Units}
 
 not_late : (z : ℤ) (n : ℕ) → pos 0 ≤ℤ z → (pos n <ℤ z → ⊥) → unsigned_abs z ≤ n
 not_late (pos m) n begun not = grind (arith, ints)

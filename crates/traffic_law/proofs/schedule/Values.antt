@@ -1,8 +1,7 @@
 -- The cycle of a local value and its place in the cycle.
+use Rattle.{std.proofs.lemmas.Nat.{div-mul-add, mod-mul-add}, tte_lemmas.{proofs.{Integers.{whole as not_negative}}}}
 use Rattle.traffic_law.proofs.Words.{◌*◌, ◌+◌, ◌-◌, ◌<ℤ◌, ◌<◌, ◌∙◌, ◌≡◌, ◌≤ℤ◌, IsView, Network, View, ap, arith, cycle_at, ints, negsuc, offset_in_cycle, pos}
 use Rattle.traffic_law.proofs.{Words.{sym, ℕ, ℤ}, ports.Dispatched.cycle_is}
-use Rattle.std.proofs.lemmas.Nat.{div-mul-add, mod-mul-add}
-use Rattle.tte_lemmas.proofs.Integers.{whole as not_negative}
 
 -- the cycle of a network is not negative
 pub cycle_whole : (v : View) → IsView v → v.scenario.network.cycle.0 ≡ pos v.sizes.cycle

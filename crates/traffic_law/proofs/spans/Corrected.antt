@@ -1,12 +1,10 @@
 -- The clock of a synchronised device was last set by a correction.
-use Rattle.traffic_law.proofs.Words.{if◌then◌else◌, ◌++◌, ◌∙◌, ◌∷◌, ◌≡◌, ◌⊎◌, Bool, DeviceId, Happening, IsBefore, IsDue, IsFounded, IsIn, IsView, List}
-use Rattle.traffic_law.proofs.Words.{NoteBody, Option, Scenario, Some, Synchronised, Units, View, [], ap, append_assoc, behind_first, both_ways, cases_lt}
-use Rattle.traffic_law.proofs.Words.{changes_adjustment, earlier, false, false_from_ne_true, filter, in_filter, inl, inr, is_joined_by, is_synchronised}
-use Rattle.traffic_law.proofs.Words.{last_in, last_or, last_setting, le-ltb, lt-ltb, nat_lt, none_kept, one_device, place_of, refl, setting_is, split}
-use Rattle.traffic_law.proofs.Words.{state_left, subst, sym, time_of, true, ℕ}
-use Rattle.std.proofs.lemmas.List.{append-nil, Elements.filter-append}
-use Rattle.precision_law.proofs.clocks.Joiners.{joiner_waits}
-use Rattle.run_law.proofs.{law.FirstPlaces.front_founded, records.{Happenings.soon, Order.all_kept}}
+use Rattle.{precision_law.proofs.clocks.Joiners.joiner_waits, std.proofs.lemmas.List.Elements.filter-append, traffic_law.proofs.Words.{sym, time_of, true, ℕ}}
+use Rattle.{run_law.proofs.{law.FirstPlaces.front_founded, records.{Happenings.soon, Order.all_kept}}, std.proofs.lemmas.List.append-nil}
+use Rattle.traffic_law.proofs.Words.{◌++◌, ◌∙◌, ◌∷◌, ◌≡◌, ◌⊎◌, Bool, DeviceId, Happening, IsBefore, IsDue, IsFounded, IsIn, IsView, List, NoteBody, Option}
+use Rattle.traffic_law.proofs.Words.{Scenario, Some, Synchronised, Units, View, [], ap, append_assoc, behind_first, both_ways, cases_lt, changes_adjustment}
+use Rattle.traffic_law.proofs.Words.{earlier, false, false_from_ne_true, filter, if◌then◌else◌, in_filter, inl, inr, is_joined_by, is_synchronised, last_in}
+use Rattle.traffic_law.proofs.Words.{last_or, last_setting, le-ltb, lt-ltb, nat_lt, none_kept, one_device, place_of, refl, setting_is, split, state_left, subst}
 use Rattle.run_law.specs.declared.note.NoteBody.TheVariants as notes
 
 -- ---- the earlier records

@@ -1,17 +1,15 @@
 -- A synchronised device stays so in the span of a cycle.
-use Rattle.traffic_law.proofs.Words.{if◌then◌else◌, ◌++◌, ◌+◌, ◌-◌, ◌<ℤ◌, ◌==◌, ◌∙◌, ◌∷◌, ◌≡◌, ◌≤◌, Bool, BringsBlocks, ChangesState, ComesTo, Corrected}
-use Rattle.traffic_law.proofs.Words.{DeviceId, Event, Happening, Integrates, Integrating, IsCaused, IsFoundedAt, IsIn, IsInBlock, IsInSpan, IsOldAt, IsTimedAt}
-use Rattle.traffic_law.proofs.Words.{IsView, Judgement, List, None, NoteBody, Option, Scenario, State, Synchronised, TimedAreNotTurnedOn, Units, View, Why, []}
-use Rattle.traffic_law.proofs.Words.{amount, ap, arith, before_of, between, both_ways, changes_adjustment, earlier, earlier_before, earlier_parts, eq-eqb}
-use Rattle.traffic_law.proofs.Words.{false, false_from_ne_true, filter, fold, fold-append, founded_at, in_between, in_left, in_order, inl, inr, ints}
+use Rattle.{net_plan.specs.declared.event.What.TheVariants.On, precision_law.specs.BlockLaws.AreBeforeCorrections, run_law.specs.runs.DueRecords.IsEventRecord}
+use Rattle.{run_law.{proofs.control.Joined.looking_by, specs.control.Permanence.ripe_as}, traffic_law.specs.Spans.SynchronisedStaySo}
+use Rattle.{run_law.specs.control.Corrections.ComesToCorrection, sync_state.specs.declared.answers.Verdict.{TheVariants.{AsyncClique, SyncClique}, Verdict}}
+use Rattle.{std.proofs.lemmas.{List.{Elements.filter-append, append-nil}, Map.Keys.any_passes_from_place}, traffic_law.proofs.spans.Spans.has_time_at}
+use Rattle.traffic_law.proofs.Words.{◌++◌, ◌+◌, ◌-◌, ◌<ℤ◌, ◌==◌, ◌∙◌, ◌∷◌, ◌≡◌, ◌≤◌, Bool, BringsBlocks, ChangesState, ComesTo, Corrected, DeviceId, Event}
+use Rattle.traffic_law.proofs.Words.{Happening, Integrates, Integrating, IsCaused, IsFoundedAt, IsIn, IsInBlock, IsInSpan, IsOldAt, IsTimedAt, IsView}
+use Rattle.traffic_law.proofs.Words.{Judgement, List, None, NoteBody, Option, Scenario, State, Synchronised, TimedAreNotTurnedOn, Units, View, Why, [], amount}
+use Rattle.traffic_law.proofs.Words.{ap, arith, before_of, between, both_ways, changes_adjustment, earlier, earlier_before, earlier_parts, eq-eqb, false}
+use Rattle.traffic_law.proofs.Words.{false_from_ne_true, filter, fold, fold-append, founded_at, if◌then◌else◌, in_between, in_left, in_order, inl, inr, ints}
 use Rattle.traffic_law.proofs.Words.{is_joined_by, is_turned_on_at, last_or, last_setting, negsuc, none_kept, numbered_in, one_device, option_map_or, pos, refl}
 use Rattle.traffic_law.proofs.Words.{start_of, state_after, state_at_start, state_left, state_with, subst, suc, sym, time_of, true, zero, ℕ}
-use Rattle.traffic_law.{proofs.spans.Spans.has_time_at, specs.Spans.SynchronisedStaySo}
-use Rattle.std.proofs.lemmas.{List.{append-nil, Elements.filter-append}, Map.Keys.any_passes_from_place}
-use Rattle.net_plan.specs.declared.event.What.TheVariants.{On}
-use Rattle.precision_law.specs.BlockLaws.{AreBeforeCorrections}
-use Rattle.run_law.{proofs.control.Joined.looking_by, specs.{control.{Corrections.ComesToCorrection, Permanence.ripe_as}, runs.DueRecords.IsEventRecord}}
-use Rattle.sync_state.specs.declared.answers.Verdict.{Verdict, TheVariants.{AsyncClique, SyncClique}}
 use Rattle.run_law.specs.declared.judgement.Judgement.TheVariants as judgements
 use Rattle.run_law.specs.declared.judgement.Why.TheVariants as whys
 use Rattle.run_law.specs.declared.note.NoteBody.TheVariants as notes

@@ -1,13 +1,12 @@
 -- The span of a cycle: what clocks show there, and when they reach a value of the schedule.
+use Rattle.precision_law.proofs.{law.Together.{new_shows, old_shows, set_shows}, records.Points.point_timed, sizes.Instants.set_clocks_stay_at_correction}
+use Rattle.{precision_law.specs.{BlockLaws.BlocksGoSo, Blocks.HasTimeAt, Standings.ShowsIn}, std.proofs.{Common.suc-mul, Math.Nat.mul-le-mul_right}}
+use Rattle.{precision_law.specs.Hulls.first_correction, traffic_law.specs.Spans.{IsReachedInSpan, SynchronisedKeepTime, ValuesAreReachedInSpans}}
 use Rattle.traffic_law.proofs.Words.{◌*◌, ◌+ℤ◌, ◌+◌, ◌<ℤ◌, ◌<◌, ◌≡◌, ◌≤ℤ◌, ◌≤◌, BringsBlocks, ComesTo, Corrected, DeviceId, Happening, IsCaused, IsInBlock}
 use Rattle.traffic_law.proofs.Words.{IsInSchedule, IsOldAt, IsTimedAt, IsView, None, Option, Some, Synchronised, View, adjustment_left, ap, arith}
 use Rattle.traffic_law.proofs.Words.{before_narrow, before_of, begins_late, block_ends, by_lt_z, cases_lt, clocks_reach_sharply, earlier, epoch_time}
 use Rattle.traffic_law.proofs.Words.{follows_before, founded_at, has_time, inl, inr, ints, last_setting, negsuc, option_map_or, pos, refl, room, setting_is}
-use Rattle.traffic_law.proofs.Words.{shown_at, state_left, subst, suc, sym, time_of, zero, ℕ, ℤ}
-use Rattle.std.proofs.{Common.suc-mul, Math.Nat.mul-le-mul_right}
-use Rattle.precision_law.proofs.{law.Together.{new_shows, old_shows, set_shows}, records.Points.point_timed, sizes.Instants.set_clocks_stay_at_correction}
-use Rattle.precision_law.specs.{BlockLaws.BlocksGoSo, Blocks.HasTimeAt, Hulls.first_correction, Standings.ShowsIn}
-use Rattle.traffic_law.{proofs.spans.Corrected.last_is_correction, specs.Spans.{IsReachedInSpan, SynchronisedKeepTime, ValuesAreReachedInSpans}}
+use Rattle.traffic_law.proofs.{Words.{shown_at, state_left, subst, suc, sym, time_of, zero, ℕ, ℤ}, spans.Corrected.last_is_correction}
 use Rattle.run_law.specs.declared.note.NoteBody.TheVariants as notes
 
 -- ---- devices with the time

@@ -1,8 +1,7 @@
 -- Since when a synchronised device has been so.
-use Rattle.traffic_law.proofs.Words.{if◌then◌else◌, ◌<ℤ◌, ◌∷◌, ◌≡◌, ◌≤◌, Bool, DeviceId, Happening, IsIn, IsView, List, NoteBody, State, Synchronised, View, []}
-use Rattle.traffic_law.proofs.Words.{ap, earlier, epoch_time, false, fold, inl, inr, is_synchronised, pos, refl, state_left, state_with, true, ℕ}
-use Rattle.precision_law.proofs.clocks.Epochs.{state_stays}
-use Rattle.run_law.proofs.device.States.{is_in}
+use Rattle.{precision_law.proofs.clocks.Epochs.state_stays, run_law.proofs.device.States.is_in}
+use Rattle.traffic_law.proofs.Words.{◌<ℤ◌, ◌∷◌, ◌≡◌, ◌≤◌, Bool, DeviceId, Happening, IsIn, IsView, List, NoteBody, State, Synchronised, View, [], ap, earlier}
+use Rattle.traffic_law.proofs.Words.{epoch_time, false, fold, if◌then◌else◌, inl, inr, is_synchronised, pos, refl, state_left, state_with, true, ℕ}
 
 -- ---- backwards
 

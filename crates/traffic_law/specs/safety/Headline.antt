@@ -1,15 +1,12 @@
 -- What is promised of the records that are written of a run.
 use Rattle.std.specs.Prelude.{◌*◌, ◌++◌, ◌+◌, ◌<◌, ◌^◌, ◌∷◌, ◌≡◌, ◌≤◌, List, [], true, ℕ, ℤ}
-use Rattle.net_plan.specs.{Places.IsSwitchOf, declared.{event.{Event.Event, What.What}, ids.DeviceId.DeviceId}}
-use Rattle.net_plan.specs.declared.network.Network.{Network}
-use Rattle.pcf_values.specs.declared.channel.Channel.{Channel}
-use Rattle.precision_law.specs.{Blocks.IsClique, Views.IsSound}
-use Rattle.run_law.specs.{declared.{judgement.Why.Why, note.Note.Note}, law.Safety.IsSafe}
-use Rattle.run_law.specs.records.{Happenings.{Happening, happenings, time_of}, Order.IsIn}
-use Rattle.run_law.specs.{runs.DueRecords.{EndsAt, IsRunOf}, scenario.{Devices.is_end, Scenarios.Scenario}}
-use Rattle.sync_state.specs.declared.state.State.{State}
-use Rattle.tte_units.specs.{Amount.{amount, units_of}, declared.units.Units.Units}
-use Rattle.traffic_law.specs.safety.Under.{reading_of, scenario_of}
+use Rattle.{net_plan.specs.Places.IsSwitchOf, run_law.specs.{law.Safety.IsSafe, records.Order.IsIn}}
+use Rattle.net_plan.specs.declared.{event.{Event.Event, What.What}, ids.DeviceId.DeviceId, network.Network.Network}
+use Rattle.{pcf_values.specs.declared.channel.Channel.Channel, traffic_law.specs.safety.Under.{reading_of, scenario_of}}
+use Rattle.{precision_law.specs.{Blocks.IsClique, Views.IsSound}, tte_units.specs.Amount.{amount, units_of}}
+use Rattle.run_law.specs.{declared.{judgement.Why.Why, note.Note.Note}, scenario.{Devices.is_end, Scenarios.Scenario}}
+use Rattle.run_law.specs.{records.Happenings.{Happening, happenings, time_of}, runs.DueRecords.{EndsAt, IsRunOf}}
+use Rattle.{sync_state.specs.declared.state.State.State, tte_units.specs.declared.units.Units.Units}
 use Rattle.run_law.specs.declared.note.NoteBody.TheVariants as notes
 
 -- up to the time no end system, and no switch of a channel that is not the faulty one then, loses the common time

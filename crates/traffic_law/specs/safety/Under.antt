@@ -1,12 +1,10 @@
 -- What the laws on runs ask of a network and of the events that befall it.
 use Rattle.std.specs.{List.All, Prelude.{List, fold, ℕ, ℤ}}
-use Rattle.drift_clock.specs.Readings.{reading_at, value_after}
-use Rattle.net_plan.specs.{Belonging.IsOfNetwork, Ranges.IsInRange, declared.{event.Event.Event, ids.DeviceId.DeviceId}}
-use Rattle.net_plan.specs.declared.network.Network.{Network}
-use Rattle.run_law.specs.{law.FirstLaws.IsEventInRange, scenario.{Hypothesis.AreWithinHypothesis, Rates.rate_steps}}
-use Rattle.run_law.specs.scenario.Scenarios.{Scenario}
-use Rattle.schedule_tables.specs.Rules.{KeepsRules}
-use Rattle.tte_units.specs.{Amount.{amount, units_of}, declared.units.Units.Units}
+use Rattle.{drift_clock.specs.Readings.{reading_at, value_after}, run_law.specs.scenario.Hypothesis.AreWithinHypothesis}
+use Rattle.{net_plan.specs.{Belonging.IsOfNetwork, Ranges.IsInRange}, schedule_tables.specs.Rules.KeepsRules}
+use Rattle.net_plan.specs.declared.{event.Event.Event, ids.DeviceId.DeviceId, network.Network.Network}
+use Rattle.{run_law.specs.law.FirstLaws.IsEventInRange, tte_units.specs.declared.units.Units.Units}
+use Rattle.{run_law.specs.scenario.{Rates.rate_steps, Scenarios.Scenario}, tte_units.specs.Amount.{amount, units_of}}
 
 -- the network is accepted; each event is of its devices and links, has no negative times, and is within the fault
 -- hypothesis, given those before it

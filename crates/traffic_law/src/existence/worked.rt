@@ -1,9 +1,8 @@
 //! A network that is accepted, under events within the fault hypothesis: what the laws on runs ask of both can be met.
 
 ghost use Rattle.net_plan.specs.Ranges.{IsInRange};
-ghost use Rattle.run_law.specs.law.FirstLaws.{IsLawful};
+ghost use Rattle.{run_law.specs.law.FirstLaws.IsLawful, schedule_tables.specs.Rules.KeepsRules};
 ghost use Rattle.traffic_law.specs.{existence.worked.Worked.{rough_day, rough_events, worked}, safety.Under.IsUnder};
-ghost use Rattle.schedule_tables.specs.Rules.{KeepsRules};
 
 /// The worked network is in range, and keeps all rules.
 pub fn worked_is_accepted()

@@ -1,13 +1,11 @@
 -- The answer for the frames of a file, frame by frame.
+use Rattle.{pcf_codec.specs.Decoding.decoded, std.{proofs.lemmas.List.append-nil, specs.Io.KnownBytes.Appends}, tte_io.specs.Faults.next_count}
+use Rattle.{pcf_codec.specs.declared.refusal.PcfRefusal.PcfRefusal, pcf_values.specs.declared.pcf.Pcf.Pcf, tte_forms.specs.Putting.{PutsLines, Shown}}
 use Rattle.std.proofs.Common.{◌++◌, ◌+◌, ◌-◌, ◌<◌, ◌∙◌, ◌∷◌, ◌≡◌, ◌≤◌, Err, List, Ok, Result, [], ap, append_assoc, arith, inl, inr, refl, subst, suc, sym}
-use Rattle.std.{proofs.{Common.{zero, ℕ}, lemmas.List.append-nil}, specs.Io.KnownBytes.Appends}
-use Rattle.pcf_codec.specs.{Decoding.decoded, declared.refusal.PcfRefusal.PcfRefusal}
-use Rattle.pcf_values.specs.declared.pcf.Pcf.{Pcf}
-use Rattle.tte_io.specs.{Faults.next_count, Told.AppendsFront}
+use Rattle.{std.proofs.Common.{zero, ℕ}, tte_io.specs.Told.AppendsFront}
 use Rattle.tte_forms.proofs.Puts.{Ends-gives, PutsLines-append, PutsLines-fails, PutsLines-more, PutsSome-behind, WriteFails-behind}
-use Rattle.tte_forms.specs.{Answering.{Answer, Ends, Gives, with_line}, Putting.{PutsLines, Shown}, declared.status.Status.Status}
+use Rattle.tte_forms.specs.{Answering.{Answer, Ends, Gives, with_line}, declared.status.Status.Status, frames.FrameLine.{frame_line, refusal_line}}
 use Rattle.tte_forms.specs.{declared.status.Status.TheVariants.{Done, FrameRefused, WriteFault}, frames.Answer.{frame_at, frames_answer, judgement_of}}
-use Rattle.tte_forms.specs.frames.FrameLine.{frame_line, refusal_line}
 
 -- an answer behind some lines
 abbrev pub behind : List (List ℕ) → Answer → Answer

@@ -1,11 +1,10 @@
 -- The answer for the octets of a network file.
+use Rattle.{net_file.specs.Schema.network_read, schedule_checker.specs.{Refusals.{RefusalIsOne, TellsFirstBroken}, declared.refusal.RuleBroken.RuleBroken}}
+use Rattle.{net_file.specs.declared.refusal.FileRefusal.FileRefusal, tte_forms.proofs.{Octets.{for_all, for_more}, OneAnswers.{answer_widened, unput_answer}}}
+use Rattle.{net_plan.specs.{Bounds.{BetaIsUnique, IsBeta, gamma_of}, declared.network.Network.Network}, tte_forms.specs.declared.accepting.NoNetwork.NoNetwork}
 use Rattle.std.proofs.{Common.{◌∙◌, ◌∷◌, ◌≡◌, ◌⊎◌, Err, List, Ok, Option, [], ap, arith, inl, inr, pos, refl, subst, sym, ℕ}, lemmas.Int.ints}
-use Rattle.net_file.specs.{Schema.network_read, declared.refusal.FileRefusal.FileRefusal}
-use Rattle.net_plan.specs.{Bounds.{BetaIsUnique, IsBeta, gamma_of}, declared.network.Network.Network}
-use Rattle.schedule_checker.specs.{Refusals.{RefusalIsOne, TellsFirstBroken}, declared.refusal.RuleBroken.RuleBroken}
-use Rattle.tte_forms.{proofs.Octets.{for_all, for_more}, specs.{Putting.{PutsNone, Shown}, networks.Checking.IsAcceptance}}
-use Rattle.tte_forms.{proofs.OneAnswers.{answer_widened, unput_answer}, specs.{declared.accepting.NoNetwork.NoNetwork, networks.Accepting.too_long_answer}}
 use Rattle.tte_forms.specs.{Answering.{Answer, AnswersOne, ForOctets, Gives, GivesAnswer}, declared.status.Status.{Status, TheVariants.{Done, WriteFault}}}
+use Rattle.tte_forms.specs.{Putting.{PutsNone, Shown}, networks.{Accepting.too_long_answer, Checking.IsAcceptance}}
 use Rattle.tte_forms.specs.networks.Accepting.{IsAnswerBy, IsNetworkAnswer, IsTooLong, MeansAccepted, MeansNoNetwork, MeansUnfit, refusal_lines, refused_by}
 use Rattle.tte_forms.specs.networks.{NetworkLine.{acceptance_line, file_reason, rule_reason}, NoNetworks.{IsNoNetwork, answer_by, no_network_answer}}
 use Rattle.tte_forms.specs.declared.accepting.NoNetwork.TheVariants as causes

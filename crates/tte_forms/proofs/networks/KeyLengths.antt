@@ -1,6 +1,5 @@
 -- The keys of a network file are short.
-use Rattle.std.proofs.Common.{◌≤◌, length, lit≤}
-use Rattle.net_file.specs.{KeyTexts.key_text, declared.keys.KeyName.{KeyName, TheVariants.Wire}}
+use Rattle.{net_file.specs.{KeyTexts.key_text, declared.keys.KeyName.{KeyName, TheVariants.Wire}}, std.proofs.Common.{◌≤◌, length, lit≤}}
 use Rattle.net_file.specs.declared.keys.KeyName.TheVariants.{Calc, Channel, Child, Correction, Cycle, Device, Dmax, Domain, Ethertype, Grain, Hold, Id, Jitter}
 use Rattle.net_file.specs.declared.keys.KeyName.TheVariants.{Length, Link, Mac, Marker, Member, Name, Offset, Parent, PcfDestination, Period, Phase, Precision}
 use Rattle.net_file.specs.declared.keys.KeyName.TheVariants.{Priority, Rho, Role, Row, Sender, Settled, Speed, Start, SyncThreshold, TtStart, Version, Vl, Way}

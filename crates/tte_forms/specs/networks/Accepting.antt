@@ -1,9 +1,8 @@
 -- How a network file is judged.
 use Rattle.std.specs.Prelude.{◌<◌, ◌∷◌, ◌≡◌, ◌≤◌, ◌⊎◌, Err, List, Ok, [], length, ℕ}
-use Rattle.net_file.specs.{Schema.network_read, declared.refusal.FileRefusal.FileRefusal}
-use Rattle.net_plan.specs.declared.network.Network.{Network}
+use Rattle.{net_file.specs.Schema.network_read, schedule_tables.specs.Rules.KeepsRules}
+use Rattle.{net_file.specs.declared.refusal.FileRefusal.FileRefusal, net_plan.specs.declared.network.Network.Network}
 use Rattle.schedule_checker.specs.{Refusals.TellsFirstBroken, declared.refusal.RuleBroken.RuleBroken}
-use Rattle.schedule_tables.specs.Rules.{KeepsRules}
 use Rattle.tte_forms.specs.{Answering.Answer, networks.NetworkLine.{file_reason, network_refusal_line, rule_reason}}
 use Rattle.tte_forms.specs.{declared.status.Status.TheVariants.{NetworkRefused, TooLong}, frames.Answer.file_limit}
 

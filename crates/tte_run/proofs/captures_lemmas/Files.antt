@@ -1,10 +1,9 @@
 -- The answer of `capture` for a source.
 use Rattle.std.proofs.{Common.{◌<◌, ◌≡◌, ◌≤◌, Err, List, Ok, [], inl, inr, length, refl, subst, sym, ℕ}, lemmas.Bool.{cases_lt, le-ltb, lt-ltb}}
-use Rattle.std.specs.Prelude.{IfSome, Option}
-use Rattle.tte_run.specs.{captures.Answer.{capture_answer, capture_limit, opened_answer}, declared.captures.pcap.refusal.CaptureRefusal.TheVariants.Header}
-use Rattle.tte_run.specs.{captures.pcap.{Layout.head_length, Reading.opened}, declared.captures.pcap.capture.CaptureHead.CaptureHead}
+use Rattle.{std.specs.Prelude.{IfSome, Option}, tte_forms.specs.Putting.Shown, tte_run.specs.captures.pcap.{Layout.head_length, Reading.opened}}
 use Rattle.tte_forms.{proofs.{Octets.{for_read, for_too_many}, Puts.{Ends-gives, PutsLines-none}}, specs.Answering.{Answer, Answers, Ends, Gives}}
-use Rattle.tte_forms.specs.{Putting.Shown, declared.status.Status.{Status, TheVariants.TooLong}}
+use Rattle.{tte_forms.specs.declared.status.Status.{Status, TheVariants.TooLong}, tte_run.specs.declared.captures.pcap.capture.CaptureHead.CaptureHead}
+use Rattle.tte_run.specs.{captures.Answer.{capture_answer, capture_limit, opened_answer}, declared.captures.pcap.refusal.CaptureRefusal.TheVariants.Header}
 
 -- an empty file, or a short one, has no header
 opened_short : (file : List ℕ) → length file < head_length → opened file ≡ Err (Header (length file))

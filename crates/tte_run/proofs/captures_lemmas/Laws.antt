@@ -1,18 +1,16 @@
 -- The packets that stand in a file have their lines.
+use Rattle.{pcf_codec.{proofs.Outcomes.is_spelling, specs.declared.refusal.PcfRefusal.PcfRefusal}, tte_run.proofs.captures_lemmas.Files.capture_answer-fits}
+use Rattle.{pcf_codec.specs.{Decoding.decoded, Fields.field}, std.{proofs.{Common.ℕ, lemmas.{Bool.and_parts, List.append-nil}}, specs.Fmt.decimal}}
+use Rattle.{pcf_codec.specs.EtherType.{HasPcfType, pcf_type}, std.proofs.lemmas.Bool.Decides.nat_tests, tte_run.specs.captures.pcap.Reading.{opened, packet_at}}
+use Rattle.{pcf_values.specs.declared.pcf.Pcf.Pcf, tte_forms.{proofs.frames.Frames.behind, specs.frames.FrameLine.refusal_text}}
 use Rattle.std.proofs.Common.{◌*◌, ◌++◌, ◌+◌, ◌-◌, ◌<◌, ◌∙◌, ◌∷◌, ◌≡◌, ◌≤◌, Bool, Err, List, Ok, [], ap, arith, false, inl, inr, length, refl, suc, true, zero}
-use Rattle.std.{proofs.{Common.ℕ, lemmas.{Bool.{and_parts, Decides.nat_tests}, List.append-nil}}, specs.Fmt.decimal}
-use Rattle.std.specs.Prelude.{◌==◌, None, Option, Result, Some, codes, nat_le}
-use Rattle.tte_run.{proofs.captures_lemmas.Files.capture_answer-fits, specs.captures.pcap.{Layout.{IsHead, IsPacket, head_length}, Reading.{opened, packet_at}}}
+use Rattle.{std.specs.Prelude.{◌==◌, None, Option, Result, Some, codes, nat_le}, tte_forms.specs.declared.status.Status.TheVariants.{CaptureRefused, Done}}
+use Rattle.{tte_forms.specs.Answering.{Answer, line_answer, with_line}, tte_run.specs.captures.pcap.Layout.{IsHead, IsPacket, head_length}}
 use Rattle.tte_run.proofs.captures_lemmas.{Packets.{answer_behind, packets_next}, pcap_lemmas.{Heads.finds_head, Packets.{finds_packets, packet_stands}}}
 use Rattle.tte_run.specs.captures.{Answer.{capture_answer, found_answer, opened_answer, packets_answer}, pcap.ReadingLaw.{HasHeadFault, HasPacketFault}}
 use Rattle.tte_run.specs.captures.CaptureLine.{has_pcf_type, head_refusal_line, no_frame_words, packet_line, packet_refusal_line, words_of}
 use Rattle.tte_run.specs.captures.Law.{HasPackets, IsFile, IsJudged, ShowsOctets, ShowsPackets, StandFrom, packet_lines, refused_behind, whole_answer}
 use Rattle.tte_run.specs.declared.captures.pcap.{capture.{CaptureHead.CaptureHead, Packet.Packet}, refusal.CaptureRefusal.CaptureRefusal}
-use Rattle.pcf_codec.{proofs.Outcomes.is_spelling, specs.{Decoding.decoded, EtherType.{HasPcfType, pcf_type}, Fields.field}}
-use Rattle.pcf_codec.specs.declared.refusal.PcfRefusal.{PcfRefusal}
-use Rattle.pcf_values.specs.declared.pcf.Pcf.{Pcf}
-use Rattle.tte_forms.{proofs.frames.Frames.behind, specs.Answering.{Answer, line_answer, with_line}}
-use Rattle.tte_forms.specs.{declared.status.Status.TheVariants.{CaptureRefused, Done}, frames.FrameLine.refusal_text}
 use Rattle.tte_run.specs.declared.captures.pcap.refusal.CaptureRefusal.TheVariants as reasons
 
 -- ---- octets

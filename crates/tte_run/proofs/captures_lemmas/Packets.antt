@@ -1,13 +1,11 @@
 -- The answer for the packets of a capture, packet by packet.
 use Rattle.std.proofs.Common.{◌++◌, ◌+◌, ◌-◌, ◌<◌, ◌∙◌, ◌∷◌, ◌≡◌, ◌≤◌, Err, List, Ok, Result, [], ap, append_assoc, arith, inl, inr, length, refl, subst, suc}
-use Rattle.std.{proofs.{Common.{sym, ℕ}, lemmas.List.append-nil}, specs.{Io.KnownBytes.Appends, Prelude.{None, Option, Some}}}
-use Rattle.tte_run.specs.captures.Answer.{found_answer, packets_answer}
+use Rattle.{std.{proofs.{Common.{sym, ℕ}, lemmas.List.append-nil}, specs.Io.KnownBytes.Appends}, tte_io.specs.{Faults.next_count, Told.AppendsFront}}
+use Rattle.{std.specs.Prelude.{None, Option, Some}, tte_forms.{proofs.frames.Frames.{Gives-behind, behind}, specs.Putting.{PutsLines, Shown}}}
+use Rattle.{tte_forms.proofs.Puts.{Ends-gives, PutsLines-fails, PutsLines-more, PutsLines-none}, tte_run.specs.captures.Answer.{found_answer, packets_answer}}
+use Rattle.tte_forms.specs.{Answering.{Answer, Ends, Gives, line_answer}, declared.status.Status.{Status, TheVariants.{CaptureRefused, Done, WriteFault}}}
 use Rattle.tte_run.specs.captures.{CaptureLine.{packet_line, packet_refusal_line}, pcap.{Layout.{head_length, stamp_length}, Reading.packet_at}}
 use Rattle.tte_run.specs.declared.captures.pcap.{capture.{CaptureHead.CaptureHead, Packet.Packet}, refusal.CaptureRefusal.CaptureRefusal}
-use Rattle.tte_forms.proofs.{Puts.{Ends-gives, PutsLines-fails, PutsLines-more, PutsLines-none}, frames.Frames.{Gives-behind, behind}}
-use Rattle.tte_forms.specs.{Answering.{Answer, Ends, Gives, line_answer}, Putting.{PutsLines, Shown}, declared.status.Status.Status}
-use Rattle.tte_forms.specs.declared.status.Status.TheVariants.{CaptureRefused, Done, WriteFault}
-use Rattle.tte_io.specs.{Faults.next_count, Told.AppendsFront}
 
 -- the answer behind a packet, from a place on
 abbrev pub answer_behind : ℕ → ℕ → CaptureHead → List ℕ → ℕ → Answer

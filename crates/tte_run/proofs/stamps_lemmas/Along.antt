@@ -1,12 +1,10 @@
 -- The observer of `stamp` puts its lines along the run.
+use Rattle.{drift_world.specs.Running.behind_events, run_law.proofs.runs.NetworkRuns.run_is_one, tte_traces.proofs.Admitted.events_admitted}
 use Rattle.tte_run.{proofs.stamps_lemmas.{Beginning.stamps_begin, SameRecords.up_to_mark, Staying.stamps_stay}, specs.stamps.Stamping.{PutsStamps, StopsStamps}}
 use Rattle.tte_run.proofs.stamps_lemmas.{Ordered.admitted_up_to_last, Words.{inl, inr, last_time, refl, shown_as, stamp_lines, subst, sym, ℕ}}
 use Rattle.tte_run.proofs.stamps_lemmas.Words.{◌+◌, ◌∙◌, ◌∷◌, ◌≡◌, ◌≤◌, AreAdmitted, AreRecordsBefore, AreRecordsSoFar, Event, IsTraceAnswer, List, Network}
 use Rattle.tte_run.proofs.stamps_lemmas.Words.{None, Note, Option, PutsLines, Some, Units, [], admitted_in_order, amount, ap, append-nil, arith, clock_reading}
-use Rattle.drift_world.specs.Running.{behind_events}
-use Rattle.run_law.proofs.runs.NetworkRuns.{run_is_one}
-use Rattle.tte_traces.{proofs.Admitted.events_admitted, specs.Along.{IsShortAt, PutsAlong}}
-use Rattle.world_drive.specs.{Observing.{Sees, Stops, Told}, exact.Records.AreAllRecords}
+use Rattle.{tte_traces.specs.Along.{IsShortAt, PutsAlong}, world_drive.specs.{Observing.{Sees, Stops, Told}, exact.Records.AreAllRecords}}
 
 -- ---- an observer whose granule is given by it
 

@@ -1,10 +1,9 @@
 -- The answer of `stamp` is one, and valid input is answered to its end.
-use Rattle.tte_run.proofs.stamps_lemmas.{Ends.{refused_alone, run_alone}, Words.{least_granule, stamp_lines, sym, ℕ}}
+use Rattle.{schedule_checker.specs.Refusals.RefusalIsOne, tte_forms.specs.networks.Accepting.IsNetworkAnswer, tte_traces.proofs.Answers.trace_answer_one}
+use Rattle.{tte_forms.proofs.networks.Answers.{accepted_alone, network_answer_one}, tte_run.proofs.stamps_lemmas.Words.{least_granule, stamp_lines, sym, ℕ}}
+use Rattle.{tte_forms.specs.declared.status.Status.TheVariants.Done, tte_run.proofs.stamps_lemmas.Ends.{refused_alone, run_alone}}
 use Rattle.tte_run.proofs.stamps_lemmas.Words.{◌∙◌, ◌≡◌, ◌≤◌, Answer, Event, IsStampAnswer, List, MeansAccepted, Network, Units, amount, inl, inr}
-use Rattle.schedule_checker.specs.Refusals.{RefusalIsOne}
-use Rattle.tte_forms.proofs.networks.Answers.{accepted_alone, network_answer_one}
-use Rattle.tte_forms.specs.{declared.status.Status.TheVariants.Done, networks.Accepting.IsNetworkAnswer}
-use Rattle.tte_traces.{proofs.{Answers.trace_answer_one, Given.all_done}, specs.Along.IsAllAdmitted}
+use Rattle.tte_traces.{proofs.Given.all_done, specs.Along.IsAllAdmitted}
 
 pub stamp_answer_one : (granule : Units) (network : Network) (trace : List ℕ) (a b : Answer) → IsStampAnswer granule trace network a
     → IsStampAnswer granule trace network b → a ≡ b

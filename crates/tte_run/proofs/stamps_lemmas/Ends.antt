@@ -1,13 +1,11 @@
 -- How `stamp` ends.
+use Rattle.{net_plan.specs.Ranges.IsInRange, tte_forms.proofs.Octets.{for_all, for_more}, tte_traces.{proofs.Sources.trace_given, specs.Answer.IsRunStatus}}
+use Rattle.{std.proofs.Common.{◌<ℤ◌, ◌<◌, ◌≢◌, ◌⊎◌, negsuc}, tte_forms.proofs.OneAnswers.answer_widened, tte_traces.proofs.Existing.trace_answers_exist}
+use Rattle.std.proofs.lemmas.Int.{ints}
+use Rattle.{tte_forms.specs.Answering.{ForOctets, GivesAnswer}, tte_run.proofs.stamps_lemmas.Words.{stamp_lines, subst, unsigned_abs, ℕ, ℤ}}
+use Rattle.{tte_forms.specs.declared.status.Status.TheVariants.WriteFault, tte_run.specs.stamps.Answer.{IsStampStatus, StampEnds, StampStops, StampTakesLittle}}
 use Rattle.tte_run.proofs.stamps_lemmas.Words.{◌≡◌, ◌≤ℤ◌, ◌≤◌, Answer, GranuleRefused, IsStampAnswer, IsTraceAnswer, List, MeansAccepted, Network, Option}
 use Rattle.tte_run.proofs.stamps_lemmas.Words.{ReadFault, Shown, Status, Units, amount, arith, cases_lt, granule_answer, inl, inr, least_granule, pos, refl}
-use Rattle.tte_run.proofs.stamps_lemmas.Words.{stamp_lines, subst, unsigned_abs, ℕ, ℤ}
-use Rattle.tte_run.specs.stamps.Answer.{IsStampStatus, StampEnds, StampStops, StampTakesLittle}
-use Rattle.std.proofs.{Common.{◌<ℤ◌, ◌<◌, ◌≢◌, ◌⊎◌, negsuc}, lemmas.Int.ints}
-use Rattle.net_plan.specs.Ranges.{IsInRange}
-use Rattle.tte_forms.{proofs.{Octets.{for_all, for_more}, OneAnswers.answer_widened}, specs.Answering.{ForOctets, GivesAnswer}}
-use Rattle.tte_forms.specs.declared.status.Status.TheVariants.{WriteFault}
-use Rattle.tte_traces.{proofs.{Existing.trace_answers_exist, Sources.trace_given}, specs.Answer.IsRunStatus}
 
 pub refused_alone : (granule : Units) (network : Network) (trace : List ℕ) → amount granule < least_granule network → (b : Answer)
     → IsStampAnswer granule trace network b → b ≡ granule_answer network

@@ -1,15 +1,12 @@
 -- The stamp of one device, and those of the first devices.
+use Rattle.{drift_world.specs.Locals.IsLocalClockBefore, tte_run.specs.stamps.{StampLines.lines_by, granules.Lines.Line}, tte_traces.proofs.Given.PutFails-more}
+use Rattle.{std.proofs.Common.length-append, tte_forms.specs.Putting.PutFails, tte_io.specs.declared.ends.Sink.Ghosts, world_law.specs.source.Agreeing.scenario}
+use Rattle.{std.specs.Io.KnownBytes.Appends, tte_io.specs.{Faults.next_count, Told.AppendsFront}}
+use Rattle.{std.specs.Prelude.{option_map, option_to_list}, tte_forms.proofs.Puts.{PutFails-behind, PutsLines-append, PutsLines-fails, PutsLines-more}}
 use Rattle.tte_run.proofs.stamps_lemmas.Words.{◌++◌, ◌+◌, ◌∙◌, ◌∷◌, ◌≡◌, ◌≤◌, DeviceId, Event, ExactWorld, IsAtLine, List, Network, None, Note, Option}
 use Rattle.tte_run.proofs.stamps_lemmas.Words.{PutsLines, PutsLines-none, Some, [], ap, append-nil, append_assoc, arith, cases_lt, clock_reading, device_name}
 use Rattle.tte_run.proofs.stamps_lemmas.Words.{happenings, inl, inr, length, line_at, lines_by_first, shown_as, stamp_line, stamp_of, subst, suc, sym, told_by}
 use Rattle.tte_run.{proofs.stamps_lemmas.{Words.{unsigned_abs, zero, ℕ, ℤ}, granules_lemmas.Stamped.of_locals}, specs.stamps.granules.Stamps.IsShownAt}
-use Rattle.tte_run.specs.stamps.{StampLines.lines_by, granules.Lines.Line}
-use Rattle.std.{proofs.Common.length-append, specs.{Io.KnownBytes.Appends, Prelude.{option_map, option_to_list}}}
-use Rattle.drift_world.specs.Locals.{IsLocalClockBefore}
-use Rattle.tte_forms.{proofs.Puts.{PutFails-behind, PutsLines-append, PutsLines-fails, PutsLines-more}, specs.Putting.PutFails}
-use Rattle.tte_io.specs.{Faults.next_count, Told.AppendsFront, declared.ends.Sink.Ghosts}
-use Rattle.tte_traces.proofs.Given.{PutFails-more}
-use Rattle.world_law.specs.source.Agreeing.{scenario}
 
 -- ---- one device
 

@@ -1,12 +1,9 @@
 -- What `stamp` puts are the stamps of a run that goes well, and they tell.
+use Rattle.{net_plan.specs.Ranges.IsInRange, run_law.specs.declared.note.Note.Note, world_drive.specs.exact.Records.AreAllRecords}
 use Rattle.tte_run.{proofs.stamps_lemmas.SameRecords.up_to_mark, specs.stamps.Safely.{IsStampRefusal, IsStampedRun, IsStampedToFault, StampsTell}}
-use Rattle.tte_run.proofs.stamps_lemmas.Telling.{stamps_tell}
+use Rattle.{tte_run.proofs.stamps_lemmas.Telling.stamps_tell, tte_traces.proofs.Safely.{IsSafe, admitted_under, of_fault, of_whole, trace_safe}}
 use Rattle.tte_run.proofs.stamps_lemmas.Words.{◌+◌, ◌∷◌, ◌≤◌, Answer, AreAdmitted, AreRecordsSoFar, Event, IsStampAnswer, List, MeansAccepted, Network, Units}
 use Rattle.tte_run.proofs.stamps_lemmas.Words.{[], admitted_in_order, amount, arith, inl, inr, last_time, least_granule, refl, stamp_lines, subst, sym, ℕ}
-use Rattle.net_plan.specs.Ranges.{IsInRange}
-use Rattle.run_law.specs.declared.note.Note.{Note}
-use Rattle.tte_traces.proofs.Safely.{IsSafe, admitted_under, of_fault, of_whole, trace_safe}
-use Rattle.world_drive.specs.exact.Records.{AreAllRecords}
 
 module _ (granule : ℕ) (octets trace : List ℕ) (network : Network) (range : IsInRange network) (accepted : MeansAccepted octets network)
     (fine : least_granule network ≤ granule) (events : List Event) (notes : List Note) (admitted : AreAdmitted network trace events) where

@@ -1,9 +1,8 @@
 -- Two runs of one scenario have the same records before a time that neither ends before.
-use Rattle.tte_run.proofs.stamps_lemmas.Words.{◌∙◌, ◌∷◌, ◌≡◌, ◌≤◌, List, Scenario, [], ap, sym, ℕ}
-use Rattle.precision_law.proofs.records.Cutting.{cut_run}
-use Rattle.run_law.proofs.{law.FirstPlaces.{same_earlier, split}, runs.{Determined.due_is_determined, OneRun.one_run}}
-use Rattle.run_law.{proofs.runs.Places.{before_later_time, before_of_time}, specs.records.{Happenings.{Happening, earlier}, Order.IsBefore, Ranks.place_of}}
-use Rattle.run_law.specs.runs.{DueRecords.IsDue, Runs.IsRun}
+use Rattle.{precision_law.proofs.records.Cutting.cut_run, run_law.specs.{records.{Order.IsBefore, Ranks.place_of}, runs.{DueRecords.IsDue, Runs.IsRun}}}
+use Rattle.{run_law.proofs.law.FirstPlaces.{same_earlier, split}, tte_run.proofs.stamps_lemmas.Words.{◌∙◌, ◌∷◌, ◌≡◌, ◌≤◌, List, Scenario, [], ap, sym, ℕ}}
+use Rattle.run_law.{proofs.runs.{Determined.due_is_determined, Places.{before_later_time, before_of_time}}, specs.records.Happenings.{Happening, earlier}}
+use Rattle.run_law.proofs.runs.OneRun.{one_run}
 
 -- what is before the time is before the mark
 abbrev pub IsUpTo : ℕ → List ℕ → Type 0

@@ -1,12 +1,10 @@
 -- The stamps of a line are by the records of earlier times alone.
+use Rattle.{run_law.specs.device.States.{adjustment_after, is_synchronised, state_after}, sync_state.specs.declared.state.State.TheVariants.Integrating}
+use Rattle.run_law.specs.{records.Happenings.{Happening, earlier}, scenario.Scenarios.{is_broken, is_turned_on_at}}
+use Rattle.{std.proofs.Common.{◌&&◌, ◌+ℤ◌, if◌then◌else◌, not}, tte_run.proofs.stamps_lemmas.Words.{stamp_line, stamp_of, stamps_behind, suc, sym, zero, ℕ, ℤ}}
+use Rattle.{std.specs.Prelude.{option_map, option_to_list}, tte_run.specs.stamps.{StampLines.lines_by, granules.{Lines.scenario_at, Stamps.stamp_at}}}
 use Rattle.tte_run.proofs.stamps_lemmas.Words.{◌++◌, ◌∙◌, ◌∷◌, ◌≡◌, DeviceId, Event, IsIn, List, Network, None, Note, Option, Some, [], amount, ap, append-nil}
 use Rattle.tte_run.proofs.stamps_lemmas.Words.{append_assoc, device_name, happenings, inl, inr, length, line_at, line_stamps, lines_by_first, pos, refl}
-use Rattle.tte_run.{proofs.stamps_lemmas.Words.{stamp_line, stamp_of, stamps_behind, suc, sym, zero, ℕ, ℤ}, specs.stamps.granules.Lines.scenario_at}
-use Rattle.tte_run.specs.stamps.{StampLines.lines_by, granules.Stamps.stamp_at}
-use Rattle.std.{proofs.Common.{if◌then◌else◌, ◌&&◌, ◌+ℤ◌, not}, specs.Prelude.{option_map, option_to_list}}
-use Rattle.run_law.specs.{device.States.{adjustment_after, is_synchronised, state_after}, records.Happenings.{Happening, earlier}}
-use Rattle.run_law.specs.scenario.Scenarios.{is_broken, is_turned_on_at}
-use Rattle.sync_state.specs.declared.state.State.TheVariants.{Integrating}
 
 -- the records of both are the same before the time
 abbrev pub AreSameAt : Network → List Note → List Note → ℕ → Type 0

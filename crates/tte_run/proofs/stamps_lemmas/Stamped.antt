@@ -1,15 +1,13 @@
 -- What the observer of `stamp` has put, and what it puts at one more line.
-use Rattle.tte_run.{proofs.stamps_lemmas.Ordered.{begun, hypothesis_up_to_last}, specs.stamps.Stamping.{PutsAll, PutsStamps, StopsStamps}}
-use Rattle.tte_run.proofs.stamps_lemmas.SameRecords.{up_to_mark}
+use Rattle.{run_law.proofs.{runs.Places.{in_left, in_right}, scenario.Devices.within_front}, world_drive.specs.declared.observing.Cut.Cut}
+use Rattle.std.{proofs.Common.{Err, Ok, Result}, specs.Prelude.{IfErr, MatchResult}}
+use Rattle.{tte_forms.{proofs.Puts.{PutFails-behind, PutsLines-append}, specs.Putting.PutFails}, tte_run.proofs.stamps_lemmas.SameRecords.up_to_mark}
+use Rattle.{tte_io.specs.declared.ends.Sink.Ghosts, world_drive.{proofs.Earlier.records_none, specs.Observing.{Befell, Told}}}
+use Rattle.{tte_run.proofs.stamps_lemmas.Ordered.{begun, hypothesis_up_to_last}, world_drive.specs.declared.observing.Cut.TheVariants.{OutOfMemory, WriteFault}}
 use Rattle.tte_run.proofs.stamps_lemmas.{Staying.{AreUpToLast, MayFollow, stamps_stay}, Words.{refl, shown_as, stamp_lines, subst, suc, sym, told_by, zero, ℕ}}
 use Rattle.tte_run.proofs.stamps_lemmas.Words.{◌++◌, ◌∙◌, ◌∷◌, ◌≡◌, ◌≤ℤ◌, ◌≤◌, AreFrom, AreRecordsSoFar, Event, ExactWorld, IsIn, List, Network, Note}
 use Rattle.tte_run.proofs.stamps_lemmas.Words.{PutsLines, PutsLines-none, [], amount, ap, append-nil, arith, inl, inr, last_time, line_at, line_stamps, pos}
-use Rattle.std.{proofs.Common.{Err, Ok, Result}, specs.Prelude.{IfErr, MatchResult}}
-use Rattle.run_law.proofs.{runs.Places.{in_left, in_right}, scenario.Devices.within_front}
-use Rattle.tte_forms.{proofs.Puts.{PutFails-behind, PutsLines-append}, specs.Putting.PutFails}
-use Rattle.tte_io.specs.declared.ends.Sink.{Ghosts}
-use Rattle.world_drive.{proofs.Earlier.records_none, specs.{Observing.{Befell, Told}, declared.observing.Cut.{Cut, TheVariants.{OutOfMemory, WriteFault}}}}
-use Rattle.world_drive.proofs.exact_lemmas.Events.{last_is, last_or_none}
+use Rattle.{tte_run.specs.stamps.Stamping.{PutsAll, PutsStamps, StopsStamps}, world_drive.proofs.exact_lemmas.Events.{last_is, last_or_none}}
 
 -- ---- at first
 

@@ -1,10 +1,9 @@
 -- The stamps of lines stay under further events.
-use Rattle.tte_run.proofs.stamps_lemmas.Words.{◌++◌, ◌+◌, ◌∙◌, ◌∷◌, ◌≡◌, ◌≤◌, AreFrom, AreRecordsBefore, AreRecordsSoFar, Event, IsIn, List, Network, Note}
-use Rattle.tte_run.proofs.stamps_lemmas.Words.{Scenario, []}
-use Rattle.tte_run.proofs.stamps_lemmas.Words.{amount, ap, append-nil, clock_reading, happenings, last_time, length, stamp_lines, stamps_behind, subst, sym, ℕ}
 use Rattle.tte_run.proofs.stamps_lemmas.{SameRecords.{IsUpTo, same_before, up_to_mark}, SameStamps.{AreSameAt, same_behind, stamps_parts}}
+use Rattle.tte_run.proofs.stamps_lemmas.Words.{◌++◌, ◌+◌, ◌∙◌, ◌∷◌, ◌≡◌, ◌≤◌, AreFrom, AreRecordsBefore, AreRecordsSoFar, Event, IsIn, List, Network, Note}
+use Rattle.tte_run.proofs.stamps_lemmas.Words.{Scenario, [], amount, ap, append-nil, clock_reading, happenings, last_time, length, stamp_lines, stamps_behind}
+use Rattle.{tte_run.proofs.stamps_lemmas.Words.{subst, sym, ℕ}, world_drive.{proofs.Earlier.{no_further, so_far_at}, specs.exact.Records.HaveEnded}}
 use Rattle.tte_traces.proofs.Lasting.{lasts_under}
-use Rattle.world_drive.{proofs.Earlier.{no_further, so_far_at}, specs.exact.Records.HaveEnded}
 
 -- no event is later than the last
 abbrev pub AreUpToLast : List Event → Type 0

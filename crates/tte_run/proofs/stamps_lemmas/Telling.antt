@@ -1,13 +1,11 @@
 -- The stamps of a run agree, and tell the order of lines.
-use Rattle.tte_run.{proofs.stamps_lemmas.SameRecords.{IsUpTo, up_to_mark}, specs.stamps.{Safely.StampsTell, granules.{Laws.IsRunInGranules, Lines.IsLineOf}}}
+use Rattle.drift_clock.{proofs.ExactSegments.{exact_laws, exact_steps}, specs.Segment.{fresh_segment, segment_count, segment_reading, stepped_segment}}
+use Rattle.{drift_world.proofs.Agreements.reads_same, traffic_law.proofs.safety_lemmas.Lawful.lawful, tte_traces.proofs.EventOrder.{last_of, not_earlier}}
+use Rattle.{traffic_law.specs.safety.Under.{IsUnder, scenario_of}, tte_run.proofs.stamps_lemmas.SameRecords.{IsUpTo, up_to_mark}}
 use Rattle.tte_run.proofs.stamps_lemmas.Words.{◌++◌, ◌∙◌, ◌∷◌, ◌≡◌, ◌≤◌, AreAdmitted, AreFrom, AreRecordsBefore, DeviceId, Event, List, Network, Note, Scenario}
 use Rattle.tte_run.proofs.stamps_lemmas.Words.{[], admitted_in_order, amount, ap, append-nil, append_assoc, arith, clock_reading, happenings, last_time}
 use Rattle.tte_run.proofs.stamps_lemmas.{Words.{least_granule, line_at, refl, subst, suc, sym, ℕ}, granules_lemmas.Order.{agree, tell_order}}
-use Rattle.drift_clock.{proofs.ExactSegments.{exact_laws, exact_steps}, specs.Segment.{fresh_segment, segment_count, segment_reading, stepped_segment}}
-use Rattle.drift_world.proofs.Agreements.{reads_same}
-use Rattle.traffic_law.{proofs.safety_lemmas.Lawful.lawful, specs.safety.Under.{IsUnder, scenario_of}}
-use Rattle.tte_traces.proofs.EventOrder.{last_of, not_earlier}
-use Rattle.world_drive.proofs.exact_lemmas.Clocks.{exact_begins}
+use Rattle.{tte_run.specs.stamps.{Safely.StampsTell, granules.{Laws.IsRunInGranules, Lines.IsLineOf}}, world_drive.proofs.exact_lemmas.Clocks.exact_begins}
 
 -- up to a time a clock reads what it read before further events, which are not earlier
 reads_on : (network : Network) (device : DeviceId) (x t : ℕ) → x ≤ t → (past more : List Event) → AreFrom t more

@@ -1,8 +1,7 @@
 -- The observer of `vote` puts nothing along the run.
 use Rattle.tte_run.proofs.votes_lemmas.Words.{◌≡◌, Answer, IsTraceAnswer, List, Network, PutsLines, PutsLines-none, [], inr, no_lines, refl, subst, sym}
 use Rattle.tte_run.{proofs.votes_lemmas.Words.{vote_lines, ℕ}, specs.{declared.votes.voter.Voter.Voter, votes.Voting.{SeesVotes, StopsVotes}}}
-use Rattle.tte_traces.specs.{Along.PutsAlong, Report.{StopsLines, shown_as}}
-use Rattle.world_drive.specs.{Observing.{Sees, Stops, Told}, declared.observing.Cut.Cut}
+use Rattle.{tte_traces.specs.{Along.PutsAlong, Report.{StopsLines, shown_as}}, world_drive.specs.{Observing.{Sees, Stops, Told}, declared.observing.Cut.Cut}}
 use Rattle.world_drive.specs.declared.observing.Cut.TheVariants as cuts
 
 -- what it sees

@@ -1,14 +1,11 @@
 -- The answer of `vote` is one, and valid input is answered to its end.
+use Rattle.{net_plan.proofs.SameIds.same_vl, std.proofs.lemmas.Option.same_Some, tte_run.proofs.votes_lemmas.Words.ℕ, tte_traces.specs.Along.IsAllAdmitted}
+use Rattle.{net_plan.specs.Bearers.vl_names, std.specs.Prelude.slice_get}
+use Rattle.{schedule_checker.specs.Refusals.RefusalIsOne, tte_run.specs.votes.Answer.{IsFirstUnknown, IsNamed, IsUnknown, IsVoteRefusal, IsVoting, name_line}}
+use Rattle.{trace_text.proofs.Bearing.place_found, tte_run.specs.votes.law.Voting.are_matches, tte_traces.proofs.{Answers.trace_answer_one, Given.all_done}}
+use Rattle.tte_forms.{proofs.networks.Answers.{accepted_alone, network_answer_one}, specs.{Answering.line_answer, networks.Accepting.IsNetworkAnswer}}
 use Rattle.tte_run.proofs.votes_lemmas.Words.{◌∙◌, ◌≡◌, Answer, AreNamed, Bool, Done, Event, IsTraceAnswer, IsVoteAnswer, List, MayThey, MeansAccepted}
 use Rattle.tte_run.proofs.votes_lemmas.Words.{NameRefused, Names, Network, Some, VirtualLink, VlId, Voters, ap, false, inl, inr, subst, sym, true, vote_lines}
-use Rattle.tte_run.proofs.votes_lemmas.Words.{ℕ}
-use Rattle.tte_run.specs.votes.{Answer.{IsFirstUnknown, IsNamed, IsUnknown, IsVoteRefusal, IsVoting, name_line}, law.Voting.are_matches}
-use Rattle.std.{proofs.lemmas.Option.same_Some, specs.Prelude.slice_get}
-use Rattle.net_plan.{proofs.SameIds.same_vl, specs.Bearers.vl_names}
-use Rattle.schedule_checker.specs.Refusals.{RefusalIsOne}
-use Rattle.trace_text.proofs.Bearing.{place_found}
-use Rattle.tte_forms.{proofs.networks.Answers.{accepted_alone, network_answer_one}, specs.{Answering.line_answer, networks.Accepting.IsNetworkAnswer}}
-use Rattle.tte_traces.{proofs.{Answers.trace_answer_one, Given.all_done}, specs.Along.IsAllAdmitted}
 
 -- ---- the names
 

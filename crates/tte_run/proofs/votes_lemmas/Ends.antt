@@ -1,12 +1,11 @@
 -- How `vote` ends.
+use Rattle.{net_plan.specs.Bearers.vl_names, std.proofs.lemmas.List.length-map, tte_run.specs.votes.Ending.VoteEnds, tte_traces.specs.Answer.IsRunStatus}
+use Rattle.net_plan.specs.Ranges.{IsInRange}
+use Rattle.{std.proofs.{Common.{◌≢◌, get_or, slice_get}, lemmas.Option.{slice_get_read, slice_get_within}}, tte_run.specs.votes.Answer.{IsNamed, IsVoteStatus}}
+use Rattle.{tte_forms.{proofs.OneAnswers.answer_widened, specs.Answering.ForOctets}, tte_traces.proofs.{Existing.trace_answers_exist, Sources.trace_given}}
 use Rattle.tte_run.proofs.votes_lemmas.Words.{◌<◌, ◌∙◌, ◌≡◌, ◌⊎◌, GivesAnswer, IsTraceAnswer, IsVoteAnswer, List, MeansAccepted, NameRefused, Names, Network}
 use Rattle.tte_run.proofs.votes_lemmas.Words.{Option, ReadFault, Shown, Some, Status, VirtualLink, VlId, VoteRefused, WriteFault, ap, arith, for_all, for_more}
 use Rattle.tte_run.{proofs.votes_lemmas.Words.{inl, inr, length, refl, subst, sym, vote_lines, ℕ}, specs.votes.Streaming.{IsOfRun, VoteStops, VoteTakesLittle}}
-use Rattle.tte_run.specs.votes.{Answer.{IsNamed, IsVoteStatus}, Ending.VoteEnds}
-use Rattle.std.proofs.{Common.{◌≢◌, get_or, slice_get}, lemmas.{List.length-map, Option.{slice_get_read, slice_get_within}}}
-use Rattle.net_plan.specs.{Bearers.vl_names, Ranges.IsInRange}
-use Rattle.tte_forms.{proofs.OneAnswers.answer_widened, specs.Answering.ForOctets}
-use Rattle.tte_traces.{proofs.{Existing.trace_answers_exist, Sources.trace_given}, specs.Answer.IsRunStatus}
 
 -- a virtual link that is read is the network's
 pub vl_read : (xs ys : List VirtualLink) (i : ℕ) (x : VirtualLink) → xs ≡ ys → i < length ys → x ≡ get_or xs i x → slice_get ys i ≡ Some x

@@ -1,16 +1,13 @@
 -- The lines of ballots are put one after another.
-use Rattle.tte_run.proofs.votes_lemmas.Places.{lines_all, lines_front, lines_given, lines_none, lines_open, lines_to}
+use Rattle.{net_plan.specs.Belonging.device_name, tte_forms.specs.Putting.PutFails, tte_run.specs.votes.Putting.PutsAll, tte_traces.proofs.Given.PutFails-more}
+use Rattle.{run_law.proofs.records.Happenings.as_many, std.proofs.Common.{Err, Ok, Result, nat_lt}, world_drive.specs.exact.Worlds.{ExactWorld, StandsExact}}
+use Rattle.{run_law.proofs.runs.NetworkRuns.one_more, tte_run.specs.votes.{VoteLines.{is_cast, lines_before, vote_line}, ballots.Keeping.{AreOpenFrom, IsNext}}}
+use Rattle.{run_law.specs.records.Happenings.happening, tte_forms.proofs.Puts.{PutFails-behind, PutsLines-append, PutsLines-fails, PutsLines-more}}
+use Rattle.{std.{proofs.lemmas.Bool.lt-ltb, specs.{Io.KnownBytes.Appends, Prelude.{OnErr, OnOk}}}, tte_io.specs.{Faults.next_count, Told.AppendsFront}}
+use Rattle.{tte_io.specs.declared.ends.Sink.Ghosts, tte_run.proofs.votes_lemmas.Places.{lines_all, lines_front, lines_given, lines_none, lines_open, lines_to}}
 use Rattle.tte_run.proofs.votes_lemmas.Words.{◌++◌, ◌+◌, ◌<◌, ◌^◌, ◌∙◌, ◌∷◌, ◌≡◌, ◌≤◌, Bool, DeviceId, Event, List, Network, Note, Option, PutsLines}
 use Rattle.tte_run.proofs.votes_lemmas.Words.{PutsLines-none, Shown, Voters, Votes, [], ap, arith, false, happenings, if◌then◌else◌, key_of, length, lines_at}
 use Rattle.tte_run.{proofs.votes_lemmas.Words.{refl, shown_by, subst, sym, true, voted, ℕ}, specs.declared.votes.ballots.votes.KeptVotes.KeptVotes}
-use Rattle.tte_run.specs.votes.{Putting.PutsAll, VoteLines.{is_cast, lines_before, vote_line}, ballots.Keeping.{AreOpenFrom, IsNext}}
-use Rattle.std.{proofs.{Common.{Err, Ok, Result, nat_lt}, lemmas.Bool.lt-ltb}, specs.{Io.KnownBytes.Appends, Prelude.{OnErr, OnOk}}}
-use Rattle.net_plan.specs.Belonging.{device_name}
-use Rattle.run_law.{proofs.{records.Happenings.as_many, runs.NetworkRuns.one_more}, specs.records.Happenings.happening}
-use Rattle.tte_forms.{proofs.Puts.{PutFails-behind, PutsLines-append, PutsLines-fails, PutsLines-more}, specs.Putting.PutFails}
-use Rattle.tte_io.specs.{Faults.next_count, Told.AppendsFront, declared.ends.Sink.Ghosts}
-use Rattle.tte_traces.proofs.Given.{PutFails-more}
-use Rattle.world_drive.specs.exact.Worlds.{ExactWorld, StandsExact}
 
 -- a record that the world gave has the next number
 pub number_given : (network : Network) (world : ExactWorld) (events : List Event) (notes : List Note) (note : Note)

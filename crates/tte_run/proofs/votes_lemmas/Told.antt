@@ -1,10 +1,8 @@
 -- A vote stands in the lines.
+use Rattle.{net_plan.specs.Belonging.device_name, run_law.specs.records.Order.IsIn, std.proofs.{Common.{None, suc, zero}, lemmas.Bool.cases_lt}}
+use Rattle.{run_law.proofs.runs.Places.{in_left, in_right}, tte_run.specs.votes.VoteLines.{ballot_lines, is_cast, lines_before, lines_by_first, vote_line}}
 use Rattle.tte_run.proofs.votes_lemmas.{Places.the_device, Words.{ballot_of, false, if◌then◌else◌, inl, inr, length, refl, subst, sym, true, voted, ℕ}}
 use Rattle.tte_run.proofs.votes_lemmas.Words.{◌<◌, ◌∙◌, ◌∷◌, ◌≡◌, Bool, DeviceId, Happening, List, Network, Option, Some, Voters, Votes, [], ap, arith}
-use Rattle.tte_run.specs.votes.VoteLines.{ballot_lines, is_cast, lines_before, lines_by_first, vote_line}
-use Rattle.std.proofs.{Common.{None, suc, zero}, lemmas.Bool.cases_lt}
-use Rattle.net_plan.specs.Belonging.{device_name}
-use Rattle.run_law.{proofs.runs.Places.{in_left, in_right}, specs.records.Order.IsIn}
 
 -- a ballot with a value has a seat cast
 cast_of : (v : Votes) (payload : List ℕ) → voted v ≡ Some payload → is_cast v ≡ true

@@ -1,15 +1,13 @@
 -- What the answer of `capture` has to do with the packets that stand in a file.
 use Rattle.std.specs.{Fmt.decimal, Prelude.{◌++◌, ◌+◌, ◌∷◌, ◌≡◌, ◌≤◌, ◌⊎◌, List, [], codes, length, ℕ}}
+use Rattle.pcf_codec.specs.{EtherType.HasPcfType, Faults.IsFirstFault, declared.refusal.PcfRefusal.PcfRefusal}
+use Rattle.{pcf_codec.specs.Spelling.Spells, tte_forms.specs.frames.FrameLine.{frame_words, refusal_text}}
+use Rattle.{pcf_values.specs.declared.pcf.Pcf.Pcf, tte_run.specs.declared.captures.pcap.capture.Packet.Packet}
+use Rattle.tte_forms.specs.{Answering.{Answer, line_answer}, declared.status.Status.TheVariants.{CaptureRefused, Done}}
 use Rattle.tte_run.specs.captures.{Answer.{capture_answer, capture_limit}, pcap.Layout.{IsHead, IsPacket, head_length}}
 use Rattle.tte_run.specs.captures.CaptureLine.{head_refusal_line, octets_words, packet_line, packet_refusal_line}
 use Rattle.tte_run.specs.captures.pcap.ReadingLaw.{AreOctets, HasHeadFault, HasPacketFault}
 use Rattle.tte_run.specs.declared.captures.pcap.{capture.CaptureHead.CaptureHead, refusal.CaptureRefusal.CaptureRefusal}
-use Rattle.tte_run.specs.declared.captures.pcap.capture.Packet.{Packet}
-use Rattle.pcf_codec.specs.{EtherType.HasPcfType, Faults.IsFirstFault, Spelling.Spells}
-use Rattle.pcf_codec.specs.declared.refusal.PcfRefusal.{PcfRefusal}
-use Rattle.pcf_values.specs.declared.pcf.Pcf.{Pcf}
-use Rattle.tte_forms.specs.{Answering.{Answer, line_answer}, declared.status.Status.TheVariants.{CaptureRefused, Done}}
-use Rattle.tte_forms.specs.frames.FrameLine.{frame_words, refusal_text}
 
 -- the octets have the words of the control frame that they spell; where they spell none, of their first fault, if they
 -- count as one, and else of their number

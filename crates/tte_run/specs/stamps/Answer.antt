@@ -1,9 +1,8 @@
 -- What `stamp` answers for the octets of a network file and of a trace, and a granule.
 use Rattle.std.specs.Prelude.{◌++◌, ◌<◌, ◌≡◌, ◌≢◌, ◌≤◌, ◌⊎◌, List, Option, codes, decimal, ℕ}
-use Rattle.net_plan.specs.declared.network.Network.{Network}
-use Rattle.tte_run.specs.stamps.{StampLines.stamp_lines, granules.Granules.least_granule}
-use Rattle.tte_forms.specs.{Answering.{Answer, Gives, line_answer}, Putting.Shown}
-use Rattle.tte_forms.specs.declared.status.Status.{Status, TheVariants.{GranuleRefused, ReadFault}}
+use Rattle.{net_plan.specs.declared.network.Network.Network, tte_run.specs.stamps.granules.Granules.least_granule}
+use Rattle.{tte_forms.specs.Answering.{Answer, Gives, line_answer}, tte_run.specs.stamps.StampLines.stamp_lines}
+use Rattle.tte_forms.specs.{Putting.Shown, declared.status.Status.{Status, TheVariants.{GranuleRefused, ReadFault}}}
 use Rattle.tte_traces.specs.{Answer.{IsRunStatus, IsTraceAnswer}, Ending.RunEnds, Streaming.{ReadsLittle, StopsReading}}
 use Rattle.tte_units.specs.{Amount.amount, declared.units.Units.Units}
 

@@ -1,13 +1,10 @@
 -- The lines that `stamp` puts.
 use Rattle.std.specs.Fmt.{signed_decimal}
 use Rattle.std.specs.Prelude.{◌++◌, ◌∷◌, List, [], codes, decimal, length, option_map, option_to_list, suc, zero, ℕ, ℤ}
-use Rattle.net_plan.specs.{Belonging.device_name, declared.{event.Event.Event, ids.DeviceId.DeviceId}}
-use Rattle.net_plan.specs.declared.network.Network.{Network}
+use Rattle.{net_plan.specs.Belonging.device_name, tte_traces.specs.Answer.LinesOf, tte_units.specs.Amount.amount}
+use Rattle.net_plan.specs.declared.{event.Event.Event, ids.DeviceId.DeviceId, network.Network.Network}
 use Rattle.run_law.specs.{declared.note.Note.Note, records.Happenings.happenings}
-use Rattle.tte_run.specs.stamps.granules.{Lines.Line, Stamps.stamp_at}
-use Rattle.tte_traces.specs.Answer.{LinesOf}
-use Rattle.tte_units.specs.Amount.{amount}
-use Rattle.world_drive.specs.exact.Records.{clock_reading}
+use Rattle.{tte_run.specs.stamps.granules.{Lines.Line, Stamps.stamp_at}, world_drive.specs.exact.Records.clock_reading}
 
 -- the line of a stamp, by the device of this name at the trace's line of this number
 abbrev pub stamp_line : ℕ → List ℕ → ℤ → List ℕ

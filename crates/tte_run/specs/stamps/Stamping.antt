@@ -1,16 +1,13 @@
 -- What the observer of `stamp` sees of a run.
 use Rattle.std.specs.Prelude.{◌++◌, ◌+◌, ◌∷◌, ◌≡◌, Err, List, Ok, Result, [], length, ℕ}
 use Rattle.drift_clock.specs.Segment.{fresh_segment, segment_reading, stepped_segment}
-use Rattle.drift_world.specs.Locals.{MayShowBefore}
-use Rattle.net_plan.specs.declared.{event.Event.Event, network.Network.Network}
+use Rattle.{drift_world.specs.Locals.MayShowBefore, tte_io.specs.declared.ends.Sink.Ghosts}
+use Rattle.{net_plan.specs.declared.event.Event.Event, world_drive.specs.Observing.{Told, told_by}}
+use Rattle.{net_plan.specs.declared.network.Network.Network, tte_traces.specs.Report.{StopsLines, shown_as}}
 use Rattle.run_law.specs.declared.note.Note.{Note}
-use Rattle.tte_forms.specs.Putting.{PutFails, PutsLines}
-use Rattle.tte_io.specs.declared.ends.Sink.{Ghosts}
-use Rattle.tte_traces.specs.Report.{StopsLines, shown_as}
-use Rattle.world_drive.specs.{Observing.{Told, told_by}, declared.observing.Cut.{Cut, TheVariants.OutOfMemory}}
+use Rattle.{tte_forms.specs.Putting.{PutFails, PutsLines}, tte_run.specs.stamps.StampLines.stamp_lines}
+use Rattle.world_drive.specs.{declared.observing.Cut.{Cut, TheVariants.OutOfMemory}, machines.Standing.StandsAsDevice}
 use Rattle.world_drive.specs.exact.{Records.AreRecordsSoFar, Worlds.{ExactWorld, IsReached, StandsExact}}
-use Rattle.world_drive.specs.machines.Standing.{StandsAsDevice}
-use Rattle.tte_run.specs.stamps.StampLines.{stamp_lines}
 
 -- the world stands right behind the event of the trace's line of this number
 pub record IsAtLine (network : Network) (world : ExactWorld) (number : ℕ) (before : List Event) (event : Event)

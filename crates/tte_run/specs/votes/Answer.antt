@@ -1,11 +1,10 @@
 -- What `vote` answers for the octets of a network file and of a trace, and three names.
 use Rattle.std.specs.Prelude.{◌++◌, ◌≡◌, ◌⊎◌, Bool, List, codes, decimal, false, true, ℕ}
-use Rattle.net_plan.specs.{Bearers.{HasNoBearer, IsFirstBearer, vl_names}, declared.ids.VlId.VlId}
-use Rattle.net_plan.specs.declared.{network.Network.Network, tables.VirtualLink.VirtualLink}
-use Rattle.tte_forms.specs.Answering.{Answer, line_answer}
+use Rattle.net_plan.specs.{Bearers.{HasNoBearer, IsFirstBearer, vl_names}, declared.tables.VirtualLink.VirtualLink}
+use Rattle.{net_plan.specs.declared.ids.VlId.VlId, tte_run.specs.votes.{VoteLines.vote_lines, law.Voting.MayVote}}
+use Rattle.{net_plan.specs.declared.network.Network.Network, tte_forms.specs.Answering.{Answer, line_answer}}
 use Rattle.tte_forms.specs.declared.status.Status.{Status, TheVariants.{NameRefused, VoteRefused}}
-use Rattle.tte_traces.specs.Answer.{IsRunStatus, IsTraceAnswer}
-use Rattle.tte_run.specs.{declared.votes.law.voters.Voters.Voters, votes.{VoteLines.vote_lines, law.Voting.MayVote}}
+use Rattle.{tte_run.specs.declared.votes.law.voters.Voters.Voters, tte_traces.specs.Answer.{IsRunStatus, IsTraceAnswer}}
 
 -- three words, which are to name virtual links
 pub record Names : Type 0 where

@@ -1,11 +1,10 @@
 -- How `vote` ends for an accepted network.
 use Rattle.std.specs.Prelude.{◌≢◌, ◌⊎◌, List, Option, true, ℕ}
-use Rattle.net_plan.specs.declared.network.Network.{Network}
-use Rattle.tte_forms.specs.{Answering.{Answer, Gives}, Putting.Shown, declared.status.Status.Status}
-use Rattle.tte_forms.specs.declared.status.Status.TheVariants.{ReadFault}
-use Rattle.tte_traces.specs.{Answer.IsTraceAnswer, Ending.RunEnds}
-use Rattle.tte_run.specs.{declared.votes.law.voters.Voters.Voters, votes.VoteLines.vote_lines}
+use Rattle.{net_plan.specs.declared.network.Network.Network, tte_run.specs.declared.votes.law.voters.Voters.Voters}
+use Rattle.tte_forms.specs.{Answering.{Answer, Gives}, declared.status.Status.{Status, TheVariants.ReadFault}}
+use Rattle.tte_forms.specs.Putting.{Shown}
 use Rattle.tte_run.specs.votes.{Answer.{AreNamed, IsVoteRefusal, MayThey, Names}, Streaming.{IsOfRun, no_lines}}
+use Rattle.{tte_run.specs.votes.VoteLines.vote_lines, tte_traces.specs.{Answer.IsTraceAnswer, Ending.RunEnds}}
 
 -- the votes of these virtual links are put behind the run, and nothing is put along it
 abbrev pub VotesEnd : Voters → Network → Option (List ℕ) → Option (List ℕ) → Status → Shown → Shown → Type 0

@@ -1,17 +1,16 @@
 -- The votes that `vote` puts are those of a run that goes well, in which two correct senders outvote the third.
 use Rattle.std.specs.Prelude.{◌++◌, ◌+◌, ◌<◌, ◌^◌, ◌∷◌, ◌≡◌, ◌⊎◌, List, Option, Some, [], length, true, ℕ}
 use Rattle.drift_clock.specs.Segment.{fresh_segment, segment_reading, stepped_segment}
-use Rattle.drift_world.specs.Running.{last_time}
-use Rattle.net_plan.specs.{Belonging.device_name, declared.{event.Event.Event, ids.DeviceId.DeviceId}}
-use Rattle.net_plan.specs.declared.{network.Network.Network, tables.VirtualLink.VirtualLink}
-use Rattle.run_law.specs.{declared.note.Note.Note, records.{Happenings.happenings, Order.IsIn}}
-use Rattle.traffic_law.specs.safety.Under.{scenario_of}
+use Rattle.{drift_world.specs.Running.last_time, tte_forms.specs.Putting.Shown, tte_units.specs.Amount.amount}
+use Rattle.{net_plan.specs.Belonging.device_name, run_law.specs.{declared.note.Note.Note, records.Order.IsIn}}
+use Rattle.{net_plan.specs.declared.event.Event.Event, traffic_law.specs.safety.Under.scenario_of}
+use Rattle.{net_plan.specs.declared.ids.DeviceId.DeviceId, tte_forms.specs.declared.status.Status.Status}
+use Rattle.{net_plan.specs.declared.network.Network.Network, tte_run.specs.votes.VoteLines.{vote_line, vote_lines}}
+use Rattle.{net_plan.specs.declared.tables.VirtualLink.VirtualLink, tte_forms.specs.networks.NetworkLine.IsRefusalText}
+use Rattle.{run_law.specs.records.Happenings.happenings, tte_traces.specs.Safely.{OfRunToFault, OfWholeRun, RunsSafely}}
 use Rattle.tte_run.specs.{declared.votes.law.voters.Voters.Voters, votes.law.Outvoting.{AreTwoOwed, sent_payload}}
 use Rattle.tte_run.specs.votes.{Answer.{AreNamed, MayThey, Names, name_line, vote_refused}, law.Ballots.ballot_of}
-use Rattle.tte_run.specs.votes.{VoteLines.{vote_line, vote_lines}, law.Voting.MayVote, tmr.Vote.voted}
-use Rattle.tte_forms.specs.{Putting.Shown, declared.status.Status.Status, networks.NetworkLine.IsRefusalText}
-use Rattle.tte_traces.specs.{FaultLine.fault_lines, Safely.{OfRunToFault, OfWholeRun, RunsSafely}}
-use Rattle.tte_units.specs.Amount.{amount}
+use Rattle.{tte_run.specs.votes.{law.Voting.MayVote, tmr.Vote.voted}, tte_traces.specs.FaultLine.fault_lines}
 
 -- by these records the vote of the cycle at the device is this payload, and the lines tell it
 pub record IsToldVote (network : Network) (voters : Voters) (notes : List Note) (cycle : ℕ) (device : DeviceId)

@@ -1,12 +1,10 @@
 -- The lines that `vote` puts.
 use Rattle.std.specs.Prelude.{if◌then◌else◌, ◌++◌, ◌^◌, ◌||◌, ◌∷◌, Bool, List, None, Option, Some, [], codes, decimal}
 use Rattle.std.specs.Prelude.{is_some, length, nat_lt, suc, zero, ℕ}
-use Rattle.hex.specs.Hex.{encode_lower}
-use Rattle.net_plan.specs.{Belonging.device_name, declared.{ids.DeviceId.DeviceId, network.Network.Network}}
-use Rattle.run_law.specs.records.Happenings.{Happening, happenings}
-use Rattle.tte_run.specs.votes.tmr.Vote.{Votes, voted}
-use Rattle.tte_traces.specs.Answer.{LinesOf}
-use Rattle.tte_run.specs.{votes.law.Ballots.ballot_of, declared.votes.law.voters.Voters.Voters}
+use Rattle.{hex.specs.Hex.encode_lower, tte_traces.specs.Answer.LinesOf}
+use Rattle.{net_plan.specs.Belonging.device_name, tte_run.specs.votes.{law.Ballots.ballot_of, tmr.Vote.{Votes, voted}}}
+use Rattle.{net_plan.specs.declared.ids.DeviceId.DeviceId, run_law.specs.records.Happenings.{Happening, happenings}}
+use Rattle.{net_plan.specs.declared.network.Network.Network, tte_run.specs.declared.votes.law.voters.Voters.Voters}
 
 -- the value that was voted, in hexadecimal, or that there is none
 abbrev pub value_text : Option (List ℕ) → List ℕ

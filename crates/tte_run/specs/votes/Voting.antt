@@ -1,9 +1,8 @@
 -- What the observer of `vote` sees of a run.
 use Rattle.std.specs.Prelude.{◌≡◌, List}
-use Rattle.net_plan.specs.declared.network.Network.{Network}
+use Rattle.{net_plan.specs.declared.network.Network.Network, tte_run.specs.declared.votes.voter.Voter.Voter}
 use Rattle.run_law.specs.declared.note.Note.{Note}
-use Rattle.tte_run.specs.{declared.votes.voter.Voter.Voter, votes.ballots.Keeping.HoldsVotes}
-use Rattle.world_drive.specs.Observing.{Start, Told}
+use Rattle.{tte_run.specs.votes.ballots.Keeping.HoldsVotes, world_drive.specs.Observing.{Start, Told}}
 
 -- nothing was put, and the votes are those of the records, for the virtual links that the observer had at first
 pub record SeesVotes (network : Network) (notes : List Note) (old : Start Voter) (put : Told) (it : Voter) : Type

@@ -1,6 +1,5 @@
 ghost use Rattle.std.specs.{Fmt.signed_decimal, Prelude.{◌++◌, ◌+◌, ◌≡◌, ◌≤◌, length}};
-ghost use Rattle.tte_io.specs.Line.{line_limit};
-ghost use Rattle.tte_run.specs.stamps.StampLines.{stamp_line};
+ghost use Rattle.{tte_io.specs.Line.line_limit, tte_run.specs.stamps.StampLines.stamp_line};
 
 use tte_io::LineText;
 

@@ -1,6 +1,5 @@
 ghost use Rattle.std.specs.Prelude.{◌≡◌, ◌<◌, length, MatchResult};
-ghost use Rattle.net_plan.specs.Ranges.{IsInRange};
-ghost use Rattle.tte_run.specs.votes.law.Voting.{are_matches, is_match};
+ghost use Rattle.{net_plan.specs.Ranges.IsInRange, tte_run.specs.votes.law.Voting.{are_matches, is_match}};
 ghost use Rattle.tte_run.specs.votes.Answer.{AreNamed, IsFirstUnknown, MayThey, the_names};
 
 use crate::votes::law::Voters;

@@ -1,12 +1,10 @@
 ghost use Rattle.std.specs.Prelude.{◌≡◌, ◌⊎◌, None, [], true};
-ghost use Rattle.net_plan.specs.Ranges.{IsInRange};
-ghost use Rattle.tte_forms.specs.{Answering.{ForOctets, GivesAnswer}, Faults.{HasCause, PutFailed, ReadFailed}};
-ghost use Rattle.tte_forms.specs.{Putting.Over, networks.Accepting.IsNetworkAnswer};
-ghost use Rattle.tte_traces.specs.Answer.{IsRunStatus};
-ghost use Rattle.world_drive.specs.{Observing.{start_by, told_by}, exact.Worlds.StandsExact};
-ghost use Rattle.tte_run.specs.votes.{Answer.{IsVoteAnswer, IsVoteStatus, the_names}, Ending.{VoteEnds, VotesEnd}};
-ghost use Rattle.tte_run.specs.votes.{Safely.VotesSafely, Streaming.{IsOfRun, VoteStops, VoteTakesLittle}};
-ghost use Rattle.tte_run.specs.votes.Voting.{SeesVotes};
+ghost use Rattle.{net_plan.specs.Ranges.IsInRange, tte_forms.specs.Putting.Over, tte_traces.specs.Answer.IsRunStatus};
+ghost use Rattle.{tte_forms.specs.Answering.{ForOctets, GivesAnswer}, world_drive.specs.Observing.{start_by, told_by}};
+ghost use Rattle.tte_forms.specs.{Faults.{HasCause, PutFailed, ReadFailed}, networks.Accepting.IsNetworkAnswer};
+ghost use Rattle.tte_run.specs.votes.{Answer.{IsVoteAnswer, IsVoteStatus, the_names}, Safely.VotesSafely};
+ghost use Rattle.tte_run.specs.votes.{Ending.{VoteEnds, VotesEnd}, Streaming.{IsOfRun, VoteStops, VoteTakesLittle}};
+ghost use Rattle.{tte_run.specs.votes.Voting.SeesVotes, world_drive.specs.exact.Worlds.StandsExact};
 
 use crate::votes::ballots::KeptVotes;
 use crate::votes::law::Voters;

@@ -1,15 +1,13 @@
 -- The answer for a network under the octets of a report: that it is one, and how it is given.
-use Rattle.std.proofs.Common.{◌<◌, ◌∙◌, ◌≡◌, ◌≤◌, ◌⊎◌, Err, List, Ok, Result, ap, arith, inl, inr, length, refl, sym, ℕ}
-use Rattle.net_plan.specs.{Ranges.IsInRange, declared.network.Network.Network}
-use Rattle.schedule_checker.specs.Refusals.{RefusalIsOne}
-use Rattle.schedule_tables.specs.{Rules.KeepsRules, declared.rule.Rule.TheVariants.{DevicesDiffer, LinksDiffer, VlNamesDiffer}}
-use Rattle.tte_audit.{proofs.OneAnswer.answer_law, specs.{Answers.IsAudited, Laws.HasOneAnswer, Named.IsNamed, declared.refusal.AuditRefusal.AuditRefusal}}
-use Rattle.tte_forms.{proofs.OneAnswers.unput_answer, specs.Putting.{PutsNone, Shown}}
+use Rattle.{net_plan.specs.Ranges.IsInRange, std.proofs.Common.{◌<◌, ◌∙◌, ◌≡◌, ◌≤◌, ◌⊎◌, Err, List, Ok, Result, ap, arith, inl, inr, length, refl, sym, ℕ}}
+use Rattle.{net_plan.specs.declared.network.Network.Network, schedule_tables.specs.declared.rule.Rule.TheVariants.{DevicesDiffer, LinksDiffer, VlNamesDiffer}}
+use Rattle.{schedule_checker.specs.Refusals.RefusalIsOne, tte_forms.{proofs.OneAnswers.unput_answer, specs.Putting.{PutsNone, Shown}}}
+use Rattle.{schedule_tables.specs.Rules.KeepsRules, tte_audit.{proofs.OneAnswer.answer_law, specs.{Answers.IsAudited, Laws.HasOneAnswer, Named.IsNamed}}}
+use Rattle.{tte_audit.specs.declared.refusal.AuditRefusal.AuditRefusal, tte_forms.specs.{Answering.{Answer, Gives, GivesAnswer}, declared.status.Status.Status}}
 use Rattle.tte_forms.{proofs.networks.Answers.{accepted_alone, network_answer_one}, specs.networks.Accepting.{IsNetworkAnswer, MeansAccepted, too_long_answer}}
-use Rattle.tte_forms.specs.{Answering.{Answer, Gives, GivesAnswer}, declared.status.Status.{Status, TheVariants.{AuditRefused, Done, WriteFault}}}
+use Rattle.{tte_forms.specs.declared.status.Status.TheVariants.{AuditRefused, Done, WriteFault}, tte_traces.specs.declared.reports.no_report.NoReport.NoReport}
+use Rattle.tte_traces.specs.{declared.reports.reading.AuditedReport.AuditedReport, reports.NoReports.{IfJudged, IsNoReport, no_report_answer}}
 use Rattle.tte_traces.specs.reports.Answer.{FailsAudit, IsAuditAnswer, PassesAudit, audited_answer, report_limit, report_refused_answer}
-use Rattle.tte_traces.specs.reports.NoReports.{IfJudged, IsNoReport, no_report_answer}
-use Rattle.tte_traces.specs.declared.reports.{no_report.NoReport.NoReport, reading.AuditedReport.AuditedReport}
 use Rattle.tte_traces.specs.declared.reports.no_report.NoReport.TheVariants as causes
 
 -- ---- the answer is one

@@ -1,11 +1,9 @@
 -- The records of a report are read one after another.
+use Rattle.{net_plan.specs.declared.network.Network.Network, report_text.specs.NoteLine.{note_line, report_of}, run_law.specs.declared.note.Note.Note}
+use Rattle.{report_text.specs.{Laws.AreOfNetwork, Ranges.{IsNoteInRange, IsNoteOf}}, std.proofs.lemmas.List.Elements.{All-cons, All-head, All-nil, All-tail}}
 use Rattle.std.proofs.{Common.{◌++◌, ◌+◌, ◌∙◌, ◌∷◌, ◌≡◌, ◌⊎◌, List, None, Some, [], ap, inl, inr, refl, subst, sym, take, ℕ}, lemmas.List.append-nil}
-use Rattle.std.{proofs.lemmas.List.Elements.{All-cons, All-head, All-nil, All-tail}, specs.{List.concat, Prelude.position}}
-use Rattle.net_plan.specs.declared.network.Network.{Network}
-use Rattle.report_text.specs.{Laws.AreOfNetwork, NoteLine.{note_line, report_of}, Ranges.{IsNoteInRange, IsNoteOf}}
-use Rattle.run_law.specs.declared.note.Note.{Note}
-use Rattle.tte_audit.{proofs.{Meet.{GoesOn, apart_of, meet, no_octets}, Parts.{no_lf, text_at}}, specs.Named.IsNamed}
-use Rattle.tte_audit.specs.Report.{BeginsWith, BeginsWithRecord, IsTextOf, LineThen, is_line_end}
+use Rattle.{std.specs.{List.concat, Prelude.position}, tte_audit.{proofs.Parts.{no_lf, text_at}, specs.Named.IsNamed}}
+use Rattle.tte_audit.{proofs.Meet.{GoesOn, apart_of, meet, no_octets}, specs.Report.{BeginsWith, BeginsWithRecord, IsTextOf, LineThen, is_line_end}}
 
 -- the octets are the lines of these records
 pub record AreLines (network : Network) (octets : List ℕ) (notes : List Note) : Type 0 where

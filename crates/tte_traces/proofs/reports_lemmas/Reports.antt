@@ -1,17 +1,13 @@
 -- The answer of a command over a report: how it is given, and that it is one.
+use Rattle.{net_plan.specs.declared.network.Network.Network, tte_forms.{proofs.networks.Answers.network_answer_one, specs.networks.Accepting.IsNetworkAnswer}}
+use Rattle.{run_law.specs.declared.note.Note.Note, tte_audit.specs.Named.IsNamed, tte_forms.proofs.Octets.for_more}
+use Rattle.{schedule_checker.specs.Refusals.RefusalIsOne, tte_audit.proofs.OneAnswer.{answer_law, same_of}, tte_forms.proofs.OneAnswers.answer_widened}
+use Rattle.{schedule_tables.specs.Rules.KeepsRules, tte_forms.specs.Putting.{PutsNone, Shown}, tte_units.specs.declared.units.Units.Units}
 use Rattle.std.proofs.Common.{◌∙◌, ◌≡◌, ◌⊎◌, List, None, Option, Some, ap, arith, inl, inr, length, refl, subst, sym, ℕ}
-use Rattle.net_plan.specs.declared.network.Network.{Network}
-use Rattle.run_law.specs.declared.note.Note.{Note}
-use Rattle.schedule_checker.specs.Refusals.{RefusalIsOne}
-use Rattle.schedule_tables.specs.Rules.{KeepsRules}
-use Rattle.tte_audit.{proofs.OneAnswer.{answer_law, same_of}, specs.{Answers.IsAudited, Named.IsNamed, declared.refusal.AuditRefusal.AuditRefusal}}
-use Rattle.tte_forms.proofs.{Octets.for_more, OneAnswers.answer_widened, networks.Answers.network_answer_one}
-use Rattle.tte_forms.specs.{Answering.{Answer, ForOctets, Gives, GivesAnswer}, Putting.{PutsNone, Shown}, declared.status.Status.Status}
-use Rattle.tte_forms.specs.{declared.status.Status.TheVariants.WriteFault, networks.Accepting.IsNetworkAnswer}
-use Rattle.tte_units.specs.declared.units.Units.{Units}
-use Rattle.tte_traces.proofs.reports_lemmas.Answers.{audited_given, kept_apart, no_report_given}
+use Rattle.{tte_audit.specs.{Answers.IsAudited, declared.refusal.AuditRefusal.AuditRefusal}, tte_traces.specs.reports.Reports.{IsReportAnswer, IsReportOf}}
+use Rattle.tte_forms.specs.{Answering.{Answer, ForOctets, Gives, GivesAnswer}, declared.status.Status.{Status, TheVariants.WriteFault}}
+use Rattle.tte_traces.{proofs.reports_lemmas.Answers.{audited_given, kept_apart, no_report_given}, specs.declared.reports.no_report.NoReport.NoReport}
 use Rattle.tte_traces.specs.reports.{Answer.{FailsAudit, IsAuditAnswer, audited_answer, report_refused_answer}, NoReports.{IsNoReport, no_report_answer}}
-use Rattle.tte_traces.specs.{reports.Reports.{IsReportAnswer, IsReportOf}, declared.reports.no_report.NoReport.NoReport}
 use Rattle.tte_traces.specs.declared.reports.no_report.NoReport.TheVariants as causes
 
 -- ---- the records of a report are one list, with one end

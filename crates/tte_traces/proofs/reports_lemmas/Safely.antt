@@ -1,19 +1,15 @@
 -- A report that `audit` does not refuse is that of a run that is safe.
-use Rattle.std.{proofs.{Common.{◌∙◌, ◌≡◌, List, Option, ap, inl, inr, sym, ℕ}, lemmas.List.append-nil}, specs.List.concat}
-use Rattle.audit_devices.specs.events.Readings.{scenario_under}
-use Rattle.drift_clock.{proofs.ExactSegments.exact_laws, specs.Segment.{fresh_segment, segment_reading, stepped_segment}}
-use Rattle.net_plan.specs.declared.network.Network.{Network}
-use Rattle.report_text.specs.NoteLine.{report_of}
-use Rattle.run_law.specs.{declared.note.Note.Note, records.Happenings.happenings}
-use Rattle.traffic_law.{proofs.safety_lemmas.{Clocked.{ended, own}, Times.end_in_time}, specs.safety.Headline.GoesWell}
-use Rattle.schedule_tables.specs.Rules.{KeepsRules}
-use Rattle.tte_audit.specs.{Named.IsNamed, Report.events_of, declared.refusal.AuditRefusal.AuditRefusal}
-use Rattle.tte_forms.{proofs.Octets.for_more, specs.{Answering.{Answer, ForOctets, GivesAnswer}, Putting.Shown, declared.status.Status.Status}}
-use Rattle.tte_forms.specs.{declared.status.Status.TheVariants.Done, networks.Accepting.{IsNetworkAnswer, MeansAccepted}}
-use Rattle.tte_units.specs.{Amount.amount, declared.units.Units.Units}
-use Rattle.world_drive.proofs.exact_lemmas.Clocks.{exact_begins}
-use Rattle.tte_traces.proofs.reports_lemmas.{Answers.kept_apart, Sources.GivesFiles, Under.{report_ends, report_under}}
-use Rattle.tte_traces.specs.reports.{Answer.{IsAuditAnswer, PassesAudit, report_refused_answer}, Reports.IsReportOf, Safely.{AuditsSafely, ReportsSafeRun}}
+use Rattle.{audit_devices.specs.events.Readings.scenario_under, drift_clock.proofs.ExactSegments.exact_laws, net_plan.specs.declared.network.Network.Network}
+use Rattle.{drift_clock.specs.Segment.{fresh_segment, segment_reading, stepped_segment}, tte_forms.specs.networks.Accepting.{IsNetworkAnswer, MeansAccepted}}
+use Rattle.{report_text.specs.NoteLine.report_of, std.proofs.lemmas.List.append-nil, tte_audit.specs.Named.IsNamed, tte_forms.proofs.Octets.for_more}
+use Rattle.{run_law.specs.declared.note.Note.Note, schedule_tables.specs.Rules.KeepsRules, tte_units.specs.{Amount.amount, declared.units.Units.Units}}
+use Rattle.{run_law.specs.records.Happenings.happenings, traffic_law.specs.safety.Headline.GoesWell, tte_traces.specs.reports.Reports.IsReportOf}
+use Rattle.{std.proofs.Common.{◌∙◌, ◌≡◌, List, Option, ap, inl, inr, sym, ℕ}, tte_traces.specs.reports.Safely.{AuditsSafely, ReportsSafeRun}}
+use Rattle.{std.specs.List.concat, tte_forms.specs.Putting.Shown}
+use Rattle.{traffic_law.proofs.safety_lemmas.{Clocked.{ended, own}, Times.end_in_time}, tte_forms.specs.declared.status.Status.{Status, TheVariants.Done}}
+use Rattle.{tte_audit.specs.{Report.events_of, declared.refusal.AuditRefusal.AuditRefusal}, tte_forms.specs.Answering.{Answer, ForOctets, GivesAnswer}}
+use Rattle.{tte_traces.proofs.reports_lemmas.{Answers.kept_apart, Sources.GivesFiles}, world_drive.proofs.exact_lemmas.Clocks.exact_begins}
+use Rattle.tte_traces.{proofs.reports_lemmas.Under.{report_ends, report_under}, specs.reports.Answer.{IsAuditAnswer, PassesAudit, report_refused_answer}}
 use Rattle.tte_audit.specs.declared.refusal.AuditRefusal.TheVariants as refusals
 
 safe_run : (octets report : List ℕ) (network : Network) (count : ℕ) → MeansAccepted octets network → PassesAudit network report count

@@ -1,10 +1,9 @@
 -- An answer for the two sources of a command over a report.
-use Rattle.std.proofs.Common.{◌≡◌, ◌⊎◌, List, Option, ℕ}
-use Rattle.net_plan.specs.declared.network.Network.{Network}
-use Rattle.tte_forms.proofs.networks.Answers as networks
-use Rattle.tte_forms.specs.{Answering.{Answer, ForOctets, Gives, GivesAnswer}, Putting.{PutsNone, Shown}, declared.accepting.NoNetwork.NoNetwork}
-use Rattle.tte_forms.specs.declared.status.Status.{Status, TheVariants.WriteFault}
+use Rattle.{net_plan.specs.declared.network.Network.Network, std.proofs.Common.{◌≡◌, ◌⊎◌, List, Option, ℕ}, tte_forms.specs.declared.status.Status.Status}
+use Rattle.tte_forms.specs.{Answering.{Answer, ForOctets, Gives, GivesAnswer}, declared.{accepting.NoNetwork.NoNetwork, status.Status.TheVariants.WriteFault}}
+use Rattle.tte_forms.specs.Putting.{PutsNone, Shown}
 use Rattle.tte_forms.specs.networks.{Accepting.{IsNetworkAnswer, MeansAccepted, refusal_lines}, NoNetworks.{IsNoNetwork, no_network_answer}}
+use Rattle.tte_forms.proofs.networks.Answers as networks
 use Rattle.tte_forms.specs.declared.accepting.NoNetwork.TheVariants as causes
 
 -- an answer for the octets of a network file and of a report was given, where one for the octets of a report and an

@@ -1,15 +1,12 @@
 -- The events of a report are such as the laws on runs ask for.
-use Rattle.std.proofs.Common.{◌∷◌, ◌≡◌, ◌≤ℤ◌, List, None, Option, Some, [], inl, inr, pos, refl, subst, sym, ℕ}
-use Rattle.std.{proofs.lemmas.List.Elements.{All-cons, All-head, All-nil, All-tail, Contains-push}, specs.{List.{All, Contains, cons_option}, Prelude.IfSome}}
-use Rattle.net_plan.specs.{Belonging.IsOfNetwork, declared.{event.{Event.Event, What.{What, TheVariants.{End, Hold}}}, ids.LinkId.LinkId}}
-use Rattle.net_plan.specs.declared.{network.Network.Network, tables.Way.Way}
-use Rattle.report_text.specs.Ranges.{IsBodyInRange, IsBodyOf, IsNoteInRange, IsNoteOf}
-use Rattle.run_law.specs.{declared.note.{Note.Note, NoteBody.NoteBody}, law.FirstLaws.IsEventInRange, records.Order.IsIn, runs.DueRecords.EndsAt}
-use Rattle.traffic_law.specs.safety.Under.{IsUnder}
-use Rattle.schedule_tables.specs.Rules.{KeepsRules}
-use Rattle.trace_text.specs.Ranges.{IsTime, IsWhatInRange}
-use Rattle.tte_audit.{proofs.Clocked.{clocked, within}, specs.{Named.IsNamed, Report.{EndWith, IsOfEvents, event_by, events_of}}}
-use Rattle.tte_units.specs.declared.units.Units.{Units}
+use Rattle.{net_plan.specs.Belonging.IsOfNetwork, run_law.specs.{declared.note.Note.Note, runs.DueRecords.EndsAt}, traffic_law.specs.safety.Under.IsUnder}
+use Rattle.{net_plan.specs.declared.{event.{Event.Event, What.What}, ids.LinkId.LinkId, tables.Way.Way}, tte_units.specs.declared.units.Units.Units}
+use Rattle.{net_plan.specs.declared.event.What.TheVariants.{End, Hold}, std.proofs.lemmas.List.Elements.{All-cons, All-head, All-nil, All-tail, Contains-push}}
+use Rattle.{net_plan.specs.declared.network.Network.Network, run_law.specs.declared.note.NoteBody.NoteBody, trace_text.specs.Ranges.{IsTime, IsWhatInRange}}
+use Rattle.{report_text.specs.Ranges.{IsBodyInRange, IsBodyOf, IsNoteInRange, IsNoteOf}, tte_audit.specs.Report.{EndWith, IsOfEvents, event_by, events_of}}
+use Rattle.{run_law.specs.law.FirstLaws.IsEventInRange, std.proofs.Common.{◌∷◌, ◌≡◌, ◌≤ℤ◌, List, None, Option, Some, [], inl, inr, pos, refl, subst, sym, ℕ}}
+use Rattle.{run_law.specs.records.Order.IsIn, tte_audit.specs.Named.IsNamed}
+use Rattle.{schedule_tables.specs.Rules.KeepsRules, std.specs.{List.{All, Contains, cons_option}, Prelude.IfSome}, tte_audit.proofs.Clocked.{clocked, within}}
 use Rattle.run_law.specs.declared.note.NoteBody.TheVariants as notes
 
 -- ---- what holds of records holds of their events

@@ -1,15 +1,13 @@
 -- What is seen of a correction stays as more records and events come.
-use Rattle.std.proofs.Common.{◌++◌, ◌+ℤ◌, ◌-ℤ◌, ◌<◌, ◌∙◌, ◌∷◌, ◌≡◌, ◌≤ℤ◌, ◌≤◌, ◌⊎◌, Bool, List, [], ap, arith, inl, inr, pos, refl, subst, sym, ℕ, ℤ}
-use Rattle.std.{proofs.lemmas.{Bool.lt-leb, Int.ints, List.{append-nil, Elements.filter-append}}, specs.List.list_any}
-use Rattle.std.specs.Prelude.{if◌then◌else◌, filter, nat_le}
-use Rattle.drift_clock.{proofs.ExactSegments.exact_steps, specs.Segment.{fresh_segment, segment_count, segment_reading, stepped_segment}}
-use Rattle.drift_world.proofs.Agreements.{reads_same}
-use Rattle.net_plan.specs.{Belonging.HasDevice, declared.{event.Event.Event, ids.DeviceId.DeviceId, network.Network.Network}}
+use Rattle.{drift_clock.proofs.ExactSegments.exact_steps, tte_traces.specs.storms.Spreads.IsSpreadAt, tte_units.specs.declared.units.Units.Units}
+use Rattle.{drift_clock.specs.Segment.{fresh_segment, segment_count, segment_reading, stepped_segment}, std.specs.Prelude.{filter, if◌then◌else◌, nat_le}}
+use Rattle.{drift_world.proofs.Agreements.reads_same, net_plan.specs.{Belonging.HasDevice, declared.event.Event.Event}, run_law.specs.law.Safety.IsInStep}
+use Rattle.{net_plan.specs.declared.ids.DeviceId.DeviceId, std.proofs.lemmas.List.Elements.filter-append, tte_traces.specs.storms.Answer.exact_scenario}
+use Rattle.{net_plan.specs.declared.network.Network.Network, tte_traces.specs.storms.summary.Spread.{AreApart, AreSeenApart, IsCorrection, IsGreatestSpread}}
 use Rattle.run_law.{proofs.runs.Places.{in_left, in_parts, in_right}, specs.device.{LocalClocks.local, States.{adjustment_after, state_after}}}
-use Rattle.run_law.specs.{law.Safety.IsInStep, records.{Happenings.{Happening, time_of, up_to}, Order.IsIn}, scenario.Hypothesis.breaks_at}
-use Rattle.run_law.specs.scenario.Scenarios.{Scenario, events_up_to, is_broken}
-use Rattle.tte_traces.specs.storms.{Answer.exact_scenario, Spreads.IsSpreadAt, summary.Spread.{AreApart, AreSeenApart, IsCorrection, IsGreatestSpread}}
-use Rattle.tte_units.specs.{Amount.amount, declared.units.Units.Units}
+use Rattle.run_law.specs.{records.Happenings.{Happening, time_of, up_to}, scenario.{Hypothesis.breaks_at, Scenarios.{Scenario, events_up_to, is_broken}}}
+use Rattle.{run_law.specs.records.Order.IsIn, std.{proofs.lemmas.{Bool.lt-leb, Int.ints, List.append-nil}, specs.List.list_any}, tte_units.specs.Amount.amount}
+use Rattle.std.proofs.Common.{◌++◌, ◌+ℤ◌, ◌-ℤ◌, ◌<◌, ◌∙◌, ◌∷◌, ◌≡◌, ◌≤ℤ◌, ◌≤◌, ◌⊎◌, Bool, List, [], ap, arith, inl, inr, pos, refl, subst, sym, ℕ, ℤ}
 
 -- ---- what is up to a time
 

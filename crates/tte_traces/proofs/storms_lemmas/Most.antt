@@ -1,7 +1,6 @@
 -- The greatest of some numbers, from 0 on, where it is decided which there are.
-use Rattle.std.proofs.{Common.{◌<◌, ◌∷◌, ◌≡◌, ◌≤ℤ◌, ◌⊎◌, List, [], arith, inl, inr, negsuc, pos, refl, subst, suc, zero, ℕ, ℤ}, lemmas.Bool.cases_eq}
-use Rattle.std.proofs.lemmas.Int.{by_lt_z, ints}
-use Rattle.run_law.specs.records.Order.{IsIn}
+use Rattle.{run_law.specs.records.Order.IsIn, std.proofs.lemmas.Bool.cases_eq}
+use Rattle.std.proofs.{Common.{◌<◌, ◌∷◌, ◌≡◌, ◌≤ℤ◌, ◌⊎◌, List, [], arith, inl, inr, negsuc, pos, refl, subst, suc, zero, ℕ, ℤ}, lemmas.Int.{by_lt_z, ints}}
 
 -- the greatest of the numbers that are so, or 0 where none is greater
 pub record HasMost (P : ℤ → Type 0) : Type 0 where

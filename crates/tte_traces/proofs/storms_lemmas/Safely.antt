@@ -1,11 +1,10 @@
 -- What `storm` writes is the summary of a run that is safe.
-use Rattle.std.proofs.Common.{List, Option, [], ap, inl, inr, refl, ℕ}
-use Rattle.net_plan.specs.declared.network.Network.{Network}
-use Rattle.tte_traces.specs.{storms.summary.Lines.lines_of, declared.storms.summary.summary.Summary.Summary}
-use Rattle.tte_traces.specs.storms.{Safely.{IsSafeSummary, IsSafeText, PutsSummary, SummarisesSafely}, Storms.{EndsStorm, Summarises}}
-use Rattle.tte_forms.{proofs.Octets.{for_all, for_more}, specs.{Putting.{PutsLines, Shown}, networks.NoNetworks.no_network_answer}}
+use Rattle.{net_plan.specs.declared.network.Network.Network, tte_traces.specs.storms.{Storms.{EndsStorm, Summarises}, summary.Lines.lines_of}}
+use Rattle.{std.proofs.Common.{List, Option, [], ap, inl, inr, refl, ℕ}, tte_forms.specs.Answering.{ForOctets, Gives, GivesAnswer}}
+use Rattle.tte_forms.{proofs.Octets.{for_all, for_more}, specs.Putting.{PutsLines, Shown}}
 use Rattle.tte_forms.{proofs.Safely.{IsSafeAnswer, none_safe, puts_safely}, specs.networks.Accepting.{MeansAccepted, refusal_lines}}
-use Rattle.tte_forms.specs.{Answering.{ForOctets, Gives, GivesAnswer}, declared.{accepting.NoNetwork.NoNetwork, status.Status.{Status, TheVariants.Done}}}
+use Rattle.tte_forms.specs.{declared.{accepting.NoNetwork.NoNetwork, status.Status.{Status, TheVariants.Done}}, networks.NoNetworks.no_network_answer}
+use Rattle.tte_traces.specs.{declared.storms.summary.summary.Summary.Summary, storms.Safely.{IsSafeSummary, IsSafeText, PutsSummary, SummarisesSafely}}
 use Rattle.tte_forms.specs.declared.accepting.NoNetwork.TheVariants as causes
 
 module _ (seed cycles : ℕ) where

@@ -1,15 +1,14 @@
 -- Records seen one after another, and the spread of the times of corrections.
+use Rattle.{net_plan.specs.declared.event.Event.Event, tte_traces.specs.storms.Spreads.IsSpreadAt, tte_units.specs.{Amount.amount, declared.units.Units.Units}}
+use Rattle.{net_plan.specs.declared.network.Network.Network, run_law.specs.declared.note.NoteBody.NoteBody, tte_traces.specs.storms.summary.Counting.counts_of}
+use Rattle.run_law.{proofs.runs.NetworkRuns.one_more, specs.declared.note.Note.Note}
+use Rattle.{run_law.{proofs.runs.Places.{in_left, in_parts}, specs.records.{Order.{IsBefore, IsIn}, Ranks.rank}}, tte_traces.specs.storms.Answer.exact_scenario}
+use Rattle.{run_law.specs.records.Happenings.{Happening, happenings, time_of}, world_drive.specs.Observing.{Befell, IsCompleteExact, IsGiven, Told, instant_of}}
 use Rattle.std.proofs.Common.{◌++◌, ◌+◌, ◌<◌, ◌^◌, ◌∙◌, ◌∷◌, ◌≡◌, ◌≤ℤ◌, ◌≤◌, ◌⊎◌, Bool, List, None, Option, Some, [], ap, append_assoc, arith, false, inl, inr}
-use Rattle.std.proofs.Common.{length, length-append, refl, subst, sym, true, unsigned_abs, ℕ, ℤ}
-use Rattle.net_plan.specs.declared.{event.Event.Event, network.Network.Network}
-use Rattle.run_law.{proofs.runs.{NetworkRuns.one_more, Places.{in_left, in_parts}}, specs.declared.note.{Note.Note, NoteBody.NoteBody}}
-use Rattle.run_law.specs.records.{Happenings.{Happening, happenings, time_of}, Order.{IsBefore, IsIn}, Ranks.rank}
+use Rattle.{std.proofs.Common.{length, length-append, refl, subst, sym, true, unsigned_abs, ℕ, ℤ}, tte_traces.specs.declared.storms.counting.Seen.Seen}
 use Rattle.tte_traces.{proofs.storms_lemmas.Lasting.{alike_event, alike_more, spread_grows, spread_stays}, specs.declared.storms.summary.counts.Counts.Counts}
-use Rattle.tte_traces.specs.{declared.storms.counting.Seen.Seen, storms.{Answer.exact_scenario, Spreads.IsSpreadAt, summary.Counting.counts_of}}
 use Rattle.tte_traces.specs.storms.{Counts.{ArePastCorrections, IsOpenAt, IsSeen, IsSpreadSoFar, corrects}, summary.Spread.{IsCorrection, IsGreatestSpread}}
-use Rattle.tte_units.specs.{Amount.amount, declared.units.Units.Units}
-use Rattle.world_drive.{proofs.Placed.{given_behind, given_from, last_of}, specs.Observing.{Befell, IsCompleteExact, IsGiven, Told, instant_of}}
-use Rattle.world_drive.specs.exact.Worlds.{ExactWorld, StandsExact}
+use Rattle.world_drive.{proofs.Placed.{given_behind, given_from, last_of}, specs.exact.Worlds.{ExactWorld, StandsExact}}
 use Rattle.run_law.specs.declared.note.NoteBody.TheVariants as kinds
 
 -- ---- numbers

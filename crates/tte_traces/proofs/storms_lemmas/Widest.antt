@@ -1,12 +1,9 @@
 -- Records have a greatest spread.
-use Rattle.std.proofs.Common.{◌-ℤ◌, ◌<◌, ◌≡◌, List, inl, inr, length, refl, ℕ, ℤ}
-use Rattle.net_plan.specs.declared.ids.DeviceId.{DeviceId}
-use Rattle.traffic_law.proofs.existence_lemmas.decisions.Values.{is_synchronised}
-use Rattle.run_law.{proofs.scenario.Decisions.{IsDecided, decided_and, decided_by, decided_false}, specs.declared.note.NoteBody.NoteBody}
-use Rattle.run_law.specs.{device.{LocalClocks.local, States.state_after}, law.Safety.IsInStep, records.{Happenings.{Happening, time_of, up_to}, Order.IsIn}}
-use Rattle.run_law.specs.scenario.Scenarios.{Scenario, is_broken}
-use Rattle.tte_traces.specs.storms.summary.Spread.{AreApart, AreSeenApart, IsCorrection, IsGreatestSpread}
-use Rattle.tte_units.specs.declared.units.Units.{Units}
+use Rattle.{net_plan.specs.declared.ids.DeviceId.DeviceId, tte_traces.specs.storms.summary.Spread.{AreApart, AreSeenApart, IsCorrection, IsGreatestSpread}}
+use Rattle.run_law.{proofs.scenario.Decisions.{IsDecided, decided_and, decided_by, decided_false}, specs.records.Happenings.{Happening, time_of, up_to}}
+use Rattle.{run_law.specs.{declared.note.NoteBody.NoteBody, scenario.Scenarios.{Scenario, is_broken}}, tte_units.specs.declared.units.Units.Units}
+use Rattle.run_law.specs.{device.{LocalClocks.local, States.state_after}, law.Safety.IsInStep, records.Order.IsIn}
+use Rattle.{std.proofs.Common.{◌-ℤ◌, ◌<◌, ◌≡◌, List, inl, inr, length, refl, ℕ, ℤ}, traffic_law.proofs.existence_lemmas.decisions.Values.is_synchronised}
 use Rattle.tte_traces.proofs.storms_lemmas.Most.{HasMost, most_among, most_below, most_of_none, most_of_one, most_of_same}
 use Rattle.run_law.specs.declared.note.NoteBody.TheVariants as notes
 

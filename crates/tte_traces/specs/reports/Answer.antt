@@ -1,11 +1,10 @@
 -- What `audit` answers for the octets of a network file and of a report.
 use Rattle.std.specs.Prelude.{◌<◌, ◌≡◌, ◌≤◌, ◌⊎◌, List, [], codes, length, ℕ}
-use Rattle.net_plan.specs.{Ranges.IsInRange, declared.network.Network.Network}
-use Rattle.tte_audit.specs.{Answers.{IsAudited, IsRefusedBy}, Laws.IsOfReport}
-use Rattle.tte_audit.specs.declared.refusal.AuditRefusal.{AuditRefusal}
+use Rattle.{net_plan.specs.Ranges.IsInRange, tte_audit.specs.Laws.IsOfReport}
+use Rattle.{net_plan.specs.declared.network.Network.Network, tte_audit.specs.declared.refusal.AuditRefusal.AuditRefusal}
+use Rattle.{tte_audit.specs.Answers.{IsAudited, IsRefusedBy}, tte_forms.specs.networks.Accepting.too_long_answer}
 use Rattle.tte_forms.specs.{Answering.{Answer, line_answer}, Statuses.IsNetworkStatus}
 use Rattle.tte_forms.specs.declared.status.Status.{Status, TheVariants.{AuditRefused, Done, OutOfMemory}}
-use Rattle.tte_forms.specs.networks.Accepting.{too_long_answer}
 use Rattle.tte_traces.specs.reports.AuditLine.{audited_line, lack_line, record_refusal_line}
 use Rattle.tte_audit.specs.declared.refusal.AuditRefusal.TheVariants as refusals
 

@@ -1,10 +1,9 @@
 -- What is answered where there is no report.
 use Rattle.std.specs.Prelude.{◌<◌, Err, List, Ok, Result, [], length, ℕ}
-use Rattle.net_plan.specs.declared.network.Network.{Network}
+use Rattle.{net_plan.specs.declared.network.Network.Network, tte_forms.specs.networks.Accepting.too_long_answer}
 use Rattle.tte_forms.specs.{Answering.Answer, declared.status.Status.TheVariants.{OutOfMemory, ReadFault}}
-use Rattle.tte_forms.specs.networks.Accepting.{too_long_answer}
-use Rattle.tte_traces.specs.reports.Answer.{FailsAudit, report_limit, report_refused_answer}
 use Rattle.tte_traces.specs.declared.reports.{no_report.NoReport.NoReport, reading.AuditedReport.AuditedReport}
+use Rattle.tte_traces.specs.reports.Answer.{FailsAudit, report_limit, report_refused_answer}
 use Rattle.tte_traces.specs.declared.reports.no_report.NoReport.TheVariants as causes
 
 -- the octets give no report of the network, for this cause; a read may fail and memory may run out at any

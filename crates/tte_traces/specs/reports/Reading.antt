@@ -1,8 +1,7 @@
 -- How much of a report was read.
 use Rattle.std.specs.{Io.KnownBytes.IsAtEnd, Prelude.{◌≡◌, ◌⊎◌, List, Option, ℕ}}
 use Rattle.tte_forms.specs.declared.status.Status.{Status, TheVariants.{AuditRefused, Done}}
-use Rattle.tte_io.specs.Whole.{TakesSome}
-use Rattle.tte_traces.specs.Streaming.{ForAccepted}
+use Rattle.{tte_io.specs.Whole.TakesSome, tte_traces.specs.Streaming.ForAccepted}
 
 -- octets of a report were taken; where it was judged, by this status, they are all
 pub record TakesReport (left after : Option (List ℕ)) (status : Status) : Type 0 where

@@ -1,14 +1,12 @@
 -- The octets of a file as the report of a run, and what a command over a report answers.
 use Rattle.std.specs.{List.concat, Prelude.{◌<◌, ◌≡◌, ◌≤◌, ◌⊎◌, List, length, ℕ}}
-use Rattle.audit_devices.specs.events.Readings.{clock_reading}
-use Rattle.net_plan.specs.{Ranges.IsInRange, declared.network.Network.Network}
-use Rattle.report_text.specs.{Laws.AreOfNetwork, NoteLine.report_of}
-use Rattle.run_law.specs.{declared.note.Note.Note, runs.DueRecords.IsRunOf}
+use Rattle.{audit_devices.specs.events.Readings.clock_reading, tte_forms.specs.networks.Accepting.too_long_answer}
+use Rattle.{net_plan.specs.Ranges.IsInRange, tte_forms.specs.Answering.Answer}
+use Rattle.{net_plan.specs.declared.network.Network.Network, tte_traces.specs.declared.reports.records.Records.Records}
+use Rattle.{report_text.specs.{Laws.AreOfNetwork, NoteLine.report_of}, run_law.specs.runs.DueRecords.IsRunOf}
+use Rattle.{run_law.specs.declared.note.Note.Note, tte_units.specs.declared.units.Units.Units}
 use Rattle.tte_audit.specs.{Report.{IsOfEvents, behind_time, events_of}, declared.refusal.AuditRefusal.AuditRefusal}
-use Rattle.tte_forms.specs.{Answering.Answer, networks.Accepting.too_long_answer}
-use Rattle.tte_units.specs.declared.units.Units.{Units}
 use Rattle.tte_traces.specs.reports.Answer.{FailsAudit, report_limit, report_refused_answer}
-use Rattle.tte_traces.specs.declared.reports.records.Records.{Records}
 
 -- the octets, which are not too many, are the report of these records of the network, whose numbers lie in their
 -- ranges: that of the run under the events that they tell, up to this end

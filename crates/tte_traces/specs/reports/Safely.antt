@@ -1,14 +1,11 @@
 -- A report that `audit` does not refuse is that of a run that is safe.
 use Rattle.std.specs.{List.concat, Prelude.{◌≡◌, List, Option, ℕ}}
 use Rattle.drift_clock.specs.Segment.{fresh_segment, segment_reading, stepped_segment}
-use Rattle.net_plan.specs.declared.network.Network.{Network}
-use Rattle.report_text.specs.NoteLine.{report_of}
-use Rattle.run_law.specs.declared.note.Note.{Note}
-use Rattle.traffic_law.specs.safety.Headline.{IsWholeRun}
-use Rattle.tte_audit.specs.Report.{IsOfEvents, events_of}
-use Rattle.tte_forms.specs.{Answering.ForOctets, declared.status.Status.{Status, TheVariants.Done}}
-use Rattle.tte_forms.specs.networks.Accepting.{MeansAccepted}
-use Rattle.tte_units.specs.declared.units.Units.{Units}
+use Rattle.{net_plan.specs.declared.network.Network.Network, traffic_law.specs.safety.Headline.IsWholeRun}
+use Rattle.{report_text.specs.NoteLine.report_of, run_law.specs.declared.note.Note.Note}
+use Rattle.{tte_audit.specs.Report.{IsOfEvents, events_of}, tte_units.specs.declared.units.Units.Units}
+use Rattle.tte_forms.specs.Answering.{ForOctets}
+use Rattle.tte_forms.specs.{declared.status.Status.{Status, TheVariants.Done}, networks.Accepting.MeansAccepted}
 
 -- the octets are the report of the run of the accepted network under the events that its own records tell, up to their
 -- end; it goes well up to there; each of these events is within the fault hypothesis, given those before it, and the

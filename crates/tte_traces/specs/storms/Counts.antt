@@ -1,12 +1,11 @@
 -- What was counted and seen of the records of a run.
 use Rattle.std.specs.Prelude.{◌++◌, ◌<◌, ◌∷◌, ◌≡◌, Bool, List, None, Option, Some, [], false, true, ℕ}
-use Rattle.net_plan.specs.declared.{event.Event.Event, network.Network.Network}
-use Rattle.run_law.specs.declared.note.{Note.Note, NoteBody.NoteBody}
-use Rattle.run_law.specs.records.{Happenings.{Happening, happenings, time_of}, Order.IsIn}
-use Rattle.tte_traces.specs.storms.summary.{Counting.counts_of, Spread.IsCorrection}
-use Rattle.tte_traces.specs.{storms.Answer.IsWidest, declared.storms.counting.Seen.Seen}
-use Rattle.tte_units.specs.{Amount.amount, declared.units.Units.Units}
-use Rattle.world_drive.specs.{Observing.Told, exact.Worlds.{ExactWorld, StandsExact}}
+use Rattle.{net_plan.specs.declared.event.Event.Event, run_law.specs.{declared.note.Note.Note, records.Order.IsIn}}
+use Rattle.{net_plan.specs.declared.network.Network.Network, tte_traces.specs.storms.summary.Counting.counts_of}
+use Rattle.run_law.specs.{declared.note.NoteBody.NoteBody, records.Happenings.{Happening, happenings, time_of}}
+use Rattle.tte_traces.specs.{declared.storms.counting.Seen.Seen, storms.{Answer.IsWidest, summary.Spread.IsCorrection}}
+use Rattle.{tte_units.specs.Amount.amount, world_drive.specs.Observing.Told}
+use Rattle.{tte_units.specs.declared.units.Units.Units, world_drive.specs.exact.Worlds.{ExactWorld, StandsExact}}
 use Rattle.run_law.specs.declared.note.NoteBody.TheVariants as kinds
 
 -- does the record say that a clock is corrected?

@@ -1,9 +1,7 @@
 -- That there is an answer.
 use Rattle.std.specs.{List.All, Prelude.{◌<◌, ◌^◌, ◌≤◌, ℕ}}
-use Rattle.net_plan.specs.{Ranges.IsInRange, declared.network.Network.Network}
-use Rattle.schedule_tables.specs.Rules.{KeepsRules}
-use Rattle.tte_forms.specs.Answering.{Answer}
-use Rattle.tte_traces.specs.storms.Answer.{IsStormAnswer}
+use Rattle.{net_plan.specs.Ranges.IsInRange, schedule_tables.specs.Rules.KeepsRules, tte_forms.specs.Answering.Answer}
+use Rattle.{net_plan.specs.declared.network.Network.Network, tte_traces.specs.storms.Answer.IsStormAnswer}
 
 -- what a control frame has of the network fits its octets there, as in each network that a program holds
 pub record FitsFrames (network : Network) : Type 0 where

@@ -2,11 +2,10 @@
 use Rattle.std.specs.Prelude.{◌<◌, ◌≡◌, ◌≤ℤ◌, ◌⊎◌, IfSome, IsSomeAnd, List, None, Option, Some, length, pos, ℕ, ℤ}
 use Rattle.drift_clock.specs.Segment.{fresh_segment, segment_reading, stepped_segment}
 use Rattle.drift_world.specs.Locals.{MayShow}
-use Rattle.net_plan.specs.declared.ids.DeviceId.{DeviceId}
-use Rattle.run_law.specs.{device.LocalClocks.local, law.Safety.IsInStep, records.Happenings.Happening}
-use Rattle.run_law.specs.scenario.Scenarios.{Scenario}
-use Rattle.tte_traces.specs.{declared.storms.spreads.Ends.Ends, storms.summary.Spread.AreApart}
-use Rattle.world_drive.specs.{exact.Worlds.ExactWorld, machines.Standing.StandsAsDevice}
+use Rattle.{net_plan.specs.declared.ids.DeviceId.DeviceId, tte_traces.specs.storms.summary.Spread.AreApart}
+use Rattle.run_law.specs.{device.LocalClocks.local, records.Happenings.Happening, scenario.Scenarios.Scenario}
+use Rattle.{run_law.specs.law.Safety.IsInStep, world_drive.specs.exact.Worlds.ExactWorld}
+use Rattle.{tte_traces.specs.declared.storms.spreads.Ends.Ends, world_drive.specs.machines.Standing.StandsAsDevice}
 
 -- the world of the program stands for some events and records, which are all up to the time
 abbrev pub MayShowExact : ExactWorld → ℕ → Type 0

@@ -1,11 +1,9 @@
 ghost use Rattle.std.specs.{Io.KnownBytes.IsAtEnd, Prelude.{◌≡◌, ◌≢◌, ◌≤◌, Err, IfOk, List, MatchResult, length}};
 ghost use Rattle.net_plan.specs.declared.network.Network.{Network as NetworkValue};
-ghost use Rattle.run_law.specs.declared.note.Note.{Note as NoteValue};
-ghost use Rattle.tte_forms.specs.{Answering.ForOctets, Faults.ReadFailed};
-ghost use Rattle.tte_io.specs.Whole.{TakesSome};
-ghost use Rattle.tte_units.specs.declared.units.Units.{Units as UnitsValue};
-ghost use Rattle.tte_traces.specs.reports.{Answer.report_limit, NoReports.{IfJudged, IsNoReport}};
-ghost use Rattle.tte_traces.specs.reports.Reports.{AreLeft, IsReportOf};
+ghost use Rattle.{run_law.{specs.{declared.{note.{Note.{Note as NoteValue}}}}}, tte_forms.specs.Faults.ReadFailed};
+ghost use Rattle.{tte_forms.specs.Answering.ForOctets, tte_traces.specs.reports.Answer.report_limit};
+ghost use Rattle.{tte_io.specs.Whole.TakesSome, tte_units.{specs.{declared.{units.{Units.{Units as UnitsValue}}}}}};
+ghost use Rattle.tte_traces.specs.reports.{NoReports.{IfJudged, IsNoReport}, Reports.{AreLeft, IsReportOf}};
 
 use crate::reports::{NoReport, Records};
 use schedule_tables::Accepted;

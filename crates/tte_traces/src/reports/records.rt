@@ -1,7 +1,6 @@
 ghost use Rattle.std.specs.Prelude.{◌<◌, ◌∷◌, ◌≡◌, IfSome, List, MatchOption, [], length, position};
 ghost use Rattle.run_law.specs.declared.note.Note.{Note as NoteValue};
-ghost use Rattle.tte_audit.specs.{Named.IsNamed, Report.is_line_end};
-ghost use Rattle.tte_traces.specs.reports.Reports.{AreLeft};
+ghost use Rattle.{tte_audit.specs.{Named.IsNamed, Report.is_line_end}, tte_traces.specs.reports.Reports.AreLeft};
 
 use net_plan::Network;
 use run_law::Note;

@@ -1,10 +1,7 @@
 -- The last of some events, and their end.
-use Rattle.std.{proofs.{Common.{◌++◌, ◌∷◌, ◌≡◌, ◌⊎◌, List, [], ap, arith, inl, inr, refl, subst, suc, zero}, lemmas.List.Sums.fold_push}, specs.List.Contains}
-use Rattle.drift_world.specs.Running.{last_time}
-use Rattle.net_plan.specs.declared.event.{Event.Event, What.TheVariants.End}
-use Rattle.run_law.specs.runs.DueRecords.{EndsAt}
-use Rattle.tte_units.specs.{Amount.units_of, declared.units.Units.Units}
-use Rattle.world_drive.specs.exact.Records.{HaveEnded}
+use Rattle.{drift_world.specs.Running.last_time, run_law.specs.runs.DueRecords.EndsAt, std.{proofs.lemmas.List.Sums.fold_push, specs.List.Contains}}
+use Rattle.{net_plan.specs.declared.event.Event.Event, tte_units.specs.{Amount.units_of, declared.units.Units.Units}, world_drive.specs.exact.Records.HaveEnded}
+use Rattle.{net_plan.specs.declared.event.What.TheVariants.End, std.proofs.Common.{◌++◌, ◌∷◌, ◌≡◌, ◌⊎◌, List, [], ap, arith, inl, inr, refl, subst, suc, zero}}
 
 -- ---- the last of events
 

@@ -1,11 +1,8 @@
 -- A world that gave one more record, or none.
+use Rattle.{drift_world.specs.Running.option_given, run_law.specs.declared.note.Note.Note, std.proofs.{Common.{unsigned_abs, ℕ, ℤ}, lemmas.Int.ints}}
+use Rattle.{net_plan.specs.declared.{event.Event.Event, network.Network.Network}, tte_units.specs.{Amount.{amount, units_of}, declared.units.Units.Units}}
 use Rattle.std.proofs.Common.{◌++◌, ◌+ℤ◌, ◌+◌, ◌<ℤ◌, ◌∙◌, ◌∷◌, ◌≡◌, ◌≤ℤ◌, Bool, List, Option, Some, [], ap, arith, false, negsuc, pos, refl, subst, true}
-use Rattle.std.{proofs.{Common.{unsigned_abs, ℕ, ℤ}, lemmas.Int.ints}, specs.Prelude.{IfNone, IfSome, option_to_list}}
-use Rattle.drift_world.specs.Running.{option_given}
-use Rattle.net_plan.specs.declared.{event.Event.Event, network.Network.Network}
-use Rattle.run_law.specs.declared.note.Note.{Note}
-use Rattle.tte_units.specs.{Amount.{amount, units_of}, declared.units.Units.Units}
-use Rattle.world_drive.{proofs.exact_lemmas.Worlds.go_on, specs.exact.Worlds.{ExactWorld, StandsExact}}
+use Rattle.{std.specs.Prelude.{IfNone, IfSome, option_to_list}, world_drive.{proofs.exact_lemmas.Worlds.go_on, specs.exact.Worlds.{ExactWorld, StandsExact}}}
 
 -- what holds of the value of an option
 pub if_some : {X : Type 0} (o : Option X) (x : X) (P : X → Type 0) → o ≡ Some x → IfSome o P → P x

@@ -1,10 +1,7 @@
 -- Worlds under the same events.
-use Rattle.std.proofs.Common.{◌<ℤ◌, ◌<◌, ◌∙◌, ◌≡◌, List, arith, false, negsuc, pos, refl, sym, true, unsigned_abs, ℕ, ℤ}
-use Rattle.std.proofs.lemmas.{Bool.{false_from_ne_true, true≢false}, Int.ints}
-use Rattle.net_plan.specs.declared.{event.Event.Event, network.Network.Network}
-use Rattle.run_law.specs.declared.note.Note.{Note}
-use Rattle.tte_units.specs.Amount.{units_of}
-use Rattle.world_drive.specs.exact.Worlds.{ExactWorld, StandsExact}
+use Rattle.{net_plan.specs.declared.{event.Event.Event, network.Network.Network}, run_law.specs.declared.note.Note.Note}
+use Rattle.std.proofs.{Common.{◌<ℤ◌, ◌<◌, ◌∙◌, ◌≡◌, List, arith, false, negsuc, pos, refl, sym, true, unsigned_abs, ℕ, ℤ}, lemmas.Int.ints}
+use Rattle.{std.proofs.lemmas.Bool.{false_from_ne_true, true≢false}, tte_units.specs.Amount.units_of, world_drive.specs.exact.Worlds.{ExactWorld, StandsExact}}
 
 -- a number below a time is below its amount
 pub below_amount : (n : ℕ) (z : ℤ) → pos n <ℤ z → n < unsigned_abs z

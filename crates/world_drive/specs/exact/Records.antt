@@ -1,11 +1,10 @@
 -- The records of a run whose clocks are exact.
 use Rattle.std.specs.Prelude.{◌+◌, ◌∷◌, ◌≡◌, Any, List, [], ℕ}
 use Rattle.drift_clock.specs.Segment.{fresh_segment, segment_reading, stepped_segment}
-use Rattle.drift_world.specs.Running.{behind_events, last_time, reading_of}
-use Rattle.net_plan.specs.declared.{event.{Event.Event, What.TheVariants.End}, ids.DeviceId.DeviceId}
-use Rattle.net_plan.specs.declared.network.Network.{Network}
-use Rattle.run_law.specs.{declared.note.Note.Note, runs.DueRecords.{EndsAt, IsRunOf}}
-use Rattle.tte_units.specs.{Amount.amount, declared.units.Units.Units}
+use Rattle.{drift_world.specs.Running.{behind_events, last_time, reading_of}, net_plan.specs.declared.event.Event.Event}
+use Rattle.net_plan.specs.declared.{event.What.TheVariants.End, ids.DeviceId.DeviceId, network.Network.Network}
+use Rattle.{run_law.specs.declared.note.Note.Note, tte_units.specs.Amount.amount}
+use Rattle.{run_law.specs.runs.DueRecords.{EndsAt, IsRunOf}, tte_units.specs.declared.units.Units.Units}
 
 -- one of the events is the end
 abbrev pub HaveEnded : List Event → Type 0

@@ -1,14 +1,11 @@
 -- The world of the program, and where it stands.
 use Rattle.std.specs.Prelude.{◌≡◌, List, pos, true}
 use Rattle.drift_clock.specs.Segment.{Segment, fresh_segment, segment_reading, stepped_segment}
-use Rattle.drift_world.specs.Running.{StandsUnder}
-use Rattle.net_plan.specs.declared.{event.Event.Event, network.Network.Network}
-use Rattle.run_law.specs.declared.note.Note.{Note}
-use Rattle.tte_units.specs.declared.units.Units.{Units}
-use Rattle.world_law.specs.world.World.{World}
-use Rattle.world_drive.specs.{machines.Standing.StandsAsDevice}
-use Rattle.world_drive.specs.{declared.machines.device_machine.DeviceMachine.DeviceMachine}
-use Rattle.world_state.specs.declared.kept.Kept.{Kept}
+use Rattle.{drift_world.specs.Running.StandsUnder, world_state.specs.declared.kept.Kept.Kept}
+use Rattle.{net_plan.specs.declared.event.Event.Event, tte_units.specs.declared.units.Units.Units}
+use Rattle.{net_plan.specs.declared.network.Network.Network, world_drive.specs.machines.Standing.StandsAsDevice}
+use Rattle.{run_law.specs.declared.note.Note.Note, world_law.specs.world.World.World}
+use Rattle.world_drive.specs.declared.machines.device_machine.DeviceMachine.{DeviceMachine}
 
 -- the world of the program, whose clocks are exact
 abbrev pub ExactWorld : Type 0

@@ -1,10 +1,8 @@
 -- How the machine of a device stands for it.
-use Rattle.end_system.specs.Standing.{StandsAsEnd}
-use Rattle.net_plan.specs.declared.{ids.DeviceId.DeviceId, network.Network.Network}
-use Rattle.run_law.specs.machines.Nodes.{Node}
-use Rattle.switch_ports.specs.Standing.{StandsAs}
-use Rattle.world_drive.specs.declared.machines.device_machine.DeviceMachine.{DeviceMachine}
+use Rattle.{end_system.specs.Standing.StandsAsEnd, switch_ports.specs.Standing.StandsAs}
+use Rattle.{net_plan.specs.declared.{ids.DeviceId.DeviceId, network.Network.Network}, run_law.specs.machines.Nodes.Node}
 use Rattle.world_drive.specs.declared.machines.device_machine.DeviceMachine.TheVariants.{EndSystem, Switch}
+use Rattle.world_drive.specs.declared.machines.device_machine.DeviceMachine.{DeviceMachine}
 
 -- it stands as the device of the network: as an end system does, or as a switch
 abbrev pub StandsAsDevice : DeviceMachine → Network → DeviceId → Node → Type 0

@@ -1,7 +1,6 @@
 ghost use Rattle.std.specs.Prelude.{◌≡◌, ◌<◌, length, IfOk};
 ghost use Rattle.drift_world.specs.Beginning.{AreFresh};
-ghost use Rattle.world_drive.specs.machines.Standing.{StandsAsDevice};
-ghost use Rattle.run_law.specs.machines.Nodes.{begun_node};
+ghost use Rattle.{run_law.specs.machines.Nodes.begun_node, world_drive.specs.machines.Standing.StandsAsDevice};
 
 use crate::machines::{DeviceMachine, OutOfMemory};
 use end_system::EndSystem;

@@ -1,17 +1,15 @@
 -- After an act a device has the tasks that it had before, and such as are for later readings.
+use Rattle.{compression.specs.Emission.compressed, run_law.specs.scenario.Devices.is_cm, std.proofs.Common.Contains, world_law.specs.device.Acted.IsCarried}
+use Rattle.{membership.specs.Members.count_of, sync_state.specs.Calls.state_by}
+use Rattle.{pcf_values.specs.declared.members.Members.Members, world_law.proofs.Words.{point_in, pos, refl, sending, subst, sym, true, value_of, ℕ, ℤ}}
+use Rattle.{run_law.specs.control.Hearing.{heard_by_schedule, heard_enough, is_in_schedule, last_cycle}, std.proofs.lemmas.List.Elements.Contains-append_left}
+use Rattle.{run_law.specs.control.Permanence.ripe_as, sync_state.{proofs.StateFacts.{no_longer, no_point}, specs.declared.plan.SyncPlan.SyncPlan}}
+use Rattle.run_law.specs.{device.States.is_synchronised, machines.{Answers.{with_clique, with_corrected, with_done}, Tasks.{IsDeedOf, IsUndone, IsWaiting}}}
 use Rattle.world_law.proofs.Words.{◌&&◌, ◌*◌, ◌++◌, ◌+ℤ◌, ◌+◌, ◌-ℤ◌, ◌<ℤ◌, ◌∙◌, ◌∷◌, ◌≡◌, ◌≤ℤ◌, Act, AreClusters, AsyncClique, Bool, Cleared, ClockTask}
 use Rattle.world_law.proofs.Words.{Cluster, Compressed, Corrected, DeviceId, Integrating, IsActOf, IsPending, Joining, List, MayCall, Moment, Network, Node}
 use Rattle.world_law.proofs.Words.{Off, Ripe, Some, Standing, State, Summary, SyncClique, Synchronised, Task, Units, Verdict, [], acting, after_correction}
 use Rattle.world_law.proofs.Words.{after_emission, amount, ap, arith, called, correcting, correction_value, dispatching, doing, emitting, false, filter}
 use Rattle.world_law.proofs.Words.{heard_as, if◌then◌else◌, inl, inr, ints, last_or, nat_le, next_point, no_cluster, observation_window, own_hearing, plan_of}
-use Rattle.world_law.{proofs.Words.{point_in, pos, refl, sending, subst, sym, true, value_of, ℕ, ℤ}, specs.device.Acted.IsCarried}
-use Rattle.std.proofs.{Common.Contains, lemmas.List.Elements.Contains-append_left}
-use Rattle.compression.specs.Emission.{compressed}
-use Rattle.membership.specs.Members.{count_of}
-use Rattle.pcf_values.specs.declared.members.Members.{Members}
-use Rattle.run_law.specs.{control.{Hearing.{heard_by_schedule, heard_enough, is_in_schedule, last_cycle}, Permanence.ripe_as}, device.States.is_synchronised}
-use Rattle.run_law.specs.{machines.{Answers.{with_clique, with_corrected, with_done}, Tasks.{IsDeedOf, IsUndone, IsWaiting}}, scenario.Devices.is_cm}
-use Rattle.sync_state.{proofs.StateFacts.{no_longer, no_point}, specs.{Calls.state_by, declared.plan.SyncPlan.SyncPlan}}
 use Rattle.run_law.specs.declared.steps.Act.TheVariants as acts
 use Rattle.run_law.specs.declared.steps.Ripe.TheVariants as ripe
 

@@ -1,13 +1,12 @@
 -- When a device acts by itself, it has a task that is due.
-use Rattle.world_law.proofs.Words.{if◌then◌else◌, ◌+ℤ◌, ◌+◌, ◌-ℤ◌, ◌-◌, ◌<ℤ◌, ◌<◌, ◌∙◌, ◌≡◌, ◌≤ℤ◌, ◌≤◌, AreClusters, Bool, ClockTask, Compressed, DeviceId}
-use Rattle.world_law.proofs.Words.{Emits, Happening, HasDone, HasSent, HasTaskBy, Integrating, IsAtCorrection, IsLeft, IsStill, Joining, Judgement, List, Node}
-use Rattle.world_law.proofs.Words.{Off, Reaches, Scenario, Sends, Some, State, Synchronised, Units, adjustment_before, and_parts, ap, arith, both_ways}
-use Rattle.world_law.proofs.Words.{cases_Bool, changed_at, correcting, correction_value, doing, earlier, emitting, false, has_cleared, inl, inr, int_lt, ints}
-use Rattle.world_law.proofs.Words.{is_broken, is_integration_cycle, is_timed, is_turned_on_at, local_at_change, never_both, next_cycle, observation_window}
-use Rattle.world_law.proofs.Words.{point_in, pos, recorded_cycle, refl, sending, state_before, subst, sym, true, value_of, ℕ, ℤ}
-use Rattle.std.proofs.{Common.Contains, lemmas.Bool.and_from}
-use Rattle.run_law.specs.machines.Tasks.{IsDeedOf, IsUndone}
-use Rattle.tte_lemmas.proofs.Integers.{int_le-from, int_le-is, int_lt-is}
+use Rattle.{run_law.specs.machines.Tasks.{IsDeedOf, IsUndone}, std.proofs.lemmas.Bool.and_from, tte_lemmas.proofs.Integers.{int_le-from, int_le-is, int_lt-is}}
+use Rattle.std.proofs.Common.{Contains}
+use Rattle.world_law.proofs.Words.{◌+ℤ◌, ◌+◌, ◌-ℤ◌, ◌-◌, ◌<ℤ◌, ◌<◌, ◌∙◌, ◌≡◌, ◌≤ℤ◌, ◌≤◌, AreClusters, Bool, ClockTask, Compressed, DeviceId, Emits, Happening}
+use Rattle.world_law.proofs.Words.{HasDone, HasSent, HasTaskBy, Integrating, IsAtCorrection, IsLeft, IsStill, Joining, Judgement, List, Node, Off, Reaches}
+use Rattle.world_law.proofs.Words.{Scenario, Sends, Some, State, Synchronised, Units, adjustment_before, and_parts, ap, arith, both_ways, cases_Bool}
+use Rattle.world_law.proofs.Words.{changed_at, correcting, correction_value, doing, earlier, emitting, false, has_cleared, if◌then◌else◌, inl, inr, int_lt}
+use Rattle.world_law.proofs.Words.{ints, is_broken, is_integration_cycle, is_timed, is_turned_on_at, local_at_change, never_both, next_cycle}
+use Rattle.world_law.proofs.Words.{observation_window, point_in, pos, recorded_cycle, refl, sending, state_before, subst, sym, true, value_of, ℕ, ℤ}
 use Rattle.world_law.proofs.devices.{OwnRecords.{adjustment_still, change_still, state_still}, Passes.{cleared_still, local_still, next_still, not_turned_on}}
 
 -- nothing moves the device from the time on, up to another: no record, and no event

@@ -1,5 +1,8 @@
 -- Where nothing that a world has under way is before a place, and nothing to come, no act of a device that is not worked off
 -- is before it.
+use Rattle.{net_plan.specs.declared.tables.Role.Role, sync_state.specs.Standing.state_at_start, world_law.proofs.putting.StandsOn.in_mapped}
+use Rattle.{run_law.specs.declared.judgement.Why.TheVariants.On, world_law.proofs.{devices.TurnedOn.{IsQuiet, quiet_rest}, lists.Lists.{behind_no, map_none}}}
+use Rattle.{run_law.specs.scenario.Devices.{has_role, start_of}, world_law.proofs.{devices.{Deeds.rests, OwnRecords.keeps_state}, putting.PutShown.hidden_rank}}
 use Rattle.world_law.proofs.Words.{◌++◌, ◌<◌, ◌∙◌, ◌∷◌, ◌≡◌, ◌≤◌, AreClusters, AreOfNetwork, Bool, Compressed, Device, DeviceId, Emits, Happening, HasDone}
 use Rattle.world_law.proofs.Words.{HasDoneFrom, HasSent, HasTaskBy, HaveBefallen, Integrating, IsActing, IsBefore, IsHeld, IsIn, IsKept, IsLeft, Judgement}
 use Rattle.world_law.proofs.Words.{List, Network, Node, None, Note, NoteBody, Off, Point, Scenario, Some, Stands, State, Synchronised, World, [], act_place}
@@ -9,13 +12,9 @@ use Rattle.world_law.proofs.Words.{inl, inr, ints, is_broken, is_turned_on_at, i
 use Rattle.world_law.proofs.Words.{observation_window, option_map_or, place_of, point_by, point_in, points_of, pos, rank, reading_for, refl, slice_get_within}
 use Rattle.world_law.proofs.{Words.{state_after, state_before, state_with, subst, sym, time_of, true, ℕ}, devices.Resting.{IsPast, IsWorked, are_past, at_rest}}
 use Rattle.world_law.proofs.{acts.Acting.{IsUnmoved, correcting_task, sending_task}, runs.Foremost.{NoActBefore, acting_task, none_but_acts, not_on_after}}
-use Rattle.world_law.proofs.{devices.Deeds.rests, lists.Orders.cases_int, putting.StandsOn.in_mapped}
-use Rattle.world_law.proofs.{devices.{OwnRecords.keeps_state, TurnedOn.{IsQuiet, quiet_rest}}, giving.Given.no_later_breaks, lists.Lists.{behind_no, map_none}}
-use Rattle.world_law.proofs.{putting.PutShown.hidden_rank, runs.SourcesBack.{dispatches_back, earlier_still, of_high_rank, reaches_back, standing_in, up_back}}
+use Rattle.world_law.proofs.{giving.Given.no_later_breaks, runs.SourcesBack.{dispatches_back, earlier_still, of_high_rank, reaches_back, standing_in, up_back}}
+use Rattle.world_law.proofs.lists.Orders.{cases_int}
 use Rattle.world_law.{proofs.rows.Dispatching.{IsLawful, dispatching_task, lawful}, specs.world.Moves.{NothingBefore, NothingComesBefore}}
-use Rattle.net_plan.specs.declared.tables.Role.{Role}
-use Rattle.run_law.specs.{declared.judgement.Why.TheVariants.On, scenario.Devices.{has_role, start_of}}
-use Rattle.sync_state.specs.Standing.{state_at_start}
 use Rattle.run_law.specs.declared.note.NoteBody.TheVariants as notes
 
 -- ---- records behind the acts of their instant, which leave the device at rest, do not change its points

@@ -1,13 +1,11 @@
 -- What the records of an instant tell of the acts of a device, while other records are put in and given.
+use Rattle.{net_plan.proofs.SameIds.self, std.proofs.Common.Contains, world_law.{proofs.acts.Acted.waiting_alike, specs.device.Deeds.HasSentFrom}}
 use Rattle.world_law.proofs.Words.{◌*◌, ◌++◌, ◌+◌, ◌-ℤ◌, ◌==◌, ◌∙◌, ◌∷◌, ◌≡◌, ◌≤ℤ◌, ◌≤◌, ◌⊎◌, AreClusters, Bool, ClockTask, Compressed, DeviceId, Dispatches}
 use Rattle.world_law.proofs.Words.{Happening, HasDoneFrom, IsIn, IsLeft, Judgement, LinkId, List, Node, NoteBody, Option, Point, Row, RowId, Scenario, Units}
 use Rattle.world_law.proofs.Words.{VlId, [], adjustment_before, amount, ap, append_assoc, arith, bears_on, both_ways, changed_at, dispatch_body, dispatching}
 use Rattle.world_law.proofs.Words.{earlier, false, if◌then◌else◌, in_left, in_parts, in_right, inl, inr, ints, is_cut, never_both, observation_window}
 use Rattle.world_law.proofs.Words.{option_map_or, plain, plain_body, plains, pos, rank, refl, sending, subst, sym, time_of, true, value_of, way_from, ℕ, ℤ}
-use Rattle.world_law.{proofs.acts.Acted.waiting_alike, specs.device.Deeds.HasSentFrom}
 use Rattle.world_law.{proofs.runs.SourcesBack.{dispatches_same, earlier_still, reaches_back, up_back}, specs.device.Recorded.{AreRecorded, IsShown}}
-use Rattle.std.proofs.Common.{Contains}
-use Rattle.net_plan.proofs.SameIds.{self}
 use Rattle.run_law.specs.declared.note.NoteBody.TheVariants as kinds
 
 -- nothing is done at the instant yet

@@ -1,8 +1,7 @@
 -- An event that does not turn a device on, and does not break it, leaves it as it was.
-use Rattle.world_law.proofs.Words.{if◌then◌else◌, ◌∙◌, ◌≡◌, ◌≤◌, Agree, Bool, DeviceId, Event, Happening, Integrating, IsIn, IsLeft, List, Network, Node, ap}
-use Rattle.world_law.proofs.Words.{arith, earlier, false, is_broken, is_timed, is_turned_on_at, refl, scenario, state_after, time_of, true, ℕ}
-use Rattle.run_law.specs.machines.Answers.{node_turned_on}
-use Rattle.world_law.{proofs.runs.Agreement.{heard_same, local_same, next_same}, specs.device.Left.IsCounted}
+use Rattle.{run_law.specs.machines.Answers.node_turned_on, world_law.{proofs.runs.Agreement.{heard_same, local_same, next_same}, specs.device.Left.IsCounted}}
+use Rattle.world_law.proofs.Words.{◌∙◌, ◌≡◌, ◌≤◌, Agree, Bool, DeviceId, Event, Happening, Integrating, IsIn, IsLeft, List, Network, Node, ap, arith, earlier}
+use Rattle.world_law.proofs.Words.{false, if◌then◌else◌, is_broken, is_timed, is_turned_on_at, refl, scenario, state_after, time_of, true, ℕ}
 
 -- the clocks read the same up to the time
 abbrev pub ReadAlike : (DeviceId → ℕ → ℕ) → (DeviceId → ℕ → ℕ) → ℕ → Type 0

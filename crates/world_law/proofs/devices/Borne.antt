@@ -1,17 +1,15 @@
 -- A device stands by the records that bear on it, wherever others stand between them.
-use Rattle.std.proofs.Common.{arith}
+use Rattle.{compression.specs.Clusters.point_at, membership.specs.Hearing.Hearing, world_law.{proofs.Words.{time_of, true, ℕ}, specs.device.Told.since_at}}
+use Rattle.{run_law.specs.control.{Collections.master_of, Corrections.heard_by}, world_law.proofs.devices.OwnRecords.{keeps_state, own_no}}
+use Rattle.{run_law.specs.scenario.Devices.{channel_of, channel_of_link}, world_law.proofs.lists.Lists.{behind_no, behind_yes, filter_no, filter_yes}}
+use Rattle.{std.proofs.Common.arith, world_law.specs.device.Own.own}
 use Rattle.world_law.proofs.Words.{◌&&◌, ◌++◌, ◌+ℤ◌, ◌+◌, ◌-◌, ◌==◌, ◌||◌, ◌∙◌, ◌∷◌, ◌≡◌, ◌≤◌, Bool, DeviceId, Happening, IfSome, Integrating, IsLeft, List}
 use Rattle.world_law.proofs.Words.{Network, Node, None, NoteBody, Option, Scenario, Some, Units, [], adjustment_before, adjustment_with, after_last, and_right}
 use Rattle.world_law.proofs.Words.{ap, append-nil, append_assoc, bears_on, borne, cases_Bool, changed_at, changes_adjustment, cons_option, cycle_after}
 use Rattle.world_law.proofs.Words.{cycle_in, earlier, ends_stretch, false, filter, filter-append, filter_map, fold, has_cleared, heard_since, hearing_by}
 use Rattle.world_law.proofs.Words.{if◌then◌else◌, inl, inr, integration_cycle, is_joined_by, is_turned_on_at, last_or, members_in, moves, nat_lt, not}
 use Rattle.world_law.proofs.Words.{option_map, option_map_or, point_by, points_of, pos, recorded_cycle, refl, same_kept, state_after, state_with, subst, sym}
-use Rattle.world_law.proofs.{Words.{time_of, true, ℕ}, devices.OwnRecords.{keeps_state, own_no}, lists.Lists.{behind_no, behind_yes, filter_no, filter_yes}}
 use Rattle.world_law.proofs.devices.OwnRecords.{changes_no_other, filter_own, fold_own, joins_no_other, keeps_adjustment, keeps_cycle, keeps_integration}
-use Rattle.world_law.specs.device.{Own.own, Told.since_at}
-use Rattle.compression.specs.Clusters.{point_at}
-use Rattle.membership.specs.Hearing.{Hearing}
-use Rattle.run_law.specs.{control.{Collections.master_of, Corrections.heard_by}, scenario.Devices.{channel_of, channel_of_link}}
 use Rattle.run_law.specs.declared.judgement.Judgement.TheVariants as judgements
 use Rattle.run_law.specs.declared.judgement.Why.TheVariants as whys
 use Rattle.run_law.specs.declared.note.NoteBody.TheVariants as notes

@@ -1,7 +1,5 @@
 -- A clock that keeps the clock laws makes no leap.
-use Rattle.world_law.proofs.Words.{◌*◌, ◌+◌, ◌-◌, ◌<◌, ◌^◌, ◌≡◌, ◌≤◌, arith, subst, ℕ}
-use Rattle.std.specs.Int.{abs_diff}
-use Rattle.drift_clock.specs.ClockLaws.{KeepsClockLaws}
+use Rattle.{drift_clock.specs.ClockLaws.KeepsClockLaws, std.specs.Int.abs_diff, world_law.proofs.Words.{◌*◌, ◌+◌, ◌-◌, ◌<◌, ◌^◌, ◌≡◌, ◌≤◌, arith, subst, ℕ}}
 
 small : (seen rho grain d : ℕ) → rho ≤ 1000000 → grain ≤ 2 ^ 20 → seen ≤ 1 + d → 10 ^ 9 * d ≤ rho * 1 + 2 * grain * 10 ^ 9 → seen < 2 ^ 22
 small seen rho grain d slow fine at measures = omega (arith, slow, fine, at, measures)

@@ -1,10 +1,9 @@
 -- A record that does not bear on a device leaves it as it was.
-use Rattle.world_law.proofs.Words.{if◌then◌else◌, ◌++◌, ◌+◌, ◌<◌, ◌∙◌, ◌∷◌, ◌≡◌, ◌≤◌, Bool, DeviceId, Happening, IsStill, Joining, List, None, NoteBody, Option}
-use Rattle.world_law.proofs.Words.{Scenario, Some, State, Units, [], adjustment_before, adjustment_with, ap, arith, cases_Bool, cases_lt, changed_at}
-use Rattle.world_law.proofs.Words.{changes_adjustment, cycle_after, cycle_in, earlier, false, filter, fold, inr, integration_cycle, is_joined_by, last_or}
-use Rattle.world_law.proofs.Words.{le-ltb, lt-ltb, moves, nat_lt, option_map_or, recorded_cycle, refl, state_after, state_with, sym, time_of, true, ℕ}
-use Rattle.run_law.specs.device.States.{joined_adjustment}
-use Rattle.world_law.{proofs.lists.Lists.filter_no, specs.device.Own.own}
+use Rattle.{run_law.specs.device.States.joined_adjustment, world_law.{proofs.lists.Lists.filter_no, specs.device.Own.own}}
+use Rattle.world_law.proofs.Words.{◌++◌, ◌+◌, ◌<◌, ◌∙◌, ◌∷◌, ◌≡◌, ◌≤◌, Bool, DeviceId, Happening, IsStill, Joining, List, None, NoteBody, Option, Scenario}
+use Rattle.world_law.proofs.Words.{Some, State, Units, [], adjustment_before, adjustment_with, ap, arith, cases_Bool, cases_lt, changed_at, changes_adjustment}
+use Rattle.world_law.proofs.Words.{cycle_after, cycle_in, earlier, false, filter, fold, if◌then◌else◌, inr, integration_cycle, is_joined_by, last_or, le-ltb}
+use Rattle.world_law.proofs.Words.{lt-ltb, moves, nat_lt, option_map_or, recorded_cycle, refl, state_after, state_with, sym, time_of, true, ℕ}
 use Rattle.run_law.specs.declared.judgement.Judgement.TheVariants as judgements
 use Rattle.run_law.specs.declared.note.NoteBody.TheVariants as notes
 

@@ -1,12 +1,11 @@
 -- Time passes at a device that no record moves.
+use Rattle.{membership.specs.Hearing.Hearing, run_law.proofs.records.Order.after_same}
 use Rattle.world_law.proofs.Words.{◌&&◌, ◌+ℤ◌, ◌+◌, ◌-◌, ◌==◌, ◌||◌, ◌∙◌, ◌≡◌, ◌≤◌, Bool, DeviceId, Happening, IfSome, Integrating, IsLeft, IsStill, List, Node}
 use Rattle.world_law.proofs.Words.{Option, Scenario, Units, adjustment_before, after_last, ap, arith, cases_lt, changed_at, changes_adjustment}
 use Rattle.world_law.proofs.Words.{correction_value, earlier, false, filter, filter_map, has_cleared, heard_since, hearing_by, if◌then◌else◌, inl, inr, int_le}
 use Rattle.world_law.proofs.Words.{int_lt, integration_cycle, is_broken, is_integration_cycle, is_timed, is_turned_on_at, le-ltb, local_at_change, lt-ltb}
 use Rattle.world_law.proofs.Words.{nat_lt, next_cycle, not, option_map_or, pos, recorded_cycle, same_kept, state_after, state_before, subst, sym, time_of, true}
 use Rattle.world_law.proofs.{Words.ℕ, devices.OwnRecords.{adjustment_still, change_still, changes_no_other, cycle_still, integration_still, state_still}}
-use Rattle.membership.specs.Hearing.{Hearing}
-use Rattle.run_law.proofs.records.Order.{after_same}
 
 -- has a joiner cleared by the time, where its last adjustment came at `changed`?
 abbrev cleared_as : Scenario → DeviceId → Bool → ℕ → ℕ → Units → ℕ → Bool

@@ -1,12 +1,11 @@
 -- A device that has nothing due at the present instant, where nothing is to come: it rests from this instant on, or from the
 -- next.
+use Rattle.{run_law.proofs.records.Order.time_before, world_law.proofs.{devices.Deeds.rests, giving.Given.no_later_breaks}}
 use Rattle.world_law.proofs.Words.{◌++◌, ◌+◌, ◌<ℤ◌, ◌<◌, ◌∙◌, ◌∷◌, ◌≡◌, ◌≤ℤ◌, ◌≤◌, DeviceId, Happening, HasDone, HasDoneFrom, HasSent, HaveBefallen, IsBefore}
 use Rattle.world_law.proofs.Words.{IsDue, IsFounded, IsIn, IsKept, IsLeft, IsOfThisTime, IsPending, IsTurnedOnBy, List, Network, Node, Note, Scenario, Stands}
 use Rattle.world_law.proofs.Words.{Task, World, [], ap, append-nil, arith, cases_Bool, cases_lt, changed_at, doing, emitting, false, happenings, in_right, inl}
 use Rattle.world_law.proofs.Words.{inr, ints, is_turned_on_at, key, members_in, moves, place_of, pos, rank, reading_for, refl, subst, sym, time_of, true, ℕ}
-use Rattle.run_law.proofs.records.Order.{time_before}
-use Rattle.world_law.proofs.{devices.{Deeds.rests, TurnedOn.{IsInTime, IsQuietInstant, change_quiet, left_after_on, quiet_rest}}, giving.Given.no_later_breaks}
-use Rattle.world_law.proofs.runs.Foremost.{not_on_after, unmoved_by}
+use Rattle.world_law.proofs.{devices.TurnedOn.{IsInTime, IsQuietInstant, change_quiet, left_after_on, quiet_rest}, runs.Foremost.{not_on_after, unmoved_by}}
 
 -- it rests from this time on
 pub record Rests (s : Scenario) (hs : List Happening) (device : DeviceId) (now : ℕ) (node : Node) : Type 0 where

@@ -1,16 +1,13 @@
 -- A frame that waits is one that the network has: its `arrived` record was due.
-use Rattle.std.proofs.{Common.{Err, IsSomeAnd, arith}, lemmas.Bool.not-false}
-use Rattle.world_law.proofs.Words.{if◌then◌else◌, ◌&&◌, ◌++◌, ◌==◌, ◌∙◌, ◌∷◌, ◌≡◌, ◌≤◌, Arrival, Arrives, ArrivesAs, Bool, DeviceId, Down, Happening}
-use Rattle.world_law.proofs.Words.{IsArrivedRecord, IsCaused, IsDue, IsFounded, IsIn, Launch, Link, LinkId, List, Network, None, NoteBody, Ok, Option, Pcf}
-use Rattle.world_law.proofs.Words.{Reason, Scenario, Send, Signal, Some, Standpoint, Units, Up, Way, [], amount, ap, arrival_of, cases_lt, control, eqb-true}
-use Rattle.world_law.proofs.Words.{false, founded_at, frame_by, inl, inr, is_cut, launched, length, link_at, lt-ltb, nat_lt, not, numbered, option_and_then}
-use Rattle.world_law.proofs.Words.{option_map, place_of, refl, signal_of, standpoint, subst, sym, target_by, time_of, timed, timed_arrival, true, way_from}
-use Rattle.world_law.proofs.Words.{with_clock, ℕ}
-use Rattle.pcf_codec.specs.{Decoding.decoded}
-use Rattle.pcf_values.specs.declared.pcf.PcfKind.{PcfKind, TheVariants.Integration}
-use Rattle.run_law.{proofs.law.FirstPlaces.numbered_in, specs.{control.Arrivals.is_of_other_member, device.Standpoints.first_reason, scenario.Ways.receiver_of}}
+use Rattle.{pcf_codec.specs.Decoding.decoded, std.proofs.{Common.{Err, IsSomeAnd, arith}, lemmas.Bool.not-false}, world_law.proofs.Words.{with_clock, ℕ}}
+use Rattle.{pcf_values.specs.declared.pcf.PcfKind.{PcfKind, TheVariants.Integration}, run_law.specs.control.Arrivals.is_of_other_member}
+use Rattle.run_law.{proofs.law.FirstPlaces.numbered_in, specs.{device.Standpoints.first_reason, machines.Calls.IsLinkAt, scenario.Ways.receiver_of}}
 use Rattle.run_law.specs.control.Arrivals.{clock_on_arrival, frame_fault, frame_or_fault, frame_taken, is_cold_start, is_gate_shut, is_of_other_domain}
-use Rattle.run_law.specs.machines.Calls.{IsLinkAt}
+use Rattle.world_law.proofs.Words.{◌&&◌, ◌++◌, ◌==◌, ◌∙◌, ◌∷◌, ◌≡◌, ◌≤◌, Arrival, Arrives, ArrivesAs, Bool, DeviceId, Down, Happening, IsArrivedRecord}
+use Rattle.world_law.proofs.Words.{IsCaused, IsDue, IsFounded, IsIn, Launch, Link, LinkId, List, Network, None, NoteBody, Ok, Option, Pcf, Reason, Scenario}
+use Rattle.world_law.proofs.Words.{Send, Signal, Some, Standpoint, Units, Up, Way, [], amount, ap, arrival_of, cases_lt, control, eqb-true, false, founded_at}
+use Rattle.world_law.proofs.Words.{frame_by, if◌then◌else◌, inl, inr, is_cut, launched, length, link_at, lt-ltb, nat_lt, not, numbered, option_and_then}
+use Rattle.world_law.proofs.Words.{option_map, place_of, refl, signal_of, standpoint, subst, sym, target_by, time_of, timed, timed_arrival, true, way_from}
 use Rattle.run_law.specs.declared.judgement.Reason.TheVariants as reasons
 use Rattle.run_law.specs.declared.note.NoteBody.TheVariants as kinds
 use Rattle.run_law.specs.declared.steps.Arrival.TheVariants as arrivals

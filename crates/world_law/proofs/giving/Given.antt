@@ -1,4 +1,7 @@
 -- The first of what is to come is given: the world stands again.
+use Rattle.run_law.{proofs.{law.FirstPlaces.numbered_next, runs.NetworkRuns.one_more}, specs.{control.Permanence.IsPermanent, scenario.Hypothesis.breaks_at}}
+use Rattle.{run_law.specs.scenario.Scenarios.events_up_to, world_law.specs.world.World.{AreUntold, Befell, IsActedUpTo, IsAwaitedFor, IsJustTold, note_of}}
+use Rattle.std.proofs.lemmas.{Bool.le-leb, List.length_push, Option.slice_get_cases}
 use Rattle.world_law.proofs.Words.{◌++◌, ◌+◌, ◌<◌, ◌∙◌, ◌∷◌, ◌≡◌, ◌≤◌, AreAtPorts, AreOfNetwork, AreOnWires, AreSettled, AreWaiting, AtPort, Bool, Device}
 use Rattle.world_law.proofs.Words.{DeviceId, Event, Happening, HasDoneFrom, HaveBefallen, IsBefore, IsCaused, IsDue, IsEventRecord, IsHeld, IsIn, IsKept}
 use Rattle.world_law.proofs.Words.{IsLeft, IsScenarioRun, IsSource, IsTurnedOnBy, LinkId, List, Network, NoSourceBefore, Node, Note, NoteBody, Off, OnWire}
@@ -7,13 +10,9 @@ use Rattle.world_law.proofs.Words.{before_next_time, behind, cases_Bool, changed
 use Rattle.world_law.proofs.Words.{happenings, hidden, hidden_body, inl, inr, ints, is_broken, key, length, list_any, map, members_in, nat_le, never_self}
 use Rattle.world_law.proofs.Words.{none_yet, numbered, place_of, port_place, rank, refl, ripe_place, same_kept, slice_get, state_after, subst, suc, sym}
 use Rattle.world_law.proofs.{Words.{time_of, true, units_of, up_to, wire_place, ℕ}, runs.Firsts.{arriving_more, departing_more, numbered_more, numbered_still}}
-use Rattle.world_law.{proofs.acts.Recorded.recorded_given, specs.world.World.{AreUntold, Befell, IsActedUpTo, IsAwaitedFor, IsJustTold, note_of}}
+use Rattle.world_law.{proofs.{acts.Recorded.recorded_given, giving.Storing.stored_then}, specs.world.Moves.{AreAwaited, AreGiven, ArePut, GivenStep, named}}
 use Rattle.world_law.proofs.giving.{GivenParts.{IsGiving, settled_then, up_to_place, worked_by_then}, Naming.{IsFollowing, named_right, shown_as}}
-use Rattle.world_law.{proofs.giving.Storing.stored_then, specs.world.Moves.{AreAwaited, AreGiven, ArePut, GivenStep, named}}
 use Rattle.world_law.proofs.runs.{SourcesBack.{acting_back, arrives_later, gives_rank, no_higher}, Worlds.{first_settled_is_next, length_is}}
-use Rattle.std.proofs.lemmas.{Bool.le-leb, List.length_push, Option.slice_get_cases}
-use Rattle.run_law.{proofs.{law.FirstPlaces.numbered_next, runs.NetworkRuns.one_more}, specs.{control.Permanence.IsPermanent, scenario.Hypothesis.breaks_at}}
-use Rattle.run_law.specs.scenario.Scenarios.{events_up_to}
 use Rattle.run_law.specs.declared.note.NoteBody.TheVariants as kinds
 
 -- ---- events so far

@@ -1,16 +1,14 @@
 -- What follows a record has its number once it is given.
+use Rattle.{compression.specs.Clusters.point_at, net_plan.proofs.SameIds.alike, run_law.specs.scenario.Devices.is_cm}
+use Rattle.{run_law.{proofs.control.Verdicts.collected_not, specs.control.Hearing.heard_by_schedule}, world_law.proofs.Words.{sym, time_of, true, zero, ℕ}}
+use Rattle.run_law.{proofs.records.Order.before_is, specs.{control.{Collections.master_of, Permanence.ripe_as}, records.Happenings.frame_from}}
+use Rattle.{std.proofs.lemmas.Bool.{MatchBool-at_false, MatchBool-at_true}, world_law.specs.world.Moves.{follows, is_corrected, named, named_body}}
 use Rattle.world_law.proofs.Words.{◌&&◌, ◌++◌, ◌+◌, ◌<◌, ◌==◌, ◌||◌, ◌∙◌, ◌∷◌, ◌≡◌, ◌≤◌, ◌⊎◌, Bool, ChangesState, DeviceId, Happening, IsBefore, IsCaused}
 use Rattle.world_law.proofs.Words.{IsDue, IsIn, Joining, List, Network, NoteBody, Option, Pcf, Scenario, Some, State, Units, Why, [], adjustment_at_hearing}
 use Rattle.world_law.proofs.Words.{amount, and_right, ap, arith, before_permanence, cases_Bool, eq-eqb, eqb-true, false, false_from_ne_true, filter, frame_by}
 use Rattle.world_law.proofs.Words.{has_joined_at, heard_as, hidden, hidden_body, if◌then◌else◌, in_right, inl, inr, is_before, is_joined_by, key, le-ltb}
 use Rattle.world_law.proofs.Words.{length, list_any, lt-ltb, map, members_in, nat_lt, never_self, none_yet, numbered, numbered_within, observation_window}
 use Rattle.world_law.proofs.Words.{option_and_then, option_map_or, parted, place_of, plan_of, points_of, rank, refl, state_at_hearing, state_before, subst, suc}
-use Rattle.world_law.{proofs.Words.{sym, time_of, true, zero, ℕ}, specs.world.Moves.{follows, is_corrected, named, named_body}}
-use Rattle.std.proofs.lemmas.Bool.{MatchBool-at_false, MatchBool-at_true}
-use Rattle.compression.specs.Clusters.{point_at}
-use Rattle.net_plan.proofs.SameIds.{alike}
-use Rattle.run_law.{proofs.{control.Verdicts.collected_not, records.Order.before_is}, specs.control.{Collections.master_of, Hearing.heard_by_schedule}}
-use Rattle.run_law.specs.{control.Permanence.ripe_as, records.Happenings.frame_from, scenario.Devices.is_cm}
 use Rattle.run_law.specs.declared.judgement.Judgement.TheVariants as judgements
 use Rattle.run_law.specs.declared.judgement.Why.TheVariants as whys
 use Rattle.run_law.specs.declared.note.NoteBody.TheVariants as notes

@@ -1,9 +1,8 @@
 -- At most two frames are due at once and have not waited for as long as the precision.
+use Rattle.{compression.{proofs.Standing.AreClusters-unique, specs.Middle.{middle_of, relative}}, world_law.specs.device.Growing.{FewAreEmitted, IsDueFrame}}
+use Rattle.{compression.specs.Emission.emission, std.proofs.Common.{◌*ℤ◌, Contains}}
 use Rattle.world_law.proofs.Words.{◌+ℤ◌, ◌<ℤ◌, ◌∷◌, ◌≡◌, ◌≤ℤ◌, Cluster, Compressed, IsInRange, List, Network, Node, [], amount, ap, arith, inl, inr, ints}
-use Rattle.world_law.proofs.Words.{observation_window, pos, refl, subst, ℤ}
-use Rattle.std.proofs.Common.{◌*ℤ◌, Contains}
-use Rattle.compression.{proofs.Standing.AreClusters-unique, specs.{Emission.emission, Middle.{middle_of, relative}}}
-use Rattle.world_law.{proofs.growing.{Growing.whole_precision, Spans.{IsSpan, opens_behind, span_of}}, specs.device.Growing.{FewAreEmitted, IsDueFrame}}
+use Rattle.world_law.proofs.{Words.{observation_window, pos, refl, subst, ℤ}, growing.{Growing.whole_precision, Spans.{IsSpan, opens_behind, span_of}}}
 
 -- the emission of a cluster lies from its opening to its end, and two windows and the time to calculate
 record IsSentBy (ow calc : ℤ) (c : Cluster) (at : ℤ) : Type 0 where

@@ -1,10 +1,9 @@
 -- Different rows that leave one device are at most 256.
-use Rattle.world_law.proofs.Words.{if◌then◌else◌, ◌+◌, ◌==◌, ◌∷◌, ◌≡◌, ◌≤◌, AllByRecursion, Bool, DeviceId, Entry, IsEntry, KeepsRules, List}
-use Rattle.world_law.proofs.Words.{Network, Row, Some, [], ap, arith, cases_Bool, eq-eqb, eqb-true, filter, inl, inr, length, list_any}
-use Rattle.world_law.proofs.Words.{option_map_or, refl, slice_get, source_of, subst, suc, sym, true, zero, ℕ}
-use Rattle.std.proofs.lemmas.{Bool.{cases_eq, ne_eqb, or_cases, or_left, or_right}, List.Sums.length-filter, Map.Made.length-le_from_is_member}
-use Rattle.std.specs.{Cmp.IsEquivalence, List.{IsDistinct, count_by}}
-use Rattle.schedule_tables.specs.{Schedule.leaves, declared.rule.Rule.TheVariants.RowsOfDevice}
+use Rattle.{schedule_tables.specs.Schedule.leaves, std.specs.{Cmp.IsEquivalence, List.{IsDistinct, count_by}}}
+use Rattle.{schedule_tables.specs.declared.rule.Rule.TheVariants.RowsOfDevice, std.proofs.lemmas.Bool.{cases_eq, ne_eqb, or_cases, or_left, or_right}}
+use Rattle.{std.proofs.lemmas.{List.Sums.length-filter, Map.Made.length-le_from_is_member}, world_law.proofs.Words.{source_of, subst, suc, sym, true, zero, ℕ}}
+use Rattle.world_law.proofs.Words.{◌+◌, ◌==◌, ◌∷◌, ◌≡◌, ◌≤◌, AllByRecursion, Bool, DeviceId, Entry, IsEntry, KeepsRules, List, Network, Row, Some, [], ap}
+use Rattle.world_law.proofs.Words.{arith, cases_Bool, eq-eqb, eqb-true, filter, if◌then◌else◌, inl, inr, length, list_any, option_map_or, refl, slice_get}
 
 abbrev eqn : ℕ → ℕ → Bool
 eqn a b = a == b

@@ -1,11 +1,9 @@
 -- The clusters of a list of points open at different readings.
+use Rattle.{compression.proofs.Elements.{all_at, beyond-all, in_cases, in_none}, std.proofs.{Common.Contains, lemmas.List.Elements.recursion_from_All}}
+use Rattle.{compression.proofs.{Standing.AreClusters-unique, Times.{first_end, open_beyond}}, run_law.specs.machines.Tasks.IsWaiting}
+use Rattle.{compression.specs.{Clusters.beyond, Emission.compressed}, tte_lemmas.proofs.Integers.whole}
 use Rattle.world_law.proofs.Words.{◌<ℤ◌, ◌∙◌, ◌∷◌, ◌≡◌, ◌≤ℤ◌, AllByRecursion, AreClusters, Cluster, Compressed, DeviceId, IsFromZero, List, Network, Node}
 use Rattle.world_law.proofs.Words.{Point, [], amount, ap, arith, inl, inr, ints, negsuc, observation_window, pos, subst, sym, ℤ}
-use Rattle.std.proofs.{Common.Contains, lemmas.List.Elements.recursion_from_All}
-use Rattle.compression.proofs.{Elements.{all_at, beyond-all, in_cases, in_none}, Standing.AreClusters-unique, Times.{first_end, open_beyond}}
-use Rattle.compression.specs.{Clusters.beyond, Emission.compressed}
-use Rattle.run_law.specs.machines.Tasks.{IsWaiting}
-use Rattle.tte_lemmas.proofs.Integers.{whole}
 
 -- two clusters that open at the same reading are one
 pub one_opening : (ow : ℤ) (ps : List Point) (cs : List Cluster) → pos 0 ≤ℤ ow → AreClusters ow ps cs → (c d : Cluster) → Contains cs c → Contains cs d

@@ -1,11 +1,9 @@
 -- How far a cluster reaches, and how far its frame's emission lies behind its opening.
-use Rattle.world_law.proofs.Words.{◌&&◌, ◌+ℤ◌, ◌-ℤ◌, ◌<ℤ◌, ◌==◌, ◌∙◌, ◌∷◌, ◌≡◌, ◌≤ℤ◌, AllByRecursion, AreClusters, Cluster, List, Point, [], and_parts, ap}
-use Rattle.world_law.proofs.Words.{arith, cases_Bool, false, inl, inr, int_le, ints, map, pos, subst, sym, true, ℕ, ℤ}
-use Rattle.std.proofs.Common.{◌*ℤ◌, Contains}
-use Rattle.compression.proofs.{ClusterFacts.ends_soon, Elements.{all_at, beyond-all, in_cases, in_none}, Firsts.{counts, firsts-start}, Growth.end_of-least}
-use Rattle.compression.proofs.{Held.held-start, Times.{first_end, open_beyond}}
+use Rattle.{compression.proofs.{ClusterFacts.ends_soon, Growth.end_of-least}, std.proofs.Common.{◌*ℤ◌, Contains}, tte_units.specs.Mean.mean_of}
+use Rattle.compression.proofs.{Elements.{all_at, beyond-all, in_cases, in_none}, Firsts.{counts, firsts-start}, Held.held-start, Times.{first_end, open_beyond}}
 use Rattle.compression.specs.{Clusters.{beyond, cluster_of, end_of, firsts, has_master, of_cycle_within}, Middle.{last_but_one, middle_of, relative}}
-use Rattle.tte_units.{proofs.Means.mean_of-floor, specs.Mean.mean_of}
+use Rattle.{tte_units.proofs.Means.mean_of-floor, world_law.proofs.Words.{arith, cases_Bool, false, inl, inr, int_le, ints, map, pos, subst, sym, true, ℕ, ℤ}}
+use Rattle.world_law.proofs.Words.{◌&&◌, ◌+ℤ◌, ◌-ℤ◌, ◌<ℤ◌, ◌==◌, ◌∙◌, ◌∷◌, ◌≡◌, ◌≤ℤ◌, AllByRecursion, AreClusters, Cluster, List, Point, [], and_parts, ap}
 
 -- ---- the middle of numbers that lie from 0 to a bound
 

@@ -1,12 +1,11 @@
 -- What is due late at an instant is due by any records that agree with those before it in what bears on it.
-use Rattle.world_law.proofs.Words.{if◌then◌else◌, ◌&&◌, ◌==◌, ◌∙◌, ◌∷◌, ◌≡◌, ◌≤◌, Arrival, ArrivesAs, BecomesPermanent, Departs, Departure, DeviceId, Happening}
-use Rattle.world_law.proofs.Words.{Integrating, IsCaused, IsDropped, IsLost, IsOwnSource, IsSendLost, LinkId, List, Network, Note, NoteBody, Option, Pcf}
-use Rattle.world_law.proofs.Words.{Reason, Ripe, Scenario, Send, Signal, Standpoint, Units, VlId, [], adjustment_after, amount, ap, arith, arrival_of}
-use Rattle.world_law.proofs.Words.{before_permanence, cause_of, control, control_arrival, earlier, frame_by, happening, inl, inr, is_broken, is_turned_on_at}
+use Rattle.{run_law.specs.{device.States.is_off, records.{Frames.tt_frame, Happenings.octets_by}}, world_law.proofs.giving.Given.same_permanent}
+use Rattle.world_law.proofs.Words.{◌&&◌, ◌==◌, ◌∙◌, ◌∷◌, ◌≡◌, ◌≤◌, Arrival, ArrivesAs, BecomesPermanent, Departs, Departure, DeviceId, Happening, Integrating}
+use Rattle.world_law.proofs.Words.{IsCaused, IsDropped, IsLost, IsOwnSource, IsSendLost, LinkId, List, Network, Note, NoteBody, Option, Pcf, Reason, Ripe}
+use Rattle.world_law.proofs.Words.{Scenario, Send, Signal, Standpoint, Units, VlId, [], adjustment_after, amount, ap, arith, arrival_of, before_permanence}
+use Rattle.world_law.proofs.Words.{cause_of, control, control_arrival, earlier, frame_by, happening, if◌then◌else◌, inl, inr, is_broken, is_turned_on_at}
 use Rattle.world_law.proofs.Words.{last_taken, not, numbered, option_and_then, option_map, option_map_or, plains, rank, refl, state_after, sym, timed}
-use Rattle.world_law.proofs.Words.{timed_arrival, up_to, with_clock, ℕ}
-use Rattle.run_law.specs.{device.States.is_off, records.{Frames.tt_frame, Happenings.octets_by}}
-use Rattle.world_law.proofs.{giving.Given.same_permanent, putting.Renumbers.{judged_alike, timed_by}, runs.SourcesBack.dispatches_back}
+use Rattle.world_law.proofs.{Words.{timed_arrival, up_to, with_clock, ℕ}, putting.Renumbers.{judged_alike, timed_by}, runs.SourcesBack.dispatches_back}
 use Rattle.run_law.specs.declared.note.NoteBody.TheVariants as notes
 
 -- the records agree at the time: in those given, so many, in those of earlier times, in what was taken, in what judges a

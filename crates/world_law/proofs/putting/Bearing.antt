@@ -1,5 +1,5 @@
 -- A device on which a record does not bear stands with it as without it.
-use Rattle.std.proofs.Common.{arith}
+use Rattle.{std.proofs.Common.arith, world_law.proofs.devices.Plains.{adjustments_plain, changes_at_plain, earlier_plain, states_plain, told_by_others}}
 use Rattle.world_law.proofs.Words.{◌++◌, ◌+ℤ◌, ◌∙◌, ◌∷◌, ◌≡◌, ◌≤◌, ◌⊎◌, AreOfNetwork, DeviceId, Happening, HasDoneFrom, HasTurnedOn, Integrating, IsAtRest}
 use Rattle.world_law.proofs.Words.{IsHeld, IsIn, IsKept, IsLeft, List, Network, Node, NoteBody, Scenario, State, TakenFrame, Units, adjustment_after}
 use Rattle.world_law.proofs.Words.{adjustment_with, ap, append_assoc, bears_on, borne, changed_at, cycle_in, earlier, false, frames_taken, if◌then◌else◌}
@@ -8,7 +8,6 @@ use Rattle.world_law.proofs.Words.{refl, state_after, state_before, state_with, 
 use Rattle.world_law.proofs.acts.Recorded.{is_sending, recorded_put}
 use Rattle.world_law.proofs.{devices.Borne.{left_alike, moves_no_other, tell_alike}, rows.Takings.{IsNoTaking, frames_plain, taken_parts, taken_same}}
 use Rattle.world_law.proofs.{devices.OwnRecords.{keeps_adjustment, keeps_state}, putting.Idle.{drop_one, fold_skip, up_to_plain}}
-use Rattle.world_law.proofs.devices.Plains.{adjustments_plain, changes_at_plain, earlier_plain, states_plain, told_by_others}
 use Rattle.world_law.proofs.putting.{Bumped.{bump_behind, in_placed, placed, placed_in, raised, raised_moves, raised_turning}, NearPut.plains_placed}
 
 -- ---- by lists

@@ -1,10 +1,9 @@
 -- A record is put in: those behind it have the next number, and so have causes that stand behind it.
-use Rattle.world_law.proofs.Words.{if◌then◌else◌, ◌++◌, ◌+◌, ◌-◌, ◌<◌, ◌∙◌, ◌∷◌, ◌≡◌, ◌≤◌, ◌⊎◌, Bool, ChangesState, DeviceId, Happening, IsBefore}
-use Rattle.world_law.proofs.Words.{IsDue, IsIn, List, NoteBody, Scenario, Some, State, Why, [], amount, ap, arith, cases_lt, cases_order, cause_of, chain}
-use Rattle.world_law.proofs.Words.{either_way, hidden, hidden_body, inl, inr, is_at_source, is_joined_by, is_turning, key, le-ltb, length, length-append}
-use Rattle.world_law.proofs.Words.{length-map, lt-ltb, map, members_in, moves, nat_lt, never_self, numbered, numbered_within, option_map, place_of, plain, rank}
-use Rattle.world_law.proofs.Words.{refl, slice_get, subst, suc, sym, time_of, zero, ℕ}
-use Rattle.std.proofs.lemmas.Option.{slice_get-map}
+use Rattle.{std.proofs.lemmas.Option.slice_get-map, world_law.proofs.Words.{suc, sym, time_of, zero, ℕ}}
+use Rattle.world_law.proofs.Words.{◌++◌, ◌+◌, ◌-◌, ◌<◌, ◌∙◌, ◌∷◌, ◌≡◌, ◌≤◌, ◌⊎◌, Bool, ChangesState, DeviceId, Happening, IsBefore, IsDue, IsIn, List, NoteBody}
+use Rattle.world_law.proofs.Words.{Scenario, Some, State, Why, [], amount, ap, arith, cases_lt, cases_order, cause_of, chain, either_way, hidden, hidden_body}
+use Rattle.world_law.proofs.Words.{if◌then◌else◌, inl, inr, is_at_source, is_joined_by, is_turning, key, le-ltb, length, length-append, length-map, lt-ltb, map}
+use Rattle.world_law.proofs.Words.{members_in, moves, nat_lt, never_self, numbered, numbered_within, option_map, place_of, plain, rank, refl, slice_get, subst}
 use Rattle.run_law.specs.declared.judgement.Why.TheVariants as whys
 use Rattle.run_law.specs.declared.note.NoteBody.TheVariants as notes
 

@@ -1,11 +1,10 @@
 -- The cursor goes by a source of the present instant.
-use Rattle.std.proofs.Common.{arith}
+use Rattle.{std.proofs.Common.arith, world_law.specs.world.{Moves.IsWithout, World.IsOut}}
 use Rattle.world_law.proofs.Words.{◌++◌, ◌∙◌, ◌∷◌, ◌≡◌, ◌⊎◌, AllBefore, AreAtPorts, AreOnWires, AreSettled, AreWaiting, AtPort, DeviceId, Happening}
 use Rattle.world_law.proofs.Words.{HasTurnedOn, IsBefore, IsDue, IsForward, IsHeld, IsIn, IsKept, IsOwnSource, IsSource, List, Network, NoSourceBefore, Node}
 use Rattle.world_law.proofs.Words.{NoneBefore, OnWire, Pcf, Scenario, Waiting, [], act_place, amount, ap, append-nil, before_behind, before_later}
 use Rattle.world_law.proofs.Words.{before_or_not, behind, chain, either_way, false, in_left, inl, inr, members_in, place_of, port_place, refl, ripe_place}
-use Rattle.world_law.proofs.Words.{subst, sym, time_of, wire_place, ℕ}
-use Rattle.world_law.{proofs.{giving.GivenParts.{taken_on, up_to_place}, runs.SourcesBack.source_back}, specs.world.{Moves.IsWithout, World.IsOut}}
+use Rattle.world_law.proofs.{Words.{subst, sym, time_of, wire_place, ℕ}, giving.GivenParts.{taken_on, up_to_place}, runs.SourcesBack.source_back}
 
 -- what a step that works off the source at this place of the instant starts from
 pub record IsMoving (s : Scenario) (hs coming : List Happening) (mark cursor : List ℕ) (now r : ℕ) (more : List ℕ) : Type 0 where

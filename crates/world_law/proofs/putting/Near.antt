@@ -1,4 +1,6 @@
 -- What is due by one of two lists of records that tell the same up to a source is due by the other.
+use Rattle.membership.specs.Summary.{Summarizes}
+use Rattle.{run_law.specs.{control.{Corrections.standing_before, Permanence.IsJudgedBy}, records.Happenings.octets_by}, sync_state.specs.Verdicts.HasVerdict}
 use Rattle.world_law.proofs.Words.{◌++◌, ◌+ℤ◌, ◌+◌, ◌-◌, ◌<◌, ◌==◌, ◌∙◌, ◌∷◌, ◌≡◌, ◌≤◌, ◌⊎◌, Arrival, ArrivesAs, BecomesPermanent, Bool, ChangesState}
 use Rattle.world_law.proofs.Words.{ComesToCorrection, Compressed, Departs, Departure, DeviceId, Dispatches, Emits, Happening, Integrating, IsActing, IsBefore}
 use Rattle.world_law.proofs.Words.{IsCaused, IsDropped, IsDue, IsForward, IsFounded, IsIn, IsLost, IsOfThisTime, IsOwnSource, IsSendLost, IsSource, Joining}
@@ -12,9 +14,6 @@ use Rattle.world_law.proofs.{Words.{time_of, timed, timed_arrival, true, ℕ}, g
 use Rattle.world_law.proofs.putting.{Alike.{frame_alike, octets_alike, standpoint_in}, Bumped.{raised_same, up_high, up_low, up_number}, Renumbers.timed_by}
 use Rattle.world_law.proofs.putting.Bumped.{bump_behind, down_high, down_low, down_number, lower_behind, lowered, raised, raised_joins, raised_low, raised_rank}
 use Rattle.world_law.proofs.runs.SourcesBack.{arrives_later, dispatches_back, earlier_still, gives_rank, numbered_parts, reaches_back, standing_in, up_back}
-use Rattle.membership.specs.Summary.{Summarizes}
-use Rattle.run_law.specs.{control.{Corrections.standing_before, Permanence.IsJudgedBy}, records.Happenings.octets_by}
-use Rattle.sync_state.specs.Verdicts.{HasVerdict}
 use Rattle.run_law.specs.declared.judgement.Why.TheVariants as whys
 use Rattle.run_law.specs.declared.note.NoteBody.TheVariants as notes
 

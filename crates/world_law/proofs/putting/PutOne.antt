@@ -1,4 +1,6 @@
 -- A source of the instant is worked off: its record is put in, or its record and the change of state that follows it.
+use Rattle.{run_law.specs.timed.Receptions.comes_before, tte_lemmas.proofs.Naturals.unequal, world_law.proofs.putting.Near.hears}
+use Rattle.std.proofs.lemmas.Bool.{and_left}
 use Rattle.world_law.proofs.Words.{◌&&◌, ◌++◌, ◌+◌, ◌==◌, ◌||◌, ◌∙◌, ◌∷◌, ◌≡◌, ◌≤◌, ◌⊎◌, AllBefore, AreSettled, Bool, ChangesState, DeviceId, Happening}
 use Rattle.world_law.proofs.Words.{Integrating, IsBefore, IsCaused, IsDue, IsFounded, IsIn, IsOwnSource, IsSource, Joining, LinkId, List, NoneBefore, NoteBody}
 use Rattle.world_law.proofs.Words.{Scenario, Some, State, Units, VlId, What, Why, [], act_place, and_right, ap, append_assoc, arith, bears_on, before_behind}
@@ -6,11 +8,7 @@ use Rattle.world_law.proofs.Words.{behind, cases_Bool, cases_lt, cases_order, ca
 use Rattle.world_law.proofs.Words.{is_at_source, is_joined_by, is_taken_before, is_turned_on_at, le-ltb, map, members_in, nat_lt, never_self, numbered}
 use Rattle.world_law.proofs.{Words.{place_of, rank, refl, state_after, state_before, subst, suc, sym, time_of, true, ℕ}, runs.SourcesBack.earlier_still}
 use Rattle.world_law.proofs.{giving.Given.some_same, putting.{Bumped.{AsState, bump_behind, numbered_here, seven}, Moving.{IsAllOfIt, IsMoving, stays}}}
-use Rattle.world_law.proofs.putting.Near.{hears}
 use Rattle.world_law.proofs.putting.Placing.{IsCarried, IsPlacing, IsWell, before_it, hears_source, placed_well, put_at, settled_at, settled_by, well_of}
-use Rattle.std.proofs.lemmas.Bool.{and_left}
-use Rattle.run_law.specs.timed.Receptions.{comes_before}
-use Rattle.tte_lemmas.proofs.Naturals.{unequal}
 use Rattle.run_law.specs.declared.judgement.Judgement.TheVariants as judgements
 use Rattle.run_law.specs.declared.judgement.Why.TheVariants as whys
 use Rattle.run_law.specs.declared.note.NoteBody.TheVariants as notes

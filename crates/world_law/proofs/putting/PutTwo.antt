@@ -1,4 +1,5 @@
 -- A record and the change of state that follows it are put in.
+use Rattle.{net_plan.proofs.SameIds.one_device, run_law.{proofs.law.FirstPlaces.numbered_front, specs.records.Causes.device_of}}
 use Rattle.world_law.proofs.Words.{◌++◌, ◌+◌, ◌<◌, ◌==◌, ◌∙◌, ◌∷◌, ◌≡◌, ◌≤◌, ◌⊎◌, AllBefore, AreSettled, ChangesState, DeviceId, Happening, IsBefore, IsDue}
 use Rattle.world_law.proofs.Words.{IsIn, IsOwnSource, IsSource, List, NoneBefore, NoteBody, Scenario, Some, State, Why, [], act_place, amount, ap, append_assoc}
 use Rattle.world_law.proofs.Words.{arith, bears_on, before_behind, behind, cases_lt, cause_of, eqb-true, false, false_from_ne_true, in_left, in_parts, in_right}
@@ -7,8 +8,6 @@ use Rattle.world_law.proofs.{Words.{refl, subst, suc, sym, time_of, true, ℕ}, 
 use Rattle.world_law.proofs.putting.Bumped.{bump_behind, down_high, down_low, down_number, in_placed, lowered_rank, raised_source, seven}
 use Rattle.world_law.proofs.putting.{Idle.numbered_prefix, PutOne.{Follows, IsOne, at_number, due_follows, placing_one, source_raised, unmarked, worked_then}}
 use Rattle.world_law.proofs.putting.{Near.hears, Placing.{IsCarried, IsPlacing, IsWell, before_it, hears_source, placed_well, put_at, settled_by, well_of}}
-use Rattle.net_plan.proofs.SameIds.{one_device}
-use Rattle.run_law.{proofs.law.FirstPlaces.numbered_front, specs.records.Causes.device_of}
 use Rattle.run_law.specs.declared.judgement.Judgement.TheVariants as judgements
 use Rattle.run_law.specs.declared.judgement.Why.TheVariants as whys
 use Rattle.run_law.specs.declared.note.NoteBody.TheVariants as notes

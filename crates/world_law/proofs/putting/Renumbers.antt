@@ -1,11 +1,10 @@
 -- What is due at the time of a record does not rest on its number.
-use Rattle.std.proofs.Common.{arith}
+use Rattle.run_law.specs.control.Permanence.{IsJudgedBy, IsPermanenceOutcome}
+use Rattle.{std.proofs.Common.arith, world_law.proofs.devices.Plains.{adjustments_plain, earlier_plain, filter_plain, joined_plain, points_plain, states_plain}}
 use Rattle.world_law.proofs.Words.{◌&&◌, ◌==◌, ◌||◌, ◌∙◌, ◌∷◌, ◌≡◌, Bool, DeviceId, Happening, LinkId, List, None, NoteBody, Option, Pcf, Point, Ripe, Scenario}
 use Rattle.world_law.proofs.Words.{Some, Standpoint, State, Units, VlId, [], adjustment_after, adjustment_at_hearing, ap, earlier, filter, has_joined_at}
 use Rattle.world_law.proofs.Words.{is_joined_by, is_taken_before, is_turned_on_at, last_or, last_taken, list_any, nat_lt, option_and_then, plain, plain_body}
 use Rattle.world_law.proofs.Words.{plains, points_of, refl, state_after, state_at_hearing, state_before, subst, sym, taken_cycle, time_of, timed_arrival, ℕ}
-use Rattle.world_law.proofs.devices.Plains.{adjustments_plain, earlier_plain, filter_plain, joined_plain, points_plain, states_plain}
-use Rattle.run_law.specs.control.Permanence.{IsJudgedBy, IsPermanenceOutcome}
 use Rattle.run_law.specs.declared.note.NoteBody.TheVariants as notes
 
 -- ---- what was taken, and what was heard at this time

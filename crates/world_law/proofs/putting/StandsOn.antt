@@ -1,11 +1,10 @@
 -- The source that comes first is worked off: the world stands behind it.
+use Rattle.{std.proofs.Common.◌↔◌, world_law.{proofs.{giving.GivenParts.up_to_place, runs.SourcesBack.no_higher}, specs.world.World.AreUntold}}
 use Rattle.world_law.proofs.Words.{◌++◌, ◌+◌, ◌<◌, ◌∙◌, ◌∷◌, ◌≡◌, AreAtPorts, AreOfNetwork, AreOnWires, AreSettled, AreWaiting, AtPort, Bool, DeviceId}
 use Rattle.world_law.proofs.Words.{Happening, IsBefore, IsHeld, IsIn, IsSource, List, Network, NoSourceBefore, Node, Note, NoteBody, OnWire, Scenario, Some}
 use Rattle.world_law.proofs.Words.{Stands, Waiting, World, [], ap, arith, before_behind, before_next_time, behind, cases_Bool, chain, clock_place, false}
 use Rattle.world_law.proofs.Words.{happenings, hidden, hidden_body, inl, inr, key, length, map, members_in, never_self, none_yet, place_of, rank, slice_get}
 use Rattle.world_law.{proofs.{Words.{subst, sym, time_of, true, ℕ}, putting.Moving.{IsMoving, stays}}, specs.world.Moves.{ComesFirst, StandsBehind}}
-use Rattle.world_law.{proofs.{giving.GivenParts.up_to_place, runs.SourcesBack.no_higher}, specs.world.World.AreUntold}
-use Rattle.std.proofs.Common.{◌↔◌}
 use Rattle.run_law.specs.declared.note.NoteBody.TheVariants as kinds
 
 -- ---- what is hidden keeps its rank

@@ -1,9 +1,8 @@
 -- A device comes to no row's value where it comes to a correction point, or to the beginning of a cycle.
+use Rattle.{schedule_tables.{proofs.Entries.begun_below, specs.Delays.pcf_port_time}, tte_lemmas.{proofs.{Integers.{whole as not_negative}, Lists.in_all}}}
+use Rattle.{schedule_tables.specs.declared.rule.Rule.TheVariants.ScheduleStart, world_law.proofs.rows.Reached.{ShowsAt, cycles_apart, row_ends, shows_at}}
 use Rattle.world_law.proofs.Words.{◌*◌, ◌+◌, ◌≤◌, DeviceId, Dispatches, Entry, Happening, IsAtCorrection, IsEntry, IsInRange, IsSteady, KeepsRules, Link}
 use Rattle.world_law.proofs.Words.{LinkId, List, Network, Reaches, Scenario, Sends, VlId, amount, arith, cases_lt, ints, local_before, pos, subst, ℕ, ℤ}
-use Rattle.world_law.proofs.rows.Reached.{ShowsAt, cycles_apart, row_ends, shows_at}
-use Rattle.schedule_tables.{proofs.Entries.begun_below, specs.{Delays.pcf_port_time, declared.rule.Rule.TheVariants.ScheduleStart}}
-use Rattle.tte_lemmas.proofs.{Integers.whole as not_negative, Lists.in_all}
 
 -- ---- where a row's offset lies in the cycle
 

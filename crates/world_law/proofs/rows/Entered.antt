@@ -1,19 +1,17 @@
 -- What a device found of a time-triggered frame that it took: a row of its virtual link enters the device, the cycle of its
 -- clock was one from 1 on, and the place in the cycle was not behind the row's window.
-use Rattle.world_law.proofs.Words.{if◌then◌else◌, ◌*◌, ◌+◌, ◌<◌, ◌==◌, ◌∙◌, ◌≡◌, ◌≤ℤ◌, ◌≤◌, Arrival, ArrivesAs, Bool, DeviceId, Down, Entry}
-use Rattle.world_law.proofs.Words.{Happening, IsEntry, Link, LinkId, List, Network, None, Ok, Option, Pcf, Reason, Scenario, Signal, Some, Standpoint}
-use Rattle.world_law.proofs.Words.{Units, Up, VlId, Way, and_parts, ap, arith, arrival_of, cases_Bool, control, control_arrival, eq-eqb, eqb-true, false}
-use Rattle.world_law.proofs.Words.{int_lt, is_end, last_taken, length, link_at, local_before, nat_le, negsuc, not, option_and_then, option_map}
-use Rattle.world_law.proofs.Words.{option_map_or, pos, refl, slice_get, slice_get_within, standpoint, subst, sym, target_by, timed, timed_arrival, true, ℕ, ℤ}
-use Rattle.std.proofs.{Common.{◌%◌, ◌/◌}, Math.Nat.{div-add-mod, mod-lt}, lemmas.Bool.{leb-true, not-false, or_parts}}
-use Rattle.std.specs.{Int.{int_div_euclid, int_rem_euclid}, Prelude.{Err, Result}}
-use Rattle.net_plan.proofs.SameIds.{one_link}
-use Rattle.pcf_codec.specs.{Fields.field, declared.refusal.PcfRefusal.PcfRefusal}
-use Rattle.run_law.{proofs.{control.Verdicts.none_first, scenario.Ways.one_way}, specs.scenario.{Devices.{is_parent_of, is_relay}, Ways.receiver_of}}
+use Rattle.{net_plan.proofs.SameIds.one_link, run_law.proofs.scenario.Ways.one_way, tte_lemmas.proofs.{Integers.not_less, Lists.find_at}}
+use Rattle.{pcf_codec.specs.{Fields.field, declared.refusal.PcfRefusal.PcfRefusal}, run_law.specs.scenario.{Devices.{is_parent_of, is_relay}, Ways.receiver_of}}
+use Rattle.{run_law.proofs.control.Verdicts.none_first, std.{proofs.lemmas.Bool.{leb-true, not-false, or_parts}, specs.Int.{int_div_euclid, int_rem_euclid}}}
 use Rattle.run_law.specs.{control.Arrivals.{frame_fault, frame_or_fault}, device.Standpoints.{clock_of, cycle_at, natural, offset_in_cycle}}
 use Rattle.run_law.specs.timed.Arrivals.{entry_arrival, entry_entering, octets_fault, octets_or_fault, row_fault, taken_or_fault}
-use Rattle.schedule_tables.{proofs.Entries.entry_by, specs.{Entries.target_of, Windows.window_end}}
-use Rattle.tte_lemmas.proofs.{Integers.not_less, Lists.find_at}
+use Rattle.{schedule_tables.{proofs.Entries.entry_by, specs.{Entries.target_of, Windows.window_end}}, std.proofs.Math.Nat.{div-add-mod, mod-lt}}
+use Rattle.std.proofs.Common.{◌%◌, ◌/◌}
+use Rattle.{std.specs.Prelude.{Err, Result}, world_law.proofs.Words.{slice_get_within, standpoint, subst, sym, target_by, timed, timed_arrival, true, ℕ, ℤ}}
+use Rattle.world_law.proofs.Words.{◌*◌, ◌+◌, ◌<◌, ◌==◌, ◌∙◌, ◌≡◌, ◌≤ℤ◌, ◌≤◌, Arrival, ArrivesAs, Bool, DeviceId, Down, Entry, Happening, IsEntry, Link, LinkId}
+use Rattle.world_law.proofs.Words.{List, Network, None, Ok, Option, Pcf, Reason, Scenario, Signal, Some, Standpoint, Units, Up, VlId, Way, and_parts, ap, arith}
+use Rattle.world_law.proofs.Words.{arrival_of, cases_Bool, control, control_arrival, eq-eqb, eqb-true, false, if◌then◌else◌, int_lt, is_end, last_taken, length}
+use Rattle.world_law.proofs.Words.{link_at, local_before, nat_le, negsuc, not, option_and_then, option_map, option_map_or, pos, refl, slice_get}
 use Rattle.run_law.specs.declared.steps.Arrival.TheVariants as arrivals
 
 -- a row of the virtual link enters the device, whose clock stood in the cycle, and not behind the row's window

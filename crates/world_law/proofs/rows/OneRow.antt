@@ -1,14 +1,12 @@
 -- At one instant a device dispatches one row by a link, and what tells of its dispatch is one record.
-use Rattle.world_law.proofs.Words.{if◌then◌else◌, ◌*◌, ◌+◌, ◌<◌, ◌^◌, ◌∙◌, ◌≡◌, ◌≤◌, Bool, Device, DeviceId, Dispatches, Down, Entry, Happening, HasAtHand}
-use Rattle.world_law.proofs.Words.{IsEntry, IsSteady, KeepsRules, Link, LinkId, List, Network, None, NoteBody, Option, Scenario, Some, Up, VlId, Way, amount}
-use Rattle.world_law.proofs.Words.{ap, arith, both_ways, cases_lt, device_at, dispatch_body, false, inl, inr, ints, is_cut, is_end, link_at, local_before}
-use Rattle.world_law.proofs.Words.{option_map_or, pos, refl, subst, sym, true, way_from, ℕ, ℤ}
-use Rattle.std.proofs.Common.{IsSomeAnd}
-use Rattle.net_plan.specs.Places.{is_end_system}
-use Rattle.schedule_tables.{proofs.{Entries.occur_together, EntryLemmas.one_entry}, specs.{Entries.source_by, Schedule.IsClearBefore}}
-use Rattle.schedule_tables.specs.declared.rule.Rule.TheVariants.{Periods, Senders, Spacing}
-use Rattle.tte_units.specs.{OctetTime.octet_time, declared.speed.Speed.{Speed, TheVariants.{Gbit1, Mbit100}}}
-use Rattle.world_law.proofs.{frames.Masters.ends_differ, rows.{Apart.{precise, row_apart}, Dispatching.IsLawful, Reached.{ShowsAt, cycles_apart, shows_at}}}
+use Rattle.{net_plan.specs.Places.is_end_system, schedule_tables.specs.Entries.source_by, std.proofs.Common.IsSomeAnd, tte_units.specs.OctetTime.octet_time}
+use Rattle.{schedule_tables.proofs.{Entries.occur_together, EntryLemmas.one_entry}, world_law.proofs.rows.{Apart.{precise, row_apart}, Dispatching.IsLawful}}
+use Rattle.{schedule_tables.specs.Schedule.IsClearBefore, tte_units.specs.declared.speed.Speed.Speed, world_law.proofs.frames.Masters.ends_differ}
+use Rattle.{schedule_tables.specs.declared.rule.Rule.TheVariants.{Periods, Senders, Spacing}, tte_units.specs.declared.speed.Speed.TheVariants.{Gbit1, Mbit100}}
+use Rattle.world_law.proofs.Words.{◌*◌, ◌+◌, ◌<◌, ◌^◌, ◌∙◌, ◌≡◌, ◌≤◌, Bool, Device, DeviceId, Dispatches, Down, Entry, Happening, HasAtHand, IsEntry, IsSteady}
+use Rattle.world_law.proofs.Words.{KeepsRules, Link, LinkId, List, Network, None, NoteBody, Option, Scenario, Some, Up, VlId, Way, amount, ap, arith, both_ways}
+use Rattle.world_law.proofs.Words.{cases_lt, device_at, dispatch_body, false, if◌then◌else◌, inl, inr, ints, is_cut, is_end, link_at, local_before}
+use Rattle.world_law.proofs.{Words.{option_map_or, pos, refl, subst, sym, true, way_from, ℕ, ℤ}, rows.Reached.{ShowsAt, cycles_apart, shows_at}}
 use Rattle.run_law.specs.declared.note.NoteBody.TheVariants as kinds
 
 -- ---- two rows of one link are far apart

@@ -1,13 +1,12 @@
 -- A device's clock reaches a value: what it shows then, and what it has taken by then.
+use Rattle.{run_law.proofs.law.FirstPlaces.IsFoundedAt, schedule_tables.specs.Windows.window_end, std.specs.Int.{int_div_euclid, int_rem_euclid}}
+use Rattle.{run_law.specs.device.Standpoints.{natural, offset_in_cycle}, schedule_tables.specs.declared.rule.Rule.TheVariants.{Forwarding, WindowEnds}}
+use Rattle.{std.proofs.Math.Nat.mul-le-mul_right, tte_lemmas.proofs.Naturals.same_heads}
+use Rattle.{tte_lemmas.{proofs.{Integers.{whole as not_negative}}}, world_law.proofs.{devices.Resting.in_time_of, runs.SourcesBack.earlier_still}}
 use Rattle.world_law.proofs.Words.{◌*◌, ◌+ℤ◌, ◌+◌, ◌-ℤ◌, ◌-◌, ◌<ℤ◌, ◌<◌, ◌∙◌, ◌∷◌, ◌≡◌, ◌≤ℤ◌, ◌≤◌, DeviceId, Entry, Happening, IsCaused, IsDue, IsEntry}
 use Rattle.world_law.proofs.Words.{IsFounded, IsIn, IsInRange, IsSteady, KeepsRules, List, Network, Reaches, Scenario, VlId, adjustment_after}
 use Rattle.world_law.proofs.Words.{adjustment_before, amount, ap, arith, cases_lt, changed_at, earlier, founded_at, inl, inr, ints, is_end, local_before}
-use Rattle.world_law.proofs.Words.{place_of, pos, source_of, subst, sym, time_of, true, ℕ, ℤ}
-use Rattle.std.{proofs.Math.Nat.mul-le-mul_right, specs.Int.{int_div_euclid, int_rem_euclid}}
-use Rattle.run_law.{proofs.law.FirstPlaces.IsFoundedAt, specs.device.Standpoints.{natural, offset_in_cycle}}
-use Rattle.schedule_tables.specs.{Windows.window_end, declared.rule.Rule.TheVariants.{Forwarding, WindowEnds}}
-use Rattle.tte_lemmas.proofs.{Integers.whole as not_negative, Naturals.same_heads}
-use Rattle.world_law.proofs.{devices.Resting.in_time_of, rows.Entered.{IsTakenAt, delivered_end, taken_at, value_in}, runs.SourcesBack.earlier_still}
+use Rattle.world_law.proofs.{Words.{place_of, pos, source_of, subst, sym, time_of, true, ℕ, ℤ}, rows.Entered.{IsTakenAt, delivered_end, taken_at, value_in}}
 use Rattle.run_law.specs.declared.note.NoteBody.TheVariants as notes
 
 -- ---- what the clock shows where it reaches a value

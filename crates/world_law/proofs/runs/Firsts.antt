@@ -1,9 +1,7 @@
 -- Where no source and nothing settled is before a place, nothing that is due is.
+use Rattle.{run_law.specs.scenario.Ways.hold_at, tte_lemmas.proofs.Lists.pushed, world_law.specs.source.Sources.{IsArriving, IsDeparting}}
 use Rattle.world_law.proofs.Words.{◌++◌, ◌+◌, ◌∷◌, ◌≡◌, ◌⊎◌, Arrives, DeviceId, Gives, Happening, IsBefore, LinkId, List, Scenario, Signal, Some, [], arith}
 use Rattle.world_law.proofs.Words.{chain, in_front, inl, inr, length, numbered, subst, suc, sym, time_of, way_from, zero, ℕ}
-use Rattle.run_law.specs.scenario.Ways.{hold_at}
-use Rattle.tte_lemmas.proofs.Lists.{pushed}
-use Rattle.world_law.specs.source.Sources.{IsArriving, IsDeparting}
 
 pub source_before : (w q p : List ℕ) → (w ≡ q) ⊎ IsBefore w q → IsBefore q p → IsBefore w p
 source_before w q p (inl e) b = subst (λ (l : List ℕ). IsBefore l p) (sym e) b

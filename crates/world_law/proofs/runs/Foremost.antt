@@ -1,14 +1,12 @@
 -- Where nothing that a world has under way is before a place, no source that is not worked off is, but for acts.
+use Rattle.{drift_clock.proofs.Reaches.one_reach, std.specs.Prelude.unsigned_abs}
+use Rattle.{run_law.proofs.law.FirstPlaces.numbered_in, world_law.proofs.{giving.Given.{in_get, no_later_breaks, some_same}, runs.SourcesBack.arrives_later}}
+use Rattle.{run_law.specs.scenario.Scenarios.turns_on, world_law.specs.{source.Sources.IsRipening, world.{Moves.NothingBefore, World.IsWaitingFor}}}
 use Rattle.world_law.proofs.Words.{◌&&◌, ◌+◌, ◌<◌, ◌==◌, ◌||◌, ◌∙◌, ◌∷◌, ◌≡◌, ◌≤◌, Bool, DeviceId, Dispatches, Happening, HasDone, HasSent, HasTaskBy}
 use Rattle.world_law.proofs.Words.{HaveBefallen, IsActing, IsAtRest, IsBefore, IsIn, IsLeft, IsReach, IsSource, LinkId, List, Network, Node, Note, NoteBody}
 use Rattle.world_law.proofs.Words.{Scenario, Stands, Units, VlId, Waiting, World, [], act_place, amount, ap, arith, cases_Bool, cases_lt, chain, clock_place}
 use Rattle.world_law.proofs.Words.{eqb-true, false, false_from_ne_true, happenings, inl, inr, is_turned_on_at, list_any, moves, place_of, pos, refl, ripe_place}
-use Rattle.world_law.proofs.Words.{slice_get_within, subst, sym, time_of, true, ℕ}
-use Rattle.std.specs.Prelude.{unsigned_abs}
-use Rattle.drift_clock.proofs.Reaches.{one_reach}
-use Rattle.run_law.{proofs.law.FirstPlaces.numbered_in, specs.scenario.Scenarios.turns_on}
-use Rattle.world_law.proofs.{acts.Acting.{IsUnmoved, correcting_task, emitting_task, sending_task}, giving.Given.{in_get, no_later_breaks, some_same}}
-use Rattle.world_law.{proofs.runs.SourcesBack.arrives_later, specs.{source.Sources.IsRipening, world.{Moves.NothingBefore, World.IsWaitingFor}}}
+use Rattle.world_law.proofs.{Words.{slice_get_within, subst, sym, time_of, true, ℕ}, acts.Acting.{IsUnmoved, correcting_task, emitting_task, sending_task}}
 
 -- no act that is not worked off is before the place
 abbrev pub NoActBefore : Scenario → List Happening → List ℕ → List ℕ → Type 0

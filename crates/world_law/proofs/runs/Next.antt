@@ -1,8 +1,7 @@
 -- What is next in a run: the first of what is due behind all of it.
+use Rattle.{run_law.specs.runs.Runs.{IsNextOf, IsRun, NothingDueUpTo}, world_law.{proofs.Words.{inr, refl, subst, sym, ℕ}, specs.source.Next.NoneDueBefore}}
 use Rattle.std.proofs.Common.{arith}
 use Rattle.world_law.proofs.Words.{◌++◌, ◌∙◌, ◌∷◌, ◌≡◌, AllBefore, IsBefore, IsIn, List, NoneBefore, [], append-nil, before_later, before_or_not, in_right, inl}
-use Rattle.world_law.{proofs.Words.{inr, refl, subst, sym, ℕ}, specs.source.Next.NoneDueBefore}
-use Rattle.run_law.specs.runs.Runs.{IsNextOf, IsRun, NothingDueUpTo}
 
 behind_mark : {N : Type 0} (place : N → List ℕ) (IsDue : List N → N → Type 0) (mark : List ℕ) (ns : List N) (p : List ℕ) → AllBefore place ns mark
     → NoneDueBefore place IsDue mark ns p

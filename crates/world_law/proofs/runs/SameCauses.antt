@@ -1,16 +1,14 @@
 -- What causes a record at a time causes it in each scenario that agrees up to then.
-use Rattle.std.proofs.Common.{arith}
-use Rattle.world_law.proofs.Words.{if◌then◌else◌, ◌∙◌, ◌≡◌, ◌≤◌, Agree, Arrival, Arrives, ArrivesAs, BecomesPermanent, Bool, ChangesState}
-use Rattle.world_law.proofs.Words.{Compressed, Departs, Departure, DeviceId, Dispatches, Emits, Event, Happening, IsArrivedRecord, IsCaused, IsDropped, IsIn}
-use Rattle.world_law.proofs.Words.{IsLost, Joining, Judgement, Launch, LinkId, List, Network, None, NoteBody, Option, Pcf, Reason, Ripe, Send, Signal, Some}
-use Rattle.world_law.proofs.Words.{Standpoint, State, Units, Up, VlId, Way, Why, adjustment_at_hearing, adjustment_before, amount, ap, arrival_of}
-use Rattle.world_law.proofs.Words.{before_permanence, control, control_arrival, false, has_joined_at, heard_as, inl, inr, is_broken, is_cut, last_taken}
-use Rattle.world_law.proofs.Words.{launched, nat_lt, not, numbered, observation_window, plan_of, points_of, pos, refl, scenario, signal_of, standpoint}
-use Rattle.world_law.proofs.Words.{state_at_hearing, state_before, subst, sym, time_of, timed, timed_arrival, way_from, ℕ}
-use Rattle.world_law.proofs.runs.Agreement.{broken_same, comes_same, reach_same, reaches_same, sends_same, setting_same, state_same}
-use Rattle.run_law.{proofs.law.FirstPlaces.numbered_in, specs.control.Permanence.IsPermanenceOutcome}
+use Rattle.{run_law.proofs.law.FirstPlaces.numbered_in, std.proofs.Common.arith, transparent_clock.specs.Points.point_of}
 use Rattle.run_law.specs.{control.Leaving.{departure, on_cut_way, too_old}, scenario.Ways.{cut_set, delay_at, hold_at, hold_set, wire_of, wire_set}}
-use Rattle.transparent_clock.specs.Points.{point_of}
+use Rattle.{run_law.specs.control.Permanence.IsPermanenceOutcome, world_law.proofs.Words.{state_before, subst, sym, time_of, timed, timed_arrival, way_from, ℕ}}
+use Rattle.world_law.proofs.Words.{◌∙◌, ◌≡◌, ◌≤◌, Agree, Arrival, Arrives, ArrivesAs, BecomesPermanent, Bool, ChangesState, Compressed, Departs, Departure}
+use Rattle.world_law.proofs.Words.{DeviceId, Dispatches, Emits, Event, Happening, IsArrivedRecord, IsCaused, IsDropped, IsIn, IsLost, Joining, Judgement}
+use Rattle.world_law.proofs.Words.{Launch, LinkId, List, Network, None, NoteBody, Option, Pcf, Reason, Ripe, Send, Signal, Some, Standpoint, State, Units, Up}
+use Rattle.world_law.proofs.Words.{VlId, Way, Why, adjustment_at_hearing, adjustment_before, amount, ap, arrival_of, before_permanence, control}
+use Rattle.world_law.proofs.Words.{control_arrival, false, has_joined_at, heard_as, if◌then◌else◌, inl, inr, is_broken, is_cut, last_taken, launched, nat_lt}
+use Rattle.world_law.proofs.Words.{not, numbered, observation_window, plan_of, points_of, pos, refl, scenario, signal_of, standpoint, state_at_hearing}
+use Rattle.world_law.proofs.runs.Agreement.{broken_same, comes_same, reach_same, reaches_same, sends_same, setting_same, state_same}
 use Rattle.run_law.specs.declared.judgement.Why.TheVariants as whys
 use Rattle.run_law.specs.declared.note.NoteBody.TheVariants as notes
 

@@ -1,10 +1,9 @@
 -- Each record that is due has a source.
+use Rattle.{run_law.specs.records.Happenings.frame_from, world_law.specs.source.Sources.{IsArriving, IsDeparting, IsRipening, IsSourced}}
 use Rattle.world_law.proofs.Words.{◌∙◌, ◌∷◌, ◌≡◌, ◌⊎◌, Arrival, ArrivesAs, BecomesPermanent, ChangesState, ComesToCorrection, Departs, Departure, DeviceId}
 use Rattle.world_law.proofs.Words.{Happening, IsActing, IsArrivedRecord, IsAtCorrection, IsBefore, IsCaused, IsDropped, IsDue, IsLost, IsOwnSource, IsSource}
 use Rattle.world_law.proofs.Words.{LinkId, List, Network, NoteBody, Option, Pcf, Reason, Ripe, Scenario, Some, State, Units, Verdict, Why, [], amount, ap}
 use Rattle.world_law.proofs.Words.{arith, frame_by, inl, inr, key, members_in, option_and_then, option_map_or, rank, refl, sym, ℕ}
-use Rattle.run_law.specs.records.Happenings.{frame_from}
-use Rattle.world_law.specs.source.Sources.{IsArriving, IsDeparting, IsRipening, IsSourced}
 use Rattle.run_law.specs.declared.judgement.Why.TheVariants as whys
 use Rattle.run_law.specs.declared.note.NoteBody.TheVariants as notes
 

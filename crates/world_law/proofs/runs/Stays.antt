@@ -1,12 +1,10 @@
 -- A run up to the record of an event is the same under this event and those behind it.
+use Rattle.{net_plan.specs.declared.event.What.TheVariants.End, run_law.specs.runs.DueRecords.EndsAt, std.specs.List.Contains}
+use Rattle.{std.proofs.lemmas.List.Elements.Contains-append_cases, world_law.specs.source.Applying.{MayFollow, RunStaysUnderMore, place_of_event}}
 use Rattle.world_law.proofs.Words.{◌++◌, ◌+◌, ◌-◌, ◌<◌, ◌∷◌, ◌≡◌, ◌≤◌, ◌⊎◌, AllBefore, DeviceId, Event, Happening, IsBefore, IsCaused, IsDue, IsEventRecord}
 use Rattle.world_law.proofs.Words.{IsIn, List, Network, Some, Units, What, [], amount, ap, arith, happenings, in_front, in_right, inl, inr, key, length}
 use Rattle.world_law.proofs.Words.{members_in, place_of, rank, refl, scenario, slice_get, subst, suc, sym, time_of, zero, ℕ}
-use Rattle.std.{proofs.lemmas.List.Elements.Contains-append_cases, specs.List.Contains}
-use Rattle.net_plan.specs.declared.event.What.TheVariants.{End}
-use Rattle.run_law.specs.runs.DueRecords.{EndsAt}
 use Rattle.world_law.proofs.runs.{Applies.{agree_back, clock_cause, earlier_by_rank, event_cause, event_place, kinds, up_to_it}, SameCauses.caused_same}
-use Rattle.world_law.specs.source.Applying.{MayFollow, RunStaysUnderMore, place_of_event}
 
 -- what stands in two lists behind each other stands in one of them
 get_parts : {X : Type 0} (xs ys : List X) (x : X) (i : ℕ) → slice_get (xs ++ ys) i ≡ Some x

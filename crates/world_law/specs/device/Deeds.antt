@@ -1,9 +1,8 @@
 -- What a device has done, while it acts.
 use Rattle.std.specs.{List.Contains, Prelude.{◌-ℤ◌, ◌<ℤ◌, ◌<◌, ◌≤ℤ◌, ◌≤◌, pos, ℕ}}
-use Rattle.compression.specs.declared.compressed.Compressed.{Compressed}
+use Rattle.{compression.specs.declared.compressed.Compressed.Compressed, run_law.specs.scenario.Scenarios.Scenario}
 use Rattle.net_plan.specs.declared.{ids.DeviceId.DeviceId, network.Network.Network}
 use Rattle.run_law.specs.machines.{Nodes.{ClockTask, Node}, Tasks.{IsUndone, IsWaiting, value_of}}
-use Rattle.run_law.specs.scenario.Scenarios.{Scenario}
 
 -- the adjustment changed last at `changed`. What the device has still to do its clock had not come to before `low`, and
 -- what it has done its clock had come to before `high`

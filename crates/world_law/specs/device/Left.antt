@@ -1,8 +1,7 @@
 -- How the records before a time leave a device: its node is a function of the scenario and the records, but for what is
 -- of no use in its state.
 use Rattle.std.specs.{List.Contains, Prelude.{◌-ℤ◌, ◌<ℤ◌, ◌<◌, ◌≡◌, ◌≤ℤ◌, ◌≤◌, Bool, IfSome, List, false, pos, true, ℕ}}
-use Rattle.compression.specs.declared.compressed.Compressed.{Compressed}
-use Rattle.net_plan.specs.declared.ids.DeviceId.{DeviceId}
+use Rattle.{compression.specs.declared.compressed.Compressed.Compressed, net_plan.specs.declared.ids.DeviceId.DeviceId}
 use Rattle.run_law.specs.control.Collections.{points_of}
 use Rattle.run_law.specs.control.Corrections.{heard_since, integration_cycle, next_cycle, recorded_cycle}
 use Rattle.run_law.specs.device.{LocalClocks.{changed_at, local_at_change}, States.{adjustment_before, state_before}}

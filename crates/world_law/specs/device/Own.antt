@@ -1,8 +1,7 @@
 -- The records of one device.
 use Rattle.std.specs.Prelude.{◌<◌, ◌==◌, ◌≡◌, ◌≤◌, Bool, List, false, filter, ℕ}
-use Rattle.net_plan.specs.declared.ids.DeviceId.{DeviceId}
-use Rattle.run_law.specs.{declared.note.NoteBody.NoteBody, device.States.is_joined_by}
-use Rattle.run_law.specs.records.{Happenings.{Happening, time_of}, Order.IsIn}
+use Rattle.{net_plan.specs.declared.ids.DeviceId.DeviceId, run_law.specs.records.Happenings.{Happening, time_of}}
+use Rattle.run_law.specs.{declared.note.NoteBody.NoteBody, device.States.is_joined_by, records.Order.IsIn}
 use Rattle.run_law.specs.declared.note.NoteBody.TheVariants as notes
 
 -- may the record bear on where the device stands? Those of arrivals, of leaving and of clocks bear on no device

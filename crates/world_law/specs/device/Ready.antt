@@ -1,8 +1,7 @@
 -- When a device is ready to be called.
 use Rattle.std.specs.Prelude.{◌+ℤ◌, ◌+◌, ◌<ℤ◌, ◌<◌, ◌^◌, ◌≡◌, ◌≤ℤ◌, ◌≤◌, pos, ℕ}
 use Rattle.net_plan.specs.declared.{ids.DeviceId.DeviceId, network.Network.Network}
-use Rattle.run_law.specs.machines.{Nodes.Node, Tasks.{IsPending, Task, reading_for}}
-use Rattle.tte_units.specs.Amount.{amount}
+use Rattle.{run_law.specs.machines.{Nodes.Node, Tasks.{IsPending, Task, reading_for}}, tte_units.specs.Amount.amount}
 
 -- between two units of time the clock goes on by less than the precision, and by less than 2^22 units, which is less
 -- than any frame takes at a port; it never falls, and it is never much ahead

@@ -1,15 +1,13 @@
 -- What the records of an instant tell of the acts of a device.
 use Rattle.std.specs.{List.Contains, Prelude.{if◌then◌else◌, ◌<◌, ◌≡◌, ◌≤ℤ◌, ◌≤◌, List, pos, ℕ}}
-use Rattle.compression.specs.{Clusters.{AreClusters, Cluster}, Emission.compressed}
-use Rattle.compression.specs.declared.compressed.Compressed.{Compressed}
-use Rattle.drift_clock.specs.Reach.{IsReach}
+use Rattle.compression.specs.{Clusters.{AreClusters, Cluster}, declared.compressed.Compressed.Compressed}
+use Rattle.{compression.specs.Emission.compressed, world_law.specs.device.Plain.plain_body}
+use Rattle.{drift_clock.specs.Reach.IsReach, tte_units.specs.Amount.amount}
 use Rattle.net_plan.specs.declared.{ids.{DeviceId.DeviceId, LinkId.LinkId, VlId.VlId}, network.Network.Network}
 use Rattle.run_law.specs.{control.Collections.observation_window, declared.judgement.Judgement.Judgement}
 use Rattle.run_law.specs.{declared.note.NoteBody.NoteBody, machines.Nodes.{Node, correcting, dispatching, sending}}
-use Rattle.run_law.specs.{machines.Tasks.IsWaiting, records.{Happenings.{Happening, time_of}, Order.IsIn}}
-use Rattle.run_law.specs.{scenario.{Scenarios.Scenario, Ways.{is_cut, way_from}}, timed.Dispatching.{Dispatches, Sends}}
-use Rattle.tte_units.specs.Amount.{amount}
-use Rattle.world_law.specs.device.Plain.{plain_body}
+use Rattle.run_law.specs.{machines.Tasks.IsWaiting, scenario.{Scenarios.Scenario, Ways.{is_cut, way_from}}}
+use Rattle.run_law.specs.{records.{Happenings.{Happening, time_of}, Order.IsIn}, timed.Dispatching.{Dispatches, Sends}}
 use Rattle.run_law.specs.declared.note.NoteBody.TheVariants as notes
 
 -- a record of this body at the time, but for the cause of a change of state

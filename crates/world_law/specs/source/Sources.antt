@@ -1,20 +1,18 @@
 -- Where a record of a run comes from: each that is due has a source, which stands in the order too, and no later.
 use Rattle.std.specs.Prelude.{◌+◌, ◌∷◌, ◌≡◌, ◌⊎◌, List, Some, [], false, true, ℕ}
-use Rattle.compression.specs.declared.compressed.Compressed.{Compressed}
-use Rattle.net_plan.specs.{Places.device_at, declared.{event.What.What, ids.{DeviceId.DeviceId, LinkId.LinkId}}}
-use Rattle.net_plan.specs.declared.{ids.VlId.VlId, tables.Device.Device}
-use Rattle.pcf_values.specs.declared.pcf.Pcf.{Pcf}
-use Rattle.run_law.specs.control.{Corrections.{correction_value, standing_before}, Emissions.Emits}
-use Rattle.run_law.specs.control.{Leaving.{Departs, Gives, on_cut_way, too_old}, Losses.IsSendLost}
-use Rattle.run_law.specs.control.{Permanence.{BecomesPermanent, IsPermanent}, Wires.{Arrives, Signal}}
+use Rattle.{compression.specs.declared.compressed.Compressed.Compressed, net_plan.specs.declared.ids.DeviceId.DeviceId}
+use Rattle.{net_plan.specs.Places.device_at, sync_state.specs.Standing.next_point}
+use Rattle.{net_plan.specs.declared.{event.What.What, ids.LinkId.LinkId}, tte_units.specs.declared.units.Units.Units}
+use Rattle.{net_plan.specs.declared.ids.VlId.VlId, run_law.specs.control.{Emissions.Emits, Losses.IsSendLost}}
+use Rattle.{net_plan.specs.declared.tables.Device.Device, run_law.specs.control.Wires.{Arrives, Signal}}
+use Rattle.{pcf_values.specs.declared.pcf.Pcf.Pcf, run_law.specs.records.Order.IsBefore, tte_units.specs.Amount.amount}
+use Rattle.run_law.specs.{control.Corrections.{correction_value, standing_before}, records.Ranks.{members_in, place_of}}
+use Rattle.run_law.specs.{control.Leaving.{Departs, Gives, on_cut_way, too_old}, timed.Dispatching.{Dispatches, Sends}}
+use Rattle.run_law.specs.{control.Permanence.{BecomesPermanent, IsPermanent}, scenario.Ways.{hold_at, is_cut, way_from}}
 use Rattle.run_law.specs.declared.judgement.{Judgement.Judgement, Why.TheVariants.{AsyncClique, SyncClique}}
-use Rattle.run_law.specs.{declared.note.NoteBody.NoteBody, device.LocalClocks.Reaches, records.Causes.IsOfThisTime}
-use Rattle.run_law.specs.records.{Happenings.{Happening, numbered, time_of}, Order.IsBefore}
-use Rattle.run_law.specs.{records.Ranks.{members_in, place_of}, runs.DueRecords.{EndsAt, IsDue, IsEventRecord}}
-use Rattle.run_law.specs.scenario.{Scenarios.{Scenario, is_broken}, Ways.{hold_at, is_cut, way_from}}
-use Rattle.run_law.specs.timed.{Dispatching.{Dispatches, Sends}, Receptions.ArrivesAs}
-use Rattle.sync_state.specs.Standing.{next_point}
-use Rattle.tte_units.specs.{Amount.amount, declared.units.Units.Units}
+use Rattle.run_law.specs.{declared.note.NoteBody.NoteBody, runs.DueRecords.{EndsAt, IsDue, IsEventRecord}}
+use Rattle.run_law.specs.{device.LocalClocks.Reaches, records.Causes.IsOfThisTime, timed.Receptions.ArrivesAs}
+use Rattle.run_law.specs.{records.Happenings.{Happening, numbered, time_of}, scenario.Scenarios.{Scenario, is_broken}}
 use Rattle.run_law.specs.declared.note.NoteBody.TheVariants as notes
 use Rattle.run_law.specs.declared.steps.Arrival.TheVariants as arrivals
 use Rattle.run_law.specs.declared.steps.Ripe.TheVariants as ripe

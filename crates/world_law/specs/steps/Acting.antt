@@ -1,17 +1,15 @@
 -- A machine acts.
 use Rattle.std.specs.Prelude.{if◌then◌else◌, ◌<ℤ◌, ◌<◌, ◌∷◌, ◌≡◌, List, Some, [], false, length, pos, slice_get, ℕ}
-use Rattle.net_plan.specs.declared.{ids.DeviceId.DeviceId, network.Network.Network}
-use Rattle.run_law.specs.declared.{note.{Note.Note, NoteBody.NoteBody}, steps.{Act.Act, Ripe.Ripe}}
-use Rattle.run_law.specs.machines.{Nodes.Node, Tasks.{IsPending, Task, reading_for}}
-use Rattle.run_law.specs.{records.{Happenings.{Happening, happenings}, Order.behind}, scenario.Scenarios.Scenario}
-use Rattle.run_law.specs.{scenario.Ways.{is_cut, way_from}, timed.Dispatching.HasAtHand}
-use Rattle.schedule_tables.specs.{Entries.IsEntry, declared.entry.Entry.Entry}
-use Rattle.sync_state.specs.declared.{answers.Verdict.Verdict, state.State.State}
-use Rattle.sync_state.specs.declared.state.State.TheVariants.{Integrating, Joining, Synchronised}
-use Rattle.tte_units.specs.declared.units.Units.{Units}
-use Rattle.world_law.specs.world.Calls.{HasActed, IsDueNow, IsSet, IsStateOf, moment_of}
-use Rattle.world_law.specs.world.{Moves.{ArePutIn, ComesFirst, StandsBehind}, Outcomes.judged_as}
-use Rattle.world_law.specs.world.World.{Stands, World, act_place, none_yet}
+use Rattle.{net_plan.specs.declared.{ids.DeviceId.DeviceId, network.Network.Network}, run_law.specs.machines.Nodes.Node}
+use Rattle.{run_law.specs.declared.note.Note.Note, world_law.specs.world.World.{Stands, World, act_place, none_yet}}
+use Rattle.run_law.specs.{declared.note.NoteBody.NoteBody, scenario.{Scenarios.Scenario, Ways.{is_cut, way_from}}}
+use Rattle.{run_law.specs.{declared.steps.Act.Act, records.Order.behind}, schedule_tables.specs.Entries.IsEntry}
+use Rattle.{run_law.specs.declared.steps.Ripe.Ripe, world_law.specs.world.Moves.{ArePutIn, ComesFirst, StandsBehind}}
+use Rattle.run_law.specs.{machines.Tasks.{IsPending, Task, reading_for}, records.Happenings.{Happening, happenings}}
+use Rattle.{run_law.specs.timed.Dispatching.HasAtHand, tte_units.specs.declared.units.Units.Units}
+use Rattle.{schedule_tables.specs.declared.entry.Entry.Entry, sync_state.specs.declared.answers.Verdict.Verdict}
+use Rattle.sync_state.specs.declared.state.State.{State, TheVariants.{Integrating, Joining, Synchronised}}
+use Rattle.world_law.specs.world.{Calls.{HasActed, IsDueNow, IsSet, IsStateOf, moment_of}, Outcomes.judged_as}
 use Rattle.run_law.specs.declared.judgement.Why.TheVariants as whys
 use Rattle.run_law.specs.declared.note.NoteBody.TheVariants as kinds
 use Rattle.run_law.specs.declared.steps.Act.TheVariants as acts

@@ -2,13 +2,12 @@
 use Rattle.std.specs.Option.{option_map_or}
 use Rattle.std.specs.Prelude.{if◌then◌else◌, ◌+◌, ◌<◌, ◌∷◌, ◌≡◌, List, Some, [], false, flat_map, length, true, ℕ}
 use Rattle.net_plan.specs.{Places.link_at, declared.{event.What.What, ids.DeviceId.DeviceId, network.Network.Network}}
-use Rattle.net_plan.specs.declared.tables.Way.TheVariants.{Up}
-use Rattle.run_law.specs.{declared.note.{Note.Note, NoteBody.NoteBody}, machines.Nodes.Node}
-use Rattle.run_law.specs.records.{Happenings.{Happening, happenings, numbered}, Order.behind}
-use Rattle.run_law.specs.scenario.{Scenarios.{Scenario, is_broken}, Ways.is_cut}
-use Rattle.sync_state.specs.declared.state.State.TheVariants.{Integrating}
-use Rattle.world_law.specs.world.Moves.{ArePut, ArePutIn, StandsBehind}
-use Rattle.world_law.specs.world.World.{Befell, OnWire, Stands, World, none_yet}
+use Rattle.{net_plan.specs.declared.tables.Way.TheVariants.Up, run_law.specs.scenario.Scenarios.{Scenario, is_broken}}
+use Rattle.{run_law.specs.declared.note.Note.Note, sync_state.specs.declared.state.State.TheVariants.Integrating}
+use Rattle.run_law.specs.{declared.note.NoteBody.NoteBody, records.Happenings.{Happening, happenings, numbered}}
+use Rattle.run_law.specs.machines.Nodes.{Node}
+use Rattle.{run_law.specs.records.Order.behind, world_law.specs.world.World.{Befell, OnWire, Stands, World, none_yet}}
+use Rattle.{run_law.specs.scenario.Ways.is_cut, world_law.specs.world.Moves.{ArePut, ArePutIn, StandsBehind}}
 use Rattle.net_plan.specs.declared.event.What.TheVariants as events
 use Rattle.run_law.specs.declared.judgement.Why.TheVariants as whys
 use Rattle.run_law.specs.declared.note.NoteBody.TheVariants as kinds

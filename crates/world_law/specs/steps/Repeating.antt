@@ -1,14 +1,12 @@
 -- A machine acts several times at one moment.
 use Rattle.std.specs.Prelude.{◌+◌, ◌<◌, ◌≡◌, ◌≤◌, List, Some, length, slice_get, ℕ}
 use Rattle.net_plan.specs.{Ranges.IsInRange, declared.{ids.DeviceId.DeviceId, network.Network.Network}}
-use Rattle.run_law.specs.declared.{note.{Note.Note, NoteBody.NoteBody}, steps.{Act.Act, Moment.Moment}}
-use Rattle.run_law.specs.{machines.{Calls.MayCall, Nodes.{Node, acting}}, records.Happenings.Happening}
-use Rattle.run_law.specs.scenario.Scenarios.{Scenario}
-use Rattle.schedule_tables.specs.Rules.{KeepsRules}
-use Rattle.sync_state.specs.declared.state.State.{State}
-use Rattle.tte_units.specs.declared.units.Units.{Units}
-use Rattle.world_law.specs.{device.Growing.AreActs, world.World.{Stands, World}}
-use Rattle.world_law.specs.{steps.Acting.AreActBodies, world.Calls.{HasActed, IsDueNow, moment_of}}
+use Rattle.{run_law.specs.declared.{note.Note.Note, steps.Moment.Moment}, sync_state.specs.declared.state.State.State}
+use Rattle.{run_law.specs.declared.note.NoteBody.NoteBody, world_law.specs.world.Calls.{HasActed, IsDueNow, moment_of}}
+use Rattle.run_law.specs.{declared.steps.Act.Act, machines.Nodes.{Node, acting}, scenario.Scenarios.Scenario}
+use Rattle.{run_law.specs.machines.Calls.MayCall, schedule_tables.specs.Rules.KeepsRules}
+use Rattle.{run_law.specs.records.Happenings.Happening, tte_units.specs.declared.units.Units.Units}
+use Rattle.world_law.specs.{device.Growing.AreActs, steps.Acting.AreActBodies, world.World.{Stands, World}}
 
 -- the machine has acted so often at the moment
 abbrev pub HasActedTimes : {M : Type 0} → (M → Network → DeviceId → Node → Type 0) → Network → DeviceId → Moment → ℕ → M

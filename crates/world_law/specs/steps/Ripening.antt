@@ -1,14 +1,13 @@
 -- A frame that waits is permanent.
 use Rattle.std.specs.Prelude.{◌∷◌, ◌≡◌, ◌≤ℤ◌, List, Some, [], false, pos, slice_get, ℕ}
-use Rattle.net_plan.specs.declared.{ids.{DeviceId.DeviceId, LinkId.LinkId}, network.Network.Network}
+use Rattle.{net_plan.specs.declared.ids.DeviceId.DeviceId, run_law.specs.scenario.Devices.channel_of_link}
+use Rattle.{net_plan.specs.declared.ids.LinkId.LinkId, tte_units.specs.declared.units.Units.Units}
+use Rattle.{net_plan.specs.declared.network.Network.Network, sync_state.specs.declared.state.State.TheVariants.Joining}
 use Rattle.pcf_values.specs.declared.pcf.Pcf.{Pcf}
-use Rattle.run_law.specs.declared.{note.{Note.Note, NoteBody.NoteBody}, steps.{Moment.Moment, Ripe.Ripe}}
-use Rattle.run_law.specs.machines.Answers.{IsPermanenceOutcomeAt, after_permanence, called}
-use Rattle.run_law.specs.machines.{Calls.{IsHearing, MayCall, MayRipen}, Nodes.{Node, ripening}}
-use Rattle.run_law.specs.records.{Happenings.{Happening, happenings}, Order.{IsIn, behind}}
-use Rattle.run_law.specs.scenario.{Devices.channel_of_link, Scenarios.Scenario}
-use Rattle.sync_state.specs.declared.state.State.TheVariants.{Joining}
-use Rattle.tte_units.specs.declared.units.Units.{Units}
+use Rattle.run_law.specs.{declared.{note.Note.Note, steps.Ripe.Ripe}, records.Order.{IsIn, behind}}
+use Rattle.run_law.specs.{declared.{note.NoteBody.NoteBody, steps.Moment.Moment}, scenario.Scenarios.Scenario}
+use Rattle.run_law.specs.machines.{Answers.{IsPermanenceOutcomeAt, after_permanence, called}, Nodes.{Node, ripening}}
+use Rattle.run_law.specs.{machines.Calls.{IsHearing, MayCall, MayRipen}, records.Happenings.{Happening, happenings}}
 use Rattle.world_law.specs.world.{Calls.{IsSet, moment_of}, Moves.{ArePutIn, ComesFirst, IsWithout, StandsBehind}}
 use Rattle.world_law.specs.world.World.{Stands, Waiting, World, none_yet, ripe_place}
 use Rattle.run_law.specs.declared.judgement.Judgement.TheVariants as judgements

@@ -2,14 +2,13 @@
 use Rattle.std.specs.Prelude.{if◌then◌else◌, ◌&&◌, ◌++◌, ◌+◌, ◌<◌, ◌==◌, ◌↔◌, ◌∷◌, ◌≡◌, ◌≤ℤ◌, ◌≤◌, ◌⊎◌, Bool, List}
 use Rattle.std.specs.Prelude.{Some, [], false, length, map, pos, slice_get, true, ℕ}
 use Rattle.net_plan.specs.declared.{ids.{DeviceId.DeviceId, LinkId.LinkId, VlId.VlId}, network.Network.Network}
-use Rattle.run_law.specs.{control.Leaving.Gives, records.Ranks.place_of}
-use Rattle.run_law.specs.{control.Wires.{Arrives, Signal}, declared.note.Note.Note, device.States.is_joined_by}
+use Rattle.{run_law.specs.control.{Leaving.Gives, Wires.{Arrives, Signal}}, world_law.specs.source.First.NoSourceBefore}
 use Rattle.run_law.specs.{declared.{judgement.Why.Why, note.NoteBody.NoteBody}, scenario.Ways.{hold_at, way_from}}
+use Rattle.run_law.specs.{declared.note.Note.Note, device.States.is_joined_by, records.Ranks.place_of}
 use Rattle.run_law.specs.{machines.Nodes.{Node, acting}, records.Order.{AllBefore, IsBefore, IsIn, NoneBefore, behind}}
 use Rattle.run_law.specs.{machines.Tasks.{IsPending, Task, reading_for}, scenario.Scenarios.{Scenario, is_broken}}
 use Rattle.run_law.specs.{records.Happenings.{Happening, happening, happenings, time_of}, timed.Dispatching.is_accepted}
 use Rattle.tte_units.specs.Amount.{units_of}
-use Rattle.world_law.specs.source.First.{NoSourceBefore}
 use Rattle.world_law.specs.world.World.{AtPort, IsAwaitedFor, IsGivenBy, OnWire, Stands, Stored, Waiting, World}
 use Rattle.world_law.specs.world.World.{act_place, clock_place, none_yet, note_of, port_place, ripe_place, wire_place}
 use Rattle.run_law.specs.declared.judgement.Why.TheVariants as whys

@@ -1,11 +1,10 @@
 -- What comes of an arrival, an act, a departure or an event.
 use Rattle.std.specs.Prelude.{if◌then◌else◌, ◌&&◌, ◌==◌, ◌∷◌, Bool, List, [], false, not, true, ℕ}
-use Rattle.net_plan.specs.declared.{event.What.What, ids.{DeviceId.DeviceId, LinkId.LinkId}}
-use Rattle.run_law.specs.control.Leaving.{Departure, leaves, on_cut_way, too_old}
-use Rattle.run_law.specs.declared.{judgement.Judgement.Judgement, note.NoteBody.NoteBody, steps.Arrival.Arrival}
-use Rattle.run_law.specs.{declared.steps.Ripe.Ripe, machines.{Answers.node_turned_on, Nodes.Node}}
-use Rattle.sync_state.specs.declared.state.State.TheVariants.{Off}
-use Rattle.world_law.specs.world.World.{AtPort, Befell, has_outcome}
+use Rattle.net_plan.specs.declared.{event.What.What, ids.LinkId.LinkId}
+use Rattle.{net_plan.specs.declared.ids.DeviceId.DeviceId, world_law.specs.world.World.{AtPort, Befell, has_outcome}}
+use Rattle.run_law.specs.{control.Leaving.{Departure, leaves, on_cut_way, too_old}, declared.note.NoteBody.NoteBody}
+use Rattle.{run_law.specs.declared.judgement.Judgement.Judgement, sync_state.specs.declared.state.State.TheVariants.Off}
+use Rattle.run_law.specs.{declared.steps.{Arrival.Arrival, Ripe.Ripe}, machines.{Answers.node_turned_on, Nodes.Node}}
 use Rattle.net_plan.specs.declared.event.What.TheVariants as events
 use Rattle.run_law.specs.declared.judgement.Reason.TheVariants as reasons
 use Rattle.run_law.specs.declared.note.NoteBody.TheVariants as kinds

@@ -1,9 +1,8 @@
 -- What is in a list, and in another with the same elements.
+use Rattle.{run_law.{proofs.records.Order.contains, specs.records.Order.IsIn}, std.{proofs.Common.{subst, suc, sym, true, zero, ℕ}, specs.Option.unwrap_or}}
 use Rattle.std.proofs.Common.{◌<◌, ◌==◌, ◌∙◌, ◌∷◌, ◌≡◌, ◌≢◌, List, None, Option, Some, [], ap, arith, false, get_or, inl, inr, is_some, length, map, refl}
-use Rattle.std.proofs.{Common.{subst, suc, sym, true, zero, ℕ}, lemmas.Bool.{both_ways, eqb-false, ne_eqb}}
+use Rattle.std.{proofs.lemmas.Bool.{both_ways, eqb-false, ne_eqb}, specs.List.{AllByRecursion, Sorted.IsPermutation, cons_option, filter_map}}
 use Rattle.std.proofs.lemmas.List.Sorted.{Contains-permutation, IsPermutation-map, IsPermutation-refl, IsPermutation-sym, length_permutation}
-use Rattle.std.specs.{List.{AllByRecursion, cons_option, filter_map, Sorted.IsPermutation}, Option.unwrap_or}
-use Rattle.run_law.{proofs.records.Order.contains, specs.records.Order.IsIn}
 
 pub in_contained : {X : Type 0} (xs : List X) (k : ℕ) (x : X) → k < length xs → get_or xs k x ≡ x → IsIn x xs
 in_contained [] k x lt e = absurd (omega (arith, lt))

@@ -1,11 +1,10 @@
 -- What is found by its rank and its cause.
+use Rattle.{run_law.proofs.records.Order.{given_of, is_given}, world_state.{proofs.queue_lemmas.Bags.in_contained, specs.declared.queue.Slotted.Slotted}}
+use Rattle.{run_law.{proofs.runs.Places.in_parts, specs.records.Order.IsIn}, std.proofs.{Common.{take, ℕ}, Math.Seq.take-suc, lemmas.List.get_or_default}}
+use Rattle.{slab.specs.Slab.{Slab, get}, std.specs.Prelude.IfSome}
 use Rattle.std.proofs.Common.{◌++◌, ◌+◌, ◌<◌, ◌∙◌, ◌∷◌, ◌≡◌, Bor, List, None, Option, Some, [], ap, arith, get_or, inl, inr, length, refl, subst, suc, sym}
-use Rattle.std.{proofs.{Common.{take, ℕ}, Math.Seq.take-suc, lemmas.List.get_or_default}, specs.{Option.{option_copied, option_map}, Prelude.IfSome}}
-use Rattle.std.specs.declared.cmp.Reverse.{Reverse}
-use Rattle.run_law.{proofs.{records.Order.{given_of, is_given}, runs.Places.in_parts}, specs.records.Order.IsIn}
-use Rattle.slab.specs.Slab.{Slab, get}
-use Rattle.world_state.{proofs.queue_lemmas.Bags.in_contained, specs.queue.Finding.{HoldsAt, HoldsNoneAt, IsPlaceFor, IsSlotFor, NoSlotFor}}
-use Rattle.world_state.specs.{queue.Queues.{entries_in, entry_at, entry_of}, declared.queue.{Entry.Entry, DueAt.DueAt, Slotted.Slotted}}
+use Rattle.{std.specs.{Option.{option_copied, option_map}, declared.cmp.Reverse.Reverse}, world_state.specs.declared.queue.{DueAt.DueAt, Entry.Entry}}
+use Rattle.world_state.specs.queue.{Finding.{HoldsAt, HoldsNoneAt, IsPlaceFor, IsSlotFor, NoSlotFor}, Queues.{entries_in, entry_at, entry_of}}
 
 -- each of them is one of them
 pub is_one : (places : List (Reverse Slotted)) (i : ℕ) (d : Reverse Slotted) → i < length places → IsIn (get_or places i d) places

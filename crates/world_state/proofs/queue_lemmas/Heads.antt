@@ -1,9 +1,8 @@
 -- What stands before the others is on the top.
+use Rattle.{slab.specs.Slab.{Slab, get}, std.{proofs.lemmas.Bool.both_ways, specs.{List.cons_option, Prelude.IfSome}}}
 use Rattle.std.proofs.Common.{◌<◌, ◌∙◌, ◌∷◌, ◌≡◌, List, None, Option, Some, [], ap, arith, get_or, inl, is_some, length, refl, subst, sym, true}
-use Rattle.std.{proofs.lemmas.Bool.both_ways, specs.{List.cons_option, Option.option_map, Prelude.IfSome, declared.cmp.Reverse.Reverse}}
-use Rattle.slab.specs.Slab.{Slab, get}
+use Rattle.{std.specs.{Option.option_map, declared.cmp.Reverse.Reverse}, world_state.specs.declared.queue.{DueAt.DueAt, Entry.Entry, Slotted.Slotted}}
 use Rattle.world_state.{proofs.queue_lemmas.Slots.some_entry, specs.queue.{Places.{IsFirst, first_entry}, Queues.{IsSound, entries_in, entry_at, entry_of}}}
-use Rattle.world_state.specs.declared.queue.{DueAt.DueAt, Entry.Entry, Slotted.Slotted}
 
 module _ {T : Type 0} where
   head_of : (o : Option (Entry T)) (l : List (Entry T)) → is_some o ≡ true → first_entry (cons_option o l) ≡ o

@@ -1,13 +1,11 @@
 -- Places in a heap with their slots: one is put in, and the first is taken out.
+use Rattle.{run_law.proofs.records.Order.{given_of, is_given}, tte_lemmas.proofs.Naturals.flips, world_state.specs.declared.queue.{DueAt.DueAt, Entry.Entry}}
+use Rattle.{run_law.specs.records.Order.{IsBefore, IsIn}, std.specs.{List.Sorted.IsPermutation, Option.option_map, declared.cmp.Reverse.Reverse}}
+use Rattle.{slab.specs.Slab.{Slab, Updates, get}, std.specs.Ordering.is_lt}
 use Rattle.std.proofs.Common.{◌∙◌, ◌∷◌, ◌≡◌, ◌≢◌, List, None, Option, Some, ap, false, inl, inr, is_some, length, map, nat_eq, refl, subst, sym, true, ℕ}
 use Rattle.std.{proofs.lemmas.{Bool.both_ways, List.Sorted.{IsPermutation-map, IsPermutation-sym}}, specs.BinaryHeap.{IsUpperBound, KeepsHeap, PopsGreatest}}
 use Rattle.std.{proofs.lemmas.Map.Keys.{IsDistinct-IsPermutation, IsDistinct-cons, IsDistinct-head, IsDistinct-tail}, specs.List.{IsDistinct, cons_option}}
-use Rattle.std.specs.{List.Sorted.IsPermutation, Option.option_map, Ordering.is_lt, declared.cmp.Reverse.Reverse}
-use Rattle.run_law.{proofs.records.Order.{given_of, is_given}, specs.records.Order.{IsBefore, IsIn}}
-use Rattle.slab.specs.Slab.{Slab, Updates, get}
-use Rattle.tte_lemmas.proofs.Naturals.{flips}
 use Rattle.world_state.proofs.queue_lemmas.{Bags.{all_apart, all_in, each_apart, in_permuted, length_map, permuted_map, same_map}, Orders.not_before}
-use Rattle.world_state.specs.declared.queue.{DueAt.DueAt, Entry.Entry}
 use Rattle.world_state.specs.{declared.queue.Slotted.Slotted, queue.{Places.{IsFirst, numbers_of}, Queues.{IsSound, entries_in, entry_at, entry_of, reversed}}}
 
 abbrev pub slot_of : Reverse Slotted → ℕ

@@ -1,7 +1,6 @@
 -- The order of places.
 use Rattle.std.specs.Prelude.{◌∷◌, ◌≡◌, List, None, Option, Some, [], ℕ}
-use Rattle.run_law.specs.records.Order.{IsBefore, IsIn}
-use Rattle.world_state.specs.declared.queue.{Entry.Entry, DueAt.DueAt}
+use Rattle.{run_law.specs.records.Order.{IsBefore, IsIn}, world_state.specs.declared.queue.{DueAt.DueAt, Entry.Entry}}
 
 -- the place as a list of numbers
 abbrev pub numbers_of : DueAt → List ℕ

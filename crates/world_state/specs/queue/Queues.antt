@@ -2,9 +2,8 @@
 use Rattle.std.specs.{BinaryHeap.IsHeap, Prelude.{◌-◌, ◌≡◌, List, Option, is_some, map, min, nat_eq, true, ℕ}}
 use Rattle.std.specs.{List.{IsDistinct, filter_map}, Option.option_map}
 use Rattle.std.specs.{Ordering.{nat_cmp, ordering_then}, declared.cmp.{Ordering.Ordering, Reverse.Reverse}}
-use Rattle.run_law.specs.records.Order.{IsIn}
-use Rattle.slab.specs.Slab.{Slab, get, slab_len}
-use Rattle.world_state.specs.declared.queue.{Entry.Entry, DueAt.DueAt, Slotted.Slotted}
+use Rattle.{run_law.specs.records.Order.IsIn, slab.specs.Slab.{Slab, get, slab_len}}
+use Rattle.world_state.specs.declared.queue.{DueAt.DueAt, Entry.Entry, Slotted.Slotted}
 
 -- what is under way, and for how many more there is room
 pub record Queue (T : Type 0) : Type 0 where

@@ -1,6 +1,5 @@
-use Rattle.audit_sweep.proofs.Words.{Arrival, ArrivesAs, scenario_under, subst}
+use Rattle.{audit_sweep.proofs.Words.{Arrival, ArrivesAs, scenario_under, subst}, run_law.proofs.runs.SameSteps.same_arrival}
 use Rattle.device_rules.specs.Answers.{arrival_as}
-use Rattle.run_law.proofs.runs.SameSteps.{same_arrival}
 use Rattle.audit_sweep.proofs.arriving.arrives_as.Goals as goal
 
 pub returns-in-Some : goal.returns-in-Some

@@ -1,5 +1,4 @@
-use Rattle.audit_sweep.proofs.Words.{◌∙◌, Happening, KeptRecord, Some, ap, kept_of, sym}
-use Rattle.std.specs.Prelude.{option_map}
+use Rattle.{audit_sweep.proofs.Words.{◌∙◌, Happening, KeptRecord, Some, ap, kept_of, sym}, std.specs.Prelude.option_map}
 use Rattle.audit_sweep.proofs.dispatching.kept.Goals as goal
 
 pub returns-in-Some : goal.returns-in-Some

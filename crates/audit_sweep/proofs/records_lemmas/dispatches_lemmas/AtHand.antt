@@ -1,11 +1,10 @@
 -- When a device has a frame at hand.
+use Rattle.{audit_devices.specs.Taking.{taken_at, taken_by, taking_of}, std.{proofs.lemmas.Bool.{and_parts, eq-eqb, eqb-true, or_right}, specs.List.last_or}}
+use Rattle.{audit_devices.specs.declared.taking.Taking.Taking, audit_sweep.specs.records.dispatches.Dispatched.{IsAcceptedLast, IsAtHand, holds, is_last}}
+use Rattle.{net_plan.specs.declared.{ids.{DeviceId.DeviceId, VlId.VlId}, network.Network.Network}, std.specs.Prelude.{◌&&◌, ◌==◌, ◌||◌, not, option_and_then}}
+use Rattle.{net_plan.specs.declared.ids.LinkId.LinkId, run_law.specs.{declared.note.NoteBody.NoteBody, scenario.Devices.is_end}}
+use Rattle.run_law.specs.{records.Happenings.{Happening, earlier, time_of}, timed.Dispatching.{HasAccepted, is_accepted, last_accepted}}
 use Rattle.std.proofs.Common.{◌∙◌, ◌∷◌, ◌≡◌, ◌⊎◌, Bool, List, None, Option, Some, [], ap, arith, false, filter, if◌then◌else◌, inl, inr, refl, sym, true, ℕ}
-use Rattle.std.{proofs.lemmas.Bool.{and_parts, eq-eqb, eqb-true, or_right}, specs.{List.last_or, Prelude.{◌&&◌, ◌==◌, ◌||◌, not, option_and_then}}}
-use Rattle.audit_devices.specs.{Taking.{taken_at, taken_by, taking_of}, declared.taking.Taking.Taking}
-use Rattle.net_plan.specs.declared.{ids.{DeviceId.DeviceId, LinkId.LinkId, VlId.VlId}, network.Network.Network}
-use Rattle.run_law.specs.{declared.note.NoteBody.NoteBody, records.Happenings.{Happening, earlier, time_of}, scenario.Devices.is_end}
-use Rattle.run_law.specs.timed.Dispatching.{HasAccepted, is_accepted, last_accepted}
-use Rattle.audit_sweep.specs.records.dispatches.Dispatched.{IsAcceptedLast, IsAtHand, holds, is_last}
 use Rattle.run_law.specs.declared.note.NoteBody.TheVariants as notes
 
 -- ---- the last that passes has passed

@@ -1,11 +1,9 @@
 -- The cycles in which the virtual link of a row occurs.
-use Rattle.std.proofs.Common.{if◌then◌else◌, ◌%◌, ◌*◌, ◌+ℤ◌, ◌+◌, ◌/◌, ◌<◌, ◌∙◌, ◌≡◌, ◌≤◌, Bool, ap, arith, false, pos, refl, suc, sym, true, zero, ℕ, ℤ}
-use Rattle.std.{proofs.{Math.Nat.mul-mod_left, lemmas.{Bool.{eq-eqb, eqb-true, false≢true}, Int.ints, Nat.{div-add-mod', mod-mul-add}}}, specs.Prelude.◌==◌}
-use Rattle.audit_devices.specs.declared.clocks.finding.Series.{Series}
-use Rattle.net_plan.specs.declared.network.Network.{Network}
-use Rattle.tte_units.specs.Amount.{amount}
-use Rattle.audit_sweep.specs.records.dispatches.Leavings.{AreLeavings, IsRowFit, first_cycle, leaving_value}
-use Rattle.audit_sweep.specs.{declared.records.dispatches.leaving.LeavingRow.LeavingRow}
+use Rattle.{audit_devices.specs.declared.clocks.finding.Series.Series, audit_sweep.specs.declared.records.dispatches.leaving.LeavingRow.LeavingRow}
+use Rattle.{audit_sweep.specs.records.dispatches.Leavings.{AreLeavings, IsRowFit, first_cycle, leaving_value}, net_plan.specs.declared.network.Network.Network}
+use Rattle.std.proofs.Common.{◌%◌, ◌*◌, ◌+ℤ◌, ◌+◌, ◌/◌, ◌<◌, ◌∙◌, ◌≡◌, ◌≤◌, Bool, ap, arith, false, if◌then◌else◌, pos, refl, suc, sym, true, zero, ℕ, ℤ}
+use Rattle.{std.proofs.{Math.Nat.mul-mod_left, lemmas.{Bool.{eq-eqb, eqb-true, false≢true}, Nat.{div-add-mod', mod-mul-add}}}, tte_units.specs.Amount.amount}
+use Rattle.std.{proofs.lemmas.Int.ints, specs.Prelude.◌==◌}
 
 -- ---- the cycles
 

@@ -1,9 +1,8 @@
 -- When a clock crosses one value.
-use Rattle.std.proofs.Common.{if◌then◌else◌, ◌*◌, ◌-◌, ◌<◌, ◌^◌, ◌≡◌, ◌≤◌, Bool, None, Option, Some, arith, false, inl, inr, mul-le-mul_right, refl, subst, sym}
-use Rattle.std.{proofs.{Common.{true, ℕ, ℤ}, lemmas.{Bool.{cases_lt, eqb-true}, Int.ints}}, specs.Prelude.◌==◌}
 use Rattle.audit_devices.specs.{Showing.Shown, clocks.Finding.{CrossesAt, IsNextOrNone, value_in}, declared.clocks.finding.{Crossed.Crossed, Series.Series}}
-use Rattle.audit_devices.specs.events.Readings.{ReadsOn}
+use Rattle.{audit_devices.specs.events.Readings.ReadsOn, std.{proofs.{Common.{true, ℕ, ℤ}, lemmas.{Bool.{cases_lt, eqb-true}, Int.ints}}, specs.Prelude.◌==◌}}
 use Rattle.audit_sweep.{proofs.records_lemmas.dispatches_lemmas.Occurring.not_none, specs.records.dispatches.Crossing.{IsCrossingOrNone, first_time}}
+use Rattle.std.proofs.Common.{◌*◌, ◌-◌, ◌<◌, ◌^◌, ◌≡◌, ◌≤◌, Bool, None, Option, Some, arith, false, if◌then◌else◌, inl, inr, mul-le-mul_right, refl, subst, sym}
 
 first_value : (series : Series) → value_in series 0 ≡ series.first
 first_value series = omega (arith, ints)

@@ -1,12 +1,10 @@
 -- What a switch dispatches of a frame that it took.
-use Rattle.std.proofs.Common.{arith}
-use Rattle.std.{proofs.{Common.{◌↔◌, ◌∙◌, ◌≡◌, List, None, Option, Some, ap, inl, inr, subst, sym, ℕ}, lemmas.Option.same_Some}, specs.Prelude.option_map}
-use Rattle.audit_sweep.specs.{declared.records.{dispatches.leaving.Dispatch.Dispatch, kept.Kept.Kept}, records.dispatches.Judged.{DispatchesSome, IsKeptOf}}
-use Rattle.audit_sweep.specs.records.{Keeping.kept_of, dispatches.{Passed.passed_as, Sent.AreFoundByNumber}}
-use Rattle.net_plan.specs.declared.{ids.{DeviceId.DeviceId, LinkId.LinkId, VlId.VlId}, network.Network.Network}
-use Rattle.run_law.{proofs.law.FirstDeliveries.accepted_in, specs.{records.Happenings.{Happening, numbered}, scenario.Scenarios.Scenario}}
-use Rattle.run_law.specs.timed.Dispatching.{Dispatches, HasAccepted, HasAtHand}
-use Rattle.schedule_tables.specs.declared.entry.Entry.{Entry}
+use Rattle.audit_sweep.specs.{declared.records.dispatches.leaving.Dispatch.Dispatch, records.dispatches.{Judged.{DispatchesSome, IsKeptOf}, Passed.passed_as}}
+use Rattle.{audit_sweep.specs.declared.records.kept.Kept.Kept, std.proofs.Common.{◌↔◌, ◌∙◌, ◌≡◌, List, None, Option, Some, ap, arith, inl, inr, subst, sym, ℕ}}
+use Rattle.{audit_sweep.specs.records.{Keeping.kept_of, dispatches.Sent.AreFoundByNumber}, run_law.specs.timed.Dispatching.{Dispatches, HasAccepted, HasAtHand}}
+use Rattle.{net_plan.specs.declared.{ids.{DeviceId.DeviceId, LinkId.LinkId, VlId.VlId}, network.Network.Network}, run_law.specs.scenario.Scenarios.Scenario}
+use Rattle.{run_law.{proofs.law.FirstDeliveries.accepted_in, specs.records.Happenings.{Happening, numbered}}, schedule_tables.specs.declared.entry.Entry.Entry}
+use Rattle.std.{proofs.lemmas.Option.same_Some, specs.Prelude.option_map}
 use Rattle.audit_sweep.specs.declared.records.kept.Kept.TheVariants as kepts
 
 accepted_kept : (hs : List Happening) (device : DeviceId) (vl : VlId) (t cause cycle : ℕ) (kept : Option Kept) → AreFoundByNumber hs

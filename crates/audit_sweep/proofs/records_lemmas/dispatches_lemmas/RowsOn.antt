@@ -1,13 +1,11 @@
 -- The rows of each link, as they are found one after another.
-use Rattle.std.proofs.Common.{if◌then◌else◌, ◌++◌, ◌+◌, ◌<◌, ◌∙◌, ◌∷◌, ◌≡◌, ◌≤◌, ◌⊎◌, Bool, Global, List, Vec, [], ap, arith, false, inl, inr, length, refl}
-use Rattle.std.proofs.{Common.{slice_get, subst, suc, sym, true, zero, ℕ}, lemmas.Bool.{eq-eqb, eqb-true, false≢true}}
-use Rattle.std.{proofs.lemmas.Option.{slice_get_past, slice_get_within}, specs.{Option.option_map_or, Prelude.◌==◌}}
-use Rattle.net_plan.specs.declared.{ids.LinkId.LinkId, network.Network.Network}
-use Rattle.run_law.{proofs.runs.Places.{in_left, in_parts, in_right}, specs.records.Order.IsIn}
-use Rattle.schedule_tables.{proofs.EntryLemmas.one_entry, specs.{Entries.IsEntry, declared.entry.Entry.Entry}}
-use Rattle.tte_lemmas.proofs.Naturals.{below_next}
 use Rattle.audit_sweep.specs.{declared.records.dispatches.leaving.LeavingRow.LeavingRow, records.dispatches.Leaving.{AreRowsOn, IsRowOn, leaving_by}}
 use Rattle.audit_sweep.specs.{declared.records.dispatches.exits.Exits.Exits, records.dispatches.Exits.{AreExits, AreNoRows, rows_on}}
+use Rattle.{net_plan.specs.declared.ids.LinkId.LinkId, schedule_tables.specs.Entries.IsEntry, std.specs.Prelude.◌==◌, tte_lemmas.proofs.Naturals.below_next}
+use Rattle.{net_plan.specs.declared.network.Network.Network, schedule_tables.{proofs.EntryLemmas.one_entry, specs.declared.entry.Entry.Entry}}
+use Rattle.{run_law.{proofs.runs.Places.{in_left, in_parts, in_right}, specs.records.Order.IsIn}, std.proofs.lemmas.Bool.{eq-eqb, eqb-true, false≢true}}
+use Rattle.std.proofs.Common.{◌++◌, ◌+◌, ◌<◌, ◌∙◌, ◌∷◌, ◌≡◌, ◌≤◌, ◌⊎◌, Bool, Global, List, Vec, [], ap, arith, false, if◌then◌else◌, inl, inr, length, refl}
+use Rattle.std.{proofs.{Common.{slice_get, subst, suc, sym, true, zero, ℕ}, lemmas.Option.{slice_get_past, slice_get_within}}, specs.Option.option_map_or}
 
 -- ---- no rows
 

@@ -1,17 +1,14 @@
 -- What a device dispatches as the sender of a virtual link.
-use Rattle.std.proofs.Common.{◌+◌, ◌-◌, ◌↔◌, ◌∙◌, ◌≡◌, IsTrue, List, None, Option, Some, ap, arith, inl, inr, pos, refl, subst, suc, sym, zero, ℕ, ℤ}
-use Rattle.std.{proofs.lemmas.Int.ints, specs.Prelude.is_some}
 use Rattle.audit_devices.{proofs.clocks_lemmas.Reached.{come_reaches, reaches_come}, specs.clocks.Finding.{CrossesAt, IsNextOrNone, NoneCrossed, value_in}}
-use Rattle.audit_devices.specs.{Showing.{IsSteady, Shown, Shows}, declared.clocks.finding.{Crossed.Crossed, Series.Series}}
-use Rattle.net_plan.{proofs.InRange.amount_most, specs.{Ranges.{IsInRange, IsRowInRange, IsVlInRange}, declared.ids.{DeviceId.DeviceId, LinkId.LinkId}}}
-use Rattle.net_plan.specs.declared.network.Network.{Network}
-use Rattle.run_law.{proofs.law.FirstDeliveries.accepted_in, specs.{records.Happenings.{Happening, earlier, numbered}, scenario.Scenarios.Scenario}}
-use Rattle.run_law.specs.timed.Dispatching.{HasAtHand, IsUp}
-use Rattle.schedule_tables.specs.declared.entry.Entry.{Entry}
-use Rattle.tte_lemmas.proofs.Lists.{in_all}
+use Rattle.{audit_devices.specs.Showing.{IsSteady, Shown, Shows}, run_law.specs.scenario.Scenarios.Scenario, schedule_tables.specs.declared.entry.Entry.Entry}
+use Rattle.{audit_devices.specs.declared.clocks.finding.{Crossed.Crossed, Series.Series}, net_plan.specs.Ranges.{IsInRange, IsRowInRange, IsVlInRange}}
+use Rattle.{audit_sweep.specs.declared.records.dispatches.leaving.LeavingRow.LeavingRow, run_law.specs.records.Happenings.{Happening, earlier, numbered}}
 use Rattle.audit_sweep.specs.records.dispatches.{Leaving.{AreRowsOn, leaving_by}, Leavings.{AreLeavings, IsRowFit, cycle_of, leaving_value}}
 use Rattle.audit_sweep.specs.records.dispatches.Sent.{AreFoundByNumber, AreRowsFit, CrossesSome, ReachesSome, SendsBy, SendsBySome, SendsSome}
-use Rattle.audit_sweep.specs.declared.records.dispatches.leaving.LeavingRow.{LeavingRow}
+use Rattle.{net_plan.{proofs.InRange.amount_most, specs.declared.ids.{DeviceId.DeviceId, LinkId.LinkId}}, tte_lemmas.proofs.Lists.in_all}
+use Rattle.{net_plan.specs.declared.network.Network.Network, run_law.{proofs.law.FirstDeliveries.accepted_in, specs.timed.Dispatching.{HasAtHand, IsUp}}}
+use Rattle.std.proofs.Common.{◌+◌, ◌-◌, ◌↔◌, ◌∙◌, ◌≡◌, IsTrue, List, None, Option, Some, ap, arith, inl, inr, pos, refl, subst, suc, sym, zero, ℕ, ℤ}
+use Rattle.std.{proofs.lemmas.Int.ints, specs.Prelude.is_some}
 
 -- ---- a crossing at a time
 

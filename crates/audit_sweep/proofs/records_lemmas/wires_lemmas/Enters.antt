@@ -1,12 +1,11 @@
 -- How what arrives enters a device.
-use Rattle.std.proofs.Common.{◌∙◌, ◌≡◌, Err, List, Ok, Option, Result, ap, arith, subst, sym, ℕ}
-use Rattle.device_rules.specs.{Entering.{IsEnteredSo, entering_by}, Headings.heading_of, declared.{entrances.EnteringRow.EnteringRow, heading.Heading.Heading}}
-use Rattle.net_plan.specs.declared.{ids.{DeviceId.DeviceId, LinkId.LinkId}, network.Network.Network}
-use Rattle.run_law.specs.{control.Wires.{Signal, control, timed}, declared.{judgement.Reason.Reason, steps.Arrival.Arrival}}
-use Rattle.run_law.specs.{device.Standpoints.{Standpoint, standpoint}, records.Happenings.Happening, scenario.Scenarios.Scenario}
-use Rattle.run_law.specs.timed.{Arrivals.{row_fault, taken_or_fault}, Receptions.{arrival_of, last_taken}}
-use Rattle.schedule_tables.specs.declared.entry.Entry.{Entry}
-use Rattle.audit_sweep.specs.{records.wires.Entrances.IsEnteredAs, records.wires.Signals.on_wire_of, declared.records.wires.putting.OnWire.OnWire}
+use Rattle.{audit_sweep.specs.declared.records.wires.putting.OnWire.OnWire, device_rules.specs.declared.entrances.EnteringRow.EnteringRow}
+use Rattle.{audit_sweep.specs.records.wires.{Entrances.IsEnteredAs, Signals.on_wire_of}, run_law.specs.timed.Arrivals.{row_fault, taken_or_fault}}
+use Rattle.{device_rules.specs.{Entering.{IsEnteredSo, entering_by}, declared.heading.Heading.Heading}, run_law.specs.timed.Receptions.{arrival_of, last_taken}}
+use Rattle.{device_rules.specs.Headings.heading_of, run_law.specs.{records.Happenings.Happening, scenario.Scenarios.Scenario}}
+use Rattle.{net_plan.specs.declared.{ids.{DeviceId.DeviceId, LinkId.LinkId}, network.Network.Network}, run_law.specs.declared.steps.Arrival.Arrival}
+use Rattle.{run_law.specs.{control.Wires.{Signal, control, timed}, declared.judgement.Reason.Reason}, schedule_tables.specs.declared.entry.Entry.Entry}
+use Rattle.{run_law.specs.device.Standpoints.{Standpoint, standpoint}, std.proofs.Common.{◌∙◌, ◌≡◌, Err, List, Ok, Option, Result, ap, arith, subst, sym, ℕ}}
 use Rattle.audit_sweep.specs.declared.records.wires.entering.Entered.TheVariants as entered
 use Rattle.audit_sweep.specs.declared.records.wires.putting.OnWire.TheVariants as on_wire
 

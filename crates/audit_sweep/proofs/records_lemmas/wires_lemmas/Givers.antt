@@ -1,12 +1,11 @@
 -- The devices that give frames to links.
+use Rattle.{audit_sweep.specs.records.Keeping.kept_of, net_plan.{proofs.TableFacts.link_there, specs.{Belonging.HasLink, declared.tables.Link.Link}}}
+use Rattle.{audit_sweep.specs.records.wires.Departings.{giver, is_child_of, passes}, std.proofs.lemmas.Bool.{and_from, and_parts, or_cases, or_left, or_right}}
+use Rattle.{net_plan.specs.{Places.link_at, Rules.IsChildOf}, std.specs.Option.option_map_or}
+use Rattle.{net_plan.specs.declared.{ids.{DeviceId.DeviceId, LinkId.LinkId}, network.Network.Network}, std.proofs.lemmas.Option.{same_Some, slice_get_within}}
+use Rattle.run_law.{proofs.scenario.Devices.{end_is, parent_shown, shown_parent}, specs.scenario.Devices.{IsParentOf, is_parent_of, is_relay}}
+use Rattle.{run_law.specs.{control.Leaving.{Gives, Passes}, declared.note.NoteBody.NoteBody}, std.specs.Prelude.{IsSomeAnd, if◌then◌else◌}}
 use Rattle.std.proofs.Common.{◌&&◌, ◌==◌, ◌||◌, ◌≡◌, ◌⊎◌, Bool, None, Option, Some, ap, arith, false, inl, inr, refl, subst, sym, true}
-use Rattle.std.{proofs.lemmas.{Bool.{and_from, and_parts, or_cases, or_left, or_right}, Option.{same_Some, slice_get_within}}, specs.Option.option_map_or}
-use Rattle.std.specs.Prelude.{if◌then◌else◌, IsSomeAnd}
-use Rattle.audit_sweep.specs.records.{Keeping.kept_of, wires.Departings.{giver, is_child_of, passes}}
-use Rattle.net_plan.{proofs.TableFacts.link_there, specs.{Belonging.HasLink, Places.link_at, Rules.IsChildOf, declared.ids.{DeviceId.DeviceId, LinkId.LinkId}}}
-use Rattle.net_plan.specs.declared.{network.Network.Network, tables.Link.Link}
-use Rattle.run_law.{proofs.scenario.Devices.{end_is, parent_shown, shown_parent}, specs.{control.Leaving.{Gives, Passes}, declared.note.NoteBody.NoteBody}}
-use Rattle.run_law.specs.scenario.Devices.{IsParentOf, is_parent_of, is_relay}
 use Rattle.net_plan.specs.declared.event.What.TheVariants as events
 use Rattle.run_law.specs.declared.note.NoteBody.TheVariants as notes
 

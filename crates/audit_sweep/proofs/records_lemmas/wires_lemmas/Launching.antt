@@ -1,15 +1,13 @@
 -- What a record puts on a way is what is told by what is kept of it.
-use Rattle.std.proofs.{Common.{◌==◌, ◌∙◌, ◌≡◌, Bool, Err, List, None, Ok, Option, Result, Some, ap, false, refl, subst, sym, true, ℕ}, lemmas.Option.same_Some}
-use Rattle.std.specs.Prelude.{if◌then◌else◌, option_map, ⊤}
-use Rattle.audit_sweep.specs.{records.Keeping.{control_sending, kept_of, record_of, sending_of}, declared.records.kept.KeptRecord.KeptRecord}
-use Rattle.device_rules.specs.{Headings.heading_of, declared.heading.Heading.Heading}
-use Rattle.net_plan.specs.declared.{ids.LinkId.LinkId, network.Network.Network, tables.Way.{Way, TheVariants.Up}}
-use Rattle.pcf_codec.specs.{Decoding.decoded, EtherType.pcf_type, Fields.field, declared.refusal.PcfRefusal.PcfRefusal}
-use Rattle.pcf_values.specs.declared.pcf.Pcf.{Pcf}
-use Rattle.run_law.specs.{control.Wires.{Launch, Signal, control, launched, signal_of, timed}, declared.note.NoteBody.NoteBody}
-use Rattle.run_law.specs.{records.Happenings.{Happening, frame_by, frame_in, octets_by}, scenario.{Scenarios.Scenario, Ways.{is_cut, way_from}}}
+use Rattle.audit_sweep.specs.{declared.records.kept.KeptRecord.KeptRecord, records.Keeping.{control_sending, kept_of, record_of, sending_of}}
+use Rattle.{audit_sweep.specs.declared.records.wires.putting.Put.Put, pcf_codec.specs.{EtherType.pcf_type, declared.refusal.PcfRefusal.PcfRefusal}}
 use Rattle.audit_sweep.specs.records.wires.Signals.{ShowsByCause, control_on_wire, on_wire_of, put_by, put_of, put_on, sent_on_wire, stops}
-use Rattle.audit_sweep.specs.{declared.records.wires.putting.Put.Put}
+use Rattle.{device_rules.specs.Headings.heading_of, net_plan.specs.declared.ids.LinkId.LinkId, run_law.specs.scenario.Scenarios.Scenario}
+use Rattle.{device_rules.specs.declared.heading.Heading.Heading, net_plan.specs.declared.{network.Network.Network, tables.Way.{TheVariants.Up, Way}}}
+use Rattle.{pcf_codec.specs.{Decoding.decoded, Fields.field}, pcf_values.specs.declared.pcf.Pcf.Pcf}
+use Rattle.run_law.specs.{control.Wires.{Launch, Signal, control, launched, signal_of, timed}, records.Happenings.{Happening, frame_by, frame_in, octets_by}}
+use Rattle.{run_law.specs.{declared.note.NoteBody.NoteBody, scenario.Ways.{is_cut, way_from}}, std.specs.Prelude.{if◌then◌else◌, option_map, ⊤}}
+use Rattle.std.proofs.{Common.{◌==◌, ◌∙◌, ◌≡◌, Bool, Err, List, None, Ok, Option, Result, Some, ap, false, refl, subst, sym, true, ℕ}, lemmas.Option.same_Some}
 use Rattle.audit_sweep.specs.declared.records.kept.Sending.TheVariants as sendings
 use Rattle.net_plan.specs.declared.event.What.TheVariants as events
 use Rattle.run_law.specs.declared.note.NoteBody.TheVariants as notes

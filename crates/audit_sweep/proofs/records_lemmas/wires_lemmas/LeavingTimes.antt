@@ -1,13 +1,10 @@
 -- When control frames leave, and what becomes of them.
-use Rattle.std.proofs.Common.{◌+◌, ◌<◌, ◌∙◌, ◌≡◌, ◌≤◌, List, Some, ap, arith, false, refl, subst, sym, true, ℕ}
-use Rattle.audit_devices.specs.law.Departures.{OwesDeparture, leaves_at}
-use Rattle.audit_sweep.specs.{records.Keeping.record_of, declared.records.kept.KeptRecord.KeptRecord}
-use Rattle.net_plan.specs.declared.ids.{DeviceId.DeviceId, LinkId.LinkId}
-use Rattle.pcf_values.specs.declared.pcf.Pcf.{Pcf}
-use Rattle.run_law.specs.{control.Leaving.{Departs, Departure, Gives, departure}, records.Happenings.{Happening, numbered}}
-use Rattle.run_law.specs.scenario.{Scenarios.{Scenario, is_broken}, Ways.{hold_at, way_from}}
-use Rattle.tte_lemmas.proofs.Options.{one}
-use Rattle.audit_sweep.{proofs.records_lemmas.wires_lemmas.Givers.{given, gives}, specs.records.wires.Departings.{IsLeaving, giver}}
+use Rattle.{audit_devices.specs.law.Departures.{OwesDeparture, leaves_at}, audit_sweep.specs.declared.records.kept.KeptRecord.KeptRecord}
+use Rattle.{audit_sweep.proofs.records_lemmas.wires_lemmas.Givers.{given, gives}, run_law.specs.control.Leaving.{Departs, Departure, Gives, departure}}
+use Rattle.{audit_sweep.specs.records.{Keeping.record_of, wires.Departings.{IsLeaving, giver}}, run_law.specs.records.Happenings.{Happening, numbered}}
+use Rattle.{net_plan.specs.declared.ids.DeviceId.DeviceId, std.proofs.Common.{◌+◌, ◌<◌, ◌∙◌, ◌≡◌, ◌≤◌, List, Some, ap, arith, false, refl, subst, sym, true, ℕ}}
+use Rattle.{net_plan.specs.declared.ids.LinkId.LinkId, run_law.specs.scenario.{Scenarios.{Scenario, is_broken}, Ways.{hold_at, way_from}}}
+use Rattle.{pcf_values.specs.declared.pcf.Pcf.Pcf, tte_lemmas.proofs.Options.one}
 
 -- ---- what is kept tells it
 

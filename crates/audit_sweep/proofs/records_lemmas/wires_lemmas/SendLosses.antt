@@ -1,12 +1,9 @@
 -- What is lost of `send` events.
-use Rattle.std.proofs.{Common.{◌≡◌, List, None, Option, Some, ap, arith, false, slice_get, true, ℕ}, lemmas.Option.same_Some}
-use Rattle.audit_devices.specs.law.LostSends.{OwesLoss}
-use Rattle.audit_sweep.specs.{records.Keeping.{kept_of, record_of}, declared.records.kept.{Kept.Kept, KeptRecord.KeptRecord}}
-use Rattle.net_plan.specs.declared.{ids.{DeviceId.DeviceId, LinkId.LinkId}, tables.{Link.Link, Way.TheVariants.Up}}
-use Rattle.run_law.specs.{control.Losses.IsSendLost, declared.note.NoteBody.NoteBody, records.Happenings.{Happening, numbered}}
-use Rattle.run_law.specs.scenario.{Scenarios.Scenario, Ways.is_cut}
-use Rattle.tte_lemmas.proofs.Options.{one}
-use Rattle.audit_sweep.specs.{records.wires.Departings.IsLostAt, declared.records.wires.leaving.Leaving.Leaving}
+use Rattle.{audit_devices.specs.law.LostSends.OwesLoss, run_law.specs.{control.Losses.IsSendLost, declared.note.NoteBody.NoteBody, scenario.Scenarios.Scenario}}
+use Rattle.audit_sweep.specs.{declared.records.{kept.{Kept.Kept, KeptRecord.KeptRecord}, wires.leaving.Leaving.Leaving}, records.Keeping.{kept_of, record_of}}
+use Rattle.{audit_sweep.specs.records.wires.Departings.IsLostAt, net_plan.specs.declared.{ids.{DeviceId.DeviceId, LinkId.LinkId}, tables.Way.TheVariants.Up}}
+use Rattle.{net_plan.specs.declared.tables.Link.Link, run_law.specs.scenario.Ways.is_cut, std.proofs.lemmas.Option.same_Some, tte_lemmas.proofs.Options.one}
+use Rattle.{run_law.specs.records.Happenings.{Happening, numbered}, std.proofs.Common.{◌≡◌, List, None, Option, Some, ap, arith, false, slice_get, true, ℕ}}
 use Rattle.audit_sweep.specs.declared.records.kept.Kept.TheVariants as kepts
 use Rattle.net_plan.specs.declared.event.What.TheVariants as events
 use Rattle.run_law.specs.declared.note.NoteBody.TheVariants as notes

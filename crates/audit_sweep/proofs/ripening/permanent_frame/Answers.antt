@@ -1,7 +1,6 @@
-use Rattle.audit_sweep.{proofs.{PermanentFrames.{arrived_clock, from_arrival}, Words.ℕ}, specs.Ripenings.waiting_clock}
+use Rattle.{audit_sweep.{proofs.PermanentFrames.{arrived_clock, from_arrival}, specs.Ripenings.waiting_clock}, transparent_clock.specs.Points.point_of}
 use Rattle.audit_sweep.proofs.Words.{◌∙◌, ◌≡◌, Happening, KeptRecord, NoteBody, Some, ap, clock_reading, kept_of, numbered, one, pos, refl, subst, sym, time_of}
-use Rattle.drift_clock.specs.Reach.{IsReach}
-use Rattle.transparent_clock.specs.Points.{point_of}
+use Rattle.{audit_sweep.proofs.Words.ℕ, drift_clock.specs.Reach.IsReach}
 use Rattle.audit_sweep.proofs.ripening.permanent_frame.Goals as goal
 
 pub point_reached-requires-clause-young : goal.point_reached-requires-clause-young

@@ -1,7 +1,5 @@
-use Rattle.audit_sweep.proofs.Words.{◌∙◌, ap, clock_reading, pos, subst, sym, ℕ}
+use Rattle.{audit_sweep.proofs.Words.{◌∙◌, ap, clock_reading, pos, subst, sym, ℕ}, drift_clock.specs.Reach.IsReach, transparent_clock.specs.Points.point_of}
 use Rattle.std.proofs.Common.{ℤ}
-use Rattle.drift_clock.specs.Reach.{IsReach}
-use Rattle.transparent_clock.specs.Points.{point_of}
 use Rattle.audit_sweep.proofs.ripening.point_reached.Goals as goal
 
 pub returns-then-is_first_read : goal.returns-then-is_first_read

@@ -1,11 +1,10 @@
 -- Which frames a row's device can have at hand.
-use Rattle.std.proofs.Common.{◌∙◌, ◌≡◌, ◌⊎◌, Bool, List, None, Option, Some, ap, arith, false, inl, inr, not, refl, subst, sym, true, ℕ}
-use Rattle.std.{proofs.lemmas.Bool.{and_parts, eqb-true, false≢true}, specs.Prelude.{◌==◌, ◌↔◌, IsTrue, MatchBool}}
-use Rattle.audit_devices.specs.declared.taking.Taking.{Taking}
+use Rattle.{audit_devices.specs.declared.taking.Taking.Taking, net_plan.specs.declared.ids.VlId.VlId, std.proofs.lemmas.Bool.{and_parts, eqb-true, false≢true}}
 use Rattle.audit_sweep.{proofs.records_lemmas.dispatches_lemmas.AtHand.{held, so_held}, specs.unpaid.dispatches.Frames.{AreTold, IsTold, LacksOne}}
 use Rattle.audit_sweep.specs.{declared.records.dispatches.leaving.LeavingRow.LeavingRow, records.dispatches.Dispatched.{IsAcceptedLast, IsAtHand, is_last}}
-use Rattle.net_plan.specs.declared.{ids.{DeviceId.DeviceId, LinkId.LinkId, VlId.VlId}, network.Network.Network}
+use Rattle.{net_plan.specs.declared.{ids.{DeviceId.DeviceId, LinkId.LinkId}, network.Network.Network}, std.specs.Prelude.{◌==◌, ◌↔◌, IsTrue, MatchBool}}
 use Rattle.run_law.specs.{records.Happenings.Happening, scenario.Scenarios.Scenario}
+use Rattle.std.proofs.Common.{◌∙◌, ◌≡◌, ◌⊎◌, Bool, List, None, Option, Some, ap, arith, false, inl, inr, not, refl, subst, sym, true, ℕ}
 
 -- ---- the two cases of an answer
 

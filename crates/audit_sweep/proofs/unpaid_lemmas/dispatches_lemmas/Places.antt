@@ -1,9 +1,8 @@
 -- Where the records of dispatches stand.
-use Rattle.std.{proofs.Common.{◌≡◌, Bool, List, ap, arith, false, refl, true, ℕ}, specs.Prelude.◌↔◌}
-use Rattle.audit_devices.specs.law.{Debts.IsPaid, Dispatched.{Dispatch, dispatch_record, is_cut_then}, Owed.Pays}
-use Rattle.audit_sweep.specs.records.places.Placing.{HasRecordAt}
-use Rattle.net_plan.specs.declared.ids.{DeviceId.DeviceId, LinkId.LinkId, VlId.VlId}
-use Rattle.run_law.specs.{declared.note.NoteBody.NoteBody, records.{Happenings.Happening, Ranks.place_at}, scenario.Scenarios.Scenario}
+use Rattle.{audit_devices.specs.law.{Debts.IsPaid, Owed.Pays}, std.specs.Prelude.◌↔◌}
+use Rattle.{audit_devices.specs.law.Dispatched.{Dispatch, dispatch_record, is_cut_then}, std.proofs.Common.{◌≡◌, Bool, List, ap, arith, false, refl, true, ℕ}}
+use Rattle.{audit_sweep.specs.records.places.Placing.HasRecordAt, net_plan.specs.declared.ids.DeviceId.DeviceId, run_law.specs.declared.note.NoteBody.NoteBody}
+use Rattle.{net_plan.specs.declared.ids.{LinkId.LinkId, VlId.VlId}, run_law.specs.{records.{Happenings.Happening, Ranks.place_at}, scenario.Scenarios.Scenario}}
 use Rattle.audit_devices.specs.law.Owed as debts
 use Rattle.run_law.specs.declared.note.NoteBody.TheVariants as notes
 

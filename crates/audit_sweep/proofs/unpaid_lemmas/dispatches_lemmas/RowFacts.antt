@@ -1,16 +1,13 @@
 -- What holds of a row of a network in range, and of the local values at which its frames leave.
+use Rattle.audit_devices.{proofs.clocks_lemmas.Reached.changed_early, specs.{Showing.Shown, declared.clocks.finding.{Crossed.Crossed, Series.Series}}}
+use Rattle.{audit_devices.specs.clocks.Finding.{IsNextCrossing, value_in}, net_plan.specs.Ranges.{IsInRange, IsLinkInRange, IsRowInRange, IsVlInRange}}
+use Rattle.audit_sweep.specs.{declared.records.dispatches.leaving.LeavingRow.LeavingRow, records.dispatches.Leavings.{AreLeavings, IsRowFit, first_cycle}}
+use Rattle.{audit_sweep.specs.records.dispatches.Leaving.IsRowOn, net_plan.specs.declared.{network.Network.Network, tables.Way.{TheVariants.{Down, Up}, Way}}}
+use Rattle.{net_plan.proofs.InRange.amount_most, run_law.specs.device.LocalClocks.Reaches, schedule_tables.specs.Entries.source_by}
+use Rattle.{net_plan.specs.{Belonging.{HasDevice, HasLink}, declared.ids.{DeviceId.DeviceId, LinkId.LinkId}}, run_law.specs.records.Happenings.Happening}
+use Rattle.{net_plan.specs.declared.tables.Link.Link, run_law.specs.scenario.Scenarios.Scenario, std.proofs.lemmas.{Int.ints, Option.slice_get_within}}
 use Rattle.std.proofs.Common.{◌*◌, ◌+◌, ◌<◌, ◌^◌, ◌≡◌, ◌≤◌, List, ap, arith, mul-le-mul_left, mul-le-mul_right, pos, subst, suc, sym, zero, ℕ, ℤ}
-use Rattle.std.{proofs.lemmas.{Int.ints, Option.slice_get_within}, specs.Prelude.{◌+ℤ◌, ◌≤ℤ◌}}
-use Rattle.audit_devices.proofs.clocks_lemmas.Reached.{changed_early}
-use Rattle.audit_devices.specs.{Showing.Shown, clocks.Finding.{IsNextCrossing, value_in}, declared.clocks.finding.{Crossed.Crossed, Series.Series}}
-use Rattle.audit_sweep.specs.records.{dispatches.Leaving.IsRowOn, dispatches.Leavings.{AreLeavings, IsRowFit, first_cycle}}
-use Rattle.audit_sweep.specs.{declared.records.dispatches.leaving.LeavingRow.LeavingRow}
-use Rattle.net_plan.{proofs.InRange.amount_most, specs.{Belonging.{HasDevice, HasLink}, Ranges.{IsInRange, IsLinkInRange, IsRowInRange, IsVlInRange}}}
-use Rattle.net_plan.specs.declared.{ids.{DeviceId.DeviceId, LinkId.LinkId}, network.Network.Network, tables.{Link.Link, Way.{Way, TheVariants.{Down, Up}}}}
-use Rattle.run_law.specs.{device.LocalClocks.Reaches, records.Happenings.Happening, scenario.Scenarios.Scenario}
-use Rattle.schedule_tables.specs.Entries.{source_by}
-use Rattle.tte_lemmas.proofs.Lists.{in_all}
-use Rattle.tte_units.specs.Amount.{amount}
+use Rattle.{std.specs.Prelude.{◌+ℤ◌, ◌≤ℤ◌}, tte_lemmas.proofs.Lists.in_all, tte_units.specs.Amount.amount}
 
 -- ---- the row
 

@@ -1,14 +1,13 @@
 -- Emissions come in the order in which their clusters open.
+use Rattle.{audit_devices.proofs.collections_lemmas.Sending.{none_is, some_is}, std.proofs.Common.{map, pos, slice_get, subst, suc, sym, true, zero, ℕ, ℤ}}
+use Rattle.audit_devices.{proofs.collections_lemmas.Spaced.{AreSpaced, spaced}, specs.declared.collections.emitted.Emitted.Emitted}
+use Rattle.{audit_devices.specs.collections.Gathered.Gathers, compression.proofs.{Growth.end_of-least, Middles.{middle_of-ends, middle_of-inner}}}
+use Rattle.audit_devices.specs.{collections.Kept.{History, clusters_in, emissions_in, emitted}, declared.collections.gathering.Gathering.Gathering}
+use Rattle.{compression.{proofs.{Elements.in_filter, Firsts.counts, Held.held-start}, specs.Ascent.offset_at}, tte_units.proofs.Means.mean_of-floor}
+use Rattle.compression.specs.{Clusters.{AreClusters, Cluster, Point, beyond, cluster_of, end_of, firsts, has_master, of_cycle_within}, Emission.emission}
+use Rattle.{compression.specs.Middle.{middle_of, relative}, std.{proofs.lemmas.Bool.{and_parts, cases_lt}, specs.Prelude.{◌&&◌, ◌==◌, Contains, int_le}}}
 use Rattle.std.proofs.Common.{◌*ℤ◌, ◌+ℤ◌, ◌+◌, ◌-ℤ◌, ◌-◌, ◌<ℤ◌, ◌<◌, ◌∙◌, ◌∷◌, ◌≡◌, ◌≤ℤ◌, ◌≤◌, Bool, List, Some, [], ap, arith, false, get_or, inl, inr, length}
-use Rattle.std.proofs.{Common.{map, pos, slice_get, subst, suc, sym, true, zero, ℕ, ℤ}, lemmas.{Bool.{and_parts, cases_lt}, Int.ints}}
-use Rattle.std.specs.{List.AllByRecursion, Prelude.{◌&&◌, ◌==◌, Contains, int_le}}
-use Rattle.audit_devices.{proofs.collections_lemmas.{Sending.{none_is, some_is}, Spaced.{AreSpaced, spaced}}, specs.collections.Gathered.Gathers}
-use Rattle.audit_devices.specs.collections.Kept.{History, clusters_in, emissions_in, emitted}
-use Rattle.audit_devices.specs.declared.collections.{emitted.Emitted.Emitted, gathering.Gathering.Gathering}
-use Rattle.compression.proofs.{Elements.in_filter, Firsts.counts, Growth.end_of-least, Held.held-start, Middles.{middle_of-ends, middle_of-inner}}
-use Rattle.compression.specs.{Ascent.offset_at, Clusters.{AreClusters, Cluster, Point, beyond, cluster_of, end_of, firsts, has_master, of_cycle_within}}
-use Rattle.compression.specs.{Emission.emission, Middle.{middle_of, relative}}
-use Rattle.tte_units.{proofs.Means.mean_of-floor, specs.Mean.mean_of}
+use Rattle.{std.{proofs.lemmas.Int.ints, specs.List.AllByRecursion}, tte_units.specs.Mean.mean_of}
 
 -- ---- the middle of points
 

@@ -1,7 +1,6 @@
 -- One record, for the tests.
-use Rattle.std.proofs.Common.{Some, [], pos}
-use Rattle.pcf_values.specs.declared.{mac.Mac.Mac, pcf.PcfKind.TheVariants.Integration}
-use Rattle.run_law.specs.{declared.{judgement.Judgement.TheVariants.Opened, note.NoteBody.TheVariants.Permanent}, records.Happenings.Happening}
+use Rattle.{pcf_values.specs.declared.{mac.Mac.Mac, pcf.PcfKind.TheVariants.Integration}, run_law.specs.declared.judgement.Judgement.TheVariants.Opened}
+use Rattle.{run_law.specs.{declared.note.NoteBody.TheVariants.Permanent, records.Happenings.Happening}, std.proofs.Common.{Some, [], pos}}
 
 -- a frame of the first master is permanent at the second device, at the time that is its point
 abbrev pub one_permanent : Mac → Happening

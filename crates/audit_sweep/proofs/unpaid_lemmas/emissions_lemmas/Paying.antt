@@ -1,13 +1,11 @@
 -- The records that say that a compression master sent the frame of a cluster stand at one place.
-use Rattle.std.proofs.Common.{◌∙◌, ◌≡◌, List, ap, arith, pos, refl, unsigned_abs, ℕ}
-use Rattle.audit_devices.{proofs.law_lemmas.Debts.due_in, specs.law.{DueRecords.{IsCaused, IsDue}, Emitted.{TellsEmission, emission_place}}}
-use Rattle.audit_sweep.specs.{records.places.Placing.HasRecordAt, unpaid.emissions.Emissions.IsTold}
-use Rattle.compression.specs.declared.compressed.Compressed.{Compressed}
-use Rattle.drift_clock.{proofs.Reaches.one_reach, specs.Reach.IsReach}
-use Rattle.net_plan.{proofs.SameIds.same_device, specs.declared.ids.DeviceId.DeviceId}
-use Rattle.run_law.{proofs.runs.Determined.same_members, specs.{declared.note.NoteBody.NoteBody, records.Happenings.{Happening, time_of}}}
-use Rattle.run_law.specs.{records.Ranks.{members_in, place_at, place_of, sign}, runs.Runs.IsFounded, scenario.Scenarios.Scenario}
-use Rattle.tte_units.specs.{Amount.amount, declared.units.Units.Units}
+use Rattle.{audit_devices.proofs.law_lemmas.Debts.due_in, run_law.proofs.runs.Determined.same_members, tte_units.specs.declared.units.Units.Units}
+use Rattle.{audit_devices.specs.law.DueRecords.{IsCaused, IsDue}, net_plan.specs.declared.ids.DeviceId.DeviceId, run_law.specs.declared.note.NoteBody.NoteBody}
+use Rattle.{audit_devices.specs.law.Emitted.{TellsEmission, emission_place}, compression.specs.declared.compressed.Compressed.Compressed}
+use Rattle.{audit_sweep.specs.{records.places.Placing.HasRecordAt, unpaid.emissions.Emissions.IsTold}, run_law.specs.records.Happenings.{Happening, time_of}}
+use Rattle.{drift_clock.proofs.Reaches.one_reach, net_plan.proofs.SameIds.same_device, run_law.specs.{runs.Runs.IsFounded, scenario.Scenarios.Scenario}}
+use Rattle.{drift_clock.specs.Reach.IsReach, tte_units.specs.Amount.amount}
+use Rattle.{run_law.specs.records.Ranks.{members_in, place_at, place_of, sign}, std.proofs.Common.{◌∙◌, ◌≡◌, List, ap, arith, pos, refl, unsigned_abs, ℕ}}
 use Rattle.run_law.specs.declared.note.NoteBody.TheVariants as notes
 
 -- ---- the record at the place

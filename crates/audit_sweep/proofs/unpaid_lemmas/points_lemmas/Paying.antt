@@ -1,9 +1,7 @@
 -- Which records say that a device sends.
-use Rattle.std.proofs.Common.{arith}
 use Rattle.audit_sweep.proofs.unpaid_lemmas.points_lemmas.Words.{◌∙◌, ◌≡◌, DeviceId, Happening, HasRecordAt, IsSent, List, NoteBody, Scenario, ap, members_in}
-use Rattle.audit_sweep.proofs.unpaid_lemmas.points_lemmas.Words.{time_of, ℕ}
-use Rattle.net_plan.proofs.SameIds.{same_device}
-use Rattle.run_law.specs.records.Ranks.{place_at}
+use Rattle.{audit_sweep.proofs.unpaid_lemmas.points_lemmas.Words.{time_of, ℕ}, net_plan.proofs.SameIds.same_device, run_law.specs.records.Ranks.place_at}
+use Rattle.std.proofs.Common.{arith}
 use Rattle.run_law.specs.declared.note.NoteBody.TheVariants as notes
 
 -- what stands at the place of a sending is it

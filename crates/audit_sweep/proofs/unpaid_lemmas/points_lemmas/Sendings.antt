@@ -1,14 +1,12 @@
 -- What a master sends while the same is shown of it.
+use Rattle.audit_devices.{proofs.clocks_lemmas.Reached.{changed_early, come_reaches, reaches_come}, specs.declared.clocks.finding.Crossed.Crossed}
+use Rattle.{audit_devices.specs.clocks.Finding.{CrossesAt, IsNextCrossing, NoneCrossed}, sync_state.specs.declared.state.State.TheVariants.Synchronised}
+use Rattle.{audit_devices.specs.declared.clocks.finding.Series.Series, std.proofs.Common.{◌*◌, ◌^◌, mul-le-mul_left, mul-le-mul_right, suc, zero}}
+use Rattle.{audit_devices.specs.events.Readings.ReadsOn, run_law.specs.scenario.Devices.has_role, std.specs.Prelude.◌≤ℤ◌, sync_state.proofs.StateFacts.up_state}
 use Rattle.audit_sweep.proofs.unpaid_lemmas.points_lemmas.Words.{◌+◌, ◌-◌, ◌<◌, ◌∙◌, ◌≡◌, ◌≤◌, ArePaid, DeviceId, Happening, IsFirstUnpaid, List, Scenario}
 use Rattle.audit_sweep.proofs.unpaid_lemmas.points_lemmas.Words.{Sends, Shown, Shows, ShowsWithin, ap, arith, cases_lt, earlier, inl, inr, ints}
 use Rattle.audit_sweep.proofs.unpaid_lemmas.points_lemmas.Words.{is_turned_on_at, pos, refl, state_after, subst, sym, true, value_in, ℕ, ℤ}
-use Rattle.std.{proofs.Common.{◌*◌, ◌^◌, mul-le-mul_left, mul-le-mul_right, suc, zero}, specs.Prelude.◌≤ℤ◌}
-use Rattle.audit_devices.{proofs.clocks_lemmas.Reached.{changed_early, come_reaches, reaches_come}, specs.events.Readings.ReadsOn}
-use Rattle.audit_devices.specs.{clocks.Finding.{CrossesAt, IsNextCrossing, NoneCrossed}, declared.clocks.finding.{Crossed.Crossed, Series.Series}}
-use Rattle.net_plan.specs.Places.{is_master}
-use Rattle.run_law.specs.{scenario.Devices.has_role, timed.Dispatching.IsUp}
-use Rattle.sync_state.{proofs.StateFacts.up_state, specs.declared.state.State.TheVariants.Synchronised}
-use Rattle.tte_units.specs.Amount.{amount}
+use Rattle.{net_plan.specs.Places.is_master, run_law.specs.timed.Dispatching.IsUp, tte_units.specs.Amount.amount}
 
 -- the series is that of the beginnings of cycles
 abbrev pub AreBeginnings : Scenario → Series → Type 0

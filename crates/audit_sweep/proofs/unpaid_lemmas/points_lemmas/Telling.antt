@@ -1,14 +1,11 @@
 -- Which records tell of correction points.
-use Rattle.std.proofs.Common.{◌⊎◌, arith}
+use Rattle.audit_devices.{proofs.law_lemmas.Numbered.founded_at, specs.law.{CorrectionPoints.IsPointOf, DueRecords.{ChangesState, IsCaused}}}
+use Rattle.{audit_devices.specs.clocks.Points.ComesTo, sync_state.specs.declared.answers.Verdict.TheVariants.{AsyncClique, Cleared, Corrected, SyncClique}}
+use Rattle.{audit_devices.specs.declared.clocks.correcting.Point.Point, audit_sweep.proofs.unpaid_lemmas.points_lemmas.Words.{subst, sym, time_of, ℕ}}
 use Rattle.audit_sweep.proofs.unpaid_lemmas.points_lemmas.Words.{◌∙◌, ◌∷◌, ◌≡◌, DeviceId, Happening, HasRecordAt, IsDue, IsFounded, IsTold, List, NoteBody}
 use Rattle.audit_sweep.proofs.unpaid_lemmas.points_lemmas.Words.{Option, Scenario, Some, State, Units, Verdict, [], ap, inl, inr, members_in, place_of, refl}
-use Rattle.audit_sweep.proofs.unpaid_lemmas.points_lemmas.Words.{subst, sym, time_of, ℕ}
-use Rattle.audit_devices.specs.{clocks.Points.ComesTo, declared.clocks.correcting.Point.Point}
-use Rattle.audit_devices.{proofs.law_lemmas.Numbered.founded_at, specs.law.{CorrectionPoints.IsPointOf, DueRecords.{ChangesState, IsCaused}}}
-use Rattle.device_rules.specs.Answers.{verdict_as}
-use Rattle.net_plan.proofs.SameIds.{same_device}
-use Rattle.run_law.specs.{declared.judgement.Why.Why, records.{Happenings.numbered, Ranks.place_at}}
-use Rattle.sync_state.specs.declared.answers.Verdict.TheVariants.{AsyncClique, Cleared, Corrected, SyncClique}
+use Rattle.{device_rules.specs.Answers.verdict_as, run_law.specs.{declared.judgement.Why.Why, records.{Happenings.numbered, Ranks.place_at}}}
+use Rattle.{net_plan.proofs.SameIds.same_device, std.proofs.Common.{◌⊎◌, arith}}
 use Rattle.run_law.specs.declared.judgement.Why.TheVariants as whys
 use Rattle.run_law.specs.declared.note.NoteBody.TheVariants as notes
 

@@ -1,10 +1,8 @@
 -- The rows by which frames are put on links.
 use Rattle.std.specs.Prelude.{◌≡◌, ◌≤◌, List, ℕ}
-use Rattle.net_plan.specs.declared.{ids.LinkId.LinkId, network.Network.Network}
-use Rattle.run_law.specs.records.Order.{IsIn}
+use Rattle.{audit_sweep.specs.declared.records.dispatches.leaving.LeavingRow.LeavingRow, tte_units.specs.Amount.amount}
+use Rattle.{net_plan.specs.declared.{ids.LinkId.LinkId, network.Network.Network}, run_law.specs.records.Order.IsIn}
 use Rattle.schedule_tables.specs.{Entries.{IsEntry, source_of}, declared.entry.Entry.Entry}
-use Rattle.tte_units.specs.Amount.{amount}
-use Rattle.audit_sweep.specs.declared.records.dispatches.leaving.LeavingRow.{LeavingRow}
 
 -- what is kept of an entry
 abbrev pub leaving_by : Entry → LeavingRow

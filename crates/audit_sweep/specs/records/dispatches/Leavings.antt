@@ -1,9 +1,8 @@
 -- When the frames of a row leave, by the local clock.
 use Rattle.std.specs.Prelude.{if◌then◌else◌, ◌%◌, ◌*◌, ◌+◌, ◌==◌, ◌^◌, ◌≡◌, ◌≤◌, MatchOption, Option, pos, ℕ}
-use Rattle.audit_devices.specs.{clocks.Finding.value_in, declared.clocks.finding.Series.Series}
-use Rattle.net_plan.specs.declared.network.Network.{Network}
-use Rattle.tte_units.specs.Amount.{amount}
-use Rattle.audit_sweep.specs.declared.records.dispatches.leaving.LeavingRow.{LeavingRow}
+use Rattle.audit_devices.specs.clocks.Finding.{value_in}
+use Rattle.{audit_devices.specs.declared.clocks.finding.Series.Series, net_plan.specs.declared.network.Network.Network}
+use Rattle.{audit_sweep.specs.declared.records.dispatches.leaving.LeavingRow.LeavingRow, tte_units.specs.Amount.amount}
 
 -- the row's numbers are those of a network in range
 pub record IsRowFit (row : LeavingRow) : Type 0 where

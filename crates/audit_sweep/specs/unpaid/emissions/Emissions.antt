@@ -1,12 +1,11 @@
 -- What compression masters owe, and the records that say that it was sent.
 use Rattle.std.specs.Prelude.{◌<ℤ◌, ◌<◌, ◌^◌, ◌≡◌, ◌≤ℤ◌, ◌≤◌, List, Some, neg_ℤ, pos, slice_get, ℕ, ℤ}
-use Rattle.audit_devices.specs.{Keeping.time_at, collections.Kept.{History, as_emitted, emissions_in}}
+use Rattle.audit_devices.specs.{Keeping.time_at, collections.Kept.{History, as_emitted, emissions_in}, law.Debts.IsPaid}
 use Rattle.audit_devices.specs.declared.{collections.emitted.Emitted.Emitted, stretches.kept.Entry.Entry}
-use Rattle.audit_devices.specs.law.{Debts.IsPaid, Emitted.{before_place, emission_place}, Owed.Pays}
-use Rattle.compression.specs.declared.compressed.Compressed.{Compressed}
-use Rattle.net_plan.specs.declared.ids.DeviceId.{DeviceId}
+use Rattle.{audit_devices.specs.law.Emitted.{before_place, emission_place}, run_law.specs.scenario.Scenarios.Scenario}
+use Rattle.audit_devices.specs.law.Owed.{Pays}
+use Rattle.{compression.specs.declared.compressed.Compressed.Compressed, net_plan.specs.declared.ids.DeviceId.DeviceId}
 use Rattle.run_law.specs.{control.Emissions.Emits, declared.judgement.Judgement.Judgement, records.Happenings.Happening}
-use Rattle.run_law.specs.scenario.Scenarios.{Scenario}
 use Rattle.audit_devices.specs.law.Owed as debts
 
 -- a number of 64 bits

@@ -1,11 +1,10 @@
 -- What is kept of a report.
 use Rattle.std.specs.Prelude.{◌<◌, ◌≤◌, List, ℕ}
-use Rattle.audit_devices.specs.{Keeping.Stands, Showing.{Shown, Shows}, declared.standings.Standings.Standings}
-use Rattle.audit_devices.specs.events.{Readings.scenario_under, Remembering.Remembers}
-use Rattle.audit_devices.specs.declared.events.history.EventHistory.{EventHistory}
-use Rattle.audit_sweep.specs.records.places.Placing.{ArePlacesOf}
+use Rattle.{audit_devices.specs.Keeping.Stands, run_law.specs.scenario.Scenarios.Scenario}
+use Rattle.audit_devices.specs.{Showing.{Shown, Shows}, events.{Readings.scenario_under, Remembering.Remembers}}
+use Rattle.audit_devices.specs.declared.{events.history.EventHistory.EventHistory, standings.Standings.Standings}
+use Rattle.{audit_sweep.specs.records.places.Placing.ArePlacesOf, run_law.specs.records.Happenings.{Happening, earlier}}
 use Rattle.net_plan.specs.declared.{event.Event.Event, ids.DeviceId.DeviceId, network.Network.Network}
-use Rattle.run_law.specs.{records.Happenings.{Happening, earlier}, scenario.Scenarios.Scenario}
 
 -- these events befell the network and these are the records: so the histories and the places are of them
 pub record IsKept (network : Network) (befallen : List Event) (hs : List Happening) (events : EventHistory)

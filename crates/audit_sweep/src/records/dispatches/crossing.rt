@@ -1,11 +1,10 @@
 //! When a clock crosses one value.
 
 ghost use Rattle.std.specs.Prelude.{◌^◌, ◌≡◌, ◌≤◌, List, pos};
-ghost use Rattle.audit_devices.specs.clocks.Finding.{IsSeries};
+ghost use Rattle.{audit_devices.specs.clocks.Finding.IsSeries, net_plan.specs.Belonging.HasDevice};
 ghost use Rattle.audit_devices.specs.events.{Readings.clock_reading, Remembering.{Remembers, RemembersSome}};
-ghost use Rattle.net_plan.specs.{Belonging.HasDevice, declared.event.Event.Event};
-ghost use Rattle.net_plan.specs.declared.network.Network.{Network as NetworkValue};
 ghost use Rattle.audit_sweep.specs.records.dispatches.Crossing.{IsCrossingOrNone, first_time};
+ghost use Rattle.net_plan.specs.declared.{event.Event.Event, network.{Network.{Network as NetworkValue}}};
 
 use audit_devices::Shown;
 use audit_devices::clocks::{Crossed, Series, next_crossing};

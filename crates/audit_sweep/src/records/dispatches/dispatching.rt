@@ -1,12 +1,11 @@
 ghost use Rattle.std.specs.Prelude.{◌*◌, ◌+◌, ◌^◌, ◌↔◌, ◌≡◌, ◌≤◌, IsTrue, List, pos, ℕ};
-ghost use Rattle.audit_devices.specs.clocks.Moments.{StandsAt};
-ghost use Rattle.net_plan.specs.{Ranges.IsInRange, declared.ids.DeviceId.DeviceId as DeviceIdValue};
-ghost use Rattle.net_plan.specs.declared.network.Network.{Network as NetworkValue};
-ghost use Rattle.run_law.specs.{device.LocalClocks.Reaches, records.Happenings.Happening, scenario.Scenarios.Scenario};
-ghost use Rattle.run_law.specs.timed.Dispatching.{Dispatches};
-ghost use Rattle.tte_units.specs.Amount.{amount};
+ghost use Rattle.{audit_devices.specs.clocks.Moments.StandsAt, run_law.specs.records.Happenings.Happening};
 ghost use Rattle.audit_sweep.specs.records.dispatches.Dispatched.{IsAcceptedLast, IsReady, IsRowDispatched};
 ghost use Rattle.audit_sweep.specs.records.dispatches.{Dispatched.SomeDispatched, Leaving.{AreRowsOn, HavePeriods}};
+ghost use Rattle.net_plan.specs.{Ranges.IsInRange, declared.{network.{Network.{Network as NetworkValue}}}};
+ghost use Rattle.net_plan.specs.declared.ids.DeviceId.{DeviceId as DeviceIdValue};
+ghost use Rattle.run_law.specs.{device.LocalClocks.Reaches, scenario.Scenarios.Scenario, timed.Dispatching.Dispatches};
+ghost use Rattle.tte_units.specs.Amount.{amount};
 
 use crate::records::dispatches::holding::is_at_hand;
 use crate::records::dispatches::{Dispatch, LeavingRow};

@@ -1,8 +1,7 @@
 ghost use Rattle.std.specs.Prelude.{◌↔◌, ◌≡◌, IsTrue, List, false, option_and_then, ℕ};
-ghost use Rattle.audit_devices.specs.Taking.{taking_of};
-ghost use Rattle.net_plan.specs.declared.ids.VlId.{VlId};
-ghost use Rattle.run_law.specs.{records.Happenings.Happening, scenario.Devices.is_end, timed.Dispatching.last_accepted};
+ghost use Rattle.{audit_devices.specs.Taking.taking_of, net_plan.specs.declared.ids.VlId.VlId};
 ghost use Rattle.audit_sweep.specs.records.dispatches.Dispatched.{IsAcceptedLast, IsAtHand, holds, is_last};
+ghost use Rattle.run_law.specs.{records.Happenings.Happening, scenario.Devices.is_end, timed.Dispatching.last_accepted};
 
 use audit_devices::Taking;
 use device_rules::is_end;

@@ -1,11 +1,9 @@
 //! The local values at which the frames of a row leave.
 
 ghost use Rattle.std.specs.Prelude.{◌≡◌, ◌<◌, ◌*◌, ◌^◌, ◌≤◌, pos, IfSome};
-ghost use Rattle.audit_devices.specs.clocks.Finding.{IsSeries};
-ghost use Rattle.net_plan.specs.Ranges.{IsInRange};
+ghost use Rattle.{audit_devices.specs.clocks.Finding.IsSeries, tte_units.specs.Amount.amount};
 ghost use Rattle.audit_sweep.specs.records.dispatches.Leavings.{AreLeavingsOrNone, IsRowFit, cycle_of, first_cycle};
-ghost use Rattle.audit_sweep.specs.records.dispatches.Leavings.{leaving_value};
-ghost use Rattle.tte_units.specs.Amount.{amount};
+ghost use Rattle.{audit_sweep.specs.records.dispatches.Leavings.leaving_value, net_plan.specs.Ranges.IsInRange};
 
 use crate::records::dispatches::LeavingRow;
 use audit_devices::clocks::Series;

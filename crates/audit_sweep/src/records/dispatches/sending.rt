@@ -3,12 +3,11 @@
 ghost use Rattle.std.specs.Prelude.{◌^◌, ◌↔◌, ◌≡◌, ◌≤◌, IsTrue, List, ℕ};
 ghost use Rattle.audit_devices.specs.{Showing.Shows, events.Remembering.{Remembers, RemembersSome}};
 ghost use Rattle.audit_devices.specs.{clocks.Finding.IsSeries, events.Readings.{clock_reading, scenario_under}};
-ghost use Rattle.net_plan.specs.{Belonging.HasDevice, Ranges.IsInRange, declared.event.Event.Event};
-ghost use Rattle.net_plan.specs.declared.network.Network.{Network as NetworkValue};
-ghost use Rattle.run_law.specs.records.Happenings.{Happening, earlier};
-ghost use Rattle.audit_sweep.specs.records.dispatches.Exits.{AreExits};
+ghost use Rattle.{audit_sweep.specs.records.dispatches.Exits.AreExits, net_plan.specs.Belonging.HasDevice};
 ghost use Rattle.audit_sweep.specs.records.dispatches.{Leavings.IsRowFit, Sent.{SendsBy, SendsBySome, SendsSome}};
 ghost use Rattle.audit_sweep.specs.records.dispatches.Sent.{AreFoundByNumber, AreRowsFit, CrossesSome, ReachesSome};
+ghost use Rattle.{net_plan.specs.Ranges.IsInRange, run_law.specs.records.Happenings.{Happening, earlier}};
+ghost use Rattle.net_plan.specs.declared.{event.Event.Event, network.{Network.{Network as NetworkValue}}};
 
 use crate::records::dispatches::{Exits, LeavingRow};
 use audit_devices::Shown;

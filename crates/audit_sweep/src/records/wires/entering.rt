@@ -1,12 +1,11 @@
 //! How what arrives at a device enters it.
 
 ghost use Rattle.std.specs.Prelude.{◌^◌, ◌≡◌, ◌≤◌, List, ℕ};
-ghost use Rattle.device_rules.specs.Entering.{AreEntrances};
-ghost use Rattle.net_plan.specs.{Ranges.IsInRange, declared.ids.LinkId.LinkId as LinkIdValue};
-ghost use Rattle.run_law.specs.{control.Wires.Signal, device.Standpoints.standpoint, records.Happenings.Happening};
-ghost use Rattle.run_law.specs.{scenario.Scenarios.Scenario, timed.Receptions.arrival_of};
 ghost use Rattle.audit_sweep.specs.records.wires.Entrances.{IsEnteredAs, IsJudgeable, IsLastTaken, judged_as};
-ghost use Rattle.audit_sweep.specs.records.wires.{Signals.on_wire_of};
+ghost use Rattle.{audit_sweep.specs.records.wires.Signals.on_wire_of, run_law.specs.device.Standpoints.standpoint};
+ghost use Rattle.{device_rules.specs.Entering.AreEntrances, run_law.specs.control.Wires.Signal};
+ghost use Rattle.net_plan.specs.{Ranges.IsInRange, declared.{ids.{LinkId.{LinkId as LinkIdValue}}}};
+ghost use Rattle.run_law.specs.{records.Happenings.Happening, scenario.Scenarios.Scenario, timed.Receptions.arrival_of};
 
 use crate::records::wires::OnWire;
 use device_rules::{EnteringRow, Entrances, Standpoint, TimedArrival, control_arrival};

@@ -4,11 +4,10 @@ ghost use Rattle.std.specs.Prelude.{◌+◌, ◌^◌, ◌↔◌, ◌≡◌, ◌�
 ghost use Rattle.audit_devices.specs.events.{Readings.scenario_under, Remembering.Remembers};
 ghost use Rattle.audit_sweep.specs.records.{Keeping.record_of, wires.Signals.{ShowsByCause, port_time}};
 ghost use Rattle.audit_sweep.specs.records.wires.Receptions.{IsArriving, IsAt, IsOwedArrival, IsReceivedBy};
-ghost use Rattle.net_plan.specs.{Belonging.HasLink, declared.event.Event.Event as EventValue};
-ghost use Rattle.net_plan.specs.declared.network.Network.{Network as NetworkValue};
-ghost use Rattle.run_law.specs.{records.Happenings.{Happening, numbered}, scenario.Ways.delay_at};
-ghost use Rattle.schedule_tables.specs.Entries.{target_by};
-ghost use Rattle.tte_units.specs.OctetTime.{octet_time};
+ghost use Rattle.net_plan.specs.{Belonging.HasLink, declared.{network.{Network.{Network as NetworkValue}}}};
+ghost use Rattle.net_plan.specs.declared.event.Event.{Event as EventValue};
+ghost use Rattle.{run_law.specs.records.Happenings.{Happening, numbered}, schedule_tables.specs.Entries.target_by};
+ghost use Rattle.{run_law.specs.scenario.Ways.delay_at, tte_units.specs.OctetTime.octet_time};
 
 use crate::records::KeptRecord;
 use crate::records::wires::OnWire;

@@ -6,8 +6,7 @@ ghost use Rattle.audit_sweep.specs.records.dispatches.{Leaving.IsRowOn, Leavings
 ghost use Rattle.audit_sweep.specs.unpaid.{Unpaid.TellsFirstAmong, dispatches.Frames.{IsBy, IsTold, OwesFrame}};
 ghost use Rattle.audit_sweep.specs.unpaid.dispatches.Debtors.{AreKnown, AreSomeKnown, IsFit, scenario_of};
 ghost use Rattle.audit_sweep.specs.unpaid.points.{FirstUnpaid.TellsFirstUnpaid, Kept.ShowsWithin};
-ghost use Rattle.net_plan.specs.declared.event.Event.{Event};
-ghost use Rattle.run_law.specs.records.Happenings.{Happening};
+ghost use Rattle.{net_plan.specs.declared.event.Event.Event, run_law.specs.records.Happenings.Happening};
 ghost use Rattle.audit_devices.specs.law.Owed as debts;
 
 use crate::records::dispatches::LeavingRow;

@@ -1,13 +1,12 @@
 //! Whether a device dispatches a frame of a row of which no record tells.
 
 ghost use Rattle.std.specs.Prelude.{◌^◌, ◌↔◌, ◌≡◌, ◌≤◌, IsTrue, List, MatchBool, false, true};
-ghost use Rattle.audit_devices.specs.Showing.{Shows};
-ghost use Rattle.audit_sweep.specs.records.dispatches.{Dispatched.{IsAcceptedLast, IsAtHand}, Leaving.IsRowOn};
-ghost use Rattle.audit_sweep.specs.records.dispatches.{Leavings.cycle_of};
-ghost use Rattle.net_plan.specs.{Belonging.HasLink, declared.event.Event.Event};
-ghost use Rattle.run_law.specs.{records.Happenings.{Happening, earlier}, timed.Dispatching.IsUp};
+ghost use Rattle.{audit_devices.specs.Showing.Shows, net_plan.specs.Belonging.HasLink};
+ghost use Rattle.audit_sweep.specs.records.dispatches.{Dispatched.{IsAcceptedLast, IsAtHand}, Leavings.cycle_of};
+ghost use Rattle.{audit_sweep.specs.records.dispatches.Leaving.IsRowOn, net_plan.specs.declared.event.Event.Event};
 ghost use Rattle.audit_sweep.specs.unpaid.dispatches.Debtors.{AreKnown, AreSomeKnown, IsFit, scenario_of};
 ghost use Rattle.audit_sweep.specs.unpaid.dispatches.Frames.{AreTold, IsTold, LacksOne};
+ghost use Rattle.run_law.specs.{records.Happenings.{Happening, earlier}, timed.Dispatching.IsUp};
 
 use crate::records::dispatches::{At, LeavingRow, is_at_hand, is_cut};
 use crate::unpaid::dispatches::RowDebtor;

@@ -1,15 +1,14 @@
 ghost use Rattle.std.specs.Prelude.{◌+◌, ◌<◌, ◌^◌, ◌↔◌, ◌≡◌, ◌≤◌, IsTrue, List, false, length, ℕ};
-ghost use Rattle.audit_devices.specs.{Keeping.device_count, clocks.Points.ComesTo, law.FirstDebts.TellsFirst};
-ghost use Rattle.audit_devices.specs.{Showing.Shows, law.DueRecords.IsDue};
+ghost use Rattle.audit_devices.specs.{Keeping.device_count, Showing.Shows, law.DueRecords.IsDue};
 ghost use Rattle.audit_devices.specs.{clocks.Finding.{IsSeries, value_in}, events.Readings.scenario_under};
-ghost use Rattle.audit_sweep.specs.records.places.Placing.{ArePlacesOf};
+ghost use Rattle.{audit_devices.specs.clocks.Points.ComesTo, run_law.specs.scenario.Scenarios.Scenario};
+ghost use Rattle.{audit_devices.specs.law.FirstDebts.TellsFirst, audit_sweep.specs.records.places.Placing.ArePlacesOf};
 ghost use Rattle.audit_sweep.specs.unpaid.points.{FirstUnpaid.TellsFirstUnpaid, Kept.{IsKept, IsSomeKept, ShowsWithin}};
-ghost use Rattle.audit_sweep.specs.unpaid.points.Told.{AreOfDevices, IsTold, OwesAt};
-ghost use Rattle.net_plan.specs.{Belonging.HasDevice, Ranges.IsInRange, declared.event.Event.Event};
-ghost use Rattle.net_plan.specs.declared.ids.DeviceId.{DeviceId as DeviceIdValue};
+ghost use Rattle.{audit_sweep.specs.unpaid.points.Told.{AreOfDevices, IsTold, OwesAt}, net_plan.specs.Ranges.IsInRange};
+ghost use Rattle.{net_plan.specs.Belonging.HasDevice, run_law.specs.{records.Ranks.place_of, runs.Runs.IsFounded}};
+ghost use Rattle.net_plan.specs.declared.{event.Event.Event, ids.{DeviceId.{DeviceId as DeviceIdValue}}};
 ghost use Rattle.run_law.specs.{control.Corrections.correction_value, records.Happenings.{Happening, earlier}};
-ghost use Rattle.run_law.specs.{records.Ranks.place_of, runs.Runs.IsFounded, scenario.Scenarios.Scenario};
-ghost use Rattle.sync_state.specs.declared.answers.Verdict.{Verdict, TheVariants.Cleared};
+ghost use Rattle.sync_state.specs.declared.answers.Verdict.{TheVariants.Cleared, Verdict};
 ghost use Rattle.audit_devices.specs.law.Owed as debts;
 
 use crate::records::places::Places;

@@ -1,5 +1,4 @@
-use Rattle.std.proofs.Common.{take}
-use Rattle.device_rules.specs.Entering.{AreRows}
+use Rattle.{device_rules.specs.Entering.AreRows, std.proofs.Common.take}
 use Rattle.device_rules.proofs.entrances.rows_of.Given as goal
 
 abbrev pub invariant-loop-place : goal.invariant-loop-place

@@ -1,11 +1,10 @@
 -- A trace takes a further record.
-use Rattle.std.{proofs.Common.{◌++◌, ◌∙◌, ◌∷◌, ◌≡◌, List, [], ap, arith, subst, sym, ℕ}, specs.Prelude.{Err, Ok, Result, cond, is_ok, map, option_and_then}}
-use Rattle.std.{proofs.lemmas.List.{Elements.{All-append, All-cons, All-nil}, map-append}, specs.List.All}
-use Rattle.net_plan.specs.declared.network.Network.{Network}
-use Rattle.run_law.{proofs.runs.NetworkRuns.one_more, specs.{declared.note.Note.Note, records.Happenings.{Happening, happening, happenings}}}
-use Rattle.device_rules.proofs.frames_lemmas.traced_lemmas.{Growing.views_grow, Numbered.shown_at}
+use Rattle.device_rules.{proofs.frames_lemmas.traced_lemmas.{Growing.views_grow, Numbered.shown_at}, specs.declared.frames.traced.kept.Kept.Kept}
 use Rattle.device_rules.specs.frames.traced.Keeping.{Grows, IsHeld, Keeps, TraceView, Traced, at_number, kept_shown, traced, traced_by, view_of, views_of}
-use Rattle.device_rules.specs.{frames.traced.RecordOctets.octets_of, declared.frames.traced.kept.Kept.Kept}
+use Rattle.{device_rules.specs.frames.traced.RecordOctets.octets_of, net_plan.specs.declared.network.Network.Network, run_law.proofs.runs.NetworkRuns.one_more}
+use Rattle.{run_law.specs.declared.note.Note.Note, std.specs.List.All}
+use Rattle.{run_law.specs.records.Happenings.{Happening, happening, happenings}, std.proofs.lemmas.List.{Elements.{All-append, All-cons, All-nil}, map-append}}
+use Rattle.std.{proofs.Common.{◌++◌, ◌∙◌, ◌∷◌, ◌≡◌, List, [], ap, arith, subst, sym, ℕ}, specs.Prelude.{Err, Ok, Result, cond, is_ok, map, option_and_then}}
 
 -- all are held where one more is
 pub one_more_held : (pool : List ℕ) (ks : List Kept) (k : Kept) → All (IsHeld pool) ks → IsHeld pool k → All (IsHeld pool) (ks ++ k ∷ [])

@@ -1,11 +1,8 @@
 -- What is kept stays as it is while more octets of `send` events come.
-use Rattle.std.proofs.Common.{◌++◌, ◌∙◌, ◌∷◌, ◌≡◌, List, Some, [], ap, arith, drop, length-append, length-drop, refl, subst, suc, sym, take, ℕ}
-use Rattle.std.{proofs.lemmas.List.{append-nil, drop-append-le, take-append-le}, specs.List.All}
-use Rattle.net_plan.specs.declared.network.Network.{Network}
-use Rattle.pcf_codec.specs.Decoding.{decoded}
-use Rattle.run_law.specs.records.Happenings.{frame_in}
+use Rattle.{device_rules.specs.declared.frames.traced.kept.{Kept.Kept, Piece.Piece}, std.proofs.lemmas.List.{append-nil, drop-append-le, take-append-le}}
 use Rattle.device_rules.specs.frames.traced.Keeping.{Grows, IsHeld, IsPieceOf, Traced, came, piece_in, view_of, views_of}
-use Rattle.device_rules.specs.declared.frames.traced.kept.{Kept.Kept, Piece.Piece}
+use Rattle.{net_plan.specs.declared.network.Network.Network, pcf_codec.specs.Decoding.decoded, run_law.specs.records.Happenings.frame_in, std.specs.List.All}
+use Rattle.std.proofs.Common.{◌++◌, ◌∙◌, ◌∷◌, ◌≡◌, List, Some, [], ap, arith, drop, length-append, length-drop, refl, subst, suc, sym, take, ℕ}
 use Rattle.device_rules.specs.declared.frames.traced.kept.Kept.TheVariants as kept
 
 -- nothing more is a growth too

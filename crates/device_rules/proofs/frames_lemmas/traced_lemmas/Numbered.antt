@@ -1,11 +1,9 @@
 -- Looking up by number what is kept of a record.
-use Rattle.std.{proofs.{Common.{◌∙◌, ◌≡◌, List, None, Option, Some, [], ap, refl, slice_get, suc, sym, zero, ℕ}, lemmas.Option.slice_get-map}, specs.List.All}
-use Rattle.std.specs.{Option.option_map_or, Prelude.{map, option_and_then, option_map}}
-use Rattle.net_plan.specs.declared.network.Network.{Network}
-use Rattle.run_law.specs.records.Happenings.{Happening, frame_from, numbered, octets_from}
-use Rattle.tte_lemmas.proofs.Lists.{in_all}
-use Rattle.device_rules.specs.{declared.frames.traced.kept.Kept.Kept, frames.traced.RecordOctets.record_octets}
+use Rattle.{device_rules.specs.declared.frames.traced.kept.Kept.Kept, std.specs.{List.All, Option.option_map_or, Prelude.{map, option_and_then, option_map}}}
 use Rattle.device_rules.specs.frames.traced.Keeping.{IsHeld, Traced, at_number, kept_frame, kept_octets, kept_shown, traced, view_of, views_of}
+use Rattle.{device_rules.specs.frames.traced.RecordOctets.record_octets, run_law.specs.records.Happenings.{Happening, frame_from, numbered, octets_from}}
+use Rattle.{net_plan.specs.declared.network.Network.Network, std.proofs.Common.{◌∙◌, ◌≡◌, List, None, Option, Some, [], ap, refl, slice_get, suc, sym, zero, ℕ}}
+use Rattle.{std.proofs.lemmas.Option.slice_get-map, tte_lemmas.proofs.Lists.in_all}
 
 -- what is kept of the record of this number is held
 pub held_at : (pool : List ℕ) (ks : List Kept) (n : ℕ) (k : Kept) → All (IsHeld pool) ks → at_number ks n ≡ Some k → IsHeld pool k

@@ -1,5 +1,4 @@
-use Rattle.std.proofs.{Common.{◌^◌, ◌∙◌, ◌≤◌}, Math.Nat.mul-le-mul_left}
-use Rattle.net_plan.proofs.InRange.{amount_most}
+use Rattle.{net_plan.proofs.InRange.amount_most, std.proofs.{Common.{◌^◌, ◌∙◌, ◌≤◌}, Math.Nat.mul-le-mul_left}}
 use Rattle.device_rules.proofs.network.begun.Goals as goal
 
 pub returns-clause-high : goal.returns-clause-high

@@ -1,5 +1,4 @@
-use Rattle.std.proofs.{Common.arith, lemmas.Int.ints}
-use Rattle.device_rules.proofs.Numbers.{expected_is}
+use Rattle.{device_rules.proofs.Numbers.expected_is, std.proofs.{Common.arith, lemmas.Int.ints}}
 use Rattle.device_rules.proofs.network.expected_at.Goals as goal
 
 pub returns-clause-value : goal.returns-clause-value

@@ -2,9 +2,8 @@
 use Rattle.std.specs.Prelude.{List, None, Option, Some, option_and_then, option_map, ℕ}
 use Rattle.net_plan.specs.declared.{event.What.TheVariants.Send, network.Network.Network}
 use Rattle.pcf_codec.specs.Encoded.{encoded}
-use Rattle.pcf_values.specs.declared.pcf.Pcf.{Pcf}
-use Rattle.run_law.specs.declared.note.{Note.Note, NoteBody.NoteBody}
-use Rattle.run_law.specs.records.Happenings.{Happening, happenings, numbered}
+use Rattle.{pcf_values.specs.declared.pcf.Pcf.Pcf, run_law.specs.declared.note.Note.Note}
+use Rattle.run_law.specs.{declared.note.NoteBody.NoteBody, records.Happenings.{Happening, happenings, numbered}}
 use Rattle.run_law.specs.declared.note.NoteBody.TheVariants as notes
 
 -- the octets that a record of this body shows, given its control frame, if it is of one, and its octets.

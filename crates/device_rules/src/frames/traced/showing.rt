@@ -1,10 +1,8 @@
 //! The octets that are shown by what is kept of a record.
 
 ghost use Rattle.std.specs.Prelude.{◌≡◌};
-ghost use Rattle.device_rules.specs.frames.traced.Keeping.{IsHeld, kept_shown};
-ghost use Rattle.net_plan.specs.Ranges.{IsInRange};
-ghost use Rattle.pcf_codec.specs.Encoded.{encoded};
-ghost use Rattle.run_law.specs.records.Frames.{tt_frame};
+ghost use Rattle.{device_rules.specs.frames.traced.Keeping.{IsHeld, kept_shown}, run_law.specs.records.Frames.tt_frame};
+ghost use Rattle.{net_plan.specs.Ranges.IsInRange, pcf_codec.specs.Encoded.encoded};
 
 use crate::frames::MadeFrame;
 use crate::frames::traced::Octets;

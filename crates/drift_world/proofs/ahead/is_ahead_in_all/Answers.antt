@@ -1,7 +1,6 @@
-use Rattle.std.{proofs.Common.{◌↔◌, ◌∷◌, ◌≡◌, Bool, IsTrue, List, None, Option, Some, refl, ℕ}, specs.Option.option_map}
-use Rattle.run_law.{proofs.plain_lemmas.Same.behind_time, specs.records.Order.is_before}
-use Rattle.world_state.specs.{Places.own_place, declared.contents.Settled.Settled}
-use Rattle.drift_world.specs.Turns.{IsAhead, own_numbers}
+use Rattle.{drift_world.specs.Turns.{IsAhead, own_numbers}, run_law.{proofs.plain_lemmas.Same.behind_time, specs.records.Order.is_before}}
+use Rattle.{std.proofs.Common.{◌↔◌, ◌∷◌, ◌≡◌, Bool, IsTrue, List, None, Option, Some, refl, ℕ}, world_state.specs.declared.contents.Settled.Settled}
+use Rattle.{std.specs.Option.option_map, world_state.specs.Places.own_place}
 use Rattle.drift_world.proofs.ahead.is_ahead_in_all.Goals as goal
 
 some : (o : Option (List ℕ)) (b : Bool) (z : Settled) (xs place : List ℕ) → Some place ≡ option_map (λ (numbers : List ℕ). 0 ∷ numbers) o

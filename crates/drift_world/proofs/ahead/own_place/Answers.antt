@@ -1,5 +1,4 @@
-use Rattle.std.proofs.Common.{Some, ap}
-use Rattle.run_law.specs.declared.judgement.Judgement.TheVariants.{Ignored}
+use Rattle.{run_law.specs.declared.judgement.Judgement.TheVariants.Ignored, std.proofs.Common.{Some, ap}}
 use Rattle.drift_world.proofs.ahead.own_place.Goals as goal
 
 pub returns-in-Ripening : goal.returns-in-Ripening

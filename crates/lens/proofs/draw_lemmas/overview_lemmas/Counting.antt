@@ -1,11 +1,9 @@
 -- A count is blank but where a record of the column is counted.
-use Rattle.std.{proofs.Common.{◌∙◌, ◌∷◌, ◌≡◌, ◌⊎◌, Bool, List, [], ap, arith, false, inl, inr, refl, subst, true}, specs.Prelude.{◌&&◌, ◌==◌, if◌then◌else◌}}
-use Rattle.std.proofs.lemmas.Bool.Decides.{nat_tests}
 use Rattle.lens.specs.declared.draw.overview.{change.Change.{Change, TheVariants.{Delivers, Nothing, Sets, Turns}}, row.Row.TheVariants.Flow, shade.Shade.Shade}
-use Rattle.lens.specs.draw.overview.{Changes.{change_of, delivered}, Laws.shaded, Shades.{cleared, is_blank, more}}
+use Rattle.{lens.specs.draw.overview.{Changes.{change_of, delivered}, Shades.{cleared, is_blank, more}}, net_plan.specs.declared.ids.{LinkId.LinkId, VlId.VlId}}
+use Rattle.{lens.specs.draw.overview.Laws.shaded, run_law.specs.{declared.note.Note.Note, records.Order.IsIn}, std.proofs.lemmas.Bool.Decides.nat_tests}
+use Rattle.std.{proofs.Common.{◌∙◌, ◌∷◌, ◌≡◌, ◌⊎◌, Bool, List, [], ap, arith, false, inl, inr, refl, subst, true}, specs.Prelude.{◌&&◌, ◌==◌, if◌then◌else◌}}
 use Rattle.lens.specs.declared.draw.overview.shade.Shade.TheVariants as shades
-use Rattle.net_plan.specs.declared.ids.{LinkId.LinkId, VlId.VlId}
-use Rattle.run_law.specs.{declared.note.Note.Note, records.Order.IsIn}
 
 -- the shade is blank where the next column begins
 abbrev Fades : Shade → Type 0

@@ -1,9 +1,8 @@
 -- The strips of rows, one below another.
-use Rattle.std.proofs.{Common.{◌++◌, ◌+◌, ◌<◌, ◌∙◌, ◌∷◌, ◌≡◌, List, [], ap, get_or, length, refl, subst, sym, take, ℕ}, lemmas.List.{append-nil, take_more}}
-use Rattle.std.{proofs.lemmas.Grind.flat_map-append, specs.Prelude.flat_map}
 use Rattle.lens.specs.{declared.draw.overview.{board.Board.Board, row.Row.Row, strip.Strip.Strip}, draw.overview.Boards.{IsLaid, Lays, bottom_of, laid, top}}
-use Rattle.lens.specs.draw.overview.{Rows.height_of, Strips.fresh}
-use Rattle.net_plan.specs.declared.network.Network.{Network}
+use Rattle.{lens.specs.draw.overview.{Rows.height_of, Strips.fresh}, net_plan.specs.declared.network.Network.Network, std.proofs.lemmas.Grind.flat_map-append}
+use Rattle.std.proofs.{Common.{◌++◌, ◌+◌, ◌<◌, ◌∙◌, ◌∷◌, ◌≡◌, List, [], ap, get_or, length, refl, subst, sym, take, ℕ}, lemmas.List.{append-nil, take_more}}
+use Rattle.std.specs.Prelude.{flat_map}
 
 bottom_more : (rows : List Row) (y : ℕ) (row : Row) → bottom_of y (rows ++ row ∷ []) ≡ bottom_of y rows + height_of row
 bottom_more [] y row = refl

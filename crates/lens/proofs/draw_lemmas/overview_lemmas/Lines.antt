@@ -1,8 +1,7 @@
 -- Lines of a list put one after another.
-use Rattle.std.{proofs.{Common.{◌++◌, ◌∙◌, ◌∷◌, ◌≡◌, List, [], ap, refl}, lemmas.List.map-append}, specs.Prelude.{flat_map, map}}
-use Rattle.lens.specs.{declared.draw.overview.{grid.Pen.Pen, strip.{Ends.Ends, Strip.Strip}}, draw.overview.Strips.{ribbon_of, ribbons_of}}
-use Rattle.lens.specs.draw.overview.{Overview.ribbon_lines, Pieces.ribbon_line}
-use Rattle.net_plan.specs.declared.network.Network.{Network}
+use Rattle.{lens.specs.declared.draw.overview.{grid.Pen.Pen, strip.{Ends.Ends, Strip.Strip}}, net_plan.specs.declared.network.Network.Network}
+use Rattle.{lens.specs.draw.overview.{Overview.ribbon_lines, Strips.{ribbon_of, ribbons_of}}, std.proofs.Common.{◌++◌, ◌∙◌, ◌∷◌, ◌≡◌, List, [], ap, refl}}
+use Rattle.{lens.specs.draw.overview.Pieces.ribbon_line, std.{proofs.lemmas.List.map-append, specs.Prelude.{flat_map, map}}}
 
 -- the lines of the ribbons of each strip, and those of all ribbons
 map_flat : {X Y Z : Type 0} (f : Y → Z) (g : X → List Y) (xs : List X) → map f (flat_map g xs) ≡ flat_map (λ x. map f (g x)) xs

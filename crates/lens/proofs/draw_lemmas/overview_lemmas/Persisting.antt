@@ -1,19 +1,17 @@
 -- A state and a cut stay; what is counted is counted anew.
-use Rattle.std.proofs.{Common.{◌++◌, ◌<◌, ◌∙◌, ◌∷◌, ◌≡◌, Bool, List, [], ap, arith, false, refl, suc, sym, true, zero, ℕ}, lemmas.Bool.Decides.nat_tests}
-use Rattle.std.{proofs.lemmas.List.Sums.fold-append, specs.{Option.option_map_or, Prelude.{◌&&◌, ◌==◌, None, Option, Some, if◌then◌else◌, nat_le}}}
-use Rattle.lens.{proofs.draw_lemmas.overview_lemmas.{Cells.{ArePlaced, keep, skip}, Ribbons.{Rises, col}}, specs.declared.draw.overview.shade.Shade.Shade}
+use Rattle.{lens.proofs.draw_lemmas.overview_lemmas.Cells.{ArePlaced, keep, skip}, std.specs.Prelude.{◌&&◌, ◌==◌, None, Option, Some, if◌then◌else◌, nat_le}}
+use Rattle.lens.{proofs.draw_lemmas.overview_lemmas.Ribbons.{Rises, col}, specs.declared.draw.overview.{grid.Grid.Grid, shade.Shade.Shade}}
 use Rattle.lens.specs.declared.draw.overview.{change.Change.{Change, TheVariants.{Delivers, Nothing, Sets, Turns}}, row.Row.{Row, TheVariants.{Lane, Passage}}}
-use Rattle.lens.specs.{declared.draw.overview.grid.Grid.Grid, draw.overview.{Shades.{cleared, shade_of}, Strips.{start_in, start_of}}}
 use Rattle.lens.specs.draw.overview.{Changes.{after, change_of, is_same_way, news_of, passed, struck, turned}, Laws.{in_column, lies_in, shaded, up_to_column}}
+use Rattle.{lens.specs.draw.overview.{Shades.{cleared, shade_of}, Strips.{start_in, start_of}}, net_plan.specs.declared.network.Network.Network}
+use Rattle.{net_plan.specs.Places.device_at, run_law.specs.declared.note.Note.Note, std.{proofs.lemmas.List.Sums.fold-append, specs.Option.option_map_or}}
+use Rattle.{net_plan.specs.declared.event.What.What, sync_state.specs.declared.state.State.State, tte_units.specs.declared.units.Units.Units}
+use Rattle.{net_plan.specs.declared.{ids.{DeviceId.DeviceId, LinkId.LinkId}, tables.{Device.Device, Way.Way}}, run_law.specs.declared.note.NoteBody.NoteBody}
+use Rattle.std.proofs.{Common.{◌++◌, ◌<◌, ◌∙◌, ◌∷◌, ◌≡◌, Bool, List, [], ap, arith, false, refl, suc, sym, true, zero, ℕ}, lemmas.Bool.Decides.nat_tests}
 use Rattle.lens.specs.declared.draw.overview.shade.Shade.TheVariants as shades
-use Rattle.net_plan.specs.Places.{device_at}
-use Rattle.net_plan.specs.declared.{event.What.What, ids.{DeviceId.DeviceId, LinkId.LinkId}, network.Network.Network, tables.{Device.Device, Way.Way}}
 use Rattle.net_plan.specs.declared.event.What.TheVariants as events
-use Rattle.run_law.specs.declared.note.{Note.Note, NoteBody.NoteBody}
 use Rattle.run_law.specs.declared.note.NoteBody.TheVariants as notes
-use Rattle.sync_state.specs.declared.state.State.{State}
 use Rattle.sync_state.specs.declared.state.State.TheVariants as states
-use Rattle.tte_units.specs.declared.units.Units.{Units}
 
 -- ---- lists of records by their columns
 

@@ -1,13 +1,12 @@
 -- The ribbons of a sweep fill the cells of its rows, and no others.
-use Rattle.std.proofs.Common.{◌+◌, ◌-◌, ◌<◌, ◌∙◌, ◌∷◌, ◌≡◌, ◌≤◌, ◌⊎◌, Bool, List, [], ap, arith, false, inl, inr, refl, subst, suc, sym, true, zero, ℕ}
-use Rattle.std.{proofs.lemmas.Bool.Decides.nat_tests, specs.Prelude.{if◌then◌else◌, nat_lt}}
-use Rattle.run_law.{proofs.{records.Members.{from_flat, from_map, in_flat, in_map}, runs.Places.{in_left, in_parts, in_right}}, specs.declared.note.Note.Note}
-use Rattle.run_law.specs.records.Order.{IsIn}
-use Rattle.lens.{proofs.draw_lemmas.overview_lemmas.SameShades.same_shade, specs.declared.draw.overview.strip.{Ends.TheVariants.{Column, Picture}, Strip.Strip}}
-use Rattle.lens.specs.declared.draw.overview.{change.News.News, grid.{Grid.Grid, Pen.Pen}, row.Row.Row, shade.Shade.Shade, strip.Ribbon.Ribbon}
-use Rattle.lens.specs.draw.{overview.Changes.{after, news_of}, svg.Sketching.moment}
+use Rattle.{lens.proofs.draw_lemmas.overview_lemmas.SameShades.same_shade, run_law.proofs.runs.Places.{in_left, in_parts, in_right}}
+use Rattle.{lens.specs.declared.draw.overview.strip.Ends.TheVariants.{Column, Picture}, run_law.proofs.records.Members.{from_flat, from_map, in_flat, in_map}}
+use Rattle.lens.specs.declared.draw.overview.{change.News.News, grid.{Grid.Grid, Pen.Pen}, row.Row.Row, shade.Shade.Shade, strip.{Ribbon.Ribbon, Strip.Strip}}
+use Rattle.{lens.specs.draw.overview.Changes.{after, news_of}, std.{proofs.lemmas.Bool.Decides.nat_tests, specs.Prelude.{if◌then◌else◌, nat_lt}}}
 use Rattle.lens.specs.draw.overview.{Grids.{column_of, pen_at}, Sweeps.{Sweep, behind, last_ribbons, moved, moved_ribbons, stepped, steps_to, sweep_ribbons}}
 use Rattle.lens.specs.draw.overview.{Laws.Covers, Shades.{cleared, is_blank, is_same}, Strips.{ended, ribbon_of, ribbon_to, ribbons_of, some_ribbon, taken}}
+use Rattle.{lens.specs.draw.svg.Sketching.moment, run_law.specs.{declared.note.Note.Note, records.Order.IsIn}}
+use Rattle.std.proofs.Common.{◌+◌, ◌-◌, ◌<◌, ◌∙◌, ◌∷◌, ◌≡◌, ◌≤◌, ◌⊎◌, Bool, List, [], ap, arith, false, inl, inr, refl, subst, suc, sym, true, zero, ℕ}
 
 -- a shade behind the ends of so many columns
 abbrev pub cleared_by : ℕ → Shade → Shade

@@ -1,17 +1,16 @@
 -- The overview of a report shows its run.
-use Rattle.std.proofs.Common.{◌≡◌, ℕ, zero, suc, ◌+◌, ◌*◌, ◌/◌, ◌<◌, ◌≤◌, ◌^◌, false, List, [], ◌∷◌, refl, sym, ap, subst, ◌∙◌, inl, inr, arith}
 use Rattle.lens.proofs.draw_lemmas.{Falls.never_fall, overview_lemmas.Columns.{AreUpTo, column_most, lies_within, placed, rises, up_to_greatest, within}}
 use Rattle.lens.proofs.draw_lemmas.overview_lemmas.{Cells.{ArePlaced, cells_from, cells_future}, Ribbons.{Agrees, Good, Rises, future, sweep_each, sweep_only}}
 use Rattle.lens.proofs.draw_lemmas.overview_lemmas.{Counting.{delivers_seen, seen_delivers, shaded_fades}, Narrow.{order_of, pitch_least, step_some}}
 use Rattle.lens.{proofs.draw_lemmas.overview_lemmas.Persisting.{lane_lasts, lasting_cells, passage_lasts}, specs.declared.draw.overview.shade.Shade.Shade}
 use Rattle.lens.specs.{declared.draw.overview.{row.Row.TheVariants.{Flow, Lane, Passage}, strip.Ribbon.Ribbon}, draw.overview.Overview.{grid_for, ribbons_for}}
 use Rattle.lens.specs.{declared.draw.overview.{grid.Grid.Grid, strip.Strip.Strip}, draw.overview.{Boards.{laid, rows_of, top}, Shades.{cleared, is_blank}}}
-use Rattle.lens.specs.{declared.draw.overview.row.Row.Row, draw.{overview.{Rows.height_of, Strips.{fresh, start_of}, Sweeps.begun}, svg.Laws.NeverFall}}
+use Rattle.{lens.specs.{declared.draw.overview.row.Row.Row, draw.overview.Strips.{fresh, start_of}}, net_plan.specs.declared.network.Network.Network}
 use Rattle.lens.specs.draw.overview.{Grids.greatest, Laws.{Covers, IsDelivered, IsFilled, OverviewsShowRuns, ShowsWhole, cell, in_column, lies_in, shaded}}
+use Rattle.{lens.specs.draw.overview.{Rows.height_of, Sweeps.begun}, net_plan.{proofs.Amounts.amount_within, specs.declared.ids.{LinkId.LinkId, VlId.VlId}}}
+use Rattle.{lens.specs.draw.svg.Laws.NeverFall, run_law.specs.{declared.note.Note.Note, records.Order.IsIn}, tte_units.specs.Amount.amount}
+use Rattle.std.proofs.Common.{◌*◌, ◌+◌, ◌/◌, ◌<◌, ◌^◌, ◌∙◌, ◌∷◌, ◌≡◌, ◌≤◌, List, [], ap, arith, false, inl, inr, refl, subst, suc, sym, zero, ℕ}
 use Rattle.lens.specs.declared.draw.overview.shade.Shade.TheVariants as shades
-use Rattle.net_plan.{proofs.Amounts.amount_within, specs.declared.{ids.{LinkId.LinkId, VlId.VlId}, network.Network.Network}}
-use Rattle.run_law.specs.{declared.note.Note.Note, records.Order.IsIn}
-use Rattle.tte_units.specs.Amount.{amount}
 
 -- ---- the strips of rows
 

@@ -1,13 +1,12 @@
 -- There is a mark for each record of the span, and an arrow exactly where there is a cause.
-use Rattle.std.proofs.Common.{◌++◌, ◌+◌, ◌-◌, ◌<◌, ◌∙◌, ◌∷◌, ◌≡◌, ◌≢◌, ◌≤◌, ◌⊎◌, Bool, List, [], ap, append_assoc, arith, false, inl, inr, length}
-use Rattle.std.proofs.{Common.{length-append, refl, subst, suc, sym, true, zero, ℕ}, lemmas.Bool.{eq-eqb, eqb-true, le-ltb, ltb-false, ltb-true}}
-use Rattle.std.{proofs.lemmas.List.append-nil, specs.Prelude.{◌==◌, None, Option, Some, if◌then◌else◌, nat_lt, option_and_then, slice_get}}
 use Rattle.lens.specs.{declared.draw.svg.{element.Element.Element, layout.Side.TheVariants.{Before, Behind, Within}}, draw.svg.Layers.{way_between, way_of}}
-use Rattle.lens.specs.declared.draw.svg.{layout.{Side.Side, Span.Span}, mark.Mark.Mark}
+use Rattle.{lens.specs.declared.draw.svg.{layout.{Side.Side, Span.Span}, mark.Mark.Mark}, run_law.specs.declared.note.Note.Note}
 use Rattle.lens.specs.draw.svg.{Laws.{AreMarksOf, ArrowsAreCauses, ComesAcross, HasArrows, IsMarkOf, NeverFall, NumbersFollow, arrow, shown}, Plan.Plan}
 use Rattle.lens.specs.draw.svg.{Layout.{is_within, moved, side_of}, Sketching.{begun, drawn, mark_at, mark_of, moment, plan_behind, plan_of, took, took_at}}
-use Rattle.net_plan.specs.declared.network.Network.{Network}
-use Rattle.run_law.specs.declared.note.Note.{Note}
+use Rattle.{net_plan.specs.declared.network.Network.Network, std.specs.Prelude.{◌==◌, None, Option, Some, if◌then◌else◌, nat_lt, option_and_then, slice_get}}
+use Rattle.std.proofs.Common.{◌++◌, ◌+◌, ◌-◌, ◌<◌, ◌∙◌, ◌∷◌, ◌≡◌, ◌≢◌, ◌≤◌, ◌⊎◌, Bool, List, [], ap, append_assoc, arith, false, inl, inr, length}
+use Rattle.std.proofs.{Common.{length-append, refl, subst, suc, sym, true, zero, ℕ}, lemmas.Bool.{eq-eqb, eqb-true, le-ltb, ltb-false, ltb-true}}
+use Rattle.std.proofs.lemmas.List.{append-nil}
 
 -- ---- sides
 

@@ -1,12 +1,10 @@
 -- The marks of a picture that fits stand in the order of their instants.
-use Rattle.std.proofs.Common.{◌++◌, ◌+◌, ◌-◌, ◌/◌, ◌<◌, ◌∷◌, ◌≡◌, ◌≤◌, ◌⊎◌, Bool, List, [], arith, false, inl, inr, refl, subst, sym, true, ℕ}
-use Rattle.std.proofs.lemmas.Bool.Decides.{nat_tests}
-use Rattle.std.{proofs.lemmas.List.Elements.{All-append, All-cons, All-head, All-nil, All-tail, All-weaker}, specs.Prelude.{All, if◌then◌else◌, nat_le, nat_lt}}
 use Rattle.lens.specs.declared.draw.svg.{layout.{Pen.Pen, Side.{Side, TheVariants.{Before, Behind, Within}}, Span.Span}, mark.Mark.Mark}
 use Rattle.lens.specs.draw.svg.{Laws.{AreApart, KeepsOrder, NeverFall, StandsLeft}, Layout.{clamped, gap, moved, pen_at, side_of, widest, width_of}, Plan.Plan}
-use Rattle.lens.specs.draw.svg.Sketching.{begun, drawn, mark_of, moment, plan_behind, plan_of, took, took_at}
-use Rattle.net_plan.specs.declared.network.Network.{Network}
-use Rattle.run_law.specs.declared.note.Note.{Note}
+use Rattle.{lens.specs.draw.svg.Sketching.{begun, drawn, mark_of, moment, plan_behind, plan_of, took, took_at}, net_plan.specs.declared.network.Network.Network}
+use Rattle.{run_law.specs.declared.note.Note.Note, std.proofs.lemmas.Bool.Decides.nat_tests}
+use Rattle.std.proofs.Common.{◌++◌, ◌+◌, ◌-◌, ◌/◌, ◌<◌, ◌∷◌, ◌≡◌, ◌≤◌, ◌⊎◌, Bool, List, [], arith, false, inl, inr, refl, subst, sym, true, ℕ}
+use Rattle.std.{proofs.lemmas.List.Elements.{All-append, All-cons, All-head, All-nil, All-tail, All-weaker}, specs.Prelude.{All, if◌then◌else◌, nat_le, nat_lt}}
 
 -- ---- lists
 

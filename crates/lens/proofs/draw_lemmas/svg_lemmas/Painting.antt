@@ -1,12 +1,10 @@
 -- The lanes are painted as the records leave their devices.
-use Rattle.std.proofs.Common.{◌++◌, ◌∙◌, ◌∷◌, ◌≡◌, ◌≤◌, ◌⊎◌, List, [], ap, append_assoc, arith, inl, inr, length, refl, subst, sym, take, true, ℕ}
-use Rattle.std.{proofs.{Math.Seq.take-append_seam, lemmas.List.Sums.fold-append}, specs.Prelude.fold}
-use Rattle.lens.proofs.draw_lemmas.svg_lemmas.Arrows.{before_from, behind_to, taken_all, within_both}
+use Rattle.{lens.proofs.draw_lemmas.svg_lemmas.Arrows.{before_from, behind_to, taken_all, within_both}, net_plan.specs.declared.network.Network.Network}
 use Rattle.lens.specs.declared.draw.svg.{layout.{Side.{Side, TheVariants.{Before, Behind, Within}}, Span.Span}, mark.{Ground.Ground, Mark.Mark}}
 use Rattle.lens.specs.draw.svg.Laws.{AreMarksOf, LanesAreStates, NeverFall, grounds_after, grounds_with, painted_with, shown}
 use Rattle.lens.specs.draw.svg.{Layout.{holds, is_within, moved, side_of}, Plan.Plan, Sketching.{begun, mark_of, moment, plan_behind, plan_of, took, took_at}}
-use Rattle.net_plan.specs.declared.network.Network.{Network}
-use Rattle.run_law.specs.declared.note.Note.{Note}
+use Rattle.{run_law.specs.declared.note.Note.Note, std.{proofs.{Math.Seq.take-append_seam, lemmas.List.Sums.fold-append}, specs.Prelude.fold}}
+use Rattle.std.proofs.Common.{◌++◌, ◌∙◌, ◌∷◌, ◌≡◌, ◌≤◌, ◌⊎◌, List, [], ap, append_assoc, arith, inl, inr, length, refl, subst, sym, take, true, ℕ}
 
 -- ---- lists
 

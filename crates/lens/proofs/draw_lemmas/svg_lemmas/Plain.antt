@@ -1,13 +1,11 @@
 -- The text of a record has no character that SVG reads as its own.
-use Rattle.std.proofs.Common.{◌<◌, ◌^◌, ◌++◌, ◌∷◌, ◌≡◌, List, [], append_assoc, nat_lt, not, refl, subst, sym, true, ℕ}
-use Rattle.std.proofs.lemmas.{Bool.and_parts, List.Elements.{All-append, All-cons, All-nil, All-weaker}}
-use Rattle.std.specs.{Fmt.signed_decimal, List.join_with_byte, Prelude.{◌==◌, ◌||◌, codes, decimal}}
-use Rattle.net_plan.specs.{Ranges.IsInRange, declared.network.Network.Network}
-use Rattle.run_law.specs.declared.note.{Note.Note, NoteBody.NoteBody}
-use Rattle.trace_text.specs.Steps.{Words, space}
-use Rattle.report_text.proofs.{Characters.{IsVisible, decimal_visible, is_visible}, Texts.{AreOfLine, AreVisible}, Visible.{body_visible, units_visible}}
-use Rattle.report_text.specs.{NoteLine.{body_text, body_words, note_text}, Ranges.{IsBodyInRange, IsBodyOf, IsNoteInRange, IsNoteOf}}
-use Rattle.lens.specs.draw.svg.Marking.{IsPlain, is_plain}
+use Rattle.{lens.specs.draw.svg.Marking.{IsPlain, is_plain}, run_law.specs.declared.note.NoteBody.NoteBody, std.specs.Prelude.{◌==◌, ◌||◌, codes, decimal}}
+use Rattle.{net_plan.specs.Ranges.IsInRange, std.{proofs.lemmas.Bool.and_parts, specs.List.join_with_byte}, trace_text.specs.Steps.{Words, space}}
+use Rattle.{net_plan.specs.declared.network.Network.Network, report_text.proofs.{Texts.{AreOfLine, AreVisible}, Visible.{body_visible, units_visible}}}
+use Rattle.report_text.{proofs.Characters.{IsVisible, decimal_visible, is_visible}, specs.Ranges.{IsBodyInRange, IsBodyOf, IsNoteInRange, IsNoteOf}}
+use Rattle.{report_text.specs.NoteLine.{body_text, body_words, note_text}, std.proofs.lemmas.List.Elements.{All-append, All-cons, All-nil, All-weaker}}
+use Rattle.{run_law.specs.declared.note.Note.Note, std.proofs.Common.{◌++◌, ◌<◌, ◌^◌, ◌∷◌, ◌≡◌, List, [], append_assoc, nat_lt, not, refl, subst, sym, true, ℕ}}
+use Rattle.std.specs.Fmt.{signed_decimal}
 
 -- what is visible is plain
 visible_plain : (text : List ℕ) → IsVisible text → IsPlain text

@@ -1,22 +1,18 @@
 -- The text of a record is short.
-use Rattle.std.proofs.Common.{◌*◌, ◌++◌, ◌+◌, ◌-◌, ◌<◌, ◌^◌, ◌∙◌, ◌∷◌, ◌≡◌, ◌≤◌, List, [], ap, arith, length, length-append, suc, take, ℕ}
-use Rattle.std.{proofs.{Math.Seq.take-append_seam, lemmas.{Fmt.length-decimal-le, Int.ints}}, specs.Prelude.{FitsSigned, codes, decimal, negsuc, pos, ℤ}}
-use Rattle.std.specs.{Fmt.signed_decimal, Int.{to_be_bytes, w32, w64}}
-use Rattle.hex.{proofs.HexLemmas.length-encode_with, specs.Hex.{encode_lower, lower_digits}}
-use Rattle.lens.specs.draw.svg.Marking.{title_room}
-use Rattle.net_plan.specs.{Belonging.{HasVl, vl_name}, Ranges.{IsInRange, IsVlInRange}, declared.{ids.VlId.VlId, network.Network.Network}}
-use Rattle.pcf_values.specs.declared.members.Members.{Members}
-use Rattle.report_text.proofs.Short.{device_short, joined_short, link_short, size, what_short}
+use Rattle.{hex.{proofs.HexLemmas.length-encode_with, specs.Hex.{encode_lower, lower_digits}}, run_law.specs.declared.{judgement.Why.Why, note.Note.Note}}
+use Rattle.{lens.specs.draw.svg.Marking.title_room, net_plan.specs.Belonging.{HasVl, vl_name}, tte_lemmas.proofs.Lists.{in_all, some_at}}
+use Rattle.{net_plan.specs.{Ranges.{IsInRange, IsVlInRange}, declared.{ids.VlId.VlId, network.Network.Network}}, sync_state.specs.declared.state.State.State}
+use Rattle.{pcf_values.specs.declared.members.Members.Members, run_law.specs.declared.{judgement.{Judgement.Judgement, Reason.Reason}, note.NoteBody.NoteBody}}
+use Rattle.{report_text.proofs.Short.{device_short, joined_short, link_short, size, what_short}, std.specs.Prelude.{FitsSigned, codes, decimal, negsuc, pos, ℤ}}
 use Rattle.report_text.specs.{NoteLine.{body_text, body_words, note_text}, NoteWords.{judgement_text, members_text, reason_words, state_text, why_text}}
-use Rattle.report_text.specs.Ranges.{IsBodyInRange, IsBodyOf, IsNoteInRange, IsNoteOf, IsReasonInRange, IsShortCount}
+use Rattle.{report_text.specs.Ranges.{IsBodyInRange, IsBodyOf, IsNoteInRange, IsNoteOf, IsReasonInRange, IsShortCount}, std.proofs.lemmas.Fmt.length-decimal-le}
+use Rattle.std.proofs.{Common.{◌*◌, ◌++◌, ◌+◌, ◌-◌, ◌<◌, ◌^◌, ◌∙◌, ◌∷◌, ◌≡◌, ◌≤◌, List, [], ap, arith, length, length-append, suc, take, ℕ}, lemmas.Int.ints}
+use Rattle.std.{proofs.Math.Seq.take-append_seam, specs.{Fmt.signed_decimal, Int.{to_be_bytes, w32, w64}}}
 use Rattle.run_law.specs.declared.judgement.Judgement.TheVariants as judgements
-use Rattle.run_law.specs.declared.{judgement.{Judgement.Judgement, Reason.Reason, Why.Why}, note.{Note.Note, NoteBody.NoteBody}}
 use Rattle.run_law.specs.declared.judgement.Reason.TheVariants as reasons
 use Rattle.run_law.specs.declared.judgement.Why.TheVariants as whys
 use Rattle.run_law.specs.declared.note.NoteBody.TheVariants as bodies
 use Rattle.sync_state.specs.declared.state.State.TheVariants as states
-use Rattle.sync_state.specs.declared.state.State.{State}
-use Rattle.tte_lemmas.proofs.Lists.{in_all, some_at}
 
 -- ---- one word
 

@@ -1,8 +1,7 @@
 -- The window of a row, by its entry.
-use Rattle.std.{proofs.Common.{◌≡◌, Option, Some, ap, ℕ}, specs.Prelude.option_map}
-use Rattle.net_plan.specs.declared.{network.Network.Network}
-use Rattle.schedule_tables.specs.{Entries.IsEntry, Windows.window_of, declared.{entry.Entry.Entry}}
-use Rattle.lens.{proofs.why_lemmas.Windows.entry_is, specs.draw.svg.Windows.window_at}
+use Rattle.{lens.{proofs.why_lemmas.Windows.entry_is, specs.draw.svg.Windows.window_at}, schedule_tables.specs.{Entries.IsEntry, Windows.window_of}}
+use Rattle.{net_plan.specs.declared.network.Network.Network, schedule_tables.specs.declared.entry.Entry.Entry, std.proofs.Common.{◌≡◌, Option, Some, ap, ℕ}}
+use Rattle.std.specs.Prelude.{option_map}
 
 -- the window of an entry is that of the row
 pub window_is : (network : Network) (place : ℕ) (entry : Entry) → IsEntry network place entry

@@ -1,14 +1,11 @@
 -- The counts of a flow's cycles, one more counted by its fate.
-use Rattle.std.proofs.Common.{◌≡◌, ℕ, ◌^◌, ◌<◌, ◌≤◌, List, inl, inr, refl, sym, subst, arith}
-use Rattle.audit_devices.specs.events.Readings.{ReadsOn}
+use Rattle.{audit_devices.specs.events.Readings.ReadsOn, lens.specs.flows.judge.Beginnings.IsFirstBegun, run_law.specs.records.Happenings.Happening}
 use Rattle.lens.proofs.flows_lemmas.counts_lemmas.Fated.{AreCountsUpTo, AreUpTo, counted_on, few_more, few_still, passed_on}
-use Rattle.lens.specs.{declared.flows.{counts.counting.FateCounts.FateCounts, judge.flow.Flow.Flow}, flows.counts.Counted.{AreBelow, IsCycleCounted, count_of}}
-use Rattle.lens.specs.{declared.flows.judge.{beginning.Begun.Begun, course.Course.Course, fate.Fate.Fate}, flows.judge.Courses.{IsCourse, scenario_of}}
-use Rattle.lens.specs.flows.judge.{Beginnings.IsFirstBegun, Flows.IsFlow}
+use Rattle.lens.specs.{declared.flows.counts.counting.FateCounts.FateCounts, flows.counts.Counted.{AreBelow, IsCycleCounted, count_of}}
+use Rattle.{lens.specs.declared.flows.judge.beginning.Begun.Begun, std.proofs.Common.{◌<◌, ◌^◌, ◌≡◌, ◌≤◌, List, arith, inl, inr, refl, subst, sym, ℕ}}
+use Rattle.lens.specs.{declared.flows.judge.{course.Course.Course, fate.Fate.Fate, flow.Flow.Flow}, flows.judge.{Courses.{IsCourse, scenario_of}, Flows.IsFlow}}
+use Rattle.{net_plan.specs.{Ranges.IsInRange, declared.event.Event.Event}, tte_lemmas.proofs.Integers.amount_least}
 use Rattle.lens.specs.declared.flows.judge.fate.Fate.TheVariants as fates
-use Rattle.net_plan.specs.{Ranges.IsInRange, declared.event.Event.Event}
-use Rattle.run_law.specs.records.Happenings.{Happening}
-use Rattle.tte_lemmas.proofs.Integers.{amount_least}
 
 abbrev pub no_counts : FateCounts
 no_counts = record { owed = 0; receiver = 0; sender = 0; end = 0 }

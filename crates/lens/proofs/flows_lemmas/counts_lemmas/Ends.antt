@@ -1,9 +1,7 @@
 -- The greatest of two, and of all rows.
-use Rattle.std.proofs.{Common.{◌+◌, ◌<◌, ◌≡◌, ◌≤◌, ◌⊎◌, arith, inl, inr, length, subst, sym, ℕ}, lemmas.{Bool.cases_lt, Option.slice_get_within}}
-use Rattle.std.specs.Prelude.{None, Option, Some, max}
-use Rattle.lens.specs.flows.counts.Greatest.{EndsAt, TellsGreatest, later_of}
-use Rattle.net_plan.specs.declared.{ids.{DeviceId.DeviceId, VlId.VlId}, network.Network.Network}
-use Rattle.run_law.specs.law.Safety.{IsWindowEnd}
+use Rattle.{lens.specs.flows.counts.Greatest.{EndsAt, TellsGreatest, later_of}, net_plan.specs.declared.ids.{DeviceId.DeviceId, VlId.VlId}}
+use Rattle.{net_plan.specs.declared.network.Network.Network, std.proofs.Common.{◌+◌, ◌<◌, ◌≡◌, ◌≤◌, ◌⊎◌, arith, inl, inr, length, subst, sym, ℕ}}
+use Rattle.{run_law.specs.law.Safety.IsWindowEnd, std.{proofs.lemmas.{Bool.cases_lt, Option.slice_get_within}, specs.Prelude.{None, Option, Some, max}}}
 
 -- of the numbers of either kind
 greatest_both : (P Q R : ℕ → Type 0) (a b : Option ℕ) → ((n : ℕ) → P n → R n) → ((n : ℕ) → Q n → R n) → ((n : ℕ) → R n → P n ⊎ Q n)

@@ -1,17 +1,13 @@
 -- The fates of a flow's cycles, one cycle after another.
-use Rattle.std.proofs.{Common.{◌*◌, ◌+◌, ◌<◌, ◌^◌, ◌≡◌, ◌≤◌, List, arith, inl, inr, pos, refl, subst, suc, sym, zero, ℕ}, Math.Nat.mul-le-mul_right}
-use Rattle.std.proofs.lemmas.{Bool.cases_lt, Int.ints}
-use Rattle.audit_devices.{proofs.clocks_lemmas.Reached.changed_early, specs.events.Readings.ReadsOn}
+use Rattle.{audit_devices.proofs.clocks_lemmas.Reached.changed_early, lens.specs.flows.judge.{Fates.{HasFate, IsOwedFrom, IsReady}, Times.NoneWithin}}
+use Rattle.{audit_devices.specs.events.Readings.ReadsOn, run_law.specs.{law.Safety.ReachesPlace, records.Happenings.Happening, scenario.Scenarios.Scenario}}
 use Rattle.lens.proofs.flows_lemmas.{counts_lemmas.Tallies.{CountsUpTo, counts_more, counts_none, counts_same, counts_whole}, judge_lemmas.Comings.not_at_first}
 use Rattle.lens.{proofs.flows_lemmas.judge_lemmas.Fating.{owed_ends, owed_stays}, specs.flows.counts.Counted.{AreFateCounts, HasFateAt, count_of, counted}}
 use Rattle.lens.specs.{declared.flows.{counts.counting.FateCounts.FateCounts, judge.beginning.Begun.Begun}, flows.judge.Beginnings.{BeginsOne, IsFirstBegun}}
-use Rattle.lens.specs.{declared.flows.judge.{fate.Fate.Fate, flow.Flow.Flow}, flows.judge.{Fates.{HasFate, IsOwedFrom, IsReady}, Times.NoneWithin}}
-use Rattle.lens.specs.flows.judge.Flows.{IsFlow}
+use Rattle.{lens.specs.{declared.flows.judge.{fate.Fate.Fate, flow.Flow.Flow}, flows.judge.Flows.IsFlow}, net_plan.specs.declared.ids.DeviceId.DeviceId}
+use Rattle.{schedule_tables.specs.Windows.OccursIn, std.proofs.lemmas.{Bool.cases_lt, Int.ints}, tte_units.specs.Amount.amount}
+use Rattle.std.proofs.{Common.{◌*◌, ◌+◌, ◌<◌, ◌^◌, ◌≡◌, ◌≤◌, List, arith, inl, inr, pos, refl, subst, suc, sym, zero, ℕ}, Math.Nat.mul-le-mul_right}
 use Rattle.lens.specs.declared.flows.judge.fate.Fate.TheVariants as fates
-use Rattle.net_plan.specs.declared.ids.DeviceId.{DeviceId}
-use Rattle.run_law.specs.{law.Safety.ReachesPlace, records.Happenings.Happening, scenario.Scenarios.Scenario}
-use Rattle.schedule_tables.specs.Windows.{OccursIn}
-use Rattle.tte_units.specs.Amount.{amount}
 
 -- ---- a cycle has one fate
 

@@ -1,14 +1,12 @@
 -- The flows of a network, one virtual link and one device after another.
+use Rattle.{lens.proofs.flows_lemmas.counts_lemmas.Orders.{all_more, all_none, all_same}, std.specs.Prelude.{IsSomeAnd, None, Option, Some, slice_get}}
+use Rattle.lens.{proofs.flows_lemmas.judge_lemmas.Rows.receiver_there, specs.flows.{counts.FlowLists.{AreFlows, IsFlowBefore}, judge.Flows.IsFlow}}
+use Rattle.{lens.specs.declared.flows.judge.flow.Flow.Flow, net_plan.specs.declared.{network.Network.Network, tables.{Device.Device, VirtualLink.VirtualLink}}}
+use Rattle.{lens.specs.flows.counts.PartLists.{AreFlowsBefore, ComesBefore, IsFlowOf, IsTo}, net_plan.specs.Places.{IsEndSystem, device_at, is_end_system}}
+use Rattle.{net_plan.specs.Bounds.IsGreatest, run_law.specs.{law.Safety.IsWindowEnd, scenario.Devices.is_end}, schedule_tables.specs.Windows.window_end}
+use Rattle.{net_plan.specs.declared.ids.{DeviceId.DeviceId, VlId.VlId}, std.proofs.lemmas.{Bool.{cases_lt, false≢true}, Option.slice_get_within}}
 use Rattle.std.proofs.Common.{◌++◌, ◌+◌, ◌∙◌, ◌∷◌, ◌≡◌, ◌≤◌, ◌⊎◌, List, [], ap, arith, false, inl, inr, length, refl, subst, sym, true, ℕ}
-use Rattle.std.{proofs.lemmas.{Bool.{cases_lt, false≢true}, Option.slice_get_within}, specs.Prelude.{IsSomeAnd, None, Option, Some, slice_get}}
 use Rattle.std.specs.Option.{option_map_or}
-use Rattle.lens.proofs.flows_lemmas.{counts_lemmas.Orders.{all_more, all_none, all_same}, judge_lemmas.Rows.receiver_there}
-use Rattle.lens.specs.declared.flows.judge.flow.Flow.{Flow}
-use Rattle.lens.specs.flows.{counts.{FlowLists.{AreFlows, IsFlowBefore}, PartLists.{AreFlowsBefore, ComesBefore, IsFlowOf, IsTo}}, judge.Flows.IsFlow}
-use Rattle.net_plan.specs.{Bounds.IsGreatest, declared.ids.{DeviceId.DeviceId, VlId.VlId}}
-use Rattle.net_plan.specs.{Places.{IsEndSystem, device_at, is_end_system}, declared.{network.Network.Network, tables.{Device.Device, VirtualLink.VirtualLink}}}
-use Rattle.run_law.specs.{law.Safety.IsWindowEnd, scenario.Devices.is_end}
-use Rattle.schedule_tables.specs.Windows.{window_end}
 
 pub no_flows : (network : Network) → AreFlowsBefore network 0 0 []
 no_flows network =

@@ -1,10 +1,8 @@
 -- The least distances of two kinds, and of all rows.
-use Rattle.std.proofs.{Common.{◌+◌, ◌-ℤ◌, ◌<◌, ◌^◌, ◌≡◌, ◌≤◌, ◌⊎◌, arith, inl, inr, length, pos, subst, sym, ℕ, ℤ}, lemmas.{Int.ints, Option.slice_get_within}}
-use Rattle.std.{proofs.lemmas.Bool.cases_lt, specs.{Int.int_rem_euclid, Prelude.{None, Option, Some, min}}}
 use Rattle.lens.specs.{declared.flows.counts.nearest.Nearest.Nearest, flows.counts.Nearest.{IsInside, IsInsideRow, IsInsideSome, TellsLeast, nearer}}
-use Rattle.lens.specs.declared.flows.judge.flow.Flow.{Flow}
-use Rattle.net_plan.specs.declared.{ids.LinkId.LinkId, network.Network.Network}
-use Rattle.schedule_tables.specs.declared.window.Window.{Window}
+use Rattle.{lens.specs.declared.flows.judge.flow.Flow.Flow, std.{proofs.lemmas.Bool.cases_lt, specs.{Int.int_rem_euclid, Prelude.{None, Option, Some, min}}}}
+use Rattle.{net_plan.specs.declared.{ids.LinkId.LinkId, network.Network.Network}, schedule_tables.specs.declared.window.Window.Window}
+use Rattle.std.proofs.{Common.{◌+◌, ◌-ℤ◌, ◌<◌, ◌^◌, ◌≡◌, ◌≤◌, ◌⊎◌, arith, inl, inr, length, pos, subst, sym, ℕ, ℤ}, lemmas.{Int.ints, Option.slice_get_within}}
 
 -- what comes after the first of the two
 pub least_both : (P Q R : ℕ → ℕ → Type 0) (a b : Option Nearest) → ((x y : ℕ) → P x y → R x y) → ((x y : ℕ) → Q x y → R x y)

@@ -1,13 +1,12 @@
 -- What is told of flows is one.
-use Rattle.std.proofs.{Common.{◌<◌, ◌∙◌, ◌∷◌, ◌≡◌, List, [], ap, arith, inl, inr, length, map, refl, subst, sym, ℕ}, lemmas.List.Elements.{All-head, All-tail}}
-use Rattle.std.specs.Prelude.{All, None, Option, Some}
 use Rattle.lens.specs.{declared.flows.counts.deliveries.{Deliveries.Deliveries, Delivery.Delivery}, flows.counts.Deliveries.{AreDeliveries, IsDeliveredWithin}}
 use Rattle.lens.specs.{declared.flows.counts.{counting.FateCounts.FateCounts, nearest.Nearest.Nearest}, flows.counts.Ordered.{AreAll, IsCountOf, IsOrdered}}
 use Rattle.lens.specs.{declared.flows.counts.told.FlowTold.FlowTold, flows.counts.{Counted.{AreFateCounts, HasFateAt}, FlowLists.{AreFlows, IsFlowBefore}}}
-use Rattle.lens.specs.{declared.flows.judge.flow.Flow.Flow, flows.{counts.{Nearest.TellsLeast, Told.IsTold}, judge.Flows.IsFlow}}
+use Rattle.{lens.specs.{declared.flows.judge.flow.Flow.Flow, flows.counts.{Nearest.TellsLeast, Told.IsTold}}, net_plan.specs.declared.network.Network.Network}
+use Rattle.lens.specs.flows.judge.Flows.{IsFlow}
+use Rattle.{run_law.specs.{records.{Happenings.Happening, Order.IsIn}, scenario.Scenarios.Scenario}, std.specs.Prelude.{All, None, Option, Some}}
+use Rattle.std.proofs.{Common.{◌<◌, ◌∙◌, ◌∷◌, ◌≡◌, List, [], ap, arith, inl, inr, length, map, refl, subst, sym, ℕ}, lemmas.List.Elements.{All-head, All-tail}}
 use Rattle.lens.specs.declared.flows.judge.fate.Fate.TheVariants as fates
-use Rattle.net_plan.specs.declared.network.Network.{Network}
-use Rattle.run_law.specs.{records.{Happenings.Happening, Order.IsIn}, scenario.Scenarios.Scenario}
 
 -- ---- two lists of all things of a kind are one
 

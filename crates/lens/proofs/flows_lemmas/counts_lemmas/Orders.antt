@@ -1,7 +1,6 @@
 -- Lists of all things of a kind, and one more.
-use Rattle.std.proofs.Common.{◌≡◌, ◌⊎◌, List, [], ◌∷◌, ◌++◌, inl, inr, refl, sym, subst}
-use Rattle.lens.specs.flows.counts.Ordered.{AreAll, IsOrdered}
-use Rattle.run_law.{proofs.runs.Places.{in_left, in_parts, in_right}, specs.records.Order.IsIn}
+use Rattle.{lens.specs.flows.counts.Ordered.{AreAll, IsOrdered}, run_law.specs.records.Order.IsIn}
+use Rattle.{run_law.proofs.runs.Places.{in_left, in_parts, in_right}, std.proofs.Common.{◌++◌, ◌∷◌, ◌≡◌, ◌⊎◌, List, [], inl, inr, refl, subst, sym}}
 
 pub in_two : {X : Type 0} (x : X) (xs : List X) (y : X) → IsIn x (xs ++ y ∷ []) → IsIn x xs ⊎ (x ≡ y)
 in_two {X} x xs y i =

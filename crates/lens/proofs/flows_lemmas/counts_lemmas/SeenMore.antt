@@ -2,11 +2,9 @@
 pub use Rattle.audit_sweep.proofs.NextRecords.{steady}
 pub use Rattle.audit_sweep.proofs.NextRecords.{records_next}
 pub use Rattle.audit_sweep.proofs.NextRecords.{subject_there}
-use Rattle.std.proofs.{Common.{◌++◌, ◌∙◌, ◌∷◌, ◌≡◌, List, [], ap, refl}, lemmas.List.{Elements.filter_map-append, map-append}}
-use Rattle.std.specs.Prelude.{None, Option, Some, filter_map}
 use Rattle.lens.specs.{declared.flows.counts.deliveries.Delivery.Delivery, flows.counts.{Deliveries.{deliveries_of, delivery_by}, Seen.some_delivery}}
-use Rattle.run_law.specs.declared.note.{Note.Note}
-use Rattle.tte_units.specs.Amount.{amount}
+use Rattle.{run_law.specs.declared.note.Note.Note, std.proofs.{Common.{◌++◌, ◌∙◌, ◌∷◌, ◌≡◌, List, [], ap, refl}, lemmas.List.Elements.filter_map-append}}
+use Rattle.{std.{proofs.lemmas.List.map-append, specs.Prelude.{None, Option, Some, filter_map}}, tte_units.specs.Amount.amount}
 
 one_given : (f : Note → Option Delivery) (note : Note) (o : Option Delivery) → f note ≡ o → filter_map f (note ∷ []) ≡ some_delivery o
 one_given f note None e = cc

@@ -1,15 +1,13 @@
 -- What is counted of the deliveries of a flow, one delivery after another.
-use Rattle.std.proofs.Common.{◌++◌, ◌+◌, ◌∙◌, ◌∷◌, ◌≡◌, ◌≤◌, ◌⊎◌, Bool, List, [], ap, arith, false, inl, inr, length, refl, subst, suc, sym, take, true, zero}
-use Rattle.std.{proofs.{Common.ℕ, lemmas.{Bool.false≢true, List.length-append}}, specs.Prelude.{◌&&◌, None, Option, filter, if◌then◌else◌}}
 use Rattle.lens.{proofs.flows_lemmas.counts_lemmas.Leasts.{least_both, least_same}, specs.flows.counts.Nearest.{IsInsideSome, TellsLeast, place_at}}
 use Rattle.lens.{proofs.flows_lemmas.counts_lemmas.Orders.{in_last, in_two}, specs.declared.flows.counts.deliveries.{Deliveries.Deliveries, Delivery.Delivery}}
 use Rattle.lens.specs.{declared.flows.{counts.nearest.Nearest.Nearest, judge.course.Course.Course}, flows.judge.Courses.{IsCourse, scenario_of}}
-use Rattle.lens.specs.declared.flows.judge.flow.Flow.{Flow}
+use Rattle.{lens.specs.declared.flows.judge.flow.Flow.Flow, run_law.specs.records.Happenings.Happening, tte_lemmas.proofs.Lists.{filter_off, filter_on}}
 use Rattle.lens.specs.flows.counts.Deliveries.{AreDeliveries, IsDeliveredWithin, IsOneMore, delivered, delivered_more, delivered_on, is_of, is_on, one_if}
-use Rattle.net_plan.specs.declared.event.Event.{Event}
-use Rattle.pcf_values.specs.declared.channel.Channel.{TheVariants.{A, B}}
-use Rattle.run_law.{proofs.runs.Places.in_left, specs.{records.Happenings.Happening, scenario.Scenarios.Scenario}}
-use Rattle.tte_lemmas.proofs.Lists.{filter_off, filter_on}
+use Rattle.{net_plan.specs.declared.event.Event.Event, run_law.specs.scenario.Scenarios.Scenario, std.proofs.lemmas.{Bool.false≢true, List.length-append}}
+use Rattle.{pcf_values.specs.declared.channel.Channel.TheVariants.{A, B}, std.{proofs.Common.ℕ, specs.Prelude.{◌&&◌, None, Option, filter, if◌then◌else◌}}}
+use Rattle.run_law.proofs.runs.Places.{in_left}
+use Rattle.std.proofs.Common.{◌++◌, ◌+◌, ◌∙◌, ◌∷◌, ◌≡◌, ◌≤◌, ◌⊎◌, Bool, List, [], ap, arith, false, inl, inr, length, refl, subst, suc, sym, take, true, zero}
 
 counted_on : {X : Type 0} (p : X → Bool) (xs : List X) (x : X) → length (filter p (xs ++ x ∷ [])) ≡ length (filter p xs) + one_if (p x)
 counted_on {X} p xs x = by (p x) refl

@@ -1,14 +1,12 @@
 -- Which cycles a clock begins, while the same is shown of its device.
-use Rattle.std.proofs.{Common.{◌*◌, ◌+◌, ◌-◌, ◌<◌, ◌^◌, ◌∙◌, ◌≡◌, ◌≤◌, List, ap, arith, false, inl, inr, pos, refl, subst, sym, true, ℕ, ℤ}, lemmas.Int.ints}
-use Rattle.std.specs.Prelude.{None, Option, Some, is_some}
-use Rattle.audit_sweep.{proofs.unpaid_lemmas.points_lemmas.Sendings.AreBeginnings, specs.unpaid.points.Kept.ShowsWithin}
 use Rattle.audit_devices.{proofs.clocks_lemmas.Reached.{come_reaches, reaches_come}, specs.clocks.Finding.{CrossesAt, IsNextCrossing, NoneCrossed, value_in}}
-use Rattle.audit_devices.specs.{Showing.{Shown, Shows}, declared.clocks.finding.{Crossed.Crossed, Series.Series}, events.Readings.ReadsOn}
-use Rattle.lens.{proofs.flows_lemmas.judge_lemmas.Firsts.{first_behind, none_both}, specs.flows.judge.Times.NoneWithin}
-use Rattle.lens.specs.{declared.flows.judge.beginning.Begun.Begun, flows.judge.Beginnings.{BeginsCycle, BeginsOne, IsFirstBegun, IsNextBegun}}
-use Rattle.net_plan.specs.declared.ids.DeviceId.{DeviceId}
-use Rattle.run_law.specs.{device.LocalClocks.Reaches, records.Happenings.{Happening, earlier}, scenario.Scenarios.Scenario}
-use Rattle.tte_units.specs.Amount.{amount}
+use Rattle.{audit_devices.specs.Showing.{Shown, Shows}, net_plan.specs.declared.ids.DeviceId.DeviceId, std.specs.Prelude.{None, Option, Some, is_some}}
+use Rattle.{audit_devices.specs.declared.clocks.finding.Crossed.Crossed, lens.specs.flows.judge.Beginnings.{BeginsCycle, BeginsOne, IsFirstBegun, IsNextBegun}}
+use Rattle.{audit_devices.specs.{declared.clocks.finding.Series.Series, events.Readings.ReadsOn}, lens.specs.declared.flows.judge.beginning.Begun.Begun}
+use Rattle.{audit_sweep.proofs.unpaid_lemmas.points_lemmas.Sendings.AreBeginnings, lens.proofs.flows_lemmas.judge_lemmas.Firsts.{first_behind, none_both}}
+use Rattle.{audit_sweep.specs.unpaid.points.Kept.ShowsWithin, run_law.specs.{records.Happenings.{Happening, earlier}, scenario.Scenarios.Scenario}}
+use Rattle.{lens.specs.flows.judge.Times.NoneWithin, run_law.specs.device.LocalClocks.Reaches, tte_units.specs.Amount.amount}
+use Rattle.std.proofs.{Common.{◌*◌, ◌+◌, ◌-◌, ◌<◌, ◌^◌, ◌∙◌, ◌≡◌, ◌≤◌, List, ap, arith, false, inl, inr, pos, refl, subst, sym, true, ℕ, ℤ}, lemmas.Int.ints}
 
 begins_crosses : (s : Scenario) (hs : List Happening) (device : DeviceId) (shown : Shown) (series : Series) (t cycle : ℕ)
     → AreBeginnings s series → Shows s (earlier t hs) device shown → BeginsCycle s hs device t cycle

@@ -1,11 +1,10 @@
 -- When a clock reaches one value, while the same is shown of its device.
-use Rattle.std.proofs.{Common.{◌+◌, ◌-◌, ◌≡◌, ◌≤◌, List, arith, refl, subst, sym, ℕ, ℤ}, lemmas.Int.ints}
-use Rattle.audit_sweep.specs.unpaid.points.Kept.{ShowsWithin}
 use Rattle.audit_devices.{proofs.clocks_lemmas.Reached.{come_reaches, reaches_come}, specs.clocks.Finding.{CrossesAt, IsNextCrossing, NoneCrossed, value_in}}
-use Rattle.audit_devices.specs.{Showing.{Shown, Shows}, declared.clocks.finding.{Crossed.Crossed, Series.Series}, events.Readings.ReadsOn}
-use Rattle.lens.specs.flows.judge.{Times.{IsFirstTime, NoneWithin}, Values.values_from}
-use Rattle.net_plan.specs.declared.ids.DeviceId.{DeviceId}
-use Rattle.run_law.specs.{device.LocalClocks.Reaches, records.Happenings.{Happening, earlier}, scenario.Scenarios.Scenario}
+use Rattle.{audit_devices.specs.Showing.{Shown, Shows}, net_plan.specs.declared.ids.DeviceId.DeviceId, run_law.specs.scenario.Scenarios.Scenario}
+use Rattle.{audit_devices.specs.declared.clocks.finding.Crossed.Crossed, std.proofs.Common.{◌+◌, ◌-◌, ◌≡◌, ◌≤◌, List, arith, refl, subst, sym, ℕ, ℤ}}
+use Rattle.{audit_devices.specs.{declared.clocks.finding.Series.Series, events.Readings.ReadsOn}, lens.specs.flows.judge.Times.{IsFirstTime, NoneWithin}}
+use Rattle.{audit_sweep.specs.unpaid.points.Kept.ShowsWithin, lens.specs.flows.judge.Values.values_from, run_law.specs.records.Happenings.{Happening, earlier}}
+use Rattle.{run_law.specs.device.LocalClocks.Reaches, std.proofs.lemmas.Int.ints}
 
 first_value : (v : ℤ) → value_in (values_from v) 0 ≡ v
 first_value v = omega (arith, ints)

@@ -1,11 +1,9 @@
 -- The rows by which the sender of a flow sends.
-use Rattle.std.proofs.{Common.{◌+◌, ◌<◌, ◌≡◌, ◌≤◌, List, arith, inl, inr, length, refl, subst, sym, true, ℕ}, lemmas.{Bool.cases_lt, Option.slice_get_within}}
-use Rattle.std.specs.Prelude.{IsSomeAnd, None, Option, Some, slice_get}
-use Rattle.lens.specs.{declared.flows.judge.flow.Flow.Flow, flows.judge.{Fates.IsRowSent, Flows.IsFlow}}
-use Rattle.net_plan.specs.{Belonging.HasDevice, declared.tables.Device.Device}
-use Rattle.net_plan.specs.{Places.{device_at, is_end_system}, Ranges.{IsInRange, IsVlInRange}, declared.{ids.DeviceId.DeviceId, network.Network.Network}}
-use Rattle.run_law.specs.{records.Happenings.Happening, scenario.Scenarios.Scenario}
-use Rattle.tte_lemmas.proofs.Lists.{in_all}
+use Rattle.{lens.specs.{declared.flows.judge.flow.Flow.Flow, flows.judge.Fates.IsRowSent}, std.specs.Prelude.{IsSomeAnd, None, Option, Some, slice_get}}
+use Rattle.{lens.specs.flows.judge.Flows.IsFlow, net_plan.specs.Belonging.HasDevice, tte_lemmas.proofs.Lists.in_all}
+use Rattle.net_plan.specs.{Places.{device_at, is_end_system}, Ranges.{IsInRange, IsVlInRange}, declared.{ids.DeviceId.DeviceId, tables.Device.Device}}
+use Rattle.{net_plan.specs.declared.network.Network.Network, std.proofs.Common.{◌+◌, ◌<◌, ◌≡◌, ◌≤◌, List, arith, inl, inr, length, refl, subst, sym, true, ℕ}}
+use Rattle.{run_law.specs.{records.Happenings.Happening, scenario.Scenarios.Scenario}, std.proofs.lemmas.{Bool.cases_lt, Option.slice_get_within}}
 
 pub sender_there : (network : Network) (flow : Flow) → IsInRange network → IsFlow network flow → HasDevice network flow.of_vl.sender
 sender_there network flow range is = (in_all (IsVlInRange network) network.vl flow.vl.0 flow.of_vl range.vls is.there).sender

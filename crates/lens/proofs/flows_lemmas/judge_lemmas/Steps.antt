@@ -1,12 +1,10 @@
 -- How long a device is in step.
-use Rattle.std.proofs.Common.{◌+◌, ◌<◌, ◌∙◌, ◌≡◌, ◌≤◌, Bool, List, ap, arith, false, inl, inr, refl, subst, sym, true, ℕ}
-use Rattle.std.{proofs.lemmas.Bool.{cases_lt, false≢true, le-leb, le-ltb, lt-leb, lt-ltb}, specs.Prelude.{None, Option, Some, nat_le, nat_lt}}
-use Rattle.audit_devices.specs.{Lasting.ShowsUpTo, Showing.{Shown, Shows}, events.Remembering.has_come}
-use Rattle.lens.specs.flows.judge.Fates.{StaysInStep}
-use Rattle.net_plan.specs.declared.ids.DeviceId.{DeviceId}
-use Rattle.run_law.{proofs.records.Order.same_kept, specs.law.Safety.IsInStep}
+use Rattle.{audit_devices.specs.Lasting.ShowsUpTo, run_law.{proofs.records.Order.same_kept, specs.law.Safety.IsInStep}}
+use Rattle.{audit_devices.specs.{Showing.{Shown, Shows}, events.Remembering.has_come}, std.specs.Prelude.{None, Option, Some, nat_le, nat_lt}}
+use Rattle.{lens.specs.flows.judge.Fates.StaysInStep, net_plan.specs.declared.ids.DeviceId.DeviceId, sync_state.specs.declared.state.State.State}
 use Rattle.run_law.specs.{device.States.state_after, records.Happenings.{Happening, earlier, time_of, up_to}, scenario.Scenarios.{Scenario, is_broken}}
-use Rattle.sync_state.specs.declared.state.State.{State, TheVariants.Synchronised}
+use Rattle.std.proofs.Common.{◌+◌, ◌<◌, ◌∙◌, ◌≡◌, ◌≤◌, Bool, List, ap, arith, false, inl, inr, refl, subst, sym, true, ℕ}
+use Rattle.{std.proofs.lemmas.Bool.{cases_lt, false≢true, le-leb, le-ltb, lt-leb, lt-ltb}, sync_state.specs.declared.state.State.TheVariants.Synchronised}
 
 up_to_is : (t : ℕ) (hs : List Happening) → up_to t hs ≡ earlier (t + 1) hs
 up_to_is t hs = same_kept (λ h. nat_le (time_of h) t) (λ h. nat_lt (time_of h) (t + 1)) hs (λ h i. elim (cases_lt (time_of h) (t + 1)) [

@@ -1,13 +1,12 @@
 -- The form of words by their count and their first, and the numbers of forms.
-use Rattle.std.proofs.{Common.{◌∷◌, ◌≡◌, ◌≤◌, Bool, List, None, Some, [], arith, false, length, refl, true, ℕ}, lemmas.Bool.Decides.nat_tests}
-use Rattle.std.specs.{Option.{option_and_then, option_map}, Prelude.{if◌then◌else◌, ◌==◌, IfSome, Option, bytes_eq, codes, nat_le, slice_get}}
-use Rattle.schedule_tables.specs.declared.rule.Rule.{Rule}
-use Rattle.trace_text.specs.Numbers.{number_up_to}
+use Rattle.lens.specs.declared.slack.forms.form.Form.{Form, TheVariants.{Draw, DrawWhole, Events, Flows, Least, Slack, SlackOf, Why}}
+use Rattle.lens.specs.slack.forms.Forms.{IsFormInRange, IsInequality, draw_form, events_form, five_words_form, form_of, four_words_form, greatest_number}
+use Rattle.lens.specs.slack.forms.Forms.{inequality_spelled, network_form, part_form, slack_of_form, three_words_form, why_form}
+use Rattle.{schedule_tables.specs.declared.rule.Rule.Rule, std.proofs.Common.{◌∷◌, ◌≡◌, ◌≤◌, Bool, List, None, Some, [], arith, false, length, refl, true, ℕ}}
+use Rattle.{std.proofs.lemmas.Bool.Decides.nat_tests, trace_text.specs.Numbers.number_up_to}
+use Rattle.std.specs.{Option.{option_and_then, option_map}, Prelude.{◌==◌, IfSome, Option, bytes_eq, codes, if◌then◌else◌, nat_le, slice_get}}
 use Rattle.tte_forms.{proofs.{FormLemmas.{form_in_range as storm_in_range}}, specs.declared.form.Form.TheVariants.Storm}
 use Rattle.tte_forms.specs.Forms.{IsFormInRange as IsStormInRange, cycles_spelled, form_of as storm_form_of, if_some, seed_spelled, storm_form}
-use Rattle.lens.specs.slack.forms.Forms.{IsFormInRange, IsInequality, events_form, form_of, four_words_form, greatest_number, inequality_spelled, network_form}
-use Rattle.lens.specs.slack.forms.Forms.{draw_form, five_words_form, part_form, slack_of_form, three_words_form, why_form}
-use Rattle.lens.specs.declared.slack.forms.form.Form.{Form, TheVariants.{Draw, DrawWhole, Events, Flows, Least, Slack, SlackOf, Why}}
 
 pub no_words : (words : List (List ℕ)) → length words ≤ 0 → None ≡ form_of words
 unfolding form_of

@@ -1,8 +1,7 @@
 -- The greatest number of the elements of a list.
+use Rattle.{net_plan.{proofs.Greatest.{greatest_of_both, greatest_of_none}, specs.Bounds.IsGreatest}, tte_lemmas.proofs.Options.some_same}
 use Rattle.std.proofs.{Common.{◌+◌, ◌<◌, ◌≡◌, ◌≤◌, ◌⊎◌, List, Some, arith, inl, inr, length, max, subst, ℕ}, lemmas.{Bool.cases_lt, Option.slice_get_within}}
 use Rattle.std.specs.Prelude.{slice_get}
-use Rattle.net_plan.{proofs.Greatest.{greatest_of_both, greatest_of_none}, specs.Bounds.IsGreatest}
-use Rattle.tte_lemmas.proofs.Options.{some_same}
 
 module _ {X : Type 0} (P : X → ℕ → Type 0) (xs : List X) where
   -- the number is of an element

@@ -1,12 +1,10 @@
 -- With the least times the rules of times are kept, and no network that keeps them has one less.
-use Rattle.std.proofs.{Common.{◌*◌, ◌+◌, ◌≡◌, ◌≤◌, arith, inl, inr, refl, subst, sym}, lemmas.Bool.cases_lt}
-use Rattle.lens.specs.{declared.slack.least.times.Times.Times, slack.least.{Laws.{LeastAreLeast, LeastHaveRoom}, Times.{IsButForTimes, times_of, with_times}}}
-use Rattle.lens.specs.slack.{Bounds.begin_bound, Tightest.IsEnough, least.{Answer.room_of, Least.{AreLeast, Suffices}}}
-use Rattle.net_plan.specs.declared.{network.Network.Network, tables.Link.Link}
-use Rattle.schedule_checker.proofs.{OneRefusal.same_rule, Selection.{all_of_each, each_of_all}}
-use Rattle.schedule_tables.specs.{Delays.{ScheduleFits, pcf_port_time}, Numbers.number_of, Rules.{IsKeptAt, KeepsBelow}, declared.rule.Rule.Rule}
-use Rattle.schedule_tables.specs.declared.rule.Rule.TheVariants.{ScheduleStart}
-use Rattle.tte_units.specs.Amount.{amount}
+use Rattle.{lens.specs.{declared.slack.least.times.Times.Times, slack.least.Least.{AreLeast, Suffices}}, schedule_tables.specs.Rules.{IsKeptAt, KeepsBelow}}
+use Rattle.{lens.specs.slack.{Bounds.begin_bound, Tightest.IsEnough}, schedule_tables.specs.Numbers.number_of, tte_units.specs.Amount.amount}
+use Rattle.{lens.specs.slack.least.{Answer.room_of, Times.{IsButForTimes, times_of, with_times}}, schedule_checker.proofs.Selection.{all_of_each, each_of_all}}
+use Rattle.{lens.specs.slack.least.Laws.{LeastAreLeast, LeastHaveRoom}, schedule_tables.specs.{Delays.{ScheduleFits, pcf_port_time}, declared.rule.Rule.Rule}}
+use Rattle.{net_plan.specs.declared.{network.Network.Network, tables.Link.Link}, schedule_checker.proofs.OneRefusal.same_rule, std.proofs.lemmas.Bool.cases_lt}
+use Rattle.{schedule_tables.specs.declared.rule.Rule.TheVariants.ScheduleStart, std.proofs.Common.{◌*◌, ◌+◌, ◌≡◌, ◌≤◌, arith, inl, inr, refl, subst, sym}}
 
 -- the schedule begins behind the last frame on the link
 abbrev BeginsBehind : Network → Link → Type 0

@@ -1,15 +1,11 @@
 -- The times that are made of these parts are the least.
-use Rattle.std.proofs.{Common.{◌*◌, ◌+◌, ◌≡◌, ◌≤◌, Option, Some, [], arith, inl, inr, pos, refl, subst, ℕ, ℤ}, lemmas.Int.ints}
-use Rattle.std.specs.Prelude.{◌≤ℤ◌, IfSome, slice_get}
 use Rattle.lens.proofs.slack_lemmas.least_lemmas.{Drift.drift_more, Links.{some_link, some_path}, SamePlan.path_to, Suffice.{AreMade, suffices}}
 use Rattle.lens.specs.{declared.slack.least.times.Times.Times, slack.least.{Least.{AreLeast, Suffices}, Parts.drift_over, Times.{AreAtMost, with_times}}}
-use Rattle.lens.specs.slack.Bounds.{begin_bound}
-use Rattle.net_plan.specs.{Bounds.{IsOfPath, gamma_of}, Ranges.IsInRange, declared.{network.Network.Network, tables.{Device.Device, Link.Link}}}
-use Rattle.schedule_checker.specs.Timing.{errors_of}
-use Rattle.schedule_tables.specs.{Delays.{delay_on, pcf_port_time}, Rules.KeepsBelow}
-use Rattle.schedule_tables.specs.declared.rule.Rule.TheVariants.{Correction, Delays, Masters, Precision, Settling}
-use Rattle.tte_lemmas.proofs.Lists.{in_all}
-use Rattle.tte_units.specs.{Amount.{amount, units_of}, declared.units.Units.Units}
+use Rattle.{lens.specs.slack.Bounds.begin_bound, schedule_tables.specs.Rules.KeepsBelow, std.proofs.lemmas.Int.ints, tte_lemmas.proofs.Lists.in_all}
+use Rattle.{net_plan.specs.{Bounds.{IsOfPath, gamma_of}, Ranges.IsInRange}, schedule_checker.specs.Timing.errors_of, tte_units.specs.Amount.{amount, units_of}}
+use Rattle.{net_plan.specs.declared.network.Network.Network, std.proofs.Common.{◌*◌, ◌+◌, ◌≡◌, ◌≤◌, Option, Some, [], arith, inl, inr, pos, refl, subst, ℕ, ℤ}}
+use Rattle.{net_plan.specs.declared.tables.{Device.Device, Link.Link}, std.specs.Prelude.{◌≤ℤ◌, IfSome, slice_get}, tte_units.specs.declared.units.Units.Units}
+use Rattle.schedule_tables.specs.{Delays.{delay_on, pcf_port_time}, declared.rule.Rule.TheVariants.{Correction, Delays, Masters, Precision, Settling}}
 
 -- a start that is within a bound
 start_below : (most k : ℕ) (o : Option Units) → IfSome o (λ s. s.0 ≤ℤ pos most) → o ≡ Some (units_of k) → k ≤ most

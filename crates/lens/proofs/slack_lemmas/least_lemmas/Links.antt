@@ -1,11 +1,10 @@
 -- A network that keeps the rules of its shape has a link, and a path.
+use Rattle.{net_plan.specs.Bounds.IsOfPath, std.specs.Prelude.slice_get}
+use Rattle.net_plan.specs.{Places.{IsSwitchOf, device_at, is_end_system, is_master, link_at}, declared.tables.Role.TheVariants.{Client, Cm, Master, Relay}}
+use Rattle.{net_plan.specs.declared.{ids.{DeviceId.DeviceId, LinkId.LinkId}, network.Network.Network}, pcf_values.specs.declared.channel.Channel.TheVariants.A}
+use Rattle.{net_plan.specs.declared.tables.Device.Device, schedule_tables.specs.declared.rule.Rule.TheVariants.{CompressionMasters, Connections, Masters}}
+use Rattle.{net_plan.specs.declared.tables.{Link.Link, Role.Role}, schedule_tables.specs.Rules.KeepsBelow, tte_lemmas.proofs.Options.{closed, opened}}
 use Rattle.std.proofs.{Common.{◌∷◌, ◌≡◌, ◌≤◌, ◌⊎◌, Bool, List, Some, [], ap, arith, filter, inl, inr, length, refl, suc, true, ℕ}, lemmas.Bool.cases_Bool}
-use Rattle.std.specs.Prelude.{slice_get}
-use Rattle.net_plan.specs.{Bounds.IsOfPath, Places.{IsSwitchOf, device_at, is_end_system, is_master, link_at}, declared.ids.{DeviceId.DeviceId, LinkId.LinkId}}
-use Rattle.net_plan.specs.declared.{network.Network.Network, tables.{Device.Device, Link.Link, Role.{Role, TheVariants.{Client, Cm, Master, Relay}}}}
-use Rattle.pcf_values.specs.declared.channel.Channel.TheVariants.{A}
-use Rattle.schedule_tables.specs.{Rules.KeepsBelow, declared.rule.Rule.TheVariants.{CompressionMasters, Connections, Masters}}
-use Rattle.tte_lemmas.proofs.Options.{closed, opened}
 
 -- one that passes a test, where some do
 some_passes : {X : Type 0} (p : X → Bool) (xs : List X) → 1 ≤ length (filter p xs) → (k : ℕ) × (x : X) × (slice_get xs k ≡ Some x) × (p x ≡ true)

@@ -1,9 +1,7 @@
 -- A network has one answer of `least`.
-use Rattle.std.proofs.Common.{◌∙◌, ◌≡◌, ◌≤◌, [], ap, arith, inl, inr, sym, ℕ}
-use Rattle.lens.{proofs.slack_lemmas.OneSlack.first_once, specs.{declared.slack.least.times.Times.Times, slack.least.Answer.{IsLeastOf, times_answer}}}
-use Rattle.lens.specs.slack.{Answer.ending_answer, least.{Least.AreLeast, Times.AreAtMost}}
-use Rattle.net_plan.specs.declared.network.Network.{Network}
-use Rattle.tte_forms.specs.Answering.{Answer}
+use Rattle.{lens.{proofs.slack_lemmas.OneSlack.first_once, specs.declared.slack.least.times.Times.Times}, net_plan.specs.declared.network.Network.Network}
+use Rattle.{lens.specs.slack.{Answer.ending_answer, least.Least.AreLeast}, tte_forms.specs.Answering.Answer}
+use Rattle.{lens.specs.slack.least.{Answer.{IsLeastOf, times_answer}, Times.AreAtMost}, std.proofs.Common.{◌∙◌, ◌≡◌, ◌≤◌, [], ap, arith, inl, inr, sym, ℕ}}
 
 abbrev made : ℕ → ℕ → ℕ → ℕ → ℕ → Times
 made d s p c e = record { dmax = d; settled = s; precision = p; correction = c; tt_start = e }

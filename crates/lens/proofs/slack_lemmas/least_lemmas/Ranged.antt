@@ -1,13 +1,12 @@
 -- Where the cycle has room for the least times, they lie in their ranges.
-use Rattle.std.{proofs.{Common.{◌*◌, ◌+◌, ◌^◌, ◌≡◌, ◌≤◌, arith, pos, refl, ℕ}, Math.Nat.mul-le-mul_right, lemmas.Int.ints}, specs.List.All}
-use Rattle.lens.{proofs.slack_lemmas.least_lemmas.Links.{some_link, some_path}, specs.declared.slack.least.times.Times.Times}
-use Rattle.lens.specs.slack.{Bounds.begin_bound, Tightest.IsEnough, least.{Answer.room_of, Least.{AreLeast, Suffices}, Times.with_times}}
-use Rattle.net_plan.{proofs.{Amounts.amount_within, Beta.beta_exists, Shape.rules_give_trees}, specs.Bounds.{IsBeta, beta_at, gamma_of}}
-use Rattle.net_plan.specs.{Ranges.{IsInRange, IsLinkInRange, IsRowInRange, IsVlInRange, IsWithin}, declared.network.Network.Network}
-use Rattle.schedule_checker.proofs.{Selection.all_of_each, Trees.tree_of}
+use Rattle.{lens.proofs.slack_lemmas.least_lemmas.Links.{some_link, some_path}, std.proofs.Common.{◌*◌, ◌+◌, ◌^◌, ◌≡◌, ◌≤◌, arith, pos, refl, ℕ}}
+use Rattle.{lens.specs.declared.slack.least.times.Times.Times, net_plan.specs.Ranges.{IsInRange, IsLinkInRange, IsRowInRange, IsVlInRange, IsWithin}}
+use Rattle.{lens.specs.slack.{Bounds.begin_bound, Tightest.IsEnough}, net_plan.proofs.Beta.beta_exists, tte_lemmas.proofs.Lists.in_all}
+use Rattle.{lens.specs.slack.least.{Answer.room_of, Times.with_times}, schedule_checker.proofs.Selection.all_of_each, tte_units.specs.Amount.{amount, units_of}}
+use Rattle.{lens.specs.slack.least.Least.{AreLeast, Suffices}, net_plan.specs.{Bounds.{IsBeta, beta_at, gamma_of}, declared.network.Network.Network}}
+use Rattle.{net_plan.proofs.{Amounts.amount_within, Shape.rules_give_trees}, schedule_checker.proofs.Trees.tree_of, std.proofs.Math.Nat.mul-le-mul_right}
 use Rattle.schedule_tables.specs.{Delays.{delay_on, pcf_port_time}, Rules.KeepsBelow, declared.rule.Rule.TheVariants.{Correction, Delays, Precision}}
-use Rattle.tte_lemmas.proofs.Lists.{in_all}
-use Rattle.tte_units.specs.Amount.{amount, units_of}
+use Rattle.std.{proofs.lemmas.Int.ints, specs.List.All}
 
 within : (low high n : ℕ) → low ≤ n → n ≤ high → IsWithin low high (units_of n)
 within low high n least most = record { least = omega (arith, ints, least); most = omega (arith, ints, most) }

@@ -1,10 +1,8 @@
 -- The paths of a network, and so beta but for the drift, do not depend on its times.
-use Rattle.std.proofs.{Common.{◌+◌, ◌∷◌, ◌≡◌, List, [], arith, pos, ℕ}, lemmas.Int.ints}
-use Rattle.net_plan.{proofs.Beta.beta_is_unique, specs.{Bounds.IsBeta, Paths.{IsFirstPath, IsFirstUplink, IsPath}}}
+use Rattle.{lens.specs.{declared.slack.least.times.Times.Times, slack.least.Parts.{IsSteady, drift_over}}, pcf_values.specs.declared.channel.Channel.Channel}
+use Rattle.{lens.specs.slack.least.Times.with_times, net_plan.specs.Bounds.IsBeta, std.proofs.lemmas.Int.ints, tte_lemmas.proofs.Options.{closed, opened}}
+use Rattle.{net_plan.{proofs.Beta.beta_is_unique, specs.Paths.{IsFirstPath, IsFirstUplink, IsPath}}, std.proofs.Common.{◌+◌, ◌∷◌, ◌≡◌, List, [], arith, pos, ℕ}}
 use Rattle.net_plan.specs.{Places.{IsSwitchOf, link_at}, declared.{ids.{DeviceId.DeviceId, LinkId.LinkId}, network.Network.Network, tables.Link.Link}}
-use Rattle.pcf_values.specs.declared.channel.Channel.{Channel}
-use Rattle.tte_lemmas.proofs.Options.{closed, opened}
-use Rattle.lens.specs.{slack.least.Parts.{IsSteady, drift_over}, slack.least.Times.with_times, declared.slack.least.times.Times.Times}
 
 module _ (n : Network) (t : Times) where
   -- with the times

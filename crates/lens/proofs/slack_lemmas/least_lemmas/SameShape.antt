@@ -1,16 +1,13 @@
 -- The rules of a network's shape are kept with other times too, where no start is beyond settled.
-use Rattle.std.{proofs.{Common.{◌^◌, ◌≡◌, ◌≤◌, None, Option, Some, ap, arith, pos, ℕ, ℤ}, lemmas.Int.ints}, specs.{List.All, Prelude.{◌≤ℤ◌, IfSome}}}
-use Rattle.net_plan.{proofs.Amounts.amount_within, specs.Ranges.{IsDeviceInRange, IsInRange, IsWithin}}
-use Rattle.net_plan.specs.{Rules.{HasOneCm, IsConnected, IsWithinLimits, MastersSuffice}, declared.{network.Network.Network, tables.Device.Device}}
-use Rattle.schedule_checker.proofs.Selection.{all_of_each}
-use Rattle.schedule_tables.specs.{Rules.{IsKept, KeepsBelow}, declared.rule.Rule.TheVariants.WindowEnds}
+use Rattle.{lens.proofs.slack_lemmas.least_lemmas.SamePlan.first_path_to, std.proofs.Common.{◌^◌, ◌≡◌, ◌≤◌, None, Option, Some, ap, arith, pos, ℕ, ℤ}}
+use Rattle.{lens.specs.declared.slack.least.times.Times.Times, net_plan.specs.{Ranges.{IsDeviceInRange, IsInRange, IsWithin}, declared.network.Network.Network}}
+use Rattle.{lens.specs.slack.least.{Parts.IsStartOf, Times.with_times}, tte_units.specs.{Amount.{amount, units_of}, declared.units.Units.Units}}
+use Rattle.{net_plan.proofs.Amounts.amount_within, std.{proofs.lemmas.Int.ints, specs.{List.All, Prelude.{◌≤ℤ◌, IfSome}}}, tte_lemmas.proofs.Lists.in_all}
+use Rattle.{net_plan.specs.Rules.{HasOneCm, IsConnected, IsWithinLimits, MastersSuffice}, schedule_tables.specs.declared.rule.Rule.TheVariants.WindowEnds}
+use Rattle.{net_plan.specs.declared.tables.Device.Device, schedule_checker.proofs.Selection.all_of_each, schedule_tables.specs.Rules.{IsKept, KeepsBelow}}
 use Rattle.schedule_tables.specs.declared.rule.Rule.TheVariants.{BothChannels, CompressionMasters, Connections, Correction, Delays, DevicesDiffer, Forwarding}
 use Rattle.schedule_tables.specs.declared.rule.Rule.TheVariants.{Joints, Limits, LinksDiffer, LinksOnce, Masters, Periods, Precision, RowsOfDevice}
 use Rattle.schedule_tables.specs.declared.rule.Rule.TheVariants.{ScheduleStart, Senders, Settling, Sources, Spacing, Targets, VlIdsDiffer, VlNamesDiffer}
-use Rattle.tte_lemmas.proofs.Lists.{in_all}
-use Rattle.tte_units.specs.{Amount.{amount, units_of}, declared.units.Units.Units}
-use Rattle.lens.{proofs.slack_lemmas.least_lemmas.SamePlan.first_path_to}
-use Rattle.lens.specs.{slack.least.Parts.IsStartOf, slack.least.Times.with_times, declared.slack.least.times.Times.Times}
 
 -- a start that is no more than so much
 abbrev some_units : ℤ → Option Units

@@ -1,12 +1,11 @@
 -- With the times that are made of these parts a network suffices.
-use Rattle.std.proofs.Common.{◌*◌, ◌+◌, ◌≡◌, ◌≤◌, arith, max, pos, refl, subst, sym, ℕ}
-use Rattle.lens.{proofs.slack_lemmas.least_lemmas.{SamePlan.{beta_is, path_back}, SameShape.{rules_below, shape_with}}, specs.slack.Bounds.IsBoundAt}
-use Rattle.lens.specs.{declared.slack.{least.times.Times.Times, spot.Finding.Finding}, slack.{Tightest.IsEnough, least.{Least.Suffices, Times.with_times}}}
+use Rattle.lens.{proofs.slack_lemmas.least_lemmas.{SamePlan.{beta_is, path_back}, SameShape.{rules_below, shape_with}}, specs.slack.least.Times.with_times}
+use Rattle.{lens.specs.declared.slack.{least.times.Times.Times, spot.Finding.Finding}, net_plan.specs.declared.{ids.DeviceId.DeviceId, network.Network.Network}}
 use Rattle.lens.specs.{declared.slack.spot.Spot.TheVariants.Begin, slack.least.Parts.{IsLongest, IsPortTimeOf, IsStartOf, IsSteady, drift_over}}
-use Rattle.net_plan.specs.{Bounds.{IsBeta, IsGreatest, gamma_of}, Ranges.IsInRange, declared.{ids.DeviceId.DeviceId, network.Network.Network}}
-use Rattle.schedule_checker.specs.Timing.{errors_of}
+use Rattle.{lens.specs.slack.{Bounds.IsBoundAt, Tightest.IsEnough, least.Least.Suffices}, schedule_checker.specs.Timing.errors_of}
+use Rattle.{net_plan.specs.Bounds.{IsBeta, IsGreatest, gamma_of}, std.proofs.Common.{◌*◌, ◌+◌, ◌≡◌, ◌≤◌, arith, max, pos, refl, subst, sym, ℕ}}
+use Rattle.{net_plan.specs.Ranges.IsInRange, tte_units.specs.Amount.amount}
 use Rattle.schedule_tables.specs.{Delays.{CorrectionFits, DelaysFit, ErrorsSettle, PrecisionFits, delay_on, pcf_port_time}, Rules.KeepsBelow}
-use Rattle.tte_units.specs.Amount.{amount}
 
 -- the times are made of these parts
 pub record AreMade (n : Network) (steady path errors start port : ℕ) (t : Times) : Type 0 where

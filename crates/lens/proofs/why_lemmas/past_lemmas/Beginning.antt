@@ -1,11 +1,9 @@
 -- What the events of a report set, as they were read.
+use Rattle.{audit_devices.specs.events.Remembering.Remembers, tte_audit.{proofs.OneAnswer.same_of, specs.declared.passes.ReportEvents.ReportEvents}}
 use Rattle.lens.proofs.why_lemmas.past_lemmas.Words.{◌∙◌, ◌≡◌, IsNamed, IsPast, IsReportOf, List, Network, Note, Past, Units, [], ap, events_of, subst, sym, ℕ}
-use Rattle.std.specs.Prelude.{Err, IfErr, IfOk, MatchResult, Ok, Result}
-use Rattle.audit_devices.specs.events.Remembering.{Remembers}
-use Rattle.net_plan.specs.declared.event.Event.{Event}
-use Rattle.tte_audit.{proofs.OneAnswer.same_of, specs.{Telling.IsReadOf, declared.passes.ReportEvents.ReportEvents}}
-use Rattle.tte_traces.specs.{reports.NoReports.IsNoReport, declared.reports.{no_report.NoReport.NoReport, reading.AuditedReport.AuditedReport}}
-use Rattle.lens.specs.declared.why.past.reading.KnownReport.{KnownReport}
+use Rattle.{lens.specs.declared.why.past.reading.KnownReport.KnownReport, std.specs.Prelude.{Err, IfErr, IfOk, MatchResult, Ok, Result}}
+use Rattle.{net_plan.specs.declared.event.Event.Event, tte_audit.specs.Telling.IsReadOf}
+use Rattle.tte_traces.specs.{declared.reports.{no_report.NoReport.NoReport, reading.AuditedReport.AuditedReport}, reports.NoReports.IsNoReport}
 use Rattle.tte_traces.specs.declared.reports.no_report.NoReport.TheVariants as causes
 
 -- the events that were read are those of any records that the octets are the report of

@@ -2,13 +2,10 @@
 use Rattle.lens.proofs.why_lemmas.past_lemmas.Words.{◌++◌, ◌+◌, ◌<◌, ◌∙◌, ◌∷◌, ◌≡◌, ◌≤◌, AllBefore, AreLeft, Happening, IsNamed, IsPast, IsPastOf, IsReportOf}
 use Rattle.lens.proofs.why_lemmas.past_lemmas.Words.{IsTimely, List, Network, Note, Past, Records, Some, Units, [], amount, ap, append_assoc, arith, events_of}
 use Rattle.lens.proofs.why_lemmas.past_lemmas.Words.{happening, happenings, length, length-append, place_of, refl, subst, sym, ℕ}
-use Rattle.std.{proofs.{Common.{◌^◌, inl}, lemmas.List.append-nil}, specs.{List.concat, Prelude.slice_get}}
-use Rattle.report_text.specs.{NoteLine.{note_line, note_text, report_of}, Ranges.IsNoteOf}
-use Rattle.run_law.proofs.{law.FirstPlaces.at_length, records.Happenings.soon, runs.{NetworkRuns.one_more, Places.{in_right, parted}}}
-use Rattle.run_law.specs.records.Order.{IsIn}
-use Rattle.tte_audit.proofs.{OnlyEnd.ends_soon, UnderWay.happening_there}
-use Rattle.tte_lemmas.proofs.Lists.{in_all}
-use Rattle.tte_traces.proofs.reports_lemmas.Reports.{one_notes}
+use Rattle.{report_text.specs.{NoteLine.{note_line, note_text, report_of}, Ranges.IsNoteOf}, tte_traces.proofs.reports_lemmas.Reports.one_notes}
+use Rattle.{run_law.proofs.{law.FirstPlaces.at_length, runs.{NetworkRuns.one_more, Places.{in_right, parted}}}, tte_audit.proofs.UnderWay.happening_there}
+use Rattle.{run_law.{proofs.records.Happenings.soon, specs.records.Order.IsIn}, std.proofs.lemmas.List.append-nil, tte_audit.proofs.OnlyEnd.ends_soon}
+use Rattle.{std.{proofs.Common.{◌^◌, inl}, specs.{List.concat, Prelude.slice_get}}, tte_lemmas.proofs.Lists.in_all}
 
 -- each record of a report is of a time that clocks have
 timely_at : (network : Network) (octets : List ℕ) (notes : List Note) (end : Units) → IsReportOf network octets notes end → (gone behind : List Note)

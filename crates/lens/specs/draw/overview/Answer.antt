@@ -1,11 +1,9 @@
 -- What `draw` answers for the whole run of a report.
 use Rattle.std.specs.Prelude.{◌≡◌, ◌∷◌, [], ◌++◌, List}
-use Rattle.lens.specs.declared.draw.overview.strip.Ribbon.{Ribbon}
+use Rattle.{lens.specs.declared.draw.overview.strip.Ribbon.Ribbon, tte_units.specs.declared.units.Units.Units}
 use Rattle.lens.specs.draw.overview.{Overview.{overview_lines, ribbon_lines}, Signs.close_line}
-use Rattle.net_plan.specs.declared.network.Network.{Network}
-use Rattle.run_law.specs.declared.note.Note.{Note}
-use Rattle.tte_forms.specs.{Answering.Answer, declared.status.Status.TheVariants.Done}
-use Rattle.tte_units.specs.declared.units.Units.{Units}
+use Rattle.{net_plan.specs.declared.network.Network.Network, tte_forms.specs.declared.status.Status.TheVariants.Done}
+use Rattle.{run_law.specs.declared.note.Note.Note, tte_forms.specs.Answering.Answer}
 
 -- ribbons and the end of the picture, as an answer
 abbrev pub ribbons_answer : Network → List Ribbon → Answer

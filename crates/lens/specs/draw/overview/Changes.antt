@@ -2,14 +2,13 @@
 use Rattle.std.specs.Prelude.{◌==◌, ◌&&◌, Bool, true, false, if◌then◌else◌, Option, Some, None}
 use Rattle.lens.specs.declared.draw.overview.change.Change.{Change, TheVariants.{Delivers, Nothing, Sets, Turns}}
 use Rattle.lens.specs.declared.draw.overview.row.{Kind.Kind, Row.{Row, TheVariants.{Count, Flow, Lane, Passage, Title}}}
-use Rattle.lens.specs.declared.draw.overview.{change.News.News, shade.Shade.Shade}
-use Rattle.lens.specs.draw.overview.{Rows.number_of, Shades.{more, shade_of}}
-use Rattle.lens.specs.declared.draw.overview.row.Kind.TheVariants as kinds
-use Rattle.lens.specs.declared.draw.overview.shade.Shade.TheVariants as shades
+use Rattle.lens.specs.{declared.draw.overview.{change.News.News, shade.Shade.Shade}, draw.overview.Rows.number_of}
+use Rattle.{lens.specs.draw.overview.Shades.{more, shade_of}, run_law.specs.declared.judgement.Reason.Reason}
 use Rattle.net_plan.specs.declared.{event.What.TheVariants.{Break, Cut, Heal}, tables.Way.{TheVariants.{Down, Up}, Way}}
 use Rattle.net_plan.specs.declared.{event.What.What, ids.{DeviceId.DeviceId, LinkId.LinkId, VlId.VlId}}
-use Rattle.run_law.specs.declared.judgement.Reason.{Reason}
 use Rattle.run_law.specs.declared.note.NoteBody.{NoteBody, TheVariants.{Delivered, Dropped, Event, Lost, State}}
+use Rattle.lens.specs.declared.draw.overview.row.Kind.TheVariants as kinds
+use Rattle.lens.specs.declared.draw.overview.shade.Shade.TheVariants as shades
 use Rattle.run_law.specs.declared.judgement.Reason.TheVariants as reasons
 
 -- what a frame that was dropped for this reason is counted as: those that are no frames of any kind together

@@ -2,14 +2,12 @@
 use Rattle.std.specs.Prelude.{◌≡◌, ◌↔◌, ℕ, zero, suc, ◌+◌, ◌<◌, ◌≤◌, ◌/◌, ◌==◌, false, nat_le, List, filter, fold}
 use Rattle.lens.specs.declared.draw.overview.{row.Row.{Row, TheVariants.{Flow, Lane, Passage}}, shade.Shade.Shade}
 use Rattle.lens.specs.declared.draw.overview.{change.Change.TheVariants.Delivers, grid.Grid.Grid, strip.Ribbon.Ribbon}
-use Rattle.lens.specs.draw.overview.{Boards.rows_of, Grids.pen_at, Shades.{cleared, is_blank}, Strips.start_of}
+use Rattle.{lens.specs.draw.overview.{Boards.rows_of, Strips.start_of}, tte_units.specs.declared.units.Units.Units}
 use Rattle.lens.specs.draw.overview.{Changes.{after, change_of, news_of}, Overview.{grid_for, ribbons_for}}
-use Rattle.lens.specs.draw.svg.Sketching.{moment}
-use Rattle.net_plan.specs.declared.{ids.{DeviceId.DeviceId, LinkId.LinkId}, network.Network.Network, tables.Way.Way}
-use Rattle.net_plan.specs.declared.ids.VlId.{VlId}
-use Rattle.run_law.specs.{declared.note.Note.Note, records.Order.IsIn}
-use Rattle.tte_traces.specs.reports.Reports.{IsReportOf}
-use Rattle.tte_units.specs.declared.units.Units.{Units}
+use Rattle.{lens.specs.draw.overview.Grids.pen_at, net_plan.specs.declared.{ids.VlId.VlId, tables.Way.Way}}
+use Rattle.{lens.specs.draw.overview.Shades.{cleared, is_blank}, net_plan.specs.declared.network.Network.Network}
+use Rattle.{lens.specs.draw.svg.Sketching.moment, run_law.specs.{declared.note.Note.Note, records.Order.IsIn}}
+use Rattle.{net_plan.specs.declared.ids.{DeviceId.DeviceId, LinkId.LinkId}, tte_traces.specs.reports.Reports.IsReportOf}
 
 -- which column a record lies in, from the beginning of the run on
 abbrev pub lies_in : Grid → Note → ℕ

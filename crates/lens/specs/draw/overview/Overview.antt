@@ -6,8 +6,7 @@ use Rattle.lens.specs.{declared.draw.overview.{grid.Grid.Grid, strip.Strip.Strip
 use Rattle.lens.specs.draw.{Picture.lines_from, overview.Pieces.{caption_line, label_line, mark_line, ribbon_line}}
 use Rattle.lens.specs.draw.overview.{Boards.{bottom_of, rows_of, top}, Grids.{greatest, grid_of, pen_at, width_of}}
 use Rattle.lens.specs.draw.overview.{Signs.{close_line, sign_line}, Sweeps.{begun, sweep_ribbons}}
-use Rattle.net_plan.specs.declared.network.Network.{Network}
-use Rattle.run_law.specs.declared.note.Note.{Note}
+use Rattle.{net_plan.specs.declared.network.Network.Network, run_law.specs.declared.note.Note.Note}
 
 -- a line before each tenth column
 abbrev pub marks_lines : Grid → ℕ → List (List ℕ)

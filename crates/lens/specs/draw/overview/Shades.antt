@@ -1,8 +1,7 @@
 -- The shades of cells.
 use Rattle.std.specs.Prelude.{ℕ, ◌==◌, Bool, List, codes}
-use Rattle.lens.specs.declared.draw.overview.shade.Shade.{Shade}
+use Rattle.{lens.specs.declared.draw.overview.shade.Shade.Shade, sync_state.specs.declared.state.State.State}
 use Rattle.lens.specs.declared.draw.overview.shade.Shade.TheVariants as shades
-use Rattle.sync_state.specs.declared.state.State.{State}
 use Rattle.sync_state.specs.declared.state.State.TheVariants as states
 
 -- the number of a shade, which no two have

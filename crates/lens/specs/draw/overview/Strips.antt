@@ -4,10 +4,9 @@ use Rattle.lens.specs.declared.draw.overview.row.Row.{Row, TheVariants.{Count, F
 use Rattle.lens.specs.declared.draw.overview.{shade.Shade.TheVariants.{Blank, Off, Synchronised}, strip.Ribbon.Ribbon}
 use Rattle.lens.specs.{declared.draw.overview.shade.Shade.Shade, draw.overview.Shades.{cleared, is_blank, is_same}}
 use Rattle.lens.specs.declared.draw.overview.{change.News.News, grid.Pen.Pen, strip.{Ends.Ends, Strip.Strip}}
-use Rattle.lens.specs.draw.overview.{Changes.after, Grids.first_pen}
+use Rattle.{lens.specs.draw.overview.{Changes.after, Grids.first_pen}, net_plan.specs.Places.device_at}
+use Rattle.{net_plan.specs.declared.network.Network.Network, tte_units.specs.declared.units.Units.Units}
 use Rattle.lens.specs.declared.draw.overview.strip.Ends.TheVariants as ends
-use Rattle.net_plan.specs.{Places.device_at, declared.network.Network.Network}
-use Rattle.tte_units.specs.declared.units.Units.{Units}
 
 -- a device with a local clock is synchronised where a run begins, the others are off
 abbrev pub start_in : Option Units → Shade

@@ -4,8 +4,7 @@ use Rattle.lens.specs.declared.draw.overview.strip.{Ends.TheVariants.{Column, Pi
 use Rattle.lens.specs.{declared.draw.overview.grid.Grid.Grid, draw.overview.Grids.{column_of, pen_at}}
 use Rattle.lens.specs.draw.overview.{Boards.{laid, rows_of, top}, Changes.news_of, Strips.{ended, ribbons_of, taken}}
 use Rattle.lens.specs.draw.svg.Sketching.{moment}
-use Rattle.net_plan.specs.declared.network.Network.{Network}
-use Rattle.run_law.specs.declared.note.Note.{Note}
+use Rattle.{net_plan.specs.declared.network.Network.Network, run_law.specs.declared.note.Note.Note}
 
 -- the column of the last record, and the strips behind it
 pub record Sweep : Type 0 where

@@ -3,12 +3,11 @@ use Rattle.std.specs.{List.list_any, Prelude.ℤ}
 use Rattle.std.specs.Prelude.{◌*◌, ◌++◌, ◌+ℤ◌, ◌-ℤ◌, ◌/◌, ◌==◌, ◌^◌, ◌∷◌, ◌≤ℤ◌, Bool, List, None, Option, Some, []}
 use Rattle.std.specs.Prelude.{false, fold, if◌then◌else◌, int_lt, nat_lt, neg_ℤ, option_map, pos, true, unsigned_abs, ℕ}
 use Rattle.lens.specs.declared.draw.svg.{element.Element.{Element, TheVariants.{Gauge, Spread}}, layout.Span.Span}
-use Rattle.lens.specs.declared.draw.svg.{clock.{Ends.Ends, Told.Told}, layout.Pen.Pen}
-use Rattle.lens.specs.draw.svg.{Lanes.{bottom_of, y_of}, Layout.holds, Sketching.moment}
+use Rattle.lens.specs.{declared.draw.svg.{clock.{Ends.Ends, Told.Told}, layout.Pen.Pen}, draw.svg.Sketching.moment}
+use Rattle.{lens.specs.draw.svg.Lanes.{bottom_of, y_of}, sync_state.specs.declared.state.State.TheVariants.Synchronised}
+use Rattle.{lens.specs.draw.svg.Layout.holds, tte_units.specs.Amount.amount}
 use Rattle.net_plan.specs.declared.{event.What.TheVariants.Break, ids.DeviceId.DeviceId, network.Network.Network}
 use Rattle.run_law.specs.declared.note.{Note.Note, NoteBody.{NoteBody, TheVariants.{Clock, Event}}}
-use Rattle.sync_state.specs.declared.state.State.TheVariants.{Synchronised}
-use Rattle.tte_units.specs.{Amount.amount}
 
 -- what the records of a part of a run tell of clocks: those of synchronised devices, and the devices that broke
 pub record Clocks : Type 0 where

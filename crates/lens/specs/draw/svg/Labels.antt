@@ -1,18 +1,17 @@
 -- The label of a record's mark.
 use Rattle.std.specs.Prelude.{ℕ, ◌++◌, List, [], codes, decimal}
-use Rattle.lens.specs.draw.svg.Numbers.{nanos_text}
+use Rattle.{lens.specs.draw.svg.Numbers.nanos_text, run_law.specs.declared.judgement.Why.Why}
 use Rattle.net_plan.specs.{Belonging.{device_name, link_name, vl_name}, declared.network.Network.Network}
 use Rattle.net_plan.specs.declared.event.What.{TheVariants.{Break, Cut, End, Heal, Hold, On, Rate, Send, Wire}, What}
-use Rattle.net_plan.specs.declared.{ids.{LinkId.LinkId, VlId.VlId}, tables.Way.Way}
-use Rattle.pcf_values.specs.declared.members.Members.{Members}
+use Rattle.{net_plan.specs.declared.{ids.LinkId.LinkId, tables.Way.Way}, run_law.specs.declared.note.NoteBody.NoteBody}
+use Rattle.{net_plan.specs.declared.ids.VlId.VlId, trace_text.specs.EventWords.way_text}
+use Rattle.{pcf_values.specs.declared.members.Members.Members, run_law.specs.declared.judgement.Reason.Reason}
 use Rattle.report_text.specs.NoteWords.{judgement_text, members_text, state_text, why_text}
 use Rattle.run_law.specs.declared.{judgement.Judgement.Judgement, note.NoteBody.TheVariants.{Permanent, State}}
-use Rattle.run_law.specs.declared.{judgement.{Reason.Reason, Why.Why}, note.NoteBody.NoteBody}
 use Rattle.run_law.specs.declared.note.NoteBody.TheVariants.{Compressed, Corrected, Delivered, Dropped, Event, Lost}
 use Rattle.run_law.specs.declared.judgement.Judgement.TheVariants as judgements
 use Rattle.run_law.specs.declared.judgement.Reason.TheVariants as reasons
 use Rattle.sync_state.specs.declared.state.State as states
-use Rattle.trace_text.specs.EventWords.{way_text}
 
 -- a way of a link behind a word
 abbrev pub way_label : Network → List ℕ → LinkId → Way → List ℕ

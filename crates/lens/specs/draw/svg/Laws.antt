@@ -2,11 +2,10 @@
 use Rattle.std.specs.Prelude.{◌≡◌, ◌≢◌, ℕ, ◌+◌, ◌<◌, ◌≤◌, true, List, [], ◌∷◌, ◌++◌, All, Some, filter, fold, length}
 use Rattle.std.specs.Prelude.{map, slice_get, take}
 use Rattle.lens.specs.declared.draw.svg.{element.Element.{Element, TheVariants.Way}, mark.{Ground.Ground, Mark.Mark}}
-use Rattle.lens.specs.{declared.draw.svg.layout.Span.Span, draw.svg.{Bodies.{look_of, scene_of}, Lanes.start_of}}
+use Rattle.{lens.specs.declared.draw.svg.layout.Span.Span, net_plan.specs.declared.network.Network.Network}
+use Rattle.{lens.specs.draw.svg.{Bodies.{look_of, scene_of}, Lanes.start_of}, run_law.specs.declared.note.Note.Note}
 use Rattle.lens.specs.draw.svg.{Layers.{is_gone, point_of, way_of}, Sketching.{fits, grounds_behind, moment, plan_of}}
-use Rattle.lens.specs.draw.svg.{Layout.holds, Plan.Plan}
-use Rattle.net_plan.specs.declared.network.Network.{Network}
-use Rattle.run_law.specs.{declared.note.Note.Note, records.Causes.cause_of}
+use Rattle.{lens.specs.draw.svg.{Layout.holds, Plan.Plan}, run_law.specs.records.Causes.cause_of}
 
 -- the times of the records never fall, and none is before this time
 abbrev pub NeverFall : ℕ → List Note → Type 0

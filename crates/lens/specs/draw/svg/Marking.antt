@@ -1,10 +1,9 @@
 -- The line of a record's mark.
 use Rattle.std.specs.Prelude.{ℕ, ◌-◌, ◌*◌, ◌++◌, ◌==◌, ◌||◌, ◌≡◌, All, Bool, List, codes, decimal, min, not, true}
-use Rattle.lens.specs.{declared.draw.svg.layout.Pen.Pen, draw.svg.{Glyphs.glyph_text, Labels.label_text, Lanes.y_of}}
-use Rattle.lens.specs.draw.svg.{Bodies.scene_of, Layout.next_row}
-use Rattle.net_plan.specs.declared.network.Network.{Network}
-use Rattle.report_text.specs.NoteLine.{note_text}
-use Rattle.run_law.specs.declared.note.{Note.Note, NoteBody.{NoteBody, TheVariants.Event}}
+use Rattle.{lens.specs.declared.draw.svg.layout.Pen.Pen, run_law.specs.declared.note.{Note.Note, NoteBody.NoteBody}}
+use Rattle.lens.specs.draw.svg.{Bodies.scene_of, Lanes.y_of, Layout.next_row}
+use Rattle.{lens.specs.draw.svg.{Glyphs.glyph_text, Labels.label_text}, report_text.specs.NoteLine.note_text}
+use Rattle.{net_plan.specs.declared.network.Network.Network, run_law.specs.declared.note.NoteBody.TheVariants.Event}
 
 -- how many octets a record's text has at most
 abbrev pub title_room : ℕ

@@ -3,11 +3,10 @@ use Rattle.std.specs.Prelude.{◌≡◌, ◌⊎◌, ◌<◌, ℕ, ◌+◌, List}
 use Rattle.lens.specs.declared.flows.{counts.counting.FateCounts.FateCounts, judge.beginning.Begun.Begun}
 use Rattle.lens.specs.{declared.flows.judge.course.Course.Course, flows.judge.Courses.{IsCourse, scenario_of}}
 use Rattle.lens.specs.{declared.flows.judge.{fate.Fate.Fate, flow.Flow.Flow}, flows.judge.Fates.{HasFate, IsBegun}}
-use Rattle.lens.specs.flows.counts.Ordered.{IsCountOf}
-use Rattle.lens.specs.declared.flows.judge.fate.Fate.TheVariants as fates
-use Rattle.run_law.specs.{records.Happenings.Happening, scenario.Scenarios.Scenario}
+use Rattle.{lens.specs.flows.counts.Ordered.IsCountOf, run_law.specs.records.Happenings.Happening}
+use Rattle.{net_plan.specs.declared.event.Event.Event, run_law.specs.scenario.Scenarios.Scenario}
 use Rattle.schedule_tables.specs.Windows.{OccursIn}
-use Rattle.net_plan.specs.declared.event.Event.{Event}
+use Rattle.lens.specs.declared.flows.judge.fate.Fate.TheVariants as fates
 
 -- at the time the receiver's clock begins a cycle of the flow that has this fate
 abbrev pub HasFateAt : Scenario → List Happening → ℕ → Flow → Fate → ℕ → Type 0

@@ -4,13 +4,12 @@ use Rattle.std.specs.Prelude.{filter_map, length, Option, Some, None}
 use Rattle.lens.specs.declared.flows.counts.deliveries.{Deliveries.Deliveries, Delivery.Delivery}
 use Rattle.lens.specs.declared.flows.{counts.nearest.Nearest.Nearest, judge.{course.Course.Course, flow.Flow.Flow}}
 use Rattle.lens.specs.flows.counts.Nearest.{IsInsideSome, TellsLeast, nearer, place_at}
-use Rattle.lens.specs.flows.judge.Courses.{IsCourse, scenario_of}
-use Rattle.net_plan.specs.declared.{event.Event.Event, network.Network.Network}
+use Rattle.{lens.specs.flows.judge.Courses.{IsCourse, scenario_of}, net_plan.specs.declared.network.Network.Network}
+use Rattle.{net_plan.specs.declared.event.Event.Event, run_law.specs.records.{Happenings.Happening, Order.IsIn}}
 use Rattle.pcf_values.specs.declared.channel.Channel.{Channel, TheVariants.{A, B}}
-use Rattle.run_law.specs.{declared.note.Note.Note, records.{Happenings.Happening, Order.IsIn}}
+use Rattle.{run_law.specs.declared.note.Note.Note, tte_units.specs.Amount.amount}
 use Rattle.run_law.specs.{declared.note.NoteBody.NoteBody, scenario.{Devices.channel_of_link, Scenarios.Scenario}}
 use Rattle.run_law.specs.declared.note.NoteBody.TheVariants as notes
-use Rattle.tte_units.specs.Amount.{amount}
 
 -- what a record at the time says of a delivery, if it says that a frame is delivered
 abbrev pub delivery_by : ℕ → NoteBody → Option Delivery

@@ -1,11 +1,10 @@
 -- What the records of a report so far show.
 use Rattle.std.specs.Prelude.{◌≡◌, List, [], ◌∷◌, length, Option, Some, None}
 use Rattle.audit_devices.specs.{Keeping.{Stands, device_count}, events.Readings.scenario_under}
-use Rattle.audit_sweep.specs.records.Keeping.{records_of}
+use Rattle.{audit_sweep.specs.records.Keeping.records_of, run_law.specs.records.Happenings.happenings}
 use Rattle.lens.specs.{declared.flows.counts.deliveries.Delivery.Delivery, flows.counts.Deliveries.deliveries_of}
-use Rattle.lens.specs.declared.flows.counts.seen.Seen.{Seen}
-use Rattle.net_plan.specs.declared.{event.Event.Event, network.Network.Network}
-use Rattle.run_law.specs.{declared.note.Note.Note, records.Happenings.happenings}
+use Rattle.{lens.specs.declared.flows.counts.seen.Seen.Seen, net_plan.specs.declared.network.Network.Network}
+use Rattle.{net_plan.specs.declared.event.Event.Event, run_law.specs.declared.note.Note.Note}
 
 -- the delivery, if there is one
 abbrev pub some_delivery : Option Delivery → List Delivery

@@ -1,13 +1,12 @@
 -- What becomes of a flow in a cycle that its receiver's clock begins: delivery is owed, or why it is not.
 use Rattle.std.specs.Prelude.{◌≡◌, ℕ, ◌<◌, ◌≤◌, false, List}
 use Rattle.lens.specs.declared.flows.judge.fate.Fate.TheVariants as fates
-use Rattle.lens.specs.declared.flows.judge.{fate.Fate.Fate, flow.Flow.Flow}
-use Rattle.net_plan.specs.declared.ids.DeviceId.{DeviceId}
-use Rattle.run_law.specs.{device.States.state_after, records.Happenings.{Happening, up_to}}
+use Rattle.{lens.specs.declared.flows.judge.fate.Fate.Fate, schedule_tables.specs.declared.entry.Entry.Entry}
+use Rattle.{lens.specs.declared.flows.judge.flow.Flow.Flow, net_plan.specs.declared.ids.DeviceId.DeviceId}
+use Rattle.{run_law.specs.device.States.state_after, sync_state.specs.declared.state.State.TheVariants.Synchronised}
 use Rattle.run_law.specs.{law.Safety.{IsInStep, IsOwed, ReachesPlace}, scenario.Scenarios.{Scenario, is_broken}}
-use Rattle.schedule_tables.specs.{Entries.{IsEntry, source_of}, Windows.OccursIn, declared.entry.Entry.Entry}
-use Rattle.sync_state.specs.declared.state.State.TheVariants.{Synchronised}
-use Rattle.tte_units.specs.Amount.{amount}
+use Rattle.{run_law.specs.records.Happenings.{Happening, up_to}, schedule_tables.specs.Entries.{IsEntry, source_of}}
+use Rattle.{schedule_tables.specs.Windows.OccursIn, tte_units.specs.Amount.amount}
 
 -- the receiver's clock begins the cycle at the time, in the run, and the virtual link occurs in it
 pub record IsBegun (s : Scenario) (hs : List Happening) (until : ℕ) (flow : Flow) (cycle from : ℕ) : Type 0 where

@@ -1,9 +1,8 @@
 -- The flows of a network: each virtual link with each of its receivers.
 use Rattle.std.specs.Prelude.{◌≡◌, Some, slice_get}
-use Rattle.lens.specs.declared.flows.judge.flow.Flow.{Flow}
-use Rattle.net_plan.specs.{Bounds.IsGreatest, Places.IsEndSystem, declared.network.Network.Network}
-use Rattle.run_law.specs.law.Safety.{IsRowInto, IsWindowEnd}
-use Rattle.schedule_tables.specs.declared.entry.Entry.{Entry}
+use Rattle.{lens.specs.declared.flows.judge.flow.Flow.Flow, run_law.specs.law.Safety.{IsRowInto, IsWindowEnd}}
+use Rattle.net_plan.specs.{Bounds.IsGreatest, Places.IsEndSystem}
+use Rattle.{net_plan.specs.declared.network.Network.Network, schedule_tables.specs.declared.entry.Entry.Entry}
 
 -- the virtual link of the flow stands at its place; a row of it leads into the device, which is an end system; and so
 -- far into the cycle the last of its windows there ends

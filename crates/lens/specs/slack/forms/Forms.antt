@@ -1,12 +1,11 @@
 -- The forms of the words of `lens`.
 use Rattle.std.specs.{Option.{option_and_then, option_map}, Str.bytes_eq}
 use Rattle.std.specs.Prelude.{◌-◌, ◌^◌, ◌∷◌, ◌≤◌, List, None, Option, Some, [], codes, if◌then◌else◌, nat_le, ℕ}
+use Rattle.lens.specs.declared.slack.forms.form.Form.TheVariants.{Draw, DrawWhole, Events, Flows, Least, Slack, SlackOf}
+use Rattle.{lens.specs.declared.slack.forms.form.Form.{Form, TheVariants.Why}, trace_text.specs.Numbers.number_up_to}
 use Rattle.schedule_tables.specs.declared.rule.Rule.TheVariants.{Correction, Delays, Forwarding, Precision}
 use Rattle.schedule_tables.specs.declared.rule.Rule.{Rule, TheVariants.{ScheduleStart, Settling, Spacing, WindowEnds}}
-use Rattle.trace_text.specs.Numbers.{number_up_to}
 use Rattle.tte_forms.specs.Forms.{cycles_spelled, if_some, most_cycles, seed_spelled}
-use Rattle.lens.specs.declared.slack.forms.form.Form.TheVariants.{Draw, DrawWhole, Events, Flows, Least, Slack, SlackOf}
-use Rattle.lens.specs.declared.slack.forms.form.Form.{Form, TheVariants.Why}
 
 -- a network alone: `slack NETWORK` and `least NETWORK`
 abbrev pub network_form : List ℕ → Option Form

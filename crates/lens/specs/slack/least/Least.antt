@@ -1,10 +1,9 @@
 -- Which times are the least.
 use Rattle.std.specs.Prelude.{ℕ}
-use Rattle.lens.specs.{slack.Bounds.IsBoundAt, slack.Tightest.IsEnough, declared.slack.spot.Finding.Finding}
-use Rattle.lens.specs.declared.slack.spot.Spot.TheVariants.{Begin}
-use Rattle.net_plan.specs.declared.network.Network.{Network}
-use Rattle.schedule_tables.specs.Rules.{KeepsBelow}
-use Rattle.lens.specs.{slack.least.Times.{AreAtMost, with_times}, declared.slack.least.times.Times.Times}
+use Rattle.{lens.specs.declared.slack.least.times.Times.Times, net_plan.specs.declared.network.Network.Network}
+use Rattle.lens.specs.{declared.slack.spot.Spot.TheVariants.Begin, slack.least.Times.{AreAtMost, with_times}}
+use Rattle.{lens.specs.declared.slack.spot.Finding.Finding, schedule_tables.specs.Rules.KeepsBelow}
+use Rattle.lens.specs.slack.{Bounds.IsBoundAt, Tightest.IsEnough}
 
 -- the network keeps rules 1 to 11, and its schedule begins as late as rule 12 wants; whether the cycle has room for
 -- that is not asked

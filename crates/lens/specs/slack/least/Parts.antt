@@ -1,10 +1,9 @@
 -- What the least times are made of.
 use Rattle.std.specs.Prelude.{◌*◌, ◌+◌, ◌/◌, ◌^◌, ◌≡◌, Some, pos, slice_get, ℕ}
+use Rattle.{lens.specs.declared.slack.least.times.Times.Times, schedule_tables.specs.Delays.{delay_on, pcf_port_time}}
+use Rattle.{lens.specs.slack.least.Times.with_times, net_plan.specs.declared.tables.{Device.Device, Link.Link}}
 use Rattle.net_plan.specs.{Bounds.{IsBeta, IsGreatest, IsOfPath}, declared.network.Network.Network}
-use Rattle.net_plan.specs.declared.tables.{Device.Device, Link.Link}
-use Rattle.schedule_tables.specs.Delays.{delay_on, pcf_port_time}
 use Rattle.tte_units.specs.Amount.{units_of}
-use Rattle.lens.specs.{slack.least.Times.with_times, declared.slack.least.times.Times.Times}
 
 -- how far two clocks drift apart over dmax
 abbrev pub drift_over : Network → ℕ → ℕ

@@ -1,8 +1,7 @@
 -- The five times of a network that the rules of times bound from below.
 use Rattle.std.specs.Prelude.{◌≡◌, ◌≤◌}
-use Rattle.net_plan.specs.declared.network.Network.{Network}
+use Rattle.{lens.specs.declared.slack.least.times.Times.Times, net_plan.specs.declared.network.Network.Network}
 use Rattle.tte_units.specs.Amount.{amount, units_of}
-use Rattle.lens.specs.declared.slack.least.times.Times.{Times}
 
 -- the five times of a network
 abbrev pub times_of : Network → Times

@@ -1,17 +1,15 @@
 -- What is known of the records of a report.
 use Rattle.std.specs.Prelude.{◌^◌, ◌∷◌, ◌≡◌, ◌≤ℤ◌, ◌≤◌, List, [], length, pos, ℕ, ℤ}
-use Rattle.audit_devices.specs.Keeping.{Stands, device_count, records_before}
-use Rattle.audit_devices.specs.events.{Readings.scenario_under, Remembering.Remembers}
-use Rattle.audit_sweep.specs.records.Keeping.{records_of}
-use Rattle.net_plan.specs.declared.{event.Event.Event, ids.DeviceId.DeviceId, network.Network.Network}
-use Rattle.report_text.specs.Ranges.{IsBodyOf}
+use Rattle.audit_devices.specs.{Keeping.{Stands, device_count, records_before}, events.Readings.scenario_under}
+use Rattle.{audit_devices.specs.events.Remembering.Remembers, net_plan.specs.declared.network.Network.Network}
+use Rattle.{audit_sweep.specs.records.Keeping.records_of, net_plan.specs.declared.ids.DeviceId.DeviceId}
+use Rattle.lens.specs.declared.why.past.{past.{Past.Past, Permanence.Permanence}, reading.KnownReport.KnownReport}
+use Rattle.{net_plan.specs.declared.event.Event.Event, run_law.specs.scenario.Scenarios.Scenario}
+use Rattle.{report_text.specs.Ranges.IsBodyOf, run_law.specs.{declared.note.Note.Note, records.Ranks.place_at}}
 use Rattle.run_law.specs.declared.{judgement.Judgement.TheVariants.Ignored, note.NoteBody.TheVariants.Permanent}
-use Rattle.run_law.specs.{declared.note.Note.Note, records.Ranks.place_at, scenario.Scenarios.Scenario}
 use Rattle.run_law.specs.{device.Standpoints.{clock_of, standpoint}, records.Happenings.{Happening, happenings}}
 use Rattle.tte_audit.specs.Report.{events_of}
-use Rattle.tte_traces.specs.reports.Reports.{IsReportOf}
-use Rattle.tte_units.specs.{Amount.amount, declared.units.Units.Units}
-use Rattle.lens.specs.declared.why.past.{past.{Past.Past, Permanence.Permanence}, reading.KnownReport.KnownReport}
+use Rattle.{tte_traces.specs.reports.Reports.IsReportOf, tte_units.specs.{Amount.amount, declared.units.Units.Units}}
 
 -- the octets are the report of some records
 abbrev pub IsSomeReport : Network → List ℕ → Type 0

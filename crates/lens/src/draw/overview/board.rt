@@ -2,8 +2,7 @@
 ghost use Rattle.std.specs.Prelude.{◌≡◌, ◌≤◌, ◌<◌, ◌+◌, ◌*◌, ◌^◌, ◌∷◌, [], IfOk, OnOk, length, map};
 ghost use Rattle.lens.specs.draw.overview.Boards.{IsLaid, Lays, flow_at, flow_rows, is_end, is_received, lane_at};
 ghost use Rattle.lens.specs.draw.overview.Boards.{lane_rows, lanes_in, part_rows, passage_rows, passages_at, rows_of};
-ghost use Rattle.lens.specs.draw.overview.Putting.{listed};
-ghost use Rattle.net_plan.specs.Ranges.{IsInRange};
+ghost use Rattle.{lens.specs.draw.overview.Putting.listed, net_plan.specs.Ranges.IsInRange};
 
 use crate::draw::overview::row::height_of;
 use crate::draw::overview::strip::fresh;

@@ -1,8 +1,7 @@
 //! The columns of an overview, and where they are.
 ghost use Rattle.std.specs.Prelude.{◌≡◌, ◌≤◌, ◌<◌};
 ghost use Rattle.lens.specs.draw.overview.Grids.{IsNarrow, column_of, cycles_in, first_pen, grid_of, most_columns};
-ghost use Rattle.lens.specs.draw.overview.Grids.{pen_at, pitch_of, width_of};
-ghost use Rattle.net_plan.specs.Ranges.{IsInRange};
+ghost use Rattle.{lens.specs.draw.overview.Grids.{pen_at, pitch_of, width_of}, net_plan.specs.Ranges.IsInRange};
 
 use net_plan::Network;
 

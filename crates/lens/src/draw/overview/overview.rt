@@ -1,12 +1,10 @@
 ghost use Rattle.std.specs.Prelude.{◌≡◌, ◌⊎◌, List};
 ghost use Rattle.lens.specs.draw.overview.{Answer.{IsOverviewAnswer, overview_answer}, Grids.greatest};
-ghost use Rattle.net_plan.specs.Ranges.{IsInRange};
+ghost use Rattle.{net_plan.specs.Ranges.IsInRange, tte_forms.specs.{Putting.Over, networks.Accepting.IsNetworkAnswer}};
 ghost use Rattle.run_law.specs.declared.note.Note.{Note as NoteValue};
-ghost use Rattle.tte_audit.specs.Named.{IsNamed};
+ghost use Rattle.{tte_audit.specs.Named.IsNamed, tte_units.{specs.{declared.{units.{Units.{Units as UnitsValue}}}}}};
 ghost use Rattle.tte_forms.specs.{Answering.{ForOctets, Gives, GivesAnswer}, Faults.{HasCause, PutFailed, ReadFailed}};
-ghost use Rattle.tte_forms.specs.{Putting.Over, networks.Accepting.IsNetworkAnswer};
 ghost use Rattle.tte_traces.specs.reports.{Answer.IsAuditStatus, Reports.{AreLeft, IsReportAnswer, IsReportOf}};
-ghost use Rattle.tte_units.specs.declared.units.Units.{Units as UnitsValue};
 
 use crate::draw::overview::board::{Board, board_of};
 use crate::draw::overview::grid::grid_of;

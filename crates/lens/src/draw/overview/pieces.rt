@@ -2,10 +2,9 @@
 ghost use Rattle.std.specs.Prelude.{◌≡◌, ◌≤◌, ◌+◌, ◌++◌, codes, length};
 ghost use Rattle.lens.specs.draw.overview.Pieces.{caption_line, class_part, cycles_part, label_line, mark_line};
 ghost use Rattle.lens.specs.draw.overview.Pieces.{name_part, rail_part, ribbon_line, row_text, shade_part, stroke_part};
-ghost use Rattle.lens.specs.draw.overview.Pieces.{title_part};
+ghost use Rattle.{lens.specs.draw.overview.Pieces.title_part, trace_text.specs.EventWords.way_text};
 ghost use Rattle.net_plan.specs.{Belonging.{device_name, link_name, vl_name}, Ranges.IsInRange};
 ghost use Rattle.tte_io.specs.Line.{line_limit};
-ghost use Rattle.trace_text.specs.EventWords.{way_text};
 
 use crate::draw::overview::row::{group_word, kind_word, row_word};
 use crate::draw::overview::shade::shade_word;

@@ -3,9 +3,8 @@ ghost use Rattle.std.specs.Prelude.{◌≡◌, ◌≤◌, ◌^◌, ◌∷◌, []
 ghost use Rattle.lens.specs.draw.{Putting.Draws, overview.{Grids.IsNarrow, Signs.sign_line}, svg.Elements.opening_line};
 ghost use Rattle.lens.specs.draw.overview.Overview.{front_lines, labels_lines, layer_lines, marks_lines, ribbon_lines};
 ghost use Rattle.lens.specs.draw.overview.{Pieces.{caption_line, label_line, mark_line}, Strips.ribbons_of};
-ghost use Rattle.lens.specs.draw.overview.Putting.{listed};
+ghost use Rattle.{lens.specs.draw.overview.Putting.listed, tte_forms.specs.{Faults.PutFailed, Putting.Over}};
 ghost use Rattle.net_plan.specs.Ranges.{IsInRange};
-ghost use Rattle.tte_forms.specs.{Faults.PutFailed, Putting.Over};
 
 use crate::draw::overview::board::Board;
 use crate::draw::overview::pieces::{make_caption, make_label, make_mark, make_ribbon};

@@ -1,13 +1,11 @@
 //! The sweep over the records of a report, column by column.
 ghost use Rattle.std.specs.Prelude.{◌≡◌, ◌≤◌, ◌<◌, ◌-◌, List, MatchResult, OnOk};
-ghost use Rattle.lens.specs.draw.Putting.{Draws};
+ghost use Rattle.{lens.specs.draw.Putting.Draws, tte_audit.specs.Named.IsNamed, tte_forms.specs.Putting.Over};
 ghost use Rattle.lens.specs.draw.overview.{Answer.ribbons_answer, Grids.{IsNarrow, greatest}, Overview.ribbon_lines};
 ghost use Rattle.lens.specs.draw.overview.Sweeps.{last_ribbons, moved, moved_ribbons, sweep_at, sweep_ribbons};
-ghost use Rattle.net_plan.specs.Ranges.{IsInRange};
-ghost use Rattle.run_law.specs.declared.note.Note.{Note as NoteValue};
-ghost use Rattle.tte_audit.specs.Named.{IsNamed};
-ghost use Rattle.tte_forms.specs.{Answering.Gives, Faults.{HasCause, PutFailed}, Putting.Over};
-ghost use Rattle.tte_traces.specs.reports.{Answer.IsAuditStatus, Reports.AreLeft};
+ghost use Rattle.{net_plan.specs.Ranges.IsInRange, tte_traces.specs.reports.Reports.AreLeft};
+ghost use Rattle.{run_law.{specs.{declared.{note.{Note.{Note as NoteValue}}}}}, tte_forms.specs.Answering.Gives};
+ghost use Rattle.{tte_forms.specs.Faults.{HasCause, PutFailed}, tte_traces.specs.reports.Answer.IsAuditStatus};
 
 use crate::draw::overview::change::news_of;
 use crate::draw::overview::putting::put_ribbons;

@@ -4,8 +4,7 @@ ghost use Rattle.lens.specs.draw.svg.Elements.{HasNames, band_text, bar_line, ca
 ghost use Rattle.lens.specs.draw.svg.Elements.{gone_text, kind_text, name_part, opening_line, point_text, rail_line};
 ghost use Rattle.lens.specs.draw.svg.Elements.{role_part, role_text, role_word, spread_bar, spread_line, spread_words};
 ghost use Rattle.lens.specs.draw.svg.Elements.{tick_line, until_text, way_line, window_line};
-ghost use Rattle.net_plan.specs.{Belonging.{HasDevice, device_name}, Ranges.IsInRange};
-ghost use Rattle.tte_io.specs.Line.{line_limit};
+ghost use Rattle.{net_plan.specs.{Belonging.{HasDevice, device_name}, Ranges.IsInRange}, tte_io.specs.Line.line_limit};
 
 use crate::draw::svg::layout::LAST_TIME;
 use crate::draw::svg::mark::{ground_text, hue_text};

@@ -3,8 +3,7 @@ ghost use Rattle.std.specs.Prelude.{◌≡◌, ◌≤◌, ◌+◌, ◌++◌, len
 ghost use Rattle.lens.specs.draw.svg.Labels.{collection_label, label_text, reason_label, state_label, stream_label};
 ghost use Rattle.lens.specs.draw.svg.Labels.{strike_label, verdict_label, way_label};
 ghost use Rattle.net_plan.specs.{Belonging.{HasDevice, HasLink, HasVl, IsOfNetwork, device_name}, Ranges.IsInRange};
-ghost use Rattle.report_text.specs.Ranges.{IsBodyOf};
-ghost use Rattle.tte_io.specs.Line.{line_limit};
+ghost use Rattle.{report_text.specs.Ranges.IsBodyOf, tte_io.specs.Line.line_limit};
 
 use crate::draw::svg::numbers::push_nanos;
 use net_plan::{DeviceId, LinkId, Network, VlId, Way, What};

@@ -1,8 +1,7 @@
 //! The layers of a picture below its marks.
 ghost use Rattle.std.specs.Prelude.{◌≡◌, ◌<◌, IfSome, length};
-ghost use Rattle.lens.specs.draw.svg.Elements.{HasNames};
+ghost use Rattle.{lens.specs.draw.svg.Elements.HasNames, net_plan.specs.Ranges.IsInRange};
 ghost use Rattle.lens.specs.draw.svg.Layers.{is_gone, on_lane, on_mark, opening_of, tick_of, turn_of, wait_of, way_of};
-ghost use Rattle.net_plan.specs.Ranges.{IsInRange};
 
 use crate::draw::svg::element::{Band, Element, Point};
 use crate::draw::svg::lanes::{bottom_of, y_of};

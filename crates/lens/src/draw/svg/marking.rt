@@ -1,10 +1,8 @@
 //! The line of a record's mark, which has the record's own line as its title.
 ghost use Rattle.std.specs.Prelude.{◌≡◌, ◌≤◌, ◌+◌, ◌++◌, length};
-ghost use Rattle.lens.specs.draw.svg.Lanes.{y_of};
+ghost use Rattle.{lens.specs.draw.svg.Lanes.y_of, net_plan.specs.Ranges.IsInRange, tte_io.specs.Line.line_limit};
 ghost use Rattle.lens.specs.draw.svg.Marking.{head_text, height_of, label_part, mark_line, place_text, title_room};
-ghost use Rattle.net_plan.specs.Ranges.{IsInRange};
 ghost use Rattle.report_text.specs.{NoteLine.note_text, Ranges.{IsBodyOf, IsNoteInRange, IsNoteOf}};
-ghost use Rattle.tte_io.specs.Line.{line_limit};
 
 use crate::draw::svg::Pen;
 use crate::draw::svg::bodies::scene_of;

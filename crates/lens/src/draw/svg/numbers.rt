@@ -1,7 +1,6 @@
 //! Times and corrections as people read them.
 ghost use Rattle.std.specs.Prelude.{◌≡◌, ◌≤◌, ◌+◌, ◌++◌, length};
-ghost use Rattle.lens.specs.draw.svg.Numbers.{micros_text, nanos_text};
-ghost use Rattle.tte_io.specs.Line.{line_limit};
+ghost use Rattle.{lens.specs.draw.svg.Numbers.{micros_text, nanos_text}, tte_io.specs.Line.line_limit};
 
 use tte_io::LineText;
 use tte_units::Units;

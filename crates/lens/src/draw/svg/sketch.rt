@@ -1,8 +1,7 @@
 //! What is kept of the records while they stream by.
 ghost use Rattle.std.specs.Prelude.{◌≡◌, ◌≤◌, IfOk, OnOk, map, slice_get};
-ghost use Rattle.lens.specs.draw.svg.{Lanes.start_of, Layout.widest};
+ghost use Rattle.{lens.specs.draw.svg.{Lanes.start_of, Layout.widest}, net_plan.specs.Ranges.IsInRange};
 ghost use Rattle.lens.specs.draw.svg.Sketching.{begun, drawn, fits, hue_of, mark_at, mark_of, took, turned};
-ghost use Rattle.net_plan.specs.Ranges.{IsInRange};
 
 use crate::draw::svg::bodies::{cause_of, look_of, own_hue, scene_of};
 use crate::draw::svg::lanes::{start_of, y_of};

@@ -1,8 +1,7 @@
 //! The windows of the schedule, and where in them frames come.
 ghost use Rattle.std.specs.Prelude.{◌≡◌, ◌<◌, ◌≤◌, IfSome, length};
 ghost use Rattle.lens.specs.draw.svg.{Clocks.IsWide, Windows.{came_of, row_of, tick_in, window_by}};
-ghost use Rattle.net_plan.specs.Ranges.{IsInRange};
-ghost use Rattle.run_law.specs.device.Standpoints.{offset_in_cycle};
+ghost use Rattle.{net_plan.specs.Ranges.IsInRange, run_law.specs.device.Standpoints.offset_in_cycle};
 
 use crate::draw::svg::clock::{distance, share};
 use crate::draw::svg::element::Point;

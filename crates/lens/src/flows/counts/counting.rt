@@ -3,8 +3,7 @@
 ghost use Rattle.std.specs.Prelude.{◌≡◌, ◌^◌, ◌↔◌, ◌≤◌, IsTrue, List};
 ghost use Rattle.lens.specs.flows.counts.Counted.{AreBelow, AreFateCounts, IsCycleCounted, counted};
 ghost use Rattle.lens.specs.flows.judge.{Courses.{IsCourse, IsFit, IsSomeCourse, scenario_of}, Flows.IsFlow};
-ghost use Rattle.net_plan.specs.declared.event.Event.{Event};
-ghost use Rattle.run_law.specs.records.Happenings.{Happening};
+ghost use Rattle.{net_plan.specs.declared.event.Event.Event, run_law.specs.records.Happenings.Happening};
 ghost use Rattle.schedule_tables.specs.Windows.{OccursIn};
 
 use crate::flows::judge::{Begun, Course, Fate, Flow};

@@ -2,10 +2,9 @@
 
 ghost use Rattle.std.specs.Prelude.{◌≡◌, ◌<◌, ◌^◌, ◌≤◌, All, List};
 ghost use Rattle.lens.specs.flows.counts.Deliveries.{AreDeliveries, IsBelow, IsOneMore, delivery_by, is_channel, is_of};
-ghost use Rattle.lens.specs.flows.counts.Deliveries.{is_on, one_if};
+ghost use Rattle.{lens.specs.flows.counts.Deliveries.{is_on, one_if}, run_law.specs.scenario.Devices.channel_of_link};
 ghost use Rattle.lens.specs.flows.judge.{Courses.{IsCourse, IsFit, IsSomeCourse, scenario_of}, Flows.IsFlow};
-ghost use Rattle.net_plan.specs.declared.event.Event.{Event};
-ghost use Rattle.run_law.specs.{records.Happenings.Happening, scenario.Devices.channel_of_link};
+ghost use Rattle.{net_plan.specs.declared.event.Event.Event, run_law.specs.records.Happenings.Happening};
 
 use crate::flows::counts::Nearest;
 use crate::flows::counts::nearest::{nearer, nearest_by, place_at};

@@ -2,9 +2,8 @@
 
 ghost use Rattle.std.specs.Prelude.{◌≡◌, ◌<◌, ◌+◌, IfOk, OnOk, length};
 ghost use Rattle.lens.specs.flows.counts.{FlowLists.AreFlows, Greatest.{EndsAt, TellsGreatest, later_of}};
-ghost use Rattle.lens.specs.flows.counts.PartLists.{AreFlowsBefore, IsFlowTo};
-ghost use Rattle.net_plan.specs.{Belonging.{HasVl}, Ranges.IsInRange};
-ghost use Rattle.run_law.specs.law.Safety.{IsWindowEnd};
+ghost use Rattle.{lens.specs.flows.counts.PartLists.{AreFlowsBefore, IsFlowTo}, run_law.specs.law.Safety.IsWindowEnd};
+ghost use Rattle.net_plan.specs.{Belonging.HasVl, Ranges.IsInRange};
 
 use crate::flows::judge::Flow;
 use device_rules::is_end;

@@ -3,20 +3,18 @@
 ghost use Rattle.std.specs.Prelude.{◌≡◌, ◌++◌, ◌∷◌, [], ◌^◌, ◌≤◌, Some, IfOk, List, OnOk};
 ghost use Rattle.audit_devices.specs.{Effects.carried_by, events.Remembering.{Remembers, RemembersSome}};
 ghost use Rattle.audit_devices.specs.declared.events.history.EventHistory.{EventHistory as EventHistoryValue};
-ghost use Rattle.lens.specs.flows.counts.Seen.{HasSeen, some_delivery};
-ghost use Rattle.net_plan.specs.{Ranges.IsInRange, declared.event.Event.Event};
-ghost use Rattle.report_text.specs.Ranges.{IsBodyOf};
-ghost use Rattle.run_law.specs.declared.note.Note.{Note as NoteValue};
+ghost use Rattle.{lens.specs.flows.counts.Seen.{HasSeen, some_delivery}, net_plan.specs.declared.event.Event.Event};
+ghost use Rattle.{net_plan.specs.Ranges.IsInRange, tte_units.specs.Amount.amount};
+ghost use Rattle.{report_text.specs.Ranges.IsBodyOf, run_law.{specs.{declared.{note.{Note.{Note as NoteValue}}}}}};
 ghost use Rattle.run_law.specs.records.{Happenings.{Happening, happening, happenings}, Order.AllBefore, Ranks.place_of};
-ghost use Rattle.tte_units.specs.Amount.{amount};
 
 use crate::flows::counts::Delivery;
 use crate::flows::counts::deliveries::delivery_by;
-use audit_devices::events::{EventHistory, reading_law};
 use audit_devices::Standings;
+use audit_devices::events::{EventHistory, reading_law};
 use audit_sweep::records::KeptRecords;
-use audit_sweep::{carried_by, readings};
 pub use audit_sweep::records::OutOfMemory;
+use audit_sweep::{carried_by, readings};
 use net_plan::Network;
 use run_law::Note;
 use std::alloc::Global;

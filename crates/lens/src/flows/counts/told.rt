@@ -1,10 +1,9 @@
 //! What is told of each flow.
 
 ghost use Rattle.std.specs.Prelude.{◌≡◌, ◌^◌, ◌≤◌, All, IfOk, List};
-ghost use Rattle.lens.specs.flows.counts.Told.{AreToldOf, IsTold};
+ghost use Rattle.{lens.specs.flows.counts.Told.{AreToldOf, IsTold}, run_law.specs.records.Happenings.Happening};
 ghost use Rattle.lens.specs.flows.judge.{Courses.{IsCourse, IsFit, IsSomeCourse, scenario_of}, Flows.IsFlow};
 ghost use Rattle.net_plan.specs.declared.event.Event.{Event};
-ghost use Rattle.run_law.specs.records.Happenings.{Happening};
 
 use crate::flows::counts::counting::count_fates;
 use crate::flows::counts::deliveries::count_deliveries;

@@ -1,11 +1,10 @@
 //! The cycles that a device's clock begins.
 
 ghost use Rattle.std.specs.Prelude.{◌≡◌, ◌≤◌, ◌^◌, List};
-ghost use Rattle.audit_sweep.specs.unpaid.points.Kept.{ShowsWithin};
-ghost use Rattle.audit_devices.specs.events.Remembering.{RemembersSome};
+ghost use Rattle.{audit_devices.specs.events.Remembering.RemembersSome, run_law.specs.records.Happenings.Happening};
+ghost use Rattle.{audit_sweep.specs.unpaid.points.Kept.ShowsWithin, net_plan.specs.declared.event.Event.Event};
 ghost use Rattle.lens.specs.flows.judge.{Beginnings.IsNextBegun, Courses.{IsCourse, IsFit, IsSomeCourse, scenario_of}};
-ghost use Rattle.net_plan.specs.{Belonging.HasDevice, declared.event.Event.Event};
-ghost use Rattle.run_law.specs.records.Happenings.{Happening};
+ghost use Rattle.net_plan.specs.Belonging.{HasDevice};
 
 use crate::flows::judge::Course;
 use audit_devices::Shown;

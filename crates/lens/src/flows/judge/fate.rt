@@ -3,8 +3,7 @@
 ghost use Rattle.std.specs.Prelude.{◌≡◌, ◌↔◌, ◌≤◌, ◌^◌, List, IsTrue};
 ghost use Rattle.lens.specs.flows.judge.{Courses.{IsCourse, IsFit, IsSomeCourse, scenario_of}, Flows.IsFlow};
 ghost use Rattle.lens.specs.flows.judge.Fates.{HasFate, IsBegun, IsOwedFrom};
-ghost use Rattle.net_plan.specs.declared.event.Event.{Event};
-ghost use Rattle.run_law.specs.records.Happenings.{Happening};
+ghost use Rattle.{net_plan.specs.declared.event.Event.Event, run_law.specs.records.Happenings.Happening};
 
 use crate::flows::judge::{Course, Flow};
 

@@ -1,13 +1,11 @@
 //! When a device's clock reaches a place of a cycle.
 
 ghost use Rattle.std.specs.Prelude.{◌≡◌, ◌+◌, ◌*◌, ◌≤◌, ◌^◌, List, pos};
-ghost use Rattle.audit_sweep.specs.unpaid.points.Kept.{ShowsWithin};
-ghost use Rattle.audit_devices.specs.clocks.Finding.{IsSeries};
+ghost use Rattle.{audit_devices.specs.clocks.Finding.IsSeries, audit_sweep.specs.unpaid.points.Kept.ShowsWithin};
 ghost use Rattle.lens.specs.flows.judge.{Courses.{IsCourse, IsFit, IsSomeCourse, scenario_of}, Times.TellsFirstTime};
-ghost use Rattle.lens.specs.flows.judge.Values.{values_from};
-ghost use Rattle.net_plan.specs.{Belonging.HasDevice, Ranges.IsInRange, declared.event.Event.Event};
-ghost use Rattle.run_law.specs.{law.Safety.ReachesPlace, records.Happenings.Happening};
-ghost use Rattle.tte_units.specs.Amount.{amount};
+ghost use Rattle.{lens.specs.flows.judge.Values.values_from, run_law.specs.records.Happenings.Happening};
+ghost use Rattle.{net_plan.specs.{Belonging.HasDevice, Ranges.IsInRange}, tte_units.specs.Amount.amount};
+ghost use Rattle.{net_plan.specs.declared.event.Event.Event, run_law.specs.law.Safety.ReachesPlace};
 
 use crate::flows::judge::Course;
 use audit_devices::Shown;

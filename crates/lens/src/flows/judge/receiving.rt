@@ -1,11 +1,10 @@
 //! Whether a device is in step.
 
 ghost use Rattle.std.specs.Prelude.{◌≡◌, ◌↔◌, ◌≤◌, ◌^◌, List, IsTrue};
-ghost use Rattle.audit_devices.specs.events.Remembering.{has_come};
+ghost use Rattle.{audit_devices.specs.events.Remembering.has_come, run_law.specs.records.Happenings.{Happening, up_to}};
 ghost use Rattle.lens.specs.flows.judge.{Courses.{IsCourse, IsFit, IsSomeCourse, scenario_of}, Fates.StaysInStep};
-ghost use Rattle.net_plan.specs.{Belonging.HasDevice, declared.event.Event.Event};
-ghost use Rattle.run_law.specs.{device.States.state_after, records.Happenings.{Happening, up_to}};
-ghost use Rattle.sync_state.specs.declared.state.State.TheVariants.{Synchronised};
+ghost use Rattle.{net_plan.specs.Belonging.HasDevice, sync_state.specs.declared.state.State.TheVariants.Synchronised};
+ghost use Rattle.{net_plan.specs.declared.event.Event.Event, run_law.specs.device.States.state_after};
 
 use crate::flows::judge::Course;
 use audit_sweep::unpaid::points::end_of;

@@ -1,9 +1,7 @@
 //! The least times, one after another. Nothing is searched for.
 ghost use Rattle.std.specs.Prelude.{◌*◌, ◌+◌, ◌^◌, ◌≡◌, ◌≤◌, ℕ};
-ghost use Rattle.net_plan.specs.Ranges.{IsInRange};
-ghost use Rattle.schedule_checker.specs.Timing.{errors_of};
-ghost use Rattle.schedule_tables.specs.Rules.{KeepsBelow};
-ghost use Rattle.lens.specs.slack.least.{Least.AreLeast, Parts.drift_over};
+ghost use Rattle.{lens.specs.slack.least.{Least.AreLeast, Parts.drift_over}, schedule_checker.specs.Timing.errors_of};
+ghost use Rattle.{net_plan.specs.Ranges.IsInRange, schedule_tables.specs.Rules.KeepsBelow};
 
 use crate::slack::least::Times;
 use crate::slack::least::parts::{

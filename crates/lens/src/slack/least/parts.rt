@@ -1,10 +1,8 @@
 //! What the least times are made of.
 ghost use Rattle.std.specs.Prelude.{◌*◌, ◌^◌, ◌≡◌, ◌≤◌, Some, max};
-ghost use Rattle.net_plan.specs.{Bounds.{IsGreatest, IsOfPathFrom, IsOfPathOn}, Paths.IsTree};
-ghost use Rattle.net_plan.specs.Ranges.{IsDeviceInRange, IsInRange};
-ghost use Rattle.schedule_tables.specs.Delays.{delay_on};
-ghost use Rattle.tte_units.specs.Amount.{units_of};
 ghost use Rattle.lens.specs.slack.least.Parts.{IsLongest, IsPortTimeOf, IsStartOf, IsSteady};
+ghost use Rattle.net_plan.specs.{Bounds.{IsGreatest, IsOfPathFrom, IsOfPathOn}, Ranges.{IsDeviceInRange, IsInRange}};
+ghost use Rattle.{net_plan.specs.Paths.IsTree, schedule_tables.specs.Delays.delay_on, tte_units.specs.Amount.units_of};
 
 use net_plan::{Device, DeviceId, Network};
 use pcf_values::Channel;

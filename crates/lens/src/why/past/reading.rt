@@ -1,9 +1,8 @@
 ghost use Rattle.std.specs.Prelude.{◌≡◌, Err, IfErr, IfOk, List, MatchResult};
-ghost use Rattle.run_law.specs.declared.note.Note.{Note as NoteValue};
-ghost use Rattle.tte_forms.specs.{Answering.ForOctets, Faults.ReadFailed};
-ghost use Rattle.tte_traces.specs.reports.{NoReports.IsNoReport, Reports.IsReportOf};
+ghost use Rattle.{lens.specs.why.past.Pasts.{IsSomeReport, ShowsAll}, tte_traces.specs.reports.NoReports.IsNoReport};
+ghost use Rattle.{run_law.{specs.{declared.{note.{Note.{Note as NoteValue}}}}}, tte_forms.specs.Faults.ReadFailed};
+ghost use Rattle.{tte_forms.specs.Answering.ForOctets, tte_traces.specs.reports.Reports.IsReportOf};
 ghost use Rattle.tte_units.specs.declared.units.Units.{Units as UnitsValue};
-ghost use Rattle.lens.specs.why.past.Pasts.{IsSomeReport, ShowsAll};
 
 use crate::why::past::Past;
 use schedule_tables::Accepted;

@@ -1,5 +1,4 @@
-use Rattle.std.proofs.lemmas.Nat.{one_shl}
-use Rattle.membership.proofs.SetLemmas.{single-members}
+use Rattle.{membership.proofs.SetLemmas.single-members, std.proofs.lemmas.Nat.one_shl}
 use Rattle.membership.proofs.members.one.Goals as goal
 
 pub returns-clause-members : goal.returns-clause-members

@@ -1,7 +1,5 @@
-use Rattle.std.{proofs.Common.{◌<◌, ◌^◌, ◌≡◌, [], drop, length}, specs.List.All}
-use Rattle.net_plan.specs.Ranges.{IsDeviceInRange}
-use Rattle.toml.specs.View.{items_view}
-use Rattle.net_file.specs.Schema.{device_of, each}
+use Rattle.{net_file.specs.Schema.{device_of, each}, net_plan.specs.Ranges.IsDeviceInRange, std.proofs.Common.{◌<◌, ◌^◌, ◌≡◌, [], drop, length}}
+use Rattle.{std.specs.List.All, toml.specs.View.items_view}
 use Rattle.net_file.proofs.device.read_devices.Given as goal
 
 abbrev pub invariant-tables : goal.invariant-tables

@@ -1,5 +1,4 @@
-use Rattle.std.proofs.Common.{rules}
-use Rattle.net_file.{proofs.Tops.{grain_within, one_or_two}, specs.Schema.document_of}
+use Rattle.{net_file.{proofs.Tops.{grain_within, one_or_two}, specs.Schema.document_of}, std.proofs.Common.rules}
 use Rattle.net_file.proofs.document.read_document.Goals as goal
 
 pub returns-in_err-nothing_else-clause-value : goal.returns-in_err-nothing_else-clause-value

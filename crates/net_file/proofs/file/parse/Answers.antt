@@ -1,6 +1,5 @@
-use Rattle.std.proofs.Common.{◌∙◌, ◌≡◌, List, Some, rules, subst, ℕ}
-use Rattle.toml.specs.{Parse.parse_document, View.table_view, declared.value.Value.the_lemmas}
-use Rattle.net_file.proofs.Documents.{is_parsed}
+use Rattle.{net_file.proofs.Documents.is_parsed, std.proofs.Common.{◌∙◌, ◌≡◌, List, Some, rules, subst, ℕ}, toml.specs.declared.value.Value.the_lemmas}
+use Rattle.toml.specs.{Parse.parse_document, View.table_view}
 use Rattle.net_file.proofs.file.parse.Goals as goal
 
 pub returns-in-Ok-table_from_str : goal.returns-in-Ok-table_from_str

@@ -1,7 +1,5 @@
-use Rattle.std.{proofs.Common.{◌<◌, ◌^◌, ◌≡◌, [], drop, length}, specs.List.All}
-use Rattle.net_plan.specs.{Ranges.IsLinkInRange, declared.network.Network.Network}
-use Rattle.toml.specs.View.{items_view}
-use Rattle.net_file.specs.{Numbering.{IsBelow, numbering}, Schema.{each, link_of}}
+use Rattle.{net_file.specs.Numbering.{IsBelow, numbering}, net_plan.specs.declared.network.Network.Network, std.proofs.Common.{◌<◌, ◌^◌, ◌≡◌, [], drop, length}}
+use Rattle.{net_file.specs.Schema.{each, link_of}, net_plan.specs.Ranges.IsLinkInRange, std.specs.List.All, toml.specs.View.items_view}
 use Rattle.net_file.proofs.link.read_numbered.Given as goal
 
 abbrev pub invariant-tables : goal.invariant-tables

@@ -1,6 +1,4 @@
-use Rattle.std.proofs.Common.{◌≡◌}
-use Rattle.toml.specs.View.{members_view}
-use Rattle.net_file.specs.Reading.{are_keys_of}
+use Rattle.{net_file.specs.Reading.are_keys_of, std.proofs.Common.◌≡◌, toml.specs.View.members_view}
 use Rattle.net_file.proofs.reader.are_keys_of.Given as goal
 
 abbrev pub invariant-entries : goal.invariant-entries

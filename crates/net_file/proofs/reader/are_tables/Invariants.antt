@@ -1,6 +1,4 @@
-use Rattle.std.proofs.Common.{◌≡◌, drop}
-use Rattle.toml.specs.View.{items_view}
-use Rattle.net_file.specs.Reading.{are_tables}
+use Rattle.{net_file.specs.Reading.are_tables, std.proofs.Common.{◌≡◌, drop}, toml.specs.View.items_view}
 use Rattle.net_file.proofs.reader.are_tables.Given as goal
 
 abbrev pub invariant-values : goal.invariant-values

@@ -1,7 +1,5 @@
-use Rattle.std.{proofs.Common.{◌<◌, ◌^◌, ◌≡◌, [], drop, length}, specs.List.All}
-use Rattle.net_plan.specs.{Ranges.IsRowInRange, declared.network.Network.Network}
-use Rattle.toml.specs.View.{items_view}
-use Rattle.net_file.specs.{Numbering.{IsBelow, numbering}, Schema.{each, row_of}}
+use Rattle.{net_file.specs.Numbering.{IsBelow, numbering}, net_plan.specs.declared.network.Network.Network, std.proofs.Common.{◌<◌, ◌^◌, ◌≡◌, [], drop, length}}
+use Rattle.{net_file.specs.Schema.{each, row_of}, net_plan.specs.Ranges.IsRowInRange, std.specs.List.All, toml.specs.View.items_view}
 use Rattle.net_file.proofs.row.read_numbered.Given as goal
 
 abbrev pub invariant-tables : goal.invariant-tables

@@ -1,6 +1,5 @@
+use Rattle.{net_file.{proofs.Numbers.names_below, specs.Numbering.numbering}, net_plan.specs.declared.tables.{Link.Link, VirtualLink.VirtualLink}}
 use Rattle.std.proofs.Common.{length}
-use Rattle.net_plan.specs.declared.tables.{Link.Link, VirtualLink.VirtualLink}
-use Rattle.net_file.{proofs.Numbers.names_below, specs.Numbering.numbering}
 use Rattle.net_file.proofs.row.read_rows.Goals as goal
 
 pub returns-clause-in_range : goal.returns-clause-in_range

@@ -1,5 +1,4 @@
-use Rattle.std.{proofs.Common.length, specs.Prelude.{◌+◌, ◌≡◌, ◌≤◌}}
-use Rattle.net_file.specs.TextPlaces.{place_behind, text_start}
+use Rattle.{net_file.specs.TextPlaces.{place_behind, text_start}, std.{proofs.Common.length, specs.Prelude.{◌+◌, ◌≡◌, ◌≤◌}}}
 use Rattle.net_file.proofs.text_place.place_behind_text.Given as goal
 
 abbrev pub invariant-octets : goal.invariant-octets

@@ -1,5 +1,4 @@
-use Rattle.std.proofs.Common.{◌<◌, arith, get_or, ℕ}
-use Rattle.byteorder.specs.Numbers.{big_from-lt}
+use Rattle.{byteorder.specs.Numbers.big_from-lt, std.proofs.Common.{◌<◌, arith, get_or, ℕ}}
 use Rattle.net_file.proofs.values.mac_spelled.Goals as goal
 
 pub from_number-requires : goal.from_number-requires

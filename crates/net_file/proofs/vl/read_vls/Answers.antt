@@ -1,6 +1,4 @@
-use Rattle.std.proofs.Common.{length}
-use Rattle.net_plan.specs.declared.tables.Device.{Device}
-use Rattle.net_file.{proofs.Numbers.names_below, specs.Numbering.numbering}
+use Rattle.{net_file.{proofs.Numbers.names_below, specs.Numbering.numbering}, net_plan.specs.declared.tables.Device.Device, std.proofs.Common.length}
 use Rattle.net_file.proofs.vl.read_vls.Goals as goal
 
 pub returns-clause-in_range : goal.returns-clause-in_range

@@ -1,5 +1,4 @@
-use Rattle.std.proofs.{Common.{◌+◌, ◌<◌, arith, drop, get_or, ℕ}, lemmas.List.get_or-drop}
-use Rattle.byteorder.specs.Numbers.{big_from-lt}
+use Rattle.{byteorder.specs.Numbers.big_from-lt, std.proofs.{Common.{◌+◌, ◌<◌, arith, drop, get_or, ℕ}, lemmas.List.get_or-drop}}
 use Rattle.pcf_codec.proofs.fields.read_mac.Goals as goal
 
 pub from_number-requires : goal.from_number-requires

@@ -1,6 +1,5 @@
-use Rattle.std.proofs.Common.{◌≡◌, List, Ok, arith, slice_index, subst, sym, ℕ}
-use Rattle.pcf_codec.{proofs.{Encoding.{Fits, padding, spells, writes}, Outcomes.spelt_read}, specs.{Decoding.decoded, Encoded.encoded}}
-use Rattle.pcf_codec.specs.Spelling.{IsPadding, Spells}
+use Rattle.{pcf_codec.proofs.Encoding.{Fits, padding, spells, writes}, std.proofs.Common.{◌≡◌, List, Ok, arith, slice_index, subst, sym, ℕ}}
+use Rattle.pcf_codec.{proofs.Outcomes.spelt_read, specs.{Decoding.decoded, Encoded.encoded, Spelling.{IsPadding, Spells}}}
 use Rattle.pcf_codec.proofs.pcf.encode.Goals as goal
 
 pub returns : goal.returns

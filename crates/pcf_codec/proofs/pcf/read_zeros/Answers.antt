@@ -1,5 +1,4 @@
-use Rattle.std.proofs.Common.{◌∙◌, arith, refl, sym}
-use Rattle.pcf_codec.proofs.Zeros.{ends, looks_on, stops}
+use Rattle.{pcf_codec.proofs.Zeros.{ends, looks_on, stops}, std.proofs.Common.{◌∙◌, arith, refl, sym}}
 use Rattle.pcf_codec.proofs.pcf.read_zeros.Goals as goal
 
 pub loop-i-init : goal.loop-i-init

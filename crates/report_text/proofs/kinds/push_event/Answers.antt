@@ -1,5 +1,4 @@
-use Rattle.std.{proofs.{Common.arith, lemmas.Grind.common_steps}, specs.Prelude.decimal}
-use Rattle.report_text.proofs.Lines.{event_joined}
+use Rattle.{report_text.proofs.Lines.event_joined, std.{proofs.{Common.arith, lemmas.Grind.common_steps}, specs.Prelude.decimal}}
 use Rattle.report_text.proofs.kinds.push_event.Goals as goal
 
 pub returns-clause-text : goal.returns-clause-text

@@ -1,5 +1,4 @@
-use Rattle.std.proofs.Common.{append_assoc}
-use Rattle.report_text.specs.NoteLine.{body_text}
+use Rattle.{report_text.specs.NoteLine.body_text, std.proofs.Common.append_assoc}
 use Rattle.report_text.proofs.kinds.push_plain.Goals as goal
 
 pub returns-in-Compressed-clause-text : goal.returns-in-Compressed-clause-text

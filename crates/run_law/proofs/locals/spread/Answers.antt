@@ -1,5 +1,4 @@
-use Rattle.std.proofs.Common.{rules}
-use Rattle.run_law.proofs.law.Ends.{same_there, with_next}
+use Rattle.{run_law.proofs.law.Ends.{same_there, with_next}, std.proofs.Common.rules}
 use Rattle.run_law.proofs.locals.spread.Goals as goal
 
 -- src/locals.rt:18:5

@@ -1,6 +1,5 @@
-use Rattle.std.proofs.Common.{◌∙◌, List, subst, sym}
-use Rattle.schedule_tables.specs.declared.entry.Entry.{Entry}
-use Rattle.schedule_checker.{proofs.Trees.tree_of, specs.Groups.AreGroups}
+use Rattle.schedule_checker.proofs.Trees.{tree_of}
+use Rattle.{schedule_checker.specs.Groups.AreGroups, schedule_tables.specs.declared.entry.Entry.Entry, std.proofs.Common.{◌∙◌, List, subst, sym}}
 use Rattle.schedule_checker.proofs.checker.judge.Goals as goal
 
 pub beta-requires-clause-tree : goal.beta-requires-clause-tree

@@ -1,6 +1,5 @@
-use Rattle.std.proofs.{Common.{arith, get_or}, lemmas.Option.slice_get-get_or}
-use Rattle.schedule_tables.specs.declared.entry.Entry.{Entry}
-use Rattle.schedule_checker.proofs.Grouping.{grouped, one_more}
+use Rattle.{schedule_checker.proofs.Grouping.{grouped, one_more}, schedule_tables.specs.declared.entry.Entry.Entry, std.proofs.lemmas.Option.slice_get-get_or}
+use Rattle.std.proofs.Common.{arith, get_or}
 use Rattle.schedule_checker.proofs.groups.groups_of.Goals as goal
 
 pub loop-place-preserved : goal.loop-place-preserved

@@ -1,5 +1,4 @@
-use Rattle.schedule_tables.specs.declared.entry.Entry.{Entry}
-use Rattle.schedule_checker.proofs.Grouping.{HasPlaces}
+use Rattle.{schedule_checker.proofs.Grouping.HasPlaces, schedule_tables.specs.declared.entry.Entry.Entry}
 use Rattle.schedule_checker.proofs.groups.groups_of.Given as goal
 
 abbrev pub invariant-loop-place : goal.invariant-loop-place

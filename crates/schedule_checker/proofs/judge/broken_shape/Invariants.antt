@@ -1,6 +1,4 @@
-use Rattle.std.proofs.Common.{◌<◌, ℕ}
-use Rattle.schedule_tables.specs.Rules.{IsKeptAt}
-use Rattle.schedule_checker.specs.Judging.{shape_rule}
+use Rattle.{schedule_checker.specs.Judging.shape_rule, schedule_tables.specs.Rules.IsKeptAt, std.proofs.Common.{◌<◌, ℕ}}
 use Rattle.schedule_checker.proofs.judge.broken_shape.Given as goal
 
 abbrev pub invariant-places : goal.invariant-places

@@ -1,5 +1,4 @@
-use Rattle.std.proofs.Common.{◌+◌}
-use Rattle.schedule_tables.specs.Rules.{KeepsBelow}
+use Rattle.{schedule_tables.specs.Rules.KeepsBelow, std.proofs.Common.◌+◌}
 use Rattle.schedule_checker.proofs.judge.judge_plan.Given as goal
 
 abbrev pub invariant-rules : goal.invariant-rules

@@ -1,5 +1,4 @@
-use Rattle.std.proofs.Common.{◌+◌, arith, get_or}
-use Rattle.schedule_checker.{proofs.Told.{keeps_next, shape_number, shape_rules, tells}, specs.Judging.shape_rule}
+use Rattle.{schedule_checker.{proofs.Told.{keeps_next, shape_number, shape_rules, tells}, specs.Judging.shape_rule}, std.proofs.Common.{◌+◌, arith, get_or}}
 use Rattle.schedule_checker.specs.declared.parts.ShapeRule.TheVariants as shapes
 use Rattle.schedule_checker.proofs.judge.judge_shape.Goals as goal
 

@@ -1,7 +1,5 @@
-use Rattle.std.proofs.Common.{◌↔◌, ◌≡◌, Bool, IsTrue, subst, sym, ℕ}
-use Rattle.net_plan.specs.declared.network.Network.{Network}
-use Rattle.schedule_tables.specs.Rules.{IsKeptAt}
-use Rattle.schedule_checker.specs.{Judging.plan_rule, declared.parts.PlanRule.PlanRule}
+use Rattle.{net_plan.specs.declared.network.Network.Network, schedule_tables.specs.Rules.IsKeptAt}
+use Rattle.{schedule_checker.specs.{Judging.plan_rule, declared.parts.PlanRule.PlanRule}, std.proofs.Common.{◌↔◌, ◌≡◌, Bool, IsTrue, subst, sym, ℕ}}
 use Rattle.schedule_checker.proofs.kept.keeps_plan_rule.Goals as goal
 
 -- the test of a rule is the test of an equal one

@@ -1,6 +1,5 @@
-use Rattle.std.proofs.{Common.{◌≡◌, ◌≢◌, arith, rules}, lemmas.{Grind.common_steps, Int.ints}}
-use Rattle.schedule_tables.specs.Entries.{source_of}
 use Rattle.schedule_checker.proofs.{EntryPlaces.{entry_ranges, entry_read}, PortLemmas.{in_time_of_sender, in_time_of_switch}}
+use Rattle.{schedule_tables.specs.Entries.source_of, std.proofs.{Common.{◌≡◌, ◌≢◌, arith, rules}, lemmas.{Grind.common_steps, Int.ints}}}
 use Rattle.schedule_checker.proofs.ports.comes_in_time.Goals as goal
 
 pub comes_behind_all-requires-clause-entries : goal.comes_behind_all-requires-clause-entries

@@ -1,6 +1,5 @@
-use Rattle.std.{proofs.{Common.{◌==◌, ◌∙◌, ◌≡◌, rules, tests}, iter.runs.Made.chains}, specs.List.count_by}
-use Rattle.schedule_tables.specs.{Entries.source_of, Schedule.leaves, declared.entry.Entry.Entry}
-use Rattle.schedule_checker.proofs.PortLemmas.{rows_leave}
+use Rattle.{schedule_checker.proofs.PortLemmas.rows_leave, schedule_tables.specs.declared.entry.Entry.Entry, std.proofs.Common.{◌==◌, ◌∙◌, ◌≡◌, rules, tests}}
+use Rattle.{schedule_tables.specs.{Entries.source_of, Schedule.leaves}, std.{proofs.iter.runs.Made.chains, specs.List.count_by}}
 use Rattle.schedule_checker.proofs.ports.has_few_rows.Goals as goal
 
 pub returns : goal.returns

@@ -1,6 +1,5 @@
-use Rattle.std.proofs.Common.{◌≡◌, ◌≢◌, arith, refl, rules, take}
-use Rattle.schedule_tables.specs.Entries.{target_of}
-use Rattle.schedule_checker.proofs.{EntryPlaces.entry_read, RouteLemmas.{enters_anew, enters_anew_back}}
+use Rattle.{schedule_checker.proofs.EntryPlaces.entry_read, schedule_tables.specs.Entries.target_of}
+use Rattle.{schedule_checker.proofs.RouteLemmas.{enters_anew, enters_anew_back}, std.proofs.Common.{◌≡◌, ◌≢◌, arith, refl, rules, take}}
 use Rattle.schedule_checker.proofs.routes.enters_anew.Goals as goal
 
 pub returns-then-ne : goal.returns-then-ne

@@ -1,6 +1,5 @@
-use Rattle.std.proofs.Common.{◌≡◌, ◌≢◌, arith, inl, inr, rules, ⊎_elim}
-use Rattle.schedule_tables.specs.{Entries.source_of, Schedule.IsSwitch}
-use Rattle.schedule_checker.{proofs.{EntryPlaces.entry_read, RouteLemmas.{has_source, has_source_back}}, specs.Routes.IsEnteredElsewhere}
+use Rattle.{schedule_checker.{proofs.EntryPlaces.entry_read, specs.Routes.IsEnteredElsewhere}, schedule_tables.specs.{Entries.source_of, Schedule.IsSwitch}}
+use Rattle.{schedule_checker.proofs.RouteLemmas.{has_source, has_source_back}, std.proofs.Common.{◌≡◌, ◌≢◌, arith, inl, inr, rules, ⊎_elim}}
 use Rattle.schedule_checker.proofs.routes.has_source.Goals as goal
 
 pub returns-then-eq : goal.returns-then-eq

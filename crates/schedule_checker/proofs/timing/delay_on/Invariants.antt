@@ -1,5 +1,4 @@
-use Rattle.std.proofs.Common.{◌*◌, ◌^◌, ◌≡◌, ◌≤◌, length, take}
-use Rattle.schedule_tables.specs.Delays.{delay_on}
+use Rattle.{schedule_tables.specs.Delays.delay_on, std.proofs.Common.{◌*◌, ◌^◌, ◌≡◌, ◌≤◌, length, take}}
 use Rattle.schedule_checker.proofs.timing.delay_on.Given as goal
 
 abbrev pub invariant-loop-link : goal.invariant-loop-link

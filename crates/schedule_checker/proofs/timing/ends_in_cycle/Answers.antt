@@ -1,6 +1,5 @@
-use Rattle.std.{proofs.{Common.{◌∙◌, ◌≡◌, ap, arith}, lemmas.Bool.{le-leb, leb-true}}, specs.Prelude.unsigned_abs}
-use Rattle.schedule_tables.specs.{Windows.window_end, declared.window.Window.Window}
-use Rattle.schedule_checker.proofs.{EntryPlaces.entry_read, WindowLemmas.ends_from_entry}
+use Rattle.{schedule_checker.proofs.{EntryPlaces.entry_read, WindowLemmas.ends_from_entry}, schedule_tables.specs.declared.window.Window.Window}
+use Rattle.{schedule_tables.specs.Windows.window_end, std.{proofs.{Common.{◌∙◌, ◌≡◌, ap, arith}, lemmas.Bool.{le-leb, leb-true}}, specs.Prelude.unsigned_abs}}
 use Rattle.schedule_checker.proofs.timing.ends_in_cycle.Goals as goal
 
 pub window_of-window-requires-clause-entry : goal.window_of-window-requires-clause-entry

@@ -1,6 +1,5 @@
-use Rattle.std.proofs.{Common.{◌≤◌, arith, ℕ}, lemmas.Bool.{le-leb, leb-true}}
-use Rattle.tte_units.specs.Amount.{amount}
-use Rattle.schedule_checker.{proofs.BetaLemmas.{at_beta, of_beta}, specs.Timing.errors_of}
+use Rattle.{schedule_checker.{proofs.BetaLemmas.{at_beta, of_beta}, specs.Timing.errors_of}, std.proofs.lemmas.Bool.{le-leb, leb-true}}
+use Rattle.{std.proofs.Common.{◌≤◌, arith, ℕ}, tte_units.specs.Amount.amount}
 use Rattle.schedule_checker.proofs.timing.errors_settle.Goals as goal
 
 pub returns : goal.returns

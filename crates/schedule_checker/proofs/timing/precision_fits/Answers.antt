@@ -1,6 +1,5 @@
+use Rattle.{schedule_checker.{proofs.BetaLemmas.{errors_from_precision, precision_from_errors}, specs.Timing.errors_of}, tte_units.specs.Amount.amount}
 use Rattle.std.proofs.{Common.{◌*◌, ◌+◌, ◌≤◌, arith}, lemmas.Bool.{le-leb, leb-true}}
-use Rattle.tte_units.specs.Amount.{amount}
-use Rattle.schedule_checker.{proofs.BetaLemmas.{errors_from_precision, precision_from_errors}, specs.Timing.errors_of}
 use Rattle.schedule_checker.proofs.timing.precision_fits.Goals as goal
 
 pub returns-then-from-errors : goal.returns-then-from-errors

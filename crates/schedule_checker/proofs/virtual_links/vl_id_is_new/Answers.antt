@@ -1,6 +1,5 @@
-use Rattle.std.proofs.{Common.{◌≡◌, ◌≢◌, rules, tests}, lemmas.Iterator.{YieldsList-from_slice, YieldsList-from_take, cases_from_all}}
-use Rattle.net_plan.specs.declared.tables.VirtualLink.{VirtualLink}
-use Rattle.schedule_checker.proofs.EarlierLemmas.{new_from_all}
+use Rattle.{net_plan.specs.declared.tables.VirtualLink.VirtualLink, std.proofs.lemmas.Iterator.{YieldsList-from_slice, YieldsList-from_take, cases_from_all}}
+use Rattle.{schedule_checker.proofs.EarlierLemmas.new_from_all, std.proofs.Common.{◌≡◌, ◌≢◌, rules, tests}}
 use Rattle.schedule_checker.proofs.virtual_links.vl_id_is_new.Goals as goal
 
 pub returns : goal.returns

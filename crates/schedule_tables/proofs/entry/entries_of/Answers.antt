@@ -1,5 +1,4 @@
-use Rattle.std.proofs.Common.{◌∷◌, [], ap, arith, length, length-append}
-use Rattle.schedule_tables.{proofs.EntryLemmas.entry_pushed, specs.declared.entry.Entry.Entry}
+use Rattle.{schedule_tables.{proofs.EntryLemmas.entry_pushed, specs.declared.entry.Entry.Entry}, std.proofs.Common.{◌∷◌, [], ap, arith, length, length-append}}
 use Rattle.schedule_tables.proofs.entry.entries_of.Goals as goal
 
 pub loop-place-preserved : goal.loop-place-preserved

@@ -1,5 +1,4 @@
-use Rattle.std.{proofs.Common.{◌≡◌, Some, length, ℕ}, specs.Prelude.slice_get}
-use Rattle.schedule_tables.specs.{Entries.IsEntry, declared.entry.Entry.Entry}
+use Rattle.{schedule_tables.specs.{Entries.IsEntry, declared.entry.Entry.Entry}, std.{proofs.Common.{◌≡◌, Some, length, ℕ}, specs.Prelude.slice_get}}
 use Rattle.schedule_tables.proofs.entry.entries_of.Given as goal
 
 abbrev pub invariant-loop-place : goal.invariant-loop-place

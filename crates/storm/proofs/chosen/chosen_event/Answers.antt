@@ -1,5 +1,4 @@
-use Rattle.std.proofs.Common.{inl, inr, refl, subst, sym}
-use Rattle.net_plan.specs.{Belonging.IsOfNetwork, declared.event.Event.Event}
+use Rattle.{net_plan.specs.{Belonging.IsOfNetwork, declared.event.Event.Event}, std.proofs.Common.{inl, inr, refl, subst, sym}}
 use Rattle.storm.proofs.{Belongings.some_device, Within.knows_broken}
 use Rattle.storm.proofs.chosen.chosen_event.Goals as goal
 

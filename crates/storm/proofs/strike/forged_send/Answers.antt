@@ -1,8 +1,6 @@
-use Rattle.std.{proofs.{Common.{◌∙◌, List, ap, refl, rules, subst, sym}, lemmas.Option.slice_get_read}, specs.Prelude.slice_get}
-use Rattle.net_plan.specs.{Paths.IsUplink, declared.tables.Device.Device}
-use Rattle.pcf_codec.specs.Spelling.{Spells}
-use Rattle.pcf_values.specs.declared.{channel.Channel.Channel, pcf.Pcf.Pcf}
-use Rattle.storm.proofs.{Belongings.uplink_within, Masters.master_uplink}
+use Rattle.{net_plan.specs.Paths.IsUplink, pcf_codec.specs.Spelling.Spells, std.specs.Prelude.slice_get}
+use Rattle.{net_plan.specs.declared.tables.Device.Device, pcf_values.specs.declared.pcf.Pcf.Pcf, storm.proofs.{Belongings.uplink_within, Masters.master_uplink}}
+use Rattle.{pcf_values.specs.declared.channel.Channel.Channel, std.proofs.{Common.{◌∙◌, List, ap, refl, rules, subst, sym}, lemmas.Option.slice_get_read}}
 use Rattle.storm.proofs.strike.forged_send.Goals as goal
 
 pub returns-in_err-link-clause-value : goal.returns-in_err-link-clause-value

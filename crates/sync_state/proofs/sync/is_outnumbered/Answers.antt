@@ -1,7 +1,5 @@
+use Rattle.{membership.specs.Members.count_of, pcf_values.specs.declared.members.Members.Members, sync_state.proofs.VerdictLemmas.outnumbered}
 use Rattle.std.proofs.Common.{◌∙◌, ap}
-use Rattle.membership.specs.Members.{count_of}
-use Rattle.pcf_values.specs.declared.members.Members.{Members}
-use Rattle.sync_state.proofs.VerdictLemmas.{outnumbered}
 use Rattle.sync_state.proofs.sync.is_outnumbered.Goals as goal
 
 pub returns : goal.returns

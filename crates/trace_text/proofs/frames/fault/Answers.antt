@@ -1,5 +1,4 @@
-use Rattle.std.proofs.Common.{rules}
-use Rattle.trace_text.proofs.Digits.{IsHexadecimal, miscounted_digits, wrong_digits}
+use Rattle.{std.proofs.Common.rules, trace_text.proofs.Digits.{IsHexadecimal, miscounted_digits, wrong_digits}}
 use Rattle.trace_text.proofs.frames.fault.Goals as goal
 
 pub returns-then-is_hexadecimal : goal.returns-then-is_hexadecimal

@@ -1,5 +1,4 @@
-use Rattle.memchr.specs.Find.{is_byte}
-use Rattle.trace_text.{proofs.Finding.first_is_position, specs.Steps.space}
+use Rattle.{memchr.specs.Find.is_byte, trace_text.{proofs.Finding.first_is_position, specs.Steps.space}}
 use Rattle.trace_text.proofs.words.first_space.Goals as goal
 
 pub returns-clause-place : goal.returns-clause-place

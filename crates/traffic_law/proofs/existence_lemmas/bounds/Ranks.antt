@@ -1,27 +1,25 @@
 -- How great the numbers in the place of a record may be that is due at a time and rank.
-use Rattle.std.proofs.Common.{◌*◌, ◌++◌, ◌+ℤ◌, ◌+◌, ◌<◌, ◌∙◌, ◌∷◌, ◌≡◌, ◌≤◌, ◌⊎◌, List, None, Option, Some, [], ap, append-nil, append_assoc, arith, filter}
-use Rattle.std.proofs.{Common.{inl, inr, le-ltb, length, nat_lt, option_and_then, pos, subst, sym, unsigned_abs, ℕ, ℤ}, Math.Nat.mul-le-mul_left}
-use Rattle.std.{proofs.lemmas.{List.Elements.{filter-append, filter_map-append}, Option.slice_get_within}, specs.List.{after_last, filter_map}}
-use Rattle.std.specs.Option.{option_map_or}
-use Rattle.compression.{proofs.Times.one_list_of_clusters, specs.{Clusters.{AreClusters, Cluster, Point}, Emission.compressed}}
-use Rattle.compression.specs.declared.compressed.Compressed.{Compressed}
-use Rattle.net_plan.specs.{Places.is_master, declared.{ids.{DeviceId.DeviceId, LinkId.LinkId, VlId.VlId}, tables.Way.TheVariants.Up}}
-use Rattle.pcf_values.specs.declared.members.Members.{Members}
+use Rattle.{compression.proofs.Times.one_list_of_clusters, traffic_law.proofs.existence_lemmas.bounds.Named.{no_point, received, signs, source_end, touched}}
+use Rattle.{compression.specs.Clusters.{AreClusters, Cluster, Point}, run_law.specs.{declared.judgement.Reason.Reason, scenario.Devices.{is_cm_role, start_of}}}
+use Rattle.{compression.specs.{Emission.compressed, declared.compressed.Compressed.Compressed}, run_law.specs.control.Permanence.{BecomesPermanent, ripe_as}}
+use Rattle.{net_plan.specs.Places.is_master, run_law.{proofs.runs.Places.in_right, specs.records.Order.IsIn}, std.proofs.Math.Nat.mul-le-mul_left}
+use Rattle.{net_plan.specs.declared.{ids.{DeviceId.DeviceId, LinkId.LinkId}, tables.Way.TheVariants.Up}, run_law.proofs.records.Order.{contained, makes_none}}
+use Rattle.{net_plan.specs.declared.ids.VlId.VlId, run_law.specs.{control.Emissions.Emits, declared.steps.Ripe.Ripe}, std.specs.List.{after_last, filter_map}}
+use Rattle.{pcf_values.specs.declared.members.Members.Members, run_law.specs.{device.StateChanges.ChangesState, timed.Dispatching.{Dispatches, Sends}}}
 use Rattle.precision_law.proofs.records.{Behind.{PartsAtLast, after_last_at, after_more, not_each, parts_at_last}, Points.last_in}
-use Rattle.run_law.{proofs.control.Points.no_cluster, specs.{device.LocalClocks.Reaches, records.Ranks.{key, rank, sign}, timed.Receptions.ArrivesAs}}
+use Rattle.run_law.{proofs.control.Points.no_cluster, specs.{declared.{note.NoteBody.NoteBody, steps.Arrival.Arrival}, records.Ranks.{key, rank, sign}}}
 use Rattle.run_law.{proofs.law.FirstPlaces.{in_at, in_filter, none_kept}, specs.runs.DueRecords.{IsArrivedRecord, IsCaused, IsClockRecord, IsEventRecord}}
-use Rattle.run_law.{proofs.records.Order.{contained, makes_none}, specs.{scenario.Devices.{is_cm_role, start_of}, timed.Dispatching.{Dispatches, Sends}}}
-use Rattle.run_law.{proofs.runs.Places.in_right, specs.{declared.steps.Ripe.Ripe, records.Order.IsIn}}
 use Rattle.run_law.specs.control.{Collections.{ends_stretch, observation_window, point_by, points_of}, Corrections.{ComesToCorrection, standing_before}}
-use Rattle.run_law.specs.{control.{Emissions.Emits, Permanence.{BecomesPermanent, ripe_as}}, device.States.{adjustment_after, adjustment_before, state_after}}
 use Rattle.run_law.specs.{control.Leaving.{Departs, Departure, leaves}, declared.judgement.Judgement.Judgement, scenario.Scenarios.{Scenario, is_turned_on_at}}
 use Rattle.run_law.specs.{control.Losses.{IsDispatchedOn, IsDropped, IsLost}, records.Happenings.{Happening, earlier, frame_by, frame_from, numbered, time_of}}
-use Rattle.run_law.specs.{declared.{judgement.{Reason.Reason, Why.Why}, note.NoteBody.NoteBody, steps.Arrival.Arrival}, device.StateChanges.ChangesState}
+use Rattle.{run_law.specs.{declared.judgement.Why.Why, device.LocalClocks.Reaches, timed.Receptions.ArrivesAs}, tte_units.specs.declared.units.Units.Units}
+use Rattle.{run_law.specs.device.States.{adjustment_after, adjustment_before, state_after}, std.proofs.lemmas.List.Elements.{filter-append, filter_map-append}}
+use Rattle.std.proofs.Common.{◌*◌, ◌++◌, ◌+ℤ◌, ◌+◌, ◌<◌, ◌∙◌, ◌∷◌, ◌≡◌, ◌≤◌, ◌⊎◌, List, None, Option, Some, [], ap, append-nil, append_assoc, arith, filter}
+use Rattle.std.proofs.{Common.{inl, inr, le-ltb, length, nat_lt, option_and_then, pos, subst, sym, unsigned_abs, ℕ, ℤ}, lemmas.Option.slice_get_within}
+use Rattle.{std.specs.Option.option_map_or, tte_units.specs.Amount.amount}
 use Rattle.sync_state.specs.{Standing.{point_in as point_by_state, state_at_start}, declared.{answers.Verdict.TheVariants.Corrected, state.State.State}}
-use Rattle.tte_units.specs.{Amount.amount, declared.units.Units.Units}
 use Rattle.traffic_law.proofs.existence_lemmas.{Sweep.IsSized, bounds.Weights.{link_in, numbered_part, point_in, reach_most, sent_in, size_of, weight}}
 use Rattle.traffic_law.proofs.existence_lemmas.bounds.Named.{IsTouched, begins, device_there, giver, joined_device, joined_rank, launch_rank, never_off}
-use Rattle.traffic_law.proofs.existence_lemmas.bounds.Named.{no_point, received, signs, source_end, touched}
 use Rattle.traffic_law.proofs.existence_lemmas.bounds.Weights.{at_clock, bound, clock_at, clusters_at, device_in, devices_below, ends, in_sum, in_total}
 use Rattle.precision_law.proofs.records.Behind as parts
 use Rattle.run_law.specs.declared.judgement.Why.TheVariants as whys

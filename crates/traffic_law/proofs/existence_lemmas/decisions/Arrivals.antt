@@ -1,14 +1,12 @@
 -- Decisions: whether the record of a frame that arrives, and is taken, is due.
-use Rattle.std.proofs.Common.{◌+◌, ◌∙◌, ◌≡◌, List, Some, ap, arith, inl, inr, refl, subst, sym, ℕ}
-use Rattle.net_plan.specs.declared.{ids.{DeviceId.DeviceId, LinkId.LinkId, VlId.VlId}, tables.Way.TheVariants.Up}
-use Rattle.run_law.proofs.{runs.SameSteps.same_arrival, scenario.{Conditions.same_device, Decisions.{IsDecided, decided_and, decided_by, decided_same}}}
-use Rattle.run_law.specs.{control.Wires.{Arrives, Launch, launched, time_on_port}, declared.{note.NoteBody.NoteBody, steps.Arrival.Arrival}}
-use Rattle.run_law.specs.{records.{Happenings.{Happening, numbered, time_of}, Ranks.{key, rank}}, runs.DueRecords.{IsArrivedRecord, IsCaused}}
-use Rattle.run_law.specs.{scenario.{Scenarios.Scenario, Ways.{delay_at, receiver_of}}, timed.Receptions.{ArrivesAs, arrival_of}}
-use Rattle.tte_lemmas.proofs.Options.{one as same_some}
-use Rattle.tte_units.specs.Amount.{units_of}
-use Rattle.traffic_law.proofs.existence_lemmas.decisions.Places.{HasCaused, OfThree, by_three, caused, members_by}
-use Rattle.traffic_law.proofs.existence_lemmas.decisions.Values.{decided_in, decided_within, same_link, same_some_by}
+use Rattle.{net_plan.specs.declared.{ids.{DeviceId.DeviceId, LinkId.LinkId}, tables.Way.TheVariants.Up}, run_law.proofs.scenario.Conditions.same_device}
+use Rattle.{net_plan.specs.declared.ids.VlId.VlId, traffic_law.proofs.existence_lemmas.decisions.Values.{decided_in, decided_within, same_link, same_some_by}}
+use Rattle.run_law.{proofs.runs.SameSteps.same_arrival, specs.{declared.{note.NoteBody.NoteBody, steps.Arrival.Arrival}, scenario.Scenarios.Scenario}}
+use Rattle.run_law.{proofs.scenario.Decisions.{IsDecided, decided_and, decided_by, decided_same}, specs.control.Wires.{Arrives, Launch, launched, time_on_port}}
+use Rattle.run_law.specs.{records.Happenings.{Happening, numbered, time_of}, runs.DueRecords.{IsArrivedRecord, IsCaused}, scenario.Ways.{delay_at, receiver_of}}
+use Rattle.{run_law.specs.records.Ranks.{key, rank}, traffic_law.proofs.existence_lemmas.decisions.Places.{HasCaused, OfThree, by_three, caused, members_by}}
+use Rattle.{run_law.specs.timed.Receptions.{ArrivesAs, arrival_of}, std.proofs.Common.{◌+◌, ◌∙◌, ◌≡◌, List, Some, ap, arith, inl, inr, refl, subst, sym, ℕ}}
+use Rattle.{tte_lemmas.{proofs.{Options.{one as same_some}}}, tte_units.specs.Amount.units_of}
 use Rattle.run_law.specs.declared.note.NoteBody.TheVariants as notes
 use Rattle.run_law.specs.declared.steps.Arrival.TheVariants as arrivals
 

@@ -1,10 +1,8 @@
 -- Decisions: when a clock reaches a value.
-use Rattle.std.proofs.{Common.{◌-ℤ◌, ◌<ℤ◌, ◌<◌, ◌≡◌, ◌≤ℤ◌, List, arith, inl, inr, pos, subst, suc, sym, zero, ℕ, ℤ}, lemmas.Bool.cases_eq}
-use Rattle.std.proofs.lemmas.Int.{by_lt_z, ints}
-use Rattle.drift_clock.specs.Reach.{IsReach}
-use Rattle.net_plan.specs.declared.ids.DeviceId.{DeviceId}
-use Rattle.run_law.{proofs.scenario.Decisions.{IsDecided, decided_and, decided_by, decided_less_int}, specs.scenario.Scenarios.Scenario}
+use Rattle.{drift_clock.specs.Reach.IsReach, std.proofs.lemmas.{Bool.cases_eq, Int.{by_lt_z, ints}}}
+use Rattle.{net_plan.specs.declared.ids.DeviceId.DeviceId, run_law.proofs.scenario.Decisions.{IsDecided, decided_and, decided_by, decided_less_int}}
 use Rattle.run_law.specs.{device.{LocalClocks.{Reaches, changed_at, local_at_change}, States.adjustment_before}, records.Happenings.Happening}
+use Rattle.{run_law.specs.scenario.Scenarios.Scenario, std.proofs.Common.{◌-ℤ◌, ◌<ℤ◌, ◌<◌, ◌≡◌, ◌≤ℤ◌, List, arith, inl, inr, pos, subst, suc, sym, zero, ℕ, ℤ}}
 
 at_most_int : (a b : ℤ) → IsDecided (a ≤ℤ b)
 at_most_int a b = by_lt_z {P = IsDecided (a ≤ℤ b)} b a (λ lt. inr (λ le. absurd (omega (arith, ints, lt, le)))) (λ le. inl le)

@@ -1,17 +1,14 @@
 -- Decisions: to what a correction point comes, and whether the record of a correction is due.
-use Rattle.std.proofs.Common.{◌+ℤ◌, ◌≡◌, List, Some, arith, false, inl, inr, refl, subst, ℕ}
-use Rattle.membership.{proofs.OneSummary.one_summary, specs.Summary.Summary}
-use Rattle.net_plan.specs.declared.ids.DeviceId.{DeviceId}
-use Rattle.run_law.{proofs.{control.Summaries.{summary_of, verdict_of}, scenario.Choices.at_integration}, specs.declared.note.NoteBody.NoteBody}
+use Rattle.{membership.proofs.OneSummary.one_summary, run_law.specs.device.LocalClocks.Reaches, sync_state.proofs.LawLemmas.one_verdict}
+use Rattle.{membership.specs.Summary.Summary, run_law.specs.records.Ranks.{key, rank}, sync_state.specs.Verdicts.HasVerdict, tte_units.specs.Amount.units_of}
+use Rattle.{net_plan.specs.declared.ids.DeviceId.DeviceId, run_law.specs.{declared.note.NoteBody.NoteBody, device.States.adjustment_before}}
+use Rattle.{run_law.proofs.control.Summaries.{summary_of, verdict_of}, traffic_law.proofs.existence_lemmas.decisions.Clocks.reaches_decided}
+use Rattle.{run_law.proofs.scenario.Choices.at_integration, std.proofs.Common.{◌+ℤ◌, ◌≡◌, List, Some, arith, false, inl, inr, refl, subst, ℕ}}
 use Rattle.run_law.{proofs.scenario.Decisions.{IsDecided, decided_and, decided_by, decided_false}, specs.runs.DueRecords.{IsCaused, IsCorrectedRecord}}
 use Rattle.run_law.specs.{control.Corrections.{ComesToCorrection, correction_value, heard_since, standing_before}, scenario.Scenarios.{Scenario, is_broken}}
-use Rattle.run_law.specs.{device.{LocalClocks.Reaches, States.adjustment_before}, records.{Happenings.Happening, Ranks.{key, rank}}}
-use Rattle.sync_state.{proofs.LawLemmas.one_verdict, specs.{Standing.{Standing, next_point}, Verdicts.HasVerdict, declared.answers.Verdict.Verdict}}
-use Rattle.sync_state.specs.declared.answers.Verdict.TheVariants.{AsyncClique, Cleared, Corrected, SyncClique}
-use Rattle.tte_lemmas.proofs.Options.{one as same_some}
-use Rattle.tte_units.specs.{Amount.units_of, declared.units.Units.Units}
-use Rattle.traffic_law.proofs.existence_lemmas.decisions.{Clocks.reaches_decided, Places.{HasCaused, OfOne, by_one, caused, members_by}}
-use Rattle.traffic_law.proofs.existence_lemmas.decisions.Values.{decided_in, decided_within}
+use Rattle.{run_law.specs.records.Happenings.Happening, tte_lemmas.{proofs.{Options.{one as same_some}}}, tte_units.specs.declared.units.Units.Units}
+use Rattle.sync_state.specs.{Standing.{Standing, next_point}, declared.answers.Verdict.{TheVariants.{AsyncClique, Cleared, Corrected, SyncClique}, Verdict}}
+use Rattle.traffic_law.proofs.existence_lemmas.decisions.{Places.{HasCaused, OfOne, by_one, caused, members_by}, Values.{decided_in, decided_within}}
 use Rattle.run_law.specs.declared.note.NoteBody.TheVariants as notes
 
 -- ---- each point comes to a verdict

@@ -1,16 +1,15 @@
 -- Decisions: whether the record of a master's frame, or of a time-triggered frame that is dispatched, is due.
-use Rattle.std.proofs.{Common.{◌%◌, ◌*◌, ◌+◌, ◌<◌, ◌∙◌, ◌≡◌, List, Some, ap, arith, inr, length, pos, slice_get, subst, sym, ℕ}, lemmas.Option.slice_get_within}
-use Rattle.net_plan.specs.declared.{ids.{DeviceId.DeviceId, LinkId.LinkId, VlId.VlId}, tables.{Link.Link, Row.Row, VirtualLink.VirtualLink}}
+use Rattle.{net_plan.specs.declared.ids.{DeviceId.DeviceId, VlId.VlId}, run_law.{proofs.scenario.Conditions.same_device, specs.declared.note.NoteBody.NoteBody}}
+use Rattle.{net_plan.specs.declared.ids.LinkId.LinkId, run_law.specs.records.Happenings.Happening, tte_lemmas.{proofs.{Options.{one as same_some}}}}
+use Rattle.{net_plan.specs.declared.tables.Link.Link, run_law.specs.{device.{LocalClocks.Reaches, States.state_before}, runs.DueRecords.IsCaused}}
+use Rattle.{net_plan.specs.declared.tables.{Row.Row, VirtualLink.VirtualLink}, schedule_tables.specs.{Entries.{IsEntry, source_of}, declared.entry.Entry.Entry}}
 use Rattle.run_law.proofs.scenario.{Choices.decided_le, Decisions.{IsDecided, decided_and, decided_by, decided_false, decided_or, decided_same, decided_true}}
-use Rattle.run_law.{proofs.scenario.Conditions.same_device, specs.{declared.note.NoteBody.NoteBody, runs.DueRecords.IsCaused, scenario.Ways.{is_cut, way_from}}}
-use Rattle.run_law.specs.{control.Losses.IsDispatchedOn, device.{LocalClocks.Reaches, States.state_before}, records.{Happenings.Happening, Ranks.{key, rank}}}
-use Rattle.run_law.specs.scenario.Devices.{is_end}
+use Rattle.{run_law.specs.{control.Losses.IsDispatchedOn, scenario.{Devices.is_end, Ways.{is_cut, way_from}}}, schedule_tables.proofs.EntryLemmas.one_entry}
+use Rattle.{run_law.specs.records.Ranks.{key, rank}, schedule_tables.specs.Windows.OccursIn, tte_units.specs.Amount.{amount, units_of}}
 use Rattle.run_law.specs.{scenario.Scenarios.{Scenario, is_broken}, timed.Dispatching.{Dispatches, HasAccepted, HasAtHand, IsUp, Sends, last_accepted}}
-use Rattle.schedule_tables.{proofs.EntryLemmas.one_entry, specs.{Entries.{IsEntry, source_of}, Windows.OccursIn, declared.entry.Entry.Entry}}
-use Rattle.tte_lemmas.proofs.Options.{one as same_some}
-use Rattle.tte_units.specs.Amount.{amount, units_of}
-use Rattle.traffic_law.proofs.existence_lemmas.decisions.{Clocks.reaches_decided, Places.{HasCaused, OfFive, OfTwo, by_five, by_two, caused, members_by}}
-use Rattle.traffic_law.proofs.existence_lemmas.decisions.Values.{decided_below, decided_in, is_synchronised, same_link, same_vl}
+use Rattle.std.proofs.{Common.{◌%◌, ◌*◌, ◌+◌, ◌<◌, ◌∙◌, ◌≡◌, List, Some, ap, arith, inr, length, pos, slice_get, subst, sym, ℕ}, lemmas.Option.slice_get_within}
+use Rattle.traffic_law.proofs.existence_lemmas.decisions.{Clocks.reaches_decided, Values.{decided_below, decided_in, is_synchronised, same_link, same_vl}}
+use Rattle.traffic_law.proofs.existence_lemmas.decisions.Places.{HasCaused, OfFive, OfTwo, by_five, by_two, caused, members_by}
 use Rattle.run_law.specs.declared.note.NoteBody.TheVariants as notes
 
 -- ---- a master's frame

@@ -1,13 +1,11 @@
 -- Decisions: whether the record of a compression master's frame is due.
-use Rattle.std.proofs.Common.{◌∙◌, ◌∷◌, ◌≡◌, Any, List, [], ap, arith, false, inr, pos, refl, subst, sym, true, ℕ}
-use Rattle.compression.{proofs.Times.one_list_of_clusters, specs.{Clusters.Cluster, Emission.compressed, declared.compressed.Compressed.Compressed}}
+use Rattle.{compression.proofs.Times.one_list_of_clusters, run_law.specs.{declared.judgement.Judgement.Judgement, scenario.Scenarios.{Scenario, is_broken}}}
+use Rattle.{compression.specs.{Clusters.Cluster, Emission.compressed}, run_law.specs.scenario.Devices.is_cm, tte_units.specs.Amount.{amount, units_of}}
+use Rattle.{compression.specs.declared.compressed.Compressed.Compressed, run_law.specs.control.{Collections.{observation_window, points_of}, Emissions.Emits}}
 use Rattle.drift_clock.specs.Reach.{IsReach}
-use Rattle.net_plan.specs.declared.ids.DeviceId.{DeviceId}
-use Rattle.run_law.proofs.scenario.Decisions.{IsDecided, decided_and, decided_any, decided_by, decided_false, decided_true}
-use Rattle.run_law.specs.{control.{Collections.{observation_window, points_of}, Emissions.Emits}, declared.judgement.Judgement.Judgement}
-use Rattle.run_law.specs.{declared.note.NoteBody.NoteBody, records.{Happenings.Happening, Ranks.{key, rank, sign}}, runs.DueRecords.IsCaused}
-use Rattle.run_law.specs.scenario.{Devices.is_cm, Scenarios.{Scenario, is_broken}}
-use Rattle.tte_units.specs.Amount.{amount, units_of}
+use Rattle.{net_plan.specs.declared.ids.DeviceId.DeviceId, run_law.specs.{declared.note.NoteBody.NoteBody, records.Ranks.{key, rank, sign}}}
+use Rattle.run_law.{proofs.scenario.Decisions.{IsDecided, decided_and, decided_any, decided_by, decided_false, decided_true}, specs.runs.DueRecords.IsCaused}
+use Rattle.{run_law.specs.records.Happenings.Happening, std.proofs.Common.{◌∙◌, ◌∷◌, ◌≡◌, Any, List, [], ap, arith, false, inr, pos, refl, subst, sym, true, ℕ}}
 use Rattle.traffic_law.proofs.existence_lemmas.decisions.{Clocks.reach_decided, Places.{HasCaused, by_keys, members_by}, Values.same_list}
 use Rattle.run_law.specs.declared.note.NoteBody.TheVariants as notes
 

@@ -1,19 +1,15 @@
 -- Decisions: whether the record of a frame that is permanent is due, and what becomes of the frame.
-use Rattle.std.{proofs.Common.{◌∙◌, ◌∷◌, ◌≡◌, List, Some, [], ap, arith, false, inl, inr, pos, refl, subst, sym, true, ℕ, ℤ}, specs.Option.option_map_or}
-use Rattle.drift_clock.specs.Reach.{IsReach}
-use Rattle.net_plan.specs.declared.ids.{DeviceId.DeviceId, LinkId.LinkId}
-use Rattle.pcf_values.specs.declared.pcf.Pcf.{Pcf}
-use Rattle.run_law.proofs.{control.Verdicts.{never_dropped, some_outcome}, runs.SameSteps.{same_point, same_ripening}, scenario.Conditions.same_device}
-use Rattle.run_law.proofs.scenario.Decisions.{IsDecided, decided_and, decided_by, decided_false, decided_same, decided_true}
-use Rattle.run_law.specs.control.{Collections.points_of, Permanence.{BecomesPermanent, before_permanence, ripe_as, waits_for}}
-use Rattle.run_law.specs.declared.{judgement.{Judgement.Judgement, Reason.Reason}, note.NoteBody.NoteBody, steps.Ripe.Ripe}
-use Rattle.run_law.specs.{device.States.{adjustment_at_hearing, state_at_hearing}, records.Happenings.{Happening, frame_from, numbered, time_of}}
-use Rattle.run_law.specs.{records.Ranks.{key, rank}, runs.DueRecords.IsCaused, scenario.Scenarios.{Scenario, is_broken}}
-use Rattle.transparent_clock.specs.Points.{point_of}
-use Rattle.tte_lemmas.proofs.Options.{one as same_some}
-use Rattle.tte_units.specs.{Amount.{amount, units_of}, declared.units.Units.Units}
-use Rattle.traffic_law.proofs.existence_lemmas.decisions.{Clocks.reach_decided, Places.{HasCaused, OfFive, by_five, members_by}}
-use Rattle.traffic_law.proofs.existence_lemmas.decisions.Values.{decided_in, decided_within, same_link}
+use Rattle.{drift_clock.specs.Reach.IsReach, std.proofs.Common.{◌∙◌, ◌∷◌, ◌≡◌, List, Some, [], ap, arith, false, inl, inr, pos, refl, subst, sym, true, ℕ, ℤ}}
+use Rattle.{net_plan.specs.declared.ids.DeviceId.DeviceId, tte_lemmas.{proofs.{Options.{one as same_some}}}, tte_units.specs.declared.units.Units.Units}
+use Rattle.{net_plan.specs.declared.ids.LinkId.LinkId, transparent_clock.specs.Points.point_of, tte_units.specs.Amount.{amount, units_of}}
+use Rattle.{pcf_values.specs.declared.pcf.Pcf.Pcf, run_law.specs.{declared.steps.Ripe.Ripe, records.Ranks.{key, rank}, runs.DueRecords.IsCaused}}
+use Rattle.run_law.{proofs.{control.Verdicts.{never_dropped, some_outcome}, runs.SameSteps.{same_point, same_ripening}}, specs.control.Collections.points_of}
+use Rattle.run_law.proofs.scenario.{Conditions.same_device, Decisions.{IsDecided, decided_and, decided_by, decided_false, decided_same, decided_true}}
+use Rattle.run_law.specs.{control.Permanence.{BecomesPermanent, before_permanence, ripe_as, waits_for}, device.States.{adjustment_at_hearing, state_at_hearing}}
+use Rattle.run_law.specs.{declared.{judgement.{Judgement.Judgement, Reason.Reason}, note.NoteBody.NoteBody}, scenario.Scenarios.{Scenario, is_broken}}
+use Rattle.{run_law.specs.records.Happenings.{Happening, frame_from, numbered, time_of}, traffic_law.proofs.existence_lemmas.decisions.Clocks.reach_decided}
+use Rattle.std.specs.Option.{option_map_or}
+use Rattle.traffic_law.proofs.existence_lemmas.decisions.{Places.{HasCaused, OfFive, by_five, members_by}, Values.{decided_in, decided_within, same_link}}
 use Rattle.run_law.specs.declared.judgement.Judgement.TheVariants as judgements
 use Rattle.run_law.specs.declared.note.NoteBody.TheVariants as notes
 use Rattle.run_law.specs.declared.steps.Ripe.TheVariants as ripe

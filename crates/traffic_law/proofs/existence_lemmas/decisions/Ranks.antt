@@ -1,8 +1,7 @@
 -- It is decided whether a record is due at a place.
-use Rattle.std.proofs.{Common.{◌<◌, ◌∷◌, ◌≤◌, List, [], arith, inl, inr, subst, sym, ℕ}, lemmas.Bool.cases_eq}
-use Rattle.run_law.{proofs.scenario.Decisions.IsDecided, specs.{declared.note.NoteBody.NoteBody, records.{Happenings.Happening, Ranks.{place_of, rank}}}}
-use Rattle.run_law.specs.{runs.DueRecords.IsDue, scenario.Scenarios.Scenario}
-use Rattle.tte_units.specs.Amount.{amount}
+use Rattle.run_law.{proofs.scenario.Decisions.IsDecided, specs.{records.{Happenings.Happening, Ranks.{place_of, rank}}, scenario.Scenarios.Scenario}}
+use Rattle.{run_law.specs.{declared.note.NoteBody.NoteBody, runs.DueRecords.IsDue}, std.proofs.Common.{◌<◌, ◌∷◌, ◌≤◌, List, [], arith, inl, inr, subst, sym, ℕ}}
+use Rattle.{std.proofs.lemmas.Bool.cases_eq, tte_units.specs.Amount.amount}
 use Rattle.traffic_law.proofs.existence_lemmas.{Sweep.HasDue, decisions.{Dispatches.{sent_decided, tt_sent_decided}, Events.{clock_decided, event_decided}}}
 use Rattle.traffic_law.proofs.existence_lemmas.decisions.{Arrivals.{accepted_decided, arrived_decided, delivered_decided}, Losses.{drop_decided, lost_decided}}
 use Rattle.traffic_law.proofs.existence_lemmas.decisions.{Corrections.corrected_decided, Emissions.compressed_decided, Places.{HasCaused, due_decided}}

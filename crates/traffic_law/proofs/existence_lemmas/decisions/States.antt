@@ -1,15 +1,14 @@
 -- Decisions: whether the record of a device's new state is due.
-use Rattle.std.proofs.Common.{◌≡◌, ◌⊎◌, List, ap, arith, false, inl, inr, refl, true, ℕ}
-use Rattle.net_plan.specs.declared.{event.What.TheVariants.On, ids.DeviceId.DeviceId}
-use Rattle.run_law.{proofs.scenario.Conditions.same_device, specs.{declared.{judgement.Why.Why, note.NoteBody.NoteBody}, device.StateChanges.ChangesState}}
+use Rattle.{net_plan.specs.declared.event.What.TheVariants.On, run_law.specs.{control.Corrections.ComesToCorrection, scenario.Scenarios.{Scenario, is_broken}}}
+use Rattle.{net_plan.specs.declared.ids.DeviceId.DeviceId, run_law.specs.declared.note.NoteBody.NoteBody, sync_state.specs.declared.state.State.State}
+use Rattle.{run_law.{proofs.scenario.Conditions.same_device, specs.device.StateChanges.ChangesState}, sync_state.specs.declared.answers.Verdict.Verdict}
 use Rattle.run_law.proofs.scenario.Decisions.{IsDecided, decided_and, decided_by, decided_false, decided_or, decided_same, decided_true}
-use Rattle.run_law.specs.{control.Corrections.ComesToCorrection, device.States.{is_joined_by, state_before}, scenario.Scenarios.{Scenario, is_broken}}
-use Rattle.run_law.specs.{records.{Causes.IsOfThisTime, Happenings.Happening, Ranks.{key, rank}}, runs.DueRecords.IsCaused}
-use Rattle.sync_state.specs.declared.{answers.Verdict.{Verdict, TheVariants.{AsyncClique, SyncClique}}, state.State.State}
-use Rattle.sync_state.specs.declared.state.State.TheVariants.{Integrating, Joining, Synchronised}
-use Rattle.tte_units.specs.{Amount.units_of, declared.units.Units.Units}
+use Rattle.{run_law.specs.{declared.judgement.Why.Why, records.{Causes.IsOfThisTime, Happenings.Happening}}, tte_units.specs.declared.units.Units.Units}
+use Rattle.{run_law.specs.device.States.{is_joined_by, state_before}, std.proofs.Common.{◌≡◌, ◌⊎◌, List, ap, arith, false, inl, inr, refl, true, ℕ}}
+use Rattle.run_law.specs.{records.Ranks.{key, rank}, runs.DueRecords.IsCaused}
+use Rattle.sync_state.specs.declared.{answers.Verdict.TheVariants.{AsyncClique, SyncClique}, state.State.TheVariants.{Integrating, Joining, Synchronised}}
 use Rattle.traffic_law.proofs.existence_lemmas.decisions.{Corrections.{one_outcome, point_decided}, Values.{decided_within, is_joining}}
-use Rattle.traffic_law.proofs.existence_lemmas.decisions.Places.{HasCaused, OfTwo, by_two, cause_decided, caused, members_by}
+use Rattle.{traffic_law.proofs.existence_lemmas.decisions.Places.{HasCaused, OfTwo, by_two, cause_decided, caused, members_by}, tte_units.specs.Amount.units_of}
 use Rattle.run_law.specs.declared.judgement.Why.TheVariants as whys
 use Rattle.run_law.specs.declared.note.NoteBody.TheVariants as notes
 

@@ -1,9 +1,8 @@
 -- Decisions on values: equalities, and searches below a bound.
+use Rattle.{net_plan.specs.declared.ids.LinkId.LinkId, sync_state.specs.declared.state.State.{State, TheVariants.{Integrating, Joining, Off, Synchronised}}}
+use Rattle.{net_plan.specs.declared.ids.VlId.VlId, run_law.proofs.scenario.Decisions.{IsDecided, decided_and, decided_by, decided_same}}
 use Rattle.std.proofs.Common.{◌<◌, ◌∙◌, ◌∷◌, ◌≡◌, List, None, Option, Some, [], ap, arith, inl, inr, negsuc, pos, refl, subst, suc, sym, zero, ℕ, ℤ}
 use Rattle.std.proofs.lemmas.Bool.{cases_eq}
-use Rattle.net_plan.specs.declared.ids.{LinkId.LinkId, VlId.VlId}
-use Rattle.run_law.proofs.scenario.Decisions.{IsDecided, decided_and, decided_by, decided_same}
-use Rattle.sync_state.specs.declared.state.State.{State, TheVariants.{Integrating, Joining, Off, Synchronised}}
 
 -- ---- equalities
 

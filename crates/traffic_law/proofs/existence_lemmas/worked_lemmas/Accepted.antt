@@ -1,5 +1,5 @@
 -- The worked network is accepted.
-use Rattle.schedule_tables.specs.{Rules.IsKept, declared.rule.Rule.{Rule, TheVariants.WindowEnds}}
+use Rattle.{schedule_tables.specs.{Rules.IsKept, declared.rule.Rule.{Rule, TheVariants.WindowEnds}}, traffic_law.specs.existence.worked.Worked.worked}
 use Rattle.schedule_tables.specs.declared.rule.Rule.TheVariants.{BothChannels, CompressionMasters, Connections, Correction, Delays, DevicesDiffer, Forwarding}
 use Rattle.schedule_tables.specs.declared.rule.Rule.TheVariants.{Joints, Limits, LinksDiffer, LinksOnce, Masters, Periods, Precision, RowsOfDevice}
 use Rattle.schedule_tables.specs.declared.rule.Rule.TheVariants.{ScheduleStart, Senders, Settling, Sources, Spacing, Targets, VlIdsDiffer, VlNamesDiffer}
@@ -7,7 +7,6 @@ use Rattle.traffic_law.proofs.existence_lemmas.worked_lemmas.Rows.{both_channels
 use Rattle.traffic_law.proofs.existence_lemmas.worked_lemmas.Rows.{links_once, rows_stand_apart, vl_ids_differ, vl_names_differ, windows_end}
 use Rattle.traffic_law.proofs.existence_lemmas.worked_lemmas.Shape.{cms_kept, connected, devices_differ, joins_kept, limits_kept, links_differ, masters_kept}
 use Rattle.traffic_law.proofs.existence_lemmas.worked_lemmas.Times.{correction_fits, delays_fit, errors_settle, precision_fits, schedule_fits}
-use Rattle.traffic_law.specs.existence.worked.Worked.{worked}
 
 pub worked_keeps_rules : (rule : Rule) → IsKept rule worked
 worked_keeps_rules Limits place = limits_kept place

@@ -1,9 +1,8 @@
 -- The worked network is in range.
-use Rattle.std.proofs.{Common.{◌+◌, ◌^◌, ◌≡◌, ◌≤◌, IfSome, List, Some, arith, inl, length, not, refl, true, ℕ}, Math.Dec.leb-zero}
-use Rattle.std.{proofs.lemmas.{Bool.leb-true, Int.ints}, specs.{List.list_all, Prelude.{codes, is_some, nat_le}}}
 use Rattle.net_plan.specs.{NameText.{IsNameText, is_name_character}, Places.{is_end_system, is_master}, declared.tables.{Device.Device, Way.Way}}
 use Rattle.net_plan.specs.{Ranges.{IsDeviceInRange, IsInRange, IsLinkInRange, IsRowInRange, IsVlInRange, IsWithin}, declared.tables.Way.TheVariants.{Down, Up}}
-use Rattle.tte_units.specs.{Amount.units_of}
+use Rattle.std.{proofs.Common.{◌+◌, ◌^◌, ◌≡◌, ◌≤◌, IfSome, List, Some, arith, inl, length, not, refl, true, ℕ}, specs.Prelude.{codes, is_some, nat_le}}
+use Rattle.{std.{proofs.{Math.Dec.leb-zero, lemmas.{Bool.leb-true, Int.ints}}, specs.List.list_all}, tte_units.specs.Amount.units_of}
 use Rattle.traffic_law.{proofs.existence_lemmas.worked_lemmas.Lists.all_each, specs.existence.worked.Worked.{link_of, row_of, worked}}
 
 within : (low high n : ℕ) → nat_le low n ≡ true → nat_le n high ≡ true → IsWithin low high (units_of n)

@@ -1,17 +1,15 @@
 -- The rough day of the worked network is one of which the laws on runs speak.
-use Rattle.std.proofs.{Common.{◌*◌, ◌++◌, ◌+◌, ◌-◌, ◌<◌, ◌^◌, ◌∷◌, ◌≡◌, List, [], arith, inl, inr, pos, refl, true, ℕ}, lemmas.Bool.leb-true}
-use Rattle.std.{proofs.lemmas.Int.ints, specs.{List.All, Prelude.◌<ℤ◌}}
-use Rattle.drift_clock.proofs.{ExactSegments.exact_steps, Readings.{begins_at_zero, keeps_clock_laws}}
-use Rattle.drift_clock.specs.Segment.{fresh_segment, segment_count, segment_reading, stepped_segment}
-use Rattle.net_plan.{proofs.TableFacts.none_told, specs.{Belonging.IsOfNetwork, declared.event.{Event.Event, What.What}}}
-use Rattle.net_plan.specs.declared.{ids.{DeviceId.DeviceId, LinkId.LinkId}, tables.Way.{Way, TheVariants.Up}}
-use Rattle.pcf_values.specs.declared.channel.Channel.{Channel}
+use Rattle.{drift_clock.proofs.ExactSegments.exact_steps, run_law.specs.scenario.Faults.{IsBroken, IsFaulty}, traffic_law.proofs.safety_lemmas.Lawful.lawful}
+use Rattle.drift_clock.{proofs.Readings.{begins_at_zero, keeps_clock_laws}, specs.Segment.{fresh_segment, segment_count, segment_reading, stepped_segment}}
+use Rattle.{net_plan.proofs.TableFacts.none_told, std.{proofs.lemmas.{Bool.leb-true, Int.ints}, specs.Prelude.◌<ℤ◌}, tte_units.specs.Amount.units_of}
+use Rattle.{net_plan.specs.{Belonging.IsOfNetwork, declared.{event.What.What, ids.LinkId.LinkId, tables.Way.Way}}, tte_units.specs.declared.units.Units.Units}
+use Rattle.{net_plan.specs.declared.{event.Event.Event, ids.DeviceId.DeviceId, tables.Way.TheVariants.Up}, pcf_values.specs.declared.channel.Channel.Channel}
 use Rattle.run_law.specs.declared.outside.Outside.TheVariants.{Channel as OtherChannel, Hold, Late, NotBroken, NotMaster, NotOff, Order, Rate, SecondBreak}
-use Rattle.run_law.specs.{declared.outside.Outside.TheVariants.{TooFewMasters, Wire}, law.FirstLaws.{IsEventInRange, IsLawful}}
-use Rattle.run_law.specs.scenario.{Faults.{IsBroken, IsFaulty}, Hypothesis.{AreWithinHypothesis, IsWithinHypothesis}}
+use Rattle.run_law.specs.{declared.outside.Outside.TheVariants.{TooFewMasters, Wire}, scenario.Hypothesis.{AreWithinHypothesis, IsWithinHypothesis}}
+use Rattle.{run_law.specs.law.FirstLaws.{IsEventInRange, IsLawful}, traffic_law.specs.existence.worked.Worked.{rough_day, rough_events, worked}}
+use Rattle.{std.proofs.Common.{◌*◌, ◌++◌, ◌+◌, ◌-◌, ◌<◌, ◌^◌, ◌∷◌, ◌≡◌, List, [], arith, inl, inr, pos, refl, true, ℕ}, traffic_law.specs.safety.Under.IsUnder}
+use Rattle.std.specs.List.{All}
 use Rattle.traffic_law.proofs.existence_lemmas.worked_lemmas.{Accepted.worked_keeps_rules, InRange.worked_in_range, Lists.all_each, Shape.no_off_switch}
-use Rattle.traffic_law.{proofs.safety_lemmas.Lawful.lawful, specs.{existence.worked.Worked.{rough_day, rough_events, worked}, safety.Under.IsUnder}}
-use Rattle.tte_units.specs.{Amount.units_of, declared.units.Units.Units}
 use Rattle.net_plan.specs.declared.event.What.TheVariants as events
 
 abbrev the_break : Event

@@ -1,13 +1,12 @@
 -- The worked network keeps the rules of its schedule.
-use Rattle.std.proofs.Common.{◌<◌, ◌==◌, ◌∙◌, ◌∷◌, ◌≡◌, ◌≢◌, ◌≤◌, List, Some, [], ap, arith, if◌then◌else◌, refl, slice_get, subst, suc, sym, true, zero, ℕ}
-use Rattle.std.{proofs.lemmas.{Bool.leb-true, List.Sums.count_by-le-length, Option.same_Some}, specs.{List.{Contains, count_by}, Prelude.codes}}
-use Rattle.net_plan.specs.{Places.IsEndSystem, declared.{ids.{DeviceId.DeviceId, LinkId.LinkId, VlId.VlId}, tables.{Link.Link, Row.Row}}}
-use Rattle.net_plan.specs.declared.tables.{VirtualLink.VirtualLink, Way.TheVariants.{Down, Up}}
-use Rattle.pcf_values.specs.declared.channel.Channel.{Channel, TheVariants.{A, B}}
-use Rattle.schedule_tables.specs.{Entries.{IsEntry, IsOnChannel, source_of, target_of}, Windows.window_end, declared.entry.Entry.Entry}
+use Rattle.{net_plan.specs.Places.IsEndSystem, schedule_tables.specs.Windows.window_end, std.{proofs.lemmas.Option.same_Some, specs.List.{Contains, count_by}}}
+use Rattle.{net_plan.specs.declared.{ids.{DeviceId.DeviceId, LinkId.LinkId, VlId.VlId}, tables.Row.Row}, std.proofs.lemmas.List.Sums.count_by-le-length}
+use Rattle.{net_plan.specs.declared.tables.{Link.Link, VirtualLink.VirtualLink, Way.TheVariants.{Down, Up}}, schedule_tables.specs.declared.entry.Entry.Entry}
+use Rattle.{pcf_values.specs.declared.channel.Channel.{Channel, TheVariants.{A, B}}, schedule_tables.specs.Entries.{IsEntry, IsOnChannel, source_of, target_of}}
 use Rattle.schedule_tables.specs.Schedule.{ComesInTime, EndsInCycle, Enters, EntersAnew, EntersOn, GoesByBothChannels, GoesOnceByLink, HasEndSystemAsSender}
 use Rattle.schedule_tables.specs.Schedule.{HasFewRows, HasPeriod, HasSource, IsSwitch, LeavesOn, StandsApart, VlIdIsNew, VlNameIsNew, leaves}
-use Rattle.tte_units.specs.Amount.{amount}
+use Rattle.std.proofs.Common.{◌<◌, ◌==◌, ◌∙◌, ◌∷◌, ◌≡◌, ◌≢◌, ◌≤◌, List, Some, [], ap, arith, if◌then◌else◌, refl, slice_get, subst, suc, sym, true, zero, ℕ}
+use Rattle.{std.{proofs.lemmas.Bool.leb-true, specs.Prelude.codes}, tte_units.specs.Amount.amount}
 use Rattle.traffic_law.{proofs.existence_lemmas.worked_lemmas.Lists.{AllAt, at_place, numbered_apart}, specs.existence.worked.Worked.{link_of, row_of, worked}}
 
 -- ---- the virtual link

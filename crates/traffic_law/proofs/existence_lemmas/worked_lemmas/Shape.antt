@@ -1,14 +1,11 @@
 -- The worked network keeps the rules of its shape.
-use Rattle.std.proofs.Common.{◌+◌, ◌==◌, ◌∷◌, ◌≡◌, ◌⊎◌, List, Some, [], ap, arith, false, inl, inr, pos, refl, subst, sym, true, ℕ}
-use Rattle.std.{proofs.lemmas.{Bool.leb-true, Int.ints}, specs.Prelude.{if◌then◌else◌, ◌-◌, ◌≤ℤ◌, IsNone, codes}}
-use Rattle.net_plan.{proofs.SameIds.link_is, specs.Paths.{IsFirstPath, IsFirstUplink, IsUplink, LeadsToCm}}
-use Rattle.net_plan.specs.Places.{IsCmOf, IsDeviceOf, IsEndSystem, IsRoleOf, is_end_system}
+use Rattle.net_plan.{proofs.SameIds.link_is, specs.{Rules.{MastersSuffice, masters}, declared.ids.{DeviceId.DeviceId, LinkId.LinkId}}}
+use Rattle.net_plan.specs.{Paths.{IsFirstPath, IsFirstUplink, IsUplink, LeadsToCm}, Places.{IsCmOf, IsDeviceOf, IsEndSystem, IsRoleOf, is_end_system}}
 use Rattle.net_plan.specs.Rules.{DeviceIsNew, ExactlyOne, HasOffSwitch, HasOneCm, IsChildOf, IsConnected, IsWithinLimits, JoinsChildToSwitch, LinkIsNew}
-use Rattle.net_plan.specs.{Rules.{MastersSuffice, masters}, declared.{ids.{DeviceId.DeviceId, LinkId.LinkId}, tables.Role.TheVariants.{Cm, Relay}}}
-use Rattle.pcf_values.specs.declared.channel.Channel.{Channel, TheVariants.{A, B}}
-use Rattle.tte_units.specs.Amount.{units_of}
-use Rattle.traffic_law.proofs.existence_lemmas.worked_lemmas.Lists.{all_each, at_place, numbered_apart, place_in, some_place}
-use Rattle.traffic_law.{specs.existence.worked.Worked.worked}
+use Rattle.{net_plan.specs.declared.tables.Role.TheVariants.{Cm, Relay}, pcf_values.specs.declared.channel.Channel.{Channel, TheVariants.{A, B}}}
+use Rattle.std.proofs.{Common.{◌+◌, ◌==◌, ◌∷◌, ◌≡◌, ◌⊎◌, List, Some, [], ap, arith, false, inl, inr, pos, refl, subst, sym, true, ℕ}, lemmas.Bool.leb-true}
+use Rattle.{std.proofs.lemmas.Int.ints, traffic_law.proofs.existence_lemmas.worked_lemmas.Lists.{all_each, at_place, numbered_apart, place_in, some_place}}
+use Rattle.{std.specs.Prelude.{◌-◌, ◌≤ℤ◌, IsNone, codes, if◌then◌else◌}, traffic_law.specs.existence.worked.Worked.worked, tte_units.specs.Amount.units_of}
 
 -- ---- limits and names
 

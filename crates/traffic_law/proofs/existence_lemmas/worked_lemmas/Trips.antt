@@ -1,11 +1,9 @@
 -- How long the paths of the worked network are, and what they add up to.
-use Rattle.std.proofs.Common.{if◌then◌else◌, ◌*◌, ◌==◌, ◌||◌, ◌∷◌, ◌≡◌, ◌≤◌, IsSomeAnd, List, [], ap, arith, length, pos, slice_get}
-use Rattle.std.{proofs.{Common.{suc, true, unsigned_abs, zero, ℕ}, lemmas.Bool.leb-true}, specs.{Option.option_map_or, Prelude.sum_by}}
-use Rattle.net_plan.specs.{Bounds.{IsBeta, IsGreatest, IsOfPath, jitter_of, jitter_on}, Paths.IsPath, Places.{IsSwitchOf, link_at}}
-use Rattle.net_plan.specs.declared.{ids.{DeviceId.DeviceId, LinkId.LinkId}, tables.Link.Link}
-use Rattle.pcf_values.specs.declared.channel.Channel.{Channel}
-use Rattle.schedule_tables.specs.Delays.{delay_of, delay_on}
-use Rattle.traffic_law.{proofs.existence_lemmas.worked_lemmas.Lists.{AllEach, some_place}, specs.existence.worked.Worked.worked}
+use Rattle.{net_plan.specs.{Bounds.{IsBeta, IsGreatest, IsOfPath, jitter_of, jitter_on}, Paths.IsPath}, traffic_law.specs.existence.worked.Worked.worked}
+use Rattle.{net_plan.specs.{Places.{IsSwitchOf, link_at}, declared.ids.{DeviceId.DeviceId, LinkId.LinkId}}, schedule_tables.specs.Delays.{delay_of, delay_on}}
+use Rattle.{net_plan.specs.declared.tables.Link.Link, std.{proofs.{Common.{zero, ℕ}, lemmas.Bool.leb-true}, specs.{Option.option_map_or, Prelude.sum_by}}}
+use Rattle.{pcf_values.specs.declared.channel.Channel.Channel, traffic_law.proofs.existence_lemmas.worked_lemmas.Lists.{AllEach, some_place}}
+use Rattle.std.proofs.Common.{◌*◌, ◌==◌, ◌||◌, ◌∷◌, ◌≡◌, ◌≤◌, IsSomeAnd, List, [], ap, arith, if◌then◌else◌, length, pos, slice_get, suc, true, unsigned_abs}
 
 leb_zero : (n : ℕ) → 0 ≤ n
 leb_zero n = omega arith

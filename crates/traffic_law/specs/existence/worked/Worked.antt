@@ -2,12 +2,11 @@
 use Rattle.std.specs.Prelude.{◌*◌, ◌-◌, ◌∷◌, List, None, Option, Some, [], codes, ℕ}
 use Rattle.drift_clock.specs.Segment.{fresh_segment, segment_reading, stepped_segment}
 use Rattle.net_plan.specs.declared.{event.{Event.Event, What.TheVariants.{Break, Cut, End}}, network.Network.Network}
-use Rattle.net_plan.specs.declared.tables.{Device.Device, Link.Link, Role.Role, Row.Row, Way.Way}
+use Rattle.{net_plan.specs.declared.tables.Device.Device, tte_units.specs.declared.speed.Speed.TheVariants.Mbit100}
+use Rattle.net_plan.specs.declared.tables.{Link.Link, Role.Role, Row.Row, Way.Way}
 use Rattle.net_plan.specs.declared.tables.{Role.TheVariants.{Client, Cm, Master, Relay}, Way.TheVariants.{Down, Up}}
-use Rattle.pcf_values.specs.declared.channel.Channel.{Channel, TheVariants.{A, B}}
-use Rattle.run_law.specs.scenario.Scenarios.{Scenario}
-use Rattle.traffic_law.specs.safety.Under.{scenario_of}
-use Rattle.tte_units.specs.{Amount.units_of, declared.speed.Speed.TheVariants.Mbit100}
+use Rattle.{pcf_values.specs.declared.channel.Channel.{Channel, TheVariants.{A, B}}, tte_units.specs.Amount.units_of}
+use Rattle.{run_law.specs.scenario.Scenarios.Scenario, traffic_law.specs.safety.Under.scenario_of}
 
 -- a device that begins on, with the adjustment 0
 abbrev pub device_of : List ℕ → Role → ℕ → Option ℕ → Option Channel → Device

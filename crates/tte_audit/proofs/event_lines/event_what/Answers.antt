@@ -1,5 +1,4 @@
-use Rattle.tte_audit.proofs.{WhatBack.same_read, Words.{◌∙◌, Err, Ok, [], ap}}
-use Rattle.trace_text.{proofs.EventsBack.words_back, specs.EventReading.what_reader}
+use Rattle.{trace_text.{proofs.EventsBack.words_back, specs.EventReading.what_reader}, tte_audit.proofs.{WhatBack.same_read, Words.{◌∙◌, Err, Ok, [], ap}}}
 use Rattle.tte_audit.proofs.event_lines.event_what.Goals as goal
 
 pub returns-in-Ok-clause-back : goal.returns-in-Ok-clause-back

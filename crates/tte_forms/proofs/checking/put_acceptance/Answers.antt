@@ -1,7 +1,6 @@
-use Rattle.std.proofs.{Common.{◌∙◌, ◌∷◌, ◌≡◌, List, [], ap, arith, pos, subst, ℕ, ℤ}, lemmas.Int.ints}
-use Rattle.net_plan.specs.{Bounds.{IsBeta, gamma_of}, declared.network.Network.Network}
-use Rattle.tte_forms.{proofs.networks.Answers.acceptance, specs.{Answering.{Answer, Gives}, Putting.shown_by, declared.status.Status.TheVariants.Done}}
-use Rattle.tte_forms.specs.networks.NetworkLine.{acceptance_line}
+use Rattle.{net_plan.specs.Bounds.{IsBeta, gamma_of}, std.proofs.lemmas.Int.ints, tte_forms.specs.{Answering.{Answer, Gives}, Putting.shown_by}}
+use Rattle.{net_plan.specs.declared.network.Network.Network, tte_forms.{proofs.networks.Answers.acceptance, specs.networks.NetworkLine.acceptance_line}}
+use Rattle.{std.proofs.Common.{◌∙◌, ◌∷◌, ◌≡◌, List, [], ap, arith, pos, subst, ℕ, ℤ}, tte_forms.specs.declared.status.Status.TheVariants.Done}
 use Rattle.tte_forms.proofs.checking.put_acceptance.Goals as goal
 
 pub returns-clause-gives : goal.returns-clause-gives

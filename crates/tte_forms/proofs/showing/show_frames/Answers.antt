@@ -1,8 +1,7 @@
-use Rattle.std.{proofs.Common.{◌+◌, ◌∙◌, ◌∷◌, ◌≡◌, Err, List, Ok, [], ap, arith, subst, sym, ℕ}, specs.Io.KnownBytes.Appends}
-use Rattle.pcf_codec.specs.Decoding.{decoded}
-use Rattle.tte_io.specs.Told.{AppendsFront}
-use Rattle.tte_forms.{proofs.frames.Frames.{IsShown-all, IsShown-fails, IsShown-more, IsShown-refused}, specs.{Answering.{Answer, Gives}, Putting.shown_by}}
-use Rattle.tte_forms.specs.{declared.status.Status.TheVariants.FrameRefused, frames.{Answer.{frame_at, frame_count}, FrameLine.{frame_line, refusal_line}}}
+use Rattle.{pcf_codec.specs.Decoding.decoded, tte_forms.specs.{Answering.{Answer, Gives}, Putting.shown_by, frames.Answer.{frame_at, frame_count}}}
+use Rattle.{std.proofs.Common.{◌+◌, ◌∙◌, ◌∷◌, ◌≡◌, Err, List, Ok, [], ap, arith, subst, sym, ℕ}, tte_forms.specs.frames.FrameLine.{frame_line, refusal_line}}
+use Rattle.{std.specs.Io.KnownBytes.Appends, tte_io.specs.Told.AppendsFront}
+use Rattle.tte_forms.{proofs.frames.Frames.{IsShown-all, IsShown-fails, IsShown-more, IsShown-refused}, specs.declared.status.Status.TheVariants.FrameRefused}
 use Rattle.tte_forms.proofs.showing.show_frames.Goals as goal
 
 pub returns-in-Err-put-clause-gives : goal.returns-in-Err-put-clause-gives

@@ -1,5 +1,4 @@
-use Rattle.std.proofs.Common.{◌≡◌}
-use Rattle.tte_forms.{proofs.frames.Frames.IsShown, specs.{Putting.shown_by, frames.Answer.frame_count}}
+use Rattle.{std.proofs.Common.◌≡◌, tte_forms.{proofs.frames.Frames.IsShown, specs.{Putting.shown_by, frames.Answer.frame_count}}}
 use Rattle.tte_forms.proofs.showing.show_frames.Given as goal
 
 abbrev pub invariant-frames : goal.invariant-frames

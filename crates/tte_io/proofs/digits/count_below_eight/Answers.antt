@@ -1,5 +1,4 @@
-use Rattle.std.proofs.Common.{arith, sym}
-use Rattle.tte_io.proofs.Sizes.{is_eight, is_five, is_four, is_one, is_seven, is_six, is_three, is_two}
+use Rattle.{std.proofs.Common.{arith, sym}, tte_io.proofs.Sizes.{is_eight, is_five, is_four, is_one, is_seven, is_six, is_three, is_two}}
 use Rattle.tte_io.proofs.digits.count_below_eight.Goals as goal
 
 pub returns-then-n-lt10 : goal.returns-then-n-lt10

@@ -1,5 +1,4 @@
-use Rattle.std.proofs.Common.{◌+◌, ◌≡◌, arith, decimal, length}
-use Rattle.tte_io.proofs.Sizes.{size_eight, size_most, size_sixteen}
+use Rattle.{std.proofs.Common.{◌+◌, ◌≡◌, arith, decimal, length}, tte_io.proofs.Sizes.{size_eight, size_most, size_sixteen}}
 use Rattle.tte_io.proofs.digits.digit_count.Goals as goal
 
 pub returns-then-n-lt10000000000000000 : goal.returns-then-n-lt10000000000000000

@@ -1,5 +1,4 @@
-use Rattle.std.proofs.{Common.{◌∙◌, ap, arith, slice_index, ℕ}, lemmas.Nat.and_mask}
-use Rattle.hex.{proofs.Pairs.{encode_done, encode_step}, specs.Hex.lower_digits}
+use Rattle.{hex.{proofs.Pairs.{encode_done, encode_step}, specs.Hex.lower_digits}, std.proofs.{Common.{◌∙◌, ap, arith, slice_index, ℕ}, lemmas.Nat.and_mask}}
 use Rattle.tte_io.proofs.hexadecimal.spell.Goals as goal
 
 pub octets-preserved : goal.octets-preserved

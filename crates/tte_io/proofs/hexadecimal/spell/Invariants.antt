@@ -1,5 +1,4 @@
-use Rattle.std.proofs.Common.{◌*◌, ◌++◌, ◌≡◌, drop, take}
-use Rattle.hex.specs.Hex.{encode_lower}
+use Rattle.{hex.specs.Hex.encode_lower, std.proofs.Common.{◌*◌, ◌++◌, ◌≡◌, drop, take}}
 use Rattle.tte_io.proofs.hexadecimal.spell.Given as goal
 
 abbrev pub invariant-octets : goal.invariant-octets

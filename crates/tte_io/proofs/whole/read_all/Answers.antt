@@ -1,6 +1,5 @@
 -- The octets that the last read gave come behind those before it.
-use Rattle.std.proofs.{Common.{◌++◌, arith, length-append, take}, KnownBytes.Consumes-trans, lemmas.List.length-take}
-use Rattle.tte_io.proofs.Taken.{too_many-left}
+use Rattle.{std.proofs.{Common.{◌++◌, arith, length-append, take}, KnownBytes.Consumes-trans, lemmas.List.length-take}, tte_io.proofs.Taken.too_many-left}
 use Rattle.tte_io.proofs.whole.read_all.Goals as goal
 
 pub returns-then-count-limit-clause-too_long : goal.returns-then-count-limit-clause-too_long

@@ -1,7 +1,6 @@
 -- The octets that are written.
+use Rattle.{byteorder.specs.{Endian.little_bytes, Numbers.little_number-reads_back}, std.proofs.Math.Seq.take-append_seam}
 use Rattle.std.proofs.Common.{◌++◌, ◌+◌, ◌<◌, ◌^◌, ◌∙◌, ◌≡◌, List, ap, append_assoc, drop, false, length, length-append, refl, replicate, subst, sym, take, ℕ}
-use Rattle.std.proofs.Math.Seq.{take-append_seam}
-use Rattle.byteorder.specs.{Endian.little_bytes, Numbers.little_number-reads_back}
 use borrow.Rule.Slice.PartMut.{mid_of, put_mid}
 use Rattle.tte_run.specs.captures.pcap.{Layout.number, Writing.{packet_octets, stamp_octets}}
 

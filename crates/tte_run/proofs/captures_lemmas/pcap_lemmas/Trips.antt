@@ -1,12 +1,11 @@
 -- What was written is read back.
 use Rattle.std.proofs.Common.{◌%◌, ◌++◌, ◌+◌, ◌-◌, ◌<◌, ◌^◌, ◌∙◌, ◌∷◌, ◌≡◌, ◌≢◌, All, Bool, List, Ok, [], ap, append_assoc, arith, drop, false, length}
 use Rattle.std.proofs.{Common.{length-append, refl, slice_range, subst, true, ℕ}, Math.Seq.{drop-append-add, drop-append_seam, take-append_seam}}
-use Rattle.std.proofs.lemmas.List.Elements.{All-head, All-tail}
+use Rattle.{std.proofs.lemmas.List.Elements.{All-head, All-tail}, tte_run.specs.declared.captures.pcap.capture.Packet.Packet}
 use Rattle.tte_run.proofs.captures_lemmas.pcap_lemmas.{Heads.{judged_right, opened_little}, Packets.{finds_packets, packet_stands}}
 use Rattle.tte_run.proofs.captures_lemmas.pcap_lemmas.Stamps.{captured_read, length-packet_octets, micros_read, octets_behind, original_read, seconds_read}
 use Rattle.tte_run.specs.captures.pcap.{Layout.{IsPacket, ethernet, magic, number, stamp_length}, RoundTrip.{IsWritable, Reads, ReadsBack, Shows, written_head}}
 use Rattle.tte_run.specs.captures.pcap.{Reading.opened, ReadingLaw.HasMagic, Writing.{Stamped, capture_octets, head_octets, packet_octets, packets_octets}}
-use Rattle.tte_run.specs.declared.captures.pcap.capture.Packet.{Packet}
 
 -- the header
 

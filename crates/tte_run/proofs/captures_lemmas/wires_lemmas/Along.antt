@@ -4,8 +4,7 @@ use Rattle.tte_run.proofs.captures_lemmas.wires_lemmas.{Seen.at_start, Settled.{
 use Rattle.tte_run.proofs.captures_lemmas.wires_lemmas.Words.{◌++◌, ◌∙◌, ◌≡◌, Answer, AreAdmitted, AreRecordsSoFar, Capture, Event, Happening, IsCapture, IsIn}
 use Rattle.tte_run.proofs.captures_lemmas.wires_lemmas.Words.{List, Network, None, Note, Option, PutsLines, SeesWay, Some, StopsWay, Told, ap, capture_of}
 use Rattle.tte_run.proofs.captures_lemmas.wires_lemmas.Words.{happenings, inl, inr, is_settled, packets_of, refl, scenario_under, settled, settled_lines}
-use Rattle.tte_traces.specs.{Along.{BeginWith, IsFrontOf, IsShortAt, PutsAlong}, Answer.LinesOf}
-use Rattle.world_drive.specs.Observing.{Sees, Stops}
+use Rattle.{tte_traces.specs.{Along.{BeginWith, IsFrontOf, IsShortAt, PutsAlong}, Answer.LinesOf}, world_drive.specs.Observing.{Sees, Stops}}
 
 -- what it sees
 abbrev pub way_sees : Sees Capture

@@ -1,14 +1,12 @@
 -- An event that befell the world is seen.
+use Rattle.{drift_world.specs.Running.event_note, run_law.proofs.records.Order.index_of, world_drive.specs.Observing.Befell}
+use Rattle.{std.specs.Prelude.{IfErr, MatchResult, OnOk, unsigned_abs}, tte_run.proofs.captures_lemmas.wires_lemmas.Seen.sent_new}
 use Rattle.tte_run.proofs.captures_lemmas.wires_lemmas.Seen.{IsReady, flush_failed, flushed, later_ready, later_stops, ready_out, ready_seen, same_ready}
-use Rattle.tte_run.{proofs.captures_lemmas.wires_lemmas.Seen.sent_new, specs.captures.wires.Seeing.{TakesWhat, octets_sent}}
 use Rattle.tte_run.proofs.captures_lemmas.wires_lemmas.Words.{◌++◌, ◌+◌, ◌^◌, ◌∙◌, ◌∷◌, ◌≡◌, ◌≤◌, AllBefore, Capture, Cut, Err, Event, ExactWorld, Ghosts}
 use Rattle.tte_run.proofs.captures_lemmas.wires_lemmas.Words.{Happening, IsIn, List, Network, Note, Ok, PassesTo, PutFails, PutsLines, Result, SeesRecords}
 use Rattle.tte_run.proofs.captures_lemmas.wires_lemmas.Words.{SeesWay, Start, StopsRecords, StopsWay, Told, [], amount, ap, arith, happenings, inl, inr}
 use Rattle.tte_run.proofs.captures_lemmas.wires_lemmas.Words.{last_happening, length, one_more, place_of, sends_of, sent_packets, shown_as, subst, sym, told_by}
-use Rattle.std.specs.Prelude.{IfErr, MatchResult, OnOk, unsigned_abs}
-use Rattle.drift_world.specs.Running.{event_note}
-use Rattle.run_law.proofs.records.Order.{index_of}
-use Rattle.world_drive.specs.{Observing.Befell, declared.observing.Cut.TheVariants.{OutOfMemory, WriteFault}}
+use Rattle.{tte_run.specs.captures.wires.Seeing.{TakesWhat, octets_sent}, world_drive.specs.declared.observing.Cut.TheVariants.{OutOfMemory, WriteFault}}
 
 module _ (network : Network) (world : ExactWorld) (events : List Event) (notes : List Note) (event : Event) (start : Start Capture) (told : Told)
     (it : Capture) (befell : Befell network world events notes event (event_note (length notes + 1) (length events + 1) event))

@@ -1,16 +1,13 @@
 -- Whether a way is cut, as events befall the network; and the packets that follow from it.
+use Rattle.{device_rules.specs.frames.traced.RecordOctets.shown, std.proofs.{Common.{◌&&◌, filter, nat_le, not, unwrap_or}, lemmas.List.Elements.filter-append}}
+use Rattle.{net_plan.specs.declared.tables.Way.TheVariants.Up, run_law.{proofs.records.Order.all_kept, specs.scenario.Ways.{cut_set, is_cut, is_way}}}
+use Rattle.std.{proofs.lemmas.Bool.le-leb, specs.List.{filter_map, last_or}}
 use Rattle.tte_run.proofs.captures_lemmas.wires_lemmas.Words.{◌++◌, ◌<◌, ◌==◌, ◌∙◌, ◌∷◌, ◌≡◌, ◌≤◌, AreFrom, Bool, Event, Happening, IsIn, LinkId, List, Network}
 use Rattle.tte_run.proofs.captures_lemmas.wires_lemmas.Words.{None, NoteBody, Option, Pcf, Scenario, Some, Way, [], amount, and_parts, ap, append-nil, arith}
 use Rattle.tte_run.proofs.captures_lemmas.wires_lemmas.Words.{cons_option, eqb-true, false, filter_map-append, if◌then◌else◌, is_sent_on, is_way_of, option_map}
 use Rattle.tte_run.proofs.captures_lemmas.wires_lemmas.Words.{packet_at, packet_of, packets_of, rank, record_octets, refl, scenario_under, sends_of}
 use Rattle.tte_run.{proofs.captures_lemmas.wires_lemmas.Words.{sent_packets, subst, sym, time_of, true, ℕ}, specs.captures.wires.Seeing.{cut_after, sent_by}}
-use Rattle.tte_run.specs.captures.wires.Packets.{is_carried}
-use Rattle.std.{proofs.{Common.{◌&&◌, filter, nat_le, not, unwrap_or}, lemmas.{Bool.le-leb, List.Elements.filter-append}}, specs.List.{filter_map, last_or}}
-use Rattle.device_rules.specs.frames.traced.RecordOctets.{shown}
-use Rattle.net_plan.specs.declared.tables.Way.TheVariants.{Up}
-use Rattle.run_law.{proofs.records.Order.all_kept, specs.scenario.Ways.{cut_set, is_cut, is_way}}
-use Rattle.tte_traces.proofs.Lasting.{no_events}
-use Rattle.world_state.proofs.queue_lemmas.Bags.{same_map}
+use Rattle.{tte_run.specs.captures.wires.Packets.is_carried, tte_traces.proofs.Lasting.no_events, world_state.proofs.queue_lemmas.Bags.same_map}
 use Rattle.net_plan.specs.declared.event.What.TheVariants as events
 use Rattle.run_law.specs.declared.note.NoteBody.TheVariants as notes
 

@@ -1,20 +1,18 @@
 -- How the capture of a way ends, where the drive came to its end or to a fault: the sends that wait are put, and all is
 -- passed on.
-use Rattle.tte_traces.proofs.Answers.{same_end}
-use Rattle.tte_run.proofs.captures_lemmas.wires_lemmas.{Along.{IsOwn, lines, way_along, way_sees, way_stops}, Words.{told_by, way_lines, ℕ}}
-use Rattle.tte_run.proofs.captures_lemmas.wires_lemmas.{Fronts.{all_whole, either_stops}, Seen.{at_start, whole}}
+use Rattle.{drift_world.specs.Running.{behind_events, last_time}, tte_traces.specs.{Lines.{IsFault, behind_lines}, declared.fault.TraceStop.TraceStop}}
+use Rattle.{run_law.proofs.runs.NetworkRuns.run_is_one, tte_forms.proofs.OneAnswers.one_given, tte_traces.proofs.{Admitted.stopped_one, Answers.same_end}}
+use Rattle.{tte_forms.proofs.frames.Frames.Gives-behind, tte_traces.specs.declared.lines.Trace.Trace, world_drive.specs.Driving.{DrivesAll, DrivesSoFar}}
+use Rattle.{tte_forms.specs.declared.status.Status.TheVariants.{Done, WriteFault}, tte_run.proofs.captures_lemmas.wires_lemmas.Words.{told_by, way_lines, ℕ}}
+use Rattle.tte_run.proofs.captures_lemmas.wires_lemmas.{Along.{IsOwn, lines, way_along, way_sees, way_stops}, Fronts.{all_whole, either_stops}}
+use Rattle.{tte_run.proofs.captures_lemmas.wires_lemmas.Seen.{at_start, whole}, tte_traces.proofs.{Faults.{end_has_no_fault, fault_one}, Streams.writes_answer}}
 use Rattle.tte_run.proofs.captures_lemmas.wires_lemmas.Words.{◌+◌, ◌∙◌, ◌∷◌, ◌≡◌, ◌⊎◌, Answer, AreAdmitted, AreRecordsSoFar, Capture, EndsEither, Event}
 use Rattle.tte_run.proofs.captures_lemmas.wires_lemmas.Words.{ExactWorld, Gives, GivesOne, IsCapture, LinkId, List, Network, Note, RunEnds, SeesWay, Shown}
 use Rattle.tte_run.proofs.captures_lemmas.wires_lemmas.Words.{Status, Units, Way, [], amount, ap, capture_of, fault_status, for_more, happenings, inl, inr}
 use Rattle.tte_run.proofs.captures_lemmas.wires_lemmas.Words.{length, packets_of, refl, scenario_under, sent_packets, settled, settled_lines, shown_by, subst}
-use Rattle.drift_world.specs.Running.{behind_events, last_time}
-use Rattle.run_law.{proofs.runs.NetworkRuns.run_is_one}
-use Rattle.tte_forms.{proofs.{OneAnswers.one_given, frames.Frames.Gives-behind}, specs.declared.status.Status.TheVariants.{Done, WriteFault}}
-use Rattle.tte_traces.proofs.Admitted.{stopped_one}
 use Rattle.tte_traces.proofs.Ends.{done_no_read, fault_no_read, for_stopped, little_at, little_so_far, puts_shown, trace_ended, trace_stopped}
-use Rattle.tte_traces.{proofs.{Faults.{end_has_no_fault, fault_one}, Streams.writes_answer}, specs.{Along.IsAllAdmitted, Lines.{IsFault, behind_lines}}}
-use Rattle.tte_traces.specs.{Taking.IsStopAt, declared.{fault.{TraceFault.TraceFault, TraceStop.TraceStop}, lines.Trace.Trace}}
-use Rattle.world_drive.specs.{Driving.{DrivesAll, DrivesSoFar}, Observing.start_by, exact.Records.{AreAllRecords, AreRecordsBefore, clock_reading}}
+use Rattle.{tte_traces.specs.{Along.IsAllAdmitted, Taking.IsStopAt}, world_drive.specs.Observing.start_by}
+use Rattle.{tte_traces.specs.declared.fault.TraceFault.TraceFault, world_drive.specs.exact.Records.{AreAllRecords, AreRecordsBefore, clock_reading}}
 use Rattle.tte_io.specs.declared.ends.Sink as sinks
 use Rattle.tte_io.specs.declared.ends.Source as sources
 use Rattle.tte_traces.specs.declared.fault.TraceStop.TheVariants as ends

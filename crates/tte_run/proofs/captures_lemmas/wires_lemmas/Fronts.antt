@@ -1,17 +1,15 @@
 -- The capture of a run begins with the packets of the settled records of each front of it.
-use Rattle.tte_run.proofs.captures_lemmas.wires_lemmas.{Cuts.packets_stay, Settled.settled_sooner}
+use Rattle.{drift_world.specs.Running.{behind_events, last_time}, run_law.proofs.{records.Happenings.happenings_on, runs.NetworkRuns.earlier_run_is_front}}
+use Rattle.{run_law.specs.records.Order.IsBefore, tte_traces.proofs.Lasting.lasts, world_law.specs.source.Applying.place_of_event}
+use Rattle.std.proofs.Common.{append_assoc}
+use Rattle.{tte_run.proofs.captures_lemmas.wires_lemmas.Cuts.packets_stay, tte_traces.{proofs.EventOrder.{last_before, not_earlier}, specs.Lines.behind_lines}}
+use Rattle.{tte_run.proofs.captures_lemmas.wires_lemmas.Settled.settled_sooner, world_drive.specs.exact.Records.{AreRecordsBefore, clock_reading}}
 use Rattle.tte_run.proofs.captures_lemmas.wires_lemmas.Words.{◌++◌, ◌+◌, ◌∙◌, ◌∷◌, ◌≡◌, AllBefore, Answer, AnswersAll, AreAdmitted, AreFrom, AreRecordsSoFar}
 use Rattle.tte_run.proofs.captures_lemmas.wires_lemmas.Words.{EndsEither, Event, Happening, IsCapture, IsIn, LinkId, List, Network, Note, Units, Way, []}
 use Rattle.tte_run.proofs.captures_lemmas.wires_lemmas.Words.{amount, ap, append-nil, capture_of, filter_map-append, happenings, inl, inr, is_settled, length}
 use Rattle.tte_run.proofs.captures_lemmas.wires_lemmas.Words.{packet_of, packets_of, place_of, refl, scenario_under, subst, sym, true, way_lines, ℕ}
-use Rattle.std.proofs.Common.{append_assoc}
-use Rattle.drift_world.specs.Running.{behind_events, last_time}
-use Rattle.run_law.{proofs.{records.Happenings.happenings_on, runs.NetworkRuns.earlier_run_is_front}, specs.records.Order.IsBefore}
-use Rattle.tte_traces.proofs.{Admitted.{IsStopped, admitted_in_order, admitted_one, front_admitted, stopped_one}, EventOrder.{last_before, not_earlier}}
-use Rattle.tte_traces.{proofs.{Faults.{end_has_no_fault, fault_stops}, Fronts.{place_low, up_to_end}, Lasting.lasts}, specs.Along.{BeginWith, IsAllAdmitted}}
-use Rattle.tte_traces.specs.Lines.{behind_lines}
-use Rattle.world_drive.{proofs.Earlier.{no_further, so_far_at}, specs.exact.Records.{AreRecordsBefore, clock_reading}}
-use Rattle.world_law.specs.source.Applying.{place_of_event}
+use Rattle.tte_traces.proofs.{Admitted.{IsStopped, admitted_in_order, admitted_one, front_admitted, stopped_one}, Faults.{end_has_no_fault, fault_stops}}
+use Rattle.{tte_traces.{proofs.Fronts.{place_low, up_to_end}, specs.Along.{BeginWith, IsAllAdmitted}}, world_drive.proofs.Earlier.{no_further, so_far_at}}
 
 -- ---- a front of a run
 

@@ -1,12 +1,10 @@
 -- A header before the packets.
+use Rattle.{std.specs.Io.KnownBytes.Appends, tte_io.specs.{Faults.next_count, Told.AppendsFront}}
+use Rattle.tte_forms.{proofs.Puts.{PutsLines-fails, PutsLines-more, PutsSome-behind, WriteFails-behind}, specs.declared.status.Status.TheVariants.WriteFault}
+use Rattle.{tte_forms.specs.{Answering.with_line, Putting.{PutsSome, WriteFails}}, tte_traces.specs.Streaming.{ForTrace, StopsBehindLines, TakesLittle}}
 use Rattle.tte_run.proofs.captures_lemmas.wires_lemmas.Words.{◌∷◌, ◌≡◌, Answer, GivesOne, IsHeaded, LinkId, List, Network, None, Option, PutFails, PutsLines}
 use Rattle.tte_run.proofs.captures_lemmas.wires_lemmas.Words.{PutsLines-append, PutsLines-none, Shown, Some, Status, Way, [], head_octets, inl, inr, refl}
 use Rattle.tte_run.{proofs.captures_lemmas.wires_lemmas.Words.{settled_lines, subst, sym, ℕ}, specs.captures.wires.Streaming.headed_lines}
-use Rattle.std.specs.Io.KnownBytes.{Appends}
-use Rattle.tte_forms.{proofs.Puts.{PutsLines-fails, PutsLines-more, PutsSome-behind, WriteFails-behind}, specs.Answering.with_line}
-use Rattle.tte_forms.specs.{Putting.{PutsSome, WriteFails}, declared.status.Status.TheVariants.WriteFault}
-use Rattle.tte_io.specs.{Faults.next_count, Told.AppendsFront}
-use Rattle.tte_traces.specs.Streaming.{ForTrace, StopsBehindLines, TakesLittle}
 
 -- the header is put
 pub head_put : (old new : Shown) → Appends old.written new.written head_octets → new.puts ≡ next_count old.puts → PutsLines (head_octets ∷ []) old new

@@ -1,10 +1,9 @@
 -- The answer of `wire` for a name.
+use Rattle.{net_plan.specs.{Bearers.{HasNoBearer, link_names}, Ranges.IsInRange}, tte_traces.{proofs.Existing.trace_answers_exist, specs.Answer.AnswersFault}}
+use Rattle.tte_forms.{proofs.OneAnswers.{answer_widened, one_of}, specs.Answering.{ForOctets, GivesAnswer, with_line}}
 use Rattle.tte_run.proofs.captures_lemmas.wires_lemmas.Words.{◌⊎◌, Answer, AnswersAll, AreAdmitted, Event, Gives, GivesOne, IsCapture, IsHeaded, IsNamed}
 use Rattle.tte_run.proofs.captures_lemmas.wires_lemmas.Words.{LinkId, List, Network, Option, Shown, Status, Way, fault_status, for_all, for_more, head_octets}
 use Rattle.tte_run.{proofs.captures_lemmas.wires_lemmas.Words.{inl, inr, refl, way_lines, ℕ}, specs.captures.wires.Answer.{IsWireAnswer, name_answer}}
-use Rattle.net_plan.specs.{Bearers.{HasNoBearer, link_names}, Ranges.IsInRange}
-use Rattle.tte_forms.{proofs.OneAnswers.{answer_widened, one_of}, specs.Answering.{ForOctets, GivesAnswer, with_line}}
-use Rattle.tte_traces.{proofs.Existing.trace_answers_exist, specs.Answer.AnswersFault}
 
 -- ---- a name
 

@@ -1,8 +1,7 @@
 -- What is put as the time of an event comes.
+use Rattle.{std.specs.Prelude.IfErr, world_drive.specs.{Observing.PutsFurther, declared.observing.Cut.TheVariants.OutOfMemory}}
 use Rattle.tte_run.proofs.captures_lemmas.wires_lemmas.{Puts.{all_further, failed_further, memory_further, puts_none}, Words.{subst, sym, ℕ}}
 use Rattle.tte_run.proofs.captures_lemmas.wires_lemmas.Words.{◌≡◌, Capture, Cut, Err, Ghosts, List, Ok, PassesTo, PutsAll, Result, [], inl, inr, sent_packets}
-use Rattle.std.specs.Prelude.{IfErr}
-use Rattle.world_drive.specs.{Observing.PutsFurther, declared.observing.Cut.TheVariants.OutOfMemory}
 
 module _ {K : Type 0} (sink : Ghosts K) (time : ℕ) (old : Capture) where
   -- the put of what waited failed

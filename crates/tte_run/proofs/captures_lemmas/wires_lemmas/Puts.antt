@@ -1,12 +1,10 @@
 -- Packets put one after another.
+use Rattle.{std.{proofs.{Common.{drop, get_or}, Math.Seq.take-suc}, specs.{Io.KnownBytes.Appends, List.concat}}, tte_io.specs.Told.AppendsFront}
+use Rattle.{std.proofs.lemmas.List.{map-append, take-append-drop}, world_drive.specs.declared.observing.Cut.TheVariants.{OutOfMemory, WriteFault}}
+use Rattle.{tte_forms.proofs.Puts.{PutsLines-fails, PutsLines-more}, tte_run.proofs.captures_lemmas.wires_lemmas.Words.{subst, suc, sym, take, told_by, ℕ}}
+use Rattle.{tte_io.specs.Faults.{Rose, next_count}, tte_traces.proofs.{Given.PutFails-more, Streams.writes_fails}, world_drive.specs.Observing.PutsFurther}
 use Rattle.tte_run.proofs.captures_lemmas.wires_lemmas.Words.{◌++◌, ◌+◌, ◌<◌, ◌∙◌, ◌∷◌, ◌≡◌, Cut, Err, Ghosts, List, Ok, PutFails-behind, PutsAll, PutsLines}
 use Rattle.tte_run.proofs.captures_lemmas.wires_lemmas.Words.{PutsLines-append, PutsLines-none, Result, [], ap, arith, length, map, packet_at, refl, shown_as}
-use Rattle.tte_run.proofs.captures_lemmas.wires_lemmas.Words.{subst, suc, sym, take, told_by, ℕ}
-use Rattle.std.{proofs.{Common.{drop, get_or}, Math.Seq.take-suc, lemmas.List.{map-append, take-append-drop}}, specs.{Io.KnownBytes.Appends, List.concat}}
-use Rattle.tte_forms.proofs.Puts.{PutsLines-fails, PutsLines-more}
-use Rattle.tte_io.specs.{Faults.{Rose, next_count}, Told.AppendsFront}
-use Rattle.tte_traces.proofs.{Given.PutFails-more, Streams.writes_fails}
-use Rattle.world_drive.specs.{Observing.PutsFurther, declared.observing.Cut.TheVariants.{OutOfMemory, WriteFault}}
 
 module _ {K : Type 0} (sink : Ghosts K) where
   -- nothing is put

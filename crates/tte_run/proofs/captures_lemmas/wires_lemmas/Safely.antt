@@ -1,10 +1,9 @@
 -- What `wire` writes is the capture of a run that is safe.
+use Rattle.net_plan.specs.Ranges.{IsInRange}
+use Rattle.{net_plan.specs.declared.event.Event.Event, tte_run.specs.captures.wires.{Answer.IsWireAnswer, Safely.{IsCaptureToFault, IsSilent, IsWholeCapture}}}
+use Rattle.{tte_forms.specs.Answering.with_line, tte_traces.{proofs.Safely.{IsSafe, fault_safe, of_fault, of_whole, whole_safe}, specs.Lines.AreAdmitted}}
+use Rattle.{tte_forms.specs.networks.Accepting.MeansAccepted, tte_run.proofs.captures_lemmas.wires_lemmas.Words.{refl, subst, sym, way_lines, ℕ}}
 use Rattle.tte_run.proofs.captures_lemmas.wires_lemmas.Words.{◌∙◌, ◌∷◌, ◌≡◌, Answer, EndsEither, IsNamed, LinkId, List, Network, Way, ap, head_octets, inl, inr}
-use Rattle.tte_run.proofs.captures_lemmas.wires_lemmas.Words.{refl, subst, sym, way_lines, ℕ}
-use Rattle.tte_run.specs.captures.wires.{Answer.IsWireAnswer, Safely.{IsCaptureToFault, IsSilent, IsWholeCapture}}
-use Rattle.net_plan.specs.{Ranges.IsInRange, declared.event.Event.Event}
-use Rattle.tte_forms.specs.{Answering.with_line, networks.Accepting.MeansAccepted}
-use Rattle.tte_traces.{proofs.Safely.{IsSafe, fault_safe, of_fault, of_whole, whole_safe}, specs.Lines.AreAdmitted}
 
 module _ (name : List ℕ) (way : Way) (network : Network) (range : IsInRange network) (octets trace : List ℕ) where
   abbrev Safe : Answer → Type 0

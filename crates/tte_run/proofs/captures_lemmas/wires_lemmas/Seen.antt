@@ -1,4 +1,8 @@
 -- What the observer of a way has put, from record to record.
+use Rattle.{drift_world.specs.Running.event_note, run_law.specs.scenario.Ways.cut_set}
+use Rattle.{net_plan.specs.declared.event.What.What, run_law.{proofs.runs.Places.{in_left, in_parts}, specs.records.Happenings.happening}}
+use Rattle.{net_plan.specs.declared.tables.Way.TheVariants.Up, tte_run.specs.captures.wires.Seeing.{TakesWhat, cut_after, octets_sent, sent_by}}
+use Rattle.{std.proofs.Common.{append_assoc, unwrap_or, zero}, world_drive.specs.declared.observing.Cut.TheVariants.{OutOfMemory, WriteFault}}
 use Rattle.tte_run.proofs.captures_lemmas.wires_lemmas.{Cuts.{cut_known, cut_more, packets_sent, packets_stay}, Words.{unsettled, ℕ}}
 use Rattle.tte_run.proofs.captures_lemmas.wires_lemmas.Settled.{IsBehindEvents, all_settled, before_record, filter_has, new_unsettled, others_earlier}
 use Rattle.tte_run.proofs.captures_lemmas.wires_lemmas.Settled.{others_settled, same_settled, settled_sooner, settles, still_settled, unsettled_rank}
@@ -8,12 +12,6 @@ use Rattle.tte_run.proofs.captures_lemmas.wires_lemmas.Words.{PutsLines-append, 
 use Rattle.tte_run.proofs.captures_lemmas.wires_lemmas.Words.{Units, Way, [], amount, ap, append-nil, arith, cons_option, false, filter_map-append}
 use Rattle.tte_run.proofs.captures_lemmas.wires_lemmas.Words.{if◌then◌else◌, inl, inr, is_settled, is_way_of, packet_of, packets_of, place_of, rank, refl}
 use Rattle.tte_run.proofs.captures_lemmas.wires_lemmas.Words.{scenario_under, sends_of, sent_packets, settled, shown_as, subst, suc, sym, time_of, true}
-use Rattle.tte_run.specs.captures.wires.Seeing.{TakesWhat, cut_after, octets_sent, sent_by}
-use Rattle.std.proofs.Common.{append_assoc, unwrap_or, zero}
-use Rattle.drift_world.specs.Running.{event_note}
-use Rattle.net_plan.specs.declared.{event.What.What, tables.Way.TheVariants.Up}
-use Rattle.run_law.{proofs.runs.Places.{in_left, in_parts}, specs.{records.Happenings.happening, scenario.Ways.cut_set}}
-use Rattle.world_drive.specs.declared.observing.Cut.TheVariants.{OutOfMemory, WriteFault}
 use Rattle.net_plan.specs.declared.event.What.TheVariants as events
 use Rattle.run_law.specs.declared.note.NoteBody.TheVariants as notes
 pub use Rattle.tte_run.specs.captures.wires.Stopping.{at_start}

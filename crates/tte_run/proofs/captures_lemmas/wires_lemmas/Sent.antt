@@ -1,17 +1,13 @@
 -- The packet of a frame that a record put on a wire, from what a world shows of it.
+use Rattle.{device_rules.specs.frames.traced.RecordOctets.shown, run_law.specs.control.Wires.{Launch, Signal, control, launched, timed}}
+use Rattle.{drift_world.specs.Wires.{IsOfNow, put_by}, run_law.specs.records.Happenings.numbered, std.specs.Prelude.{IfSome, slice_get}}
+use Rattle.{pcf_codec.specs.Encoded.encoded, std.proofs.{Common.pos, lemmas.Int.ints}, tte_units.specs.Amount.units_of}
+use Rattle.{run_law.specs.scenario.Ways.{is_way, way_from}, tte_run.specs.captures.wires.Seeing.IsTimely, world_drive.specs.exact.Worlds.StandsExact}
 use Rattle.tte_run.proofs.captures_lemmas.wires_lemmas.{Given.carried_is, Words.{packets_of, rank, record_octets, refl, suc, sym, time_of, true, ℕ}}
 use Rattle.tte_run.proofs.captures_lemmas.wires_lemmas.Words.{◌++◌, ◌+◌, ◌<◌, ◌==◌, ◌^◌, ◌∙◌, ◌∷◌, ◌≡◌, ◌≤◌, Bool, Event, ExactWorld, Happening, HasLink}
 use Rattle.tte_run.proofs.captures_lemmas.wires_lemmas.Words.{IsSpelt, LinkId, List, Network, None, Note, NoteBody, Ok, Option, Pcf, Scenario, Some, Units, Way}
 use Rattle.tte_run.proofs.captures_lemmas.wires_lemmas.Words.{[], amount, and_parts, ap, arith, both_ways, cons_option, eqb-true, false, happenings}
 use Rattle.tte_run.proofs.captures_lemmas.wires_lemmas.Words.{if◌then◌else◌, is_sent_on, is_way_of, last_happening, length, one_more, option_map, packet_at}
-use Rattle.tte_run.specs.captures.wires.Seeing.{IsTimely}
-use Rattle.std.{proofs.{Common.pos, lemmas.Int.ints}, specs.Prelude.{IfSome, slice_get}}
-use Rattle.drift_world.specs.Wires.{IsOfNow, put_by}
-use Rattle.device_rules.specs.frames.traced.RecordOctets.{shown}
-use Rattle.pcf_codec.specs.Encoded.{encoded}
-use Rattle.run_law.specs.{control.Wires.{Launch, Signal, control, launched, timed}, records.Happenings.numbered, scenario.Ways.{is_way, way_from}}
-use Rattle.tte_units.specs.Amount.{units_of}
-use Rattle.world_drive.specs.exact.Worlds.{StandsExact}
 use Rattle.run_law.specs.declared.note.NoteBody.TheVariants as notes
 
 -- ---- the record stands last

@@ -1,9 +1,8 @@
 -- Octets that a broken master sent, as they are spelt anew.
+use Rattle.{pcf_codec.specs.{Decoding.{decoded, fields_read}, EtherType.pcf_type, Spelling.pcf_length}, run_law.specs.control.Wires.{control, signal_of, timed}}
+use Rattle.pcf_codec.specs.{Encoded.encoded, Fields.field}
+use Rattle.{pcf_codec.specs.declared.refusal.PcfRefusal.PcfRefusal, tte_run.proofs.captures_lemmas.wires_lemmas.Words.{length, refl, sym, true, ℕ}}
 use Rattle.tte_run.proofs.captures_lemmas.wires_lemmas.Words.{◌==◌, ◌∙◌, ◌≡◌, Bool, Err, IsSpelt, List, Ok, Pcf, Result, ap, both_ways, false, if◌then◌else◌}
-use Rattle.tte_run.proofs.captures_lemmas.wires_lemmas.Words.{length, refl, sym, true, ℕ}
-use Rattle.pcf_codec.specs.{Decoding.{decoded, fields_read}, Encoded.encoded, EtherType.pcf_type, Fields.field, Spelling.pcf_length}
-use Rattle.pcf_codec.specs.declared.refusal.PcfRefusal.{PcfRefusal}
-use Rattle.run_law.specs.control.Wires.{control, signal_of, timed}
 use Rattle.pcf_codec.specs.declared.refusal.PcfRefusal.TheVariants as refusals
 
 -- what decodes to a frame has its EtherType

@@ -1,20 +1,17 @@
 -- What a device shows that stamps a line, and what it showed just before.
+use Rattle.{net_plan.specs.{Bounds.IsBeta, Places.device_at}, run_law.specs.law.Safety.IsInStep, tte_lemmas.proofs.Lists.in_all, tte_units.specs.Amount.amount}
+use Rattle.{net_plan.specs.Ranges.{IsDeviceInRange, IsInRange, IsWithin}, tte_run.proofs.stamps_lemmas.granules_lemmas.{Stamped.IsReady, Traces.unbroken}}
+use Rattle.{net_plan.specs.declared.ids.DeviceId.DeviceId, sync_state.specs.Standing.adjustment_at_start, tte_run.specs.stamps.granules.Stamps.shown_at}
+use Rattle.{net_plan.specs.declared.network.Network.Network, precision_law.{proofs.law.Precision.{timed_of, up_to_is}, specs.Sizes.{HaveRoom, Sizes, sizes_of}}}
+use Rattle.{net_plan.specs.declared.tables.Device.Device, precision_law.specs.IdealClocks.ideal_error, tte_units.specs.declared.units.Units.Units}
+use Rattle.{precision_law.proofs.Plain.reached, run_law.specs.{declared.note.Note.Note, law.FirstLaws.IsLawful}, sync_state.proofs.StateFacts.up_state}
+use Rattle.{precision_law.proofs.{block.Starts.{has_start, none_at_start}, law.Whole.cycles_kept}, run_law.specs.scenario.Scenarios.{Scenario, is_turned_on_at}}
+use Rattle.{precision_law.{proofs.clocks.Readings.clocks_are_steady, specs.Dispatches.AreFromTo}, run_law.specs.device.States.{adjustment_after, state_after}}
+use Rattle.{precision_law.specs.{Epochs.epoch_cycle, Precision.IsRunUpTo}, run_law.specs.{device.LocalClocks.local, scenario.Devices.start_of}}
+use Rattle.{run_law.specs.records.Happenings.{Happening, earlier, happenings, up_to}, tte_run.specs.stamps.granules.Lines.{IsLineOf, Line, scenario_at}}
+use Rattle.{schedule_tables.specs.declared.rule.Rule.TheVariants.Masters, sync_state.specs.declared.state.State.TheVariants.Synchronised}
 use Rattle.std.proofs.Common.{◌*◌, ◌+ℤ◌, ◌+◌, ◌-ℤ◌, ◌^◌, ◌∙◌, ◌≡◌, ◌≤ℤ◌, ◌≤◌, IfSome, List, Option, Some, [], ap, arith, pos, refl, subst, suc, sym, zero, ℕ, ℤ}
 use Rattle.std.proofs.lemmas.Int.{ints}
-use Rattle.net_plan.specs.{Bounds.IsBeta, Places.device_at, Ranges.{IsDeviceInRange, IsInRange, IsWithin}, declared.ids.DeviceId.DeviceId}
-use Rattle.net_plan.specs.declared.{network.Network.Network, tables.Device.Device}
-use Rattle.precision_law.proofs.{Plain.reached, block.Starts.{has_start, none_at_start}, clocks.Readings.clocks_are_steady, law.Precision.{timed_of, up_to_is}}
-use Rattle.precision_law.{proofs.law.Whole.cycles_kept, specs.{Dispatches.AreFromTo, Epochs.epoch_cycle, IdealClocks.ideal_error, Precision.IsRunUpTo}}
-use Rattle.precision_law.specs.Sizes.{HaveRoom, Sizes, sizes_of}
-use Rattle.run_law.specs.{declared.note.Note.Note, device.{LocalClocks.local, States.{adjustment_after, state_after}}, law.FirstLaws.IsLawful}
-use Rattle.run_law.specs.{law.Safety.IsInStep, records.Happenings.{Happening, earlier, happenings, up_to}, scenario.Devices.start_of}
-use Rattle.run_law.specs.scenario.Scenarios.{Scenario, is_turned_on_at}
-use Rattle.schedule_tables.specs.declared.rule.Rule.TheVariants.{Masters}
-use Rattle.sync_state.{proofs.StateFacts.up_state, specs.{Standing.adjustment_at_start, declared.state.State.TheVariants.Synchronised}}
-use Rattle.tte_lemmas.proofs.Lists.{in_all}
-use Rattle.tte_units.specs.{Amount.amount, declared.units.Units.Units}
-use Rattle.tte_run.proofs.stamps_lemmas.granules_lemmas.{Stamped.IsReady, Traces.unbroken}
-use Rattle.tte_run.specs.stamps.granules.{Lines.{IsLineOf, Line, scenario_at}, Stamps.shown_at}
 
 -- ---- at time 0
 

@@ -1,16 +1,13 @@
 -- Stamps of one line agree, and stamps that are far apart tell the order of their lines.
+use Rattle.{net_plan.{proofs.Beta.beta_exists, specs.Bounds.{IsBeta, beta_at}}, run_law.specs.{declared.note.Note.Note, law.FirstLaws.IsLawful}}
+use Rattle.{net_plan.proofs.Shape.rules_give_trees, schedule_tables.proofs.Margins.{margins, shape_rules}, tte_run.specs.stamps.granules.Lines.{IsLineOf, Line}}
+use Rattle.{net_plan.specs.declared.ids.DeviceId.DeviceId, precision_law.proofs.falls_lemmas.Fall.never_fall, run_law.specs.records.Happenings.happenings}
+use Rattle.{precision_law.{proofs.records.Views.room_of, specs.Precision.IsRunUpTo}, run_law.specs.{runs.DueRecords.IsScenarioRun, scenario.Scenarios.Scenario}}
+use Rattle.{run_law.specs.device.LocalClocks.local, tte_run.proofs.stamps_lemmas.granules_lemmas.{Floors.{floors_near, stamp_of-floor}, Traces.line_in_time}}
 use Rattle.std.proofs.{Common.{◌*◌, ◌+ℤ◌, ◌+◌, ◌∷◌, ◌≡◌, ◌≤ℤ◌, ◌≤◌, List, Some, arith, inl, inr, pos, refl, subst, suc, sym, zero, ℕ, ℤ}, lemmas.Bool.cases_lt}
-use Rattle.std.proofs.lemmas.Int.{ints}
-use Rattle.precision_law.{proofs.{falls_lemmas.Fall.never_fall, records.Views.room_of}, specs.Precision.IsRunUpTo}
-use Rattle.net_plan.{proofs.{Beta.beta_exists, Shape.rules_give_trees}, specs.{Bounds.{IsBeta, beta_at}, declared.ids.DeviceId.DeviceId}}
-use Rattle.run_law.specs.{declared.note.Note.Note, device.LocalClocks.local, law.FirstLaws.IsLawful, records.Happenings.happenings}
-use Rattle.run_law.specs.{runs.DueRecords.IsScenarioRun, scenario.Scenarios.Scenario}
-use Rattle.schedule_tables.proofs.Margins.{margins, shape_rules}
-use Rattle.tte_units.specs.Amount.{amount}
-use Rattle.tte_run.proofs.stamps_lemmas.granules_lemmas.Floors.{floors_near, stamp_of-floor}
-use Rattle.tte_run.proofs.stamps_lemmas.granules_lemmas.Instants.{AreSmall, are_small, at_start, just_before, not_behind}
-use Rattle.tte_run.{proofs.stamps_lemmas.granules_lemmas.{Stamped.{IsReady, stamped}, Traces.line_in_time}, specs.stamps.granules.Granules.{IsFloor, stamp_of}}
-use Rattle.tte_run.specs.stamps.granules.{Laws.{IsRunInGranules, StampsAgree, StampsTellOrder}, Lines.{IsLineOf, Line}, Stamps.{shown_at, stamp_at}}
+use Rattle.{std.proofs.lemmas.Int.ints, tte_units.specs.Amount.amount}
+use Rattle.tte_run.proofs.stamps_lemmas.granules_lemmas.{Instants.{AreSmall, are_small, at_start, just_before, not_behind}, Stamped.{IsReady, stamped}}
+use Rattle.tte_run.specs.stamps.granules.{Granules.{IsFloor, stamp_of}, Laws.{IsRunInGranules, StampsAgree, StampsTellOrder}, Stamps.{shown_at, stamp_at}}
 
 -- ---- a run
 

@@ -1,14 +1,12 @@
 -- What the events of a run tell at a line of its trace.
+use Rattle.{net_plan.specs.declared.{event.Event.Event, ids.DeviceId.DeviceId, network.Network.Network}, std.proofs.lemmas.List.Elements.All-contains}
+use Rattle.{run_law.proofs.{law.FirstPlaces.in_filter, records.Members.in_kept, scenario.Devices.in_turn}, std.proofs.lemmas.Bool.false_from_ne_true}
+use Rattle.run_law.{proofs.records.Order.{any_in, contains, has_passed, in_any}, specs.scenario.Scenarios.{Scenario, events_up_to, is_broken}}
+use Rattle.run_law.{proofs.runs.Places.{in_left, in_parts, in_right, parted}, specs.{law.FirstLaws.{IsEventInRange, IsLawful}, records.Happenings.Happening}}
+use Rattle.{run_law.specs.records.Order.IsIn, std.proofs.{Common.{refl, subst, sym, ℕ}, lemmas.Int.{by_lt_z, ints}}, tte_units.specs.Amount.amount}
+use Rattle.{run_law.specs.scenario.Hypothesis.{AreWithinHypothesis, breaks_at}, tte_run.specs.stamps.granules.Lines.{IsLineOf, Line, scenario_at}}
 use Rattle.std.proofs.Common.{◌*◌, ◌++◌, ◌<◌, ◌^◌, ◌∙◌, ◌∷◌, ◌≡◌, ◌≤ℤ◌, ◌≤◌, List, [], append_assoc, arith, false, inl, inr, le-leb, leb-true, nat_le, pos}
-use Rattle.std.proofs.{Common.{refl, subst, sym, ℕ}, lemmas.{Bool.false_from_ne_true, Int.{by_lt_z, ints}, List.Elements.All-contains}}
-use Rattle.net_plan.specs.declared.{event.Event.Event, ids.DeviceId.DeviceId, network.Network.Network}
-use Rattle.run_law.proofs.{law.FirstPlaces.in_filter, records.Order.{any_in, contains, has_passed, in_any}, runs.Places.{in_left, in_parts, in_right, parted}}
-use Rattle.run_law.{proofs.scenario.Devices.in_turn, specs.{law.FirstLaws.{IsEventInRange, IsLawful}, records.{Happenings.Happening, Order.IsIn}}}
-use Rattle.run_law.specs.scenario.{Hypothesis.{AreWithinHypothesis, breaks_at}, Scenarios.{Scenario, events_up_to, is_broken}}
-use Rattle.tte_units.specs.Amount.{amount}
-use Rattle.tte_run.specs.stamps.granules.Lines.{IsLineOf, Line, scenario_at}
 use Rattle.run_law.specs.declared.outside.Outside.TheVariants as outside
-use Rattle.run_law.proofs.records.Members.{in_kept}
 
 -- ---- the times of events
 

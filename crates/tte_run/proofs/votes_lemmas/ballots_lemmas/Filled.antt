@@ -1,9 +1,8 @@
 -- A ballot that is filled by what is kept of it.
-use Rattle.std.{proofs.Common.{◌∙◌, ◌≡◌, List, None, Option, Some, ap, refl, sym, ℕ}, specs.Prelude.{option_and_then, option_map}}
-use Rattle.device_rules.specs.frames.traced.RecordOctets.{record_octets}
-use Rattle.net_plan.specs.declared.{ids.{DeviceId.DeviceId, VlId.VlId}, network.Network.Network}
-use Rattle.run_law.specs.{declared.note.Note.Note, records.Happenings.{Happening, happenings}}
-use Rattle.tte_run.specs.{declared.votes.{ballots.seats.Seats.Seats, law.voters.Voters.Voters}, votes.tmr.Vote.{Votes, no_votes}}
+use Rattle.{device_rules.specs.frames.traced.RecordOctets.record_octets, std.proofs.Common.{◌∙◌, ◌≡◌, List, None, Option, Some, ap, refl, sym, ℕ}}
+use Rattle.{net_plan.specs.declared.{ids.{DeviceId.DeviceId, VlId.VlId}, network.Network.Network}, std.specs.Prelude.{option_and_then, option_map}}
+use Rattle.{run_law.specs.declared.note.Note.Note, tte_run.specs.votes.tmr.Vote.{Votes, no_votes}}
+use Rattle.{run_law.specs.records.Happenings.{Happening, happenings}, tte_run.specs.declared.votes.{ballots.seats.Seats.Seats, law.voters.Voters.Voters}}
 use Rattle.tte_run.specs.votes.{ballots.Keeping.{AreCast, IsCastBy, seat_payload, with_cast}, law.Ballots.{ballot_of, payload_in, payload_taken}}
 
 -- what a seat is cast with

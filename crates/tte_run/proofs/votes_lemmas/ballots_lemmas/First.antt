@@ -1,13 +1,12 @@
 -- The first of the ballots that are kept is given up.
+use Rattle.{device_rules.specs.frames.traced.{Keeping.TraceView, RecordOctets.record_octets}, run_law.specs.records.Happenings.{Happening, happenings}}
+use Rattle.{net_plan.specs.declared.ids.{DeviceId.DeviceId, VlId.VlId}, std.proofs.lemmas.{Bool.{cases_Bool, cases_lt}, Map.Keys.le_from_not_gt}}
+use Rattle.{net_plan.specs.declared.network.Network.Network, tte_run.specs.declared.votes.{ballots.seats.Seats.Seats, law.voters.Voters.Voters}}
+use Rattle.{run_law.specs.declared.note.Note.Note, std.proofs.Common.{sym, true, ℕ}}
 use Rattle.std.proofs.Common.{◌%◌, ◌*◌, ◌+◌, ◌/◌, ◌<◌, ◌^◌, ◌∙◌, ◌∷◌, ◌≡◌, ◌≤◌, List, None, Option, Some, [], ap, arith, false, inl, inr, length, refl, subst}
-use Rattle.std.proofs.{Common.{sym, true, ℕ}, lemmas.{Bool.{cases_Bool, cases_lt}, Map.Keys.le_from_not_gt}}
 use Rattle.std.specs.{BTreeMap.{BTreeMap, IsLowerBound, Updates, get, is_at}, Ordering.nat_cmp, Prelude.{IsSome, is_some, option_and_then, option_map}}
-use Rattle.device_rules.specs.frames.traced.{Keeping.TraceView, RecordOctets.record_octets}
-use Rattle.net_plan.specs.declared.{ids.{DeviceId.DeviceId, VlId.VlId}, network.Network.Network}
-use Rattle.run_law.specs.{declared.note.Note.Note, records.Happenings.{Happening, happenings}}
 use Rattle.tte_run.{proofs.votes_lemmas.ballots_lemmas.Ballots.{equal_keys, found}, specs.votes.law.Ballots.{ballot_of, delivery_of, payload_in, payload_taken}}
 use Rattle.tte_run.{proofs.votes_lemmas.ballots_lemmas.{Filled.the_ballot, Kept.the_votes}, specs.declared.votes.ballots.votes.KeptVotes.KeptVotes}
-use Rattle.tte_run.specs.declared.votes.{ballots.seats.Seats.Seats, law.voters.Voters.Voters}
 use Rattle.tte_run.specs.votes.{ballots.Keeping.{AreCast, AreOpenFrom, HoldsFrom, HoldsVotes, IsNext, key_of, none_cast, seats_at}, tmr.Vote.{Votes, no_votes}}
 
 -- ---- all ballots

@@ -1,11 +1,9 @@
 -- Ballots that are kept, with the octets of the records.
-use Rattle.std.{proofs.Common.{◌++◌, ◌+◌, ◌∙◌, ◌∷◌, ◌≡◌, Err, List, Ok, Result, [], ap, length, refl, subst, sym, ℕ}, specs.{BTreeMap.BTreeMap, Prelude.OnOk}}
-use Rattle.device_rules.specs.frames.traced.Keeping.{Keeps, TraceView}
-use Rattle.net_plan.specs.declared.network.Network.{Network}
-use Rattle.run_law.{proofs.{records.Happenings.as_many, runs.NetworkRuns.one_more}, specs.declared.note.Note.Note}
-use Rattle.run_law.specs.records.Happenings.{Happening, happening, happenings}
-use Rattle.tte_run.specs.declared.votes.law.voters.Voters.{Voters}
-use Rattle.tte_run.specs.{votes.ballots.Keeping.{AreBallots, HoldsVotes}, declared.votes.ballots.{seats.Seats.Seats, votes.KeptVotes.KeptVotes}}
+use Rattle.{device_rules.specs.frames.traced.Keeping.{Keeps, TraceView}, tte_run.specs.votes.ballots.Keeping.{AreBallots, HoldsVotes}}
+use Rattle.{net_plan.specs.declared.network.Network.Network, tte_run.specs.declared.votes.{ballots.seats.Seats.Seats, law.voters.Voters.Voters}}
+use Rattle.{run_law.proofs.records.Happenings.as_many, std.proofs.Common.{◌++◌, ◌+◌, ◌∙◌, ◌∷◌, ◌≡◌, Err, List, Ok, Result, [], ap, length, refl, subst, sym, ℕ}}
+use Rattle.{run_law.{proofs.runs.NetworkRuns.one_more, specs.declared.note.Note.Note}, std.specs.{BTreeMap.BTreeMap, Prelude.OnOk}}
+use Rattle.{run_law.specs.records.Happenings.{Happening, happening, happenings}, tte_run.specs.declared.votes.ballots.votes.KeptVotes.KeptVotes}
 
 abbrev pub the_votes : TraceView → Voters → BTreeMap ℕ Seats → KeptVotes
 the_votes frames voters ballots = record { frames = frames; voters = voters; ballots = ballots }

@@ -1,15 +1,13 @@
 -- What a device takes of a frame that is owed to it.
+use Rattle.{byteorder.specs.Endian.big_bytes, run_law.specs.{law.Safety.IsDelivered, scenario.Scenarios.Scenario}, std.proofs.Math.Seq.drop-append_seam}
+use Rattle.{byteorder.specs.Numbers.length-bytes_high_first, net_plan.specs.declared.network.Network.Network, tte_run.specs.votes.law.Outvoting.sent_payload}
+use Rattle.{device_rules.specs.frames.traced.RecordOctets.{record_octets, shown}, tte_run.proofs.votes_lemmas.law_lemmas.Found.find_one}
+use Rattle.{net_plan.{proofs.SameIds.{same_device, same_vl}, specs.declared.ids.{LinkId.LinkId, VlId.VlId}}, run_law.specs.records.Happenings.Happening}
+use Rattle.{net_plan.specs.declared.ids.DeviceId.DeviceId, std.specs.Prelude.{option_and_then, option_map}, tte_lemmas.proofs.Bools.{both_left, both_right}}
+use Rattle.{net_plan.specs.declared.tables.VirtualLink.VirtualLink, tte_run.specs.votes.law.Ballots.{delivery_of, is_delivery, payload_in, payload_taken}}
+use Rattle.{run_law.specs.{declared.note.NoteBody.NoteBody, records.Frames.{mac_of, tt_frame_by}}, std.proofs.lemmas.Bool.{and_from, eq-eqb, eqb-true}}
+use Rattle.{run_law.specs.records.Order.IsIn, std.proofs.Common.{true, ℕ}}
 use Rattle.std.proofs.Common.{◌&&◌, ◌++◌, ◌-◌, ◌==◌, ◌∙◌, ◌≡◌, List, Option, Some, ap, append_assoc, arith, drop, length, length-append, refl, replicate, sym}
-use Rattle.std.{proofs.{Common.{true, ℕ}, Math.Seq.drop-append_seam, lemmas.Bool.{and_from, eq-eqb, eqb-true}}, specs.Prelude.{option_and_then, option_map}}
-use Rattle.byteorder.specs.{Endian.big_bytes, Numbers.length-bytes_high_first}
-use Rattle.device_rules.specs.frames.traced.RecordOctets.{record_octets, shown}
-use Rattle.net_plan.{proofs.SameIds.{same_device, same_vl}, specs.declared.{ids.{DeviceId.DeviceId, LinkId.LinkId, VlId.VlId}, network.Network.Network}}
-use Rattle.net_plan.specs.declared.tables.VirtualLink.{VirtualLink}
-use Rattle.run_law.specs.{declared.note.NoteBody.NoteBody, law.Safety.IsDelivered, records.{Frames.{mac_of, tt_frame_by}, Happenings.Happening, Order.IsIn}}
-use Rattle.run_law.specs.scenario.Scenarios.{Scenario}
-use Rattle.tte_lemmas.proofs.Bools.{both_left, both_right}
-use Rattle.tte_run.{proofs.votes_lemmas.law_lemmas.Found.find_one}
-use Rattle.tte_run.specs.votes.law.{Ballots.{delivery_of, is_delivery, payload_in, payload_taken}, Outvoting.sent_payload}
 use Rattle.run_law.specs.declared.note.NoteBody.TheVariants as notes
 
 -- ---- the payload that a sender makes

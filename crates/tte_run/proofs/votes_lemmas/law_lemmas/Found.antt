@@ -1,6 +1,5 @@
 -- The first of a list's entries that passes a test, where one alone does.
-use Rattle.std.proofs.Common.{◌∙◌, ◌∷◌, ◌≡◌, Bool, List, Some, [], ap, cond, false, find, inl, inr, refl, sym, true}
-use Rattle.run_law.specs.records.Order.{IsIn}
+use Rattle.{run_law.specs.records.Order.IsIn, std.proofs.Common.{◌∙◌, ◌∷◌, ◌≡◌, Bool, List, Some, [], ap, cond, false, find, inl, inr, refl, sym, true}}
 
 -- the one entry that passes is found
 pub find_one : {X : Type 0} (p : X → Bool) (xs : List X) (x : X) → IsIn x xs → p x ≡ true → ((y : X) → IsIn y xs → p y ≡ true → y ≡ x)

@@ -1,8 +1,7 @@
 -- The vote where two payloads are equal.
 use Rattle.std.proofs.Common.{◌||◌, ◌∙◌, ◌≡◌, Bool, List, None, Option, Some, ap, false, inl, inr, nat_eq, refl, sym, true, ℕ}
-use Rattle.std.{proofs.lemmas.Bool.{cases_Bool, or_cases, or_right}, specs.Cmp.Lexicographic.{other_text, pointwise, same_text}}
-use Rattle.std.specs.Prelude.{if◌then◌else◌, option_and_then}
-use Rattle.tte_run.specs.votes.tmr.Vote.{Votes, are_equal, payload_of, voted}
+use Rattle.std.{proofs.lemmas.Bool.{cases_Bool, or_cases, or_right}, specs.Prelude.{if◌then◌else◌, option_and_then}}
+use Rattle.{std.specs.Cmp.Lexicographic.{other_text, pointwise, same_text}, tte_run.specs.votes.tmr.Vote.{Votes, are_equal, payload_of, voted}}
 
 equal_self : (p : List ℕ) → pointwise nat_eq p p ≡ true
 equal_self p = elim (cases_Bool (pointwise nat_eq p p)) [ inl same ↦ same | inr other ↦ absurd (other_text p p (sym other) refl) ]

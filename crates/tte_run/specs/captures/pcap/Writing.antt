@@ -1,7 +1,6 @@
 -- The octets of a capture that is written, the least octet of each number first.
 use Rattle.std.specs.Prelude.{◌++◌, ◌∷◌, List, [], length, replicate, ℕ}
-use Rattle.byteorder.specs.Endian.{little_bytes}
-use Rattle.tte_run.specs.captures.pcap.Layout.{ethernet, magic, most_captured}
+use Rattle.{byteorder.specs.Endian.little_bytes, tte_run.specs.captures.pcap.Layout.{ethernet, magic, most_captured}}
 
 -- the header: the magic, version 2.4, no zone and no significant figures, the greatest captured length, the link type
 unfoldable pub head_octets : List ℕ

@@ -1,14 +1,13 @@
 -- What `wire` answers for the octets of a network file and of a trace.
 use Rattle.std.specs.Prelude.{◌≡◌, ◌⊎◌, List, [], length, ℕ}
-use Rattle.net_plan.specs.{Bearers.{HasNoBearer, IsFirstBearer, link_names}, declared.event.Event.Event}
-use Rattle.net_plan.specs.declared.{ids.LinkId.LinkId, network.Network.Network, tables.Way.Way}
-use Rattle.tte_run.specs.captures.{pcap.Writing.head_octets, wires.Packets.capture_of}
-use Rattle.run_law.specs.declared.note.Note.{Note}
+use Rattle.net_plan.specs.{Bearers.{HasNoBearer, IsFirstBearer, link_names}, declared.network.Network.Network}
+use Rattle.{net_plan.specs.declared.{event.Event.Event, ids.LinkId.LinkId}, tte_traces.specs.FaultLine.fault_status}
+use Rattle.{net_plan.specs.declared.tables.Way.Way, run_law.specs.declared.note.Note.Note}
 use Rattle.tte_forms.specs.{Answering.{Answer, with_line}, networks.{Accepting.IsAnswerBy, NoNetworks.answer_by}}
 use Rattle.tte_forms.specs.declared.{accepting.NoNetwork.NoNetwork, status.Status.{Status, TheVariants.NameRefused}}
-use Rattle.tte_traces.specs.{Answer.{AnswersAll, IsRunStatus, LinesOf}, FaultLine.fault_status}
-use Rattle.tte_traces.specs.{Lines.{AreAdmitted, IsFault, behind_lines}, declared.fault.TraceFault.TraceFault}
-use Rattle.world_drive.specs.exact.Records.{AreRecordsSoFar}
+use Rattle.{tte_run.specs.captures.pcap.Writing.head_octets, tte_traces.specs.declared.fault.TraceFault.TraceFault}
+use Rattle.{tte_run.specs.captures.wires.Packets.capture_of, world_drive.specs.exact.Records.AreRecordsSoFar}
+use Rattle.tte_traces.specs.{Answer.{AnswersAll, IsRunStatus, LinesOf}, Lines.{AreAdmitted, IsFault, behind_lines}}
 
 -- ---- the packets of a way
 

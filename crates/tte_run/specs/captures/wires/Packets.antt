@@ -1,15 +1,13 @@
 -- The capture of one way of a link in the records of a run.
 use Rattle.std.specs.{List.list_any, Prelude.{if◌then◌else◌, nat_lt, not, option_map, ℕ}}
 use Rattle.std.specs.Prelude.{◌%◌, ◌&&◌, ◌/◌, ◌==◌, ◌||◌, Bool, List, None, Option, false, filter, filter_map}
-use Rattle.device_rules.specs.frames.traced.RecordOctets.{record_octets}
-use Rattle.net_plan.specs.declared.{event.{Event.Event, What.TheVariants.Send}, ids.LinkId.LinkId}
-use Rattle.net_plan.specs.declared.{network.Network.Network, tables.Way.{Way, TheVariants.Up}}
-use Rattle.tte_run.specs.captures.pcap.Writing.{packet_octets}
-use Rattle.run_law.specs.declared.note.{Note.Note, NoteBody.NoteBody}
-use Rattle.run_law.specs.records.{Happenings.{Happening, happenings, time_of}, Ranks.rank}
-use Rattle.run_law.specs.scenario.{Scenarios.Scenario, Ways.{is_cut, is_way_of, way_from}}
-use Rattle.world_drive.specs.exact.Records.{clock_reading}
-use Rattle.world_law.specs.source.Agreeing.{scenario}
+use Rattle.{device_rules.specs.frames.traced.RecordOctets.record_octets, world_drive.specs.exact.Records.clock_reading}
+use Rattle.{net_plan.specs.declared.event.Event.Event, tte_run.specs.captures.pcap.Writing.packet_octets}
+use Rattle.net_plan.specs.declared.{event.What.TheVariants.Send, network.Network.Network, tables.Way.TheVariants.Up}
+use Rattle.{net_plan.specs.declared.ids.LinkId.LinkId, run_law.specs.scenario.Ways.{is_cut, is_way_of, way_from}}
+use Rattle.{net_plan.specs.declared.tables.Way.Way, run_law.specs.declared.note.Note.Note}
+use Rattle.run_law.specs.{declared.note.NoteBody.NoteBody, records.Happenings.{Happening, happenings, time_of}}
+use Rattle.{run_law.specs.{records.Ranks.rank, scenario.Scenarios.Scenario}, world_law.specs.source.Agreeing.scenario}
 use Rattle.run_law.specs.declared.note.NoteBody.TheVariants as notes
 
 -- ---- a packet

@@ -2,19 +2,17 @@
 use Rattle.std.specs.List.{last_or}
 use Rattle.std.specs.Prelude.{if◌then◌else◌, ◌++◌, ◌^◌, ◌∷◌, ◌≡◌, ◌≤ℤ◌, ◌≤◌, ◌⊎◌, Bool, Err, IfErr, List, None, Ok}
 use Rattle.std.specs.Prelude.{OnOk, Option, Result, Some, [], false, filter_map, map, pos, true, unwrap_or, ℕ}
-use Rattle.net_plan.specs.{Belonging.HasLink, declared.event.{Event.Event, What.{What, TheVariants.Send}}}
-use Rattle.net_plan.specs.declared.{ids.LinkId.LinkId, network.Network.Network, tables.Way.{Way, TheVariants.Up}}
-use Rattle.pcf_codec.specs.Encoded.{encoded}
-use Rattle.run_law.specs.{control.Wires.{Signal, control, timed}, declared.note.{Note.Note, NoteBody.NoteBody}}
+use Rattle.{net_plan.specs.Belonging.HasLink, pcf_codec.specs.Encoded.encoded, tte_units.specs.Amount.amount}
+use Rattle.net_plan.specs.declared.{event.{Event.Event, What.What}, network.Network.Network, tables.Way.TheVariants.Up}
+use Rattle.{net_plan.specs.declared.event.What.TheVariants.Send, run_law.specs.control.Wires.{Signal, control, timed}}
+use Rattle.{net_plan.specs.declared.{ids.LinkId.LinkId, tables.Way.Way}, tte_io.specs.declared.ends.Sink.Ghosts}
+use Rattle.run_law.specs.{declared.note.{Note.Note, NoteBody.NoteBody}, scenario.Ways.{cut_set, is_way_of}}
 use Rattle.run_law.specs.records.{Happenings.{Happening, happening, happenings, time_of}, Order.IsIn}
-use Rattle.run_law.specs.scenario.Ways.{cut_set, is_way_of}
-use Rattle.tte_forms.specs.Putting.{PutFails, PutsLines}
-use Rattle.tte_io.specs.{Faults.Rose, declared.ends.Sink.Ghosts}
-use Rattle.tte_traces.specs.Report.{StopsLines, shown_as}
-use Rattle.tte_units.specs.{Amount.amount, declared.units.Units.Units}
-use Rattle.world_drive.specs.{Observing.{Start, Told, told_by}, declared.observing.Cut.{Cut, TheVariants.WriteFault}}
+use Rattle.{tte_forms.specs.Putting.{PutFails, PutsLines}, tte_traces.specs.Report.{StopsLines, shown_as}}
+use Rattle.tte_io.specs.Faults.{Rose}
 use Rattle.tte_run.specs.captures.wires.Packets.{is_settled, packet_at, packets_of, scenario_under, settled, unsettled}
-use Rattle.tte_run.specs.declared.captures.wires.capture.Capture.{Capture}
+use Rattle.{tte_run.specs.declared.captures.wires.capture.Capture.Capture, tte_units.specs.declared.units.Units.Units}
+use Rattle.world_drive.specs.{Observing.{Start, Told, told_by}, declared.observing.Cut.{Cut, TheVariants.WriteFault}}
 use Rattle.run_law.specs.declared.note.NoteBody.TheVariants as notes
 
 -- ---- puts

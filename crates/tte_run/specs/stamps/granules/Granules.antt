@@ -1,7 +1,6 @@
 -- Granules of global time, and the floor of a local value in them.
 use Rattle.std.specs.{Int.int_div_euclid, Prelude.{◌*ℤ◌, ◌*◌, ◌+ℤ◌, ◌<ℤ◌, ◌≤ℤ◌, pos, ℕ, ℤ}}
-use Rattle.net_plan.specs.declared.network.Network.{Network}
-use Rattle.tte_units.specs.Amount.{amount}
+use Rattle.{net_plan.specs.declared.network.Network.Network, tte_units.specs.Amount.amount}
 
 -- the least granule of a network: four times its precision
 abbrev pub least_granule : Network → ℕ

@@ -2,13 +2,12 @@
 use Rattle.std.specs.{BTreeMap.{BTreeMap, btree_map_len, get}, Ordering.nat_cmp}
 use Rattle.std.specs.Prelude.{if◌then◌else◌, ◌*◌, ◌+◌, ◌<◌, ◌==◌, ◌^◌, ◌||◌, ◌≡◌, ◌≤◌, Bool, List, None, Option, Some}
 use Rattle.std.specs.Prelude.{option_and_then, option_map, unwrap_or, ℕ}
-use Rattle.device_rules.specs.frames.traced.{Keeping.Keeps, RecordOctets.octets_of}
-use Rattle.net_plan.specs.declared.{ids.{DeviceId.DeviceId, VlId.VlId}, network.Network.Network}
-use Rattle.run_law.specs.declared.note.{Note.Note, NoteBody.NoteBody}
-use Rattle.run_law.specs.records.Happenings.{Happening, happenings, numbered}
+use Rattle.{device_rules.specs.frames.traced.Keeping.Keeps, net_plan.specs.declared.ids.{DeviceId.DeviceId, VlId.VlId}}
+use Rattle.{device_rules.specs.frames.traced.RecordOctets.octets_of, net_plan.specs.declared.network.Network.Network}
+use Rattle.{run_law.specs.declared.note.Note.Note, tte_run.specs.votes.law.Ballots.{ballot_of, delivery_of, payload_in}}
+use Rattle.run_law.specs.{declared.note.NoteBody.NoteBody, records.Happenings.{Happening, happenings, numbered}}
 use Rattle.tte_run.specs.declared.votes.ballots.{seats.{Delivery.Delivery, Seats.Seats}, votes.KeptVotes.KeptVotes}
 use Rattle.tte_run.specs.{declared.votes.law.voters.Voters.Voters, votes.tmr.Vote.{Votes, no_votes, with_payload}}
-use Rattle.tte_run.specs.votes.law.Ballots.{ballot_of, delivery_of, payload_in}
 use Rattle.run_law.specs.declared.note.NoteBody.TheVariants as notes
 
 -- what is taken by a record of this body, if something is

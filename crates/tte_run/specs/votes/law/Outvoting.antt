@@ -3,9 +3,8 @@ use Rattle.std.specs.Prelude.{◌++◌, ◌-◌, ◌≡◌, ◌⊎◌, List, Som
 use Rattle.byteorder.specs.Endian.{big_bytes}
 use Rattle.net_plan.specs.declared.{ids.DeviceId.DeviceId, tables.VirtualLink.VirtualLink}
 use Rattle.run_law.specs.{law.Safety.{FramesAreDelivered, IsOwed}, records.Happenings.Happening}
-use Rattle.run_law.specs.scenario.Scenarios.{Scenario}
-use Rattle.tte_run.specs.{declared.votes.law.voters.Voters.Voters, votes.law.{Ballots.ballot_of, Voting.MayVote}}
-use Rattle.tte_run.specs.votes.tmr.Vote.{voted}
+use Rattle.{run_law.specs.scenario.Scenarios.Scenario, tte_run.specs.declared.votes.law.voters.Voters.Voters}
+use Rattle.tte_run.specs.votes.{law.{Ballots.ballot_of, Voting.MayVote}, tmr.Vote.voted}
 
 -- the payload that a correct sender makes for a cycle: the cycle in four octets, and zeros
 abbrev pub sent_payload : VirtualLink → ℕ → List ℕ

@@ -1,9 +1,8 @@
 ghost use Rattle.std.specs.Prelude.{◌<◌, ◌^◌, ◌∷◌, ◌≡◌, ◌≤◌, List, [], length, map, ℕ};
-ghost use Rattle.net_plan.specs.{Belonging.HasLink, Ranges.IsInRange};
-ghost use Rattle.tte_run.specs.captures.pcap.Layout.{most_written};
+ghost use Rattle.{net_plan.specs.{Belonging.HasLink, Ranges.IsInRange}, run_law.specs.records.Ranks.rank};
 ghost use Rattle.pcf_codec.specs.Encoded.{encoded};
-ghost use Rattle.run_law.specs.{control.Wires.signal_of, records.Ranks.rank, scenario.Ways.{is_way_of, way_from}};
-ghost use Rattle.world_state.specs.Views.{octets_of, signal_as};
+ghost use Rattle.{run_law.specs.control.Wires.signal_of, world_state.specs.Views.{octets_of, signal_as}};
+ghost use Rattle.{run_law.specs.scenario.Ways.{is_way_of, way_from}, tte_run.specs.captures.pcap.Layout.most_written};
 ghost use Rattle.tte_run.specs.captures.wires.{Packets.{is_sent_on, packet_at}, Seeing.{IsSpelt, PutsAll}};
 
 use crate::captures::pcap::put_packet;

@@ -1,14 +1,13 @@
 ghost use Rattle.std.specs.Prelude.{◌^◌, ◌≡◌, ◌≢◌, ◌≤◌, ◌⊎◌, [], true};
-ghost use Rattle.net_plan.specs.{Belonging.HasLink, Ranges.IsInRange};
-ghost use Rattle.tte_forms.specs.Answering.{ForOctets, Gives, GivesAnswer, GivesOne};
-ghost use Rattle.tte_forms.specs.{Faults.{HasCause, IsWanted, PutFailed, ReadFailed}, Putting.{Over, PutsNone}};
-ghost use Rattle.tte_traces.specs.{Ending.RunEnds, FaultLine.fault_status};
-ghost use Rattle.world_drive.specs.{Observing.{start_by, told_by}, exact.Worlds.StandsExact};
+ghost use Rattle.{net_plan.specs.Belonging.HasLink, tte_forms.specs.Faults.{HasCause, IsWanted, PutFailed, ReadFailed}};
+ghost use Rattle.{net_plan.specs.Ranges.IsInRange, tte_traces.specs.Ending.RunEnds};
+ghost use Rattle.tte_forms.specs.{Answering.{ForOctets, Gives, GivesAnswer, GivesOne}, Putting.{Over, PutsNone}};
 ghost use Rattle.tte_run.specs.captures.wires.Answer.{IsCapture, IsHeaded, IsWireAnswer, IsWireNetworkAnswer};
 ghost use Rattle.tte_run.specs.captures.wires.{Answer.{IsWireStatus, quiet_answer}, Seeing.{SeesWay, sent_packets}};
-ghost use Rattle.tte_run.specs.captures.wires.Safely.{WiresSafely};
+ghost use Rattle.{tte_run.specs.captures.wires.Safely.WiresSafely, world_drive.specs.Observing.{start_by, told_by}};
 ghost use Rattle.tte_run.specs.captures.wires.Streaming.{StopsAtLink, StopsHeaded, TakesLittleAtLink};
 ghost use Rattle.tte_run.specs.captures.wires.Streaming.{TakesLittleHeaded, WireStops, WireTakesLittle, settled_lines};
+ghost use Rattle.{tte_traces.specs.FaultLine.fault_status, world_drive.specs.exact.Worlds.StandsExact};
 
 use crate::captures::pcap::put_head;
 use crate::captures::wires::capture::Capture;

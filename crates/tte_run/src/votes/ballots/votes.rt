@@ -1,7 +1,6 @@
 ghost use Rattle.std.specs.Prelude.{◌++◌, ◌+◌, ◌<◌, ◌^◌, ◌∷◌, ◌≡◌, ◌≢◌, ◌≤◌, IfOk, IfSome, List, MatchOption, OnOk, []};
 ghost use Rattle.std.specs.Prelude.{length, ℕ};
-ghost use Rattle.device_rules.specs.frames.traced.Keeping.{Keeps};
-ghost use Rattle.net_plan.specs.declared.network.Network.{Network};
+ghost use Rattle.{device_rules.specs.frames.traced.Keeping.Keeps, net_plan.specs.declared.network.Network.Network};
 ghost use Rattle.run_law.specs.declared.note.Note.{Note as NoteValue};
 ghost use Rattle.tte_run.specs.declared.votes.law.voters.Voters.{Voters as VotersValue};
 ghost use Rattle.tte_run.specs.votes.ballots.Keeping.{AreOpenFrom, HoldsFrom, HoldsVotes, IsNext, kept_count};

@@ -1,7 +1,6 @@
 -- Counts go on by the next record.
+use Rattle.{run_law.specs.declared.note.{Note.Note, NoteBody.NoteBody}, std.{proofs.lemmas.List.Elements.filter-append, specs.Prelude.{codes, if◌then◌else◌}}}
 use Rattle.std.proofs.Common.{◌++◌, ◌+◌, ◌∙◌, ◌∷◌, ◌≡◌, Bool, List, [], ap, arith, false, filter, length, length-append, refl, sym, true, ℕ}
-use Rattle.std.{proofs.lemmas.List.Elements.filter-append, specs.Prelude.{if◌then◌else◌, codes}}
-use Rattle.run_law.specs.declared.note.{Note.Note, NoteBody.NoteBody}
 use Rattle.tte_traces.specs.{declared.storms.summary.{counted.Counted.Counted, counts.{Counts.Counts, Drops.Drops}}, storms.summary.Counting.with_drop}
 use Rattle.tte_traces.specs.storms.summary.Counting.{count_where, counted_as, counts_of, drops_for, drops_of, is_drop_for, is_of_kind, raised, records_of}
 use Rattle.run_law.specs.declared.note.NoteBody.TheVariants as notes

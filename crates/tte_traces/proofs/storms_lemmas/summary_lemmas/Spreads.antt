@@ -1,7 +1,6 @@
 -- The greatest spread of records.
-use Rattle.std.proofs.{Common.{◌≡◌, ◌≤ℤ◌, List, ap, arith, inl, inr, pos, ℤ}, lemmas.Int.ints}
-use Rattle.run_law.specs.{device.LocalClocks.local, records.Happenings.{Happening, time_of}, scenario.Scenarios.Scenario}
-use Rattle.tte_units.specs.declared.units.Units.{Units}
+use Rattle.{run_law.specs.{device.LocalClocks.local, records.Happenings.{Happening, time_of}}, std.proofs.Common.{◌≡◌, ◌≤ℤ◌, List, ap, arith, inl, inr, pos, ℤ}}
+use Rattle.{run_law.specs.scenario.Scenarios.Scenario, std.proofs.lemmas.Int.ints, tte_units.specs.declared.units.Units.Units}
 use Rattle.tte_traces.specs.storms.summary.{Laws.{SpreadIsOne, SpreadIsWithinPrecision}, Spread.{AreSeenApart, IsGreatestSpread}}
 
 -- where two devices are seen, one is seen with itself

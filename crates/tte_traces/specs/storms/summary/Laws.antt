@@ -1,9 +1,8 @@
 -- What holds of the spreads of runs.
 use Rattle.std.specs.Prelude.{◌≡◌, ◌≤ℤ◌, ◌≤◌, List, pos, ℕ}
-use Rattle.run_law.specs.{law.Safety.ClocksAgree, records.{Happenings.{Happening, time_of}, Order.IsIn}}
-use Rattle.run_law.specs.scenario.Scenarios.{Scenario}
-use Rattle.tte_units.specs.declared.units.Units.{Units}
-use Rattle.tte_traces.specs.storms.summary.Spread.{IsGreatestSpread}
+use Rattle.run_law.specs.{law.Safety.ClocksAgree, records.Happenings.{Happening, time_of}, scenario.Scenarios.Scenario}
+use Rattle.run_law.specs.records.Order.{IsIn}
+use Rattle.{tte_traces.specs.storms.summary.Spread.IsGreatestSpread, tte_units.specs.declared.units.Units.Units}
 
 -- the records have one greatest spread
 abbrev pub SpreadIsOne : Type 0

@@ -1,9 +1,8 @@
 -- How far apart local clocks are seen at the corrections of a run.
 use Rattle.std.specs.Prelude.{◌-ℤ◌, ◌≡◌, ◌≤ℤ◌, ◌⊎◌, List, pos, ℕ, ℤ}
-use Rattle.net_plan.specs.{Belonging.HasDevice, declared.ids.DeviceId.DeviceId}
-use Rattle.run_law.specs.{device.LocalClocks.local, law.Safety.IsInStep, records.Happenings.{Happening, time_of}}
-use Rattle.run_law.specs.{records.Order.IsIn, scenario.Scenarios.Scenario}
-use Rattle.tte_units.specs.declared.units.Units.{Units}
+use Rattle.{net_plan.specs.Belonging.HasDevice, run_law.specs.{device.LocalClocks.local, law.Safety.IsInStep}}
+use Rattle.{net_plan.specs.declared.ids.DeviceId.DeviceId, run_law.specs.records.Happenings.{Happening, time_of}}
+use Rattle.{run_law.specs.{records.Order.IsIn, scenario.Scenarios.Scenario}, tte_units.specs.declared.units.Units.Units}
 use Rattle.run_law.specs.declared.note.NoteBody.TheVariants as notes
 
 -- the record is that of a device's correction

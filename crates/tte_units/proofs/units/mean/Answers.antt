@@ -1,5 +1,4 @@
-use Rattle.std.proofs.Common.{◌≡◌, rules, subst, sym, ℤ}
-use Rattle.tte_units.{proofs.Means.mean_of-floor, specs.Mean.{IsMean, mean_of}}
+use Rattle.{std.proofs.Common.{◌≡◌, rules, subst, sym, ℤ}, tte_units.{proofs.Means.mean_of-floor, specs.Mean.{IsMean, mean_of}}}
 use Rattle.tte_units.proofs.units.mean.Goals as goal
 
 pub returns-clause-floor : goal.returns-clause-floor

@@ -1,5 +1,6 @@
 -- A device acts: where more is due of it at the instant, the cursor stays, and else it goes by.
-use Rattle.world_law.proofs.{acts.Acted.beyond_it, steps_lemmas.Words.{sym, true, ℕ}}
+use Rattle.{membership.specs.Members.count_of, run_law.specs.machines.Tasks.IsWaiting, world_law.proofs.acts.Acted.beyond_it}
+use Rattle.{run_law.specs.control.Hearing.{heard_by_schedule, heard_enough, is_in_schedule, last_cycle}, world_law.proofs.steps_lemmas.Words.{sym, true, ℕ}}
 use Rattle.world_law.proofs.steps_lemmas.Words.{◌&&◌, ◌++◌, ◌+◌, ◌≡◌, ◌≤◌, ◌⊎◌, Act, ArePutIn, AsyncClique, Cleared, Compressed, Corrected, DeviceId, Happening}
 use Rattle.world_law.proofs.steps_lemmas.Words.{HasActed, HasDoneFrom, HasSentFrom, HasTaskBy, Integrating, IsDueNow, IsSet, Joining, List, Members, Network}
 use Rattle.world_law.proofs.steps_lemmas.Words.{Node, Note, NoteBody, Off, Ripe, Scenario, Stands, StandsBehind, State, SyncClique, SyncPlan, Synchronised}
@@ -11,8 +12,6 @@ use Rattle.world_law.proofs.steps_lemmas.acting.{EmitSteps.emits_one, SendSteps.
 use Rattle.world_law.{proofs.steps_lemmas.acting.Points.{at_point, no_frames, not_on}, specs.steps.Acting.{ActedStep, Acts, AreActBodies, LastActedStep}}
 use Rattle.run_law.specs.declared.steps.Act.TheVariants as acts
 use Rattle.run_law.specs.declared.steps.Ripe.TheVariants as ripe
-use Rattle.membership.specs.Members.{count_of}
-use Rattle.run_law.specs.{control.Hearing.{heard_by_schedule, heard_enough, is_in_schedule, last_cycle}, machines.Tasks.IsWaiting}
 
 -- ---- a master hears its own frame as one of four things
 

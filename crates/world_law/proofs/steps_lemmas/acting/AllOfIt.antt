@@ -1,4 +1,5 @@
 -- All that is due from the acts of a device is among the records to come, once it has nothing more to do at the instant.
+use Rattle.{membership.proofs.OneSummary.one_summary, sync_state.{proofs.LawLemmas.one_verdict, specs.Verdicts.HasVerdict}}
 use Rattle.world_law.proofs.{devices.Plains.heard_plain, steps_lemmas.acting.{Emitting.none_heard, Stays.{heard_by_these, heard_more, heard_put}}}
 use Rattle.world_law.proofs.steps_lemmas.Words.{◌++◌, ◌<ℤ◌, ◌∙◌, ◌∷◌, ◌≡◌, ◌≤ℤ◌, ◌≤◌, ◌⊎◌, AllBefore, AreRecorded, AsyncClique, Bool, Cleared, ComesTo}
 use Rattle.world_law.proofs.steps_lemmas.Words.{ComesToCorrection, Compressed, Corrected, DeviceId, Dispatches, Happening, HasCleared, Hearing, IsAllOfIt}
@@ -9,8 +10,6 @@ use Rattle.world_law.proofs.steps_lemmas.Words.{members_in, never_both, option_t
 use Rattle.world_law.proofs.steps_lemmas.Words.{quiet_rest, rank, rank_plain, reading_for, refl, sending, standing_before, subst, sym, time_of, ℕ}
 use Rattle.world_law.proofs.steps_lemmas.acting.Complete.{IsActCause, act_cause, corrects_or, emitted_or, found_dispatched, found_emitted, found_sent, sent_or}
 use Rattle.world_law.proofs.steps_lemmas.acting.{GoesOn.{IsPutAs, body_plain, one_of, put_now, shown_still, time_plain}, Over.IsIdleNow, Work.{IsAtWork, comes}}
-use Rattle.membership.proofs.OneSummary.{one_summary}
-use Rattle.sync_state.{proofs.LawLemmas.one_verdict, specs.Verdicts.HasVerdict}
 use Rattle.run_law.specs.declared.judgement.Why.TheVariants as whys
 use Rattle.run_law.specs.declared.note.NoteBody.TheVariants as kinds
 

@@ -1,5 +1,7 @@
 -- A joiner that comes to the correction point of the cycle by whose frame it joined clears what it has heard.
-use Rattle.world_law.proofs.{acts.Acted.next_turn, devices.{OwnRecords.cycle_still, Passes.cleared_still}}
+use Rattle.{compression.proofs.Held.int_le-false, std.proofs.lemmas.Bool.and_from, sync_state.specs.Standing.IsAtIntegration}
+use Rattle.{run_law.specs.control.Corrections.next_cycle, world_law.proofs.{acts.Acted.next_turn, devices.{OwnRecords.cycle_still, Passes.cleared_still}}}
+use Rattle.{run_law.specs.{device.LocalClocks.local_at_change, machines.Answers.after_correction}, tte_lemmas.proofs.Integers.{int_le-from, int_lt-from}}
 use Rattle.world_law.proofs.steps_lemmas.Words.{◌&&◌, ◌++◌, ◌+ℤ◌, ◌+◌, ◌-ℤ◌, ◌-◌, ◌<ℤ◌, ◌<◌, ◌||◌, ◌∙◌, ◌∷◌, ◌≡◌, ◌≤ℤ◌, ◌≤◌, ◌⊎◌, Bool, Cleared, ClockTask}
 use Rattle.world_law.proofs.steps_lemmas.Words.{Compressed, Contains-push_cases, DeviceId, Happening, HasCleared, IsIn, IsLeft, IsUndone, IsWaiting, Joining}
 use Rattle.world_law.proofs.steps_lemmas.Words.{List, Moment, Node, Scenario, Summary, Synchronised, Units, [], acting, adjustment_before, after_last, amount}
@@ -9,11 +11,6 @@ use Rattle.world_law.proofs.steps_lemmas.Words.{filter_map, has_cleared, hearing
 use Rattle.world_law.proofs.steps_lemmas.Words.{is_broken, is_integration_cycle, is_timed, is_turned_on_at, nat_lt, none_kept, not, not_turned_on}
 use Rattle.world_law.proofs.steps_lemmas.Words.{option_map_or, point_number, pos, reading_for, recorded_cycle, refl, sending, subst, sym, time_of, true}
 use Rattle.world_law.proofs.steps_lemmas.{Words.{value_of, waiting_alike, ℕ, ℤ}, acting.{Correcting.{base_then, still_now}, Over.IsOver, Work.IsAtWork}}
-use Rattle.std.proofs.lemmas.Bool.{and_from}
-use Rattle.compression.proofs.Held.{int_le-false}
-use Rattle.run_law.specs.{control.Corrections.next_cycle, device.LocalClocks.local_at_change, machines.Answers.after_correction}
-use Rattle.sync_state.specs.Standing.{IsAtIntegration}
-use Rattle.tte_lemmas.proofs.Integers.{int_le-from, int_lt-from}
 
 pub in_behind : (p : Happening → Bool) (js : List Happening) (h : Happening) → IsIn h (after_last p js) → IsIn h js
 in_behind p js =

@@ -1,5 +1,7 @@
 -- All that is due of a device that has acted is among the records to come.
-use Rattle.world_law.{proofs.{acts.Dispatched.{plain_lost, plain_tt}, runs.SourcesBack.standing_in}, specs.source.Sources.IsAtCorrection}
+use Rattle.{run_law.specs.runs.DueRecords.IsCorrectedRecord, world_law.proofs.{acts.Dispatched.{plain_lost, plain_tt}, runs.SourcesBack.standing_in}}
+use Rattle.{run_law.specs.timed.Dispatching.Sends, sync_state.specs.Standing.next_point, world_law.specs.source.Sources.IsAtCorrection}
+use Rattle.std.proofs.Common.{Contains, negsuc}
 use Rattle.world_law.proofs.steps_lemmas.Words.{◌++◌, ◌-ℤ◌, ◌<ℤ◌, ◌∙◌, ◌∷◌, ◌≡◌, ◌≤ℤ◌, ◌≤◌, ◌⊎◌, AllBefore, AreClusters, AreRecorded, AsyncClique, Bool}
 use Rattle.world_law.proofs.steps_lemmas.Words.{ClockTask, ComesToCorrection, Compressed, Contains-append_left, Contains-push, Contains-push_cases, DeviceId}
 use Rattle.world_law.proofs.steps_lemmas.Words.{Dispatches, Emits, Happening, HasCleared, Integrating, IsBefore, IsCaused, IsIn, IsOwnSource, IsPending}
@@ -9,9 +11,6 @@ use Rattle.world_law.proofs.steps_lemmas.Words.{doing, emitting, false, if◌the
 use Rattle.world_law.proofs.steps_lemmas.Words.{observation_window, place_of, point_number, points_of, pos, rank, reaches_back, reading_for, same_device}
 use Rattle.world_law.proofs.steps_lemmas.Words.{sending, standing_before, subst, sym, time_of, true, up_back, value_of, way_from, ℕ, ℤ}
 use Rattle.world_law.proofs.steps_lemmas.acting.{Starts.{plain_compressed, plain_sent}, Work.{IsAtWork, all_earlier, same_standing}}
-use Rattle.std.proofs.Common.{Contains, negsuc}
-use Rattle.run_law.specs.{runs.DueRecords.IsCorrectedRecord, timed.Dispatching.Sends}
-use Rattle.sync_state.specs.Standing.{next_point}
 use Rattle.run_law.specs.declared.judgement.Why.TheVariants as whys
 use Rattle.run_law.specs.declared.note.NoteBody.TheVariants as kinds
 

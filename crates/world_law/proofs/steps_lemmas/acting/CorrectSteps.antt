@@ -1,5 +1,6 @@
 -- The steps by which a device comes to its correction point.
-use Rattle.world_law.{proofs.putting.{Moving.settled_moves, PutOne.corrected_unfollowed, StandsOn.shown_still}, specs.steps.Acting.correction_bodies}
+use Rattle.{run_law.specs.machines.Answers.after_correction, world_law.{proofs.putting.PutOne.corrected_unfollowed, specs.steps.Acting.correction_bodies}}
+use Rattle.world_law.{proofs.putting.{Moving.settled_moves, StandsOn.shown_still}, specs.world.Calls.IsStateOf}
 use Rattle.world_law.proofs.steps_lemmas.Words.{◌++◌, ◌+ℤ◌, ◌+◌, ◌<◌, ◌∙◌, ◌∷◌, ◌≡◌, ◌≤◌, ArePutIn, AsyncClique, Cleared, ComesFirst, Corrected, DeviceId}
 use Rattle.world_law.proofs.steps_lemmas.Words.{Happening, HasActed, HasCleared, Integrating, IsBefore, IsDueNow, IsHeld, IsIn, IsNoTaking, IsReadyAt, IsSet}
 use Rattle.world_law.proofs.steps_lemmas.Words.{IsShownPut, IsUnfollowed, Joining, List, Network, Node, Note, NoteBody, Scenario, Some, Stands, StandsBehind}
@@ -13,8 +14,6 @@ use Rattle.world_law.proofs.steps_lemmas.acting.{AllOfIt.{HasOutcome, IsAtPoint,
 use Rattle.world_law.proofs.steps_lemmas.acting.{Clearing.{cleared_more, cleared_over}, Stage.{IsActRecord, Stage, one_goes_by, others_so, stage_of}}
 use Rattle.world_law.proofs.steps_lemmas.acting.{Moves.IsCorrectedSo, Over.IsOver, Sending.{as_put, room_for, taken_then, turned_then}}
 use Rattle.world_law.proofs.steps_lemmas.acting.Points.{IsClique, at_point, clique_record, corrected_record, no_frames, none_at_point, not_on}
-use Rattle.world_law.specs.world.Calls.{IsStateOf}
-use Rattle.run_law.specs.machines.Answers.{after_correction}
 use Rattle.run_law.specs.declared.judgement.Why.TheVariants as whys
 use Rattle.run_law.specs.declared.note.NoteBody.TheVariants as kinds
 use Rattle.run_law.specs.declared.steps.Act.TheVariants as acts

@@ -1,5 +1,7 @@
 -- A device that has come to its correction point: the instant is over for it.
-use Rattle.world_law.proofs.{devices.{Borne.{left_alike, tell_alike}, Plains.changes_at_plain}, runs.Foremost.unmoved_by, steps_lemmas.acting.Over.IsOver}
+use Rattle.{run_law.specs.machines.Answers.with_corrected, world_law.proofs.{runs.Foremost.unmoved_by, steps_lemmas.acting.Over.IsOver}}
+use Rattle.{std.proofs.Common.Contains, tte_lemmas.proofs.Integers.ahead_yet, world_law.specs.device.Own.{IsStill, borne}}
+use Rattle.{sync_state.proofs.StateFacts.{no_longer, no_point}, world_law.proofs.devices.{Borne.{left_alike, tell_alike}, Plains.changes_at_plain}}
 use Rattle.world_law.proofs.devices.{OwnRecords.{adjustment_still, cycle_still, integration_still, state_still}, Passes.{local_still, started_still}}
 use Rattle.world_law.proofs.steps_lemmas.Words.{◌++◌, ◌+ℤ◌, ◌+◌, ◌-ℤ◌, ◌<ℤ◌, ◌<◌, ◌∙◌, ◌∷◌, ◌≡◌, ◌≤ℤ◌, ◌≤◌, AreClusters, Bool, ClockTask, Compressed, DeviceId}
 use Rattle.world_law.proofs.steps_lemmas.Words.{Happening, HasDoneFrom, HasSentFrom, Integrating, IsDeedOf, IsIn, IsLeft, IsWaiting, Joining, List, Moment}
@@ -10,11 +12,6 @@ use Rattle.world_law.proofs.steps_lemmas.Words.{inl, inr, is_broken, is_cm, is_s
 use Rattle.world_law.proofs.steps_lemmas.Words.{not_turned_on, observation_window, place_of, plains, plains_parts, pos, rank, recorded_cycle, refl, sending}
 use Rattle.world_law.proofs.steps_lemmas.{Words.{state_by, subst, sym, time_of, told_by_others, true, value_of, with_clique, ℕ, ℤ}, acting.Work.IsAtWork}
 use Rattle.world_law.proofs.steps_lemmas.acting.{GoesOn.IsPutAs, Moves.{IsBase, IsCorrectedSo, changed_by, cliques, corrects, joiner_corrects, one_earlier}}
-use Rattle.world_law.specs.device.Own.{IsStill, borne}
-use Rattle.std.proofs.Common.{Contains}
-use Rattle.run_law.specs.machines.Answers.{with_corrected}
-use Rattle.sync_state.proofs.StateFacts.{no_longer, no_point}
-use Rattle.tte_lemmas.proofs.Integers.{ahead_yet}
 use Rattle.run_law.specs.declared.judgement.Why.TheVariants as whys
 use Rattle.run_law.specs.declared.note.NoteBody.TheVariants as kinds
 

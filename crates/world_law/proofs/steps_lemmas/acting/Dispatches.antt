@@ -1,6 +1,5 @@
 -- Each row that a device at work dispatches at the instant is still to be dispatched, or told.
-use Rattle.std.proofs.Common.{arith}
-use Rattle.world_law.proofs.{rows.AtHand.has_frame, steps_lemmas.acting.{AllOfIt.DispatchesTold, Complete.contains_or}}
+use Rattle.{std.proofs.Common.arith, world_law.proofs.{rows.AtHand.has_frame, steps_lemmas.acting.{AllOfIt.DispatchesTold, Complete.contains_or}}}
 use Rattle.world_law.proofs.steps_lemmas.Words.{◌++◌, ◌-ℤ◌, ◌<ℤ◌, ◌∙◌, ◌≡◌, ◌≤ℤ◌, ◌⊎◌, AreRecorded, ClockTask, DeviceId, Dispatches, Happening, IsLawful, List}
 use Rattle.world_law.proofs.steps_lemmas.Words.{Node, Reaches, RowId, Scenario, Units, ap, cases_eq, correcting, dispatches_back, dispatching, frames_taken}
 use Rattle.world_law.proofs.steps_lemmas.{Words.{inl, inr, pos, sending, subst, sym, value_is, value_of, ℕ, ℤ}, acting.Work.{IsAtWork, all_earlier}}

@@ -1,5 +1,7 @@
 -- A device dispatches a row's frame: its record, and how the device stands then.
-use Rattle.world_law.proofs.rows.OneRow.{one_told, told_alike}
+use Rattle.{net_plan.proofs.SameIds.{same_link, same_vl}, run_law.proofs.law.FirstPlaces.in_filter, schedule_tables.specs.Windows.OccursIn}
+use Rattle.{run_law.proofs.timed.Rows.at_hand_by, std.proofs.Common.{◌*◌, Contains}}
+use Rattle.{schedule_tables.{proofs.EntryLemmas.one_entry, specs.Entries.{IsEntry, source_of}}, world_law.proofs.rows.OneRow.{one_told, told_alike}}
 use Rattle.world_law.proofs.steps_lemmas.Words.{◌++◌, ◌+◌, ◌∙◌, ◌∷◌, ◌≡◌, ◌≤ℤ◌, ◌≤◌, AreRecorded, Bool, Contains-append_left, Contains-push}
 use Rattle.world_law.proofs.steps_lemmas.Words.{Contains-push_cases, DeviceId, Dispatches, Entry, Happening, HasAtHand, HasCleared, Hearing, IsActOf, IsActing}
 use Rattle.world_law.proofs.steps_lemmas.Words.{IsDue, IsFirstTask, IsFounded, IsIn, IsLawful, IsPending, IsReadyAt, LinkId, List, Moment, Network, Node, None}
@@ -12,10 +14,6 @@ use Rattle.world_law.proofs.steps_lemmas.Words.{refl, same_device, sending, subs
 use Rattle.world_law.proofs.steps_lemmas.{Words.ℤ, acting.{Sending.{HasSentIt, as_put, nothing_aside, taken_then}, Work.{IsAtWork, all_earlier, reaches}}}
 use Rattle.world_law.proofs.steps_lemmas.acting.GoesOn.{IsPutAs, body_plain, does, earlier_put, goes_on, left_on, one_of, put_now, sent_alike, shown_now}
 use Rattle.world_law.proofs.steps_lemmas.acting.{GoesOn.shown_still, Kept.{may_act_now, ready_after}, Stage.{IsActRecord, Stage}}
-use Rattle.std.proofs.Common.{◌*◌, Contains}
-use Rattle.net_plan.proofs.SameIds.{same_link, same_vl}
-use Rattle.run_law.proofs.{law.FirstPlaces.in_filter, timed.Rows.at_hand_by}
-use Rattle.schedule_tables.{proofs.EntryLemmas.one_entry, specs.{Entries.{IsEntry, source_of}, Windows.OccursIn}}
 use Rattle.run_law.specs.declared.note.NoteBody.TheVariants as kinds
 use Rattle.run_law.specs.declared.steps.Act.TheVariants as acts
 

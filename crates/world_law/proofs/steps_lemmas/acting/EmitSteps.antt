@@ -1,5 +1,6 @@
 -- The steps by which a compression master emits the frame of a collection, and does not join by it. That no frame was
 -- permanent there at a point before 0 is a premise here.
+use Rattle.{run_law.specs.{machines.Answers.after_emission, records.Ranks.sign}, std.proofs.Common.Contains, world_law.specs.world.Outcomes.judged_as}
 use Rattle.world_law.{proofs.{putting.PutAct.{least_of_own, there_already}, steps_lemmas.acting.OneAct.IsOneAct}, specs.steps.Acting.{Acts, joining_bodies}}
 use Rattle.world_law.proofs.steps_lemmas.Words.{◌++◌, ◌+◌, ◌<◌, ◌==◌, ◌∙◌, ◌∷◌, ◌≡◌, ◌≤ℤ◌, ◌≤◌, ArePutIn, AreRecorded, Bool, Compressed, DeviceId, Happening}
 use Rattle.world_law.proofs.steps_lemmas.Words.{HasActed, IsActOf, IsActing, IsBefore, IsFirstTask, IsFrameOf, IsIn, IsPending, IsSet, Judgement, List, Network}
@@ -10,9 +11,6 @@ use Rattle.world_law.proofs.steps_lemmas.{Words.{put_at, rank, record_of, refl, 
 use Rattle.world_law.proofs.steps_lemmas.acting.{Clusters.one_frame, Emitting.{IsEmitted, StaysBy, emits_on, emitted_recorded, is_emitted, node_emitted}}
 use Rattle.world_law.proofs.steps_lemmas.acting.{Dispatches.told_dispatches, Kept.{may_act_now, ready_after}, Stage.{IsActRecord, Stage, stage_of}}
 use Rattle.world_law.proofs.steps_lemmas.acting.{FromZero.{permanent_from_zero, points_from_zero}, Sending.{HasSentIt, as_put, nothing_aside, taken_then}}
-use Rattle.world_law.specs.world.Outcomes.{judged_as}
-use Rattle.std.proofs.Common.{Contains}
-use Rattle.run_law.specs.{machines.Answers.after_emission, records.Ranks.sign}
 use Rattle.run_law.specs.declared.judgement.Judgement.TheVariants as judgements
 use Rattle.run_law.specs.declared.note.NoteBody.TheVariants as kinds
 use Rattle.run_law.specs.declared.steps.Act.TheVariants as acts

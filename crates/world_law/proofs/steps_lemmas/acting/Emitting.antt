@@ -1,4 +1,6 @@
 -- A compression master that has emitted, and has not joined by its own frame, is at work still.
+use Rattle.{run_law.specs.machines.Answers.{after_emission, hearings}, world_law.proofs.steps_lemmas.acting.{Stays.{IsSameBut, heard_by_these}, Work.IsAtWork}}
+use Rattle.{run_law.specs.{records.Frames.integration_frame, scenario.Devices.channel_of}, std.proofs.Common.Contains}
 use Rattle.world_law.proofs.steps_lemmas.Words.{◌++◌, ◌+◌, ◌<ℤ◌, ◌∙◌, ◌∷◌, ◌≡◌, ◌≤ℤ◌, ◌≤◌, AreClusters, AreRecorded, Bool, Channel, Compressed}
 use Rattle.world_law.proofs.steps_lemmas.Words.{Contains-append_left, Contains-push, Contains-push_cases, DeviceId, Happening, HasDoneFrom, Hearing, IsAlike}
 use Rattle.world_law.proofs.steps_lemmas.Words.{IsFirstTask, IsFrameOf, IsIn, IsReadyAt, Judgement, List, Moment, Network, Node, None, Option, Pcf, RowId}
@@ -7,9 +9,6 @@ use Rattle.world_law.proofs.steps_lemmas.Words.{dispatch_body, dispatch_late, di
 use Rattle.world_law.proofs.steps_lemmas.Words.{inr, moves, observation_window, option_map, option_map_or, option_to_list, plain_body, pos, rank, reaches_back}
 use Rattle.world_law.proofs.steps_lemmas.Words.{refl, ripe_as, self, sending, subst, sym, true, undone_alike, up_back, value_of, waiting_alike, ℕ, ℤ}
 use Rattle.world_law.proofs.steps_lemmas.acting.GoesOn.{IsPutAs, body_plain, earlier_put, goes_on, left_on, one_of, put_now, shown_now, shown_still}
-use Rattle.world_law.proofs.steps_lemmas.acting.{Stays.{IsSameBut, heard_by_these}, Work.IsAtWork}
-use Rattle.std.proofs.Common.{Contains}
-use Rattle.run_law.specs.{machines.Answers.{after_emission, hearings}, records.Frames.integration_frame, scenario.Devices.channel_of}
 use Rattle.run_law.specs.declared.judgement.Judgement.TheVariants as judgements
 use Rattle.run_law.specs.declared.note.NoteBody.TheVariants as kinds
 

@@ -1,5 +1,5 @@
 -- A device that has acted, and has more to do at the instant, is at work still.
-use Rattle.world_law.proofs.acts.Acted.{done_more}
+use Rattle.{std.proofs.Common.Contains, world_law.proofs.acts.Acted.done_more}
 use Rattle.world_law.proofs.steps_lemmas.Words.{◌++◌, ◌+◌, ◌-ℤ◌, ◌∙◌, ◌∷◌, ◌≡◌, ◌≤ℤ◌, ◌≤◌, ◌⊎◌, AreRecorded, ClockTask, Contains-append_left, Contains-push}
 use Rattle.world_law.proofs.steps_lemmas.Words.{Contains-push_cases, DeviceId, Happening, HasDoneFrom, HasSentFrom, Hearing, IsAtRest, IsIn, IsLeft, IsReadyAt}
 use Rattle.world_law.proofs.steps_lemmas.Words.{IsShown, List, Moment, Network, Node, None, NoteBody, Option, RowId, Scenario, [], acting, ap, append-nil}
@@ -8,7 +8,6 @@ use Rattle.world_law.proofs.steps_lemmas.Words.{earlier, false, heard_since, hea
 use Rattle.world_law.proofs.steps_lemmas.Words.{option_to_list, plain, plain_body, plains, plains_parts, pos, rank, rank_plain, reaches_back, reading_for, refl}
 use Rattle.world_law.proofs.steps_lemmas.Words.{sending, subst, sym, time_of, told_by_others, undone_alike, up_back, value_of, waiting_alike, with_done, ℕ}
 use Rattle.world_law.proofs.steps_lemmas.acting.{Stays.{IsSameBut, heard_by_these, heard_put, in_plains, left_now, points_put}, Work.{IsAtWork, all_earlier}}
-use Rattle.std.proofs.Common.{Contains}
 use Rattle.run_law.specs.declared.note.NoteBody.TheVariants as kinds
 
 -- ---- bodies without causes of changes of state

@@ -1,5 +1,5 @@
 -- A compression master that emits a frame by which it joins: what bears on it, and that all that is due of it is there.
-use Rattle.world_law.proofs.devices.TurnedOn.{IsQuiet}
+use Rattle.{run_law.specs.records.Ranks.sign, sync_state.{proofs.{StateFacts.{no_longer, no_point as no_next}}}, world_law.proofs.devices.TurnedOn.IsQuiet}
 use Rattle.world_law.proofs.steps_lemmas.Words.{◌++◌, ◌+◌, ◌<◌, ◌∙◌, ◌∷◌, ◌≡◌, ◌≤ℤ◌, ◌≤◌, ◌⊎◌, AllBefore, AreClusters, AreRecorded, AsState, Compressed}
 use Rattle.world_law.proofs.steps_lemmas.Words.{DeviceId, Emits, Happening, Integrating, IsAllOfIt, IsAtRest, IsBefore, IsIn, IsPending, IsShown, Judgement}
 use Rattle.world_law.proofs.steps_lemmas.Words.{List, Node, NoneBefore, NoteBody, Point, Scenario, [], act_place, amount, ap, append_assoc, arith, bears_on}
@@ -9,8 +9,6 @@ use Rattle.world_law.proofs.steps_lemmas.Words.{parted, place_of, plain, plain_b
 use Rattle.world_law.proofs.steps_lemmas.{Words.{state_after, state_before, subst, sym, time_of, true, ℕ}, acting.Work.{IsAtWork, all_earlier}}
 use Rattle.world_law.proofs.steps_lemmas.acting.{AllOfIt.not_less, EmitSteps.emission_body, JoinsBy.ChangesIt, Starts.plain_compressed}
 use Rattle.world_law.proofs.steps_lemmas.acting.{Complete.{IsActCause, act_cause, emitted_or, found_emitted}, GoesOn.{body_plain, rest_alike, time_plain}}
-use Rattle.run_law.specs.records.Ranks.{sign}
-use Rattle.sync_state.proofs.StateFacts.{no_longer, no_point as no_next}
 use Rattle.run_law.specs.declared.judgement.Judgement.TheVariants as judgements
 use Rattle.run_law.specs.declared.judgement.Why.TheVariants as whys
 use Rattle.run_law.specs.declared.note.NoteBody.TheVariants as kinds

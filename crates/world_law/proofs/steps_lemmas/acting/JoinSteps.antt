@@ -1,7 +1,7 @@
 -- A compression master emits a frame that tells it the time itself, and the cursor goes by. That no frame was permanent there at a
 -- point before 0 is a premise here.
-use Rattle.world_law.proofs.{devices.TurnedOn.quiet_joins, putting.PutShown.IsShownPair}
-use Rattle.world_law.proofs.{putting.{Bumped.{placed_in, up_low}, PutAct.causes_of_device}, steps_lemmas.{Words.{two_shown, ℕ}, acting.Stays.in_plains}}
+use Rattle.{run_law.proofs.control.Verdicts.heard_integrates, world_law.proofs.{putting.Bumped.{placed_in, up_low}, steps_lemmas.acting.Stays.in_plains}}
+use Rattle.world_law.proofs.{devices.TurnedOn.quiet_joins, putting.{PutAct.causes_of_device, PutShown.IsShownPair}, steps_lemmas.Words.{two_shown, ℕ}}
 use Rattle.world_law.proofs.steps_lemmas.Words.{◌++◌, ◌+◌, ◌<◌, ◌∙◌, ◌∷◌, ◌≡◌, ◌≤◌, ◌⊎◌, ArePutIn, AsState, ComesFirst, Compressed, DeviceId, Emits, Happening}
 use Rattle.world_law.proofs.steps_lemmas.Words.{HasActed, HasCleared, HasTurnedOn, Integrating, IsActing, IsAtRest, IsBefore, IsDueNow, IsIn, IsSet, IsShown}
 use Rattle.world_law.proofs.steps_lemmas.Words.{Joining, Judgement, List, Network, Node, Note, NoteBody, Scenario, Some, Stands, StandsBehind, World, []}
@@ -15,7 +15,6 @@ use Rattle.world_law.proofs.steps_lemmas.acting.{Emitting.node_emitted, FirstSte
 use Rattle.world_law.proofs.steps_lemmas.acting.{FromZero.{permanent_from_zero, points_from_zero}, Sending.{as_put, nothing_aside, room_for, taken_then}}
 use Rattle.world_law.proofs.steps_lemmas.acting.{GoesOn.{body_plain, earlier_put, put_now, time_plain}, JoinStep.{IsJoinedBy, all_joined, bears_so, joins_so}}
 use Rattle.world_law.proofs.steps_lemmas.acting.{JoinsBy.{ChangesIt, joined_over}, Kept.{bare_act, frames_put, kept_over, may_act_now, ready_after}}
-use Rattle.run_law.proofs.control.Verdicts.{heard_integrates}
 use Rattle.run_law.specs.declared.judgement.Judgement.TheVariants as judgements
 use Rattle.run_law.specs.declared.judgement.Why.TheVariants as whys
 use Rattle.run_law.specs.declared.note.NoteBody.TheVariants as kinds

@@ -1,4 +1,7 @@
 -- How a device stands at the next unit of time behind a record of the instant that moves it.
+use Rattle.{run_law.{proofs.runs.Determined.same_units, specs.machines.Answers.with_corrected}, sync_state.specs.Integration.joined_by}
+use Rattle.run_law.specs.{declared.judgement.Judgement.TheVariants.Integrates, device.{LocalClocks.local_at_change, States.joined_adjustment}}
+use Rattle.{tte_lemmas.proofs.Lists.last_pushed, world_law.specs.device.{Left.IsCounted, Told.change_in}}
 use Rattle.world_law.proofs.{lists.Lists.map_none, steps_lemmas.{Words.{sym, time_of, true, with_clique, with_joined, ℕ, ℤ}, ripening.Judged.not_yet}}
 use Rattle.world_law.proofs.steps_lemmas.Words.{◌&&◌, ◌++◌, ◌+ℤ◌, ◌+◌, ◌-◌, ◌<◌, ◌==◌, ◌||◌, ◌∙◌, ◌∷◌, ◌≡◌, ◌≤◌, Bool, DeviceId, Happening, Hearing, IfSome}
 use Rattle.world_law.proofs.steps_lemmas.Words.{Integrating, IsLeft, Joining, List, Members, Moment, Node, None, NoteBody, Option, Pcf, Scenario, Some, State}
@@ -9,11 +12,6 @@ use Rattle.world_law.proofs.steps_lemmas.Words.{filter_no, filter_yes, fold, fol
 use Rattle.world_law.proofs.steps_lemmas.Words.{integration_cycle, is_broken, is_cm, is_integration_cycle, is_joined_by, is_synchronised, is_timed}
 use Rattle.world_law.proofs.steps_lemmas.Words.{is_turned_on_at, last_or, local_in, lt-ltb, nat_lt, ne_eqb, next_in, not, not_turned_on, option_map_or, plan_of}
 use Rattle.world_law.proofs.steps_lemmas.Words.{point_by, points_of, pos, recorded_cycle, refl, same_kept, self, since_at, state_after, state_by, state_with}
-use Rattle.world_law.specs.device.{Left.IsCounted, Told.change_in}
-use Rattle.run_law.{proofs.runs.Determined.same_units, specs.{declared.judgement.Judgement.TheVariants.Integrates, device.LocalClocks.local_at_change}}
-use Rattle.run_law.specs.{device.States.joined_adjustment, machines.Answers.with_corrected}
-use Rattle.sync_state.specs.Integration.{joined_by}
-use Rattle.tte_lemmas.proofs.Lists.{last_pushed}
 use Rattle.run_law.specs.declared.judgement.Why.TheVariants as whys
 use Rattle.run_law.specs.declared.note.NoteBody.TheVariants as notes
 

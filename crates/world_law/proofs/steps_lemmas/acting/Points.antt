@@ -1,5 +1,5 @@
 -- A device comes to its correction point: what its record is.
-use Rattle.world_law.proofs.rows.Apart.{no_row_at_correction}
+use Rattle.{run_law.specs.runs.DueRecords.IsCorrectedRecord, world_law.proofs.rows.Apart.no_row_at_correction}
 use Rattle.world_law.proofs.steps_lemmas.Words.{◌++◌, ◌+ℤ◌, ◌<ℤ◌, ◌∙◌, ◌∷◌, ◌≡◌, ◌≤ℤ◌, ◌≤◌, AsyncClique, Bool, Cleared, ComesTo, Compressed, Corrected}
 use Rattle.world_law.proofs.steps_lemmas.Words.{DeviceId, Happening, Hearing, Integrating, IsActing, IsAtRest, IsFirstTask, IsIn, IsInRange, IsPending}
 use Rattle.world_law.proofs.steps_lemmas.Words.{IsSteady, IsUnfollowed, IsWaiting, KeepsRules, List, Network, Node, NoneBefore, NoteBody, Scenario, State}
@@ -9,7 +9,6 @@ use Rattle.world_law.proofs.steps_lemmas.Words.{in_left, in_right, inl, inr, is_
 use Rattle.world_law.proofs.steps_lemmas.Words.{ne_eqb, place_of, pos, rank, reading_for, record_of, refl, sending, state_after, sym, time_of, true, ℕ}
 use Rattle.world_law.proofs.steps_lemmas.acting.{AllOfIt.{IsAtPoint, NoneDispatched, late_none, no_less}, Work.{IsAtWork, all_earlier, at_correction, comes}}
 use Rattle.world_law.proofs.steps_lemmas.acting.{Emitting.none_heard, Sending.nothing_aside, Stage.{IsActRecord, Stage}, Stays.{heard_by_these, heard_more}}
-use Rattle.run_law.specs.runs.DueRecords.{IsCorrectedRecord}
 use Rattle.run_law.specs.declared.judgement.Why.TheVariants as whys
 use Rattle.run_law.specs.declared.note.NoteBody.TheVariants as kinds
 

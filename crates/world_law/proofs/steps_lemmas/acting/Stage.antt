@@ -1,7 +1,8 @@
 -- A device acts at the source that comes first: how all stands then, and how the world stands with its record put in.
-use Rattle.world_law.proofs.{putting.{Bearing.frames_aside, PutOne.one_at, PutShown.hidden_rank}, steps_lemmas.steps.Passed.no_task}
-use Rattle.world_law.proofs.{putting.Coming.{held_comes, stands_at}, rows.Dispatching.{lawful, whole_founded}, steps_lemmas.acting.{Over.IsCalm, Work.IsAtWork}}
-use Rattle.world_law.proofs.{putting.StandsOn.{shown_still, source_told}, steps_lemmas.acting.{Kept.{IsBare, may_act_now}, Starts.{acts_wait, at_work, up_now}}}
+use Rattle.{schedule_tables.specs.declared.rule.Rule.TheVariants.ScheduleStart, world_law.proofs.steps_lemmas.acting.Starts.{acts_wait, at_work, up_now}}
+use Rattle.{std.proofs.lemmas.Option.same_Some, world_law.proofs.putting.{Bearing.frames_aside, PutOne.one_at, PutShown.hidden_rank}}
+use Rattle.world_law.proofs.{putting.{Coming.{held_comes, stands_at}, StandsOn.{shown_still, source_told}}, steps_lemmas.acting.Kept.{IsBare, may_act_now}}
+use Rattle.world_law.proofs.{rows.Dispatching.{lawful, whole_founded}, steps_lemmas.{acting.{Over.IsCalm, Work.IsAtWork}, steps.Passed.no_task}}
 use Rattle.world_law.proofs.steps_lemmas.Words.{◌++◌, ◌+◌, ◌<◌, ◌^◌, ◌∙◌, ◌∷◌, ◌≡◌, ◌≤ℤ◌, ◌≤◌, AllBefore, AreOfNetwork, AreRecorded, ComesFirst, DeviceId}
 use Rattle.world_law.proofs.steps_lemmas.Words.{Happening, HasCleared, HasTaskBy, HasTurnedOn, IsActing, IsAllOfIt, IsBefore, IsCaused, IsDue, IsDueNow}
 use Rattle.world_law.proofs.steps_lemmas.Words.{IsFounded, IsHeld, IsIn, IsKept, IsLawful, IsMoving, IsNoTaking, IsOne, IsOwnSource, IsSet, IsShownPut}
@@ -12,8 +13,6 @@ use Rattle.world_law.proofs.steps_lemmas.Words.{hidden, in_mapped, in_parts, inl
 use Rattle.world_law.proofs.steps_lemmas.Words.{map, members_in, moment_of, moves, moves_no_other, natural, no_later_breaks, none_yet, not_on_after, one_by}
 use Rattle.world_law.proofs.steps_lemmas.Words.{place_of, placed_length, port_place, ports_move, pos, put_at, rank, record_of, refl, slice_get, stands_on}
 use Rattle.world_law.proofs.steps_lemmas.Words.{subst, sym, time_of, told_wires, true, units_of, waiting_moves, wire_place, wires_move, ℕ}
-use Rattle.std.proofs.lemmas.Option.{same_Some}
-use Rattle.schedule_tables.specs.declared.rule.Rule.TheVariants.{ScheduleStart}
 
 -- a device that has something due at the source that comes first
 pub record Stage {M : Type 0} (stands : M → Network → DeviceId → Node → Type 0) (s : Scenario) (hs coming : List Happening) (mark cursor : List ℕ) (now : ℕ)

@@ -1,12 +1,11 @@
 -- A device that is kept and has something due at the present instant is at work.
+use Rattle.{run_law.proofs.law.FirstPlaces.in_filter, world_law.proofs.runs.Agreement.{in_earlier, last_within}}
 use Rattle.world_law.proofs.{rows.Dispatching.dispatches_so, steps_lemmas.acting.Work.{IsAtWork, at_correction, emits, not_over, own_judgement, reaches, sends}}
-use Rattle.world_law.proofs.runs.Agreement.{in_earlier, last_within}
 use Rattle.world_law.proofs.steps_lemmas.Words.{◌++◌, ◌+◌, ◌∙◌, ◌∷◌, ◌≡◌, ◌≤ℤ◌, ◌≤◌, ◌⊎◌, AreSettled, Compressed, DeviceId, Happening, HasDoneFrom, HasSentFrom}
 use Rattle.world_law.proofs.steps_lemmas.Words.{HasTaskBy, IsActing, IsBefore, IsIn, IsKept, IsLawful, IsLeft, IsOwnSource, IsPending, Judgement, List, Network}
 use Rattle.world_law.proofs.steps_lemmas.Words.{Node, None, NoteBody, Scenario, Task, [], act_place, ap, append-nil, arith, changed_at, changes_adjustment}
 use Rattle.world_law.proofs.steps_lemmas.Words.{correcting, dispatches_back, dispatching, doing, earlier, earlier_still, emitting, filter, frames_taken, inl}
 use Rattle.world_law.proofs.steps_lemmas.Words.{inr, members_in, parted, plain_body, pos, rank, reading_for, refl, sending, subst, sym, time_of, ℕ}
-use Rattle.run_law.proofs.law.FirstPlaces.{in_filter}
 use Rattle.run_law.specs.declared.note.NoteBody.TheVariants as kinds
 
 -- the last change before the next unit of time is not after this one

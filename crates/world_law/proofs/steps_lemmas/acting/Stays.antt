@@ -1,12 +1,11 @@
 -- Records of the present instant that do not move a device leave it as it was before the instant, but for what it has heard.
-use Rattle.world_law.proofs.{devices.TurnedOn.IsQuiet, steps_lemmas.Words.{time_of, true, ℕ}}
+use Rattle.{tte_lemmas.proofs.Bools.kept_flag, world_law.proofs.{devices.TurnedOn.IsQuiet, steps_lemmas.Words.{time_of, true, ℕ}}}
 use Rattle.world_law.proofs.steps_lemmas.Words.{◌&&◌, ◌++◌, ◌||◌, ◌∙◌, ◌∷◌, ◌≡◌, ◌≤◌, ◌⊎◌, Bool, DeviceId, Happening, Hearing, IsAtRest, IsIn, IsLeft, List}
 use Rattle.world_law.proofs.steps_lemmas.Words.{Node, None, Option, Scenario, Some, [], adjustment_after, ap, append-nil, append_assoc, arith, behind_no}
 use Rattle.world_law.proofs.steps_lemmas.Words.{by_last, changes_adjustment, cleared_in, cons_option, earlier, false, filter, filter_map, filter_map-append}
 use Rattle.world_law.proofs.steps_lemmas.Words.{filter_yes, heard_since, hearing_by, in_left, in_mapped, in_parts, in_right, inl, inr, integration_cycle}
 use Rattle.world_law.proofs.steps_lemmas.Words.{is_timed, is_turned_on_at, le-ltb, local_in, map, nat_lt, next_in, not, option_to_list, plain, plains}
 use Rattle.world_law.proofs.steps_lemmas.Words.{points_of, points_same, quiet_rest, rank, recorded_cycle, refl, same_before, since_at, state_after, subst, sym}
-use Rattle.tte_lemmas.proofs.Bools.{kept_flag}
 
 -- ---- lists that differ in their numbers
 

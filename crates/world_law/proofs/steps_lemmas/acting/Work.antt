@@ -1,5 +1,7 @@
 -- A device that has something due at the present instant: how it stands before it acts, and what is due then.
-use Rattle.world_law.proofs.{devices.TurnedOn.quiet_joins, runs.SourcesBack.standing_in, steps_lemmas.Words.{up_back, value_of, ℕ, ℤ}}
+use Rattle.{membership.specs.Summary.Summarizes, sync_state.specs.Verdicts.HasVerdict}
+use Rattle.{run_law.specs.timed.Dispatching.Sends, world_law.{proofs.runs.SourcesBack.standing_in, specs.source.Sources.IsAtCorrection}}
+use Rattle.{sync_state.specs.Standing.{Standing, next_point}, world_law.proofs.{devices.TurnedOn.quiet_joins, steps_lemmas.Words.{up_back, value_of, ℕ, ℤ}}}
 use Rattle.world_law.proofs.steps_lemmas.Words.{◌++◌, ◌+◌, ◌-ℤ◌, ◌<ℤ◌, ◌||◌, ◌∙◌, ◌∷◌, ◌≡◌, ◌≤ℤ◌, ◌≤◌, AreClusters, Bool, ClockTask, ComesTo, ComesToCorrection}
 use Rattle.world_law.proofs.steps_lemmas.Words.{Compressed, DeviceId, Emits, Happening, HasDoneFrom, HasSentFrom, HasTaskBy, Integrating, IsAtRest, IsIn}
 use Rattle.world_law.proofs.steps_lemmas.Words.{IsLeft, IsPending, IsReadyAt, IsUndone, Joining, Judgement, List, Network, Node, Point, Reaches, Scenario, Some}
@@ -9,10 +11,6 @@ use Rattle.world_law.proofs.steps_lemmas.Words.{false, has_joined_at, heard_as, 
 use Rattle.world_law.proofs.steps_lemmas.Words.{is_joined_by, is_timed, is_turned_on_at, list_any, lt-ltb, nat_lt, never_both, observation_window, or_left}
 use Rattle.world_law.proofs.steps_lemmas.Words.{or_none, plan_of, point_number, points_of, points_same, pos, quiet_rest, rank, reaches_back, reading_for, refl}
 use Rattle.world_law.proofs.steps_lemmas.Words.{same_kept, sending, standing_before, state_after, state_at_hearing, state_before, subst, sym, time_of, true}
-use Rattle.world_law.specs.source.Sources.{IsAtCorrection}
-use Rattle.membership.specs.Summary.{Summarizes}
-use Rattle.run_law.specs.{timed.Dispatching.Sends}
-use Rattle.sync_state.specs.{Standing.{Standing, next_point}, Verdicts.HasVerdict}
 
 -- how a device stands that acts at the instant and has not come to a correction at it, nor joined
 pub record IsAtWork (s : Scenario) (hs coming : List Happening) (now : ℕ) (device : DeviceId) (node : Node) : Type 0 where

@@ -1,4 +1,5 @@
 -- What the events of an instant leave is settled, before all else of it: the world stands behind them.
+use Rattle.{run_law.proofs.{records.Members.in_flat, runs.Places.before_next_time}, world_law.specs.steps.Befalling.{BefellStep, befell_bodies}}
 use Rattle.world_law.proofs.{runs.Applies.same_length, steps_lemmas.Words.{is_broken, is_turned_on_at, length, place_of, refl, settled_as, subst, sym, true, ℕ}}
 use Rattle.world_law.proofs.steps_lemmas.Words.{◌++◌, ◌+◌, ◌∙◌, ◌∷◌, ◌≡◌, AreOfNetwork, AreOnWires, AreUntold, Befell, Bool, DeviceId, Happening, Integrating}
 use Rattle.world_law.proofs.steps_lemmas.Words.{IsBefore, IsHeld, IsIn, IsTurnedOnBy, List, Network, Node, NoteBody, Scenario, What, [], amount, ap, arith}
@@ -7,8 +8,6 @@ use Rattle.world_law.proofs.steps_lemmas.befalling.{Bodies.{IsOutcome, all_bodie
 use Rattle.world_law.proofs.steps_lemmas.{befalling.Devices.{AreToldOf, held_told, known_told}, steps.{Applied.no_coming, AppliedParts.before_others}}
 use Rattle.world_law.proofs.steps_lemmas.befalling.Filled.{IsFilled, all_long, all_new, filled_all, in_on, number_on, on_length, shown_all}
 use Rattle.world_law.proofs.steps_lemmas.befalling.{Told.{on_by_event, recorded}, UnderWay.{IsTelling, goes_on, ports_told, waiting_told, wires_told}}
-use Rattle.world_law.specs.steps.Befalling.{BefellStep, befell_bodies}
-use Rattle.run_law.proofs.{records.Members.in_flat, runs.Places.before_next_time}
 use Rattle.net_plan.specs.declared.event.What.TheVariants as events
 use Rattle.run_law.specs.declared.judgement.Why.TheVariants as whys
 use Rattle.run_law.specs.declared.note.NoteBody.TheVariants as notes

@@ -1,6 +1,5 @@
 -- The record of what comes of an event leaves a device as it was, but for its state.
-use Rattle.std.proofs.Common.{arith}
-use Rattle.world_law.proofs.{devices.OwnRecords.keeps_state, lists.Lists.map_none, steps_lemmas.Words.{time_of, true, up_to, ℕ}}
+use Rattle.{std.proofs.Common.arith, world_law.proofs.{devices.OwnRecords.keeps_state, lists.Lists.map_none, steps_lemmas.Words.{time_of, true, up_to, ℕ}}}
 use Rattle.world_law.proofs.steps_lemmas.Words.{◌&&◌, ◌++◌, ◌||◌, ◌∙◌, ◌∷◌, ◌≡◌, ◌≤◌, Bool, DeviceId, Happening, Integrating, IsIn, IsLeft, List, Network, Node}
 use Rattle.world_law.proofs.steps_lemmas.Words.{None, NoteBody, On, Option, Scenario, State, Units, [], adjustment_after, adjustment_with, after_last, ap}
 use Rattle.world_law.proofs.steps_lemmas.Words.{append-nil, append_assoc, behind_no, cases_Bool, changes_adjustment, cleared_in, cycle_in, earlier}

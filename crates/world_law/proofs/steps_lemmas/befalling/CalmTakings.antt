@@ -1,8 +1,7 @@
 -- Such records take no frame of the schedule.
+use Rattle.{std.proofs.Common.flat_map, world_law.proofs.steps_lemmas.befalling.Calm.is_calm}
 use Rattle.world_law.proofs.steps_lemmas.Words.{◌++◌, ◌∙◌, ◌∷◌, ◌≡◌, ◌≤◌, DeviceId, Happening, IsIn, List, NoteBody, Scenario, [], adjustment_after, ap, arith}
 use Rattle.world_law.proofs.steps_lemmas.Words.{earlier_still, frames_taken, inl, inr, local_before, refl, taken_in, time_of, true, ℕ, ℤ}
-use Rattle.std.proofs.Common.{flat_map}
-use Rattle.world_law.proofs.steps_lemmas.befalling.Calm.{is_calm}
 use Rattle.run_law.specs.declared.note.NoteBody.TheVariants as notes
 
 calm_takes : (device : DeviceId) (at : ℤ) (body : NoteBody) → is_calm body ≡ true → taken_in device at body ≡ []

@@ -1,6 +1,6 @@
 -- Each device when the outcomes of the events of an instant are settled.
+use Rattle.{net_plan.proofs.SameIds.alike, world_law.proofs.acts.Recorded.first_recorded}
 use Rattle.world_law.proofs.{acts.Dispatched.{dispatch_told, send_apart}, steps_lemmas.befalling.{CalmTakings.taken_calm, UnderWay.{IsTelling, goes_on}}}
-use Rattle.world_law.proofs.acts.Recorded.{first_recorded}
 use Rattle.world_law.proofs.steps_lemmas.Words.{◌++◌, ◌==◌, ◌∙◌, ◌∷◌, ◌≡◌, ◌≤◌, AreOfNetwork, Befell, Compressed, DeviceId, Dispatches, Happening, HasDoneFrom}
 use Rattle.world_law.proofs.steps_lemmas.Words.{HasSentFrom, IsAtRest, IsBefore, IsDue, IsFounded, IsHeld, IsIn, IsKept, IsLeft, IsOfThisTime, IsSendLost}
 use Rattle.world_law.proofs.steps_lemmas.Words.{IsTurnedOnBy, Judgement, LinkId, List, Network, Node, None, NoteBody, Scenario, VlId, [], act_place}
@@ -9,7 +9,6 @@ use Rattle.world_law.proofs.steps_lemmas.Words.{dispatch_body, dispatches_back, 
 use Rattle.world_law.proofs.steps_lemmas.Words.{inr, is_broken, is_turned_on_at, last_or, moves, never_self, numbered_in, option_map_or, place_of, plain_body}
 use Rattle.world_law.proofs.steps_lemmas.{Words.{refl, state_after, subst, sym, time_of, true, up_to, ℕ}, befalling.Told.{event_due, on_by_record}}
 use Rattle.world_law.proofs.steps_lemmas.befalling.{Bodies.{IsOutcome, calm_outcome}, Calm.{adjustment_unmoved, left_all_calm, state_unmoved}}
-use Rattle.net_plan.proofs.SameIds.{alike}
 use Rattle.net_plan.specs.declared.event.What.TheVariants as events
 use Rattle.run_law.specs.declared.note.NoteBody.TheVariants as kinds
 

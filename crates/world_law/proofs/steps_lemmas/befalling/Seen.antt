@@ -1,11 +1,10 @@
 -- What code sees of the pending events: what each puts on wires, one after the other.
-use Rattle.std.proofs.Common.{arith}
+use Rattle.{run_law.specs.{control.Wires.time_on_port, scenario.Ways.{delay_at, receiver_of}}, std.proofs.Common.arith}
 use Rattle.world_law.proofs.steps_lemmas.Words.{◌++◌, ◌+◌, ◌<◌, ◌↔◌, ◌∙◌, ◌∷◌, ◌≡◌, ◌⊎◌, ArePutIn, Arrives, Befell, Bool, DeviceId, Happening, IsIn}
 use Rattle.world_law.proofs.steps_lemmas.Words.{IsOfThisTime, Launch, Link, LinkId, List, Network, Node, None, Note, NoteBody, OnWire, Option, Scenario, Signal}
 use Rattle.world_law.proofs.steps_lemmas.Words.{Some, Stands, Up, Way, What, World, [], ap, cases_lt, false, happenings, if◌then◌else◌, inl, inr, is_cut}
 use Rattle.world_law.proofs.steps_lemmas.Words.{launched, length, link_at, numbered_in, option_map, option_map_or, refl, signal_of, subst, sym, target_by}
 use Rattle.world_law.{proofs.steps_lemmas.{Words.{time_of, true, wire_place, ℕ}, befalling.Told.{event_due, on_by_record}}, specs.world.Moves.ArePut}
-use Rattle.run_law.specs.{control.Wires.time_on_port, scenario.Ways.{delay_at, receiver_of}}
 use Rattle.net_plan.specs.declared.event.What.TheVariants as events
 use Rattle.run_law.specs.declared.note.NoteBody.TheVariants as kinds
 

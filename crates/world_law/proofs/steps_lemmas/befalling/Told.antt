@@ -1,10 +1,9 @@
 -- The events of a run and their records.
-use Rattle.std.proofs.Common.{arith}
+use Rattle.run_law.{proofs.{law.FirstPlaces.{due_is_there, in_at, split}, records.Order.in_any, scenario.Devices.on_by}, specs.runs.DueRecords.IsEventRecord}
+use Rattle.{std.proofs.Common.arith, world_law.proofs.steps_lemmas.Words.{place_of, pos, refl, slice_get, subst, suc, sym, true, turns_on, ℕ}}
 use Rattle.world_law.proofs.steps_lemmas.Words.{◌&&◌, ◌+◌, ◌==◌, ◌||◌, ◌∙◌, ◌∷◌, ◌≡◌, ◌≤ℤ◌, Bool, DeviceId, Event, Happening, IsBefore, IsCaused, IsDue}
 use Rattle.world_law.proofs.steps_lemmas.Words.{IsFounded, IsIn, IsRun, List, Note, NoteBody, Scenario, Some, Units, What, [], amount, and_parts, ap, by_number}
 use Rattle.world_law.proofs.steps_lemmas.Words.{cases_Bool, eq-eqb, eqb-true, founded_at, happening, inl, inr, is_turned_on_at, length, list_any, numbered}
-use Rattle.world_law.proofs.steps_lemmas.Words.{place_of, pos, refl, slice_get, subst, suc, sym, true, turns_on, ℕ}
-use Rattle.run_law.{proofs.{law.FirstPlaces.{due_is_there, in_at, split}, records.Order.in_any, scenario.Devices.on_by}, specs.runs.DueRecords.IsEventRecord}
 use Rattle.net_plan.specs.declared.event.What.TheVariants as events
 use Rattle.run_law.specs.declared.note.NoteBody.TheVariants as notes
 

@@ -1,11 +1,10 @@
 -- No point that a compression master has collected lies before reading 0.
+use Rattle.{run_law.proofs.{control.Arrived.arrived_young, records.Order.in_drop}, std.{proofs.lemmas.List.Elements.All-from_recursion, specs.Prelude.All}}
 use Rattle.world_law.proofs.steps_lemmas.Words.{◌++◌, ◌==◌, ◌∷◌, ◌≡◌, ◌≤ℤ◌, ◌≤◌, AllByRecursion, Bool, DeviceId, Happening, IfSome, IsCaused, IsDue, IsFounded}
 use Rattle.world_law.proofs.steps_lemmas.Words.{IsIn, IsInRange, IsKept, IsLawful, IsPermanent, LinkId, List, Network, Node, None, NoteBody, Option, Pcf, Point}
 use Rattle.world_law.proofs.steps_lemmas.Words.{Scenario, Some, Units, [], after_last, amount, arith, cons_option, cycle_in, ends_stretch, false, filter_map}
 use Rattle.world_law.proofs.steps_lemmas.Words.{founded_at, if◌then◌else◌, inl, inr, ints, master_of, members_in, natural, numbered_in, place_of, point_at}
 use Rattle.world_law.{proofs.steps_lemmas.Words.{point_by, point_of, points_of, pos, refl, subst, sym, time_of, true, ℕ}, specs.device.Growing.IsFromZero}
-use Rattle.std.{proofs.lemmas.List.Elements.All-from_recursion, specs.Prelude.All}
-use Rattle.run_law.proofs.{control.Arrived.arrived_young, records.Order.in_drop}
 use Rattle.run_law.specs.declared.note.NoteBody.TheVariants as notes
 
 -- ---- no point lies before reading 0

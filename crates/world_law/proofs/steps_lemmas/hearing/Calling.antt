@@ -1,8 +1,7 @@
 -- A device that a world keeps may be called, sound or broken, as its source comes.
+use Rattle.{run_law.specs.machines.{Calls.order_of_phase, Nodes.turning_on}, world_law.specs.world.World.IsCalledBy}
 use Rattle.world_law.proofs.steps_lemmas.Words.{◌+◌, ◌^◌, ◌∷◌, ◌≡◌, ◌≤◌, DeviceId, IsBefore, IsReadyAt, IsSteady, List, MayCall, Node, Phase, Scenario, acting}
 use Rattle.world_law.proofs.steps_lemmas.Words.{amount, arith, arriving, cases_lt, ints, moment_of, rank_of_call, reading_for, refl, ripening, whole, ℕ}
-use Rattle.world_law.specs.world.World.{IsCalledBy}
-use Rattle.run_law.specs.machines.{Calls.order_of_phase, Nodes.turning_on}
 
 pub ranked_so : (phase : Phase) → rank_of_call phase ≡ order_of_phase phase + 1
 ranked_so turning_on = refl

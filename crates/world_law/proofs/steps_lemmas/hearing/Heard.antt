@@ -1,4 +1,5 @@
 -- A frame arrives at its device: it is judged as the records say, and each device is kept behind it.
+use Rattle.{run_law.specs.machines.{Answers.after_arrival, Calls.MayArrive}, world_law.specs.world.Calls.HasHeard}
 use Rattle.world_law.proofs.{putting.Moving.kept_moves, steps_lemmas.Words.{place_of, placed, pos, rank, refl, signal_of, subst, sym, taken_in, time_of, ℕ, ℤ}}
 use Rattle.world_law.proofs.steps_lemmas.Words.{◌++◌, ◌+◌, ◌==◌, ◌^◌, ◌∙◌, ◌∷◌, ◌≡◌, ◌≤ℤ◌, ◌≤◌, Arrival, Bool, DeviceId, Happening, IsBefore, IsHeld, IsKept}
 use Rattle.world_law.proofs.steps_lemmas.Words.{IsMoving, IsNoTaking, IsOut, IsSteady, LinkId, List, Network, Node, OnWire, Scenario, Signal, TakenFrame, VlId}
@@ -7,8 +8,6 @@ use Rattle.world_law.proofs.steps_lemmas.Words.{chain, eq-eqb, false, held_aside
 use Rattle.world_law.proofs.steps_lemmas.hearing.{Called.{After, kept_by, kept_called, out_called}, Timed.{IsAfterGiven, given_by_now, kept_judges, no_taking}}
 use Rattle.world_law.proofs.steps_lemmas.hearing.{Calling.may_call, Judging.{broken_drops, out_drops}, Putting.IsReceiving, Receptions.placed_at}
 use Rattle.world_law.proofs.steps_lemmas.hearing.{Quiet.{IsQuiet, IsTakingBy, frames_aside, kept_taking}, Ranked.{accepted_high, delivered_high}, Took.took}
-use Rattle.world_law.specs.world.Calls.{HasHeard}
-use Rattle.run_law.specs.machines.{Answers.after_arrival, Calls.MayArrive}
 use Rattle.run_law.specs.declared.steps.Arrival.TheVariants as arrivals
 
 -- ---- the devices

@@ -1,5 +1,11 @@
 -- A control frame that comes up from a switch, and one that a switch takes from below, is of one master.
-use Rattle.world_law.proofs.frames.Proper.{no_reason}
+use Rattle.{net_plan.{proofs.Shape.rules_give_trees, specs.Paths.{IsPath, IsTree, IsUplink}}, tte_lemmas.{proofs.{Options.{closed, opened as at_some}}}}
+use Rattle.{net_plan.specs.Places.{IsCmOf, IsRoleOf, device_at, is_end_system}, run_law.specs.machines.Calls.{IsFromSwitch, IsLinkAt, IsOneMaster, MayArrive}}
+use Rattle.{net_plan.specs.Rules.IsChildOf, run_law.proofs.{law.FirstPlaces.number_is, scenario.Devices.master_end}, schedule_tables.proofs.Margins.shape_rules}
+use Rattle.{net_plan.specs.declared.tables.{Device.Device, Role.TheVariants.{Cm, Relay}}, schedule_tables.specs.declared.rule.Rule.TheVariants.Joints}
+use Rattle.run_law.specs.{control.Arrivals.{are_others, is_of_other_member}, records.Happenings.{frame_by, frame_in, with_clock}, scenario.Devices.member_of}
+use Rattle.{run_law.specs.{scenario.Ways.receiver_of, timed.Receptions.ArrivesAs}, world_law.proofs.frames.Proper.no_reason}
+use Rattle.std.proofs.Common.{Err, IsSomeAnd, Ok}
 use Rattle.world_law.proofs.steps_lemmas.Words.{◌&&◌, ◌+◌, ◌==◌, ◌^◌, ◌∙◌, ◌∷◌, ◌≡◌, ◌≤◌, Arrival, Arrives, Bool, Channel, DeviceId, Down, Event, Gives}
 use Rattle.world_law.proofs.steps_lemmas.Words.{Happening, IsArrivedRecord, IsCaused, IsDue, IsFounded, IsIn, IsOfMaster, IsOnWire, IsParentOf, KeepsRules}
 use Rattle.world_law.proofs.steps_lemmas.Words.{Launch, Link, LinkId, List, Members, Network, None, NoteBody, OnWire, Option, Pcf, PcfRefusal, Reason, Result}
@@ -8,14 +14,6 @@ use Rattle.world_law.proofs.steps_lemmas.Words.{control, eq-eqb, eqb-true, false
 use Rattle.world_law.proofs.steps_lemmas.Words.{is_cut, is_end, is_parent_of, launched, length, link_at, nat_lt, not, numbered, numbered_front, numbered_in}
 use Rattle.world_law.proofs.steps_lemmas.Words.{numbered_within, option_and_then, option_map, option_map_or, place_of, rank, refl, signal_of, slice_get}
 use Rattle.world_law.proofs.steps_lemmas.{Words.{standpoint, subst, suc, sym, target_by, time_of, timed, true, way_from, zero, ℕ}, hearing.Ranked.rank_is}
-use Rattle.std.proofs.Common.{Err, IsSomeAnd, Ok}
-use Rattle.net_plan.{proofs.Shape.rules_give_trees, specs.{Paths.{IsPath, IsTree, IsUplink}, Places.{IsCmOf, IsRoleOf, device_at, is_end_system}}}
-use Rattle.net_plan.specs.{Rules.IsChildOf, declared.tables.{Device.Device, Role.TheVariants.{Cm, Relay}}}
-use Rattle.run_law.{proofs.{law.FirstPlaces.number_is, scenario.Devices.master_end}, specs.control.Arrivals.{are_others, is_of_other_member}}
-use Rattle.run_law.specs.{machines.Calls.{IsFromSwitch, IsLinkAt, IsOneMaster, MayArrive}, records.Happenings.{frame_by, frame_in, with_clock}}
-use Rattle.run_law.specs.{scenario.{Devices.member_of, Ways.receiver_of}, timed.Receptions.ArrivesAs}
-use Rattle.schedule_tables.{proofs.Margins.shape_rules, specs.declared.rule.Rule.TheVariants.Joints}
-use Rattle.tte_lemmas.proofs.Options.{closed, opened as at_some}
 use Rattle.net_plan.specs.declared.event.What.TheVariants as events
 use Rattle.run_law.specs.declared.note.NoteBody.TheVariants as kinds
 

@@ -1,13 +1,11 @@
 -- A record that bears on no device is put in among those of its instant: what each device took, and the device that took a frame by it.
-use Rattle.std.proofs.Common.{arith}
+use Rattle.{run_law.specs.machines.Nodes.local_at, std.proofs.Common.arith, world_law.proofs.rows.Takings.{frames_by_others, frames_put, frames_with}}
 use Rattle.world_law.proofs.{acts.Recorded.{recorded_alike, recorded_put}, steps_lemmas.hearing.Took.{done_took, left_took, ready_took, sent_took, took}}
 use Rattle.world_law.proofs.{putting.Bearing.{before_aside, changed_aside, earlier_aside, left_aside, still_aside}, steps_lemmas.hearing.Called.After}
-use Rattle.world_law.proofs.rows.Takings.{frames_by_others, frames_put, frames_with}
 use Rattle.world_law.proofs.steps_lemmas.Words.{◌++◌, ◌+ℤ◌, ◌∙◌, ◌∷◌, ◌≡◌, ◌≤ℤ◌, ◌≤◌, DeviceId, Happening, HasDoneFrom, IsBefore, IsIn, IsKept, IsLeft}
 use Rattle.world_law.proofs.steps_lemmas.Words.{IsNoTaking, IsSteady, List, Network, Node, Scenario, TakenFrame, Units, VlId, [], amount, ap, append_assoc}
 use Rattle.world_law.proofs.steps_lemmas.Words.{bears_on, bump_behind, changed_at, false, frames_taken, inl, is_sending, local_before, map, moment_of}
 use Rattle.world_law.proofs.steps_lemmas.Words.{moves_no_other, placed, plains_placed, pos, refl, subst, sym, taken_in, time_of, turned_aside, ℕ, ℤ}
-use Rattle.run_law.specs.machines.Nodes.{local_at}
 
 -- ---- what the device took by the others
 

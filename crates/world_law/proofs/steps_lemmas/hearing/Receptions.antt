@@ -1,12 +1,10 @@
 -- What becomes of a frame that arrives: the one record of it.
+use Rattle.{net_plan.specs.Ranges.IsLinkInRange, run_law.specs.timed.Receptions.ArrivesAs, tte_lemmas.proofs.Lists.in_all}
+use Rattle.{run_law.proofs.runs.SameSteps.same_arrival, world_law.proofs.steps_lemmas.Words.{second, subst, sym, target_by, time_of, true, ℕ}}
 use Rattle.world_law.proofs.steps_lemmas.Words.{◌++◌, ◌<◌, ◌∙◌, ◌∷◌, ◌≡◌, ◌≤◌, ◌⊎◌, Arrival, DeviceId, Down, Happening, IsArrivedRecord, IsBefore, IsCaused}
 use Rattle.world_law.proofs.steps_lemmas.Words.{IsInRange, IsOnWire, IsOwnSource, Link, LinkId, List, Network, None, NoteBody, OnWire, Option, Scenario, Some}
 use Rattle.world_law.proofs.steps_lemmas.Words.{Units, Up, Way, [], amount, ap, arith, arrival_body, arrival_of, cause_of, false, hidden_body, inl, inr}
 use Rattle.world_law.proofs.steps_lemmas.Words.{is_at_source, key, length, link_at, members_in, numbered_prefix, numbered_within, place_of, pos, rank, refl}
-use Rattle.world_law.proofs.steps_lemmas.Words.{second, subst, sym, target_by, time_of, true, ℕ}
-use Rattle.net_plan.specs.Ranges.{IsLinkInRange}
-use Rattle.run_law.{proofs.runs.SameSteps.same_arrival, specs.timed.Receptions.ArrivesAs}
-use Rattle.tte_lemmas.proofs.Lists.{in_all}
 use Rattle.run_law.specs.declared.judgement.Why.TheVariants as whys
 use Rattle.run_law.specs.declared.note.NoteBody.TheVariants as kinds
 use Rattle.run_law.specs.declared.steps.Arrival.TheVariants as arrivals

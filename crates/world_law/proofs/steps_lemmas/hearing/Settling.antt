@@ -1,5 +1,6 @@
 -- The record of an arrival is put in, and the cursor goes by it: what is to come is settled.
-use Rattle.world_law.proofs.putting.{Bumped.up_low, PutIn.{split_bumped, split_two}}
+use Rattle.{run_law.proofs.runs.SameSteps.same_arrival, world_law.proofs.putting.{Bumped.up_low, PutIn.{split_bumped, split_two}}}
+use Rattle.std.proofs.lemmas.Bool.{or_from}
 use Rattle.world_law.proofs.{putting.Idle.{bumped_in, drop_one, in_bumped, plains_put}, steps_lemmas.Words.{taken_cycle, time_of, timed, timed_arrival, ℕ}}
 use Rattle.world_law.proofs.{putting.Renumbers.{last_taken_plain, timed_by}, steps_lemmas.hearing.{Known.state_known, Putting.{IsReceiving, least_rank}}}
 use Rattle.world_law.proofs.steps_lemmas.Words.{◌&&◌, ◌++◌, ◌+◌, ◌==◌, ◌||◌, ◌∙◌, ◌∷◌, ◌≡◌, ◌≤◌, Arrival, DeviceId, Happening, IsAllOfIt, IsCaused, IsIn}
@@ -8,8 +9,6 @@ use Rattle.world_law.proofs.steps_lemmas.Words.{and_right, ap, append_assoc, ari
 use Rattle.world_law.proofs.steps_lemmas.Words.{in_left, in_parts, in_right, inl, inr, is_taken_before, last_or, last_taken, le-ltb, length, length-append, map}
 use Rattle.world_law.proofs.steps_lemmas.Words.{members_in, nat_lt, option_and_then, parted, place_of, put_list, raised, rank, refl, standpoint, subst, sym}
 use Rattle.world_law.proofs.steps_lemmas.hearing.{Ranked.{control_still, rank_is, standpoint_still}, Receptions.{arrives_now, comes_as, outcome_at, placed_at}}
-use Rattle.std.proofs.lemmas.Bool.{or_from}
-use Rattle.run_law.proofs.runs.SameSteps.{same_arrival}
 use Rattle.run_law.specs.declared.note.NoteBody.TheVariants as kinds
 use Rattle.run_law.specs.declared.steps.Arrival.TheVariants as arrivals
 

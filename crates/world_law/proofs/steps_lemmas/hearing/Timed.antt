@@ -1,5 +1,5 @@
 -- A time-triggered frame that arrives is judged by what its device took before.
-use Rattle.world_law.proofs.{putting.{NearPut.filter_none, Renumbers.timed_by}, rows.Entered.delivered_end}
+use Rattle.{run_law.proofs.runs.Places.earlier_time, world_law.proofs.{putting.{NearPut.filter_none, Renumbers.timed_by}, rows.Entered.delivered_end}}
 use Rattle.world_law.proofs.steps_lemmas.Words.{◌&&◌, ◌++◌, ◌+◌, ◌<◌, ◌==◌, ◌||◌, ◌∙◌, ◌∷◌, ◌≡◌, ◌≤◌, ◌⊎◌, AllBefore, Bool, DeviceId, Happening, IsBefore}
 use Rattle.world_law.proofs.steps_lemmas.Words.{IsCaused, IsIn, IsKept, IsLeft, IsMoving, IsNoTaking, IsOwnSource, LinkId, List, Network, Node, None}
 use Rattle.world_law.proofs.steps_lemmas.Words.{NoneBefore, NoteBody, OnWire, Scenario, Signal, Standpoint, VlId, [], ap, append-nil, append_assoc, arith}
@@ -9,7 +9,6 @@ use Rattle.world_law.proofs.steps_lemmas.Words.{last_or, last_taken, last_taken_
 use Rattle.world_law.proofs.steps_lemmas.Words.{refl, second, standpoint, subst, sym, taken_cycle, time_of, timed, timed_arrival, true, ℕ}
 use Rattle.world_law.proofs.steps_lemmas.hearing.{Called.not_yet_acted, Putting.{IsHeardAs, least_rank}, Ranked.{control_still, standpoint_still}}
 use Rattle.world_law.proofs.steps_lemmas.hearing.{Judging.{control_judged, same_standpoint}, Takings.{IsBefore2, IsSooner, taken_last, taking_is}}
-use Rattle.run_law.proofs.runs.Places.{earlier_time}
 use Rattle.run_law.specs.declared.note.NoteBody.TheVariants as notes
 
 -- ---- what the device took comes before the arrival

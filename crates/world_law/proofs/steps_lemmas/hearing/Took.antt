@@ -1,12 +1,11 @@
 -- A device that took a frame has the tasks that it had, and such as are for later readings.
+use Rattle.{run_law.specs.machines.{Answers.with_taken, Nodes.{last_taken_frame, local_at}}, tte_lemmas.proofs.Lists.{last_kept, last_pushed}}
+use Rattle.std.proofs.Common.{IsSomeAnd}
+use Rattle.{tte_lemmas.proofs.Integers.ahead_yet, world_law.proofs.steps_lemmas.Words.{reading_for, refl, sending, subst, sym, true, value_of, ℕ, ℤ}}
 use Rattle.world_law.proofs.steps_lemmas.Words.{◌+ℤ◌, ◌<ℤ◌, ◌==◌, ◌≡◌, ◌≤ℤ◌, ◌⊎◌, Bool, ClockTask, DeviceId, Happening, HasDoneFrom, HasSentFrom, IsDeedOf}
 use Rattle.world_law.proofs.steps_lemmas.Words.{IsLeft, IsPending, IsReadyAt, IsSteady, IsUndone, IsWaiting, List, Moment, Network, Node, Option, Scenario}
 use Rattle.world_law.proofs.steps_lemmas.Words.{Some, TakenFrame, Task, VlId, [], amount, ap, arith, arriving, called, cases_Bool, correcting, dispatching}
 use Rattle.world_law.proofs.steps_lemmas.Words.{doing, emitting, false, filter, filter-append, if◌then◌else◌, inl, inr, ints, last_or, moment_of, pos}
-use Rattle.world_law.proofs.steps_lemmas.Words.{reading_for, refl, sending, subst, sym, true, value_of, ℕ, ℤ}
-use Rattle.std.proofs.Common.{IsSomeAnd}
-use Rattle.run_law.specs.machines.{Answers.with_taken, Nodes.{last_taken_frame, local_at}}
-use Rattle.tte_lemmas.proofs.{Integers.ahead_yet, Lists.{last_kept, last_pushed}}
 
 -- the device that took a frame by the call
 abbrev pub took : Moment → VlId → ℕ → Node → Node

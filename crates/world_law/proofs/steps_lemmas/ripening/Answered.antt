@@ -1,5 +1,6 @@
 -- The machine answers, and its device is kept, whatever becomes of the frame.
-use Rattle.world_law.{proofs.frames.Proper.{link_of, received}, specs.steps.Ripening.HasRipened}
+use Rattle.{run_law.proofs.device.States.joined_or, std.proofs.Common.Contains}
+use Rattle.{run_law.specs.machines.Calls.{IsHearing, MayRipen}, world_law.{proofs.frames.Proper.{link_of, received}, specs.steps.Ripening.HasRipened}}
 use Rattle.world_law.proofs.{putting.Bumped.{in_placed, raised_low, raised_rank}, steps_lemmas.Words.{time_of, true, turned_aside, ℕ}}
 use Rattle.world_law.proofs.steps_lemmas.Words.{◌++◌, ◌+◌, ◌∙◌, ◌∷◌, ◌≡◌, ◌≤ℤ◌, ◌≤◌, ◌⊎◌, AllBefore, AsState, Bool, Compressed, DeviceId, Happening}
 use Rattle.world_law.proofs.steps_lemmas.Words.{HasSentFrom, HasTurnedOn, IsBefore, IsIn, IsKept, IsLeft, IsNoTaking, IsOfMaster, IsParentOf}
@@ -14,8 +15,6 @@ use Rattle.world_law.proofs.steps_lemmas.ripening.{Awake.{still_on, stirs, was_o
 use Rattle.world_law.proofs.steps_lemmas.ripening.{Joined.{IsJoin, kept_joined, was_looking}, Judged.{Hears, IsKindOf, hears_before, hears_told, outcome_kind}}
 use Rattle.world_law.proofs.steps_lemmas.ripening.Kept.{IsNoOwnAct, carried_by_role, carried_called, is_yet, kept_next, next_aside, next_by_role}
 use Rattle.world_law.proofs.steps_lemmas.ripening.Ripens.{IsRipe, come_of, emitted_no_later, may_ripen, points_no_later, ripe_more, sooner_of, sound_of}
-use Rattle.std.proofs.Common.{Contains}
-use Rattle.run_law.{proofs.device.States.joined_or, specs.machines.Calls.{IsHearing, MayRipen}}
 use Rattle.run_law.specs.declared.judgement.Judgement.TheVariants as judgements
 use Rattle.run_law.specs.declared.judgement.Why.TheVariants as whys
 use Rattle.run_law.specs.declared.note.NoteBody.TheVariants as kinds

@@ -1,12 +1,11 @@
 -- A device that took part once is on from then on.
-use Rattle.world_law.proofs.{giving.Given.in_get, steps_lemmas.Words.{time_of, true, turns_on, ℕ}}
+use Rattle.{run_law.proofs.law.FirstPlaces.{due_is_there, front_founded, in_front_of, split}, world_law.proofs.steps_lemmas.Words.{time_of, true, turns_on, ℕ}}
+use Rattle.{run_law.proofs.{records.Happenings.{from_earlier, is_earlier}, scenario.Devices.on_by}, world_law.proofs.giving.Given.in_get}
 use Rattle.world_law.proofs.steps_lemmas.Words.{◌&&◌, ◌+◌, ◌<◌, ◌==◌, ◌∙◌, ◌∷◌, ◌≡◌, ◌≤◌, ◌⊎◌, Bool, ChangesState, DeviceId, Happening, HaveBefallen}
 use Rattle.world_law.proofs.steps_lemmas.Words.{Integrating, IsBefore, IsCaused, IsDue, IsFounded, IsIn, IsRun, Joining, List, Note, NoteBody, Scenario, State}
 use Rattle.world_law.proofs.steps_lemmas.Words.{Units, What, Why, [], amount, and_parts, any_in, ap, arith, both_ways, by_number, cases_Bool, cases_lt, earlier}
 use Rattle.world_law.proofs.steps_lemmas.Words.{eq-eqb, eqb-true, false, fold, happening, if◌then◌else◌, inl, inr, is_broken, is_joined_by, is_off}
 use Rattle.world_law.proofs.steps_lemmas.Words.{is_turned_on_at, length, not_turned_on, place_of, refl, state_after, state_before, state_with, subst, sym}
-use Rattle.run_law.proofs.{law.FirstPlaces.{due_is_there, front_founded, in_front_of, split}, records.Happenings.{from_earlier, is_earlier}}
-use Rattle.run_law.proofs.scenario.Devices.{on_by}
 use Rattle.run_law.specs.declared.judgement.Why.TheVariants as whys
 use Rattle.run_law.specs.declared.note.NoteBody.TheVariants as kinds
 

@@ -1,8 +1,7 @@
 -- A device that a world keeps may be called, as its source comes.
+use Rattle.{run_law.specs.machines.Calls.order_of_phase, world_law.proofs.steps_lemmas.{Words.{subst, sym, whole, ℕ, ℤ}, hearing.Calling.ranked_so}}
 use Rattle.world_law.proofs.steps_lemmas.Words.{◌<ℤ◌, ◌<◌, ◌^◌, ◌∷◌, ◌≡◌, ◌≤◌, DeviceId, Happening, IsBefore, IsKept, IsSteady, List, MayCall, Network, Node}
 use Rattle.world_law.proofs.steps_lemmas.Words.{Phase, Scenario, amount, ap, arith, cases_lt, inl, inr, ints, moment_of, pos, rank_of_call, reading_for, refl}
-use Rattle.world_law.proofs.steps_lemmas.{Words.{subst, sym, whole, ℕ, ℤ}, hearing.Calling.ranked_so}
-use Rattle.run_law.specs.machines.Calls.{order_of_phase}
 
 pub may_call : {M : Type 0} (stands : M → Network → DeviceId → Node → Type 0) (s : Scenario) (hs coming : List Happening) (cursor : List ℕ) (now : ℕ)
     (device : DeviceId) (machine : M) (phase : Phase) (more : List ℕ)

@@ -1,13 +1,11 @@
 -- A further point brings no emission that is before it.
+use Rattle.compression.proofs.{Elements.{all-filter, in_cases, in_filter, in_none, length-beyond}, Held.{beyond-push_out, held-start, int_lt-false}}
+use Rattle.{compression.proofs.Firsts.counts, std.{proofs.Common.◌*ℤ◌, specs.Prelude.Contains}, tte_units.{proofs.Means.mean_of-floor, specs.Mean.IsMean}}
+use Rattle.compression.{proofs.Growth.{cluster_of-beyond, counted, end_of-least, end_of-most, end_of-one, end_of-two, window_end}, specs.Emission.emission}
+use Rattle.compression.specs.{Clusters.{Cluster, beyond, cluster_of, end_of, firsts, of_cycle_within, with_first}, Middle.{last_but_one, middle_of, relative}}
 use Rattle.world_law.proofs.steps_lemmas.Words.{◌&&◌, ◌++◌, ◌+ℤ◌, ◌-ℤ◌, ◌<ℤ◌, ◌==◌, ◌∙◌, ◌∷◌, ◌≡◌, ◌≤ℤ◌, ◌≤◌, ◌⊎◌, AllByRecursion, AreClusters, Bool, List}
 use Rattle.world_law.proofs.steps_lemmas.Words.{Point, [], ap, arith, cases_int, false, filter, filter-append, fold-append, if◌then◌else◌, inl, inr, int_le}
 use Rattle.world_law.proofs.steps_lemmas.Words.{int_lt, ints, length, length-append, map, pos, refl, subst, suc, sym, true, zero, ℕ, ℤ}
-use Rattle.std.{proofs.Common.◌*ℤ◌, specs.Prelude.Contains}
-use Rattle.compression.proofs.{Elements.{all-filter, in_cases, in_filter, in_none, length-beyond}, Held.{beyond-push_out, held-start, int_lt-false}}
-use Rattle.compression.proofs.Firsts.{counts}
-use Rattle.compression.{proofs.Growth.{cluster_of-beyond, counted, end_of-least, end_of-most, end_of-one, end_of-two, window_end}, specs.Emission.emission}
-use Rattle.compression.specs.{Clusters.{Cluster, beyond, cluster_of, end_of, firsts, of_cycle_within, with_first}, Middle.{last_but_one, middle_of, relative}}
-use Rattle.tte_units.{proofs.Means.mean_of-floor, specs.Mean.IsMean}
 
 -- ---- middles are not before the first point
 

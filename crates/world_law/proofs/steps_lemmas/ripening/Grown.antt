@@ -1,5 +1,5 @@
 -- A device after a frame that is permanent and tells it no time stands as the records leave it, with that of the frame put in.
-use Rattle.std.proofs.Common.{arith}
+use Rattle.{run_law.specs.{control.Corrections.heard_by, machines.Answers.hearings}, std.proofs.Common.arith}
 use Rattle.world_law.proofs.{devices.Borne.{cleared_alike, tell_owned}, steps_lemmas.Words.{refl, ripe_as, same_kept, self, since_at, sym, time_of, true, ℕ}}
 use Rattle.world_law.proofs.steps_lemmas.Words.{◌&&◌, ◌++◌, ◌+◌, ◌==◌, ◌||◌, ◌∙◌, ◌∷◌, ◌≡◌, Bool, DeviceId, Happening, Hearing, Integrating, IsIn, IsLeft}
 use Rattle.world_law.proofs.steps_lemmas.Words.{Judgement, LinkId, List, Moment, Network, Node, None, Pcf, Phase, Point, Scenario, Some, Units, []}
@@ -8,7 +8,6 @@ use Rattle.world_law.proofs.steps_lemmas.Words.{changes_adjustment, channel_of_l
 use Rattle.world_law.proofs.steps_lemmas.Words.{has_cleared, heard_since, hearing_by, if◌then◌else◌, is_cm, is_timed, is_turned_on_at, master_of, members_in}
 use Rattle.world_law.proofs.steps_lemmas.Words.{moves, nat_lt, not, option_map, option_map_or, option_to_list, point_at, point_by, points_of, recorded_cycle}
 use Rattle.world_law.proofs.steps_lemmas.ripening.Merely.{IsMere, maps_one, maps_rest, mere_changes, mere_hears, mere_point, own_skip}
-use Rattle.run_law.specs.{control.Corrections.heard_by, machines.Answers.hearings}
 use Rattle.run_law.specs.declared.judgement.Judgement.TheVariants as judgements
 use Rattle.run_law.specs.declared.note.NoteBody.TheVariants as kinds
 

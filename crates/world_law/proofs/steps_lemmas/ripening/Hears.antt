@@ -1,10 +1,9 @@
 -- What is heard at a time counts as before it, where no frame has told the device the time at it.
+use Rattle.{run_law.specs.control.Permanence.IsPermanenceOutcome, std.proofs.{Common.MatchBool, lemmas.Bool.{MatchBool-at_false, or_parts}}}
 use Rattle.world_law.proofs.steps_lemmas.Words.{◌∷◌, ◌≡◌, ◌≤◌, Bool, DeviceId, Happening, IsIn, Joining, List, Network, Pcf, Point, Ripe, Scenario, State, []}
 use Rattle.world_law.proofs.steps_lemmas.Words.{adjustment_after, adjustment_at_hearing, adjustment_before, ap, arith, cases_Bool, cases_lt, eq-eqb, false}
 use Rattle.world_law.proofs.steps_lemmas.Words.{has_joined_at, if◌then◌else◌, inl, inr, is_cm, is_joined_by, list_any, lt-ltb, nat_lt, or_left, or_none}
 use Rattle.world_law.proofs.steps_lemmas.Words.{same_kept, state_at_hearing, state_before, subst, sym, time_of, true, ℕ}
-use Rattle.std.proofs.{Common.MatchBool, lemmas.Bool.{MatchBool-at_false, or_parts}}
-use Rattle.run_law.specs.control.Permanence.{IsPermanenceOutcome}
 
 -- ---- lists and places
 

@@ -1,4 +1,6 @@
 -- The device that a frame tells the time is kept.
+use Rattle.run_law.{proofs.control.Verdicts.looking_ripe, specs.{declared.judgement.Judgement.TheVariants.Integrates, device.States.joined_adjustment}}
+use Rattle.{sync_state.specs.Integration.joined_by, world_law.specs.device.Told.change_in}
 use Rattle.world_law.proofs.steps_lemmas.Words.{◌&&◌, ◌++◌, ◌+ℤ◌, ◌+◌, ◌-ℤ◌, ◌-◌, ◌<ℤ◌, ◌<◌, ◌||◌, ◌∙◌, ◌∷◌, ◌≡◌, ◌≤ℤ◌, ◌≤◌, ◌⊎◌, Bool, DeviceId, Happening}
 use Rattle.world_law.proofs.steps_lemmas.Words.{HasTurnedOn, Integrating, IsIn, IsKept, IsLeft, IsPending, Joining, LinkId, List, Moment, Network, Node, None}
 use Rattle.world_law.proofs.steps_lemmas.Words.{Option, Pcf, Phase, Scenario, Some, State, SyncPlan, Task, Units, Waiting, [], adjustment_after}
@@ -12,9 +14,6 @@ use Rattle.world_law.proofs.steps_lemmas.Words.{plan_of, pos, reading_for, recor
 use Rattle.world_law.proofs.steps_lemmas.{Words.{true, value_of, with_joined, ℕ, ℤ}, ripening.Judged.{Hears, last_behind, not_yet}}
 use Rattle.world_law.proofs.steps_lemmas.ripening.{Kept.{before_place, turned_on}, Merely.{mere_hears, mere_joins}, Ripens.{IsRipe, ripe_more}}
 use Rattle.world_law.proofs.steps_lemmas.ripening.Merely.{IsMere, behind_it, filter_rest, fold_rest, maps_rest, mere_adjustment, mere_changes, mere_cycle}
-use Rattle.world_law.specs.device.Told.{change_in}
-use Rattle.run_law.{proofs.control.Verdicts.looking_ripe, specs.{declared.judgement.Judgement.TheVariants.Integrates, device.States.joined_adjustment}}
-use Rattle.sync_state.specs.Integration.{joined_by}
 use Rattle.run_law.specs.declared.note.NoteBody.TheVariants as kinds
 use Rattle.run_law.specs.declared.steps.Ripe.TheVariants as ripe
 

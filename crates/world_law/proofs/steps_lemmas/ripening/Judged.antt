@@ -1,6 +1,9 @@
 -- What a device's machine makes of a frame that is permanent is what the records given say.
-use Rattle.world_law.proofs.{devices.Resting.in_time_of, steps_lemmas.Words.{state_at_hearing, state_before, subst, sym, time_of, true, ℕ, ℤ}}
-use Rattle.world_law.proofs.{putting.NearPut.not_is, steps_lemmas.ripening.Ripens.{IsRipe, reach_now, ripe_more}}
+use Rattle.{compression.specs.declared.taken.Taken.Taken, world_law.proofs.steps_lemmas.Words.{state_at_hearing, state_before, subst, sym, time_of, true, ℕ, ℤ}}
+use Rattle.{run_law.{proofs.law.FirstPlaces.in_filter, specs.records.Order.is_before}, world_law.proofs.putting.NearPut.not_is}
+use Rattle.{run_law.{proofs.records.Order.{all_kept, before_is, none_any}, specs.control.Collections.ripe_by_role}, world_law.proofs.devices.Resting.in_time_of}
+use Rattle.{run_law.specs.control.Hearing.{heard_by_schedule, heard_enough}, world_law.proofs.steps_lemmas.ripening.Ripens.{IsRipe, reach_now, ripe_more}}
+use Rattle.run_law.specs.control.Permanence.{BecomesPermanent, IsCollectedOrDropped, IsJudgedBy, IsPermanenceOutcome, before_permanence}
 use Rattle.world_law.proofs.steps_lemmas.Words.{◌&&◌, ◌++◌, ◌+◌, ◌-◌, ◌==◌, ◌∙◌, ◌∷◌, ◌≡◌, Bool, DeviceId, Happening, Integrating, IsAtRest, IsBefore, IsIn}
 use Rattle.world_law.proofs.steps_lemmas.Words.{IsLeft, IsPermanenceOutcomeAt, Joining, List, Members, Network, Node, None, Off, Option, Pcf, Point, Reason}
 use Rattle.world_law.proofs.steps_lemmas.Words.{Ripe, Scenario, Some, State, SyncPlan, Synchronised, Units, Waiting, [], adjustment_after}
@@ -13,10 +16,6 @@ use Rattle.world_law.proofs.steps_lemmas.Words.{none_kept, not_on_after, not_tur
 use Rattle.world_law.proofs.steps_lemmas.Words.{plan_of, point_at, point_by, points_of, quiet_rest, recorded_cycle, refl, ripe_as, state_after}
 use Rattle.world_law.proofs.steps_lemmas.ripening.{Coming.{IsLateKind, all_late, late_mere, rest_ends}, Hears.{by_role, not_joined, not_joined_yet}}
 use Rattle.world_law.proofs.steps_lemmas.ripening.{JustTold.{IsTold, adjustment_now, state_now}, Merely.{filter_rest, maps_rest, mere_changes, mere_point}}
-use Rattle.compression.specs.declared.taken.Taken.{Taken}
-use Rattle.run_law.{proofs.law.FirstPlaces.in_filter, specs.records.Order.is_before}
-use Rattle.run_law.{proofs.records.Order.{all_kept, before_is, none_any}, specs.control.{Collections.ripe_by_role, Hearing.{heard_by_schedule, heard_enough}}}
-use Rattle.run_law.specs.control.Permanence.{BecomesPermanent, IsCollectedOrDropped, IsJudgedBy, IsPermanenceOutcome, before_permanence}
 use Rattle.compression.specs.declared.taken.Taken.TheVariants as takens
 use Rattle.run_law.specs.declared.steps.Ripe.TheVariants as ripe
 

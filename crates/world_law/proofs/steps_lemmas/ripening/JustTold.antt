@@ -1,5 +1,6 @@
 -- A device that a frame has told the time at this very time stands as it hears further frames of the time.
-use Rattle.world_law.{proofs.devices.{OwnRecords.earlier_yes, Resting.in_time_of}, specs.world.World.IsJustTold}
+use Rattle.{run_law.proofs.{law.FirstPlaces.number_is, runs.Places.before_or_not}, world_law.proofs.devices.{OwnRecords.earlier_yes, Resting.in_time_of}}
+use Rattle.{std.proofs.lemmas.Bool.or_parts, world_law.specs.world.World.IsJustTold}
 use Rattle.world_law.proofs.{devices.TurnedOn.{IsInTime, looking_on, turning_state}, steps_lemmas.ripening.{Awake.{stirs, was_on}, Ripens.{IsRipe, ripe_more}}}
 use Rattle.world_law.proofs.steps_lemmas.Words.{◌&&◌, ◌++◌, ◌+◌, ◌<◌, ◌==◌, ◌||◌, ◌∙◌, ◌∷◌, ◌≡◌, ◌≤◌, ◌⊎◌, AllBefore, Bool, DeviceId, Happening, Integrating}
 use Rattle.world_law.proofs.steps_lemmas.Words.{IsBefore, IsCaused, IsDue, IsFounded, IsIn, IsMoving, IsOfThisTime, IsSource, IsTurnedOnBy, Joining, List}
@@ -12,8 +13,6 @@ use Rattle.world_law.proofs.steps_lemmas.Words.{moves, nat_lt, ne_eqb, no_higher
 use Rattle.world_law.proofs.steps_lemmas.Words.{numbered_parts, numbered_within, parted, place_of, rank, refl, same_device, some_same, state_after}
 use Rattle.world_law.proofs.steps_lemmas.{Words.{state_at_hearing, state_before, state_with, subst, sym, time_of, true, units_of, ℕ}, ripening.Hears.none_of}
 use Rattle.world_law.proofs.steps_lemmas.ripening.{Coming.{IsLateKind, all_late, given_low, late_mere}, Merely.{fold_rest, mere_adjustment, mere_joins}}
-use Rattle.std.proofs.lemmas.Bool.{or_parts}
-use Rattle.run_law.proofs.{law.FirstPlaces.number_is, runs.Places.before_or_not}
 use Rattle.run_law.specs.declared.judgement.Why.TheVariants as whys
 use Rattle.run_law.specs.declared.note.NoteBody.TheVariants as kinds
 

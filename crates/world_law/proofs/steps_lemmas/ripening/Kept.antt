@@ -1,6 +1,7 @@
 -- The device of a frame that is permanent, and tells it no time, is kept.
+use Rattle.{compression.proofs.Times.one_list_of_clusters, world_law.proofs.{devices.Plains.changes_at_plain, rows.Dispatching.whole_founded}}
+use Rattle.{std.proofs.Common.Contains, sync_state.specs.Standing.Standing, world_law.proofs.{acts.Recorded.first_recorded, devices.Borne.tell_owned}}
 use Rattle.world_law.proofs.{acts.Dispatched.{dispatch_told, no_dispatch_told}, steps_lemmas.{hearing.Quiet.frames_placed, ripening.Merely.own_skip}}
-use Rattle.world_law.proofs.{acts.Recorded.first_recorded, devices.{Borne.tell_owned, Plains.changes_at_plain}, rows.Dispatching.whole_founded}
 use Rattle.world_law.proofs.putting.{Bearing.{before_aside, changed_aside, earlier_aside, left_aside, placed_back, still_aside}, Moving.{stays, worked_or_here}}
 use Rattle.world_law.proofs.steps_lemmas.Words.{◌++◌, ◌+ℤ◌, ◌+◌, ◌-ℤ◌, ◌<ℤ◌, ◌<◌, ◌||◌, ◌∙◌, ◌∷◌, ◌≡◌, ◌≤ℤ◌, ◌≤◌, ◌⊎◌, AllByRecursion, AreClusters, Bool}
 use Rattle.world_law.proofs.steps_lemmas.Words.{ClockTask, Compressed, DeviceId, Happening, HasDoneFrom, HasSentFrom, HasTurnedOn, IsAlike, IsAtRest, IsBefore}
@@ -15,9 +16,6 @@ use Rattle.world_law.proofs.steps_lemmas.{Words.{true, turned_aside, undone_alik
 use Rattle.world_law.proofs.steps_lemmas.{acting.Starts.{none_of_it, plain_compressed, plain_sent}, ripening.{Judged.{Hears, cleared_told}, JustTold.IsTold}}
 use Rattle.world_law.proofs.steps_lemmas.ripening.{Coming.{all_late, late_mere, rest_ends}, Ripens.{IsRipe, in_time, not_beyond, ripe_more, sooner_of}}
 use Rattle.world_law.proofs.steps_lemmas.ripening.Grown.{IsByRole, IsFirst, IsSame, is_grown, left_grown, points_by_role, points_not, same_by_role}
-use Rattle.std.proofs.Common.{Contains}
-use Rattle.compression.proofs.Times.{one_list_of_clusters}
-use Rattle.sync_state.specs.Standing.{Standing}
 use Rattle.run_law.specs.declared.note.NoteBody.TheVariants as kinds
 
 -- ---- where it stands before the call

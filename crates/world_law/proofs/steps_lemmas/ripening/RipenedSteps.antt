@@ -1,4 +1,6 @@
 -- A frame that waits is permanent.
+use Rattle.{net_plan.specs.Ranges.IsLinkInRange, tte_lemmas.proofs.Lists.in_all, world_law.specs.source.Sources.IsRipening}
+use Rattle.run_law.{proofs.{law.FirstPlaces.numbered_next, runs.Determined.same_units}, specs.records.Happenings.frame_from}
 use Rattle.world_law.proofs.{frames.{Masters.of_master, Proper.{IsReceiver, received}}, putting.{PutTwo.{IsPair, two_by}, StandsOn.shown_still}}
 use Rattle.world_law.proofs.{putting.Moving.{stays, worked_or_here}, steps_lemmas.{hearing.Quiet.frames_placed, ripening.Grown.IsByRole}}
 use Rattle.world_law.proofs.steps_lemmas.Words.{◌++◌, ◌+◌, ◌<◌, ◌∙◌, ◌∷◌, ◌≡◌, ◌≤ℤ◌, ◌≤◌, ◌⊎◌, AllBefore, AreOfNetwork, ArePutIn, AreSettled, AreWaiting, Bool}
@@ -16,10 +18,6 @@ use Rattle.world_law.{proofs.steps_lemmas.Words.{wire_place, wires_move, ℕ}, s
 use Rattle.world_law.proofs.steps_lemmas.ripening.Answered.{answered, dropped_kept, high_now, joined_kept, not_before_high, placed_high, quiet_kept, sole}
 use Rattle.world_law.proofs.steps_lemmas.ripening.{Judged.{IsKindOf, becomes_now, outcome_kind}, Outcomes.{drop_fresh, dropped_all, permanent_all}}
 use Rattle.world_law.proofs.steps_lemmas.ripening.Ripens.{IsRipe, come_of, permanent_at, reach_by, reach_now, ripe_more, ripening_at, sooner_of}
-use Rattle.world_law.specs.source.Sources.{IsRipening}
-use Rattle.net_plan.specs.Ranges.{IsLinkInRange}
-use Rattle.run_law.{proofs.{law.FirstPlaces.numbered_next, runs.Determined.same_units}, specs.records.Happenings.frame_from}
-use Rattle.tte_lemmas.proofs.Lists.{in_all}
 use Rattle.run_law.specs.declared.judgement.Judgement.TheVariants as judgements
 use Rattle.run_law.specs.declared.judgement.Why.TheVariants as whys
 use Rattle.run_law.specs.declared.note.NoteBody.TheVariants as kinds

@@ -1,4 +1,7 @@
 -- The first frame that waits, whose point its device's reading has come to, is permanent at this very time, and may be so.
+use Rattle.drift_clock.specs.Reach.{IsReach}
+use Rattle.{run_law.proofs.{records.Order.{all_of, given_of}, scenario.Devices.correct_before}, world_law.specs.source.First.NoSourceBefore}
+use Rattle.{run_law.specs.machines.Calls.MayRipen, std.proofs.Common.{Contains, get_or}, world_law.specs.source.Sources.IsRipening}
 use Rattle.world_law.proofs.{frames.Proper.{HasCome, IsSound, has_come, is_sound, link_of, received}, steps_lemmas.ripening.Coming.IsLateKind}
 use Rattle.world_law.proofs.steps_lemmas.Words.{◌++◌, ◌+ℤ◌, ◌+◌, ◌-◌, ◌<ℤ◌, ◌<◌, ◌^◌, ◌∙◌, ◌∷◌, ◌≡◌, ◌≤ℤ◌, ◌≤◌, Bool, Compressed, DeviceId, Happening}
 use Rattle.world_law.proofs.steps_lemmas.Words.{HasSentFrom, HaveBefallen, IsBefore, IsCaused, IsDue, IsIn, IsInRange, IsMoving, IsOfMaster, IsParentOf}
@@ -7,10 +10,6 @@ use Rattle.world_law.proofs.steps_lemmas.Words.{Some, Units, Waiting, [], after_
 use Rattle.world_law.proofs.steps_lemmas.Words.{cycle_in, ends_stretch, eqb-true, false, founded_at, in_parts, inl, inr, ints, is_broken, key, master_of}
 use Rattle.world_law.proofs.steps_lemmas.Words.{members_in, moment_of, natural, numbered_in, place_of, point_at, point_by, point_of, points_of, pos, refl}
 use Rattle.world_law.proofs.steps_lemmas.Words.{ripe_place, same_device, standpoint, subst, suc, sym, time_of, unsigned_abs, zero, ℕ, ℤ}
-use Rattle.world_law.specs.source.{First.NoSourceBefore, Sources.IsRipening}
-use Rattle.std.proofs.Common.{Contains, get_or}
-use Rattle.drift_clock.specs.Reach.{IsReach}
-use Rattle.run_law.{proofs.{records.Order.{all_of, given_of}, scenario.Devices.correct_before}, specs.machines.Calls.MayRipen}
 use Rattle.run_law.specs.declared.note.NoteBody.TheVariants as kinds
 
 -- where it stands among those of the time

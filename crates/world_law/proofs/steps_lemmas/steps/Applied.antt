@@ -1,6 +1,9 @@
 -- An event befalls before all else of its instant: the world stands again.
+use Rattle.{run_law.proofs.law.FirstPlaces.numbered_next, world_law.{proofs.giving.Storing.stored_still, specs.steps.Steps.{AppliedStep, FitsWorld}}}
+use Rattle.{run_law.proofs.runs.{NetworkRuns.one_more, Places.{before_next_time, before_of_time}}, world_law.proofs.runs.Firsts.{numbered_more, numbered_still}}
+use Rattle.{run_law.specs.runs.DueRecords.{EndsAt, IsScenarioRun}, world_law.specs.world.Outcomes.{also_befell, ends_world}}
+use Rattle.{std.{proofs.lemmas.{List.length_push, Option.slice_get_within}, specs.List.Contains}, tte_lemmas.{proofs.{Lists.{pushed as get_more}}}}
 use Rattle.world_law.{proofs.{giving.GivenParts.up_to_place, steps_lemmas.steps.AppliedParts.wires_apply}, specs.world.World.{AreInOrder, AreStored, IsFromEnd}}
-use Rattle.world_law.{proofs.{giving.Storing.stored_still, runs.Firsts.{numbered_more, numbered_still}}, specs.world.Outcomes.{also_befell, ends_world}}
 use Rattle.world_law.{proofs.runs.Applies.{line_before, run_goes_on_by_event, same_length}, specs.source.Applying.{MayBefall, note_of_event, place_of_event}}
 use Rattle.world_law.proofs.steps_lemmas.Words.{◌&&◌, ◌++◌, ◌+◌, ◌<◌, ◌==◌, ◌||◌, ◌↔◌, ◌∙◌, ◌∷◌, ◌≡◌, ◌≤ℤ◌, ◌≤◌, ◌⊎◌, AreAtPorts, AreOfNetwork, AreOnWires}
 use Rattle.world_law.proofs.steps_lemmas.Words.{AreSettled, AreUntold, AreWaiting, Befell, Bool, Contains-push, Contains-push_cases, DeviceId, Event, Happening}
@@ -10,11 +13,6 @@ use Rattle.world_law.proofs.steps_lemmas.Words.{happening, happenings, has_outco
 use Rattle.world_law.proofs.steps_lemmas.Words.{map, never_self, numbered_within, place_of, pos, refl, scenario, slice_get, some_same, subst, sym, time_of}
 use Rattle.world_law.proofs.steps_lemmas.{Words.{true, turns_on, unsigned_abs, ℕ}, steps.AppliedDevices.{IsApplying, event_moves, held_apply, off_before}}
 use Rattle.world_law.proofs.steps_lemmas.steps.AppliedParts.{IsBefalling, agree_before, before_others, nothing_due, ports_apply, turned_more, waiting_apply}
-use Rattle.world_law.specs.steps.Steps.{AppliedStep, FitsWorld}
-use Rattle.std.{proofs.lemmas.{List.length_push, Option.slice_get_within}, specs.List.Contains}
-use Rattle.run_law.proofs.{law.FirstPlaces.numbered_next, runs.{NetworkRuns.one_more, Places.{before_next_time, before_of_time}}}
-use Rattle.run_law.specs.runs.DueRecords.{EndsAt, IsScenarioRun}
-use Rattle.tte_lemmas.proofs.Lists.{pushed as get_more}
 use Rattle.net_plan.specs.declared.event.What.TheVariants as events
 use Rattle.run_law.specs.declared.note.NoteBody.TheVariants as kinds
 

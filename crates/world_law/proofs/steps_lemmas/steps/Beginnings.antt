@@ -1,10 +1,9 @@
 -- A fresh world stands for the run of no records under no events.
+use Rattle.{run_law.{proofs.{records.Happenings.none_numbered, runs.Grow.empty_run}, specs.machines.Nodes.begun_node}, world_law.specs.steps.Steps.Begun}
 use Rattle.world_law.proofs.steps_lemmas.Words.{◌++◌, ◌+ℤ◌, ◌+◌, ◌-ℤ◌, ◌<ℤ◌, ◌^◌, ◌∙◌, ◌∷◌, ◌≡◌, ◌≤ℤ◌, ◌≤◌, DeviceId, Happening, IsBefore, IsDue, IsIn, IsKept}
 use Rattle.world_law.proofs.steps_lemmas.Words.{IsLeft, IsPending, IsSource, List, Network, Node, Scenario, Task, Units, [], amount, ap, arith, chain}
 use Rattle.world_law.proofs.steps_lemmas.Words.{correcting, dispatching, doing, emitting, false, inl, inr, ints, no_cluster, none_in, observation_window}
 use Rattle.world_law.proofs.steps_lemmas.Words.{place_of, pos, reading_for, refl, scenario, sending, subst, sym, true, value_of, ℕ, ℤ}
-use Rattle.world_law.specs.steps.Steps.{Begun}
-use Rattle.run_law.{proofs.{records.Happenings.none_numbered, runs.Grow.empty_run}, specs.machines.Nodes.begun_node}
 
 -- nothing of the run is before the first source
 low_rank : (t k : ℕ) (ws : List ℕ) → 1 ≤ k → IsBefore (t ∷ k ∷ ws) (0 ∷ 1 ∷ []) → ⊥

@@ -1,13 +1,12 @@
 -- What becomes of a frame that leaves: the one record of it.
+use Rattle.{run_law.proofs.law.FirstPlaces.in_filter, world_law.{proofs.putting.Idle.IsIdle, specs.{steps.Steps.departure_now, world.World.IsAtPort}}}
+use Rattle.run_law.specs.control.{Leaving.{Departs, Departure, departure, leaves, on_cut_way, too_old}, Permanence.waits_for}
 use Rattle.world_law.{proofs.{frames.Masters.parent_true, steps_lemmas.Words.{time_of, true, way_from, ℕ}}, specs.world.Outcomes.departure_body}
-use Rattle.world_law.{proofs.putting.Idle.IsIdle, specs.{steps.Steps.departure_now, world.World.IsAtPort}}
 use Rattle.world_law.proofs.steps_lemmas.Words.{◌++◌, ◌+◌, ◌<◌, ◌||◌, ◌∙◌, ◌∷◌, ◌≡◌, ◌≤◌, ◌⊎◌, AtPort, Bool, DeviceId, Dispatches, Gives, Happening, IsCaused}
 use Rattle.world_law.proofs.steps_lemmas.Words.{IsDue, IsFounded, IsOwnSource, Launch, LinkId, List, None, NoteBody, Scenario, Some, Units, [], amount, ap}
 use Rattle.world_law.proofs.steps_lemmas.Words.{arith, by_number, cause_of, earlier, earlier_still, false, filter, hidden_body, inl, inr, is_accepted}
 use Rattle.world_law.proofs.steps_lemmas.Words.{is_at_source, is_broken, is_cut, is_parent_of, is_relay, key, last_in, last_or, launched, length, link_at}
 use Rattle.world_law.proofs.steps_lemmas.Words.{nat_lt, not, numbered, numbered_prefix, numbered_within, place_of, rank, refl, second, some_same, subst, sym}
-use Rattle.run_law.{proofs.law.FirstPlaces.in_filter, specs.control.Leaving.{Departs, Departure, departure, leaves, on_cut_way, too_old}}
-use Rattle.run_law.specs.control.Permanence.{waits_for}
 use Rattle.run_law.specs.declared.judgement.Why.TheVariants as whys
 use Rattle.run_law.specs.declared.note.NoteBody.TheVariants as kinds
 

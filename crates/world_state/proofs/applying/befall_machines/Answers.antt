@@ -1,8 +1,6 @@
-use Rattle.std.proofs.{Common.{◌∙◌, ◌≡◌, ◌≢◌, Bool, Some, ap, slice_get, subst, sym}, lemmas.Option.get_or_from_slice_get}
-use Rattle.net_plan.specs.declared.{event.What.{What, TheVariants.{Break, On}}, ids.DeviceId.DeviceId}
-use Rattle.run_law.specs.machines.Nodes.{Node}
-use Rattle.world_law.specs.world.Outcomes.{befallen_node}
-use Rattle.world_state.{proofs.Befalls.{break_other, on_other, one_befalls}, specs.Keeping.keeps}
+use Rattle.{net_plan.specs.declared.{event.What.{TheVariants.{Break, On}, What}, ids.DeviceId.DeviceId}, std.proofs.lemmas.Option.get_or_from_slice_get}
+use Rattle.{run_law.specs.machines.Nodes.Node, world_law.specs.world.Outcomes.befallen_node, world_state.specs.Keeping.keeps}
+use Rattle.{std.proofs.Common.{◌∙◌, ◌≡◌, ◌≢◌, Bool, Some, ap, slice_get, subst, sym}, world_state.proofs.Befalls.{break_other, on_other, one_befalls}}
 use Rattle.world_state.proofs.applying.befall_machines.Goals as goal
 
 pub returns-in-On-clause-each : goal.returns-in-On-clause-each

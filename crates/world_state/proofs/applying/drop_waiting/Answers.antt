@@ -1,7 +1,5 @@
-use Rattle.std.{proofs.Common.{◌∙◌, ◌≡◌, Option, ap, not, subst, sym, ℕ}, specs.Prelude.IfNone}
-use Rattle.net_plan.specs.declared.ids.DeviceId.{DeviceId}
-use Rattle.run_law.specs.scenario.Hypothesis.{breaks_at}
-use Rattle.world_state.{proofs.Emptied.{alike, all_kept, keeps_it}, specs.declared.contents.Waits.Waits}
+use Rattle.{net_plan.specs.declared.ids.DeviceId.DeviceId, run_law.specs.scenario.Hypothesis.breaks_at, world_state.specs.declared.contents.Waits.Waits}
+use Rattle.{std.{proofs.Common.{◌∙◌, ◌≡◌, Option, ap, not, subst, sym, ℕ}, specs.Prelude.IfNone}, world_state.proofs.Emptied.{alike, all_kept, keeps_it}}
 use Rattle.world_state.proofs.applying.drop_waiting.Goals as goal
 
 pub returns-in-Some : goal.returns-in-Some

@@ -1,7 +1,6 @@
-use Rattle.std.proofs.{Common.{◌∙◌, ◌≡◌, Some, ap, arith, inl, inr, length, set, subst, sym, ℕ}, lemmas.{Bool.cases_eq, Option.get_or_from_slice_get}}
-use Rattle.std.specs.List.{slice_get}
-use Rattle.tte_lemmas.proofs.Lists.{set_same}
-use Rattle.world_state.{proofs.Befalls.set_there, specs.{Applying.way_after, declared.contents.WayState.WayState}}
+use Rattle.{std.proofs.Common.{◌∙◌, ◌≡◌, Some, ap, arith, inl, inr, length, set, subst, sym, ℕ}, world_state.specs.declared.contents.WayState.WayState}
+use Rattle.std.{proofs.lemmas.Bool.cases_eq, specs.List.slice_get}
+use Rattle.{std.proofs.lemmas.Option.get_or_from_slice_get, tte_lemmas.proofs.Lists.set_same, world_state.{proofs.Befalls.set_there, specs.Applying.way_after}}
 use Rattle.world_state.proofs.applying.set_way.Goals as goal
 
 pub index-was-requires : goal.index-was-requires

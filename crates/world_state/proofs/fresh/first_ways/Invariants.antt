@@ -1,5 +1,4 @@
-use Rattle.std.proofs.Common.{◌≡◌, map, take}
-use Rattle.world_state.specs.Beginning.{first_way}
+use Rattle.{std.proofs.Common.{◌≡◌, map, take}, world_state.specs.Beginning.first_way}
 use Rattle.world_state.proofs.fresh.first_ways.Given as goal
 
 abbrev pub invariant-loop-link : goal.invariant-loop-link

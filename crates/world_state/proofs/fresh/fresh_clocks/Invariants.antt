@@ -1,5 +1,4 @@
-use Rattle.std.proofs.Common.{◌≡◌, replicate}
-use Rattle.tte_units.specs.Amount.{amount}
+use Rattle.{std.proofs.Common.{◌≡◌, replicate}, tte_units.specs.Amount.amount}
 use Rattle.world_state.proofs.fresh.fresh_clocks.Given as goal
 
 abbrev pub invariant-loop : goal.invariant-loop

@@ -1,5 +1,4 @@
-use Rattle.std.proofs.Common.{◌+◌, ◌≤◌}
-use Rattle.world_state.specs.{Giving.ArePutTo, Sound.{AreBelow, AreUnderWay}}
+use Rattle.{std.proofs.Common.{◌+◌, ◌≤◌}, world_state.specs.{Giving.ArePutTo, Sound.{AreBelow, AreUnderWay}}}
 use Rattle.world_state.proofs.giving.put_ports.Given as goal
 
 abbrev pub invariant-loop-index : goal.invariant-loop-index

@@ -1,7 +1,6 @@
+use Rattle.{run_law.specs.{control.Wires.{signal_of, timed}, machines.Calls.StandsFor}, world_state.specs.{Hearing.{AreOctetsOf, MayCome}, Keeping.keeps}}
 use Rattle.std.proofs.Common.{◌∙◌, ◌≡◌, subst, sym}
-use Rattle.run_law.specs.{control.Wires.{signal_of, timed}, machines.Calls.StandsFor}
-use Rattle.world_state.{proofs.Hearings.{made_are, may_hear, sent_octets}, specs.{Hearing.{AreOctetsOf, MayCome}, Keeping.keeps, Views.octets_of}}
-use Rattle.world_state.specs.declared.contents.Timed.{Timed, TheVariants.Made}
+use Rattle.world_state.{proofs.Hearings.{made_are, may_hear, sent_octets}, specs.{Views.octets_of, declared.contents.Timed.{TheVariants.Made, Timed}}}
 use Rattle.world_state.proofs.hearing.hear_timed.Goals as goal
 
 pub hear-requires : goal.hear-requires

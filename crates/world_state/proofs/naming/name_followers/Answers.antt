@@ -1,5 +1,4 @@
-use Rattle.std.proofs.Common.{◌<◌, arith, length}
-use Rattle.world_state.{proofs.{Leading.none_named, Mapped.{mapped_more, part_mapped}}, specs.Naming.named_settled}
+use Rattle.{std.proofs.Common.{◌<◌, arith, length}, world_state.{proofs.{Leading.none_named, Mapped.{mapped_more, part_mapped}}, specs.Naming.named_settled}}
 use Rattle.world_state.proofs.naming.name_followers.Goals as goal
 
 pub loop-index-preserved : goal.loop-index-preserved

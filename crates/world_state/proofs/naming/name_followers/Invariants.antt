@@ -1,5 +1,4 @@
-use Rattle.std.proofs.Common.{◌++◌, ◌-◌, ◌≡◌, ◌≤◌, drop, length, map, take}
-use Rattle.world_state.specs.Naming.{named_settled}
+use Rattle.{std.proofs.Common.{◌++◌, ◌-◌, ◌≡◌, ◌≤◌, drop, length, map, take}, world_state.specs.Naming.named_settled}
 use Rattle.world_state.proofs.naming.name_followers.Given as goal
 
 abbrev pub invariant-loop-index : goal.invariant-loop-index

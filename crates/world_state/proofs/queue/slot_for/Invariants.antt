@@ -1,5 +1,4 @@
-use Rattle.std.proofs.Common.{take}
-use Rattle.world_state.specs.queue.Finding.{NoSlotFor}
+use Rattle.{std.proofs.Common.take, world_state.specs.queue.Finding.NoSlotFor}
 use Rattle.world_state.proofs.queue.slot_for.Given as goal
 
 abbrev pub invariant-places : goal.invariant-places

@@ -1,7 +1,6 @@
-use Rattle.std.proofs.{Common.{◌∙◌, subst, sym}, lemmas.Bool.{not-true, not_from_false}}
-use Rattle.audit_devices.{proofs.clocks_lemmas.Bringing.{corrected, turned_on}, specs.law.DueRecords.ChangesState}
-use Rattle.run_law.specs.declared.judgement.Why.{Why}
-use Rattle.sync_state.specs.declared.answers.Verdict.TheVariants.{AsyncClique, SyncClique}
+use Rattle.{audit_devices.proofs.clocks_lemmas.Bringing.{corrected, turned_on}, sync_state.specs.declared.answers.Verdict.TheVariants.{AsyncClique, SyncClique}}
+use Rattle.{audit_devices.specs.law.DueRecords.ChangesState, run_law.specs.declared.judgement.Why.Why, std.proofs.lemmas.Bool.{not-true, not_from_false}}
+use Rattle.std.proofs.Common.{◌∙◌, subst, sym}
 use Rattle.audit_devices.proofs.clocks.changing.changes_state.Goals as goal
 
 pub returns-then-is_brought : goal.returns-then-is_brought

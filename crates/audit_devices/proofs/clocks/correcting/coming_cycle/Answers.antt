@@ -1,7 +1,6 @@
-use Rattle.std.{proofs.{Common.{◌∙◌, ap, rules, subst, sym, ℤ}, lemmas.{Bool.false≢true, Int.to_z-of_z}}, specs.Int.w128}
-use Rattle.net_plan.specs.declared.network.Network.{Network}
-use Rattle.run_law.specs.{control.Corrections.correction_value, device.LocalClocks.Reaches}
-use Rattle.audit_devices.proofs.clocks_lemmas.Pointing.{none_reached, point_is}
+use Rattle.{audit_devices.proofs.clocks_lemmas.Pointing.{none_reached, point_is}, run_law.specs.control.Corrections.correction_value}
+use Rattle.{net_plan.specs.declared.network.Network.Network, run_law.specs.device.LocalClocks.Reaches, std.proofs.Common.{◌∙◌, ap, rules, subst, sym, ℤ}}
+use Rattle.std.{proofs.lemmas.{Bool.false≢true, Int.to_z-of_z}, specs.Int.w128}
 use Rattle.audit_devices.proofs.clocks.correcting.coming_cycle.Goals as goal
 
 pub returns-then-reaches : goal.returns-then-reaches

@@ -1,7 +1,5 @@
-use Rattle.std.proofs.{Common.{◌*◌, ◌∙◌, ap, pos, subst, sym}, lemmas.Bool.false≢true}
-use Rattle.net_plan.specs.{Places.is_master, declared.network.Network.Network}
-use Rattle.run_law.specs.{device.LocalClocks.Reaches, scenario.Devices.has_role}
-use Rattle.tte_units.specs.Amount.{amount}
+use Rattle.{net_plan.specs.Places.is_master, run_law.specs.scenario.Devices.has_role, std.proofs.lemmas.Bool.false≢true, tte_units.specs.Amount.amount}
+use Rattle.{net_plan.specs.declared.network.Network.Network, run_law.specs.device.LocalClocks.Reaches, std.proofs.Common.{◌*◌, ◌∙◌, ap, pos, subst, sym}}
 use Rattle.audit_devices.proofs.clocks.sending.sends.Goals as goal
 
 pub returns-then-is_up : goal.returns-then-is_up

@@ -1,7 +1,6 @@
-use Rattle.std.proofs.Common.{◌≡◌, ◌≤◌, List, [], ap, arith, subst, sym}
-use Rattle.drift_clock.specs.Segment.{Segment}
 use Rattle.audit_devices.proofs.events_lemmas.Reaching.{IsLeft, IsSearched, empty_of, search_begins, search_ends, search_finds, search_goes_on, stays_until}
-use Rattle.audit_devices.specs.{events.Settings.value_at, declared.events.settings.Change.Change}
+use Rattle.{audit_devices.specs.declared.events.settings.Change.Change, std.proofs.Common.{◌≡◌, ◌≤◌, List, [], ap, arith, subst, sym}}
+use Rattle.{audit_devices.specs.events.Settings.value_at, drift_clock.specs.Segment.Segment}
 use Rattle.audit_devices.proofs.events.clocks.reach.Goals as goal
 
 pub changes-init : goal.changes-init

@@ -1,5 +1,4 @@
-use Rattle.std.proofs.Common.{length}
-use Rattle.audit_devices.proofs.events_lemmas.Reaching.{IsSearched}
+use Rattle.{audit_devices.proofs.events_lemmas.Reaching.IsSearched, std.proofs.Common.length}
 use Rattle.audit_devices.proofs.events.clocks.reach.Given as goal
 
 abbrev pub invariant-changes : goal.invariant-changes

@@ -1,5 +1,4 @@
-use Rattle.std.proofs.{Common.{◌≤◌, arith, subst, sym}, lemmas.Int.ints}
-use Rattle.audit_devices.proofs.events_lemmas.Clocking.{value_ready}
+use Rattle.{audit_devices.proofs.events_lemmas.Clocking.value_ready, std.proofs.{Common.{◌≤◌, arith, subst, sym}, lemmas.Int.ints}}
 use Rattle.audit_devices.proofs.events.clocks.reading.Goals as goal
 
 pub read-requires-clause-stepped : goal.read-requires-clause-stepped

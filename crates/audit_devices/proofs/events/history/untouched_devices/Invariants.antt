@@ -1,6 +1,4 @@
-use Rattle.std.{proofs.Common.{◌≡◌, length}, specs.List.All}
-use Rattle.tte_units.specs.Amount.{amount}
-use Rattle.audit_devices.specs.events.Beginnings.{IsUntouchedDevice}
+use Rattle.{audit_devices.specs.events.Beginnings.IsUntouchedDevice, std.{proofs.Common.{◌≡◌, length}, specs.List.All}, tte_units.specs.Amount.amount}
 use Rattle.audit_devices.proofs.events.history.untouched_devices.Given as goal
 
 abbrev pub invariant-loop-device : goal.invariant-loop-device

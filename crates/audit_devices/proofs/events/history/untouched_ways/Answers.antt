@@ -1,7 +1,6 @@
-use Rattle.std.{proofs.{Common.{◌++◌, ◌+◌, ◌∙◌, ◌∷◌, ◌≡◌, List, [], ap, subst, sym}, lemmas.List.take_more}, specs.Prelude.take}
-use Rattle.net_plan.specs.declared.tables.Link.{Link}
-use Rattle.tte_lemmas.proofs.Lists.{take_all}
-use Rattle.audit_devices.{proofs.events_lemmas.Beginning.two_more, specs.{events.Beginnings.AreWaysOf, declared.events.history.WayHistory.WayHistory}}
+use Rattle.{audit_devices.{proofs.events_lemmas.Beginning.two_more, specs.events.Beginnings.AreWaysOf}, net_plan.specs.declared.tables.Link.Link}
+use Rattle.{audit_devices.specs.declared.events.history.WayHistory.WayHistory, std.proofs.Common.{◌++◌, ◌+◌, ◌∙◌, ◌∷◌, ◌≡◌, List, [], ap, subst, sym}}
+use Rattle.{std.{proofs.lemmas.List.take_more, specs.Prelude.take}, tte_lemmas.proofs.Lists.take_all}
 use Rattle.audit_devices.proofs.events.history.untouched_ways.Goals as goal
 
 pub loop-link-init : goal.loop-link-init

@@ -1,5 +1,4 @@
-use Rattle.std.specs.Prelude.{take}
-use Rattle.audit_devices.specs.events.Beginnings.{AreWaysOf}
+use Rattle.{audit_devices.specs.events.Beginnings.AreWaysOf, std.specs.Prelude.take}
 use Rattle.audit_devices.proofs.events.history.untouched_ways.Given as goal
 
 abbrev pub invariant-loop-link : goal.invariant-loop-link

@@ -1,7 +1,6 @@
+use Rattle.{audit_devices.proofs.Lasting.{lasting, later_at, ordered_by}, std.{proofs.lemmas.Bool.ltb-true, specs.Prelude.nat_le}}
 use Rattle.audit_devices.proofs.Words.{◌∙◌, ◌≡◌, ◌≤◌, Bool, Entry, IsPartitionPoint, IsPartitionedBy, List, None, Some, always_returns_same, ap, arith, false}
 use Rattle.audit_devices.proofs.Words.{got_at, got_within, length, nat_lt, of_calls, rules, slice_get, subst, sym, time_at, true, ℕ}
-use Rattle.std.{proofs.lemmas.Bool.ltb-true, specs.Prelude.nat_le}
-use Rattle.audit_devices.proofs.Lasting.{lasting, later_at, ordered_by}
 use Rattle.audit_devices.proofs.history.History.next_after.Goals as goal
 
 pub returns-in-Some-clause-later : goal.returns-in-Some-clause-later

@@ -1,5 +1,4 @@
-use Rattle.membership.proofs.SummaryLemmas.{silence_summarizes}
-use Rattle.audit_devices.proofs.Follows.{follows}
+use Rattle.{audit_devices.proofs.Follows.follows, membership.proofs.SummaryLemmas.silence_summarizes}
 use Rattle.audit_devices.proofs.shown.Shown.after.Goals as goal
 
 pub returns : goal.returns

@@ -1,6 +1,5 @@
-use Rattle.audit_sweep.proofs.Words.{◌∙◌, IsDue, founded_of_sound, happening, place_of, refl, scenario_under, subst, sym}
-use Rattle.run_law.specs.records.Order.{AllBefore}
-use Rattle.audit_sweep.proofs.{MoreRecords.sound_more, NamedDevices.named_more, SomeSwept.{knows_of_some, range_of_some, same_end}}
+use Rattle.{audit_sweep.proofs.{MoreRecords.sound_more, SomeSwept.{knows_of_some, range_of_some, same_end}}, run_law.specs.records.Order.AllBefore}
+use Rattle.audit_sweep.proofs.{NamedDevices.named_more, Words.{◌∙◌, IsDue, founded_of_sound, happening, place_of, refl, scenario_under, subst, sym}}
 use Rattle.audit_sweep.proofs.sweep.Sweep.push.Goals as goal
 
 pub push-requires : goal.push-requires

@@ -1,5 +1,4 @@
-use Rattle.std.proofs.{Common.{◌+ℤ◌, ◌∙◌, ◌≡◌, ◌≤ℤ◌, ap, arith, sym}, lemmas.Int.ints}
-use Rattle.compression.proofs.Collections.{joined_end-first}
+use Rattle.{compression.proofs.Collections.joined_end-first, std.proofs.{Common.{◌+ℤ◌, ◌∙◌, ◌≡◌, ◌≤ℤ◌, ap, arith, sym}, lemmas.Int.ints}}
 use Rattle.compression.proofs.collection.Collection.end_with.Goals as goal
 
 pub returns-then-reading-self : goal.returns-then-reading-self

@@ -1,5 +1,4 @@
-use Rattle.std.proofs.{Common.arith, lemmas.Int.ints}
-use Rattle.compression.{proofs.Emitting.IsLeast-first, specs.Collecting.Collecting}
+use Rattle.{compression.{proofs.Emitting.IsLeast-first, specs.Collecting.Collecting}, std.proofs.{Common.arith, lemmas.Int.ints}}
 use Rattle.compression.proofs.collector.Collector.due.Goals as goal
 
 pub emission-requires-clause-time : goal.emission-requires-clause-time

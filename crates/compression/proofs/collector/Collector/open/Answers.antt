@@ -1,6 +1,5 @@
-use Rattle.std.proofs.Common.{◌++◌, ◌∙◌, ◌∷◌, ◌≡◌, List, [], ap, arith, length, subst, sym}
 use Rattle.compression.{proofs.Sound.{IsSound-opened, length-push, room_to_open}, specs.{Clusters.{Cluster, Point}, Collecting.{Collecting, with_opened}}}
-use Rattle.compression.specs.Row.{IsSound}
+use Rattle.{compression.specs.Row.IsSound, std.proofs.Common.{◌++◌, ◌∙◌, ◌∷◌, ◌≡◌, List, [], ap, arith, length, subst, sym}}
 use Rattle.compression.proofs.collector.Collector.open.Goals as goal
 
 pub push-requires : goal.push-requires

@@ -1,5 +1,4 @@
-use Rattle.std.proofs.Common.{◌∙◌, ◌≡◌, None, sym}
-use Rattle.device_rules.proofs.Entered.{entered, found_is, has_period, unknown}
+use Rattle.{device_rules.proofs.Entered.{entered, found_is, has_period, unknown}, std.proofs.Common.{◌∙◌, ◌≡◌, None, sym}}
 use Rattle.device_rules.proofs.entrances.Entrances.entering.Goals as goal
 
 pub returns-in-Some-row_at-clause-period : goal.returns-in-Some-row_at-clause-period

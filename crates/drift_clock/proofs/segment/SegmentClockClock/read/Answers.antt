@@ -1,5 +1,4 @@
-use Rattle.std.proofs.Common.{◌∙◌, ap, pos, sym, ℕ}
-use Rattle.drift_clock.{proofs.Drifts.whole_grains, specs.{Counts.rounded, Segment.{Segment, segment_count}}}
+use Rattle.{drift_clock.{proofs.Drifts.whole_grains, specs.{Counts.rounded, Segment.{Segment, segment_count}}}, std.proofs.Common.{◌∙◌, ap, pos, sym, ℕ}}
 use Rattle.drift_clock.proofs.segment.SegmentClockClock.read.Goals as goal
 
 pub returns : goal.returns

@@ -1,9 +1,8 @@
-use Rattle.drift_world.{proofs.Halves.set_act, specs.{Turns.IsStep, declared.state.State.State}}
+use Rattle.{drift_world.{proofs.Halves.set_act, specs.declared.state.State.State}, run_law.specs.machines.Calls.HasDue, world_law.proofs.giving.Given.some_same}
 use Rattle.drift_world.proofs.{Nearings.act_less, Turning.{comes_first, is_at, rekeyed_step, runs_on}, Words.{length, pos, subst, sym, world_of, ℕ}}
 use Rattle.drift_world.proofs.Words.{◌+◌, ◌<◌, ◌∙◌, ◌≡◌, Err, IfOk, Kept, List, Network, Note, Ok, OnErr, Result, Scenario, Stands, ap, arith, behind, keeps}
 use Rattle.drift_world.{proofs.state.State.act.Goals.After-act_first, specs.{Stepping.{IsActTimed, MayRekey, SetsOnly}, declared.source.Source.TheVariants.Act}}
-use Rattle.run_law.specs.machines.Calls.{HasDue}
-use Rattle.world_law.proofs.giving.Given.{some_same}
+use Rattle.drift_world.specs.Turns.{IsStep}
 use Rattle.drift_world.proofs.state.State.act.Given as given
 use Rattle.drift_world.proofs.state.State.act.Goals as goal
 

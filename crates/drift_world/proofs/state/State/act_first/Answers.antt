@@ -1,8 +1,7 @@
-use Rattle.drift_world.proofs.Words.{◌+◌, ◌<◌, ap, arith, length, none_yet, subst}
-use Rattle.std.proofs.lemmas.Bool.{not-false, not-true}
 use Rattle.drift_world.{proofs.ActTurns.{IsActed, IsTurn, all_acted, comes_at, turn_begun, turn_on, turn_with}, specs.declared.state.State.State}
+use Rattle.drift_world.proofs.Words.{◌+◌, ◌<◌, ap, arith, length, none_yet, subst}
+use Rattle.{drift_world.proofs.state.State.act_first.Goals.{After-act_once-left, After-reserve_two, In-Ok}, std.proofs.lemmas.Bool.{not-false, not-true}}
 use Rattle.drift_world.proofs.state.State.act_first.Given as given
-use Rattle.drift_world.proofs.state.State.act_first.Goals.{After-act_once-left, After-reserve_two, In-Ok}
 use Rattle.drift_world.proofs.state.State.act_first.Goals as goal
 
 pub acts-init : goal.acts-init

@@ -1,9 +1,8 @@
 use Rattle.drift_world.proofs.{ActRecords.AreProper, ActSteps.{acted_once, asked_to_act, never_broken, octets_then, proper_at, row_within, settles_from}}
-use Rattle.drift_world.proofs.{Fits.sized_so, Showings.shows_of}
+use Rattle.{drift_world.proofs.{Fits.sized_so, Showings.shows_of}, world_law.{proofs.giving.Given.some_same, specs.world.Calls.IsStateOf}}
 use Rattle.drift_world.proofs.Words.{◌≡◌, HasActed, Kept, List, Moment, Note, Scenario, Some, Stands, arith, happenings, is_set, keeps, length, length-set}
 use Rattle.drift_world.proofs.{Words.{moment_of, refl, slice_get_read, slice_set, subst, world_of}, state.State.act_once.Goals.After-outcomes_of-outcomes}
 use Rattle.std.proofs.Common.{slice_get}
-use Rattle.world_law.{proofs.giving.Given.some_same, specs.world.Calls.IsStateOf}
 use Rattle.drift_world.proofs.state.State.act_once.Given as given
 use Rattle.drift_world.proofs.state.State.act_once.Goals as goal
 

@@ -1,9 +1,7 @@
-use Rattle.drift_world.proofs.Words.{if◌then◌else◌, ◌<◌, ◌∙◌, ◌≡◌, DeviceId, LinkId, Network, Some, WayNow, ap, arith, is_parent_of, length, slice_get_read}
-use Rattle.drift_world.proofs.Words.{◌^◌, ◌∷◌, Settled, [], changed_device, own_place, rank, subst, sym}
-use Rattle.std.specs.List.{slice_get}
-use Rattle.world_law.proofs.giving.Given.{some_same}
-use Rattle.world_state.specs.Leaving.{port_entry}
-use Rattle.drift_world.proofs.{OwnPlaces.{departed_none, departed_own}, Fits.{have_octets, left_octets}, Showings.{departure_is, way_by}}
+use Rattle.{drift_world.proofs.{Fits.{have_octets, left_octets}, Showings.{departure_is, way_by}}, world_law.proofs.giving.Given.some_same}
+use Rattle.drift_world.proofs.{OwnPlaces.{departed_none, departed_own}, Words.{is_parent_of, length, own_place, rank, slice_get_read, subst, sym}}
+use Rattle.drift_world.proofs.Words.{◌<◌, ◌^◌, ◌∙◌, ◌∷◌, ◌≡◌, DeviceId, LinkId, Network, Settled, Some, WayNow, [], ap, arith, changed_device, if◌then◌else◌}
+use Rattle.{std.specs.List.slice_get, world_state.specs.Leaving.port_entry}
 use Rattle.drift_world.proofs.state.State.departure.Goals as goal
 
 pub returns-clause-octets : goal.returns-clause-octets

@@ -1,8 +1,6 @@
-use Rattle.drift_world.proofs.Words.{if◌then◌else◌, ◌<◌, ◌∙◌, ◌≡◌, Bool, Network, None, Some, WayNow, ap, is_parent_of, length, slice_get_within, subst}
-use Rattle.std.specs.List.{slice_get}
-use Rattle.schedule_tables.{proofs.EntryLemmas.one_entry, specs.declared.entry.Entry.Entry}
-use Rattle.world_state.specs.Acting.{IsDispatched, dispatched_by}
-use Rattle.drift_world.proofs.Showings.{way_by}
+use Rattle.{drift_world.proofs.Showings.way_by, std.specs.List.slice_get}
+use Rattle.drift_world.proofs.Words.{◌<◌, ◌∙◌, ◌≡◌, Bool, Network, None, Some, WayNow, ap, if◌then◌else◌, is_parent_of, length, slice_get_within, subst}
+use Rattle.{schedule_tables.{proofs.EntryLemmas.one_entry, specs.declared.entry.Entry.Entry}, world_state.specs.Acting.{IsDispatched, dispatched_by}}
 use Rattle.drift_world.proofs.state.State.dispatched_at.Goals as goal
 
 pub returns-in_err-hand : goal.returns-in_err-hand

@@ -1,5 +1,4 @@
-use Rattle.drift_world.proofs.Words.{Kept, arith, keeps, slice_get_read, subst}
-use Rattle.world_law.proofs.giving.Given.{some_same}
+use Rattle.{drift_world.proofs.Words.{Kept, arith, keeps, slice_get_read, subst}, world_law.proofs.giving.Given.some_same}
 use Rattle.drift_world.proofs.state.State.due_of.Goals as goal
 
 pub returns : goal.returns

@@ -1,10 +1,9 @@
-use Rattle.drift_world.proofs.Fits.{sized_so}
+use Rattle.{drift_world.proofs.Fits.sized_so, std.specs.{List.filter_map, Prelude.All}}
 use Rattle.drift_world.proofs.Gave.{from_ports, from_wire, settled_has, waits_apart, waits_below, waits_elsewhere, waits_more, wire_is, wire_sound}
 use Rattle.drift_world.{proofs.{Givings.{given_on, named_all}, state.State.give_first.Goals.After-launch_octets}, specs.declared.state.State.State}
 use Rattle.drift_world.proofs.Words.{◌++◌, ◌+◌, ◌∙◌, ◌∷◌, ◌≡◌, ChangesOnly, Happening, HasItsOctets, IsGivenOut, IsPutOn, IsSound, IsStoredBy, List, Settled}
 use Rattle.drift_world.proofs.Words.{StandsBehind, [], ap, arith, at_port, behind, changed_device, inl, inr, keeps, length, map, named_settled, note_of}
 use Rattle.drift_world.proofs.Words.{on_wire, place_of, refl, settled_at, stored_as, subst, sym, waiting_as, wire_entry, with_first, world_of, ℕ}
-use Rattle.std.specs.{List.filter_map, Prelude.All}
 use Rattle.drift_world.proofs.state.State.give_first.Given as given
 use Rattle.drift_world.proofs.state.State.give_first.Goals as goal
 

@@ -1,7 +1,5 @@
 use Rattle.drift_world.proofs.Words.{◌<ℤ◌, ◌≡◌, Kept, Moment, ap, arith, keeps, pos, reading_for, slice_get_read, subst, sym, ℤ}
-use Rattle.run_law.specs.machines.Calls.{HasDue}
-use Rattle.world_law.proofs.giving.Given.{some_same}
-use Rattle.world_state.proofs.Acts.{none_due, some_due}
+use Rattle.{run_law.specs.machines.Calls.HasDue, world_law.proofs.giving.Given.some_same, world_state.proofs.Acts.{none_due, some_due}}
 use Rattle.drift_world.proofs.state.State.left_to_do.Goals as goal
 
 pub returns-clause-yes : goal.returns-clause-yes

@@ -1,7 +1,5 @@
 use Rattle.drift_world.proofs.{Dues.acts_by, Words.{◌+◌, ◌<◌, DeviceId, Network, Option, arith, length, refl, slice_get-get_or, subst}}
-use Rattle.std.proofs.Common.{get_or}
-use Rattle.tte_units.specs.declared.units.Units.{Units}
-use Rattle.run_law.specs.machines.Tasks.{IsDueReading}
+use Rattle.{run_law.specs.machines.Tasks.IsDueReading, std.proofs.Common.get_or, tte_units.specs.declared.units.Units.Units}
 use Rattle.drift_world.proofs.state.State.rekey_act_from.Goals as goal
 
 pub returns-then-is_same : goal.returns-then-is_same

@@ -1,6 +1,5 @@
 use Rattle.drift_world.proofs.{Halves.set_ripe, Words.{◌^◌, ◌∙◌, ◌≡◌, ArrivedAt, ChangesOnly, NoteBody, ap, arith, changed_device, length, refl, subst, sym}}
-use Rattle.drift_world.proofs.{Said.far_kind, Timings.{aside, rekeyed}}
-use Rattle.run_law.specs.plain.Bodies.{body_of}
+use Rattle.{drift_world.proofs.{Said.far_kind, Timings.{aside, rekeyed}}, run_law.specs.plain.Bodies.body_of}
 use Rattle.drift_world.proofs.state.State.rekey_after.Goals as goal
 
 pub returns-in-Arrived-clause-timed : goal.returns-in-Arrived-clause-timed

@@ -1,6 +1,5 @@
 use Rattle.drift_world.{proofs.{Halves.set_both, Timings.may_still, Words.{◌+◌, ◌∙◌, ap, arith, length, subst, sym, ℕ}}, specs.declared.state.State.State}
-use Rattle.drift_world.specs.Stepping.{IsDueBy}
-use Rattle.std.proofs.Common.{slice_get}
+use Rattle.{drift_world.specs.Stepping.IsDueBy, std.proofs.Common.slice_get}
 use Rattle.drift_world.proofs.state.State.rekey_from.Goals as goal
 
 pub rekey_act_from-requires-clause-may : goal.rekey_act_from-requires-clause-may

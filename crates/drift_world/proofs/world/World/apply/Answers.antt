@@ -1,8 +1,7 @@
 use Rattle.drift_world.{proofs.Laters.{IsThere, is_there, time_limit}, specs.{Later.{ComesBehind, MayApplyAgain}, Running.{event_note, option_given}}}
-use Rattle.drift_world.proofs.{Retries.if_given, world.World.apply.Goals.In-Ok}
+use Rattle.{drift_world.proofs.{Retries.if_given, world.World.apply.Goals.In-Ok}, net_plan.specs.declared.event.Event.Event}
 use Rattle.drift_world.proofs.Words.{◌++◌, ◌+◌, ◌<ℤ◌, ◌∙◌, ◌∷◌, ◌≡◌, Bool, IfSome, IsOfNetwork, IsRunOf, IsWithinHypothesis, Kept, List, Network, Note}
 use Rattle.drift_world.proofs.Words.{StandsUnder, World, [], ap, append-nil, arith, behind_events, ints, pos, reading_of, subst, sym, true, units_of, ℕ, ℤ}
-use Rattle.net_plan.specs.declared.event.Event.{Event}
 use Rattle.drift_world.proofs.world.World.apply.Given as given
 use Rattle.drift_world.proofs.world.World.apply.Goals as goal
 

@@ -1,9 +1,7 @@
+use Rattle.{drift_world.{proofs.Elsewhere.timed_by_event, specs.declared.state.State.State}, traffic_law.proofs.safety_lemmas.Histories.slow_rate}
+use Rattle.{drift_world.proofs.{Fits.sound_timers, Onwards.befalls, Shortness.sets_short, Timings.unmoved}, net_plan.specs.declared.event.Event.Event}
 use Rattle.drift_world.proofs.Words.{◌++◌, ◌∙◌, ◌∷◌, ◌≡◌, AreTimed, IsLawful, IsRunOf, IsSound, IsWithinHypothesis, Kept, List, Network, Note, Stands}
 use Rattle.drift_world.proofs.Words.{StandsUnder, World, [], ap, arith, behind_events, keeps, length, reading_of, refl, scenario, subst, sym, world_of}
-use Rattle.net_plan.specs.declared.event.Event.{Event}
-use Rattle.traffic_law.proofs.safety_lemmas.Histories.{slow_rate}
-use Rattle.drift_world.proofs.{Elsewhere.timed_by_event, Onwards.befalls, Shortness.sets_short, Timings.unmoved, Fits.sound_timers}
-use Rattle.drift_world.specs.declared.state.State.{State}
 use Rattle.drift_world.proofs.world.World.befall.Given as given
 use Rattle.drift_world.proofs.world.World.befall.Goals as goal
 

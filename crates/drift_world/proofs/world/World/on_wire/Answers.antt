@@ -1,6 +1,5 @@
-use Rattle.drift_world.{proofs.{JustPut.shown_put, Words.{Kept, StandsUnder, World, happenings, subst, sym, ℕ}}, specs.Wires.IsOfNow}
-use Rattle.std.specs.Prelude.{IfNone, IfSome}
-use Rattle.world_state.specs.queue.Finding.{HoldsAt, HoldsNoneAt}
+use Rattle.{drift_world.{proofs.JustPut.shown_put, specs.Wires.IsOfNow}, std.specs.Prelude.{IfNone, IfSome}}
+use Rattle.{drift_world.proofs.Words.{Kept, StandsUnder, World, happenings, subst, sym, ℕ}, world_state.specs.queue.Finding.{HoldsAt, HoldsNoneAt}}
 use Rattle.drift_world.proofs.world.World.on_wire.Goals as goal
 
 pub returns : goal.returns

@@ -1,8 +1,7 @@
-use Rattle.std.proofs.{Common.Result, lemmas.Grind.common_steps}
-use Rattle.end_system.proofs.Words.{◌∙◌, Node, Pcf, StandsAsEnd, ap, arith, arriving, called, subst, sym}
-use Rattle.end_system.{proofs.{Advance.not_fallen, Arrive.{control_at, control_still}, Ripe.stands_later}, specs.Controls.arrival_of}
-use Rattle.pcf_codec.specs.{Decoding.decoded, declared.refusal.PcfRefusal.PcfRefusal}
-use Rattle.run_law.specs.machines.Answers.{after_arrival}
+use Rattle.{end_system.proofs.Advance.not_fallen, pcf_codec.specs.declared.refusal.PcfRefusal.PcfRefusal, run_law.specs.machines.Answers.after_arrival}
+use Rattle.end_system.proofs.{Arrive.{control_at, control_still}, Words.{◌∙◌, Node, Pcf, StandsAsEnd, ap, arith, arriving, called, subst, sym}}
+use Rattle.{end_system.{proofs.Ripe.stands_later, specs.Controls.arrival_of}, pcf_codec.specs.Decoding.decoded, std.proofs.lemmas.Grind.common_steps}
+use Rattle.std.proofs.Common.{Result}
 use Rattle.end_system.proofs.end_system.EndSystem.hear_control.Goals as goal
 
 pub decode-requires : goal.decode-requires
@@ -10,8 +9,17 @@ decode-requires c = omega (arith, c.requires.4.1.most)
 
 pub arrival-requires : goal.arrival-requires
 arrival-requires c =
-    grind (arith, common_steps, c.requires.3.own.range, not_fallen, c.requires.2.last.reading.0, c.args.moment.reading.0, c.requires.3.begun,
-      c.requires.4.0.later.reading, c.requires.4.0.later.low_enough)
+    grind (
+      arith,
+      common_steps,
+      c.requires.3.own.range,
+      not_fallen,
+      c.requires.2.last.reading.0,
+      c.args.moment.reading.0,
+      c.requires.3.begun,
+      c.requires.4.0.later.reading,
+      c.requires.4.0.later.low_enough,
+    )
 
 pub returns : goal.returns
 returns c = λ network device node stands may arrives on.

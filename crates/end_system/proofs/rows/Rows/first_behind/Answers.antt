@@ -1,5 +1,4 @@
-use Rattle.end_system.proofs.{RowNext.first_next, Values.{at_least, some_length}, Words.{◌%◌, ◌+◌, ◌∷◌, [], ap, ℕ}}
-use Rattle.std.proofs.Common.{◌-◌, ◌/◌}
+use Rattle.{end_system.proofs.{RowNext.first_next, Values.{at_least, some_length}, Words.{◌%◌, ◌+◌, ◌∷◌, [], ap, ℕ}}, std.proofs.Common.{◌-◌, ◌/◌}}
 use Rattle.end_system.proofs.rows.Rows.first_behind.Goals as goal
 
 pub returns-clause-next : goal.returns-clause-next

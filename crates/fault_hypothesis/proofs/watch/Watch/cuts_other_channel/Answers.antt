@@ -1,8 +1,5 @@
-use Rattle.std.proofs.Common.{◌↔◌, ◌∙◌, ◌≡◌, Some, subst}
-use Rattle.net_plan.specs.declared.network.Network.{Network}
-use Rattle.pcf_values.specs.declared.channel.Channel.{Channel}
-use Rattle.run_law.specs.scenario.Faults.{IsLinkOf}
-use Rattle.fault_hypothesis.proofs.Judging.{cut_by}
+use Rattle.{fault_hypothesis.proofs.Judging.cut_by, run_law.specs.scenario.Faults.IsLinkOf}
+use Rattle.{net_plan.specs.declared.network.Network.Network, pcf_values.specs.declared.channel.Channel.Channel, std.proofs.Common.{◌↔◌, ◌∙◌, ◌≡◌, Some, subst}}
 use Rattle.fault_hypothesis.proofs.watch.Watch.cuts_other_channel.Goals as goal
 
 pub returns-in-Cut : goal.returns-in-Cut

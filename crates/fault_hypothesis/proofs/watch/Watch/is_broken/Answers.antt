@@ -1,5 +1,4 @@
-use Rattle.std.{proofs.Common.{◌↔◌, ◌≡◌, Some, rules, tests}, specs.Prelude.IsTrue}
-use Rattle.fault_hypothesis.proofs.Judging.{broken_by}
+use Rattle.{fault_hypothesis.proofs.Judging.broken_by, std.{proofs.Common.{◌↔◌, ◌≡◌, Some, rules, tests}, specs.Prelude.IsTrue}}
 use Rattle.fault_hypothesis.proofs.watch.Watch.is_broken.Goals as goal
 
 pub returns : goal.returns

@@ -1,7 +1,6 @@
-use Rattle.std.proofs.Common.{◌-◌, ◌≡◌, ◌≤◌, List}
-use Rattle.net_plan.specs.{Belonging.IsOfNetwork, declared.{event.Event.Event, network.Network.Network}}
-use Rattle.run_law.specs.{declared.outside.Outside.Outside, scenario.Hypothesis.{Violates, condition_number}}
-use Rattle.fault_hypothesis.specs.{Own.behind_own, Watching.Watches}
+use Rattle.{fault_hypothesis.specs.{Own.behind_own, Watching.Watches}, net_plan.specs.declared.event.Event.Event, std.proofs.Common.{◌-◌, ◌≡◌, ◌≤◌, List}}
+use Rattle.net_plan.specs.Belonging.{IsOfNetwork}
+use Rattle.{net_plan.specs.declared.network.Network.Network, run_law.specs.{declared.outside.Outside.Outside, scenario.Hypothesis.{Violates, condition_number}}}
 use Rattle.fault_hypothesis.proofs.watch.Watch.judge.Given as goal
 
 -- the event breaks none of the conditions so far

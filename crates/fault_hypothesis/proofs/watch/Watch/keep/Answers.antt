@@ -1,9 +1,7 @@
-use Rattle.std.proofs.Common.{◌↔◌, ◌∙◌, ◌≡◌, Some, ap, arith, length, length-set, refl, subst, sym, true}
-use Rattle.net_plan.specs.{Belonging.IsOfNetwork, declared.network.Network.Network}
-use Rattle.pcf_values.specs.declared.channel.Channel.{Channel}
-use Rattle.run_law.{proofs.scenario.Devices.all_within, specs.scenario.Faults.IsLinkOf}
-use Rattle.schedule_tables.specs.{Rules.KeepsRules, declared.rule.Rule.TheVariants.Limits}
 use Rattle.fault_hypothesis.proofs.{Cuts.{faulty_cut, faulty_stays, faulty_uncut}, Keeping.{all_of_network, broken_breaks, broken_stays, on_stays, on_turns}}
+use Rattle.{net_plan.specs.Belonging.IsOfNetwork, run_law.{proofs.scenario.Devices.all_within, specs.scenario.Faults.IsLinkOf}}
+use Rattle.{net_plan.specs.declared.network.Network.Network, std.proofs.Common.{◌↔◌, ◌∙◌, ◌≡◌, Some, ap, arith, length, length-set, refl, subst, sym, true}}
+use Rattle.{pcf_values.specs.declared.channel.Channel.Channel, schedule_tables.specs.{Rules.KeepsRules, declared.rule.Rule.TheVariants.Limits}}
 use Rattle.fault_hypothesis.proofs.watch.Watch.keep.Goals as goal
 
 -- a cut, where no channel was faulty

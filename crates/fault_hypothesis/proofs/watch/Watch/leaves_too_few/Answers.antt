@@ -1,6 +1,5 @@
-use Rattle.std.{proofs.Common.{◌∙◌, ap}, specs.List.{count_by, enumerate_from}}
-use Rattle.net_plan.specs.declared.network.Network.{Network}
-use Rattle.fault_hypothesis.{proofs.{Judging.few_by, SoundMasters.left_by_break}, specs.SoundMasters.is_sound_beside}
+use Rattle.{fault_hypothesis.proofs.Judging.few_by, std.{proofs.Common.{◌∙◌, ap}, specs.List.{count_by, enumerate_from}}}
+use Rattle.{fault_hypothesis.{proofs.SoundMasters.left_by_break, specs.SoundMasters.is_sound_beside}, net_plan.specs.declared.network.Network.Network}
 use Rattle.fault_hypothesis.proofs.watch.Watch.leaves_too_few.Goals as goal
 
 pub returns-in-Break : goal.returns-in-Break

@@ -1,6 +1,4 @@
-use Rattle.std.proofs.Common.{◌∙◌, ap, sym}
-use Rattle.net_plan.specs.{Places.link_at, declared.network.Network.Network}
-use Rattle.fault_hypothesis.proofs.Judging.{sends_by}
+use Rattle.{fault_hypothesis.proofs.Judging.sends_by, net_plan.specs.{Places.link_at, declared.network.Network.Network}, std.proofs.Common.{◌∙◌, ap, sym}}
 use Rattle.fault_hypothesis.proofs.watch.Watch.sends_unbroken.Goals as goal
 
 pub returns-in-Some : goal.returns-in-Some

@@ -1,7 +1,6 @@
-use Rattle.std.proofs.Common.{◌∙◌, ◌≡◌, Bool, false, inl, inr, subst, sym, true}
-use Rattle.net_plan.specs.{Belonging.IsOfNetwork, declared.{event.What.What, ids.DeviceId.DeviceId, network.Network.Network}}
-use Rattle.run_law.specs.scenario.Faults.{BeginsOn, IsBroken, IsTurnedOn}
-use Rattle.fault_hypothesis.proofs.watch.Watch.turns_on_again.Goals.{else-begins_on, then-begins_on}
+use Rattle.{fault_hypothesis.proofs.watch.Watch.turns_on_again.Goals.{else-begins_on, then-begins_on}, net_plan.specs.declared.network.Network.Network}
+use Rattle.net_plan.specs.{Belonging.IsOfNetwork, declared.{event.What.What, ids.DeviceId.DeviceId}}
+use Rattle.{run_law.specs.scenario.Faults.{BeginsOn, IsBroken, IsTurnedOn}, std.proofs.Common.{◌∙◌, ◌≡◌, Bool, false, inl, inr, subst, sym, true}}
 use Rattle.net_plan.specs.declared.event.What.TheVariants as whats
 use Rattle.fault_hypothesis.proofs.watch.Watch.turns_on_again.Goals as goal
 

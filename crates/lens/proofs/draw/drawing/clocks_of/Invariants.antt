@@ -1,7 +1,5 @@
+use Rattle.{lens.proofs.draw_lemmas.Marking.AreHeard, run_law.specs.declared.note.Note.Note, tte_traces.specs.reports.Reports.AreLeft}
 use Rattle.std.proofs.Common.{List, length}
-use Rattle.lens.proofs.draw_lemmas.Marking.{AreHeard}
-use Rattle.run_law.specs.declared.note.Note.{Note}
-use Rattle.tte_traces.specs.reports.Reports.{AreLeft}
 use Rattle.lens.proofs.draw.drawing.clocks_of.Given as goal
 
 abbrev pub decreases-records : goal.decreases-records

@@ -1,8 +1,6 @@
-use Rattle.std.{proofs.Common.{◌∙◌, ap, inl, refl, subst, sym}, specs.Prelude.All}
-use Rattle.lens.{proofs.draw_lemmas.Asking.report_askable, specs.draw.{Answer.draw_answer, Asking.IsAskable, Picture.clocks_of, svg.Windows.windows_in}}
-use Rattle.lens.specs.draw.svg.Plan.{Plan}
-use Rattle.run_law.specs.records.Happenings.{happenings}
-use Rattle.tte_audit.specs.Report.{events_of}
+use Rattle.{lens.proofs.draw_lemmas.Asking.report_askable, run_law.specs.records.Happenings.happenings, std.proofs.Common.{◌∙◌, ap, inl, refl, subst, sym}}
+use Rattle.{lens.specs.draw.{Answer.draw_answer, Asking.IsAskable, Picture.clocks_of, svg.{Plan.Plan, Windows.windows_in}}, tte_audit.specs.Report.events_of}
+use Rattle.std.specs.Prelude.{All}
 use Rattle.lens.proofs.draw.drawing.draw_known.Goals as goal
 
 pub sketch_of-requires-clause-left : goal.sketch_of-requires-clause-left

@@ -1,5 +1,4 @@
-use Rattle.lens.specs.draw.Answer.{IsDrawAnswer}
-use Rattle.tte_forms.specs.Putting.{shown_by}
+use Rattle.{lens.specs.draw.Answer.IsDrawAnswer, tte_forms.specs.Putting.shown_by}
 use Rattle.tte_traces.{proofs.reports_lemmas.Sources.{files_accepted, files_refused}, specs.reports.Reports.IsReportAnswer}
 use Rattle.lens.proofs.draw.drawing.draw_report.Goals as goal
 

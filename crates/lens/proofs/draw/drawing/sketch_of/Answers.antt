@@ -1,7 +1,5 @@
-use Rattle.std.proofs.Common.{List, ap, sym, subst}
 use Rattle.lens.{proofs.draw_lemmas.Marking.{IsSketched, left_less, sketched_all, sketched_more}, specs.draw.svg.{Plan.Plan, Sketching.{begun, plan_behind}}}
-use Rattle.run_law.specs.declared.note.Note.{Note}
-use Rattle.tte_traces.specs.reports.Reports.{AreLeft}
+use Rattle.{run_law.specs.declared.note.Note.Note, std.proofs.Common.{List, ap, subst, sym}, tte_traces.specs.reports.Reports.AreLeft}
 use Rattle.lens.proofs.draw.drawing.sketch_of.Goals as goal
 
 pub records-init : goal.records-init

@@ -1,9 +1,6 @@
-use Rattle.std.proofs.Common.{◌≡◌, ◌∙◌, ℕ, List, refl, subst}
 use Rattle.lens.proofs.draw_lemmas.Marking.{left_less, marked_all, marked_fails, marked_first, marked_more, next_in_range, next_of}
-use Rattle.lens.specs.draw.Signs.{close_line}
-use Rattle.run_law.specs.declared.note.Note.{Note}
-use Rattle.tte_forms.specs.{Answering.{Gives, line_answer}, Putting.shown_by, declared.status.Status.TheVariants.Done}
-use Rattle.tte_traces.specs.reports.Reports.{AreLeft}
+use Rattle.{lens.specs.draw.Signs.close_line, run_law.specs.declared.note.Note.Note, tte_forms.specs.Putting.shown_by, tte_traces.specs.reports.Reports.AreLeft}
+use Rattle.{std.proofs.Common.{◌∙◌, ◌≡◌, List, refl, subst, ℕ}, tte_forms.specs.{Answering.{Gives, line_answer}, declared.status.Status.TheVariants.Done}}
 use Rattle.lens.proofs.draw.marks.put_back.Goals as goal
 
 pub records-init : goal.records-init

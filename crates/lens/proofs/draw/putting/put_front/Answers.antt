@@ -1,6 +1,5 @@
-use Rattle.std.proofs.Common.{◌∙◌}
 use Rattle.lens.{proofs.draw_lemmas.Parts.{flat_fails, flat_more}, specs.{declared.draw.putting.TheConstants.LAYERS, draw.Picture.layer_lines}}
-use Rattle.tte_forms.specs.Putting.{shown_by}
+use Rattle.{std.proofs.Common.◌∙◌, tte_forms.specs.Putting.shown_by}
 use Rattle.lens.proofs.draw.putting.put_front.Goals as goal
 
 pub layers-preserved : goal.layers-preserved

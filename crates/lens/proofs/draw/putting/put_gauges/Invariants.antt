@@ -1,6 +1,5 @@
-use Rattle.std.{proofs.Common.{◌≡◌, take}, specs.Prelude.flat_map}
-use Rattle.lens.specs.draw.{Picture.some_line, svg.Clocks.gauge_of}
-use Rattle.tte_forms.specs.Putting.{PutsLines, shown_by}
+use Rattle.{lens.specs.draw.{Picture.some_line, svg.Clocks.gauge_of}, std.proofs.Common.{◌≡◌, take}, tte_forms.specs.Putting.{PutsLines, shown_by}}
+use Rattle.std.specs.Prelude.{flat_map}
 use Rattle.lens.proofs.draw.putting.put_gauges.Given as goal
 
 abbrev pub invariant-clocks : goal.invariant-clocks

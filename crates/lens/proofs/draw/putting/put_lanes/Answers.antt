@@ -1,8 +1,6 @@
-use Rattle.std.{proofs.Common.{◌<◌, ◌∙◌, List, length, subst}, specs.Prelude.Option}
-use Rattle.lens.{proofs.draw_lemmas.Parts.{places_fail, places_more}, specs.{declared.draw.svg.element.Element.Element, draw.svg.Layers.on_lane}}
-use Rattle.lens.specs.draw.Picture.{some_line}
-use Rattle.net_plan.specs.declared.tables.Device.{Device}
-use Rattle.tte_forms.specs.Putting.{PutFails, PutsLines, shown_by}
+use Rattle.{lens.{proofs.draw_lemmas.Parts.{places_fail, places_more}, specs.draw.Picture.some_line}, tte_forms.specs.Putting.{PutFails, PutsLines, shown_by}}
+use Rattle.{lens.specs.{declared.draw.svg.element.Element.Element, draw.svg.Layers.on_lane}, std.proofs.Common.{◌<◌, ◌∙◌, List, length, subst}}
+use Rattle.{net_plan.specs.declared.tables.Device.Device, std.specs.Prelude.Option}
 use Rattle.lens.proofs.draw.putting.put_lanes.Goals as goal
 
 pub lanes-preserved : goal.lanes-preserved

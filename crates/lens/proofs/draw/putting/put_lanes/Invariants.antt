@@ -1,6 +1,4 @@
-use Rattle.std.proofs.Common.{◌≡◌}
-use Rattle.lens.specs.draw.{Picture.{lines_from, some_line}, svg.Layers.on_lane}
-use Rattle.tte_forms.specs.Putting.{PutsLines, shown_by}
+use Rattle.{lens.specs.draw.{Picture.{lines_from, some_line}, svg.Layers.on_lane}, std.proofs.Common.◌≡◌, tte_forms.specs.Putting.{PutsLines, shown_by}}
 use Rattle.lens.proofs.draw.putting.put_lanes.Given as goal
 
 abbrev pub invariant-lanes : goal.invariant-lanes

@@ -1,6 +1,5 @@
-use Rattle.std.{proofs.Common.{◌≡◌, take}, specs.Prelude.flat_map}
-use Rattle.lens.specs.draw.{Picture.some_line, svg.Layers.on_mark}
-use Rattle.tte_forms.specs.Putting.{PutsLines, shown_by}
+use Rattle.{lens.specs.draw.{Picture.some_line, svg.Layers.on_mark}, std.proofs.Common.{◌≡◌, take}, tte_forms.specs.Putting.{PutsLines, shown_by}}
+use Rattle.std.specs.Prelude.{flat_map}
 use Rattle.lens.proofs.draw.putting.put_marks.Given as goal
 
 abbrev pub invariant-drawn : goal.invariant-drawn

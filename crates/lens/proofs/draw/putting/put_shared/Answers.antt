@@ -1,6 +1,5 @@
-use Rattle.std.proofs.Common.{◌≡◌, ◌∙◌, ◌∷◌, List, [], ℕ, subst}
-use Rattle.lens.{proofs.draw_lemmas.Parts.draws_one, specs.draw.{Putting.Draws, Signs.sign_line}}
-use Rattle.tte_forms.specs.Putting.{shown_by}
+use Rattle.{lens.proofs.draw_lemmas.Parts.draws_one, std.proofs.Common.{◌∙◌, ◌∷◌, ◌≡◌, List, [], subst, ℕ}, tte_forms.specs.Putting.shown_by}
+use Rattle.lens.specs.draw.{Putting.Draws, Signs.sign_line}
 use Rattle.lens.proofs.draw.putting.put_shared.Goals as goal
 
 pub returns-clause-draws : goal.returns-clause-draws

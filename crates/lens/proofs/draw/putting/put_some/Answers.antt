@@ -1,7 +1,6 @@
-use Rattle.std.{proofs.Common.{◌∙◌, ◌∷◌, ◌≡◌, List, [], subst, sym, ℕ}, specs.Prelude.Option}
-use Rattle.lens.{proofs.draw_lemmas.Parts.draws_one, specs.{declared.draw.svg.element.Element.Element, draw.{Picture.some_line, svg.Elements.element_line}}}
-use Rattle.lens.specs.draw.Putting.{Draws}
-use Rattle.tte_forms.specs.Putting.{shown_by}
+use Rattle.{lens.{proofs.draw_lemmas.Parts.draws_one, specs.draw.{Picture.some_line, Putting.Draws}}, tte_forms.specs.Putting.shown_by}
+use Rattle.{lens.specs.{declared.draw.svg.element.Element.Element, draw.svg.Elements.element_line}, std.proofs.Common.{◌∙◌, ◌∷◌, ◌≡◌, List, [], subst, sym, ℕ}}
+use Rattle.std.specs.Prelude.{Option}
 use Rattle.lens.proofs.draw.putting.put_some.Goals as goal
 
 pub returns-in-Some-clause-draws : goal.returns-in-Some-clause-draws

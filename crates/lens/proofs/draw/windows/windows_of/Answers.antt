@@ -1,9 +1,7 @@
-use Rattle.std.proofs.{Common.{◌∙◌, ◌++◌, ◌≤◌, Global, List, Option, Vec, [], ap, length, subst, sym}, lemmas.List.append-nil}
-use Rattle.std.specs.{List.cons_option, Prelude.All}
-use Rattle.audit_devices.specs.events.Readings.{scenario_under}
+use Rattle.{audit_devices.specs.events.Readings.scenario_under, std.proofs.Common.{◌++◌, ◌∙◌, ◌≤◌, Global, List, Option, Vec, [], ap, length, subst, sym}}
 use Rattle.lens.{proofs.{draw.windows.windows_of.Goals.{in-Some+in-Ok, in_default}, draw_lemmas.Asking.with_next}, specs.draw.svg.Windows.{came_of, windows_in}}
 use Rattle.lens.{proofs.draw_lemmas.Parts.take_all, specs.{declared.draw.svg.{mark.Mark.Mark, window.Came.Came}, why.past.Pasts.clock_at}}
-use Rattle.lens.specs.draw.Asking.{IsAskable}
+use Rattle.{lens.specs.draw.Asking.IsAskable, std.{proofs.lemmas.List.append-nil, specs.{List.cons_option, Prelude.All}}}
 use Rattle.lens.proofs.draw.windows.windows_of.Goals as goal
 
 pub came_at-requires-clause-askable : goal.came_at-requires-clause-askable

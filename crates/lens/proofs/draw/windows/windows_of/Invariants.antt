@@ -1,8 +1,5 @@
-use Rattle.std.proofs.Common.{◌≡◌, List, take}
-use Rattle.audit_devices.specs.events.Readings.{scenario_under}
-use Rattle.lens.specs.{draw.svg.Windows.windows_in, why.past.Pasts.{IsPast, clock_at}}
-use Rattle.net_plan.specs.declared.event.Event.{Event}
-use Rattle.run_law.specs.records.Happenings.{Happening}
+use Rattle.{audit_devices.specs.events.Readings.scenario_under, lens.specs.why.past.Pasts.{IsPast, clock_at}, run_law.specs.records.Happenings.Happening}
+use Rattle.{lens.specs.draw.svg.Windows.windows_in, net_plan.specs.declared.event.Event.Event, std.proofs.Common.{◌≡◌, List, take}}
 use Rattle.lens.proofs.draw.windows.windows_of.Given as goal
 
 abbrev pub invariant-frames : goal.invariant-frames

@@ -1,5 +1,4 @@
-use Rattle.tte_forms.{proofs.networks.Answers.{answered_accepted, answered_none}, specs.Putting.shown_by}
-use Rattle.lens.specs.events.Answer.{IsEventsAnswer}
+use Rattle.{lens.specs.events.Answer.IsEventsAnswer, tte_forms.{proofs.networks.Answers.{answered_accepted, answered_none}, specs.Putting.shown_by}}
 use Rattle.lens.proofs.events.putting.storm_events.Goals as goal
 
 pub returns-in-Ok-clause-general : goal.returns-in-Ok-clause-general

@@ -1,6 +1,5 @@
-use Rattle.tte_forms.specs.Putting.{shown_by}
+use Rattle.{lens.specs.flows.Answer.IsFlowsAnswer, tte_forms.specs.Putting.shown_by}
 use Rattle.tte_traces.{proofs.reports_lemmas.Sources.{files_accepted, files_refused}, specs.reports.Reports.IsReportAnswer}
-use Rattle.lens.specs.flows.Answer.{IsFlowsAnswer}
 use Rattle.lens.proofs.flows.answering.flows.Goals as goal
 
 pub returns-in-Ok-clause-general : goal.returns-in-Ok-clause-general

@@ -1,6 +1,5 @@
+use Rattle.{lens.specs.flows.Answer.IsFlowsAnswer, tte_traces.proofs.reports_lemmas.Reports.{no_report_answered, report_given, report_there}}
 use Rattle.tte_forms.specs.Putting.{shown_by}
-use Rattle.tte_traces.proofs.reports_lemmas.Reports.{no_report_answered, report_given, report_there}
-use Rattle.lens.specs.flows.Answer.{IsFlowsAnswer}
 use Rattle.lens.proofs.flows.answering.flows_of_file.Goals as goal
 
 pub put_flows-requires : goal.put_flows-requires

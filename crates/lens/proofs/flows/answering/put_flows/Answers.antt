@@ -1,8 +1,6 @@
-use Rattle.std.{proofs.Common.{◌∙◌, ◌≡◌, List, inl, inr, refl, subst, sym}, specs.Prelude.All}
-use Rattle.lens.{proofs.flows_lemmas.AllTold.{answer_there, writable_all}, specs.{declared.flows.counts.told.FlowTold.FlowTold, flows.Answer.told_answer}}
-use Rattle.lens.specs.flows.Writing.{IsWritable}
-use Rattle.net_plan.specs.declared.network.Network.{Network}
-use Rattle.tte_forms.specs.{Answering.Gives, Putting.shown_by}
+use Rattle.{lens.proofs.flows_lemmas.AllTold.{answer_there, writable_all}, std.{proofs.Common.{◌∙◌, ◌≡◌, List, inl, inr, refl, subst, sym}, specs.Prelude.All}}
+use Rattle.{lens.specs.{declared.flows.counts.told.FlowTold.FlowTold, flows.Answer.told_answer}, net_plan.specs.declared.network.Network.Network}
+use Rattle.{lens.specs.flows.Writing.IsWritable, tte_forms.specs.{Answering.Gives, Putting.shown_by}}
 use Rattle.lens.proofs.flows.answering.put_flows.Goals as goal
 
 pub put_told-requires-clause-writable : goal.put_told-requires-clause-writable

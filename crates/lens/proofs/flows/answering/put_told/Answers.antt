@@ -1,9 +1,8 @@
+use Rattle.{lens.proofs.flows_lemmas.Listed.next_line, tte_forms.specs.{Putting.{PutFails, PutsLines, shown_by}, declared.status.Status.TheVariants.Done}}
+use Rattle.{lens.specs.declared.flows.counts.told.FlowTold.FlowTold, tte_forms.proofs.Puts.{Ends-gives, PutsLines-fails, PutsLines-more}}
+use Rattle.{lens.specs.flows.Lines.flow_line, std.{proofs.{Math.Seq.take-length, lemmas.List.{map-append, take-append-drop}}, specs.Io.KnownBytes.Appends}}
 use Rattle.std.proofs.Common.{◌++◌, ◌+◌, ◌∙◌, ◌∷◌, ◌≡◌, List, [], ap, arith, drop, get_or, inl, inr, length, map, refl, subst, sym, take, ℕ}
-use Rattle.std.{proofs.{Math.Seq.take-length, lemmas.List.{map-append, take-append-drop}}, specs.Io.KnownBytes.Appends}
-use Rattle.tte_forms.{proofs.Puts.{Ends-gives, PutsLines-fails, PutsLines-more}, specs.Putting.{PutFails, PutsLines, shown_by}}
-use Rattle.tte_forms.specs.declared.status.Status.TheVariants.{Done}
 use Rattle.tte_io.specs.Told.{AppendsFront}
-use Rattle.lens.{proofs.flows_lemmas.Listed.next_line, specs.{declared.flows.counts.told.FlowTold.FlowTold, flows.Lines.flow_line}}
 use Rattle.lens.proofs.flows.answering.put_told.Goals as goal
 
 pub flows-preserved : goal.flows-preserved

@@ -1,6 +1,5 @@
+use Rattle.{lens.specs.{declared.flows.counts.told.FlowTold.FlowTold, flows.Lines.flow_line}, tte_forms.specs.Putting.{PutsLines, shown_by}}
 use Rattle.std.proofs.Common.{◌≡◌, map, take}
-use Rattle.lens.specs.{declared.flows.counts.told.FlowTold.FlowTold, flows.Lines.flow_line}
-use Rattle.tte_forms.specs.Putting.{PutsLines, shown_by}
 use Rattle.lens.proofs.flows.answering.put_told.Given as goal
 
 abbrev pub invariant-flows : goal.invariant-flows

@@ -1,10 +1,7 @@
-use Rattle.std.{proofs.Common.{◌<◌, ◌^◌, ◌∙◌, ◌≡◌, List, ap, arith, length, rules, subst, sym, ℕ}, specs.Prelude.IfOk}
-use Rattle.lens.{proofs.flows_lemmas.Reading.read_by, specs.flows.{Answer.AreAllTold, Seeing.{IsSomeReport, TellsEvents}}}
-use Rattle.net_plan.specs.declared.network.Network.{Network}
-use Rattle.tte_audit.specs.{Named.IsNamed, Telling.IsReadOf}
-use Rattle.run_law.specs.declared.note.Note.{Note}
-use Rattle.tte_traces.specs.reports.Reports.{IsReportOf}
-use Rattle.tte_units.specs.declared.units.Units.{Units}
+use Rattle.{lens.{proofs.flows_lemmas.Reading.read_by, specs.flows.Answer.AreAllTold}, run_law.specs.declared.note.Note.Note, tte_audit.specs.Telling.IsReadOf}
+use Rattle.{lens.specs.flows.Seeing.{IsSomeReport, TellsEvents}, std.proofs.Common.{◌<◌, ◌^◌, ◌∙◌, ◌≡◌, List, ap, arith, length, rules, subst, sym, ℕ}}
+use Rattle.{net_plan.specs.declared.network.Network.Network, tte_traces.specs.reports.Reports.IsReportOf, tte_units.specs.declared.units.Units.Units}
+use Rattle.{std.specs.Prelude.IfOk, tte_audit.specs.Named.IsNamed}
 use Rattle.lens.proofs.flows.seeing.flows_told.Goals as goal
 
 pub read_events-requires : goal.read_events-requires

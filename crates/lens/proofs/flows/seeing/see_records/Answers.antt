@@ -1,6 +1,5 @@
-use Rattle.std.proofs.Common.{◌≡◌, ◌<◌, ◌≤◌, ◌++◌, ◌∷◌, [], List, sym, subst, ap, ◌∙◌}
 use Rattle.lens.proofs.flows_lemmas.Reading.{fewer_left, next_named, note_soon, seen_all, seen_more, seen_none, stand_before}
-use Rattle.run_law.specs.declared.note.Note.{Note}
+use Rattle.{run_law.specs.declared.note.Note.Note, std.proofs.Common.{◌++◌, ◌<◌, ◌∙◌, ◌∷◌, ◌≡◌, ◌≤◌, List, [], ap, subst, sym}}
 use Rattle.tte_audit.specs.Report.{events_of}
 use Rattle.lens.proofs.flows.seeing.see_records.Goals as goal
 

@@ -1,8 +1,5 @@
-use Rattle.std.proofs.Common.{List, length}
-use Rattle.lens.specs.flows.Seeing.{IsSeenSoFar}
-use Rattle.run_law.specs.declared.note.Note.{Note}
-use Rattle.tte_traces.specs.reports.Reports.{IsReportOf}
-use Rattle.tte_units.specs.declared.units.Units.{Units}
+use Rattle.{lens.specs.flows.Seeing.IsSeenSoFar, std.proofs.Common.{List, length}}
+use Rattle.{run_law.specs.declared.note.Note.Note, tte_traces.specs.reports.Reports.IsReportOf, tte_units.specs.declared.units.Units.Units}
 use Rattle.lens.proofs.flows.seeing.see_records.Given as goal
 
 -- the records so far were seen

@@ -1,9 +1,7 @@
-use Rattle.std.{proofs.{Common.{◌^◌, ◌∙◌, ◌≡◌, ◌≤◌, List, ap, arith, rules, subst, sym, ℤ}, lemmas.Int.to_z-of_z}, specs.{Int.w64, Prelude.{All, unsigned_abs}}}
-use Rattle.lens.{proofs.flows_lemmas.AllTold.{all_told, flows_each}, specs.flows.counts.FlowLists.AreFlows}
-use Rattle.lens.{proofs.flows_lemmas.Reading.{deliveries_soon, end_soon}, specs.declared.flows.counts.deliveries.Delivery.Delivery}
-use Rattle.run_law.specs.records.Happenings.{happenings}
-use Rattle.tte_audit.specs.Report.{events_of}
-use Rattle.tte_units.specs.{Amount.amount, declared.units.Units.Units}
+use Rattle.{lens.proofs.flows_lemmas.{AllTold.{all_told, flows_each}, Reading.{deliveries_soon, end_soon}}, run_law.specs.records.Happenings.happenings}
+use Rattle.{lens.specs.declared.flows.counts.deliveries.Delivery.Delivery, std.proofs.Common.{◌^◌, ◌∙◌, ◌≡◌, ◌≤◌, List, ap, arith, rules, subst, sym, ℤ}}
+use Rattle.{lens.specs.flows.counts.FlowLists.AreFlows, std.specs.Prelude.{All, unsigned_abs}, tte_units.specs.{Amount.amount, declared.units.Units.Units}}
+use Rattle.{std.{proofs.lemmas.Int.to_z-of_z, specs.Int.w64}, tte_audit.specs.Report.events_of}
 use Rattle.lens.proofs.flows.seeing.tell_flows.Goals as goal
 
 pub flows_of-requires : goal.flows_of-requires

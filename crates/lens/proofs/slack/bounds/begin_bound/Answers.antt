@@ -1,8 +1,7 @@
+use Rattle.lens.{proofs.slack_lemmas.Keeping.{Below, next_tightest, none_below, tightest_of_all}, specs.declared.slack.spot.Finding.Finding}
+use Rattle.{lens.{proofs.slack_lemmas.Numbered.begin_at, specs.slack.Tightest.IsFirstTightest}, std.specs.Prelude.{Option, Some, slice_get}}
+use Rattle.{lens.specs.slack.Bounds.IsBeginBound, net_plan.specs.declared.tables.Link.Link}
 use Rattle.std.proofs.{Common.{◌+◌, ◌∙◌, ◌≡◌, ap, arith, length, subst, sym}, lemmas.Option.{slice_get-get_or, slice_get_within}}
-use Rattle.std.specs.Prelude.{Option, Some, slice_get}
-use Rattle.net_plan.specs.declared.tables.Link.{Link}
-use Rattle.lens.{proofs.slack_lemmas.{Keeping.{Below, next_tightest, none_below, tightest_of_all}, Numbered.begin_at}, specs.slack.Bounds.IsBeginBound}
-use Rattle.lens.specs.{slack.Tightest.IsFirstTightest, declared.slack.spot.Finding.Finding}
 use Rattle.lens.proofs.slack.bounds.begin_bound.Goals as goal
 
 pub links-init : goal.links-init

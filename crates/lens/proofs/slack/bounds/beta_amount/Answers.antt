@@ -1,6 +1,4 @@
-use Rattle.std.proofs.Common.{subst, sym, ℤ}
-use Rattle.net_plan.specs.Bounds.{IsBeta}
-use Rattle.lens.proofs.slack_lemmas.SmallBeta.{beta_small}
+use Rattle.{lens.proofs.slack_lemmas.SmallBeta.beta_small, net_plan.specs.Bounds.IsBeta, std.proofs.Common.{subst, sym, ℤ}}
 use Rattle.lens.proofs.slack.bounds.beta_amount.Goals as goal
 
 pub returns-clause-value : goal.returns-clause-value

@@ -1,5 +1,4 @@
-use Rattle.std.proofs.Common.{rules}
-use Rattle.lens.proofs.slack_lemmas.Singles.{sender_first}
+use Rattle.{lens.proofs.slack_lemmas.Singles.sender_first, std.proofs.Common.rules}
 use Rattle.lens.proofs.slack.bounds.coming_bound.Goals as goal
 
 pub returns-then-eq-clause-tightest : goal.returns-then-eq-clause-tightest

@@ -1,6 +1,5 @@
-use Rattle.std.{proofs.{Common.{◌^◌, ◌∙◌, ◌≡◌, ◌≤◌, ap, arith}, lemmas.Int.ints}, specs.Prelude.unsigned_abs}
-use Rattle.schedule_tables.specs.{Windows.window_end, declared.window.Window.Window}
-use Rattle.lens.{proofs.slack_lemmas.SmallBeta.window_small, specs.declared.slack.spot.Finding.Finding}
+use Rattle.{lens.{proofs.slack_lemmas.SmallBeta.window_small, specs.declared.slack.spot.Finding.Finding}, schedule_tables.specs.declared.window.Window.Window}
+use Rattle.{schedule_tables.specs.Windows.window_end, std.{proofs.{Common.{◌^◌, ◌∙◌, ◌≡◌, ◌≤◌, ap, arith}, lemmas.Int.ints}, specs.Prelude.unsigned_abs}}
 use Rattle.lens.proofs.slack.bounds.entering_with.Goals as goal
 
 pub returns-clause-small : goal.returns-clause-small

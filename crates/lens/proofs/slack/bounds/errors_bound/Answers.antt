@@ -1,8 +1,5 @@
-use Rattle.std.proofs.Common.{rules, subst}
-use Rattle.net_plan.specs.Bounds.{IsBeta}
-use Rattle.schedule_checker.proofs.BetaLemmas.{beta_is_whole}
-use Rattle.tte_units.specs.Amount.{amount}
-use Rattle.lens.proofs.slack_lemmas.Singles.{errors_first}
+use Rattle.{lens.proofs.slack_lemmas.Singles.errors_first, schedule_checker.proofs.BetaLemmas.beta_is_whole, std.proofs.Common.{rules, subst}}
+use Rattle.{net_plan.specs.Bounds.IsBeta, tte_units.specs.Amount.amount}
 use Rattle.lens.proofs.slack.bounds.errors_bound.Goals as goal
 
 pub returns-clause-is : goal.returns-clause-is

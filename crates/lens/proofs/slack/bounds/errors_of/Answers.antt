@@ -1,6 +1,4 @@
-use Rattle.std.proofs.{Common.{◌≡◌, arith, subst, sym}, lemmas.Int.ints}
-use Rattle.net_plan.specs.Bounds.{IsBeta}
-use Rattle.lens.proofs.slack_lemmas.Ones.{beta_same}
+use Rattle.{lens.proofs.slack_lemmas.Ones.beta_same, net_plan.specs.Bounds.IsBeta, std.proofs.{Common.{◌≡◌, arith, subst, sym}, lemmas.Int.ints}}
 use Rattle.lens.proofs.slack.bounds.errors_of.Goals as goal
 
 pub returns-clause-value : goal.returns-clause-value

@@ -1,6 +1,5 @@
-use Rattle.std.{proofs.Common.{◌+◌, arith, subst, sym}, specs.Prelude.Option}
-use Rattle.lens.{proofs.slack_lemmas.{Keeping.{Below, next_tightest, none_below, tightest_of_all}, Numbered.gap_at}, specs.slack.Bounds.IsGapBound}
-use Rattle.lens.specs.{slack.Tightest.IsFirstTightest, declared.slack.spot.Finding.Finding}
+use Rattle.lens.{proofs.slack_lemmas.{Keeping.{Below, next_tightest, none_below, tightest_of_all}, Numbered.gap_at}, specs.declared.slack.spot.Finding.Finding}
+use Rattle.{lens.specs.slack.{Bounds.IsGapBound, Tightest.IsFirstTightest}, std.{proofs.Common.{◌+◌, arith, subst, sym}, specs.Prelude.Option}}
 use Rattle.lens.proofs.slack.bounds.gap_bound.Goals as goal
 
 pub earlier-init : goal.earlier-init

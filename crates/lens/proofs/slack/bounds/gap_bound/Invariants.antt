@@ -1,5 +1,4 @@
-use Rattle.std.specs.Prelude.{IfSome}
-use Rattle.lens.{proofs.slack_lemmas.Keeping.Below, specs.slack.{Bounds.IsGapBound, Keeping.IsSmall, Tightest.IsFirstTightest}}
+use Rattle.{lens.{proofs.slack_lemmas.Keeping.Below, specs.slack.{Bounds.IsGapBound, Keeping.IsSmall, Tightest.IsFirstTightest}}, std.specs.Prelude.IfSome}
 use Rattle.lens.proofs.slack.bounds.gap_bound.Given as goal
 
 abbrev pub invariant-earlier : goal.invariant-earlier

@@ -1,6 +1,4 @@
-use Rattle.std.proofs.Common.{rules, subst, sym, ℤ}
-use Rattle.net_plan.specs.Bounds.{IsBeta}
-use Rattle.lens.proofs.slack_lemmas.Singles.{no_path, path_first}
+use Rattle.{lens.proofs.slack_lemmas.Singles.{no_path, path_first}, net_plan.specs.Bounds.IsBeta, std.proofs.Common.{rules, subst, sym, ℤ}}
 use Rattle.lens.proofs.slack.bounds.path_bound.Goals as goal
 
 pub returns-then-not-is_device_of-clause-tightest : goal.returns-then-not-is_device_of-clause-tightest

@@ -1,7 +1,6 @@
-use Rattle.std.{proofs.Common.{◌≡◌, subst, sym}, specs.Prelude.{Option, Some}}
-use Rattle.net_plan.specs.declared.network.Network.{Network}
-use Rattle.lens.proofs.slack_lemmas.Singles.{correction_first, end_first, precision_first}
-use Rattle.lens.specs.{slack.Tightest.IsTightestAt, declared.slack.spot.{Finding.Finding, Spot.Spot}}
+use Rattle.{lens.proofs.slack_lemmas.Singles.{correction_first, end_first, precision_first}, net_plan.specs.declared.network.Network.Network}
+use Rattle.{lens.specs.{declared.slack.spot.{Finding.Finding, Spot.Spot}, slack.Tightest.IsTightestAt}, std.proofs.Common.{◌≡◌, subst, sym}}
+use Rattle.std.specs.Prelude.{Option, Some}
 use Rattle.lens.specs.declared.slack.spot.Spot.TheVariants as spots
 use Rattle.lens.proofs.slack.bounds.tightest_at.Goals as goal
 

@@ -1,5 +1,4 @@
-use Rattle.std.proofs.Common.{◌++◌, ◌<◌, ◌∙◌, ap, arith, length}
-use Rattle.lens.proofs.slack_lemmas.Named.{joined, row_named}
+use Rattle.{lens.proofs.slack_lemmas.Named.{joined, row_named}, std.proofs.Common.{◌++◌, ◌<◌, ◌∙◌, ap, arith, length}}
 use Rattle.lens.proofs.slack.lines.push_row.Goals as goal
 
 pub returns-clause-text : goal.returns-clause-text

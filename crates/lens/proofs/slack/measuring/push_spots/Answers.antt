@@ -1,6 +1,5 @@
-use Rattle.std.proofs.Common.{◌≡◌, arith, subst, ℕ}
-use Rattle.lens.proofs.slack_lemmas.Taken.{ArePushed, pushed_first, pushed_next}
-use Rattle.lens.specs.{slack.Spots.spots_of, slack.Tightest.IsTightestAt, declared.slack.spot.Spot.Spot}
+use Rattle.lens.{proofs.slack_lemmas.Taken.{ArePushed, pushed_first, pushed_next}, specs.{declared.slack.spot.Spot.Spot, slack.Tightest.IsTightestAt}}
+use Rattle.{lens.specs.slack.Spots.spots_of, std.proofs.Common.{◌≡◌, arith, subst, ℕ}}
 use Rattle.lens.proofs.slack.measuring.push_spots.Goals as goal
 
 pub spots-init : goal.spots-init

@@ -1,10 +1,7 @@
-use Rattle.std.{proofs.Common.{◌∙◌, List, subst, sym}, specs.Prelude.{All, Err, IfOk, Ok, Result}}
-use Rattle.net_plan.specs.declared.network.Network.{Network}
-use Rattle.schedule_checker.{proofs.Trees.tree_of, specs.Groups.AreGroups}
-use Rattle.schedule_tables.specs.declared.entry.Entry.{Entry}
-use Rattle.tte_io.specs.declared.memory.OutOfMemory.{OutOfMemory}
-use Rattle.lens.{proofs.slack_lemmas.Writable.are_writable}
-use Rattle.lens.specs.{slack.Finds.AreOf, slack.Writing.IsWritable, declared.slack.{measuring.Slack.Slack, step.Step.Step}}
+use Rattle.{lens.{proofs.slack_lemmas.Writable.are_writable, specs.declared.slack.measuring.Slack.Slack}, net_plan.specs.declared.network.Network.Network}
+use Rattle.{lens.specs.declared.slack.step.Step.Step, schedule_tables.specs.declared.entry.Entry.Entry, tte_io.specs.declared.memory.OutOfMemory.OutOfMemory}
+use Rattle.{lens.specs.slack.{Finds.AreOf, Writing.IsWritable}, schedule_checker.proofs.Trees.tree_of}
+use Rattle.{schedule_checker.specs.Groups.AreGroups, std.{proofs.Common.{◌∙◌, List, subst, sym}, specs.Prelude.{All, Err, IfOk, Ok, Result}}}
 use Rattle.lens.proofs.slack.measuring.slack_of.Goals as goal
 
 pub beta-requires-clause-tree : goal.beta-requires-clause-tree

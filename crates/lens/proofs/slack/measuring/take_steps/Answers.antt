@@ -1,6 +1,5 @@
-use Rattle.std.proofs.Common.{List, arith, subst, sym}
 use Rattle.lens.{proofs.slack_lemmas.Taken.{StandBefore, drop_all, stand_all, stand_end, stand_first, stand_step}, specs.declared.slack.spot.Finding.Finding}
-use Rattle.lens.specs.declared.slack.step.Step.{Step}
+use Rattle.{lens.specs.declared.slack.step.Step.Step, std.proofs.Common.{List, arith, subst, sym}}
 use Rattle.lens.proofs.slack.measuring.take_steps.Goals as goal
 
 pub steps-init : goal.steps-init

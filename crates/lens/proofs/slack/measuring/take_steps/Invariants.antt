@@ -1,5 +1,4 @@
-use Rattle.std.specs.Prelude.{drop}
-use Rattle.lens.proofs.slack_lemmas.Taken.{StandBefore}
+use Rattle.{lens.proofs.slack_lemmas.Taken.StandBefore, std.specs.Prelude.drop}
 use Rattle.lens.proofs.slack.measuring.take_steps.Given as goal
 
 abbrev pub invariant-steps : goal.invariant-steps

@@ -1,5 +1,4 @@
-use Rattle.std.specs.Prelude.{IfSome}
-use Rattle.lens.{proofs.slack_lemmas.Keeping.Below, specs.slack.{Keeping.IsSmall, Spots.IsFoundAt, Tightest.IsFirstTightest}}
+use Rattle.{lens.{proofs.slack_lemmas.Keeping.Below, specs.slack.{Keeping.IsSmall, Spots.IsFoundAt, Tightest.IsFirstTightest}}, std.specs.Prelude.IfSome}
 use Rattle.lens.proofs.slack.measuring.tightest_of.Given as goal
 
 abbrev pub invariant-spots : goal.invariant-spots

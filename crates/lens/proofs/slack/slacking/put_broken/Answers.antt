@@ -1,8 +1,7 @@
-use Rattle.std.{proofs.Common.{◌∙◌, ◌∷◌, ◌≡◌, List, [], inl, inr, refl, subst, ℕ}, specs.Io.KnownBytes.Appends}
-use Rattle.tte_forms.{proofs.{Puts.{PutsLines-fails, PutsLines-more, PutsLines-none}, frames.Frames.Gives-behind}, specs.Answering.{Gives, line_answer}}
-use Rattle.tte_forms.specs.{Putting.shown_by, declared.status.Status.TheVariants.NetworkRefused, networks.NetworkLine.{network_refusal_line, rule_reason}}
-use Rattle.tte_io.specs.Told.{AppendsFront}
-use Rattle.lens.specs.slack.{Answer.told_of, Lines.place_line}
+use Rattle.{lens.specs.slack.Answer.told_of, std.specs.Io.KnownBytes.Appends, tte_io.specs.Told.AppendsFront}
+use Rattle.{lens.specs.slack.Lines.place_line, tte_forms.{proofs.frames.Frames.Gives-behind, specs.{Answering.{Gives, line_answer}, Putting.shown_by}}}
+use Rattle.{std.proofs.Common.{◌∙◌, ◌∷◌, ◌≡◌, List, [], inl, inr, refl, subst, ℕ}, tte_forms.specs.declared.status.Status.TheVariants.NetworkRefused}
+use Rattle.tte_forms.{proofs.Puts.{PutsLines-fails, PutsLines-more, PutsLines-none}, specs.networks.NetworkLine.{network_refusal_line, rule_reason}}
 use Rattle.lens.proofs.slack.slacking.put_broken.Goals as goal
 
 pub returns-clause-gives : goal.returns-clause-gives

@@ -1,6 +1,5 @@
+use Rattle.{lens.specs.{declared.slack.measuring.Ending.Ending, slack.Answer.ending_answer}, tte_forms.specs.{Answering.Gives, Putting.shown_by}}
 use Rattle.std.proofs.Common.{subst, sym}
-use Rattle.tte_forms.specs.{Answering.Gives, Putting.shown_by}
-use Rattle.lens.specs.{slack.Answer.ending_answer, declared.slack.measuring.Ending.Ending}
 use Rattle.lens.proofs.slack.slacking.put_ending.Goals as goal
 
 pub returns-in-Broken-clause-gives : goal.returns-in-Broken-clause-gives

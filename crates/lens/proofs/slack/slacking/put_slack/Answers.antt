@@ -1,9 +1,8 @@
+use Rattle.{lens.{proofs.slack_lemmas.Listed.next_line, specs.slack.{Finds.shorts_of, Lines.finding_line}}, std.proofs.Math.Seq.take-length}
+use Rattle.{lens.specs.{declared.slack.spot.Finding.Finding, slack.Answer.{ending_answer, ending_lines}}, std.proofs.lemmas.List.{map-append, take-append-drop}}
 use Rattle.std.proofs.Common.{◌++◌, ◌+◌, ◌∙◌, ◌∷◌, ◌≡◌, List, [], ap, append_assoc, arith, drop, inl, inr, length, map, refl, subst, sym, take, ℕ}
-use Rattle.std.{proofs.{Math.Seq.take-length, lemmas.List.{map-append, take-append-drop}}, specs.Io.KnownBytes.Appends}
+use Rattle.{std.specs.Io.KnownBytes.Appends, tte_io.specs.Told.AppendsFront}
 use Rattle.tte_forms.{proofs.{Puts.{PutsLines-fails, PutsLines-more}, frames.Frames.Gives-behind}, specs.Putting.{PutFails, PutsLines, shown_by}}
-use Rattle.tte_io.specs.Told.{AppendsFront}
-use Rattle.lens.{proofs.slack_lemmas.Listed.next_line, specs.slack.{Answer.{ending_answer, ending_lines}, Finds.shorts_of, Lines.finding_line}}
-use Rattle.lens.specs.declared.slack.spot.Finding.{Finding}
 use Rattle.lens.proofs.slack.slacking.put_slack.Goals as goal
 
 pub findings-preserved : goal.findings-preserved

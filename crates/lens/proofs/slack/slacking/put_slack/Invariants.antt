@@ -1,6 +1,4 @@
-use Rattle.std.proofs.Common.{◌≡◌, map, take}
-use Rattle.tte_forms.specs.Putting.{PutsLines, shown_by}
-use Rattle.lens.specs.slack.Lines.{finding_line}
+use Rattle.{lens.specs.slack.Lines.finding_line, std.proofs.Common.{◌≡◌, map, take}, tte_forms.specs.Putting.{PutsLines, shown_by}}
 use Rattle.lens.proofs.slack.slacking.put_slack.Given as goal
 
 abbrev pub invariant-findings : goal.invariant-findings

@@ -1,5 +1,4 @@
-use Rattle.std.proofs.Common.{◌≡◌, ◌≤◌, take}
-use Rattle.lens.specs.slack.Finds.{shorts_of}
+use Rattle.{lens.specs.slack.Finds.shorts_of, std.proofs.Common.{◌≡◌, ◌≤◌, take}}
 use Rattle.lens.proofs.slack.slacking.shorts_of.Given as goal
 
 abbrev pub invariant-findings : goal.invariant-findings

@@ -1,5 +1,4 @@
-use Rattle.tte_forms.specs.Putting.{shown_by}
-use Rattle.lens.{proofs.slack_lemmas.Files.{answered_network, answered_unread}, specs.slack.Answer.IsSlackOf}
+use Rattle.{lens.{proofs.slack_lemmas.Files.{answered_network, answered_unread}, specs.slack.Answer.IsSlackOf}, tte_forms.specs.Putting.shown_by}
 use Rattle.lens.proofs.slack.slacking.slack_by.Goals as goal
 
 pub returns-in-Ok-clause-general : goal.returns-in-Ok-clause-general

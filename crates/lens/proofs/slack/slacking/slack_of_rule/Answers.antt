@@ -1,6 +1,5 @@
+use Rattle.{lens.specs.{declared.slack.step.Step.Step, slack.Answer.{IsFileAnswer, IsSlackOf}}, tte_forms.specs.{Answering.AnswersOne, Putting.shown_by}}
 use Rattle.std.proofs.Common.{List, subst}
-use Rattle.tte_forms.specs.{Answering.AnswersOne, Putting.shown_by}
-use Rattle.lens.specs.{slack.Answer.{IsFileAnswer, IsSlackOf}, declared.slack.step.Step.Step}
 use Rattle.lens.proofs.slack.slacking.slack_of_rule.Goals as goal
 
 pub returns-clause-general : goal.returns-clause-general

@@ -1,8 +1,5 @@
-use Rattle.std.{proofs.Common.{◌∙◌, Option, refl, subst, sym}, specs.Prelude.IfSome}
-use Rattle.report_text.specs.Ranges.{IsNoteOf}
-use Rattle.run_law.specs.{declared.note.Note.Note}
-use Rattle.tte_forms.specs.Putting.{shown_by}
-use Rattle.lens.proofs.why_lemmas.Telling.{record_of, said_as, smaller, timely, told_all, told_fails, told_more, told_none}
+use Rattle.{lens.proofs.why_lemmas.Telling.{record_of, said_as, smaller, timely, told_all, told_fails, told_more, told_none}, tte_forms.specs.Putting.shown_by}
+use Rattle.{report_text.specs.Ranges.IsNoteOf, run_law.specs.declared.note.Note.Note, std.{proofs.Common.{◌∙◌, Option, refl, subst, sym}, specs.Prelude.IfSome}}
 use Rattle.lens.proofs.why.answering.put_chain.Goals as goal
 
 pub records-init : goal.records-init

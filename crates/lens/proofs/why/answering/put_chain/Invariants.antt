@@ -1,7 +1,4 @@
-use Rattle.std.proofs.Common.{◌≡◌}
-use Rattle.report_text.specs.Ranges.{IsNoteOf}
-use Rattle.tte_forms.specs.Putting.{shown_by}
-use Rattle.lens.proofs.why_lemmas.Telling.{IsToldTo}
+use Rattle.{lens.proofs.why_lemmas.Telling.IsToldTo, report_text.specs.Ranges.IsNoteOf, std.proofs.Common.◌≡◌, tte_forms.specs.Putting.shown_by}
 use Rattle.lens.proofs.why.answering.put_chain.Given as goal
 
 abbrev pub invariant-records : goal.invariant-records

@@ -1,11 +1,7 @@
-use Rattle.std.proofs.Common.{List, subst, sym, ℕ}
-use Rattle.net_plan.specs.declared.network.Network.{Network}
-use Rattle.run_law.specs.declared.note.Note.{Note}
-use Rattle.tte_audit.specs.Named.{IsNamed}
-use Rattle.tte_forms.specs.{Answering.GivesAnswer, Putting.{Shown, shown_by}, declared.status.Status.Status}
-use Rattle.tte_traces.{proofs.reports_lemmas.Reports.{no_report_answered, report_given, report_there}, specs.reports.Reports.IsReportOf}
-use Rattle.tte_units.specs.declared.units.Units.{Units}
-use Rattle.lens.specs.why.{Answer.IsWhyAnswer, past.Pasts.{IsSomeReport, ShowsAll}}
+use Rattle.{lens.specs.why.Answer.IsWhyAnswer, std.proofs.Common.{List, subst, sym, ℕ}, tte_audit.specs.Named.IsNamed, tte_forms.specs.Answering.GivesAnswer}
+use Rattle.{lens.specs.why.past.Pasts.{IsSomeReport, ShowsAll}, tte_traces.proofs.reports_lemmas.Reports.{no_report_answered, report_given, report_there}}
+use Rattle.{net_plan.specs.declared.network.Network.Network, tte_forms.specs.declared.status.Status.Status, tte_traces.specs.reports.Reports.IsReportOf}
+use Rattle.{run_law.specs.declared.note.Note.Note, tte_forms.specs.Putting.{Shown, shown_by}, tte_units.specs.declared.units.Units.Units}
 use Rattle.lens.proofs.why.answering.why_in_file.Goals as goal
 
 -- for any records that the octets are the report of, an answer was given

@@ -1,6 +1,5 @@
+use Rattle.{lens.specs.why.Answer.IsWhyAnswer, tte_traces.{proofs.reports_lemmas.Sources.{files_accepted, files_refused}, specs.reports.Reports.IsReportAnswer}}
 use Rattle.tte_forms.specs.Putting.{shown_by}
-use Rattle.tte_traces.{proofs.reports_lemmas.Sources.{files_accepted, files_refused}, specs.reports.Reports.IsReportAnswer}
-use Rattle.lens.specs.why.Answer.{IsWhyAnswer}
 use Rattle.lens.proofs.why.answering.why_record.Goals as goal
 
 pub returns-in-Ok-clause-general : goal.returns-in-Ok-clause-general

@@ -1,5 +1,4 @@
-use Rattle.std.proofs.Common.{◌≡◌, None, Some, subst, sym, ℕ}
-use Rattle.lens.specs.why.Records.{note_at}
+use Rattle.{lens.specs.why.Records.note_at, std.proofs.Common.{◌≡◌, None, Some, subst, sym, ℕ}}
 use Rattle.lens.proofs.why.causes.giving.Goals as goal
 
 pub record_at-requires-clause-report : goal.record_at-requires-clause-report

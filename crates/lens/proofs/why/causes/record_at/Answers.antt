@@ -1,5 +1,4 @@
-use Rattle.std.proofs.Common.{Err, Ok, rules}
-use Rattle.lens.proofs.why_lemmas.Notes.{begun, fewer, found_among, next_found, next_missed, next_of_network, none_left}
+use Rattle.{lens.proofs.why_lemmas.Notes.{begun, fewer, found_among, next_found, next_missed, next_of_network, none_left}, std.proofs.Common.{Err, Ok, rules}}
 use Rattle.lens.proofs.why.causes.record_at.Goals as goal
 
 pub records-init : goal.records-init

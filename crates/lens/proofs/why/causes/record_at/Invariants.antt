@@ -1,5 +1,4 @@
-use Rattle.std.proofs.Common.{length}
-use Rattle.lens.proofs.why_lemmas.Notes.{IsUnderWay}
+use Rattle.{lens.proofs.why_lemmas.Notes.IsUnderWay, std.proofs.Common.length}
 use Rattle.lens.proofs.why.causes.record_at.Given as goal
 
 abbrev pub invariant-records : goal.invariant-records

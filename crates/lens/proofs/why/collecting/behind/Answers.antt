@@ -1,7 +1,6 @@
-use Rattle.std.{proofs.Common.{◌∙◌, ◌≡◌, None, Option, Some, ap, false, pos, sym, ℕ}, specs.Prelude.option_map}
-use Rattle.compression.specs.Clusters.{Cluster}
-use Rattle.run_law.specs.control.Collections.{ends_stretch, point_by}
+use Rattle.{compression.specs.Clusters.Cluster, std.specs.Prelude.option_map}
 use Rattle.lens.{proofs.why_lemmas.Collected.{behind_given, behind_none}, specs.why.Collections.{as_point, behind_point, last_collection, told_of}}
+use Rattle.{run_law.specs.control.Collections.{ends_stretch, point_by}, std.proofs.Common.{◌∙◌, ◌≡◌, None, Option, Some, ap, false, pos, sym, ℕ}}
 use Rattle.lens.proofs.why.collecting.behind.Goals as goal
 
 pub returns-in-Some : goal.returns-in-Some

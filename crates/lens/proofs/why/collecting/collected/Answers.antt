@@ -1,7 +1,5 @@
+use Rattle.{lens.proofs.why_lemmas.Collected.collected_is, run_law.specs.records.Happenings.happenings, tte_audit.specs.Report.events_of}
 use Rattle.std.proofs.Common.{refl}
-use Rattle.run_law.specs.records.Happenings.{happenings}
-use Rattle.tte_audit.specs.Report.{events_of}
-use Rattle.lens.proofs.why_lemmas.Collected.{collected_is}
 use Rattle.lens.proofs.why.collecting.collected.Goals as goal
 
 pub returns : goal.returns

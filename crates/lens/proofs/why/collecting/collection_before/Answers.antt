@@ -1,8 +1,6 @@
-use Rattle.std.{proofs.Common.{◌∙◌, List, ap, refl, rules}, specs.Prelude.option_map}
-use Rattle.run_law.specs.records.Happenings.{Happening, happening, happenings}
-use Rattle.tte_audit.specs.Report.{events_of}
-use Rattle.lens.proofs.why_lemmas.{Collected.{collected_more, collected_none}, LastRecords.{gone_before, never_there, next_there}, Notes.fewer}
-use Rattle.lens.specs.why.Collections.{last_collection, told_of}
+use Rattle.lens.{proofs.why_lemmas.{Collected.{collected_more, collected_none}, Notes.fewer}, specs.why.Collections.{last_collection, told_of}}
+use Rattle.{lens.proofs.why_lemmas.LastRecords.{gone_before, never_there, next_there}, run_law.specs.records.Happenings.{Happening, happening, happenings}}
+use Rattle.{std.{proofs.Common.{◌∙◌, List, ap, refl, rules}, specs.Prelude.option_map}, tte_audit.specs.Report.events_of}
 use Rattle.lens.proofs.why.collecting.collection_before.Goals as goal
 
 pub records-init : goal.records-init

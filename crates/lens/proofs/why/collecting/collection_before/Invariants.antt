@@ -1,5 +1,4 @@
-use Rattle.std.proofs.Common.{length}
-use Rattle.lens.proofs.why_lemmas.Collected.{IsCollected}
+use Rattle.{lens.proofs.why_lemmas.Collected.IsCollected, std.proofs.Common.length}
 use Rattle.lens.proofs.why.collecting.collection_before.Given as goal
 
 abbrev pub invariant-records : goal.invariant-records

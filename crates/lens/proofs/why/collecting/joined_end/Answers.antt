@@ -1,6 +1,5 @@
-use Rattle.std.proofs.{Common.{◌+ℤ◌, ◌∙◌, ◌≡◌, ◌≤ℤ◌, ap, arith, pos, sym}, lemmas.Int.ints}
 use Rattle.compression.proofs.Collections.{joined_end-first}
-use Rattle.lens.specs.declared.why.collecting.Collection.{Collection}
+use Rattle.{lens.specs.declared.why.collecting.Collection.Collection, std.proofs.{Common.{◌+ℤ◌, ◌∙◌, ◌≡◌, ◌≤ℤ◌, ap, arith, pos, sym}, lemmas.Int.ints}}
 use Rattle.lens.proofs.why.collecting.joined_end.Goals as goal
 
 pub returns-then-from-opened : goal.returns-then-from-opened

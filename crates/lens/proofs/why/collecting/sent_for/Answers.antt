@@ -1,7 +1,6 @@
-use Rattle.std.{proofs.{Common.{◌∙◌, ap, of_z, rules, to_z, ℕ, ℤ}, lemmas.Int.to_z-of_z}, specs.Int.w128}
-use Rattle.audit_devices.specs.Keeping.{records_before}
-use Rattle.run_law.specs.records.{Happenings.happenings, Ranks.place_of}
-use Rattle.lens.specs.{why.Seeking.last_sought, declared.why.{ground.Ground.TheVariants.Middle, seeking.Sought.TheVariants.Opening}}
+use Rattle.{audit_devices.specs.Keeping.records_before, run_law.specs.records.Ranks.place_of, std.proofs.Common.{◌∙◌, ap, of_z, rules, to_z, ℕ, ℤ}}
+use Rattle.{lens.specs.declared.why.{ground.Ground.TheVariants.Middle, seeking.Sought.TheVariants.Opening}, run_law.specs.records.Happenings.happenings}
+use Rattle.{lens.specs.why.Seeking.last_sought, std.{proofs.lemmas.Int.to_z-of_z, specs.Int.w128}}
 use Rattle.lens.proofs.why.collecting.sent_for.Goals as goal
 
 pub returns : goal.returns

@@ -1,9 +1,6 @@
-use Rattle.std.proofs.Common.{◌∙◌, ◌≡◌, ap, refl, subst, sym, ℕ}
-use Rattle.audit_devices.specs.Showing.{IsAfter}
-use Rattle.lens.{proofs.why_lemmas.{BestFrames.{after_clique, clique_is, summary_is}, LastRecords.parted_there}, specs.why.past.Pasts.before_corrections}
-use Rattle.run_law.specs.records.Happenings.{happenings, time_of}
-use Rattle.tte_audit.specs.Report.{events_of, scenario_of}
-use Rattle.tte_units.specs.{Amount.amount, declared.units.Units.Units}
+use Rattle.{audit_devices.specs.Showing.IsAfter, tte_audit.specs.Report.{events_of, scenario_of}, tte_units.specs.{Amount.amount, declared.units.Units.Units}}
+use Rattle.{lens.proofs.why_lemmas.BestFrames.{after_clique, clique_is, summary_is}, run_law.specs.records.Happenings.{happenings, time_of}}
+use Rattle.{lens.{proofs.why_lemmas.LastRecords.parted_there, specs.why.past.Pasts.before_corrections}, std.proofs.Common.{◌∙◌, ◌≡◌, ap, refl, subst, sym, ℕ}}
 use Rattle.lens.proofs.why.correcting.clique.Goals as goal
 
 pub heard-heard-requires-clause-past : goal.heard-heard-requires-clause-past

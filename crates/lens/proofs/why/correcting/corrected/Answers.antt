@@ -1,11 +1,8 @@
-use Rattle.std.{proofs.{Common.{◌∙◌, ◌≡◌, ap, of_z, rules, subst, sym, to_z, ℕ, ℤ}, lemmas.Int.to_z-of_z}, specs.{Int.w128, Prelude.option_and_then}}
-use Rattle.audit_devices.specs.Showing.{IsAfter}
-use Rattle.lens.{proofs.why_lemmas.{BestFrames.{after_change, corrected_is, summary_is}, LastRecords.parted_there}, specs.why.past.Pasts.before_corrections}
-use Rattle.lens.specs.why.Corrections.{said_by}
-use Rattle.pcf_values.specs.declared.channel.Channel.TheVariants.{A, B}
-use Rattle.run_law.specs.records.Happenings.{happenings, time_of}
-use Rattle.tte_audit.specs.Report.{events_of, scenario_of}
-use Rattle.tte_units.specs.{Amount.amount, declared.units.Units.Units}
+use Rattle.{audit_devices.specs.Showing.IsAfter, lens.specs.why.Corrections.said_by, tte_units.specs.{Amount.amount, declared.units.Units.Units}}
+use Rattle.{lens.proofs.why_lemmas.BestFrames.{after_change, corrected_is, summary_is}, std.proofs.Common.{◌∙◌, ◌≡◌, ap, of_z, rules, subst, sym, to_z, ℕ, ℤ}}
+use Rattle.{lens.{proofs.why_lemmas.LastRecords.parted_there, specs.why.past.Pasts.before_corrections}, tte_audit.specs.Report.{events_of, scenario_of}}
+use Rattle.{pcf_values.specs.declared.channel.Channel.TheVariants.{A, B}, run_law.specs.records.Happenings.{happenings, time_of}}
+use Rattle.std.{proofs.lemmas.Int.to_z-of_z, specs.{Int.w128, Prelude.option_and_then}}
 use Rattle.lens.proofs.why.correcting.corrected.Goals as goal
 
 pub heard-heard-requires-clause-past : goal.heard-heard-requires-clause-past

@@ -1,9 +1,6 @@
-use Rattle.std.proofs.{Common.{◌<◌, ◌∙◌, ◌≡◌, ◌≤◌, false, rules, subst, true, ℕ}, lemmas.{Bool.{le-leb, lt-leb}, Int.to_z-of_z}}
-use Rattle.std.specs.{Int.w128, Prelude.nat_le}
-use Rattle.membership.specs.Members.{count_of}
-use Rattle.run_law.specs.records.Happenings.{happenings}
-use Rattle.tte_audit.specs.Report.{scenario_of}
-use Rattle.lens.proofs.why_lemmas.BestFrames.{said_is, said_none}
+use Rattle.{lens.proofs.why_lemmas.BestFrames.{said_is, said_none}, std.proofs.Common.{◌<◌, ◌∙◌, ◌≡◌, ◌≤◌, false, rules, subst, true, ℕ}}
+use Rattle.{membership.specs.Members.count_of, std.specs.{Int.w128, Prelude.nat_le}}
+use Rattle.{run_law.specs.records.Happenings.happenings, std.proofs.lemmas.{Bool.{le-leb, lt-leb}, Int.to_z-of_z}, tte_audit.specs.Report.scenario_of}
 use Rattle.lens.proofs.why.correcting.said_by.Goals as goal
 
 pub returns-then-network-count : goal.returns-then-network-count

@@ -1,8 +1,5 @@
-use Rattle.std.{proofs.Common.{◌∙◌, Option, ap, sym}, specs.Prelude.option_and_then}
-use Rattle.membership.specs.declared.frame.HeardFrame.{HeardFrame}
-use Rattle.run_law.specs.records.Happenings.{happenings}
-use Rattle.tte_audit.specs.Report.{scenario_of}
-use Rattle.lens.specs.why.Corrections.{said_by}
+use Rattle.{lens.specs.why.Corrections.said_by, std.specs.Prelude.option_and_then, tte_audit.specs.Report.scenario_of}
+use Rattle.{membership.specs.declared.frame.HeardFrame.HeardFrame, run_law.specs.records.Happenings.happenings, std.proofs.Common.{◌∙◌, Option, ap, sym}}
 use Rattle.lens.proofs.why.correcting.said_on.Goals as goal
 
 pub returns-in-Some : goal.returns-in-Some

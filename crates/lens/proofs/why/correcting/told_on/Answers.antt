@@ -1,8 +1,6 @@
-use Rattle.std.{proofs.Common.{◌∙◌, Option, Some, ap, sym, ℕ}, specs.Prelude.option_map}
-use Rattle.membership.specs.declared.frame.HeardFrame.{HeardFrame}
-use Rattle.pcf_values.specs.declared.members.Members.{Members}
-use Rattle.run_law.specs.records.Happenings.{happenings}
-use Rattle.lens.specs.{why.Corrections.told_by, declared.why.ground.Told.Told}
+use Rattle.{lens.specs.declared.why.ground.Told.Told, membership.specs.declared.frame.HeardFrame.HeardFrame, pcf_values.specs.declared.members.Members.Members}
+use Rattle.{lens.specs.why.Corrections.told_by, run_law.specs.records.Happenings.happenings, std.proofs.Common.{◌∙◌, Option, Some, ap, sym, ℕ}}
+use Rattle.std.specs.Prelude.{option_map}
 use Rattle.lens.proofs.why.correcting.told_on.Goals as goal
 
 abbrev told : ℕ → Members → Told

@@ -1,8 +1,5 @@
-use Rattle.std.{proofs.Common.{◌∙◌, Option, ap, subst, sym}, specs.Prelude.IfSome}
-use Rattle.audit_devices.specs.events.Readings.{scenario_under}
-use Rattle.schedule_tables.specs.{Entries.IsEntryInRange, declared.entry.Entry.Entry}
-use Rattle.tte_units.specs.Amount.{amount}
-use Rattle.lens.specs.why.Grounds.{beside_ground}
+use Rattle.{audit_devices.specs.events.Readings.scenario_under, schedule_tables.specs.{Entries.IsEntryInRange, declared.entry.Entry.Entry}}
+use Rattle.{lens.specs.why.Grounds.beside_ground, std.{proofs.Common.{◌∙◌, Option, ap, subst, sym}, specs.Prelude.IfSome}, tte_units.specs.Amount.amount}
 use Rattle.lens.proofs.why.dropping.beside.Goals as goal
 
 pub missed-requires-clause-entry : goal.missed-requires-clause-entry

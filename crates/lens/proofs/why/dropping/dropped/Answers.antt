@@ -1,8 +1,6 @@
-use Rattle.std.proofs.Common.{◌∙◌, ap, sym}
-use Rattle.run_law.specs.{declared.judgement.Reason.Reason, device.Standpoints.{clock_of, standpoint}, records.Happenings.{happenings, numbered}}
-use Rattle.tte_audit.specs.Report.{events_of, scenario_of}
-use Rattle.tte_units.specs.{Amount.amount, declared.units.Units.Units}
-use Rattle.lens.{proofs.why_lemmas.Grounded.past_there, specs.why.Grounds.{beside_ground, dropped_ground, entry_given, gate_ground}}
+use Rattle.{lens.proofs.why_lemmas.Grounded.past_there, std.proofs.Common.{◌∙◌, ap, sym}, tte_units.specs.{Amount.amount, declared.units.Units.Units}}
+use Rattle.{lens.specs.why.Grounds.{beside_ground, dropped_ground, entry_given, gate_ground}, run_law.specs.device.Standpoints.{clock_of, standpoint}}
+use Rattle.{run_law.specs.{declared.judgement.Reason.Reason, records.Happenings.{happenings, numbered}}, tte_audit.specs.Report.{events_of, scenario_of}}
 use Rattle.lens.proofs.why.dropping.dropped.Goals as goal
 
 pub beside-requires-clause-past : goal.beside-requires-clause-past

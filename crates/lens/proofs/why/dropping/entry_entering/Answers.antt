@@ -1,7 +1,6 @@
-use Rattle.std.{proofs.Common.{◌&&◌, ◌∙◌, Option, ap, sym, ℕ}, specs.Prelude.{find, option_and_then, slice_get}}
-use Rattle.net_plan.specs.declared.tables.{Row.Row, Way.Way}
-use Rattle.run_law.specs.{scenario.Ways.is_way_of, timed.Arrivals.{entry_of, is_row_with}}
-use Rattle.lens.proofs.why_lemmas.{Rows.found_at, Windows.entry_is}
+use Rattle.lens.proofs.why_lemmas.Rows.{found_at}
+use Rattle.{lens.proofs.why_lemmas.Windows.entry_is, run_law.specs.timed.Arrivals.{entry_of, is_row_with}, std.specs.Prelude.{find, option_and_then, slice_get}}
+use Rattle.{net_plan.specs.declared.tables.{Row.Row, Way.Way}, run_law.specs.scenario.Ways.is_way_of, std.proofs.Common.{◌&&◌, ◌∙◌, Option, ap, sym, ℕ}}
 use Rattle.lens.proofs.why.dropping.entry_entering.Goals as goal
 
 pub returns-in-Some-clause-is : goal.returns-in-Some-clause-is

@@ -1,6 +1,4 @@
-use Rattle.std.{proofs.Common.{◌∙◌, sym}}
-use Rattle.run_law.specs.{records.Happenings.{numbered}}
-use Rattle.lens.proofs.why_lemmas.Headings.{heading_none, heading_some}
+use Rattle.{lens.proofs.why_lemmas.Headings.{heading_none, heading_some}, run_law.specs.records.Happenings.numbered, std.proofs.Common.{◌∙◌, sym}}
 use Rattle.lens.proofs.why.dropping.entry_given.Goals as goal
 
 pub returns-in-Some-clause-is : goal.returns-in-Some-clause-is

@@ -1,8 +1,6 @@
-use Rattle.std.{proofs.{Common.{◌∙◌, ap, of_z, rules, to_z, ℕ, ℤ}, lemmas.Int.to_z-of_z}, specs.Int.w128}
-use Rattle.audit_devices.specs.events.Readings.{scenario_under}
-use Rattle.schedule_tables.specs.declared.window.Window.{Window as Places}
-use Rattle.tte_units.specs.Amount.{amount}
-use Rattle.lens.specs.{why.Grounds.{cycle_before, position_at}, declared.why.ground.Ground.TheVariants.Missed}
+use Rattle.{audit_devices.specs.events.Readings.scenario_under, std.{proofs.{Common.{◌∙◌, ap, of_z, rules, to_z, ℕ, ℤ}, lemmas.Int.to_z-of_z}, specs.Int.w128}}
+use Rattle.{lens.specs.declared.why.ground.Ground.TheVariants.Missed, schedule_tables.{specs.{declared.{window.{Window.{Window as Places}}}}}}
+use Rattle.{lens.specs.why.Grounds.{cycle_before, position_at}, tte_units.specs.Amount.amount}
 use Rattle.lens.proofs.why.dropping.missed.Goals as goal
 
 pub returns : goal.returns

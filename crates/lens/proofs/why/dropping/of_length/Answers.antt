@@ -1,6 +1,5 @@
-use Rattle.std.{proofs.Common.{◌∙◌, ◌≡◌, Some, ap, length, rules, sym, ℕ}, specs.Option.option_map_or}
-use Rattle.run_law.specs.records.Happenings.{Happening, numbered}
-use Rattle.lens.specs.{why.Grounds.length_ground, declared.why.ground.Ground.TheVariants.Length}
+use Rattle.{lens.specs.declared.why.ground.Ground.TheVariants.Length, std.proofs.Common.{◌∙◌, ◌≡◌, Some, ap, length, rules, sym, ℕ}}
+use Rattle.{lens.specs.why.Grounds.length_ground, run_law.specs.records.Happenings.{Happening, numbered}, std.specs.Option.option_map_or}
 use Rattle.lens.proofs.why.dropping.of_length.Goals as goal
 
 pub returns-in-Some : goal.returns-in-Some

@@ -1,7 +1,5 @@
+use Rattle.{lens.proofs.why_lemmas.Rows.searched, net_plan.specs.declared.tables.Row.Row, run_law.specs.{scenario.Ways.is_way_of, timed.Arrivals.is_row_with}}
 use Rattle.std.proofs.{Common.{◌&&◌, ◌≡◌, false, rules, tests, true}, lemmas.Iterator.{IsFirst-from_position, YieldsList-from_slice}}
-use Rattle.net_plan.specs.declared.tables.Row.{Row}
-use Rattle.run_law.specs.{scenario.Ways.is_way_of, timed.Arrivals.is_row_with}
-use Rattle.lens.proofs.why_lemmas.Rows.{searched}
 use Rattle.lens.proofs.why.dropping.place_entering.Goals as goal
 
 pub returns-clause-is : goal.returns-clause-is

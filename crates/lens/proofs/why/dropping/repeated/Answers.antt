@@ -1,8 +1,5 @@
-use Rattle.std.proofs.Common.{◌∙◌, Option, ap, sym}
-use Rattle.run_law.specs.records.Happenings.{happenings}
-use Rattle.schedule_tables.specs.declared.entry.Entry.{Entry}
-use Rattle.tte_audit.specs.Report.{events_of, scenario_of}
-use Rattle.lens.specs.why.Grounds.{repeat_ground}
+use Rattle.{lens.specs.why.Grounds.repeat_ground, std.proofs.Common.{◌∙◌, Option, ap, sym}}
+use Rattle.{run_law.specs.records.Happenings.happenings, schedule_tables.specs.declared.entry.Entry.Entry, tte_audit.specs.Report.{events_of, scenario_of}}
 use Rattle.lens.proofs.why.dropping.repeated.Goals as goal
 
 pub returns-in-Some : goal.returns-in-Some

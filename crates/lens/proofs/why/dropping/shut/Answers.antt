@@ -1,8 +1,6 @@
-use Rattle.std.{proofs.{Common.{if◌then◌else◌, ◌*◌, ◌+ℤ◌, ◌+◌, ◌∙◌, Bool, ap, pos, rules, sym, ℕ, ℤ}, lemmas.Int.to_z-of_z}, specs.Int.w128}
-use Rattle.audit_devices.specs.events.Readings.{scenario_under}
-use Rattle.lens.specs.{declared.why.ground.Ground.{Ground, TheVariants.{Gate, Untold}}, why.past.Pasts.clock_at}
-use Rattle.run_law.specs.device.Standpoints.{offset_in_cycle}
-use Rattle.tte_units.specs.Amount.{amount}
+use Rattle.{audit_devices.specs.events.Readings.scenario_under, std.proofs.Common.{◌*◌, ◌+ℤ◌, ◌+◌, ◌∙◌, Bool, ap, if◌then◌else◌, pos, rules, sym, ℕ, ℤ}}
+use Rattle.{lens.specs.declared.why.ground.Ground.{Ground, TheVariants.{Gate, Untold}}, run_law.specs.device.Standpoints.offset_in_cycle}
+use Rattle.{lens.specs.why.past.Pasts.clock_at, std.{proofs.lemmas.Int.to_z-of_z, specs.Int.w128}, tte_units.specs.Amount.amount}
 use Rattle.lens.proofs.why.dropping.shut.Goals as goal
 
 pub returns-then-is_relay : goal.returns-then-is_relay

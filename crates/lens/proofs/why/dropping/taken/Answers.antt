@@ -1,10 +1,7 @@
-use Rattle.std.proofs.Common.{◌∙◌, ◌≡◌, ap, sym, ℕ}
-use Rattle.audit_devices.specs.Keeping.{records_before}
-use Rattle.run_law.specs.records.{Happenings.{happenings, time_of}, Ranks.place_of}
-use Rattle.tte_audit.specs.Report.{events_of, scenario_of}
-use Rattle.tte_units.specs.{Amount.amount, declared.units.Units.Units}
-use Rattle.lens.{proofs.why_lemmas.Grounded.past_there, specs.why.Seeking.last_sought}
-use Rattle.lens.specs.{declared.why.{ground.Ground.TheVariants.Taken, seeking.{Coming.Coming, Sought.TheVariants.Taking}}, why.Grounds.cycle_before}
+use Rattle.{audit_devices.specs.Keeping.records_before, run_law.specs.records.Happenings.{happenings, time_of}, tte_audit.specs.Report.{events_of, scenario_of}}
+use Rattle.{lens.proofs.why_lemmas.Grounded.past_there, std.proofs.Common.{◌∙◌, ◌≡◌, ap, sym, ℕ}, tte_units.specs.{Amount.amount, declared.units.Units.Units}}
+use Rattle.{lens.specs.declared.why.{ground.Ground.TheVariants.Taken, seeking.{Coming.Coming, Sought.TheVariants.Taking}}, run_law.specs.records.Ranks.place_of}
+use Rattle.lens.specs.why.{Grounds.cycle_before, Seeking.last_sought}
 use Rattle.lens.proofs.why.dropping.taken.Goals as goal
 
 pub cycle_before-cycle-requires-clause-past : goal.cycle_before-cycle-requires-clause-past

@@ -1,6 +1,4 @@
-use Rattle.std.proofs.Common.{◌∙◌, sym}
-use Rattle.run_law.specs.records.Happenings.{numbered}
-use Rattle.lens.proofs.why_lemmas.Headings.{unknown_none, unknown_some}
+use Rattle.{lens.proofs.why_lemmas.Headings.{unknown_none, unknown_some}, run_law.specs.records.Happenings.numbered, std.proofs.Common.{◌∙◌, sym}}
 use Rattle.lens.proofs.why.dropping.unknown.Goals as goal
 
 pub returns-in-Some : goal.returns-in-Some

@@ -1,9 +1,6 @@
-use Rattle.std.proofs.Common.{◌∙◌, ◌≡◌, ap, sym, ℕ}
-use Rattle.run_law.specs.{device.States.state_before, records.Happenings.{happenings, time_of}}
-use Rattle.sync_state.specs.declared.state.State.{State}
-use Rattle.tte_audit.specs.Report.{events_of, scenario_of}
-use Rattle.tte_units.specs.{Amount.amount, declared.units.Units.Units}
-use Rattle.lens.{proofs.why_lemmas.Grounded.past_there, specs.declared.why.ground.Ground.TheVariants.Unsynchronised}
+use Rattle.{lens.proofs.why_lemmas.Grounded.past_there, sync_state.specs.declared.state.State.State, tte_audit.specs.Report.{events_of, scenario_of}}
+use Rattle.{lens.specs.declared.why.ground.Ground.TheVariants.Unsynchronised, run_law.specs.records.Happenings.{happenings, time_of}}
+use Rattle.{run_law.specs.device.States.state_before, std.proofs.Common.{◌∙◌, ◌≡◌, ap, sym, ℕ}, tte_units.specs.{Amount.amount, declared.units.Units.Units}}
 use Rattle.lens.proofs.why.dropping.unsynchronised.Goals as goal
 
 pub state_before-state-requires-clause-past : goal.state_before-state-requires-clause-past

@@ -1,10 +1,7 @@
-use Rattle.std.proofs.Common.{◌∙◌, ap, refl, subst, sym, ℤ}
 use Rattle.lens.proofs.why_lemmas.{Grounded.{correction_so, ground_as, is_there, past_there, position_so, state_so}, Hearing.permanence_so, Holding.held_is}
-use Rattle.lens.specs.{declared.why.past.past.Permanence.Permanence, why.Grounds.{position_at, row_of, window_ground}}
-use Rattle.report_text.specs.Ranges.{IsBodyOf}
-use Rattle.run_law.specs.{declared.note.{Note.Note, NoteBody.NoteBody}, records.Happenings.happenings}
-use Rattle.tte_audit.specs.Report.{events_of, scenario_of}
-use Rattle.tte_units.specs.Amount.{amount}
+use Rattle.{lens.specs.{declared.why.past.past.Permanence.Permanence, why.Grounds.{position_at, row_of, window_ground}}, report_text.specs.Ranges.IsBodyOf}
+use Rattle.{run_law.specs.{declared.note.Note.Note, records.Happenings.happenings}, tte_units.specs.Amount.amount}
+use Rattle.{run_law.specs.declared.note.NoteBody.NoteBody, std.proofs.Common.{◌∙◌, ap, refl, subst, sym, ℤ}, tte_audit.specs.Report.{events_of, scenario_of}}
 use Rattle.run_law.specs.declared.note.NoteBody.TheVariants as notes
 use Rattle.lens.proofs.why.ground.ground_of.Goals as goal
 

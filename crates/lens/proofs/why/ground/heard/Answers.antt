@@ -1,8 +1,5 @@
-use Rattle.std.{proofs.{Common.{◌+ℤ◌, ◌-ℤ◌, ◌∙◌, ap, of_z, rules, to_z, ℤ}, lemmas.Int.to_z-of_z}, specs.Int.w128}
-use Rattle.run_law.specs.scenario.Devices.{plan_of}
-use Rattle.sync_state.specs.Plan.{expected_at}
-use Rattle.tte_units.specs.Amount.{amount}
-use Rattle.lens.proofs.why_lemmas.Hearing.{heard_is, heard_made}
+use Rattle.{lens.proofs.why_lemmas.Hearing.{heard_is, heard_made}, std.proofs.{Common.{◌+ℤ◌, ◌-ℤ◌, ◌∙◌, ap, of_z, rules, to_z, ℤ}, lemmas.Int.to_z-of_z}}
+use Rattle.{run_law.specs.scenario.Devices.plan_of, std.specs.Int.w128, sync_state.specs.Plan.expected_at, tte_units.specs.Amount.amount}
 use Rattle.lens.proofs.why.ground.heard.Goals as goal
 
 pub returns : goal.returns

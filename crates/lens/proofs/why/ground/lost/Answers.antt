@@ -1,8 +1,6 @@
-use Rattle.std.proofs.Common.{◌∙◌, ap, ℕ}
-use Rattle.audit_devices.specs.Keeping.{records_before}
-use Rattle.net_plan.specs.declared.tables.Way.{Way}
-use Rattle.run_law.specs.records.{Happenings.happenings, Ranks.place_of}
-use Rattle.lens.specs.{why.Seeking.last_sought, declared.why.{ground.Ground.TheVariants.CutBy, seeking.Sought.TheVariants.Cut}}
+use Rattle.{audit_devices.specs.Keeping.records_before, net_plan.specs.declared.tables.Way.Way, run_law.specs.records.Ranks.place_of}
+use Rattle.{lens.specs.declared.why.{ground.Ground.TheVariants.CutBy, seeking.Sought.TheVariants.Cut}, run_law.specs.records.Happenings.happenings}
+use Rattle.{lens.specs.why.Seeking.last_sought, std.proofs.Common.{◌∙◌, ap, ℕ}}
 use Rattle.lens.proofs.why.ground.lost.Goals as goal
 
 pub returns : goal.returns

@@ -1,7 +1,5 @@
-use Rattle.std.proofs.Common.{◌∙◌, sym}
-use Rattle.run_law.specs.records.Happenings.{happenings}
-use Rattle.tte_audit.specs.Report.{events_of, scenario_of}
-use Rattle.lens.proofs.why_lemmas.{Grounded.past_there, Hearing.{permanent_collected, permanent_scheduled, permanent_untold}}
+use Rattle.{lens.proofs.why_lemmas.Grounded.past_there, run_law.specs.records.Happenings.happenings, std.proofs.Common.{◌∙◌, sym}}
+use Rattle.{lens.proofs.why_lemmas.Hearing.{permanent_collected, permanent_scheduled, permanent_untold}, tte_audit.specs.Report.{events_of, scenario_of}}
 use Rattle.lens.proofs.why.ground.permanent.Goals as goal
 
 pub scheduled-requires-clause-past : goal.scheduled-requires-clause-past

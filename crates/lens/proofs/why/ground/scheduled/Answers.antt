@@ -1,6 +1,5 @@
+use Rattle.{audit_devices.specs.events.Readings.scenario_under, lens.{proofs.why_lemmas.Hearing.scheduled_is, specs.why.Grounds.heard_ground}}
 use Rattle.std.{proofs.{Common.{◌∙◌, ap, rules, ℤ}, lemmas.Int.to_z-of_z}, specs.Int.w128}
-use Rattle.audit_devices.specs.events.Readings.{scenario_under}
-use Rattle.lens.{proofs.why_lemmas.Hearing.scheduled_is, specs.why.Grounds.heard_ground}
 use Rattle.lens.proofs.why.ground.scheduled.Goals as goal
 
 pub returns : goal.returns

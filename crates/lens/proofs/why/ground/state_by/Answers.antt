@@ -1,7 +1,5 @@
-use Rattle.std.proofs.Common.{if◌then◌else◌, ◌∙◌, Bool, ap, sym}
-use Rattle.run_law.specs.records.Happenings.{happenings}
-use Rattle.tte_audit.specs.Report.{scenario_of}
-use Rattle.lens.specs.{why.Corrections.clique_ground, declared.why.ground.Ground.TheVariants.Untold}
+use Rattle.{lens.specs.{declared.why.ground.Ground.TheVariants.Untold, why.Corrections.clique_ground}, std.proofs.Common.{◌∙◌, Bool, ap, if◌then◌else◌, sym}}
+use Rattle.{run_law.specs.records.Happenings.happenings, tte_audit.specs.Report.scenario_of}
 use Rattle.lens.proofs.why.ground.state_by.Goals as goal
 
 pub returns-then-is_clique : goal.returns-then-is_clique

@@ -1,5 +1,4 @@
-use Rattle.std.{proofs.{Common.{◌∙◌, ap, rules, ℤ}, lemmas.Int.to_z-of_z}, specs.Int.w128}
-use Rattle.lens.specs.why.Grounds.{row_of, window_ground}
+use Rattle.{lens.specs.why.Grounds.{row_of, window_ground}, std.{proofs.{Common.{◌∙◌, ap, rules, ℤ}, lemmas.Int.to_z-of_z}, specs.Int.w128}}
 use Rattle.lens.proofs.why.ground.taken.Goals as goal
 
 pub returns : goal.returns

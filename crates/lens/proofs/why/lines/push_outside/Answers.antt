@@ -1,7 +1,5 @@
-use Rattle.std.{proofs.Common.{◌++◌, ◌∙◌, ◌≡◌, List, ap, append_assoc, rules, ℕ}, specs.{Fmt.decimal, Prelude.codes}}
-use Rattle.membership.specs.Members.{count_of}
-use Rattle.report_text.specs.NoteWords.{members_text}
-use Rattle.lens.{proofs.why_lemmas.Pieces.four, specs.why.Lines.outside_text}
+use Rattle.{lens.proofs.why_lemmas.Pieces.four, report_text.specs.NoteWords.members_text, std.proofs.Common.{◌++◌, ◌∙◌, ◌≡◌, List, ap, append_assoc, rules, ℕ}}
+use Rattle.{lens.specs.why.Lines.outside_text, membership.specs.Members.count_of, std.specs.{Fmt.decimal, Prelude.codes}}
 use Rattle.lens.proofs.why.lines.push_outside.Goals as goal
 
 pub returns-clause-text : goal.returns-clause-text

@@ -1,7 +1,5 @@
-use Rattle.std.{proofs.Common.{◌∙◌, List, subst, sym, ℕ}, specs.Io.KnownBytes.Appends}
-use Rattle.tte_forms.specs.Putting.{shown_by}
-use Rattle.tte_io.specs.Told.{AppendsFront}
-use Rattle.lens.proofs.why_lemmas.Putting.{put_alone, put_both, put_half, put_none}
+use Rattle.{lens.proofs.why_lemmas.Putting.{put_alone, put_both, put_half, put_none}, std.proofs.Common.{◌∙◌, List, subst, sym, ℕ}}
+use Rattle.{std.specs.Io.KnownBytes.Appends, tte_forms.specs.Putting.shown_by, tte_io.specs.Told.AppendsFront}
 use Rattle.lens.proofs.why.lines.put_record.Goals as goal
 
 pub returns-in-Err-clause-puts : goal.returns-in-Err-clause-puts

@@ -1,7 +1,6 @@
-use Rattle.std.proofs.Common.{◌∙◌, ap, sym, ℕ}
-use Rattle.run_law.specs.{declared.note.{Note.Note, NoteBody.NoteBody}, timed.Receptions.is_taken_before}
+use Rattle.{lens.specs.declared.why.seeking.Sought.{Sought, TheVariants.{Cut, Frame, Opening, Taking, Turning}}, run_law.specs.timed.Receptions.is_taken_before}
+use Rattle.{lens.specs.why.Seeking.is_sought, run_law.specs.declared.note.{Note.Note, NoteBody.NoteBody}, std.proofs.Common.{◌∙◌, ap, sym, ℕ}}
 use Rattle.tte_units.specs.Amount.{amount}
-use Rattle.lens.specs.{why.Seeking.is_sought, declared.why.seeking.Sought.{Sought, TheVariants.{Cut, Frame, Opening, Taking, Turning}}}
 use Rattle.lens.proofs.why.seeking.is_sought.Goals as goal
 
 pub returns-in-Cut : goal.returns-in-Cut

@@ -1,7 +1,6 @@
-use Rattle.std.proofs.Common.{◌∙◌, ap, refl, rules}
-use Rattle.run_law.specs.records.Happenings.{happening, happenings}
+use Rattle.{lens.proofs.why_lemmas.LastRecords.{gone_before, never_there, next_sought, next_there, sought_none}, std.proofs.Common.{◌∙◌, ap, refl, rules}}
+use Rattle.{lens.{proofs.why_lemmas.Notes.fewer, specs.why.Seeking.last_sought}, run_law.specs.records.Happenings.{happening, happenings}}
 use Rattle.tte_audit.specs.Report.{events_of}
-use Rattle.lens.{proofs.why_lemmas.{LastRecords.{gone_before, never_there, next_sought, next_there, sought_none}, Notes.fewer}, specs.why.Seeking.last_sought}
 use Rattle.lens.proofs.why.seeking.last_before.Goals as goal
 
 pub records-init : goal.records-init

@@ -1,5 +1,4 @@
-use Rattle.std.proofs.Common.{length}
-use Rattle.lens.proofs.why_lemmas.LastRecords.{IsSought}
+use Rattle.{lens.proofs.why_lemmas.LastRecords.IsSought, std.proofs.Common.length}
 use Rattle.lens.proofs.why.seeking.last_before.Given as goal
 
 abbrev pub invariant-records : goal.invariant-records

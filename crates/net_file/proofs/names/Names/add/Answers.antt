@@ -1,5 +1,4 @@
-use Rattle.std.proofs.Common.{◌≡◌, None, refl, rules}
-use Rattle.net_file.{proofs.Numbers.{found_after, lookup_text}, specs.Numbering.{numbering, with_name}}
+use Rattle.{net_file.{proofs.Numbers.{found_after, lookup_text}, specs.Numbering.{numbering, with_name}}, std.proofs.Common.{◌≡◌, None, refl, rules}}
 use Rattle.net_file.proofs.names.Names.add.Goals as goal
 
 pub returns-in-Ok-clause-ok : goal.returns-in-Ok-clause-ok

@@ -1,6 +1,5 @@
-use Rattle.std.proofs.{Common.{◌+◌, ◌∙◌, ◌≡◌, ap, arith, get_or, subst, sym, take}, lemmas.Grind.common_steps}
-use Rattle.net_plan.specs.{Bearers.device_names, declared.tables.Device.Device}
-use Rattle.net_file.{proofs.Numbers.first_of_more, specs.Numbering.{Numbering, first_of, numbering, with_name}}
+use Rattle.{net_file.proofs.Numbers.first_of_more, net_plan.specs.{Bearers.device_names, declared.tables.Device.Device}, std.proofs.lemmas.Grind.common_steps}
+use Rattle.{net_file.specs.Numbering.{Numbering, first_of, numbering, with_name}, std.proofs.Common.{◌+◌, ◌∙◌, ◌≡◌, ap, arith, get_or, subst, sym, take}}
 use Rattle.net_file.proofs.names.Names.of_devices.Goals as goal
 
 pub devices-preserved : goal.devices-preserved

@@ -1,6 +1,4 @@
-use Rattle.std.proofs.Common.{◌≡◌, take}
-use Rattle.net_plan.specs.Bearers.{device_names}
-use Rattle.net_file.specs.Numbering.{first_of, numbering}
+use Rattle.{net_file.specs.Numbering.{first_of, numbering}, net_plan.specs.Bearers.device_names, std.proofs.Common.{◌≡◌, take}}
 use Rattle.net_file.proofs.names.Names.of_devices.Given as goal
 
 abbrev pub invariant-devices : goal.invariant-devices

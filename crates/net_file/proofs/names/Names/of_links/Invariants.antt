@@ -1,6 +1,4 @@
-use Rattle.std.proofs.Common.{◌≡◌, take}
-use Rattle.net_plan.specs.Bearers.{link_names}
-use Rattle.net_file.specs.Numbering.{first_of, numbering}
+use Rattle.{net_file.specs.Numbering.{first_of, numbering}, net_plan.specs.Bearers.link_names, std.proofs.Common.{◌≡◌, take}}
 use Rattle.net_file.proofs.names.Names.of_links.Given as goal
 
 abbrev pub invariant-links : goal.invariant-links

@@ -1,6 +1,5 @@
-use Rattle.std.proofs.Common.{◌*◌, ◌+◌, ◌/◌, ◌^◌, ◌∙◌, ap, length, pos, subst, sym, ℕ}
-use Rattle.tte_units.specs.Amount.{amount}
-use Rattle.net_plan.{proofs.Greatest.greatest_of_channels, specs.{Bounds.{IsGreatest, IsOfPath, jitter_on}, declared.ids.LinkId.LinkId}}
+use Rattle.{net_plan.{proofs.Greatest.greatest_of_channels, specs.declared.ids.LinkId.LinkId}, tte_units.specs.Amount.amount}
+use Rattle.{net_plan.specs.Bounds.{IsGreatest, IsOfPath, jitter_on}, std.proofs.Common.{◌*◌, ◌+◌, ◌/◌, ◌^◌, ◌∙◌, ap, length, pos, subst, sym, ℕ}}
 use Rattle.net_plan.proofs.network.Network.beta.Goals as goal
 
 pub returns : goal.returns

@@ -1,5 +1,4 @@
-use Rattle.std.proofs.Common.{◌*◌, ◌^◌, ◌≡◌, ◌≤◌, length, take}
-use Rattle.net_plan.specs.Bounds.{jitter_on}
+use Rattle.{net_plan.specs.Bounds.jitter_on, std.proofs.Common.{◌*◌, ◌^◌, ◌≡◌, ◌≤◌, length, take}}
 use Rattle.net_plan.proofs.network.Network.extent.Given as goal
 
 abbrev pub invariant-loop-link : goal.invariant-loop-link

@@ -1,5 +1,4 @@
-use Rattle.std.proofs.Common.{length, rules}
-use Rattle.net_plan.{proofs.Greatest.greatest_from_path, specs.{Bounds.jitter_on, declared.ids.LinkId.LinkId}}
+use Rattle.{net_plan.{proofs.Greatest.greatest_from_path, specs.{Bounds.jitter_on, declared.ids.LinkId.LinkId}}, std.proofs.Common.{length, rules}}
 use Rattle.net_plan.proofs.network.Network.extent_from.Goals as goal
 
 pub returns-then-is_device_of-clause-jitter : goal.returns-then-is_device_of-clause-jitter

@@ -1,6 +1,5 @@
-use Rattle.std.proofs.Common.{◌+◌, ◌≡◌, ap, arith, length, subst, sym, ℕ}
-use Rattle.net_plan.{proofs.Greatest.{IsOfPathBelow, greatest_below_all, greatest_below_more}, specs.Bounds.{IsGreatest, jitter_on}}
-use Rattle.net_plan.specs.declared.{ids.LinkId.LinkId, tables.Device.Device}
+use Rattle.{net_plan.proofs.Greatest.{IsOfPathBelow, greatest_below_all, greatest_below_more}, std.proofs.Common.{◌+◌, ◌≡◌, ap, arith, length, subst, sym, ℕ}}
+use Rattle.net_plan.specs.{Bounds.{IsGreatest, jitter_on}, declared.{ids.LinkId.LinkId, tables.Device.Device}}
 use Rattle.net_plan.proofs.network.Network.extent_on.Goals as goal
 
 pub loop-place-preserved : goal.loop-place-preserved

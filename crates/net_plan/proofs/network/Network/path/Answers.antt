@@ -1,8 +1,7 @@
+use Rattle.{net_plan.{proofs.Trees.{ended, followed}, specs.{Paths.{IsPath, IsUplink}, Places.{IsSwitchOf, link_at}}}, std.proofs.lemmas.Grind.common_steps}
+use Rattle.{net_plan.{specs.{declared.{ids.{LinkId.{LinkId as LinkIdValue}}, tables.Link.Link}}}, std.proofs.lemmas.Option.{slice_get-get_or, slice_get_within}}
 use Rattle.std.proofs.Common.{◌++◌, ◌∙◌, ◌∷◌, ◌≡◌, ◌≤◌, List, Some, [], ap, append-nil, append_assoc, arith, get_or, length, subst, sym}
-use Rattle.std.proofs.lemmas.{Grind.common_steps, Option.{slice_get-get_or, slice_get_within}}
 use Rattle.tte_lemmas.proofs.Options.{opened}
-use Rattle.net_plan.{proofs.Trees.{ended, followed}, specs.{Paths.{IsPath, IsUplink}, Places.{IsSwitchOf, link_at}, declared.ids.LinkId.LinkId as LinkIdValue}}
-use Rattle.net_plan.specs.declared.tables.Link.{Link}
 use Rattle.net_plan.proofs.network.Network.path.Goals as goal
 
 pub loop-link-preserved : goal.loop-link-preserved
@@ -29,5 +28,16 @@ loop-link-preserved c =
 
 pub returns-clause-leads : goal.returns-clause-leads
 returns-clause-leads c =
-    grind (arith, common_steps, c.args.self.now, c.args.channel, c.loop-link.at, c.loop-link.invariant, ended, c.in_default.ensures.none,
-      c.loop-link.path, append-nil, c.args.device)
+    grind (
+      arith,
+      common_steps,
+      c.args.self.now,
+      c.args.channel,
+      c.loop-link.at,
+      c.loop-link.invariant,
+      ended,
+      c.in_default.ensures.none,
+      c.loop-link.path,
+      append-nil,
+      c.args.device,
+    )

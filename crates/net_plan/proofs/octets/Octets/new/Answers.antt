@@ -1,5 +1,4 @@
-use Rattle.std.proofs.Common.{◌++◌, ◌≡◌, List, drop, length, replicate, rules, subst, sym, ℕ}
-use Rattle.net_plan.{proofs.Padded.padded_front, specs.Padding.IsPadded}
+use Rattle.{net_plan.{proofs.Padded.padded_front, specs.Padding.IsPadded}, std.proofs.Common.{◌++◌, ◌≡◌, List, drop, length, replicate, rules, subst, sym, ℕ}}
 use Rattle.net_plan.proofs.octets.Octets.new.Goals as goal
 
 pub invariant_of-result : goal.invariant_of-result

@@ -1,6 +1,5 @@
-use Rattle.std.{proofs.{Common.rules, lemmas.Bool.Decides.Decides-like}, specs.Cmp.booleans_Decides}
-use Rattle.net_plan.specs.Places.{IsEndSystem}
-use Rattle.schedule_checker.proofs.RouteLemmas.{alike, alike_back}
+use Rattle.{net_plan.specs.Places.IsEndSystem, schedule_checker.proofs.RouteLemmas.{alike, alike_back}, std.proofs.lemmas.Bool.Decides.Decides-like}
+use Rattle.std.{proofs.Common.rules, specs.Cmp.booleans_Decides}
 use Rattle.schedule_checker.proofs.both_channels.Kin.enters_alike.Goals as goal
 
 pub returns-else-not-is_end_system : goal.returns-else-not-is_end_system

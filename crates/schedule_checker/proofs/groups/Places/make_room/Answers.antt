@@ -1,6 +1,5 @@
-use Rattle.std.proofs.Common.{◌++◌, ◌∙◌, ◌∷◌, ◌≡◌, Global, List, Vec, [], ap, arith, length, length-append, refl, ℕ}
-use Rattle.std.specs.{Option.option_map_or, Prelude.slice_get}
-use Rattle.schedule_checker.proofs.Grouping.{more_room}
+use Rattle.{schedule_checker.proofs.Grouping.more_room, std.specs.Prelude.slice_get}
+use Rattle.std.{proofs.Common.{◌++◌, ◌∙◌, ◌∷◌, ◌≡◌, Global, List, Vec, [], ap, arith, length, length-append, refl, ℕ}, specs.Option.option_map_or}
 use Rattle.schedule_checker.proofs.groups.Places.make_room.Goals as goal
 
 pub loop-init : goal.loop-init

@@ -1,5 +1,4 @@
-use Rattle.std.proofs.Common.{◌≡◌, ◌≤◌, length, ℕ}
-use Rattle.schedule_checker.specs.Groups.{places_in}
+use Rattle.{schedule_checker.specs.Groups.places_in, std.proofs.Common.{◌≡◌, ◌≤◌, length, ℕ}}
 use Rattle.schedule_checker.proofs.groups.Places.make_room.Given as goal
 
 abbrev pub invariant-loop : goal.invariant-loop

@@ -1,9 +1,8 @@
-use Rattle.std.proofs.{Common.{◌∙◌, ◌≡◌, ◌≢◌, Bool, List, Some, length, refl, subst, sym}, lemmas.{Bool.false≢true, Option.slice_get_read}}
-use Rattle.std.specs.List.{filter, slice_get}
-use Rattle.net_plan.specs.{Places.is_master, Rules.MembersDiffer, declared.tables.Device.Device}
-use Rattle.schedule_checker.proofs.ShapePairs.{AtPairs, before_from_pairs, filter_pairs, pairs_from_filter, pairs_more}
+use Rattle.{net_plan.specs.Places.is_master, schedule_checker.proofs.ShapePairs.{AtPairs, before_from_pairs, filter_pairs, pairs_from_filter, pairs_more}}
+use Rattle.{net_plan.specs.{Rules.MembersDiffer, declared.tables.Device.Device}, std.proofs.Common.{◌∙◌, ◌≡◌, ◌≢◌, Bool, List, Some, length, refl, subst, sym}}
 use Rattle.schedule_checker.proofs.shape.masters.members_differ.Goals.{else-is_master_device-via-else-is_master_device}
 use Rattle.schedule_checker.proofs.shape.masters.members_differ.Goals.{else-is_master_device-via-then-is_master_device+else-not-member_is_new}
+use Rattle.std.{proofs.lemmas.{Bool.false≢true, Option.slice_get_read}, specs.List.{filter, slice_get}}
 use Rattle.schedule_checker.proofs.shape.masters.members_differ.Goals as goal
 
 abbrev master : Device → Bool

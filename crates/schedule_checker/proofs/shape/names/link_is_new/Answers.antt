@@ -1,7 +1,6 @@
-use Rattle.std.proofs.Common.{◌∙◌, ◌≡◌, ◌≢◌, List, Some, ap, get_or, rules, sym, take, tests}
-use Rattle.std.{proofs.lemmas.{Iterator.{YieldsList-from_slice, YieldsList-from_take, cases_from_all}, Option.slice_get-get_or}, specs.List.slice_get}
 use Rattle.net_plan.specs.declared.tables.Link.{Link}
-use Rattle.schedule_checker.proofs.ShapeLists.{decides_all, decides_new}
+use Rattle.{schedule_checker.proofs.ShapeLists.{decides_all, decides_new}, std.proofs.Common.{◌∙◌, ◌≡◌, ◌≢◌, List, Some, ap, get_or, rules, sym, take, tests}}
+use Rattle.std.{proofs.lemmas.{Iterator.{YieldsList-from_slice, YieldsList-from_take, cases_from_all}, Option.slice_get-get_or}, specs.List.slice_get}
 use Rattle.schedule_checker.proofs.shape.names.link_is_new.Goals as goal
 
 abbrev Differ : Link → Link → Type 0

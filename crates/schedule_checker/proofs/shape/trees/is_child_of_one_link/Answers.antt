@@ -1,7 +1,6 @@
-use Rattle.std.proofs.{Common.{◌≡◌, refl, rules, tests, ℕ}, lemmas.{Bool.Decides.same_from_decides, Iterator.YieldsList-from_slice}}
-use Rattle.std.proofs.lemmas.Iterator.Consumers.{YieldsList-from_filter, count_from_yields_List}
 use Rattle.net_plan.specs.declared.{ids.LinkId.LinkId, tables.Link.Link}
-use Rattle.schedule_checker.proofs.{ShapeLists.decides_one, ShapeTests.{child_test, decides_child}}
+use Rattle.{schedule_checker.proofs.{ShapeLists.decides_one, ShapeTests.{child_test, decides_child}}, std.proofs.Common.{◌≡◌, refl, rules, tests, ℕ}}
+use Rattle.std.proofs.lemmas.{Bool.Decides.same_from_decides, Iterator.{Consumers.{YieldsList-from_filter, count_from_yields_List}, YieldsList-from_slice}}
 use Rattle.schedule_checker.proofs.shape.trees.is_child_of_one_link.Goals as goal
 
 pub returns : goal.returns

@@ -1,6 +1,4 @@
-use Rattle.std.proofs.Common.{subst}
-use Rattle.net_plan.specs.{Paths.IsTree, declared.network.Network.Network}
-use Rattle.schedule_tables.proofs.Margins.{shape_rules}
+use Rattle.{net_plan.specs.{Paths.IsTree, declared.network.Network.Network}, schedule_tables.proofs.Margins.shape_rules, std.proofs.Common.subst}
 use Rattle.schedule_tables.proofs.accepted.Accepted.network.Goals as goal
 
 pub returns-clause-tree : goal.returns-clause-tree

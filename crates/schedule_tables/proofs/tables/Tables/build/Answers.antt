@@ -1,5 +1,4 @@
-use Rattle.std.proofs.Common.{length}
-use Rattle.schedule_tables.specs.{Slots.AreSlotsOf, TablesOf.AreTimedRows, declared.rule.Rule.TheVariants.Periods}
+use Rattle.{schedule_tables.specs.{Slots.AreSlotsOf, TablesOf.AreTimedRows, declared.rule.Rule.TheVariants.Periods}, std.proofs.Common.length}
 use Rattle.schedule_tables.proofs.tables.Tables.build.Goals as goal
 
 pub returns : goal.returns

@@ -1,5 +1,4 @@
-use Rattle.std.proofs.Common.{length}
-use Rattle.schedule_tables.proofs.RowLemmas.{window_at}
+use Rattle.{schedule_tables.proofs.RowLemmas.window_at, std.proofs.Common.length}
 use Rattle.schedule_tables.proofs.tables.Tables.window.Goals as goal
 
 pub returns : goal.returns

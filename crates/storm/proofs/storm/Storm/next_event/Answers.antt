@@ -1,9 +1,6 @@
-use Rattle.std.proofs.Common.{◌∙◌, ◌≡◌, ap, refl, subst, sym, ℕ}
-use Rattle.fault_hypothesis.specs.Watching.{Watches}
-use Rattle.net_plan.specs.declared.network.Network.{Network}
-use Rattle.run_law.specs.scenario.Hypothesis.{IsWithinHypothesis}
-use Rattle.storm.proofs.{Within.{end_within, step_within}, storm.Storm.next_event.Goals.{else-self-steps-2, then-self-steps-2}}
-use Rattle.storm.specs.Events.{AreNoLater, time_of}
+use Rattle.{fault_hypothesis.specs.Watching.Watches, net_plan.specs.declared.network.Network.Network, std.proofs.Common.{◌∙◌, ◌≡◌, ap, refl, subst, sym, ℕ}}
+use Rattle.{run_law.specs.scenario.Hypothesis.IsWithinHypothesis, storm.proofs.storm.Storm.next_event.Goals.{else-self-steps-2, then-self-steps-2}}
+use Rattle.storm.{proofs.Within.{end_within, step_within}, specs.Events.{AreNoLater, time_of}}
 use Rattle.storm.proofs.storm.Storm.next_event.Goals as goal
 
 pub returns-clause-within : goal.returns-clause-within

@@ -1,5 +1,4 @@
-use Rattle.std.proofs.Common.{ap}
-use Rattle.sync_state.{proofs.CallLemmas.one_more, specs.{Calls.{after, turned_on}, Standing.Standing}}
+use Rattle.{std.proofs.Common.ap, sync_state.{proofs.CallLemmas.one_more, specs.{Calls.{after, turned_on}, Standing.Standing}}}
 use Rattle.sync_state.proofs.sync.Sync.on.Goals as goal
 
 pub returns-clause-calls : goal.returns-clause-calls

@@ -1,6 +1,4 @@
-use Rattle.std.proofs.Common.{◌≡◌, Some}
-use Rattle.clock_correction.specs.Correction.{correction_of}
-use Rattle.pcf_values.specs.declared.channel.Channel.TheVariants.{A, B}
+use Rattle.{clock_correction.specs.Correction.correction_of, pcf_values.specs.declared.channel.Channel.TheVariants.{A, B}, std.proofs.Common.{◌≡◌, Some}}
 use Rattle.sync_state.{proofs.VerdictLemmas.corrected_small, specs.Verdicts.deviation_on}
 use Rattle.sync_state.proofs.sync.Sync.verdict.Goals as goal
 

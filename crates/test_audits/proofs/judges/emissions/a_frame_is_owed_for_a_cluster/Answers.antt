@@ -1,6 +1,5 @@
-use Rattle.std.proofs.{Common.{◌∷◌, ◌≤ℤ◌, [], pos, refl, sym}, lemmas.List.Elements.All-nil}
-use Rattle.audit_sweep.proofs.unpaid_lemmas.emissions_lemmas.Examples.{one_permanent}
-use Rattle.compression.specs.Clusters.{Point}
+use Rattle.{audit_sweep.proofs.unpaid_lemmas.emissions_lemmas.Examples.one_permanent, std.proofs.Common.{◌∷◌, ◌≤ℤ◌, [], pos, refl, sym}}
+use Rattle.{compression.specs.Clusters.Point, std.proofs.lemmas.List.Elements.All-nil}
 use Rattle.test_audits.proofs.judges.emissions.a_frame_is_owed_for_a_cluster.Goals as goal
 
 pub first_unemitted-requires-clause-kept : goal.first_unemitted-requires-clause-kept

@@ -1,5 +1,4 @@
-use Rattle.drift_clock.proofs.Readings.{IsLawful, begins_at_zero, keeps_clock_laws}
-use Rattle.traffic_law.proofs.safety_lemmas.Clocked.{front}
+use Rattle.{drift_clock.proofs.Readings.{IsLawful, begins_at_zero, keeps_clock_laws}, traffic_law.proofs.safety_lemmas.Clocked.front}
 use Rattle.traffic_law.proofs.safety.laws.front_runs_are_safe.Goals as goal
 
 pub returns : goal.returns

@@ -1,5 +1,4 @@
-use Rattle.std.proofs.{Common.{◌+◌, ◌-◌, ◌∙◌, ◌≤◌, ap, arith, drop, length, sym}, lemmas.List.length-take}
-use Rattle.tte_io.proofs.Ranges.{drop-slice_range}
+use Rattle.{std.proofs.{Common.{◌+◌, ◌-◌, ◌∙◌, ◌≤◌, ap, arith, drop, length, sym}, lemmas.List.length-take}, tte_io.proofs.Ranges.drop-slice_range}
 use Rattle.tte_io.proofs.ahead.Ahead.consume.Goals as goal
 
 pub returns : goal.returns

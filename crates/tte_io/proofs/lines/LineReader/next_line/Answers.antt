@@ -1,8 +1,7 @@
-use Rattle.std.proofs.Common.{◌∙◌, ◌≡◌, Ok, ap, refl, subst, sym}
-use Rattle.tte_io.proofs.{Coming.outcome_told, Making.{MadeOf, found_ended, long_unended, made_next, made_on, still_too_long}}
-use Rattle.tte_io.{proofs.lines.LineReader.next_line.Goals.{in-Taken, in-Unfinished}, specs.{NextLine.NextLine, Progress.reader_state}}
-use Rattle.tte_io.specs.{ReaderState.{KeepsEnd, KeepsLongLine, LineReaderState, pending}, declared.ends.SourceFailed.SourceFailed}
-use Rattle.tte_io.specs.declared.lines.{LineTaken.TheVariants.Long, Progress.{Progress, TheVariants.TooLong}}
+use Rattle.{std.proofs.Common.{◌∙◌, ◌≡◌, Ok, ap, refl, subst, sym}, tte_io.specs.declared.{ends.SourceFailed.SourceFailed, lines.LineTaken.TheVariants.Long}}
+use Rattle.tte_io.{proofs.Coming.outcome_told, specs.{NextLine.NextLine, Progress.reader_state, declared.lines.Progress.Progress}}
+use Rattle.tte_io.{proofs.Making.{MadeOf, found_ended, long_unended, made_next, made_on, still_too_long}, specs.declared.lines.Progress.TheVariants.TooLong}
+use Rattle.tte_io.{proofs.lines.LineReader.next_line.Goals.{in-Taken, in-Unfinished}, specs.ReaderState.{KeepsEnd, KeepsLongLine, LineReaderState, pending}}
 use Rattle.tte_io.proofs.lines.LineReader.next_line.Goals as goal
 
 pub returns-in-TooLong-clause-next : goal.returns-in-TooLong-clause-next

@@ -1,5 +1,4 @@
-use Rattle.std.proofs.Common.{◌≡◌, ap, arith, take, take_all}
-use Rattle.tte_io.{proofs.Passing.{passes_all, passes_none}, specs.InMemory.SinkState}
+use Rattle.{std.proofs.Common.{◌≡◌, ap, arith, take, take_all}, tte_io.{proofs.Passing.{passes_all, passes_none}, specs.InMemory.SinkState}}
 use Rattle.tte_io.proofs.sinks.MemorySinkSink.pass_on.Goals as goal
 
 pub returns-then-next_fails-clause-passes : goal.returns-then-next_fails-clause-passes

@@ -1,5 +1,4 @@
-use Rattle.std.proofs.Common.{◌∙◌, ◌≡◌, ap, take}
-use Rattle.tte_io.{proofs.Passing.{passed_still, passes_none}, specs.InMemory.SinkState}
+use Rattle.{std.proofs.Common.{◌∙◌, ◌≡◌, ap, take}, tte_io.{proofs.Passing.{passed_still, passes_none}, specs.InMemory.SinkState}}
 use Rattle.tte_io.proofs.sinks.MemorySinkSink.put.Goals as goal
 
 pub returns-then-fails-clause-passes : goal.returns-then-fails-clause-passes

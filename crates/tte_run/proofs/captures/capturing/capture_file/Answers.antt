@@ -1,6 +1,5 @@
-use Rattle.std.proofs.Common.{◌∙◌, Err, List, ap, subst, ℕ}
-use Rattle.tte_run.{proofs.captures_lemmas.Files.{answers-long, answers-read}, specs.captures.{Answer.opened_answer, pcap.Reading.opened}}
-use Rattle.tte_forms.specs.{Answering.Gives, Putting.shown_by}
+use Rattle.{std.proofs.Common.{◌∙◌, Err, List, ap, subst, ℕ}, tte_run.proofs.captures_lemmas.Files.{answers-long, answers-read}}
+use Rattle.{tte_forms.specs.{Answering.Gives, Putting.shown_by}, tte_run.specs.captures.{Answer.opened_answer, pcap.Reading.opened}}
 use Rattle.tte_run.proofs.captures.capturing.capture_file.Goals as goal
 
 pub returns-in-Ok-clause-general : goal.returns-in-Ok-clause-general

@@ -1,5 +1,4 @@
-use Rattle.std.proofs.Common.{◌∙◌, sym}
-use Rattle.tte_run.proofs.captures_lemmas.Files.{head_whole}
+use Rattle.{std.proofs.Common.{◌∙◌, sym}, tte_run.proofs.captures_lemmas.Files.head_whole}
 use Rattle.tte_run.proofs.captures.capturing.show_file.Goals as goal
 
 pub show_packets-requires-clause-whole : goal.show_packets-requires-clause-whole

@@ -1,10 +1,9 @@
-use Rattle.std.{proofs.Common.{◌+◌, ◌∙◌, ◌≡◌, ◌≤◌, Err, List, Ok, ap, arith, refl, subst, sym, ℕ}, specs.Io.KnownBytes.Appends}
-use Rattle.std.specs.Prelude.{IfSome, None, Option, Result, Some}
-use Rattle.tte_run.proofs.captures_lemmas.Packets.{IsShown-all, IsShown-fails, IsShown-more, IsShown-none, IsShown-refused}
+use Rattle.{std.proofs.Common.{◌+◌, ◌∙◌, ◌≡◌, ◌≤◌, Err, List, Ok, ap, arith, refl, subst, sym, ℕ}, tte_run.specs.captures.pcap.Layout.{IsPacket, stamp_length}}
+use Rattle.{std.specs.{Io.KnownBytes.Appends, Prelude.{IfSome, None, Option, Result, Some}}, tte_run.specs.captures.pcap.Reading.packet_at}
+use Rattle.tte_forms.specs.Answering.{Gives, line_answer}
+use Rattle.{tte_forms.specs.{Putting.shown_by, declared.status.Status.TheVariants.CaptureRefused}, tte_run.specs.declared.captures.pcap.capture.Packet.Packet}
+use Rattle.{tte_io.specs.Told.AppendsFront, tte_run.proofs.captures_lemmas.Packets.{IsShown-all, IsShown-fails, IsShown-more, IsShown-none, IsShown-refused}}
 use Rattle.tte_run.specs.{captures.CaptureLine.{packet_line, packet_refusal_line}, declared.captures.pcap.refusal.CaptureRefusal.CaptureRefusal}
-use Rattle.tte_run.specs.{captures.pcap.{Layout.{IsPacket, stamp_length}, Reading.packet_at}, declared.captures.pcap.capture.Packet.Packet}
-use Rattle.tte_forms.specs.{Answering.{Gives, line_answer}, Putting.shown_by, declared.status.Status.TheVariants.CaptureRefused}
-use Rattle.tte_io.specs.Told.{AppendsFront}
 use Rattle.tte_run.proofs.captures.capturing.show_packets.Goals as goal
 
 pub packets-init : goal.packets-init

@@ -1,9 +1,7 @@
-use Rattle.tte_run.{proofs.stamps_lemmas.{Along.stamps_along, Stamped.first_stamps, Words.{unsigned_abs, ℕ}}, specs.stamps.Answer.granule_line}
+use Rattle.{std.proofs.lemmas.Int.ints, tte_forms.specs.Putting.shown_by, tte_run.specs.stamps.Answer.granule_line, tte_traces.specs.Ending.RunEnds}
+use Rattle.{tte_forms.specs.Answering.{Gives, line_answer}, tte_run.proofs.stamps_lemmas.{Along.stamps_along, Stamped.first_stamps, Words.{unsigned_abs, ℕ}}}
 use Rattle.tte_run.{proofs.stamps_lemmas.Ends.{less_of, no_granule, not_less_of, not_read, stamp_status}, specs.declared.stamps.stamper.Stamper.Stamper}
 use Rattle.tte_run.proofs.stamps_lemmas.Words.{◌≡◌, GranuleRefused, IsTraceAnswer, ap, arith, inl, inr, least_granule, refl, stamp_lines, subst, told_by}
-use Rattle.std.proofs.lemmas.Int.{ints}
-use Rattle.tte_forms.specs.{Answering.{Gives, line_answer}, Putting.shown_by}
-use Rattle.tte_traces.specs.Ending.{RunEnds}
 use Rattle.tte_run.proofs.stamps.stamping.stamp_network.Goals as goal
 
 pub follow_trace-requires : goal.follow_trace-requires

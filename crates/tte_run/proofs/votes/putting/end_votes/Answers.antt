@@ -1,6 +1,5 @@
-use Rattle.tte_run.proofs.votes_lemmas.Words.{Done, [], inl, inr, refl, shown_by, subst, vote_lines, ℕ}
-use Rattle.tte_forms.{proofs.Puts.Ends-gives, specs.Faults.IsWanted}
-use Rattle.tte_io.specs.Faults.{Rose}
+use Rattle.{tte_forms.proofs.Puts.Ends-gives, tte_run.proofs.votes_lemmas.Words.{Done, [], inl, inr, refl, shown_by, subst, vote_lines, ℕ}}
+use Rattle.{tte_forms.specs.Faults.IsWanted, tte_io.specs.Faults.Rose}
 use Rattle.tte_run.proofs.votes.putting.end_votes.Goals as goal
 
 pub returns-in-Ok-clause-gives : goal.returns-in-Ok-clause-gives

@@ -1,7 +1,6 @@
+use Rattle.{tte_forms.proofs.networks.Answers.{files_accepted, files_refused}, tte_run.specs.votes.Safely.{IsNoVote, IsVotedRun, IsVotedToFault}}
+use Rattle.{tte_forms.specs.networks.Accepting.refusal_lines, tte_run.specs.votes.Answer.the_names, tte_traces.proofs.Safely.{safely_accepted, safely_refused}}
 use Rattle.tte_run.proofs.votes_lemmas.{Ends.{general_of, little_of, stops_of}, Safely.vote_safe, Words.{IsVoteAnswer, inl, inr, refl, shown_by}}
-use Rattle.tte_run.specs.votes.{Answer.the_names, Safely.{IsNoVote, IsVotedRun, IsVotedToFault}}
-use Rattle.tte_forms.{proofs.networks.Answers.{files_accepted, files_refused}, specs.networks.Accepting.refusal_lines}
-use Rattle.tte_traces.proofs.Safely.{safely_accepted, safely_refused}
 use Rattle.tte_run.proofs.votes.voting.vote_trace.Goals as goal
 
 pub returns-in-Ok-clause-general : goal.returns-in-Ok-clause-general

@@ -1,6 +1,4 @@
-use Rattle.std.proofs.Common.{◌∙◌}
-use Rattle.tte_forms.specs.Putting.{shown_by}
-use Rattle.tte_traces.proofs.reports_lemmas.{Answers.judged_by, Reports.{audit_read, audit_unread}}
+use Rattle.{std.proofs.Common.◌∙◌, tte_forms.specs.Putting.shown_by, tte_traces.proofs.reports_lemmas.{Answers.judged_by, Reports.{audit_read, audit_unread}}}
 use Rattle.tte_traces.proofs.reports.auditing.audit_file.Goals as goal
 
 pub returns-in-Ok-clause-gives : goal.returns-in-Ok-clause-gives

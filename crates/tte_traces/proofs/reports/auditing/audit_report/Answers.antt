@@ -1,5 +1,4 @@
-use Rattle.std.proofs.Common.{inr}
-use Rattle.tte_forms.specs.Putting.{shown_by}
+use Rattle.{std.proofs.Common.inr, tte_forms.specs.Putting.shown_by}
 use Rattle.tte_traces.{proofs.reports_lemmas.{Safely.audited_safely, Sources.{files_accepted, files_refused}}, specs.reports.Answer.IsAuditAnswer}
 use Rattle.tte_traces.proofs.reports.auditing.audit_report.Goals as goal
 

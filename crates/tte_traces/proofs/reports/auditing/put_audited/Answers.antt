@@ -1,6 +1,5 @@
-use Rattle.std.proofs.Common.{◌∙◌, ◌≡◌, List, subst, ℕ}
-use Rattle.tte_forms.specs.{Answering.{Gives, line_answer}, Putting.shown_by, declared.status.Status.TheVariants.Done}
-use Rattle.tte_traces.specs.reports.AuditLine.{audited_line}
+use Rattle.{std.proofs.Common.{◌∙◌, ◌≡◌, List, subst, ℕ}, tte_forms.specs.Putting.shown_by}
+use Rattle.{tte_forms.specs.{Answering.{Gives, line_answer}, declared.status.Status.TheVariants.Done}, tte_traces.specs.reports.AuditLine.audited_line}
 use Rattle.tte_traces.proofs.reports.auditing.put_audited.Goals as goal
 
 pub returns-clause-gives : goal.returns-clause-gives

@@ -1,7 +1,6 @@
-use Rattle.std.proofs.Common.{◌∙◌, ◌≡◌, List, subst, sym, ℕ}
-use Rattle.tte_audit.specs.declared.refusal.AuditRefusal.{AuditRefusal}
-use Rattle.tte_forms.specs.{Answering.{Gives, line_answer}, Putting.{Shown, shown_by}, declared.status.Status.{Status, TheVariants.AuditRefused}}
-use Rattle.tte_traces.specs.reports.{Answer.report_refused_answer, AuditLine.lack_line}
+use Rattle.{std.proofs.Common.{◌∙◌, ◌≡◌, List, subst, sym, ℕ}, tte_traces.specs.reports.{Answer.report_refused_answer, AuditLine.lack_line}}
+use Rattle.{tte_audit.specs.declared.refusal.AuditRefusal.AuditRefusal, tte_forms.specs.declared.status.Status.{Status, TheVariants.AuditRefused}}
+use Rattle.tte_forms.specs.{Answering.{Gives, line_answer}, Putting.{Shown, shown_by}}
 use Rattle.tte_traces.proofs.reports.no_report.put_report_refusal.Goals as goal
 
 -- the answer about one refusal under two names

@@ -1,6 +1,5 @@
-use Rattle.std.proofs.Common.{length, refl, subst}
+use Rattle.{std.proofs.Common.{length, refl, subst}, tte_traces.proofs.reports_lemmas.{Answers.kept_apart, Reports.audited_of}}
 use Rattle.tte_audit.{proofs.OneAnswer.answer_law, specs.Answers.IsAudited}
-use Rattle.tte_traces.proofs.reports_lemmas.{Answers.kept_apart, Reports.audited_of}
 use Rattle.tte_traces.proofs.reports.reading.audit_octets.Goals as goal
 
 pub returns-in-Ok-clause-judged : goal.returns-in-Ok-clause-judged

@@ -1,6 +1,5 @@
 use Rattle.std.proofs.Common.{◌<◌, ◌∙◌, Err, ap, length}
-use Rattle.tte_forms.proofs.Octets.{for_all, for_read, for_too_many}
-use Rattle.tte_traces.{proofs.reports_lemmas.Answers.if_judged, specs.reports.Answer.report_limit}
+use Rattle.{tte_forms.proofs.Octets.{for_all, for_read, for_too_many}, tte_traces.{proofs.reports_lemmas.Answers.if_judged, specs.reports.Answer.report_limit}}
 use Rattle.tte_traces.proofs.reports.reading.read_report.Goals as goal
 
 pub returns-in-Ok-clause-judged : goal.returns-in-Ok-clause-judged

@@ -1,6 +1,5 @@
-use Rattle.std.proofs.{Common.{◌++◌, ◌+◌, ◌<◌, ◌^◌, ◌∙◌, ◌∷◌, ◌≡◌, [], ap, arith, subst, sym, ℕ}, Math.Seq.take-length, lemmas.List.take_more}
-use Rattle.std.{proofs.lemmas.List.Elements.{All-append, All-cons, All-nil}, specs.Prelude.{All, take}}
-use Rattle.net_plan.specs.declared.tables.Device.{Device}
+use Rattle.{net_plan.specs.declared.tables.Device.Device, std.{proofs.{Math.Seq.take-length, lemmas.List.take_more}, specs.Prelude.{All, take}}}
+use Rattle.std.proofs.{Common.{◌++◌, ◌+◌, ◌<◌, ◌^◌, ◌∙◌, ◌∷◌, ◌≡◌, [], ap, arith, subst, sym, ℕ}, lemmas.List.Elements.{All-append, All-cons, All-nil}}
 use Rattle.tte_traces.proofs.storms.laws.addresses_fit.Goals as goal
 
 pub devices-preserved : goal.devices-preserved

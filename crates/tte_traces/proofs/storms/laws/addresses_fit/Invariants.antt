@@ -1,5 +1,4 @@
-use Rattle.std.{proofs.Common.{◌<◌, ◌^◌, take}, specs.Prelude.All}
-use Rattle.net_plan.specs.declared.tables.Device.{Device}
+use Rattle.{net_plan.specs.declared.tables.Device.Device, std.{proofs.Common.{◌<◌, ◌^◌, take}, specs.Prelude.All}}
 use Rattle.tte_traces.proofs.storms.laws.addresses_fit.Given as goal
 
 abbrev pub invariant-devices : goal.invariant-devices

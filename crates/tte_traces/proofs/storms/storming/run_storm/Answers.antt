@@ -1,7 +1,5 @@
-use Rattle.std.proofs.Common.{[], inl}
-use Rattle.tte_traces.specs.storms.summary.Lines.{lines_of}
-use Rattle.tte_forms.{proofs.{Puts.{PutsLines-none, PutsLines-still}, frames.Frames.Gives-behind}, specs.Putting.shown_by}
-use Rattle.tte_forms.specs.declared.status.Status.TheVariants.{Done}
+use Rattle.{std.proofs.Common.{[], inl}, tte_forms.specs.Putting.shown_by, tte_traces.specs.storms.summary.Lines.lines_of}
+use Rattle.tte_forms.{proofs.{Puts.{PutsLines-none, PutsLines-still}, frames.Frames.Gives-behind}, specs.declared.status.Status.TheVariants.Done}
 use Rattle.tte_traces.proofs.storms.storming.run_storm.Goals as goal
 
 pub returns-in-Ok-clause-ends : goal.returns-in-Ok-clause-ends

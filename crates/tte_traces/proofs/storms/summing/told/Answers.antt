@@ -1,6 +1,5 @@
-use Rattle.std.{proofs.{Common.{◌∙◌, FitsSigned, ap, arith, of_z, refl, subst, sym, to_z, ℤ}, lemmas.Int.{ints, to_z-of_z}}, specs.Int.{w128, w64}}
-use Rattle.net_plan.specs.declared.network.Network.{Network}
-use Rattle.tte_traces.proofs.storms_lemmas.Summed.{is_fine, spread_fits, sums_up}
+use Rattle.{net_plan.specs.declared.network.Network.Network, std.proofs.Common.{◌∙◌, FitsSigned, ap, arith, of_z, refl, subst, sym, to_z, ℤ}}
+use Rattle.{std.{proofs.lemmas.Int.{ints, to_z-of_z}, specs.Int.{w128, w64}}, tte_traces.proofs.storms_lemmas.Summed.{is_fine, spread_fits, sums_up}}
 use Rattle.tte_traces.proofs.storms.summing.told.Goals as goal
 
 pub overflow_cast-result : goal.overflow_cast-result

@@ -1,5 +1,4 @@
-use Rattle.std.proofs.Common.{◌≡◌, length}
-use Rattle.world_drive.proofs.machines_lemmas.Begun.{HaveBegun}
+use Rattle.{std.proofs.Common.{◌≡◌, length}, world_drive.proofs.machines_lemmas.Begun.HaveBegun}
 use Rattle.world_drive.proofs.machines.beginning.machines_of.Given as goal
 
 abbrev pub invariant-loop-place : goal.invariant-loop-place

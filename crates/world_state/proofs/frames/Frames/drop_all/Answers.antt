@@ -1,7 +1,6 @@
-use Rattle.std.proofs.{Common.{◌+◌, ◌∙◌, ◌≡◌, List, ap, arith, filter, inr, length, refl, subst, sym, ℕ}, lemmas.Option.slice_get_read}
-use Rattle.run_law.specs.records.Order.{IsIn}
+use Rattle.{run_law.specs.records.Order.IsIn, std.proofs.lemmas.Option.slice_get_read, world_state.proofs.Queues.set_queued}
+use Rattle.{std.proofs.Common.{◌+◌, ◌∙◌, ◌≡◌, List, ap, arith, filter, inr, length, refl, subst, sym, ℕ}, world_state.specs.Frames.{Waiting, frames_in}}
 use Rattle.world_state.{proofs.Emptied.{emptied, from_zero, keeps_it, kept_beyond}, specs.declared.{contents.Waits.Waits, queue.Entry.Entry}}
-use Rattle.world_state.{proofs.Queues.set_queued, specs.Frames.{Waiting, frames_in}}
 use Rattle.world_state.proofs.frames.Frames.drop_all.Goals as goal
 
 pub invariant_of-self : goal.invariant_of-self

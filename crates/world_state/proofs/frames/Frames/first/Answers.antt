@@ -1,7 +1,6 @@
 use Rattle.std.proofs.{Common.{◌≡◌, List, None, Option, Some, ap, length, refl, subst, sym}, lemmas.Option.{slice_get_past, slice_get_read}}
-use Rattle.std.specs.{List.slice_get, Option.option_and_then, Prelude.MatchOption}
+use Rattle.{std.specs.{List.slice_get, Option.option_and_then, Prelude.MatchOption}, world_state.specs.{declared.contents.Waits.Waits, queue.Queues.Queue}}
 use Rattle.world_state.{proofs.Queues.{first_of_queue, no_queue}, specs.Frames.{IsFirstAt, NoneAt, Waiting, first_frame, first_of, frames_in}}
-use Rattle.world_state.specs.{declared.contents.Waits.Waits, queue.Queues.Queue}
 use Rattle.world_state.proofs.frames.Frames.first.Goals as goal
 
 pub returns-in-Some-clause-first : goal.returns-in-Some-clause-first

@@ -1,5 +1,4 @@
-use Rattle.std.proofs.Common.{◌+◌, ◌-◌, ◌≡◌}
-use Rattle.world_state.specs.Frames.{AreQueued, frames_in}
+use Rattle.{std.proofs.Common.{◌+◌, ◌-◌, ◌≡◌}, world_state.specs.Frames.{AreQueued, frames_in}}
 use Rattle.world_state.proofs.frames.Frames.grow.Given as goal
 
 abbrev pub invariant-queues : goal.invariant-queues

@@ -1,5 +1,4 @@
-use Rattle.std.proofs.Common.{◌∙◌, subst}
-use Rattle.world_state.{proofs.Acts.still_sound, specs.{Keeping.keeps, declared.kept.Kept.Kept}}
+use Rattle.{std.proofs.Common.{◌∙◌, subst}, world_state.{proofs.Acts.still_sound, specs.{Keeping.keeps, declared.kept.Kept.Kept}}}
 use Rattle.world_state.proofs.kept.Kept.act.Goals as goal
 
 pub returns-in-Sound-clause-acted : goal.returns-in-Sound-clause-acted

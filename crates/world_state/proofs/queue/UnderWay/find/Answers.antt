@@ -1,6 +1,5 @@
-use Rattle.std.{proofs.Common.{List, subst}, specs.{Prelude.IfSome, declared.cmp.Reverse.Reverse}}
-use Rattle.world_state.proofs.queue_lemmas.Finding.{found_in, holds_none}
-use Rattle.world_state.specs.{queue.Finding.{HoldsAt, HoldsNoneAt, IsSlotFor, NoSlotFor}, declared.queue.Slotted.Slotted}
+use Rattle.{std.{proofs.Common.{List, subst}, specs.{Prelude.IfSome, declared.cmp.Reverse.Reverse}}, world_state.specs.declared.queue.Slotted.Slotted}
+use Rattle.world_state.{proofs.queue_lemmas.Finding.{found_in, holds_none}, specs.queue.Finding.{HoldsAt, HoldsNoneAt, IsSlotFor, NoSlotFor}}
 use Rattle.world_state.proofs.queue.UnderWay.find.Goals as goal
 
 pub returns-in-Some-clause-found : goal.returns-in-Some-clause-found

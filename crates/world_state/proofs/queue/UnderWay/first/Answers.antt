@@ -1,5 +1,4 @@
-use Rattle.std.proofs.Common.{arith, refl, subst, sym}
-use Rattle.world_state.{proofs.queue_lemmas.{Bags.in_contained, Slots.top_is_first}, specs.queue.Places.IsFirst}
+use Rattle.{std.proofs.Common.{arith, refl, subst, sym}, world_state.{proofs.queue_lemmas.{Bags.in_contained, Slots.top_is_first}, specs.queue.Places.IsFirst}}
 use Rattle.world_state.proofs.queue.UnderWay.first.Goals as goal
 
 pub returns-in-Some-clause-first : goal.returns-in-Some-clause-first

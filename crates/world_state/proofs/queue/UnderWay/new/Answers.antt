@@ -1,6 +1,5 @@
-use Rattle.std.{proofs.Common.{map, nat_eq, subst, sym}, specs.List.IsDistinct}
-use Rattle.run_law.specs.records.Order.{IsIn}
-use Rattle.world_state.proofs.queue_lemmas.Slots.{slot_of}
+use Rattle.{run_law.specs.records.Order.IsIn, std.proofs.Common.{map, nat_eq, subst, sym}, world_state.proofs.queue_lemmas.Slots.slot_of}
+use Rattle.std.specs.List.{IsDistinct}
 use Rattle.world_state.proofs.queue.UnderWay.new.Goals as goal
 
 pub invariant_of-result : goal.invariant_of-result

@@ -1,5 +1,4 @@
-use Rattle.std.proofs.Common.{◌+◌, ◌-◌}
-use Rattle.world_state.specs.Shelves.{IsLengthened}
+use Rattle.{std.proofs.Common.{◌+◌, ◌-◌}, world_state.specs.Shelves.IsLengthened}
 use Rattle.world_state.proofs.shelves.Shelf.reserve.Given as goal
 
 abbrev pub invariant-places : goal.invariant-places

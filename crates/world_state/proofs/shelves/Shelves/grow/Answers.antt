@@ -1,5 +1,4 @@
-use Rattle.std.proofs.Common.{◌∙◌}
-use Rattle.world_state.proofs.Placings.{one_more_shelf}
+use Rattle.{std.proofs.Common.◌∙◌, world_state.proofs.Placings.one_more_shelf}
 use Rattle.world_state.proofs.shelves.Shelves.grow.Goals as goal
 
 pub invariant_of-self-then-is_err : goal.invariant_of-self-then-is_err

@@ -1,5 +1,4 @@
-use Rattle.std.proofs.Common.{◌+◌, ◌-◌, ◌≡◌}
-use Rattle.world_state.specs.Shelves.{AreShelved, frames_in}
+use Rattle.{std.proofs.Common.{◌+◌, ◌-◌, ◌≡◌}, world_state.specs.Shelves.{AreShelved, frames_in}}
 use Rattle.world_state.proofs.shelves.Shelves.grow.Given as goal
 
 abbrev pub invariant-shelves : goal.invariant-shelves

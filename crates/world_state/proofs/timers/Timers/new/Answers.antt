@@ -1,5 +1,4 @@
-use Rattle.std.proofs.Common.{◌∙◌, List, ap, map, ℕ}
-use Rattle.world_state.{proofs.SlotOrder.times_made, specs.timers.SlotKeys.time_of}
+use Rattle.{std.proofs.Common.{◌∙◌, List, ap, map, ℕ}, world_state.{proofs.SlotOrder.times_made, specs.timers.SlotKeys.time_of}}
 use Rattle.world_state.proofs.timers.Timers.new.Goals as goal
 
 pub returns : goal.returns

@@ -1,5 +1,4 @@
-use Rattle.std.proofs.{Common.{◌/◌, ◌^◌, ◌∙◌, ◌≡◌, List, ap, arith, map, set, ℕ}, lemmas.List.map-set}
-use Rattle.world_state.specs.timers.SlotKeys.{time_of}
+use Rattle.{std.proofs.{Common.{◌/◌, ◌^◌, ◌∙◌, ◌≡◌, List, ap, arith, map, set, ℕ}, lemmas.List.map-set}, world_state.specs.timers.SlotKeys.time_of}
 use Rattle.world_state.proofs.timers.Timers.set.Goals as goal
 
 pub returns : goal.returns

@@ -1,5 +1,4 @@
-use Rattle.std.{proofs.Common.{◌∙◌, Option, Some, ap, map, sym}, specs.Prelude.slice_get}
-use Rattle.audit_devices.{proofs.collections_lemmas.Kepts.emission-at}
+use Rattle.{audit_devices.proofs.collections_lemmas.Kepts.emission-at, std.{proofs.Common.{◌∙◌, Option, Some, ap, map, sym}, specs.Prelude.slice_get}}
 use Rattle.audit_devices.specs.{collections.Kept.{cluster_kept, emitted, kept_in}, declared.collections.gathering.Row.Row}
 use Rattle.audit_devices.proofs.collections.history.CollectionHistory.emission.Goals as goal
 

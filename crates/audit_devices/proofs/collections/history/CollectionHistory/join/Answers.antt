@@ -1,10 +1,8 @@
+use Rattle.audit_devices.{proofs.collections_lemmas.Joining.{grows-none, joined-by, kept_with, shift}, specs.declared.collections.gathering.Gathering.Gathering}
+use Rattle.{audit_devices.specs.collections.Gathered.EndsWith, std.proofs.{Common.{subst, sym, take, to_z, w64, ℤ}, lemmas.List.{append-nil, length-append}}}
+use Rattle.audit_devices.specs.{collections.{Kept.{History, cluster_kept}, Steps.Joins}, declared.collections.{gathering.Row.Row, kept.KeptCluster.KeptCluster}}
+use Rattle.{compression.specs.Collection.joined_end, std.{proofs.lemmas.Int.to_z-of_z, specs.{Int.w128, Prelude.{IfSome, bit_or}}}}
 use Rattle.std.proofs.Common.{◌%◌, ◌*◌, ◌++◌, ◌+◌, ◌-◌, ◌^◌, ◌∙◌, ◌∷◌, ◌≡◌, FitsSigned, List, Option, Some, [], ap, arith, drop, length, of_z, refl, rules}
-use Rattle.std.{proofs.{Common.{subst, sym, take, to_z, w64, ℤ}, lemmas.{Int.to_z-of_z, List.{append-nil, length-append}}}, specs.Int.w128}
-use Rattle.std.specs.Prelude.{IfSome, bit_or}
-use Rattle.compression.specs.Collection.{joined_end}
-use Rattle.audit_devices.proofs.collections_lemmas.Joining.{grows-none, joined-by, kept_with, shift}
-use Rattle.audit_devices.specs.collections.{Gathered.EndsWith, Kept.{History, cluster_kept}, Steps.Joins}
-use Rattle.audit_devices.specs.declared.collections.{gathering.{Gathering.Gathering, Row.Row}, kept.KeptCluster.KeptCluster}
 use Rattle.audit_devices.proofs.collections.history.CollectionHistory.join.Goals as goal
 
 pub returns-in_default-clause-grown : goal.returns-in_default-clause-grown

@@ -1,7 +1,6 @@
-use Rattle.std.{proofs.{Common.{◌-◌, ◌∙◌, ◌≡◌}, lemmas.Int.to_z-of_z}, specs.Int.w128}
-use Rattle.compression.{proofs.Middles.{middle_of-ends, middle_of-inner}, specs.Middle.{middle_of, relative}}
-use Rattle.tte_units.specs.Mean.{mean_of}
-use Rattle.audit_devices.{proofs.collections_lemmas.{Kepts.length-last, Wide.{fits_small, mean_wide}}, specs.collections.Kept.points_kept}
+use Rattle.{audit_devices.{proofs.collections_lemmas.Kepts.length-last, specs.collections.Kept.points_kept}, compression.specs.Middle.{middle_of, relative}}
+use Rattle.{audit_devices.proofs.collections_lemmas.Wide.{fits_small, mean_wide}, compression.proofs.Middles.{middle_of-ends, middle_of-inner}}
+use Rattle.{std.{proofs.{Common.{◌-◌, ◌∙◌, ◌≡◌}, lemmas.Int.to_z-of_z}, specs.Int.w128}, tte_units.specs.Mean.mean_of}
 use Rattle.audit_devices.proofs.collections.history.CollectionHistory.middle.Goals as goal
 
 pub returns-then-last-lt2-clause-value : goal.returns-then-last-lt2-clause-value

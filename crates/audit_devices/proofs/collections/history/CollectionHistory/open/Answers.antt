@@ -1,7 +1,6 @@
+use Rattle.audit_devices.{proofs.collections_lemmas.Joining.{opened-by, push-same, shift}, specs.declared.collections.kept.KeptCluster.KeptCluster}
+use Rattle.{audit_devices.specs.collections.Kept.History, std.proofs.lemmas.{Int.{ints, to_z-of_z}, List.length-append}}
 use Rattle.std.proofs.Common.{◌++◌, ◌+◌, ◌∙◌, ◌∷◌, ◌≡◌, FitsSigned, List, [], ap, arith, drop, length, refl, rules, sym, take, w64, ℤ}
-use Rattle.std.proofs.lemmas.{Int.{ints, to_z-of_z}, List.length-append}
-use Rattle.audit_devices.proofs.collections_lemmas.Joining.{opened-by, push-same, shift}
-use Rattle.audit_devices.specs.{collections.Kept.History, declared.collections.kept.KeptCluster.KeptCluster}
 use Rattle.audit_devices.proofs.collections.history.CollectionHistory.open.Goals as goal
 
 pub returns-clause-opened : goal.returns-clause-opened

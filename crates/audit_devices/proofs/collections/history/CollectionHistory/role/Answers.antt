@@ -1,7 +1,6 @@
-use Rattle.std.proofs.{Common.{◌<ℤ◌, ◌∙◌, ◌≤ℤ◌, Option, ap, arith, drop, map, sym, take}, lemmas.Int.ints}
-use Rattle.compression.specs.{Clusters.{Point, point_at}, Role.role}
-use Rattle.audit_devices.proofs.collections_lemmas.Kepts.{role-beyond, role-within}
-use Rattle.audit_devices.specs.{collections.Kept.{cluster_kept, kept_in}, declared.collections.gathering.Row.Row}
+use Rattle.audit_devices.{proofs.collections_lemmas.Kepts.{role-beyond, role-within}, specs.collections.Kept.{cluster_kept, kept_in}}
+use Rattle.{audit_devices.specs.declared.collections.gathering.Row.Row, std.proofs.Common.{◌<ℤ◌, ◌∙◌, ◌≤ℤ◌, Option, ap, arith, drop, map, sym, take}}
+use Rattle.{compression.specs.{Clusters.{Point, point_at}, Role.role}, std.proofs.lemmas.Int.ints}
 use Rattle.audit_devices.proofs.collections.history.CollectionHistory.role.Goals as goal
 
 pub returns-then-row-from : goal.returns-then-row-from

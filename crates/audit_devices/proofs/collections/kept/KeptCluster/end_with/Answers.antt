@@ -1,6 +1,5 @@
-use Rattle.std.proofs.{Common.{◌+ℤ◌, ◌∙◌, ◌≤ℤ◌, arith, sym}, lemmas.Int.{ints, to_z-of_z}}
-use Rattle.compression.proofs.Collections.{joined_end-first}
-use Rattle.audit_devices.specs.collections.Kept.{cluster_kept}
+use Rattle.{audit_devices.specs.collections.Kept.cluster_kept, compression.proofs.Collections.joined_end-first, std.proofs.Common.{◌+ℤ◌, ◌∙◌, ◌≤ℤ◌, arith, sym}}
+use Rattle.std.proofs.lemmas.Int.{ints, to_z-of_z}
 use Rattle.audit_devices.proofs.collections.kept.KeptCluster.end_with.Goals as goal
 
 pub overflow_add-result : goal.overflow_add-result

@@ -1,6 +1,5 @@
-use Rattle.std.{proofs.{Common.{◌≡◌, Some, length, refl, subst}, lemmas.Option.slice_get_read}, specs.Prelude.slice_get}
-use Rattle.run_law.specs.scenario.Ways.{wire_of, wire_set}
-use Rattle.audit_devices.proofs.events_lemmas.Looking.{looked_up}
+use Rattle.{audit_devices.proofs.events_lemmas.Looking.looked_up, std.proofs.{Common.{◌≡◌, Some, length, refl, subst}, lemmas.Option.slice_get_read}}
+use Rattle.{run_law.specs.scenario.Ways.{wire_of, wire_set}, std.specs.Prelude.slice_get}
 use Rattle.audit_devices.proofs.events.history.EventHistory.delay.Goals as goal
 
 pub returns-in-Some : goal.returns-in-Some

@@ -1,6 +1,5 @@
-use Rattle.std.{proofs.{Common.{◌≡◌, Some, false, length, refl, subst}, lemmas.Option.slice_get_read}, specs.Prelude.slice_get}
-use Rattle.run_law.specs.scenario.Ways.{cut_set}
-use Rattle.audit_devices.proofs.events_lemmas.Looking.{looked_up}
+use Rattle.{audit_devices.proofs.events_lemmas.Looking.looked_up, std.proofs.{Common.{◌≡◌, Some, false, length, refl, subst}, lemmas.Option.slice_get_read}}
+use Rattle.{run_law.specs.scenario.Ways.cut_set, std.specs.Prelude.slice_get}
 use Rattle.audit_devices.proofs.events.history.EventHistory.is_cut.Goals as goal
 
 pub returns-in-Some : goal.returns-in-Some

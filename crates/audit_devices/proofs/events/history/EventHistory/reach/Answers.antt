@@ -1,7 +1,6 @@
-use Rattle.std.{proofs.{Common.{◌≡◌, Some, arith, length, refl, rules, subst}, lemmas.{Int.{ints, to_z-of_z}, Option.slice_get_read}}, specs.Int.w128}
-use Rattle.std.specs.Prelude.{slice_get}
-use Rattle.audit_devices.{proofs.events_lemmas.{Looking.{told_clocks, told_reads}, Reaching.reach_of_value}, specs.events.Readings.clock_reading}
-use Rattle.audit_devices.specs.events.{Beginnings.IsSought, Clocks.clocks_reading}
+use Rattle.{audit_devices.proofs.events_lemmas.Looking.{told_clocks, told_reads}, std.proofs.Common.{◌≡◌, Some, arith, length, refl, rules, subst}}
+use Rattle.audit_devices.{proofs.events_lemmas.Reaching.reach_of_value, specs.events.{Beginnings.IsSought, Clocks.clocks_reading, Readings.clock_reading}}
+use Rattle.std.{proofs.lemmas.{Int.{ints, to_z-of_z}, Option.slice_get_read}, specs.{Int.w128, Prelude.slice_get}}
 use Rattle.audit_devices.proofs.events.history.EventHistory.reach.Goals as goal
 
 pub returns-then-value-gt-MOST_SOUGHT : goal.returns-then-value-gt-MOST_SOUGHT

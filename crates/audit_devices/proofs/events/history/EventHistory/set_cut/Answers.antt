@@ -1,10 +1,7 @@
-use Rattle.std.{proofs.{Common.{◌++◌, ◌∙◌, ◌∷◌, ◌≡◌, Some, [], ap, arith, length, refl, subst, sym}, lemmas.Option.slice_get_read}, specs.Prelude.slice_get}
-use Rattle.net_plan.specs.Belonging.{IsOfNetwork}
-use Rattle.tte_lemmas.proofs.Lists.{set_length}
-use Rattle.tte_units.specs.Amount.{amount}
 use Rattle.audit_devices.proofs.events_lemmas.Adding.{cut_event, cut_no_break, cut_no_step, cut_no_turn, cut_set_to, no_devices, same_way}
-use Rattle.audit_devices.proofs.events_lemmas.{Keeping.{match_map, remembers_more, remembers_same}, Looking.{cut_has, has_place}}
-use Rattle.audit_devices.{specs.events.Settings.change_to}
+use Rattle.{audit_devices.proofs.events_lemmas.{Keeping.{match_map, remembers_more, remembers_same}, Looking.{cut_has, has_place}}, std.specs.Prelude.slice_get}
+use Rattle.{audit_devices.specs.events.Settings.change_to, std.proofs.Common.{◌++◌, ◌∙◌, ◌∷◌, ◌≡◌, Some, [], ap, arith, length, refl, subst, sym}}
+use Rattle.{net_plan.specs.Belonging.IsOfNetwork, std.proofs.lemmas.Option.slice_get_read, tte_lemmas.proofs.Lists.set_length, tte_units.specs.Amount.amount}
 use Rattle.audit_devices.proofs.events.history.EventHistory.set_cut.Goals as goal
 
 pub returns-in-Some : goal.returns-in-Some

@@ -1,8 +1,6 @@
-use Rattle.std.{proofs.{Common.{◌++◌, ◌∙◌, ◌∷◌, ◌≡◌, Some, [], ap, length, refl, sym}, lemmas.Option.slice_get_read}, specs.Prelude.slice_get}
-use Rattle.tte_lemmas.proofs.Lists.{set_length}
-use Rattle.tte_units.specs.Amount.{amount}
 use Rattle.audit_devices.proofs.events_lemmas.{Adding.{hold_set_to, no_devices, same_way}, Keeping.{match_map, remembers_more, remembers_same}}
-use Rattle.audit_devices.{specs.events.Settings.change_to}
+use Rattle.{audit_devices.specs.events.Settings.change_to, std.{proofs.Common.{◌++◌, ◌∙◌, ◌∷◌, ◌≡◌, Some, [], ap, length, refl, sym}, specs.Prelude.slice_get}}
+use Rattle.{std.proofs.lemmas.Option.slice_get_read, tte_lemmas.proofs.Lists.set_length, tte_units.specs.Amount.amount}
 use Rattle.net_plan.specs.declared.event.What.TheVariants as events
 use Rattle.audit_devices.proofs.events.history.EventHistory.set_hold.Goals as goal
 

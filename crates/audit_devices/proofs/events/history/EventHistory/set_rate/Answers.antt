@@ -1,9 +1,7 @@
-use Rattle.std.proofs.{Common.{◌++◌, ◌∙◌, ◌∷◌, ◌≡◌, ◌≤◌, Some, [], ap, arith, length, refl, subst, sym, unsigned_abs, ℕ}, lemmas.Int.ints}
-use Rattle.std.{proofs.lemmas.Option.slice_get_read, specs.{List.All, Prelude.slice_get}}
-use Rattle.drift_clock.specs.Segment.{Segment, stepped_segment}
-use Rattle.tte_lemmas.proofs.Lists.{set_length}
 use Rattle.audit_devices.proofs.events_lemmas.{Adding.{no_ways, rate_set, same_device}, Keeping.{match_map, remembers_more, remembers_same}, Looking.ready_at}
-use Rattle.audit_devices.{proofs.events_lemmas.Clocking.value_ready, specs.events.Settings.{change_to, value_at}}
+use Rattle.{audit_devices.{proofs.events_lemmas.Clocking.value_ready, specs.events.Settings.{change_to, value_at}}, tte_lemmas.proofs.Lists.set_length}
+use Rattle.{drift_clock.specs.Segment.{Segment, stepped_segment}, std.{proofs.lemmas.Int.ints, specs.{List.All, Prelude.slice_get}}}
+use Rattle.std.proofs.{Common.{◌++◌, ◌∙◌, ◌∷◌, ◌≡◌, ◌≤◌, Some, [], ap, arith, length, refl, subst, sym, unsigned_abs, ℕ}, lemmas.Option.slice_get_read}
 use Rattle.net_plan.specs.declared.event.What.TheVariants as events
 use Rattle.audit_devices.proofs.events.history.EventHistory.set_rate.Goals as goal
 

@@ -1,6 +1,5 @@
-use Rattle.std.{proofs.{Common.{◌≡◌, Some, length, refl}, lemmas.Option.slice_get_read}, specs.Prelude.slice_get}
-use Rattle.tte_lemmas.proofs.Lists.{set_length}
-use Rattle.audit_devices.proofs.events_lemmas.{Adding.{no_ways, turn_set}, Keeping.remembers_more}
+use Rattle.{audit_devices.proofs.events_lemmas.{Adding.{no_ways, turn_set}, Keeping.remembers_more}, std.proofs.Common.{◌≡◌, Some, length, refl}}
+use Rattle.{std.{proofs.lemmas.Option.slice_get_read, specs.Prelude.slice_get}, tte_lemmas.proofs.Lists.set_length}
 use Rattle.net_plan.specs.declared.event.What.TheVariants as events
 use Rattle.audit_devices.proofs.events.history.EventHistory.turn_on.Goals as goal
 

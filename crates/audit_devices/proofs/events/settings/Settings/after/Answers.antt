@@ -1,5 +1,4 @@
-use Rattle.std.{proofs.Common.{◌∙◌, ap}, specs.Prelude.drop}
-use Rattle.audit_devices.proofs.events_lemmas.Valuing.{later_found}
+use Rattle.{audit_devices.proofs.events_lemmas.Valuing.later_found, std.{proofs.Common.{◌∙◌, ap}, specs.Prelude.drop}}
 use Rattle.audit_devices.proofs.events.settings.Settings.after.Goals as goal
 
 pub returns : goal.returns

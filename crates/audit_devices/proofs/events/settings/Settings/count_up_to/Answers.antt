@@ -1,6 +1,5 @@
-use Rattle.std.proofs.{Common.{◌≡◌, false, nat_le, of_calls, rules, subst, sym, true}, lemmas.Fn.always_returns_same}
-use Rattle.std.specs.List.Sorted.{IsPartitionPoint, IsPartitionedBy}
-use Rattle.audit_devices.proofs.events_lemmas.Valuing.{part_at, parted}
+use Rattle.{audit_devices.proofs.events_lemmas.Valuing.{part_at, parted}, std.proofs.Common.{◌≡◌, false, nat_le, of_calls, rules, subst, sym, true}}
+use Rattle.std.{proofs.lemmas.Fn.always_returns_same, specs.List.Sorted.{IsPartitionPoint, IsPartitionedBy}}
 use Rattle.audit_devices.proofs.events.settings.Settings.count_up_to.Goals as goal
 
 pub returns-clause-part : goal.returns-clause-part

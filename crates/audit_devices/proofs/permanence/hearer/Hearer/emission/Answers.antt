@@ -1,10 +1,8 @@
-use Rattle.std.proofs.Common.{◌∙◌, ◌≡◌, Some, ap, false, subst, sym, true, ℤ}
-use Rattle.audit_devices.specs.stretches.Points.{IsSentFor}
-use Rattle.net_plan.specs.declared.network.Network.{Network}
-use Rattle.run_law.specs.control.{Collections.{observation_window, points_of}, Emissions.Emits, Hearing.heard_as}
-use Rattle.run_law.specs.{device.States.{adjustment_at_hearing, state_at_hearing}, scenario.Devices.{is_cm, plan_of}}
-use Rattle.sync_state.specs.declared.state.State.{State}
 use Rattle.audit_devices.proofs.permanence.hearer.Hearer.emission.Goals.{then-not-sends-via-else-not-sends+then-not-reaches, then-not-sends-via-then-not-sends}
+use Rattle.{audit_devices.specs.stretches.Points.IsSentFor, run_law.specs.scenario.Devices.{is_cm, plan_of}, sync_state.specs.declared.state.State.State}
+use Rattle.{net_plan.specs.declared.network.Network.Network, run_law.specs.control.{Collections.{observation_window, points_of}, Hearing.heard_as}}
+use Rattle.run_law.specs.control.Emissions.{Emits}
+use Rattle.{run_law.specs.device.States.{adjustment_at_hearing, state_at_hearing}, std.proofs.Common.{◌∙◌, ◌≡◌, Some, ap, false, subst, sym, true, ℤ}}
 use Rattle.audit_devices.proofs.permanence.hearer.Hearer.emission.Goals as goal
 
 pub returns-then-not-sends : goal.returns-then-not-sends

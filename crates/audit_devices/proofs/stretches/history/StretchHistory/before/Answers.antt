@@ -1,7 +1,5 @@
-use Rattle.std.proofs.Common.{subst, sym}
-use Rattle.audit_devices.specs.{Keeping.records_before, stretches.{Keeping.Stretches, Points.HasPoints}}
-use Rattle.run_law.specs.control.Collections.{points_of}
-use Rattle.tte_lemmas.proofs.Lists.{got_at}
+use Rattle.{audit_devices.specs.{Keeping.records_before, stretches.{Keeping.Stretches, Points.HasPoints}}, run_law.specs.control.Collections.points_of}
+use Rattle.{std.proofs.Common.{subst, sym}, tte_lemmas.proofs.Lists.got_at}
 use Rattle.audit_devices.proofs.stretches.history.StretchHistory.before.Goals as goal
 
 pub returns : goal.returns

@@ -1,6 +1,5 @@
-use Rattle.std.proofs.Common.{List, subst, ℕ}
-use Rattle.run_law.specs.{control.Collections.points_of, declared.judgement.Judgement.TheVariants.Ignored}
-use Rattle.audit_devices.specs.{Keeping.records_before, stretches.Points.HasPoints}
+use Rattle.{audit_devices.specs.Keeping.records_before, std.proofs.Common.{List, subst, ℕ}}
+use Rattle.{audit_devices.specs.stretches.Points.HasPoints, run_law.specs.{control.Collections.points_of, declared.judgement.Judgement.TheVariants.Ignored}}
 use Rattle.audit_devices.proofs.stretches.history.StretchHistory.before_permanence.Goals as goal
 
 pub returns : goal.returns

@@ -1,6 +1,5 @@
-use Rattle.std.proofs.Common.{◌<◌, ◌∙◌, ◌≡◌, Some, ap, arith, length, slice_get, sym}
-use Rattle.tte_lemmas.proofs.Lists.{got_at}
-use Rattle.audit_devices.specs.{Keeping.time_at, stretches.Keeping.Stretches, declared.stretches.kept.Entry.Entry}
+use Rattle.{audit_devices.specs.{Keeping.time_at, stretches.Keeping.Stretches}, tte_lemmas.proofs.Lists.got_at}
+use Rattle.{audit_devices.specs.declared.stretches.kept.Entry.Entry, std.proofs.Common.{◌<◌, ◌∙◌, ◌≡◌, Some, ap, arith, length, slice_get, sym}}
 use Rattle.audit_devices.proofs.stretches.history.StretchHistory.changed.Goals as goal
 
 pub index-entry-requires : goal.index-entry-requires

@@ -1,6 +1,5 @@
+use Rattle.{audit_devices.specs.stretches.Keeping.{Keeps, Stretches}, net_plan.specs.declared.ids.DeviceId.DeviceId}
 use Rattle.std.{proofs.Common.{◌≡◌, Some, [], slice_get, ℕ}, specs.Prelude.length}
-use Rattle.net_plan.specs.declared.ids.DeviceId.{DeviceId}
-use Rattle.audit_devices.specs.stretches.Keeping.{Keeps, Stretches}
 use Rattle.audit_devices.proofs.stretches.history.StretchHistory.new.Given as goal
 
 abbrev pub invariant-loop : goal.invariant-loop

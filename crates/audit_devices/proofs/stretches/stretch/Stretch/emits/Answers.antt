@@ -1,7 +1,6 @@
-use Rattle.std.proofs.{Common.{◌∙◌, ◌≡◌, FitsSigned, IsTrue, List, None, Some, false, refl, rules, subst, sym, w64, ℤ}, lemmas.Int.to_z-of_z}
-use Rattle.std.{proofs.lemmas.List.Elements.All-contains, specs.Prelude.{All, Contains}}
-use Rattle.audit_devices.specs.{collections.Kept.emissions_in, declared.collections.emitted.Emitted.Emitted}
-use Rattle.audit_devices.proofs.stretches_lemmas.Clustering.{emissions_same, equal_emitted, same_emitted}
+use Rattle.audit_devices.{proofs.stretches_lemmas.Clustering.{emissions_same, equal_emitted, same_emitted}, specs.declared.collections.emitted.Emitted.Emitted}
+use Rattle.{audit_devices.specs.collections.Kept.emissions_in, std.{proofs.lemmas.Int.to_z-of_z, specs.Prelude.{All, Contains}}}
+use Rattle.std.proofs.{Common.{◌∙◌, ◌≡◌, FitsSigned, IsTrue, List, None, Some, false, refl, rules, subst, sym, w64, ℤ}, lemmas.List.Elements.All-contains}
 use Rattle.audit_devices.proofs.stretches.stretch.Stretch.emits.Goals as goal
 
 pub returns-in-Some : goal.returns-in-Some

@@ -1,7 +1,6 @@
-use Rattle.std.{proofs.Common.{◌∙◌, ◌≡◌, List, ap, subst, sym, ℤ}, specs.List.Contains}
-use Rattle.audit_devices.specs.collections.Kept.{clusters_in}
-use Rattle.compression.{proofs.Standing.AreClusters-unique, specs.{Clusters.{AreClusters, Cluster}, Emission.compressed}}
-use Rattle.run_law.specs.control.Collections.{observation_window}
+use Rattle.{audit_devices.specs.collections.Kept.clusters_in, compression.{proofs.Standing.AreClusters-unique, specs.Clusters.{AreClusters, Cluster}}}
+use Rattle.{compression.specs.Emission.compressed, run_law.specs.control.Collections.observation_window, std.proofs.Common.{◌∙◌, ◌≡◌, List, ap, subst, sym, ℤ}}
+use Rattle.std.specs.List.{Contains}
 use Rattle.audit_devices.proofs.stretches.stretch.Stretch.sends.Goals as goal
 
 pub returns : goal.returns

@@ -1,5 +1,4 @@
-use Rattle.std.proofs.Common.{Option, pos, subst, sym, ℕ, ℤ}
-use Rattle.audit_devices.specs.events.Readings.{clock_reading}
+use Rattle.{audit_devices.specs.events.Readings.clock_reading, std.proofs.Common.{Option, pos, subst, sym, ℕ, ℤ}}
 use Rattle.audit_sweep.{proofs.records_lemmas.dispatches_lemmas.OneValue.crossed_alone, specs.records.dispatches.Crossing.{IsCrossingOrNone, first_time}}
 use Rattle.audit_sweep.proofs.records.dispatches.crossing.crossing_time.Goals as goal
 

@@ -1,5 +1,4 @@
-use Rattle.std.proofs.{Common.{◌∙◌, sym}, lemmas.Bool.false≢true}
-use Rattle.audit_sweep.proofs.records_lemmas.dispatches_lemmas.Rows.{by_some, have_periods}
+use Rattle.{audit_sweep.proofs.records_lemmas.dispatches_lemmas.Rows.{by_some, have_periods}, std.proofs.{Common.{◌∙◌, sym}, lemmas.Bool.false≢true}}
 use Rattle.audit_sweep.proofs.records.dispatches.dispatching.dispatches.Goals as goal
 
 pub is_some_dispatched-requires-clause-periods : goal.is_some_dispatched-requires-clause-periods

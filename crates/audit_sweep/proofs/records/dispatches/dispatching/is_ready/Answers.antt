@@ -1,6 +1,5 @@
-use Rattle.std.proofs.{Common.{◌∙◌, pos, subst, sym, ℕ}, lemmas.Bool.false≢true}
-use Rattle.run_law.specs.device.LocalClocks.{Reaches}
-use Rattle.audit_sweep.specs.records.dispatches.Dispatched.{IsAtHand}
+use Rattle.{audit_sweep.specs.records.dispatches.Dispatched.IsAtHand, run_law.specs.device.LocalClocks.Reaches, std.proofs.Common.{◌∙◌, pos, subst, sym, ℕ}}
+use Rattle.std.proofs.lemmas.Bool.{false≢true}
 use Rattle.audit_sweep.proofs.records.dispatches.dispatching.is_ready.Goals as goal
 
 pub returns-then-reaches_value : goal.returns-then-reaches_value

@@ -1,5 +1,4 @@
-use Rattle.std.proofs.Common.{arith, refl}
-use Rattle.audit_devices.proofs.Partitions.{in_index}
+use Rattle.{audit_devices.proofs.Partitions.in_index, std.proofs.Common.{arith, refl}}
 use Rattle.audit_sweep.{proofs.records_lemmas.dispatches_lemmas.Rows.{no_row, none_in_all, none_more}, specs.records.dispatches.Dispatched.IsRowDispatched}
 use Rattle.audit_sweep.proofs.records.dispatches.dispatching.is_some_dispatched.Goals as goal
 

@@ -1,6 +1,4 @@
-use Rattle.std.proofs.Common.{List, ℕ}
-use Rattle.audit_devices.specs.clocks.Moments.{StandsAt}
-use Rattle.run_law.specs.{records.Happenings.Happening, scenario.Scenarios.Scenario}
+use Rattle.{audit_devices.specs.clocks.Moments.StandsAt, run_law.specs.{records.Happenings.Happening, scenario.Scenarios.Scenario}, std.proofs.Common.{List, ℕ}}
 use Rattle.audit_sweep.{proofs.records_lemmas.dispatches_lemmas.Rows.{NoneOf, no_row}, specs.records.dispatches.Dispatched.{IsAcceptedLast, IsRowDispatched}}
 use Rattle.audit_sweep.proofs.records.dispatches.dispatching.is_some_dispatched.Given as goal
 

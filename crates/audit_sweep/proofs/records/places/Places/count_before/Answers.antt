@@ -1,7 +1,5 @@
-use Rattle.std.proofs.{Common.{◌∙◌, ◌≡◌, List, false, of_calls, rules, subst, sym, true, ℕ}, lemmas.Fn.always_returns_same}
-use Rattle.std.specs.List.Sorted.{IsPartitionPoint, IsPartitionedBy}
-use Rattle.run_law.specs.records.Order.{is_before}
-use Rattle.audit_sweep.proofs.records_lemmas.AscendingPlaces.{parted}
+use Rattle.{audit_sweep.proofs.records_lemmas.AscendingPlaces.parted, std.proofs.Common.{◌∙◌, ◌≡◌, List, false, of_calls, rules, subst, sym, true, ℕ}}
+use Rattle.{run_law.specs.records.Order.is_before, std.{proofs.lemmas.Fn.always_returns_same, specs.List.Sorted.{IsPartitionPoint, IsPartitionedBy}}}
 use Rattle.audit_sweep.proofs.records.places.Places.count_before.Goals as goal
 
 pub returns-clause-part : goal.returns-clause-part

@@ -1,7 +1,6 @@
-use Rattle.std.{proofs.{Common.{◌∙◌, ◌≡◌, ◌≤◌, List, Some, ap, arith, length, subst, sym, ℕ}, lemmas.Bool.{ltb-false, ltb-true}}, specs.Prelude.slice_get}
+use Rattle.{audit_sweep.proofs.records_lemmas.AscendingPlaces.{found_at, in_map, of_map}, tte_lemmas.proofs.Lists.{got_at, got_within}}
 use Rattle.run_law.{proofs.law.FirstPlaces.in_at, specs.records.{Order.IsIn, Ranks.place_of}}
-use Rattle.tte_lemmas.proofs.Lists.{got_at, got_within}
-use Rattle.audit_sweep.proofs.records_lemmas.AscendingPlaces.{found_at, in_map, of_map}
+use Rattle.std.{proofs.{Common.{◌∙◌, ◌≡◌, ◌≤◌, List, Some, ap, arith, length, subst, sym, ℕ}, lemmas.Bool.{ltb-false, ltb-true}}, specs.Prelude.slice_get}
 use Rattle.audit_sweep.proofs.records.places.Places.has.Goals as goal
 
 pub returns-in-Some : goal.returns-in-Some

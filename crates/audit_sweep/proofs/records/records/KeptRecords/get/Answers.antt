@@ -1,5 +1,4 @@
-use Rattle.std.proofs.Common.{◌∙◌}
-use Rattle.audit_sweep.proofs.records_lemmas.Numbered.{found, past}
+use Rattle.{audit_sweep.proofs.records_lemmas.Numbered.{found, past}, std.proofs.Common.◌∙◌}
 use Rattle.audit_sweep.proofs.records.records.KeptRecords.get.Goals as goal
 
 pub returns-in-Some : goal.returns-in-Some

@@ -1,9 +1,6 @@
-use Rattle.std.proofs.Common.{◌∙◌, ap, refl, sym}
-use Rattle.audit_devices.specs.events.Readings.{scenario_under}
-use Rattle.device_rules.specs.Answers.{departure_as}
-use Rattle.net_plan.specs.declared.tables.Way.{Way}
-use Rattle.run_law.specs.scenario.Ways.{is_cut}
+use Rattle.{audit_devices.specs.events.Readings.scenario_under, device_rules.specs.Answers.departure_as, net_plan.specs.declared.tables.Way.Way}
 use Rattle.audit_sweep.proofs.records_lemmas.wires_lemmas.{Givers.given_within, LeavingTimes.{departs, giver_is, not_given_departs, other_time_departs}}
+use Rattle.{run_law.specs.scenario.Ways.is_cut, std.proofs.Common.{◌∙◌, ap, refl, sym}}
 use Rattle.audit_sweep.proofs.records.wires.leaving.departure.Goals as goal
 
 pub returns-then-not-is_giver : goal.returns-then-not-is_giver

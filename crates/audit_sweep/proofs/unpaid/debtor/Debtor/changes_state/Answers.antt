@@ -1,8 +1,6 @@
+use Rattle.audit_sweep.proofs.{records_lemmas.Bodies.{corrected_body, on_body}, unpaid_lemmas.PaidChanges.{Brings, brought_change, change_brought}}
 use Rattle.audit_sweep.proofs.unpaid_lemmas.Words.{◌∙◌, ◌≡◌, KeptRecord, ap, device_named, is_broken, numbered_in, scenario_of, subst, sym, time_of}
-use Rattle.std.proofs.lemmas.Bool.{not-true, not_from_false}
-use Rattle.audit_sweep.{proofs.records_lemmas.Bodies.{corrected_body, on_body}, specs.records.Keeping.kept_of}
-use Rattle.run_law.specs.device.States.{state_before}
-use Rattle.audit_sweep.proofs.unpaid_lemmas.PaidChanges.{Brings, brought_change, change_brought}
+use Rattle.{audit_sweep.specs.records.Keeping.kept_of, run_law.specs.device.States.state_before, std.proofs.lemmas.Bool.{not-true, not_from_false}}
 use Rattle.audit_sweep.specs.declared.records.kept.Kept.TheVariants as kepts
 use Rattle.audit_sweep.proofs.unpaid.debtor.Debtor.changes_state.Goals as goal
 

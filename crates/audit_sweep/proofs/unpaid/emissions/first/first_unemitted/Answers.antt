@@ -1,9 +1,7 @@
-use Rattle.std.proofs.Common.{◌+◌, Option, ap, arith, length, refl, subst, sym, ℕ}
-use Rattle.audit_devices.specs.events.Readings.{scenario_under}
-use Rattle.compression.specs.declared.compressed.Compressed.{Compressed}
+use Rattle.{audit_devices.specs.events.Readings.scenario_under, compression.specs.declared.compressed.Compressed.Compressed}
+use Rattle.audit_sweep.{proofs.unpaid_lemmas.emissions_lemmas.Entries.{devices_more, devices_none, first_emission}, specs.unpaid.emissions.Firsts.TellsFirstOf}
+use Rattle.{audit_sweep.specs.unpaid.emissions.Emissions.{IsTold, OwesAmong}, std.proofs.Common.{◌+◌, Option, ap, arith, length, refl, subst, sym, ℕ}}
 use Rattle.net_plan.specs.declared.ids.DeviceId.{DeviceId}
-use Rattle.audit_sweep.proofs.unpaid_lemmas.emissions_lemmas.Entries.{devices_more, devices_none, first_emission}
-use Rattle.audit_sweep.specs.unpaid.emissions.{Emissions.{IsTold, OwesAmong}, Firsts.TellsFirstOf}
 use Rattle.audit_sweep.proofs.unpaid.emissions.first.first_unemitted.Goals as goal
 
 pub devices-init : goal.devices-init

@@ -1,9 +1,7 @@
-use Rattle.std.proofs.Common.{List}
-use Rattle.audit_devices.specs.{events.Readings.scenario_under, law.DueRecords.IsDue}
-use Rattle.compression.specs.declared.compressed.Compressed.{Compressed}
-use Rattle.net_plan.specs.declared.{event.Event.Event, ids.DeviceId.DeviceId}
-use Rattle.run_law.specs.{records.{Happenings.Happening, Ranks.place_of}, runs.Runs.IsFounded}
-use Rattle.audit_sweep.specs.unpaid.emissions.{Emissions.{IsTold, OwesAmong}, Firsts.TellsFirstOf, Kept.IsKept}
+use Rattle.{audit_devices.specs.{events.Readings.scenario_under, law.DueRecords.IsDue}, audit_sweep.specs.unpaid.emissions.Firsts.TellsFirstOf}
+use Rattle.{audit_sweep.specs.unpaid.emissions.{Emissions.{IsTold, OwesAmong}, Kept.IsKept}, compression.specs.declared.compressed.Compressed.Compressed}
+use Rattle.{net_plan.specs.declared.{event.Event.Event, ids.DeviceId.DeviceId}, run_law.specs.records.{Happenings.Happening, Ranks.place_of}}
+use Rattle.{run_law.specs.runs.Runs.IsFounded, std.proofs.Common.List}
 use Rattle.audit_sweep.proofs.unpaid.emissions.first.first_unemitted.Given as goal
 
 -- it is the first of what the devices so far owe

@@ -1,6 +1,5 @@
+use Rattle.{audit_devices.specs.events.Remembering.Remembers, audit_sweep.specs.records.places.Placing.ArePlacesOf}
 use Rattle.audit_sweep.proofs.unpaid_lemmas.points_lemmas.Words.{◌+◌, ◌-◌, ◌≤◌, ArePaid, Event, Happening, IsSent, List, Sends, ShowsWithin, scenario_under}
-use Rattle.audit_devices.specs.events.Remembering.{Remembers}
-use Rattle.audit_sweep.specs.records.places.Placing.{ArePlacesOf}
 use Rattle.audit_sweep.proofs.unpaid.points.sending.first_unsent_within.Given as goal
 
 abbrev pub invariant-begun : goal.invariant-begun

@@ -1,6 +1,5 @@
+use Rattle.{audit_devices.specs.clocks.Moments.StandsAt, std.proofs.lemmas.Bool.{not-false, not-true}}
 use Rattle.audit_sweep.proofs.unpaid_lemmas.points_lemmas.Words.{◌∙◌, false, false≢true, refl, scenario_under, sym, true}
-use Rattle.std.proofs.lemmas.Bool.{not-false, not-true}
-use Rattle.audit_devices.specs.clocks.Moments.{StandsAt}
 use Rattle.audit_sweep.proofs.unpaid.points.sending.is_unsent.Goals as goal
 
 pub returns-then-is_up-clause-unsent : goal.returns-then-is_up-clause-unsent

@@ -1,6 +1,5 @@
-use Rattle.std.proofs.{Common.{◌≡◌, ◌≤◌, All, List, arith, inr, subst, sym, ℕ}, lemmas.List.get_or_read}
-use Rattle.std.specs.List.{Contains}
-use Rattle.device_rules.{proofs.least_key_lemmas.LeastLemmas.{root_is_key, root_is_least}, specs.least_key.Trees.node_at}
+use Rattle.{device_rules.proofs.least_key_lemmas.LeastLemmas.{root_is_key, root_is_least}, std.proofs.Common.{◌≡◌, ◌≤◌, All, List, arith, inr, subst, sym, ℕ}}
+use Rattle.{device_rules.specs.least_key.Trees.node_at, std.{proofs.lemmas.List.get_or_read, specs.List.Contains}}
 use Rattle.device_rules.proofs.least_key.keys.Keys.least.Goals as goal
 
 pub returns-else-self-eq0-clause-least : goal.returns-else-self-eq0-clause-least

@@ -1,5 +1,4 @@
-use Rattle.std.proofs.Common.{◌-◌, ◌≡◌, drop, set}
-use Rattle.device_rules.proofs.least_key_lemmas.LeastLemmas.{IsTreeBut}
+use Rattle.{device_rules.proofs.least_key_lemmas.LeastLemmas.IsTreeBut, std.proofs.Common.{◌-◌, ◌≡◌, drop, set}}
 use Rattle.device_rules.proofs.least_key.keys.Keys.set.Given as goal
 
 abbrev pub invariant-up : goal.invariant-up

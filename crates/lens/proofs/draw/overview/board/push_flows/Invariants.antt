@@ -1,5 +1,4 @@
-use Rattle.std.proofs.Common.{◌+◌, ◌*◌, ◌≤◌}
-use Rattle.lens.specs.draw.overview.Boards.{Lays, flow_at, rows_below}
+use Rattle.{lens.specs.draw.overview.Boards.{Lays, flow_at, rows_below}, std.proofs.Common.{◌*◌, ◌+◌, ◌≤◌}}
 use Rattle.lens.proofs.draw.overview.board.push_flows.Given as goal
 
 abbrev pub invariant-places : goal.invariant-places

@@ -1,5 +1,4 @@
-use Rattle.std.proofs.Common.{◌+◌, ◌*◌, ◌^◌, ◌≤◌}
-use Rattle.lens.specs.draw.overview.Boards.{Lays, lanes_in, rows_below}
+use Rattle.{lens.specs.draw.overview.Boards.{Lays, lanes_in, rows_below}, std.proofs.Common.{◌*◌, ◌+◌, ◌^◌, ◌≤◌}}
 use Rattle.lens.proofs.draw.overview.board.push_lanes.Given as goal
 
 abbrev pub invariant-ranks : goal.invariant-ranks

@@ -1,6 +1,5 @@
-use Rattle.std.proofs.Common.{ℕ, ◌+◌, ◌*◌, ◌/◌, ◌<◌, ◌≤◌, ◌^◌, rules, sym, subst}
-use Rattle.lens.{proofs.draw_lemmas.overview_lemmas.Narrow.narrow, specs.draw.overview.Grids.IsNarrow}
-use Rattle.net_plan.proofs.Amounts.{amount_within}
+use Rattle.{lens.proofs.draw_lemmas.overview_lemmas.Narrow.narrow, std.proofs.Common.{◌*◌, ◌+◌, ◌/◌, ◌<◌, ◌^◌, ◌≤◌, rules, subst, sym, ℕ}}
+use Rattle.{lens.specs.draw.overview.Grids.IsNarrow, net_plan.proofs.Amounts.amount_within}
 use Rattle.lens.proofs.draw.overview.grid.grid_of.Goals as goal
 
 pub returns-clause-narrow : goal.returns-clause-narrow

@@ -1,5 +1,4 @@
-use Rattle.std.proofs.Common.{inl, refl}
-use Rattle.lens.specs.draw.overview.Answer.{overview_answer}
+use Rattle.{lens.specs.draw.overview.Answer.overview_answer, std.proofs.Common.{inl, refl}}
 use Rattle.lens.proofs.draw.overview.overview.draw_audited.Goals as goal
 
 pub greatest_of-last-requires-clause-left : goal.greatest_of-last-requires-clause-left

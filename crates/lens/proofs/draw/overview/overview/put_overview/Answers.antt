@@ -1,6 +1,5 @@
-use Rattle.std.proofs.Common.{◌∙◌, ap}
 use Rattle.lens.{proofs.draw_lemmas.overview_lemmas.Swept.{front_fails, none_given, whole_given}, specs.draw.overview.{Answer.overview_answer, Grids.grid_of}}
-use Rattle.tte_forms.specs.Putting.{shown_by}
+use Rattle.{std.proofs.Common.{◌∙◌, ap}, tte_forms.specs.Putting.shown_by}
 use Rattle.lens.proofs.draw.overview.overview.put_overview.Goals as goal
 
 pub returns-in-Err-clause-gives : goal.returns-in-Err-clause-gives

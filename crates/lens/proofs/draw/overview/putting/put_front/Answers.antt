@@ -1,7 +1,5 @@
-use Rattle.std.proofs.Common.{◌∙◌}
 use Rattle.lens.{proofs.draw_lemmas.Parts.{flat_fails, flat_more}, specs.declared.draw.overview.putting.TheConstants.LAYERS}
-use Rattle.lens.specs.draw.overview.Overview.{layer_lines}
-use Rattle.tte_forms.specs.Putting.{shown_by}
+use Rattle.{lens.specs.draw.overview.Overview.layer_lines, std.proofs.Common.◌∙◌, tte_forms.specs.Putting.shown_by}
 use Rattle.lens.proofs.draw.overview.putting.put_front.Goals as goal
 
 pub layers-preserved : goal.layers-preserved

@@ -1,6 +1,5 @@
+use Rattle.{lens.specs.{declared.draw.overview.putting.TheConstants.LAYERS, draw.overview.Overview.layer_lines}, tte_forms.specs.Putting.{PutsLines, shown_by}}
 use Rattle.std.{proofs.Common.{◌≡◌, take}, specs.Prelude.flat_map}
-use Rattle.lens.specs.{declared.draw.overview.putting.TheConstants.LAYERS, draw.overview.Overview.layer_lines}
-use Rattle.tte_forms.specs.Putting.{PutsLines, shown_by}
 use Rattle.lens.proofs.draw.overview.putting.put_front.Given as goal
 
 abbrev pub invariant-layers : goal.invariant-layers

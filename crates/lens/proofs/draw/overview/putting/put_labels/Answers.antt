@@ -1,6 +1,5 @@
-use Rattle.std.{proofs.Common.{◌∙◌, ◌∷◌, [], subst}, specs.Prelude.flat_map}
 use Rattle.lens.{proofs.draw_lemmas.Parts.{flat_fails, flat_more}, specs.{declared.draw.overview.grid.Pen.Pen, draw.overview.Pieces.label_line}}
-use Rattle.tte_forms.specs.Putting.{PutFails, shown_by}
+use Rattle.{std.{proofs.Common.{◌∙◌, ◌∷◌, [], subst}, specs.Prelude.flat_map}, tte_forms.specs.Putting.{PutFails, shown_by}}
 use Rattle.lens.proofs.draw.overview.putting.put_labels.Goals as goal
 
 pub labels-preserved : goal.labels-preserved

@@ -1,7 +1,6 @@
-use Rattle.std.proofs.Common.{◌∙◌, ◌+◌, ◌*◌, ◌/◌, ◌∷◌, [], subst}
-use Rattle.lens.{proofs.draw_lemmas.Parts.{places_fail, places_more}, specs.{declared.draw.overview.grid.Pen.Pen, draw.overview.Pieces.mark_line}}
+use Rattle.{lens.proofs.draw_lemmas.Parts.{places_fail, places_more}, tte_forms.specs.Putting.{PutFails, PutsLines, shown_by}}
+use Rattle.{lens.specs.{declared.draw.overview.grid.Pen.Pen, draw.overview.Pieces.mark_line}, std.proofs.Common.{◌*◌, ◌+◌, ◌/◌, ◌∙◌, ◌∷◌, [], subst}}
 use Rattle.lens.specs.draw.overview.Grids.{pen_at}
-use Rattle.tte_forms.specs.Putting.{PutFails, PutsLines, shown_by}
 use Rattle.lens.proofs.draw.overview.putting.put_marks.Goals as goal
 
 pub marks-preserved : goal.marks-preserved

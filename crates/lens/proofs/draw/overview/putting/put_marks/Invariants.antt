@@ -1,6 +1,5 @@
-use Rattle.std.proofs.Common.{◌≡◌, ◌*◌, ◌∷◌, []}
-use Rattle.lens.specs.draw.{Picture.lines_from, overview.{Grids.pen_at, Pieces.mark_line}}
-use Rattle.tte_forms.specs.Putting.{PutsLines, shown_by}
+use Rattle.lens.specs.draw.Picture.{lines_from}
+use Rattle.{lens.specs.draw.overview.{Grids.pen_at, Pieces.mark_line}, std.proofs.Common.{◌*◌, ◌∷◌, ◌≡◌, []}, tte_forms.specs.Putting.{PutsLines, shown_by}}
 use Rattle.lens.proofs.draw.overview.putting.put_marks.Given as goal
 
 abbrev pub invariant-marks : goal.invariant-marks

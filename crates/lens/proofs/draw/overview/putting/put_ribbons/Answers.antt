@@ -1,7 +1,6 @@
-use Rattle.std.proofs.Common.{◌∙◌, ℕ, List, rules, sym, subst}
-use Rattle.lens.proofs.draw_lemmas.{Parts.{flat_all, flat_fails, flat_more}, overview_lemmas.Lines.ribbons_flat}
-use Rattle.lens.specs.{declared.draw.overview.strip.Ribbon.Ribbon, draw.overview.{Overview.ribbon_lines, Strips.ribbon_of}}
-use Rattle.tte_forms.specs.Putting.{PutFails, PutsLines, shown_by}
+use Rattle.lens.{proofs.draw_lemmas.{Parts.{flat_all, flat_fails, flat_more}, overview_lemmas.Lines.ribbons_flat}, specs.draw.overview.Overview.ribbon_lines}
+use Rattle.{lens.specs.{declared.draw.overview.strip.Ribbon.Ribbon, draw.overview.Strips.ribbon_of}, tte_forms.specs.Putting.{PutFails, PutsLines, shown_by}}
+use Rattle.std.proofs.Common.{◌∙◌, List, rules, subst, sym, ℕ}
 use Rattle.lens.proofs.draw.overview.putting.put_ribbons.Goals as goal
 
 pub strips-preserved : goal.strips-preserved

@@ -1,6 +1,5 @@
-use Rattle.std.{proofs.Common.{◌≡◌, take}, specs.Prelude.flat_map}
-use Rattle.lens.specs.draw.overview.{Overview.ribbon_lines, Strips.ribbon_of}
-use Rattle.tte_forms.specs.Putting.{PutsLines, shown_by}
+use Rattle.{lens.specs.draw.overview.{Overview.ribbon_lines, Strips.ribbon_of}, std.proofs.Common.{◌≡◌, take}, tte_forms.specs.Putting.{PutsLines, shown_by}}
+use Rattle.std.specs.Prelude.{flat_map}
 use Rattle.lens.proofs.draw.overview.putting.put_ribbons.Given as goal
 
 abbrev pub invariant-strips : goal.invariant-strips

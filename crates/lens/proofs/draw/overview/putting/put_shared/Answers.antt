@@ -1,6 +1,5 @@
-use Rattle.std.proofs.Common.{◌≡◌, ◌∙◌, ◌∷◌, List, [], ℕ, subst}
-use Rattle.lens.{proofs.draw_lemmas.Parts.draws_one, specs.draw.{Putting.Draws, overview.Signs.sign_line}}
-use Rattle.tte_forms.specs.Putting.{shown_by}
+use Rattle.{lens.{proofs.draw_lemmas.Parts.draws_one, specs.draw.overview.Signs.sign_line}, std.proofs.Common.{◌∙◌, ◌∷◌, ◌≡◌, List, [], subst, ℕ}}
+use Rattle.{lens.specs.draw.Putting.Draws, tte_forms.specs.Putting.shown_by}
 use Rattle.lens.proofs.draw.overview.putting.put_shared.Goals as goal
 
 pub returns-clause-draws : goal.returns-clause-draws

@@ -1,7 +1,6 @@
-use Rattle.std.{proofs.Common.{◌∙◌, ◌∷◌, ◌≡◌, List, [], subst, sym, ℕ}, specs.Prelude.Option}
-use Rattle.lens.proofs.draw_lemmas.Parts.{draws_one}
-use Rattle.lens.specs.{declared.draw.overview.strip.Ribbon.Ribbon, draw.{Putting.Draws, overview.{Overview.ribbon_lines, Pieces.ribbon_line, Putting.listed}}}
-use Rattle.tte_forms.specs.Putting.{shown_by}
+use Rattle.lens.{proofs.draw_lemmas.Parts.draws_one, specs.draw.{Putting.Draws, overview.{Overview.ribbon_lines, Pieces.ribbon_line, Putting.listed}}}
+use Rattle.{lens.specs.declared.draw.overview.strip.Ribbon.Ribbon, std.proofs.Common.{◌∙◌, ◌∷◌, ◌≡◌, List, [], subst, sym, ℕ}, tte_forms.specs.Putting.shown_by}
+use Rattle.std.specs.Prelude.{Option}
 use Rattle.lens.proofs.draw.overview.putting.put_some.Goals as goal
 
 pub returns-in-Some-clause-draws : goal.returns-in-Some-clause-draws

@@ -1,5 +1,4 @@
-use Rattle.std.proofs.Common.{◌≡◌, ◌++◌, drop, map, take}
-use Rattle.lens.specs.draw.overview.Strips.{ended}
+use Rattle.{lens.specs.draw.overview.Strips.ended, std.proofs.Common.{◌++◌, ◌≡◌, drop, map, take}}
 use Rattle.lens.proofs.draw.overview.strip.end_all.Given as goal
 
 abbrev pub invariant-strips : goal.invariant-strips

@@ -1,6 +1,5 @@
-use Rattle.std.proofs.{Common.{◌∙◌, ap, rules, set, slice_index_or}, lemmas.List.{Edits.map_over_more, get_or_default}}
 use Rattle.lens.specs.declared.draw.overview.{row.{Group.TheVariants.Lanes, Row.TheVariants.Title}, shade.Shade.{Shade, TheVariants.Blank}, strip.Strip.Strip}
-use Rattle.lens.specs.draw.overview.Strips.{taken}
+use Rattle.{lens.specs.draw.overview.Strips.taken, std.proofs.{Common.{◌∙◌, ap, rules, set, slice_index_or}, lemmas.List.{Edits.map_over_more, get_or_default}}}
 use Rattle.lens.proofs.draw.overview.strip.take_all.Goals as goal
 
 -- a strip of no place

@@ -1,7 +1,6 @@
-use Rattle.std.proofs.Common.{◌∙◌, arith, ap, map, subst}
 use Rattle.lens.{proofs.draw_lemmas.overview_lemmas.Swept.{columns_fail, columns_more, strips_more}, specs.declared.draw.overview.strip.Ends.TheVariants.Column}
-use Rattle.lens.specs.{declared.draw.overview.grid.Pen.Pen, draw.overview.{Overview.ribbon_lines, Strips.{ended, ribbons_of}}}
-use Rattle.tte_forms.specs.Putting.{PutFails, PutsLines, shown_by}
+use Rattle.{lens.specs.{declared.draw.overview.grid.Pen.Pen, draw.overview.Strips.{ended, ribbons_of}}, tte_forms.specs.Putting.{PutFails, PutsLines, shown_by}}
+use Rattle.{lens.specs.draw.overview.Overview.ribbon_lines, std.proofs.Common.{◌∙◌, ap, arith, map, subst}}
 use Rattle.lens.proofs.draw.overview.sweeping.end_columns.Goals as goal
 
 pub columns-preserved : goal.columns-preserved

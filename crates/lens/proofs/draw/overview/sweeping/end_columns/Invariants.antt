@@ -1,6 +1,5 @@
-use Rattle.std.proofs.Common.{◌≡◌, ◌≤◌, ◌-◌}
-use Rattle.lens.specs.draw.overview.{Overview.ribbon_lines, Sweeps.{moved, moved_ribbons}}
-use Rattle.tte_forms.specs.Putting.{PutsLines, shown_by}
+use Rattle.{lens.specs.draw.overview.{Overview.ribbon_lines, Sweeps.{moved, moved_ribbons}}, tte_forms.specs.Putting.{PutsLines, shown_by}}
+use Rattle.std.proofs.Common.{◌-◌, ◌≡◌, ◌≤◌}
 use Rattle.lens.proofs.draw.overview.sweeping.end_columns.Given as goal
 
 abbrev pub invariant-columns : goal.invariant-columns

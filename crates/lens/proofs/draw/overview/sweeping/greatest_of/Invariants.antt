@@ -1,7 +1,5 @@
+use Rattle.{lens.proofs.draw_lemmas.overview_lemmas.Swept.IsMeasured, run_law.specs.declared.note.Note.Note, tte_traces.specs.reports.Reports.AreLeft}
 use Rattle.std.proofs.Common.{List, length}
-use Rattle.lens.proofs.draw_lemmas.overview_lemmas.Swept.{IsMeasured}
-use Rattle.run_law.specs.declared.note.Note.{Note}
-use Rattle.tte_traces.specs.reports.Reports.{AreLeft}
 use Rattle.lens.proofs.draw.overview.sweeping.greatest_of.Given as goal
 
 abbrev pub decreases-records : goal.decreases-records

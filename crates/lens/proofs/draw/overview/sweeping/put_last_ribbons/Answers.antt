@@ -1,6 +1,5 @@
-use Rattle.std.proofs.Common.{◌≡◌, ℕ, List, subst}
-use Rattle.lens.{proofs.draw_lemmas.overview_lemmas.Swept.{last_fails, last_given}, specs.draw.overview.Signs.close_line}
-use Rattle.tte_forms.specs.{Answering.{Gives, line_answer}, Putting.shown_by, declared.status.Status.TheVariants.Done}
+use Rattle.{lens.proofs.draw_lemmas.overview_lemmas.Swept.{last_fails, last_given}, tte_forms.specs.{Putting.shown_by, declared.status.Status.TheVariants.Done}}
+use Rattle.{lens.specs.draw.overview.Signs.close_line, std.proofs.Common.{◌≡◌, List, subst, ℕ}, tte_forms.specs.Answering.{Gives, line_answer}}
 use Rattle.lens.proofs.draw.overview.sweeping.put_last_ribbons.Goals as goal
 
 pub returns-in-Ok-put_ribbons-clause-gives : goal.returns-in-Ok-put_ribbons-clause-gives

@@ -1,9 +1,7 @@
-use Rattle.std.{proofs.{Common.{◌∙◌, ◌≡◌, List, ap, refl, rules, subst, sym, w64, ℕ}, lemmas.Int.to_z-of_z}, specs.Prelude.{map, max, unsigned_abs}}
 use Rattle.lens.proofs.draw_lemmas.{Marking.left_less, overview_lemmas.Swept.{IsSwept, swept_all, swept_fails, swept_first, swept_more}}
-use Rattle.lens.specs.{declared.draw.overview.change.News.News, draw.{overview.{Grids.column_of, Strips.taken}, svg.Sketching.moment}}
-use Rattle.run_law.specs.declared.note.Note.{Note}
-use Rattle.tte_forms.specs.Putting.{shown_by}
-use Rattle.tte_traces.specs.reports.Reports.{AreLeft}
+use Rattle.{lens.specs.declared.draw.overview.change.News.News, std.proofs.{Common.{◌∙◌, ◌≡◌, List, ap, refl, rules, subst, sym, w64, ℕ}, lemmas.Int.to_z-of_z}}
+use Rattle.{lens.specs.draw.overview.{Grids.column_of, Strips.taken}, std.specs.Prelude.{map, max, unsigned_abs}, tte_traces.specs.reports.Reports.AreLeft}
+use Rattle.{lens.specs.draw.svg.Sketching.moment, run_law.specs.declared.note.Note.Note, tte_forms.specs.Putting.shown_by}
 use Rattle.lens.proofs.draw.overview.sweeping.put_sweep.Goals as goal
 
 pub records-init : goal.records-init

@@ -1,8 +1,5 @@
-use Rattle.std.proofs.Common.{◌≡◌, List, length}
-use Rattle.lens.proofs.draw_lemmas.overview_lemmas.Swept.{IsSwept}
-use Rattle.run_law.specs.declared.note.Note.{Note}
-use Rattle.tte_forms.specs.Putting.{shown_by}
-use Rattle.tte_traces.specs.reports.Reports.{AreLeft}
+use Rattle.{lens.proofs.draw_lemmas.overview_lemmas.Swept.IsSwept, run_law.specs.declared.note.Note.Note, tte_traces.specs.reports.Reports.AreLeft}
+use Rattle.{std.proofs.Common.{◌≡◌, List, length}, tte_forms.specs.Putting.shown_by}
 use Rattle.lens.proofs.draw.overview.sweeping.put_sweep.Given as goal
 
 abbrev pub decreases-records : goal.decreases-records

@@ -1,5 +1,4 @@
-use Rattle.std.proofs.Common.{◌≡◌, ◌≤◌, take}
-use Rattle.lens.specs.draw.svg.Lanes.{above}
+use Rattle.{lens.specs.draw.svg.Lanes.above, std.proofs.Common.{◌≡◌, ◌≤◌, take}}
 use Rattle.lens.proofs.draw.svg.lanes.above.Given as goal
 
 abbrev pub invariant-devices : goal.invariant-devices

@@ -1,5 +1,4 @@
-use Rattle.std.proofs.Common.{◌≡◌, ◌≤◌, take}
-use Rattle.lens.specs.draw.svg.Lanes.{beside}
+use Rattle.{lens.specs.draw.svg.Lanes.beside, std.proofs.Common.{◌≡◌, ◌≤◌, take}}
 use Rattle.lens.proofs.draw.svg.lanes.beside.Given as goal
 
 abbrev pub invariant-devices : goal.invariant-devices

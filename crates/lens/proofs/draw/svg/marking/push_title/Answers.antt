@@ -1,6 +1,5 @@
-use Rattle.std.proofs.Common.{ℕ, ◌-◌, ◌++◌, List, length, length-append, take, ap, ◌∙◌, arith}
 use Rattle.lens.proofs.draw_lemmas.svg_lemmas.ShortNotes.{cut_line, note_short}
-use Rattle.report_text.specs.NoteLine.{note_text}
+use Rattle.{report_text.specs.NoteLine.note_text, std.proofs.Common.{◌++◌, ◌-◌, ◌∙◌, List, ap, arith, length, length-append, take, ℕ}}
 use Rattle.lens.proofs.draw.svg.marking.push_title.Goals as goal
 
 pub append-requires : goal.append-requires

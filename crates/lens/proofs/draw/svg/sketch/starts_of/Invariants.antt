@@ -1,5 +1,4 @@
-use Rattle.std.proofs.Common.{◌≡◌, map, take}
-use Rattle.lens.specs.draw.svg.Lanes.{start_of}
+use Rattle.{lens.specs.draw.svg.Lanes.start_of, std.proofs.Common.{◌≡◌, map, take}}
 use Rattle.lens.proofs.draw.svg.sketch.starts_of.Given as goal
 
 abbrev pub invariant-devices : goal.invariant-devices

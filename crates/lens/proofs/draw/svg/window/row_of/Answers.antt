@@ -1,6 +1,5 @@
+use Rattle.{lens.proofs.why_lemmas.Rows.searched, net_plan.specs.declared.tables.Row.Row}
 use Rattle.std.proofs.{Common.{◌&&◌, ◌==◌, ◌≡◌, false, rules, tests, true}, lemmas.Iterator.{IsFirst-from_position, YieldsList-from_slice}}
-use Rattle.net_plan.specs.declared.tables.Row.{Row}
-use Rattle.lens.proofs.why_lemmas.Rows.{searched}
 use Rattle.lens.proofs.draw.svg.window.row_of.Goals as goal
 
 pub returns-clause-is : goal.returns-clause-is

@@ -1,6 +1,5 @@
-use Rattle.std.proofs.Common.{arith}
 use Rattle.lens.proofs.flows_lemmas.counts_lemmas.{Counts.{few_next, next_counted, no_counts, none_above, zero_counts}, Fated.{all_counted, none_counted}}
-use Rattle.lens.{proofs.flows_lemmas.judge_lemmas.Rows.receiver_there, specs.flows.judge.Courses.scenario_of}
+use Rattle.{lens.{proofs.flows_lemmas.judge_lemmas.Rows.receiver_there, specs.flows.judge.Courses.scenario_of}, std.proofs.Common.arith}
 use Rattle.lens.proofs.flows.counts.counting.count_fates.Goals as goal
 
 pub next_begun-requires-clause-device : goal.next_begun-requires-clause-device

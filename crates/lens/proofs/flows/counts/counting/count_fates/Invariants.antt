@@ -1,7 +1,5 @@
-use Rattle.std.proofs.Common.{◌-◌, ◌≤◌, ◌^◌, List}
 use Rattle.lens.{proofs.flows_lemmas.counts_lemmas.Fated.{AreCountsUpTo, AreUpTo}, specs.flows.judge.Courses.{IsCourse, scenario_of}}
-use Rattle.net_plan.specs.declared.event.Event.{Event}
-use Rattle.run_law.specs.records.Happenings.{Happening}
+use Rattle.{net_plan.specs.declared.event.Event.Event, run_law.specs.records.Happenings.Happening, std.proofs.Common.{◌-◌, ◌^◌, ◌≤◌, List}}
 use Rattle.lens.proofs.flows.counts.counting.count_fates.Given as goal
 
 -- the cycles that have begun are counted, and no count is above the time

@@ -1,7 +1,5 @@
-use Rattle.std.proofs.Common.{List, take}
-use Rattle.lens.specs.flows.{counts.Deliveries.AreDeliveries, judge.Courses.{IsCourse, scenario_of}}
-use Rattle.net_plan.specs.declared.event.Event.{Event}
-use Rattle.run_law.specs.records.Happenings.{Happening}
+use Rattle.{lens.specs.flows.{counts.Deliveries.AreDeliveries, judge.Courses.{IsCourse, scenario_of}}, run_law.specs.records.Happenings.Happening}
+use Rattle.{net_plan.specs.declared.event.Event.Event, std.proofs.Common.{List, take}}
 use Rattle.lens.proofs.flows.counts.deliveries.count_deliveries.Given as goal
 
 -- the deliveries so far are counted

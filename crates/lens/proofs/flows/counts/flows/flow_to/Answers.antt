@@ -1,5 +1,4 @@
-use Rattle.std.proofs.Common.{sym, ◌∙◌}
-use Rattle.lens.proofs.flows_lemmas.counts_lemmas.FlowParts.{no_end_system, no_window}
+use Rattle.{lens.proofs.flows_lemmas.counts_lemmas.FlowParts.{no_end_system, no_window}, std.proofs.Common.{◌∙◌, sym}}
 use Rattle.lens.proofs.flows.counts.flows.flow_to.Goals as goal
 
 pub returns-then-not-is_end : goal.returns-then-not-is_end

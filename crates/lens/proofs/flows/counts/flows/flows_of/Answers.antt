@@ -1,6 +1,5 @@
-use Rattle.std.proofs.Common.{List, ap, arith, length, subst, sym}
-use Rattle.lens.{proofs.flows_lemmas.counts_lemmas.FlowParts.{all_vls, no_flows}, specs.flows.counts.PartLists.AreFlowsBefore}
-use Rattle.net_plan.specs.declared.tables.VirtualLink.{VirtualLink}
+use Rattle.{lens.proofs.flows_lemmas.counts_lemmas.FlowParts.{all_vls, no_flows}, net_plan.specs.declared.tables.VirtualLink.VirtualLink}
+use Rattle.{lens.specs.flows.counts.PartLists.AreFlowsBefore, std.proofs.Common.{List, ap, arith, length, subst, sym}}
 use Rattle.lens.proofs.flows.counts.flows.flows_of.Goals as goal
 
 pub vls-init : goal.vls-init

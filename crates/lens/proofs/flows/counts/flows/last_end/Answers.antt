@@ -1,5 +1,4 @@
-use Rattle.std.proofs.Common.{List, ap, arith, length}
-use Rattle.lens.proofs.flows_lemmas.counts_lemmas.Ends.{ends_all, ends_more, ends_none}
+use Rattle.{lens.proofs.flows_lemmas.counts_lemmas.Ends.{ends_all, ends_more, ends_none}, std.proofs.Common.{List, ap, arith, length}}
 use Rattle.net_plan.specs.declared.tables.Row.{Row}
 use Rattle.lens.proofs.flows.counts.flows.last_end.Goals as goal
 

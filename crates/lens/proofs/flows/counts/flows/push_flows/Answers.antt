@@ -1,6 +1,4 @@
-use Rattle.std.proofs.Common.{List, ap, arith, length}
-use Rattle.lens.proofs.flows_lemmas.counts_lemmas.FlowParts.{next_vl}
-use Rattle.net_plan.specs.declared.tables.Device.{Device}
+use Rattle.{lens.proofs.flows_lemmas.counts_lemmas.FlowParts.next_vl, net_plan.specs.declared.tables.Device.Device, std.proofs.Common.{List, ap, arith, length}}
 use Rattle.lens.proofs.flows.counts.flows.push_flows.Goals as goal
 
 pub devices-preserved : goal.devices-preserved

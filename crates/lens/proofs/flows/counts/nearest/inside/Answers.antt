@@ -1,5 +1,4 @@
-use Rattle.std.proofs.Common.{pos, rules}
-use Rattle.lens.proofs.flows_lemmas.counts_lemmas.Leasts.{inside_least}
+use Rattle.{lens.proofs.flows_lemmas.counts_lemmas.Leasts.inside_least, std.proofs.Common.{pos, rules}}
 use Rattle.lens.proofs.flows.counts.nearest.inside.Goals as goal
 
 pub returns : goal.returns

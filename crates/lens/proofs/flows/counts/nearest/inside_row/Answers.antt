@@ -1,6 +1,5 @@
-use Rattle.std.proofs.Common.{pos, sym, subst, rules}
 use Rattle.lens.{proofs.flows_lemmas.counts_lemmas.Leasts.least_same, specs.flows.counts.Nearest.{IsInside, IsInsideRow, TellsLeast}}
-use Rattle.schedule_tables.specs.{Windows.window_of, declared.{entry.Entry.Entry, window.Window.Window}}
+use Rattle.{schedule_tables.specs.{Windows.window_of, declared.{entry.Entry.Entry, window.Window.Window}}, std.proofs.Common.{pos, rules, subst, sym}}
 use Rattle.lens.proofs.flows.counts.nearest.inside_row.Goals as goal
 
 pub returns : goal.returns

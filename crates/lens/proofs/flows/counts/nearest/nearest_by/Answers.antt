@@ -1,5 +1,4 @@
-use Rattle.std.proofs.Common.{List, ap, arith, length, pos}
-use Rattle.lens.proofs.flows_lemmas.counts_lemmas.Leasts.{inside_all, inside_more, inside_none}
+use Rattle.{lens.proofs.flows_lemmas.counts_lemmas.Leasts.{inside_all, inside_more, inside_none}, std.proofs.Common.{List, ap, arith, length, pos}}
 use Rattle.net_plan.specs.declared.tables.Row.{Row}
 use Rattle.lens.proofs.flows.counts.nearest.nearest_by.Goals as goal
 

@@ -1,5 +1,4 @@
-use Rattle.std.proofs.Common.{pos}
-use Rattle.lens.{proofs.flows_lemmas.counts_lemmas.Leasts.IsInsideBefore, specs.flows.counts.Nearest.TellsLeast}
+use Rattle.{lens.{proofs.flows_lemmas.counts_lemmas.Leasts.IsInsideBefore, specs.flows.counts.Nearest.TellsLeast}, std.proofs.Common.pos}
 use Rattle.lens.proofs.flows.counts.nearest.nearest_by.Given as goal
 
 abbrev pub invariant-rows : goal.invariant-rows

@@ -1,6 +1,5 @@
-use Rattle.std.{proofs.{Common.{◌+ℤ◌, ◌∙◌, ap, arith, pos, rules, ℕ, ℤ}, lemmas.Int.to_z-of_z}, specs.Int.w128}
-use Rattle.lens.specs.flows.judge.Courses.{scenario_of}
-use Rattle.run_law.specs.device.{Standpoints.offset_in_cycle, States.adjustment_before}
+use Rattle.{lens.specs.flows.judge.Courses.scenario_of, std.{proofs.lemmas.Int.to_z-of_z, specs.Int.w128}}
+use Rattle.{run_law.specs.device.{Standpoints.offset_in_cycle, States.adjustment_before}, std.proofs.Common.{◌+ℤ◌, ◌∙◌, ap, arith, pos, rules, ℕ, ℤ}}
 use Rattle.lens.proofs.flows.counts.nearest.place_at.Goals as goal
 
 pub before_time-shown-requires : goal.before_time-shown-requires

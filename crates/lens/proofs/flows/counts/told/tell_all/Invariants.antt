@@ -1,7 +1,5 @@
-use Rattle.std.proofs.Common.{List, take}
-use Rattle.lens.specs.flows.{counts.Told.AreToldOf, judge.Courses.{IsCourse, scenario_of}}
-use Rattle.net_plan.specs.declared.event.Event.{Event}
-use Rattle.run_law.specs.records.Happenings.{Happening}
+use Rattle.{lens.specs.flows.counts.Told.AreToldOf, std.proofs.Common.{List, take}}
+use Rattle.{lens.specs.flows.judge.Courses.{IsCourse, scenario_of}, net_plan.specs.declared.event.Event.Event, run_law.specs.records.Happenings.Happening}
 use Rattle.lens.proofs.flows.counts.told.tell_all.Given as goal
 
 abbrev pub invariant-flows : goal.invariant-flows

@@ -1,5 +1,4 @@
-use Rattle.lens.{proofs.slack_lemmas.Files.{answered_network, answered_unread}, specs.slack.least.Answer.IsLeastOf}
-use Rattle.tte_forms.specs.Putting.{shown_by}
+use Rattle.{lens.{proofs.slack_lemmas.Files.{answered_network, answered_unread}, specs.slack.least.Answer.IsLeastOf}, tte_forms.specs.Putting.shown_by}
 use Rattle.lens.proofs.slack.least.answering.least_of_network.Goals as goal
 
 pub returns-in-Ok-clause-general : goal.returns-in-Ok-clause-general

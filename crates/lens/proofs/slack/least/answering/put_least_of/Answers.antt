@@ -1,5 +1,4 @@
-use Rattle.std.proofs.Common.{inl, inr, refl}
-use Rattle.lens.specs.slack.{Answer.broken_answer, least.Answer.times_answer}
+use Rattle.{lens.specs.slack.{Answer.broken_answer, least.Answer.times_answer}, std.proofs.Common.{inl, inr, refl}}
 use Rattle.lens.proofs.slack.least.answering.put_least_of.Goals as goal
 
 pub returns-in-Ok-clause-gives : goal.returns-in-Ok-clause-gives

@@ -1,9 +1,8 @@
-use Rattle.std.{proofs.Common.{◌∙◌, ◌∷◌, ◌≡◌, List, [], arith, inl, inr, refl, subst, sym, ℕ}, specs.Io.KnownBytes.Appends}
-use Rattle.lens.specs.{slack.Lines.finding_line, declared.slack.spot.Finding.Finding}
+use Rattle.{lens.proofs.slack_lemmas.least_lemmas.Rooms.{roomy, short}, tte_forms.specs.declared.status.Status.TheVariants.{Done, NetworkRefused, WriteFault}}
+use Rattle.{lens.specs.declared.slack.spot.Finding.Finding, std.proofs.Common.{◌∙◌, ◌∷◌, ◌≡◌, List, [], arith, inl, inr, refl, subst, sym, ℕ}}
+use Rattle.{lens.specs.slack.{Lines.finding_line, least.{Answer.room_of, Lines.least_line}}, std.specs.Io.KnownBytes.Appends, tte_forms.specs.Putting.shown_by}
 use Rattle.tte_forms.{proofs.{Puts.{PutsLines-fails, PutsLines-more, PutsLines-none}, frames.Frames.Gives-behind}, specs.Answering.{Answer, Gives, line_answer}}
-use Rattle.tte_forms.specs.{Putting.shown_by, declared.status.Status.TheVariants.{Done, NetworkRefused, WriteFault}}
 use Rattle.tte_io.specs.Told.{AppendsFront}
-use Rattle.lens.{proofs.slack_lemmas.least_lemmas.Rooms.{roomy, short}, specs.slack.least.{Answer.room_of, Lines.least_line}}
 use Rattle.lens.proofs.slack.least.answering.put_times.Goals as goal
 
 pub returns-then-room-clause-gives : goal.returns-then-room-clause-gives

@@ -1,5 +1,4 @@
-use Rattle.std.proofs.Common.{◌*◌, ◌+◌, ◌-◌, ◌≡◌, arith}
-use Rattle.lens.proofs.slack_lemmas.least_lemmas.Drift.{fixed, least, twice}
+use Rattle.{lens.proofs.slack_lemmas.least_lemmas.Drift.{fixed, least, twice}, std.proofs.Common.{◌*◌, ◌+◌, ◌-◌, ◌≡◌, arith}}
 use Rattle.lens.proofs.slack.least.computing.least_dmax.Goals as goal
 
 pub returns-clause-fixed : goal.returns-clause-fixed

@@ -1,7 +1,5 @@
-use Rattle.std.proofs.Common.{◌*◌, ◌+◌, ◌-◌, ◌∙◌, ◌≡◌, ap, arith, max, refl, ℕ}
-use Rattle.schedule_checker.{proofs.Trees.tree_of, specs.Timing.errors_of}
-use Rattle.tte_units.specs.Amount.{amount}
-use Rattle.lens.{proofs.slack_lemmas.least_lemmas.Leasts.are_least, specs.slack.least.Parts.drift_over}
+use Rattle.{lens.proofs.slack_lemmas.least_lemmas.Leasts.are_least, std.proofs.Common.{◌*◌, ◌+◌, ◌-◌, ◌∙◌, ◌≡◌, ap, arith, max, refl, ℕ}}
+use Rattle.{lens.specs.slack.least.Parts.drift_over, schedule_checker.{proofs.Trees.tree_of, specs.Timing.errors_of}, tte_units.specs.Amount.amount}
 use Rattle.lens.proofs.slack.least.computing.least_times.Goals as goal
 
 left_of_path : (dmax path steady drift : ℕ) → dmax ≡ steady + path + drift → dmax - path ≡ steady + drift

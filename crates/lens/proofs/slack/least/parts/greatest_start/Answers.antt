@@ -1,8 +1,6 @@
-use Rattle.std.{proofs.{Common.{◌+◌, ◌∙◌, ◌≡◌, ap, arith, length, subst, sym, ℕ}, lemmas.Option.slice_get-get_or}, specs.Prelude.{Some, slice_get}}
-use Rattle.net_plan.specs.{Bounds.IsGreatest, Ranges.IsDeviceInRange, declared.tables.Device.Device}
-use Rattle.tte_lemmas.proofs.Lists.{in_all}
-use Rattle.tte_units.specs.Amount.{units_of}
-use Rattle.lens.proofs.slack_lemmas.least_lemmas.Greatests.{IsAmongFirst, all_first, none_first, one_more}
+use Rattle.{lens.proofs.slack_lemmas.least_lemmas.Greatests.{IsAmongFirst, all_first, none_first, one_more}, net_plan.specs.declared.tables.Device.Device}
+use Rattle.{net_plan.specs.Bounds.IsGreatest, std.specs.Prelude.{Some, slice_get}, tte_lemmas.proofs.Lists.in_all, tte_units.specs.Amount.units_of}
+use Rattle.{net_plan.specs.Ranges.IsDeviceInRange, std.proofs.{Common.{◌+◌, ◌∙◌, ◌≡◌, ap, arith, length, subst, sym, ℕ}, lemmas.Option.slice_get-get_or}}
 use Rattle.lens.proofs.slack.least.parts.greatest_start.Goals as goal
 
 -- the device begins with so much

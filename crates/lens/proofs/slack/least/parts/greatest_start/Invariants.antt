@@ -1,7 +1,5 @@
-use Rattle.std.{proofs.Common.{◌^◌, ◌≡◌, ◌≤◌, ℕ}, specs.Prelude.Some}
-use Rattle.net_plan.specs.{Bounds.IsGreatest, declared.tables.Device.Device}
-use Rattle.tte_units.specs.Amount.{units_of}
-use Rattle.lens.proofs.slack_lemmas.least_lemmas.Greatests.{IsAmongFirst}
+use Rattle.{lens.proofs.slack_lemmas.least_lemmas.Greatests.IsAmongFirst, net_plan.specs.declared.tables.Device.Device, std.proofs.Common.{◌^◌, ◌≡◌, ◌≤◌, ℕ}}
+use Rattle.{net_plan.specs.Bounds.IsGreatest, std.specs.Prelude.Some, tte_units.specs.Amount.units_of}
 use Rattle.lens.proofs.slack.least.parts.greatest_start.Given as goal
 
 abbrev pub invariant-devices : goal.invariant-devices

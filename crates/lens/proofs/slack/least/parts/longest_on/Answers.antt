@@ -1,6 +1,5 @@
-use Rattle.std.proofs.Common.{◌+◌, ◌≡◌, ap, arith, length, subst, sym, ℕ}
-use Rattle.net_plan.{proofs.Greatest.{IsOfPathBelow, greatest_below_all, greatest_below_more}, specs.{Bounds.IsGreatest, declared.tables.Device.Device}}
-use Rattle.schedule_tables.specs.Delays.{delay_on}
+use Rattle.{net_plan.proofs.Greatest.{IsOfPathBelow, greatest_below_all, greatest_below_more}, std.proofs.Common.{◌+◌, ◌≡◌, ap, arith, length, subst, sym, ℕ}}
+use Rattle.{net_plan.specs.{Bounds.IsGreatest, declared.tables.Device.Device}, schedule_tables.specs.Delays.delay_on}
 use Rattle.lens.proofs.slack.least.parts.longest_on.Goals as goal
 
 pub devices-preserved : goal.devices-preserved

@@ -1,6 +1,4 @@
-use Rattle.std.proofs.Common.{◌*◌, ◌^◌, ◌≤◌}
-use Rattle.net_plan.{proofs.Greatest.IsOfPathBelow, specs.Bounds.IsGreatest}
-use Rattle.schedule_tables.specs.Delays.{delay_on}
+use Rattle.{net_plan.{proofs.Greatest.IsOfPathBelow, specs.Bounds.IsGreatest}, schedule_tables.specs.Delays.delay_on, std.proofs.Common.{◌*◌, ◌^◌, ◌≤◌}}
 use Rattle.lens.proofs.slack.least.parts.longest_on.Given as goal
 
 abbrev pub invariant-devices : goal.invariant-devices

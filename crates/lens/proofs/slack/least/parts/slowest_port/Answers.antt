@@ -1,7 +1,6 @@
-use Rattle.std.{proofs.{Common.{◌+◌, ◌∙◌, ◌≡◌, ap, arith, length, subst, sym, ℕ}, lemmas.Option.slice_get-get_or}, specs.Prelude.{Some, slice_get}}
-use Rattle.net_plan.{proofs.Greatest.greatest_of_one, specs.{Bounds.IsGreatest, declared.tables.Link.Link}}
-use Rattle.schedule_tables.specs.Delays.{pcf_port_time}
-use Rattle.lens.proofs.slack_lemmas.least_lemmas.Greatests.{IsAmongFirst, all_first, none_first, one_more}
+use Rattle.{lens.proofs.slack_lemmas.least_lemmas.Greatests.{IsAmongFirst, all_first, none_first, one_more}, schedule_tables.specs.Delays.pcf_port_time}
+use Rattle.{net_plan.proofs.Greatest.greatest_of_one, std.proofs.{Common.{◌+◌, ◌∙◌, ◌≡◌, ap, arith, length, subst, sym, ℕ}, lemmas.Option.slice_get-get_or}}
+use Rattle.{net_plan.specs.{Bounds.IsGreatest, declared.tables.Link.Link}, std.specs.Prelude.{Some, slice_get}}
 use Rattle.lens.proofs.slack.least.parts.slowest_port.Goals as goal
 
 -- a frame occupies the port for so long

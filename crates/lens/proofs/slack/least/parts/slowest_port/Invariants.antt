@@ -1,7 +1,5 @@
-use Rattle.std.proofs.Common.{◌^◌, ◌≡◌, ◌≤◌, ℕ}
-use Rattle.net_plan.specs.{Bounds.IsGreatest, declared.tables.Link.Link}
-use Rattle.schedule_tables.specs.Delays.{pcf_port_time}
-use Rattle.lens.proofs.slack_lemmas.least_lemmas.Greatests.{IsAmongFirst}
+use Rattle.{lens.proofs.slack_lemmas.least_lemmas.Greatests.IsAmongFirst, net_plan.specs.declared.tables.Link.Link, schedule_tables.specs.Delays.pcf_port_time}
+use Rattle.{net_plan.specs.Bounds.IsGreatest, std.proofs.Common.{◌^◌, ◌≡◌, ◌≤◌, ℕ}}
 use Rattle.lens.proofs.slack.least.parts.slowest_port.Given as goal
 
 abbrev pub invariant-links : goal.invariant-links

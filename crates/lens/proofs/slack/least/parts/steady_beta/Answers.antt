@@ -1,6 +1,4 @@
-use Rattle.std.proofs.Common.{arith, subst, ℤ}
-use Rattle.lens.proofs.slack_lemmas.SmallBeta.{beta_small}
-use Rattle.net_plan.specs.Bounds.{IsBeta}
+use Rattle.{lens.proofs.slack_lemmas.SmallBeta.beta_small, net_plan.specs.Bounds.IsBeta, std.proofs.Common.{arith, subst, ℤ}}
 use Rattle.lens.proofs.slack.least.parts.steady_beta.Goals as goal
 
 pub returns-clause-bound : goal.returns-clause-bound

@@ -1,9 +1,6 @@
-use Rattle.std.{proofs.Common.{◌≡◌, List}, specs.Prelude.MatchResult}
-use Rattle.run_law.specs.declared.note.Note.{Note}
-use Rattle.tte_forms.proofs.Octets.{for_more}
-use Rattle.tte_traces.{proofs.reports_lemmas.Reports.report_there, specs.reports.{NoReports.IsNoReport, Reports.IsReportOf}}
-use Rattle.tte_units.specs.declared.units.Units.{Units}
-use Rattle.lens.proofs.why_lemmas.past_lemmas.Beginning.{known_judged, no_fault}
+use Rattle.{lens.proofs.why_lemmas.past_lemmas.Beginning.{known_judged, no_fault}, tte_traces.proofs.reports_lemmas.Reports.report_there}
+use Rattle.{run_law.specs.declared.note.Note.Note, std.{proofs.Common.{◌≡◌, List}, specs.Prelude.MatchResult}}
+use Rattle.{tte_forms.proofs.Octets.for_more, tte_traces.specs.reports.{NoReports.IsNoReport, Reports.IsReportOf}, tte_units.specs.declared.units.Units.Units}
 use Rattle.lens.proofs.why.past.reading.read_known.Goals as goal
 
 pub known_of-requires : goal.known_of-requires

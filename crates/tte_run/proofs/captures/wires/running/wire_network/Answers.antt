@@ -1,7 +1,6 @@
+use Rattle.{net_plan.specs.Bearers.{HasNoBearer, link_names}, tte_forms.proofs.Puts.Ends-gives}
+use Rattle.{tte_forms.specs.declared.status.Status.TheVariants.NameRefused, tte_run.proofs.captures_lemmas.wires_lemmas.Networks.{named_given, nameless_given}}
 use Rattle.tte_run.proofs.captures_lemmas.wires_lemmas.Words.{IsNamed, Network, PutsLines-none, [], inl, inr, shown_by, subst}
-use Rattle.net_plan.specs.Bearers.{HasNoBearer, link_names}
-use Rattle.tte_forms.{proofs.Puts.Ends-gives, specs.declared.status.Status.TheVariants.NameRefused}
-use Rattle.tte_run.proofs.captures_lemmas.wires_lemmas.Networks.{named_given, nameless_given}
 use Rattle.tte_run.proofs.captures.wires.running.wire_network.Goals as goal
 
 pub returns-in-Some-clause-general : goal.returns-in-Some-clause-general

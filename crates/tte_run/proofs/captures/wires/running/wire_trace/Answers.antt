@@ -1,7 +1,6 @@
-use Rattle.tte_run.proofs.captures_lemmas.wires_lemmas.{Safely.wire_safe, Words.{inl, inr, refl, shown_by}}
-use Rattle.tte_run.specs.captures.wires.{Answer.{IsWireAnswer, silent_lines}, Safely.{IsCaptureToFault, IsSilent, IsWholeCapture}}
-use Rattle.tte_forms.proofs.networks.Answers.{files_accepted, files_refused}
-use Rattle.tte_traces.proofs.Safely.{safely_accepted, safely_refused}
+use Rattle.{tte_forms.proofs.networks.Answers.{files_accepted, files_refused}, tte_run.specs.captures.wires.Safely.{IsCaptureToFault, IsSilent, IsWholeCapture}}
+use Rattle.{tte_run.proofs.captures_lemmas.wires_lemmas.Safely.wire_safe, tte_traces.proofs.Safely.{safely_accepted, safely_refused}}
+use Rattle.tte_run.{proofs.captures_lemmas.wires_lemmas.Words.{inl, inr, refl, shown_by}, specs.captures.wires.Answer.{IsWireAnswer, silent_lines}}
 use Rattle.tte_run.proofs.captures.wires.running.wire_trace.Goals as goal
 
 pub returns-in-Ok-clause-general : goal.returns-in-Ok-clause-general

@@ -1,6 +1,5 @@
+use Rattle.{tte_run.proofs.captures_lemmas.wires_lemmas.Seen.seen_first, tte_traces.proofs.Sources.no_memory}
 use Rattle.tte_run.proofs.captures_lemmas.wires_lemmas.Words.{HasLink, IsCapture, LinkId, RunEnds, Way, refl, settled_lines, shown_by, subst, sym, told_by}
-use Rattle.tte_traces.proofs.Sources.{no_memory}
-use Rattle.tte_run.proofs.captures_lemmas.wires_lemmas.Seen.{seen_first}
 use Rattle.tte_run.proofs.captures.wires.running.wire_way.Goals as goal
 
 pub follow_way-requires-clause-seen : goal.follow_way-requires-clause-seen

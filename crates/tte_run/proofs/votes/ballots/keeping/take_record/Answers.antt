@@ -1,5 +1,4 @@
-use Rattle.std.proofs.Common.{◌∙◌, ap, sym}
-use Rattle.tte_run.{proofs.votes_lemmas.ballots_lemmas.Ballots.ballots_none, specs.votes.ballots.Keeping.delivery_in}
+use Rattle.{std.proofs.Common.{◌∙◌, ap, sym}, tte_run.{proofs.votes_lemmas.ballots_lemmas.Ballots.ballots_none, specs.votes.ballots.Keeping.delivery_in}}
 use Rattle.tte_run.proofs.votes.ballots.keeping.take_record.Goals as goal
 
 pub returns-in-Some : goal.returns-in-Some

@@ -1,5 +1,4 @@
-use Rattle.std.proofs.Common.{◌∙◌}
-use Rattle.tte_traces.proofs.reports_lemmas.RecordLines.{begun_lines}
+use Rattle.{std.proofs.Common.◌∙◌, tte_traces.proofs.reports_lemmas.RecordLines.begun_lines}
 use Rattle.tte_traces.proofs.reports.reading.AuditedReport.records.Goals as goal
 
 pub returns : goal.returns

@@ -1,6 +1,5 @@
-use Rattle.std.proofs.Common.{◌∙◌, ap, refl}
+use Rattle.{std.proofs.Common.{◌∙◌, ap, refl}, world_drive.specs.Observing.told_by}
 use Rattle.tte_traces.{proofs.storms_lemmas.Seen.{behind_events, room_for, seen_record}, specs.storms.{Counts.corrects, summary.Counting.counted_as}}
-use Rattle.world_drive.specs.Observing.{told_by}
 use Rattle.tte_traces.proofs.storms.counting.SeenObserver.record.Goals as goal
 
 pub add-requires : goal.add-requires

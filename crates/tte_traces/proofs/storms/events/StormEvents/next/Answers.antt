@@ -1,6 +1,4 @@
-use Rattle.std.proofs.Common.{◌++◌, ◌∷◌, [], refl, subst}
-use Rattle.fault_hypothesis.specs.Watching.{Watches}
-use Rattle.net_plan.specs.declared.network.Network.{Network}
+use Rattle.{fault_hypothesis.specs.Watching.Watches, net_plan.specs.declared.network.Network.Network, std.proofs.Common.{◌++◌, ◌∷◌, [], refl, subst}}
 use Rattle.tte_traces.proofs.storms_lemmas.Drawn.{IsDrawnFor, fewer_left, gives_one, judged_well, may_give, within_now}
 use Rattle.tte_traces.proofs.storms.events.StormEvents.next.Goals as goal
 

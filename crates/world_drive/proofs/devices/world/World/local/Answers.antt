@@ -1,9 +1,6 @@
-use Rattle.std.{proofs.{Common.{◌∙◌, FitsSigned, Some, arith, rules, subst, sym, ℤ}, lemmas.Int.{ints, to_z-of_z}}, specs.Int.w128}
-use Rattle.drift_world.specs.{Locals.{IsLocalClock, IsLocalClockBefore}, Running.reading_of}
-use Rattle.run_law.specs.records.Happenings.{happenings}
-use Rattle.tte_units.specs.Amount.{amount}
-use Rattle.world_law.specs.source.Agreeing.{scenario}
-use Rattle.world_drive.proofs.devices_lemmas.Small.{are_small}
+use Rattle.{drift_world.specs.Locals.{IsLocalClock, IsLocalClockBefore}, std.proofs.Common.{◌∙◌, FitsSigned, Some, arith, rules, subst, sym, ℤ}}
+use Rattle.{drift_world.specs.Running.reading_of, std.{proofs.lemmas.Int.{ints, to_z-of_z}, specs.Int.w128}, tte_units.specs.Amount.amount}
+use Rattle.{run_law.specs.records.Happenings.happenings, world_drive.proofs.devices_lemmas.Small.are_small, world_law.specs.source.Agreeing.scenario}
 use Rattle.world_drive.proofs.devices.world.World.local.Goals as goal
 
 pub whole_units-requires-clause-low : goal.whole_units-requires-clause-low

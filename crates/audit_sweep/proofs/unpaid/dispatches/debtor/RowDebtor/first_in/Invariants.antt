@@ -1,7 +1,5 @@
-use Rattle.std.proofs.Common.{◌+◌, ◌-◌, ◌≤◌, List}
 use Rattle.audit_sweep.specs.unpaid.{dispatches.{Debtors.{AreKnown, scenario_of}, Frames.{IsTold, OwesFrame}}, points.FirstUnpaid.ArePaid}
-use Rattle.net_plan.specs.declared.event.Event.{Event}
-use Rattle.run_law.specs.records.Happenings.{Happening}
+use Rattle.{net_plan.specs.declared.event.Event.Event, run_law.specs.records.Happenings.Happening, std.proofs.Common.{◌+◌, ◌-◌, ◌≤◌, List}}
 use Rattle.audit_sweep.proofs.unpaid.dispatches.debtor.RowDebtor.first_in.Given as goal
 
 abbrev pub invariant-stretches : goal.invariant-stretches

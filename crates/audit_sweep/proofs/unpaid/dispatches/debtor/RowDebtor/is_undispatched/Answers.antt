@@ -1,7 +1,6 @@
-use Rattle.std.proofs.{Common.{◌∙◌, refl, subst, sym}, lemmas.Bool.false≢true}
-use Rattle.audit_devices.specs.clocks.Moments.{StandsAt}
+use Rattle.{audit_devices.specs.clocks.Moments.StandsAt, audit_sweep.specs.unpaid.dispatches.{Debtors.scenario_of, Frames.{AreTold, LacksOne}}}
 use Rattle.audit_sweep.proofs.unpaid_lemmas.dispatches_lemmas.{Hands.{when_false, when_true}, RowFacts.{device_there, row_fit}}
-use Rattle.audit_sweep.specs.unpaid.dispatches.{Debtors.scenario_of, Frames.{AreTold, LacksOne}}
+use Rattle.std.proofs.{Common.{◌∙◌, refl, subst, sym}, lemmas.Bool.false≢true}
 use Rattle.audit_sweep.proofs.unpaid.dispatches.debtor.RowDebtor.is_undispatched.Goals as goal
 
 pub cycle_of-requires-clause-row : goal.cycle_of-requires-clause-row

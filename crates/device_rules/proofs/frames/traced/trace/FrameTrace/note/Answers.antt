@@ -1,9 +1,8 @@
-use Rattle.std.{proofs.{Common.{◌++◌, ◌∷◌, ◌≡◌, List, [], refl, subst, sym}, lemmas.Slice.pushed}, specs.{List.All, Prelude.map}}
-use Rattle.net_plan.specs.declared.network.Network.{Network}
-use Rattle.run_law.specs.records.Happenings.{Happening}
 use Rattle.device_rules.proofs.{frames.traced.trace.FrameTrace.note.Goals.{in-Err-push, in-Ok-push}, frames_lemmas.traced_lemmas.Growing.all_grow}
 use Rattle.device_rules.proofs.frames_lemmas.traced_lemmas.Further.{after_push, not_pushed, one_more_held, the_trace, trace_grows, trace_more}
 use Rattle.device_rules.specs.{declared.frames.traced.kept.Kept.Kept, frames.traced.Keeping.{IsHeld, Keeps, traced, traced_by, view_of, views_of}}
+use Rattle.{net_plan.specs.declared.network.Network.Network, std.proofs.{Common.{◌++◌, ◌∷◌, ◌≡◌, List, [], refl, subst, sym}, lemmas.Slice.pushed}}
+use Rattle.{run_law.specs.records.Happenings.Happening, std.specs.{List.All, Prelude.map}}
 use Rattle.device_rules.proofs.frames.traced.trace.FrameTrace.note.Goals as goal
 
 pub returns-in-Err-clause-as_it_was : goal.returns-in-Err-clause-as_it_was

@@ -1,7 +1,6 @@
-use Rattle.std.{proofs.Common.{◌∙◌, ◌≡◌, List, None, Some, ap, subst, ℕ}, specs.Prelude.option_and_then}
-use Rattle.net_plan.specs.declared.network.Network.{Network}
-use Rattle.device_rules.{proofs.frames_lemmas.traced_lemmas.Further.trace_shows}
-use Rattle.device_rules.specs.{frames.traced.Keeping.{at_number, kept_shown}, declared.frames.traced.kept.Kept.Kept}
+use Rattle.device_rules.{proofs.frames_lemmas.traced_lemmas.Further.trace_shows, specs.frames.traced.Keeping.{at_number, kept_shown}}
+use Rattle.{device_rules.specs.declared.frames.traced.kept.Kept.Kept, std.proofs.Common.{◌∙◌, ◌≡◌, List, None, Some, ap, subst, ℕ}}
+use Rattle.{net_plan.specs.declared.network.Network.Network, std.specs.Prelude.option_and_then}
 use Rattle.device_rules.proofs.frames.traced.trace.FrameTrace.octets.Goals as goal
 
 pub returns-in-Some : goal.returns-in-Some

@@ -1,6 +1,5 @@
-use Rattle.std.proofs.Common.{◌∙◌, None, Option, ap}
 use Rattle.lens.{proofs.draw_lemmas.svg_lemmas.Folds.fold_listed, specs.{declared.draw.svg.clock.Ends.Ends, draw.svg.Clocks.{Clocks, ends_with, is_among}}}
-use Rattle.lens.specs.declared.draw.svg.clock.Told.{Told}
+use Rattle.{lens.specs.declared.draw.svg.clock.Told.Told, std.proofs.Common.{◌∙◌, None, Option, ap}}
 use Rattle.lens.proofs.draw.svg.clock.Clocks.ends.Goals as goal
 
 pub clocks-preserved : goal.clocks-preserved

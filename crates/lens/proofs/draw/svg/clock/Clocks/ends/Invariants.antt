@@ -1,5 +1,4 @@
-use Rattle.std.{proofs.Common.{◌≡◌, take}, specs.Prelude.{None, fold}}
-use Rattle.lens.specs.draw.svg.Clocks.{ends_with, is_among}
+use Rattle.{lens.specs.draw.svg.Clocks.{ends_with, is_among}, std.{proofs.Common.{◌≡◌, take}, specs.Prelude.{None, fold}}}
 use Rattle.lens.proofs.draw.svg.clock.Clocks.ends.Given as goal
 
 abbrev pub invariant-clocks : goal.invariant-clocks

@@ -1,6 +1,4 @@
-use Rattle.std.proofs.Common.{refl}
-use Rattle.audit_devices.specs.events.Readings.{scenario_under}
-use Rattle.lens.proofs.flows_lemmas.counts_lemmas.SeenMore.{steady}
+use Rattle.{audit_devices.specs.events.Readings.scenario_under, lens.proofs.flows_lemmas.counts_lemmas.SeenMore.steady, std.proofs.Common.refl}
 use Rattle.lens.proofs.flows.counts.seen.Seen.new.Goals as goal
 
 pub returns : goal.returns

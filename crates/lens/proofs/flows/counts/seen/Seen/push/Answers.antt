@@ -1,11 +1,9 @@
-use Rattle.std.{proofs.{Common.{◌++◌, ◌∙◌, ◌≡◌, List, Option, ap, refl, rules, subst, sym, ℕ, ℤ}, lemmas.Int.to_z-of_z}, specs.{Int.w64, Prelude.unsigned_abs}}
-use Rattle.audit_devices.specs.{Keeping.{IsSeen, Stands}, Showing.IsReading, events.Readings.scenario_under}
-use Rattle.audit_sweep.specs.{declared.records.kept.KeptRecord.KeptRecord, records.Keeping.records_of}
-use Rattle.lens.proofs.flows_lemmas.counts_lemmas.SeenMore.{deliveries_more, records_next, steady, subject_there}
-use Rattle.lens.specs.{declared.flows.counts.deliveries.Delivery.Delivery, flows.counts.{Deliveries.{deliveries_of, delivery_by}, Seen.some_delivery}}
-use Rattle.net_plan.specs.declared.ids.DeviceId.{DeviceId}
-use Rattle.run_law.{proofs.runs.NetworkRuns.one_more, specs.records.Happenings.{Happening, happening, happenings}}
-use Rattle.tte_units.specs.Amount.{amount}
+use Rattle.{audit_devices.specs.{Keeping.{IsSeen, Stands}, events.Readings.scenario_under}, lens.specs.flows.counts.Deliveries.{deliveries_of, delivery_by}}
+use Rattle.{audit_devices.specs.Showing.IsReading, std.{proofs.lemmas.Int.to_z-of_z, specs.{Int.w64, Prelude.unsigned_abs}}, tte_units.specs.Amount.amount}
+use Rattle.{audit_sweep.specs.declared.records.kept.KeptRecord.KeptRecord, std.proofs.Common.{◌++◌, ◌∙◌, ◌≡◌, List, Option, ap, refl, rules, subst, sym, ℕ, ℤ}}
+use Rattle.{audit_sweep.specs.records.Keeping.records_of, net_plan.specs.declared.ids.DeviceId.DeviceId, run_law.proofs.runs.NetworkRuns.one_more}
+use Rattle.lens.{proofs.flows_lemmas.counts_lemmas.SeenMore.{deliveries_more, records_next, steady, subject_there}, specs.flows.counts.Seen.some_delivery}
+use Rattle.{lens.specs.declared.flows.counts.deliveries.Delivery.Delivery, run_law.specs.records.Happenings.{Happening, happening, happenings}}
 use Rattle.lens.proofs.flows.counts.seen.Seen.push.Goals as goal
 
 pub returns : goal.returns

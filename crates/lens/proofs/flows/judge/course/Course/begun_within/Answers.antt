@@ -1,7 +1,6 @@
-use Rattle.std.proofs.{Common.{◌+◌, ◌∙◌, ◌≤ℤ◌, List, arith, pos, refl, rules, subst, sym, ℕ, ℤ}, lemmas.Int.ints}
-use Rattle.audit_devices.specs.clocks.Finding.{value_in}
-use Rattle.audit_sweep.proofs.unpaid_lemmas.points_lemmas.Sendings.{few_crossed}
-use Rattle.lens.{proofs.flows_lemmas.judge_lemmas.BegunCycles.{first_begun, none_begun}, specs.flows.judge.Courses.scenario_of}
+use Rattle.{audit_devices.specs.clocks.Finding.value_in, std.proofs.{Common.{◌+◌, ◌∙◌, ◌≤ℤ◌, List, arith, pos, refl, rules, subst, sym, ℕ, ℤ}, lemmas.Int.ints}}
+use Rattle.{audit_sweep.proofs.unpaid_lemmas.points_lemmas.Sendings.few_crossed, lens.proofs.flows_lemmas.judge_lemmas.BegunCycles.{first_begun, none_begun}}
+use Rattle.lens.specs.flows.judge.Courses.{scenario_of}
 use Rattle.lens.proofs.flows.judge.course.Course.begun_within.Goals as goal
 
 pub next_crossing-requires-clause-some : goal.next_crossing-requires-clause-some

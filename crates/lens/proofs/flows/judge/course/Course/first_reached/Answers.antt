@@ -1,7 +1,6 @@
-use Rattle.std.proofs.Common.{◌+◌, ℕ, sym, subst, ◌∙◌, arith}
 use Rattle.audit_sweep.{proofs.unpaid_lemmas.points_lemmas.Joining.{end_later, end_near, none_is, shows_within}, specs.unpaid.points.Kept.ShowsWithin}
-use Rattle.lens.{proofs.flows_lemmas.judge_lemmas.Firsts.{none_both, none_tells, tells_behind}, specs.flows.judge.Courses.scenario_of}
-use Rattle.run_law.specs.law.Safety.{ReachesPlace}
+use Rattle.{lens.proofs.flows_lemmas.judge_lemmas.Firsts.{none_both, none_tells, tells_behind}, std.proofs.Common.{◌+◌, ◌∙◌, arith, subst, sym, ℕ}}
+use Rattle.{lens.specs.flows.judge.Courses.scenario_of, run_law.specs.law.Safety.ReachesPlace}
 use Rattle.lens.proofs.flows.judge.course.Course.first_reached.Goals as goal
 
 pub after_time-next-requires-clause-device : goal.after_time-next-requires-clause-device

@@ -1,7 +1,5 @@
-use Rattle.std.proofs.Common.{◌+◌, ◌-◌, ◌≤◌, List}
-use Rattle.lens.specs.flows.judge.{Courses.{IsCourse, scenario_of}, Times.NoneWithin}
-use Rattle.net_plan.specs.declared.event.Event.{Event}
-use Rattle.run_law.specs.{law.Safety.ReachesPlace, records.Happenings.Happening}
+use Rattle.{lens.specs.flows.judge.Courses.{IsCourse, scenario_of}, net_plan.specs.declared.event.Event.Event, run_law.specs.records.Happenings.Happening}
+use Rattle.{lens.specs.flows.judge.Times.NoneWithin, run_law.specs.law.Safety.ReachesPlace, std.proofs.Common.{◌+◌, ◌-◌, ◌≤◌, List}}
 use Rattle.lens.proofs.flows.judge.course.Course.first_reached.Given as goal
 
 abbrev pub invariant-stretches : goal.invariant-stretches

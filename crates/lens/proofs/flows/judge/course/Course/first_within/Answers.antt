@@ -1,7 +1,6 @@
-use Rattle.std.{proofs.Common.{◌*◌, ◌+◌, ◌∙◌, ◌≡◌, List, arith, pos, refl, rules, subst, sym}, specs.Prelude.{None, Option, Some}}
-use Rattle.audit_devices.specs.{clocks.Finding.IsNextOrNone, declared.clocks.finding.Series.Series}
-use Rattle.lens.{proofs.flows_lemmas.judge_lemmas.Crossings.{first_reached, never_reached, passed}, specs.flows.judge.Courses.scenario_of}
-use Rattle.tte_units.specs.Amount.{amount}
+use Rattle.{audit_devices.specs.clocks.Finding.IsNextOrNone, std.proofs.Common.{◌*◌, ◌+◌, ◌∙◌, ◌≡◌, List, arith, pos, refl, rules, subst, sym}}
+use Rattle.{audit_devices.specs.declared.clocks.finding.Series.Series, lens.proofs.flows_lemmas.judge_lemmas.Crossings.{first_reached, never_reached, passed}}
+use Rattle.{lens.specs.flows.judge.Courses.scenario_of, std.specs.Prelude.{None, Option, Some}, tte_units.specs.Amount.amount}
 use Rattle.lens.proofs.flows.judge.course.Course.first_within.Goals as goal
 
 pub next_crossing-requires-clause-some : goal.next_crossing-requires-clause-some

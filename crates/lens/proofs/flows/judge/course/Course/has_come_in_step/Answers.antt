@@ -1,6 +1,5 @@
-use Rattle.std.proofs.Common.{List, refl}
 use Rattle.lens.{proofs.flows_lemmas.judge_lemmas.Comings.{Comes, has_come, tells_come, when_true}, specs.flows.judge.Courses.scenario_of}
-use Rattle.lens.specs.flows.judge.{Fates.ReachesInStep, Times.NoneWithin}
+use Rattle.{lens.specs.flows.judge.{Fates.ReachesInStep, Times.NoneWithin}, std.proofs.Common.{List, refl}}
 use Rattle.lens.proofs.flows.judge.course.Course.has_come_in_step.Goals as goal
 
 pub returns-then-comes_in_step : goal.returns-then-comes_in_step

@@ -1,7 +1,5 @@
-use Rattle.std.proofs.Common.{◌+◌, ◌-◌, ◌<◌, ◌≤◌, ℕ, List}
-use Rattle.lens.specs.flows.judge.{Courses.{IsCourse, scenario_of}, Fates.{Ends, IsSent}}
-use Rattle.net_plan.specs.declared.event.Event.{Event}
-use Rattle.run_law.specs.records.Happenings.{Happening}
+use Rattle.{lens.specs.flows.judge.Courses.{IsCourse, scenario_of}, run_law.specs.records.Happenings.Happening, std.proofs.Common.{◌+◌, ◌-◌, ◌<◌, ◌≤◌, List, ℕ}}
+use Rattle.{lens.specs.flows.judge.Fates.{Ends, IsSent}, net_plan.specs.declared.event.Event.Event}
 use Rattle.lens.proofs.flows.judge.course.Course.is_owed.Given as goal
 
 -- at no end so far the frame was sent

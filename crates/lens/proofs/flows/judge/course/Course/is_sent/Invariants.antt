@@ -1,7 +1,5 @@
-use Rattle.std.proofs.Common.{◌<◌, ℕ, List}
-use Rattle.lens.specs.flows.judge.{Courses.{IsCourse, scenario_of}, Fates.IsRowSent}
-use Rattle.net_plan.specs.declared.event.Event.{Event}
-use Rattle.run_law.specs.records.Happenings.{Happening}
+use Rattle.{lens.specs.flows.judge.Courses.{IsCourse, scenario_of}, net_plan.specs.declared.event.Event.Event, run_law.specs.records.Happenings.Happening}
+use Rattle.{lens.specs.flows.judge.Fates.IsRowSent, std.proofs.Common.{◌<◌, List, ℕ}}
 use Rattle.lens.proofs.flows.judge.course.Course.is_sent.Given as goal
 
 -- the rows so far did so

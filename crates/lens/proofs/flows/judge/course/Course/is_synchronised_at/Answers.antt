@@ -1,6 +1,5 @@
-use Rattle.std.proofs.{Common.{◌+◌, ◌∙◌, ◌≡◌, ◌≤◌, List, arith, refl, rules, sym}, lemmas.Bool.false≢true}
-use Rattle.lens.{proofs.flows_lemmas.judge_lemmas.Steps.shown_state, specs.flows.judge.Courses.scenario_of}
-use Rattle.sync_state.specs.declared.state.State.TheVariants.{Synchronised}
+use Rattle.{lens.{proofs.flows_lemmas.judge_lemmas.Steps.shown_state, specs.flows.judge.Courses.scenario_of}, std.proofs.lemmas.Bool.false≢true}
+use Rattle.{std.proofs.Common.{◌+◌, ◌∙◌, ◌≡◌, ◌≤◌, List, arith, refl, rules, sym}, sync_state.specs.declared.state.State.TheVariants.Synchronised}
 use Rattle.lens.proofs.flows.judge.course.Course.is_synchronised_at.Goals as goal
 
 pub before_time-shown-requires : goal.before_time-shown-requires

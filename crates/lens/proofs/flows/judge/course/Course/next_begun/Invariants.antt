@@ -1,7 +1,5 @@
-use Rattle.std.proofs.Common.{◌+◌, ◌-◌, ◌≤◌, List}
-use Rattle.lens.specs.flows.judge.{Beginnings.BeginsOne, Courses.{IsCourse, scenario_of}, Times.NoneWithin}
-use Rattle.net_plan.specs.declared.event.Event.{Event}
-use Rattle.run_law.specs.records.Happenings.{Happening}
+use Rattle.{lens.specs.flows.judge.{Beginnings.BeginsOne, Courses.{IsCourse, scenario_of}, Times.NoneWithin}, run_law.specs.records.Happenings.Happening}
+use Rattle.{net_plan.specs.declared.event.Event.Event, std.proofs.Common.{◌+◌, ◌-◌, ◌≤◌, List}}
 use Rattle.lens.proofs.flows.judge.course.Course.next_begun.Given as goal
 
 abbrev pub invariant-stretches : goal.invariant-stretches

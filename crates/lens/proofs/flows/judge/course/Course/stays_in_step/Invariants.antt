@@ -1,7 +1,5 @@
-use Rattle.std.proofs.Common.{◌+◌, ◌-◌, ◌≤◌, List}
 use Rattle.lens.{proofs.flows_lemmas.judge_lemmas.Steps.StaysSynchronised, specs.flows.judge.Courses.{IsCourse, scenario_of}}
-use Rattle.net_plan.specs.declared.event.Event.{Event}
-use Rattle.run_law.specs.records.Happenings.{Happening}
+use Rattle.{net_plan.specs.declared.event.Event.Event, run_law.specs.records.Happenings.Happening, std.proofs.Common.{◌+◌, ◌-◌, ◌≤◌, List}}
 use Rattle.lens.proofs.flows.judge.course.Course.stays_in_step.Given as goal
 
 abbrev pub invariant-stretches : goal.invariant-stretches

@@ -1,8 +1,7 @@
-use Rattle.lens.{proofs.why_lemmas.past_lemmas.Words.{◌∙◌, Happening, List, arith, scenario_under}, specs.why.past.Pasts.permanence_place}
+use Rattle.{audit_devices.proofs.Reading.hearing_adjustment, lens.proofs.why_lemmas.past_lemmas.Words.{◌∙◌, Happening, List, arith, scenario_under}}
+use Rattle.{audit_devices.specs.Keeping.records_before, lens.specs.why.past.Pasts.permanence_place, run_law.specs.records.Ranks.key}
+use Rattle.{audit_sweep.proofs.HeardBefore.{heard_before, none_later, only_joined}, run_law.specs.declared.judgement.Judgement.TheVariants.Ignored}
 use Rattle.std.{proofs.{Common.rules, lemmas.Int.to_z-of_z}, specs.Int.w128}
-use Rattle.audit_devices.{proofs.Reading.hearing_adjustment, specs.Keeping.records_before}
-use Rattle.audit_sweep.proofs.HeardBefore.{heard_before, none_later, only_joined}
-use Rattle.run_law.specs.{declared.judgement.Judgement.TheVariants.Ignored, records.Ranks.key}
 use Rattle.run_law.specs.declared.note.NoteBody.TheVariants as notes
 use Rattle.lens.proofs.why.past.past.Past.adjustment_at.Goals as goal
 

@@ -1,8 +1,6 @@
+use Rattle.{audit_devices.specs.events.Remembering.Remembers, net_plan.specs.{Ranges.IsInRange, declared.event.Event.Event}, tte_audit.specs.Telling.IsReadOf}
 use Rattle.lens.proofs.why_lemmas.past_lemmas.{Beginning.begun_by, Words.{IsPast, List, Network, Note, Past, [], ap, arith, length, subst, sym, ℕ}}
 use Rattle.std.specs.Prelude.{IfOk}
-use Rattle.audit_devices.specs.events.Remembering.{Remembers}
-use Rattle.net_plan.specs.{Ranges.IsInRange, declared.event.Event.Event}
-use Rattle.tte_audit.specs.Telling.{IsReadOf}
 use Rattle.lens.proofs.why.past.past.Past.begun.Goals as goal
 
 pub read_events-requires : goal.read_events-requires

@@ -1,6 +1,5 @@
-use Rattle.lens.proofs.why_lemmas.past_lemmas.Words.{◌∙◌, ap, scenario_under, ℕ}
+use Rattle.{lens.proofs.why_lemmas.past_lemmas.Words.{◌∙◌, ap, scenario_under, ℕ}, run_law.specs.device.States.adjustment_before}
 use Rattle.std.{proofs.{Common.{◌+ℤ◌, pos, rules, ℤ}, lemmas.Int.to_z-of_z}, specs.Int.w128}
-use Rattle.run_law.specs.device.States.{adjustment_before}
 use Rattle.lens.proofs.why.past.past.Past.clock_at.Goals as goal
 
 pub returns-clause-is : goal.returns-clause-is

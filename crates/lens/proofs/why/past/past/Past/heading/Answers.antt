@@ -1,7 +1,5 @@
-use Rattle.lens.proofs.why_lemmas.past_lemmas.Words.{◌∙◌, Happening, Some, ap, sym}
-use Rattle.std.{proofs.Common.Option, specs.Prelude.option_map}
-use Rattle.audit_sweep.specs.declared.records.kept.KeptRecord.{KeptRecord}
-use Rattle.device_rules.specs.Headings.{heading_of}
+use Rattle.{audit_sweep.specs.declared.records.kept.KeptRecord.KeptRecord, lens.proofs.why_lemmas.past_lemmas.Words.{◌∙◌, Happening, Some, ap, sym}}
+use Rattle.{device_rules.specs.Headings.heading_of, std.{proofs.Common.Option, specs.Prelude.option_map}}
 use Rattle.lens.proofs.why.past.past.Past.heading.Goals as goal
 
 pub returns-in-Some : goal.returns-in-Some

@@ -1,6 +1,5 @@
 use Rattle.lens.proofs.why_lemmas.past_lemmas.Words.{IsNamed, IsPast, IsPastOf, IsReportOf, List, Network, Note, Past, Units, [], events_of, subst, sym}
-use Rattle.std.specs.Prelude.{IfOk}
-use Rattle.lens.specs.why.past.Pasts.{IsSomeReport}
+use Rattle.{lens.specs.why.past.Pasts.IsSomeReport, std.specs.Prelude.IfOk}
 use Rattle.lens.proofs.why.past.past.Past.of.Goals as goal
 
 pub with_all-requires-clause-named : goal.with_all-requires-clause-named

@@ -1,5 +1,4 @@
-use Rattle.lens.proofs.why_lemmas.past_lemmas.Words.{refl, scenario_under}
-use Rattle.audit_sweep.proofs.NextRecords.{steady}
+use Rattle.{audit_sweep.proofs.NextRecords.steady, lens.proofs.why_lemmas.past_lemmas.Words.{refl, scenario_under}}
 use Rattle.lens.proofs.why.past.past.Past.of_events.Goals as goal
 
 pub returns : goal.returns

@@ -1,5 +1,4 @@
-use Rattle.std.proofs.Common.{length}
-use Rattle.lens.proofs.why_lemmas.past_lemmas.Following.{IsUnderWay}
+use Rattle.{lens.proofs.why_lemmas.past_lemmas.Following.IsUnderWay, std.proofs.Common.length}
 use Rattle.lens.proofs.why.past.past.Past.with_all.Given as goal
 
 abbrev pub invariant-records : goal.invariant-records

@@ -1,5 +1,4 @@
-use Rattle.std.proofs.Common.{◌∙◌, ap, not, sym}
-use Rattle.run_law.proofs.plain_lemmas.Same.{itself, neither, not_true}
+use Rattle.{run_law.proofs.plain_lemmas.Same.{itself, neither, not_true}, std.proofs.Common.{◌∙◌, ap, not, sym}}
 use Rattle.run_law.proofs.plain.places.place.Place.is_same.Goals as goal
 
 pub returns-then-not-is_before : goal.returns-then-not-is_before

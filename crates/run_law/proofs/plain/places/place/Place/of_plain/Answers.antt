@@ -1,5 +1,4 @@
-use Rattle.std.proofs.Common.{◌∙◌, ap, rules, ℕ}
-use Rattle.run_law.specs.records.Ranks.{place_at}
+use Rattle.{run_law.specs.records.Ranks.place_at, std.proofs.Common.{◌∙◌, ap, rules, ℕ}}
 use Rattle.run_law.specs.declared.note.NoteBody.TheVariants as notes
 use Rattle.run_law.proofs.plain.places.place.Place.of_plain.Goals as goal
 

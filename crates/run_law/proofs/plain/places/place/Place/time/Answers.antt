@@ -1,5 +1,4 @@
-use Rattle.std.proofs.Common.{◌∙◌, List, ap, get_or, ℕ}
-use Rattle.run_law.proofs.plain_lemmas.Padded.{first}
+use Rattle.{run_law.proofs.plain_lemmas.Padded.first, std.proofs.Common.{◌∙◌, List, ap, get_or, ℕ}}
 use Rattle.run_law.proofs.plain.places.place.Place.time.Goals as goal
 
 pub returns : goal.returns

@@ -1,9 +1,7 @@
-use Rattle.tte_run.proofs.captures_lemmas.wires_lemmas.Puts.{puts_none}
+use Rattle.drift_world.specs.Wires.{IsOfNow}
+use Rattle.{run_law.specs.control.Wires.Signal, tte_run.proofs.captures_lemmas.wires_lemmas.Puts.puts_none, world_state.specs.Views.signal_as}
 use Rattle.tte_run.proofs.captures_lemmas.wires_lemmas.{Sent.{of_now, on_own_link, packet_is, sent_rank}, Words.{refl, scenario_under, subst, sym, ℕ}}
 use Rattle.tte_run.proofs.captures_lemmas.wires_lemmas.Words.{◌++◌, ◌∙◌, ◌∷◌, ◌≡◌, IsSpelt, List, Note, [], amount, ap, happenings, last_happening, packet_at}
-use Rattle.drift_world.specs.Wires.{IsOfNow}
-use Rattle.run_law.specs.control.Wires.{Signal}
-use Rattle.world_state.specs.Views.{signal_as}
 use Rattle.tte_run.proofs.captures.wires.capture.Capture.put_sent.Goals as goal
 
 pub returns-in-Some-clause-puts : goal.returns-in-Some-clause-puts

@@ -1,6 +1,5 @@
-use Rattle.std.proofs.Common.{◌<◌, ◌^◌, ◌∙◌, ◌≡◌, ap, arith}
+use Rattle.{std.proofs.Common.{◌<◌, ◌^◌, ◌∙◌, ◌≡◌, ap, arith}, tte_run.specs.votes.{ballots.Keeping.key_of, tmr.Vote.{Votes, payload_of}}}
 use Rattle.tte_run.proofs.votes_lemmas.ballots_lemmas.{Filled.filled, First.{first_cast, first_given, none_in, none_left, place_of_key}}
-use Rattle.tte_run.specs.votes.{ballots.Keeping.key_of, tmr.Vote.{Votes, payload_of}}
 use Rattle.tte_run.proofs.votes.ballots.votes.KeptVotes.next.Goals as goal
 
 pub cast-requires-in-Some : goal.cast-requires-in-Some

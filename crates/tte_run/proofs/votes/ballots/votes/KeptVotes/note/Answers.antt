@@ -1,5 +1,4 @@
-use Rattle.std.proofs.Common.{refl}
-use Rattle.tte_run.proofs.votes_lemmas.ballots_lemmas.Kept.{more_taken}
+use Rattle.{std.proofs.Common.refl, tte_run.proofs.votes_lemmas.ballots_lemmas.Kept.more_taken}
 use Rattle.tte_run.proofs.votes.ballots.votes.KeptVotes.note.Goals as goal
 
 pub returns : goal.returns

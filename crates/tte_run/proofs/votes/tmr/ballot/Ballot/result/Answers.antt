@@ -1,6 +1,5 @@
-use Rattle.std.proofs.Common.{◌∙◌, ◌≡◌, Some, false, inl, inr, subst, sym, true}
-use Rattle.tte_run.proofs.{votes_lemmas.tmr_lemmas.Votes.{denied, vote_first, vote_second}, votes.tmr.ballot.Ballot.result.Goals.{else-equals, then-equals}}
-use Rattle.tte_run.specs.votes.tmr.Vote.{AreEqual, IsVote, Votes}
+use Rattle.{std.proofs.Common.{◌∙◌, ◌≡◌, Some, false, inl, inr, subst, sym, true}, tte_run.specs.votes.tmr.Vote.{AreEqual, IsVote, Votes}}
+use Rattle.tte_run.proofs.{votes.tmr.ballot.Ballot.result.Goals.{else-equals, then-equals}, votes_lemmas.tmr_lemmas.Votes.{denied, vote_first, vote_second}}
 use Rattle.tte_run.proofs.votes.tmr.ballot.Ballot.result.Goals as goal
 
 pub returns-then-equals-2-clause-means : goal.returns-then-equals-2-clause-means

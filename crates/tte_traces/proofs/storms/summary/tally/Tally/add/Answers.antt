@@ -1,5 +1,4 @@
-use Rattle.std.proofs.Common.{◌∙◌, refl}
-use Rattle.tte_traces.proofs.storms_lemmas.summary_lemmas.Counting.{added}
+use Rattle.{std.proofs.Common.{◌∙◌, refl}, tte_traces.proofs.storms_lemmas.summary_lemmas.Counting.added}
 use Rattle.tte_traces.proofs.storms.summary.tally.Tally.add.Goals as goal
 
 pub returns-in-Compressed : goal.returns-in-Compressed

@@ -1,5 +1,4 @@
-use Rattle.std.proofs.Common.{refl}
-use Rattle.tte_traces.specs.storms.summary.Counting.{counts_of, drops_of}
+use Rattle.{std.proofs.Common.refl, tte_traces.specs.storms.summary.Counting.{counts_of, drops_of}}
 use Rattle.tte_traces.proofs.storms.summary.tally.Tally.new.Goals as goal
 
 pub returns : goal.returns
