@@ -1,10 +1,10 @@
 -- What is shown with one more record by which the device hears a frame.
-use Rattle.{audit_devices.proofs.{Points.points_mono, Steps.{state_on, told, unchanged}, Words.{time_of, ℕ}}, tte_lemmas.proofs.Naturals.{eqb_same, goes_on}}
+use Rattle.{audit_devices.proofs.{Points.points_mono, Steps.{state_on, told, unchanged}}, tte_units.proofs.general_lemmas.Naturals.{eqb_same, goes_on}}
 use Rattle.audit_devices.proofs.Steps.{TellsAs, adjustment_on, cycle_on, front_later, heard_on, integrated_on, joined_on, kept_where, not_joined, one_later}
 use Rattle.audit_devices.proofs.Words.{◌++◌, ◌+ℤ◌, ◌-◌, ◌<◌, ◌==◌, ◌∙◌, ◌∷◌, ◌≡◌, ◌≤◌, Bool, DeviceId, Effect, Happening, Hearing, Hears, IsInRange, List}
 use Rattle.audit_devices.proofs.Words.{NoneLater, Scenario, Shown, Shows, Summarizes, Summary, Units, [], ap, arith, cases_lt, cons_option, effect_of}
 use Rattle.audit_devices.proofs.Words.{filter_map, heard_at, heard_by_then, hearing_by, if◌then◌else◌, inl, inr, points_by, pos, refl, silence, subst, sym}
-use Rattle.{audit_devices.specs.Showing.IsSteady, std.proofs.lemmas.List.append-nil}
+use Rattle.{audit_devices.{proofs.Words.{time_of, ℕ}, specs.Showing.IsSteady}, std.proofs.lemmas.List.append-nil}
 
 -- it is heard where so many points have come
 heard_there : (s : Scenario) (hs : List Happening) (device : DeviceId) (h : Happening) (shown : Shown) (hearing : Hearing) (points : ℕ)

@@ -4,8 +4,8 @@ use Rattle.audit_devices.proofs.Words.{◌++◌, ◌==◌, ◌∙◌, ◌∷◌,
 use Rattle.audit_devices.proofs.Words.{Keeps, List, Network, None, NoneLater, NoteBody, Nothing, Option, Scenario, Shown, Shows, Some, [], ap, arith, effect_by}
 use Rattle.audit_devices.proofs.Words.{effect_of, false, filter, if◌then◌else◌, inl, inr, is_before, last_or, members_in, ne_eqb, option_map_or, place_of}
 use Rattle.audit_devices.{proofs.Words.{records_before, refl, subject_of, subst, sym, time_of, true, ℕ}, specs.Keeping.{IsOfRecord, latest_of, shown_before}}
-use Rattle.run_law.proofs.{records.Order.{all_kept, before_is, is_there}, runs.Places.{chain, in_left, in_parts, in_right}}
-use Rattle.{run_law.specs.records.{Order.{AllBefore, IsBefore}, Ranks.{key, rank}}, tte_lemmas.proofs.Lists.{filter_off, filter_on, last_pushed}}
+use Rattle.run_law.{proofs.records.Order.{all_kept, before_is, is_there}, specs.records.{Order.{AllBefore, IsBefore}, Ranks.{key, rank}}}
+use Rattle.{run_law.proofs.runs.Places.{chain, in_left, in_parts, in_right}, tte_units.proofs.general_lemmas.Lists.{filter_off, filter_on, last_pushed}}
 use Rattle.run_law.specs.declared.note.NoteBody.TheVariants as notes
 
 -- ---- the test of places
@@ -78,8 +78,7 @@ kept_on s hs d h old new shown all first items shows keeps = record {
     newest : (es : List Entry) → shown_of new.first (es ++ entry_of h shown ∷ []) ≡ shown
     newest es = ap (λ (o : Option Entry). option_map_or (λ (e : Entry). e.shown) o new.first) (last_pushed None es (entry_of h shown))
 
-    by_place : (place : List ℕ) → (b : Bool) → is_before (place_of h) place ≡ b
-        → Shows s (records_before place (hs ++ h ∷ [])) d (shown_before place new)
+    by_place : (place : List ℕ) → (b : Bool) → is_before (place_of h) place ≡ b → Shows s (records_before place (hs ++ h ∷ [])) d (shown_before place new)
     by_place place true e =
         let test : Entry → Bool = λ x. is_before x.place place in
         let records : Happening → Bool = λ x. is_before (place_of x) place in

@@ -1,11 +1,11 @@
 -- What is kept of all devices goes on by one more record.
-use Rattle.audit_devices.{proofs.{Kept.{kept_still, nothing_of}, Words.{suc, sym, time_of, true, zero, ℕ}}, specs.declared.shown.Readings.Readings}
+use Rattle.{audit_devices.{proofs.Kept.{kept_still, nothing_of}, specs.declared.shown.Readings.Readings}, run_law.specs.records.Happenings.earlier}
 use Rattle.audit_devices.proofs.Words.{◌++◌, ◌<◌, ◌==◌, ◌∙◌, ◌∷◌, ◌≡◌, ◌⊎◌, Carried, DeviceId, Entry, Happening, History, IsFresh, Keeps, List, Network, None}
 use Rattle.audit_devices.proofs.Words.{NoteBody, Scenario, Shown, Some, [], ap, arith, carried_by, filter, got_within, inl, inr, is_before, last_or, length}
 use Rattle.audit_devices.proofs.Words.{members_in, nat_lt, option_map_or, place_at, place_of, records_before, refl, slice_get, slice_set, subject_of, subst}
-use Rattle.{audit_devices.specs.{Following.IsMet, Keeping.KeepsAll, Showing.IsSteady}, std.proofs.{Common.{Err, Ok, Result}, lemmas.Bool.cases_order}}
-use Rattle.{run_law.{proofs.records.Order.same_kept, specs.records.Happenings.earlier}, tte_lemmas.proofs.{Bools.no_more, Lists.{set_other, set_same}}}
-use Rattle.std.specs.Prelude.{OnOk, is_ok}
+use Rattle.{audit_devices.proofs.Words.{suc, sym, time_of, true, zero, ℕ}, tte_units.proofs.general_lemmas.{Bools.no_more, Lists.{set_other, set_same}}}
+use Rattle.{audit_devices.specs.{Following.IsMet, Keeping.KeepsAll, Showing.IsSteady}, run_law.proofs.records.Order.same_kept}
+use Rattle.std.{proofs.{Common.{Err, Ok, Result}, lemmas.Bool.cases_order}, specs.Prelude.{OnOk, is_ok}}
 
 -- ---- what holds where a call was not cut short
 

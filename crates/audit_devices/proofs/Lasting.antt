@@ -3,7 +3,7 @@ use Rattle.audit_devices.{proofs.{Partitions.kept_front, Words.{take, time_at, t
 use Rattle.audit_devices.proofs.Words.{◌+◌, ◌<◌, ◌==◌, ◌∙◌, ◌∷◌, ◌≡◌, ◌≤◌, Bool, Entry, History, IsPartitionPoint, IsPartitionedBy, List, None, Option, Shown}
 use Rattle.audit_devices.proofs.Words.{Some, [], ap, arith, false, filter, got_within, is_before, last_or, length, nat_lt, option_map_or, refl, slice_get, sym}
 use Rattle.std.{proofs.{Common.get_or, lemmas.{Bool.{le-leb, leb-false, leb-true, lt-ltb, ltb-true}, Option.slice_get-get_or}}, specs.Prelude.nat_le}
-use Rattle.tte_lemmas.proofs.Bools.{no_more}
+use Rattle.tte_units.proofs.general_lemmas.Bools.{no_more}
 
 -- a place is before all records of a later time than the first exactly where it is of an earlier time
 pub by_time : (place : List ℕ) (t : ℕ) → 0 < t → is_before place (t ∷ []) ≡ nat_lt (time_at place) t

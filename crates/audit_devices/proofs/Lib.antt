@@ -1,5 +1,3 @@
-pub mod law_lemmas
-pub mod events_lemmas
 pub mod Tells
 pub mod Steps
 pub mod Points
@@ -12,7 +10,6 @@ pub mod Reading
 pub mod Takes
 pub mod Lasting
 pub mod Words
-pub mod collections_lemmas
 pub mod stretches_lemmas
 pub mod clocks_lemmas
 pub mod permanence_lemmas

@@ -1,9 +1,9 @@
 -- More correction points have come where a clock shows more.
 use Rattle.audit_devices.proofs.Words.{◌&&◌, ◌+ℤ◌, ◌+◌, ◌<◌, ◌∙◌, ◌≡◌, ◌≤◌, Bool, IsInRange, Network, Shown, ap, arith, false, if◌then◌else◌, points_by, pos}
-use Rattle.{audit_devices.{proofs.Words.{refl, subst, sym, true, ℕ, ℤ}, specs.Showing.points_from}, std.specs.Prelude.{◌-ℤ◌, ◌<ℤ◌, ◌≤ℤ◌, int_le, int_lt}}
-use Rattle.{run_law.specs.control.Corrections.correction_value, tte_lemmas.proofs.Integers.{int_le-false, int_le-from, int_le-is, int_lt-from, not_below}}
-use Rattle.{run_law.specs.device.Standpoints.natural, std.proofs.Common.{◌/◌, div-mul-le_self, negsuc}, tte_lemmas.proofs.Bools.none_shorter}
+use Rattle.{audit_devices.proofs.Words.{refl, subst, sym, true, ℕ, ℤ}, run_law.specs.{control.Corrections.correction_value, device.Standpoints.natural}}
+use Rattle.{audit_devices.specs.Showing.points_from, std.{proofs.Common.{◌/◌, div-mul-le_self, negsuc}, specs.Prelude.{◌-ℤ◌, ◌<ℤ◌, ◌≤ℤ◌, int_le, int_lt}}}
 use Rattle.std.{proofs.lemmas.{Int.ints, Nat.le-div}, specs.Int.int_div_euclid}
+use Rattle.tte_units.proofs.general_lemmas.{Bools.none_shorter, Integers.{int_le-false, int_le-from, int_le-is, int_lt-from, not_below}}
 
 -- a number that is not negative
 whole : (z : ℤ) → pos 0 ≤ℤ z → (n : ℕ) × (z ≡ pos n)

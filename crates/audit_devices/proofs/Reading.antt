@@ -1,12 +1,12 @@
 -- What is read of what is shown: the correction points that have come, and what was heard since the last.
 use Rattle.{audit_devices.proofs.Hearings.kept_then, std.{proofs.lemmas.Bool.ltb-false, specs.Prelude.fold}}
-use Rattle.audit_devices.{proofs.Tells.{adjustment_by, changes_by, cycle_by, tells}, specs.law.CorrectionNumbers.{heard_since_point, next_number, points_come}}
+use Rattle.{audit_devices.proofs.Tells.{adjustment_by, changes_by, cycle_by, tells}, sync_state.proofs.membership_lemmas.SummaryLemmas.silence_summarizes}
 use Rattle.audit_devices.proofs.Words.{◌&&◌, ◌+ℤ◌, ◌+◌, ◌-◌, ◌||◌, ◌∙◌, ◌∷◌, ◌≡◌, Bool, Corrects, DeviceId, Effect, Happening, Hears, IsIn, Joins, List, None}
 use Rattle.audit_devices.proofs.Words.{NoneLater, Nothing, Scenario, Shown, Shows, Summarizes, Turns, Units, [], ap, arith, changes_adjustment, effect_of}
 use Rattle.audit_devices.proofs.Words.{false, filter, filter_map, heard_at, heard_by_then, hearing_by, if◌then◌else◌, inl, inr, is_joined_by, last_or, nat_lt}
 use Rattle.audit_devices.{proofs.Words.{option_map_or, points_by, pos, refl, subst, sym, time_of, true, ℕ, ℤ}, specs.Showing.{IsAfter, last_change}}
-use Rattle.{membership.proofs.SummaryLemmas.silence_summarizes, run_law.specs.device.States.{adjustment_after, adjustment_at_hearing}}
-use Rattle.run_law.{proofs.records.Order.{after_same, same_kept}, specs.{control.Corrections.recorded_cycle, records.Happenings.earlier}}
+use Rattle.{audit_law.specs.law.CorrectionNumbers.{heard_since_point, next_number, points_come}, run_law.specs.control.Corrections.recorded_cycle}
+use Rattle.run_law.{proofs.records.Order.{after_same, same_kept}, specs.{device.States.{adjustment_after, adjustment_at_hearing}, records.Happenings.earlier}}
 
 -- the records show this of the device's adjustment and of its correction points
 pub record ShowsPoints (s : Scenario) (es : List Happening) (device : DeviceId) (shown : Shown) : Type 0 where

@@ -6,10 +6,10 @@ use Rattle.audit_devices.proofs.Words.{changes_adjustment, cons_option, effect_o
 use Rattle.audit_devices.proofs.Words.{is_joined_by, last_or, ne_eqb, option_map_or, points_by, pos, refl, silence, subst, sym, time_of, true, ℕ, ℤ}
 use Rattle.{audit_devices.specs.Following.{changed_to, joined_to}, run_law.specs.control.Corrections.{cycle_after, integration_cycle, recorded_cycle}}
 use Rattle.{run_law.proofs.records.Order.after_more, std.proofs.lemmas.List.{Sums.fold-append, append-nil}, sync_state.specs.declared.state.State.State}
-use Rattle.{run_law.proofs.runs.Places.{in_left, in_right}, std.proofs.lemmas.List.Folds.list_any-append, tte_lemmas.{proofs.{Bools.{no_more as none_more}}}}
+use Rattle.{run_law.proofs.runs.Places.{in_left, in_right}, std.proofs.lemmas.List.{Elements.{filter-append, filter_map-append}, Folds.list_any-append}}
 use Rattle.run_law.specs.device.States.{adjustment_after, adjustment_with, cycle_in, has_joined_at, joined_adjustment, state_after, state_with}
 use Rattle.std.proofs.lemmas.Bool.{eq-eqb}
-use Rattle.{std.proofs.lemmas.List.Elements.{filter-append, filter_map-append}, tte_lemmas.proofs.Lists.{after_one, filter_off, filter_on, last_pushed}}
+use Rattle.tte_units.proofs.general_lemmas.{Bools.{no_more as none_more}, Lists.{after_one, filter_off, filter_on, last_pushed}}
 
 -- the records, and one more
 abbrev pub with_one : List Happening → Happening → List Happening

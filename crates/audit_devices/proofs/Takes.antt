@@ -1,15 +1,16 @@
 -- What is kept of the frames that were taken.
-use Rattle.{audit_devices.proofs.Kept.test_chain, net_plan.specs.declared.ids.LinkId.LinkId, run_law.proofs.{records.Order.before_is, runs.Places.in_parts}}
-use Rattle.{audit_devices.proofs.Partitions.parted_on, std.specs.Prelude.{OnOk, is_ok, option_and_then}, tte_lemmas.proofs.Lists.{set_other, set_same}}
+use Rattle.{audit_devices.proofs.Kept.test_chain, run_law.{proofs.runs.Places.in_parts, specs.scenario.Devices.is_end}, std.proofs.Common.{Err, Ok, Result}}
+use Rattle.{audit_devices.{proofs.Partitions.parted_on, specs.declared.taking.Taken.Taken}, run_law.specs.records.Order.{AllBefore, IsBefore}}
 use Rattle.audit_devices.proofs.Words.{◌&&◌, ◌++◌, ◌<◌, ◌==◌, ◌||◌, ◌∙◌, ◌∷◌, ◌≡◌, ◌⊎◌, AscendAll, Bool, DeviceId, DeviceTakings, Global, Happening, IsIn, List}
 use Rattle.audit_devices.proofs.Words.{Network, None, NoteBody, Option, Some, Taking, Vec, VlId, [], ap, arith, cons_option, false, filter, filter_map}
 use Rattle.audit_devices.proofs.Words.{if◌then◌else◌, inl, inr, is_taking_before, last_or, length, members_in, nat_lt, ne_eqb, option_map, option_map_or}
 use Rattle.audit_devices.proofs.Words.{place_at, place_of, refl, slice_get, slice_set, subst, suc, sym, taken_of, takings_of, time_of, true, zero, ℕ}
 use Rattle.audit_devices.specs.{Taking.{coming_of, taken_at, taken_by, taking_of}, Takings.{HasTaken, TakesRightly, kept_of, taker_count}}
-use Rattle.{audit_devices.specs.declared.taking.Taken.Taken, run_law.specs.records.Order.{AllBefore, IsBefore}, tte_lemmas.proofs.Bools.{no_more, none_shorter}}
 use Rattle.{audit_devices.specs.declared.takings.Takings.Takings, std.proofs.lemmas.{Bool.{cases_order, eq-eqb, le-ltb}, List.Elements.filter_map-append}}
-use Rattle.{net_plan.proofs.SameIds.alike, std.proofs.Common.{Err, Ok, Result}}
-use Rattle.run_law.specs.{scenario.Devices.is_end, timed.{Dispatching.{is_accepted, last_accepted}, Receptions.{is_taken_before, last_taken, taken_cycle}}}
+use Rattle.net_plan.proofs.SameIds.{alike}
+use Rattle.{net_plan.specs.declared.ids.LinkId.LinkId, run_law.proofs.records.Order.before_is, std.specs.Prelude.{OnOk, is_ok, option_and_then}}
+use Rattle.{run_law.specs.timed.Dispatching.{is_accepted, last_accepted}, tte_units.proofs.general_lemmas.Lists.{set_other, set_same}}
+use Rattle.{run_law.specs.timed.Receptions.{is_taken_before, last_taken, taken_cycle}, tte_units.proofs.general_lemmas.Bools.{no_more, none_shorter}}
 use Rattle.run_law.specs.declared.note.NoteBody.TheVariants as notes
 
 -- ---- the last one
@@ -49,8 +50,7 @@ filter_both {X} r p (x ∷ xs) = grind (arith, filter, (filter_both r p xs))
 
 -- ---- frames that came before another
 
-both_fit : (x y c : Bool) (e : Taking) (passes : Bool) (P : Type 0) → c ≡ passes → P
-    → (((if x && y then Some e else None) ≡ None) × ((x && y && c) ≡ false))
+both_fit : (x y c : Bool) (e : Taking) (passes : Bool) (P : Type 0) → c ≡ passes → P → (((if x && y then Some e else None) ≡ None) × ((x && y && c) ≡ false))
     ⊎ (((if x && y then Some e else None) ≡ Some e) × ((x && y && c) ≡ passes) × P)
 both_fit true true c e passes P same holds = inr (refl, same, holds)
 both_fit true false c e passes P same holds = inl (refl, refl)
@@ -102,8 +102,7 @@ came_earlier : (at t by from : ℕ) → nat_lt at t ≡ (nat_lt at t || (at == t
 came_earlier at t by from =
     grind (arith, none_below, nat_lt, le-ltb, no_more)
 
-switch_fit : (z x y : Bool) (e : Taking) (passes : Bool) → z ≡ passes
-    → (((if x && y then Some e else None) ≡ None) × ((z && (x && y)) ≡ false))
+switch_fit : (z x y : Bool) (e : Taking) (passes : Bool) → z ≡ passes → (((if x && y then Some e else None) ≡ None) × ((z && (x && y)) ≡ false))
     ⊎ (((if x && y then Some e else None) ≡ Some e) × ((z && (x && y)) ≡ passes) × ((if x && y then Some e else None) ≡ Some e))
 switch_fit true true true e passes same = inr (refl, same, refl)
 switch_fit false true true e passes same = inr (refl, same, refl)

@@ -6,7 +6,7 @@ pub use Rattle.std.proofs.lemmas.{Bool.{cases_lt, ne_eqb}, Fn.always_returns_sam
 pub use Rattle.std.specs.{List.{cons_option, filter_map, last_or}, Option.option_map_or, Prelude.{◌&&◌, ◌+ℤ◌, ◌==◌, ◌||◌, nat_lt, option_map, slice_set}}
 pub use Rattle.std.specs.List.Sorted.{IsPartitionPoint, IsPartitionedBy}
 pub use Rattle.compression.proofs.Ascents.{slice_get-last}
-pub use Rattle.membership.specs.{Hearing.Hearing, Summary.{Summarizes, Summary, silence}}
+pub use Rattle.sync_state.specs.membership.{Hearing.Hearing, Summary.{Summarizes, Summary, silence}}
 pub use Rattle.net_plan.specs.Ranges.{IsInRange}
 pub use Rattle.net_plan.specs.declared.{ids.{DeviceId.DeviceId, VlId.VlId}, network.Network.Network}
 pub use Rattle.run_law.specs.control.Corrections.{hearing_by}
@@ -14,7 +14,7 @@ pub use Rattle.run_law.specs.declared.note.NoteBody.{NoteBody}
 pub use Rattle.run_law.specs.device.{LocalClocks.changes_adjustment, States.is_joined_by}
 pub use Rattle.run_law.specs.records.{Happenings.{Happening, time_of}, Order.{IsIn, is_before}, Ranks.{members_in, place_at, place_of}}
 pub use Rattle.run_law.specs.scenario.Scenarios.{Scenario}
-pub use Rattle.tte_lemmas.proofs.Lists.{got_at, got_within}
+pub use Rattle.tte_units.proofs.general_lemmas.Lists.{got_at, got_within}
 pub use Rattle.tte_units.specs.declared.units.Units.{Units}
 pub use Rattle.audit_devices.specs.{Effects.{carried_by, effect_by, effect_of, subject_of}, Keeping.{IsFresh, Keeps, records_before, time_at}}
 pub use Rattle.audit_devices.specs.Showing.{NoneLater, Shown, Shows, heard_at, heard_by_then, points_by}

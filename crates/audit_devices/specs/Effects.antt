@@ -1,12 +1,12 @@
 -- What a record shows of a device.
 use Rattle.std.specs.Prelude.{if◌then◌else◌, ◌==◌, Bool, None, Option, Some, false, true, ℕ}
-use Rattle.{audit_devices.specs.declared.effect.Carried.Carried, membership.specs.declared.frame.HeardFrame.HeardFrame}
+use Rattle.{audit_devices.specs.declared.effect.Carried.Carried, pcf_values.specs.declared.channel.Channel.Channel}
 use Rattle.audit_devices.specs.declared.effect.Effect.{Effect, TheVariants.{Corrects, Hears, Joins, Nothing, Turns}}
-use Rattle.{net_plan.specs.declared.ids.DeviceId.DeviceId, run_law.specs.scenario.Devices.{channel_of, channel_of_link}}
-use Rattle.{net_plan.specs.declared.network.Network.Network, pcf_values.specs.declared.channel.Channel.Channel}
+use Rattle.net_plan.specs.declared.{ids.DeviceId.DeviceId, network.Network.Network}
 use Rattle.run_law.specs.declared.judgement.Judgement.{Judgement, TheVariants.{Integrates, Outside, Within}}
-use Rattle.run_law.specs.{declared.note.NoteBody.NoteBody, records.{Happenings.Happening, Ranks.members_in}}
-use Rattle.{run_law.specs.device.States.cycle_in, tte_units.specs.declared.units.Units.Units}
+use Rattle.run_law.specs.{declared.note.NoteBody.NoteBody, scenario.Devices.{channel_of, channel_of_link}}
+use Rattle.{run_law.specs.device.States.cycle_in, sync_state.specs.declared.membership.frame.HeardFrame.HeardFrame}
+use Rattle.{run_law.specs.records.{Happenings.Happening, Ranks.members_in}, tte_units.specs.declared.units.Units.Units}
 use Rattle.run_law.specs.declared.note.NoteBody.TheVariants as notes
 
 -- what the frame of the record says

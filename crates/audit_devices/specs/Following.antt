@@ -3,11 +3,11 @@ use Rattle.std.specs.Prelude.{◌++◌, ◌+ℤ◌, ◌+◌, ◌-ℤ◌, ◌∷�
 use Rattle.audit_devices.specs.{Effects.carried_by, Showing.{IsReading, IsSteady, Shown, heard_by_then, points_by}}
 use Rattle.audit_devices.specs.declared.{effect.Carried.Carried, shown.Readings.Readings}
 use Rattle.audit_devices.specs.declared.effect.Effect.{Effect, TheVariants.{Corrects, Hears, Joins, Nothing, Turns}}
-use Rattle.{membership.specs.Hearing.Hearing, sync_state.specs.Plan.expected_at}
-use Rattle.{membership.specs.Summary.{Summarizes, Summary, silence}, net_plan.specs.declared.ids.DeviceId.DeviceId}
+use Rattle.{net_plan.specs.declared.ids.DeviceId.DeviceId, run_law.specs.records.Happenings.{Happening, time_of}}
 use Rattle.{net_plan.specs.declared.network.Network.Network, sync_state.specs.declared.state.State.TheVariants.Joining}
-use Rattle.run_law.specs.{declared.note.NoteBody.NoteBody, records.Happenings.{Happening, time_of}}
-use Rattle.{run_law.specs.scenario.{Devices.plan_of, Scenarios.Scenario}, tte_units.specs.declared.units.Units.Units}
+use Rattle.{run_law.specs.declared.note.NoteBody.NoteBody, tte_units.specs.declared.units.Units.Units}
+use Rattle.run_law.specs.scenario.{Devices.plan_of, Scenarios.Scenario}
+use Rattle.sync_state.specs.{Plan.expected_at, membership.{Hearing.Hearing, Summary.{Summarizes, Summary, silence}}}
 
 -- the adjustment has just changed to this, and this cycle is next
 abbrev pub changed_to : Shown → ℤ → ℕ → ℕ → ℕ → Shown

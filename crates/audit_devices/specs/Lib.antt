@@ -1,5 +1,3 @@
-pub mod law
-pub mod events
 pub mod Effects
 pub mod Following
 pub mod Keeping
@@ -8,7 +6,6 @@ pub mod Reading
 pub mod Showing
 pub mod Taking
 pub mod Takings
-pub mod collections
 pub mod stretches
 pub mod clocks
 pub mod permanence

@@ -3,12 +3,12 @@ use Rattle.std.specs.{Int.int_div_euclid, List.{after_last, last_or}, Option.opt
 use Rattle.std.specs.Prelude.{if◌then◌else◌, ◌&&◌, ◌+ℤ◌, ◌+◌, ◌-ℤ◌, ◌-◌, ◌<◌, ◌==◌, ◌^◌, ◌≡◌, ◌≤ℤ◌, ◌≤◌, Bool, List}
 use Rattle.std.specs.Prelude.{None, Option, Some, [], false, filter, filter_map, fold, int_le, int_lt, neg_ℤ, pos, ℕ, ℤ}
 use Rattle.{audit_devices.specs.declared.shown.Readings.Readings, run_law.specs.device.LocalClocks.changes_adjustment}
-use Rattle.{membership.specs.Hearing.Hearing, run_law.specs.{device.Standpoints.natural, records.Order.IsIn}}
-use Rattle.{membership.specs.Summary.{Summarizes, Summary, silence}, net_plan.specs.declared.network.Network.Network}
-use Rattle.{net_plan.specs.declared.ids.DeviceId.DeviceId, run_law.specs.records.Happenings.{Happening, time_of}}
+use Rattle.{net_plan.specs.declared.ids.DeviceId.DeviceId, sync_state.specs.membership.Hearing.Hearing}
+use Rattle.{net_plan.specs.declared.network.Network.Network, run_law.specs.records.Happenings.{Happening, time_of}}
 use Rattle.run_law.specs.control.Corrections.{correction_value, hearing_by, integration_cycle, recorded_cycle}
+use Rattle.run_law.specs.{device.Standpoints.natural, records.Order.IsIn, scenario.Scenarios.Scenario}
 use Rattle.run_law.specs.device.States.{adjustment_after, has_joined_at, is_joined_by, state_after}
-use Rattle.{run_law.specs.scenario.Scenarios.Scenario, sync_state.specs.declared.state.State.State}
+use Rattle.sync_state.specs.{declared.state.State.State, membership.Summary.{Summarizes, Summary, silence}}
 
 -- what is shown of a device: its state, its adjustment, the next correction point's cycle that the records leave, the
 -- cycle of the frame that told it the time last, when its adjustment changed last, what its clock showed then, when a

@@ -3,22 +3,22 @@ ghost use Rattle.audit_devices.specs.Effects.{effect_by, heard_on, judged_as};
 ghost use Rattle.audit_devices.specs.declared.effect.Effect.TheVariants.{Nothing};
 ghost use Rattle.run_law.specs.scenario.Devices.{channel_of, channel_of_link};
 
-use membership::HeardFrame;
 use net_plan::{DeviceId, LinkId, Network};
 use pcf_values::{Channel, Members};
 use run_law::{Judgement, NoteBody};
 use sync_state::State;
+use sync_state::membership::HeardFrame;
 use tte_units::Units;
 
 /// What the frame of a record says: its cycle and its members, or 0 and none where the record has no frame.
-#[derive(Clone, Copy, Debug, PartialEq, Eq)]
+#[derive(Clone, Copy)]
 pub struct Carried {
     pub cycle: u32,
     pub members: Members,
 }
 
 /// What a record shows of a device.
-#[derive(Clone, Copy, Debug, PartialEq, Eq)]
+#[derive(Clone, Copy)]
 pub(crate) enum Effect {
     /// Nothing that is kept.
     Nothing,

@@ -9,14 +9,14 @@ use run_law::plain::Place;
 use std::alloc::{AllocError, Global};
 
 /// What the records up to that of the place show of a device.
-#[derive(Debug, Drop)]
+#[derive(Drop)]
 pub(crate) struct Entry {
     pub(crate) place: Place,
     pub(crate) shown: Shown,
 }
 
 /// What is shown of a device: at first, and from each of its records on.
-#[derive(Debug, Drop)]
+#[derive(Drop)]
 pub(crate) struct History {
     first: Shown,
     entries: Vec<Entry>,

@@ -2,11 +2,8 @@
 #![tactic(auto)]
 
 pub mod clocks;
-pub mod collections;
 mod effect;
-pub mod events;
 mod history;
-pub mod law;
 pub mod permanence;
 mod shown;
 mod standings;

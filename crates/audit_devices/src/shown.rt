@@ -6,23 +6,23 @@ ghost use Rattle.run_law.specs.{control.Corrections.correction_value, device.Sta
 use crate::Carried;
 use crate::effect::{Effect, effect_of};
 use device_rules::joined_adjustment;
-use membership::{Heard, HeardFrame};
 use net_plan::{DeviceId, Network};
 use pcf_values::Channel;
 use run_law::NoteBody;
 use std::marker::Model;
 use sync_state::State;
+use sync_state::membership::{Heard, HeardFrame};
 use tte_units::Units;
 
 /// What a device's clock reads at a time, and a unit of time before.
-#[derive(Clone, Copy, Debug, PartialEq, Eq)]
+#[derive(Clone, Copy)]
 pub struct Readings {
     pub now: u64,
     pub before: u64,
 }
 
 /// What the records so far show of a device. Times, readings and adjustments are in units of 2^-16 ns.
-#[derive(Clone, Copy, Debug)]
+#[derive(Clone, Copy)]
 pub struct Shown {
     state: State,
     adjustment: i128,
@@ -77,8 +77,9 @@ impl Shown {
     ghost use Rattle.audit_devices.specs.Following.{Follows, HearsOne, IsMet, adjustment_at, changed_to, joined_to};
     ghost use Rattle.audit_devices.specs.Reading.{OnlyJoined, ReadBefore};
     ghost use Rattle.audit_devices.specs.Showing.{IsAfter, IsSteady, NoneLater, Shows, heard_by_then, points_by};
-    ghost use Rattle.audit_devices.specs.law.CorrectionNumbers.{heard_since_point, next_number};
-    ghost use Rattle.{membership.specs.Summary.{Summarizes, Summary}, net_plan.specs.declared.ids.DeviceId.DeviceId};
+    ghost use Rattle.audit_law.specs.law.CorrectionNumbers.{heard_since_point, next_number};
+    ghost use Rattle.sync_state.specs.membership.Summary.{Summarizes, Summary};
+    ghost use Rattle.net_plan.specs.declared.ids.DeviceId.{DeviceId};
     ghost use Rattle.run_law.specs.device.States.{adjustment_at_hearing, has_joined_at, state_before};
     ghost use Rattle.run_law.specs.records.Happenings.{Happening, earlier, time_of};
     ghost use Rattle.run_law.specs.scenario.Scenarios.{Scenario, is_turned_on_at};

@@ -12,7 +12,7 @@ use std::alloc::{AllocError, Global};
 use tte_units::Units;
 
 /// What the records so far show of each device, at any place of their order.
-#[derive(Debug, Drop)]
+#[derive(Drop)]
 pub struct Standings {
     histories: Vec<History>,
 }

@@ -5,7 +5,7 @@ use net_plan::{DeviceId, LinkId, VlId};
 use run_law::NoteBody;
 
 /// A time-triggered frame that a device took, as a record says it.
-#[derive(Clone, Copy, Debug, PartialEq, Eq)]
+#[derive(Clone, Copy)]
 pub struct Taking {
     /// When and by which link it came, and which record had put it there.
     pub time: u64,
@@ -29,7 +29,7 @@ impl Taking {
 }
 
 /// A frame that was taken, and where.
-#[derive(Clone, Copy, Debug, PartialEq, Eq)]
+#[derive(Clone, Copy)]
 pub(crate) struct Taken {
     pub(crate) device: DeviceId,
     pub(crate) vl: VlId,

@@ -8,7 +8,7 @@ use run_law::NoteBody;
 use std::alloc::{AllocError, Global};
 
 /// The frames that a device took, by virtual link.
-#[derive(Debug, Drop)]
+#[derive(Drop)]
 pub(crate) struct DeviceTakings {
     vls: Vec<Vec<Taking>>,
 }
@@ -66,7 +66,7 @@ impl DeviceTakings {
 }
 
 /// The time-triggered frames that the devices took, as the records so far say it.
-#[derive(Debug, Drop)]
+#[derive(Drop)]
 pub struct Takings {
     devices: Vec<DeviceTakings>,
 }

@@ -1,8 +1,8 @@
 -- Records that stand before a hearing.
-use Rattle.{audit_devices.proofs.law_lemmas.Correcting.time_before, run_law.specs.{device.LocalClocks.changes_adjustment, records.Order.{IsBefore, is_before}}}
 use Rattle.{audit_devices.specs.Reading.OnlyJoined, run_law.{proofs.runs.Places.earlier_time, specs.device.States.is_joined_by}}
+use Rattle.{audit_law.proofs.law_lemmas.Correcting.time_before, run_law.specs.{device.LocalClocks.changes_adjustment, records.Order.{IsBefore, is_before}}}
 use Rattle.audit_sweep.proofs.Words.{◌∷◌, ◌≡◌, ◌≤◌, DeviceId, Happening, IsHeardBefore, List, NoneLater, NoteBody, [], arith, inl, inr, key, members_in}
-use Rattle.{audit_sweep.proofs.Words.{place_of, rank, refl, time_of, ℕ}, run_law.{proofs.{records.{Order.{has_passed, is_there, time_before as rank_first}}}}}
+use Rattle.{audit_sweep.proofs.Words.{place_of, rank, refl, time_of, ℕ}, run_law.proofs.records.Order.{has_passed, is_there, time_before as rank_first}}
 use Rattle.std.proofs.Common.{◌<◌, filter}
 use Rattle.run_law.specs.declared.note.NoteBody.TheVariants as notes
 
@@ -25,8 +25,7 @@ pub only_joined : (t : ℕ) (judged : List Happening) (device : DeviceId) → Is
 only_joined t judged device b h i at =
     grind (arith, rank_before, time_of, rank, key, members_in, joins_only)
 
-pub heard_before : (t r : ℕ) (rest : List ℕ) (hs : List Happening) → r < 6
-    → IsHeardBefore t (filter (λ h. is_before (place_of h) (t ∷ r ∷ rest)) hs)
+pub heard_before : (t r : ℕ) (rest : List ℕ) (hs : List Happening) → r < 6 → IsHeardBefore t (filter (λ h. is_before (place_of h) (t ∷ r ∷ rest)) hs)
 heard_before t r rest hs low = record {
   rank = r;
   rest = rest;

@@ -1,14 +1,15 @@
 -- What a device has heard since its last correction point, by the records before corrections.
-use Rattle.{audit_devices.proofs.law_lemmas.{Correcting.high_quiet, Emitting.before_is_front}, std.proofs.lemmas.Bool.{cases_lt, false_from_ne_true, le-ltb}}
-use Rattle.{audit_devices.specs.Keeping.records_before, run_law.specs.{device.{Standpoints.natural, States.adjustment_after}, records.Order.is_before}}
-use Rattle.{audit_devices.specs.Showing.IsAfter, std.proofs.Common.{◌-◌, ◌<◌, filter}, sync_state.{proofs.StateFacts.no_point, specs.Standing.next_point}}
-use Rattle.{audit_devices.specs.law.CorrectionNumbers.{heard_since_point, standing_at}, std.proofs.lemmas.List.Elements.{filter-append, filter_map-append}}
-use Rattle.{audit_sweep.proofs.{HeardBefore.{joins_only, rank_below}, Joinings.joins_integrating}, run_law.specs.device.LocalClocks.changes_adjustment}
+use Rattle.{audit_devices.specs.{Keeping.records_before, Showing.IsAfter}, run_law.specs.{device.Standpoints.natural, records.Order.is_before}}
+use Rattle.{audit_law.proofs.law_lemmas.{Correcting.high_quiet, Emitting.before_is_front}, run_law.specs.device.LocalClocks.changes_adjustment}
+use Rattle.{audit_law.specs.law.CorrectionNumbers.{heard_since_point, standing_at}, std.proofs.lemmas.List.Elements.{filter-append, filter_map-append}}
+use Rattle.{audit_sweep.proofs.HeardBefore.{joins_only, rank_below}, std.proofs.{Common.{◌-◌, ◌<◌, filter}, lemmas.Bool.{cases_lt, false_from_ne_true, le-ltb}}}
+use Rattle.{audit_sweep.proofs.Joinings.joins_integrating, run_law.specs.device.States.adjustment_after, sync_state.specs.membership.Hearing.Hearing}
 use Rattle.audit_sweep.proofs.Words.{◌&&◌, ◌++◌, ◌+◌, ◌==◌, ◌∙◌, ◌∷◌, ◌≡◌, ◌≤◌, Bool, DeviceId, Happening, IsDue, IsFounded, IsIn, List, None, NoneLater}
 use Rattle.audit_sweep.proofs.Words.{Option, Scenario, Some, [], ap, arith, earlier, if◌then◌else◌, inl, inr, key, members_in, place_of, pos, rank}
 use Rattle.{audit_sweep.proofs.Words.{state_before, subst, sym, time_of, ℕ}, run_law.specs.control.Corrections.{correction_value, hearing_by, recorded_cycle}}
-use Rattle.{membership.specs.Hearing.Hearing, std.{proofs.lemmas.List.append-nil, specs.{Int.int_div_euclid, List.{after_last, last_or}, Option.option_map_or}}}
 use Rattle.run_law.proofs.{law.FirstPlaces.{IsSplit, in_filter, same_earlier, split}, records.Order.{after_more, has_passed, is_there, makes_none}}
+use Rattle.{std.{proofs.lemmas.List.append-nil, specs.List.{after_last, last_or}}, sync_state.{proofs.StateFacts.no_point, specs.Standing.next_point}}
+use Rattle.std.specs.{Int.int_div_euclid, Option.option_map_or}
 use Rattle.{std.specs.Prelude.{◌+ℤ◌, ◌-ℤ◌, filter_map, int_le, int_lt, nat_lt}, sync_state.specs.declared.state.State.TheVariants.Integrating}
 
 -- how many correction points the clock has come to, by the records of earlier times

@@ -1,6 +1,6 @@
 -- A frame tells the time only to a device that is integrating.
 use Rattle.audit_sweep.proofs.Words.{◌∙◌, ◌≡◌, DeviceId, Happening, IsDue, IsFounded, IsIn, List, Scenario, place_of, state_before, sym, time_of, true}
-use Rattle.audit_devices.{proofs.law_lemmas.{Debts.due_in, Determined.joins_looking, Owing.earlier_in}, specs.law.Debts.IsDueIn}
+use Rattle.audit_law.{proofs.law_lemmas.{Debts.due_in, Determined.joins_looking, Owing.earlier_in}, specs.law.Debts.IsDueIn}
 use Rattle.run_law.{proofs.control.Joined.state_by, specs.device.States.is_joined_by}
 use Rattle.sync_state.specs.declared.state.State.TheVariants as states
 

@@ -1,10 +1,10 @@
 -- The first that the records of a report lack.
-use Rattle.audit_devices.{proofs.law_lemmas.{Earliest.first_debt_law, Owing.of_amount}, specs.law.FirstDebts.{AreFirsts, Firsts, TellsFirst, earliest}}
-use Rattle.{audit_devices.specs.events.Readings.HaveBegun, audit_sweep.specs.{declared.sweep.Sweep.Sweep, unpaid.{Clocks.IsOnlyEnd, Debtors.device_named}}}
-use Rattle.{audit_devices.specs.law.Owed.Debt, run_law.specs.runs.DueRecords.EndsAt, std.proofs.Common.◌≤ℤ◌, tte_units.specs.Amount.units_of}
+use Rattle.audit_law.{proofs.law_lemmas.{Earliest.first_debt_law, Owing.of_amount}, specs.law.{FirstDebts.{AreFirsts, Firsts, TellsFirst, earliest}, Owed.Debt}}
+use Rattle.{audit_law.specs.events.Readings.HaveBegun, audit_sweep.specs.{declared.sweep.Sweep.Sweep, unpaid.{Clocks.IsOnlyEnd, Debtors.device_named}}}
 use Rattle.audit_sweep.proofs.Words.{◌+◌, ◌∷◌, ◌≡◌, DeviceId, Happening, IsDue, IsFounded, IsSwept, List, Network, NoteBody, Option, Some, Units, [], amount}
 use Rattle.audit_sweep.{proofs.Words.{ap, founded_of_sound, place_of, pos, refl, scenario_under, subst, sym, ℕ}, specs.unpaid.points.Told.AreOfDevices}
 use Rattle.{audit_sweep.specs.{Lacking.TellsFirstLack, Sweeping.SweepsSome}, net_plan.specs.declared.event.Event.Event, run_law.specs.records.Causes.device_of}
+use Rattle.{run_law.specs.runs.DueRecords.EndsAt, std.proofs.Common.◌≤ℤ◌, tte_units.specs.Amount.units_of}
 use Rattle.audit_sweep.specs.unpaid.points.Kept as clocks
 use Rattle.audit_sweep.specs.unpaid.emissions.Kept as clusters
 use Rattle.run_law.specs.declared.note.NoteBody.TheVariants as notes
@@ -63,13 +63,11 @@ only_end network befallen hs sweep swept =
     }
 
 -- what is kept for the debts of clocks, and for those of clusters
-pub kept_for_clocks : (sweep : Sweep) → SweptHere sweep
-    → clocks.IsSomeKept sweep.network.now sweep.known.events sweep.known.standings sweep.places
+pub kept_for_clocks : (sweep : Sweep) → SweptHere sweep → clocks.IsSomeKept sweep.network.now sweep.known.events sweep.known.standings sweep.places
 kept_for_clocks sweep (befallen, hs, w) =
     (befallen, hs, record { remembers = w.known.events; stands = w.known.standings; places_are = w.places })
 
-pub kept_for_clusters : (sweep : Sweep) → SweptHere sweep
-    → clusters.IsSomeKept sweep.network.now sweep.known.events sweep.known.stretches sweep.places
+pub kept_for_clusters : (sweep : Sweep) → SweptHere sweep → clusters.IsSomeKept sweep.network.now sweep.known.events sweep.known.stretches sweep.places
 kept_for_clusters sweep (befallen, hs, w) =
     (befallen, hs, record { remembers = w.known.events; stands = w.known.stretches; places_are = w.places })
 

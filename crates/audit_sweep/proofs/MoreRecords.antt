@@ -1,5 +1,5 @@
 -- Records that are sound, and one more.
-use Rattle.{audit_devices.specs.law.Findings.{AreSound, IsSound}, audit_sweep.proofs.Words.{◌++◌, ◌∙◌, ◌∷◌, ◌≡◌, List, [], ap, inl, inr, subst, ℕ}}
+use Rattle.{audit_law.specs.law.Findings.{AreSound, IsSound}, audit_sweep.proofs.Words.{◌++◌, ◌∙◌, ◌∷◌, ◌≡◌, List, [], ap, inl, inr, subst, ℕ}}
 use Rattle.{run_law.proofs.runs.Grow.in_two, std.proofs.lemmas.List.append-nil}
 
 -- records that are sound, and a further one that is sound given them

@@ -1,14 +1,14 @@
 -- What is known of records goes on by the next one.
-use Rattle.{audit_devices.specs.{Effects.subject_of, events.Readings.ReadsOn}, run_law.specs.declared.note.Note.Note, std.proofs.Common.{◌⊎◌, arith, suc, zero}}
-use Rattle.{audit_devices.specs.Showing.IsSteady, net_plan.specs.Belonging.HasDevice, std.proofs.lemmas.List.map-append, tte_lemmas.proofs.Lists.pushed}
+use Rattle.{audit_devices.specs.{Effects.subject_of, Showing.IsSteady}, net_plan.specs.Belonging.HasDevice, run_law.specs.declared.note.Note.Note}
+use Rattle.{audit_law.specs.events.Readings.ReadsOn, std.proofs.Common.{◌⊎◌, arith, suc, zero}, tte_units.proofs.general_lemmas.Lists.pushed}
 use Rattle.audit_sweep.proofs.Words.{◌++◌, ◌∙◌, ◌∷◌, ◌≡◌, DeviceId, Happening, IsBodyOf, IsCaused, IsDue, KeptRecord, List, Network, NoteBody, Scenario, Some}
 use Rattle.audit_sweep.{proofs.Words.{[], amount, ap, happening, inl, inr, numbered, subst, sym, ℕ}, specs.records.Keeping.{record_of, records_of}}
 use Rattle.{audit_sweep.specs.Knowing.{AllShowByCause, AllYoung}, run_law.proofs.{control.Arrived.arrived_young, records.Happenings.none_numbered}}
+use Rattle.std.proofs.lemmas.List.{map-append}
 use Rattle.run_law.specs.declared.note.NoteBody.TheVariants as notes
 
 -- of the records with the next one, each is one of them, or the next one
-numbered_next : (hs : List Happening) (h g : Happening) (number : ℕ) → numbered (hs ++ h ∷ []) number ≡ Some g
-    → (numbered hs number ≡ Some g) ⊎ (h ≡ g)
+numbered_next : (hs : List Happening) (h g : Happening) (number : ℕ) → numbered (hs ++ h ∷ []) number ≡ Some g → (numbered hs number ≡ Some g) ⊎ (h ≡ g)
 numbered_next hs h g zero e = absurd cc
 numbered_next hs h g (suc before) e =
     grind (arith, pushed)

@@ -1,6 +1,6 @@
 -- What is kept of frames that wait to be permanent.
 use Rattle.audit_sweep.{proofs.Words.{◌&&◌, ◌==◌, ◌∙◌, ◌≡◌, DeviceId, LinkId, NoteBody, Some, ap, kept_of, sym, true, ℕ}, specs.records.Keeping.kept_of_event}
-use Rattle.{audit_sweep.specs.Ripenings.waiting_clock, std.proofs.Common.arith, tte_lemmas.proofs.Bools.picked}
+use Rattle.{audit_sweep.specs.Ripenings.waiting_clock, std.proofs.Common.arith, tte_units.proofs.general_lemmas.Bools.picked}
 use Rattle.{net_plan.{proofs.SameIds.{same_device, same_link}, specs.declared.event.What.What}, std.proofs.lemmas.Bool.{and_from, and_parts, eq-eqb, eqb-true}}
 use Rattle.net_plan.specs.declared.event.What.TheVariants as events
 use Rattle.run_law.specs.declared.note.NoteBody.TheVariants as notes

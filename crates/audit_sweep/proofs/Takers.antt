@@ -37,8 +37,7 @@ octets_right : (network : Network) (device : DeviceId) (link : LinkId) (at : Sta
 octets_right network device link at octets last (Some reason) = tt
 octets_right network device link at octets last None = entry_right network device at (length octets) last _
 
-passed_right : (network : Network) (device : DeviceId) (relay parent : Bool) (frame : Pcf) (point : Units)
-    → IsRight network device
+passed_right : (network : Network) (device : DeviceId) (relay parent : Bool) (frame : Pcf) (point : Units) → IsRight network device
     (if relay then (if parent then arrivals.Passes frame Up else arrivals.PassesAndWaits frame Down point) else arrivals.Waits frame point)
 passed_right network device true true frame point = tt
 passed_right network device true false frame point = tt

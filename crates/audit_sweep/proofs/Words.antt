@@ -3,9 +3,9 @@ pub use Rattle.std.proofs.Common.{if◌then◌else◌, ◌++◌, ◌+◌, ◌∙
 pub use Rattle.std.proofs.Common.{true, ℕ}
 pub use Rattle.std.specs.Prelude.{◌&&◌, ◌==◌}
 pub use Rattle.audit_devices.specs.Showing.{NoneLater}
-pub use Rattle.audit_devices.specs.events.Readings.{clock_reading, scenario_under}
-pub use Rattle.audit_devices.proofs.law_lemmas.Sound.{founded_of_sound}
-pub use Rattle.audit_devices.specs.law.DueRecords.{IsCaused, IsDue}
+pub use Rattle.audit_law.specs.events.Readings.{clock_reading, scenario_under}
+pub use Rattle.audit_law.proofs.law_lemmas.Sound.{founded_of_sound}
+pub use Rattle.audit_law.specs.law.DueRecords.{IsCaused, IsDue}
 pub use Rattle.audit_sweep.specs.records.Keeping.{kept_of}
 pub use Rattle.audit_sweep.specs.declared.records.kept.KeptRecord.{KeptRecord}
 pub use Rattle.net_plan.specs.declared.{ids.{DeviceId.DeviceId, LinkId.LinkId}, network.Network.Network}
@@ -17,7 +17,7 @@ pub use Rattle.run_law.specs.records.{Happenings.{Happening, earlier, happening,
 pub use Rattle.run_law.specs.runs.Runs.{IsFounded}
 pub use Rattle.run_law.specs.scenario.Scenarios.{Scenario}
 pub use Rattle.run_law.specs.timed.Receptions.{ArrivesAs}
-pub use Rattle.tte_lemmas.proofs.Options.{one}
+pub use Rattle.tte_units.proofs.general_lemmas.Options.{one}
 pub use Rattle.tte_units.specs.Amount.{amount}
 pub use Rattle.tte_units.specs.declared.units.Units.{Units}
 pub use Rattle.audit_sweep.specs.{Hearings.IsHeardBefore, Sweeping.IsSwept}

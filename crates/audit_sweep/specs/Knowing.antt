@@ -1,8 +1,8 @@
 -- What is known of a report.
 use Rattle.std.specs.Prelude.{◌↔◌, ◌≡◌, ◌≤◌, List, Some, length, ℕ}
-use Rattle.audit_devices.specs.{Takings.{HasTaken, taker_count}, events.Readings.scenario_under}
-use Rattle.{audit_devices.specs.events.Remembering.Remembers, net_plan.specs.declared.network.Network.Network}
-use Rattle.{audit_sweep.specs.declared.known.Known.Known, net_plan.specs.declared.ids.DeviceId.DeviceId}
+use Rattle.{audit_devices.specs.Takings.{HasTaken, taker_count}, net_plan.specs.declared.network.Network.Network}
+use Rattle.{audit_law.specs.events.Readings.scenario_under, net_plan.specs.declared.ids.DeviceId.DeviceId}
+use Rattle.{audit_law.specs.events.Remembering.Remembers, audit_sweep.specs.declared.known.Known.Known}
 use Rattle.audit_sweep.specs.records.{Keeping.records_of, dispatches.Exits.AreExits, wires.Signals.ShowsByCause}
 use Rattle.{device_rules.specs.Entering.AreEntrances, run_law.specs.runs.DueRecords.EndsAt}
 use Rattle.{net_plan.specs.declared.{event.Event.Event, ids.LinkId.LinkId}, tte_units.specs.declared.units.Units.Units}

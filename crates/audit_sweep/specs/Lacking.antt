@@ -1,9 +1,9 @@
 -- What the records of a report lack.
 use Rattle.std.specs.Prelude.{◌+◌, ◌∷◌, List, MatchOption, Option, [], ℕ}
-use Rattle.audit_devices.specs.law.{DebtLaws.IsFirstDebt, Debts.IsPaid, Findings.LacksNothing, TracedEvents.OwesEvent}
-use Rattle.audit_devices.specs.law.{DueRecords.IsDue, Owed.Pays}
+use Rattle.audit_law.specs.law.{DebtLaws.IsFirstDebt, Debts.IsPaid, Findings.LacksNothing, TracedEvents.OwesEvent}
+use Rattle.audit_law.specs.law.{DueRecords.IsDue, Owed.Pays}
 use Rattle.run_law.specs.{records.{Happenings.Happening, Ranks.place_of}, scenario.Scenarios.Scenario}
-use Rattle.audit_devices.specs.law.Owed as debts
+use Rattle.audit_law.specs.law.Owed as debts
 
 -- each event up to the time has its record
 abbrev pub AreEventsTold : Scenario → List Happening → ℕ → Type 0

@@ -1,6 +1,6 @@
 -- The records of a report that were taken.
 use Rattle.std.specs.Prelude.{◌+◌, ◌^◌, ◌∷◌, ◌≡◌, ◌≤◌, List, Some, [], ℕ}
-use Rattle.audit_devices.specs.{events.Readings.scenario_under, law.{DueRecords.IsDue, Findings.{AreSound, IsSound}}}
+use Rattle.audit_law.specs.{events.Readings.scenario_under, law.{DueRecords.IsDue, Findings.{AreSound, IsSound}}}
 use Rattle.audit_sweep.specs.{Knowing.IsKnown, declared.sweep.Sweep.Sweep}
 use Rattle.audit_sweep.specs.{records.places.Placing.ArePlacesOf, unpaid.{Debtors.device_named, Payments.ArePayments}}
 use Rattle.net_plan.specs.{Belonging.HasDevice, Ranges.IsInRange, declared.{event.Event.Event, ids.DeviceId.DeviceId}}

@@ -1,7 +1,7 @@
 //! What becomes of frames at their arrival.
 
 ghost use Rattle.std.specs.Prelude.{◌↔◌, ◌≡◌, IsTrue, List};
-ghost use Rattle.{audit_devices.specs.events.Readings.scenario_under, audit_sweep.specs.Knowing.{IsKnown, KnowsSome}};
+ghost use Rattle.{audit_law.specs.events.Readings.scenario_under, audit_sweep.specs.Knowing.{IsKnown, KnowsSome}};
 ghost use Rattle.audit_sweep.specs.Passing.{IsArrivedAs, IsComing, IsPassable, TakesWith};
 ghost use Rattle.audit_sweep.specs.records.wires.{Entrances.{IsLastTaken, judged_as}, Signals.on_wire_of};
 ghost use Rattle.{device_rules.specs.Answers.arrival_as, run_law.specs.control.Wires.Signal};

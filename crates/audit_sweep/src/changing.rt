@@ -2,7 +2,7 @@
 
 ghost use Rattle.std.specs.Prelude.{◌^◌, ◌↔◌, ◌≡◌, ◌≤◌, IsTrue, List};
 ghost use Rattle.audit_devices.specs.{Showing.NoneLater, clocks.Brought.bringer_of};
-ghost use Rattle.audit_devices.specs.{events.Readings.scenario_under, law.DueRecords.{ChangesState, IsDue}};
+ghost use Rattle.audit_law.specs.{events.Readings.scenario_under, law.DueRecords.{ChangesState, IsDue}};
 ghost use Rattle.net_plan.specs.{Belonging.HasDevice, Ranges.IsInRange, declared.event.Event.Event};
 ghost use Rattle.net_plan.specs.declared.network.Network.{Network as NetworkValue};
 ghost use Rattle.run_law.specs.{records.{Happenings.Happening, Ranks.place_of}, runs.Runs.IsFounded};

@@ -3,17 +3,17 @@
 ghost use Rattle.std.specs.Prelude.{◌-◌, ◌^◌, ◌↔◌, ◌≡◌, ◌≤ℤ◌, ◌≤◌, IsTrue, List, pos};
 ghost use Rattle.{audit_devices.specs.Showing.NoneLater, run_law.specs.{runs.Runs.IsFounded, timed.Dispatching.Sends}};
 ghost use Rattle.{audit_devices.specs.clocks.Points.IsHeard, audit_sweep.specs.Knowing.{IsKnown, KnowsSome}};
-ghost use Rattle.audit_devices.specs.{events.Readings.scenario_under, law.DueRecords.{IsCorrectedRecord, IsDue}};
+ghost use Rattle.audit_law.specs.{events.Readings.scenario_under, law.DueRecords.{IsCorrectedRecord, IsDue}};
 ghost use Rattle.{net_plan.specs.{Belonging.HasDevice, Ranges.IsInRange}, run_law.specs.records.Ranks.place_of};
-ghost use Rattle.net_plan.specs.declared.{event.Event.Event, network.{Network.{Network as NetworkValue}}};
+ghost use Rattle.net_plan.specs.declared.{event.Event.Event, network.Network.{Network as NetworkValue}};
 ghost use Rattle.run_law.specs.{records.Happenings.Happening, runs.DueRecords.{EndsAt, IsClockRecord}};
 ghost use Rattle.tte_units.specs.Amount.{amount};
 
 use crate::known::Known;
 use audit_devices::clocks::{Correction, EndClock, Moment, corrects, sends, shows_clock};
-use membership::Heard;
 use net_plan::{DeviceId, Network};
 use run_law::plain::Rank;
+use sync_state::membership::Heard;
 use tte_units::Units;
 
 /// Does the master send the control frame of the cycle at the time?

@@ -1,10 +1,10 @@
 //! The dispatches of time-triggered frames.
 
 ghost use Rattle.std.specs.Prelude.{◌↔◌, IsTrue, List};
-ghost use Rattle.{audit_devices.specs.events.Readings.scenario_under, audit_sweep.specs.Knowing.{IsKnown, KnowsSome}};
+ghost use Rattle.{audit_law.specs.events.Readings.scenario_under, audit_sweep.specs.Knowing.{IsKnown, KnowsSome}};
 ghost use Rattle.{audit_sweep.specs.Passing.IsPassable, net_plan.specs.{Belonging.HasLink, Ranges.IsInRange}};
 ghost use Rattle.audit_sweep.specs.records.dispatches.{Judged.{IsKeptOf, LosesDispatch}, Sent.AreFoundByNumber};
-ghost use Rattle.net_plan.specs.declared.{event.Event.Event, network.{Network.{Network as NetworkValue}}};
+ghost use Rattle.net_plan.specs.declared.{event.Event.Event, network.Network.{Network as NetworkValue}};
 ghost use Rattle.run_law.specs.{control.Losses.IsDispatchedOn, records.Happenings.Happening};
 
 use crate::known::Known;

@@ -1,7 +1,7 @@
 //! How the ways of frames end: lost on a cut link, or dropped for a reason.
 
 ghost use Rattle.std.specs.Prelude.{◌↔◌, ◌≡◌, IsTrue, List, true, ℕ};
-ghost use Rattle.audit_devices.specs.events.Readings.{scenario_under};
+ghost use Rattle.audit_law.specs.events.Readings.{scenario_under};
 ghost use Rattle.net_plan.specs.{Ranges.IsInRange, declared.{event.Event.Event, ids.VlId.VlId}};
 ghost use Rattle.run_law.specs.control.{Leaving.{Departs, too_old}, Losses.{IsDropped, IsLost}};
 ghost use Rattle.run_law.specs.{declared.judgement.Reason.TheVariants.Old, records.Happenings.Happening};

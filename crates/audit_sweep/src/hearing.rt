@@ -2,10 +2,10 @@
 
 ghost use Rattle.std.specs.Prelude.{◌<◌, ◌^◌, ◌↔◌, ◌∷◌, ◌≡◌, ◌≤◌, IsTrue, List, ℕ};
 ghost use Rattle.{audit_devices.specs.Showing.{NoneLater, Shows}, run_law.specs.device.States.state_at_hearing};
-ghost use Rattle.audit_devices.specs.{events.Readings.scenario_under, permanence.Hearers.IsHearer};
+ghost use Rattle.{audit_devices.specs.permanence.Hearers.IsHearer, audit_law.specs.events.Readings.scenario_under};
 ghost use Rattle.audit_sweep.specs.{Hearings.{IsHeardBefore, IsRipenedOrNone}, Knowing.{IsKnown, KnowsSome}};
-ghost use Rattle.{audit_sweep.specs.Passing.IsPassable, net_plan.specs.Belonging.HasDevice};
-ghost use Rattle.{device_rules.specs.Widths.IsWide, tte_units.{specs.{declared.{units.{Units.{Units as UnitsValue}}}}}};
+ghost use Rattle.{audit_sweep.specs.Passing.IsPassable, tte_units.specs.declared.units.Units.{Units as UnitsValue}};
+ghost use Rattle.{device_rules.specs.Widths.IsWide, net_plan.specs.Belonging.HasDevice};
 ghost use Rattle.{net_plan.specs.{Ranges.IsInRange, declared.event.Event.Event}, run_law.specs.control.Emissions.Emits};
 ghost use Rattle.run_law.specs.control.Permanence.{BecomesPermanent, IsJudgedBy, before_permanence, ripe_as};
 ghost use Rattle.run_law.specs.{declared.steps.Ripe.TheVariants.Dropped, records.Happenings.{Happening, earlier}};
@@ -23,7 +23,7 @@ use sync_state::State;
 use tte_units::Units;
 
 /// What becomes of a frame that is permanent at its point.
-#[derive(Clone, Copy, Debug, PartialEq, Eq)]
+#[derive(Clone, Copy)]
 pub(crate) struct Ripened {
     pub(crate) point: Units,
     pub(crate) is: Ripe,

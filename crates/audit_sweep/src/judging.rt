@@ -1,7 +1,7 @@
 //! Whether a record is due, given those before it.
 
 ghost use Rattle.std.specs.Prelude.{◌+◌, ◌↔◌, ◌≡◌, ◌≤ℤ◌, IsTrue, List, length, pos};
-ghost use Rattle.audit_devices.specs.{events.Readings.scenario_under, law.DueRecords.{IsCaused, IsDue}};
+ghost use Rattle.audit_law.specs.{events.Readings.scenario_under, law.DueRecords.{IsCaused, IsDue}};
 ghost use Rattle.audit_sweep.specs.{Judging.{Befalls, IsJudgeable, StandsBehind}, Knowing.{IsKnown, KnowsSome}};
 ghost use Rattle.{net_plan.specs.Ranges.IsInRange, tte_units.specs.Amount.amount};
 ghost use Rattle.{net_plan.specs.declared.event.Event.Event, run_law.specs.records.Happenings.{Happening, happening}};

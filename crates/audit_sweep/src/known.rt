@@ -1,21 +1,21 @@
 //! What is known of a report, and how it goes on by its records.
 
 ghost use Rattle.std.specs.Prelude.{◌++◌, ◌^◌, ◌↔◌, ◌∷◌, ◌≡◌, ◌≤◌, IfOk, List, OnOk, Some, []};
-ghost use Rattle.audit_devices.specs.{Effects.{carried_by, subject_of}, events.Remembering.{Remembers, RemembersSome}};
-ghost use Rattle.{audit_devices.specs.Showing.IsReading, audit_sweep.specs.Judging.IsJudgeable};
-ghost use Rattle.{audit_devices.specs.events.Readings.scenario_under, audit_sweep.specs.Knowing.{IsKnown, KnowsSome}};
-ghost use Rattle.{audit_devices.specs.law.DueRecords.IsDue, run_law.specs.records.Happenings.{Happening, happening}};
-ghost use Rattle.net_plan.specs.{Belonging.HasDevice, declared.{ids.{DeviceId.{DeviceId as DeviceIdValue}}}};
-ghost use Rattle.{net_plan.specs.Ranges.IsInRange, tte_units.{specs.{declared.{units.{Units.{Units as UnitsValue}}}}}};
-ghost use Rattle.net_plan.specs.declared.{event.Event.Event, network.{Network.{Network as NetworkValue}}};
-ghost use Rattle.run_law.specs.{records.{Order.AllBefore, Ranks.place_of}, runs.{DueRecords.EndsAt, Runs.IsFounded}};
+ghost use Rattle.{audit_devices.specs.Effects.{carried_by, subject_of}, audit_sweep.specs.Knowing.{IsKnown, KnowsSome}};
+ghost use Rattle.{audit_devices.specs.Showing.IsReading, tte_units.specs.declared.units.Units.{Units as UnitsValue}};
+ghost use Rattle.audit_law.specs.events.{Readings.scenario_under, Remembering.{Remembers, RemembersSome}};
+ghost use Rattle.{audit_law.specs.law.DueRecords.IsDue, run_law.specs.records.{Order.AllBefore, Ranks.place_of}};
+ghost use Rattle.{audit_sweep.specs.Judging.IsJudgeable, run_law.specs.records.Happenings.{Happening, happening}};
+ghost use Rattle.net_plan.specs.{Belonging.HasDevice, declared.ids.DeviceId.{DeviceId as DeviceIdValue}};
+ghost use Rattle.{net_plan.specs.Ranges.IsInRange, run_law.specs.runs.{DueRecords.EndsAt, Runs.IsFounded}};
+ghost use Rattle.net_plan.specs.declared.{event.Event.Event, network.Network.{Network as NetworkValue}};
 
 use crate::records::dispatches::Exits;
 use crate::records::{KeptRecords, OutOfMemory};
 use audit_devices::clocks::Moment;
-use audit_devices::events::{EventHistory, reading_law};
 use audit_devices::stretches::{StretchHistory, points_rise};
 use audit_devices::{Carried, Readings, Standings, Takings};
+use audit_law::events::{EventHistory, reading_law};
 use device_rules::Entrances;
 use net_plan::Network;
 use pcf_values::{Members, Pcf};

@@ -1,11 +1,11 @@
 //! The first time at which a record is lacking.
 
 ghost use Rattle.std.specs.Prelude.{◌^◌, ◌≡◌, ◌≤◌, List};
-ghost use Rattle.{audit_devices.specs.events.Readings.scenario_under, run_law.specs.records.Happenings.Happening};
+ghost use Rattle.{audit_law.specs.events.Readings.scenario_under, run_law.specs.records.Happenings.Happening};
 ghost use Rattle.audit_sweep.specs.{Lacking.{AreEventsTold, TellsFirstLack}, Sweeping.{IsSwept, SweepsSome}};
-ghost use Rattle.audit_sweep.specs.unpaid.{Debtors.AreKnown, dispatches.{Debtors.{AreKnown as AreRowsKnown, IsFit}}};
-ghost use Rattle.net_plan.specs.declared.{event.Event.Event, network.{Network.{Network as NetworkValue}}};
-ghost use Rattle.tte_units.specs.{Amount.amount, declared.{units.{Units.{Units as UnitsValue}}}};
+ghost use Rattle.audit_sweep.specs.unpaid.{Debtors.AreKnown, dispatches.Debtors.{AreKnown as AreRowsKnown, IsFit}};
+ghost use Rattle.net_plan.specs.declared.{event.Event.Event, network.Network.{Network as NetworkValue}};
+ghost use Rattle.tte_units.specs.{Amount.amount, declared.units.Units.{Units as UnitsValue}};
 
 use crate::sweep::Sweep;
 use crate::unpaid::Debtor;

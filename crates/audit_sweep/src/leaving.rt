@@ -1,7 +1,7 @@
 //! What becomes of control frames at their leaving.
 
 ghost use Rattle.std.specs.Prelude.{◌↔◌, ◌≡◌, IsTrue, List};
-ghost use Rattle.{audit_devices.specs.events.Readings.scenario_under, run_law.specs.records.Happenings.Happening};
+ghost use Rattle.{audit_law.specs.events.Readings.scenario_under, run_law.specs.records.Happenings.Happening};
 ghost use Rattle.audit_sweep.specs.{Knowing.{IsKnown, KnowsSome}, records.wires.Departings.IsDeparted};
 ghost use Rattle.{audit_sweep.specs.Passing.IsPassable, run_law.specs.control.{Leaving.Departs, Losses.IsSendLost}};
 ghost use Rattle.{device_rules.specs.Answers.departure_as, net_plan.specs.declared.event.Event.Event};

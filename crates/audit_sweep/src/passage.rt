@@ -1,7 +1,7 @@
 use net_plan::{DeviceId, LinkId};
 
 /// What a record says of something that comes from another: at which device, by which link and when.
-#[derive(Clone, Copy, Debug, PartialEq, Eq)]
+#[derive(Clone, Copy)]
 pub(crate) struct Passage {
     pub(crate) device: DeviceId,
     pub(crate) link: LinkId,

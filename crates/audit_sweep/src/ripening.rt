@@ -1,24 +1,24 @@
 //! What becomes of control frames that are permanent.
 
 ghost use Rattle.std.specs.Prelude.{◌-◌, ◌^◌, ◌↔◌, ◌≡◌, ◌≤◌, IsTrue, List, pos, ℕ};
-ghost use Rattle.{audit_devices.specs.events.Readings.{clock_reading, scenario_under}, drift_clock.specs.Reach.IsReach};
-ghost use Rattle.{audit_sweep.specs.Knowing.{IsKnown, KnowsSome}, run_law.specs.control.Permanence.waits_for};
+ghost use Rattle.{audit_law.specs.events.Readings.{clock_reading, scenario_under}, drift_clock.specs.Reach.IsReach};
+ghost use Rattle.{audit_sweep.specs.Knowing.{IsKnown, KnowsSome}, drift_clock.specs.transparent.Points.point_of};
 ghost use Rattle.audit_sweep.specs.{Passing.IsPassable, Ripenings.{IsPermanentOrNone, IsPointReached, waiting_clock}};
-ghost use Rattle.{net_plan.specs.{Belonging.HasDevice, Ranges.IsInRange}, transparent_clock.specs.Points.point_of};
-ghost use Rattle.{net_plan.specs.declared.event.Event.Event, run_law.specs.records.Happenings.Happening};
+ghost use Rattle.net_plan.specs.{Belonging.HasDevice, Ranges.IsInRange, declared.event.Event.Event};
+ghost use Rattle.run_law.specs.{control.Permanence.waits_for, records.Happenings.Happening};
 ghost use Rattle.tte_units.specs.Amount.{amount};
 
 use crate::known::Known;
 use crate::passage::Passage;
 use crate::records::Kept;
-use audit_devices::events::reading_law;
+use audit_law::events::reading_law;
 use device_rules::{is_parent_of, is_relay};
 use net_plan::{DeviceId, LinkId, Network};
 use pcf_values::Pcf;
 use tte_units::Units;
 
 /// A frame that is permanent at its point.
-#[derive(Clone, Copy, Debug, PartialEq, Eq)]
+#[derive(Clone, Copy)]
 pub(crate) struct PermanentFrame {
     pub(crate) frame: Pcf,
     pub(crate) point: Units,

@@ -1,12 +1,12 @@
 //! Where devices stand when something comes to them.
 
 ghost use Rattle.std.specs.Prelude.{◌&&◌, ◌^◌, ◌≡◌, ◌≤◌, List, not};
-ghost use Rattle.{audit_devices.specs.events.Readings.scenario_under, audit_sweep.specs.Knowing.{IsKnown, KnowsSome}};
+ghost use Rattle.{audit_law.specs.events.Readings.scenario_under, audit_sweep.specs.Knowing.{IsKnown, KnowsSome}};
 ghost use Rattle.net_plan.specs.{Belonging.HasDevice, declared.event.Event.Event};
 ghost use Rattle.run_law.specs.{device.{Standpoints.standpoint, States.is_off}, records.Happenings.Happening};
 
 use crate::known::Known;
-use audit_devices::events::reading_law;
+use audit_law::events::reading_law;
 use device_rules::Standpoint;
 use net_plan::{DeviceId, Network};
 use sync_state::State;

@@ -2,21 +2,21 @@
 
 ghost use Rattle.std.specs.{Option.option_map_or, Prelude.{MatchOption, OnOk, [], length, pos, ℕ}};
 ghost use Rattle.std.specs.Prelude.{◌++◌, ◌+◌, ◌^◌, ◌↔◌, ◌∷◌, ◌≡◌, ◌≤ℤ◌, ◌≤◌, IfOk, IfSome, IsTrue, List, MatchBool};
-ghost use Rattle.{audit_devices.specs.events.Remembering.Remembers, audit_sweep.specs.Judging.{Befalls, IsJudgeable}};
+ghost use Rattle.{audit_law.specs.events.Remembering.Remembers, audit_sweep.specs.unpaid.Payments.ArePayments};
+ghost use Rattle.{audit_sweep.specs.Judging.{Befalls, IsJudgeable}, run_law.specs.records.Ranks.{place_at, place_of}};
 ghost use Rattle.audit_sweep.specs.Sweeping.{IsPlacedSoundly, IsSoundUpTo, IsSwept, SweepsSome};
 ghost use Rattle.{audit_sweep.specs.records.Keeping.records_of, run_law.specs.runs.DueRecords.EndsAt};
-ghost use Rattle.{audit_sweep.specs.unpaid.Payments.ArePayments, run_law.specs.records.Ranks.{place_at, place_of}};
-ghost use Rattle.{net_plan.specs.Ranges.IsInRange, report_text.specs.Ranges.IsBodyOf};
-ghost use Rattle.net_plan.specs.declared.{event.Event.Event, network.{Network.{Network as NetworkValue}}};
+ghost use Rattle.{net_plan.specs.Ranges.IsInRange, tte_units.specs.Amount.amount};
+ghost use Rattle.net_plan.specs.declared.{event.Event.Event, network.Network.{Network as NetworkValue}};
+ghost use Rattle.{report_text.specs.Ranges.IsBodyOf, tte_units.specs.declared.units.Units.{Units as UnitsValue}};
 ghost use Rattle.run_law.specs.records.Happenings.{Happening, frame_by, frame_from, happening};
-ghost use Rattle.tte_units.specs.{Amount.amount, declared.{units.{Units.{Units as UnitsValue}}}};
 
 use crate::judging::is_due;
 use crate::known::Known;
 use crate::records::OutOfMemory;
 use crate::records::places::Places;
 use crate::unpaid::Payments;
-use audit_devices::events::EventHistory;
+use audit_law::events::EventHistory;
 use net_plan::Network;
 use pcf_values::Pcf;
 use run_law::plain::Place;

@@ -1,7 +1,8 @@
 -- Elements of lists, of filters and of lists in order.
-use Rattle.{compression.specs.{Clusters.{Point, beyond}, OneCluster.AreInOrder}, std.specs.List.AllByRecursion, tte_lemmas.proofs.Integers.int_lt-from}
+use Rattle.{compression.specs.{Clusters.{Point, beyond}, OneCluster.AreInOrder}, std.specs.{List.AllByRecursion, Prelude.{Contains, filter, int_lt}}}
 use Rattle.std.proofs.Common.{◌<ℤ◌, ◌∙◌, ◌∷◌, ◌≡◌, ◌≤ℤ◌, ◌≤◌, ◌⊎◌, Bool, List, [], ap, arith, inl, inr, length, refl, subst, suc, sym, true, zero, ℤ}
-use Rattle.std.{proofs.lemmas.{Bool.cases_Bool, Int.ints, List.Elements.{All-contains, All-from_recursion}}, specs.Prelude.{Contains, filter, int_lt}}
+use Rattle.{std.proofs.lemmas.{Bool.cases_Bool, List.Elements.{All-contains, All-from_recursion}}, tte_units.proofs.general_lemmas.Integers.int_lt-from}
+use Rattle.std.proofs.lemmas.Int.{ints}
 
 pub in_head : {X : Type 0} (x : X) (xs : List X) → Contains (x ∷ xs) x
 in_head x xs = (0, omega arith, refl)

@@ -1,8 +1,8 @@
 -- What is emitted next, and a collector after it.
-use Rattle.compression.{proofs.Rows.{emission-within, row-emissions, row-head, row-rest}, specs.declared.compressed.Compressed.Compressed}
-use Rattle.compression.{proofs.Standing.AreClusters-unique, specs.{Emission.{compressed, emission}, Least.IsLeast, Row.{IsCollection, IsRow, IsSound}}}
+use Rattle.compression.{proofs.Rows.{emission-within, row-emissions, row-head, row-rest}, specs.{Least.IsLeast, declared.compressed.Compressed.Compressed}}
+use Rattle.{compression.{proofs.Standing.AreClusters-unique, specs.Middle.{middle_of, relative}}, std.{proofs.Common.{take, w64, ℤ}, specs.Prelude.All}}
 use Rattle.compression.specs.{Clusters.{AreClusters, Cluster, Point}, Collecting.{Collecting, emissions}, Stands.{EmittedInOrder, StandsForPoints}}
-use Rattle.{compression.specs.Middle.{middle_of, relative}, std.{proofs.Common.{take, w64, ℤ}, specs.Prelude.All}, tte_lemmas.proofs.Lists.drop-front}
+use Rattle.{compression.specs.{Emission.{compressed, emission}, Row.{IsCollection, IsRow, IsSound}}, tte_units.proofs.general_lemmas.Lists.drop-front}
 use Rattle.std.proofs.Common.{◌*ℤ◌, ◌++◌, ◌+ℤ◌, ◌<ℤ◌, ◌^◌, ◌∙◌, ◌∷◌, ◌≡◌, ◌≤ℤ◌, FitsSigned, List, [], ap, arith, length, map, neg_ℤ, pos, refl, subst, sym}
 use Rattle.std.proofs.lemmas.{Int.ints, List.{Elements.{All-cons, All-from_recursion, All-map, All-push, All-weaker}, append_assoc, length-map, map-append}}
 

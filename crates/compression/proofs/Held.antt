@@ -1,7 +1,7 @@
 -- The points that lie in an interval, as points are added.
-use Rattle.{compression.specs.Clusters.{Point, beyond, of_cycle_within}, std.proofs.lemmas.{Int.ints, List.{Elements.filter-append, append-nil}}}
-use Rattle.std.proofs.Common.{◌++◌, ◌<ℤ◌, ◌∙◌, ◌∷◌, ◌≡◌, ◌≢◌, ◌≤ℤ◌, Bool, List, [], ap, arith, cond, false, refl, true, ℕ, ℤ}
-use Rattle.{std.proofs.lemmas.Bool.{and_from, and_left, and_right, cases_Bool, eq-eqb, ne_eqb}, tte_lemmas.proofs.Integers.{int_le-from, int_lt-from, not_less}}
+use Rattle.{compression.specs.Clusters.{Point, beyond, of_cycle_within}, std.proofs.lemmas.Bool.{and_from, and_left, and_right, cases_Bool, eq-eqb, ne_eqb}}
+use Rattle.std.proofs.{Common.{◌++◌, ◌<ℤ◌, ◌∙◌, ◌∷◌, ◌≡◌, ◌≢◌, ◌≤ℤ◌, Bool, List, [], ap, arith, cond, false, refl, true, ℕ, ℤ}, lemmas.Int.ints}
+use Rattle.{std.proofs.lemmas.List.{Elements.filter-append, append-nil}, tte_units.proofs.general_lemmas.Integers.{int_le-from, int_lt-from, not_less}}
 use Rattle.std.specs.Prelude.{filter, int_le, int_lt}
 
 pub int_le-false : (a b : ℤ) → b <ℤ a → int_le a b ≡ false

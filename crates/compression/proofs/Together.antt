@@ -4,7 +4,7 @@ use Rattle.compression.{proofs.{Firsts.{Counts, counts, firsts-has}, Held.held-s
 use Rattle.compression.proofs.{Growth.{counted, end_of-least, end_of-one, end_of-two, window_end}, Times.{first_end, in_rest, not_before, only_first}}
 use Rattle.compression.specs.Clusters.{AreClusters, Cluster, Point, beyond, cluster_of, end_of, firsts, has_master, of_cycle_within}
 use Rattle.std.proofs.Common.{◌&&◌, ◌+ℤ◌, ◌<ℤ◌, ◌<◌, ◌∙◌, ◌∷◌, ◌≡◌, ◌≢◌, ◌≤ℤ◌, ◌≤◌, List, [], ap, arith, false, inl, inr, length, pos, refl, subst, sym, true}
-use Rattle.{std.{proofs.Common.{ℕ, ℤ}, specs.{List.AllByRecursion, Prelude.{◌==◌, Contains, int_le}}}, tte_lemmas.proofs.Integers.int_le-from}
+use Rattle.{std.{proofs.Common.{ℕ, ℤ}, specs.{List.AllByRecursion, Prelude.{◌==◌, Contains, int_le}}}, tte_units.proofs.general_lemmas.Integers.int_le-from}
 use Rattle.std.proofs.lemmas.{Bool.{and_from, and_parts, cases_Bool, cases_eq, cases_lt, eq-eqb, eqb-false, eqb-true, or_cases, or_parts}, Int.ints}
 
 -- what counts in the first window: the opener, and then points of other masters
@@ -48,7 +48,8 @@ only_master : (ow : ℤ) (o : Point) (ps : List Point) → pos 0 ≤ℤ ow → l
     → q.cycle ≡ o.cycle → o.reading ≤ℤ q.reading → q.reading ≤ℤ window_end ow o → q.master ≡ o.master
 only_master ow o ps some few q at same low high =
     let passes : (q.cycle == o.cycle && (int_le o.reading q.reading && int_le q.reading (window_end ow o))) ≡ true =
-    grind (arith, and_from, window_end, eq-eqb, int_le-from) in
+    and_from (q.cycle == o.cycle) _ (eq-eqb q.cycle o.cycle same)
+    (and_from (int_le o.reading q.reading) _ (int_le-from o.reading q.reading low) (int_le-from q.reading (window_end ow o) high)) in
     let here = in_filter_from (λ r. r.cycle == o.cycle && (int_le o.reading r.reading && int_le r.reading (window_end ow o))) (o ∷ ps) q at passes in
     let has = firsts-has (of_cycle_within o.cycle o.reading (window_end ow o) (o ∷ ps)) q here in
     let k = window_counts ow o ps some in
@@ -56,7 +57,10 @@ only_master ow o ps some few q at same low high =
   where
     alone : (more : List Point) → length (o ∷ more) < 2 → has_master (o ∷ more) q.master ≡ true → q.master ≡ o.master
     alone [] few has =
-        grind (arith, or_cases, has, eqb-true)
+        elim (or_cases (o.master == q.master) false has) [
+          | inl e ↦ sym (eqb-true o.master q.master e)
+          | inr none ↦ absurd (cc)
+        ]
     alone (w ∷ ws) few has = absurd (omega arith)
 
 -- the first cluster and those after it
@@ -80,7 +84,12 @@ not_dropped ow o ps c cs b cycle f q same within (d, at, other, lies) =
 own_cycle : (ow : ℤ) (o : Point) (ps : List Point) (c : Cluster) (cs : List Cluster) (b cycle : ℕ) → First ow o ps c cs b cycle → (q : Point)
     → IsKept (o ∷ ps) (c ∷ cs) b cycle q → q.reading ≤ℤ c.end → Holds c q
 own_cycle ow o ps c cs b cycle f q k within =
-    grind (arith, first_end, not_before, cases_eq, in_head)
+    let start = first_end ow o ps c f.some f.is in
+    let low : c.opened ≤ℤ q.reading = subst (λ (r : ℤ). r ≤ℤ q.reading) (sym start.0) (not_before o ps q f.order k.there) in
+    elim (cases_eq q.cycle c.cycle) [
+      | inl same ↦ (same, record { low = low; high = within })
+      | inr other ↦ absurd (k.kept (c, in_head c cs, other, record { low = low; high = within }))
+    ]
 
 -- where one that is kept lies up to the end, so do all
 all_within : (ow : ℤ) (o : Point) (ps : List Point) (c : Cluster) (cs : List Cluster) (b cycle : ℕ) → First ow o ps c cs b cycle → (q r : Point)
@@ -145,7 +154,10 @@ together ow (o ∷ ps) (c ∷ cs) b cycle some up are near p k =
 
     not_first : (q : Point) → c.end <ℤ q.reading → IsDropped (c ∷ cs) q → IsDropped cs q
     not_first q past (d, at, other, lies) =
-        grind (arith, in_cases, past, ints)
+        elim (in_cases c d cs at) [
+          | inl e ↦ absurd (omega (arith, ints, past, lies.high, ap (λ (k : Cluster). k.end) e))
+          | inr here ↦ (d, here, other, lies)
+        ]
 
     whole : (q : Point) → IsKept (beyond c.end ps) cs b cycle q → IsKept (o ∷ ps) (c ∷ cs) b cycle q
     whole q kq =

@@ -6,7 +6,7 @@ use std::marker::Model;
 use tte_units::Units;
 
 /// A collection: the points that count since it opened, and where it ends by them.
-#[derive(Debug, Drop)]
+#[derive(Drop)]
 pub(crate) struct Collection {
     opened: Units,
     end: Units,

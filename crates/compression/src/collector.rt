@@ -16,7 +16,7 @@ use tte_units::{READING_LIMIT, Units};
 /// `p + 2 * ow + calc + middle`. Readings are in units of 2^-16 ns.
 ///
 /// No call takes memory: at most five collections wait at once.
-#[derive(Debug, Drop)]
+#[derive(Drop)]
 pub struct Collector {
     ow: Units,
     calc: Units,

@@ -2,7 +2,7 @@ use pcf_values::Members;
 use tte_units::Units;
 
 /// What is emitted for a collection.
-#[derive(Clone, Copy, Debug, PartialEq, Eq, Hash)]
+#[derive(Clone, Copy, PartialEq, Eq)]
 pub struct Compressed {
     /// The point that opened the collection.
     pub opened: Units,

@@ -7,7 +7,7 @@ use std::marker::Model;
 use tte_units::Units;
 
 /// At most eight permanence points in rising order, in units of 2^-16 ns.
-#[derive(Debug, Drop)]
+#[derive(Drop)]
 pub struct Points {
     numbers: ArrayVec<i64, 8>,
 }

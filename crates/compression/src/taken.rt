@@ -1,5 +1,5 @@
 /// What becomes of a point that a collector is given.
-#[derive(Clone, Copy, Debug, PartialEq, Eq, Hash)]
+#[derive(Clone, Copy, PartialEq, Eq)]
 pub enum Taken {
     /// It opens a collection.
     Opened,

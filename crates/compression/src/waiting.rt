@@ -9,7 +9,7 @@ use tte_units::Units;
 
 /// The collections that are not emitted yet, in the order of their openings. There are at most
 /// five, and only the last can be open.
-#[derive(Debug, Drop)]
+#[derive(Drop)]
 pub(crate) struct Waiting {
     collections: ArrayVec<Collection, 5>,
 }

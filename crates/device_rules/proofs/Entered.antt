@@ -9,7 +9,8 @@ use Rattle.{net_plan.specs.declared.tables.Row.Row, schedule_tables.specs.declar
 use Rattle.{run_law.specs.{device.Standpoints.Standpoint, scenario.Ways.{is_way, is_way_of, way_to}}, std.proofs.lemmas.Bool.{eq-eqb, eqb-true, false≢true}}
 use Rattle.run_law.specs.timed.Arrivals.{entry_arrival, entry_entering, entry_of, is_row_with, row_fault, taken_or_fault, timed_arrival}
 use Rattle.std.proofs.Common.{◌&&◌, ◌==◌, ◌∙◌, ◌∷◌, ◌≡◌, Bool, List, None, Option, Some, [], ap, arith, cond, false, if◌then◌else◌, length, refl, slice_get}
-use Rattle.{std.specs.{BTreeMap.get, Option.option_map_or}, tte_lemmas.proofs.{Lists.in_all, Options.opened}}
+use Rattle.std.specs.{BTreeMap.get, Option.option_map_or}
+use Rattle.tte_units.proofs.general_lemmas.{Lists.in_all, Options.opened}
 use Rattle.run_law.specs.declared.judgement.Reason.TheVariants as reasons
 use Rattle.run_law.specs.declared.steps.Arrival.TheVariants as arrivals
 
@@ -56,8 +57,7 @@ found_is network entrances device link id way o are is up down =
     ∙ ap (λ (w : Way). option_map (entering_by network) (entering_on network link id w)) is
 
 -- a row comes to the device by a link of its own on the way on which it receives
-comes_same : (parent : Bool) (l : Link) (device : DeviceId) (way : Way) → (l.parent.0 == device.0) ≡ parent
-    → (parent ≡ false → (l.child.0 == device.0) ≡ true)
+comes_same : (parent : Bool) (l : Link) (device : DeviceId) (way : Way) → (l.parent.0 == device.0) ≡ parent → (parent ≡ false → (l.child.0 == device.0) ≡ true)
     → comes_by way l device ≡ is_way (if parent then Up else Down) way
 comes_same true l device Up is child = is
 comes_same true l device Down is child = rw is refl

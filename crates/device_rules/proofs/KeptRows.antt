@@ -1,13 +1,13 @@
 -- What is kept of the rows by which frames enter devices.
 use Rattle.device_rules.specs.Entering.{AreRows, HaveEntries, entering_by, entrance_cmp, entrance_of, first_entering, is_by, is_of}
-use Rattle.{device_rules.specs.declared.entrances.{EnteringRow.EnteringRow, Entrance.Entrance}, tte_lemmas.proofs.Naturals.{cmp_equal, cmp_same, eqb_same}}
-use Rattle.{device_rules.specs.declared.entrances.Which.Which, tte_lemmas.proofs.{Lists.{find_new, find_of, find_skips}, Options.{no_entry, some_or_none}}}
-use Rattle.{net_plan.proofs.{SameIds.same_link, TableFacts.id_by}, run_law.specs.timed.Arrivals.entry_of, schedule_tables.specs.Entries.IsEntry}
-use Rattle.{net_plan.specs.Ranges.IsInRange, std.{proofs.{Common.⊎_elim, lemmas.Cmp.ranked}, specs.Ordering.{is_eq, nat_cmp}}}
-use Rattle.{net_plan.specs.declared.{ids.LinkId.LinkId, tables.Row.Row}, std.{proofs.lemmas.List.Elements.All-take, specs.BTreeMap.{BTreeMap, Updates, get}}}
-use Rattle.{net_plan.specs.declared.network.Network.Network, run_law.proofs.timed.Rows.{entry_at, has_entry}, schedule_tables.specs.declared.entry.Entry.Entry}
+use Rattle.{device_rules.specs.declared.entrances.EnteringRow.EnteringRow, tte_units.proofs.general_lemmas.Options.{no_entry, some_or_none}}
+use Rattle.{device_rules.specs.declared.entrances.{Entrance.Entrance, Which.Which}, schedule_tables.specs.{Entries.IsEntry, declared.entry.Entry.Entry}}
+use Rattle.{net_plan.{proofs.{SameIds.same_link, TableFacts.id_by}, specs.Ranges.IsInRange}, std.{proofs.Common.⊎_elim, specs.Ordering.{is_eq, nat_cmp}}}
+use Rattle.{net_plan.specs.declared.{ids.LinkId.LinkId, network.Network.Network, tables.Row.Row}, run_law.proofs.timed.Rows.{entry_at, has_entry}}
+use Rattle.{run_law.specs.timed.Arrivals.entry_of, std.{proofs.lemmas.{Cmp.ranked, List.Elements.All-take}, specs.BTreeMap.{BTreeMap, Updates, get}}}
 use Rattle.std.proofs.Common.{◌&&◌, ◌++◌, ◌∙◌, ◌∷◌, ◌≡◌, Bool, List, None, Option, Some, [], ap, arith, cond, false, get_or, refl, subst, sym, take, true, ℕ}
-use Rattle.std.{proofs.lemmas.Bool.{and_parts, cases_Bool, eqb-true, false≢true}, specs.Prelude.{IsSome, find, option_and_then, option_map, slice_get}}
+use Rattle.{std.proofs.lemmas.Bool.{and_parts, cases_Bool, eqb-true, false≢true}, tte_units.proofs.general_lemmas.Lists.{find_new, find_of, find_skips}}
+use Rattle.{std.specs.Prelude.{IsSome, find, option_and_then, option_map, slice_get}, tte_units.proofs.general_lemmas.Naturals.{cmp_equal, cmp_same, eqb_same}}
 
 -- ---- entrances
 

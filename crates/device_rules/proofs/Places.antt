@@ -1,6 +1,7 @@
 -- The links of a network, and the end systems at them.
-use Rattle.net_plan.specs.{Places.link_at, declared.{ids.{DeviceId.DeviceId, LinkId.LinkId}, network.Network.Network, tables.Link.Link}}
-use Rattle.{pcf_values.specs.declared.members.Members.Members, run_law.specs.scenario.Devices.{is_end, member_of}, tte_lemmas.proofs.Naturals.unequal}
+use Rattle.net_plan.specs.Places.{link_at}
+use Rattle.{net_plan.specs.declared.{ids.{DeviceId.DeviceId, LinkId.LinkId}, network.Network.Network}, tte_units.proofs.general_lemmas.Naturals.unequal}
+use Rattle.{net_plan.specs.declared.tables.Link.Link, pcf_values.specs.declared.members.Members.Members, run_law.specs.scenario.Devices.{is_end, member_of}}
 use Rattle.{run_law.specs.control.Arrivals.{are_others, is_of_other_member}, std.proofs.lemmas.Option.{slice_get_past, slice_get_read}}
 use Rattle.std.proofs.Common.{◌&&◌, ◌<◌, ◌==◌, ◌∙◌, ◌≡◌, ◌≤◌, Bool, List, Some, ap, arith, false, get_or, length, refl, slice_get, subst, sym, true, ℕ}
 

@@ -8,7 +8,8 @@ use Rattle.{net_plan.specs.Ranges.{IsInRange, IsRowInRange, IsVlInRange}, std.sp
 use Rattle.{net_plan.specs.declared.ids.DeviceId.DeviceId, run_law.specs.declared.steps.Arrival.Arrival, std.proofs.lemmas.Bool.{cases_Bool, eqb-true}}
 use Rattle.{net_plan.specs.declared.ids.{LinkId.LinkId, VlId.VlId}, run_law.specs.machines.Nodes.TakenFrame, tte_units.specs.declared.units.Units.Units}
 use Rattle.{net_plan.specs.declared.network.Network.Network, run_law.specs.declared.judgement.Reason.Reason, schedule_tables.specs.declared.entry.Entry.Entry}
-use Rattle.{net_plan.specs.declared.tables.{Row.Row, VirtualLink.VirtualLink}, tte_lemmas.proofs.Lists.{find_of, in_all, last_kept, last_pushed, some_at}}
+use Rattle.net_plan.specs.declared.tables.{Row.Row, VirtualLink.VirtualLink}
+use Rattle.tte_units.proofs.general_lemmas.Lists.{find_of, in_all, last_kept, last_pushed, some_at}
 use Rattle.run_law.specs.timed.Arrivals.{entry_arrival, entry_entering, entry_of, octets_or_fault, row_fault, taken_by, taken_or_fault, timed_arrival}
 use Rattle.std.proofs.Common.{◌++◌, ◌<◌, ◌==◌, ◌∙◌, ◌∷◌, ◌≡◌, ◌≤◌, Bool, List, None, Option, Some, [], ap, arith, cond, false, length, map, refl, slice_get}
 use Rattle.std.proofs.{Common.{subst, suc, sym, true, zero, ℕ, ℤ, ⊎_elim}, lemmas.List.{Elements.{All-head, All-map, All-tail, filter-append}, length-map}}

@@ -1,9 +1,9 @@
 -- What a correction point comes to.
-use Rattle.{clock_correction.specs.Correction.correction_of, membership.specs.declared.frame.HeardFrame.HeardFrame, tte_units.specs.declared.units.Units.Units}
-use Rattle.{device_rules.specs.Answers.in_units, membership.specs.{BestFrame.Qualifies, Members.count_of, Summary.Summary}, sync_state.specs.Standing.Standing}
-use Rattle.{pcf_values.specs.declared.channel.Channel.TheVariants.{A, B}, sync_state.specs.Verdicts.{SomeQualifies, deviation_by, deviation_on}}
+use Rattle.{device_rules.specs.Answers.in_units, std.proofs.Common.{ℤ, ⊎_elim}}
+use Rattle.{pcf_values.specs.declared.channel.Channel.TheVariants.{A, B}, std.proofs.lemmas.Bool.leb-true, sync_state.specs.correction.Correction.correction_of}
 use Rattle.std.proofs.Common.{◌∙◌, ◌≡◌, ◌≤◌, ◌⊎◌, Bool, None, Option, Some, ap, arith, false, if◌then◌else◌, inl, inr, nat_le, option_and_then, refl, true, ℕ}
-use Rattle.std.proofs.{Common.{ℤ, ⊎_elim}, lemmas.Bool.leb-true}
+use Rattle.sync_state.specs.{Standing.Standing, Verdicts.{SomeQualifies, deviation_by, deviation_on}, declared.membership.frame.HeardFrame.HeardFrame}
+use Rattle.{sync_state.specs.membership.{BestFrame.Qualifies, Members.count_of, Summary.Summary}, tte_units.specs.declared.units.Units.Units}
 
 -- the deviation that a best frame shows, where there is one that qualifies
 abbrev shown_by : Standing → Option HeardFrame → Option Units
@@ -39,15 +39,13 @@ both_none (Some a) None e = absurd cc
 both_none None (Some b) e = absurd cc
 both_none None None e = (refl, refl)
 
-one_some : (a b : Option Units) (by : Units) → correction_of a b ≡ Some by
-    → ((x : Units) × (a ≡ Some x)) ⊎ ((x : Units) × (b ≡ Some x))
+one_some : (a b : Option Units) (by : Units) → correction_of a b ≡ Some by → ((x : Units) × (a ≡ Some x)) ⊎ ((x : Units) × (b ≡ Some x))
 one_some (Some a) b by e = inl (a, refl)
 one_some None (Some b) by e = inr (b, refl)
 one_some None None by e = absurd cc
 
 -- without a correction no channel qualifies
-pub none_qualifies : (s : Standing) (heard : Summary) → correction_of (deviation_on s heard A) (deviation_on s heard B) ≡ None
-    → SomeQualifies s heard → ⊥
+pub none_qualifies : (s : Standing) (heard : Summary) → correction_of (deviation_on s heard A) (deviation_on s heard B) ≡ None → SomeQualifies s heard → ⊥
 none_qualifies s heard e q =
     let none = both_none (deviation_on s heard A) (deviation_on s heard B) e in
     ⊎_elim (λ a. none_shown s heard.best_a none.0 a) (λ b. none_shown s heard.best_b none.1 b) q

@@ -1,21 +1,21 @@
 //! What correction points come to, and how a device joins.
 
 ghost use Rattle.std.specs.Prelude.{◌-ℤ◌, ◌^◌, ◌↔◌, ◌≡◌, ◌≤ℤ◌, ◌≤◌, IfSome, IsTrue, neg_ℤ, option_map, pos};
-ghost use Rattle.clock_correction.specs.{Correction.correction_of, Deviation.deviation_of};
+ghost use Rattle.sync_state.specs.correction.{Correction.correction_of, Deviation.deviation_of};
 ghost use Rattle.net_plan.specs.{Ranges.IsInRange, declared.{ids.DeviceId.DeviceId, network.Network.Network}};
 ghost use Rattle.run_law.specs.{control.Corrections.correction_value, scenario.Devices.plan_of};
 ghost use Rattle.sync_state.specs.{Plan.expected_at, Standing.IsAtIntegration, Verdicts.{HasVerdict, deviation_on}};
 ghost use Rattle.device_rules.specs.{Answers.{in_units, standing_of, verdict_as}, Widths.{IsFar, IsWide}};
 
 use crate::network::{begun, expected_at};
-use membership::Heard;
 use net_plan::{DeviceId, Network};
 use pcf_values::Channel;
+use sync_state::membership::Heard;
 use sync_state::{State, is_outnumbered};
 use tte_units::Units;
 
 /// What a correction point comes to.
-#[derive(Clone, Copy, Debug, PartialEq, Eq)]
+#[derive(Clone, Copy, PartialEq, Eq)]
 pub enum PointVerdict {
     /// The cycle is the one whose frame the device joined by.
     Cleared,
@@ -28,7 +28,7 @@ pub enum PointVerdict {
 }
 
 /// Where the synchronisation of a device stands when a correction point comes.
-#[derive(Clone, Copy, Debug, PartialEq, Eq)]
+#[derive(Clone, Copy)]
 pub struct PointStanding {
     pub state: State,
     /// What the local clock shows beyond the reading, from -2^80 to 2^80.

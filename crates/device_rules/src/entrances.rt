@@ -16,7 +16,7 @@ use std::alloc::Global;
 use std::collections::BTreeMap;
 
 /// A row by which frames of a virtual link enter a device, as far as they are judged by it.
-#[derive(Clone, Copy, Debug, PartialEq, Eq)]
+#[derive(Clone, Copy, PartialEq, Eq)]
 pub struct EnteringRow {
     pub vl: VlId,
     /// How many octets the frames have.
@@ -29,7 +29,7 @@ pub struct EnteringRow {
 }
 
 /// The link by which a frame comes, and the id of its virtual link in the frame.
-#[derive(Clone, Copy, Debug, PartialEq, Eq, PartialOrd, Ord, Drop)]
+#[derive(Clone, Copy, PartialEq, Eq, PartialOrd, Ord, Drop)]
 pub(crate) struct Entrance {
     pub(crate) link: LinkId,
     pub(crate) id: u16,

@@ -15,7 +15,7 @@ use sync_state::State;
 const LEAST_TYPE: u16 = 0x0600;
 
 /// What a judgement reads of the octets of a frame that is no control frame.
-#[derive(Clone, Copy, Debug, PartialEq, Eq)]
+#[derive(Clone, Copy, PartialEq, Eq)]
 pub struct Heading {
     /// How many octets there are.
     pub length: usize,

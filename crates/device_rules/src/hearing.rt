@@ -1,17 +1,18 @@
 //! How compressed frames are heard.
 
 ghost use Rattle.std.specs.Prelude.{◌≡◌, ◌&&◌, ◌+ℤ◌, nat_le, pos};
-ghost use Rattle.{device_rules.specs.Widths.IsWide, membership.specs.Members.count_of, net_plan.specs.Ranges.IsInRange};
-ghost use Rattle.run_law.specs.{control.Collections.observation_window, scenario.Devices.plan_of};
+ghost use Rattle.{device_rules.specs.Widths.IsWide, run_law.specs.scenario.Devices.plan_of};
+ghost use Rattle.net_plan.specs.Ranges.{IsInRange};
+ghost use Rattle.{run_law.specs.control.Collections.observation_window, sync_state.specs.membership.Members.count_of};
 ghost use Rattle.run_law.specs.control.Hearing.{heard_as, heard_by_schedule, heard_enough, is_in_schedule, last_cycle};
 
 use crate::network::{expected_at, precision};
 use crate::standpoint::shown;
-use membership::count;
 use net_plan::{DeviceId, Network};
 use pcf_values::Members;
 use run_law::Judgement;
 use sync_state::State;
+use sync_state::membership::count;
 
 /// A frame of a later cycle is not used.
 const LAST_CYCLE: u32 = (1 << 20) + (1 << 17);

@@ -4,7 +4,7 @@ ghost use Rattle.std.specs.{BTreeMap.get, Int.int_rem_euclid};
 ghost use Rattle.std.specs.Prelude.{◌*◌, ◌<◌, ◌^◌, ◌≡◌, ◌≤ℤ◌, ◌≤◌, IfOk, List, None, [], length, map, neg_ℤ, pos};
 ghost use Rattle.{device_rules.specs.Entering.entrance_cmp, run_law.specs.device.Standpoints.{Standpoint, clock_of}};
 ghost use Rattle.device_rules.specs.Intakes.{HasTaken, IsTakenSo, IsWhole, Takes, cycle_of, last_in};
-ghost use Rattle.net_plan.specs.{Ranges.{IsInRange, IsWithin}, declared.{network.{Network.{Network as NetworkValue}}}};
+ghost use Rattle.net_plan.specs.{Ranges.{IsInRange, IsWithin}, declared.network.Network.{Network as NetworkValue}};
 ghost use Rattle.net_plan.specs.declared.ids.DeviceId.{DeviceId as DeviceIdValue};
 ghost use Rattle.{run_law.specs.machines.{Calls.IsLinkAt, Nodes.TakenFrame}, tte_units.specs.Amount.amount};
 

@@ -9,7 +9,7 @@ ghost use Rattle.device_rules.specs.Answers.{departure_as};
 use net_plan::Network;
 
 /// What becomes of a protocol control frame at its leaving.
-#[derive(Clone, Copy, Debug, PartialEq, Eq)]
+#[derive(Clone, Copy, PartialEq, Eq)]
 pub enum Departed {
     /// It leaves with this transparent clock.
     Leaves(u64),

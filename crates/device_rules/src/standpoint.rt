@@ -6,7 +6,7 @@ use std::marker::Model;
 use sync_state::State;
 
 /// Where a device stands when a frame comes to it.
-#[derive(Clone, Copy, Debug, PartialEq, Eq)]
+#[derive(Clone, Copy)]
 pub struct Standpoint {
     takes_part: bool,
     state: State,

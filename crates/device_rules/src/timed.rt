@@ -11,7 +11,7 @@ use net_plan::{DeviceId, Network, VlId};
 use run_law::Reason;
 
 /// What becomes of a time-triggered frame that arrives.
-#[derive(Clone, Copy, Debug, PartialEq, Eq)]
+#[derive(Clone, Copy, PartialEq, Eq)]
 pub enum TimedArrival {
     /// It is dropped.
     Dropped(Reason),

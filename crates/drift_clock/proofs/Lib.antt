@@ -6,3 +6,4 @@ pub mod Sums
 pub mod SlipLaw
 pub mod ExactSegments
 pub mod Drifts
+pub mod transparent_lemmas

@@ -9,3 +9,4 @@ pub mod Splits
 pub mod SegmentLaws
 pub mod Steady
 pub mod SteadyLaws
+pub mod transparent

@@ -5,6 +5,7 @@ mod clock;
 mod laws;
 mod segment;
 mod steady;
+pub mod transparent;
 
 pub use clock::Clock;
 pub use laws::{clock_laws, segment_law, slip_law, steady_law};

@@ -15,7 +15,7 @@ const SHORT: u64 = 1 << 42;
 const SHIFT: u64 = 4_500_000_000;
 
 /// A clock that counts exactly: it keeps its count at the last rate step, in whole units and parts, and the rate since.
-#[derive(Clone, Copy, Debug, PartialEq, Eq)]
+#[derive(Clone, Copy, PartialEq, Eq)]
 pub struct SegmentClock {
     grain: u64,
     at: u64,

@@ -5,7 +5,7 @@ use std::marker::Model;
 use tte_units::{Ppb, Units};
 
 /// A clock that keeps the rate 0: it reads the time, rounded down to a multiple of its grain.
-#[derive(Clone, Copy, Debug, PartialEq, Eq)]
+#[derive(Clone, Copy, PartialEq, Eq)]
 pub struct SteadyClock {
     grain: u64,
 }

@@ -1,17 +1,16 @@
 -- The records of an act are those of the law, and are put in.
-use Rattle.{drift_world.proofs.HiddenCauses.InOrder, net_plan.specs.declared.ids.RowId.RowId, run_law.specs.{machines.Answers.IsActOf, records.Frames.tt_frame}}
-use Rattle.{drift_world.proofs.Puts.{is_put_in, order_put}, run_law.specs.machines.Tasks.{IsFirstTask, doing}, schedule_tables.specs.declared.entry.Entry.Entry}
+use Rattle.{drift_world.proofs.HiddenCauses.InOrder, run_law.specs.{declared.steps.Ripe.Ripe, machines.Nodes.dispatching, timed.Dispatching.HasAtHand}}
+use Rattle.{drift_world.proofs.Puts.{is_put_in, order_put}, run_law.specs.machines.Tasks.{IsFirstTask, doing}, world_law.specs.world.World.{AreStored, Stored}}
 use Rattle.drift_world.proofs.Words.{◌++◌, ◌==◌, ◌∙◌, ◌∷◌, ◌≡◌, ◌≤◌, ◌⊎◌, ArePutIn, Bool, DeviceId, Happening, HasItsOctets, Holding, IsBefore, IsIn, IsSomePut}
 use Rattle.drift_world.proofs.Words.{Joining, List, Network, Node, None, Off, Option, Scenario, Settled, Some, Units, [], act_place, amount, ap, arith, false}
 use Rattle.drift_world.proofs.Words.{if◌then◌else◌, in_parts, in_right, inl, inr, is_cut, map, moment_of, none_yet, octets_from, octets_of, option_map_or}
 use Rattle.drift_world.proofs.Words.{own_place, rank, refl, settled_as, settled_at, slice_get_within, stored_as, subst, sym, true, way_from, ℕ}
-use Rattle.{run_law.{proofs.runs.Places.in_left, specs.records.Ranks.key}, std.proofs.lemmas.Bool.ne_eqb, world_state.proofs.Made.made_octets}
-use Rattle.{run_law.specs.declared.steps.Act.Act, schedule_tables.specs.Entries.IsEntry, world_law.{proofs.rows.AtHand.sender_or, specs.world.Moves.IsPutIn}}
-use Rattle.{run_law.specs.{declared.steps.Ripe.Ripe, machines.Nodes.dispatching, timed.Dispatching.HasAtHand}, world_law.specs.world.World.{AreStored, Stored}}
-use Rattle.std.specs.Option.{option_map}
+use Rattle.{net_plan.specs.declared.ids.RowId.RowId, run_law.specs.{machines.Answers.IsActOf, records.Frames.tt_frame}, world_law.proofs.rows.AtHand.sender_or}
+use Rattle.{run_law.{proofs.runs.Places.in_left, specs.declared.steps.Act.Act}, schedule_tables.specs.Entries.IsEntry, world_law.specs.world.Moves.IsPutIn}
+use Rattle.{run_law.specs.records.Ranks.key, std.{proofs.lemmas.Bool.ne_eqb, specs.Option.option_map}, world_state.proofs.Made.made_octets}
+use Rattle.{schedule_tables.specs.declared.entry.Entry.Entry, sync_state.specs.declared.answers.Verdict.Verdict, world_state.specs.declared.hands.AtHand.AtHand}
 use Rattle.sync_state.specs.declared.{answers.Verdict.TheVariants.{AsyncClique, Cleared, Corrected, SyncClique}, state.State.TheVariants.Synchronised}
-use Rattle.{sync_state.specs.declared.answers.Verdict.Verdict, world_state.specs.declared.{hands.AtHand.AtHand, outcomes.Outcomes.Outcomes}}
-use Rattle.{sync_state.{specs.{declared.{state.{State.{State as Standing}}}}}, world_state.specs.declared.contents.Timed.TheVariants.Made}
+use Rattle.{sync_state.specs.declared.state.State.{State as Standing}, world_state.specs.declared.{contents.Timed.TheVariants.Made, outcomes.Outcomes.Outcomes}}
 use Rattle.world_law.{proofs.steps_lemmas.acting.{Held.{IsHeldFrame, held_frame}, Stage.Stage}, specs.steps.Acting.{AreActBodies, first_bodies, joining_bodies}}
 use Rattle.world_state.specs.Acting.{AreOutcomes, IsHeldIn, bare, bodies_of, body_of, corrected_by, dispatched_by, first_by, joined_by}
 use Rattle.run_law.specs.declared.judgement.Why.TheVariants as whys

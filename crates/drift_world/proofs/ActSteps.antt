@@ -7,7 +7,7 @@ use Rattle.drift_world.proofs.Words.{Kept, List, Moment, Network, Node, Note, Sc
 use Rattle.drift_world.proofs.Words.{happenings, inl, inr, keeps, length, map, moment_of, place_of, refl, settled_at, slice_get_within, stored_as, subst, sym}
 use Rattle.{drift_world.{proofs.Words.{true, world_of, ℕ}, specs.declared.state.State.State}, world_law.specs.world.{Calls.{IsSet, IsStateOf}, World.AreStored}}
 use Rattle.{std.specs.Prelude.All, world_law.specs.steps.Acting.Acts}
-use Rattle.{sync_state.{specs.{declared.{state.{State.{State as Standing}}}}}, world_state.specs.Acting.{AreOutcomes, HasItsRow, bodies_of}}
+use Rattle.{sync_state.specs.declared.state.State.{State as Standing}, world_state.specs.Acting.{AreOutcomes, HasItsRow, bodies_of}}
 use Rattle.world_law.proofs.steps_lemmas.{acting.{ActedSteps.{acted_step, last_acted_step}, Kept.may_act_now, Stage.{Stage, stage_of}}, steps.Passed.no_task}
 use Rattle.run_law.specs.declared.steps.Act.TheVariants as acts
 

@@ -5,7 +5,7 @@ use Rattle.drift_world.{proofs.Sources.{due_time, nothing_before, slot_high, slo
 use Rattle.{drift_world.{proofs.Turning.says_then, specs.Nearing.{Nears, distance}}, net_plan.specs.declared.ids.DeviceId.DeviceId}
 use Rattle.drift_world.proofs.Words.{◌+◌, ◌-◌, ◌<◌, ◌∙◌, ◌∷◌, ◌≡◌, ◌≤◌, ◌⊎◌, AreFirsts, AreTimed, AreUnderWay, Due, DueAt, Err, IfOk, IfSome, IsBefore, IsFirst}
 use Rattle.drift_world.proofs.Words.{IsRunning, IsWell, List, Network, Node, None, Note, Ok, Option, Result, Scenario, Some, Stands, Turn, [], ap, arith}
-use Rattle.{drift_world.specs.{Sourcing.{IsRipePlace, due_place}, declared.state.State.State}, world_state.{specs.{timers.{Times.{IsFirst as IsFirstDue}}}}}
+use Rattle.{drift_world.specs.{Sourcing.{IsRipePlace, due_place}, declared.state.State.State}, world_state.specs.timers.Times.{IsFirst as IsFirstDue}}
 
 -- what stands at a time and a rank is not before a place of this time and a lower rank
 aside_by_rank : (t now high rank : ℕ) (rest more : List ℕ) → now ≤ t → (t ≡ now → rank < high) → IsBefore (t ∷ high ∷ rest) (now ∷ rank ∷ more) → ⊥
@@ -103,8 +103,7 @@ module _ {C M : Type 0} (last_step : C → ℕ) (reading : C → ℕ → ℕ) (s
   passed_turns old new until note GoesOn passed nears = record { whole = passed.whole; says = passed.says; nears = nears }
   passed_turns old new until note Ends passed nears = record { whole = passed.whole; says = passed.says; nears = nears }
 
-  pub turns_then : (E : Type 0) (old mid new : State C M) (until : ℕ) (note : Note) (result : Result Turn E) → mid.given ≡ old.given
-      → mid.ended ≡ old.ended
+  pub turns_then : (E : Type 0) (old mid new : State C M) (until : ℕ) (note : Note) (result : Result Turn E) → mid.given ≡ old.given → mid.ended ≡ old.ended
       → ((s : Scenario) (notes : List Note) → Stands reading (keeps stands) s (world_of network old) notes
       → Stands reading (keeps stands) s (world_of network mid) notes)
       → distance network until mid ≤ distance network until old → IfOk result (TurnsTo reading stands network until mid new note)
@@ -117,8 +116,7 @@ module _ {C M : Type 0} (last_step : C → ℕ) (reading : C → ℕ → ℕ) (s
   turns_then E old mid new until note (Err e) given ended still le turns = tt
 
 -- a turn that does not go on need not come nearer
-pub ends_near : {C M : Type 0} (network : Network) (until : ℕ) (old new : State C M) (turn : Turn) → (turn ≡ GoesOn → ⊥)
-    → Nears network until old new turn
+pub ends_near : {C M : Type 0} (network : Network) (until : ℕ) (old new : State C M) (turn : Turn) → (turn ≡ GoesOn → ⊥) → Nears network until old new turn
 ends_near network until old new Gives not = tt
 ends_near network until old new GoesOn not = absurd (not refl)
 ends_near network until old new Ends not = tt

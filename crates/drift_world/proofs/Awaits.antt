@@ -1,9 +1,9 @@
 -- What waits by a record, as its law asks for it.
+use Rattle.{drift_clock.specs.transparent.Points.point_of, world_state.specs.{Frames.IsOneMore, Giving.{awaited_by, giver_of, waits_from}}}
 use Rattle.drift_world.proofs.Words.{◌&&◌, ◌∙◌, ◌∷◌, ◌≡◌, ◌⊎◌, Arrived, Bool, DeviceId, Giving, Happening, IsPermutation, IsPermutation-map, IsPermutation-sym}
 use Rattle.drift_world.proofs.Words.{LinkId, List, Network, None, NoteBody, Option, Pcf, Scenario, Some, Waiting, Waits, ap, false, if◌then◌else◌, in_permuted}
 use Rattle.drift_world.proofs.Words.{inl, inr, is_broken, map, not, pos, refl, same_Some, subst, sym, time_of, true, waiting_as, ℕ}
-use Rattle.{run_law.specs.control.Permanence.waits_for, world_law.specs.world.World.IsAwaitedFor, world_state.specs.Giving.{awaited_by, giver_of, waits_from}}
-use Rattle.{std.proofs.Common.arith, transparent_clock.specs.Points.point_of, world_law.specs.world.Moves.AreAwaited, world_state.specs.Frames.IsOneMore}
+use Rattle.{run_law.specs.control.Permanence.waits_for, std.proofs.Common.arith, world_law.specs.world.{Moves.AreAwaited, World.IsAwaitedFor}}
 
 -- an arrival, or another record, by which nothing waits
 record IsArrival (body : NoteBody) : Type 0 where

@@ -238,8 +238,7 @@ module _ {C M : Type 0} (reading : C → ℕ → ℕ) (stands : Kept M → Netwo
       omega (arith, within, long, given)
 
   -- and nothing under way is on a wire by them
-  pub fresh_of : AreUnderWay s.network state.under_way.entries → (b : Befallen) → IsIn b state.befell.items
-      → IsFreshOf state.under_way.entries b.number
+  pub fresh_of : AreUnderWay s.network state.under_way.entries → (b : Befallen) → IsIn b state.befell.items → IsFreshOf state.under_way.entries b.number
   fresh_of are b i d there rank cause = by d.content refl (sym (are.kinds d there) ∙ rank)
     where
       by : (content : Content) → d.content ≡ content → rank_of d.content ≡ 2 → ⊥

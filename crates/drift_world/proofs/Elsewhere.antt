@@ -47,8 +47,7 @@ pub timed_by_event : {C M : Type 0} (reading : C → ℕ → ℕ) (stands : M �
     → ((device : DeviceId) → device.0 < length network.device → IsElsewhere what device
     → (slice_get mid.clocks.items device.0 ≡ slice_get old.clocks.items device.0)
     × (slice_get mid.machines.items device.0 ≡ slice_get old.machines.items device.0)
-    × ((w : Waits) → w.device.0 ≡ device.0 → IsIn w mid.waiting.items ↔ IsIn w old.waiting.items))
-    → mid.timers ≡ old.timers → mid.time ≡ old.time
+    × ((w : Waits) → w.device.0 ≡ device.0 → IsIn w mid.waiting.items ↔ IsIn w old.waiting.items)) → mid.timers ≡ old.timers → mid.time ≡ old.time
     → new ≡ record mid { timers = new.timers }
     → ((device : DeviceId) → device_in what ≡ Some device → IsTimed reading stands network new.timers new device)
     → length new.timers ≡ length mid.timers

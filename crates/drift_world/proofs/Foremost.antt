@@ -1,5 +1,5 @@
 -- What comes first of all that a state has under way.
-use Rattle.{drift_world.proofs.Sources.{due_time, nothing_before, slot_high, slot_low}, world_state.{specs.{timers.{Times.{IsFirst as IsFirstDue}}}}}
+use Rattle.{drift_world.proofs.Sources.{due_time, nothing_before, slot_high, slot_low}, world_state.specs.timers.Times.{IsFirst as IsFirstDue}}
 use Rattle.drift_world.proofs.Words.{◌+◌, ◌-◌, ◌<◌, ◌^◌, ◌∙◌, ◌∷◌, ◌≡◌, ◌≤◌, ◌⊎◌, AreFirsts, AreTimed, AreUnderWay, AtPort, Content, DeviceId, Due, DueAt}
 use Rattle.drift_world.proofs.Words.{HasNothingBefore, IfSome, IsBefore, IsFirst, IsIn, IsRunning, IsWell, Kept, List, Network, Node, None, OnWire, Option}
 use Rattle.drift_world.proofs.Words.{Port, Some, Wire, [], ap, arith, at_port, both_ways, cases_lt, false, get_or_from_slice_get, inl, inr, is_given, keeps}

@@ -17,8 +17,7 @@ module _ {C M : Type 0} (reading : C → ℕ → ℕ) (stands : M → Network �
         (subst (λ (w : _). IsRipeAt reading is.clock w.items device.0 old.time is.ripe) (sym waiting) is.ripens);
   }
 
-  pub act_stays : IsActTimed reading stands network old.timers old device → new.clocks ≡ old.clocks → new.time ≡ old.time
-      → new.machines ≡ old.machines
+  pub act_stays : IsActTimed reading stands network old.timers old device → new.clocks ≡ old.clocks → new.time ≡ old.time → new.machines ≡ old.machines
       → slice_get new.timers (length network.device + device.0) ≡ slice_get old.timers (length network.device + device.0)
       → IsActTimed reading stands network new.timers new device
   act_stays is clocks time machines slot = record {

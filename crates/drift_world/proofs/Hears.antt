@@ -38,8 +38,7 @@ pub record IsTold (network other : Network) (hs : List Happening) (device : Devi
   pub octets : octets_in network (octets_kept is signal) ≡ octets_by other hs (arrival_body device link cause is)
 
 module _ (network other : Network) (hs : List Happening) (device : DeviceId) (link : LinkId) (cause : ℕ) (signal : SignalSent) where
-  told_control : (frame : Pcf) (clock : ℕ) (is : Arrival) → frame_from hs cause ≡ Some frame
-      → frame_kept is ≡ Some (with_clock clock frame)
+  told_control : (frame : Pcf) (clock : ℕ) (is : Arrival) → frame_from hs cause ≡ Some frame → frame_kept is ≡ Some (with_clock clock frame)
       → frame_by other hs (arrival_body device link cause is) ≡ option_map (with_clock clock) (frame_from hs cause)
       → frame_kept is ≡ frame_by other hs (arrival_body device link cause is)
   told_control frame clock is of one two = one ∙ ap (option_map (with_clock clock)) (sym of) ∙ sym two

@@ -4,9 +4,9 @@ use Rattle.drift_world.proofs.Words.{Launch, List, Network, Node, None, Note, On
 use Rattle.drift_world.proofs.Words.{delay_at, given_of, happenings, inl, inr, is_given, keeps, launched, length, numbered, numbered_in, on_wire, place_of}
 use Rattle.drift_world.proofs.Words.{rank, rank_of, reading_of, receiver_of, refl, scenario, signal_as, sym, target_by, time_of, time_on_port, wire_at}
 use Rattle.{drift_world.{proofs.Words.{wire_place, world_of, ℕ, ℤ}, specs.declared.state.State.State}, world_state.specs.queue.Finding.{HoldsAt, HoldsNoneAt}}
-use Rattle.{drift_world.specs.Wires.{IsOfNow, IsOnOwnLink, on_wire_in, put_by}, world_state.{specs.{declared.{contents.{Signal.{Signal as Sent}}}}}}
-use Rattle.{net_plan.specs.declared.event.Event.Event, world_law.{proofs.giving.Given.some_same, specs.source.Sources.IsArriving}}
-use Rattle.{std.{proofs.Common.{Bor, option_map}, specs.Option.option_copied}, tte_lemmas.proofs.Lists.some_at}
+use Rattle.{drift_world.specs.Wires.{IsOfNow, IsOnOwnLink, on_wire_in, put_by}, world_state.specs.declared.contents.Signal.{Signal as Sent}}
+use Rattle.{net_plan.specs.declared.event.Event.Event, tte_units.proofs.general_lemmas.Lists.some_at, world_law.specs.source.Sources.IsArriving}
+use Rattle.{std.{proofs.Common.{Bor, option_map}, specs.Option.option_copied}, world_law.proofs.giving.Given.some_same}
 
 -- ---- what is found
 

@@ -3,8 +3,8 @@ use Rattle.drift_world.proofs.Words.{◌*◌, ◌++◌, ◌<ℤ◌, ◌^◌, ◌
 use Rattle.drift_world.proofs.Words.{IsWithinHypothesis, Kept, List, Network, Node, None, Note, Option, Scenario, Some, StandsUnder, Units, World, [], amount}
 use Rattle.drift_world.proofs.Words.{ap, append-nil, arith, cases_lt, false_from_ne_true, happening, happenings, inl, inr, ints, never_self, place_of, pos}
 use Rattle.drift_world.{proofs.Words.{refl, subst, sym, units_of, unsigned_abs, ℕ, ℤ}, specs.Later.{ComesBehind, IsOpenFrom, MayApplyAgain}}
-use Rattle.{drift_world.specs.Running.{HasReached, IsOpenTo, Reaches}, run_law.specs.declared.outside.Outside.TheVariants.Late}
-use Rattle.{net_plan.specs.declared.event.Event.Event, run_law.proofs.runs.NetworkRuns.one_more, tte_lemmas.{proofs.{Integers.{whole as whole_time}}}}
+use Rattle.{drift_world.specs.Running.{HasReached, IsOpenTo, Reaches}, tte_units.proofs.general_lemmas.Integers.{whole as whole_time}}
+use Rattle.{net_plan.specs.declared.event.Event.Event, run_law.{proofs.runs.NetworkRuns.one_more, specs.declared.outside.Outside.TheVariants.Late}}
 use Rattle.std.{proofs.{Common.negsuc, lemmas.Bool.true≢false}, specs.Prelude.option_to_list}
 
 -- ---- times

@@ -5,8 +5,8 @@ use Rattle.drift_world.proofs.Words.{Down, Giving, Happening, IfNone, IfSome, Is
 use Rattle.drift_world.proofs.Words.{Network, None, NoteBody, Option, Pcf, Scenario, Some, Up, Waits, WayNow, WayState, [], ap, arith, at_port, delay_at}
 use Rattle.drift_world.proofs.Words.{delay_by, false, given_of, if◌then◌else◌, in_all, inl, inr, is_broken, is_given, is_parent_of, length, map, option_map_or}
 use Rattle.drift_world.proofs.Words.{refl, same_Some, slice_get-map, slice_get_within, subst, sym, time_of, true, waiting_as, way_as, way_from, way_now, ℕ}
-use Rattle.{drift_world.specs.Giving.IsGiver, run_law.specs.{control.Leaving.Gives, scenario.Ways.hold_at}, tte_lemmas.proofs.Options.mapped}
-use Rattle.{drift_world.specs.declared.state.State.State, std.specs.List.{filter_map, slice_get}, world_state.specs.declared.queue.Entry.Entry}
+use Rattle.{drift_world.specs.Giving.IsGiver, run_law.specs.{control.Leaving.Gives, scenario.Ways.hold_at}, std.specs.List.{filter_map, slice_get}}
+use Rattle.{drift_world.specs.declared.state.State.State, tte_units.proofs.general_lemmas.Options.mapped, world_state.specs.declared.queue.Entry.Entry}
 use Rattle.{run_law.specs.declared.note.NoteBody.TheVariants.Sent, world_state.specs.Giving.{ArePutTo, HasItsFrame, entry_at_port, giver_of, hold_by}}
 
 within_and : {X : Type 0} (P : X → Type 0) (xs : List X) (i : ℕ) (o : Option X) → slice_get xs i ≡ o → IsSomeAnd o P → i < length xs
@@ -22,8 +22,7 @@ giver_gives network (Compressed cm opened at cycle members verdict) device giver
 giver_gives network (Arrived relay from cause clock) device giver link gives by = gives.0 ∙ same_Some _ _ by
 giver_gives network other device giver link gives by = absurd gives
 
-pub gives_within : (network : Network) (body : NoteBody) (device : DeviceId) (link : LinkId) → Gives network body device link
-    → link.0 < length network.link
+pub gives_within : (network : Network) (body : NoteBody) (device : DeviceId) (link : LinkId) → Gives network body device link → link.0 < length network.link
 gives_within network (Sent master cycle) device link gives = within_and (λ (l : Link). l.child ≡ device) network.link link.0 _ refl gives.1
 gives_within network (Compressed cm opened at cycle members verdict) device link gives =
     within_and (λ (l : Link). l.parent ≡ device) network.link link.0 _ refl gives.1
@@ -31,8 +30,7 @@ gives_within network (Arrived relay from cause clock) device link gives =
     grind (arith, within_and)
 gives_within network other device link gives = absurd gives
 
-pub gives_by : (network : Network) (body : NoteBody) (device : DeviceId) (link : LinkId) → Gives network body device link
-    → giver_of body ≡ Some device
+pub gives_by : (network : Network) (body : NoteBody) (device : DeviceId) (link : LinkId) → Gives network body device link → giver_of body ≡ Some device
 gives_by network (Sent master cycle) device link gives = ap (λ (d : DeviceId). Some d) (sym gives.0)
 gives_by network (Compressed cm opened at cycle members verdict) device link gives = ap (λ (d : DeviceId). Some d) (sym gives.0)
 gives_by network (Arrived relay from cause clock) device link gives = ap (λ (d : DeviceId). Some d) (sym gives.0)
@@ -93,8 +91,7 @@ module _ (s : Scenario) (now : ℕ) (ups downs : List WayState) (ways : AreWays 
       reading = giving.reading;
     }
 
-    held_so : (link : LinkId) → link.0 < length s.network.link
-        → giving.time + hold_by s.network ups downs giving.device link
+    held_so : (link : LinkId) → link.0 < length s.network.link → giving.time + hold_by s.network ups downs giving.device link
         ≡ time_of x + hold_at s link (way_from s.network giving.device link) (time_of x)
     held_so link lt =
         ap (λ (t : ℕ). t + hold_by s.network ups downs giving.device link) (time ∙ sym at)

@@ -1,5 +1,5 @@
 -- The values that local clocks show, where the machines' adjustments are small.
-use Rattle.{clock_correction.specs.Deviation.IsSmall, drift_world.proofs.Agreements.reads_value, net_plan.specs.declared.event.Event.Event}
+use Rattle.{drift_world.proofs.Agreements.reads_value, net_plan.specs.declared.event.Event.Event, sync_state.specs.correction.Deviation.IsSmall}
 use Rattle.drift_world.proofs.Words.{◌+◌, ◌<◌, ◌^◌, ◌∙◌, ◌≡◌, ◌≤◌, Bool, DeviceId, DeviceState, Happening, IfSome, IsComplete, IsHeld, Kept, List, Network}
 use Rattle.drift_world.proofs.Words.{Node, Note, Option, Scenario, Shows, Stands, Units, ap, arith, false, happenings, inl, inr, ints, is_broken, keeps, length}
 use Rattle.{drift_world.proofs.Words.{local_shown, reading_of, subst, sym, true, world_of, ℕ, ℤ}, world_state.specs.declared.kept.Kept.TheVariants.{Out, Sound}}
@@ -25,8 +25,7 @@ shown_small false states.Joining reading adjustment low small = tt
 
 -- what is kept of a device stands for a node of it, with a small adjustment unless it is broken
 small_held : {M : Type 0} (stands : M → Network → DeviceId → Node → Type 0) → AreSmall stands → (s : Scenario) (hs coming : List Happening)
-    (mark cursor : List ℕ) (now : ℕ) (device : DeviceId) (kept : Kept M) → HaveBefallen s mark now
-    → IsHeld (keeps stands) s hs coming cursor now device kept
+    (mark cursor : List ℕ) (now : ℕ) (device : DeviceId) (kept : Kept M) → HaveBefallen s mark now → IsHeld (keeps stands) s hs coming cursor now device kept
     → (node : Node) × keeps stands kept s.network device node × (is_broken s device now ≡ false → IsSmall node.standing.adjustment.0)
 small_held stands small s hs coming mark cursor now device kept befallen (inl k) =
     grind (arith, small_kept, no_later_breaks)

@@ -56,8 +56,7 @@ module _ (s : Scenario) (device : DeviceId) (begins : state_at_start (start_of s
       ∙ unmoved device (state_at_start (start_of s.network device)) (earlier t hs) (λ h i. still h (in_filter (λ g. nat_lt (time_of g) t) hs h i))
       ∙ begins
 
-  off_at_hearing : (hs : List Happening) (t : ℕ) → ((h : Happening) → IsIn h hs → moves device h.note.body ≡ false)
-      → state_at_hearing s hs device t ≡ Off
+  off_at_hearing : (hs : List Happening) (t : ℕ) → ((h : Happening) → IsIn h hs → moves device h.note.body ≡ false) → state_at_hearing s hs device t ≡ Off
   off_at_hearing hs t still =
       ap (λ (b : Bool). if b then Joining else state_before s hs device t) (none_joined device t hs still) ∙ off_then hs t still
 
@@ -73,16 +72,14 @@ module _ (s : Scenario) (device : DeviceId) (begins : state_at_start (start_of s
       let kept : (h : Happening) → IsIn h judged → moves device h.note.body ≡ false = λ h i. still h (in_filter _ hs h i) in
       from judged kept (is_cm s.network device) c.becomes
     where
-      from : (judged : List Happening) → ((h : Happening) → IsIn h judged → moves device h.note.body ≡ false) → (b : Bool)
-          → MatchBool b
+      from : (judged : List Happening) → ((h : Happening) → IsIn h judged → moves device h.note.body ≡ false) → (b : Bool) → MatchBool b
           (IsCollectedOrDropped s.network (points_of judged device)
           (point_at point.0 (master_of c.frame.members.0) c.frame.cycle)
           (point_fault s.network (state_at_hearing s judged device t)
           (adjustment_at_hearing s judged device t).0 point.0 c.frame.cycle)
           ripe.Integrates)
           (ripe.Integrates ≡ ripe_as (heard_as (plan_of s.network device) (observation_window s.network) (state_at_hearing s judged device t)
-          (adjustment_at_hearing s judged device t).0 point.0 c.frame.cycle c.frame.members))
-          → ⊥
+          (adjustment_at_hearing s judged device t).0 point.0 c.frame.cycle c.frame.members)) → ⊥
       from judged kept false e =
           off_hears (plan_of s.network device) (observation_window s.network) (adjustment_at_hearing s judged device t).0
           point.0 c.frame.cycle c.frame.members (state_at_hearing s judged device t) (off_at_hearing judged t kept) (ripe_integrates _ e)

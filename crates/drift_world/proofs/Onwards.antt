@@ -40,8 +40,7 @@ module _ {C M : Type 0} (fresh : ℕ → C) (after_step : C → ℕ → ℤ → 
   ]
 
   -- the clocks go on by it
-  pub followed : length state.clocks.items ≡ length network.device
-      → Follows after_step reading network (reading_of fresh after_step reading network events)
+  pub followed : length state.clocks.items ≡ length network.device → Follows after_step reading network (reading_of fresh after_step reading network events)
       (reading_of fresh after_step reading network (events ++ event ∷ [])) events event state
   followed many = record {
     begun = begun_before;
@@ -65,8 +64,7 @@ module _ {C M : Type 0} (fresh : ℕ → C) (after_step : C → ℕ → ℤ → 
       → ((device : DeviceId) (clock : C) → slice_get state.clocks.items device.0 ≡ Some clock
       → slice_get new.clocks.items device.0 ≡ Some (clock_after after_step device event.time event.what clock))
       → Stands reading (keeps stands) (scenario network (reading_of fresh after_step reading network (events ++ event ∷ [])) (events ++ event ∷ []))
-      (world_of network new) more
-      → StandsUnder fresh after_step reading stands network (world_of network new) (events ++ event ∷ []) more
+      (world_of network new) more → StandsUnder fresh after_step reading stands network (world_of network new) (events ++ event ∷ []) more
   stands_again new more of_network clocks is = record {
     is = is;
     clocks = λ device lt. clocks device (clock_of fresh after_step network events device) (under.clocks device lt)
@@ -86,8 +84,7 @@ module _ {C M E : Type 0} (fresh : ℕ → C) (after_step : C → ℕ → ℤ �
     (law : IsLawful fresh after_step reading grain count) (stands : M → Network → DeviceId → Node → Type 0) (network : Network) (state new : State C M)
     (event : Event) (result : Result Note E) (many : length state.clocks.items ≡ length network.device) (early : state.early ≡ true)
     (time : event.time.0 ≡ pos state.time) (hold : HoldsATime event.what) (of_network : IsOfNetwork network event.what)
-    (shown : (device : DeviceId) → event.what ≡ On device
-    → (is : DeviceState) × IsShown (keeps stands) network state.machines.items device is)
+    (shown : (device : DeviceId) → event.what ≡ On device → (is : DeviceState) × IsShown (keeps stands) network state.machines.items device is)
     (still : (new.time ≡ state.time) × (new.early ≡ state.early))
     (clocks : OnOk result ((device : DeviceId) (clock : C) → slice_get state.clocks.items device.0 ≡ Some clock
     → slice_get new.clocks.items device.0 ≡ Some (clock_after after_step device event.time event.what clock)))

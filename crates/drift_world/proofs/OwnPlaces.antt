@@ -5,7 +5,7 @@ use Rattle.drift_world.proofs.Words.{IsPutAt, Kept, List, Network, NoSourceBefor
 use Rattle.drift_world.proofs.Words.{ap, arith, at_port, behind, chain, changed_device, departure_body, happenings, keeps, map, numbers_of, on_wire}
 use Rattle.drift_world.proofs.Words.{option_map_or, own_place, place_of, rank, refl, ripe_place, settled_at, stored_as, subst, sym, waiting_as, with_first}
 use Rattle.drift_world.{proofs.Words.{world_of, ℕ}, specs.{Giving.IsRunningWith, Ripening.IsJudged, Stepping.StandsPast, declared.state.State.State}}
-use Rattle.world_state.specs.{Hearing.arrived, Leaving.departed, Ripening.{AreSettledSo, ripe_record}, declared.{contents.{Signal.{Signal as SignalSent}}}}
+use Rattle.world_state.specs.{Hearing.arrived, Leaving.departed, Ripening.{AreSettledSo, ripe_record}, declared.contents.Signal.{Signal as SignalSent}}
 use Rattle.run_law.{proofs.runs.Places.before_behind, specs.declared.steps.{Arrival.Arrival, Ripe.Ripe}}
 use Rattle.run_law.specs.declared.steps.Arrival.TheVariants as arrivals
 use Rattle.run_law.specs.declared.steps.Ripe.TheVariants as ripe
@@ -63,8 +63,7 @@ put_alone z settled none =
     (record { within = omega arith; is = refl; behind = λ k d is. absurd (omega (arith, is)); none = λ k d le lt. absurd (omega (arith, lt)) })
 
 -- it alone, where a frame is judged
-pub judged_alone : (w : Waits) (is : Ripe) (settled : List Settled) → IsJudged is → settled ≡ []
-    → AreSettledSo w is settled (ripe_record w is ∷ [])
+pub judged_alone : (w : Waits) (is : Ripe) (settled : List Settled) → IsJudged is → settled ≡ [] → AreSettledSo w is settled (ripe_record w is ∷ [])
 judged_alone w ripe.Integrates settled judged none = absurd judged
 judged_alone w (ripe.Dropped reason) settled judged none = absurd judged
 judged_alone w other settled judged none = record { mid = _; at = 0; first = put_alone _ settled none; more = refl }
@@ -96,8 +95,7 @@ none_before_last s hs cursor p q at same = λ w source not b.
     not (subst (IsBefore w) (sym at) (chain w p (behind p) (subst (IsBefore w) same b) (before_behind p)))
 
 -- what changes one device changes no other by another step of it
-pub changes_both : {C M : Type 0} (device : ℕ) (old mid new : State C M) → ChangesOnly device old mid → ChangesOnly device mid new
-    → ChangesOnly device old new
+pub changes_both : {C M : Type 0} (device : ℕ) (old mid new : State C M) → ChangesOnly device old mid → ChangesOnly device mid new → ChangesOnly device old new
 changes_both device old mid new a b = record {
   clocks = b.clocks ∙ a.clocks;
   time = b.time ∙ a.time;

@@ -122,8 +122,7 @@ order_put w old new order put = subst InOrder (sym put.is) (order_with w put.fro
 
 -- two records are put in, one after the other
 pub two_put_in : (other network : Network) (now : ℕ) (hs : List Happening) (first second : NoteBody) (y z : Settled) (old mid new : List Settled) (at
-    then_at : ℕ)
-    → IsPutAt y old mid at → IsPutAt z mid new then_at → InOrder (map (settled_at network now) old)
+    then_at : ℕ) → IsPutAt y old mid at → IsPutAt z mid new then_at → InOrder (map (settled_at network now) old)
     → settled_at network now y ≡ settled_as other hs now first → settled_at network now z ≡ settled_as other hs now second
     → ArePutIn other hs now (first ∷ second ∷ []) (map (settled_at network now) old) (map (settled_at network now) new)
 two_put_in other network now hs first second y z old mid new at then_at put put_then order is is_then =

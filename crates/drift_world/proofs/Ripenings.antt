@@ -1,6 +1,6 @@
 -- A frame that waits is permanent: its machine may be asked, and the state stands behind it.
 use Rattle.{drift_world.proofs.Fits.{all_put, all_put_some, have_octets}, world_law.proofs.steps_lemmas.ripening.RipenedSteps.{ripened_step, waits_within}}
-use Rattle.{drift_world.proofs.Fitting.cause_of, run_law.{proofs.records.Order.all_of, specs.machines.Calls.MayTake}, world_law.specs.world.Moves.IsWithout}
+use Rattle.{drift_world.proofs.Fitting.cause_of, run_law.specs.{declared.steps.Ripe.Ripe, machines.Calls.MayTake}, world_law.specs.world.Moves.IsWithout}
 use Rattle.{drift_world.proofs.HiddenCauses.{InOrder, settled_in_order}, world_state.specs.Ripening.{AreSettledSo, joined_record, judged_so, ripe_record}}
 use Rattle.{drift_world.proofs.Puts.{one_put_in, two_put_in}, world_state.proofs.{Swaps.{stayed, stays, was_there}, queue_lemmas.Bags.each_apart}}
 use Rattle.drift_world.proofs.Words.{◌+◌, ◌<◌, ◌^◌, ◌↔◌, ◌∙◌, ◌∷◌, ◌≡◌, ◌≤ℤ◌, ◌≤◌, AreApart, ArePutIn, ComesFirst, DeviceId, Happening, IsAt, IsIn}
@@ -8,9 +8,9 @@ use Rattle.drift_world.proofs.Words.{IsPermutation, IsPermutation-map, IsPutAt, 
 use Rattle.drift_world.proofs.Words.{Some, Stands, StandsBehind, StandsFor, Units, Waiting, Waits, [], ap, arith, behind, false, frame_from}
 use Rattle.drift_world.proofs.Words.{get_or_from_slice_get, happenings, in_get, is_mapped, is_set, keeps, length, map, moment_of, none_yet, pos, refl}
 use Rattle.drift_world.proofs.Words.{ripe_place, settled_as, settled_at, slice_get_within, slice_set, subst, sym, units_of, waiting_as, world_of, ℕ}
-use Rattle.{drift_world.specs.declared.state.State.State, run_law.specs.declared.steps.Ripe.Ripe, world_law.proofs.giving.Given.some_same}
+use Rattle.{drift_world.specs.declared.state.State.State, tte_units.proofs.general_lemmas.Naturals.flips, world_law.proofs.giving.Given.some_same}
 use Rattle.{run_law.{proofs.records.Members.from_map, specs.declared.judgement.Judgement.Judgement}, world_law.proofs.steps_lemmas.ripening.Asking.may_ask}
-use Rattle.{std.{proofs.Common.{All, nat_eq}, specs.{List.slice_get, Option.option_and_then}}, tte_lemmas.proofs.Naturals.flips}
+use Rattle.{run_law.proofs.records.Order.all_of, std.{proofs.Common.{All, nat_eq}, specs.{List.slice_get, Option.option_and_then}}}
 use Rattle.{std.proofs.lemmas.Map.Keys.{IsDistinct-IsPermutation, IsDistinct-head, IsDistinct-tail}, world_law.specs.steps.Ripening.{HasRipened, ripe_bodies}}
 use Rattle.run_law.specs.declared.judgement.Judgement.TheVariants as judgements
 use Rattle.run_law.specs.declared.judgement.Why.TheVariants as whys
@@ -56,8 +56,7 @@ below_taken number w old new t below =
     let lt = slice_get_within old at.0 v at.1 in
     subst (λ (x : Waits). x.cause < number) (get_or_from_slice_get old at.0 v v at.1) (below at.0 v lt))
 
-pub others_wait : (w : Waits) (old new : List Waits) → IsPermutation old (w ∷ new) → (v : Waits) → (v.device.0 ≡ w.device.0 → ⊥)
-    → IsIn v new ↔ IsIn v old
+pub others_wait : (w : Waits) (old new : List Waits) → IsPermutation old (w ∷ new) → (v : Waits) → (v.device.0 ≡ w.device.0 → ⊥) → IsIn v new ↔ IsIn v old
 others_wait w old new t v other = (
   λ there. stayed w old new t v there,
   λ there. stays w old new t v there (λ same. other (ap (λ (x : Waits). x.device.0) same)),
@@ -87,8 +86,7 @@ module _ {C M : Type 0} (reading : C → ℕ → ℕ) (stands : M → Network �
       let it = old.clocks w.device (within s notes old) in
       ap (λ (k : C). reading k state.time) (some_same clock it.0 _ own it.1) ∙ sym (it.2 state.time (omega arith))
 
-  point : (s : Scenario) (notes : List Note) → Stands reading (keeps stands) s (world_of network state) notes
-      → w.point.0 ≤ℤ pos (s.reading w.device state.time)
+  point : (s : Scenario) (notes : List Note) → Stands reading (keeps stands) s (world_of network state) notes → w.point.0 ≤ℤ pos (s.reading w.device state.time)
   point s notes old =
       let it = old.clocks w.device (within s notes old) in
       subst (λ (n : ℕ). w.point.0 ≤ℤ pos n) (reads s notes old it.0 it.1) (reached it.0 it.1)
@@ -142,8 +140,7 @@ module _ (s : Scenario) (network : Network) (now : ℕ) (hs : List Happening) (w
       (subst (λ (l : List Settled). IsPutAt (judged_so w verdict) old l at) (sym same) put) order
       (frame_is s network now hs w verdict of)
 
-  pub are_put_in : (result : Ripe) (old new : List Settled) → AreSettledSo w result old new
-      → InOrder (map (settled_at network now) old)
+  pub are_put_in : (result : Ripe) (old new : List Settled) → AreSettledSo w result old new → InOrder (map (settled_at network now) old)
       → ArePutIn s.network hs now (ripe_bodies w.device w.link w.cause w.point result) (map (settled_at network now) old)
       (map (settled_at network now) new)
   are_put_in ripe.Opened old new a order = judged_in judgements.Opened old a.mid new a.at a.first a.more order

@@ -26,8 +26,7 @@ sets_short network past event range within (events.Wire link way delay) same the
       }))
     ]
   where
-    out : (d w j : ℤ) → 2 ^ 62 ≤ unsigned_abs d → pos 1 ≤ℤ w → w ≤ℤ pos (2 ^ 40) → pos 0 ≤ℤ j → j ≤ℤ pos (2 ^ 40)
-        → (d <ℤ w) ⊎ ((w +ℤ j) <ℤ d)
+    out : (d w j : ℤ) → 2 ^ 62 ≤ unsigned_abs d → pos 1 ≤ℤ w → w ≤ℤ pos (2 ^ 40) → pos 0 ≤ℤ j → j ≤ℤ pos (2 ^ 40) → (d <ℤ w) ⊎ ((w +ℤ j) <ℤ d)
     out (pos n) w j far a b c d = inr (omega (arith, ints, far, a, b, c, d))
     out (negsuc n) w j far a b c d = inl (omega (arith, ints, far, a, b, c, d))
 sets_short network past event range within (events.Hold link way hold) same there begun =

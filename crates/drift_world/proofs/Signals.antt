@@ -8,7 +8,7 @@ use Rattle.{drift_world.proofs.Words.{true, way_from, zero, ℕ}, run_law.specs.
 use Rattle.{pcf_codec.specs.{Decoding.decoded, EtherType.pcf_type}, std.proofs.lemmas.Bool.ne_eqb, world_law.specs.world.World.IsOnWire}
 use Rattle.{pcf_codec.specs.declared.refusal.PcfRefusal.PcfRefusal, run_law.specs.{device.Standpoints.standpoint, timed.Receptions.{ArrivesAs, arrival_of}}}
 use Rattle.run_law.proofs.law.{FirstDeliveries.last_in, FirstPlaces.{IsFoundedAt, by_number, founded_at, number_is, numbered_front, numbered_within}}
-use Rattle.{run_law.specs.records.Frames.tt_frame, world_law.{proofs.{frames.{Proper.{launch_signal as signal_in}}, steps_lemmas.hearing.OneMaster.decoded_of}}}
+use Rattle.{run_law.specs.records.Frames.tt_frame, world_law.proofs.{frames.Proper.{launch_signal as signal_in}, steps_lemmas.hearing.OneMaster.decoded_of}}
 use Rattle.net_plan.specs.declared.event.What.TheVariants as events
 use Rattle.run_law.specs.declared.note.NoteBody.TheVariants as kinds
 use Rattle.run_law.specs.declared.steps.Arrival.TheVariants as arrivals

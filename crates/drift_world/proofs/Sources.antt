@@ -5,9 +5,9 @@ use Rattle.drift_world.proofs.Words.{IsLinkInRange, IsSized, Kept, List, Network
 use Rattle.drift_world.proofs.Words.{act_place, amount, ap, arith, at_port, cases_eq, cases_lt, chain, get_or_from_slice_get, given_of, happenings}
 use Rattle.drift_world.proofs.Words.{if◌then◌else◌, in_all, inl, inr, keeps, le-ltb, length, lt-ltb, map, never, numbers_of, on_wire, place_of, pos}
 use Rattle.{drift_world.proofs.Words.{reading_for, refl, ripe_place, slice_get_within, subst, sym, waiting_as, world_of, ℕ}, std.proofs.Common.{All, slice_get}}
-use Rattle.{drift_world.specs.{Sourcing.{IsRipePlace, due_place}, declared.state.State.State}, run_law.specs.machines.Tasks.{IsPending, Task}}
-use Rattle.{run_law.proofs.runs.Places.before_later, tte_lemmas.proofs.Options.some_same, world_law.specs.world.World.IsWaitingFor}
-use Rattle.{world_law.proofs.frames.Proper.{IsReceiver, received}, world_state.{specs.{declared.queue.Entry.Entry, timers.{Times.{IsFirst as IsFirstDue}}}}}
+use Rattle.{drift_world.specs.{Sourcing.{IsRipePlace, due_place}, declared.state.State.State}, tte_units.proofs.general_lemmas.Options.some_same}
+use Rattle.{run_law.{proofs.runs.Places.before_later, specs.machines.Tasks.{IsPending, Task}}, world_law.specs.world.World.IsWaitingFor}
+use Rattle.{world_law.proofs.frames.Proper.{IsReceiver, received}, world_state.specs.{declared.queue.Entry.Entry, timers.Times.{IsFirst as IsFirstDue}}}
 use Rattle.{world_law.{proofs.steps_lemmas.ripening.Ripens.come_of, specs.world.Moves.NothingBefore}, world_state.proofs.UnderWays.{port_numbers, wire_numbers}}
 
 -- what is not before the first is not before a place that the first is not before
@@ -41,8 +41,7 @@ least_slot : (times : List ℕ) (due : Due) (slot time : ℕ) → IsFirstDue tim
 least_slot times due slot time first at =
     grind (arith, slice_get_within, get_or_from_slice_get)
 
-lower_slot : (times : List ℕ) (due : Due) (slot time : ℕ) → IsFirstDue times due → slice_get times slot ≡ Some time → slot < due.slot
-    → due.time < time
+lower_slot : (times : List ℕ) (due : Due) (slot time : ℕ) → IsFirstDue times due → slice_get times slot ≡ Some time → slot < due.slot → due.time < time
 lower_slot times due slot time first at lower =
     grind (arith, get_or_from_slice_get)
 

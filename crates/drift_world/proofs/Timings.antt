@@ -69,8 +69,7 @@ acts_timed reading stands network clock machine device now (Some due) time low l
 
 -- where the device is as it was, and time has not gone back
 pub still_timed : {C M : Type 0} (reading : C → ℕ → ℕ) (stands : M → Network → DeviceId → Node → Type 0) (network : Network) (old new : State C M)
-    (device : DeviceId) → IsTimed reading stands network old.timers old device
-    → slice_get new.clocks.items device.0 ≡ slice_get old.clocks.items device.0
+    (device : DeviceId) → IsTimed reading stands network old.timers old device → slice_get new.clocks.items device.0 ≡ slice_get old.clocks.items device.0
     → slice_get new.machines.items device.0 ≡ slice_get old.machines.items device.0
     → ((w : Waits) → w.device.0 ≡ device.0 → IsIn w new.waiting.items ↔ IsIn w old.waiting.items)
     → old.time ≤ new.time

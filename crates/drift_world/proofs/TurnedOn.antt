@@ -1,11 +1,11 @@
 -- A device is turned on at the present instant where such an event befell and is pending.
-use Rattle.{drift_world.proofs.HiddenCauses.Rises, run_law.proofs.{law.FirstPlaces.in_at, records.Order.in_any}, tte_lemmas.proofs.Bools.same_tests}
+use Rattle.{drift_world.proofs.HiddenCauses.Rises, run_law.proofs.{law.FirstPlaces.in_at, records.Order.in_any}, world_law.proofs.giving.Given.some_same}
 use Rattle.drift_world.proofs.Words.{◌&&◌, ◌++◌, ◌+◌, ◌==◌, ◌∙◌, ◌∷◌, ◌≡◌, ◌≤ℤ◌, DeviceId, Happening, IsBefore, IsCaused, IsDue, IsFounded, IsIn, List, Network}
 use Rattle.drift_world.proofs.Words.{Node, NoneBefore, Note, Scenario, Some, Stands, What, World, [], amount, and_parts, any_in, ap, append_assoc, arith}
 use Rattle.drift_world.proofs.Words.{both_ways, chain, eq-eqb, eqb-true, false, happening, happenings, in_get, in_right, inl, inr, is_turned_on_at, length}
 use Rattle.drift_world.proofs.Words.{list_any, never_self, numbered_in, parted, place_of, pos, refl, subst, suc, sym, time_of, true, turns_on, ℕ}
-use Rattle.{net_plan.specs.declared.event.Event.Event, run_law.specs.runs.DueRecords.IsEventRecord, std.proofs.lemmas.Bool.{and_from, cases_Bool}}
-use Rattle.{run_law.{proofs.runs.Places.before_or_not, specs.records.{Causes.IsOfThisTime, Order.AllBefore}}, world_law.proofs.giving.Given.some_same}
+use Rattle.{net_plan.specs.declared.event.Event.Event, run_law.{proofs.runs.Places.before_or_not, specs.records.{Causes.IsOfThisTime, Order.AllBefore}}}
+use Rattle.{run_law.specs.runs.DueRecords.IsEventRecord, std.proofs.lemmas.Bool.{and_from, cases_Bool}, tte_units.proofs.general_lemmas.Bools.same_tests}
 use Rattle.std.specs.List.{slice_get}
 use Rattle.world_law.{proofs.{runs.Applies.{event_cause, event_place}, steps_lemmas.steps.AppliedParts.before_others}, specs.world.World.{Befell, has_outcome}}
 use Rattle.net_plan.specs.declared.event.What.TheVariants as events

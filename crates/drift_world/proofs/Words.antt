@@ -29,7 +29,7 @@ pub use Rattle.run_law.specs.scenario.{Devices.is_parent_of, Hypothesis.{AreWith
 pub use Rattle.run_law.specs.scenario.{Scenarios.{Scenario, is_broken, is_turned_on_at, turns_on}, Ways.{delay_at, is_cut, receiver_of, way_from}}
 pub use Rattle.schedule_tables.specs.{Entries.target_by, Rules.KeepsRules}
 pub use Rattle.sync_state.specs.declared.state.State.{State as DeviceState, TheVariants.{Integrating, Joining, Off}}
-pub use Rattle.tte_lemmas.proofs.{Lists.in_all, Options.one}
+pub use Rattle.tte_units.proofs.general_lemmas.{Lists.in_all, Options.one}
 pub use Rattle.tte_units.specs.Amount.{amount, units_of}
 pub use Rattle.tte_units.specs.declared.units.Units.{Units}
 pub use Rattle.world_law.proofs.giving.Given.{in_get}

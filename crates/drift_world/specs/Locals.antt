@@ -1,15 +1,15 @@
 -- The local clock of a device, as a world shows it.
 use Rattle.std.specs.Prelude.{◌+ℤ◌, ◌+◌, ◌<ℤ◌, ◌<◌, ◌^◌, ◌∷◌, ◌≡◌, ◌≤ℤ◌, ◌≤◌, ◌⊎◌, Bool, List, MatchOption, None}
 use Rattle.std.specs.Prelude.{Option, Some, [], false, neg_ℤ, pos, slice_get, true, ℕ, ℤ}
-use Rattle.{clock_correction.specs.Deviation.IsSmall, world_state.specs.{Keeping.keeps, declared.kept.Kept.Kept}}
 use Rattle.{drift_world.specs.Running.{StandsUnder, reading_of}, run_law.specs.law.Safety.{IsInStep, IsInStepBefore}}
-use Rattle.{drift_world.specs.declared.state.State.State, run_law.specs.records.Order.{IsBefore, IsIn}}
+use Rattle.{drift_world.specs.declared.state.State.State, sync_state.specs.correction.Deviation.IsSmall}
 use Rattle.net_plan.specs.declared.{event.Event.Event, ids.DeviceId.DeviceId, network.Network.Network}
-use Rattle.run_law.specs.{declared.note.Note.Note, machines.Nodes.Node, records.Ranks.place_of, runs.DueRecords.IsRunOf}
+use Rattle.run_law.specs.{declared.note.Note.Note, machines.Nodes.Node, runs.DueRecords.IsRunOf}
 use Rattle.run_law.specs.{device.LocalClocks.{local, local_before}, records.Happenings.{Happening, happenings}}
-use Rattle.{run_law.specs.scenario.Scenarios.Scenario, tte_units.specs.{Amount.amount, declared.units.Units.Units}}
+use Rattle.{run_law.specs.records.{Order.{IsBefore, IsIn}, Ranks.place_of}, tte_units.specs.declared.units.Units.Units}
+use Rattle.{run_law.specs.scenario.Scenarios.Scenario, world_state.specs.{Keeping.keeps, declared.kept.Kept.Kept}}
 use Rattle.sync_state.specs.declared.state.State.{State as DeviceState, TheVariants.Synchronised}
-use Rattle.world_law.specs.world.World.{World}
+use Rattle.{tte_units.specs.Amount.amount, world_law.specs.world.World.World}
 
 -- the local clock of a device in this state with this reading and this adjustment, or None where it is broken or not
 -- synchronised

@@ -5,7 +5,7 @@ use Rattle.std.specs.Prelude.{ℕ, ℤ}
 use Rattle.{net_plan.specs.Belonging.IsOfNetwork, world_law.specs.source.Agreeing.scenario}
 use Rattle.{net_plan.specs.declared.event.Event.Event, tte_units.specs.declared.units.Units.Units}
 use Rattle.net_plan.specs.declared.{event.What.{TheVariants.Hold, What}, ids.DeviceId.DeviceId, network.Network.Network}
-use Rattle.run_law.specs.{declared.{note.{Note.Note, NoteBody.{TheVariants.{Event as Befalls}}}}, machines.Nodes.Node}
+use Rattle.run_law.specs.{declared.note.{Note.Note, NoteBody.TheVariants.{Event as Befalls}}, machines.Nodes.Node}
 use Rattle.run_law.specs.{law.FirstLaws.IsEventInRange, scenario.Hypothesis.{AreWithinHypothesis, IsWithinHypothesis}}
 use Rattle.{world_law.specs.world.World.{Stands, World}, world_state.specs.{Keeping.keeps, declared.kept.Kept.Kept}}
 pub use Rattle.traffic_law.specs.safety.Under.{clock_of, last_time, reading_of}

@@ -4,11 +4,11 @@ ghost use Rattle.std.specs.VecDeque.{deque_capacity, deque_len};
 ghost use Rattle.drift_world.specs.{Acting.{IsDueAt, IsIdle, IsNextDue, SettlesFrom, act_cursor}, Views.world_of};
 ghost use Rattle.drift_world.specs.{Nearing.IsIdleAt, Sound.{IsSized, IsSound}, Stepping.{ChangesOnly, IsAt}};
 ghost use Rattle.{drift_world.specs.Showing.IsOf, world_state.specs.Keeping.keeps};
-ghost use Rattle.{net_plan.specs.Ranges.IsInRange, world_state.{specs.{declared.{kept.{Kept.{Kept as KeptValue}}}}}};
+ghost use Rattle.{net_plan.specs.Ranges.IsInRange, world_state.specs.declared.kept.Kept.{Kept as KeptValue}};
 ghost use Rattle.{net_plan.specs.declared.network.Network.Network, world_law.specs.world.World.{Stands, act_place}};
-ghost use Rattle.run_law.specs.{declared.{note.Note.Note, steps.{Act.{Act as ActValue}}}, scenario.Scenarios.Scenario};
+ghost use Rattle.run_law.specs.{declared.{note.Note.Note, steps.Act.{Act as ActValue}}, scenario.Scenarios.Scenario};
 ghost use Rattle.{run_law.specs.records.Order.behind, world_state.specs.Acting.{AreOutcomes, HasItsRow, IsDispatched}};
-ghost use Rattle.schedule_tables.specs.{Entries.IsEntry, declared.{entry.{Entry.{Entry as EntryValue}}}};
+ghost use Rattle.schedule_tables.specs.{Entries.IsEntry, declared.entry.Entry.{Entry as EntryValue}};
 ghost use Rattle.world_law.specs.world.{Calls.{HasActed, IsDueNow, moment_of}, Moves.{ComesFirst, StandsBehind}};
 
 use crate::state::State;

@@ -1,8 +1,7 @@
 ghost use Rattle.std.specs.Prelude.{◌++◌, ◌+◌, ◌<◌, ◌↔◌, ◌≡◌, IfOk, IsTrue, List, OnErr, []};
-ghost use Rattle.net_plan.specs.Ranges.{IsInRange};
-ghost use Rattle.run_law.specs.{declared.note.Note.Note as NoteOf, scenario.Scenarios.Scenario};
-ghost use Rattle.run_law.specs.records.{Happenings.happenings, Ranks.place_of};
-ghost use Rattle.world_law.specs.{source.First.NoSourceBefore, world.World.Stands};
+ghost use Rattle.{net_plan.specs.Ranges.IsInRange, world_law.specs.world.World.Stands};
+ghost use Rattle.run_law.specs.{declared.note.Note.{Note as NoteOf}, records.{Happenings.happenings, Ranks.place_of}};
+ghost use Rattle.{run_law.specs.scenario.Scenarios.Scenario, world_law.specs.source.First.NoSourceBefore};
 
 use crate::next::Turn;
 use crate::ripen::is_judged;

@@ -63,8 +63,8 @@ fn lower(rank: u8, other: u8) -> u8
 
 impl<C: Clock, M: Machine + Drop> State<C, M> {
     ghost use Rattle.run_law.specs.records.Ranks.{place_of};
-    ghost use Rattle.world_state.specs.{Views.settled_at, declared.{contents.{Settled.{Settled as SettledValue}}}};
-    ghost use Rattle.drift_world.specs.{Sourcing.HasNothingBefore, declared.{source.{Source.{Source as SourceOf}}}};
+    ghost use Rattle.world_state.specs.{Views.settled_at, declared.contents.Settled.{Settled as SettledValue}};
+    ghost use Rattle.drift_world.specs.{Sourcing.HasNothingBefore, declared.source.Source.{Source as SourceOf}};
     ghost use Rattle.drift_world.specs.{Turns.{IsKept, IsNextRank, IsNow, MayWork, WorkSays, given_in}, Wells.IsWell};
 
     /// The source of the present instant that comes first is worked off. Where what it comes to stands before all that

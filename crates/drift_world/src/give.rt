@@ -26,8 +26,8 @@ impl<C: Clock, M: Machine + Drop> State<C, M> {
     ghost use Rattle.world_state.specs.{Frames.{room_of, waiter_of}, Shelves.{HasPlace, spot_of}, Storing.IsStoredBy};
     ghost use Rattle.world_state.specs.Giving.{ArrivedAt, CameBy, IsPutOn, IsYoung, MayBeGiven, changed_device};
     ghost use Rattle.world_state.specs.{Giving.{giver_of, wire_entry}, Sound.{AreBelow, AreUnderWay, IsShort}};
-    ghost use Rattle.world_state.specs.{Keeping.keeps, declared.{giving.{Giving.{Giving as GivingValue}}}};
-    ghost use Rattle.world_state.specs.{Views.settled_at, declared.{contents.{Settled.{Settled as SettledValue}}}};
+    ghost use Rattle.world_state.specs.{Keeping.keeps, declared.giving.Giving.{Giving as GivingValue}};
+    ghost use Rattle.world_state.specs.{Views.settled_at, declared.contents.Settled.{Settled as SettledValue}};
     ghost use Rattle.drift_world.specs.{Giving.{AreLow, IsGivenOut, IsGiver}, Sound.{IsSized, IsSound}};
     ghost use Rattle.drift_world.specs.{Stepping.{ChangesOnly, IsRunning}, Views.{with_first, world_of}};
 

@@ -3,7 +3,7 @@ ghost use Rattle.{drift_world.specs.Sound.IsSound, net_plan.specs.Ranges.IsInRan
 ghost use Rattle.{drift_world.specs.Stepping.{ChangesOnly, IsAt, StandsPast}, world_state.specs.Hearing.arrived};
 ghost use Rattle.{run_law.specs.records.Ranks.{place_of, rank}, world_state.specs.Places.IsPutAt};
 ghost use Rattle.world_state.specs.{Giving.{HasItsOctets, changed_device}, queue.Places.{IsFirst, numbers_of}};
-ghost use Rattle.world_state.specs.{Views.settled_at, declared.{contents.{Settled.{Settled as SettledValue}}}};
+ghost use Rattle.world_state.specs.{Views.settled_at, declared.contents.Settled.{Settled as SettledValue}};
 
 use crate::state::State;
 use drift_clock::Clock;

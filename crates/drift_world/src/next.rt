@@ -1,7 +1,7 @@
 ghost use Rattle.std.specs.Prelude.{◌*◌, ◌++◌, ◌+◌, ◌<ℤ◌, ◌<◌, ◌^◌, ◌↔◌, ◌∷◌, ◌≡◌, ◌≤◌, IfOk};
 ghost use Rattle.std.specs.Prelude.{IsTrue, List, OnErr, OnOk, Some, [], false, length, pos, true};
 ghost use Rattle.{net_plan.specs.Ranges.IsInRange, run_law.specs.scenario.Scenarios.Scenario};
-ghost use Rattle.run_law.specs.{declared.{note.{Note.{Note as NoteOf}}}, runs.DueRecords.IsScenarioRun};
+ghost use Rattle.run_law.specs.{declared.note.Note.{Note as NoteOf}, runs.DueRecords.IsScenarioRun};
 
 use crate::ahead::{is_ahead_in_all, rank_in_order};
 use crate::source::{Source, least_of};
@@ -33,12 +33,12 @@ impl<C: Clock, M: Machine + Drop> State<C, M> {
     ghost use Rattle.drift_world.specs.{Nearing.{IsNoFarther, Nears}, Sourcing.{AreFirsts, AreTimed, HasNothingBefore}};
     ghost use Rattle.{drift_world.specs.Running.{given_by, next_of}, world_law.specs.world.World.Stands};
     ghost use Rattle.{drift_world.specs.{Sound.IsSized, Wells.IsWell}, tte_units.specs.Amount.units_of};
-    ghost use Rattle.drift_world.specs.{Stepping.{ChangesOnly, IsRunning}, declared.{state.{State.{State as StateOf}}}};
+    ghost use Rattle.drift_world.specs.{Stepping.{ChangesOnly, IsRunning}, declared.state.State.{State as StateOf}};
     ghost use Rattle.drift_world.specs.Turns.{GivesAt, HasCome, HasRoom, IsCalm, IsKept, IsPassed, MayTurn};
     ghost use Rattle.drift_world.specs.{Turns.{SettledFirst, SourceFirst, TurnsTo, given_in}, Views.world_of};
     ghost use Rattle.{run_law.specs.records.Ranks.place_of, world_state.specs.Giving.{ArrivedAt, changed_device}};
     ghost use Rattle.world_state.specs.Keeping.{keeps};
-    ghost use Rattle.world_state.specs.{Views.settled_at, declared.{contents.{Settled.{Settled as SettledValue}}}};
+    ghost use Rattle.world_state.specs.{Views.settled_at, declared.contents.Settled.{Settled as SettledValue}};
 
     /// Puts the next record before a time in the place of another, if one is due before it: is one?
     ///

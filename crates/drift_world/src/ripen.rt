@@ -1,7 +1,7 @@
 ghost use Rattle.std.specs.Prelude.{◌+◌, ◌↔◌, ◌≡◌, ◌≤ℤ◌, IsTrue, List, Some, false, is_some, length, pos, slice_get};
 ghost use Rattle.std.specs.Prelude.{true};
 ghost use Rattle.{drift_world.specs.Ripening.IsJudged, net_plan.specs.Ranges.IsInRange};
-ghost use Rattle.world_state.specs.{Frames.first_of, declared.{contents.{Waits.{Waits as WaitsValue}}}};
+ghost use Rattle.world_state.specs.{Frames.first_of, declared.contents.Waits.{Waits as WaitsValue}};
 
 use crate::state::State;
 use drift_clock::Clock;
@@ -31,7 +31,7 @@ pub fn is_judged(ripe: Ripe) -> bool
 impl<C: Clock, M: Machine + Drop> State<C, M> {
     ghost use Rattle.drift_world.specs.{Sound.IsSound, Stepping.{ChangesOnly, IsAt, StandsPast}};
     ghost use Rattle.{world_law.specs.world.World.ripe_place, world_state.specs.Views.waiting_as};
-    ghost use Rattle.world_state.specs.{Ripening.AreSettledSo, declared.{contents.{Settled.{Settled as SettledValue}}}};
+    ghost use Rattle.world_state.specs.{Ripening.AreSettledSo, declared.contents.Settled.{Settled as SettledValue}};
 
     /// The first frame that waits at the device is permanent: the first of all that is to come. It is answered, with
     /// what becomes of it, whose records are to be put in among what is settled.

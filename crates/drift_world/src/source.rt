@@ -1,5 +1,5 @@
 ghost use Rattle.std.specs.Prelude.{◌+◌, ◌<◌, ◌^◌, ◌≡◌, ◌≤◌, IfNone, IfSome, Option, Some, ℕ};
-ghost use Rattle.{run_law.specs.plain.Places.number_of, world_state.{specs.{timers.{Times.{IsFirst as IsFirstDue}}}}};
+ghost use Rattle.{run_law.specs.plain.Places.number_of, world_state.specs.timers.Times.{IsFirst as IsFirstDue}};
 
 use crate::state::State;
 use drift_clock::Clock;

@@ -70,20 +70,18 @@ pub struct State<C: Clock, M: Machine + Drop> {
 }
 
 impl<C: Clock, M: Machine + Drop> State<C, M> {
-    ghost use Rattle.{drift_world.specs.{Following.Follows, Showing.IsOf}, world_law.specs.steps.Steps.FitsWorld};
+    ghost use Rattle.{drift_world.specs.{Following.Follows, Showing.IsOf}, net_plan.specs.Belonging.IsOfNetwork};
     ghost use Rattle.drift_world.specs.{Sound.{IsSized, IsSound}, Stepping.{ChangesOnly, StandsPast}, Views.world_of};
-    ghost use Rattle.net_plan.specs.{Belonging.IsOfNetwork, declared.{ids.{DeviceId.{DeviceId as DeviceOf}}}};
-    ghost use Rattle.net_plan.specs.declared.event.Event.{Event as EventValue};
-    ghost use Rattle.{run_law.specs.records.Order.IsIn, tte_units.specs.Amount.amount};
-    ghost use Rattle.{run_law.specs.records.Ranks.{place_of, rank}, tte_units.specs.declared.rates.Ppb.Ppb};
-    ghost use Rattle.{run_law.specs.scenario.Devices.is_parent_of, world_state.specs.Places.{IsSomePut, own_place}};
+    ghost use Rattle.net_plan.specs.declared.{event.Event.{Event as EventValue}, ids.DeviceId.{DeviceId as DeviceOf}};
+    ghost use Rattle.run_law.specs.{records.{Order.IsIn, Ranks.{place_of, rank}}, scenario.Devices.is_parent_of};
     ghost use Rattle.sync_state.specs.declared.state.State.{State as DeviceState};
+    ghost use Rattle.{tte_units.specs.{Amount.amount, declared.rates.Ppb.Ppb}, world_law.specs.steps.Steps.FitsWorld};
     ghost use Rattle.world_law.specs.{source.Agreeing.scenario, world.Moves.{ComesFirst, NothingBefore, StandsBehind}};
     ghost use Rattle.world_law.specs.{source.Applying.note_of_event, world.World.{Stands, clock_place}};
     ghost use Rattle.world_state.specs.{Applying.{IsElsewhere, IsShown, SetsShort, clock_after}, Views.settled_at};
     ghost use Rattle.world_state.specs.{Giving.{HasItsOctets, changed_device}, Leaving.{departure_in, port_entry}};
-    ghost use Rattle.world_state.specs.{Keeping.keeps, declared.{contents.{Settled.{Settled as SettledValue}}}};
-    ghost use Rattle.world_state.specs.declared.contents.Waits.{Waits as WaitsValue};
+    ghost use Rattle.world_state.specs.{Keeping.keeps, declared.contents.Settled.{Settled as SettledValue}};
+    ghost use Rattle.world_state.specs.{Places.{IsSomePut, own_place}, declared.contents.Waits.{Waits as WaitsValue}};
 
     /// Time passes, where nothing is under way before.
     pub fn pass_to(&mut self, time: u64)

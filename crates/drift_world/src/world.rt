@@ -1,7 +1,7 @@
 ghost use Rattle.std.specs.Prelude.{◌++◌, ◌+◌, ◌<ℤ◌, ◌<◌, ◌^◌, ◌∷◌, ◌≡◌, ◌≤ℤ◌, IfNone, IfOk, IfSome, List, MatchResult};
 ghost use Rattle.std.specs.Prelude.{OnErr, [], false, length, pos, true};
-ghost use Rattle.net_plan.specs.declared.{event.{Event.{Event as EventValue}}, network.Network.Network};
-ghost use Rattle.run_law.specs.{declared.{note.{Note.{Note as NoteValue}}}, scenario.Hypothesis.IsWithinHypothesis};
+ghost use Rattle.net_plan.specs.declared.{event.Event.{Event as EventValue}, network.Network.Network};
+ghost use Rattle.run_law.specs.{declared.note.Note.{Note as NoteValue}, scenario.Hypothesis.IsWithinHypothesis};
 ghost use Rattle.{run_law.specs.records.Happenings.happenings, world_law.specs.source.Agreeing.scenario};
 ghost use Rattle.{run_law.specs.runs.DueRecords.IsRunOf, tte_units.specs.Amount.{amount, units_of}};
 

@@ -3,8 +3,8 @@ use Rattle.end_system.proofs.Words.{◌*◌, ◌++◌, ◌+ℤ◌, ◌+◌, ◌-
 use Rattle.end_system.proofs.Words.{Contains-append_left, DeviceId, Dispatch, HasNumber, IfSome, IsAtSlot, IsCorrection, IsDispatch, IsOwnOf, IsSending}
 use Rattle.end_system.proofs.Words.{IsSmall, List, Network, None, Option, Own, RowId, Rows, Some, Standing, Summary, SyncPlan, Units, [], amount, ap, arith}
 use Rattle.end_system.proofs.Words.{correcting, dispatching, from_zero, inl, inr, ints, mul-le-mul_left, mul-le-mul_right, pos, refl, sending, subst, suc, sym}
-use Rattle.{end_system.{proofs.Words.{zero, ℕ, ℤ}, specs.Deeds.IsNextSending}, std.proofs.Common.◌⊎◌, tte_lemmas.proofs.Integers.amount_least}
-use Rattle.{std.proofs.lemmas.List.Elements.{Contains-append_cases, Contains-append_right}, tte_lemmas.proofs.Naturals.{below_next, less_than_next}}
+use Rattle.{end_system.{proofs.Words.{zero, ℕ, ℤ}, specs.Deeds.IsNextSending}, std.proofs.lemmas.List.Elements.{Contains-append_cases, Contains-append_right}}
+use Rattle.{std.proofs.Common.◌⊎◌, tte_units.proofs.general_lemmas.{Integers.amount_least, Naturals.{below_next, less_than_next}}}
 
 only_there : {X : Type 0} (x y : X) → Contains (y ∷ []) x → x ≡ y
 only_there x y (zero, lt, at) = sym at

@@ -9,7 +9,7 @@ use Rattle.run_law.specs.control.Arrivals.{are_others, clock_on_arrival, control
 use Rattle.run_law.specs.{control.Arrivals.{is_of_other_domain, is_of_other_member, refused}, scenario.Devices.{is_parent_of, is_relay, member_of}}
 use Rattle.run_law.specs.{control.Wires.{Signal, control, signal_of, timed}, declared.steps.Arrival.Arrival, machines.Answers.{after_arrival, arrival_at}}
 use Rattle.run_law.specs.declared.{judgement.Reason.TheVariants.{ColdStart, Domain, Gate, Member, Off, Old}, steps.Arrival.TheVariants.{Dropped, Waits}}
-use Rattle.tte_lemmas.proofs.{Bools.takes_by, Integers.whole, Naturals.unequal}
+use Rattle.tte_units.proofs.general_lemmas.{Bools.takes_by, Integers.whole, Naturals.unequal}
 
 -- ---- a device that takes no part
 

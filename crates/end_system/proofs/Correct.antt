@@ -5,12 +5,12 @@ use Rattle.end_system.proofs.Words.{◌*◌, ◌++◌, ◌+ℤ◌, ◌+◌, ◌-
 use Rattle.end_system.proofs.Words.{EndSystem, HasNumber, HasVerdict, IfSome, IsAgenda, IsAtSlot, IsCorrection, IsDispatch, IsOwnOf, IsSending, IsSmall}
 use Rattle.end_system.proofs.Words.{IsSomeAnd, List, MayCall, Moment, Network, Node, None, Option, Own, Some, Standing, StandsAsEnd, Summarizes, Summary}
 use Rattle.end_system.proofs.Words.{Synchronised, Units, [], amount, ap, arith, called, correcting, end_plan, from_zero, inl, inr, ints, mul-le-mul_right}
-use Rattle.membership.specs.Summary.{silence}
+use Rattle.sync_state.specs.membership.Summary.{silence}
 use Rattle.run_law.{proofs.control.Points.point_is, specs.{control.Corrections.correction_value, machines.{Answers.after_correction, Nodes.acting}}}
 use Rattle.sync_state.{proofs.StateFacts.{no_longer, point_up_to}, specs.{Calls.{adjustment_by, after, reached_point}, Standing.{IsAtIntegration, point_in}}}
 use Rattle.sync_state.specs.{Verdicts.{IfCorrected, IsNear}, declared.answers.Verdict.{Verdict, TheVariants.{AsyncClique, Cleared, Corrected, SyncClique}}}
 use Rattle.sync_state.specs.declared.state.State.{State, TheVariants.{Integrating, Joining, Off}}
-use Rattle.tte_lemmas.proofs.Naturals.{less_than_next}
+use Rattle.tte_units.proofs.general_lemmas.Naturals.{less_than_next}
 
 -- ---- what the correction may rely on
 

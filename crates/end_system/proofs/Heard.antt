@@ -1,10 +1,10 @@
 -- Frames that were heard in time, and what they correct a clock by.
-use Rattle.{clock_correction.specs.Correction.correction_of, membership.specs.declared.frame.HeardFrame.HeardFrame, tte_units.proofs.Means.mean_of-floor}
 use Rattle.end_system.proofs.Words.{◌*◌, ◌+ℤ◌, ◌+◌, ◌-ℤ◌, ◌<ℤ◌, ◌<◌, ◌^◌, ◌∙◌, ◌≡◌, ◌≤ℤ◌, ◌≤◌, A, AreHeardSo, B, Bool, DeviceId, HasVerdict, IfSome, IsOwnOf}
 use Rattle.end_system.proofs.Words.{IsSmall, Network, None, Option, Own, Some, Standing, Summary, SyncPlan, Units, amount, ap, arith, end_plan, expected_offset}
 use Rattle.end_system.proofs.Words.{false, from_zero, if◌then◌else◌, ints, mul-le-mul_left, mul-le-mul_right, neg_ℤ, option_and_then, pos, subst, true, ℕ, ℤ}
-use Rattle.{end_system.specs.Standing.IsHeardSo, membership.specs.Members.count_of, std.proofs.{Common.{◌*ℤ◌, nat_le}, lemmas.Option.same_Some}}
-use Rattle.sync_state.specs.{Plan.expected_at, Verdicts.{IsNear, deviation_by, deviation_on}, declared.answers.Verdict.TheVariants.Corrected}
+use Rattle.{end_system.specs.Standing.IsHeardSo, std.proofs.{Common.{◌*ℤ◌, nat_le}, lemmas.Option.same_Some}, sync_state.specs.Plan.expected_at}
+use Rattle.{sync_state.specs.{Verdicts.{IsNear, deviation_by, deviation_on}, membership.Members.count_of}, tte_units.proofs.Means.mean_of-floor}
+use Rattle.sync_state.specs.{correction.Correction.correction_of, declared.{answers.Verdict.TheVariants.Corrected, membership.frame.HeardFrame.HeardFrame}}
 use Rattle.tte_units.specs.Mean.{IsMean}
 
 at_most : (high n : ℕ) (z : ℤ) → z ≡ pos n → z ≤ℤ pos high → n ≤ high

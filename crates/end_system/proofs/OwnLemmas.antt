@@ -4,11 +4,10 @@ use Rattle.end_system.proofs.Words.{◌*◌, ◌+ℤ◌, ◌+◌, ◌<ℤ◌, �
 use Rattle.end_system.proofs.Words.{LinkId, Network, None, Option, Own, Row, RowId, Some, SyncPlan, Units, amount, amount_most, ap, arith, cases_Bool, end_plan}
 use Rattle.end_system.proofs.Words.{eqb-true, expected_offset, false, false≢true, if◌then◌else◌, in_all, inl, inr, ints, link_at, not, option_and_then}
 use Rattle.end_system.{proofs.Words.{option_map_or, pos, refl, subst, sym, true, ℕ, ℤ, ⊎_elim}, specs.Owns.{IsLinkOf, IsUplinkOf, channel_by, wire_by}}
-use Rattle.{net_plan.proofs.InRange.its_amount, run_law.{proofs.scenario.Devices.end_test, specs.scenario.Ways.wire_of}, tte_lemmas.proofs.Naturals.eqb_same}
-use Rattle.{net_plan.{proofs.SameIds.{same_device, same_link}, specs.Ranges.{IsDeviceInRange, IsWithin}}, run_law.specs.records.Frames.dispatched_frame}
-use Rattle.net_plan.specs.Paths.{IsUplink}
+use Rattle.{net_plan.proofs.InRange.its_amount, run_law.{proofs.scenario.Devices.end_test, specs.scenario.Ways.wire_of}, schedule_tables.specs.Rules.KeepsRules}
+use Rattle.{net_plan.{proofs.SameIds.{same_device, same_link}, specs.declared.tables.{Device.Device, Role.Role}}, run_law.specs.records.Frames.dispatched_frame}
+use Rattle.{net_plan.specs.{Paths.IsUplink, Ranges.{IsDeviceInRange, IsWithin}}, tte_units.proofs.general_lemmas.{Naturals.eqb_same, Options.{one as one_some}}}
 use Rattle.net_plan.specs.{Places.{IsEndSystem, IsSwitchOf, device_at, is_end_system, is_master}, declared.tables.Role.TheVariants.{Client, Cm, Master, Relay}}
-use Rattle.{net_plan.specs.declared.tables.{Device.Device, Role.Role}, schedule_tables.specs.Rules.KeepsRules, tte_lemmas.{proofs.{Options.{one as one_some}}}}
 use Rattle.run_law.specs.{machines.Calls.IsLinkAt, scenario.Devices.{IsParentOf, channel_of, has_role, is_cm, is_cm_role, is_relay, is_relay_role, plan_of}}
 use Rattle.schedule_tables.specs.declared.rule.Rule.TheVariants as rules
 

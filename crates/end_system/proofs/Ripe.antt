@@ -1,18 +1,19 @@
 -- Frames that are permanent at an end system.
-use Rattle.{end_system.proofs.{Advance.{not_fallen, number_stays}, Heard.{expected_is, has_numbers}}, sync_state.specs.Calls.{after, heard_frame, turned_on}}
-use Rattle.{end_system.proofs.Correct.heard_nothing, membership.specs.{Members.count_of, Summary.{Hears, silence}}, run_law.specs.control.Permanence.ripe_as}
+use Rattle.{end_system.proofs.Advance.{not_fallen, number_stays}, sync_state.specs.{Calls.{after, heard_frame, turned_on}, membership.Summary.{Hears, silence}}}
+use Rattle.{end_system.proofs.Correct.heard_nothing, run_law.specs.declared.steps.Ripe.Ripe, sync_state.specs.{Plan.expected_at, Standing.point_in}}
+use Rattle.{end_system.proofs.Heard.{expected_is, has_numbers}, sync_state.specs.{declared.answers.Joined.Joined, membership.BestFrame.IsBetterOf}}
 use Rattle.end_system.proofs.Words.{◌&&◌, ◌*◌, ◌++◌, ◌+ℤ◌, ◌+◌, ◌-ℤ◌, ◌<ℤ◌, ◌<◌, ◌^◌, ◌∙◌, ◌∷◌, ◌≡◌, ◌≤ℤ◌, ◌≤◌, A, Agenda, Appointment, AreHeardSo, AreRowsOf}
 use Rattle.end_system.proofs.Words.{B, Bool, Channel, ClockTask, DeviceId, Dispatch, EndSystem, HasNumber, IfSome, IsAgenda, IsAtSlot, IsCorrection, IsDispatch}
 use Rattle.end_system.proofs.Words.{IsOwnOf, IsSending, IsSmall, LinkId, List, MayCall, Moment, Network, Node, None, Option, Own, Pcf, Some, Standing}
 use Rattle.end_system.proofs.Words.{StandsAsEnd, Summarizes, Summary, SyncPlan, Synchronised, Units, [], amount, and_parts, ap, arith, called, end_plan}
 use Rattle.end_system.proofs.Words.{expected_offset, false, from_zero, inl, inr, ints, is_off, mul-le-mul_left, mul-le-mul_right, neg_ℤ, next_point, pos, refl}
-use Rattle.{end_system.{proofs.Words.{subst, sym, true, ℕ, ℤ}, specs.Standing.{IsAtEnd, IsHeardSo}}, run_law.specs.machines.Nodes.{Phase, ripening}}
+use Rattle.{end_system.{proofs.Words.{subst, sym, true, ℕ, ℤ}, specs.Standing.{IsAtEnd, IsHeardSo}}, run_law.specs.scenario.Devices.channel_of_link}
 use Rattle.{end_system.specs.{Controls.heard_by, Ripening.{IsTold, heard_so}}, std.proofs.{Common.{SomeIff, int_le, nat_le}, lemmas.Bool.{both_ways, leb-true}}}
-use Rattle.{end_system.specs.Owns.channel_by, membership.specs.Hearing.Hearing, sync_state.specs.{Plan.expected_at, Standing.point_in}}
-use Rattle.{membership.specs.BestFrame.IsBetterOf, run_law.specs.declared.steps.Ripe.Ripe, tte_lemmas.proofs.{Bools.match_false, Integers.int_le-is}}
-use Rattle.{membership.specs.declared.frame.HeardFrame.HeardFrame, run_law.proofs.control.Verdicts.{enough_not, in_time_by, in_time_not, tells_by}}
-use Rattle.{pcf_values.specs.declared.members.Members.Members, run_law.specs.scenario.Devices.channel_of_link, sync_state.specs.declared.answers.Joined.Joined}
+use Rattle.end_system.specs.Owns.{channel_by}
+use Rattle.{pcf_values.specs.declared.members.Members.Members, tte_units.proofs.general_lemmas.{Bools.match_false, Integers.int_le-is}}
+use Rattle.{run_law.proofs.control.Verdicts.{enough_not, in_time_by, in_time_not, tells_by}, sync_state.specs.declared.membership.frame.HeardFrame.HeardFrame}
 use Rattle.run_law.specs.control.{Corrections.correction_value, Hearing.{heard_as, heard_by_schedule, heard_enough, is_in_schedule, last_cycle}}
+use Rattle.{run_law.specs.{control.Permanence.ripe_as, machines.Nodes.{Phase, ripening}}, sync_state.specs.membership.{Hearing.Hearing, Members.count_of}}
 use Rattle.{run_law.specs.declared.steps.Ripe.TheVariants.{Ignored, Integrates, Outside, Within}, sync_state.proofs.StateFacts.{integrating_point, no_longer}}
 use Rattle.run_law.specs.machines.{Answers.{IsPermanenceOutcomeAt, hearings, node_turned_on, with_heard, with_joined}, Calls.{IsLaterMoment, MayRipen}}
 use Rattle.sync_state.specs.{Integration.{Integrates as DoesIntegrate, joined_by}, declared.state.State.{State, TheVariants.{Integrating, Joining, Off}}}

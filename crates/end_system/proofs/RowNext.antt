@@ -1,12 +1,12 @@
 -- The dispatch that comes next, among the slots of a device.
 use Rattle.end_system.proofs.{Advance.{done_now, done_still, was_done}, Words.{option_map_or, pos, refl, subst, suc, sym, turn_of, value_of, zero, ℕ, ℤ}}
-use Rattle.{end_system.proofs.{RowSearch.is_of, Tasks.later_value}, run_law.specs.machines.Tasks.offset_of, schedule_tables.specs.Slots.place_by}
-use Rattle.{end_system.proofs.Values.at_least, std.proofs.Common.{◌-◌, ◌/◌}, tte_lemmas.proofs.Naturals.cases_of}
+use Rattle.{end_system.proofs.{RowSearch.is_of, Tasks.later_value}, run_law.specs.machines.Tasks.offset_of, std.proofs.Math.Nat.{div-add-mod, mod-lt}}
+use Rattle.{end_system.proofs.Values.at_least, std.proofs.Common.{◌-◌, ◌/◌}}
 use Rattle.end_system.proofs.Words.{◌%◌, ◌*◌, ◌++◌, ◌+◌, ◌-ℤ◌, ◌<ℤ◌, ◌<◌, ◌^◌, ◌∙◌, ◌∷◌, ◌≡◌, ◌≤ℤ◌, ◌≤◌, AreRowsOf, ClockTask, Contains, DeviceId, Dispatch}
 use Rattle.end_system.proofs.Words.{IsAtSlot, IsBelow, IsDispatch, IsOwnOf, IsSlotOf, List, Network, None, Option, Own, Row, RowId, Rows, SentBy, Slot, Some}
 use Rattle.end_system.proofs.Words.{Standing, SyncPlan, Synchronised, Units, [], amount, ap, arith, dispatching, inl, inr, ints, mul-le-mul_right, numbers_of}
-use Rattle.{end_system.specs.Deeds.{IsSooner, Leaves}, std.proofs.Math.Nat.{div-add-mod, mod-lt}, tte_lemmas.proofs.Lists.{none_in, period_divides}}
-use Rattle.{end_system.specs.RowSlots.{IsFirstFrom, IsNextFrom, IsSlotIn}, schedule_tables.specs.{Dispatches.dispatch_order, declared.slot.Place.Place}}
+use Rattle.{end_system.specs.Deeds.{IsSooner, Leaves}, schedule_tables.specs.{Dispatches.dispatch_order, Slots.place_by, declared.slot.Place.Place}}
+use Rattle.{end_system.specs.RowSlots.{IsFirstFrom, IsNextFrom, IsSlotIn}, tte_units.proofs.general_lemmas.{Lists.{none_in, period_divides}, Naturals.cases_of}}
 use Rattle.schedule_tables.proofs.{NextLemmas.{place_is as row_place_is}, OrderLemmas.{below_more, below_one_way, not_below_more, same_or_below}}
 
 -- ---- slots, and rows that leave in a cycle
@@ -57,8 +57,7 @@ place_is : (network : Network) (device : DeviceId) (slot : Slot) → IsSlotOf ne
     → dispatch_order network slot.place.row ≡ numbers_of slot.place
 place_is network device slot of = row_place_is network slot.place.row of.entry of.is ∙ ap numbers_of (sym of.place)
 
-offset_is : (network : Network) (device : DeviceId) (slot : Slot) → IsSlotOf network (SentBy device) slot
-    → offset_of network slot.place.row ≡ slot.place.offset
+offset_is : (network : Network) (device : DeviceId) (slot : Slot) → IsSlotOf network (SentBy device) slot → offset_of network slot.place.row ≡ slot.place.offset
 offset_is network device slot of =
     ap (λ (o : Option Row). option_map_or (λ (r : Row). amount r.offset) o 0) of.is.row ∙ ap (λ (p : Place). p.offset) (sym of.place)
 
@@ -306,8 +305,7 @@ next_is_next network device own rows s changed done adjustment last first bound 
 
 -- ---- an answer of the search
 
-no_rows : (network : Network) (device : DeviceId) (own : Own) (rows : Rows) → IsOwnOf network device own → AreRowsOf network device rows
-    → rows.slots.items ≡ []
+no_rows : (network : Network) (device : DeviceId) (own : Own) (rows : Rows) → IsOwnOf network device own → AreRowsOf network device rows → rows.slots.items ≡ []
     → (row : RowId) (cycle : ℕ) → Leaves network device row cycle → ⊥
 no_rows network device own rows is are none row cycle h =
     let there = (slot_in network device own rows row cycle is are h).there in

@@ -91,8 +91,7 @@ pub few_cycles : (first c : ℕ) → first * c ≤ 2 ^ 62 → 2 ^ 32 ≤ c → f
 few_cycles first c h long = let k : first * 2 ^ 32 ≤ first * c = mul-le-mul_left first long in omega (arith, h, k)
 
 -- a slot's place lies in its range
-pub slot_offset : (network : Network) (device : DeviceId) (slot : Slot) → IsInRange network → IsSlotOf network (SentBy device) slot
-    → slot.place.offset ≤ 2 ^ 40
+pub slot_offset : (network : Network) (device : DeviceId) (slot : Slot) → IsInRange network → IsSlotOf network (SentBy device) slot → slot.place.offset ≤ 2 ^ 40
 slot_offset network device slot range is =
     let in_range = in_range network slot.place.row.0 is.entry range is.is in
     subst (λ (p : Place). p.offset ≤ 2 ^ 40) (sym is.place) (amount_most 0 (2 ^ 40) is.entry.row.offset in_range.row.offset)

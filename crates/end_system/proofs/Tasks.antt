@@ -6,7 +6,8 @@ use Rattle.end_system.proofs.Words.{inr, ints, is_end, mul-le-mul_right, option_
 use Rattle.{end_system.specs.{Agendas.{HasReading, IsFirstDue, IsLeastReading}, Deeds.{IsAhead, IsSooner, Leaves}}, std.proofs.Common.{negsuc, unsigned_abs}}
 use Rattle.run_law.specs.{machines.Nodes.acting, records.Order.IsBefore}
 use Rattle.run_law.specs.machines.Tasks.{HasFrame, IsDueReading, IsFirstTask, IsPending, Task, doing, emitting, offset_of, order_of, reading_for}
-use Rattle.{schedule_tables.specs.Dispatches.dispatch_order, tte_lemmas.proofs.{Bools.not_both, Integers.{never_both, through}, Naturals.{cases_of, none_less}}}
+use Rattle.schedule_tables.specs.Dispatches.{dispatch_order}
+use Rattle.tte_units.proofs.general_lemmas.{Bools.not_both, Integers.{never_both, through}, Naturals.{cases_of, none_less}}
 use Rattle.end_system.specs.declared.agenda.Due.TheVariants as dues
 
 -- ---- what is pending is ahead

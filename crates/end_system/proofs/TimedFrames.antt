@@ -2,7 +2,8 @@
 use Rattle.{device_rules.specs.{Headings.heading_fault, declared.heading.Heading.Heading}, end_system.proofs.Advance.{not_fallen, number_stays}}
 use Rattle.end_system.proofs.Words.{◌+ℤ◌, ◌+◌, ◌<ℤ◌, ◌^◌, ◌∙◌, ◌≡◌, ◌≤ℤ◌, DeviceId, EndSystem, HasTaken, Intake, List, Moment, Network, Node, Standing}
 use Rattle.end_system.proofs.Words.{StandsAsEnd, ap, arith, arriving, called, false, ints, is_off, neg_ℤ, next_point, pos, standpoint_at, sym, true, ℤ}
-use Rattle.{run_law.specs.{device.Standpoints.clock_of, machines.{Calls.IsLaterMoment, Nodes.TakenFrame}}, tte_lemmas.proofs.{Bools.takes_by, Integers.whole}}
+use Rattle.run_law.specs.{device.Standpoints.clock_of, machines.{Calls.IsLaterMoment, Nodes.TakenFrame}}
+use Rattle.tte_units.proofs.general_lemmas.{Bools.takes_by, Integers.whole}
 
 pub local_range : (reading adjustment local : ℤ) → local ≡ (reading +ℤ adjustment) → pos 0 ≤ℤ reading → reading ≤ℤ pos (2 ^ 60 + 2 ^ 51)
     → neg_ℤ (pos (2 ^ 61)) <ℤ adjustment → adjustment <ℤ pos (2 ^ 61) → (neg_ℤ (pos (2 ^ 62)) <ℤ local) × (local <ℤ pos (2 ^ 62))

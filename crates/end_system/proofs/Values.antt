@@ -1,7 +1,8 @@
 -- The values of an agenda.
 use Rattle.end_system.proofs.Words.{◌*◌, ◌+◌, ◌-ℤ◌, ◌<ℤ◌, ◌<◌, ◌^◌, ◌∙◌, ◌≡◌, ◌≤ℤ◌, ◌≤◌, Appointment, DeviceId, IsCorrection, IsOwnOf, Network, None, Own, Some}
 use Rattle.end_system.proofs.Words.{Standing, SyncPlan, Synchronised, Units, [], amount, ap, arith, correcting, from_zero, ints, next_point, pos, true, ℕ, ℤ}
-use Rattle.{net_plan.specs.Ranges.IsWithin, run_law.{proofs.device.States.is_in, specs.device.States.is_synchronised}, tte_lemmas.proofs.Lists.none_in}
+use Rattle.net_plan.specs.Ranges.{IsWithin}
+use Rattle.{run_law.{proofs.device.States.is_in, specs.device.States.is_synchronised}, tte_units.proofs.general_lemmas.Lists.none_in}
 
 amount_least : (low n : ℕ) (z : ℤ) → z ≡ pos n → pos low ≤ℤ z → low ≤ n
 amount_least low n z e h = omega (arith, ints)

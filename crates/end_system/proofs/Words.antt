@@ -7,8 +7,8 @@ pub use Rattle.std.proofs.lemmas.{Bool.{and_parts, cases_Bool, eqb-true, falseâ‰
 pub use Rattle.std.proofs.lemmas.Option.{slice_get_read, slice_get_within}
 pub use Rattle.std.specs.{List.{AllPairs, Contains}, Option.option_map_or, Prelude.{option_and_then, slice_get}}
 pub use Rattle.std.specs.List.Sorted.{IsPartitionedBy}
-pub use Rattle.clock_correction.specs.Deviation.{IsSmall}
-pub use Rattle.membership.specs.Summary.{Summarizes, Summary}
+pub use Rattle.sync_state.specs.correction.Deviation.{IsSmall}
+pub use Rattle.sync_state.specs.membership.Summary.{Summarizes, Summary}
 pub use Rattle.net_plan.proofs.InRange.{amount_most}
 pub use Rattle.net_plan.specs.{Places.link_at, Ranges.IsInRange}
 pub use Rattle.net_plan.specs.declared.{ids.{DeviceId.DeviceId, LinkId.LinkId, RowId.RowId}, network.Network.Network, tables.{Link.Link, Row.Row}}
@@ -24,7 +24,7 @@ pub use Rattle.schedule_tables.specs.Slots.{AreInOrder, IsSlotOf, key_of, number
 pub use Rattle.schedule_tables.specs.declared.{entry.Entry.Entry, slot.{Slot.Slot, Whose.TheVariants.SentBy}}
 pub use Rattle.sync_state.specs.{Standing.{Standing, next_point}, Verdicts.HasVerdict}
 pub use Rattle.sync_state.specs.declared.{plan.SyncPlan.SyncPlan, state.State.TheVariants.Synchronised}
-pub use Rattle.tte_lemmas.proofs.{Integers.from_zero, Lists.in_all}
+pub use Rattle.tte_units.proofs.general_lemmas.{Integers.from_zero, Lists.in_all}
 pub use Rattle.tte_units.specs.Amount.{amount}
 pub use Rattle.tte_units.specs.declared.units.Units.{Units}
 pub use Rattle.device_rules.specs.{Intakes.HasTaken, declared.intake.Intake.Intake}

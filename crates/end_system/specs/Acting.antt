@@ -1,11 +1,11 @@
 -- What an end system does when something is due.
 use Rattle.std.specs.Prelude.{◌+◌, ◌^◌, ◌≤ℤ◌, ◌≤◌, IfSome, Some, pos}
-use Rattle.{clock_correction.specs.Deviation.IsSmall, end_system.specs.{RowSlots.AreSomeRows, declared.agenda.Due.Due}}
-use Rattle.{end_system.specs.{Agendas.IsFirstDue, Standing.StandsAsEnd}, sync_state.specs.Standing.next_point}
-use Rattle.end_system.specs.Owns.{HasOwnRange}
+use Rattle.end_system.specs.{Agendas.IsFirstDue, Owns.HasOwnRange}
+use Rattle.{end_system.specs.{RowSlots.AreSomeRows, Standing.StandsAsEnd}, sync_state.specs.Standing.next_point}
+use Rattle.{end_system.specs.declared.agenda.Due.Due, run_law.specs.machines.{Answers.IsActOf, Nodes.{Node, acting}}}
 use Rattle.{end_system.specs.declared.end_system.EndSystem.EndSystem, net_plan.specs.declared.network.Network.Network}
 use Rattle.{net_plan.specs.declared.ids.DeviceId.DeviceId, run_law.specs.machines.Calls.{MayCall, StandsFor}}
-use Rattle.run_law.specs.{declared.steps.{Act.Act, Moment.Moment}, machines.{Answers.IsActOf, Nodes.{Node, acting}}}
+use Rattle.{run_law.specs.declared.steps.{Act.Act, Moment.Moment}, sync_state.specs.correction.Deviation.IsSmall}
 
 -- it stands as a device that may act at the moment, and this is the first that is due
 abbrev pub MayDo : EndSystem → Moment → Due → Type 0

@@ -1,12 +1,12 @@
 -- How an end system stands as a device.
 use Rattle.std.specs.Prelude.{◌+ℤ◌, ◌+◌, ◌-ℤ◌, ◌^◌, ◌≡◌, ◌≤ℤ◌, ◌≤◌, IfSome, None, false, neg_ℤ, pos, ℕ, ℤ}
-use Rattle.{clock_correction.specs.Deviation.IsSmall, membership.specs.Summary.{Summarizes, Summary}}
-use Rattle.{device_rules.specs.Intakes.HasTaken, run_law.specs.{machines.Nodes.Node, scenario.Devices.plan_of}}
+use Rattle.{device_rules.specs.Intakes.HasTaken, run_law.specs.scenario.Devices.plan_of}
 use Rattle.{end_system.specs.{Agendas.IsAgenda, Owns.IsOwnOf}, sync_state.specs.Plan.expected_at}
-use Rattle.{end_system.specs.RowSlots.{AreRowsOf, IsAtSlot}, net_plan.specs.declared.ids.DeviceId.DeviceId}
+use Rattle.{end_system.specs.RowSlots.{AreRowsOf, IsAtSlot}, sync_state.specs.Standing.{Standing, next_point}}
 use Rattle.{end_system.specs.declared.end_system.EndSystem.EndSystem, net_plan.specs.declared.network.Network.Network}
-use Rattle.{membership.specs.declared.frame.HeardFrame.HeardFrame, run_law.specs.control.Collections.observation_window}
-use Rattle.{run_law.specs.control.Corrections.correction_value, sync_state.specs.Standing.{Standing, next_point}}
+use Rattle.{net_plan.specs.declared.ids.DeviceId.DeviceId, sync_state.specs.correction.Deviation.IsSmall}
+use Rattle.run_law.specs.{control.{Collections.observation_window, Corrections.correction_value}, machines.Nodes.Node}
+use Rattle.sync_state.specs.{declared.membership.frame.HeardFrame.HeardFrame, membership.Summary.{Summarizes, Summary}}
 
 -- the frame was heard within its time, with this adjustment, and at a reading in the range of runs
 pub record IsHeardSo (network : Network) (s : Standing) (frame : HeardFrame) : Type 0 where

@@ -1,10 +1,10 @@
 ghost use Rattle.std.specs.Prelude.{◌*◌, ◌+ℤ◌, ◌+◌, ◌-ℤ◌, ◌<ℤ◌, ◌<◌, ◌^◌, ◌≡◌, ◌≤ℤ◌, ◌≤◌, IfSome, None, [], neg_ℤ, pos};
 ghost use Rattle.std.specs.Prelude.{ℕ};
-ghost use Rattle.{clock_correction.specs.Deviation.IsSmall, run_law.specs.device.States.is_synchronised};
 ghost use Rattle.end_system.specs.Agendas.{IsAgenda, IsAt, IsCorrection, IsDispatch, IsEarlier, IsFirstDue};
 ghost use Rattle.end_system.specs.{Agendas.{IsLeastReading, IsLocal, IsSending}, Owns.{HasOwnRange, IsOwnOf}};
 ghost use Rattle.end_system.specs.{Deeds.IsNextSending, RowSlots.{AreRowsOf, AreSomeRows, IsAtSlot}};
 ghost use Rattle.net_plan.specs.declared.{ids.DeviceId.DeviceId, network.Network.Network};
+ghost use Rattle.{run_law.specs.device.States.is_synchronised, sync_state.specs.correction.Deviation.IsSmall};
 ghost use Rattle.{run_law.specs.machines.Nodes.sending, sync_state.specs.Standing.next_point};
 ghost use Rattle.tte_units.specs.Amount.{amount};
 
@@ -14,7 +14,7 @@ use sync_state::{State, Sync};
 use tte_units::Units;
 
 /// What a device does in a cycle of its own, and the reading at which it does it.
-#[derive(Clone, Copy)]
+#[derive(Clone, Copy, Debug)]
 pub struct Appointment {
     pub cycle: u32,
     pub at: Units,
@@ -29,7 +29,7 @@ pub struct Agenda {
 }
 
 /// The first thing that is due.
-#[derive(Clone, Copy)]
+#[derive(Clone, Copy, Debug)]
 pub enum Due {
     Sending(Appointment),
     Correction(Appointment),

@@ -9,7 +9,7 @@ use sync_state::{State, Verdict};
 use tte_units::Units;
 
 /// A broken device. It hears nothing and does nothing by itself, and keeps the state and the adjustment that it had.
-#[derive(Clone, Copy, Debug, PartialEq, Eq)]
+#[derive(Clone, Copy)]
 pub struct Broken {
     state: State,
     adjustment: Units,

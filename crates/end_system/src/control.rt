@@ -1,20 +1,20 @@
 //! How an end system judges protocol control frames (SAE AS6802).
 
 ghost use Rattle.std.specs.Prelude.{◌&&◌, ◌+ℤ◌, ◌+◌, ◌^◌, ◌≡◌, ◌≤ℤ◌, ◌≤◌, nat_le, neg_ℤ, pos};
-ghost use Rattle.{clock_correction.specs.Deviation.IsSmall, sync_state.specs.declared.state.State.TheVariants.Off};
+ghost use Rattle.sync_state.specs.{correction.Deviation.IsSmall, declared.state.State.TheVariants.Off};
 ghost use Rattle.end_system.specs.{Controls.{arrival_of, frame_arrival_of, heard_by}, Owns.HasOwnRange};
 ghost use Rattle.run_law.specs.control.{Hearing.{heard_by_schedule, is_in_schedule, last_cycle}, Permanence.ripe_as};
 ghost use Rattle.tte_units.specs.Amount.{amount};
 
 use crate::own::Own;
 use device_rules::refused;
-use membership::count;
+use drift_clock::transparent::{arrive, permanence};
 use net_plan::LinkId;
 use pcf_codec::PcfRefusal;
 use pcf_values::{Pcf, PcfKind};
 use run_law::{Arrival, Reason, Ripe};
+use sync_state::membership::count;
 use sync_state::{State, Sync};
-use transparent_clock::{arrive, permanence};
 use tte_units::Units;
 
 /// A frame of a later cycle is not used.

@@ -1,6 +1,6 @@
 ghost use Rattle.std.specs.Prelude.{◌+ℤ◌, ◌+◌, ◌<◌, ◌^◌, ◌≡◌, ◌≤ℤ◌, ◌≤◌, IfOk, IfSome, [], pos};
-ghost use Rattle.net_plan.specs.{Places.IsEndSystem, declared.{ids.{DeviceId.{DeviceId as DeviceIdValue}}}};
-ghost use Rattle.net_plan.specs.{Ranges.{IsInRange, IsWithin}, declared.{network.{Network.{Network as NetworkValue}}}};
+ghost use Rattle.net_plan.specs.{Places.IsEndSystem, declared.ids.DeviceId.{DeviceId as DeviceIdValue}};
+ghost use Rattle.net_plan.specs.{Ranges.{IsInRange, IsWithin}, declared.network.Network.{Network as NetworkValue}};
 ghost use Rattle.run_law.specs.{device.States.is_off, machines.Nodes.begun_node, scenario.Devices.start_of};
 ghost use Rattle.end_system.specs.{Acting.{CanPlan, Does, MayDo}, Standing.StandsAsEnd, declared.agenda.Due.Due};
 ghost use Rattle.end_system.specs.{Agendas.{IsAgenda, IsAgendaAfter}, Arriving.{HearsControl, HearsTimed, MayHearNow}};
@@ -12,13 +12,13 @@ use crate::control::{arrival, heard_as, local_at};
 use crate::own::Own;
 use crate::rows::{Dispatch, Rows};
 use device_rules::{Heading, Intake};
-use membership::{Heard, HeardFrame};
 use net_plan::{DeviceId, LinkId, Network};
 use pcf_codec::{decode, is_pcf};
 use pcf_values::Pcf;
 use run_law::{Act, Arrival, Machine, Moment, Reason, Ripe};
 use schedule_tables::Accepted;
 use std::alloc::Global;
+use sync_state::membership::{Heard, HeardFrame};
 use sync_state::{State, Sync, Verdict};
 use tte_units::Units;
 

@@ -5,10 +5,10 @@ ghost use Rattle.{net_plan.specs.Places.{IsEndSystem, is_master}, run_law.specs.
 ghost use Rattle.run_law.specs.{control.Hearing.is_in_schedule, scenario.Devices.has_role};
 ghost use Rattle.{schedule_tables.specs.Rules.KeepsRules, sync_state.specs.Plan.expected_at};
 
-use membership::one;
 use net_plan::{DeviceId, LinkId, Network, Role};
 use pcf_values::{Channel, Members, Pcf, PcfKind};
 use sync_state::SyncPlan;
+use sync_state::membership::one;
 use tte_units::Units;
 
 /// A link from the device to a switch.

@@ -1,12 +1,11 @@
 ghost use Rattle.std.specs.Prelude.{◌%◌, ◌*◌, ◌++◌, ◌+◌, ◌-ℤ◌, ◌<ℤ◌, ◌<◌, ◌^◌, ◌∷◌, ◌≡◌, ◌≤ℤ◌, ◌≤◌, IfOk, IfSome, List};
 ghost use Rattle.std.specs.Prelude.{OnOk, Some, [], length, pos, ℕ, ℤ};
-ghost use Rattle.{clock_correction.specs.Deviation.IsSmall, run_law.specs.machines.Nodes.{ClockTask, dispatching}};
 ghost use Rattle.end_system.specs.{Agendas.{IsDispatch, IsLocal}, Owns.{HasOwnRange, IsOwnOf}};
 ghost use Rattle.end_system.specs.RowSlots.{AreRowsOf, AreSomeRows, IsAtSlot, IsFirstFrom};
-ghost use Rattle.net_plan.specs.{Ranges.IsInRange, declared.{network.{Network.{Network as NetworkValue}}}};
-ghost use Rattle.net_plan.specs.declared.ids.DeviceId.{DeviceId as DeviceIdValue};
-ghost use Rattle.sync_state.specs.{Standing.Standing, declared.state.State.TheVariants.Synchronised};
-ghost use Rattle.tte_units.specs.Amount.{amount};
+ghost use Rattle.net_plan.specs.{Ranges.IsInRange, declared.network.Network.{Network as NetworkValue}};
+ghost use Rattle.{net_plan.specs.declared.ids.DeviceId.{DeviceId as DeviceIdValue}, sync_state.specs.Standing.Standing};
+ghost use Rattle.{run_law.specs.machines.Nodes.{ClockTask, dispatching}, tte_units.specs.Amount.amount};
+ghost use Rattle.sync_state.specs.{correction.Deviation.IsSmall, declared.state.State.TheVariants.Synchronised};
 
 use crate::OutOfMemory;
 use crate::agenda::reading_at;
@@ -25,7 +24,7 @@ pub struct Rows {
 }
 
 /// A dispatch to come.
-#[derive(Clone, Copy)]
+#[derive(Clone, Copy, Debug)]
 pub struct Dispatch {
     pub slot: Slot,
     pub cycle: u32,

@@ -1,7 +1,7 @@
 -- What a watch keeps stands so behind one more event.
-use Rattle.{fault_hypothesis.{proofs.Befalling.{any_last, any_left}, specs.Watching.AreOfNetwork}, run_law.specs.scenario.Hypothesis.IsWithinHypothesis}
-use Rattle.{net_plan.proofs.SameIds.same_device, std.specs.Prelude.{slice_get, slice_set}, tte_lemmas.proofs.Lists.{any_none, any_parts}}
-use Rattle.net_plan.specs.{Belonging.{HasDevice, IsOfNetwork}, declared.{event.Event.Event, ids.DeviceId.DeviceId, network.Network.Network}}
+use Rattle.{fault_hypothesis.{proofs.Befalling.{any_last, any_left}, specs.Watching.AreOfNetwork}, tte_units.proofs.general_lemmas.Lists.{any_none, any_parts}}
+use Rattle.{net_plan.{proofs.SameIds.same_device, specs.declared.{event.Event.Event, ids.DeviceId.DeviceId}}, std.specs.Prelude.{slice_get, slice_set}}
+use Rattle.{net_plan.specs.{Belonging.{HasDevice, IsOfNetwork}, declared.network.Network.Network}, run_law.specs.scenario.Hypothesis.IsWithinHypothesis}
 use Rattle.{run_law.specs.declared.outside.Outside.TheVariants.SecondBreak, std.proofs.lemmas.{Bool.cases_order, List.{get_or-replicate, length-replicate}}}
 use Rattle.{run_law.specs.scenario.Faults.{Breaks, IsBroken, IsTurnedOn, TurnsOn}, std.proofs.lemmas.Option.{get_or_from_slice_get, slice_get_within}}
 use Rattle.std.proofs.Common.{◌++◌, ◌<◌, ◌↔◌, ◌∙◌, ◌∷◌, ◌≡◌, ◌≤◌, Bool, List, Option, Some, [], ap, arith, false, inl, inr, length, refl, suc, sym, true, zero}

@@ -5,3 +5,4 @@ pub mod SoundMasters
 pub mod Cuts
 pub mod Keeping
 pub mod Ordering
+pub mod storm_lemmas

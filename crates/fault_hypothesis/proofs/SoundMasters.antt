@@ -1,10 +1,10 @@
 -- How many masters are left behind a break.
 use Rattle.{fault_hypothesis.specs.SoundMasters.is_sound_beside, std.proofs.lemmas.List.Folds.{Any-from_list_any, list_any-append, list_any-from_Any}}
-use Rattle.{net_plan.specs.{Places.is_master, declared.event.What.What}, run_law.specs.scenario.Faults.IsBroken, std.proofs.lemmas.List.Sums.sum_by-cons}
-use Rattle.{net_plan.specs.declared.{event.Event.Event, ids.DeviceId.DeviceId, network.Network.Network}, std.specs.Prelude.{◌&&◌, ◌==◌, ◌||◌, is_some, not}}
+use Rattle.{net_plan.specs.Places.is_master, std.specs.Option.option_map_or}
+use Rattle.{net_plan.specs.declared.{event.{Event.Event, What.What}, ids.DeviceId.DeviceId, network.Network.Network}, run_law.specs.scenario.Faults.IsBroken}
 use Rattle.{run_law.specs.scenario.Hypothesis.{breaks_at, is_sound_master, sound_masters}, std.specs.List.{count_by, enumerate_from, list_any}}
 use Rattle.std.proofs.Common.{◌++◌, ◌+◌, ◌↔◌, ◌∙◌, ◌∷◌, ◌≡◌, Bool, List, None, Option, Some, [], ap, cond, false, refl, sym, true, ℕ}
-use Rattle.{std.specs.Option.option_map_or, tte_lemmas.proofs.Bools.same_tests}
+use Rattle.{std.{proofs.lemmas.List.Sums.sum_by-cons, specs.Prelude.{◌&&◌, ◌==◌, ◌||◌, is_some, not}}, tte_units.proofs.general_lemmas.Bools.same_tests}
 use Rattle.net_plan.specs.declared.event.What.TheVariants as events
 
 -- what breaks the device at a place is a break of it

@@ -1,6 +1,6 @@
 -- What stands at a place of a list.
-use Rattle.net_plan.specs.{Places.link_at, Ranges.{IsInRange, IsLinkInRange}, declared.{ids.LinkId.LinkId, network.Network.Network, tables.Link.Link}}
-use Rattle.{std.{proofs.Common.{◌≡◌, None, Option, Some}, specs.Prelude.IsSomeAnd}, tte_lemmas.proofs.Lists.in_all}
+use Rattle.{net_plan.specs.{Places.link_at, Ranges.{IsInRange, IsLinkInRange}, declared.network.Network.Network}, tte_units.proofs.general_lemmas.Lists.in_all}
+use Rattle.{net_plan.specs.declared.{ids.LinkId.LinkId, tables.Link.Link}, std.{proofs.Common.{◌≡◌, None, Option, Some}, specs.Prelude.IsSomeAnd}}
 
 -- each link of a network in range is in range
 pub link_in_range : (network : Network) (link : LinkId) (found : Link) → IsInRange network → link_at network link ≡ Some found → IsLinkInRange network found

@@ -1,3 +1,4 @@
 pub mod SoundMasters
 pub mod Watching
 pub mod Own
+pub mod storm

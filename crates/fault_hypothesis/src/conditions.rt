@@ -1,13 +1,12 @@
 ghost use Rattle.std.specs.{List.{count_by, enumerate_from}, Prelude.{[], pos}};
 ghost use Rattle.std.specs.Prelude.{◌*◌, ◌++◌, ◌+ℤ◌, ◌<ℤ◌, ◌^◌, ◌↔◌, ◌∷◌, ◌≡◌, ◌≢◌, ◌⊎◌, IsSomeAnd, IsTrue, List, Some};
-ghost use Rattle.net_plan.specs.{Belonging.{HasDevice, IsOfNetwork}, Places.is_master};
-ghost use Rattle.net_plan.specs.{Ranges.{IsInRange, IsLinkInRange}, declared.event.Event.Event as EventValue};
-ghost use Rattle.net_plan.specs.declared.network.Network.{Network as NetworkValue};
-ghost use Rattle.run_law.specs.scenario.Faults.{IsBroken, IsTurnedOn};
+ghost use Rattle.fault_hypothesis.specs.{SoundMasters.is_sound_beside, Watching.Watches};
+ghost use Rattle.net_plan.specs.{Belonging.{HasDevice, IsOfNetwork}, Ranges.{IsInRange, IsLinkInRange}};
+ghost use Rattle.{net_plan.specs.Places.is_master, run_law.specs.scenario.Faults.{IsBroken, IsTurnedOn}};
+ghost use Rattle.net_plan.specs.declared.{event.Event.{Event as EventValue}, network.Network.{Network as NetworkValue}};
 ghost use Rattle.run_law.specs.scenario.Hypothesis.{BreaksNoMaster, BreaksSecond, ComesTooEarly, ComesTooLate};
 ghost use Rattle.run_law.specs.scenario.Hypothesis.{CutsOtherChannel, LeavesTooFew, SendsUnbroken, SetsFastRate};
 ghost use Rattle.run_law.specs.scenario.Hypothesis.{SetsLongHold, SetsOtherWire, TurnsOnAgain, Violates};
-ghost use Rattle.fault_hypothesis.specs.{SoundMasters.is_sound_beside, Watching.Watches};
 
 use crate::places::{begins_on, channel_of, device_at, link_at};
 use crate::{Outside, Watch};

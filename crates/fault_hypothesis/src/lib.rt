@@ -4,6 +4,7 @@
 
 mod conditions;
 mod places;
+pub mod storm;
 mod watch;
 
 pub use run_law::Outside;

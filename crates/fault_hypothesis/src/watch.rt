@@ -32,7 +32,7 @@ const CONDITIONS: [Outside; 11] = [
 
 /// A watch over a network. It judges events by the fault hypothesis, given those that it admitted,
 /// of which it keeps only what the conditions ask for.
-#[derive(Debug, Drop)]
+#[derive(Drop)]
 pub struct Watch<'a> {
     pub(crate) accepted: &'a Accepted,
     // The time of the last event.

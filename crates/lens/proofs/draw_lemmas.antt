@@ -1,4 +1,3 @@
-pub mod svg_lemmas
 pub mod Parts
 pub mod Marking
 pub mod Titles

@@ -1,4 +1,3 @@
-pub mod svg
 pub mod Putting
 pub mod Signs
 pub mod Picture

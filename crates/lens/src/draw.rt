@@ -6,7 +6,6 @@ mod marks;
 pub mod overview;
 mod putting;
 mod signs;
-pub mod svg;
 mod windows;
 
 pub use drawing::draw_report;

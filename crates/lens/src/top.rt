@@ -1,17 +1,17 @@
 ghost use Rattle.std.specs.Prelude.{◌≡◌};
-ghost use Rattle.lens.specs.slack.forms.Forms.{form_of};
+ghost use Rattle.lens_slack.specs.forms.Forms.{form_of};
 ghost use Rattle.tte_forms.specs.{Answering.Gives, Faults.{HasCause, IsWanted, PutFailed, ReadFailed}, Putting.Over};
 ghost use Rattle.lens.specs.Top.{AnswerIsOne, AnswersWords, FailsToRead, LeavesSecond, usage_answer};
 
 use crate::draw::draw_report;
 use crate::draw::overview::draw_whole;
-use crate::draw::svg::Span;
 use crate::events::storm_events;
-use crate::flows::flows;
-use crate::slack::forms::{Form, read_form};
-use crate::slack::least::least_of_network;
-use crate::slack::{slack_of_network, slack_of_rule};
-use crate::why::why_record;
+use lens_flows::flows;
+use lens_slack::forms::{Form, read_form};
+use lens_slack::least::least_of_network;
+use lens_slack::{slack_of_network, slack_of_rule};
+use lens_svg::Span;
+use lens_why::why_record;
 use schedule_checker::refusal_is_one;
 use std::alloc::Global;
 use tte_forms::{Status, Words, put_last};

@@ -2,7 +2,7 @@
 use Rattle.{net_file.specs.Numbering.{MeansFirstBearer, first_of}, std.specs.{List.position_from, Prelude.{MatchOption, bytes_eq, is_some, slice_get}}}
 use Rattle.{net_plan.specs.Bearers.{HasNoBearer, IsFirstBearer}, std.{proofs.lemmas.Bool.false≢true, specs.Cmp.Lexicographic.bytes_decides}}
 use Rattle.std.proofs.Common.{◌+◌, ◌<◌, ◌∙◌, ◌∷◌, ◌≡◌, ◌≢◌, Bool, List, None, Option, Some, [], ap, arith, cond, false, refl, subst, suc, sym, true, zero, ℕ}
-use Rattle.tte_lemmas.proofs.Lists.{same_name}
+use Rattle.tte_units.proofs.general_lemmas.Lists.{same_name}
 
 -- the answer of a search that begins its count at s
 abbrev Finds : ℕ → List (List ℕ) → List ℕ → Option ℕ → Type 0

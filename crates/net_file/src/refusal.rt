@@ -2,7 +2,7 @@ use crate::{Spot, TableName};
 use thiserror::Error;
 
 /// Why a text has no reading as a network.
-#[derive(Clone, Copy, Debug, PartialEq, Eq, Hash, Error)]
+#[derive(Clone, Copy, Debug, PartialEq, Eq, Error)]
 pub enum FileRefusal {
     /// The text is no TOML document.
     #[error("the text is no TOML document")]

@@ -1,7 +1,7 @@
 use crate::KeyName;
 
 /// A kind of table in a network file.
-#[derive(Clone, Copy, Debug, PartialEq, Eq, Hash)]
+#[derive(Clone, Copy, Debug, PartialEq, Eq)]
 pub enum TableName {
     /// The whole document.
     Top,
@@ -14,7 +14,7 @@ pub enum TableName {
 }
 
 /// A table of a network file.
-#[derive(Clone, Copy, Debug, PartialEq, Eq, Hash)]
+#[derive(Clone, Copy, PartialEq, Eq)]
 pub(crate) struct Place {
     pub(crate) table: TableName,
     /// Its place in its array, from 0. It is 0 for the whole document.
@@ -22,7 +22,7 @@ pub(crate) struct Place {
 }
 
 /// A key of a table of a network file.
-#[derive(Clone, Copy, Debug, PartialEq, Eq, Hash)]
+#[derive(Clone, Copy, Debug, PartialEq, Eq)]
 pub struct Spot {
     pub table: TableName,
     /// The table's place in its array, from 0. It is 0 for the whole document.

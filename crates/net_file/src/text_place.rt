@@ -6,7 +6,7 @@ use crate::FileRefusal;
 use std::alloc::Global;
 
 /// Where in a text something stands.
-#[derive(Clone, Copy, Debug, PartialEq, Eq)]
+#[derive(Clone, Copy, PartialEq, Eq)]
 pub struct TextPlace {
     /// The line, from 1. A line ends with LF.
     pub line: u32,

@@ -1,8 +1,9 @@
 -- The greatest of some numbers, of two kinds together and over the paths of a channel.
-use Rattle.{net_plan.{proofs.Trees.paths_are_unique, specs.Paths.{IsPath, IsTree}}, std.proofs.lemmas.Option.slice_get_within, tte_lemmas.proofs.Options.opened}
+use Rattle.{net_plan.proofs.Trees.paths_are_unique, std.proofs.lemmas.{Bool.cases_lt, Option.slice_get_within}, tte_units.proofs.general_lemmas.Options.opened}
 use Rattle.net_plan.specs.{Bounds.{IsGreatest, IsOfPath, IsOfPathFrom, IsOfPathOn}, Places.{IsDeviceOf, device_at, is_end_system}, declared.ids.LinkId.LinkId}
+use Rattle.net_plan.specs.Paths.{IsPath, IsTree}
 use Rattle.{net_plan.specs.declared.{ids.DeviceId.DeviceId, network.Network.Network}, pcf_values.specs.declared.channel.Channel.{Channel, TheVariants.{A, B}}}
-use Rattle.std.proofs.{Common.{◌+◌, ◌<◌, ◌∙◌, ◌≡◌, ◌≤◌, ◌⊎◌, List, ap, arith, inl, inr, length, max, refl, subst, sym, ℕ, ⊎_elim}, lemmas.Bool.cases_lt}
+use Rattle.std.proofs.Common.{◌+◌, ◌<◌, ◌∙◌, ◌≡◌, ◌≤◌, ◌⊎◌, List, ap, arith, inl, inr, length, max, refl, subst, sym, ℕ, ⊎_elim}
 
 -- no two numbers are the greatest
 pub greatest_is_unique : (Has : ℕ → Type 0) (m n : ℕ) → IsGreatest Has m → IsGreatest Has n → m ≡ n

@@ -1,6 +1,6 @@
 -- What is within its range.
 use Rattle.{net_plan.specs.Ranges.IsWithin, std.proofs.lemmas.Int.ints, tte_units.specs.Amount.amount}
-use Rattle.{std.proofs.Common.{◌≡◌, ◌≤ℤ◌, ◌≤◌, arith, pos, ℕ, ℤ}, tte_lemmas.proofs.Integers.from_zero, tte_units.specs.declared.units.Units.Units}
+use Rattle.{std.proofs.Common.{◌≡◌, ◌≤ℤ◌, ◌≤◌, arith, pos, ℕ, ℤ}, tte_units.{proofs.general_lemmas.Integers.from_zero, specs.declared.units.Units.Units}}
 
 number_most : (high n : ℕ) (z : ℤ) → z ≡ pos n → z ≤ℤ pos high → n ≤ high
 number_most high n z e h = omega (arith, ints)

@@ -5,7 +5,6 @@ pub mod Trees
 pub mod Greatest
 pub mod Shape
 pub mod Beta
-pub mod Chain
 pub mod Found
 pub mod SameIds
 pub mod TableFacts

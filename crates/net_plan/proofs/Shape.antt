@@ -3,7 +3,7 @@ use Rattle.net_plan.specs.{Paths.{HasPath, IsFirstPath, IsPath, IsUplink, LeadsT
 use Rattle.net_plan.specs.{Places.{IsCmOf, IsEndSystem, IsRoleOf, IsSwitchOf, is_end_system, link_at}, Rules.{IsChildOf, KeepsShapeRules, RulesGiveTrees}}
 use Rattle.{net_plan.specs.declared.{ids.{DeviceId.DeviceId, LinkId.LinkId}, tables.Device.Device}, pcf_values.specs.declared.channel.Channel.Channel}
 use Rattle.{net_plan.specs.declared.tables.{Link.Link, Role.Role}, std.proofs.lemmas.Bool.false≢true}
-use Rattle.{std.proofs.Common.{◌∙◌, ◌∷◌, ◌≡◌, List, [], arith, subst, sym, true, ⊎_elim}, tte_lemmas.proofs.Options.{at_known, closed, opened}}
+use Rattle.{std.proofs.Common.{◌∙◌, ◌∷◌, ◌≡◌, List, [], arith, subst, sym, true, ⊎_elim}, tte_units.proofs.general_lemmas.Options.{at_known, closed, opened}}
 
 -- a compression master is no end system and no relay
 cm_is_no_end : (r : Role) → r ≡ Cm → is_end_system r ≡ true → ⊥

@@ -1,7 +1,7 @@
 -- Paths in the trees of a network.
-use Rattle.{net_plan.specs.Paths.{IsPath, IsTree, IsUplink, PathsAreUnique}, std.proofs.Common.{◌∙◌, ◌∷◌, ◌≡◌, List, Some, [], ap, arith, refl, sym}}
-use Rattle.net_plan.specs.{Places.{IsSwitchOf, link_at}, declared.{ids.{DeviceId.DeviceId, LinkId.LinkId}, network.Network.Network, tables.Link.Link}}
-use Rattle.{pcf_values.specs.declared.channel.Channel.Channel, tte_lemmas.proofs.Options.{at_known, closed, opened}}
+use Rattle.{net_plan.specs.{Paths.{IsPath, IsTree, IsUplink, PathsAreUnique}, Places.{IsSwitchOf, link_at}}, pcf_values.specs.declared.channel.Channel.Channel}
+use Rattle.net_plan.specs.declared.{ids.{DeviceId.DeviceId, LinkId.LinkId}, network.Network.Network, tables.Link.Link}
+use Rattle.{std.proofs.Common.{◌∙◌, ◌∷◌, ◌≡◌, List, Some, [], ap, arith, refl, sym}, tte_units.proofs.general_lemmas.Options.{at_known, closed, opened}}
 
 -- the first link of a path is an uplink
 pub uplink_of_path : (n : Network) (c : Channel) (d : DeviceId) (link : LinkId) (links : List LinkId) → IsPath n c d (link ∷ links) → IsUplink n c d link

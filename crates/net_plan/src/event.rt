@@ -2,7 +2,7 @@ use crate::{DeviceId, LinkId, Octets, Way};
 use tte_units::{Ppb, Units};
 
 /// Something that befalls the network.
-#[derive(Clone, Debug, PartialEq, Eq, Drop)]
+#[derive(PartialEq, Eq, Drop)]
 pub struct Event {
     /// World time in units of 2^-16 ns.
     pub time: Units,
@@ -10,7 +10,7 @@ pub struct Event {
 }
 
 /// What befalls it.
-#[derive(Clone, Debug, PartialEq, Eq, Drop)]
+#[derive(PartialEq, Eq, Drop)]
 pub enum What {
     /// From now on the device's clock has this rate.
     Rate(DeviceId, Ppb),

@@ -10,7 +10,7 @@ use tte_units::{Units, slip};
 const ROUNDINGS: u64 = 8;
 
 /// The greatest jitter and the greatest length of some paths.
-#[derive(Clone, Copy, Debug, PartialEq, Eq)]
+#[derive(Clone, Copy, PartialEq, Eq)]
 struct Extent {
     jitter: u64,
     links: u64,

@@ -6,7 +6,7 @@ use std::marker::Model;
 const ROOM: usize = 16;
 
 /// The name of a device, a link or a virtual link: at most 16 octets, kept in place.
-#[derive(Clone, Copy, Debug, PartialEq, Eq, Hash)]
+#[derive(Clone, Copy, PartialEq, Eq)]
 pub struct Name {
     octets: [u8; ROOM],
     len: u8,

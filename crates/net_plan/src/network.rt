@@ -3,7 +3,7 @@ use pcf_values::Mac;
 use tte_units::Units;
 
 /// A network as its designer writes it. Times are in units of 2^-16 ns.
-#[derive(Debug, Drop)]
+#[derive(Drop)]
 pub struct Network {
     /// The version of the file, 1 or 2.
     pub version: u32,

@@ -5,7 +5,7 @@ use std::marker::Model;
 const ROOM: usize = 1514;
 
 /// The octets of a frame without its check sequence, 60 to 1,514 of them, kept in place.
-#[derive(Clone, Debug, PartialEq, Eq, Drop)]
+#[derive(Clone, PartialEq, Eq, Drop)]
 pub struct Octets {
     octets: [u8; ROOM],
     len: u16,

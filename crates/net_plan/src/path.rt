@@ -13,7 +13,7 @@ use std::marker::Model;
 const MOST_LINKS: usize = 8;
 
 /// The links from a device to the compression master of a channel, at most eight, kept in place.
-#[derive(Debug, Drop)]
+#[derive(Drop)]
 pub struct Path {
     links: ArrayVec<LinkId, MOST_LINKS>,
 }

@@ -7,7 +7,7 @@ use std::marker::Model;
 use tte_units::{Speed, Units};
 
 /// One of the two ways of a link.
-#[derive(Clone, Copy, Debug, PartialEq, Eq, Hash, PartialOrd, Ord)]
+#[derive(Clone, Copy, PartialEq, Eq, PartialOrd, Ord)]
 pub enum Way {
     /// From the child to the parent, towards the compression master.
     Up,
@@ -16,7 +16,7 @@ pub enum Way {
 }
 
 /// What a device is (SAE AS6802).
-#[derive(Clone, Copy, Debug, PartialEq, Eq, Hash)]
+#[derive(Clone, Copy, PartialEq, Eq)]
 pub enum Role {
     /// An end system that is a synchronisation master.
     Master,
@@ -29,7 +29,7 @@ pub enum Role {
 }
 
 /// A device of the network.
-#[derive(Clone, Copy, Debug, PartialEq, Eq)]
+#[derive(Clone, Copy, PartialEq, Eq)]
 pub struct Device {
     pub name: Name,
     pub role: Role,
@@ -55,7 +55,7 @@ impl Role {
 }
 
 /// A link between two devices, the parent nearer to the compression master.
-#[derive(Clone, Copy, Debug, PartialEq, Eq)]
+#[derive(Clone, Copy, PartialEq, Eq)]
 pub struct Link {
     pub name: Name,
     pub child: DeviceId,
@@ -70,7 +70,7 @@ pub struct Link {
 }
 
 /// A virtual link: a stream of time-triggered frames from one sender.
-#[derive(Clone, Copy, Debug, PartialEq, Eq)]
+#[derive(Clone, Copy, PartialEq, Eq)]
 pub struct VirtualLink {
     pub name: Name,
     pub id: u16,
@@ -86,7 +86,7 @@ pub struct VirtualLink {
 }
 
 /// A row of the schedule: a virtual link's frame goes by this way of this link at this offset.
-#[derive(Clone, Copy, Debug, PartialEq, Eq)]
+#[derive(Clone, Copy, PartialEq, Eq)]
 pub struct Row {
     pub vl: VlId,
     pub link: LinkId,
@@ -96,7 +96,7 @@ pub struct Row {
 }
 
 /// The devices of a network. A `DeviceId` is a place in this list.
-#[derive(Debug, Drop)]
+#[derive(Drop)]
 pub struct Devices(pub Vec<Device>);
 
 impl Model for Devices {
@@ -118,7 +118,7 @@ impl Devices {
 }
 
 /// The links of a network. A `LinkId` is a place in this list.
-#[derive(Debug, Drop)]
+#[derive(Drop)]
 pub struct Links(pub Vec<Link>);
 
 impl Model for Links {
@@ -140,7 +140,7 @@ impl Links {
 }
 
 /// The virtual links of a network. A `VlId` is a place in this list.
-#[derive(Debug, Drop)]
+#[derive(Drop)]
 pub struct VirtualLinks(pub Vec<VirtualLink>);
 
 impl Model for VirtualLinks {
@@ -162,7 +162,7 @@ impl VirtualLinks {
 }
 
 /// The rows of a network. A `RowId` is a place in this list.
-#[derive(Debug, Drop)]
+#[derive(Drop)]
 pub struct Rows(pub Vec<Row>);
 
 impl Model for Rows {

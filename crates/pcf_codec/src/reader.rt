@@ -11,13 +11,13 @@ use std::marker::Model;
 /// Contracts see where it stands: at the octets of an unfinished frame, at a whole frame that waits
 /// to be taken, or at a refusal. `Reads` ties that to the stream so far and to the frames given so
 /// far: for every cutting they are the frames of the longest front that spells a sequence.
-#[derive(Debug, Drop)]
+#[derive(Drop)]
 pub struct PcfReader {
     octets: [u8; PCF_LENGTH],
     progress: Progress,
 }
 
-#[derive(Clone, Copy, Debug)]
+#[derive(Clone, Copy)]
 enum Progress {
     // So many octets of an unfinished frame are there.
     Filling(usize),

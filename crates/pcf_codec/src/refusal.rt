@@ -1,7 +1,7 @@
 use thiserror::Error;
 
 /// Why octets are no protocol control frame.
-#[derive(Clone, Copy, Debug, PartialEq, Eq, Hash, Error)]
+#[derive(Clone, Copy, Debug, PartialEq, Eq, Error)]
 pub enum PcfRefusal {
     /// There are not 60 octets, but so many.
     #[error("{0} octets are no protocol control frame, which has 60")]
@@ -18,7 +18,7 @@ pub enum PcfRefusal {
 }
 
 /// Why octets are no time-triggered frame.
-#[derive(Clone, Copy, Debug, PartialEq, Eq, Hash, Error)]
+#[derive(Clone, Copy, Debug, PartialEq, Eq, Error)]
 pub enum TtRefusal {
     /// There are not 60 to 1,514 octets, but so many.
     #[error("{0} octets are no time-triggered frame, which has 60 to 1,514")]

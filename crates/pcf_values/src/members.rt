@@ -1,3 +1,3 @@
 /// A set of synchronisation masters: bit i stands for the master with member number i.
-#[derive(Clone, Copy, Debug, PartialEq, Eq, Hash)]
+#[derive(Clone, Copy, PartialEq, Eq)]
 pub struct Members(pub u32);

@@ -1,7 +1,7 @@
 use crate::{Mac, Members};
 
 /// The type of a protocol control frame (SAE AS6802).
-#[derive(Clone, Copy, Debug, PartialEq, Eq, Hash)]
+#[derive(Clone, Copy, PartialEq, Eq)]
 pub enum PcfKind {
     /// IN: it carries the common time while the network is synchronised.
     Integration,
@@ -12,7 +12,7 @@ pub enum PcfKind {
 }
 
 /// A protocol control frame (SAE AS6802): the value that its 60 octets spell.
-#[derive(Clone, Copy, Debug, PartialEq, Eq, Hash)]
+#[derive(Clone, Copy, PartialEq, Eq)]
 pub struct Pcf {
     pub destination: Mac,
     pub source: Mac,

@@ -1,7 +1,7 @@
 use crate::Mac;
 
 /// The head of a time-triggered frame, with the frame's length.
-#[derive(Clone, Copy, Debug, PartialEq, Eq, Hash)]
+#[derive(Clone, Copy, PartialEq, Eq)]
 pub struct TtHead {
     /// The critical-traffic marker.
     pub marker: u32,

@@ -1,8 +1,8 @@
 -- Plain facts of choices, lists, roles and states that several files use.
-use Rattle.precision_law.proofs.words.{Laws.has_time, Plans.{Device, Master, Role, State, Synchronised, is_end_system}, Runs.{rank, time_of}}
+use Rattle.precision_law.proofs.words.{Laws.has_time, Runs.{rank, time_of}, Std.{option_and_then, option_map_or, refl, subst, true, ℕ}}
+use Rattle.{precision_law.proofs.words.Plans.{Device, Master, Role, State, Synchronised, is_end_system}, tte_units.proofs.general_lemmas.Options.passed}
 use Rattle.precision_law.proofs.words.Runs.{Happening, IsBefore, IsIn, any_first, any_later, any_of_none, any_parts, is_cm_role, is_synchronised, place_of}
 use Rattle.precision_law.proofs.words.Std.{◌<◌, ◌∷◌, ◌≡◌, ◌≤◌, Any, Bool, List, None, Option, Some, [], arith, cases_lt, false, if◌then◌else◌, inl, inr}
-use Rattle.{precision_law.proofs.words.Std.{option_and_then, option_map_or, refl, subst, true, ℕ}, tte_lemmas.proofs.Options.passed}
 
 -- ---- choices
 

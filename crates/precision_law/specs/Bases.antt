@@ -1,6 +1,6 @@
 -- The compressed frames that compression masters send, their bases, and who hears them.
 use Rattle.std.specs.Prelude.{◌+ℤ◌, ◌+◌, ◌-ℤ◌, ◌≡◌, ◌≤ℤ◌, ◌⊎◌, Some, pos, ℕ, ℤ}
-use Rattle.membership.specs.Members.{IsMember}
+use Rattle.sync_state.specs.membership.Members.{IsMember}
 use Rattle.net_plan.specs.declared.{ids.{DeviceId.DeviceId, LinkId.LinkId}, tables.Way.TheVariants.Down}
 use Rattle.pcf_values.specs.declared.{channel.Channel.Channel, members.Members.Members}
 use Rattle.run_law.specs.{declared.judgement.Judgement.Judgement, records.Causes.GoesBackTo}

@@ -1,18 +1,18 @@
 -- What happens in the block of a cycle.
 use Rattle.std.specs.Prelude.{◌*◌, ◌++◌, ◌+ℤ◌, ◌+◌, ◌-ℤ◌, ◌<ℤ◌, ◌≡◌, ◌≤ℤ◌, ◌≤◌, ◌⊎◌, List, Some, false, pos, suc, true}
 use Rattle.std.specs.Prelude.{ℕ, ℤ}
-use Rattle.{membership.specs.Members.count_of, run_law.specs.{device.LocalClocks.Reaches, records.Ranks.members_in}}
-use Rattle.{net_plan.specs.declared.ids.DeviceId.DeviceId, precision_law.specs.Standings.IsNearHull}
+use Rattle.{net_plan.specs.declared.ids.DeviceId.DeviceId, tte_units.specs.declared.units.Units.Units}
 use Rattle.precision_law.specs.{Anchors.{IsAnchored, IsAnchoredIn}, Hulls.{last_correction, last_dispatch}}
 use Rattle.precision_law.specs.Blocks.{HasTimeAt, IsInBlock, IsNewAt, IsOldAt, Stands, adjustment_left}
 use Rattle.precision_law.specs.Hulls.{Hull, IsInHull, IsNarrow, IsOverBefore, first_correction, hull_of}
 use Rattle.precision_law.specs.{Masters.IsFirstMaster, Views.{IsDispatch, IsFirm, IsGood, IsGoodEnd, IsView, View}}
+use Rattle.{precision_law.specs.Standings.IsNearHull, run_law.specs.records.Happenings.{Happening, earlier, time_of}}
 use Rattle.run_law.specs.control.Corrections.{ComesToCorrection, correction_value, integration_cycle, next_cycle}
-use Rattle.run_law.specs.{declared.judgement.Why.Why, records.{Happenings.{Happening, earlier, time_of}, Order.IsIn}}
+use Rattle.run_law.specs.{declared.judgement.Why.Why, device.LocalClocks.Reaches, records.Ranks.members_in}
 use Rattle.run_law.specs.{device.States.{adjustment_with, cycle_in, is_joined_by}, scenario.Scenarios.is_turned_on_at}
-use Rattle.run_law.specs.law.Safety.{AreClose}
+use Rattle.run_law.specs.{law.Safety.AreClose, records.Order.IsIn}
 use Rattle.sync_state.specs.declared.answers.Verdict.{TheVariants.{Cleared, Corrected}, Verdict}
-use Rattle.{sync_state.specs.declared.state.State.TheVariants.Integrating, tte_units.specs.declared.units.Units.Units}
+use Rattle.sync_state.specs.{declared.state.State.TheVariants.Integrating, membership.Members.count_of}
 use Rattle.run_law.specs.declared.note.NoteBody.TheVariants as notes
 
 -- ---- the records of a block

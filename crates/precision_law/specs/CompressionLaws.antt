@@ -1,6 +1,7 @@
 -- What compression masters send, and when it is heard.
 use Rattle.std.specs.Prelude.{◌+◌, ◌<ℤ◌, ◌<◌, ◌≡◌, ◌≤ℤ◌, ◌≤◌, ◌⊎◌, Some, pos, suc, ℕ, ℤ}
-use Rattle.{membership.specs.Members.count_of, run_law.specs.{device.States.cycle_in, records.Order.IsIn}}
+use Rattle.sync_state.specs.membership.Members.{count_of}
+use Rattle.run_law.specs.{device.States.cycle_in, records.Order.IsIn}
 use Rattle.{net_plan.specs.declared.ids.{DeviceId.DeviceId, LinkId.LinkId}, tte_units.specs.declared.units.Units.Units}
 use Rattle.pcf_values.specs.declared.{channel.Channel.Channel, members.Members.Members}
 use Rattle.precision_law.specs.Bases.{AreBad, AreGood, HasGood, IsBaseIn, IsEmission, IsHeard, base_of}

@@ -1,10 +1,10 @@
 -- What a device that joins comes to by its first correction.
 use Rattle.std.specs.Prelude.{◌++◌, ◌+◌, ◌-ℤ◌, ◌∷◌, ◌≡◌, ◌≤◌, List, ℕ}
-use Rattle.{membership.specs.Summary.{Summarizes, Summary}, tte_units.specs.declared.units.Units.Units}
-use Rattle.{net_plan.specs.declared.ids.DeviceId.DeviceId, schedule_tables.specs.Margins.dispatch_spread}
-use Rattle.{precision_law.specs.Dispatches.IsDispatchOf, run_law.specs.law.Safety.{AreClose, IsInStep, IsInStepBefore}}
+use Rattle.{net_plan.specs.declared.ids.DeviceId.DeviceId, sync_state.specs.membership.Summary.{Summarizes, Summary}}
+use Rattle.{precision_law.specs.Dispatches.IsDispatchOf, schedule_tables.specs.Margins.dispatch_spread}
 use Rattle.{precision_law.specs.Precision.IsRunUpTo, run_law.specs.{declared.note.Note.Note, device.States.state_after}}
 use Rattle.run_law.specs.{control.Corrections.{heard_since, standing_before}, device.LocalClocks.{local, local_before}}
+use Rattle.{run_law.specs.law.Safety.{AreClose, IsInStep, IsInStepBefore}, tte_units.specs.declared.units.Units.Units}
 use Rattle.run_law.specs.{records.Happenings.{Happening, earlier, happenings, time_of}, scenario.Scenarios.Scenario}
 use Rattle.sync_state.specs.Verdicts.{HasVerdict}
 use Rattle.sync_state.specs.declared.{answers.Verdict.TheVariants.Corrected, state.State.TheVariants.Joining}

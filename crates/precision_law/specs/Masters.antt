@@ -1,9 +1,9 @@
 -- What the fault hypothesis leaves: enough good masters, and a channel that loses nothing.
 use Rattle.std.specs.Prelude.{◌≡◌, ◌≤◌, Some, false, true, ℕ}
-use Rattle.{membership.specs.Members.{IsMember, count_of}, net_plan.specs.Places.{IsSwitchOf, is_master}}
-use Rattle.{net_plan.specs.declared.ids.DeviceId.DeviceId, run_law.specs.scenario.Faults.{BeginsOn, IsLinkOf}}
-use Rattle.{net_plan.specs.declared.{ids.LinkId.LinkId, tables.Way.Way}, run_law.specs.law.FirstLaws.IsLawful}
-use Rattle.pcf_values.specs.declared.{channel.Channel.Channel, members.Members.Members}
+use Rattle.net_plan.specs.{Places.{IsSwitchOf, is_master}, declared.ids.{DeviceId.DeviceId, LinkId.LinkId}}
+use Rattle.{net_plan.specs.declared.tables.Way.Way, run_law.specs.law.FirstLaws.IsLawful}
+use Rattle.{pcf_values.specs.declared.channel.Channel.Channel, sync_state.specs.membership.Members.{IsMember, count_of}}
+use Rattle.{pcf_values.specs.declared.members.Members.Members, run_law.specs.scenario.Faults.{BeginsOn, IsLinkOf}}
 use Rattle.precision_law.specs.Views.{IsBad, IsGood, IsSound, IsSoundSwitch, IsView, View}
 use Rattle.run_law.specs.scenario.{Devices.{has_role, member_of}, Scenarios.{Scenario, is_broken}, Ways.is_cut}
 

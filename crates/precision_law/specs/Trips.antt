@@ -9,7 +9,8 @@ use Rattle.{pcf_values.specs.declared.members.Members.Members, run_law.specs.rec
 use Rattle.precision_law.specs.{Standings.IsTimely, Views.{IsBad, IsDispatch, IsGood, IsSoundSwitch, IsView, View}}
 use Rattle.run_law.specs.{control.Arrivals.is_gate_shut, scenario.Devices.{channel_of, channel_of_link, member_of}}
 use Rattle.run_law.specs.{device.States.{cycle_in, is_off, state_before}, scenario.Ways.{receiver_of, way_from, way_to}}
-use Rattle.{run_law.specs.records.{Causes.GoesBackTo, Ranks.members_in}, transparent_clock.specs.Points.point_of}
+use Rattle.run_law.specs.records.{Causes.GoesBackTo, Ranks.members_in}
+use Rattle.drift_clock.specs.transparent.Points.{point_of}
 use Rattle.run_law.specs.declared.note.NoteBody.TheVariants as notes
 
 -- ---- legs

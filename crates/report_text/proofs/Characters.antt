@@ -1,10 +1,10 @@
 -- The characters of words: none is a space or an LF.
 use Rattle.hex.{proofs.HexLemmas.{decode_of-encode_lower, decode_of-ok, decode_of-same}, specs.Hex.{IsBytes, decode_of, encode_lower, is_hex_digit}}
-use Rattle.{net_plan.specs.NameText.{IsNameText, is_name_character}, std.specs.{Int.{byte_at, bytes_high_first, to_be_bytes, w32}, Str.Parse.AllDigits}}
+use Rattle.{net_plan.specs.NameText.{IsNameText, is_name_character}, std.proofs.lemmas.{Bool.{Decides.nat_tests, and_from}, Fmt.decimal_is_IsNumeral}}
 use Rattle.std.proofs.{Common.{◌<◌, ◌^◌, ◌||◌, ◌∙◌, ◌∷◌, ◌≡◌, Bool, List, [], ap, arith, refl, suc, true, zero, ℕ}, lemmas.List.Sums.AllPass-from_list_all}
-use Rattle.{std.proofs.lemmas.{Bool.{Decides.nat_tests, and_from}, Fmt.decimal_is_IsNumeral}, tte_lemmas.proofs.Naturals.byte_at_small}
 use Rattle.std.{proofs.lemmas.List.Elements.{All-cons, All-nil, All-weaker}, specs.Prelude.{◌&&◌, ◌==◌, All, decimal, nat_lt, negsuc, not, pos, ℤ}}
 use Rattle.std.specs.{Char.digit_value, Fmt.signed_decimal, Int.Signed.mag, List.list_all}
+use Rattle.{std.specs.{Int.{byte_at, bytes_high_first, to_be_bytes, w32}, Str.Parse.AllDigits}, tte_units.proofs.general_lemmas.Naturals.byte_at_small}
 
 -- the character is above ASCII's space, and neither `&` nor `<`, which a picture's text reads as its own
 abbrev pub is_visible : ℕ → Bool

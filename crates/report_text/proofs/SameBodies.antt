@@ -1,10 +1,10 @@
 -- Records of one text are one.
-use Rattle.{net_plan.specs.Belonging.HasVl, report_text.proofs.{Texts.words_of_line, Visible.body_visible}, run_law.specs.declared.note.NoteBody.NoteBody}
+use Rattle.{net_plan.specs.Belonging.HasVl, report_text.proofs.Texts.words_of_line, trace_text.specs.Steps.{Words, words}}
 use Rattle.{net_plan.specs.declared.ids.{DeviceId.DeviceId, LinkId.LinkId}, report_text.specs.NoteLine.{body_text, body_words, passage_words, stream_words}}
 use Rattle.{net_plan.specs.declared.{ids.VlId.VlId, network.Network.Network}, report_text.proofs.SameWords.{same_units, same_vl, same_what, same_why, word_at}}
 use Rattle.report_text.proofs.SameWords.{IsNamedApart, same_count, same_device, same_judgement, same_link, same_members, same_reason, same_short, same_state}
+use Rattle.{report_text.proofs.Visible.body_visible, run_law.specs.declared.note.NoteBody.NoteBody, tte_units.proofs.general_lemmas.Lists.differ}
 use Rattle.{report_text.specs.Ranges.{HasPassage, IsBodyInRange, IsBodyOf, IsCount, IsShortCount}, std.proofs.Common.{◌∙◌, ◌≡◌, ap, drop, refl, sym, take, ℕ}}
-use Rattle.{trace_text.specs.Steps.{Words, words}, tte_lemmas.proofs.Lists.differ}
 use Rattle.run_law.specs.declared.note.NoteBody.TheVariants as bodies
 
 -- what a record of the network says, with its numbers in range

@@ -1,11 +1,11 @@
 -- The words of names, numbers and events are short.
-use Rattle.{hex.proofs.HexLemmas.length-encode_with, net_plan.specs.declared.{event.What.What, tables.Way.Way}, tte_lemmas.proofs.Lists.{in_all, some_at}}
-use Rattle.{hex.specs.Hex.{encode_lower, lower_digits}, std.specs.Prelude.{◌≤ℤ◌, neg_ℤ, negsuc, pos, ℤ}, tte_units.specs.declared.units.Units.Units}
+use Rattle.{hex.{proofs.HexLemmas.length-encode_with, specs.Hex.{encode_lower, lower_digits}}, tte_units.specs.declared.{rates.Ppb.Ppb, units.Units.Units}}
 use Rattle.net_plan.specs.{Belonging.{HasDevice, HasLink, IsOfNetwork, device_name, link_name}, Ranges.{IsDeviceInRange, IsInRange, IsLinkInRange}}
-use Rattle.{net_plan.specs.declared.{ids.{DeviceId.DeviceId, LinkId.LinkId}, network.Network.Network}, trace_text.specs.Ranges.{IsRate, IsTime, IsWhatInRange}}
+use Rattle.{net_plan.specs.declared.{event.What.What, tables.Way.Way}, std.proofs.lemmas.{Fmt.length_signed_le, Int.ints}, trace_text.specs.EventWords.way_text}
+use Rattle.{net_plan.specs.declared.{ids.{DeviceId.DeviceId, LinkId.LinkId}, network.Network.Network}, std.specs.Prelude.{◌≤ℤ◌, neg_ℤ, negsuc, pos, ℤ}}
 use Rattle.{net_plan.specs.declared.tables.Way.TheVariants.{Down, Up}, std.proofs.Common.{◌*◌, ◌+◌, ◌^◌, ◌∷◌, ◌≡◌, ◌≤◌, [], arith, length, length-append, ℕ}}
-use Rattle.{std.proofs.lemmas.Fmt.length_signed_le, trace_text.specs.{EventLine.what_words, EventWords.way_text}, tte_units.specs.declared.rates.Ppb.Ppb}
-use Rattle.{std.{proofs.lemmas.Int.ints, specs.{Fmt.signed_decimal, List.join_with_byte}}, trace_text.specs.Steps.{Words, space}}
+use Rattle.{std.specs.{Fmt.signed_decimal, List.join_with_byte}, trace_text.specs.Steps.{Words, space}}
+use Rattle.{trace_text.specs.{EventLine.what_words, Ranges.{IsRate, IsTime, IsWhatInRange}}, tte_units.proofs.general_lemmas.Lists.{in_all, some_at}}
 use Rattle.net_plan.specs.declared.event.What.TheVariants as events
 
 -- ---- words

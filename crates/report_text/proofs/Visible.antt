@@ -1,16 +1,16 @@
 -- The words of records are visible.
 use Rattle.net_plan.specs.{Belonging.{HasDevice, HasLink, HasVl, IsOfNetwork, device_name, link_name, vl_name}, declared.tables.Way.TheVariants.{Down, Up}}
 use Rattle.{net_plan.specs.Ranges.{IsDeviceInRange, IsInRange, IsLinkInRange, IsVlInRange}, run_law.specs.declared.judgement.{Judgement.Judgement, Why.Why}}
-use Rattle.{net_plan.specs.declared.{event.What.What, ids.VlId.VlId, tables.Way.Way}, report_text.specs.NoteLine.body_words, tte_lemmas.proofs.Lists.some_at}
-use Rattle.{net_plan.specs.declared.ids.DeviceId.DeviceId, report_text.proofs.Characters.word_is_bytes, run_law.specs.declared.note.NoteBody.NoteBody}
-use Rattle.{net_plan.specs.declared.ids.LinkId.LinkId, sync_state.specs.declared.state.State.State, tte_units.specs.declared.{rates.Ppb.Ppb, units.Units.Units}}
+use Rattle.{net_plan.specs.declared.{event.What.What, ids.{LinkId.LinkId, VlId.VlId}, tables.Way.Way}, tte_units.specs.declared.rates.Ppb.Ppb}
+use Rattle.{net_plan.specs.declared.ids.DeviceId.DeviceId, run_law.specs.declared.note.NoteBody.NoteBody, tte_units.proofs.general_lemmas.Lists.some_at}
 use Rattle.{net_plan.specs.declared.network.Network.Network, report_text.proofs.Texts.{AreOfLine, AreVisible}, run_law.specs.declared.judgement.Reason.Reason}
 use Rattle.report_text.proofs.Characters.{IsVisible, decimal_visible, hex_visible, is_visible, name_visible, octet_is_byte, signed_visible, visible_from_test}
+use Rattle.{report_text.proofs.Characters.word_is_bytes, sync_state.specs.declared.state.State.State, tte_units.specs.declared.units.Units.Units}
+use Rattle.{report_text.specs.NoteLine.body_words, trace_text.{proofs.WordsBack.in_list, specs.{EventLine.what_words, EventWords.way_text, Steps.Words}}}
 use Rattle.{report_text.specs.NoteWords.{judgement_text, reason_words, state_text, why_text}, trace_text.specs.Ranges.{IsRate, IsTime, IsWhatInRange}}
 use Rattle.report_text.specs.Ranges.{HasPassage, HasStream, IsBodyInRange, IsBodyOf, IsCount, IsReasonInRange, IsShortCount, IsSignedUnits}
 use Rattle.std.{proofs.Common.{◌<◌, ◌^◌, ◌∷◌, ◌≡◌, List, [], arith, length, refl, true, ℕ}, specs.Prelude.{◌≤ℤ◌, codes, decimal, neg_ℤ, negsuc, pos, ℤ}}
-use Rattle.std.{proofs.lemmas.Int.ints, specs.{Int.Signed.mag, List.list_all}}
-use Rattle.{std.specs.Fmt.signed_decimal, trace_text.{proofs.WordsBack.in_list, specs.{EventLine.what_words, EventWords.way_text, Steps.Words}}}
+use Rattle.std.{proofs.lemmas.Int.ints, specs.{Fmt.signed_decimal, Int.Signed.mag, List.list_all}}
 use Rattle.net_plan.specs.declared.event.What.TheVariants as events
 use Rattle.run_law.specs.declared.judgement.Judgement.TheVariants as judgements
 use Rattle.run_law.specs.declared.judgement.Reason.TheVariants as reasons

@@ -5,7 +5,7 @@ pub use Rattle.std.proofs.Common.{unsigned_abs, zero, ℕ, ℤ}
 pub use Rattle.std.proofs.lemmas.{Bool.{cases_lt, eqb-true, le-ltb}, Int.ints, List.append-nil}
 pub use Rattle.std.specs.{List.{Contains, cons_option, filter_map, last_or}, Option.option_map_or}
 pub use Rattle.std.specs.Prelude.{◌&&◌, ◌==◌, Ok, nat_lt, option_and_then, option_map}
-pub use Rattle.membership.specs.Summary.{Summary}
+pub use Rattle.sync_state.specs.membership.Summary.{Summary}
 pub use Rattle.net_plan.specs.{Bounds.beta_at, Places.{device_at, is_master, link_at}}
 pub use Rattle.net_plan.specs.declared.{event.{Event.Event, What.{What, TheVariants.Send}}, ids.{DeviceId.DeviceId, LinkId.LinkId, VlId.VlId}}
 pub use Rattle.net_plan.specs.declared.{network.Network.Network, tables.{Device.Device, Link.Link, Role.{Role, TheVariants.{Client, Cm, Master, Relay}}}}
@@ -13,7 +13,7 @@ pub use Rattle.net_plan.specs.declared.tables.Way.{Way, TheVariants.{Down, Up}}
 pub use Rattle.pcf_values.specs.declared.{channel.Channel.TheVariants.{A, B}, members.Members.Members, pcf.Pcf.Pcf}
 pub use Rattle.sync_state.specs.Standing.{adjustment_at_start}
 pub use Rattle.sync_state.specs.declared.state.State.{State, TheVariants.{Integrating, Joining, Synchronised}}
-pub use Rattle.tte_lemmas.proofs.{Lists.in_all, Options.one as same_some}
+pub use Rattle.tte_units.proofs.general_lemmas.{Lists.in_all, Options.{one as same_some}}
 pub use Rattle.tte_units.specs.Amount.{amount, units_of}
 pub use Rattle.tte_units.specs.declared.units.Units.{Units}
 pub use Rattle.run_law.specs.control.{Arrivals.{control_arrival, frame_fault, frame_or_fault}, Collections.observation_window, Leaving.{Departs, Gives}}

@@ -1,5 +1,5 @@
 /// What becomes of a protocol control frame that is permanent (SAE AS6802).
-#[derive(Clone, Copy, Debug, PartialEq, Eq, Hash)]
+#[derive(Clone, Copy, PartialEq, Eq)]
 pub enum Judgement {
     /// It opens a collection.
     Opened,
@@ -18,7 +18,7 @@ pub enum Judgement {
 }
 
 /// Why a device changes its state (SAE AS6802).
-#[derive(Clone, Copy, Debug, PartialEq, Eq, Hash)]
+#[derive(Clone, Copy, PartialEq, Eq)]
 pub enum Why {
     /// It is turned on.
     On,
@@ -33,7 +33,7 @@ pub enum Why {
 }
 
 /// Why a frame is dropped.
-#[derive(Clone, Copy, Debug, PartialEq, Eq, Hash)]
+#[derive(Clone, Copy, PartialEq, Eq)]
 pub enum Reason {
     /// The device is off or broken.
     Off,

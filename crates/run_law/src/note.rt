@@ -5,7 +5,7 @@ use sync_state::State;
 use tte_units::Units;
 
 /// A record of a run.
-#[derive(Debug, PartialEq, Eq, Drop)]
+#[derive(PartialEq, Eq, Drop)]
 pub struct Note {
     /// Its place among the records of its run, from 1.
     pub number: u64,
@@ -16,7 +16,7 @@ pub struct Note {
 
 /// What a record says. A `cause` is the number of an earlier record, or 0 where there is none. Readings, points
 /// and adjustments are in units of 2^-16 ns.
-#[derive(Debug, PartialEq, Eq, Drop)]
+#[derive(PartialEq, Eq, Drop)]
 pub enum NoteBody {
     /// An event befalls the network.
     Event {

@@ -2,7 +2,7 @@ ghost use Rattle.std.specs.Prelude.{◌≡◌};
 ghost use Rattle.run_law.specs.scenario.Hypothesis.{condition_number};
 
 /// Why an event is outside the fault hypothesis, given the events before it.
-#[derive(Clone, Copy, Debug, PartialEq, Eq, Hash)]
+#[derive(Clone, Copy, Debug, PartialEq, Eq)]
 pub enum Outside {
     /// It is earlier than the event before.
     Order,

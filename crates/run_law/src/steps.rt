@@ -6,7 +6,7 @@ use sync_state::Verdict;
 use tte_units::Units;
 
 /// An instant, as a device meets it.
-#[derive(Clone, Copy, Debug, PartialEq, Eq, Hash)]
+#[derive(Clone, Copy, PartialEq, Eq)]
 pub struct Moment {
     /// The world time, in units of 2^-16 ns.
     pub time: Units,
@@ -15,7 +15,7 @@ pub struct Moment {
 }
 
 /// What a device does by itself.
-#[derive(Clone, Copy, Debug, PartialEq, Eq)]
+#[derive(Clone, Copy, PartialEq, Eq)]
 pub enum Act {
     /// A master sends this frame by both links.
     Send(Pcf),
@@ -28,7 +28,7 @@ pub enum Act {
 }
 
 /// What becomes of a frame that arrives.
-#[derive(Clone, Copy, Debug, PartialEq, Eq)]
+#[derive(Clone, Copy, PartialEq, Eq)]
 pub enum Arrival {
     /// It is dropped.
     Dropped(Reason),
@@ -45,7 +45,7 @@ pub enum Arrival {
 }
 
 /// What becomes of a protocol control frame when it is permanent.
-#[derive(Clone, Copy, Debug, PartialEq, Eq, Hash)]
+#[derive(Clone, Copy, PartialEq, Eq)]
 pub enum Ripe {
     /// It opens a collection.
     Opened,

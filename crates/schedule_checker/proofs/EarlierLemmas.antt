@@ -1,7 +1,7 @@
 -- What a test of all earlier elements of a list tells of the one at a place.
-use Rattle.{std.proofs.Common.{◌<◌, ◌∙◌, ◌≡◌, ◌≢◌, Bool, List, Some, ap, arith, false, get_or, length, refl, sym, take, true, ℕ}, tte_lemmas.proofs.Options.one}
+use Rattle.std.proofs.Common.{◌<◌, ◌∙◌, ◌≡◌, ◌≢◌, Bool, List, Some, ap, arith, false, get_or, length, refl, sym, take, true, ℕ}
 use Rattle.std.proofs.lemmas.{Bool.false≢true, List.{get_or-take, length-take}, Option.{get_or_from_slice_get, slice_get-get_or, slice_get_within}}
-use Rattle.std.specs.{Bool.MatchBool, List.{AllWithin, HoldsAt}, Prelude.{IsTrue, slice_get}}
+use Rattle.{std.specs.{Bool.MatchBool, List.{AllWithin, HoldsAt}, Prelude.{IsTrue, slice_get}}, tte_units.proofs.general_lemmas.Options.one}
 
 -- the element at the place has a mark that no earlier one has
 abbrev pub IsNewAt : {X Y : Type 0} → (X → Y) → List X → ℕ → Type 0

@@ -1,9 +1,9 @@
 -- What is kept of rows in their groups.
-use Rattle.{schedule_checker.specs.{Groups.{AreGroups, places_in}, declared.groups.Places.Places}, schedule_tables.specs.declared.entry.Entry.Entry}
+use Rattle.{schedule_checker.specs.{Groups.{AreGroups, places_in}, declared.groups.Places.Places}, tte_units.proofs.general_lemmas.Options.some_same}
 use Rattle.{schedule_checker.specs.declared.groups.Groups.Groups, std.proofs.lemmas.List.Elements.{Contains-append_left, Contains-append_right}}
+use Rattle.{schedule_tables.specs.declared.entry.Entry.Entry, std.proofs.{Common.{true, zero, ℕ, ⊎_elim}, lemmas.Option.slice_get_within}}
 use Rattle.std.proofs.Common.{◌++◌, ◌+◌, ◌<◌, ◌==◌, ◌∷◌, ◌≡◌, Bool, Global, List, Some, Vec, [], ap, arith, false, if◌then◌else◌, length, refl, subst, suc, sym}
-use Rattle.{std.proofs.{Common.{true, zero, ℕ, ⊎_elim}, lemmas.{Bool.{cases_lt, eq-eqb}, Option.slice_get_within}}, tte_lemmas.proofs.Options.some_same}
-use Rattle.std.specs.{List.{Contains, slice_get}, Option.option_map_or}
+use Rattle.std.{proofs.lemmas.Bool.{cases_lt, eq-eqb}, specs.{List.{Contains, slice_get}, Option.option_map_or}}
 
 pub more_room : (groups : List (Vec ℕ Global)) (x : Vec ℕ Global) (i : ℕ) → x.items ≡ []
     → option_map_or (λ (v : Vec ℕ Global). v.items) (slice_get (groups ++ x ∷ []) i) []

@@ -1,6 +1,6 @@
 -- What holds of each element of a list, or of some, said by their places.
 use Rattle.std.proofs.Common.{◌<◌, ◌∷◌, ◌≡◌, Bool, List, Some, [], arith, false, get_or, length, refl, subst, suc, sym, take, true, zero, ℕ}
-use Rattle.{std.{proofs.lemmas.Bool.false≢true, specs.Bool.{Decides, MatchBool}}, tte_lemmas.proofs.Lists.some_at}
+use Rattle.{std.{proofs.lemmas.Bool.false≢true, specs.Bool.{Decides, MatchBool}}, tte_units.proofs.general_lemmas.Lists.some_at}
 use Rattle.std.{proofs.lemmas.Option.{get_or_from_slice_get, slice_get-get_or, slice_get_within}, specs.List.{All, AllWithin, HoldsAt, slice_get}}
 
 -- each element has the property

@@ -1,9 +1,9 @@
 -- Paths by first uplinks, and devices that are connected on both channels.
-use Rattle.net_plan.specs.{Paths.{IsFirstPath, IsFirstUplink, IsUplink}, Places.{IsCmOf, IsSwitchOf, link_at}, declared.network.Network.Network}
-use Rattle.{net_plan.specs.Rules.IsConnected, std.proofs.Common.{◌-◌, ◌<◌, ◌∙◌, ◌∷◌, ◌≡◌, ◌≢◌, ◌≤◌, List, Some, [], ap, arith, length, suc, zero, ℕ, ⊎_elim}}
-use Rattle.{net_plan.specs.declared.{ids.{DeviceId.DeviceId, LinkId.LinkId}, tables.Link.Link}, tte_lemmas.proofs.Options.{at_known, closed}}
+use Rattle.{net_plan.specs.{Paths.{IsFirstPath, IsFirstUplink, IsUplink}, Rules.IsConnected}, tte_units.proofs.general_lemmas.Options.{at_known, closed}}
+use Rattle.net_plan.specs.{Places.{IsCmOf, IsSwitchOf, link_at}, declared.{ids.{DeviceId.DeviceId, LinkId.LinkId}, network.Network.Network, tables.Link.Link}}
 use Rattle.{pcf_values.specs.declared.channel.Channel.{Channel, TheVariants.{A, B}}, schedule_checker.specs.Shape.{IsConnectedOn, LeadsToCmWithin}}
-use Rattle.std.{proofs.lemmas.Bool.cases_lt, specs.Prelude.{IsSomeAnd, slice_get}}
+use Rattle.std.proofs.{Common.{◌-◌, ◌<◌, ◌∙◌, ◌∷◌, ◌≡◌, ◌≢◌, ◌≤◌, List, Some, [], ap, arith, length, suc, zero, ℕ, ⊎_elim}, lemmas.Bool.cases_lt}
+use Rattle.std.specs.Prelude.{IsSomeAnd, slice_get}
 
 pub within : {X : Type 0} (P : X → Type 0) (xs : List X) (i : ℕ) → IsSomeAnd (slice_get xs i) P → i < length xs
 within P [] i h = absurd h

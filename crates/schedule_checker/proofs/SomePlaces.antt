@@ -1,7 +1,7 @@
 -- What holds at places, among which are those of all elements that matter, said of the list.
-use Rattle.{schedule_checker.proofs.Selection.{Each, Holds, all_of_below, all_of_each, below_of_all, each_of_all}, std.specs.Prelude.{IfSome, IsSomeAnd, take}}
-use Rattle.std.proofs.{Common.{◌<◌, ◌≡◌, Bool, List, None, Option, Some, refl, subst, ℕ}, lemmas.{Bool.Decides.Decides-like, Option.slice_get-get_or}}
-use Rattle.{std.specs.{Bool.Decides, List.{All, Contains, slice_get}}, tte_lemmas.proofs.Options.{closed, opened}}
+use Rattle.{schedule_checker.proofs.Selection.{Each, Holds, all_of_below, all_of_each, below_of_all, each_of_all}, std.proofs.lemmas.Bool.Decides.Decides-like}
+use Rattle.{std.proofs.Common.{◌<◌, ◌≡◌, Bool, List, None, Option, Some, refl, subst, ℕ}, tte_units.proofs.general_lemmas.Options.{closed, opened}}
+use Rattle.std.{proofs.lemmas.Option.slice_get-get_or, specs.{Bool.Decides, List.{All, Contains, slice_get}, Prelude.{IfSome, IsSomeAnd, take}}}
 
 -- some element has the property, with its place
 abbrev pub HoldsBy : {X : Type 0} → (ℕ → X → Type 0) → List X → Type 0

@@ -11,8 +11,7 @@ abbrev AreNumbered : {X : Type 0} → (X → ℕ) → List X → ℕ → Type 0
 AreNumbered number [] n = Unit {0}
 AreNumbered number (rule ∷ rules) n = (number rule ≡ n) × AreNumbered number rules (n + 1)
 
-number_at : {X : Type 0} (number : X → ℕ) (rules : List X) (n i : ℕ) (d : X) → AreNumbered number rules n → i < length rules
-    → number (get_or rules i d) ≡ n + i
+number_at : {X : Type 0} (number : X → ℕ) (rules : List X) (n i : ℕ) (d : X) → AreNumbered number rules n → i < length rules → number (get_or rules i d) ≡ n + i
 number_at number [] n i d h below = absurd (omega (arith, below))
 number_at number (rule ∷ rules) n zero d h below = omega (arith, h.0)
 number_at number (rule ∷ rules) n (suc i) d h below = omega (arith, number_at number rules (n + 1) i d h.1 (omega (arith, below)))

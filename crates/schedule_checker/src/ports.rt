@@ -1,7 +1,7 @@
 //! The rules of when a device sends its rows.
 ghost use Rattle.std.specs.Prelude.{◌+◌, ◌<◌, ◌^◌, ◌↔◌, ◌≡◌, ◌≤◌, All, IfSome, IsTrue, length, slice_get, take};
 ghost use Rattle.{net_plan.specs.Bounds.gamma_of, schedule_tables.specs.Entries.{AreEntries, IsEntryInRange}};
-ghost use Rattle.net_plan.specs.{Ranges.{IsInRange, IsWithin}, declared.{network.{Network.{Network as NetworkValue}}}};
+ghost use Rattle.net_plan.specs.{Ranges.{IsInRange, IsWithin}, declared.network.Network.{Network as NetworkValue}};
 ghost use Rattle.schedule_checker.specs.{Groups.{AreGroups, HasRowsBy, HasRowsOf}, Ports.{AreApart, ComesBehind}};
 ghost use Rattle.schedule_tables.specs.{Schedule.{Coincide, ComesInTime, HasFewRows, StandsApart}, Windows.port_time};
 ghost use Rattle.tte_units.specs.Amount.{amount};

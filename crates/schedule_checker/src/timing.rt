@@ -1,4 +1,5 @@
 ghost use Rattle.std.specs.Prelude.{◌*◌, ◌+◌, ◌<◌, ◌^◌, ◌↔◌, ◌≡◌, ◌≤ℤ◌, ◌≤◌, IsTrue, length, pos};
+ghost use Rattle.std.specs.List.{All};
 ghost use Rattle.{net_plan.specs.{Bounds.IsBeta, Paths.IsTree, Ranges.IsInRange}, tte_units.specs.Amount.amount};
 ghost use Rattle.{schedule_checker.specs.Timing.{DelaysFitOn, errors_of}, schedule_tables.specs.Entries.AreEntries};
 ghost use Rattle.schedule_tables.specs.Delays.{CorrectionFits, DelaysFit, ErrorsSettle, PrecisionFits, ScheduleFits};
@@ -119,12 +120,23 @@ pub(crate) fn schedule_fits(network: &Network) -> bool
     let start = network.tt_start.amount();
     let spread = 4 * network.precision.amount();
     let heard = network.correction.amount() + network.dmax.amount() + spread;
+    begins_behind(network, heard, start) && start + spread <= network.cycle.amount()
+}
+
+/// Does the schedule begin behind what was heard and the last protocol control frame on any link?
+fn begins_behind(network: &Network, heard: u64, start: u64) -> bool
+    requires bound { heard ≤ 2 ^ 43 }
+    requires heard { heard ≡ amount network.now.correction + amount network.now.dmax
+        + 4 * amount network.now.precision }
+    requires start { start ≡ amount network.now.tt_start }
+    ensures { IsTrue result ↔ All (λ link. amount network.now.correction + amount network.now.dmax
+        + 4 * amount network.now.precision + pcf_port_time link ≤ amount network.now.tt_start) network.now.link }
+{
     network
         .link
         .as_slice()
         .iter()
         .all(|link| heard + pcf_port_time(link) <= start)
-        && start + spread <= network.cycle.amount()
 }
 
 /// How long a protocol control frame occupies the port of the link.

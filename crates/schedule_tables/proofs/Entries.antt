@@ -5,7 +5,7 @@ use Rattle.{net_plan.specs.declared.tables.{Link.Link, VirtualLink.VirtualLink},
 use Rattle.{schedule_tables.specs.{Rules.KeepsRules, Schedule.Coincide, Windows.OccursIn}, std.proofs.lemmas.Bool.{cases_eq, cases_lt}}
 use Rattle.std.proofs.Common.{◌%◌, ◌*◌, ◌+◌, ◌-◌, ◌/◌, ◌<◌, ◌^◌, ◌∙◌, ◌∷◌, ◌≡◌, ◌≢◌, ◌≤◌, ◌⊎◌, None, Option, Some, [], ap, arith, div-add-mod', inl, inr, min}
 use Rattle.std.{proofs.{Common.{pow-add, pow_mono, pow_pos, subst, suc, sym, zero, ℕ}, Math.Nat.{min-eq_left, min_comm, mod-mod}}, specs.List.Contains}
-use Rattle.{tte_lemmas.proofs.Lists.period_power, tte_units.specs.Amount.amount}
+use Rattle.tte_units.{proofs.general_lemmas.Lists.period_power, specs.Amount.amount}
 
 -- an entry is made of its row, its virtual link and its link
 pub entry_by : (o : Option VirtualLink) (p : Option Link) (row : Row) (entry : Entry)

@@ -1,8 +1,8 @@
 -- The entries of rows.
 use Rattle.{net_plan.specs.Ranges.{IsLinkInRange, IsRowInRange, IsVlInRange}, schedule_tables.specs.Entries.{EntriesAreInRange, EntryIsOne, IsEntry}}
-use Rattle.{net_plan.specs.declared.{network.Network.Network, tables.{Link.Link, VirtualLink.VirtualLink}}, schedule_tables.specs.declared.entry.Entry.Entry}
-use Rattle.{net_plan.specs.declared.tables.Row.Row, std.proofs.Common.{◌++◌, ◌∙◌, ◌∷◌, ◌≡◌, List, Some, [], arith, length, subst, sym, ℕ, ⊎_elim}}
-use Rattle.{std.specs.Prelude.slice_get, tte_lemmas.proofs.{Lists.{in_all, pushed}, Options.one}}
+use Rattle.{net_plan.specs.declared.{network.Network.Network, tables.VirtualLink.VirtualLink}, tte_units.proofs.general_lemmas.Lists.{in_all, pushed}}
+use Rattle.{net_plan.specs.declared.tables.{Link.Link, Row.Row}, std.specs.Prelude.slice_get, tte_units.proofs.general_lemmas.Options.one}
+use Rattle.{schedule_tables.specs.declared.entry.Entry.Entry, std.proofs.Common.{◌++◌, ◌∙◌, ◌∷◌, ◌≡◌, List, Some, [], arith, length, subst, sym, ℕ, ⊎_elim}}
 
 pub in_range : EntriesAreInRange
 in_range n i e range is = record {

@@ -1,16 +1,16 @@
 -- The rules of a network's times leave the margins.
-use Rattle.{net_plan.specs.{Bounds.IsBeta, Rules.{KeepsShapeRules, RulesGiveTrees}}, std.specs.Prelude.{Bool, false, if◌then◌else◌, length, slice_get, true}}
-use Rattle.net_plan.specs.{Paths.{IsPath, IsTree, IsUplink}, declared.{ids.{DeviceId.DeviceId, LinkId.LinkId}, network.Network.Network, tables.Device.Device}}
-use Rattle.net_plan.specs.{Places.{IsDeviceOf, IsEndSystem, IsRoleOf, IsSwitchOf, device_at, is_end_system, is_master, link_at}, Ranges.{IsInRange, IsWithin}}
-use Rattle.{net_plan.specs.declared.tables.{Link.Link, Role.Role}, std.proofs.lemmas.Bool.false≢true, tte_lemmas.proofs.Options.{closed, opened}}
+use Rattle.{net_plan.specs.Bounds.IsBeta, std.specs.{List.{All, filter}, Option.option_map_or}, tte_units.specs.Amount.amount}
+use Rattle.net_plan.specs.{Paths.{IsPath, IsTree, IsUplink}, Rules.{KeepsShapeRules, RulesGiveTrees}, declared.{ids.DeviceId.DeviceId, network.Network.Network}}
+use Rattle.net_plan.specs.{Places.{IsDeviceOf, IsEndSystem, IsRoleOf, IsSwitchOf, device_at, is_end_system, is_master, link_at}, declared.tables.Device.Device}
+use Rattle.{net_plan.specs.Ranges.{IsInRange, IsWithin}, std.proofs.lemmas.{Int.ints, List.Elements.All-weaker}, tte_units.specs.declared.units.Units.Units}
+use Rattle.{net_plan.specs.declared.{ids.LinkId.LinkId, tables.{Link.Link, Role.Role}}, std.proofs.lemmas.{List.Sums.sum_by-cons, Option.slice_get-get_or}}
 use Rattle.{net_plan.specs.declared.tables.Role.TheVariants.{Client, Cm, Master, Relay}, pcf_values.specs.declared.channel.Channel.{Channel, TheVariants.A}}
 use Rattle.schedule_tables.specs.Delays.{CorrectionFits, ErrorsSettle, PrecisionFits, ScheduleFits, delay_by, delay_of, pcf_port_time}
 use Rattle.schedule_tables.specs.{Margins.{CycleHasRoom, DriftHasRoom, ErrorsAreSmall, PrecisionHasRoom, RulesGiveMargins, SettledHasRoom}, Rules.KeepsRules}
 use Rattle.schedule_tables.specs.declared.rule.Rule.TheVariants.{CompressionMasters, Connections, Correction, Delays, DevicesDiffer, Joints, Limits}
-use Rattle.{schedule_tables.specs.declared.rule.Rule.TheVariants.{LinksDiffer, Masters, Precision, ScheduleStart, Settling}, std.specs.Option.option_map_or}
+use Rattle.{schedule_tables.specs.declared.rule.Rule.TheVariants.{LinksDiffer, Masters, Precision, ScheduleStart, Settling}, std.proofs.lemmas.Bool.false≢true}
 use Rattle.std.proofs.Common.{◌*◌, ◌+◌, ◌/◌, ◌^◌, ◌∙◌, ◌∷◌, ◌≡◌, ◌≤◌, ◌⊎◌, List, Option, Some, [], ap, arith, get_or, inl, inr, pos, refl, suc, ℕ, ⊎_elim}
-use Rattle.{std.proofs.lemmas.{Int.ints, List.{Elements.All-weaker, Sums.sum_by-cons}, Option.slice_get-get_or}, tte_units.specs.declared.units.Units.Units}
-use Rattle.{std.specs.List.{All, filter}, tte_lemmas.proofs.Lists.in_all, tte_units.specs.Amount.amount}
+use Rattle.{std.specs.Prelude.{Bool, false, if◌then◌else◌, length, slice_get, true}, tte_units.proofs.general_lemmas.{Lists.in_all, Options.{closed, opened}}}
 
 amount_within : (low high : ℕ) (units : Units) → IsWithin low high units → (low ≤ amount units) × (amount units ≤ high)
 amount_within low high units h = (omega (arith, ints, h.least, h.most), omega (arith, ints, h.least, h.most))

@@ -1,12 +1,12 @@
 -- The first slot behind a row's place is that of the next row.
 use Rattle.{net_plan.specs.declared.{ids.{DeviceId.DeviceId, RowId.RowId}, network.Network.Network}, std.proofs.lemmas.List.Elements.All-contains}
 use Rattle.{net_plan.specs.declared.tables.Row.Row, schedule_tables.specs.{Schedule.HasPeriod, TablesOf.AreTimedRows}, std.proofs.lemmas.Option.slice_get_read}
-use Rattle.schedule_tables.{proofs.OrderLemmas.{below_more, not_below_more, same_or_below}, specs.declared.{entry.Entry.Entry, slot.{Place.Place, Slot.Slot}}}
+use Rattle.{schedule_tables.proofs.OrderLemmas.{below_more, not_below_more, same_or_below}, tte_units.proofs.general_lemmas.Lists.period_divides}
 use Rattle.schedule_tables.specs.{Dispatches.{ComesBehind, HasNoNextRow, IsBelow, IsDispatched, IsNextRow, dispatch_order}, declared.tables.TimedRow.TimedRow}
-use Rattle.{schedule_tables.specs.Entries.IsEntry, std.specs.Option.option_map_or, tte_lemmas.proofs.{Lists.period_divides, Naturals.cases_of}}
+use Rattle.{schedule_tables.specs.Entries.IsEntry, std.specs.Option.option_map_or, tte_units.specs.Amount.amount}
 use Rattle.schedule_tables.specs.{Slots.{AreBelow, AreSlotsOf, IsFirstSlot, IsSlotOf, key_of, numbers_of, place_by}, declared.slot.Whose.TheVariants.Whole}
+use Rattle.{schedule_tables.specs.declared.{entry.Entry.Entry, slot.{Place.Place, Slot.Slot}}, tte_units.proofs.general_lemmas.Naturals.cases_of}
 use Rattle.std.proofs.Common.{◌%◌, ◌+◌, ◌<◌, ◌∙◌, ◌∷◌, ◌≡◌, ◌≤◌, List, None, Option, Some, [], ap, arith, get_or, inl, inr, length, refl, subst, sym, ℕ, ⊎_elim}
-use Rattle.tte_units.specs.Amount.{amount}
 
 -- a row's place by its entry
 pub place_is : (n : Network) (row : RowId) (e : Entry) → IsEntry n row.0 e → dispatch_order n row ≡ numbers_of (place_by e row)

@@ -1,7 +1,7 @@
 -- The rows of a network with their places and windows.
-use Rattle.{net_plan.specs.declared.network.Network.Network, schedule_tables.specs.Windows.window_of, std.proofs.lemmas.Option.slice_get_read}
+use Rattle.{net_plan.specs.declared.network.Network.Network, schedule_tables.specs.Windows.window_of, tte_units.proofs.general_lemmas.Lists.pushed}
 use Rattle.schedule_tables.{proofs.EntryLemmas.one_entry, specs.{TablesOf.{AreTimedRows, IsTimedRow}, declared.{entry.Entry.Entry, tables.TimedRow.TimedRow}}}
-use Rattle.{schedule_tables.specs.Entries.IsEntry, std.specs.Prelude.slice_get, tte_lemmas.proofs.Lists.pushed}
+use Rattle.{schedule_tables.specs.Entries.IsEntry, std.{proofs.lemmas.Option.slice_get_read, specs.Prelude.slice_get}}
 use Rattle.std.proofs.Common.{◌++◌, ◌+◌, ◌<◌, ◌∙◌, ◌∷◌, ◌≡◌, List, Some, [], ap, arith, get_or, length, length-append, refl, subst, sym, ℕ, ⊎_elim}
 
 -- one more row

@@ -1,9 +1,9 @@
 -- A search among things in order, each with its numbers; and the first slot that is not below a bound.
 use Rattle.schedule_tables.{proofs.OrderLemmas.{Compares, below_itself, below_mono, lt_false, lt_true, slot_cmp, slot_compares}, specs.declared.slot.Slot.Slot}
-use Rattle.{schedule_tables.specs.Dispatches.IsBelow, std.{proofs.lemmas.Bool.{cases_Bool, cases_lt}, specs.List.Sorted.{IsPartitionPoint, IsPartitionedBy}}}
+use Rattle.{schedule_tables.specs.Dispatches.IsBelow, std.{proofs.lemmas.Bool.{cases_Bool, cases_lt}, specs.{List.{AllPairs, Contains}, Prelude.slice_get}}}
 use Rattle.{schedule_tables.specs.Slots.{AreBelow, AreInOrder, IsFirstSlot, key_of}, std.proofs.lemmas.Option.{get_or_from_slice_get, slice_get_within}}
 use Rattle.std.proofs.Common.{◌<◌, ◌∙◌, ◌≡◌, ◌≤◌, List, Some, ap, arith, false, get_or, is_lt, length, refl, subst, sym, true, ℕ, ⊎_elim}
-use Rattle.{std.specs.{List.{AllPairs, Contains}, Prelude.slice_get, declared.cmp.Ordering.Ordering}, tte_lemmas.proofs.Naturals.above_or_same}
+use Rattle.{std.specs.{List.Sorted.{IsPartitionPoint, IsPartitionedBy}, declared.cmp.Ordering.Ordering}, tte_units.proofs.general_lemmas.Naturals.above_or_same}
 
 -- the comparison is that of the numbers, of which each thing has as many
 pub record IsOrder {X : Type 0} (numbers : X → List ℕ) (cmp : X → X → Ordering) : Type 0 where
@@ -71,8 +71,7 @@ pub slot_order : IsOrder key_of slot_cmp
 slot_order = record { compares = slot_compares; as_many = λ s t. refl }
 
 -- the slot where the search ends is the first
-pub is_first : (slots : List Slot) (bound : Slot) (place : ℕ) → AreInOrder slots → Ends slot_cmp slots bound place → (s : Slot)
-    → slice_get slots place ≡ Some s
+pub is_first : (slots : List Slot) (bound : Slot) (place : ℕ) → AreInOrder slots → Ends slot_cmp slots bound place → (s : Slot) → slice_get slots place ≡ Some s
     → IsFirstSlot slots bound s
 is_first slots bound place order ends s at = record {
   there = (place, slice_get_within slots place s at, get_or_from_slice_get slots place s s at);

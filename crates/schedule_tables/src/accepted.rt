@@ -5,7 +5,7 @@ use net_plan::{Network, rules_give_trees};
 use std::marker::Model;
 
 /// A network that keeps all rules, so that the guarantees hold for it.
-#[derive(Debug, Drop)]
+#[derive(Drop)]
 pub struct Accepted {
     network: Network,
 }

@@ -12,7 +12,7 @@ use tte_units::{Units, octets};
 const OVERHEAD: u32 = 24;
 
 /// A row of the schedule, with the virtual link and the link that it names.
-#[derive(Clone, Copy, Debug, PartialEq, Eq)]
+#[derive(Clone, Copy, PartialEq, Eq)]
 pub struct Entry {
     pub row: Row,
     pub vl: VirtualLink,

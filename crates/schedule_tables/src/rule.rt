@@ -3,7 +3,7 @@ ghost use Rattle.schedule_tables.specs.Numbers.{number_of};
 
 /// The rules that a network keeps to be accepted. Each is judged at places, or in parts, and
 /// supposes those before it.
-#[derive(Clone, Copy, Debug, PartialEq, Eq)]
+#[derive(Clone, Copy, PartialEq, Eq)]
 pub enum Rule {
     /// There are not too many devices, links, virtual links and rows.
     Limits,

@@ -9,7 +9,8 @@ use Rattle.switch_ports.proofs.Words.{RowId, Some, StandsAs, State, Switch, Sync
 use Rattle.switch_ports.proofs.Words.{dispatch_at, dispatching, false, get_or, held_by, held_in, if◌then◌else◌, in_none, inl, inr, int_lt, ints, length}
 use Rattle.switch_ports.proofs.Words.{option_and_then, option_map, option_map_or, pos, refl, subst, sym, through, true, value_of, with_taking, ℕ, ℤ}
 use Rattle.switch_ports.specs.Leaving.{HasRow, IsFirstOf, IsFit, IsFresh, awaited_of, is_dispatch_in, reopened, value_in, with_held}
-use Rattle.tte_lemmas.proofs.{Bools.{both_left, both_right, turned}, Integers.{int_lt-from, int_lt-is}, Lists.{got_within, last_kept, last_pushed}}
+use Rattle.tte_units.proofs.general_lemmas.{Bools.{both_left, both_right, turned}, Integers.{int_lt-from, int_lt-is}}
+use Rattle.tte_units.proofs.general_lemmas.Lists.{got_within, last_kept, last_pushed}
 
 -- ---- the clock goes on
 

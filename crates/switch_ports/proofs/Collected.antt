@@ -6,7 +6,7 @@ use Rattle.{run_law.specs.declared.steps.Ripe.Ripe, switch_ports.{proofs.Pending
 use Rattle.switch_ports.proofs.Words.{◌++◌, ◌<◌, ◌∙◌, ◌∷◌, ◌≡◌, ◌≤ℤ◌, ◌⊎◌, All-contains, All-contains_itself, AreClusters, Channel, Collecting, Contains}
 use Rattle.switch_ports.proofs.Words.{Contains-append_left, Contains-append_right, DeviceId, HasCollected, List, Moment, Network, Node, Option, Pcf, Phase}
 use Rattle.switch_ports.proofs.Words.{StandsAs, Switch, Units, [], after_permanence, ap, arith, called, further, get_or, in_head, inl, inr, is_cm, master_of}
-use Rattle.tte_lemmas.proofs.Bools.{not_both}
+use Rattle.tte_units.proofs.general_lemmas.Bools.{not_both}
 use Rattle.compression.specs.declared.taken.Taken.TheVariants as takens
 
 one_at : (P : Point → Type 0) (x : Point) → P x → (k : ℕ) (d : Point) → k < 1 → P (get_or (x ∷ []) k d)

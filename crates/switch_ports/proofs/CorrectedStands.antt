@@ -1,9 +1,8 @@
 -- How a switch stands once its correction point has come.
-use Rattle.{clock_correction.specs.Correction.correction_of, membership.proofs.SummaryLemmas.silence_summarizes, run_law.specs.device.States.is_synchronised}
-use Rattle.{compression.proofs.Elements.in_cases, switch_ports.{proofs.Verdicts.next_small, specs.Departing.Reopens}, tte_lemmas.proofs.Naturals.less_than_next}
-use Rattle.{membership.specs.{BestFrame.Qualifies, Members.count_of, Summary.Summarizes}, switch_ports.specs.Steps.Corrects, tte_units.specs.Mean.mean_of}
+use Rattle.{compression.proofs.Elements.in_cases, switch_ports.{proofs.Verdicts.next_small, specs.Departing.Reopens}, sync_state.specs.Calls.reached_point}
+use Rattle.{run_law.specs.device.States.is_synchronised, sync_state.specs.membership.{BestFrame.Qualifies, Members.count_of, Summary.Summarizes}}
 use Rattle.{run_law.specs.machines.Answers.after_correction, switch_ports.proofs.Awaiting.{awaits_cleared, awaits_reopened, departs_reopened, departs_stopped}}
-use Rattle.{std.proofs.lemmas.List.Elements.Contains-append_cases, sync_state.specs.Verdicts.{HasVerdict, SomeQualifies, deviation_by, deviation_on}}
+use Rattle.{std.proofs.lemmas.List.Elements.Contains-append_cases, switch_ports.specs.Steps.Corrects, tte_units.proofs.general_lemmas.Naturals.less_than_next}
 use Rattle.switch_ports.proofs.{Hearings.{fresh_collects, nothing_done, silent, site_due, times_three, times_two}, Rooms.{expected_is, small_expected}}
 use Rattle.switch_ports.proofs.Words.{◌*◌, ◌++◌, ◌+ℤ◌, ◌+◌, ◌-ℤ◌, ◌<ℤ◌, ◌<◌, ◌∙◌, ◌∷◌, ◌≡◌, ◌≤ℤ◌, ◌≤◌, A, Awaits, B, Bool, Channel, Collecting, Contains}
 use Rattle.switch_ports.proofs.Words.{Departures, DeviceId, HasCollected, HasDepartures, HasTaken, HeardFrame, IfSome, Intake, Integrating, IsFair, IsSiteOf}
@@ -11,7 +10,9 @@ use Rattle.switch_ports.proofs.Words.{IsSmall, Joining, Moment, Network, Node, N
 use Rattle.switch_ports.proofs.Words.{Units, [], acting, after, amount, ap, arith, best_on, called, correcting, correction_at, correction_value, expected_at}
 use Rattle.switch_ports.proofs.Words.{expected_by, false, fresh, further, if◌then◌else◌, in_none, inl, inr, ints, is_cm, is_timed, its_amount, last_cycle}
 use Rattle.switch_ports.proofs.Words.{nat_le, never_less, next_point, option_and_then, pos, reading_of, refl, silence, subst, sym, through, true, ℕ, ℤ}
-use Rattle.sync_state.specs.{Calls.reached_point, declared.answers.Verdict.{TheVariants.{AsyncClique, Cleared, Corrected, SyncClique}, Verdict}}
+use Rattle.sync_state.{proofs.membership_lemmas.SummaryLemmas.silence_summarizes, specs.Verdicts.{HasVerdict, SomeQualifies, deviation_by, deviation_on}}
+use Rattle.sync_state.specs.{correction.Correction.correction_of, declared.answers.Verdict.{TheVariants.{AsyncClique, Cleared, Corrected, SyncClique}, Verdict}}
+use Rattle.tte_units.specs.Mean.{mean_of}
 use Rattle.schedule_tables.specs.declared.rule.Rule.TheVariants as rules
 
 -- ---- the correction is not less than a precision below

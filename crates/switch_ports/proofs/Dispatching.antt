@@ -1,7 +1,7 @@
 -- The rows' frames that a switch has still to dispatch.
 use Rattle.{net_plan.specs.declared.tables.VirtualLink.VirtualLink, std.proofs.lemmas.Bool.both_ways, switch_ports.proofs.Awaiting.{held_of, held_so, value_is}}
-use Rattle.{run_law.specs.machines.Tasks.HasFrame, schedule_tables.{proofs.EntryLemmas.one_entry, specs.Windows.OccursIn}, tte_lemmas.proofs.Options.mapped}
-use Rattle.std.proofs.Common.{◌%◌}
+use Rattle.run_law.specs.machines.Tasks.{HasFrame}
+use Rattle.{schedule_tables.{proofs.EntryLemmas.one_entry, specs.Windows.OccursIn}, std.proofs.Common.◌%◌, tte_units.proofs.general_lemmas.Options.mapped}
 use Rattle.switch_ports.proofs.Words.{◌&&◌, ◌+ℤ◌, ◌-ℤ◌, ◌<ℤ◌, ◌==◌, ◌∙◌, ◌≡◌, ◌≤ℤ◌, ◌⊎◌, All-contains, Awaits, AwaitsIn, AwaitsSo, Contains, Departure}
 use Rattle.switch_ports.proofs.Words.{Departures, Device, DeviceId, Dispatch, Entry, Held, IfSome, IsAccepted, IsDeparture, IsEntry, IsLeaving, IsPending}
 use Rattle.switch_ports.proofs.Words.{IsSomeAnd, LeavingRow, Network, Node, None, Option, Precedes, RowId, Some, StandsAs, State, Switch, Synchronised}
@@ -24,12 +24,10 @@ no_sender network device place entry accepted not_end is sends =
 
 -- ---- what a row holds is what the device has at hand
 
-occurs_so : (of : LeavingRow) (vl : VirtualLink) (cycle : ℕ) → of.period ≡ vl.period → of.phase ≡ vl.phase → OccursIn vl cycle
-    → is_dispatch_in of cycle ≡ true
+occurs_so : (of : LeavingRow) (vl : VirtualLink) (cycle : ℕ) → of.period ≡ vl.period → of.phase ≡ vl.phase → OccursIn vl cycle → is_dispatch_in of cycle ≡ true
 occurs_so of vl cycle e f o = let a = o.begun in let b = o.in_phase in rw e (rw f (grind (arith, a, b)))
 
-occurs_as : (of : LeavingRow) (vl : VirtualLink) (cycle : ℕ) → of.period ≡ vl.period → of.phase ≡ vl.phase → is_dispatch_in of cycle ≡ true
-    → OccursIn vl cycle
+occurs_as : (of : LeavingRow) (vl : VirtualLink) (cycle : ℕ) → of.period ≡ vl.period → of.phase ≡ vl.phase → is_dispatch_in of cycle ≡ true → OccursIn vl cycle
 occurs_as of vl cycle e f o =
     let h : (nat_le 1 cycle && cycle % vl.period == vl.phase) ≡ true = rw (sym e) (rw (sym f) o) in
     record { begun = grind (arith, h); in_phase = grind (arith, h) }

@@ -1,5 +1,5 @@
 -- What frames that are heard within their time show at the next correction point.
-use Rattle.{membership.specs.BestFrame.IsBetterOf, run_law.proofs.control.Verdicts.{enough_not, in_time_by}, switch_ports.specs.Steps.IsHeardSo}
+use Rattle.{run_law.proofs.control.Verdicts.{enough_not, in_time_by}, switch_ports.specs.Steps.IsHeardSo, sync_state.specs.membership.BestFrame.IsBetterOf}
 use Rattle.{std.specs.Prelude.int_le, switch_ports.proofs.Words.{ℕ, ℤ}}
 use Rattle.switch_ports.proofs.Words.{◌&&◌, ◌*◌, ◌+ℤ◌, ◌+◌, ◌-ℤ◌, ◌<ℤ◌, ◌≡◌, ◌≤ℤ◌, ◌≤◌, ◌⊎◌, A, B, Bool, Channel, HeardFrame, IfSome, Integrating, Joining}
 use Rattle.switch_ports.proofs.Words.{Members, None, Off, Option, Pcf, Some, State, Summary, SyncPlan, Synchronised, Units, arith, best_on, expected_at, false}

@@ -1,6 +1,6 @@
 -- What a switch does first.
-use Rattle.{run_law.specs.{machines.{Calls.HasDue, Tasks.{IsFirstTask, order_of}}, records.Order.IsBefore}, schedule_tables.specs.Dispatches.dispatch_order}
-use Rattle.{std.specs.Prelude.{◌↔◌, IsNone}, tte_lemmas.proofs.Options.same_next}
+use Rattle.{run_law.specs.{machines.{Calls.HasDue, Tasks.{IsFirstTask, order_of}}, records.Order.IsBefore}, tte_units.proofs.general_lemmas.Options.same_next}
+use Rattle.{schedule_tables.specs.Dispatches.dispatch_order, std.specs.Prelude.{◌↔◌, IsNone}}
 use Rattle.switch_ports.proofs.{Awaiting.value_is, Dispatching.{IsDispatch, dispatch_bound, dispatch_is, leaves_so, next_is, next_of, no_dispatch, not_sooner}}
 use Rattle.switch_ports.proofs.Pending.{IsCorrection, IsEmission, correction_bound, correction_pending, emission_at, kind_of, no_correction, pending_correction}
 use Rattle.switch_ports.proofs.Words.{◌*◌, ◌+ℤ◌, ◌+◌, ◌-ℤ◌, ◌<ℤ◌, ◌<◌, ◌∙◌, ◌∷◌, ◌≡◌, ◌≤ℤ◌, ◌≤◌, ◌⊎◌, All-contains, Cluster, Compressed, Contains, DeviceId}

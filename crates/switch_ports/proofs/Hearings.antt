@@ -1,15 +1,15 @@
 -- How a switch stands when it has heard a frame.
-use Rattle.{compression.specs.Clusters.Point, membership.specs.Summary.Summarizes, sync_state.specs.Calls.heard_frame}
-use Rattle.{membership.proofs.SummaryLemmas.silence_summarizes, switch_ports.proofs.{Ranges.expected_most, Rooms.{expected_is, room}}}
-use Rattle.{run_law.specs.machines.Answers.{with_heard, with_joined}, switch_ports.proofs.Words.{ripe_as, silence, subst, sym, through, true, ℕ, ℤ}}
+use Rattle.{compression.specs.Clusters.Point, run_law.specs.machines.Answers.{with_heard, with_joined}, tte_units.proofs.general_lemmas.Naturals.none_less}
 use Rattle.switch_ports.proofs.{Awaiting.{awaits_called, departs_stopped}, Fair.{HasRoom, IsHeardBefore, ahead, behind, kept, not_earlier, within_in}}
+use Rattle.{switch_ports.{proofs.{Ranges.expected_most, Rooms.{expected_is, room}}, specs.Standpoints.IsPoint}, sync_state.specs.membership.Summary.Summarizes}
 use Rattle.switch_ports.proofs.Words.{◌*ℤ◌, ◌*◌, ◌+ℤ◌, ◌+◌, ◌-ℤ◌, ◌<ℤ◌, ◌<◌, ◌^◌, ◌∙◌, ◌≡◌, ◌≤ℤ◌, ◌≤◌, A, B, Bool, Channel, ClockTask, Collecting, Compressed}
 use Rattle.switch_ports.proofs.Words.{Contains, Departures, DeviceId, HasCollected, HasTaken, HeardFrame, IfSome, Intake, Integrating, IsFair, IsSiteOf}
 use Rattle.switch_ports.proofs.Words.{IsSmall, Joining, List, MayCall, Moment, Network, Node, Off, Option, Pcf, Phase, Some, Standing, StandsAs}
 use Rattle.switch_ports.proofs.Words.{StandsForPoints, State, Summary, Switch, SyncPlan, Synchronised, Units, [], after, amount, amount_most, ap, arith}
 use Rattle.switch_ports.proofs.Words.{best_on, called, correcting, correction_at, correction_value, doing, expected_at, expected_by, fresh, further, heard_as}
 use Rattle.switch_ports.proofs.Words.{ints, is_timed, its_amount, last_cycle, mul-le-mul_right, neg_ℤ, never_less, plan_of, point_in, pos, reading_of, refl}
-use Rattle.{switch_ports.specs.{Standpoints.IsPoint, Steps.{Hears, Joins}}, sync_state.specs.Integration.joined_by, tte_lemmas.proofs.Naturals.none_less}
+use Rattle.{switch_ports.proofs.Words.{ripe_as, silence, subst, sym, through, true, ℕ, ℤ}, sync_state.proofs.membership_lemmas.SummaryLemmas.silence_summarizes}
+use Rattle.{switch_ports.specs.Steps.{Hears, Joins}, sync_state.specs.{Calls.heard_frame, Integration.joined_by}}
 use Rattle.run_law.specs.declared.steps.Ripe.TheVariants as ripe
 
 -- a frame comes to its point
@@ -83,8 +83,7 @@ pub fair_frame : (s : Switch) (network : Network) (device : DeviceId) (node : No
     → StandsAs s network device node → MayCall network device node moment phase → IsComing network moment point
     → is_timed node.standing.state ≡ true → node.changed <ℤ correction_value network node.standing.number
     → ripe.Within ≡ ripe_as (heard_as (plan_of network device) network.precision.0 node.standing.state node.standing.adjustment.0 point.0 frame.cycle
-    frame.members)
-    → IsFair network node.standing (record { cycle = frame.cycle; members = frame.members; point = point })
+    frame.members) → IsFair network node.standing (record { cycle = frame.cycle; members = frame.members; point = point })
 fair_frame s network device node moment phase frame point st may is timed lt e =
     let w = (within_in (plan_of network device) network.precision.0 node.standing.state node.standing.adjustment.0 point.0 frame.cycle frame.members (sym e)).1
     in

@@ -1,6 +1,6 @@
 -- When a frame tells a device the time.
-use Rattle.{membership.specs.Members.count_of, sync_state.specs.Integration.Integrates}
-use Rattle.{run_law.{proofs.{control.{Verdicts.{in_time_not, tells_by as enough}}}}, switch_ports.proofs.Words.{last_cycle, nat_le, refl, ripe_as, true, ℕ, ℤ}}
+use Rattle.sync_state.specs.{Integration.Integrates, membership.Members.count_of}
+use Rattle.{run_law.proofs.control.Verdicts.{in_time_not, tells_by as enough}, switch_ports.proofs.Words.{last_cycle, nat_le, refl, ripe_as, true, ℕ, ℤ}}
 use Rattle.switch_ports.proofs.Words.{◌&&◌, ◌≡◌, ◌≤◌, Integrating, Joining, Members, Off, Pcf, Standing, State, SyncPlan, Synchronised, arith, heard_as}
 use Rattle.run_law.specs.declared.steps.Ripe.TheVariants as ripe
 

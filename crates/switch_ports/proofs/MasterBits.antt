@@ -1,9 +1,9 @@
 -- The frames of one master at a compression master.
-use Rattle.{compression.{proofs.{Elements.in_filter_from, Sound.open_at-some}, specs.Role.{has_point_of, open_at}}, membership.proofs.SetLemmas.single-members}
-use Rattle.{compression.proofs.Rooms.room_for_each_master, std.proofs.lemmas.{Nat.Bits.bit_at-trailing_zeros, Option.{same_Some, slice_get_cases}}}
-use Rattle.{compression.proofs.Rows.last_split, net_plan.specs.{Ranges.IsDeviceInRange, Rules.most_masters}, std.specs.Int.{trailing_zeros, w32}}
-use Rattle.{net_plan.specs.Places.device_at, std.{proofs.{Common.{All, IsTrue}, Math.Pow.pow-lt}, specs.Prelude.is_some}}
-use Rattle.{run_law.specs.machines.Calls.IsOneMaster, switch_ports.{proofs.Waiting.{in_map, to_map}, specs.Members.member_numbers}}
+use Rattle.{compression.proofs.{Elements.in_filter_from, Sound.open_at-some}, switch_ports.{proofs.Waiting.{in_map, to_map}, specs.Members.member_numbers}}
+use Rattle.{compression.{proofs.Rooms.room_for_each_master, specs.Role.{has_point_of, open_at}}, std.proofs.lemmas.Nat.Bits.bit_at-trailing_zeros}
+use Rattle.{compression.proofs.Rows.last_split, net_plan.specs.{Ranges.IsDeviceInRange, Rules.most_masters}, run_law.specs.machines.Calls.IsOneMaster}
+use Rattle.{net_plan.specs.Places.device_at, std.{proofs.Math.Pow.pow-lt, specs.{Int.{trailing_zeros, w32}, Prelude.is_some}}}
+use Rattle.{std.proofs.{Common.{All, IsTrue}, lemmas.Option.{same_Some, slice_get_cases}}, sync_state.proofs.membership_lemmas.SetLemmas.single-members}
 use Rattle.switch_ports.proofs.{Pending.emission_pending, Words.{option_and_then, refl, slice_get, subst, suc, sym, true, unwrap_or, zero, ℕ, ℤ}}
 use Rattle.switch_ports.proofs.Words.{◌++◌, ◌+ℤ◌, ◌-ℤ◌, ◌<ℤ◌, ◌<◌, ◌==◌, ◌^◌, ◌∙◌, ◌∷◌, ◌≡◌, ◌≤ℤ◌, ◌≤◌, ◌⊎◌, All-contains_itself, Bool, Cluster, Contains}
 use Rattle.switch_ports.proofs.Words.{Contains-append_right, Device, DeviceId, IfSome, IsAccepted, IsSomeAnd, List, MayCall, Members, Moment, Network, Node}

@@ -34,8 +34,7 @@ fit_closed d true fit =
     record { offset = fit.offset; period = fit.period; link = fit.link; place = fit.place; held = fit.held; awaited = tt }
 fit_closed d false fit = fit
 
-pub of_taken : (length cycle : ℕ) (changed at : ℤ) (d : Departure) (b : Bool)
-    → (if b then with_held changed (held_by length d.of cycle at) d else d).of ≡ d.of
+pub of_taken : (length cycle : ℕ) (changed at : ℤ) (d : Departure) (b : Bool) → (if b then with_held changed (held_by length d.of cycle at) d else d).of ≡ d.of
 of_taken length cycle changed at d true = refl
 of_taken length cycle changed at d false = refl
 
@@ -173,16 +172,13 @@ fresh_keys rows none =
 
 -- ---- one departure is another
 
-pub set_long : (place : ℕ) (d : Departure) (old new : Departures) → Sets place d old new
-    → length new.rows.items ≡ length old.rows.items
+pub set_long : (place : ℕ) (d : Departure) (old new : Departures) → Sets place d old new → length new.rows.items ≡ length old.rows.items
 set_long place d old new h = ap (λ (ds : List Departure). length ds) h.rows ∙ length-set old.rows.items place d
 
-set_here : (place : ℕ) (d e : Departure) (old new : Departures) → Sets place d old new → place < length old.rows.items
-    → get_or new.rows.items place e ≡ d
+set_here : (place : ℕ) (d e : Departure) (old new : Departures) → Sets place d old new → place < length old.rows.items → get_or new.rows.items place e ≡ d
 set_here place d e old new h lt = ap (λ (ds : List Departure). get_or ds place e) h.rows ∙ get_or-set_same old.rows.items place d e lt
 
-set_other : (place k : ℕ) (d e : Departure) (old new : Departures) → Sets place d old new → k ≢ place
-    → get_or new.rows.items k e ≡ get_or old.rows.items k e
+set_other : (place k : ℕ) (d e : Departure) (old new : Departures) → Sets place d old new → k ≢ place → get_or new.rows.items k e ≡ get_or old.rows.items k e
 set_other place k d e old new h apart =
     ap (λ (ds : List Departure). get_or ds k e) h.rows ∙ get_or-set_other old.rows.items place k d e apart
 

@@ -1,9 +1,9 @@
 -- The order of the rows that leave a switch.
-use Rattle.{schedule_tables.specs.Entries.source_of, switch_ports.proofs.Words.{inr, length, length-map, map, refl, slice_set, subst, suc, sym, zero, ℕ}}
-use Rattle.{std.proofs.Common.◌≢◌, tte_lemmas.proofs.Naturals.below_next}
+use Rattle.{schedule_tables.specs.Entries.source_of, std.proofs.Common.◌≢◌, tte_units.proofs.general_lemmas.Naturals.below_next}
 use Rattle.{std.proofs.lemmas.List.{Elements.{All-push, Contains-push}, length-set}, switch_ports.specs.Leaving.{HasRow, IsFresh, IsLast, fresh_row, place_in}}
 use Rattle.switch_ports.proofs.Words.{◌++◌, ◌+◌, ◌<◌, ◌==◌, ◌∙◌, ◌∷◌, ◌≡◌, ◌≤◌, AreChained, AreEach, AreLeaving, Contains-append_left, Departure, DeviceId}
 use Rattle.switch_ports.proofs.Words.{Entry, IsEntry, LeavingRow, List, Network, None, Option, RowId, Some, [], ap, arith, cases_Bool, eqb-true, get_or, inl}
+use Rattle.switch_ports.proofs.Words.{inr, length, length-map, map, refl, slice_set, subst, suc, sym, zero, ℕ}
 
 -- ---- one row more
 

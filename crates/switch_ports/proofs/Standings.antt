@@ -1,7 +1,7 @@
 -- How a call leaves a switch to what it was given and has done.
 use Rattle.{pcf_codec.specs.{EtherType.pcf_type, Fields.field}, switch_ports.{proofs.{Awaiting.awaits_called, Ranges.site_in_range}, specs.Standpoints.IsAlive}}
 use Rattle.{pcf_codec.specs.declared.refusal.PcfRefusal.PcfRefusal, run_law.specs.control.Arrivals.{control_arrival, frame_fault, frame_or_fault, frame_taken}}
-use Rattle.run_law.specs.{device.{Standpoints.{Standpoint as Point}}, machines.Nodes.standpoint_at, scenario.Devices.{is_parent_of, is_relay}}
+use Rattle.run_law.specs.{device.Standpoints.{Standpoint as Point}, machines.Nodes.standpoint_at, scenario.Devices.{is_parent_of, is_relay}}
 use Rattle.std.{proofs.Common.{arith, not}, specs.Prelude.{Err, Ok, Result}}
 use Rattle.switch_ports.proofs.Words.{◌&&◌, ◌==◌, ◌∙◌, ◌≡◌, ◌≤ℤ◌, Bool, DeviceId, LinkId, List, MayCall, Moment, Network, Node, None, Option, Pcf, Phase}
 use Rattle.switch_ports.proofs.Words.{Reason, Some, Standing, StandsAs, State, Switch, Units, after_arrival, amount, ap, called, cases_Bool, eqb-true, false}

@@ -6,13 +6,13 @@ pub use Rattle.std.proofs.Math.Nat.{mul-le-mul_right}
 pub use Rattle.std.proofs.lemmas.{Bool.{cases_Bool, eqb-true}, Int.ints, List.length-map}
 pub use Rattle.std.proofs.lemmas.{List.Elements.{All-contains, All-contains_itself, Contains-append_left, Contains-append_right}, Option.slice_get-get_or}
 pub use Rattle.std.specs.{List.Contains, Option.option_map_or, Prelude.{IfSome, int_lt, nat_le, option_and_then, option_map, slice_get}}
-pub use Rattle.clock_correction.specs.Deviation.{IsSmall}
+pub use Rattle.sync_state.specs.correction.Deviation.{IsSmall}
 pub use Rattle.compression.proofs.Elements.{in_head, in_none}
 pub use Rattle.compression.specs.{Clusters.{AreClusters, Cluster}, Collecting.{Collecting, emissions, fresh}, Emission.{compressed, emission}, Least.IsLeast}
 pub use Rattle.compression.specs.Stands.{StandsForPoints}
 pub use Rattle.compression.specs.declared.compressed.Compressed.{Compressed}
-pub use Rattle.membership.specs.Summary.{Summary, best_on, silence}
-pub use Rattle.membership.specs.declared.frame.HeardFrame.{HeardFrame}
+pub use Rattle.sync_state.specs.membership.Summary.{Summary, best_on, silence}
+pub use Rattle.sync_state.specs.declared.membership.frame.HeardFrame.{HeardFrame}
 pub use Rattle.net_plan.proofs.InRange.{amount_most, its_amount}
 pub use Rattle.net_plan.specs.{Places.{is_end_system, is_master, link_at}, Ranges.{IsInRange, IsWithin}, Rules.masters}
 pub use Rattle.net_plan.specs.declared.{ids.{DeviceId.DeviceId, LinkId.LinkId, RowId.RowId, VlId.VlId}, network.Network.Network, tables.Device.Device}
@@ -30,7 +30,7 @@ pub use Rattle.schedule_tables.specs.Entries.{IsEntry}
 pub use Rattle.schedule_tables.specs.declared.entry.Entry.{Entry}
 pub use Rattle.sync_state.specs.{Calls.after, Plan.expected_at, Standing.{Standing, next_point, point_in}}
 pub use Rattle.sync_state.specs.declared.{plan.SyncPlan.SyncPlan, state.State.{State, TheVariants.{Integrating, Joining, Off, Synchronised}}}
-pub use Rattle.tte_lemmas.proofs.{Integers.{further, never_less, through}, Lists.in_all}
+pub use Rattle.tte_units.proofs.general_lemmas.{Integers.{further, never_less, through}, Lists.in_all}
 pub use Rattle.tte_units.specs.Amount.{amount}
 pub use Rattle.tte_units.specs.declared.units.Units.{Units}
 pub use Rattle.device_rules.specs.{Intakes.HasTaken, declared.intake.Intake.Intake}

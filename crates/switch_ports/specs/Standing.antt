@@ -1,11 +1,11 @@
 -- How a switch stands to what it was given and has done.
 use Rattle.std.specs.{List.Contains, Prelude.{◌+ℤ◌, ◌<◌, ◌≡◌, ◌≤ℤ◌, All, List, [], false, pos, true, ℕ, ℤ}}
-use Rattle.{clock_correction.specs.Deviation.IsSmall, compression.specs.{Collecting.Collecting, Stands.StandsForPoints}}
-use Rattle.{compression.specs.Clusters.Point, device_rules.specs.Intakes.HasTaken, membership.specs.Summary.Summarizes}
-use Rattle.{compression.specs.declared.compressed.Compressed.Compressed, switch_ports.specs.Corrections.correction_due}
-use Rattle.net_plan.specs.{Ranges.IsInRange, declared.{ids.DeviceId.DeviceId, network.Network.Network}}
+use Rattle.{compression.specs.Clusters.Point, net_plan.specs.declared.{ids.DeviceId.DeviceId, network.Network.Network}}
+use Rattle.{compression.specs.{Collecting.Collecting, Stands.StandsForPoints}, schedule_tables.specs.Rules.KeepsRules}
+use Rattle.{compression.specs.declared.compressed.Compressed.Compressed, sync_state.specs.membership.Summary.Summarizes}
+use Rattle.{device_rules.specs.Intakes.HasTaken, net_plan.specs.Ranges.IsInRange, tte_units.specs.Reading.least_reading}
 use Rattle.run_law.specs.{machines.Nodes.{Node, correcting}, scenario.Devices.{is_cm, plan_of}}
-use Rattle.{schedule_tables.specs.Rules.KeepsRules, tte_units.specs.Reading.least_reading}
+use Rattle.{switch_ports.specs.Corrections.correction_due, sync_state.specs.correction.Deviation.IsSmall}
 use Rattle.switch_ports.specs.{Departing.{AwaitsIn, HasDepartures}, Sites.IsSiteOf, declared.switch.Switch.Switch}
 use Rattle.switch_ports.specs.{Members.member_numbers, Steady.{IsSteady, is_timed}}
 

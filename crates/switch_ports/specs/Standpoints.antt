@@ -1,9 +1,9 @@
 -- Where a switch stands when something comes to it.
 use Rattle.std.specs.Prelude.{◌+◌, ◌^◌, ◌≤ℤ◌, All, neg_ℤ, not, pos}
-use Rattle.{clock_correction.specs.Deviation.IsSmall, run_law.specs.device.States.is_off, tte_units.specs.Amount.amount}
-use Rattle.net_plan.specs.Ranges.{IsWithin}
-use Rattle.{run_law.{specs.{device.{Standpoints.{Standpoint as Point}}}}, tte_units.specs.declared.units.Units.Units}
-use Rattle.switch_ports.specs.declared.{site.{Port.Port, Site.Site}, standpoint.Standpoint.Standpoint}
+use Rattle.{net_plan.specs.Ranges.IsWithin, run_law.specs.device.States.is_off}
+use Rattle.{run_law.specs.device.Standpoints.{Standpoint as Point}, switch_ports.specs.declared.site.Port.Port}
+use Rattle.{switch_ports.specs.declared.site.Site.Site, tte_units.specs.{Amount.amount, declared.units.Units.Units}}
+use Rattle.{switch_ports.specs.declared.standpoint.Standpoint.Standpoint, sync_state.specs.correction.Deviation.IsSmall}
 
 -- where the device stands that is not broken
 abbrev pub standpoint_of : Standpoint → Point

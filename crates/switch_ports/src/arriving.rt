@@ -11,11 +11,11 @@ ghost use Rattle.switch_ports.specs.{Sites.IsSiteOf, Standpoints.{IsAlive, IsSit
 
 use crate::{Site, Standpoint};
 use device_rules::{is_cold_start, refused};
+use drift_clock::transparent::{arrive, permanence};
 use net_plan::{LinkId, Way};
 use pcf_codec::decode;
 use pcf_values::{Members, Pcf};
 use run_law::{Arrival, Reason};
-use transparent_clock::{arrive, permanence};
 use tte_units::Units;
 
 impl Site {

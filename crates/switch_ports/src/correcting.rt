@@ -1,6 +1,6 @@
 ghost use Rattle.std.specs.Prelude.{◌*◌, ◌+◌, ◌^◌, ◌≡◌, ◌≤◌, IfSome, option_and_then};
-ghost use Rattle.{clock_correction.specs.Deviation.IsSmall, run_law.specs.control.Hearing.last_cycle};
-ghost use Rattle.switch_ports.specs.{Corrections.correction_at, Standpoints.IsSiteInRange};
+ghost use Rattle.{run_law.specs.control.Hearing.last_cycle, switch_ports.specs.Standpoints.IsSiteInRange};
+ghost use Rattle.{switch_ports.specs.Corrections.correction_at, sync_state.specs.correction.Deviation.IsSmall};
 ghost use Rattle.{sync_state.specs.Standing.next_point, tte_units.specs.Amount.{amount, units_of}};
 
 use crate::Site;

@@ -2,8 +2,8 @@
 
 ghost use Rattle.std.specs.Prelude.{◌*◌, ◌+◌, ◌-ℤ◌, ◌<◌, ◌^◌, ◌≡◌, ◌≤ℤ◌, ◌≤◌, IfOk, None, OnOk};
 ghost use Rattle.std.specs.Prelude.{length, map, option_map, pos};
-ghost use Rattle.{clock_correction.specs.Deviation.IsSmall, schedule_tables.specs.Entries.IsEntry};
-ghost use Rattle.net_plan.specs.{Ranges.{IsInRange, IsWithin}, declared.{network.{Network.{Network as NetworkValue}}}};
+ghost use Rattle.net_plan.specs.{Ranges.{IsInRange, IsWithin}, declared.network.Network.{Network as NetworkValue}};
+ghost use Rattle.{schedule_tables.specs.Entries.IsEntry, sync_state.specs.correction.Deviation.IsSmall};
 ghost use Rattle.{switch_ports.specs.Departing.{Changes, IsBegun, IsReady, KnowsNext}, tte_units.specs.Amount.amount};
 ghost use Rattle.switch_ports.specs.Leaving.{AreLeaving, IsFirstOf, IsFit, IsTakingFit, awaited_of, closed};
 ghost use Rattle.switch_ports.specs.Leaving.{dispatch_by, fresh_row, held_by, is_dispatch_in, key_by, place_in};
@@ -19,7 +19,7 @@ use tte_units::Units;
 const PLACES: u64 = 1 << 32;
 
 /// A row that leaves the switch.
-#[derive(Clone, Copy, Debug, PartialEq, Eq)]
+#[derive(Clone, Copy)]
 pub struct LeavingRow {
     pub row: RowId,
     pub link: LinkId,
@@ -36,7 +36,7 @@ pub struct LeavingRow {
 }
 
 /// A frame that the switch took, as one row dispatches it.
-#[derive(Clone, Copy, Debug, PartialEq, Eq)]
+#[derive(Clone, Copy, PartialEq, Eq)]
 pub struct Held {
     /// The switch's cycle in which it was taken.
     pub cycle: u32,
@@ -45,7 +45,7 @@ pub struct Held {
 }
 
 /// A row that leaves the switch, and the frame that it dispatches.
-#[derive(Clone, Copy, Debug, PartialEq, Eq)]
+#[derive(Clone, Copy)]
 pub struct Departure {
     pub of: LeavingRow,
     /// The last frame of the virtual link that the switch took, if the row's place came behind.
@@ -55,7 +55,7 @@ pub struct Departure {
 }
 
 /// A frame of a virtual link that the switch takes, in a cycle of its own and at a local value.
-#[derive(Clone, Copy, Debug, PartialEq, Eq)]
+#[derive(Clone, Copy)]
 pub struct Taking {
     pub vl: VlId,
     pub cycle: u32,

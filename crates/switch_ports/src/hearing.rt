@@ -1,13 +1,13 @@
 ghost use Rattle.std.specs.Prelude.{◌≡◌, ◌+◌, ◌≤◌, ◌^◌, ◌+ℤ◌, ◌-ℤ◌, ◌&&◌, nat_le};
-ghost use Rattle.{clock_correction.specs.Deviation.IsSmall, switch_ports.specs.Standpoints.{IsPoint, IsSiteInRange}};
 ghost use Rattle.run_law.specs.control.Hearing.{heard_as, heard_by_schedule, is_in_schedule, last_cycle};
-ghost use Rattle.{run_law.specs.control.Permanence.ripe_as, sync_state.specs.Plan.expected_at};
+ghost use Rattle.{run_law.specs.control.Permanence.ripe_as, sync_state.specs.correction.Deviation.IsSmall};
+ghost use Rattle.{switch_ports.specs.Standpoints.{IsPoint, IsSiteInRange}, sync_state.specs.Plan.expected_at};
 
 use crate::Site;
-use membership::count;
 use pcf_values::Members;
 use run_law::Ripe;
 use sync_state::State;
+use sync_state::membership::count;
 use tte_units::Units;
 
 /// A frame of a later cycle is not used.

@@ -1,8 +1,8 @@
 ghost use Rattle.std.specs.{Int.int_div_euclid, Prelude.{◌&&◌, ◌*◌, ◌+ℤ◌, ◌-ℤ◌, ◌≡◌, int_lt, pos, ℕ}};
-ghost use Rattle.{clock_correction.specs.Deviation.IsSmall, tte_units.specs.Amount.{amount, units_of}};
 ghost use Rattle.net_plan.specs.{Ranges.IsInRange, declared.{ids.DeviceId.DeviceId, network.Network.Network}};
 ghost use Rattle.run_law.specs.control.Collections.{dispatch_value, is_number, point_fault};
 ghost use Rattle.switch_ports.specs.{Sites.IsSiteOf, Standpoints.{IsAlive, IsPoint, IsSiteInRange}};
+ghost use Rattle.{sync_state.specs.correction.Deviation.IsSmall, tte_units.specs.Amount.{amount, units_of}};
 
 use crate::hearing::shown;
 use crate::{Site, Standpoint};

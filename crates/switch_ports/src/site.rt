@@ -3,16 +3,16 @@ ghost use Rattle.{net_plan.specs.Ranges.{IsInRange, IsLinkInRange}, switch_ports
 ghost use Rattle.{schedule_tables.specs.Schedule.IsSwitch, tte_units.specs.Amount.units_of};
 ghost use Rattle.switch_ports.specs.Sites.{IsSiteOf, expected_in, is_below, is_other_member, peer_below, peer_of};
 
-use membership::one;
 use net_plan::{DeviceId, Link, LinkId, Network, Role};
 use pcf_values::{Channel, Mac, Members};
 use schedule_tables::OutOfMemory;
 use std::alloc::{AllocError, Global};
 use sync_state::SyncPlan;
+use sync_state::membership::one;
 use tte_units::Units;
 
 /// What stands at the other end of a link.
-#[derive(Clone, Copy, Debug, PartialEq, Eq)]
+#[derive(Clone, Copy)]
 pub enum Peer {
     /// The switch's parent.
     Parent,
@@ -25,7 +25,7 @@ pub enum Peer {
 }
 
 /// What the network says of a link, as it is seen from the switch.
-#[derive(Clone, Copy, Debug, PartialEq, Eq)]
+#[derive(Clone, Copy)]
 pub struct Port {
     pub peer: Peer,
     /// The nominal delay of the wire.
@@ -35,7 +35,7 @@ pub struct Port {
 }
 
 /// What the network says of a switch.
-#[derive(Debug, Drop)]
+#[derive(Drop)]
 pub struct Site {
     /// Is it a relay? Otherwise it is a compression master.
     pub is_relay: bool,

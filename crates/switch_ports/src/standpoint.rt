@@ -1,12 +1,12 @@
 ghost use Rattle.std.specs.Prelude.{◌≡◌, ◌+◌, ◌^◌, ◌+ℤ◌};
-ghost use Rattle.{clock_correction.specs.Deviation.IsSmall, run_law.specs.device.States.{is_off, is_synchronised}};
 ghost use Rattle.net_plan.specs.Ranges.{IsWithin};
+ghost use Rattle.{run_law.specs.device.States.{is_off, is_synchronised}, sync_state.specs.correction.Deviation.IsSmall};
 
 use sync_state::State;
 use tte_units::Units;
 
 /// Where a switch stands when something comes to it.
-#[derive(Clone, Copy, Debug, PartialEq, Eq)]
+#[derive(Clone, Copy)]
 pub struct Standpoint {
     pub state: State,
     /// What its clock reads.

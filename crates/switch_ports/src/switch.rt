@@ -1,7 +1,7 @@
 ghost use Rattle.std.specs.Int.{trailing_zeros, w32};
 ghost use Rattle.std.specs.Prelude.{◌+ℤ◌, ◌+◌, ◌-ℤ◌, ◌<ℤ◌, ◌<◌, ◌^◌, ◌≡◌, ◌≢◌, ◌≤ℤ◌, ◌≤◌, ◌⊎◌, All, IfOk, IfSome};
 ghost use Rattle.std.specs.Prelude.{IsSomeAnd, IsTrue, [], false, length, option_and_then, pos, true};
-ghost use Rattle.clock_correction.specs.Deviation.{IsSmall};
+ghost use Rattle.sync_state.specs.correction.Deviation.{IsSmall};
 ghost use Rattle.compression.specs.{Collecting.emissions, Role.{has_point_of, open_at}};
 ghost use Rattle.net_plan.specs.Ranges.{IsInRange, IsWithin};
 ghost use Rattle.run_law.specs.control.{Collections.master_of, Hearing.{heard_as, last_cycle}, Permanence.ripe_as};
@@ -17,12 +17,12 @@ use crate::standpoint::local;
 use crate::{Site, Standpoint};
 use compression::{Collector, Taken};
 use device_rules::Intake;
-use membership::{Heard, HeardFrame};
 use net_plan::{DeviceId, Network};
 use pcf_values::{Channel, Pcf};
 use run_law::{Act, Moment, Reason, Ripe};
 use schedule_tables::{Accepted, OutOfMemory};
 use std::alloc::Global;
+use sync_state::membership::{Heard, HeardFrame};
 use sync_state::{Sync, Verdict};
 use tte_units::Units;
 

@@ -1,10 +1,10 @@
 -- Laws of the verdicts.
-use Rattle.{clock_correction.specs.Correction.correction_of, membership.specs.declared.frame.HeardFrame.HeardFrame, tte_units.specs.declared.units.Units.Units}
-use Rattle.{membership.specs.Members.count_of, sync_state.specs.Standing.Standing, tte_units.{proofs.Means.mean_of-floor, specs.Mean.{IsMean, mean_of}}}
-use Rattle.{membership.specs.Summary.Summary, std.proofs.{Common.{true, ℤ}, lemmas.Int.ints}, sync_state.specs.Plan.expected_at}
 use Rattle.{pcf_values.specs.declared.channel.Channel.TheVariants.{A, B}, sync_state.specs.Verdicts.{HasVerdict, deviation_by, deviation_on}}
 use Rattle.std.proofs.Common.{◌+ℤ◌, ◌-ℤ◌, ◌∙◌, ◌≡◌, Bool, None, Option, Some, ap, arith, false, if◌then◌else◌, nat_le, option_and_then, option_map, refl, sym}
-use Rattle.{std.proofs.lemmas.Option.same_Some, sync_state.specs.declared.answers.Verdict.{TheVariants.{AsyncClique, Cleared, Corrected, SyncClique}, Verdict}}
+use Rattle.{std.proofs.Common.{true, ℤ}, sync_state.specs.{Plan.expected_at, Standing.Standing}}
+use Rattle.{std.proofs.lemmas.{Int.ints, Option.same_Some}, tte_units.{proofs.Means.mean_of-floor, specs.{Mean.{IsMean, mean_of}, declared.units.Units.Units}}}
+use Rattle.sync_state.specs.{correction.Correction.correction_of, declared.answers.Verdict.Verdict, membership.{Members.count_of, Summary.Summary}}
+use Rattle.sync_state.specs.declared.{answers.Verdict.TheVariants.{AsyncClique, Cleared, Corrected, SyncClique}, membership.frame.HeardFrame.HeardFrame}
 
 pub one_verdict : (s : Standing) (heard : Summary) (v w : Verdict) → HasVerdict s heard v → HasVerdict s heard w → v ≡ w
 one_verdict s heard Cleared Cleared a b = refl

@@ -1,4 +1,6 @@
+pub mod membership_lemmas
 pub mod CallLemmas
 pub mod VerdictLemmas
 pub mod LawLemmas
 pub mod StateFacts
+pub mod PlanFacts

@@ -1,8 +1,8 @@
 -- States, and the points of a cycle in them.
-use Rattle.{membership.specs.BestFrame.Qualifies, std.proofs.Common.{◌∙◌, ◌≡◌, ◌≤◌, Bool, IfSome, None, Option, Some, ap, false, if◌then◌else◌, sym, true, ℕ}}
-use Rattle.{membership.specs.Members.count_of, std.{proofs.lemmas.Bool.le-leb, specs.Prelude.{nat_le, option_and_then}}}
-use Rattle.{membership.specs.declared.frame.HeardFrame.HeardFrame, sync_state.specs.declared.state.State.TheVariants.{Integrating, Joining, Off, Synchronised}}
-use Rattle.{sync_state.specs.{Standing.{Standing, point_in}, Verdicts.deviation_by, declared.state.State.State}, tte_units.specs.declared.units.Units.Units}
+use Rattle.{std.proofs.Common.{◌∙◌, ◌≡◌, ◌≤◌, Bool, IfSome, None, Option, Some, ap, false, if◌then◌else◌, sym, true, ℕ}, sync_state.specs.Verdicts.deviation_by}
+use Rattle.std.{proofs.lemmas.Bool.le-leb, specs.Prelude.{nat_le, option_and_then}}
+use Rattle.{sync_state.specs.{Standing.{Standing, point_in}, membership.{BestFrame.Qualifies, Members.count_of}}, tte_units.specs.declared.units.Units.Units}
+use Rattle.sync_state.specs.declared.{membership.frame.HeardFrame.HeardFrame, state.State.{State, TheVariants.{Integrating, Joining, Off, Synchronised}}}
 
 pub no_point : (state : State) (number cycle : ℕ) → state ≡ Integrating → point_in state number ≡ Some cycle → ⊥
 no_point state number cycle is next = let bad : None ≡ Some cycle = sym (ap (λ (x : State). point_in x number) is) ∙ next in cc

@@ -1,12 +1,12 @@
 -- What a correction point comes to.
-use Rattle.{clock_correction.specs.Correction.correction_of, membership.specs.declared.frame.HeardFrame.HeardFrame, tte_units.specs.declared.units.Units.Units}
-use Rattle.{clock_correction.specs.Deviation.IsSmall, std.proofs.lemmas.{Bool.{le-leb, leb-true}, Option.same_Some}, tte_units.proofs.Means.mean_of-floor}
-use Rattle.{membership.specs.Members.count_of, sync_state.specs.declared.answers.Verdict.{TheVariants.{AsyncClique, Cleared, Corrected, SyncClique}, Verdict}}
-use Rattle.{membership.specs.Summary.Summary, std.proofs.lemmas.Int.ints, sync_state.specs.Plan.expected_at, tte_units.specs.Mean.{IsMean, mean_of}}
 use Rattle.{pcf_values.specs.declared.channel.Channel.TheVariants.{A, B}, std.proofs.Common.{nat_le, option_and_then, option_map, refl, subst, sym, true, ℕ, ℤ}}
 use Rattle.std.proofs.Common.{◌+ℤ◌, ◌-ℤ◌, ◌↔◌, ◌≡◌, ◌≤◌, Bool, IfSome, IsSome, IsSomeAnd, IsTrue, None, Option, Some, arith, false, if◌then◌else◌, leb, max}
+use Rattle.{std.proofs.lemmas.{Bool.{le-leb, leb-true}, Option.same_Some}, sync_state.specs.Calls.adjustment_by, tte_units.specs.declared.units.Units.Units}
+use Rattle.{std.proofs.lemmas.Int.ints, sync_state.specs.Plan.expected_at, tte_units.{proofs.Means.mean_of-floor, specs.Mean.{IsMean, mean_of}}}
 use Rattle.std.specs.Option.{unwrap_or}
-use Rattle.sync_state.specs.{Calls.adjustment_by, Standing.Standing, Verdicts.{IfCorrected, IsNear, IsOutnumbered, deviation_by, deviation_on, members_of_best}}
+use Rattle.sync_state.specs.{Standing.Standing, correction.Deviation.IsSmall, declared.answers.Verdict.Verdict, membership.{Members.count_of, Summary.Summary}}
+use Rattle.sync_state.specs.{Verdicts.{IfCorrected, IsNear, IsOutnumbered, deviation_by, deviation_on, members_of_best}, correction.Correction.correction_of}
+use Rattle.sync_state.specs.declared.{answers.Verdict.TheVariants.{AsyncClique, Cleared, Corrected, SyncClique}, membership.frame.HeardFrame.HeardFrame}
 
 best_within : (best : Option HeardFrame) (n : ℕ) → (unwrap_or (option_map (λ frame. count_of frame.members) best) 0 ≤ n) ↔ IfSome best
     (λ frame. count_of frame.members ≤ n)

@@ -1,9 +1,9 @@
 use Rattle.std.specs.Prelude.{◌++◌, ◌+ℤ◌, ◌+◌, ◌∷◌, ◌≡◌, IsSome, List, None, Option, Some, SomeIff, [], fold, ℕ}
-use Rattle.{membership.specs.Summary.Summary, pcf_values.specs.declared.pcf.Pcf.Pcf}
+use Rattle.{pcf_values.specs.declared.pcf.Pcf.Pcf, tte_units.specs.declared.units.Units.Units}
 use Rattle.sync_state.specs.{Integration.{Integrates, joined_by}, declared.answers.{Joined.Joined, Verdict.Verdict}}
-use Rattle.sync_state.specs.{Standing.{Standing, adjustment_at_start, next_point, state_at_start}, Verdicts.HasVerdict}
+use Rattle.sync_state.specs.Standing.{Standing, adjustment_at_start, next_point, state_at_start}
+use Rattle.sync_state.specs.{Verdicts.HasVerdict, declared.plan.SyncPlan.SyncPlan, membership.Summary.Summary}
 use Rattle.sync_state.specs.declared.answers.Verdict.TheVariants.{AsyncClique, Cleared, Corrected, SyncClique}
-use Rattle.{sync_state.specs.declared.plan.SyncPlan.SyncPlan, tte_units.specs.declared.units.Units.Units}
 use Rattle.sync_state.specs.declared.state.State.{State, TheVariants.{Integrating, Joining, Off, Synchronised}}
 
 -- a call on a device's synchronisation, with what it was given and what it answered

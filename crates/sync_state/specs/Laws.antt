@@ -1,7 +1,6 @@
 use Rattle.std.specs.Prelude.{◌+ℤ◌, ◌-ℤ◌, ◌≡◌}
-use Rattle.membership.specs.Summary.{Summary}
-use Rattle.{sync_state.specs.Standing.Standing, tte_units.specs.declared.units.Units.Units}
-use Rattle.sync_state.specs.{Verdicts.HasVerdict, declared.answers.Verdict.{TheVariants.Corrected, Verdict}}
+use Rattle.{sync_state.specs.{Standing.Standing, Verdicts.HasVerdict}, tte_units.specs.declared.units.Units.Units}
+use Rattle.sync_state.specs.{declared.answers.Verdict.{TheVariants.Corrected, Verdict}, membership.Summary.Summary}
 
 -- a correction point comes to one thing
 abbrev pub VerdictIsOne : Type 0

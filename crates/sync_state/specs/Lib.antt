@@ -1,3 +1,5 @@
+pub mod membership
+pub mod correction
 pub mod Plan
 pub mod Standing
 pub mod Integration

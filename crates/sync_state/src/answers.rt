@@ -1,7 +1,7 @@
 use tte_units::Units;
 
 /// What a correction point comes to.
-#[derive(Clone, Copy, Debug, PartialEq, Eq, Hash)]
+#[derive(Clone, Copy, PartialEq, Eq)]
 pub enum Verdict {
     /// The adjustment has grown by this.
     Corrected(Units),
@@ -14,7 +14,7 @@ pub enum Verdict {
 }
 
 /// How a device joins by a frame.
-#[derive(Clone, Copy, Debug, PartialEq, Eq, Hash)]
+#[derive(Clone, Copy, PartialEq, Eq)]
 pub struct Joined {
     /// The frame's integration cycle.
     pub cycle: u32,

@@ -3,7 +3,9 @@
 #![tactic(auto)]
 
 mod answers;
+pub mod correction;
 mod laws;
+pub mod membership;
 mod plan;
 mod state;
 mod sync;

@@ -4,7 +4,7 @@ ghost use Rattle.sync_state.specs.Plan.{IsPlan, expected_at};
 use tte_units::Units;
 
 /// What the network says of a device's synchronisation.
-#[derive(Clone, Copy, Debug, PartialEq, Eq, Hash)]
+#[derive(Clone, Copy, PartialEq, Eq)]
 pub struct SyncPlan {
     /// The length of a cycle, in units of 2^-16 ns: 2^32 to 2^40.
     pub cycle_length: Units,

@@ -1,5 +1,5 @@
 /// Where a device stands in its synchronisation with the network.
-#[derive(Clone, Copy, Debug, PartialEq, Eq, Hash)]
+#[derive(Clone, Copy, Debug, PartialEq, Eq)]
 pub enum State {
     /// It takes no part.
     Off,

@@ -1,15 +1,15 @@
 ghost use Rattle.std.specs.Prelude.{◌++◌, ◌+ℤ◌, ◌+◌, ◌^◌, ◌↔◌, ◌∷◌, ◌≡◌, ◌≤ℤ◌, ◌≤◌, IfNone, IfSome, IsSomeAnd, IsTrue};
 ghost use Rattle.std.specs.Prelude.{List, Option, SomeIff, [], neg_ℤ, pos, ℕ};
-ghost use Rattle.{clock_correction.specs.Deviation.IsSmall, sync_state.specs.Plan.IsPlan};
-ghost use Rattle.{membership.specs.Summary.{Summary, best_on}, sync_state.specs.Verdicts.members_of_best};
+ghost use Rattle.sync_state.specs.{Plan.IsPlan, correction.Deviation.IsSmall};
+ghost use Rattle.sync_state.specs.{Verdicts.members_of_best, membership.Summary.{Summary, best_on}};
 ghost use Rattle.sync_state.specs.Calls.{CarriesOn, StandsAfter, after, heard_frame, reached_point, turned_on};
 ghost use Rattle.sync_state.specs.{Integration.{Integrates, joined_by}, Standing.{IsAtIntegration, begun, next_point}};
 ghost use Rattle.sync_state.specs.Verdicts.{HasVerdict, IfCorrected, IsNear, IsOutnumbered, deviation_on};
 ghost use Rattle.tte_units.specs.{Reading.{greatest_reading, least_reading}, declared.units.Units.Units};
 
+use crate::correction::{correction, deviation};
+use crate::membership::{Heard, count};
 use crate::{Joined, State, SyncPlan, Verdict};
-use clock_correction::{correction, deviation};
-use membership::{Heard, count};
 use pcf_values::{Channel, Pcf};
 use std::marker::Model;
 use tte_units::Units;
@@ -19,7 +19,7 @@ pub const LAST_CYCLE: u32 = (1 << 20) + (1 << 17);
 
 /// The synchronisation of one device: its state, its adjustment, and the cycle of its next
 /// correction point.
-#[derive(Clone, Copy, Debug, PartialEq, Eq, Hash)]
+#[derive(Clone, Copy, PartialEq, Eq)]
 pub struct Sync {
     plan: SyncPlan,
     state: State,

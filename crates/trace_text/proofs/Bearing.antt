@@ -1,10 +1,10 @@
 -- The place of a name among those of a network.
-use Rattle.{net_plan.proofs.Bearing.behind, std.specs.List.{All, position_from}, trace_text.specs.Names.first_place, tte_lemmas.proofs.Lists.same_name}
+use Rattle.{net_plan.proofs.Bearing.behind, std.specs.{List.{All, position_from}, Option.option_map, Str.IsUtf8}}
 use Rattle.{net_plan.specs.Bearers.{HasNoBearer, IsFirstBearer}, std.specs.{Cmp.Lexicographic.bytes_decides, Prelude.{IfNone, IfSome, bytes_eq, is_some}}}
-use Rattle.{net_plan.specs.NameText.{IsNameText, is_name_character}, std.proofs.lemmas.{Bool.false≢true, Option.{get_or_from_slice_get, slice_get_within}}}
+use Rattle.{net_plan.specs.NameText.{IsNameText, is_name_character}, std.proofs.{Common.{zero, ℕ}, lemmas.Option.{get_or_from_slice_get, slice_get_within}}}
 use Rattle.std.proofs.Common.{◌+◌, ◌<◌, ◌∙◌, ◌∷◌, ◌≡◌, ◌≢◌, Bool, List, None, Option, Some, [], ap, arith, false, length, map, refl, subst, suc, sym, true}
-use Rattle.std.{proofs.Common.{zero, ℕ}, specs.{Option.option_map, Str.IsUtf8}}
-use Rattle.std.proofs.lemmas.{Bool.Decides.nat_tests, List.{Elements.All-weaker, Sums.AllPass-from_list_all}, Str.{Ascii.IsAscii-from_all, IsUtf8-from_ascii}}
+use Rattle.{std.proofs.lemmas.{Bool.{Decides.nat_tests, false≢true}, List.Elements.All-weaker, Str.IsUtf8-from_ascii}, trace_text.specs.Names.first_place}
+use Rattle.{std.proofs.lemmas.{List.Sums.AllPass-from_list_all, Str.Ascii.IsAscii-from_all}, tte_units.proofs.general_lemmas.Lists.same_name}
 
 other_case : (text name : List ℕ) (b : Bool) → bytes_eq text name ≡ b → name ≢ text → b ≡ false
 other_case text name true e other = absurd (other (sym ((bytes_decides text name).0 e)))

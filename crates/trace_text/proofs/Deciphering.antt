@@ -13,8 +13,7 @@ small_value c (Some v) e = grind (arith, e)
 abbrev pair_of : ℕ → ℕ → ℕ → Option ℕ → Option ℕ → Result ℕ FromHexError
 pair_of high low i h l = digit_or_error high i h >>= (λ x. digit_or_error low (i + 1) l >>= (λ y. Ok (x * 16 + y)))
 
-good_pair : (a b i : ℕ) (h l : Option ℕ) → unwrap_or h 16 < 16 → unwrap_or l 16 < 16
-    → pair_of a b i h l ≡ Ok (unwrap_or h 16 * 16 + unwrap_or l 16)
+good_pair : (a b i : ℕ) (h l : Option ℕ) → unwrap_or h 16 < 16 → unwrap_or l 16 < 16 → pair_of a b i h l ≡ Ok (unwrap_or h 16 * 16 + unwrap_or l 16)
 good_pair a b i None l high low = absurd (omega arith)
 good_pair a b i (Some x) None high low = absurd (omega arith)
 good_pair a b i (Some x) (Some y) high low = refl

@@ -1,17 +1,17 @@
 -- What words that are read spell, in lower case.
-use Rattle.{hex.proofs.HexLemmas.{decode_of-even, decode_of-ok}, net_plan.specs.{Bearers.{device_names, link_names}, Belonging.{device_name, link_name}}}
+use Rattle.{hex.proofs.HexLemmas.{decode_of-even, decode_of-ok}, tte_units.{proofs.general_lemmas.{Lists.found_passes, Options.mapped}, specs.Amount.units_of}}
 use Rattle.hex.specs.Hex.{◌>>=◌, decode_of, decode_pairs, digit_or_error, encode_lower, encode_with, hex_digit_value, lower_digits, pair_value, value_at}
 use Rattle.{hex.specs.declared.error.FromHexError.FromHexError, std.proofs.lemmas.List.{Elements.{All-head, All-tail}, Sums.AllPass-from_list_all}}
-use Rattle.{net_plan.proofs.Bearing.behind, tte_lemmas.proofs.{Lists.found_passes, Options.mapped}, tte_units.specs.Amount.units_of}
-use Rattle.{net_plan.specs.{NameText.{IsNameText, is_name_character}, declared.network.Network.Network}, std.proofs.lemmas.Bool.{and_parts, cases_lt, eqb-true}}
+use Rattle.{net_plan.proofs.Bearing.behind, std.specs.{Fmt.signed_decimal, List.position_from}}
+use Rattle.net_plan.specs.{Bearers.{device_names, link_names}, Belonging.{device_name, link_name}, declared.{ids.DeviceId.DeviceId, network.Network.Network}}
+use Rattle.{net_plan.specs.{NameText.{IsNameText, is_name_character}, declared.tables.Device.Device}, std.proofs.lemmas.Bool.{and_parts, cases_lt, eqb-true}}
 use Rattle.{net_plan.specs.Ranges.{IsDeviceInRange, IsInRange, IsLinkInRange}, std.proofs.Common.{inr, map, refl, slice_index, subst, suc, sym, true, zero, ℕ}}
-use Rattle.{net_plan.specs.declared.{ids.{DeviceId.DeviceId, LinkId.LinkId}, tables.{Device.Device, Link.Link}}, std.specs.Str.Parse.{AllDigits, digits_value}}
+use Rattle.{net_plan.specs.declared.{ids.LinkId.LinkId, tables.Link.Link}, std.{proofs.lemmas.Bool.Decides.nat_tests, specs.Cmp.Lexicographic.bytes_decides}}
 use Rattle.{net_plan.specs.declared.tables.Way.TheVariants.{Down, Up}, trace_text.specs.Names.{device_id, device_spelled, first_place, link_id, link_spelled}}
-use Rattle.{net_plan.specs.declared.tables.Way.Way, std.{proofs.lemmas.Bool.Decides.nat_tests, specs.{Result.result_unwrap_or, Str.str_to_ascii_lowercase}}}
+use Rattle.{net_plan.specs.declared.tables.Way.Way, std.specs.{Result.result_unwrap_or, Str.str_to_ascii_lowercase}, tte_units.specs.declared.rates.Ppb.Ppb}
 use Rattle.std.proofs.Common.{◌%◌, ◌*◌, ◌+◌, ◌/◌, ◌<◌, ◌^◌, ◌∙◌, ◌∷◌, ◌≡◌, ◌≤◌, ◌⊎◌, Bool, Err, List, None, Ok, Option, Some, [], ap, arith, cond, false, inl}
-use Rattle.{std.{proofs.lemmas.Fmt.decimal_is_IsNumeral, specs.Cmp.Lexicographic.bytes_decides}, tte_units.specs.declared.{rates.Ppb.Ppb, units.Units.Units}}
+use Rattle.{std.{proofs.lemmas.Fmt.decimal_is_IsNumeral, specs.Str.Parse.{AllDigits, digits_value}}, tte_units.specs.declared.units.Units.Units}
 use Rattle.{std.specs.Char.{digit_char, digit_value, to_ascii_lowercase}, trace_text.specs.declared.refusal.LineRefusal.TheVariants.{Form, Name, Number}}
-use Rattle.std.specs.{Fmt.signed_decimal, List.position_from}
 use Rattle.std.specs.{Option.{ok_or, option_and_then, option_map, option_map_or}, Prelude.{◌&&◌, ◌==◌, All, Result, bytes_eq, decimal, nat_le, pos, slice_get}}
 use Rattle.trace_text.{proofs.WordsBack.{in_list, minus_some}, specs.WordReading.{device, event_word, frame_of, link, octets, octets_spelled, rate, units, way}}
 use Rattle.trace_text.specs.{EventWords.{event_word_spelled, event_word_text, event_words, way_spelled, way_text}, Steps.{Read, Words, next_word, with_rest}}

@@ -1,11 +1,11 @@
 -- Words that are printed read back.
-use Rattle.{hex.proofs.HexLemmas.decode_of-encode_lower, net_plan.specs.Rules.{DeviceIsNew, LinkIsNew}, std.proofs.lemmas.{Fmt.decimal_is_IsNumeral, Int.ints}}
-use Rattle.{hex.specs.Hex.encode_lower, net_plan.proofs.Bearing.behind, std.specs.{Fmt.signed_decimal, Str.Parse.AllDigits}, tte_lemmas.proofs.Lists.some_at}
-use Rattle.{net_plan.specs.Bearers.IsFirstBearer, std.proofs.lemmas.List.Elements.All-cons, tte_units.specs.{Amount.units_of, declared.rates.Ppb.Ppb}}
+use Rattle.{hex.proofs.HexLemmas.decode_of-encode_lower, net_plan.specs.Rules.{DeviceIsNew, LinkIsNew}, trace_text.proofs.Decimals.number_of_decimal}
+use Rattle.{hex.specs.Hex.encode_lower, net_plan.proofs.Bearing.behind, std.specs.{Fmt.signed_decimal, Str.Parse.AllDigits}, tte_units.specs.Amount.units_of}
+use Rattle.{net_plan.specs.{Bearers.IsFirstBearer, declared.tables.Link.Link}, std.proofs.lemmas.{Bool.Decides.nat_tests, Int.ints, List.Elements.All-cons}}
 use Rattle.{net_plan.specs.Belonging.{HasDevice, HasLink, device_name, link_name}, std.specs.Prelude.{◌==◌, ◌≤ℤ◌, decimal, neg_ℤ, negsuc, pos, slice_get, ℤ}}
 use Rattle.{net_plan.specs.Ranges.{IsDeviceInRange, IsInRange, IsLinkInRange}, trace_text.specs.declared.refusal.LineRefusal.TheVariants.{Form, Name, Number}}
-use Rattle.{net_plan.specs.declared.{ids.DeviceId.DeviceId, network.Network.Network, tables.Device.Device}, trace_text.proofs.Decimals.number_of_decimal}
-use Rattle.{net_plan.specs.declared.{ids.LinkId.LinkId, tables.Link.Link}, std.proofs.lemmas.Bool.Decides.nat_tests, tte_units.specs.declared.units.Units.Units}
+use Rattle.{net_plan.specs.declared.{ids.DeviceId.DeviceId, network.Network.Network, tables.Device.Device}, tte_units.proofs.general_lemmas.Lists.some_at}
+use Rattle.{net_plan.specs.declared.ids.LinkId.LinkId, std.proofs.lemmas.Fmt.decimal_is_IsNumeral, tte_units.specs.declared.{rates.Ppb.Ppb, units.Units.Units}}
 use Rattle.{net_plan.specs.declared.tables.Way.{TheVariants.{Down, Up}, Way}, std.proofs.lemmas.Option.{get_or_from_slice_get, slice_get-map, slice_get_within}}
 use Rattle.std.proofs.Common.{◌<◌, ◌^◌, ◌∙◌, ◌∷◌, ◌≡◌, ◌≢◌, List, Ok, Option, Some, [], ap, arith, false, length, map, refl, subst, suc, sym, ℕ}
 use Rattle.{std.specs.List.All, trace_text.specs.declared.event_word.EventWord.{EventWord, TheVariants.{Break, Cut, End, Heal, Hold, On, Rate, Send, Wire}}}

@@ -4,7 +4,7 @@ ghost use Rattle.trace_text.specs.EventWords.{event_word_text, event_word_spelle
 use net_plan::Way;
 
 /// The word that says what befalls the network.
-#[derive(Clone, Copy, Debug, PartialEq, Eq)]
+#[derive(Clone, Copy, PartialEq, Eq)]
 pub(crate) enum EventWord {
     Rate,
     Wire,

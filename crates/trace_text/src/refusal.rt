@@ -1,7 +1,7 @@
 use thiserror::Error;
 
 /// Why a line has no reading as an event: the fault of its leftmost wrong word.
-#[derive(Clone, Copy, Debug, PartialEq, Eq, Hash, Error)]
+#[derive(Clone, Copy, Debug, PartialEq, Eq, Error)]
 pub enum LineRefusal {
     /// A word is missing or one too many, or it is none of the words that may stand there.
     #[error("the line has another form")]

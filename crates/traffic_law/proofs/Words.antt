@@ -41,7 +41,7 @@ pub use Rattle.schedule_tables.specs.Windows.{OccursIn, port_time, window_of}
 pub use Rattle.schedule_tables.specs.declared.{entry.Entry.Entry, rule.Rule.TheVariants.Joints}
 pub use Rattle.sync_state.specs.Standing.{state_at_start}
 pub use Rattle.sync_state.specs.declared.{answers.Verdict.TheVariants.Corrected, state.State.{State, TheVariants.{Integrating, Joining, Synchronised}}}
-pub use Rattle.tte_lemmas.proofs.{Integers.not_less, Lists.in_all, Options.{closed, one as same_some, opened}}
+pub use Rattle.tte_units.proofs.general_lemmas.{Integers.not_less, Lists.in_all, Options.{closed, one as same_some, opened}}
 pub use Rattle.tte_units.specs.{Amount.amount, OctetTime.octet_time}
 pub use Rattle.tte_units.specs.declared.units.Units.{Units}
 pub use Rattle.traffic_law.specs.{Bringing.{BringsBlocks, BringsChannels}, Coming.HasGoodSources, Dispatched.IsRowDispatch, Fits.FieldsFit, Passed.arrives_at}

@@ -1,10 +1,11 @@
 -- What a record says is an event, or words of a kind of record tell it.
 use Rattle.{net_plan.specs.{Belonging.{HasDevice, device_name}, declared.ids.DeviceId.DeviceId}, pcf_values.specs.declared.members.Members.Members}
-use Rattle.{report_text.specs.NoteLine.body_words, std.specs.Prelude.{MatchOption, bytes_eq}, tte_audit.specs.{Report.saying, declared.kind.KindWord.KindWord}}
+use Rattle.{report_text.specs.NoteLine.body_words, run_law.specs.plain.Bodies.body_of, std.specs.Fmt.signed_decimal, tte_audit.specs.Report.saying}
 use Rattle.{report_text.specs.{NoteWords.members_text, Ranges.{IsShortCount, IsSignedUnits}}, run_law.specs.declared.plain.bodies.PlainKind.PlainKind}
-use Rattle.{run_law.specs.plain.Bodies.body_of, std.specs.Fmt.signed_decimal, tte_audit.specs.Kinds.Tells, tte_lemmas.proofs.Lists.differ}
+use Rattle.{std.specs.Prelude.{MatchOption, bytes_eq}, tte_audit.specs.declared.kind.KindWord.KindWord, tte_units.proofs.general_lemmas.Lists.differ}
 use Rattle.tte_audit.proofs.Words.{◌∷◌, ◌≡◌, IsTextOf, Judgement, List, Network, None, Note, NoteBody, Option, Some, State, Units, What, Words, [], ap}
 use Rattle.tte_audit.{proofs.Words.{behind_word, codes, decimal, false, head_word, judgement_text, kind_text, refl, state_text, ℕ}, specs.Spellings.first_word}
+use Rattle.tte_audit.specs.Kinds.{Tells}
 use Rattle.run_law.specs.declared.note.NoteBody.TheVariants as bodies
 use Rattle.run_law.specs.declared.plain.bodies.PlainKind.TheVariants as said
 use Rattle.tte_audit.specs.declared.kind.KindWord.TheVariants as kinds
@@ -81,8 +82,7 @@ pub none_compressed : (network : Network) (ws : Words)
     → ((d : DeviceId) (opened at : Units) (cycle : ℕ) (m : Members) (verdict : Judgement) → HasDevice network d → IsSignedUnits opened → IsSignedUnits at
     → IsShortCount cycle → IsShortCount m.0
     → ws ≡ device_name network d ∷ codes "opened" ∷ signed_decimal opened.0 ∷ codes "at" ∷ signed_decimal at.0 ∷ codes "cycle" ∷ decimal cycle
-    ∷ codes "members" ∷ members_text m ∷ judgement_text verdict ∷ [] → ⊥)
-    → TellsNone network kinds.Compressed ws
+    ∷ codes "members" ∷ members_text m ∷ judgement_text verdict ∷ [] → ⊥) → TellsNone network kinds.Compressed ws
 none_compressed network ws none (said.Compressed d opened at cycle m verdict) t =
     none d opened at cycle m verdict t.0 t.1.0 t.1.1 t.1.2 t.1.3 (ap behind_word t.2)
 none_compressed network ws none other t = other_kind network kinds.Compressed ws other refl t
@@ -90,7 +90,6 @@ none_compressed network ws none other t = other_kind network kinds.Compressed ws
 pub none_clock : (network : Network) (ws : Words)
     → ((d : DeviceId) (reading adjustment : Units) (last : State) → HasDevice network d → IsSignedUnits reading → IsSignedUnits adjustment
     → ws ≡ device_name network d ∷ codes "reading" ∷ signed_decimal reading.0 ∷ codes "adj" ∷ signed_decimal adjustment.0 ∷ codes "state"
-    ∷ state_text last ∷ [] → ⊥)
-    → TellsNone network kinds.Clock ws
+    ∷ state_text last ∷ [] → ⊥) → TellsNone network kinds.Clock ws
 none_clock network ws none (said.Clock d reading adjustment last) t = none d reading adjustment last t.0 t.1.0 t.1.1 (ap behind_word t.2)
 none_clock network ws none other t = other_kind network kinds.Clock ws other refl t

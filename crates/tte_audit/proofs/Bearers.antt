@@ -1,7 +1,7 @@
 -- What was found by its name, or is not there.
-use Rattle.{net_plan.proofs.Bearing.behind, std.proofs.Common.map, tte_lemmas.proofs.Lists.some_at}
+use Rattle.{net_plan.proofs.Bearing.behind, std.proofs.lemmas.Option.{slice_get-map, slice_get_within}, tte_units.proofs.general_lemmas.Lists.some_at}
 use Rattle.{net_plan.specs.Bearers.{HasNoBearer, IsFirstBearer}, tte_audit.proofs.Words.{◌<◌, ◌∙◌, ◌≡◌, List, None, Option, Some, [], ap, length, sym, ℕ}}
-use Rattle.std.{proofs.lemmas.Option.{slice_get-map, slice_get_within}, specs.{Option.{option_map, option_map_or}, Prelude.{IfNone, IfSome, slice_get}}}
+use Rattle.std.{proofs.Common.map, specs.{Option.{option_map, option_map_or}, Prelude.{IfNone, IfSome, slice_get}}}
 
 -- the thing is among these and has the name
 abbrev pub Bears : {I X : Type 0} → (I → ℕ) → (X → List ℕ) → List X → List ℕ → I → Type 0

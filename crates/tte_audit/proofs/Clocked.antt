@@ -1,10 +1,9 @@
 -- The clocks of a report whose events are right keep the clock laws.
-use Rattle.{audit_devices.proofs.events_lemmas.Befalling.{events_from, steps_from}, run_law.specs.scenario.Hypothesis.{AreWithinHypothesis, IsWithinHypothesis}}
-use Rattle.{audit_devices.{proofs.events_lemmas.Clocking.steps_history, specs.events.Readings.HaveBegun}, std.proofs.lemmas.List.Elements.{All-cons, All-nil}}
-use Rattle.{audit_devices.specs.law.SameRuns.IsClocked, drift_clock.proofs.ExactSegments.exact_laws, run_law.specs.scenario.Rates.rate_steps}
+use Rattle.{audit_law.proofs.events_lemmas.Befalling.{events_from, steps_from}, run_law.specs.scenario.Hypothesis.{AreWithinHypothesis, IsWithinHypothesis}}
+use Rattle.{audit_law.{proofs.events_lemmas.Clocking.steps_history, specs.events.Readings.HaveBegun}, std.proofs.lemmas.List.Elements.{All-cons, All-nil}}
+use Rattle.{audit_law.specs.law.SameRuns.IsClocked, drift_clock.proofs.ExactSegments.exact_laws, run_law.specs.{records.Order.IsIn, scenario.Rates.rate_steps}}
 use Rattle.{net_plan.proofs.TableFacts.none_told, tte_audit.proofs.Words.{amount, ap, arith, event_by, events_of, inl, inr, refl, scenario_of, subst, sym}}
-use Rattle.{run_law.{proofs.runs.Places.parted, specs.records.Order.IsIn}, std.proofs.{Common.{◌≤ℤ◌, pos}, lemmas.Int.ints}, tte_audit.specs.Named.IsNamed}
-use Rattle.std.specs.List.{cons_option}
+use Rattle.{run_law.proofs.runs.Places.parted, std.{proofs.{Common.{◌≤ℤ◌, pos}, lemmas.Int.ints}, specs.List.cons_option}, tte_audit.specs.Named.IsNamed}
 use Rattle.tte_audit.proofs.Words.{◌++◌, ◌∙◌, ◌∷◌, ◌≡◌, ◌≤◌, AreEventsRight, Event, List, MayCome, Network, None, Note, NoteBody, Option, Some, Units, []}
 use Rattle.run_law.specs.declared.note.NoteBody.TheVariants as notes
 

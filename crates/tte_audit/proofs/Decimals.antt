@@ -4,7 +4,7 @@ use Rattle.{std.proofs.lemmas.Fmt.{decimal-digits_value, decimal_injective}, tte
 use Rattle.{std.{proofs.lemmas.Int.Digits.digits_value-lt, specs.Char.{digit_value, is_ascii_digit}}, trace_text.specs.Steps.{is_space, space, words}}
 use Rattle.std.proofs.lemmas.{List.{Splits.{slice_split_at, slice_split_none}, length-take-le}, Str.Parse.{IsNumeralModel, numerals_by_value, tells_digits}}
 use Rattle.tte_audit.proofs.Words.{◌++◌, ◌<◌, ◌^◌, ◌∙◌, ◌∷◌, ◌≡◌, ◌≤◌, AllDigits, List, Some, Words, [], ap, append-nil, arith, decimal, digits_value, get_or}
-use Rattle.tte_lemmas.proofs.Lists.{same_name}
+use Rattle.tte_units.proofs.general_lemmas.Lists.{same_name}
 
 own : IsNumeralModel (AllDigits 10) (digits_value 10)
 own = numerals_by_value (AllDigits 10) tells_digits

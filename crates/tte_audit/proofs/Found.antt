@@ -1,7 +1,7 @@
 -- A word that was found among some is the word of what was found.
-use Rattle.{std.specs.Cmp.Lexicographic.bytes_decides, tte_lemmas.proofs.Lists.{find_at, find_of}}
-use Rattle.{std.specs.Prelude.{All, IfSome, bytes_eq, find}, tte_audit.proofs.Words.{kind_text, reason_words, rules, state_text, sym, why_text, ℕ}}
+use Rattle.std.specs.{Cmp.Lexicographic.bytes_decides, Prelude.{All, IfSome, bytes_eq, find}}
 use Rattle.tte_audit.proofs.Words.{◌∙◌, ◌∷◌, ◌≡◌, IsReasonInRange, Judgement, List, None, Option, Reason, Some, State, Why, [], ap, head_word, judgement_text}
+use Rattle.{tte_audit.proofs.Words.{kind_text, reason_words, rules, state_text, sym, why_text, ℕ}, tte_units.proofs.general_lemmas.Lists.{find_at, find_of}}
 use Rattle.tte_audit.specs.{Spellings.{judgement_spelled, kind_spelled, reason_spelled, state_spelled, why_spelled}, declared.kind.KindWord.KindWord}
 use Rattle.run_law.specs.declared.judgement.Judgement.TheVariants as judgements
 use Rattle.run_law.specs.declared.judgement.Reason.TheVariants as reasons

@@ -1,6 +1,6 @@
 -- The end of the events of a report.
-use Rattle.{audit_devices.proofs.events_lemmas.Befalling.soon, compression.proofs.Elements.{in_cases, in_head, in_none, in_tail}, std.specs.List.Contains}
-use Rattle.{net_plan.specs.Ranges.IsInRange, std.specs.Prelude.◌↔◌, tte_audit.{proofs.Clocked.told, specs.Report.MayBefall}}
+use Rattle.{audit_law.proofs.events_lemmas.Befalling.soon, compression.proofs.Elements.{in_cases, in_head, in_none, in_tail}, tte_audit.specs.Report.MayBefall}
+use Rattle.{net_plan.specs.Ranges.IsInRange, std.specs.{List.Contains, Prelude.◌↔◌}, tte_audit.proofs.Clocked.told}
 use Rattle.{run_law.specs.runs.DueRecords.EndsAt, tte_audit.proofs.Words.{[], amount, any_behind, any_first, ap, event_by, events_of, inl, inr, subst, sym}}
 use Rattle.tte_audit.proofs.Words.{◌++◌, ◌^◌, ◌∷◌, ◌≡◌, ◌≤◌, ◌⊎◌, Any, AreEventsRight, End, EndWith, Event, List, MayCome, Network, Note, NoteBody, Some, Units}
 use Rattle.run_law.specs.declared.note.NoteBody.TheVariants as notes

@@ -1,5 +1,5 @@
 -- A report of a run is one by what is due in an audit.
-use Rattle.{audit_devices.proofs.law_lemmas.SameRuns.same_runs, run_law.specs.runs.Runs.IsRun, tte_audit.specs.Named.IsNamed}
+use Rattle.{audit_law.proofs.law_lemmas.SameRuns.same_runs, run_law.specs.runs.Runs.IsRun, tte_audit.specs.Named.IsNamed}
 use Rattle.tte_audit.proofs.{Clocked.clocked, Words.{AreEventsRight, IsDue, List, Network, Note, Units, amount, behind_time, happenings, place_of, scenario_of}}
 use Rattle.run_law.specs.runs.DueRecords as runs
 

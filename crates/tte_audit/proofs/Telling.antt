@@ -1,22 +1,19 @@
 -- The records of a report are told one by one.
-use Rattle.{std.specs.Prelude.MatchOption, tte_audit.specs.{Telling.AreFollowed, declared.passes.Told.Told}}
-use Rattle.{tte_audit.proofs.EventsRead.{events_on, fault_here, fault_on, few_events, right_none, right_on}, tte_lemmas.proofs.Options.{none_at, some_of}}
+use Rattle.{std.specs.Prelude.MatchOption, tte_units.proofs.general_lemmas.Options.{none_at, some_of}}
+use Rattle.tte_audit.{proofs.EventsRead.{events_on, fault_here, fault_on, few_events, right_none, right_on}, specs.declared.passes.Told.Told}
 use Rattle.tte_audit.proofs.Words.{◌++◌, ◌+◌, ◌∙◌, ◌∷◌, ◌≡◌, ◌≤◌, AreTold, Event, Follows, IsEventFault, List, MayCome, Network, None, Note, Option, Some, []}
-use Rattle.tte_audit.proofs.Words.{ap, arith, events_of, false, is_some, length, length-append, subst, sym, true, with_event, ℕ}
+use Rattle.tte_audit.{proofs.Words.{ap, arith, events_of, false, is_some, length, length-append, subst, sym, true, with_event, ℕ}, specs.Telling.AreFollowed}
 
 abbrev Judged : Network → List Note → Told → Option ℕ → Type 0
 Judged network notes told fault = MatchOption fault (AreFollowed network notes told) (λ n. IsEventFault network notes n)
 
-pub followed : (network : Network) (notes : List Note) (told : Told) → AreTold network notes told → is_some told.fault ≡ false
-    → AreFollowed network notes told
+pub followed : (network : Network) (notes : List Note) (told : Told) → AreTold network notes told → is_some told.fault ≡ false → AreFollowed network notes told
 followed network notes told h none = subst (Judged network notes told) (none_at told.fault none) h.judged
 
-pub faulty : (network : Network) (notes : List Note) (told : Told) (n : ℕ) → AreTold network notes told → told.fault ≡ Some n
-    → IsEventFault network notes n
+pub faulty : (network : Network) (notes : List Note) (told : Told) (n : ℕ) → AreTold network notes told → told.fault ≡ Some n → IsEventFault network notes n
 faulty network notes told n h some = subst (Judged network notes told) some h.judged
 
-pub few : (network : Network) (notes : List Note) (told : Told) → AreTold network notes told → is_some told.fault ≡ false
-    → told.befallen.count ≤ told.records
+pub few : (network : Network) (notes : List Note) (told : Told) → AreTold network notes told → is_some told.fault ≡ false → told.befallen.count ≤ told.records
 few network notes told h none =
     let own = followed network notes told h none in
     omega (arith, own.follows.counted, few_events notes, h.counted)

@@ -1,17 +1,16 @@
 -- The records of a report, swept one by one.
+use Rattle.{audit_law.proofs.law_lemmas.FirstUnpaid.lack_law, audit_sweep.specs.declared.sweep.Sweep.Sweep, std.proofs.lemmas.List.Elements.filter_map-append}
+use Rattle.{audit_law.{proofs.law_lemmas.Owing.timely, specs.law.TracedEvents.{OwesEvent, TellsEvent}}, run_law.specs.records.Ranks.{key, members_in, rank}}
+use Rattle.{audit_law.specs.law.{DebtLaws.IsFirstDebt, Findings.{AreSound, IsSound, LacksNothing}}, run_law.proofs.records.Happenings.{as_many, happenings_on}}
+use Rattle.{audit_law.specs.law.{Debts.IsPaid, Owed.Pays}, audit_sweep.specs.Judging.Befalls, tte_audit.{proofs.Passed.passed_law, specs.Report.IsOfEvents}}
+use Rattle.{audit_sweep.specs.Sweeping.IsSwept, run_law.proofs.runs.{NetworkRuns.one_more, Places.in_right}, tte_audit.proofs.Parts.begins_more}
+use Rattle.{run_law.proofs.law.FirstPlaces.at_length, tte_audit.{proofs.ReportLacks.report_lack_law, specs.{Answers.{AreSoundNotes, IsAudited}, Named.IsNamed}}}
+use Rattle.{run_law.specs.records.Happenings.{Happening, happening, time_of}, tte_audit.proofs.Meet.{GoesOn, apart_of, meet, next_line, no_octets}}
+use Rattle.{run_law.specs.records.Order.IsIn, std.{proofs.Common.{suc, zero}, specs.{List.cons_option, Prelude.slice_get}}, tte_units.specs.Amount.units_of}
+use Rattle.tte_audit.proofs.{Clocked.told, Words.{event_by, events_of, happenings, inl, inr, length, place_of, refl, report_of, scenario_of, subst, sym, ℕ}}
 use Rattle.tte_audit.proofs.Words.{◌++◌, ◌+◌, ◌∙◌, ◌∷◌, ◌≡◌, ◌≤◌, AreEventsRight, BeginsWith, BeginsWithLine, BeginsWithRecord, Event, IsDue, IsRefusedBy, List}
 use Rattle.tte_audit.proofs.Words.{MayCome, Network, Note, NoteBody, Option, Some, Units, [], amount, ap, append-nil, append_assoc, arith, behind_time, concat}
-use Rattle.tte_audit.proofs.Words.{event_by, events_of, happenings, inl, inr, length, place_of, refl, report_of, scenario_of, subst, sym, ℕ}
-use Rattle.tte_audit.proofs.{Clocked.told, Meet.{GoesOn, apart_of, meet, next_line, no_octets}, Parts.begins_more, Passed.passed_law}
-use Rattle.tte_audit.{proofs.ReportLacks.report_lack_law, specs.{Answers.{AreSoundNotes, IsAudited}, Named.IsNamed, Report.IsOfEvents}}
-use Rattle.std.{proofs.{Common.{suc, zero}, lemmas.List.Elements.filter_map-append}, specs.{List.cons_option, Prelude.slice_get}}
-use Rattle.audit_devices.{proofs.law_lemmas.FirstUnpaid.lack_law, specs.law.{Findings.{AreSound, IsSound, LacksNothing}, TracedEvents.{OwesEvent, TellsEvent}}}
-use Rattle.audit_devices.{proofs.law_lemmas.Owing.timely, specs.law.{DebtLaws.IsFirstDebt, Debts.IsPaid, Owed.Pays}}
-use Rattle.audit_sweep.specs.{Judging.Befalls, Sweeping.IsSwept, declared.sweep.Sweep.Sweep}
-use Rattle.run_law.proofs.{law.FirstPlaces.at_length, records.Happenings.{as_many, happenings_on}, runs.{NetworkRuns.one_more, Places.in_right}}
-use Rattle.run_law.specs.records.{Happenings.{Happening, happening, time_of}, Order.IsIn, Ranks.{key, members_in, rank}}
-use Rattle.tte_units.specs.Amount.{units_of}
-use Rattle.audit_devices.specs.law.Owed as debts
+use Rattle.audit_law.specs.law.Owed as debts
 use Rattle.run_law.specs.declared.note.NoteBody.TheVariants as notes
 use Rattle.tte_audit.specs.declared.refusal.AuditRefusal.TheVariants as refusals
 
@@ -132,8 +131,7 @@ pub unfounded_at : (network : Network) (octets : List ℕ) (ns taken behind : Li
     → ns ≡ taken ++ note ∷ behind → n ≡ length taken + 1
     → AreSound place_of (IsDue (scenario_of network ns)) (behind_time end) (happenings network taken)
     → (IsSound place_of (IsDue (scenario_of network ns)) (behind_time end) (happenings network taken)
-    (happening network (happenings network taken) note) → ⊥)
-    → IsRefusedBy network octets (refusals.Unfounded n)
+    (happening network (happenings network taken) note) → ⊥) → IsRefusedBy network octets (refusals.Unfounded n)
 unfounded_at network octets ns taken behind note end n of parts number sound unsound =
     let whole = happening_there network ns taken behind note parts in (
       ns,

@@ -4,7 +4,7 @@ pub use Rattle.std.proofs.Common.{inl, inr, length, length-append, refl, rules, 
 pub use Rattle.std.proofs.lemmas.{Bool.Decides.nat_tests, Fmt.{IsAscii-decimal, parse-decimal}, List.append-nil, Str.IsUtf8-from_ascii}
 pub use Rattle.std.specs.{List.concat, Prelude.{Any, Option, codes, decimal, is_some, position}, Str.IsAscii}
 pub use Rattle.std.specs.Str.Parse.{AllDigits, digits_value}
-pub use Rattle.audit_devices.specs.law.DueRecords.{IsDue}
+pub use Rattle.audit_law.specs.law.DueRecords.{IsDue}
 pub use Rattle.net_plan.specs.declared.{event.{Event.Event, What.{What, TheVariants.End}}, network.Network.Network}
 pub use Rattle.report_text.specs.{NoteLine.{note_line, note_text, report_of}, NoteWords.{judgement_text, reason_words, state_text, why_text}}
 pub use Rattle.report_text.specs.Ranges.{IsBodyOf, IsReasonInRange}
@@ -12,7 +12,7 @@ pub use Rattle.run_law.specs.declared.{judgement.{Judgement.Judgement, Reason.Re
 pub use Rattle.run_law.specs.records.{Happenings.happenings, Ranks.place_of}
 pub use Rattle.sync_state.specs.declared.state.State.{State}
 pub use Rattle.trace_text.specs.Steps.{Words}
-pub use Rattle.tte_lemmas.proofs.Lists.{any_behind, any_first}
+pub use Rattle.tte_units.proofs.general_lemmas.Lists.{any_behind, any_first}
 pub use Rattle.tte_units.specs.Amount.{amount}
 pub use Rattle.tte_units.specs.declared.units.Units.{Units}
 pub use Rattle.tte_audit.specs.{Answers.IsRefusedBy, Following.Follows}

@@ -1,12 +1,11 @@
 -- What an audit answers.
 use Rattle.std.specs.Prelude.{◌≡◌, ◌⊎◌, List, [], length, ℕ}
-use Rattle.audit_devices.specs.{events.Readings.clock_reading, law.Findings.{AreSound, IsUnfoundedAt}}
-use Rattle.{audit_devices.specs.law.DebtLaws.IsFirstLack, run_law.specs.records.{Happenings.happenings, Ranks.place_of}}
-use Rattle.{audit_devices.specs.law.DueRecords.IsDue, tte_units.specs.declared.units.Units.Units}
+use Rattle.audit_law.specs.{events.Readings.clock_reading, law.{DueRecords.IsDue, Findings.{AreSound, IsUnfoundedAt}}}
+use Rattle.{audit_law.specs.law.DebtLaws.IsFirstLack, tte_units.specs.Amount.{amount, units_of}}
 use Rattle.{net_plan.specs.declared.network.Network.Network, tte_audit.specs.declared.refusal.AuditRefusal.AuditRefusal}
-use Rattle.{run_law.specs.{declared.note.Note.Note, runs.DueRecords.IsRunOf}, tte_units.specs.Amount.{amount, units_of}}
+use Rattle.{run_law.specs.{declared.note.Note.Note, runs.DueRecords.IsRunOf}, tte_audit.specs.Report.scenario_of}
+use Rattle.{run_law.specs.records.{Happenings.happenings, Ranks.place_of}, tte_units.specs.declared.units.Units.Units}
 use Rattle.tte_audit.specs.Report.{BeginsWith, IsEndless, IsEventFault, IsFormFault, IsOfEvents, behind_time, events_of}
-use Rattle.tte_audit.specs.Report.{scenario_of}
 use Rattle.tte_audit.specs.declared.refusal.AuditRefusal.TheVariants as refusals
 
 -- the octets are the report of the run under the events of its own records, which are within the hypothesis and end

@@ -1,12 +1,11 @@
 -- What holds of audits.
 use Rattle.std.specs.Prelude.{◌↔◌, ◌≡◌, List, length, ℕ}
-use Rattle.audit_devices.specs.law.{DebtLaws.IsFirstDebt, DueRecords.IsDue, Findings.LacksNothing}
-use Rattle.net_plan.specs.declared.network.Network.{Network}
-use Rattle.run_law.specs.{declared.note.Note.Note, records.{Happenings.happenings, Ranks.place_of}}
-use Rattle.tte_units.specs.{Amount.{amount, units_of}, declared.units.Units.Units}
+use Rattle.{audit_law.specs.law.DebtLaws.IsFirstDebt, tte_units.specs.Amount.{amount, units_of}}
+use Rattle.{audit_law.specs.law.{DueRecords.IsDue, Findings.LacksNothing}, tte_units.specs.declared.units.Units.Units}
+use Rattle.{net_plan.specs.declared.network.Network.Network, run_law.specs.records.Happenings.happenings}
+use Rattle.{run_law.specs.{declared.note.Note.Note, records.Ranks.place_of}, tte_audit.specs.Named.IsNamed}
 use Rattle.tte_audit.specs.Answers.{AreSoundNotes, IsAudited, IsFirstLackOf, IsOfFormOrEvents, IsRefusedBy}
-use Rattle.tte_audit.specs.{Named.IsNamed, Report.{IsOfEvents, behind_time, scenario_of}}
-use Rattle.tte_audit.specs.declared.refusal.AuditRefusal.{AuditRefusal}
+use Rattle.tte_audit.specs.{Report.{IsOfEvents, behind_time, scenario_of}, declared.refusal.AuditRefusal.AuditRefusal}
 use Rattle.tte_audit.specs.declared.refusal.AuditRefusal.TheVariants as refusals
 
 -- a refusal that the octets themselves give: all but want of memory

@@ -1,12 +1,12 @@
 -- A report, as the records that it tells, and the events among them.
 use Rattle.std.specs.{List.concat, Prelude.{length, pos, ℕ}}
 use Rattle.std.specs.Prelude.{◌++◌, ◌+◌, ◌==◌, ◌∷◌, ◌≡◌, ◌≢◌, ◌≤ℤ◌, Any, Bool, List, None, Option, Some, [], filter_map}
-use Rattle.{audit_devices.specs.events.Readings.scenario_under, run_law.specs.scenario.Hypothesis.IsWithinHypothesis}
-use Rattle.net_plan.specs.declared.{event.{Event.Event, What.TheVariants.End}, network.Network.Network}
-use Rattle.{report_text.specs.Laws.AreOfNetwork, run_law.specs.scenario.Scenarios.Scenario, tte_io.specs.Line.lf}
+use Rattle.{audit_law.specs.events.Readings.scenario_under, net_plan.specs.declared.network.Network.Network}
+use Rattle.{net_plan.specs.declared.event.Event.Event, run_law.specs.scenario.Scenarios.Scenario, tte_io.specs.Line.lf}
+use Rattle.{net_plan.specs.declared.event.What.TheVariants.End, run_law.specs.scenario.Hypothesis.IsWithinHypothesis}
+use Rattle.{report_text.specs.Laws.AreOfNetwork, tte_units.specs.Amount.amount}
 use Rattle.report_text.specs.{NoteLine.{note_line, note_text, report_of}, Ranges.{IsNoteInRange, IsNoteOf}}
 use Rattle.{run_law.specs.declared.note.{Note.Note, NoteBody.NoteBody}, tte_units.specs.declared.units.Units.Units}
-use Rattle.tte_units.specs.Amount.{amount}
 use Rattle.run_law.specs.declared.note.NoteBody.TheVariants as notes
 
 -- ---- form

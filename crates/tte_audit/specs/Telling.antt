@@ -1,7 +1,7 @@
 -- What is read of the events of a report.
 use Rattle.std.specs.{Borrow.Bor, Prelude.{length, ℕ}}
 use Rattle.std.specs.Prelude.{◌++◌, ◌+◌, ◌∷◌, ◌≡◌, ◌⊎◌, Err, IfOk, List, MatchOption, MatchResult, Ok, Result, []}
-use Rattle.{audit_devices.specs.events.Remembering.Remembers, net_plan.specs.declared.network.Network.Network}
+use Rattle.{audit_law.specs.events.Remembering.Remembers, net_plan.specs.declared.network.Network.Network}
 use Rattle.{report_text.specs.Ranges.IsNoteOf, tte_audit.specs.{Answers.IsEventsFault, Following.Follows}}
 use Rattle.{run_law.specs.declared.note.Note.Note, tte_units.specs.declared.units.Units.Units}
 use Rattle.tte_audit.specs.Report.{AreEventsRight, BeginsWithLine, EndWith, IsEventFault, IsNextLine, IsOfEvents}

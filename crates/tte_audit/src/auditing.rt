@@ -1,9 +1,8 @@
 ghost use Rattle.std.specs.Prelude.{◌<◌, ◌^◌, ◌≡◌, List, MatchResult, length, ℕ};
-ghost use Rattle.{audit_sweep.specs.Sweeping.SweepsSome, tte_audit.specs.Answers.{IsAudited, IsRefusedBy}};
-ghost use Rattle.net_plan.specs.declared.network.Network.{Network as NetworkValue};
-ghost use Rattle.{report_text.specs.Ranges.IsBodyOf, tte_audit.specs.{Report.IsNextLine, Telling.IsReadOf}};
-ghost use Rattle.{run_law.{specs.{declared.{note.{Note.{Note as NoteValue}}}}}, tte_audit.specs.LineSwept.IsLineSwept};
-ghost use Rattle.tte_audit.specs.Named.{IsNamed};
+ghost use Rattle.{audit_sweep.specs.Sweeping.SweepsSome, run_law.specs.declared.note.Note.{Note as NoteValue}};
+ghost use Rattle.{net_plan.specs.declared.network.Network.{Network as NetworkValue}, report_text.specs.Ranges.IsBodyOf};
+ghost use Rattle.tte_audit.specs.{Answers.{IsAudited, IsRefusedBy}, LineSwept.IsLineSwept, Report.IsNextLine};
+ghost use Rattle.tte_audit.specs.{Named.IsNamed, Telling.IsReadOf};
 
 use crate::hints::NameHints;
 use crate::lines::{numbered_record, plain_record};

@@ -4,7 +4,7 @@ ghost use Rattle.net_plan.specs.declared.{event.What.TheVariants.End, network.Ne
 ghost use Rattle.report_text.specs.Ranges.{IsBodyOf};
 ghost use Rattle.tte_audit.specs.{Following.Follows, Named.IsNamed, Report.{MayBefall, MayCome, with_event}};
 
-use audit_devices::events::{EventHistory, OutOfMemory};
+use audit_law::events::{EventHistory, OutOfMemory};
 use fault_hypothesis::Watch;
 use net_plan::{Event, What};
 use run_law::NoteBody;

@@ -2,7 +2,7 @@
 
 ghost use Rattle.std.specs.Prelude.{◌≡◌, ◌≢◌, IfSome, None};
 ghost use Rattle.net_plan.specs.Belonging.{HasDevice, HasLink, HasVl, device_name, link_name, vl_name};
-ghost use Rattle.net_plan.specs.{Ranges.IsInRange, declared.{ids.{VlId.{VlId as VlIdValue}}}};
+ghost use Rattle.net_plan.specs.{Ranges.IsInRange, declared.ids.VlId.{VlId as VlIdValue}};
 ghost use Rattle.net_plan.specs.declared.ids.{DeviceId.{DeviceId as DeviceIdValue}, LinkId.{LinkId as LinkIdValue}};
 
 use net_plan::{DeviceId, LinkId, Network, VlId};

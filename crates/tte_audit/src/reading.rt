@@ -1,8 +1,8 @@
 ghost use Rattle.std.specs.Prelude.{◌≢◌, IfSome, MatchOption, None, ℕ};
 ghost use Rattle.{net_plan.specs.Ranges.IsInRange, tte_audit.specs.Report.{HasNoEvent, IsTextOf, saying}};
-ghost use Rattle.run_law.specs.{declared.{note.{Note.{Note as NoteValue}}}, plain.Bodies.body_of};
+ghost use Rattle.run_law.specs.{declared.note.Note.{Note as NoteValue}, plain.Bodies.body_of};
 ghost use Rattle.run_law.specs.declared.plain.bodies.PlainKind.{PlainKind as PlainValue};
-ghost use Rattle.{tte_audit.specs.Named.IsNamed, tte_units.{specs.{declared.{units.{Units.{Units as UnitsValue}}}}}};
+ghost use Rattle.{tte_audit.specs.Named.IsNamed, tte_units.specs.declared.units.Units.{Units as UnitsValue}};
 
 use crate::event_lines::event_line;
 use crate::hints::NameHints;

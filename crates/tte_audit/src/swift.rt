@@ -2,7 +2,7 @@
 //! then each line is read once. Where anything is wrong there is no answer.
 
 ghost use Rattle.std.specs.Prelude.{◌++◌, ◌<◌, ◌^◌, ◌∷◌, ◌≡◌, IfSome, List, Ok, [], length, ℕ};
-ghost use Rattle.{audit_sweep.specs.Sweeping.SweepsSome, run_law.{specs.{declared.{note.{Note.{Note as NoteValue}}}}}};
+ghost use Rattle.{audit_sweep.specs.Sweeping.SweepsSome, run_law.specs.declared.note.Note.{Note as NoteValue}};
 ghost use Rattle.tte_audit.specs.{Answers.IsAudited, Named.IsNamed, Swift.{IsBehind, IsGoneOn, IsSought, IsSoughtOn}};
 
 use crate::AuditRefusal;

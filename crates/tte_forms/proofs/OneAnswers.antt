@@ -1,5 +1,5 @@
 -- Answers that are one of those with a property.
-use Rattle.{std.proofs.Common.{◌∙◌, ◌≡◌, ◌⊎◌, List, [], inl, inr, refl, subst, sym, ℕ}, tte_lemmas.proofs.Lists.{no_front, none_stands}}
+use Rattle.{std.proofs.Common.{◌∙◌, ◌≡◌, ◌⊎◌, List, [], inl, inr, refl, subst, sym, ℕ}, tte_units.proofs.general_lemmas.Lists.{no_front, none_stands}}
 use Rattle.tte_forms.{proofs.Puts.PutsSome-all, specs.declared.status.Status.{Status, TheVariants.{Done, OutOfMemory, ReadFault, WriteFault}}}
 use Rattle.tte_forms.specs.{Answering.{Answer, Gives, GivesAnswer, GivesOne, IsDone}, Putting.{PutsLines, PutsNone, PutsSome, Shown, WriteFails}}
 

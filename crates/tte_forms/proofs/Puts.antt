@@ -79,3 +79,16 @@ pub Ends-gives : (lines : List (List ℕ)) (wanted status : Status) (old now new
     → Gives (record { status = wanted; lines = lines }) status old new
 Ends-gives lines wanted status old now new p (none, inl e) = inl (e.0, PutsLines-still lines old now new p none, e.1)
 Ends-gives lines wanted status old now new p (none, inr e) = inr (inl (e, inr (PutsSome-all lines old new (PutsLines-still lines old now new p none))))
+
+-- a put of one of these lines failed, so one of these and more
+pub PutFails-more : (lines more : List (List ℕ)) (old new : Shown) → PutFails lines old new → PutFails (lines ++ more) old new
+PutFails-more lines more old new p = record {
+  done = p.done;
+  line = p.line;
+  left = p.left ++ more;
+  order = ap (λ (ls : List (List ℕ)). ls ++ more) p.order ∙ append_assoc p.done (p.line ∷ p.left) more;
+  before = p.before;
+  puts = p.puts;
+  front = p.front;
+  counted = p.counted;
+}

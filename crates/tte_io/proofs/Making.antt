@@ -1,5 +1,6 @@
 -- A line in the making, and what comes of it.
-use Rattle.std.proofs.Common.{◌++◌, ◌∙◌, ◌∷◌, ◌≡◌, ◌≢◌, ◌≤◌, ◌⊎◌, Bool, Err, List, Ok, Option, [], ap, append-nil, append_assoc, arith, false, inl, inr, length}
+use Rattle.std.proofs.Common.{◌++◌, ◌∙◌, ◌∷◌, ◌≡◌, ◌≢◌, ◌≤◌, ◌⊎◌, Bool, Err, List, Ok, Option, Result, [], ap, append-nil, append_assoc, arith, false, inl, inr}
+use Rattle.std.proofs.Common.{length}
 use Rattle.std.{proofs.{Common.{refl, subst, sym, true, ℕ}, KnownBytes.{Consumes-nil, Consumes-trans}}, specs.Io.KnownBytes.{Consumes, IsAtEnd}}
 use Rattle.tte_io.specs.{Line.{IsLine, IsTooLong, ahead_limit, lf}, NextLine.NextLine, Progress.{progress_after, reader_state}}
 use Rattle.tte_io.specs.{ReaderState.{KeepsEnd, LineReaderState, at_end, pending}, Steps.{Advances, Fills}, declared.lines.LineTaken.LineTaken}
@@ -223,6 +224,7 @@ making_on progress line ahead ended now left same is is_line =
 pub record MadeOf (now : LineReaderState) (line ahead : List ℕ) (ended : Bool) : Type 0 where
   pub same : now.ended ≡ ended
   pub none : ended ≡ true → (pending now ≡ []) × (line ≡ []) × (ahead ≡ [])
+  pub all : pending now ≡ line ++ ahead
 
 none_before : (xs ys : List ℕ) → xs ++ ys ≡ [] → (xs ≡ []) × (ys ≡ [])
 none_before [] ys e = (refl, e)
@@ -237,6 +239,7 @@ made_next progress line ahead ended cleared now same is none keeps =
     record {
       same = sym (ap (λ (r : LineReaderState). r.ended) now_is);
       none = λ on. (sym (ap pending now_is) ∙ end on, none, end on);
+      all = sym (ap pending now_is) ∙ ap (λ (t : List ℕ). t ++ ahead) (sym none);
     }
 
 pub made_on : (progress : Progress) (line ahead : List ℕ) (ended : Bool) (now : LineReaderState) → reader_state progress line ahead ended ≡ now
@@ -247,6 +250,7 @@ made_on progress line ahead ended now same is keeps =
     record {
       same = sym (ap (λ (r : LineReaderState). r.ended) now_is);
       none = λ on. (sym (ap pending now_is) ∙ end on, (none_before line ahead (end on)).0, (none_before line ahead (end on)).1);
+      all = sym (ap pending now_is);
     }
 
 pub found_ended : {E : Type 0} (now : LineReaderState) (line ahead : List ℕ) (ended : Bool) (left : Option (List ℕ)) → MadeOf now line ahead ended
@@ -256,3 +260,11 @@ found_ended now line ahead ended left m on =
     still_ended (pending now) now.ended left (reader_state Unfinished line ahead ended) (m.same ∙ on) none.0
     (ap (λ (t : List ℕ). reader_state Unfinished t ahead ended) none.1 ∙ ap (λ (t : List ℕ). reader_state Unfinished [] t ended) none.2
     ∙ ap (reader_state Unfinished [] []) on)
+
+-- what is taken of these octets is taken of what was pending
+pub taken_of_made : {E : Type 0} (now : LineReaderState) (line ahead : List ℕ) (ended : Bool) (left : Option (List ℕ)) (after : LineReaderState)
+    (rest : Option (List ℕ)) (result : Result LineTaken E) → MadeOf now line ahead ended → ended ≡ false
+    → NextLine (line ++ ahead) false left after rest result → NextLine (pending now) now.ended left after rest result
+taken_of_made now line ahead ended left after rest result m off is =
+    subst (λ (e : Bool). NextLine (pending now) e left after rest result) (sym (m.same ∙ off))
+    (subst (λ (t : List ℕ). NextLine t false left after rest result) (sym m.all) is)

@@ -3,11 +3,11 @@ ghost use Rattle.std.specs.{Prelude.{◌≡◌, ◌≤◌, IfOk, List, MatchResu
 ghost use Rattle.tte_io.specs.{Faults.{Rose, next_count}, Told.{AppendsFront, IsZeroExactlyAtEnd, PassesSome}};
 
 /// A read failed.
-#[derive(Clone, Copy, Debug, PartialEq, Eq)]
+#[derive(Clone, Copy, PartialEq, Eq)]
 pub struct SourceFailed;
 
 /// A write failed.
-#[derive(Clone, Copy, Debug, PartialEq, Eq)]
+#[derive(Clone, Copy, PartialEq, Eq)]
 pub struct SinkFailed;
 
 /// Where octets come from.

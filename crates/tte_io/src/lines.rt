@@ -8,7 +8,7 @@ use crate::{LineText, Source, SourceFailed};
 use std::marker::Model;
 
 /// What a reader of lines found.
-#[derive(Clone, Copy, Debug, PartialEq, Eq)]
+#[derive(Clone, Copy, PartialEq, Eq)]
 pub enum LineTaken {
     /// A line of at most 4,096 octets. The last line may lack its LF.
     Whole,

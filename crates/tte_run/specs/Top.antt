@@ -1,16 +1,16 @@
 -- What the program answers.
 use Rattle.std.specs.Prelude.{◌++◌, ◌≡◌, ◌≢◌, List, None, Option, Some, codes, ℕ}
-use Rattle.tte_run.specs.{SecondFiles.{ForSecond, second_of}, votes.Answer.{IsVoteAnswer, the_names}}
-use Rattle.tte_run.specs.{captures.Answer.capture_answer, stamps.{Answer.IsStampAnswer, Safely.StampsSafely}}
-use Rattle.tte_run.specs.captures.wires.{Answer.{IsWireAnswer, IsWireNetworkAnswer}, Safely.WiresSafely}
-use Rattle.tte_run.specs.votes.Safely.{VotesSafely}
-use Rattle.tte_forms.specs.{Answering.{Answer, ForOctets, Gives, GivesAnswer, line_answer}, Forms.form_of}
-use Rattle.tte_forms.specs.{Putting.Shown, declared.form.Form.Form}
+use Rattle.{tte_audit.specs.reports.Answer.IsAuditAnswer, tte_run.specs.captures.Answer.capture_answer}
+use Rattle.{tte_audit.specs.reports.Safely.AuditsSafely, tte_traces.specs.storms.Answer.IsStormAnswer}
+use Rattle.tte_forms.specs.{Answering.{Answer, ForOctets, Gives, GivesAnswer, line_answer}, frames.Answer.show_answer}
+use Rattle.tte_forms.specs.{Forms.form_of, Putting.Shown}
 use Rattle.tte_forms.specs.declared.form.Form.TheVariants.{Audit, Capture, Check, Run, Show, Stamp, Storm, Vote, Wire}
-use Rattle.tte_forms.specs.{declared.status.Status.{Status, TheVariants.Usage}, frames.Answer.show_answer}
-use Rattle.tte_forms.specs.networks.{Accepting.IsNetworkAnswer, Checking.IsCheckAnswer}
-use Rattle.tte_traces.specs.{Answer.IsRunAnswer, Safely.WritesSafely, storms.Answer.IsStormAnswer}
-use Rattle.tte_traces.specs.{reports.{Answer.IsAuditAnswer, Safely.AuditsSafely}, storms.Safely.SummarisesSafely}
+use Rattle.{tte_forms.specs.declared.form.Form.Form, tte_run.specs.stamps.{Answer.IsStampAnswer, Safely.StampsSafely}}
+use Rattle.tte_forms.specs.{declared.status.Status.{Status, TheVariants.Usage}, networks.Accepting.IsNetworkAnswer}
+use Rattle.{tte_forms.specs.networks.Checking.IsCheckAnswer, tte_run.specs.votes.Answer.{IsVoteAnswer, the_names}}
+use Rattle.{tte_run.specs.SecondFiles.{ForSecond, second_of}, tte_traces.specs.storms.Safely.SummarisesSafely}
+use Rattle.tte_run.specs.captures.wires.{Answer.{IsWireAnswer, IsWireNetworkAnswer}, Safely.WiresSafely}
+use Rattle.{tte_run.specs.votes.Safely.VotesSafely, tte_traces.specs.{Answer.IsRunAnswer, Safely.WritesSafely}}
 
 -- the line for words of no form
 abbrev pub usage_line : List ℕ

@@ -4,9 +4,9 @@ use Rattle.{net_plan.specs.declared.{event.Event.Event, ids.LinkId.LinkId}, worl
 use Rattle.{net_plan.specs.declared.network.Network.Network, tte_forms.specs.declared.status.Status.Status}
 use Rattle.{pcf_codec.specs.Sequence.SpellsAll, tte_audit.specs.Answers.IsAudited, tte_forms.specs.Answering.IsDone}
 use Rattle.{pcf_values.specs.declared.pcf.Pcf.Pcf, tte_forms.specs.{declared.form.Form.Form, frames.Answer.file_limit}}
+use Rattle.{tte_audit.specs.reports.Answer.report_limit, tte_run.specs.captures.Law.{IsFile, StandFrom}}
 use Rattle.tte_forms.specs.declared.form.Form.TheVariants.{Audit, Capture, Check, Run, Show, Stamp, Storm, Vote, Wire}
 use Rattle.{tte_forms.specs.networks.Accepting.MeansAccepted, tte_traces.specs.Lines.{AreAdmitted, behind_lines}}
-use Rattle.{tte_run.specs.captures.Law.{IsFile, StandFrom}, tte_traces.specs.reports.Answer.report_limit}
 use Rattle.tte_run.specs.{captures.pcap.Layout.{IsHead, head_length}, stamps.granules.Granules.least_granule}
 use Rattle.{tte_run.specs.captures.wires.Answer.IsNamed, tte_units.specs.{Amount.amount, declared.units.Units.Units}}
 use Rattle.tte_run.specs.declared.captures.pcap.capture.{CaptureHead.CaptureHead, Packet.Packet}

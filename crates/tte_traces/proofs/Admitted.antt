@@ -1,7 +1,7 @@
 -- The events admitted from the octets of a trace.
-use Rattle.{run_law.specs.declared.outside.Outside.TheVariants.Order, world_drive.proofs.{Order.{not_less, sizes}, exact_lemmas.Events.{last_is, parted}}}
-use Rattle.{run_law.specs.scenario.Hypothesis.IsWithinHypothesis, std.proofs.lemmas.List.Quantifiers.Any-push, tte_lemmas.proofs.Lists.{fronts, none_before}}
-use Rattle.{std.proofs.Common.{◌≤ℤ◌, pos}, trace_text.proofs.ReadTimes.event_time, tte_traces.proofs.Faults.one_event}
+use Rattle.{run_law.specs.declared.outside.Outside.TheVariants.Order, tte_units.proofs.general_lemmas.Lists.{fronts, none_before}}
+use Rattle.{run_law.specs.scenario.Hypothesis.IsWithinHypothesis, world_drive.proofs.{Order.{not_less, sizes}, exact_lemmas.Events.{last_is, parted}}}
+use Rattle.{std.proofs.{Common.{◌≤ℤ◌, pos}, lemmas.List.Quantifiers.Any-push}, trace_text.proofs.ReadTimes.event_time, tte_traces.proofs.Faults.one_event}
 use Rattle.tte_traces.proofs.{EventOrder.{AreInOrder, IsInOrder}, Words.{behind_lines, event_read, first_line, last_time, length, refl, subst, sym, ℕ}}
 use Rattle.tte_traces.proofs.Words.{◌++◌, ◌∙◌, ◌∷◌, ◌≡◌, AreAdmitted, End, Event, IsAdmitted, List, Network, [], amount, ap, append-nil, append_assoc, arith}
 

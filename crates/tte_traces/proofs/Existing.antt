@@ -11,8 +11,7 @@ pub records_before : (network : Network) (events : List Event) (mark : List ℕ)
 records_before network events mark range =
     runs_exist_to_each_mark (record { network = network; reading = clock_reading network events; events = events }) mark range
 
-pub all_records : (network : Network) (events : List Event) → IsInRange network → HaveEnded events
-    → (notes : List Note) × AreAllRecords network events notes
+pub all_records : (network : Network) (events : List Event) → IsInRange network → HaveEnded events → (notes : List Note) × AreAllRecords network events notes
 all_records network events range ended =
     let end = ended_at events ended in
     let run = records_before network events ((amount end.0 + 1) ∷ []) range in

@@ -1,9 +1,9 @@
 -- One more event of a trace that is taken line by line.
-use Rattle.{fault_hypothesis.proofs.Befalling.{any_last, stands_where}, tte_io.specs.Line.{IsUnbroken, ahead_limit, behind_line, lf, line_limit}}
+use Rattle.{fault_hypothesis.{proofs.Befalling.{any_last, stands_where}, specs.declared.watch.Watch.Watch}, tte_io.specs.Outcome.{Outcome, TellsOutcome}}
 use Rattle.{fault_hypothesis.specs.Watching.Watches, std.proofs.{Common.◌↔◌, lemmas.Bool.false_from_ne_true}, trace_text.specs.Ranges.IsEventInRange}
-use Rattle.{fault_hypothesis.specs.declared.watch.Watch.Watch, tte_io.specs.Outcome.{Outcome, TellsOutcome}, tte_lemmas.proofs.Lists.{any_none, any_parts}}
 use Rattle.{schedule_tables.specs.declared.accepted.Accepted.Accepted, tte_io.proofs.FirstLine.{behind_line-append, first_line-append, first_line-too_long}}
 use Rattle.{std.specs.Prelude.{IfErr, IfOk}, tte_io.{proofs.Coming.outcome_told, specs.{NextLine.NextLine, ReaderState.to_come}}}
+use Rattle.{tte_io.specs.Line.{IsUnbroken, ahead_limit, behind_line, lf, line_limit}, tte_units.proofs.general_lemmas.Lists.{any_none, any_parts}}
 use Rattle.tte_traces.proofs.Words.{◌++◌, ◌+◌, ◌<◌, ◌==◌, ◌^◌, ◌∙◌, ◌∷◌, ◌≡◌, ◌≢◌, ◌≤◌, ◌⊎◌, AreAdmitted, Bool, End, Err, Event, HaveEnded, IfSome, IsAdmitted}
 use Rattle.tte_traces.proofs.Words.{IsFault, IsOfNetwork, LineReaderState, LineTaken, List, Network, None, Ok, Option, Read, ReadsOn, Result, Some, TakesFew}
 use Rattle.tte_traces.proofs.Words.{Trace, TraceFault, TraceStop, [], ap, append-nil, append_assoc, arith, behind_lines, event_read, false, first_line}
@@ -281,8 +281,7 @@ behind_more_octets network came more left events result next admitted reads =
 module _ (network : Network) (came : List ℕ) (events : List Event) (old : Trace) (reader : LineReaderState) (left_before left_after : Option (List ℕ))
     (any : ReadsAny network came events old) where
   before_any : (result : Result LineTaken TraceStop) (n : NextLine {E = TraceStop} (pending old.reader) old.reader.ended left_before reader left_after result)
-      (left : List ℕ) → (reader.ended ≡ true → left ≡ [])
-      → Reads network (came ++ ((n.earlier ++ n.last) ++ left)) events old ((n.earlier ++ n.last) ++ left)
+      (left : List ℕ) → (reader.ended ≡ true → left ≡ []) → Reads network (came ++ ((n.earlier ++ n.last) ++ left)) events old ((n.earlier ++ n.last) ++ left)
   before_any result n left none =
       any ((n.earlier ++ n.last) ++ left) (λ is.
       let e = ends_so (pending old.reader) old.reader.ended left_before reader left_after result n is in

@@ -1,25 +1,12 @@
 -- What was put of the answers for a network under the octets of a trace: a front of each, where it was cut short; or the
 -- whole one, behind the end or at a fault of the trace.
-use Rattle.tte_traces.proofs.Words.{◌++◌, ◌+◌, ◌∙◌, ◌∷◌, ◌≡◌, ◌⊎◌, Answer, AreAllRecords, AreRecordsSoFar, Done, Event, Gives, GivesOne, IsFrontOf}
-use Rattle.tte_traces.proofs.Words.{IsTraceAnswer, LinesOf, List, Network, Note, PutFails, PutsLines, Shown, Status, TraceFault, [], ap, append-nil}
-use Rattle.tte_traces.proofs.Words.{append_assoc, fault_lines, fault_status, inl, inr, length, refl, subst, sym, ℕ}
-use Rattle.tte_forms.{proofs.{OneAnswers.one_given, frames.Frames.Gives-behind}, specs.Putting.{IsPassedOn, StopsWriting}}
-use Rattle.tte_forms.specs.declared.status.Status.TheVariants.{OutOfMemory, ReadFault, WriteFault}
+use Rattle.tte_forms.{proofs.{OneAnswers.one_given, Puts.PutFails-more, frames.Frames.Gives-behind}, specs.Putting.{IsPassedOn, StopsWriting}}
+use Rattle.{tte_forms.specs.declared.status.Status.TheVariants.{OutOfMemory, ReadFault, WriteFault}, tte_traces.proofs.Words.{inr, length, refl, subst, sym, ℕ}}
 use Rattle.tte_traces.proofs.Answers.{IsAllAdmitted, IsFaultBehind, all_is_whole, faulty_answer, faulty_is, whole_is}
+use Rattle.tte_traces.proofs.Words.{◌+◌, ◌∙◌, ◌≡◌, ◌⊎◌, Answer, AreAllRecords, AreRecordsSoFar, Done, Event, Gives, GivesOne, IsFrontOf, IsTraceAnswer, LinesOf}
+use Rattle.tte_traces.proofs.Words.{List, Network, Note, PutFails, PutsLines, Shown, Status, TraceFault, [], ap, append-nil, fault_lines, fault_status, inl}
 
 -- ---- a front of each answer was put
-
-pub PutFails-more : (lines more : List (List ℕ)) (old new : Shown) → PutFails lines old new → PutFails (lines ++ more) old new
-PutFails-more lines more old new p = record {
-  done = p.done;
-  line = p.line;
-  left = p.left ++ more;
-  order = ap (λ (ls : List (List ℕ)). ls ++ more) p.order ∙ append_assoc p.done (p.line ∷ p.left) more;
-  before = p.before;
-  puts = p.puts;
-  front = p.front;
-  counted = p.counted;
-}
 
 -- where a read failed or memory ran out
 pub front_given : (Is : Answer → Type 0) (lines : List (List ℕ)) (status : Status) (old new : Shown) → IsFrontOf Is lines
@@ -73,8 +60,7 @@ module _ (lines : LinesOf) where
 
   -- those so far were put, and then what is written about the fault was given
   pub faulty_given : (network : Network) (octets : List ℕ) (events : List Event) (notes : List Note) (fault : TraceFault) (status : Status)
-      (old now new : Shown) → IsFaultBehind network octets events fault → AreRecordsSoFar network events notes
-      → PutsLines (lines network events notes) old now
+      (old now new : Shown) → IsFaultBehind network octets events fault → AreRecordsSoFar network events notes → PutsLines (lines network events notes) old now
       → Gives (record { status = fault_status fault; lines = fault_lines (length events + 1) fault }) status now new
       → GivesOne (IsTraceAnswer lines octets network) status old new
   faulty_given network octets events notes fault status old now new b run puts g =

@@ -21,4 +21,3 @@ pub mod EventRanges
 pub mod Safely
 pub mod Words
 pub mod storms_lemmas
-pub mod reports_lemmas

@@ -1,16 +1,16 @@
 -- The devices, links and virtual links of a record of a run are the network's.
 use Rattle.{drift_world.proofs.Launches.{gives_in, gives_within}, run_law.specs.{control.Leaving.{Departs, Departure}, declared.note.NoteBody.NoteBody}}
-use Rattle.{fault_hypothesis.{specs.{Watching.{AreOfNetwork as AreEventsOf}}}, schedule_tables.specs.Entries.{IsEntry, source_by, source_of}}
-use Rattle.{net_plan.specs.Places.link_at, run_law.specs.{records.{Order.IsIn, Ranks.place_of}, runs.Runs.IsFounded}, world_law.specs.device.Own.moves}
+use Rattle.{fault_hypothesis.specs.Watching.{AreOfNetwork as AreEventsOf}, schedule_tables.specs.Entries.{IsEntry, source_by, source_of}}
+use Rattle.{net_plan.specs.Places.link_at, run_law.specs.runs.Runs.IsFounded, std.proofs.Common.option_map, world_law.specs.device.Own.moves}
 use Rattle.{net_plan.specs.{Ranges.IsLinkInRange, declared.ids.VlId.VlId}, std.proofs.lemmas.Bool.{cases_lt, eq-eqb}, world_law.specs.world.World.AreOfNetwork}
 use Rattle.{net_plan.specs.declared.{ids.DeviceId.DeviceId, tables.Way.TheVariants.{Down, Up}}, report_text.specs.Ranges.{HasPassage, HasStream, IsBodyOf}}
 use Rattle.{net_plan.specs.declared.ids.LinkId.LinkId, tte_traces.proofs.Words.{amount, ap, append_assoc, false, inl, inr, length, refl, subst, sym, true, ℕ}}
 use Rattle.{net_plan.specs.declared.tables.{Link.Link, Way.Way}, run_law.specs.scenario.Scenarios.Scenario, std.proofs.lemmas.Option.slice_get_within}
 use Rattle.{run_law.proofs.{law.FirstPlaces.numbered_in, runs.Places.{in_left, in_right, parted}}, world_law.proofs.rows.Entered.{delivered_of, taken_at}}
-use Rattle.{run_law.{proofs.runs.NetworkRuns.one_more, specs.timed.Receptions.ArrivesAs}, tte_lemmas.{proofs.{Lists.{in_all as all_at}}}}
-use Rattle.{run_law.specs.{control.Wires.{Arrives, Signal}, timed.Dispatching.Dispatches}, schedule_tables.specs.declared.entry.Entry.Entry}
+use Rattle.run_law.{proofs.runs.NetworkRuns.one_more, specs.{records.Ranks.place_of, timed.Receptions.ArrivesAs}}
+use Rattle.tte_units.proofs.general_lemmas.Lists.{in_all as all_at}
+use Rattle.{run_law.specs.{control.Wires.{Arrives, Signal}, records.Order.IsIn, timed.Dispatching.Dispatches}, schedule_tables.specs.declared.entry.Entry.Entry}
 use Rattle.run_law.specs.{records.Happenings.{Happening, happening, happenings, time_of}, runs.DueRecords.{IsArrivedRecord, IsCaused, IsDue, IsScenarioRun}}
-use Rattle.std.proofs.Common.{option_map}
 use Rattle.{traffic_law.proofs.existence_lemmas.bounds.Named.device_there, world_law.proofs.steps_lemmas.hearing.Receptions.receiver_in}
 use Rattle.tte_traces.proofs.Words.{◌++◌, ◌<◌, ◌∙◌, ◌∷◌, ◌≡◌, IsInRange, IsNoteOf, IsOfNetwork, List, Network, None, Note, Option, Some, Units, What, []}
 use Rattle.run_law.specs.declared.note.NoteBody.TheVariants as kinds

@@ -67,8 +67,7 @@ pub record IsSplit (network : Network) (octets : List ℕ) : Type 0 where
   pub stops : Stops network events (behind_lines (length events) octets)
 
 -- behind these events, if what comes behind one more is known
-split_behind : (network : Network) (octets : List ℕ) (before : List Event) → length before + 1 ≤ 2 ^ 32
-    → AreAdmitted network octets before
+split_behind : (network : Network) (octets : List ℕ) (before : List Event) → length before + 1 ≤ 2 ^ 32 → AreAdmitted network octets before
     → ((event : Event) → IsAdmitted network before (behind_lines (length before) octets) event → IsSplit network octets)
     → IsSplit network octets
 split_behind network octets before number all further =

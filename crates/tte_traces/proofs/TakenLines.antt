@@ -22,16 +22,14 @@ anew n from to other consumed ends answer = record {
 
 -- what was found is found whatever errors there are
 pub found_over : {E F : Type 0} (before : List ℕ) (had : Bool) (left : Option (List ℕ)) (after : LineReaderState) (left_after : Option (List ℕ))
-    (found : LineTaken)
-    → NextLine {E = E} before had left after left_after (Ok found) → NextLine {E = F} before had left after left_after (Ok found)
+    (found : LineTaken) → NextLine {E = E} before had left after left_after (Ok found) → NextLine {E = F} before had left after left_after (Ok found)
 found_over before had left after left_after taken.Whole n = anew n left left_after (Ok taken.Whole) n.consumed n.ends n.answer
 found_over before had left after left_after taken.Long n = anew n left left_after (Ok taken.Long) n.consumed n.ends n.answer
 found_over before had left after left_after taken.End n = anew n left left_after (Ok taken.End) n.consumed n.ends n.answer
 
 -- so is what stays where a read failed
 pub failed_over : {E F : Type 0} (before : List ℕ) (had : Bool) (left : Option (List ℕ)) (after : LineReaderState) (left_after : Option (List ℕ)) (e : E)
-    (f : F)
-    → NextLine before had left after left_after (Err e) → NextLine before had left after left_after (Err f)
+    (f : F) → NextLine before had left after left_after (Err e) → NextLine before had left after left_after (Err f)
 failed_over before had left after left_after e f n = anew n left left_after (Err f) n.consumed n.ends n.answer
 
 -- where no line was found ahead and nothing is read, the unfinished line stays
@@ -80,8 +78,7 @@ none_left_after before had left after rest (Ok taken.End) none n is =
 
 -- where nothing came behind the end, and where it is found none is left
 pub ends_so : {E : Type 0} (before : List ℕ) (had : Bool) (left : Option (List ℕ)) (after : LineReaderState) (left_after : Option (List ℕ))
-    (result : Result LineTaken E) → (n : NextLine before had left after left_after result) → had ≡ true
-    → (n.earlier ++ n.last ≡ []) × (after.ended ≡ true)
+    (result : Result LineTaken E) → (n : NextLine before had left after left_after result) → had ≡ true → (n.earlier ++ n.last ≡ []) × (after.ended ≡ true)
 ends_so before had left after left_after (Ok taken.Whole) n is = absurd (n.ends is)
 ends_so before had left after left_after (Ok taken.Long) n is = absurd (n.ends is)
 ends_so before had left after left_after (Err e) n is = absurd (n.ends is)

@@ -11,4 +11,3 @@ pub mod Along
 pub mod Safely
 pub mod Laws
 pub mod storms
-pub mod reports

@@ -2,8 +2,8 @@
 use Rattle.std.specs.{Io.KnownBytes.Appends, Prelude.{◌++◌, ◌≡◌, List, None, Option, Some, length, ℕ}}
 use Rattle.{net_plan.specs.declared.event.Event.Event, run_law.specs.declared.note.Note.Note}
 use Rattle.{net_plan.specs.declared.network.Network.Network, world_drive.specs.exact.Records.AreRecordsSoFar}
-use Rattle.{tte_forms.specs.Answering.ForOctets, tte_io.specs.Line.IsUnbroken, tte_traces.specs.Following.TakesFew}
-use Rattle.tte_forms.specs.{Putting.{IsPassedOn, PutsLines, Shown}, networks.Accepting.MeansAccepted}
+use Rattle.{tte_io.specs.Line.IsUnbroken, tte_traces.specs.Following.TakesFew}
+use Rattle.tte_forms.specs.{Putting.{IsPassedOn, PutsLines, Shown}, networks.Accepting.ForAccepted}
 use Rattle.tte_traces.specs.{Answer.{LinesOf, report_lines}, Lines.{AreAdmitted, StandWhole, behind_lines}}
 
 -- the fact holds for the octets of a trace and for those that were left of it, where the source tells them
@@ -41,10 +41,6 @@ pub record StopsBehindLines (lines : LinesOf) (network : Network) (octets left :
   pub notes : List Note
   pub records : AreRecordsSoFar network events notes
   pub puts : PutsLines (lines network events notes) old new
-
--- the fact holds for an accepted network that the octets of its file mean
-abbrev pub ForAccepted : Option (List ℕ) → (Network → Type 0) → Type 0
-ForAccepted left P = (network : Network) × ForOctets left (λ octets. MeansAccepted octets network) × P network
 
 -- a read of the trace of an accepted network failed: all that was put was passed on, and it stops behind the lines that
 -- were taken

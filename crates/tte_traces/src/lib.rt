@@ -9,7 +9,6 @@ mod lines;
 mod reading;
 mod refusing;
 mod report;
-pub mod reports;
 mod running;
 pub mod storms;
 

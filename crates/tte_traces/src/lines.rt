@@ -1,12 +1,11 @@
 ghost use Rattle.std.specs.Prelude.{◌++◌, ◌-◌, ◌<◌, ◌^◌, ◌↔◌, ◌∷◌, ◌≡◌, ◌≢◌, ◌≤◌, Err, IfErr, IfOk, IfSome, IsNone};
 ghost use Rattle.std.specs.Prelude.{IsSome, IsTrue, List, MatchOption, MatchResult, Ok, OnOk, Some, [], length, ℕ};
-ghost use Rattle.net_plan.specs.{Belonging.IsOfNetwork, declared.{network.{Network.{Network as NetworkValue}}}};
-ghost use Rattle.net_plan.specs.{Ranges.IsInRange, declared.{event.{Event.{Event as EventValue}}}};
-ghost use Rattle.{trace_text.specs.Ranges.IsEventInRange, world_drive.specs.Sources.given_in};
+ghost use Rattle.{net_plan.specs.{Belonging.IsOfNetwork, Ranges.IsInRange}, trace_text.specs.Ranges.IsEventInRange};
+ghost use Rattle.net_plan.specs.declared.{event.Event.{Event as EventValue}, network.Network.{Network as NetworkValue}};
 ghost use Rattle.tte_forms.specs.{Faults.{PutFailed, ReadFailed}, Putting.{IsPassedOn, Over, PutsNone, shown_by}};
 ghost use Rattle.tte_traces.specs.Following.{Follows, GoesOn, IsFound, IsRefused, JudgesSo, Reads, TakesNext};
 ghost use Rattle.tte_traces.specs.Lines.{HasEvent, IsAdmitted, IsFault, IsOpen};
-ghost use Rattle.tte_traces.specs.Taking.{EndedBehind, GaveEvents, StoppedBehind};
+ghost use Rattle.{tte_traces.specs.Taking.{EndedBehind, GaveEvents, StoppedBehind}, world_drive.specs.Sources.given_in};
 
 use crate::fault::{TraceFault, TraceStop};
 use crate::reading::next_line;

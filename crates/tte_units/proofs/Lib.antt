@@ -1,2 +1,3 @@
+pub mod general_lemmas
 pub mod Means
 pub mod Amounts

@@ -4,7 +4,7 @@ ghost use Rattle.tte_units.specs.Slip.{slip_of};
 use crate::Units;
 
 /// A clock's rate against world time, in parts per 10^9.
-#[derive(Clone, Copy, Debug, PartialEq, Eq, Hash, PartialOrd, Ord)]
+#[derive(Clone, Copy, PartialEq, Eq, PartialOrd, Ord)]
 pub struct Ppb(pub i32);
 
 /// How far two clocks of rates within `rho` parts per 10^9 drift apart while one of them goes on

@@ -4,7 +4,7 @@ ghost use Rattle.tte_units.specs.OctetTime.{octet_time};
 use crate::Units;
 
 /// The bit rate of a link.
-#[derive(Clone, Copy, Debug, PartialEq, Eq, Hash)]
+#[derive(Clone, Copy, PartialEq, Eq)]
 pub enum Speed {
     Mbit100,
     Gbit1,

@@ -2,7 +2,7 @@ ghost use Rattle.std.specs.Prelude.{◌<ℤ◌, ◌<◌, ◌^◌, ◌≡◌, ◌
 ghost use Rattle.tte_units.specs.{Amount.{amount, units_of}, Mean.{IsMean, mean_of}};
 
 /// A time, a clock's reading or a delay, in units of 2^-16 ns: 1 ns is 65,536 units.
-#[derive(Clone, Copy, Debug, PartialEq, Eq, Hash, PartialOrd, Ord)]
+#[derive(Clone, Copy, Debug, PartialEq, Eq, PartialOrd, Ord)]
 pub struct Units(pub i64);
 
 /// The greatest reading, point, adjustment, expected value or local value, in units. The least is its

@@ -1,11 +1,10 @@
 -- Records up to a mark that is not behind a time, or not behind the next event.
-use Rattle.{drift_world.specs.Running.behind_events, world_drive.specs.{Driving.IsUpToEnd, Seeing.IsOnTheWay}, world_law.specs.source.Agreeing.scenario}
-use Rattle.{run_law.proofs.runs.Grow.empty_run, std.specs.Prelude.slice_get}
+use Rattle.{drift_world.specs.Running.behind_events, run_law.proofs.runs.Grow.empty_run, std.specs.Prelude.slice_get, world_drive.specs.Seeing.IsOnTheWay}
 use Rattle.run_law.{proofs.runs.Places.{before_later_time, before_next_time, before_of_time, parted}, specs.records.Ranks.{key, members_in, place_of, rank}}
-use Rattle.{run_law.specs.declared.note.NoteBody.NoteBody, world_drive.proofs.Words.{happenings, inl, inr, last_time, length, pos, refl, subst, sym, ℕ}}
-use Rattle.{run_law.{specs.{declared.{note.{NoteBody.{TheVariants.{Event as Befalls}}}}}}, world_law.proofs.runs.Applies.{event_cause, event_place, kinds}}
-use Rattle.{run_law.specs.{records.Order.{IsBefore, IsIn}, runs.DueRecords.{IsCaused, IsDue}}, world_drive.specs.exact.Records.clock_reading}
-use Rattle.{run_law.specs.scenario.Scenarios.Scenario, std.proofs.lemmas.Option.slice_get_within, world_drive.proofs.Order.{in_order, sizes}}
+use Rattle.{run_law.specs.declared.note.NoteBody.{NoteBody, TheVariants.{Event as Befalls}}, world_law.proofs.runs.Applies.{event_cause, event_place, kinds}}
+use Rattle.{run_law.specs.{records.Order.{IsBefore, IsIn}, scenario.Scenarios.Scenario}, world_drive.specs.{Driving.IsUpToEnd, exact.Records.clock_reading}}
+use Rattle.{run_law.specs.runs.DueRecords.{IsCaused, IsDue}, world_drive.proofs.Words.{happenings, inl, inr, last_time, length, pos, refl, subst, sym, ℕ}}
+use Rattle.{std.proofs.lemmas.Option.slice_get_within, world_drive.proofs.Order.{in_order, sizes}, world_law.specs.source.Agreeing.scenario}
 use Rattle.world_drive.proofs.Words.{◌++◌, ◌+◌, ◌<◌, ◌∙◌, ◌∷◌, ◌≡◌, ◌≤ℤ◌, ◌≤◌, AreEarlier, AreRecordsBefore, AreRecordsSoFar, Event, ExactWorld, Happening}
 use Rattle.world_drive.proofs.Words.{List, MayGive, Network, Note, Some, StandsExact, Units, [], amount, ap, append-nil, append_assoc, arith, cases_lt}
 

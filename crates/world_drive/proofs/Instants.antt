@@ -65,8 +65,7 @@ given_before network events notes note until next given is stands before = recor
 
 -- within an instant it is of the same time
 pub given_in : (network : Network) (events : List Event) (notes : List Note) (note : Note) (time until : Units) (from world next : ExactWorld)
-    (given : Bool) → given ≡ true → StandsExact network world events notes
-    → StandsExact network next events (notes ++ option_to_list (option_given given note))
+    (given : Bool) → given ≡ true → StandsExact network world events notes → StandsExact network next events (notes ++ option_to_list (option_given given note))
     → (given ≡ true → (note.time ≡ units_of next.now) × (note.time.0 <ℤ until.0)) → time.0 ≡ pos from.now → world.now ≡ from.now
     → until.0 ≡ time.0 +ℤ pos 1 → IsGiven network next (Some (amount time)) events notes note
 given_in network events notes note time until from world next given is a stands before now same after =
@@ -92,8 +91,7 @@ past_from from world next same (inl on) = let now = on.0 in inl (omega (arith, s
 past_from from world next same (inr here) = inr (here.0, here.1 ∙ same)
 
 pub instant_over : (network : Network) (events : List Event) (notes more : List Note) (time until : Units) (from world next : ExactWorld) (given : Bool)
-    (note : Note)
-    → given ≡ false → IsUnderwayAt network from events notes time → StandsExact network world events (notes ++ more) → world.now ≡ from.now
+    (note : Note) → given ≡ false → IsUnderwayAt network from events notes time → StandsExact network world events (notes ++ more) → world.now ≡ from.now
     → until.0 ≡ time.0 +ℤ pos 1 → StandsExact network next events ((notes ++ more) ++ option_to_list (option_given given note))
     → (pos world.now <ℤ until.0 → given ≡ false → IsSafeFront fresh_segment stepped_segment segment_reading network events (amount until) (notes ++ more))
     → IfNone (option_given given note) (Reaches world next until) → InstantOver network events (notes ++ more) time from next

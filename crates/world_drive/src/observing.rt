@@ -1,8 +1,8 @@
 ghost use Rattle.std.specs.Prelude.{◌++◌, ◌<◌, ◌∷◌, ◌≡◌, IfOk, List, MatchResult, None, Option, Some, [], true, ℕ};
-ghost use Rattle.net_plan.specs.{Ranges.IsInRange, declared.{network.{Network.{Network as NetworkValue}}}};
+ghost use Rattle.net_plan.specs.{Ranges.IsInRange, declared.network.Network.{Network as NetworkValue}};
 ghost use Rattle.net_plan.specs.declared.event.Event.{Event as EventValue};
-ghost use Rattle.run_law.specs.{declared.{note.{Note.{Note as NoteValue}}}, records.Ranks.rank};
-ghost use Rattle.{tte_units.specs.Amount.amount, world_drive.{specs.{declared.{observing.{Cut.{Cut as CutValue}}}}}};
+ghost use Rattle.run_law.specs.{declared.note.Note.{Note as NoteValue}, records.Ranks.rank};
+ghost use Rattle.{tte_units.specs.Amount.amount, world_drive.specs.declared.observing.Cut.{Cut as CutValue}};
 ghost use Rattle.world_drive.specs.Observing.{Befell, IsCompleteExact, IsGiven, MaySee, MaySeeEvent, MaySettle};
 ghost use Rattle.world_drive.specs.Observing.{PutsFurther, Start, Told, instant_of, told_by};
 
@@ -14,7 +14,7 @@ use tte_io::Sink;
 use tte_units::Units;
 
 /// Why a drive is cut short.
-#[derive(Clone, Copy, Debug, PartialEq, Eq)]
+#[derive(Clone, Copy, PartialEq, Eq)]
 pub enum Cut {
     /// What was to be put could not be.
     WriteFault,

@@ -1,6 +1,6 @@
 ghost use Rattle.std.specs.Prelude.{◌+ℤ◌, ◌+◌, ◌^◌, ◌≡◌, ◌≤ℤ◌, List, MatchResult, None, OnOk, Some, false, pos, true};
-ghost use Rattle.{drift_world.specs.Running.Reaches, net_plan.{specs.{declared.{event.{Event.{Event as EventValue}}}}}};
-ghost use Rattle.{net_plan.specs.Ranges.IsInRange, run_law.{specs.{declared.{note.{Note.{Note as NoteValue}}}}}};
+ghost use Rattle.{drift_world.specs.Running.Reaches, net_plan.specs.declared.event.Event.{Event as EventValue}};
+ghost use Rattle.{net_plan.specs.Ranges.IsInRange, run_law.specs.declared.note.Note.{Note as NoteValue}};
 ghost use Rattle.tte_units.specs.Amount.{amount};
 ghost use Rattle.world_drive.specs.{Observing.{PutsFurther, Start, told_by}, exact.Worlds.{IsReached, StandsExact}};
 ghost use Rattle.world_drive.specs.Seeing.{ComesNext, CutsAtEvent, CutsBefore, HasSeen, HasSeenInstant, IsAsked};

@@ -8,7 +8,7 @@ pub use Rattle.std.specs.{List.{AllByRecursion, after_last, cons_option, last_or
 pub use Rattle.compression.specs.Clusters.{AreClusters, Cluster, Point}
 pub use Rattle.compression.specs.declared.compressed.Compressed.{Compressed}
 pub use Rattle.drift_clock.specs.Reach.{IsReach}
-pub use Rattle.membership.specs.Summary.{Summary}
+pub use Rattle.sync_state.specs.membership.Summary.{Summary}
 pub use Rattle.net_plan.specs.{Places.{device_at, link_at}, Ranges.IsInRange}
 pub use Rattle.net_plan.specs.declared.{event.{Event.Event, What.{What, TheVariants.Send}}, ids.{DeviceId.DeviceId, LinkId.LinkId, RowId.RowId, VlId.VlId}}
 pub use Rattle.net_plan.specs.declared.{network.Network.Network, tables.{Device.Device, Link.Link, Row.Row, Way.{Way, TheVariants.{Down, Up}}}}
@@ -44,7 +44,7 @@ pub use Rattle.schedule_tables.specs.declared.entry.Entry.{Entry}
 pub use Rattle.sync_state.specs.Standing.{Standing, next_point, point_in}
 pub use Rattle.sync_state.specs.declared.{answers.Verdict.{Verdict, TheVariants.{AsyncClique, Cleared, Corrected, SyncClique}}, state.State.State}
 pub use Rattle.sync_state.specs.declared.state.State.TheVariants.{Integrating, Joining, Off, Synchronised}
-pub use Rattle.tte_lemmas.proofs.Integers.{never_both}
+pub use Rattle.tte_units.proofs.general_lemmas.Integers.{never_both}
 pub use Rattle.tte_units.specs.Amount.{amount, units_of}
 pub use Rattle.tte_units.specs.declared.units.Units.{Units}
 pub use Rattle.world_law.specs.device.{Deeds.HasDoneFrom, Growing.IsFromZero, Left.{HasDone, HasSent, HasTaskBy, IsLeft, is_timed}}

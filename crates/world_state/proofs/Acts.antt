@@ -1,8 +1,8 @@
 -- What an act leaves as it was.
 use Rattle.{compression.specs.declared.compressed.Compressed.Compressed, sync_state.specs.declared.answers.Verdict.{TheVariants.Corrected, Verdict}}
-use Rattle.{membership.specs.Summary.Summary, run_law.specs.{declared.steps.Act.Act, machines.Nodes.Node}, std.specs.Prelude.{IfSome, IsSomeAnd}}
-use Rattle.{net_plan.specs.declared.ids.DeviceId.DeviceId, run_law.specs.declared.steps.{Moment.Moment, Ripe.Ripe}, tte_units.specs.declared.units.Units.Units}
+use Rattle.{net_plan.specs.declared.ids.DeviceId.DeviceId, run_law.specs.declared.steps.{Moment.Moment, Ripe.Ripe}, sync_state.specs.membership.Summary.Summary}
 use Rattle.{net_plan.specs.declared.network.Network.Network, std.proofs.Common.{◌<ℤ◌, ◌∙◌, ◌≡◌, ◌≤ℤ◌, None, Option, Some, ap, arith, refl, subst, sym, ℤ}}
+use Rattle.{run_law.specs.{declared.steps.Act.Act, machines.Nodes.Node}, std.specs.Prelude.{IfSome, IsSomeAnd}, tte_units.specs.declared.units.Units.Units}
 use Rattle.run_law.specs.machines.{Answers.{IsActOf, after_correction, after_emission}, Calls.HasDue, Tasks.{IsDueReading, IsPending, Task, reading_for}}
 use Rattle.std.proofs.lemmas.Int.{ints}
 use Rattle.run_law.specs.declared.steps.Act.TheVariants as acts

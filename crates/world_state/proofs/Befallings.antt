@@ -1,9 +1,9 @@
 -- What comes of the events of an instant is settled: the world stands again.
-use Rattle.{net_plan.specs.Places.link_at, std.specs.Prelude.IfSome, tte_lemmas.proofs.Lists.in_all}
+use Rattle.{net_plan.specs.Places.link_at, std.specs.{List.filter_map, Prelude.IfSome}, world_state.specs.Giving.IsPutOn}
 use Rattle.{net_plan.specs.{Ranges.{IsInRange, IsLinkInRange}, declared.network.Network.Network}, world_law.specs.world.World.{AreInOrder, AtPort}}
-use Rattle.{net_plan.specs.declared.event.What.What, run_law.{proofs.{records.{Members.{in_map as is_mapped}}}, specs.control.Wires.{signal_of, time_on_port}}}
+use Rattle.{net_plan.specs.declared.event.What.What, run_law.specs.records.Order.IsIn, world_state.proofs.{Apart.ports_kept, UnderWays.sound_with}}
 use Rattle.{net_plan.specs.declared.{ids.LinkId.LinkId, tables.Link.Link}, world_state.specs.{Views.{at_port, befell_as}, declared.queue.Entry.Entry}}
-use Rattle.{run_law.specs.records.Order.IsIn, std.specs.List.filter_map, world_state.{proofs.{Apart.ports_kept, UnderWays.sound_with}, specs.Giving.IsPutOn}}
+use Rattle.{run_law.{proofs.records.Members.{in_map as is_mapped}, specs.control.Wires.{signal_of, time_on_port}}, tte_units.proofs.general_lemmas.Lists.in_all}
 use Rattle.std.proofs.Common.{◌++◌, ◌+◌, ◌<◌, ◌↔◌, ◌∙◌, ◌∷◌, ◌≡◌, ◌≤◌, Bool, List, None, Option, Some, [], ap, arith, false, get_or, if◌then◌else◌, inl, inr}
 use Rattle.std.proofs.{Common.{length, map, option_and_then, refl, slice_get, subst, suc, sym, take, true, zero, ℕ}, lemmas.List.Sorted.IsPermutation-sym}
 use Rattle.{std.proofs.lemmas.Option.{get_or_from_slice_get, same_Some, slice_get-get_or, slice_get_within}, world_state.proofs.queue_lemmas.Bags.in_permuted}

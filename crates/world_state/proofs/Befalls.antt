@@ -1,8 +1,8 @@
 -- What an event makes of a device.
-use Rattle.{net_plan.proofs.SameIds.same_device, run_law.specs.machines.Nodes.Node, std.specs.List.slice_get, tte_lemmas.proofs.Lists.set_same}
+use Rattle.{net_plan.proofs.SameIds.same_device, run_law.specs.machines.Nodes.Node, std.{proofs.lemmas.Bool.{cases_eq, ne_eqb}, specs.List.slice_get}}
 use Rattle.{net_plan.specs.declared.event.What.TheVariants.{Break, On}, std.proofs.lemmas.Option.{get_or_from_slice_get, slice_get-get_or, slice_get_within}}
 use Rattle.{net_plan.specs.declared.{event.What.What, ids.DeviceId.DeviceId, network.Network.Network}, std.proofs.lemmas.List.{get_or-set_other, length-set}}
-use Rattle.{run_law.specs.machines.Answers.node_turned_on, std.proofs.lemmas.Bool.{cases_eq, ne_eqb}, world_law.specs.world.Outcomes.befallen_node}
+use Rattle.{run_law.specs.machines.Answers.node_turned_on, tte_units.proofs.general_lemmas.Lists.set_same, world_law.specs.world.Outcomes.befallen_node}
 use Rattle.std.{proofs.Common.{◌&&◌, ◌<◌, ◌∙◌, ◌≡◌, ◌≢◌, Bool, List, Some, ap, arith, inl, inr, length, not, set, subst, sym, ℕ}, specs.Prelude.if◌then◌else◌}
 
 pub set_there : {X : Type 0} (xs : List X) (i j : ℕ) (x y : X) → j ≢ i → slice_get xs j ≡ Some y → slice_get (set xs i x) j ≡ Some y

@@ -1,14 +1,13 @@
 -- The frames that senders make, on the wire.
 use Rattle.{device_rules.proofs.frames_lemmas.Made.made_is, run_law.specs.{control.Wires.{control, signal_of, timed}, records.Frames.{tt_frame, tt_frame_by}}}
-use Rattle.{net_plan.specs.{Ranges.{IsInRange, IsVlInRange}, declared.ids.VlId.VlId}, pcf_codec.specs.Decoding.decoded, std.specs.Prelude.{Bool, if◌then◌else◌}}
+use Rattle.{net_plan.specs.{Ranges.{IsInRange, IsVlInRange}, declared.ids.VlId.VlId}, tte_units.proofs.general_lemmas.Lists.in_all}
 use Rattle.{net_plan.specs.declared.{network.Network.Network, tables.VirtualLink.VirtualLink}, world_state.specs.declared.contents.Timed.TheVariants.Made}
-use Rattle.{pcf_codec.{proofs.Numbers.read_behind, specs.EtherType.pcf_type}, std.proofs.Common.{slice_get, sym, ℕ}, world_state.specs.Views.octets_of}
-use Rattle.{pcf_codec.specs.Fields.field, std.{proofs.lemmas.Bool.ne_eqb, specs.Option.option_map_or}, tte_lemmas.proofs.Lists.in_all}
+use Rattle.{pcf_codec.{proofs.Numbers.read_behind, specs.EtherType.pcf_type}, std.{proofs.Common.{slice_get, sym, ℕ}, specs.Prelude.{Bool, if◌then◌else◌}}}
+use Rattle.{pcf_codec.specs.{Decoding.decoded, Fields.field}, std.{proofs.lemmas.Bool.ne_eqb, specs.Option.option_map_or}, world_state.specs.Views.octets_of}
 use Rattle.std.proofs.Common.{◌-◌, ◌<◌, ◌==◌, ◌^◌, ◌∙◌, ◌≡◌, List, None, Option, Some, ap, append_assoc, arith, false, length, length-append, refl, replicate}
 
 -- of a virtual link of the network it is the frame of the law
-pub made_octets : (network : Network) (vl : VlId) (cycle : ℕ) → vl.0 < length network.vl
-    → octets_of network (Made vl cycle) ≡ tt_frame network vl cycle
+pub made_octets : (network : Network) (vl : VlId) (cycle : ℕ) → vl.0 < length network.vl → octets_of network (Made vl cycle) ≡ tt_frame network vl cycle
 made_octets network vl cycle lt = made_is network vl cycle lt
 
 -- ---- its EtherType
@@ -27,8 +26,7 @@ pub made_type : (network : Network) (vl : VlId) (cycle : ℕ) (zeros : List ℕ)
     → (field 12 2 (option_map_or (λ v. tt_frame_by network v cycle) (slice_get network.vl vl.0) zeros) == pcf_type) ≡ false
 made_type network vl cycle zeros range none = by (slice_get network.vl vl.0) refl
   where
-    by : (o : Option VirtualLink) → slice_get network.vl vl.0 ≡ o
-        → (field 12 2 (option_map_or (λ v. tt_frame_by network v cycle) o zeros) == pcf_type) ≡ false
+    by : (o : Option VirtualLink) → slice_get network.vl vl.0 ≡ o → (field 12 2 (option_map_or (λ v. tt_frame_by network v cycle) o zeros) == pcf_type) ≡ false
     by None e = none
     by (Some v) e =
         let in_range = in_all (IsVlInRange network) network.vl vl.0 v range.vls e in

@@ -1,6 +1,6 @@
 -- Queues of devices: one more frame in one, the first taken out, and the first of those that wait at a device.
 use Rattle.{net_plan.specs.declared.ids.DeviceId.DeviceId, world_state.specs.{Ripening.{IsReached, ripe_numbers}, declared.queue.{DueAt.DueAt, Entry.Entry}}}
-use Rattle.{run_law.{proofs.{records.{Members.{from_map, in_map as is_mapped}}}}, world_state.specs.queue.Places.{IsFirst, first_entry, numbers_of}}
+use Rattle.{run_law.proofs.records.Members.{from_map, in_map as is_mapped}, world_state.specs.queue.Places.{IsFirst, first_entry, numbers_of}}
 use Rattle.{run_law.proofs.runs.Places.{in_left, in_parts, in_right}, std.specs.{List.Sorted.IsPermutation, Prelude.{IfSome, MatchOption, if◌then◌else◌}}}
 use Rattle.{run_law.specs.records.Order.{IsBefore, IsIn}, std.proofs.lemmas.{Bool.{both_ways, cases_lt}, Int.ints, Option.slice_get_within}}
 use Rattle.std.proofs.Common.{◌++◌, ◌<◌, ◌∙◌, ◌∷◌, ◌≡◌, ◌≤ℤ◌, ◌⊎◌, Bool, List, None, Option, Some, [], ap, arith, false, inl, inr, is_some, length, map, not}
@@ -84,8 +84,7 @@ first_in [] e is = absurd cc
 first_in (x ∷ entries) e is = let same : x ≡ e = cc in inl (sym same)
 
 module _ (queues : List (Queue Waits)) (queued : AreQueued queues) (k : ℕ) where
-  first_at : (q : Queue Waits) (o : Option (Entry Waits)) → slice_get queues k ≡ Some q → first_entry q.entries ≡ o
-      → IfSome o (λ e. IsFirst q.entries e.place)
+  first_at : (q : Queue Waits) (o : Option (Entry Waits)) → slice_get queues k ≡ Some q → first_entry q.entries ≡ o → IfSome o (λ e. IsFirst q.entries e.place)
       → MatchOption (option_map content_of o) (NoneAt (frames_in queues) k) (IsFirstAt (frames_in queues) k)
   first_at q None at is first = λ v there own.
       let from = in_queue queues v there in
@@ -159,8 +158,7 @@ push_queued queues q queued empty i r e there inside =
       | inr same ↦ absurd (subst (IsIn e) (ap (λ (x : Queue Waits). x.entries) same ∙ empty) inside)
     ]
   where
-    push_cases : (queues : List (Queue Waits)) (i : ℕ) (q r : Queue Waits) → slice_get (queues ++ q ∷ []) i ≡ Some r
-        → (slice_get queues i ≡ Some r) ⊎ (r ≡ q)
+    push_cases : (queues : List (Queue Waits)) (i : ℕ) (q r : Queue Waits) → slice_get (queues ++ q ∷ []) i ≡ Some r → (slice_get queues i ≡ Some r) ⊎ (r ≡ q)
     push_cases [] zero q r there = inr cc
     push_cases [] (suc i) q r there = absurd cc
     push_cases (x ∷ queues) zero q r there = inl there

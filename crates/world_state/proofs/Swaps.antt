@@ -1,7 +1,7 @@
 -- A list with another element at a place, and one without an element.
-use Rattle.{run_law.specs.records.Order.IsIn, world_law.specs.world.Calls.IsSet}
-use Rattle.{std.proofs.Common.{◌<◌, ◌∷◌, ◌≡◌, List, inl, inr, length, refl, slice_set, ℕ}, tte_lemmas.{proofs.{Lists.{set_aside, set_same as set_there}}}}
-use Rattle.{std.{proofs.lemmas.List.Sorted.IsPermutation-sym, specs.List.Sorted.IsPermutation}, world_state.proofs.queue_lemmas.Bags.in_permuted}
+use Rattle.{run_law.specs.records.Order.IsIn, std.specs.List.Sorted.IsPermutation, world_law.specs.world.Calls.IsSet}
+use Rattle.{std.proofs.Common.{◌<◌, ◌∷◌, ◌≡◌, List, inl, inr, length, refl, slice_set, ℕ}, world_state.proofs.queue_lemmas.Bags.in_permuted}
+use Rattle.{std.proofs.lemmas.List.Sorted.IsPermutation-sym, tte_units.proofs.general_lemmas.Lists.{set_aside, set_same as set_there}}
 
 pub is_set : {X : Type 0} (xs : List X) (i : ℕ) (x : X) → i < length xs → IsSet i x xs (slice_set xs i x)
 is_set xs i x lt = record { there = set_there xs i x lt; same = λ k ne. set_aside xs i k x ne }

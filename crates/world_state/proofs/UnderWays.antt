@@ -1,8 +1,8 @@
 -- What is under way without the first, and with one more.
-use Rattle.{net_plan.specs.declared.network.Network.Network, run_law.proofs.records.Order.{given_of, is_given}, world_state.specs.declared.queue.Entry.Entry}
-use Rattle.{run_law.specs.records.Order.IsIn, std.specs.{List.Sorted.IsPermutation, Prelude.◌↔◌, Str.bytes_eq}, tte_lemmas.proofs.Lists.differ}
+use Rattle.{net_plan.specs.declared.network.Network.Network, run_law.proofs.records.Order.{given_of, is_given}, tte_units.proofs.general_lemmas.Lists.differ}
+use Rattle.{run_law.specs.records.Order.IsIn, std.{proofs.lemmas.Option.same_Some, specs.{Prelude.◌↔◌, Str.bytes_eq}}, world_law.specs.world.Moves.IsWithout}
 use Rattle.std.proofs.{Common.{◌<◌, ◌∙◌, ◌∷◌, ◌≡◌, List, None, Some, [], ap, false, inl, inr, length, map, refl, subst, sym, ℕ}, lemmas.Bool.false_from_ne_true}
-use Rattle.{std.proofs.lemmas.{Cmp.nat_list_eq_equiv, Option.same_Some}, world_law.specs.world.Moves.IsWithout, world_state.specs.queue.Places.numbers_of}
+use Rattle.{std.{proofs.lemmas.Cmp.nat_list_eq_equiv, specs.List.Sorted.IsPermutation}, world_state.specs.{declared.queue.Entry.Entry, queue.Places.numbers_of}}
 use Rattle.{std.proofs.lemmas.List.Sorted.{IsPermutation-map, IsPermutation-sym}, world_law.specs.world.World.{AtPort, OnWire, port_place, wire_place}}
 use Rattle.std.proofs.lemmas.{Map.Keys.{IsDistinct-IsPermutation, IsDistinct-cons, IsDistinct-head, IsDistinct-tail}, Slice.Eq.bytes_eq-Decides}
 use Rattle.{std.specs.List.{AllByRecursion, IsDistinct, filter_map}, world_state.{proofs.queue_lemmas.Bags.in_permuted, specs.Sound.{AreUnderWay, rank_of}}}

@@ -1,14 +1,14 @@
 ghost use Rattle.std.specs.{List.list_any, Prelude.{unsigned_abs, ℕ}};
 ghost use Rattle.std.specs.Prelude.{◌*◌, ◌++◌, ◌+◌, ◌<◌, ◌==◌, ◌^◌, ◌||◌, ◌≡◌, ◌≢◌, ◌≤ℤ◌, ◌≤◌, All, Bool, IfNone};
 ghost use Rattle.std.specs.Prelude.{IfSome, OnErr, OnOk, Some, false, filter, length, map, not, pos, slice_get};
-ghost use Rattle.net_plan.specs.declared.{ids.DeviceId.DeviceId, network.Network.Network, tables.{Way.{Way as WayOf}}};
+ghost use Rattle.net_plan.specs.declared.{ids.DeviceId.DeviceId, network.Network.Network, tables.Way.{Way as WayOf}};
 ghost use Rattle.{net_plan.specs.declared.ids.LinkId.LinkId, run_law.specs.scenario.{Scenarios.turns_on, Ways.is_way}};
 ghost use Rattle.{run_law.specs.machines.Nodes.Node, tte_units.specs.declared.rates.Ppb.Ppb};
 ghost use Rattle.{run_law.specs.scenario.Hypothesis.breaks_at, sync_state.specs.declared.state.State.TheVariants.Off};
 ghost use Rattle.world_law.specs.world.Outcomes.{also_befell, befallen_node, ends_world};
 ghost use Rattle.world_state.specs.Applying.{HasItsLink, IsElsewhere, clock_after, device_in, way_after};
-ghost use Rattle.world_state.specs.{Keeping.keeps, declared.{kept.{Kept.{Kept as KeptValue}}}};
-ghost use Rattle.world_state.specs.{Views.befell_as, declared.{contents.{WayState.{WayState as WayValue}}}};
+ghost use Rattle.world_state.specs.{Keeping.keeps, declared.kept.Kept.{Kept as KeptValue}};
+ghost use Rattle.world_state.specs.{Views.befell_as, declared.contents.WayState.{WayState as WayValue}};
 
 use crate::OutOfMemory;
 use crate::contents::{Befallen, WayState};

@@ -1,7 +1,7 @@
 ghost use Rattle.std.specs.Prelude.{◌+◌, ◌<◌, ◌^◌, ◌↔◌, ◌≡◌, ◌≤◌, All, IfNone, IfSome, IsTrue, OnOk};
 ghost use Rattle.std.specs.Prelude.{Some, false, length};
 ghost use Rattle.{net_plan.specs.{Ranges.IsInRange, Rules.IsChildOf}, tte_units.specs.Amount.amount};
-ghost use Rattle.{net_plan.{specs.{declared.{ids.{LinkId.{LinkId as LinkOf}}}}}, world_state.specs.Shelves.HasPlace};
+ghost use Rattle.{net_plan.specs.declared.ids.LinkId.{LinkId as LinkOf}, world_state.specs.Shelves.HasPlace};
 ghost use Rattle.run_law.specs.{control.Leaving.{Gives, Passes}, scenario.Devices.{IsParentOf, is_relay}};
 ghost use Rattle.world_state.specs.{Frames.{IsOneMore, room_of, waiter_of}, Sound.{AreBelow, AreUnderWay}};
 ghost use Rattle.world_state.specs.Giving.{ArePutTo, CameBy, IsGivenBy, IsYoung, awaited_by, place_at_port};

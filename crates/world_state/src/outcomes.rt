@@ -2,7 +2,7 @@ ghost use Rattle.std.specs.{Prelude.{◌+◌, ◌-◌, ◌<◌, ◌≡◌, ◌�
 ghost use Rattle.{net_plan.specs.declared.network.Network.Network, world_law.specs.world.Outcomes.judged_as};
 ghost use Rattle.{run_law.specs.plain.Bodies.body_of, world_state.specs.Acting.sent_by};
 ghost use Rattle.world_state.specs.Acting.{bare, clique_by, corrected_by, emitted_by, first_by, framed, joined_by};
-ghost use Rattle.world_state.specs.{Places.IsSomePut, declared.{contents.{Settled.{Settled as SettledValue}}}};
+ghost use Rattle.world_state.specs.{Places.IsSomePut, declared.contents.Settled.{Settled as SettledValue}};
 
 use crate::contents::Settled;
 use crate::naming::NONE_YET;

@@ -23,14 +23,14 @@ pub struct DueAt {
 }
 
 /// What is due, with its place.
-#[derive(Debug, Drop)]
+#[derive(Drop)]
 pub struct Entry<T> {
     pub place: DueAt,
     pub content: T,
 }
 
 /// A place, with the slot of what is due there.
-#[derive(Clone, Copy, Debug, PartialEq, Eq, PartialOrd, Ord)]
+#[derive(Clone, Copy, PartialEq, Eq, PartialOrd, Ord)]
 struct Slotted {
     place: DueAt,
     slot: usize,

@@ -7,10 +7,10 @@ use crate::contents::Waits;
 use crate::frames::Frames;
 use crate::giving::is_a_relay;
 use crate::leaving::is_parent;
+use drift_clock::transparent::permanence;
 use net_plan::{DeviceId, LinkId, Network};
 use pcf_values::Pcf;
 use run_law::plain::{PlainBody, PlainKind};
-use transparent_clock::permanence;
 use tte_units::Units;
 
 /// Does the device wait for the permanence of what comes by the link?

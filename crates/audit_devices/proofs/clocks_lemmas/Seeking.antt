@@ -1,8 +1,8 @@
 -- When a clock next crosses a value of a series.
 use Rattle.audit_devices.specs.{Showing.Shown, clocks.Finding.{CrossesAt, IsNextCrossing, NoneCrossed, value_in}, declared.clocks.finding.Series.Series}
-use Rattle.{audit_devices.specs.events.Readings.ReadsOn, drift_clock.specs.Reach.IsReach, std.proofs.lemmas.{Bool.cases_lt, Nat.{div_below, mod_below}}}
+use Rattle.{audit_law.specs.events.Readings.ReadsOn, drift_clock.specs.Reach.IsReach, std.proofs.lemmas.{Bool.cases_lt, Int.ints, Nat.{div_below, mod_below}}}
 use Rattle.std.proofs.Common.{◌%◌, ◌*◌, ◌+◌, ◌-◌, ◌/◌, ◌<ℤ◌, ◌<◌, ◌^◌, ◌≡◌, ◌≤ℤ◌, ◌≤◌, ◌⊎◌, arith, div-add-mod', inl, inr, mul-le-mul_right, pos, subst, ℕ, ℤ}
-use Rattle.std.{proofs.lemmas.Int.ints, specs.Prelude.{◌+ℤ◌, ◌-ℤ◌}}
+use Rattle.std.specs.Prelude.{◌+ℤ◌, ◌-ℤ◌}
 
 -- a value behind what is passed, and the least such
 pub record IsBehind (series : Series) (passed : ℤ) (number : ℕ) : Type 0 where
@@ -82,8 +82,7 @@ next_crossed reading shown series after until number passed sought time on is be
 -- ---- the number
 
 -- the quotient is the number of the last value up to this one
-pub quotient_behind : (series : Series) (passed : ℤ) (d : ℕ) → 1 ≤ series.step → pos d ≡ (passed -ℤ series.first)
-    → IsBehind series passed (d / series.step + 1)
+pub quotient_behind : (series : Series) (passed : ℤ) (d : ℕ) → 1 ≤ series.step → pos d ≡ (passed -ℤ series.first) → IsBehind series passed (d / series.step + 1)
 quotient_behind series passed d some is =
     grind (arith, div-add-mod', mod_below, ints, div_below)
 

@@ -1,7 +1,7 @@
 -- The clusters of a gathering are those of its points.
-use Rattle.audit_devices.specs.{collections.Kept.{History, clusters_in, emissions_in, emitted}, declared.collections.gathering.Gathering.Gathering}
-use Rattle.{audit_devices.specs.declared.collections.emitted.Emitted.Emitted, std.proofs.Common.{◌≡◌, Bool, List, ap, arith, int_eq, map, subst, true, ℕ, ℤ}}
-use Rattle.{audit_devices.specs.stretches.Points.{HasPoints, emissions_for}, std.proofs.lemmas.{Bool.{and_from, and_parts, eq-eqb, eqb-true}, Int.ints}}
+use Rattle.{audit_devices.specs.stretches.Points.{HasPoints, emissions_for}, std.proofs.Common.{◌≡◌, Bool, List, ap, arith, int_eq, map, subst, true, ℕ, ℤ}}
+use Rattle.audit_law.specs.{collections.Kept.{History, clusters_in, emissions_in, emitted}, declared.collections.gathering.Gathering.Gathering}
+use Rattle.{audit_law.specs.declared.collections.emitted.Emitted.Emitted, std.proofs.lemmas.{Bool.{and_from, and_parts, eq-eqb, eqb-true}, Int.ints}}
 use Rattle.{compression.proofs.Standing.AreClusters-unique, net_plan.specs.declared.network.Network.Network}
 use Rattle.{compression.specs.Clusters.{AreClusters, Cluster, Point}, run_law.specs.control.Collections.observation_window, std.specs.Prelude.{◌&&◌, ◌==◌}}
 

@@ -1,15 +1,15 @@
 -- What is kept of a device's stretches goes on by one more record.
-use Rattle.{audit_devices.proofs.Kept.test_chain, run_law.specs.scenario.Devices.is_cm, std.specs.{List.Sorted.IsPartitionedBy, Prelude.{IfSome, slice_set}}}
-use Rattle.{audit_devices.{proofs.Partitions.parted_on, specs.{Effects.carried_by, Keeping.records_before}}, run_law.specs.records.Happenings.Happening}
-use Rattle.audit_devices.{proofs.stretches_lemmas.Turning.{IsQuiet, points_ended, points_given, points_quiet}, specs.collections.Gathered.Gathers}
-use Rattle.audit_devices.specs.{collections.Kept.History, stretches.Keeping.{IsOfRecord, Keeps, KeepsAll, StandsFor, StandsForSome, Stretches, entry_before}}
-use Rattle.audit_devices.specs.declared.{collections.gathering.Gathering.Gathering, stretches.change.Change.{Change, TheVariants.{Ends, Gives}}}
-use Rattle.audit_devices.specs.{declared.stretches.kept.Entry.Entry, stretches.{Changes.{change_by, collector_in}, Points.{MayBring, points_with}}}
-use Rattle.{compression.specs.Clusters.Point, std.{proofs.lemmas.Bool.cases_order, specs.List.last_or}}
-use Rattle.{net_plan.specs.declared.{ids.DeviceId.DeviceId, network.Network.Network}, run_law.specs.{control.Collections.points_of, records.Ranks.place_of}}
+use Rattle.{audit_devices.{proofs.{Kept.test_chain, Partitions.parted_on}, specs.Effects.carried_by}, run_law.specs.records.Ranks.place_of}
+use Rattle.audit_devices.{proofs.stretches_lemmas.Turning.{IsQuiet, points_ended, points_given, points_quiet}, specs.declared.stretches.kept.Entry.Entry}
+use Rattle.audit_devices.specs.{Keeping.records_before, stretches.Keeping.{IsOfRecord, Keeps, KeepsAll, StandsFor, StandsForSome, Stretches, entry_before}}
+use Rattle.{audit_devices.specs.declared.stretches.change.Change.TheVariants.{Ends, Gives}, audit_law.specs.declared.collections.gathering.Gathering.Gathering}
+use Rattle.audit_devices.specs.{declared.stretches.change.Change.Change, stretches.{Changes.{change_by, collector_in}, Points.{MayBring, points_with}}}
+use Rattle.{audit_law.specs.collections.{Gathered.Gathers, Kept.History}, run_law.specs.{control.Collections.points_of, records.Happenings.Happening}}
+use Rattle.{compression.specs.Clusters.Point, run_law.specs.scenario.Devices.is_cm, std.{proofs.lemmas.Bool.cases_order, specs.Prelude.{IfSome, slice_set}}}
+use Rattle.{net_plan.specs.declared.{ids.DeviceId.DeviceId, network.Network.Network}, std.{proofs.Common.{subst, suc, sym, true, zero, ℕ}, specs.List.last_or}}
 use Rattle.run_law.{proofs.{records.Order.{all_kept, before_is}, runs.Places.{in_left, in_parts, in_right}}, specs.records.Order.{AllBefore, IsIn, is_before}}
 use Rattle.std.proofs.Common.{◌++◌, ◌<◌, ◌∙◌, ◌∷◌, ◌≡◌, ◌⊎◌, Bool, List, None, Option, Some, [], ap, arith, false, filter, inl, inr, length, refl, slice_get}
-use Rattle.{std.proofs.Common.{subst, suc, sym, true, zero, ℕ}, tte_lemmas.proofs.Lists.{filter_off, filter_on, got_within, last_pushed, set_other, set_same}}
+use Rattle.{std.specs.List.Sorted.IsPartitionedBy, tte_units.proofs.general_lemmas.Lists.{filter_off, filter_on, got_within, last_pushed, set_other, set_same}}
 
 -- the points behind a record of the device that changes its collections
 pub points_then : (hs : List Happening) (h : Happening) (d : DeviceId) (change : Change) → change_by h.note.body ≡ Some change

@@ -1,7 +1,7 @@
 -- The points of a compression master come in order.
-use Rattle.{audit_devices.specs.law.DueRecords.{IsCaused, IsDue}, run_law.proofs.{control.Arrived.arrived_young, records.Order.{in_drop, place_order}}}
 use Rattle.{audit_devices.specs.stretches.{Changes.{change_by, collector_in}, Points.MayBring}, run_law.specs.records.Ranks.{members_in, place_at, place_of}}
 use Rattle.{audit_devices.specs.stretches.Rising.{NeverFall, RisingLaw}, run_law.specs.{records.Order.{AllBefore, IsBefore, IsIn}, scenario.Scenarios.Scenario}}
+use Rattle.{audit_law.specs.law.DueRecords.{IsCaused, IsDue}, run_law.proofs.{control.Arrived.arrived_young, records.Order.{in_drop, place_order}}}
 use Rattle.{compression.specs.Clusters.{Point, point_at}, net_plan.specs.declared.ids.DeviceId.DeviceId, run_law.proofs.law.FirstPlaces.numbered_in}
 use Rattle.{net_plan.specs.Ranges.IsInRange, std.specs.List.after_last, tte_units.specs.Amount.amount}
 use Rattle.{net_plan.specs.declared.ids.LinkId.LinkId, std.specs.Prelude.{◌==◌, IfSome, filter_map}, tte_units.specs.declared.units.Units.Units}
@@ -15,8 +15,7 @@ use Rattle.run_law.specs.declared.note.NoteBody.TheVariants as notes
 
 -- ---- lists
 
-all_given : (P : Point → Type 0) (f : Happening → Option Point) (xs : List Happening) → ((x : Happening) → IsIn x xs → IfSome (f x) P)
-    → All P (filter_map f xs)
+all_given : (P : Point → Type 0) (f : Happening → Option Point) (xs : List Happening) → ((x : Happening) → IsIn x xs → IfSome (f x) P) → All P (filter_map f xs)
 all_given P f [] each = All-nil P
 all_given P f (x ∷ xs) each = grind (arith, All-cons, (all_given P f xs (λ y i. each y (inr i))))
 

@@ -1,12 +1,12 @@
 -- What one more record makes of the points of a stretch.
 use Rattle.audit_devices.specs.{declared.stretches.change.Change.TheVariants.{Ends, Gives}, stretches.Changes.{change_by, collector_in, permanence_change}}
 use Rattle.{audit_devices.specs.declared.stretches.change.Change.Change, run_law.specs.control.Collections.{ends_stretch, master_of, point_by, points_of}}
-use Rattle.{compression.specs.Clusters.{Point, point_at}, net_plan.specs.declared.ids.DeviceId.DeviceId, run_law.specs.declared.note.NoteBody.NoteBody}
-use Rattle.{net_plan.proofs.SameIds.other_device, run_law.specs.device.States.cycle_in, std.specs.Prelude.{◌==◌, filter_map}, tte_lemmas.proofs.Lists.after_one}
-use Rattle.{run_law.{proofs.records.Order.after_more, specs.records.{Happenings.Happening, Ranks.members_in}}, tte_units.specs.declared.units.Units.Units}
-use Rattle.{run_law.specs.{declared.judgement.{Judgement.Judgement, Why.TheVariants.On}, records.Order.IsIn}, std.proofs.lemmas.List.Elements.filter_map-append}
+use Rattle.{compression.specs.Clusters.{Point, point_at}, run_law.specs.records.{Happenings.Happening, Order.IsIn}, tte_units.specs.declared.units.Units.Units}
+use Rattle.{net_plan.proofs.SameIds.other_device, run_law.{proofs.records.Order.after_more, specs.{device.States.cycle_in, records.Ranks.members_in}}}
+use Rattle.{net_plan.specs.declared.ids.DeviceId.DeviceId, run_law.specs.declared.note.NoteBody.NoteBody, tte_units.proofs.general_lemmas.Lists.after_one}
+use Rattle.{run_law.specs.declared.judgement.{Judgement.Judgement, Why.TheVariants.On}, std.proofs.lemmas.{Bool.eq-eqb, List.Elements.filter_map-append}}
 use Rattle.std.proofs.Common.{◌++◌, ◌∙◌, ◌∷◌, ◌≡◌, Bool, List, None, Option, Some, [], ap, arith, false, if◌then◌else◌, inl, inr, refl, sym, true}
-use Rattle.std.{proofs.lemmas.Bool.eq-eqb, specs.List.cons_option}
+use Rattle.std.specs.{List.cons_option, Prelude.{◌==◌, filter_map}}
 use Rattle.run_law.specs.declared.judgement.Judgement.TheVariants as judgements
 use Rattle.run_law.specs.declared.note.NoteBody.TheVariants as notes
 

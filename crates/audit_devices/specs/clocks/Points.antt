@@ -1,9 +1,9 @@
 -- The correction point that comes to a device at a time.
 use Rattle.std.specs.Prelude.{◌≡◌, List, None, Option, Some, false, ℕ}
 use Rattle.{audit_devices.specs.declared.clocks.correcting.Point.Point, net_plan.specs.declared.ids.DeviceId.DeviceId}
-use Rattle.audit_devices.specs.law.CorrectionNumbers.{heard_since_point, standing_at}
+use Rattle.audit_law.specs.law.CorrectionNumbers.{heard_since_point, standing_at}
 use Rattle.{device_rules.specs.Answers.verdict_as, sync_state.specs.Standing.next_point}
-use Rattle.{membership.specs.Summary.{Summarizes, Summary}, sync_state.specs.declared.answers.Verdict.Verdict}
+use Rattle.sync_state.specs.{declared.answers.Verdict.Verdict, membership.Summary.{Summarizes, Summary}}
 use Rattle.run_law.specs.{control.Corrections.correction_value, scenario.Scenarios.{Scenario, is_broken}}
 use Rattle.run_law.specs.{device.LocalClocks.Reaches, records.Happenings.Happening}
 

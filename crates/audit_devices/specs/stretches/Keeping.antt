@@ -1,13 +1,13 @@
 -- What is kept of the stretches of compression masters.
 use Rattle.std.specs.List.{last_or, Sorted.IsPartitionedBy}
 use Rattle.std.specs.Prelude.{◌≡◌, List, None, Option, Some, [], filter, pos, slice_get, true, ℕ}
-use Rattle.{audit_devices.specs.{Effects.carried_by, Keeping.records_before}, run_law.specs.scenario.Devices.is_cm}
-use Rattle.audit_devices.specs.{collections.{Gathered.Gathers, Kept.History}, declared.effect.Carried.Carried}
-use Rattle.audit_devices.specs.declared.{collections.gathering.Gathering.Gathering, stretches.kept.Entry.Entry}
-use Rattle.{compression.specs.Clusters.Point, net_plan.specs.declared.{ids.DeviceId.DeviceId, network.Network.Network}}
+use Rattle.{audit_devices.specs.Effects.carried_by, audit_law.specs.collections.Kept.History}
+use Rattle.audit_devices.specs.{Keeping.records_before, declared.{effect.Carried.Carried, stretches.kept.Entry.Entry}}
+use Rattle.audit_law.specs.{collections.Gathered.Gathers, declared.collections.gathering.Gathering.Gathering}
+use Rattle.{compression.specs.Clusters.Point, run_law.specs.scenario.Devices.is_cm, tte_units.specs.Amount.amount}
+use Rattle.net_plan.specs.declared.{ids.DeviceId.DeviceId, network.Network.Network}
 use Rattle.run_law.specs.{control.Collections.{observation_window, points_of}, records.Happenings.{Happening, time_of}}
 use Rattle.run_law.specs.{declared.note.NoteBody.NoteBody, records.{Order.{IsIn, is_before}, Ranks.place_of}}
-use Rattle.tte_units.specs.Amount.{amount}
 
 -- what is kept of one device: its collections, the gathering of its present stretch, and those that its records began
 pub record Stretches : Type 0 where

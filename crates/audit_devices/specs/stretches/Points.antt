@@ -1,13 +1,14 @@
 -- The points of a compression master's stretch, and what its collections have of them.
 use Rattle.std.specs.{List.Contains, Prelude.{◌++◌, ◌∷◌, ◌≡◌, ◌≤ℤ◌, All, IfSome, List, Some, [], map, pos, true, ⊤}}
-use Rattle.audit_devices.specs.{collections.Gathered.Gathers, declared.effect.Carried.Carried}
-use Rattle.audit_devices.specs.{collections.Kept.{History, emitted}, stretches.Changes.{change_by, collector_in}}
-use Rattle.audit_devices.specs.declared.collections.{emitted.Emitted.Emitted, gathering.Gathering.Gathering}
+use Rattle.audit_devices.specs.{declared.effect.Carried.Carried, stretches.Changes.{change_by, collector_in}}
 use Rattle.audit_devices.specs.declared.stretches.change.Change.{Change, TheVariants.{Ends, Gives}}
-use Rattle.{compression.specs.Clusters.{AreClusters, Cluster, Point, point_at}, run_law.specs.scenario.Devices.is_cm}
-use Rattle.compression.specs.{Emission.compressed, declared.compressed.Compressed.Compressed}
-use Rattle.{net_plan.specs.declared.{ids.DeviceId.DeviceId, network.Network.Network}, tte_units.specs.Amount.amount}
+use Rattle.{audit_law.specs.collections.Gathered.Gathers, run_law.specs.scenario.Devices.is_cm}
+use Rattle.{audit_law.specs.collections.Kept.{History, emitted}, net_plan.specs.declared.network.Network.Network}
+use Rattle.audit_law.specs.declared.collections.{emitted.Emitted.Emitted, gathering.Gathering.Gathering}
+use Rattle.compression.specs.{Clusters.{AreClusters, Cluster, Point, point_at}, Emission.compressed}
+use Rattle.{compression.specs.declared.compressed.Compressed.Compressed, net_plan.specs.declared.ids.DeviceId.DeviceId}
 use Rattle.run_law.specs.{control.Collections.{master_of, observation_window, points_of}, records.Happenings.Happening}
+use Rattle.tte_units.specs.Amount.{amount}
 
 -- the points of the stretch behind a change, which a frame with this cycle and these members brings
 abbrev pub points_with : List Point → Change → Carried → List Point

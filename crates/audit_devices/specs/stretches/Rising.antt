@@ -1,11 +1,10 @@
 -- The points of a compression master come in order.
 use Rattle.std.specs.Prelude.{◌≡◌, ◌≤ℤ◌, ◌≤◌, List, pos, ℕ}
-use Rattle.audit_devices.specs.{law.DueRecords.IsDue, stretches.Points.MayStand}
-use Rattle.net_plan.specs.{Ranges.IsInRange, declared.ids.{DeviceId.DeviceId, LinkId.LinkId}}
+use Rattle.{audit_devices.specs.stretches.Points.MayStand, net_plan.specs.declared.ids.DeviceId.DeviceId}
+use Rattle.{audit_law.specs.law.DueRecords.IsDue, net_plan.specs.Ranges.IsInRange, run_law.specs.records.Ranks.place_of}
+use Rattle.{net_plan.specs.declared.ids.LinkId.LinkId, run_law.specs.{runs.Runs.IsFounded, scenario.Scenarios.Scenario}}
 use Rattle.run_law.specs.declared.{judgement.Judgement.Judgement, note.NoteBody.TheVariants.Permanent}
-use Rattle.run_law.specs.{records.{Happenings.Happening, Order.AllBefore, Ranks.place_of}, runs.Runs.IsFounded}
-use Rattle.run_law.specs.scenario.Scenarios.{Scenario}
-use Rattle.tte_units.specs.declared.units.Units.{Units}
+use Rattle.{run_law.specs.records.{Happenings.Happening, Order.AllBefore}, tte_units.specs.declared.units.Units.Units}
 
 -- no clock ever falls
 abbrev pub NeverFall : Scenario → Type 0

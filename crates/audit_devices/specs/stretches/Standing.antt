@@ -1,7 +1,7 @@
 -- What the history of a network's stretches keeps.
 use Rattle.std.specs.Prelude.{◌≡◌, List, Option, length, slice_get, ℕ}
 use Rattle.audit_devices.specs.{Keeping.time_at, stretches.Keeping.{KeepsAll, Stretches}}
-use Rattle.audit_devices.specs.{collections.Kept.History, declared.collections.gathering.Gathering.Gathering}
+use Rattle.audit_law.specs.{collections.Kept.History, declared.collections.gathering.Gathering.Gathering}
 use Rattle.audit_devices.specs.declared.stretches.{history.StretchHistory.StretchHistory, kept.Entry.Entry}
 use Rattle.net_plan.specs.declared.{ids.DeviceId.DeviceId, network.Network.Network}
 use Rattle.run_law.specs.records.Happenings.{Happening}

@@ -1,8 +1,8 @@
 ghost use Rattle.std.specs.Prelude.{◌↔◌, ◌≡◌, IsTrue, List, ℕ};
 ghost use Rattle.audit_devices.specs.clocks.{Brought.{bringer_as, bringer_of}, Points.{ComesTo, IsHeard}};
-ghost use Rattle.audit_devices.specs.{clocks.Moments.StandsAt, law.DueRecords.ChangesState};
-ghost use Rattle.net_plan.specs.{Ranges.IsInRange, declared.ids.DeviceId.DeviceId as DeviceIdValue};
-ghost use Rattle.net_plan.specs.declared.network.Network.{Network as NetworkValue};
+ghost use Rattle.{audit_devices.specs.clocks.Moments.StandsAt, audit_law.specs.law.DueRecords.ChangesState};
+ghost use Rattle.net_plan.specs.{Ranges.IsInRange, declared.network.Network.{Network as NetworkValue}};
+ghost use Rattle.net_plan.specs.declared.ids.DeviceId.{DeviceId as DeviceIdValue};
 ghost use Rattle.run_law.specs.{device.States.state_before, records.Happenings.Happening, scenario.Scenarios.Scenario};
 ghost use Rattle.sync_state.specs.declared.answers.Verdict.TheVariants.{AsyncClique, SyncClique};
 ghost use Rattle.sync_state.specs.declared.state.State.TheVariants.{Integrating, Joining};
@@ -10,13 +10,13 @@ ghost use Rattle.sync_state.specs.declared.state.State.TheVariants.{Integrating,
 use crate::Shown;
 use crate::clocks::{Moment, Point, coming_point};
 use device_rules::PointVerdict;
-use membership::Heard;
 use net_plan::{DeviceId, Network, What};
 use run_law::{Judgement, NoteBody, Why};
 use sync_state::State;
+use sync_state::membership::Heard;
 
 /// What a record is to the state of a device.
-#[derive(Clone, Copy, Debug, PartialEq, Eq)]
+#[derive(Clone, Copy)]
 pub enum Bringer {
     /// It turns the device on.
     TurnsOn,
@@ -29,7 +29,7 @@ pub enum Bringer {
 }
 
 /// What a record says of a change of state.
-#[derive(Clone, Copy, Debug, PartialEq, Eq)]
+#[derive(Clone, Copy)]
 pub struct StateChange {
     pub state: State,
     pub cause: u64,

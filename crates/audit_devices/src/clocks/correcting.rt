@@ -1,30 +1,29 @@
 ghost use Rattle.std.specs.Prelude.{◌+ℤ◌, ◌↔◌, ◌≡◌, IsTrue, List, Some, ℕ};
-ghost use Rattle.audit_devices.specs.law.CorrectionNumbers.{ComesToPoint, next_number, standing_at};
-ghost use Rattle.audit_devices.specs.law.DueRecords.{IsCorrectedRecord};
-ghost use Rattle.device_rules.specs.{Answers.{standing_of, verdict_as}, Widths.IsWide};
-ghost use Rattle.net_plan.specs.{Ranges.IsInRange, declared.ids.DeviceId.DeviceId as DeviceIdValue};
-ghost use Rattle.net_plan.specs.declared.network.Network.{Network as NetworkValue};
-ghost use Rattle.run_law.specs.{records.Happenings.Happening, scenario.Scenarios.Scenario};
-ghost use Rattle.sync_state.specs.{Standing.next_point, declared.answers.Verdict.{Verdict, TheVariants.Corrected}};
 ghost use Rattle.audit_devices.specs.clocks.{Moments.StandsAt, Points.{ComesTo, HasPoint, IsHeard}};
+ghost use Rattle.audit_law.specs.law.CorrectionNumbers.{ComesToPoint, next_number, standing_at};
+ghost use Rattle.{audit_law.specs.law.DueRecords.IsCorrectedRecord, run_law.specs.records.Happenings.Happening};
+ghost use Rattle.{device_rules.specs.Answers.{standing_of, verdict_as}, run_law.specs.scenario.Scenarios.Scenario};
+ghost use Rattle.{device_rules.specs.Widths.IsWide, net_plan.specs.declared.network.Network.{Network as NetworkValue}};
+ghost use Rattle.net_plan.specs.{Ranges.IsInRange, declared.ids.DeviceId.{DeviceId as DeviceIdValue}};
+ghost use Rattle.sync_state.specs.{Standing.next_point, declared.answers.Verdict.{TheVariants.Corrected, Verdict}};
 
 use crate::Shown;
 use crate::clocks::{Moment, reaches};
 use device_rules::{PointStanding, PointVerdict, correction_value, verdict};
-use membership::Heard;
 use net_plan::{DeviceId, Network};
 use sync_state::State;
+use sync_state::membership::Heard;
 use tte_units::Units;
 
 /// A correction point, and what it comes to.
-#[derive(Clone, Copy, Debug, PartialEq, Eq)]
+#[derive(Clone, Copy, PartialEq, Eq)]
 pub struct Point {
     pub cycle: u64,
     pub verdict: PointVerdict,
 }
 
 /// What a record says of a correction.
-#[derive(Clone, Copy, Debug, PartialEq, Eq)]
+#[derive(Clone, Copy)]
 pub struct Correction {
     pub cycle: u32,
     pub by: Units,

@@ -1,6 +1,6 @@
 ghost use Rattle.std.specs.Prelude.{◌↔◌, ◌≡◌, IsSome, IsTrue, List, pos, ℕ};
 ghost use Rattle.{audit_devices.specs.Showing.Shows, run_law.specs.scenario.Scenarios.Scenario};
-ghost use Rattle.{net_plan.specs.Places.device_at, tte_units.{specs.{declared.{units.{Units.{Units as UnitsValue}}}}}};
+ghost use Rattle.{net_plan.specs.Places.device_at, tte_units.specs.declared.units.Units.{Units as UnitsValue}};
 ghost use Rattle.run_law.specs.{records.Happenings.{Happening, up_to}, runs.DueRecords.{EndsAt, IsClockRecord}};
 ghost use Rattle.tte_units.specs.Amount.{amount};
 
@@ -10,7 +10,7 @@ use sync_state::State;
 use tte_units::Units;
 
 /// What a record says of a clock at the end.
-#[derive(Clone, Copy, Debug, PartialEq, Eq)]
+#[derive(Clone, Copy)]
 pub struct EndClock {
     pub reading: Units,
     pub adjustment: Units,

@@ -1,23 +1,23 @@
 ghost use Rattle.std.specs.Prelude.{◌-ℤ◌, ◌<ℤ◌, ◌^◌, ◌≡◌, ◌≤ℤ◌, ◌≤◌, ◌⊎◌, IfSome, List, neg_ℤ, pos, ℕ};
-ghost use Rattle.audit_devices.specs.events.{Readings.clock_reading, Remembering.{Remembers, RemembersSome}};
+ghost use Rattle.audit_law.specs.events.{Readings.clock_reading, Remembering.{Remembers, RemembersSome}};
 ghost use Rattle.device_rules.specs.Widths.{IsFar};
 ghost use Rattle.net_plan.specs.{Belonging.HasDevice, declared.{event.Event.Event, network.Network.Network}};
 ghost use Rattle.audit_devices.specs.clocks.Finding.{IsNextOrNone, IsSeries, value_in};
 
 use crate::Shown;
 use crate::clocks::reaching::local;
-use crate::events::{EventHistory, reading_law};
+use audit_law::events::{EventHistory, reading_law};
 use net_plan::DeviceId;
 
 /// Local values in equal steps.
-#[derive(Clone, Copy, Debug, PartialEq, Eq)]
+#[derive(Clone, Copy)]
 pub struct Series {
     pub first: i128,
     pub step: u64,
 }
 
 /// When a clock crosses a value of a series, and which, from 0.
-#[derive(Clone, Copy, Debug, PartialEq, Eq)]
+#[derive(Clone, Copy)]
 pub struct Crossed {
     pub time: u64,
     pub number: u128,

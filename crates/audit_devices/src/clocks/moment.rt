@@ -1,14 +1,14 @@
 ghost use Rattle.std.specs.Prelude.{◌^◌, ◌≡◌, ◌≤◌, List};
 ghost use Rattle.audit_devices.specs.{Showing.IsReading, clocks.Moments.IsMoment};
-ghost use Rattle.audit_devices.specs.events.{Readings.scenario_under, Remembering.{Remembers, RemembersSome}};
+ghost use Rattle.audit_law.specs.events.{Readings.scenario_under, Remembering.{Remembers, RemembersSome}};
 ghost use Rattle.net_plan.specs.{Belonging.HasDevice, declared.{event.Event.Event, network.Network.Network}};
 
 use crate::Readings;
-use crate::events::{EventHistory, reading_law};
+use audit_law::events::{EventHistory, reading_law};
 use net_plan::DeviceId;
 
 /// What befalls a device at a time.
-#[derive(Clone, Copy, Debug, PartialEq, Eq)]
+#[derive(Clone, Copy)]
 pub struct Moment {
     pub readings: Readings,
     /// Is it turned on at this very time?

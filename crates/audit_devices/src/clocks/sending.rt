@@ -1,20 +1,20 @@
 ghost use Rattle.std.specs.Prelude.{◌*◌, ◌+◌, ◌^◌, ◌↔◌, ◌≡◌, ◌≤◌, IsTrue, List, pos, ℕ};
 ghost use Rattle.audit_devices.specs.clocks.{Finding.{IsSeries, value_in}, Sendings.{IsNextSendingOrNone, IsStretch}};
 ghost use Rattle.{audit_devices.specs.clocks.Moments.StandsAt, run_law.specs.records.Happenings.Happening};
-ghost use Rattle.audit_devices.specs.events.{Readings.scenario_under, Remembering.{Remembers, RemembersSome}};
+ghost use Rattle.audit_law.specs.events.{Readings.scenario_under, Remembering.{Remembers, RemembersSome}};
 ghost use Rattle.{net_plan.specs.{Belonging.HasDevice, Ranges.IsInRange}, tte_units.specs.Amount.amount};
-ghost use Rattle.net_plan.specs.declared.{event.Event.Event, ids.{DeviceId.{DeviceId as DeviceIdValue}}};
+ghost use Rattle.net_plan.specs.declared.{event.Event.Event, ids.DeviceId.{DeviceId as DeviceIdValue}};
 ghost use Rattle.run_law.specs.{device.LocalClocks.Reaches, scenario.Scenarios.Scenario, timed.Dispatching.Sends};
 
 use crate::Shown;
 use crate::clocks::network::{begun, is_master};
 use crate::clocks::{Moment, Series, is_up, next_crossing, reaches};
-use crate::events::{EventHistory, reading_law};
+use audit_law::events::{EventHistory, reading_law};
 use net_plan::{DeviceId, Network};
 use sync_state::State;
 
 /// When a master sends the control frame of a cycle.
-#[derive(Clone, Copy, Debug, PartialEq, Eq)]
+#[derive(Clone, Copy, PartialEq, Eq)]
 pub struct Sending {
     pub cycle: u128,
     pub time: u64,

@@ -7,7 +7,7 @@ use run_law::{Judgement, NoteBody, Why};
 use tte_units::Units;
 
 /// What a record does to the collections of its device.
-#[derive(Clone, Copy, Debug, PartialEq, Eq)]
+#[derive(Clone, Copy)]
 pub(crate) enum Change {
     /// It ends the stretch of points.
     Ends,

@@ -1,22 +1,22 @@
 ghost use Rattle.std.specs.Prelude.{◌++◌, ◌∷◌, ◌≡◌, ◌≤ℤ◌, IfOk, List, OnOk, Some, [], pos};
-ghost use Rattle.audit_devices.specs.{Effects.carried_by, collections.Gathered.{Gathers, IsLatest}};
+ghost use Rattle.{audit_devices.specs.Effects.carried_by, run_law.specs.records.{Order.AllBefore, Ranks.place_of}};
 ghost use Rattle.audit_devices.specs.{Keeping.records_before, stretches.Changes.{change_by, collector_in}};
 ghost use Rattle.audit_devices.specs.stretches.{Keeping.Keeps, Points.{HasPoints, MayBring, points_with}};
+ghost use Rattle.{audit_law.specs.collections.Gathered.{Gathers, IsLatest}, run_law.specs.records.Happenings.Happening};
 ghost use Rattle.{compression.specs.Clusters.Point, net_plan.specs.Ranges.IsInRange};
 ghost use Rattle.{net_plan.specs.declared.ids.DeviceId.DeviceId, run_law.specs.control.Collections.points_of};
-ghost use Rattle.run_law.specs.records.{Happenings.Happening, Order.AllBefore, Ranks.place_of};
 ghost use Rattle.net_plan.specs.declared.network.Network as networks;
 
 use crate::Carried;
-use crate::collections::{CollectionHistory, Gathering};
 use crate::stretches::change::Change;
+use audit_law::collections::{CollectionHistory, Gathering};
 use net_plan::Network;
 use run_law::plain::Place;
 use std::alloc::{AllocError, Global};
 use std::marker::Model;
 
 /// The gathering from a place on.
-#[derive(Debug, Drop)]
+#[derive(Drop)]
 pub(crate) struct Entry {
     pub(crate) place: Place,
     pub(crate) gathering: Gathering,
@@ -33,7 +33,7 @@ pub(crate) struct Kept {
 }
 
 impl Model for Kept {
-    ghost use Rattle.audit_devices.specs.{collections.Gathered.IsLatest, stretches.Keeping.Stretches};
+    ghost use Rattle.{audit_devices.specs.stretches.Keeping.Stretches, audit_law.specs.collections.Gathered.IsLatest};
 
     ghost Value = { Stretches };
 

@@ -4,7 +4,7 @@ ghost use Rattle.net_plan.specs.declared.network.Network as networks;
 ghost use Rattle.run_law.specs.control.Collections.{IsCollectedAs, master_of, observation_window};
 ghost use Rattle.audit_devices.specs.stretches.Points.{HasPoints, IsSentFor, emissions_for};
 
-use crate::collections::{CollectionHistory, Emitted, Gathering};
+use audit_law::collections::{CollectionHistory, Emitted, Gathering};
 use compression::{Compressed, Taken};
 use pcf_values::Members;
 use tte_units::Units;

@@ -37,8 +37,7 @@ either q p [] (inr i) = absurd i
 either q p (y ∷ ys) (inl e) = inl (inl e)
 either q p (y ∷ ys) (inr i) = elim (either q p ys i) [ inl l ↦ inl (inr l) | inr e ↦ inr e ]
 
-headed : (x : List ℕ) (ys : List (List ℕ)) (j : ℕ) (d : List ℕ) → ((q : List ℕ) → IsIn q ys → IsBefore x q) → j < length ys
-    → IsBefore x (get_or ys j d)
+headed : (x : List ℕ) (ys : List (List ℕ)) (j : ℕ) (d : List ℕ) → ((q : List ℕ) → IsIn q ys → IsBefore x q) → j < length ys → IsBefore x (get_or ys j d)
 headed x [] j d each lt = absurd (omega (arith, lt))
 headed x (y ∷ ys) zero d each lt = each y (inl refl)
 headed x (y ∷ ys) (suc j) d each lt = headed x ys j d (λ q i. each q (inr i)) (omega (arith, lt))

@@ -1,7 +1,7 @@
 -- The first of some unpaid debts and others.
 use Rattle.audit_sweep.proofs.unpaid_lemmas.Words.{◌≡◌, ◌≤◌, ◌⊎◌, Happening, IsPaid, List, None, Option, Pays, Scenario, Some, TellsFirst, TellsFirstAmong}
 use Rattle.audit_sweep.proofs.unpaid_lemmas.Words.{TellsUnpaid, arith, cases_lt, inl, inr, refl, subst, sym, ℕ}
-use Rattle.audit_devices.specs.law.{FirstDebts.earlier_of, Owed.{Debt, IsOwed, falls_due}}
+use Rattle.audit_law.specs.law.{FirstDebts.earlier_of, Owed.{Debt, IsOwed, falls_due}}
 
 -- the first of two families
 pub first_of_both : {O : Type 0} (s : Scenario) (hs : List Happening) (until : ℕ) (debt_of : O → Debt) (A B C : O → Type 0) (a b : Option ℕ)

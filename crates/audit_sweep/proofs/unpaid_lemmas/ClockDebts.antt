@@ -1,10 +1,10 @@
 -- The clocks that are owed at the end.
-use Rattle.{audit_devices.proofs.law_lemmas.EndingClocks.place_of_clock, audit_sweep.specs.unpaid.Clocks.{IsOnlyEnd, IsUntold, IsUntoldDevice}}
-use Rattle.{audit_devices.specs.law.EndClocks.IsClockOf, run_law.specs.records.Ranks.{members_in, place_at}, std.proofs.lemmas.Option.slice_get_within}
+use Rattle.{audit_law.proofs.law_lemmas.EndingClocks.place_of_clock, audit_sweep.specs.unpaid.Clocks.{IsOnlyEnd, IsUntold, IsUntoldDevice}}
+use Rattle.{audit_law.specs.law.EndClocks.IsClockOf, net_plan.proofs.SameIds.same_device}
 use Rattle.audit_sweep.proofs.unpaid_lemmas.Words.{◌+◌, ◌<◌, ◌∙◌, ◌∷◌, ◌≡◌, ◌≤◌, DeviceId, Happening, HasClockAt, IsPaid, List, None, NoteBody, Pays, Scenario}
 use Rattle.audit_sweep.proofs.unpaid_lemmas.Words.{Some, TellsFirst, [], ap, arith, cases_lt, refl, subst, sym, time_of, ℕ}
-use Rattle.{net_plan.proofs.SameIds.same_device, tte_lemmas.proofs.Lists.some_at}
-use Rattle.audit_devices.specs.law.Owed as debts
+use Rattle.{run_law.specs.records.Ranks.{members_in, place_at}, std.proofs.lemmas.Option.slice_get_within, tte_units.proofs.general_lemmas.Lists.some_at}
+use Rattle.audit_law.specs.law.Owed as debts
 use Rattle.run_law.specs.declared.note.NoteBody.TheVariants as notes
 
 abbrev second_of : List ℕ → ℕ

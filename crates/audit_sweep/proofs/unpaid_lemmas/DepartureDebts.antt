@@ -1,13 +1,13 @@
 -- The leavings that are owed, and what pays them.
-use Rattle.{audit_devices.proofs.law_lemmas.Departing.{departs_in_whole, departure_law, record_place, same_place}, std.proofs.Common.arith}
-use Rattle.{audit_devices.specs.law.Departures.{IsDueByLeaving, OwesDeparture, TellsDeparture, leaves_at, leaving_record}, net_plan.specs.Belonging.HasDevice}
+use Rattle.{audit_law.proofs.law_lemmas.Departing.{departs_in_whole, departure_law, record_place, same_place}, audit_sweep.specs.records.wires.Departings.giver}
+use Rattle.audit_law.specs.law.Departures.{IsDueByLeaving, OwesDeparture, TellsDeparture, leaves_at, leaving_record}
 use Rattle.audit_sweep.proofs.{records_lemmas.wires_lemmas.LeavingTimes.giver_is, unpaid_lemmas.Payers.{one_time, paid_at_place}}
 use Rattle.audit_sweep.proofs.unpaid_lemmas.Words.{◌↔◌, ◌∙◌, ◌≡◌, DeviceId, Happening, IsDue, IsFounded, IsIn, IsPaid, KeptRecord, LinkId, List, NoteBody, Pays}
 use Rattle.audit_sweep.proofs.unpaid_lemmas.Words.{Scenario, Some, ap, device_named, numbered, numbered_in, place_of, refl, subst, sym, time_of, true, ℕ}
 use Rattle.audit_sweep.specs.{records.{Keeping.{kept_of, record_of}, places.Placing.HasRecordAt}, unpaid.Leavings.{leaving_place, may_give}}
-use Rattle.{audit_sweep.specs.records.wires.Departings.giver, run_law.specs.control.Leaving.{Departs, Departure, Gives, departure, leaves, on_cut_way, too_old}}
-use Rattle.{net_plan.specs.declared.network.Network.Network, run_law.specs.{records.Ranks.{members_in, place_at}, scenario.Devices.is_relay}}
-use Rattle.audit_devices.specs.law.Owed as debts
+use Rattle.{net_plan.specs.{Belonging.HasDevice, declared.network.Network.Network}, run_law.specs.scenario.Devices.is_relay, std.proofs.Common.arith}
+use Rattle.run_law.specs.{control.Leaving.{Departs, Departure, Gives, departure, leaves, on_cut_way, too_old}, records.Ranks.{members_in, place_at}}
+use Rattle.audit_law.specs.law.Owed as debts
 use Rattle.run_law.specs.declared.note.NoteBody.TheVariants as notes
 
 tells_so : (device : DeviceId) (link by : LinkId) (cause from : ℕ) (d : Departure) → TellsDeparture cause link (leaving_record device by from d)

@@ -1,8 +1,8 @@
 -- The first of some unpaid debts, as one more is looked at.
-use Rattle.{audit_devices.specs.law.{FirstDebts.earlier_of, Owed.{Debt, IsOwed, falls_due}}, audit_sweep.specs.unpaid.Unpaid.IsUnpaid}
+use Rattle.{audit_law.specs.law.{FirstDebts.earlier_of, Owed.{Debt, IsOwed, falls_due}}, tte_units.proofs.general_lemmas.Naturals.below_next}
 use Rattle.audit_sweep.proofs.unpaid_lemmas.Words.{◌+◌, ◌≡◌, ◌≤◌, Happening, IsPaid, List, None, Option, Pays, Scenario, Some, TellsFirst, TellsFirstBelow}
 use Rattle.audit_sweep.proofs.unpaid_lemmas.Words.{TellsUnpaid, arith, cases_lt, inl, inr, length, numbered, numbered_within, subst, sym, ℕ}
-use Rattle.tte_lemmas.proofs.Naturals.{below_next}
+use Rattle.audit_sweep.specs.unpaid.Unpaid.{IsUnpaid}
 
 -- what is owed of a number is brought by the record of that number
 abbrev pub AreOfRecords : Scenario → List Happening → ℕ → (ℕ → Debt) → Type 0

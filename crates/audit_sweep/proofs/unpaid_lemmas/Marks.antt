@@ -2,7 +2,7 @@
 use Rattle.audit_sweep.proofs.unpaid_lemmas.Words.{◌+◌, ◌<◌, ◌↔◌, ◌∷◌, ◌≡◌, ◌≤◌, ◌⊎◌, Happening, IsIn, IsMarked, IsPaidSo, List, Paid, Some, [], ap, arith}
 use Rattle.audit_sweep.proofs.unpaid_lemmas.Words.{cause_of, false, inl, inr, length, paid_by, refl, slice_get, subst, sym, true, ℕ}
 use Rattle.{audit_sweep.specs.unpaid.Payments.{ArePayments, both, nothing}, run_law.proofs.runs.Places.{in_left, in_parts, in_right}}
-use Rattle.{std.{proofs.Common.{◌++◌, Bool, length-append, suc, zero}, specs.Prelude.{◌||◌, slice_set}}, tte_lemmas.proofs.Lists.set_length}
+use Rattle.{std.{proofs.Common.{◌++◌, Bool, length-append, suc, zero}, specs.Prelude.{◌||◌, slice_set}}, tte_units.proofs.general_lemmas.Lists.set_length}
 use Rattle.std.proofs.lemmas.Bool.{or_cases}
 
 -- what one of the records pays, one of more does

@@ -1,9 +1,9 @@
 -- What pays the debts of arrivals.
-use Rattle.audit_devices.{proofs.law_lemmas.Arriving.arrival_law, specs.law.Arrivals.{IsDueByArrival, OwesArrival, TellsArrival, arrival_record}}
+use Rattle.audit_law.{proofs.law_lemmas.Arriving.arrival_law, specs.law.Arrivals.{IsDueByArrival, OwesArrival, TellsArrival, arrival_record}}
 use Rattle.{audit_sweep.proofs.unpaid_lemmas.Firsts.AreOfRecords, run_law.specs.declared.steps.Arrival.Arrival}
 use Rattle.audit_sweep.proofs.unpaid_lemmas.{Payers.{one_time, payer_due}, Words.{cause_of, numbered_within, paid_by, place_of, refl, sym, true, ℕ}}
 use Rattle.audit_sweep.proofs.unpaid_lemmas.Words.{◌∙◌, ◌≡◌, Happening, IsDue, IsFounded, IsMarked, IsPaid, List, NoteBody, Paid, Pays, Scenario, ap, arith}
-use Rattle.audit_devices.specs.law.Owed as debts
+use Rattle.audit_law.specs.law.Owed as debts
 use Rattle.run_law.specs.declared.note.NoteBody.TheVariants as notes
 use Rattle.run_law.specs.declared.steps.Arrival.TheVariants as arrivals
 

@@ -1,13 +1,13 @@
 -- What pays the debts of changes of state.
-use Rattle.{audit_devices.{proofs.law_lemmas.Changing.change_law, specs.law.DueRecords.ChangesState}, audit_sweep.proofs.unpaid_lemmas.Firsts.AreOfRecords}
-use Rattle.{audit_devices.specs.law.Changes.{IsBrought, IsDueByChange, OwesChange, TellsChange}, audit_sweep.proofs.unpaid_lemmas.Payers.{one_time, payer_due}}
+use Rattle.{audit_law.{proofs.law_lemmas.Changing.change_law, specs.law.DueRecords.ChangesState}, sync_state.specs.declared.state.State.State}
+use Rattle.{audit_law.specs.law.Changes.{IsBrought, IsDueByChange, OwesChange, TellsChange}, run_law.specs.declared.judgement.Judgement.TheVariants.Integrates}
+use Rattle.audit_sweep.proofs.unpaid_lemmas.{Firsts.AreOfRecords, Payers.{one_time, payer_due}, Words.{sym, time_of, true, ℕ}}
 use Rattle.audit_sweep.proofs.unpaid_lemmas.Words.{◌∙◌, ◌≡◌, ◌≤◌, DeviceId, Happening, IsDue, IsFounded, IsMarked, IsPaid, List, NoteBody, Paid, Pays, Scenario}
 use Rattle.audit_sweep.proofs.unpaid_lemmas.Words.{Some, ap, arith, cause_of, false, is_broken, numbered, numbered_within, paid_by, place_of, refl, same_some}
-use Rattle.{audit_sweep.proofs.unpaid_lemmas.Words.{sym, time_of, true, ℕ}, run_law.specs.declared.judgement.{Judgement.TheVariants.Integrates, Why.Why}}
-use Rattle.{audit_sweep.specs.unpaid.Changing.HasChange, net_plan.specs.declared.event.What.TheVariants.On, sync_state.specs.declared.state.State.State}
+use Rattle.{audit_sweep.specs.unpaid.Changing.HasChange, net_plan.specs.declared.event.What.TheVariants.On, tte_units.proofs.general_lemmas.Naturals.eqb_same}
+use Rattle.run_law.specs.{declared.judgement.Why.Why, records.Causes.IsOfThisTime}
 use Rattle.{run_law.specs.device.States.{is_joined_by, state_before}, sync_state.specs.declared.state.State.TheVariants.{Integrating, Joining, Synchronised}}
-use Rattle.{run_law.specs.records.Causes.IsOfThisTime, tte_lemmas.proofs.Naturals.eqb_same}
-use Rattle.audit_devices.specs.law.Owed as debts
+use Rattle.audit_law.specs.law.Owed as debts
 use Rattle.run_law.specs.declared.note.NoteBody.TheVariants as notes
 use Rattle.run_law.specs.declared.judgement.Why.TheVariants as whys
 

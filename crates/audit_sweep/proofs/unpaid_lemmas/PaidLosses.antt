@@ -2,8 +2,8 @@
 use Rattle.audit_sweep.proofs.unpaid_lemmas.Firsts.{AreOfRecords}
 use Rattle.audit_sweep.proofs.unpaid_lemmas.{Payers.{one_time, payer_due}, Words.{cause_of, numbered_within, paid_by, place_of, refl, sym, true, ℕ}}
 use Rattle.audit_sweep.proofs.unpaid_lemmas.Words.{◌∙◌, ◌≡◌, Happening, IsDue, IsFounded, IsMarked, IsPaid, List, NoteBody, Paid, Pays, Scenario, ap, arith}
-use Rattle.audit_devices.{proofs.law_lemmas.LosingSends.loss_law, specs.law.LostSends.{IsDueBySend, OwesLoss, TellsLoss}}
-use Rattle.audit_devices.specs.law.Owed as debts
+use Rattle.audit_law.{proofs.law_lemmas.LosingSends.loss_law, specs.law.LostSends.{IsDueBySend, OwesLoss, TellsLoss}}
+use Rattle.audit_law.specs.law.Owed as debts
 use Rattle.run_law.specs.declared.note.NoteBody.TheVariants as notes
 
 -- what tells of a loss pays it
@@ -34,8 +34,7 @@ loss_marked s hs until cause founded owed paid =
     record { paying = m; there = paid.1; behind = omega (arith, few, number, same); of_cause = so.0; pays = so.1 }
 
 -- a loss falls due at one time
-pub loss_time : (s : Scenario) (hs : List Happening) (until cause : ℕ) → IsFounded place_of (IsDue s) hs → (a b : OwesLoss s hs until cause)
-    → a.time ≡ b.time
+pub loss_time : (s : Scenario) (hs : List Happening) (until cause : ℕ) → IsFounded place_of (IsDue s) hs → (a b : OwesLoss s hs until cause) → a.time ≡ b.time
 loss_time s hs until cause founded a b =
     one_time s hs until (IsDueBySend s) (OwesLoss s hs until) (λ c o. o.time) (λ x c. TellsLoss c x.note.body) (λ ps x d. d.due)
     (loss_law s hs until founded) cause a b

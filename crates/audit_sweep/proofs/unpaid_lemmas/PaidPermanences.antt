@@ -1,13 +1,13 @@
 -- What pays the debts of permanences.
-use Rattle.{audit_devices.proofs.law_lemmas.Ripening.permanence_law, audit_sweep.proofs.unpaid_lemmas.Payers.{one_time, payer_due}, std.proofs.Common.pos}
-use Rattle.audit_devices.specs.law.Permanences.{IsDueByPermanence, OwesPermanence, TellsPermanence, permanence_record}
+use Rattle.audit_law.{proofs.law_lemmas.Ripening.permanence_law, specs.law.Permanences.{IsDueByPermanence, OwesPermanence, TellsPermanence, permanence_record}}
 use Rattle.audit_sweep.proofs.unpaid_lemmas.{Firsts.AreOfRecords, Words.{numbered_within, paid_by, place_of, refl, same_some, subst, sym, time_of, true, ℕ}}
+use Rattle.{audit_sweep.proofs.unpaid_lemmas.Payers.{one_time, payer_due}, drift_clock.specs.Reach.IsReach, net_plan.specs.declared.network.Network.Network}
 use Rattle.audit_sweep.proofs.unpaid_lemmas.Words.{◌∙◌, ◌≡◌, DeviceId, Happening, IsDue, IsFounded, IsMarked, IsPaid, IsPaidSo, LinkId, List, None, NoteBody}
 use Rattle.audit_sweep.proofs.unpaid_lemmas.Words.{Option, Paid, Pays, Scenario, Some, TellsUnpaid, ap, arith, both_ways, cause_of, false, numbered}
 use Rattle.audit_sweep.specs.{declared.unpaid.permanences.Waiting.Waiting, unpaid.{Payments.is_old, Waiting.{IsPermanentBy, IsReached, IsReachedBy, IsWaiting}}}
-use Rattle.{drift_clock.specs.Reach.IsReach, run_law.specs.declared.steps.Ripe.Ripe, std.specs.Prelude.not, transparent_clock.specs.Points.point_of}
-use Rattle.{net_plan.specs.declared.network.Network.Network, run_law.specs.declared.judgement.Reason.Reason, tte_units.specs.declared.units.Units.Units}
-use Rattle.audit_devices.specs.law.Owed as debts
+use Rattle.{drift_clock.specs.transparent.Points.point_of, run_law.specs.declared.judgement.Reason.Reason, tte_units.specs.declared.units.Units.Units}
+use Rattle.{run_law.specs.declared.steps.Ripe.Ripe, std.{proofs.Common.pos, specs.Prelude.not}}
+use Rattle.audit_law.specs.law.Owed as debts
 use Rattle.run_law.specs.declared.note.NoteBody.TheVariants as notes
 use Rattle.run_law.specs.declared.judgement.Reason.TheVariants as reasons
 use Rattle.run_law.specs.declared.steps.Ripe.TheVariants as ripe

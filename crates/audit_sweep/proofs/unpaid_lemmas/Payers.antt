@@ -1,8 +1,8 @@
 -- When debts fall due, and what pays them.
 use Rattle.audit_sweep.proofs.unpaid_lemmas.Words.{◌↔◌, ◌∙◌, ◌≡◌, Happening, IsDue, IsFounded, IsIn, IsPaid, List, Scenario, Some, numbered, numbered_in}
 use Rattle.audit_sweep.{proofs.unpaid_lemmas.Words.{place_of, subst, sym, time_of, ℕ}, specs.records.{places.Placing.HasRecordAt, wires.Signals.ShowsByCause}}
-use Rattle.audit_devices.proofs.law_lemmas.{AllOwed.same_time, Debts.{due_by_part, due_in, one_due}, Determined.due_is_determined, Numbered.founded_at}
-use Rattle.audit_devices.specs.law.{DebtLaws.AreOwed, Debts.{IsDueIn, IsPartOf}}
+use Rattle.audit_law.proofs.law_lemmas.{AllOwed.same_time, Debts.{due_by_part, due_in, one_due}, Determined.due_is_determined, Numbered.founded_at}
+use Rattle.audit_law.specs.law.{DebtLaws.AreOwed, Debts.{IsDueIn, IsPartOf}}
 
 -- a debt falls due at one time, however it is owed
 pub one_time : {O : Type 0} (s : Scenario) (hs : List Happening) (until : ℕ) (IsDueSo : List Happening → Happening → Type 0) (IsOwed : O → Type 0)

@@ -1,6 +1,6 @@
 -- The changes of state that records bring.
 use Rattle.std.specs.Prelude.{List, ℕ}
-use Rattle.audit_devices.specs.law.{Changes.IsBrought, DueRecords.ChangesState}
+use Rattle.audit_law.specs.law.{Changes.IsBrought, DueRecords.ChangesState}
 use Rattle.net_plan.specs.declared.ids.DeviceId.{DeviceId}
 use Rattle.run_law.specs.{declared.judgement.Why.Why, records.Happenings.Happening, scenario.Scenarios.Scenario}
 use Rattle.sync_state.specs.declared.state.State.{State}

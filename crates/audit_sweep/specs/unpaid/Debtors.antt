@@ -1,13 +1,13 @@
 -- What is known of the records that owe.
 use Rattle.std.specs.Prelude.{◌≡◌, List, Option, Some, length}
-use Rattle.audit_devices.specs.{Keeping.{Stands, device_count}, events.{Readings.scenario_under, Remembering.Remembers}}
-use Rattle.audit_devices.specs.law.DueRecords.{IsDue}
+use Rattle.{audit_devices.specs.Keeping.{Stands, device_count}, net_plan.specs.declared.event.What.TheVariants.On}
+use Rattle.{audit_law.specs.events.Readings.scenario_under, audit_sweep.specs.unpaid.Payments.ArePayments}
+use Rattle.{audit_law.specs.events.Remembering.Remembers, audit_sweep.specs.records.Keeping.records_of}
+use Rattle.{audit_law.specs.law.DueRecords.IsDue, run_law.specs.{records.Ranks.place_of, scenario.Scenarios.Scenario}}
 use Rattle.audit_sweep.specs.{declared.unpaid.debtor.Debtor.Debtor, records.places.Placing.ArePlacesOf}
-use Rattle.audit_sweep.specs.{records.Keeping.records_of, unpaid.Payments.ArePayments}
-use Rattle.net_plan.specs.{Belonging.HasDevice, declared.event.{Event.Event, What.TheVariants.On}}
-use Rattle.net_plan.specs.declared.ids.DeviceId.{DeviceId}
-use Rattle.run_law.specs.{declared.note.NoteBody.NoteBody, records.{Causes.device_of, Happenings.Happening, Order.IsIn}}
-use Rattle.run_law.specs.{records.Ranks.place_of, runs.Runs.IsFounded, scenario.Scenarios.Scenario}
+use Rattle.{net_plan.specs.Belonging.HasDevice, run_law.specs.{records.Order.IsIn, runs.Runs.IsFounded}}
+use Rattle.{net_plan.specs.declared.event.Event.Event, run_law.specs.records.{Causes.device_of, Happenings.Happening}}
+use Rattle.{net_plan.specs.declared.ids.DeviceId.DeviceId, run_law.specs.declared.note.NoteBody.NoteBody}
 use Rattle.run_law.specs.declared.note.NoteBody.TheVariants as notes
 
 -- the device that a record names: that of which it is, or that which its event turns on

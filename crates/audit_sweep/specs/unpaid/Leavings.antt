@@ -1,6 +1,7 @@
 -- Where records of leavings stand.
 use Rattle.std.specs.Prelude.{◌∷◌, Bool, List, [], false, true, ℕ}
-use Rattle.{audit_devices.specs.law.Departures.leaving_record, audit_sweep.specs.declared.records.kept.Kept.Kept}
+use Rattle.audit_law.specs.law.Departures.{leaving_record}
+use Rattle.audit_sweep.specs.declared.records.kept.Kept.{Kept}
 use Rattle.net_plan.specs.declared.{ids.{DeviceId.DeviceId, LinkId.LinkId}, network.Network.Network}
 use Rattle.run_law.specs.{control.Leaving.Departure, records.Ranks.rank, scenario.Devices.is_relay}
 use Rattle.audit_sweep.specs.declared.records.kept.Kept.TheVariants as kepts

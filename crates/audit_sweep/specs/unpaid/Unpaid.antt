@@ -1,6 +1,6 @@
 -- The first time at which a debt of some is not paid.
 use Rattle.std.specs.Prelude.{◌<◌, ◌≡◌, ◌≤◌, List, MatchOption, Option, ℕ}
-use Rattle.audit_devices.specs.law.{Debts.IsPaid, Owed.{Debt, IsOwed, Pays, falls_due}}
+use Rattle.audit_law.specs.law.{Debts.IsPaid, Owed.{Debt, IsOwed, Pays, falls_due}}
 use Rattle.run_law.specs.{records.Happenings.Happening, scenario.Scenarios.Scenario}
 
 -- the debt is owed and not paid, and this is when it falls due

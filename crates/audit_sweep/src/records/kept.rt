@@ -4,7 +4,7 @@ use pcf_codec::PcfRefusal;
 use pcf_values::Pcf;
 
 /// What the octets of a `send` event are.
-#[derive(Clone, Copy, Debug, PartialEq, Eq)]
+#[derive(Clone, Copy)]
 pub enum Sending {
     /// A protocol control frame, which is kept as the record's frame.
     Control,
@@ -15,7 +15,7 @@ pub enum Sending {
 }
 
 /// What is kept of what a record says.
-#[derive(Clone, Copy, Debug, PartialEq, Eq)]
+#[derive(Clone, Copy)]
 pub enum Kept {
     /// An event turns the device on.
     On(DeviceId),
@@ -42,7 +42,7 @@ pub enum Kept {
 }
 
 /// What is kept of a record.
-#[derive(Clone, Copy, Debug, PartialEq, Eq)]
+#[derive(Clone, Copy)]
 pub struct KeptRecord {
     /// The world time, in units of 2^-16 ns.
     pub time: u64,

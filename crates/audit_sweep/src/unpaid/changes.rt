@@ -1,13 +1,13 @@
 //! The first change of state of which no record tells.
 
 ghost use Rattle.std.specs.Prelude.{◌↔◌, ◌≡◌, IsTrue, List, Some, length, ℕ};
-ghost use Rattle.audit_devices.specs.{Keeping.device_count, law.FirstDebts.TellsFirst};
-ghost use Rattle.audit_sweep.specs.records.Keeping.{record_of};
-ghost use Rattle.audit_sweep.specs.unpaid.{Changing.HasChange, Debtors.{AreKnown, scenario_of}, Unpaid.TellsUnpaid};
-ghost use Rattle.net_plan.specs.{Belonging.HasDevice, declared.event.Event.Event};
+ghost use Rattle.{audit_devices.specs.Keeping.device_count, net_plan.specs.declared.event.Event.Event};
+ghost use Rattle.{audit_law.specs.law.FirstDebts.TellsFirst, sync_state.specs.declared.state.State.TheVariants.Joining};
+ghost use Rattle.audit_sweep.specs.{records.Keeping.record_of, unpaid.Debtors.{AreKnown, scenario_of}};
+ghost use Rattle.audit_sweep.specs.unpaid.{Changing.HasChange, Unpaid.TellsUnpaid};
+ghost use Rattle.net_plan.specs.Belonging.{HasDevice};
 ghost use Rattle.run_law.specs.{device.States.state_before, records.Happenings.{Happening, numbered, time_of}};
-ghost use Rattle.sync_state.specs.declared.state.State.TheVariants.{Joining};
-ghost use Rattle.audit_devices.specs.law.Owed as debts;
+ghost use Rattle.audit_law.specs.law.Owed as debts;
 
 use crate::records::{Kept, KeptRecord};
 use crate::unpaid::Debtor;

@@ -1,11 +1,11 @@
 //! The clocks of which no record tells at the end of the events.
 
 ghost use Rattle.std.specs.Prelude.{◌↔◌, ◌∷◌, ◌≡◌, IsTrue, List, [], ℕ};
-ghost use Rattle.{audit_devices.specs.law.FirstDebts.TellsFirst, run_law.specs.records.Happenings.Happening};
+ghost use Rattle.{audit_law.specs.law.FirstDebts.TellsFirst, run_law.specs.records.Happenings.Happening};
 ghost use Rattle.{audit_sweep.specs.records.places.Placing.{ArePlacesOf, HasRecordAt}, net_plan.specs.Ranges.IsInRange};
 ghost use Rattle.audit_sweep.specs.unpaid.{Clocks.{IsOnlyEnd, IsUntold}, Debtors.{AreKnown, scenario_of}};
-ghost use Rattle.net_plan.specs.declared.{event.Event.Event, ids.{DeviceId.{DeviceId as DeviceIdValue}}};
-ghost use Rattle.audit_devices.specs.law.Owed as debts;
+ghost use Rattle.net_plan.specs.declared.{event.Event.Event, ids.DeviceId.{DeviceId as DeviceIdValue}};
+ghost use Rattle.audit_law.specs.law.Owed as debts;
 
 use crate::unpaid::Debtor;
 use net_plan::DeviceId;

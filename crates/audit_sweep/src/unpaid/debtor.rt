@@ -2,7 +2,7 @@ use crate::records::KeptRecords;
 use crate::records::places::Places;
 use crate::unpaid::Payments;
 use audit_devices::Standings;
-use audit_devices::events::EventHistory;
+use audit_law::events::EventHistory;
 use net_plan::Network;
 
 /// The records of a report, each due given those before it, which owe further ones up to a time; and what is known of

@@ -1,13 +1,13 @@
 //! The first leaving of which no record tells.
 
 ghost use Rattle.std.specs.Prelude.{◌^◌, ◌↔◌, ◌≡◌, ◌≤◌, IsTrue, List, Some, ℕ};
-ghost use Rattle.audit_devices.specs.{events.Remembering.RemembersSome, law.FirstDebts.TellsFirst};
+ghost use Rattle.audit_law.specs.{events.Remembering.RemembersSome, law.FirstDebts.TellsFirst};
 ghost use Rattle.audit_sweep.specs.records.{Keeping.record_of, places.Placing.{ArePlacesOf, HasRecordAt}};
 ghost use Rattle.{audit_sweep.specs.unpaid.Debtors.{AreKnown, scenario_of}, device_rules.specs.Answers.departure_as};
 ghost use Rattle.audit_sweep.specs.unpaid.{Leavings.{leaving_place, may_give}, Unpaid.{TellsFirstAmong, TellsUnpaid}};
-ghost use Rattle.net_plan.specs.{Ranges.IsInRange, declared.{event.Event.Event, ids.{LinkId.{LinkId as LinkIdValue}}}};
+ghost use Rattle.net_plan.specs.{Ranges.IsInRange, declared.{event.Event.Event, ids.LinkId.{LinkId as LinkIdValue}}};
 ghost use Rattle.run_law.specs.records.Happenings.{Happening, numbered};
-ghost use Rattle.audit_devices.specs.law.Owed as debts;
+ghost use Rattle.audit_law.specs.law.Owed as debts;
 
 use crate::records::wires::{Leaving, departure, departure_due};
 use crate::records::{Kept, KeptRecord};

@@ -1,10 +1,10 @@
 //! The first loss of a `send` event of which no record tells.
 
 ghost use Rattle.std.specs.Prelude.{◌≡◌, List, ℕ};
-ghost use Rattle.{audit_devices.specs.law.FirstDebts.TellsFirst, run_law.specs.records.Happenings.Happening};
+ghost use Rattle.{audit_law.specs.law.FirstDebts.TellsFirst, run_law.specs.records.Happenings.Happening};
 ghost use Rattle.audit_sweep.specs.unpaid.{Debtors.{AreKnown, scenario_of}, Unpaid.TellsUnpaid};
 ghost use Rattle.net_plan.specs.declared.event.Event.{Event};
-ghost use Rattle.audit_devices.specs.law.Owed as debts;
+ghost use Rattle.audit_law.specs.law.Owed as debts;
 
 use crate::records::wires::loss_due;
 use crate::unpaid::Debtor;

@@ -5,7 +5,7 @@ ghost use Rattle.audit_sweep.specs.unpaid.Payments.{both, is_old, nothing, paid_
 use run_law::{NoteBody, Reason};
 
 /// Of which kinds the debts are that are paid, of those that a record brings.
-#[derive(Clone, Copy, Debug, PartialEq, Eq)]
+#[derive(Clone, Copy, PartialEq, Eq)]
 pub struct Paid {
     pub arrival: bool,
     pub permanence: bool,

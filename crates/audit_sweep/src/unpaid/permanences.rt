@@ -1,13 +1,13 @@
 //! The first frame that is permanent of which no record tells.
 
 ghost use Rattle.std.specs.Prelude.{◌^◌, ◌≡◌, ◌≤◌, List, Some, pos, ℕ};
-ghost use Rattle.audit_devices.specs.{events.Remembering.{Remembers, RemembersSome}, law.FirstDebts.TellsFirst};
+ghost use Rattle.audit_law.specs.{events.Remembering.{Remembers, RemembersSome}, law.FirstDebts.TellsFirst};
 ghost use Rattle.audit_sweep.specs.{records.Keeping.record_of, unpaid.Debtors.{AreKnown, scenario_of}};
 ghost use Rattle.audit_sweep.specs.unpaid.{Unpaid.TellsUnpaid, Waiting.{IsPermanentBy, IsReachedBy, IsWaitingAs}};
 ghost use Rattle.net_plan.specs.{Belonging.HasDevice, Ranges.IsInRange, declared.event.Event.Event};
 ghost use Rattle.run_law.specs.{control.Permanence.waits_for, records.Happenings.{Happening, numbered}};
-ghost use Rattle.transparent_clock.specs.Points.{point_of};
-ghost use Rattle.audit_devices.specs.law.Owed as debts;
+ghost use Rattle.drift_clock.specs.transparent.Points.{point_of};
+ghost use Rattle.audit_law.specs.law.Owed as debts;
 
 use crate::records::{Kept, KeptRecord};
 use crate::unpaid::Debtor;

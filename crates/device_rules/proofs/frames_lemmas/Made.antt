@@ -1,13 +1,12 @@
 -- The frame of a virtual link as it is written: a head, and zeros behind it.
 use Rattle.{device_rules.specs.frames.Made.{head_of, made_frame}, std.proofs.{Math.Seq.{drop-append_seam, take-append-add}, lemmas.List.take-replicate}}
-use Rattle.{net_plan.specs.{Padding.padded, Ranges.{IsInRange, IsVlInRange}, declared.ids.VlId.VlId}, run_law.specs.records.Frames.{tt_frame, tt_frame_by}}
+use Rattle.{net_plan.specs.{Padding.padded, declared.ids.VlId.VlId}, std.{proofs.Common.{sym, take, ℕ}, specs.Option.option_map_or}}
+use Rattle.{net_plan.specs.Ranges.{IsInRange, IsVlInRange}, run_law.specs.records.Frames.{tt_frame, tt_frame_by}, tte_units.proofs.general_lemmas.Lists.in_all}
 use Rattle.{net_plan.specs.declared.{network.Network.Network, tables.VirtualLink.VirtualLink}, std.proofs.lemmas.Option.{slice_get-get_or, slice_get_cases}}
 use Rattle.std.proofs.Common.{◌++◌, ◌+◌, ◌-◌, ◌<◌, ◌∙◌, ◌≡◌, List, None, Option, Some, [], ap, arith, drop, get_or, length, length-append, replicate, slice_get}
-use Rattle.{std.{proofs.Common.{sym, take, ℕ}, specs.Option.option_map_or}, tte_lemmas.proofs.Lists.in_all}
 
 -- of a virtual link of the network it is the frame of the law
-pub made_is : (network : Network) (vl : VlId) (cycle : ℕ) → vl.0 < length network.vl
-    → made_frame network vl cycle ≡ tt_frame network vl cycle
+pub made_is : (network : Network) (vl : VlId) (cycle : ℕ) → vl.0 < length network.vl → made_frame network vl cycle ≡ tt_frame network vl cycle
 made_is network vl cycle lt =
     grind (arith, slice_get_cases, replicate)
 
@@ -50,6 +49,5 @@ made_none network vl cycle octets none padded_so =
     ap (take 60) padded_so ∙ take-replicate 60 1514 0 (omega arith)
     ∙ sym (ap (λ (o : Option VirtualLink). option_map_or (λ v. tt_frame_by network v cycle) o (replicate 60 0)) none)
 
-pub found_at : {X : Type 0} (xs : List X) (i : ℕ) (x : X) → i < length xs → ((d : X) → x ≡ get_or xs i d)
-    → slice_get xs i ≡ Some x
+pub found_at : {X : Type 0} (xs : List X) (i : ℕ) (x : X) → i < length xs → ((d : X) → x ≡ get_or xs i d) → slice_get xs i ≡ Some x
 found_at xs i x lt is = slice_get-get_or xs i x lt ∙ ap Some (sym (is x))

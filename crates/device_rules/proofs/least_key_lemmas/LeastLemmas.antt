@@ -40,8 +40,7 @@ is_key nodes places t (suc fuel) i few some inside = elim (cases_lt i places) [
 pub length_keys : (nodes : List ℕ) (places : ℕ) → IsTree nodes places → length (drop places nodes) ≡ places
 length_keys nodes places t = let whole = t.whole in omega (arith, length-drop places nodes, whole)
 
-pub root_is_least : (nodes : List ℕ) (places k d : ℕ) → IsTree nodes places → k < length (drop places nodes)
-    → node_at nodes 1 ≤ get_or (drop places nodes) k d
+pub root_is_least : (nodes : List ℕ) (places k d : ℕ) → IsTree nodes places → k < length (drop places nodes) → node_at nodes 1 ≤ get_or (drop places nodes) k d
 root_is_least nodes places k d t lt =
     let few : k < places = omega (arith, lt, length_keys nodes places t) in
     let whole = t.whole in

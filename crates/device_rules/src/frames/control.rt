@@ -4,9 +4,9 @@ ghost use Rattle.std.specs.Prelude.{◌≡◌, ◌<◌, IfSome};
 ghost use Rattle.{net_plan.specs.Ranges.IsInRange, run_law.specs.scenario.Devices.member_of};
 ghost use Rattle.run_law.specs.records.Frames.{dispatched_frame, integration_frame, mac_of};
 
-use membership::one;
 use net_plan::{DeviceId, Network};
 use pcf_values::{Mac, Members, Pcf, PcfKind};
+use sync_state::membership::one;
 
 /// The address of the device.
 fn mac_of(network: &Network, device: DeviceId) -> Mac

@@ -1,8 +1,8 @@
 ghost use Rattle.std.specs.Prelude.{◌≡◌, List, option_copied, option_map};
 ghost use Rattle.{drift_world.specs.Running.{StandsUnder, reading_of}, world_law.specs.source.Agreeing.scenario};
 ghost use Rattle.drift_world.specs.Wires.{IsOfNow, IsOnOwnLink, on_wire_in, put_by};
-ghost use Rattle.net_plan.specs.declared.{event.{Event.{Event as EventValue}}, network.Network.Network};
-ghost use Rattle.run_law.specs.{declared.{note.{Note.{Note as NoteValue}}}, records.Happenings.{Happening, happenings}};
+ghost use Rattle.net_plan.specs.declared.{event.Event.{Event as EventValue}, network.Network.Network};
+ghost use Rattle.run_law.specs.{declared.note.Note.{Note as NoteValue}, records.Happenings.{Happening, happenings}};
 ghost use Rattle.world_state.specs.Views.{signal_as};
 
 use super::World;

@@ -1,17 +1,17 @@
 -- The clocks of a picture are those of correct synchronised devices at the end of the run.
-use Rattle.{lens.specs.declared.draw.svg.layout.Span.Span, net_plan.specs.declared.ids.DeviceId.DeviceId, run_law.specs.declared.note.NoteBody.NoteBody}
-use Rattle.{lens.specs.{declared.draw.svg.clock.{Ends.Ends, Told.Told}, draw.svg.Clocks.{told_in, with_one}}, std.proofs.lemmas.List.Elements.filter-append}
-use Rattle.{lens.specs.draw.ClockLaws.{IsShown, IsTrueBar, PicturesShowClocks, ShowsClock, ShowsClocks}, tte_traces.proofs.reports_lemmas.Safely.report_well}
-use Rattle.lens.specs.draw.svg.Clocks.{Clocks, apart_of, broken_by, clocks_in, clocks_with, ends_of, ends_with, is_among, local_of, no_clocks, share, told_by}
-use Rattle.{lens.specs.draw.svg.Layout.holds, std.{proofs.lemmas.Int.ints, specs.Option.option_map_or}, tte_units.specs.Amount.amount}
-use Rattle.{lens.specs.draw.svg.Sketching.moment, run_law.specs.law.Safety.AreClose, std.specs.List.{cons_option, list_any}, tte_audit.proofs.OnlyEnd.only_end}
-use Rattle.{net_plan.specs.declared.event.{Event.Event, What.What}, std.proofs.lemmas.Bool.Decides.nat_tests, tte_units.specs.declared.units.Units.Units}
+use Rattle.{lens.specs.draw.ClockLaws.{IsShown, IsTrueBar, PicturesShowClocks, ShowsClock, ShowsClocks}, tte_audit.proofs.reports_lemmas.Safely.report_well}
+use Rattle.lens_svg.specs.Clocks.{Clocks, apart_of, broken_by, clocks_in, clocks_with, ends_of, ends_with, is_among, local_of, no_clocks, share, told_by}
+use Rattle.{lens_svg.specs.{Clocks.{told_in, with_one}, declared.clock.Told.Told}, std.proofs.lemmas.{Bool.Decides.nat_tests, Int.ints, List.Sums.fold-append}}
+use Rattle.{lens_svg.specs.Layout.holds, std.specs.Option.option_map_or, tte_units.specs.Amount.amount}
+use Rattle.{lens_svg.specs.Sketching.moment, run_law.specs.law.Safety.AreClose, std.specs.List.{cons_option, list_any}, tte_audit.proofs.OnlyEnd.only_end}
+use Rattle.{lens_svg.specs.declared.{clock.Ends.Ends, layout.Span.Span}, net_plan.specs.declared.event.Event.Event, tte_units.specs.declared.units.Units.Units}
+use Rattle.{net_plan.specs.declared.event.What.What, run_law.specs.{declared.note.Note.Note, device.LocalClocks.local}, schedule_tables.specs.Rules.KeepsRules}
+use Rattle.{net_plan.specs.declared.ids.DeviceId.DeviceId, run_law.specs.declared.note.NoteBody.NoteBody, std.proofs.lemmas.List.Elements.filter-append}
 use Rattle.{net_plan.specs.declared.network.Network.Network, sync_state.specs.declared.state.State.TheVariants.{Integrating, Joining, Off, Synchronised}}
-use Rattle.run_law.{proofs.runs.NetworkRuns.same_notes, specs.{records.{Order.{IsBefore, IsIn}, Ranks.{place_of, rank}}, scenario.Scenarios.Scenario}}
+use Rattle.{run_law.{proofs.runs.NetworkRuns.same_notes, specs.scenario.Hypothesis.breaks_at}, sync_state.specs.declared.state.State.State}
 use Rattle.run_law.{proofs.runs.Places.{in_left, in_parts, in_right, parted}, specs.records.Happenings.{Happening, happenings, time_of, up_to}}
-use Rattle.{run_law.specs.{declared.note.Note.Note, device.LocalClocks.local}, schedule_tables.specs.Rules.KeepsRules, std.proofs.lemmas.List.Sums.fold-append}
 use Rattle.run_law.specs.{device.States.{adjustment_after, adjustment_with, cycle_in, state_after, state_with}, runs.DueRecords.{IsCaused, IsClockRecord}}
-use Rattle.{run_law.specs.scenario.Hypothesis.breaks_at, sync_state.specs.declared.state.State.State, tte_traces.specs.reports.Reports.IsReportOf}
+use Rattle.{run_law.specs.{records.{Order.{IsBefore, IsIn}, Ranks.{place_of, rank}}, scenario.Scenarios.Scenario}, tte_audit.specs.reports.Reports.IsReportOf}
 use Rattle.std.proofs.Common.{◌*◌, ◌++◌, ◌/◌, ◌<◌, ◌∙◌, ◌∷◌, ◌≡◌, ◌≤◌, ◌⊎◌, Bool, List, None, Option, Some, [], ap, append_assoc, arith, false, filter, fold}
 use Rattle.std.proofs.{Common.{inl, inr, map, pos, refl, subst, sym, true, ℕ, ℤ}, Math.Nat.{div-le_of_le-mul, mul-div_cancel, mul-le-mul_left, mul_comm}}
 use Rattle.{std.specs.Prelude.{◌+ℤ◌, ◌==◌, ◌||◌, if◌then◌else◌, int_lt, nat_le, nat_lt}, tte_audit.specs.Report.{event_by, events_of, scenario_of}}
@@ -45,8 +45,7 @@ told_held false o t e = absurd cc
 TellsOf : List Note → Told → Type 0
 TellsOf ns t = (note : Note) × IsIn note ns × (told_by note.body ≡ Some t)
 
-told_from : (span : Span) (ns : List Note) (clocks : Clocks) (t : Told) → IsIn t (fold (clocks_with span) clocks ns).told
-    → IsIn t clocks.told ⊎ TellsOf ns t
+told_from : (span : Span) (ns : List Note) (clocks : Clocks) (t : Told) → IsIn t (fold (clocks_with span) clocks ns).told → IsIn t clocks.told ⊎ TellsOf ns t
 unfolding TellsOf
 told_from span [] clocks t i = inl i
 told_from span (note ∷ ns) clocks t i = by (told_from span ns (clocks_with span clocks note) t i)
@@ -92,8 +91,7 @@ not_breaking (events.On d) device ds all none = refl
 not_breaking (events.Send l o) device ds all none = refl
 not_breaking events.End device ds all none = refl
 
-breaks_told : (time : Units) (body : NoteBody) (e : Event) (d : DeviceId) → event_by time body ≡ Some e → e.what ≡ events.Break d
-    → broken_by body ≡ Some d
+breaks_told : (time : Units) (body : NoteBody) (e : Event) (d : DeviceId) → event_by time body ≡ Some e → e.what ≡ events.Break d → broken_by body ≡ Some d
 breaks_told time (notes.Event line what) e d is breaks =
     let same : what ≡ e.what = ap (λ (o : Option Event). option_map_or (λ (x : Event). x.what) o what) is in
     ap (λ (w : What). broken_by (notes.Event line w)) (same ∙ breaks)

@@ -1,22 +1,22 @@
 -- The frames that a picture shows as taken came in their windows.
-use Rattle.lens.proofs.draw_lemmas.{Asking.{in_shown, struck_other}, Clocks.{has_happening, share_is}, Runs.pictures_show_runs, svg_lemmas.Windows.window_is}
-use Rattle.{lens.proofs.{draw_lemmas.Falls.no_later, why_lemmas.Rows.row_is_one}, std.proofs.lemmas.Bool.Decides.nat_tests, tte_audit.specs.Report.scenario_of}
-use Rattle.{lens.specs.declared.draw.svg.mark.Look.TheVariants.Taken, schedule_tables.{specs.{Windows.{arrival_of as arrival_place, tolerance, window_of}}}}
-use Rattle.{lens.specs.{declared.draw.svg.layout.Span.Span, draw.svg.Sketching.{moment, plan_of}}, net_plan.specs.declared.ids.{DeviceId.DeviceId, VlId.VlId}}
-use Rattle.{lens.specs.declared.draw.svg.mark.Mark.Mark, run_law.{proofs.runs.Places.{in_right, parted}, specs.device.States.adjustment_after}}
-use Rattle.{lens.specs.draw.{Picture.clocks_of, svg.Clocks.share}, run_law.specs.records.Order.IsIn, std.proofs.lemmas.{Int.ints, List.append-nil}}
-use Rattle.lens.specs.draw.{WindowLaws.{PicturesShowWindows, ShowsWindow}, svg.Windows.{came_at, came_by, came_of, row_of, tick_in, window_at, window_by}}
-use Rattle.{lens.specs.draw.svg.Bodies.{look_of, scene_of}, run_law.specs.declared.steps.Arrival.Arrival, std.proofs.lemmas.List.Elements.filter-append}
-use Rattle.{lens.specs.draw.svg.Laws.{AreMarksOf, IsMarkOf, shown}, schedule_tables.specs.{Entries.IsEntry, declared.{entry.Entry.Entry, window.Window.Window}}}
-use Rattle.{net_plan.specs.Ranges.IsInRange, tte_units.specs.Amount.amount}
-use Rattle.{net_plan.specs.declared.ids.LinkId.LinkId, run_law.specs.scenario.Scenarios.Scenario, std.proofs.Common.{refl, subst, sym, ℕ, ℤ}}
+use Rattle.{lens.proofs.draw_lemmas.{Asking.{in_shown, struck_other}, Runs.pictures_show_runs}, lens_svg.specs.declared.mark.Look.TheVariants.Taken}
+use Rattle.{lens.proofs.draw_lemmas.Clocks.{has_happening, share_is}, lens_svg.specs.Windows.{came_at, came_by, came_of, row_of, tick_in, window_at, window_by}}
+use Rattle.{lens.proofs.draw_lemmas.Falls.no_later, lens_svg.specs.declared.mark.Mark.Mark, run_law.specs.{declared.note.Note.Note, runs.DueRecords.IsCaused}}
+use Rattle.{lens.specs.draw.Picture.clocks_of, lens_svg.proofs.Windows.window_is, schedule_tables.specs.Entries.IsEntry, tte_audit.specs.Report.scenario_of}
+use Rattle.{lens.specs.draw.WindowLaws.{PicturesShowWindows, ShowsWindow}, schedule_tables.specs.Windows.{arrival_of as arrival_place, tolerance, window_of}}
+use Rattle.{lens_svg.specs.{Bodies.{look_of, scene_of}, declared.layout.Span.Span}, std.proofs.{Common.{refl, subst, sym, ℕ, ℤ}, lemmas.Bool.Decides.nat_tests}}
+use Rattle.{lens_svg.specs.Clocks.share, lens_why.proofs.Rows.row_is_one, net_plan.specs.Ranges.IsInRange, run_law.specs.records.Order.IsIn}
+use Rattle.{lens_svg.specs.Laws.{AreMarksOf, IsMarkOf, shown}, run_law.specs.declared.steps.Arrival.Arrival, tte_units.proofs.general_lemmas.Integers.not_below}
+use Rattle.{lens_svg.specs.Sketching.{moment, plan_of}, net_plan.specs.declared.ids.{LinkId.LinkId, VlId.VlId}, run_law.specs.scenario.Scenarios.Scenario}
+use Rattle.{net_plan.specs.declared.ids.DeviceId.DeviceId, run_law.specs.declared.note.NoteBody.NoteBody, traffic_law.proofs.delivery.Taken.never_control}
 use Rattle.{net_plan.specs.declared.network.Network.Network, std.specs.Prelude.{◌+ℤ◌, ◌-ℤ◌, if◌then◌else◌, nat_lt, option_and_then, option_map, unsigned_abs}}
-use Rattle.{run_law.proofs.runs.NetworkRuns.same_notes, tte_traces.specs.reports.Reports.IsReportOf, tte_units.specs.declared.units.Units.Units}
-use Rattle.{run_law.specs.{control.Wires.{Signal, control, timed}, declared.note.NoteBody.NoteBody}, traffic_law.proofs.delivery.Taken.never_control}
-use Rattle.{run_law.specs.{declared.note.Note.Note, runs.DueRecords.IsCaused}, schedule_tables.specs.Rules.KeepsRules, tte_lemmas.proofs.Integers.not_below}
+use Rattle.{run_law.proofs.runs.NetworkRuns.same_notes, tte_audit.specs.reports.Reports.IsReportOf, tte_units.specs.{Amount.amount, declared.units.Units.Units}}
+use Rattle.{run_law.{proofs.runs.Places.{in_right, parted}, specs.device.States.adjustment_after}, std.proofs.lemmas.List.{Elements.filter-append, append-nil}}
+use Rattle.{run_law.specs.control.Wires.{Signal, control, timed}, schedule_tables.specs.{Rules.KeepsRules, declared.{entry.Entry.Entry, window.Window.Window}}}
 use Rattle.run_law.specs.{device.Standpoints.{clock_of, offset_in_cycle, standpoint}, records.Happenings.{Happening, earlier, happenings, time_of}}
 use Rattle.{run_law.specs.timed.Receptions.{ArrivesAs, arrival_of, last_taken}, traffic_law.proofs.delivery.Faultless.{TakesIn, finds_none}}
 use Rattle.std.proofs.Common.{◌*◌, ◌++◌, ◌+◌, ◌/◌, ◌<◌, ◌∙◌, ◌∷◌, ◌≡◌, ◌≤ℤ◌, ◌≤◌, ◌⊎◌, Bool, List, Some, [], ap, append_assoc, arith, false, inl, inr, pos}
+use Rattle.std.proofs.lemmas.Int.{ints}
 use Rattle.run_law.specs.declared.note.NoteBody.TheVariants as notes
 use Rattle.run_law.specs.declared.steps.Arrival.TheVariants as arrivals
 
@@ -137,8 +137,7 @@ tick_is window at some least most =
     within from to x low high = omega (arith, ints, low, high)
 
 -- a window has some length
-some_length : (network : Network) (entry : Entry) → IsInRange network
-    → 0 < unsigned_abs ((window_of network entry).to.0 -ℤ (window_of network entry).from.0)
+some_length : (network : Network) (entry : Entry) → IsInRange network → 0 < unsigned_abs ((window_of network entry).to.0 -ℤ (window_of network entry).from.0)
 some_length network entry range =
     let least = range.precision.least in
     long (arrival_place entry) (amount entry.link.jitter) (tolerance network) (omega (arith, ints, least))

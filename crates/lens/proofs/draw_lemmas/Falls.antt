@@ -1,9 +1,9 @@
 -- The times of the records of a report never fall.
-use Rattle.{lens.specs.draw.svg.Laws.NeverFall, std.proofs.Common.{◌++◌, ◌∙◌, ◌∷◌, ◌≡◌, ◌≤◌, ◌⊎◌, List, [], append_assoc, arith, inl, inr, refl, subst, sym, ℕ}}
+use Rattle.{lens_svg.specs.Laws.NeverFall, run_law.specs.runs.Runs.IsFounded, std.specs.Prelude.map}
 use Rattle.{net_plan.specs.declared.network.Network.Network, run_law.specs.records.{Happenings.{Happening, happenings, time_of}, Order.{IsBefore, IsIn}}}
-use Rattle.{run_law.proofs.runs.NetworkRuns.same_notes, tte_traces.specs.reports.Reports.IsReportOf, tte_units.specs.declared.units.Units.Units}
+use Rattle.{run_law.proofs.runs.NetworkRuns.same_notes, tte_audit.specs.reports.Reports.IsReportOf, tte_units.specs.declared.units.Units.Units}
 use Rattle.run_law.{proofs.runs.Places.in_right, specs.{declared.note.Note.Note, records.Ranks.place_of, runs.DueRecords.IsDue, scenario.Scenarios.Scenario}}
-use Rattle.{run_law.specs.runs.Runs.IsFounded, std.specs.Prelude.map, tte_audit.specs.Report.scenario_of}
+use Rattle.{std.proofs.Common.{◌++◌, ◌∙◌, ◌∷◌, ◌≡◌, ◌≤◌, ◌⊎◌, List, [], append_assoc, arith, inl, inr, refl, subst, sym, ℕ}, tte_audit.specs.Report.scenario_of}
 
 -- of two records the first of which stands before the other
 pub no_later : (a b : Happening) → IsBefore (place_of a) (place_of b) → time_of a ≤ time_of b

@@ -1,14 +1,14 @@
 -- The marks of records put one after another.
-use Rattle.lens.{proofs.draw_lemmas.Parts.{fails_before, fails_between}, specs.draw.{Signs.close_line, svg.Clocks.{Clocks, clocks_in, clocks_with}}}
-use Rattle.{lens.proofs.draw_lemmas.svg_lemmas.Painting.span_behind, tte_traces.specs.{declared.reports.records.Records.Records, reports.Reports.AreLeft}}
-use Rattle.lens.specs.{declared.draw.svg.layout.Span.Span, draw.Picture.{back_lines, front_lines, mark_lines, marks_of, pen_behind, picture_lines, windows_of}}
-use Rattle.{lens.specs.declared.draw.svg.window.Came.Came, net_plan.specs.declared.network.Network.Network, report_text.specs.Ranges.{IsNoteInRange, IsNoteOf}}
-use Rattle.{lens.specs.declared.draw.svg.layout.Pen.Pen, tte_forms.{proofs.frames.Frames.Gives-behind, specs.declared.status.Status.Status}}
-use Rattle.lens.specs.draw.{Answer.{back_answer, draw_answer, fitting_answer}, svg.{Layout.pen_at, Sketching.{begun, fits, plan_behind, plan_of, took}}}
-use Rattle.{lens.specs.draw.svg.Plan.Plan, run_law.specs.declared.note.Note.Note, std.proofs.{Common.{true, ℕ}, lemmas.List.{Elements.All-head, append-nil}}}
-use Rattle.{report_text.specs.NoteLine.{note_line, note_text, report_of}, std.specs.List.concat, tte_forms.specs.Answering.{Answer, Ends, Gives, line_answer}}
+use Rattle.{lens.proofs.draw_lemmas.Parts.{fails_before, fails_between}, tte_audit.specs.{declared.reports.records.Records.Records, reports.Reports.AreLeft}}
+use Rattle.{lens.specs.draw.Answer.{back_answer, draw_answer, fitting_answer}, lens_svg.specs.{Plan.Plan, Sketching.{begun, fits, plan_behind, plan_of, took}}}
+use Rattle.lens.specs.draw.{Picture.{back_lines, front_lines, mark_lines, marks_of, pen_behind, picture_lines, windows_of}, Signs.close_line}
+use Rattle.{lens_svg.{proofs.Painting.span_behind, specs.Layout.pen_at}, std.{proofs.{Common.{true, ℕ}, lemmas.List.append-nil}, specs.List.concat}}
+use Rattle.{lens_svg.specs.Clocks.{Clocks, clocks_in, clocks_with}, tte_forms.specs.{Putting.{PutFails, PutsLines, Shown}, networks.Accepting.too_long_answer}}
+use Rattle.{lens_svg.specs.declared.{layout.Pen.Pen, window.Came.Came}, run_law.specs.declared.note.Note.Note, std.proofs.lemmas.List.Elements.All-head}
+use Rattle.{lens_svg.specs.declared.layout.Span.Span, report_text.specs.Ranges.{IsNoteInRange, IsNoteOf}, std.specs.Prelude.{All, codes, fold, if◌then◌else◌}}
+use Rattle.{net_plan.specs.declared.network.Network.Network, tte_forms.{proofs.frames.Frames.Gives-behind, specs.declared.status.Status.Status}}
+use Rattle.{report_text.specs.NoteLine.{note_line, note_text, report_of}, tte_forms.specs.Answering.{Answer, Ends, Gives, line_answer}}
 use Rattle.std.proofs.Common.{◌++◌, ◌+◌, ◌<◌, ◌∙◌, ◌∷◌, ◌≡◌, Bool, List, [], ap, append_assoc, arith, false, inl, inr, length, length-append, refl, subst, sym}
-use Rattle.{std.specs.Prelude.{All, codes, fold, if◌then◌else◌}, tte_forms.specs.{Putting.{PutFails, PutsLines, Shown}, networks.Accepting.too_long_answer}}
 use Rattle.tte_forms.{proofs.Puts.{Ends-gives, PutsLines-append, PutsLines-none}, specs.declared.status.Status.TheVariants.{Done, TooLong, WriteFault}}
 
 -- ---- what is left grows less
@@ -175,8 +175,7 @@ front_fails network plan windows clocks notes old new fails =
 
 -- the lines below the marks were put, and then those from the marks on
 pub front_given : (network : Network) (plan : Plan) (windows : List Came) (clocks : Clocks) (notes : List Note) (span : Span) (status : Status)
-    (old now new : Shown)
-    → span ≡ plan.span → PutsLines (front_lines network plan windows clocks) old now
+    (old now new : Shown) → span ≡ plan.span → PutsLines (front_lines network plan windows clocks) old now
     → Gives (back_answer network span (pen_at span.from) notes) status now new → Gives (fitting_answer network plan windows clocks notes) status old new
 front_given network plan windows clocks notes span status old now new same puts gives =
     Gives-behind (front_lines network plan windows clocks) (back_answer network plan.span (pen_at plan.span.from) notes) status old now new puts

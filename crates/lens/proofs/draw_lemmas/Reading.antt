@@ -1,19 +1,18 @@
 -- Two reports with one picture have the same lines.
-use Rattle.lens.{proofs.draw_lemmas.Titles.titles_are, specs.{declared.draw.{putting.Layer.Layer, svg.window.Came.Came}, draw.Signs.{close_line, sign_line}}}
-use Rattle.{lens.proofs.draw_lemmas.svg_lemmas.Plain.note_plain, report_text.{proofs.Splits.{NonePasses, split_once}, specs.Ranges.{IsNoteInRange, IsNoteOf}}}
+use Rattle.{lens.proofs.draw_lemmas.Titles.titles_are, tte_audit.specs.reports.Reports.IsReportOf, tte_units.specs.declared.units.Units.Units}
 use Rattle.lens.specs.declared.draw.{putting.TheConstants.LAYERS, signs.Sign.{Sign, TheVariants.{Arrows, Backdrop, Heading, MarkKey, Shapes, Style, WayKey}}}
-use Rattle.lens.specs.declared.draw.svg.element.Element.{Element, TheVariants.{Bar, Caption, Gauge, Opening, Rail, Spread, Tick, Way, Window}}
-use Rattle.{lens.specs.declared.draw.svg.layout.Span.Span, net_plan.specs.declared.network.Network.Network, std.proofs.Common.{suc, sym, take, true, zero, ℕ}}
-use Rattle.{lens.specs.draw.{Laws.HaveTitles, svg.{Laws.shown, Plan.Plan}}, net_plan.specs.Ranges.IsInRange, report_text.specs.NoteLine.note_text}
-use Rattle.lens.specs.draw.{Picture.{back_lines, front_lines, layer_lines, lines_from, mark_lines, picture_lines, some_line, windows_of}, svg.Windows.box_of}
-use Rattle.lens.specs.draw.{ReadingLaws.{PicturesAreOne, TitlesArePlain}, svg.{Clocks.{Clocks, clocks_in, gauge_of, spread_of}, Sketching.{moment, plan_of}}}
-use Rattle.lens.specs.draw.svg.Elements.{bar_line, caption_line, element_line, gauge_line, opening_line, rail_line, spread_bar, tick_line, way_line}
-use Rattle.{lens.specs.draw.svg.{Elements.window_line, Layout.{holds, pen_at}}, run_law.specs.declared.note.Note.Note, std.proofs.lemmas.Bool.Decides.nat_tests}
-use Rattle.{lens.specs.draw.svg.Layers.{on_lane, on_mark, opening_of}, std.specs.Prelude.{◌==◌, All, bytes_eq, codes, decimal, flat_map, if◌then◌else◌, length}}
-use Rattle.{lens.specs.draw.svg.Marking.{IsPlain, head_text, is_plain}, std.proofs.lemmas.List.Elements.{All-cons, All-head, All-nil, All-tail, All-weaker}}
+use Rattle.{lens.specs.declared.draw.putting.Layer.Layer, std.proofs.{Common.{suc, sym, take, true, zero, ℕ}, lemmas.Fmt.decimal_is_IsNumeral}}
+use Rattle.lens.specs.draw.{Laws.HaveTitles, Picture.{back_lines, front_lines, layer_lines, lines_from, mark_lines, picture_lines, some_line, windows_of}}
+use Rattle.{lens.specs.draw.{ReadingLaws.{PicturesAreOne, TitlesArePlain}, Signs.{close_line, sign_line}}, lens_svg.specs.Layers.{on_lane, on_mark, opening_of}}
+use Rattle.{lens_svg.proofs.Plain.note_plain, net_plan.specs.Ranges.IsInRange, report_text.specs.NoteLine.note_text, run_law.specs.declared.note.Note.Note}
+use Rattle.{lens_svg.specs.Clocks.{Clocks, clocks_in, gauge_of, spread_of}, std.proofs.lemmas.List.Elements.{All-cons, All-head, All-nil, All-tail, All-weaker}}
+use Rattle.lens_svg.specs.Elements.{bar_line, caption_line, element_line, gauge_line, opening_line, rail_line, spread_bar, tick_line, way_line, window_line}
+use Rattle.{lens_svg.specs.{Laws.shown, Plan.Plan, Windows.box_of}, std.specs.{Char.digit_value, Str.Parse.AllDigits}}
+use Rattle.{lens_svg.specs.{Layout.{holds, pen_at}, Sketching.{moment, plan_of}, declared.window.Came.Came}, std.proofs.lemmas.Bool.Decides.nat_tests}
+use Rattle.{lens_svg.specs.Marking.{IsPlain, head_text, is_plain}, std.specs.Prelude.{◌==◌, All, bytes_eq, codes, decimal, flat_map, if◌then◌else◌, length}}
+use Rattle.lens_svg.specs.declared.{element.Element.{Element, TheVariants.{Bar, Caption, Gauge, Opening, Rail, Spread, Tick, Way, Window}}, layout.Span.Span}
+use Rattle.{net_plan.specs.declared.network.Network.Network, report_text.{proofs.Splits.{NonePasses, split_once}, specs.Ranges.{IsNoteInRange, IsNoteOf}}}
 use Rattle.std.proofs.Common.{◌++◌, ◌+◌, ◌<◌, ◌∙◌, ◌∷◌, ◌≡◌, Bool, List, None, Option, Some, [], ap, append_assoc, arith, drop, false, filter, map, refl, subst}
-use Rattle.{std.proofs.lemmas.Fmt.decimal_is_IsNumeral, tte_traces.specs.reports.Reports.IsReportOf, tte_units.specs.declared.units.Units.Units}
-use Rattle.std.specs.{Char.digit_value, Str.Parse.AllDigits}
 use Rattle.lens.specs.declared.draw.putting.Layer.TheVariants as layers
 
 -- ---- which lines are marks
@@ -142,8 +141,7 @@ head_is : (network : Network) (note : Note) (rest : List ℕ) → head_text netw
 unfolding head_text
 head_is network note rest = head_parts (decimal note.number) (note_text network note) rest
 
-same_title : (m n s t p q : List ℕ) → NonePasses (λ c. c == 34) m → NonePasses (λ c. c == 34) n → IsPlain s → IsPlain t
-    → titled m s p ≡ titled n t q → s ≡ t
+same_title : (m n s t p q : List ℕ) → NonePasses (λ c. c == 34) m → NonePasses (λ c. c == 34) n → IsPlain s → IsPlain t → titled m s p ≡ titled n t q → s ≡ t
 same_title m n s t p q dm dn ps pt same =
     let numbers = split_once (λ c. c == 34) 34 m (codes "><title>" ++ (s ++ (codes "</title>" ++ p))) n (codes "><title>" ++ (t ++ (codes "</title>" ++ q)))
     refl dm dn (ap (drop 8) same) in

@@ -1,9 +1,9 @@
 -- The picture of a part of the run of a report shows it.
-use Rattle.{lens.proofs.draw_lemmas.Falls.never_fall, tte_traces.specs.reports.Reports.IsReportOf, tte_units.specs.declared.units.Units.Units}
-use Rattle.lens.{proofs.draw_lemmas.{Titles.titles_are, svg_lemmas.{Arrows.arrows_are_causes, Order.keeps_order}}, specs.draw.Laws.{PicturesShowRuns, ShowsRun}}
-use Rattle.lens.{proofs.draw_lemmas.svg_lemmas.Painting.lanes_are_states, specs.draw.svg.Laws.{NeverFall, NumbersFollow, grounds_after, painted_with, shown}}
-use Rattle.{lens.specs.{declared.draw.svg.layout.Span.Span, draw.svg.Sketching.{moment, plan_of}}, net_plan.specs.declared.network.Network.Network}
-use Rattle.{lens.specs.draw.svg.Layout.{holds, pen_at}, run_law.specs.declared.note.Note.Note, tte_audit.specs.Report.AreNumbered}
+use Rattle.{lens.proofs.draw_lemmas.{Falls.never_fall, Titles.titles_are}, lens_svg.proofs.{Arrows.arrows_are_causes, Painting.lanes_are_states}}
+use Rattle.{lens.specs.draw.Laws.{PicturesShowRuns, ShowsRun}, lens_svg.specs.Laws.{NeverFall, NumbersFollow, grounds_after, painted_with, shown}}
+use Rattle.{lens_svg.proofs.Order.keeps_order, tte_audit.specs.Report.AreNumbered}
+use Rattle.{lens_svg.specs.{Layout.{holds, pen_at}, Sketching.{moment, plan_of}, declared.layout.Span.Span}, run_law.specs.declared.note.Note.Note}
+use Rattle.{net_plan.specs.declared.network.Network.Network, tte_audit.specs.reports.Reports.IsReportOf, tte_units.specs.declared.units.Units.Units}
 use Rattle.std.{proofs.Common.{◌++◌, ◌+◌, ◌∙◌, ◌∷◌, ◌≡◌, List, [], append_assoc, length, length-append, refl, subst, sym, true, ℕ}, specs.Prelude.{fold, take}}
 
 -- ---- the numbers follow each other

@@ -1,7 +1,7 @@
 -- The titles of the marks are the lines of the records in the span.
-use Rattle.lens.specs.{declared.draw.svg.layout.{Pen.Pen, Span.Span}, draw.svg.{Layout.{holds, moved}, Marking.{counted, sign_text}, Sketching.moment}}
-use Rattle.{lens.specs.draw.{Laws.HaveTitles, Picture.mark_lines, svg.Laws.shown}, run_law.specs.declared.note.Note.Note}
-use Rattle.{net_plan.specs.declared.network.Network.Network, std.proofs.Common.{◌∷◌, ◌≡◌, Bool, List, [], false, refl, true}}
+use Rattle.{lens.specs.draw.{Laws.HaveTitles, Picture.mark_lines}, lens_svg.specs.Laws.shown}
+use Rattle.{lens_svg.specs.{Layout.{holds, moved}, Marking.{counted, sign_text}, declared.layout.{Pen.Pen, Span.Span}}, run_law.specs.declared.note.Note.Note}
+use Rattle.{lens_svg.specs.Sketching.moment, net_plan.specs.declared.network.Network.Network, std.proofs.Common.{◌∷◌, ◌≡◌, Bool, List, [], false, refl, true}}
 
 pub titles_are : (network : Network) (span : Span) (pen : Pen) (notes : List Note) → HaveTitles network (mark_lines network span pen notes) (shown span notes)
 titles_are network span pen [] = tt

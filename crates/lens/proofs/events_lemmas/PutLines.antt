@@ -1,9 +1,10 @@
 -- The lines of a storm's events put one after another.
-use Rattle.{lens.specs.events.Answer.{IsEventsAnswer, event_lines}, tte_forms.specs.{Answering.{Answer, Ends, Gives, GivesAnswer}, Putting.{PutsLines, Shown}}}
-use Rattle.{net_plan.specs.declared.{event.Event.Event, network.Network.Network}, tte_forms.specs.declared.status.Status.Status, tte_io.specs.Faults.next_count}
+use Rattle.{fault_hypothesis.proofs.storm_lemmas.Storms.storm_number, tte_forms.specs.Answering.{Answer, Ends, Gives, GivesAnswer}}
+use Rattle.{lens.specs.events.Answer.{IsEventsAnswer, event_lines}, net_plan.specs.declared.{event.Event.Event, network.Network.Network}}
 use Rattle.std.proofs.Common.{◌*◌, ◌++◌, ◌+◌, ◌∙◌, ◌∷◌, ◌≡◌, ◌≤◌, List, [], ap, append_assoc, arith, inl, inr, length, length-append, refl, subst, sym, ℕ}
-use Rattle.{std.specs.Io.KnownBytes.Appends, storm.proofs.Storms.storm_number, trace_text.specs.EventLine.event_line, tte_io.specs.Told.AppendsFront}
+use Rattle.{std.specs.Io.KnownBytes.Appends, trace_text.specs.EventLine.event_line, tte_forms.specs.{Putting.{PutsLines, Shown}, declared.status.Status.Status}}
 use Rattle.tte_forms.{proofs.Puts.{Ends-gives, PutsLines-fails, PutsLines-more, PutsLines-none}, specs.declared.status.Status.TheVariants.{Done, WriteFault}}
+use Rattle.tte_io.specs.{Faults.next_count, Told.AppendsFront}
 use Rattle.tte_traces.{proofs.storms_lemmas.Existing.{IsStormy, storm_behind}, specs.{declared.storms.events.StormEvents.StormEvents, storms.Storms.IsStormTo}}
 
 -- the lines of some events and of others behind them

@@ -1,12 +1,13 @@
 -- The events of a storm are of the network, and their numbers lie in their ranges.
-use Rattle.{net_plan.specs.Belonging.IsOfNetwork, schedule_tables.specs.Rules.KeepsRules, storm.proofs.Masters.master_within, tte_lemmas.proofs.Lists.in_all}
-use Rattle.{net_plan.specs.Places.link_at, std.{proofs.Math.Nat.mod-lt, specs.Prelude.IsSomeAnd}, storm.specs.Striking.Strikes, tte_units.specs.Amount.amount}
-use Rattle.net_plan.specs.{Ranges.{IsInRange, IsLinkInRange}, declared.{event.{Event.Event, What.What}, network.Network.Network, tables.Link.Link}}
+use Rattle.fault_hypothesis.proofs.storm_lemmas.{Belongings.{some_device, some_link, uplink_within}, Storms.{storm_number, storm_time, time_in_run}}
+use Rattle.fault_hypothesis.{proofs.storm_lemmas.Masters.master_within, specs.storm.Events.{IsChosen, IsDrawn, IsStormEvent, substitute, time_of}}
+use Rattle.fault_hypothesis.specs.{declared.storm.draw.Draw.Draw, storm.Choosing.{channel_of, choice_of, device_of, hold_of, link_of, rate_of, way_of, wire_of}}
+use Rattle.{fault_hypothesis.specs.storm.Striking.Strikes, net_plan.specs.Ranges.{IsInRange, IsLinkInRange}, tte_units.proofs.general_lemmas.Lists.in_all}
+use Rattle.{fault_hypothesis.specs.storm.Words.draw_at, net_plan.specs.declared.{event.What.What, tables.Link.Link}, tte_units.specs.declared.units.Units.Units}
+use Rattle.{net_plan.specs.{Belonging.IsOfNetwork, Places.link_at}, schedule_tables.specs.Rules.KeepsRules, tte_units.specs.Amount.amount}
+use Rattle.{net_plan.specs.declared.{event.Event.Event, network.Network.Network}, trace_text.specs.Ranges.{IsEventInRange, IsRate, IsTime, IsWhatInRange}}
 use Rattle.std.proofs.Common.{◌%◌, ◌*◌, ◌+◌, ◌<◌, ◌≡◌, ◌≤◌, List, None, Option, Some, ap, arith, inl, inr, length, refl, subst, suc, sym, zero, ℕ}
-use Rattle.{std.proofs.lemmas.Int.ints, storm.specs.Words.draw_at}
-use Rattle.storm.{proofs.{Belongings.{some_device, some_link, uplink_within}, Storms.{storm_number, storm_time, time_in_run}}, specs.declared.draw.Draw.Draw}
-use Rattle.{storm.specs.Choosing.{channel_of, choice_of, device_of, hold_of, link_of, rate_of, way_of, wire_of}, tte_units.specs.declared.units.Units.Units}
-use Rattle.{storm.specs.Events.{IsChosen, IsDrawn, IsStormEvent, substitute, time_of}, trace_text.specs.Ranges.{IsEventInRange, IsRate, IsTime, IsWhatInRange}}
+use Rattle.std.{proofs.{Math.Nat.mod-lt, lemmas.Int.ints}, specs.Prelude.IsSomeAnd}
 use Rattle.net_plan.specs.declared.event.What.TheVariants as kinds
 
 -- what befalls is of the network and in range

@@ -1,15 +1,15 @@
 -- The run over the lines of a storm's events is the one that the storm's summary sums up.
+use Rattle.{fault_hypothesis.proofs.storm_lemmas.OneStorm.one_storm, std.proofs.lemmas.List.append-nil, tte_forms.specs.declared.status.Status.TheVariants.Done}
+use Rattle.fault_hypothesis.{proofs.storm_lemmas.Storms.{front_of_storm, no_events, storm_number, storms_within}, specs.storm.Events.{AreStormEvents, IsStorm}}
 use Rattle.lens.{proofs.events_lemmas.{EventTexts.event_unbroken, ShortTexts.event_short}, specs.events.Laws.{EventsAnswersExist, StormReport}}
-use Rattle.{lens.proofs.events_lemmas.Ranged.storm_ranged, net_plan.specs.declared.network.Network.Network, storm.specs.Events.{AreStormEvents, IsStorm}}
-use Rattle.{lens.specs.events.Answer.event_lines, report_text.specs.NoteLine.report_of, std.proofs.lemmas.List.append-nil, storm.proofs.OneStorm.one_storm}
-use Rattle.{net_plan.specs.{Ranges.IsInRange, declared.event.Event.Event}, trace_text.specs.EventReading.event_read, tte_traces.proofs.Answers.trace_answer_one}
-use Rattle.{run_law.specs.declared.note.Note.Note, schedule_tables.specs.Rules.KeepsRules, trace_text.proofs.EventsBack.reads_back}
+use Rattle.{lens.proofs.events_lemmas.Ranged.storm_ranged, net_plan.specs.{Ranges.IsInRange, declared.{event.Event.Event, network.Network.Network}}}
+use Rattle.{lens.specs.events.Answer.event_lines, report_text.specs.NoteLine.report_of, run_law.specs.declared.note.Note.Note}
+use Rattle.{schedule_tables.specs.Rules.KeepsRules, trace_text.{proofs.EventsBack.reads_back, specs.EventReading.event_read}, tte_forms.specs.Answering.Answer}
 use Rattle.{schedule_tables.specs.declared.rule.Rule.TheVariants.{DevicesDiffer, LinksDiffer}, tte_io.proofs.FirstLine.{behind_line-append, first_line-append}}
 use Rattle.std.proofs.Common.{◌++◌, ◌∙◌, ◌∷◌, ◌≡◌, ◌≤◌, List, [], ap, append_assoc, arith, inl, length, length-append, refl, subst, suc, sym, zero, ℕ}
-use Rattle.{std.specs.List.concat, tte_io.specs.Line.{behind_line, first_line, lf, line_limit}, tte_traces.proofs.storms_lemmas.Drawn.{all_ended, none_ended}}
-use Rattle.{storm.proofs.Storms.{front_of_storm, no_events, storm_number, storms_within}, tte_traces.proofs.storms_lemmas.Existing.{IsStormy, storm_behind}}
-use Rattle.{trace_text.specs.EventLine.{event_line, event_text}, tte_traces.specs.{Answer.{IsRunAnswer, report_lines}, Lines.{AreAdmitted, behind_lines}}}
-use Rattle.{tte_forms.specs.{Answering.Answer, declared.status.Status.TheVariants.Done}, world_drive.specs.exact.Records.{AreAllRecords, HaveEnded}}
+use Rattle.{std.specs.List.concat, tte_io.specs.Line.{behind_line, first_line, lf, line_limit}, world_drive.specs.exact.Records.{AreAllRecords, HaveEnded}}
+use Rattle.{trace_text.specs.EventLine.{event_line, event_text}, tte_traces.{proofs.Answers.trace_answer_one, specs.Lines.{AreAdmitted, behind_lines}}}
+use Rattle.tte_traces.{proofs.storms_lemmas.{Drawn.{all_ended, none_ended}, Existing.{IsStormy, storm_behind}}, specs.Answer.{IsRunAnswer, report_lines}}
 
 -- the text of a trace of these events
 abbrev text_of : Network → List Event → List ℕ

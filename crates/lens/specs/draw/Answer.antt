@@ -1,10 +1,10 @@
 -- What `draw` answers for a report.
 use Rattle.std.specs.Prelude.{◌≡◌, ◌++◌, if◌then◌else◌, List}
-use Rattle.lens.specs.{declared.draw.svg.layout.Span.Span, draw.Picture.{back_lines, front_lines, picture_lines}}
-use Rattle.{lens.specs.declared.draw.svg.window.Came.Came, net_plan.specs.declared.network.Network.Network}
-use Rattle.lens.specs.{declared.draw.svg.layout.Pen.Pen, draw.svg.{Clocks.Clocks, Plan.Plan, Sketching.{fits, plan_of}}}
-use Rattle.{lens.specs.draw.svg.Layout.pen_at, tte_forms.specs.Answering.Answer}
-use Rattle.{run_law.specs.declared.note.Note.Note, tte_units.specs.declared.units.Units.Units}
+use Rattle.{lens.specs.draw.Picture.{back_lines, front_lines, picture_lines}, lens_svg.specs.declared.layout.Span.Span}
+use Rattle.lens_svg.specs.{Clocks.Clocks, Sketching.{fits, plan_of}, declared.{layout.Pen.Pen, window.Came.Came}}
+use Rattle.{lens_svg.specs.Layout.pen_at, run_law.specs.declared.note.Note.Note, tte_forms.specs.Answering.Answer}
+use Rattle.lens_svg.specs.Plan.{Plan}
+use Rattle.{net_plan.specs.declared.network.Network.Network, tte_units.specs.declared.units.Units.Units}
 use Rattle.tte_forms.specs.{declared.status.Status.TheVariants.Done, networks.Accepting.too_long_answer}
 
 -- the marks and the end of the picture, as an answer

@@ -1,12 +1,12 @@
 -- What holds of the clocks in the picture of a report.
 use Rattle.std.specs.Prelude.{◌≡◌, ℕ, ◌*◌, ◌/◌, ◌≤◌, false, List, Some}
-use Rattle.lens.specs.declared.draw.svg.{clock.{Ends.Ends, Told.Told}, layout.Span.Span}
-use Rattle.lens.specs.draw.svg.Clocks.{Clocks, apart_of, clocks_in, ends_of, is_among, local_of, share}
+use Rattle.lens_svg.specs.declared.{clock.{Ends.Ends, Told.Told}, layout.Span.Span}
+use Rattle.lens_svg.specs.Clocks.{Clocks, apart_of, clocks_in, ends_of, is_among, local_of, share}
 use Rattle.{net_plan.specs.declared.network.Network.Network, run_law.specs.records.Happenings.{Happening, happenings}}
 use Rattle.run_law.specs.{declared.note.Note.Note, device.LocalClocks.local, scenario.Scenarios.Scenario}
 use Rattle.run_law.specs.{law.Safety.IsInStep, records.Order.IsIn}
 use Rattle.{schedule_tables.specs.Rules.KeepsRules, tte_audit.specs.Report.scenario_of}
-use Rattle.{tte_traces.specs.reports.Reports.IsReportOf, tte_units.specs.{Amount.amount, declared.units.Units.Units}}
+use Rattle.{tte_audit.specs.reports.Reports.IsReportOf, tte_units.specs.{Amount.amount, declared.units.Units.Units}}
 
 -- the clock is told, and its device did not break
 abbrev pub IsShown : Clocks → Told → Type 0

@@ -2,17 +2,16 @@
 use Rattle.std.specs.Prelude.{ℕ, ℤ, zero, suc, ◌+◌, if◌then◌else◌, List, [], ◌∷◌, ◌++◌, Option}
 use Rattle.std.specs.Prelude.{Some, None, flat_map, length}
 use Rattle.lens.specs.declared.draw.putting.Layer.TheVariants.{Caption, Gauges, Lanes, Marks, Opening, Shared, Spread}
-use Rattle.lens.specs.declared.draw.{putting.Layer.{Layer, TheVariants.Windows}, svg.layer.LaneLayer.LaneLayer}
-use Rattle.lens.specs.declared.draw.{putting.TheConstants.LAYERS, svg.{layer.MarkLayer.MarkLayer, layout.Span.Span}}
-use Rattle.lens.specs.{declared.draw.svg.element.Element.Element, draw.svg.{Layout.{holds, moved, pen_at}, Plan.Plan}}
-use Rattle.lens.specs.{declared.draw.svg.{layout.Pen.Pen, window.Came.Came}, draw.Signs.{close_line, sign_line}}
-use Rattle.lens.specs.draw.svg.{Clocks.{Clocks, clocks_in, gauge_of, spread_of}, Layers.{on_lane, on_mark, opening_of}}
-use Rattle.lens.specs.{draw.svg.Elements.element_line, why.past.Pasts.clock_at}
-use Rattle.lens.specs.draw.svg.{Marking.{counted, mark_line}, Sketching.{moment, plan_of}, Windows.{box_of, windows_in}}
-use Rattle.lens.specs.declared.draw.svg.element.Element.TheVariants as elements
+use Rattle.lens.specs.declared.draw.putting.{Layer.{Layer, TheVariants.Windows}, TheConstants.LAYERS}
+use Rattle.{lens.specs.draw.Signs.{close_line, sign_line}, run_law.specs.records.Happenings.happenings}
+use Rattle.lens_svg.specs.{Clocks.{Clocks, clocks_in, gauge_of, spread_of}, Layers.{on_lane, on_mark, opening_of}}
+use Rattle.{lens_svg.specs.{Elements.element_line, Plan.Plan}, run_law.specs.declared.note.Note.Note}
+use Rattle.lens_svg.specs.{Layout.{holds, moved, pen_at}, Marking.{counted, mark_line}, Windows.{box_of, windows_in}}
+use Rattle.lens_svg.specs.{Sketching.{moment, plan_of}, declared.{layout.{Pen.Pen, Span.Span}, window.Came.Came}}
+use Rattle.lens_svg.specs.declared.{element.Element.Element, layer.{LaneLayer.LaneLayer, MarkLayer.MarkLayer}}
+use Rattle.{lens_why.specs.past.Pasts.clock_at, tte_audit.specs.Report.scenario_of}
 use Rattle.net_plan.specs.declared.{ids.DeviceId.DeviceId, network.Network.Network}
-use Rattle.run_law.specs.{declared.note.Note.Note, records.Happenings.happenings}
-use Rattle.tte_audit.specs.Report.{scenario_of}
+use Rattle.lens_svg.specs.declared.element.Element.TheVariants as elements
 
 -- the line of something that is drawn, if there is anything
 abbrev pub some_line : Network → Option Element → List (List ℕ)

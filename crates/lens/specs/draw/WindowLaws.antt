@@ -1,12 +1,12 @@
 -- What holds of the windows in the picture of a report.
 use Rattle.std.specs.Prelude.{ℕ, ℤ, ◌≡◌, ◌*◌, ◌/◌, ◌-ℤ◌, ◌≤ℤ◌, ◌≤◌, List, Option, Some, unsigned_abs}
-use Rattle.{lens.specs.declared.draw.svg.mark.Look.TheVariants.Taken, run_law.specs.device.Standpoints.offset_in_cycle}
-use Rattle.lens.specs.{declared.draw.svg.{layout.Span.Span, window.Came.Came}, draw.svg.Windows.{came_of, window_by}}
-use Rattle.{lens.specs.declared.draw.svg.mark.Mark.Mark, tte_traces.specs.reports.Reports.IsReportOf}
-use Rattle.{lens.specs.draw.{Picture.clocks_of, svg.Sketching.plan_of}, schedule_tables.specs.Rules.KeepsRules}
-use Rattle.{net_plan.specs.declared.ids.{LinkId.LinkId, VlId.VlId}, tte_units.specs.declared.units.Units.Units}
-use Rattle.{net_plan.specs.declared.network.Network.Network, schedule_tables.specs.declared.window.Window.Window}
-use Rattle.run_law.specs.{declared.note.Note.Note, records.Order.IsIn}
+use Rattle.lens.specs.draw.Picture.{clocks_of}
+use Rattle.lens_svg.specs.{Sketching.plan_of, declared.{layout.Span.Span, mark.Mark.Mark, window.Came.Came}}
+use Rattle.{lens_svg.specs.Windows.{came_of, window_by}, net_plan.specs.declared.ids.{LinkId.LinkId, VlId.VlId}}
+use Rattle.{lens_svg.specs.declared.mark.Look.TheVariants.Taken, schedule_tables.specs.declared.window.Window.Window}
+use Rattle.{net_plan.specs.declared.network.Network.Network, run_law.specs.device.Standpoints.offset_in_cycle}
+use Rattle.{run_law.specs.{declared.note.Note.Note, records.Order.IsIn}, schedule_tables.specs.Rules.KeepsRules}
+use Rattle.{tte_audit.specs.reports.Reports.IsReportOf, tte_units.specs.declared.units.Units.Units}
 
 -- so far into a box of 24 pixels the tick of a place of the window stands: 24 times how far the place lies behind the
 -- window's beginning, by its length, rounded down

@@ -1,8 +1,8 @@
 -- What `events` answers for the octets of a network file.
 use Rattle.std.specs.Prelude.{◌≡◌, List, map, ℕ}
-use Rattle.{net_plan.specs.declared.event.Event.Event, trace_text.specs.EventLine.event_line}
+use Rattle.{fault_hypothesis.specs.storm.Events.IsStorm, net_plan.specs.declared.event.Event.Event}
 use Rattle.{net_plan.specs.declared.network.Network.Network, tte_forms.specs.declared.status.Status.TheVariants.Done}
-use Rattle.{storm.specs.Events.IsStorm, tte_forms.specs.Answering.Answer}
+use Rattle.{trace_text.specs.EventLine.event_line, tte_forms.specs.Answering.Answer}
 
 -- the lines of events, each with its LF
 abbrev pub event_lines : Network → List Event → List (List ℕ)

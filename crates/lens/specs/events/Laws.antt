@@ -1,12 +1,12 @@
 -- What the events of a storm as a trace have to do with `run` and `storm`.
 use Rattle.std.specs.{List.concat, Prelude.{◌≡◌, ◌≤◌, List, ℕ}}
-use Rattle.{lens.specs.events.Answer.IsEventsAnswer, net_plan.specs.{Ranges.IsInRange, declared.event.Event.Event}}
+use Rattle.{fault_hypothesis.specs.storm.Events.IsStorm, world_drive.specs.exact.Records.AreAllRecords}
+use Rattle.{lens.specs.events.Answer.IsEventsAnswer, tte_traces.specs.{Answer.IsRunAnswer, storms.Laws.FitsFrames}}
+use Rattle.{net_plan.specs.{Ranges.IsInRange, declared.event.Event.Event}, tte_units.specs.declared.units.Units.Units}
 use Rattle.{net_plan.specs.declared.network.Network.Network, tte_forms.specs.declared.status.Status.TheVariants.Done}
-use Rattle.{report_text.specs.NoteLine.report_of, run_law.specs.declared.note.Note.Note, storm.specs.Events.IsStorm}
-use Rattle.{schedule_tables.specs.Rules.KeepsRules, tte_traces.specs.{Answer.IsRunAnswer, storms.Laws.FitsFrames}}
-use Rattle.tte_forms.specs.Answering.{Answer}
+use Rattle.{report_text.specs.NoteLine.report_of, tte_forms.specs.Answering.Answer}
+use Rattle.{run_law.specs.declared.note.Note.Note, schedule_tables.specs.Rules.KeepsRules}
 use Rattle.tte_traces.specs.storms.{Answer.{IsStormAnswer, IsWidest}, summary.{Counting.counts_of, Lines.summary_lines}}
-use Rattle.{tte_units.specs.declared.units.Units.Units, world_drive.specs.exact.Records.AreAllRecords}
 
 -- the report and the summary are of one run, that of the network under the events of the storm, up to its end: the
 -- report has each record of it, and the summary has their counts and their spread

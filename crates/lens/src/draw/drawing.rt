@@ -1,25 +1,25 @@
 ghost use Rattle.std.specs.Prelude.{◌≡◌, ◌⊎◌, IfOk, List};
-ghost use Rattle.lens.specs.declared.draw.svg.layout.Span.{Span as SpanValue};
-ghost use Rattle.lens.specs.draw.{Answer.{IsDrawAnswer, draw_answer, fitting_answer}, svg.Sketching.plan_of};
-ghost use Rattle.lens.specs.{draw.{Picture.windows_of, svg.Clocks.clocks_in}, why.past.Pasts.{IsSomeReport, ShowsAll}};
+ghost use Rattle.lens.specs.draw.{Answer.{IsDrawAnswer, draw_answer, fitting_answer}, Picture.windows_of};
+ghost use Rattle.lens_svg.specs.{Clocks.clocks_in, Sketching.plan_of, declared.layout.Span.{Span as SpanValue}};
+ghost use Rattle.lens_why.specs.past.Pasts.{IsSomeReport, ShowsAll};
 ghost use Rattle.{net_plan.specs.Ranges.IsInRange, tte_forms.specs.{Putting.Over, networks.Accepting.IsNetworkAnswer}};
 ghost use Rattle.run_law.specs.declared.note.Note.{Note as NoteValue};
-ghost use Rattle.{tte_audit.specs.Named.IsNamed, tte_units.{specs.{declared.{units.{Units.{Units as UnitsValue}}}}}};
+ghost use Rattle.{tte_audit.specs.Named.IsNamed, tte_units.specs.declared.units.Units.{Units as UnitsValue}};
+ghost use Rattle.tte_audit.specs.reports.{Answer.IsAuditStatus, Reports.{AreLeft, IsReportAnswer, IsReportOf}};
 ghost use Rattle.tte_forms.specs.{Answering.{ForOctets, Gives, GivesAnswer}, Faults.{HasCause, PutFailed, ReadFailed}};
-ghost use Rattle.tte_traces.specs.reports.{Answer.IsAuditStatus, Reports.{AreLeft, IsReportAnswer, IsReportOf}};
 
 use crate::draw::marks::put_back;
 use crate::draw::putting::put_front;
-use crate::draw::svg::{Came, Clocks, Sketch, Span};
 use crate::draw::windows::windows_of;
-use crate::why::past::{KnownReport, read_known};
+use lens_svg::{Came, Clocks, Sketch, Span};
+use lens_why::past::{KnownReport, read_known};
 use net_plan::Network;
 use schedule_tables::Accepted;
 use std::alloc::Global;
 use tte_audit::keep_names_apart;
+use tte_audit::reports::{Records, put_no_report};
 use tte_forms::{Status, accept, end_with, put_no_network};
 use tte_io::{LineText, OutOfMemory, Sink, Source};
-use tte_traces::reports::{Records, put_no_report};
 
 /// Draws a part of the run of a finished report: the records whose times lie in the span, as a picture in SVG. The
 /// report is the second file, over the network of the first, and is audited before anything is put.

@@ -1,12 +1,12 @@
 //! The lines below the marks.
 ghost use Rattle.std.specs.Prelude.{◌≡◌, ◌<◌, ◌∷◌, [], IfSome, MatchResult, length};
 ghost use Rattle.lens.specs.draw.Picture.{front_lines, gauges_lines, lanes_lines, layer_lines, marks_lines, some_line};
-ghost use Rattle.lens.specs.draw.{Picture.windows_lines, Putting.Draws, Signs.sign_line, svg.Elements.HasNames};
-ghost use Rattle.net_plan.specs.Ranges.{IsInRange};
-ghost use Rattle.tte_forms.specs.{Faults.PutFailed, Putting.Over};
+ghost use Rattle.{lens.specs.draw.{Picture.windows_lines, Signs.sign_line}, lens_svg.specs.Elements.HasNames};
+ghost use Rattle.{lens.specs.draw.Putting.Draws, net_plan.specs.Ranges.IsInRange, tte_forms.specs.Faults.PutFailed};
+ghost use Rattle.tte_forms.specs.Putting.{Over};
 
 use crate::draw::signs::Sign;
-use crate::draw::svg::{
+use lens_svg::{
     Came, Clocks, Element, LaneLayer, MarkLayer, Pen, Sketch, gauge_of, make_element_line, on_lane,
     on_mark, opening_of, spread_of,
 };

@@ -1,11 +1,11 @@
 //! Where in their windows the frames came that are taken in a part of a run.
 ghost use Rattle.std.specs.Prelude.{◌≡◌, All, IfOk, List};
-ghost use Rattle.{audit_devices.specs.events.Readings.scenario_under, run_law.specs.records.Happenings.Happening};
+ghost use Rattle.{audit_law.specs.events.Readings.scenario_under, lens_svg.specs.Windows.{came_of, windows_in}};
 ghost use Rattle.{lens.specs.draw.Asking.IsAskable, net_plan.specs.{Ranges.IsInRange, declared.event.Event.Event}};
-ghost use Rattle.lens.specs.{draw.svg.Windows.{came_of, windows_in}, why.past.Pasts.{IsPast, IsSomePast, clock_at}};
+ghost use Rattle.{lens_why.specs.past.Pasts.{IsPast, IsSomePast, clock_at}, run_law.specs.records.Happenings.Happening};
 
-use crate::draw::svg::{Came, Look, Mark, Sketch, came_of};
-use crate::why::past::Past;
+use lens_svg::{Came, Look, Mark, Sketch, came_of};
+use lens_why::past::Past;
 use net_plan::Network;
 use std::alloc::Global;
 use tte_io::OutOfMemory;

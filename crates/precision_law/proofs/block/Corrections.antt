@@ -110,8 +110,7 @@ pub is_by_frame : FramesGoSo → (v : View) (n t : ℕ) (block : IsInBlock v n t
     → IsOldAt v block.before.next device t → (front : List Happening) (summary : Summary) → AreBeforeCorrections v t front
     → Summarizes summary (heard_since v.scenario front device t) → (channel : Channel) (dev : Units) → (o : Option HeardFrame) → best_on channel summary ≡ o
     → option_and_then (λ frame. if nat_le v.scenario.network.sync_threshold (count_of frame.members)
-    then Some (deviation_by (standing_before v.scenario front device t) frame) else None) o ≡ Some dev
-    → IsByFrame v n t block.before device channel dev
+    then Some (deviation_by (standing_before v.scenario front device t) frame) else None) o ≡ Some dev → IsByFrame v n t block.before device channel dev
 is_by_frame laws v n t block device is went has old front summary split sums channel dev None best e = absurd cc
 is_by_frame laws v n t block device is went has old front summary split sums channel dev (Some frame) best e =
     let s = v.scenario in

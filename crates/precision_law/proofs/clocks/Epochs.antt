@@ -1,5 +1,5 @@
 -- What a device's clock was last set to fixes since then.
-use Rattle.{net_plan.proofs.SameIds.one_device, run_law.proofs.{control.Verdicts.cycle_stays, records.Members.in_kept}, tte_lemmas.proofs.Lists.last_more}
+use Rattle.net_plan.proofs.SameIds.{one_device}
 use Rattle.precision_law.proofs.{clocks.Readings.{reach_is_sharp, reach_is_there}, records.Times.{between, earlier_parts, in_between, is_between, last_some}}
 use Rattle.precision_law.proofs.{records.Views.{in_order, steady}, words.Std.{ints, last_or, negsuc, option_map_or, pos, refl, subst, sym, true, ℕ, ℤ}}
 use Rattle.precision_law.proofs.words.Laws.{AdjustmentIsLast, ClocksHaveReached, ClocksReachSharply, IsView, NextCycleIsOfLast, SettingsStay, TimeStays, View}
@@ -10,6 +10,7 @@ use Rattle.precision_law.proofs.words.Runs.{changed_at, changes_adjustment, cycl
 use Rattle.{precision_law.proofs.words.Runs.{start_of, state_after, state_with, time_of}, run_law.proofs.device.States.{adjustment_kept, joined_changes}}
 use Rattle.precision_law.proofs.words.Std.{◌++◌, ◌+◌, ◌-ℤ◌, ◌<ℤ◌, ◌<◌, ◌==◌, ◌∙◌, ◌∷◌, ◌≡◌, ◌≤◌, Bool, List, None, Option, Some, [], ap, append-nil, arith}
 use Rattle.precision_law.proofs.words.Std.{both_ways, eq-eqb, false, false_from_ne_true, filter, filter-append, fold, fold-append, if◌then◌else◌, inl, inr}
+use Rattle.{run_law.proofs.{control.Verdicts.cycle_stays, records.Members.in_kept}, tte_units.proofs.general_lemmas.Lists.last_more}
 use Rattle.run_law.specs.declared.judgement.Why.TheVariants as whys
 use Rattle.run_law.specs.declared.note.NoteBody.TheVariants as notes
 

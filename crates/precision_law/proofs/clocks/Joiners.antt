@@ -1,6 +1,5 @@
 -- A device whose clock was last set by a frame that told it the time is still joining.
-use Rattle.{net_plan.proofs.SameIds.one_device, tte_lemmas.proofs.Lists.last_more}
-use Rattle.{precision_law.proofs.Plain.higher_before, run_law.proofs.records.{Happenings.{from_earlier, is_earlier}, Members.in_kept}}
+use Rattle.{net_plan.proofs.SameIds.one_device, precision_law.proofs.Plain.higher_before}
 use Rattle.precision_law.proofs.{clocks.Epochs.{Keeps, kept_by_all, kept_if, state_stays}, words.Laws.{IsView, View, epoch_time, last_setting, state_left}}
 use Rattle.precision_law.proofs.{records.Points.{setting_is, sorted_parts}, words.Std.{nat_lt, negsuc, option_map_or, pos, refl, subst, sym, true, ℕ}}
 use Rattle.precision_law.proofs.{records.{Times.{AreSorted, last_some}, Views.in_order}, words.Plans.{DeviceId, Joining, State, Units, amount, state_at_start}}
@@ -9,6 +8,7 @@ use Rattle.precision_law.proofs.words.Runs.{changes_adjustment, earlier, founded
 use Rattle.precision_law.proofs.words.Runs.{never_self, numbered_in, place_of, rank, same_some, start_of, state_after, state_with, time_of}
 use Rattle.precision_law.proofs.words.Std.{◌++◌, ◌+◌, ◌<◌, ◌==◌, ◌∙◌, ◌∷◌, ◌≡◌, Bool, List, None, Option, Some, [], ap, append_assoc, arith, both_ways, eq-eqb}
 use Rattle.precision_law.proofs.words.Std.{false, false_from_ne_true, filter, filter-append, fold-append, if◌then◌else◌, inl, inr, ints, last_or, lt-ltb}
+use Rattle.{run_law.proofs.records.{Happenings.{from_earlier, is_earlier}, Members.in_kept}, tte_units.proofs.general_lemmas.Lists.last_more}
 use Rattle.run_law.specs.declared.judgement.Why.TheVariants as whys
 use Rattle.run_law.specs.declared.note.NoteBody.TheVariants as notes
 

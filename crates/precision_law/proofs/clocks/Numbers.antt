@@ -2,7 +2,7 @@
 use Rattle.precision_law.proofs.words.Clocks.{adjustment_stays, fold_last, in_earlier, int_le-is, joined_changes, last_some, lt_by, next_cycle_is_of_last}
 use Rattle.precision_law.proofs.words.{Clocks.{passes, sets_none, setting_is, settings_stay, steady, time_stays}, Runs.{next_cycle, recorded_cycle, time_of}}
 use Rattle.precision_law.proofs.words.Laws.{HasTimeAt, IsGood, IsOldAt, IsView, Stands, View, cycle_set, epoch_time, is_corrected, is_correction, last_setting}
-use Rattle.{precision_law.proofs.words.Laws.next_of, tte_lemmas.proofs.Integers.{int_lt-from, int_lt-is}}
+use Rattle.{precision_law.proofs.words.Laws.next_of, tte_units.proofs.general_lemmas.Integers.{int_lt-from, int_lt-is}}
 use Rattle.precision_law.proofs.words.{Plans.{DeviceId, Units, int_le-true}, Std.{last_or, negsuc, option_map_or, pos, refl, subst, suc, sym, true, zero, ℕ}}
 use Rattle.precision_law.proofs.words.Runs.{Happening, IsIn, NoteBody, adjustment_before, changed_at, changes_adjustment, correction_value, cycle_in, earlier}
 use Rattle.precision_law.proofs.words.Runs.{had_come, has_cleared, in_filter, integration_cycle, is_integration_cycle, is_joined_by, local_at_change}

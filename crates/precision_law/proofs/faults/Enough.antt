@@ -1,6 +1,5 @@
 -- Enough masters began on and are good.
-use Rattle.{membership.proofs.CountLemmas.count_of-union_single, precision_law.proofs.trips.Ascents.master_member, std.proofs.lemmas.Option.slice_get_within}
-use Rattle.{precision_law.proofs.Plain.le_by, run_law.proofs.records.Order.in_any}
+use Rattle.{precision_law.proofs.{Plain.le_by, trips.Ascents.master_member}, sync_state.proofs.membership_lemmas.CountLemmas.count_of-union_single}
 use Rattle.precision_law.proofs.{faults.Broken.{broke_by, one_bad, one_member}, words.Laws.{EnoughMasters, IsBad, IsFirstMaster, IsGood, IsView, View}}
 use Rattle.precision_law.proofs.words.Plans.{Device, DeviceId, Event, IsMember, Masters, Members, closed, count_of, device_at, is_master, none, single, union}
 use Rattle.precision_law.proofs.words.Runs.{Breaks, TooFewMasters, breaks_at, in_right, is_broken, is_sound_master, member_of, parted, sound_masters}
@@ -8,6 +7,7 @@ use Rattle.precision_law.proofs.words.Std.{◌&&◌, ◌++◌, ◌+◌, ◌/◌,
 use Rattle.precision_law.proofs.words.Std.{bit_at-pow_other, bit_at-suc, bit_at-zero, bit_at_lowest, bit_at_or, both_ways, cases_eq, cond, count_by, count_ones}
 use Rattle.precision_law.proofs.words.Std.{enumerate_from, eq-eqb, false, false_from_ne_true, filter, if◌then◌else◌, inl, inr, is_some, length, list_any, not}
 use Rattle.precision_law.proofs.words.Std.{not-true, ones_le_self, ones_step, option_map_or, refl, slice_get, subst, suc, sum_by-cons, sym, true, zero, ℕ}
+use Rattle.{run_law.proofs.records.Order.in_any, std.proofs.lemmas.Option.slice_get_within}
 
 -- ---- bits
 

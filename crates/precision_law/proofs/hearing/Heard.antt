@@ -1,5 +1,5 @@
 -- What a device has heard since its last correction point.
-use Rattle.{net_plan.proofs.SameIds.one_device, tte_lemmas.proofs.Options.mapped}
+use Rattle.{net_plan.proofs.SameIds.one_device, tte_units.proofs.general_lemmas.Options.mapped}
 use Rattle.precision_law.proofs.{records.Behind.behind_last, words.Runs.{in_right, is_integration_cycle, members_in, next_cycle, recorded_cycle, time_of}}
 use Rattle.precision_law.proofs.{records.Points.earlier_before, words.Plans.{Channel, DeviceId, HeardFrame, Hearing, IsBest, LinkId, Members, Units, within_on}}
 use Rattle.precision_law.proofs.{records.{Times.AreSorted, Views.in_order}, words.Laws.{AreBeforeCorrections, HearsBy, IsOfHearer, IsView, View, last_setting}}

@@ -1,7 +1,7 @@
 -- What a device hears is a frame that a compression master sent.
 use Rattle.precision_law.proofs.{records.Points.before_of, words.Plans.{Up, all_at, amount, compression_time, device_at, is_end_system, link_at, opened}}
-use Rattle.precision_law.proofs.trips.Descents.{emission_shows, frames_down_are_of_cms}
-use Rattle.{precision_law.proofs.words.Laws.{HearingsAreOfFrames, IsEmission, IsOfHearer, IsView, View, expectation}, tte_lemmas.proofs.Options.passed}
+use Rattle.{precision_law.proofs.trips.Descents.{emission_shows, frames_down_are_of_cms}, tte_units.proofs.general_lemmas.Options.passed}
+use Rattle.precision_law.proofs.words.Laws.{HearingsAreOfFrames, IsEmission, IsOfHearer, IsView, View, expectation}
 use Rattle.precision_law.proofs.words.Plans.{Channel, Device, DeviceId, Down, IsDeviceInRange, Joints, Link, LinkId, Network, Pcf, Point, Relay, Role, Taken}
 use Rattle.precision_law.proofs.words.Runs.{Happening, Integrates, IsCaused, IsCollectedOrDropped, IsIn, IsPermanenceOutcome, Judgement, Outside, Reason}
 use Rattle.precision_law.proofs.words.Runs.{Within, cause_of, cycle_in, expected_by, founded_at, frame_by, in_left, is_cm, is_cm_role, is_parent_of}

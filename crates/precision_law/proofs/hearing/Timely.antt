@@ -1,6 +1,6 @@
 -- What a device hears is timely.
-use Rattle.{net_plan.proofs.Amounts.amount_within, precision_law.proofs.words.Std.{option_and_then, option_map_or, pos, refl, subst, sym, true, ℕ, ℤ}}
-use Rattle.{precision_law.proofs.Plain.device_of, tte_lemmas.proofs.Options.mapped}
+use Rattle.{drift_clock.proofs.transparent_lemmas.HopLaw.permanent_in_time, tte_units.proofs.general_lemmas.Options.mapped}
+use Rattle.{net_plan.proofs.Amounts.amount_within, precision_law.proofs.Plain.device_of, run_law.specs.records.Causes.last_from}
 use Rattle.precision_law.proofs.{block.Joins.cm_channel, trips.Travels.{GivesDown, adds_up, jitter_back, jitter_of_legs, last_young, many_back, path_down}}
 use Rattle.precision_law.proofs.words.{Clocks.{frames_down_are_of_cms, natural, permanence_is_sharp, sizes_are, steady}, Laws.{base_of, clock_in, links_back}}
 use Rattle.precision_law.proofs.words.Laws.{EmissionsAreSharp, HeardFramesAreTimely, IsEmission, IsFromAfar, IsHeard, IsTimely, IsTrip, IsView, Leg, View}
@@ -10,7 +10,7 @@ use Rattle.precision_law.proofs.words.{Plans.{opened, paths_are_unique, point_of
 use Rattle.precision_law.proofs.words.Runs.{Gives, Happening, IsCaused, IsChain, IsIn, NoteBody, cause_of, channel_of, cycle_in, founded_at, frame_by}
 use Rattle.precision_law.proofs.words.Runs.{frame_from, in_left, is_cm, is_cm_role, members_in, numbered, numbered_front, numbered_in, same_some, time_of}
 use Rattle.precision_law.proofs.words.Std.{◌*◌, ◌+◌, ◌-◌, ◌∙◌, ◌∷◌, ◌≡◌, ◌≤◌, ◌⊎◌, List, Option, Some, [], ap, arith, inl, inr, ints, length, mul-le-mul_left}
-use Rattle.{run_law.{proofs.scenario.Devices.cm_role, specs.records.Causes.last_from}, transparent_clock.proofs.HopLaw.permanent_in_time}
+use Rattle.{precision_law.proofs.words.Std.{option_and_then, option_map_or, pos, refl, subst, sym, true, ℕ, ℤ}, run_law.proofs.scenario.Devices.cm_role}
 use Rattle.run_law.specs.declared.note.NoteBody.TheVariants as notes
 
 -- ---- chains of causes

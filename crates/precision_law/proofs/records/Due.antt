@@ -1,5 +1,5 @@
 -- What is due is recorded: the frames of clusters, and what is permanent.
-use Rattle.{precision_law.proofs.{faults.Masters.good_is_correct, words.Plans.{point_of, role, units_of}}, run_law.proofs.law.FirstSent.{next_due, next_note}}
+use Rattle.{precision_law.proofs.{faults.Masters.good_is_correct, words.Plans.{point_of, role, units_of}}, tte_units.proofs.general_lemmas.Bools.match_false}
 use Rattle.precision_law.proofs.{records.Judged.all_judge, words.Std.{ints, option_and_then, option_map_or, pos, refl, subst, sym, true, unsigned_abs, ℕ, ℤ}}
 use Rattle.precision_law.proofs.words.{Laws.{IsEmission, IsGood, IsPermanentAt, IsView, Sizes, View}, Runs.{state_at_hearing, time_of, waits_for}}
 use Rattle.precision_law.proofs.words.Plans.{AreClusters, Cluster, DeviceId, IsReach, LinkId, Pcf, Taken, amount, emission, one_list_of_clusters, point_at}
@@ -8,7 +8,7 @@ use Rattle.precision_law.proofs.words.Runs.{IsFounded, IsIn, IsJudgedBy, IsPerma
 use Rattle.precision_law.proofs.words.Runs.{adjustment_at_hearing, by_number, due_is_there, front_founded, happening, heard_as, in_front_of, is_cm, key}
 use Rattle.precision_law.proofs.words.Runs.{master_of, members_in, numbered, observation_window, place_of, plan_of, point_fault, points_of, rank, ripe_as, sign}
 use Rattle.precision_law.proofs.words.Std.{◌+◌, ◌∙◌, ◌∷◌, ◌≡◌, ◌≤◌, ◌⊎◌, Bool, Contains, List, MatchBool, None, Option, Some, [], ap, arith, false, inl, inr}
-use Rattle.{run_law.proofs.records.Order.ahead, tte_lemmas.proofs.Bools.match_false}
+use Rattle.run_law.proofs.{law.FirstSent.{next_due, next_note}, records.Order.ahead}
 use Rattle.compression.specs.declared.taken.Taken.TheVariants as taken
 use Rattle.run_law.specs.declared.judgement.Judgement.TheVariants as judgements
 use Rattle.run_law.specs.declared.note.NoteBody.TheVariants as notes

@@ -1,7 +1,7 @@
 -- Where frames come from, leg by leg; those that go up are of masters.
 use Rattle.{net_plan.specs.declared.ids.VlId.VlId, run_law.{proofs.{law.FirstDelays.given, records.Members.in_kept}, specs.control.Leaving.Passes}}
 use Rattle.{pcf_codec.specs.{Decoding.decoded, EtherType.pcf_type}, run_law.proofs.records.Order.in_any}
-use Rattle.{precision_law.proofs.Plain.{any_is, device_of}, run_law.{proofs.scenario.Devices.shown_parent, specs.timed.Arrivals.taken_or_fault}}
+use Rattle.{precision_law.proofs.Plain.{any_is, device_of}, run_law.specs.records.Causes.GoesBackTo, tte_units.proofs.general_lemmas.Options.{mapped, some_of}}
 use Rattle.precision_law.proofs.{faults.Masters.bad_is_master, words.{Laws.{FramesUpAreOfMasters, IsBad, IsOfBad, IsOfGood, IsTrip, IsView, Leg, View}, Std.ℕ}}
 use Rattle.precision_law.proofs.{records.Points.within_run, words.Runs.{same_some, signal_of, standpoint, time_of, timed, way_from, way_to}}
 use Rattle.precision_law.proofs.trips.Legs.{HasLeg, IsPutAs, child_channel, child_not_parent, child_ways, gives_down, has_leg, parent_channel, parent_ways}
@@ -15,7 +15,7 @@ use Rattle.precision_law.proofs.words.Runs.{is_of_other_member, last_taken, laun
 use Rattle.precision_law.proofs.words.Std.{◌&&◌, ◌++◌, ◌+◌, ◌<◌, ◌==◌, ◌^◌, ◌∙◌, ◌∷◌, ◌≡◌, ◌≤ℤ◌, ◌≤◌, ◌⊎◌, Any, Bool, Err, List, None, Ok, Option, Some, [], ap}
 use Rattle.precision_law.proofs.words.Std.{append_assoc, arith, both_ways, by_lt_z, eq-eqb, eqb-true, false, if◌then◌else◌, inl, inr, ints, le-leb, length}
 use Rattle.precision_law.proofs.words.Std.{nat_le, not-false, option_and_then, option_map_or, refl, subst, suc, sym, true, true_from_ne_false, unwrap_or, zero}
-use Rattle.{run_law.specs.records.Causes.GoesBackTo, schedule_tables.proofs.Margins.master_ends, tte_lemmas.proofs.Options.{mapped, some_of}}
+use Rattle.{run_law.{proofs.scenario.Devices.shown_parent, specs.timed.Arrivals.taken_or_fault}, schedule_tables.proofs.Margins.master_ends}
 use Rattle.net_plan.specs.declared.event.What.TheVariants as events
 use Rattle.run_law.specs.declared.note.NoteBody.TheVariants as notes
 use Rattle.run_law.specs.declared.steps.Arrival.TheVariants as arrivals

@@ -1,5 +1,5 @@
 -- A frame that arrives came over a link: who gives and who receives on its ways, and the leg before a record.
-use Rattle.{precision_law.proofs.Plain.{device_of, higher_before}, tte_lemmas.proofs.Options.mapped}
+use Rattle.{precision_law.proofs.Plain.{device_of, higher_before}, tte_units.proofs.general_lemmas.Options.mapped}
 use Rattle.precision_law.proofs.{trips.Paths.{clocked, frame_is, numbered_all}, words.Std.{inl, inr, option_and_then, option_map_or, refl, subst, sym, true, ℕ}}
 use Rattle.{precision_law.proofs.words.Laws.{IsLeg, IsTrip, IsView, Leg, View}, run_law.proofs.scenario.Devices.{parent_shown, shown_parent}}
 use Rattle.precision_law.proofs.words.Plans.{Channel, Device, DeviceId, Down, IsChildOf, IsPath, IsSwitchOf, IsTree, IsUplink, Joints, Link, LinkId, Master}

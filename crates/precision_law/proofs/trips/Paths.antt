@@ -9,7 +9,8 @@ use Rattle.precision_law.proofs.words.Runs.{is_parent_of, is_relay, last_is, lau
 use Rattle.precision_law.proofs.words.Runs.{same_some, standpoint, time_of, time_on_port, too_old, way_from, wire_of, wire_set, with_clock}
 use Rattle.precision_law.proofs.words.Std.{◌+ℤ◌, ◌+◌, ◌-◌, ◌<ℤ◌, ◌∙◌, ◌∷◌, ◌≡◌, ◌≤◌, ◌⊎◌, Bool, List, None, Ok, Option, Some, [], ap, arith, by_lt_z, false}
 use Rattle.precision_law.proofs.words.Std.{if◌then◌else◌, inl, inr, ints, ltb-false, nat_lt, not, option_and_then, option_map, option_map_or, refl, subst, sym}
-use Rattle.{run_law.{proofs.law.FirstDelays.{given, sets_wire}, specs.declared.judgement.Reason.TheVariants.Off}, tte_lemmas.proofs.Options.mapped}
+use Rattle.run_law.{proofs.law.FirstDelays.{given, sets_wire}, specs.declared.judgement.Reason.TheVariants.Off}
+use Rattle.tte_units.proofs.general_lemmas.Options.{mapped}
 use Rattle.run_law.specs.declared.steps.Arrival.TheVariants as arrivals
 
 -- ---- records and their frames

@@ -3,7 +3,7 @@ pub use Rattle.compression.proofs.ClusterFacts.{ends_soon}
 pub use Rattle.run_law.proofs.device.States.{is_in as synchronised_is}
 pub use Rattle.run_law.proofs.records.Order.{contained, place_order}
 pub use Rattle.sync_state.proofs.StateFacts.{up_state as not_integrating}
-pub use Rattle.tte_lemmas.proofs.Integers.{int_lt-from, int_lt-is}
+pub use Rattle.tte_units.proofs.general_lemmas.Integers.{int_lt-from, int_lt-is}
 pub use Rattle.precision_law.proofs.block.Goings.{FramesGoSo, HasCorrected, HasPoint, IsGoodHearing, IsLate, IsSentOn, WentSo, corrections_go_on, early_show}
 pub use Rattle.precision_law.proofs.block.Goings.{good_hearing, had_time, has_corrected, has_lost, in_part, judged_at, judged_up_to, known_dispatch, late_from}
 pub use Rattle.precision_law.proofs.block.Goings.{members_by, near_hull, next_first, old_point, tidy, up_to_then}

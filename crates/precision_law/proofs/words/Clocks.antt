@@ -8,7 +8,7 @@ pub use Rattle.run_law.proofs.records.Order.{all_of, any_in, contains, given_of 
 pub use Rattle.run_law.proofs.records.Order.{time_before as no_later}
 pub use Rattle.schedule_tables.proofs.Margins.{master_ends}
 pub use Rattle.sync_state.proofs.StateFacts.{number_in as point_is}
-pub use Rattle.tte_lemmas.proofs.{Integers.{int_le-is, whole as natural}, Options.some_of}
+pub use Rattle.tte_units.proofs.general_lemmas.{Integers.{int_le-is, whole as natural}, Options.some_of}
 pub use Rattle.precision_law.proofs.Plain.{any_is, any_of_in, cm_is_no_end, device_of, higher_before, le_by, lt_by, reached, some_if, synchronised_has_time}
 pub use Rattle.precision_law.proofs.block.Hulls.{has_before, in_hull, over, tested}
 pub use Rattle.precision_law.proofs.clocks.Anchored.{anchored_clocks_reach, anchored_clocks_show, anchors_widen, clocks_of_one_cycle, clocks_of_two_cycles}

@@ -1,5 +1,5 @@
 -- What the proofs name of the network, its tables, its frames and the devices, passed on from one place. Declares nothing.
-pub use Rattle.clock_correction.specs.Correction.{correction_of}
+pub use Rattle.sync_state.specs.correction.Correction.{correction_of}
 pub use Rattle.compression.proofs.Elements.{Ordered, Ordered-beyond, all-filter, from_beyond, in_cases, in_filter_from, in_head, in_none, in_tail}
 pub use Rattle.compression.proofs.Firsts.{counts, firsts-has, firsts-start, members_of-clear, members_of-set, with_first-new, with_first-old}
 pub use Rattle.compression.proofs.{Growth.{cluster_of-beyond, end_of-least, end_of-same}, Held.{beyond-push_out, held-push_beyond, held-start}}
@@ -11,9 +11,10 @@ pub use Rattle.compression.specs.{Clusters.with_first, Emission.emission, Middle
 pub use Rattle.compression.specs.{OneCluster.{AreInOrder, Holds, IsDropped, IsKept, LiesIn}, Role.{has_point_of, role, role_in}}
 pub use Rattle.compression.specs.declared.{compressed.Compressed.Compressed, taken.Taken.{Taken, TheVariants.Opened}}
 pub use Rattle.drift_clock.specs.{ClockLaws.Measures, Reach.IsReach}
-pub use Rattle.membership.specs.{BestFrame.{IsBehind, IsBest, IsBestOf, IsBetterOf, IsLevel, Qualifies}, Hearing.{Hearing, IsOutside, IsWithinOn, within_on}}
-pub use Rattle.membership.specs.{Members.{IsMember, count_of, none, single, union}, Summary.{AreOutside, Summarizes, Summary, best_on, silence}}
-pub use Rattle.membership.specs.declared.frame.HeardFrame.{HeardFrame}
+pub use Rattle.sync_state.specs.membership.BestFrame.{IsBehind, IsBest, IsBestOf, IsBetterOf, IsLevel, Qualifies}
+pub use Rattle.sync_state.specs.membership.Hearing.{Hearing, IsOutside, IsWithinOn, within_on}
+pub use Rattle.sync_state.specs.membership.{Members.{IsMember, count_of, none, single, union}, Summary.{AreOutside, Summarizes, Summary, best_on, silence}}
+pub use Rattle.sync_state.specs.declared.membership.frame.HeardFrame.{HeardFrame}
 pub use Rattle.net_plan.proofs.{Beta.beta_exists, Shape.rules_give_trees, Trees.paths_are_unique}
 pub use Rattle.net_plan.specs.{Bounds.{IsBeta, beta_at, jitter_of, jitter_on}, Paths.{IsPath, IsTree, IsUplink}}
 pub use Rattle.net_plan.specs.Places.{IsCmOf, IsDeviceOf, IsSwitchOf, device_at, is_end_system, is_master, link_at}
@@ -30,9 +31,9 @@ pub use Rattle.sync_state.specs.{Plan.expected_at, Standing.{IsAtIntegration, St
 pub use Rattle.sync_state.specs.Verdicts.{HasVerdict, IsOutnumbered, SomeQualifies, deviation_by, deviation_on}
 pub use Rattle.sync_state.specs.declared.{answers.Verdict.{Verdict, TheVariants.{AsyncClique, Cleared, Corrected, SyncClique}}, plan.SyncPlan.SyncPlan}
 pub use Rattle.sync_state.specs.declared.state.State.{State, TheVariants.{Integrating, Joining, Off, Synchronised}}
-pub use Rattle.transparent_clock.proofs.WaitLaw.{waits_for_point}
-pub use Rattle.transparent_clock.specs.{Hops.{Hop, IsHop, growth, travel}, Points.{Waits, point_of}}
-pub use Rattle.tte_lemmas.proofs.{Integers.int_le-from as int_le-true, Lists.in_all as all_at, Options.{closed, opened}}
+pub use Rattle.drift_clock.proofs.transparent_lemmas.WaitLaw.{waits_for_point}
+pub use Rattle.drift_clock.specs.transparent.{Hops.{Hop, IsHop, growth, travel}, Points.{Waits, point_of}}
+pub use Rattle.tte_units.proofs.general_lemmas.{Integers.{int_le-from as int_le-true}, Lists.{in_all as all_at}, Options.{closed, opened}}
 pub use Rattle.tte_units.proofs.Means.{mean_of-floor}
 pub use Rattle.tte_units.specs.{Amount.{amount, units_of}, Mean.{IsMean, mean_of}}
 pub use Rattle.tte_units.specs.declared.units.Units.{Units}

@@ -40,4 +40,5 @@ pub use Rattle.run_law.specs.scenario.Hypothesis.{AreWithinHypothesis, breaks_at
 pub use Rattle.run_law.specs.scenario.Scenarios.{Scenario, events_up_to, is_broken, is_turned_on_at, turns_on}
 pub use Rattle.run_law.specs.scenario.Ways.{cut_set, delay_at, hold_at, is_cut, is_way, is_way_of, receiver_of, way_from, way_to, wire_of, wire_set}
 pub use Rattle.run_law.specs.timed.Receptions.{ArrivesAs, arrival_of, last_taken}
-pub use Rattle.tte_lemmas.proofs.{Lists.{any_behind as any_later, any_first, any_none as any_of_none, any_of as any_parts}, Options.one as same_some}
+pub use Rattle.tte_units.proofs.general_lemmas.Lists.{any_behind as any_later, any_first, any_none as any_of_none, any_of as any_parts}
+pub use Rattle.tte_units.proofs.general_lemmas.Options.{one as same_some}

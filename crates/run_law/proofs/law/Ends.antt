@@ -1,6 +1,6 @@
 -- The ends of local clocks, as they are found one after another.
 use Rattle.run_law.proofs.Words.{◌+◌, ◌<◌, ◌∷◌, ◌≡◌, ◌≤ℤ◌, ◌⊎◌, Contains, List, Units, [], arith, cases_lt, inl, inr, length, refl, subst, suc, sym, zero, ℕ}
-use Rattle.{std.proofs.Common.slice_index_or, tte_lemmas.proofs.Integers.through}
+use Rattle.{std.proofs.Common.slice_index_or, tte_units.proofs.general_lemmas.Integers.through}
 
 -- the least and the greatest of the first so many
 pub record AreEndsOf (locals : List Units) (count : ℕ) (least greatest : Units) : Type 0 where

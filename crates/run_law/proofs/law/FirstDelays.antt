@@ -3,9 +3,9 @@ use Rattle.{drift_clock.specs.ClockLaws.Measures, run_law.specs.{law.FirstLaws.{
 use Rattle.run_law.proofs.Words.{◌+ℤ◌, ◌+◌, ◌<ℤ◌, ◌<◌, ◌==◌, ◌∷◌, ◌≡◌, ◌≤ℤ◌, ◌≤◌, ◌⊎◌, Event, IsIn, IsWithinHypothesis, Link, LinkId, List, Network, None}
 use Rattle.run_law.proofs.Words.{Option, Scenario, Some, Units, Way, What, [], amount, ap, arith, beta_at, cons_option, eqb-true, filter_map, in_all, inl, inr}
 use Rattle.run_law.proofs.{Words.{ints, last_or, length, link_at, option_map_or, pos, refl, slice_get, subst, sym, true, ℕ}, runs.Places.parted}
-use Rattle.{run_law.proofs.law.FirstPlaces.{at_length, in_filter}, std.proofs.{Math.Nat.mul-le-mul_left, lemmas.{Bool.and_parts, Int.by_lt_z}}}
+use Rattle.{run_law.proofs.law.FirstPlaces.{at_length, in_filter}, tte_units.proofs.general_lemmas.{Bools.picked, Options.closed}}
 use Rattle.run_law.specs.{declared.outside.Outside.TheVariants.{Hold, Wire}, scenario.Ways.{delay_at, hold_at, hold_set, is_way, is_way_of, wire_of, wire_set}}
-use Rattle.{std.specs.{Option.unwrap_or, Prelude.nat_le}, tte_lemmas.proofs.{Bools.picked, Options.closed}}
+use Rattle.std.{proofs.{Math.Nat.mul-le-mul_left, lemmas.{Bool.and_parts, Int.by_lt_z}}, specs.{Option.unwrap_or, Prelude.nat_le}}
 use Rattle.net_plan.specs.declared.event.What.TheVariants as events
 
 -- ---- what is set last

@@ -1,8 +1,10 @@
 -- The frames of masters come to the first switches of their ways.
-use Rattle.{net_plan.proofs.{Amounts.amount_within, Shape.rules_give_trees}, run_law.specs.scenario.Devices.has_role, schedule_tables.specs.Delays.delay_by}
-use Rattle.{net_plan.{proofs.Beta.beta_exists, specs.{Bounds.IsBeta, Places.is_end_system, Rules.IsChildOf}}, run_law.specs.control.Wires.Arrives}
+use Rattle.{net_plan.proofs.{Amounts.amount_within, Shape.rules_give_trees}, run_law.specs.{records.Frames.dispatched_frame, scenario.Devices.has_role}}
+use Rattle.{net_plan.{proofs.Beta.beta_exists, specs.Places.is_end_system}, run_law.specs.control.Wires.Arrives, schedule_tables.specs.Delays.delay_by}
+use Rattle.{net_plan.specs.Bounds.IsBeta, std.specs.Prelude.is_some}
 use Rattle.{net_plan.specs.Ranges.{IsDeviceInRange, IsInRange, IsLinkInRange}, schedule_tables.specs.{Rules.KeepsRules, declared.rule.Rule.TheVariants.Joints}}
-use Rattle.{pcf_values.specs.declared.channel.Channel.Channel, run_law.specs.records.Frames.dispatched_frame, tte_lemmas.proofs.Options.{closed, opened}}
+use Rattle.{net_plan.specs.Rules.IsChildOf, std.proofs.lemmas.Bool.{both_ways, ne_eqb, not_from_true}, tte_units.proofs.general_lemmas.Options.{closed, opened}}
+use Rattle.{pcf_values.specs.declared.channel.Channel.Channel, run_law.specs.scenario.{Scenarios.is_turned_on_at, Ways.{hold_at, is_cut, way_from}}}
 use Rattle.run_law.proofs.Words.{◌&&◌, ◌+◌, ◌-◌, ◌<◌, ◌==◌, ◌∙◌, ◌∷◌, ◌≡◌, ◌≤◌, ◌⊎◌, Arrival, ArrivesAs, Bool, Departs, Device, DeviceId, Down, Gives}
 use Rattle.run_law.proofs.Words.{Happening, Integrating, IsArrivedRecord, IsBefore, IsCaused, IsDue, IsFounded, IsIn, IsRun, Link, LinkId, List, Network, None}
 use Rattle.run_law.proofs.Words.{Note, NoteBody, Ok, Option, Pcf, Reason, Scenario, Some, Standpoint, Units, Up, Way, [], adjustment_after, amount, ap, arith}
@@ -13,8 +15,6 @@ use Rattle.run_law.{proofs.Words.{state_after, subst, sym, time_of, true, units_
 use Rattle.{run_law.proofs.law.FirstDelays.{delay_least, grows_little, hold_most}, schedule_tables.proofs.Margins.{margins, master_ends, shape_rules}}
 use Rattle.run_law.proofs.{law.FirstPlaces.{IsSplit, by_number, due_is_there, founded_at, front_founded, in_front_of, same_earlier, split}, runs.Places.chain}
 use Rattle.run_law.specs.{law.FirstLaws.{ComesTo, IsLawful, SentFramesCome, arrival_time, leaving_time}, records.Happenings.{frame_by, frame_from, with_clock}}
-use Rattle.{run_law.specs.scenario.{Scenarios.is_turned_on_at, Ways.{hold_at, is_cut, way_from}}, std.proofs.lemmas.Bool.{both_ways, ne_eqb, not_from_true}}
-use Rattle.std.specs.Prelude.{is_some}
 use Rattle.run_law.specs.declared.note.NoteBody.TheVariants as notes
 use Rattle.run_law.specs.declared.steps.Arrival.TheVariants as arrivals
 

@@ -21,8 +21,7 @@ pub from_flat : {X Y : Type 0} (f : X → List Y) (xs : List X) (y : Y) → IsIn
 from_flat f [] y among = absurd among
 from_flat {X = X} f (z ∷ xs) y among = by (in_parts y (f z) (flat_map f xs) among) (from_flat f xs y)
   where
-    by : IsIn y (f z) ⊎ IsIn y (flat_map f xs) → (IsIn y (flat_map f xs) → (x : X) × IsIn x xs × IsIn y (f x))
-        → (x : X) × IsIn x (z ∷ xs) × IsIn y (f x)
+    by : IsIn y (f z) ⊎ IsIn y (flat_map f xs) → (IsIn y (flat_map f xs) → (x : X) × IsIn x xs × IsIn y (f x)) → (x : X) × IsIn x (z ∷ xs) × IsIn y (f x)
     by (inl here) more = (z, inl refl, here)
     by (inr there) more = let h = more there in (h.0, inr h.1, h.2)
 

@@ -5,7 +5,7 @@ use Rattle.run_law.proofs.Words.{arith, cases_lt, cons_option, eqb-true, false, 
 use Rattle.{run_law.proofs.runs.Places.in_parts, std.proofs.lemmas.Bool.{and_from, and_parts, cond-true, eq-eqb, lt-ltb, ltb-true, or_cases, or_left, or_right}}
 use Rattle.std.proofs.{Common.{◌||◌, All, cond, drop, filter, length-append, reverse, zero-add}, lemmas.List.Elements.{All-cons, All-head, All-nil, All-tail}}
 use Rattle.std.{proofs.lemmas.List.{length-reverse, reverse-append}, specs.List.{after_last, list_any, prefix_len, suffix_len}}
-use Rattle.tte_lemmas.proofs.Lists.{all_turned}
+use Rattle.tte_units.proofs.general_lemmas.Lists.{all_turned}
 
 -- a place that is before another is of no later time
 pub time_before : (u t : ℕ) (ks ls : List ℕ) → IsBefore (u ∷ ks) (t ∷ ls) → u ≤ t

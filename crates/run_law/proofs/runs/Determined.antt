@@ -1,15 +1,16 @@
 -- A record that is due is determined by its place.
 use Rattle.{compression.specs.declared.compressed.Compressed.Compressed, net_plan.proofs.SameIds.{same_device, same_link, same_vl}, std.proofs.Common.negsuc}
-use Rattle.{membership.proofs.OneSummary.one_summary, run_law.{proofs.runs.SameSteps.same_ripening, specs.records.{Causes.IsOfThisTime, Ranks.sign}}}
-use Rattle.{net_plan.specs.declared.event.What.TheVariants.On, sync_state.specs.declared.answers.Verdict.TheVariants.{AsyncClique, Corrected, SyncClique}}
+use Rattle.{net_plan.specs.declared.event.What.TheVariants.On, sync_state.proofs.LawLemmas.one_verdict, tte_units.proofs.general_lemmas.Integers.same_number}
 use Rattle.run_law.proofs.Words.{◌+ℤ◌, ◌∙◌, ◌∷◌, ◌≡◌, ◌≤ℤ◌, Arrival, ArrivesAs, BecomesPermanent, ChangesState, Departs, DeviceId, Event, Happening}
 use Rattle.run_law.proofs.Words.{IsArrivedRecord, IsCaused, IsDetermined, IsDropped, IsDue, Judgement, LinkId, List, Members, Note, NoteBody, Reason, Scenario}
 use Rattle.run_law.proofs.Words.{State, Summary, Units, VlId, What, Why, [], amount, ap, arith, happening, inl, inr, ints, is_joined_by, key, members_in}
 use Rattle.run_law.proofs.Words.{numbered, place_of, pos, rank, refl, ripe_as, same_some, slice_get, subst, suc, sym, true, unsigned_abs, zero, ℕ, ℤ}
 use Rattle.run_law.proofs.runs.SameSteps.{arrives_or_departs, arrives_or_ripens, dropped_or_departs, same_arrival, same_departure, same_judgement, same_point}
+use Rattle.{run_law.{proofs.runs.SameSteps.same_ripening, specs.{control.Emissions.Emits, records.Causes.IsOfThisTime}}, sync_state.specs.Verdicts.HasVerdict}
 use Rattle.run_law.specs.{control.Corrections.{ComesToCorrection, standing_before}, runs.DueRecords.{IsClockRecord, IsCorrectedRecord, IsEventRecord}}
-use Rattle.{run_law.specs.control.Emissions.Emits, sync_state.{proofs.LawLemmas.one_verdict, specs.Verdicts.HasVerdict}, tte_lemmas.proofs.Integers.same_number}
 use Rattle.{run_law.specs.{control.Leaving.{leaves, too_old}, device.States.adjustment_before}, sync_state.specs.declared.answers.Verdict.Verdict}
+use Rattle.run_law.specs.records.Ranks.{sign}
+use Rattle.sync_state.{proofs.membership_lemmas.OneSummary.one_summary, specs.declared.answers.Verdict.TheVariants.{AsyncClique, Corrected, SyncClique}}
 use Rattle.run_law.specs.declared.judgement.Why.TheVariants as whys
 use Rattle.run_law.specs.declared.note.NoteBody.TheVariants as notes
 use Rattle.run_law.specs.declared.steps.Arrival.TheVariants as arrivals

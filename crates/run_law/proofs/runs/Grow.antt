@@ -1,7 +1,8 @@
 -- How a run begins, goes up to a later mark, and goes on by its next record.
 use Rattle.run_law.proofs.Words.{◌++◌, ◌∙◌, ◌∷◌, ◌≡◌, ◌⊎◌, AllBefore, IsBefore, IsFounded, IsIn, IsRun, List, NoneBefore, [], ap, append-nil, inl, inr, refl}
-use Rattle.{run_law.{proofs.Words.{subst, sym, ℕ}, specs.runs.Runs.NothingDueUpTo}, std.proofs.Common.arith, tte_lemmas.proofs.Lists.{no_front, none_before}}
+use Rattle.{run_law.{proofs.Words.{subst, sym, ℕ}, specs.runs.Runs.NothingDueUpTo}, tte_units.proofs.general_lemmas.Lists.{no_front, none_before}}
 use Rattle.run_law.proofs.runs.Places.{before_behind, behind, chain, either_way, in_left, in_parts, in_right, never_self, nothing_between}
+use Rattle.std.proofs.Common.{arith}
 
 -- ---- a run begins
 

@@ -1,6 +1,6 @@
 -- There is one run, and what is due is its next record.
 use Rattle.run_law.proofs.Words.{◌++◌, ◌∙◌, ◌∷◌, ◌≡◌, AllBefore, IsBefore, IsDetermined, IsIn, IsRun, List, NoneBefore, [], ap, inl, inr, refl, subst, sym, ℕ}
-use Rattle.{run_law.proofs.runs.{FrontOfRun.front_of_run, Lacking.behind_first, Places.{in_parts, never_self}}, tte_lemmas.proofs.Lists.fronts}
+use Rattle.{run_law.proofs.runs.{FrontOfRun.front_of_run, Lacking.behind_first, Places.{in_parts, never_self}}, tte_units.proofs.general_lemmas.Lists.fronts}
 
 pub one_run : {N : Type 0} (place : N → List ℕ) (IsDue : List N → N → Type 0) (mark : List ℕ) → IsDetermined place IsDue → (xs ys : List N)
     → IsRun place IsDue mark xs → IsRun place IsDue mark ys → xs ≡ ys

@@ -1,7 +1,7 @@
 -- What of a scenario is decided.
-use Rattle.{membership.specs.BestFrame.Qualifies, run_law.proofs.Words.{◌≤◌, A, B, None, Option, Some, Summary, arith, cases_lt, inl, inr, same_some, ℕ}}
-use Rattle.{membership.specs.Members.count_of, std.specs.Prelude.IfSome, sync_state.specs.{Standing.{IsAtIntegration, Standing}, Verdicts.IsOutnumbered}}
-use Rattle.{membership.specs.{Summary.best_on, declared.frame.HeardFrame.HeardFrame}, run_law.proofs.scenario.Decisions.{IsDecided, decided_same, decided_some}}
+use Rattle.{run_law.proofs.Words.{◌≤◌, A, B, None, Option, Some, Summary, arith, cases_lt, inl, inr, same_some, ℕ}, std.specs.Prelude.IfSome}
+use Rattle.{run_law.proofs.scenario.Decisions.{IsDecided, decided_same, decided_some}, sync_state.specs.declared.membership.frame.HeardFrame.HeardFrame}
+use Rattle.sync_state.specs.{Standing.{IsAtIntegration, Standing}, Verdicts.IsOutnumbered, membership.{BestFrame.Qualifies, Members.count_of, Summary.best_on}}
 
 pub decided_le : (a b : ℕ) → IsDecided (a ≤ b)
 decided_le a b = elim (cases_lt b a) [ inl lt ↦ inr (λ le. absurd (omega (arith, lt, le))) | inr ge ↦ inl ge ]

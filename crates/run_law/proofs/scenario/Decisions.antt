@@ -1,7 +1,7 @@
 -- Facts that are decided: they hold or they do not.
 use Rattle.run_law.proofs.Words.{◌<ℤ◌, ◌<◌, ◌∷◌, ◌≡◌, ◌⊎◌, Bool, IsSomeAnd, List, None, Option, Some, [], arith, cases_lt, false, inl, inr, refl, slice_get}
-use Rattle.{run_law.proofs.Words.{suc, true, zero, ℕ, ℤ}, std.proofs.lemmas.Bool.cases_eq, tte_lemmas.proofs.Lists.{any_behind, any_first, any_none, any_of}}
-use Rattle.std.{proofs.{Common.Any, lemmas.Int.by_lt_z}, specs.Int.Signed.clash_ℤ}
+use Rattle.{run_law.proofs.Words.{suc, true, zero, ℕ, ℤ}, tte_units.proofs.general_lemmas.Lists.{any_behind, any_first, any_none, any_of}}
+use Rattle.std.{proofs.{Common.Any, lemmas.{Bool.cases_eq, Int.by_lt_z}}, specs.Int.Signed.clash_ℤ}
 
 abbrev pub IsDecided : Type 0 → Type 0
 IsDecided P = P ⊎ (P → ⊥)

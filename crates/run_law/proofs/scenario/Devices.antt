@@ -1,10 +1,11 @@
 -- Devices of a scenario.
-use Rattle.{net_plan.proofs.SameIds.alike, run_law.proofs.{Words.{sym, true, ℕ}, runs.Grow.in_two}, tte_lemmas.proofs.Options.opened}
-use Rattle.{net_plan.specs.Places.{IsEndSystem, is_end_system}, std.{proofs.{Common.{◌||◌, filter, nat_le}, lemmas.Bool.{eq-eqb, le-leb}}, specs.List.list_any}}
+use Rattle.{net_plan.proofs.SameIds.alike, run_law.proofs.{Words.{sym, true, ℕ}, runs.Grow.in_two}, std.proofs.lemmas.Bool.{eq-eqb, le-leb}}
+use Rattle.{net_plan.specs.Places.{IsEndSystem, is_end_system}, std.proofs.Common.{◌||◌, filter, nat_le}, tte_units.proofs.general_lemmas.Options.opened}
 use Rattle.run_law.proofs.Words.{◌++◌, ◌==◌, ◌∙◌, ◌∷◌, ◌≡◌, ◌≤ℤ◌, ◌≤◌, Bool, Cm, Device, DeviceId, Event, IsSomeAnd, IsWithinHypothesis, Link, LinkId, List}
 use Rattle.run_law.proofs.Words.{Network, None, Option, Role, Scenario, Some, What, [], amount, ap, append-nil, append_assoc, arith, cases_lt, device_at}
 use Rattle.run_law.proofs.Words.{eqb-true, false, if◌then◌else◌, inl, inr, ints, is_broken, is_master, is_parent_of, link_at, option_map_or, pos, refl, subst}
 use Rattle.run_law.specs.scenario.{Devices.{IsParentOf, has_role, is_cm_role, is_end}, Hypothesis.{AreWithinHypothesis, breaks_at}, Scenarios.turns_on}
+use Rattle.std.specs.List.{list_any}
 use Rattle.net_plan.specs.declared.event.What.TheVariants as events
 use Rattle.run_law.specs.declared.outside.Outside.TheVariants as outside
 

@@ -1,7 +1,8 @@
 -- Rows of the schedule.
-use Rattle.{net_plan.specs.Ranges.IsRowInRange, std.{proofs.Common.{arith, filter}, specs.Prelude.IsSome}, tte_lemmas.proofs.Lists.some_at}
-use Rattle.{net_plan.specs.declared.tables.Row.Row, run_law.specs.timed.Arrivals.entry_of, schedule_tables.specs.{Entries.IsEntry, declared.entry.Entry.Entry}}
+use Rattle.{net_plan.specs.Ranges.IsRowInRange, run_law.specs.timed.Arrivals.entry_of, schedule_tables.specs.Entries.IsEntry, std.proofs.Common.{arith, filter}}
+use Rattle.{net_plan.specs.declared.tables.Row.Row, schedule_tables.specs.declared.entry.Entry.Entry, tte_units.proofs.general_lemmas.Lists.some_at}
 use Rattle.run_law.{proofs.Words.{◌≡◌, DeviceId, Happening, List, Network, Some, earlier, inl, inr, last_or, refl, ℕ}, specs.timed.Dispatching.HasAtHand}
+use Rattle.std.specs.Prelude.{IsSome}
 
 pub entry_at : (network : Network) (place : ℕ) (entry : Entry) → IsEntry network place entry → entry_of network entry.row ≡ Some entry
 entry_at network place entry is = rw is.vl (rw is.link refl)

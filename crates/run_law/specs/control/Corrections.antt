@@ -2,15 +2,15 @@
 use Rattle.std.specs.{List.after_last, Option.option_map_or}
 use Rattle.std.specs.Prelude.{if◌then◌else◌, ◌&&◌, ◌*◌, ◌+◌, ◌==◌, ◌||◌, ◌≡◌, Bool, List, None, Option, Some, false}
 use Rattle.std.specs.Prelude.{filter, filter_map, fold, nat_lt, not, option_map, pos, true, ℕ, ℤ}
-use Rattle.{membership.specs.Hearing.Hearing, sync_state.specs.Verdicts.HasVerdict, tte_units.specs.Amount.amount}
-use Rattle.{membership.specs.Summary.{Summarizes, Summary}, net_plan.specs.declared.ids.DeviceId.DeviceId}
-use Rattle.{net_plan.specs.declared.network.Network.Network, sync_state.specs.Standing.{Standing, next_point}}
-use Rattle.{pcf_values.specs.declared.channel.Channel.Channel, sync_state.specs.declared.answers.Verdict.Verdict}
+use Rattle.{net_plan.specs.declared.ids.DeviceId.DeviceId, sync_state.specs.Standing.{Standing, next_point}}
+use Rattle.{net_plan.specs.declared.network.Network.Network, pcf_values.specs.declared.channel.Channel.Channel}
 use Rattle.run_law.specs.declared.{judgement.Judgement.TheVariants.{Outside, Within}, note.NoteBody.NoteBody}
 use Rattle.run_law.specs.{device.LocalClocks.{Reaches, changes_adjustment, had_come}, records.Ranks.members_in}
 use Rattle.run_law.specs.device.States.{adjustment_before, cycle_in, is_joined_by, state_before}
-use Rattle.{run_law.specs.records.Happenings.{Happening, earlier, time_of}, tte_units.specs.declared.units.Units.Units}
+use Rattle.{run_law.specs.records.Happenings.{Happening, earlier, time_of}, sync_state.specs.membership.Hearing.Hearing}
 use Rattle.run_law.specs.scenario.{Devices.{channel_of, channel_of_link, plan_of}, Scenarios.{Scenario, is_broken}}
+use Rattle.{sync_state.specs.Verdicts.HasVerdict, tte_units.specs.{Amount.amount, declared.units.Units.Units}}
+use Rattle.sync_state.specs.{declared.answers.Verdict.Verdict, membership.Summary.{Summarizes, Summary}}
 use Rattle.run_law.specs.declared.note.NoteBody.TheVariants as notes
 
 -- where the clock stands at the correction point of a cycle

@@ -1,6 +1,6 @@
 -- How a device hears a compressed frame.
 use Rattle.std.specs.Prelude.{if◌then◌else◌, ◌&&◌, ◌+ℤ◌, ◌+◌, ◌-ℤ◌, ◌^◌, Bool, int_le, nat_le, ℕ, ℤ}
-use Rattle.{membership.specs.Members.count_of, sync_state.specs.Plan.expected_at}
+use Rattle.sync_state.specs.{Plan.expected_at, membership.Members.count_of}
 use Rattle.{pcf_values.specs.declared.members.Members.Members, sync_state.specs.declared.plan.SyncPlan.SyncPlan}
 use Rattle.run_law.specs.declared.judgement.Judgement.{Judgement, TheVariants.{Ignored, Integrates, Outside, Within}}
 use Rattle.sync_state.specs.declared.state.State.{State, TheVariants.{Integrating, Joining, Off, Synchronised}}

@@ -1,10 +1,10 @@
 -- How a protocol control frame becomes permanent.
 use Rattle.std.specs.Prelude.{◌||◌, ◌≡◌, Bool, List, MatchBool, None, Option, Some, false, filter, not, pos, true, ℕ, ℤ}
-use Rattle.{compression.specs.Clusters.{Point, point_at}, tte_units.specs.declared.units.Units.Units}
-use Rattle.{compression.specs.declared.taken.Taken.Taken, sync_state.specs.declared.state.State.State}
+use Rattle.{compression.specs.Clusters.{Point, point_at}, sync_state.specs.declared.state.State.State}
+use Rattle.{compression.specs.declared.taken.Taken.Taken, net_plan.specs.declared.ids.DeviceId.DeviceId}
 use Rattle.{drift_clock.specs.Reach.IsReach, run_law.specs.records.Order.is_before}
-use Rattle.{net_plan.specs.declared.ids.DeviceId.DeviceId, run_law.specs.records.Ranks.{place_at, place_of}}
-use Rattle.{net_plan.specs.declared.ids.LinkId.LinkId, transparent_clock.specs.Points.point_of}
+use Rattle.{drift_clock.specs.transparent.Points.point_of, run_law.specs.records.Ranks.{place_at, place_of}}
+use Rattle.{net_plan.specs.declared.ids.LinkId.LinkId, tte_units.specs.declared.units.Units.Units}
 use Rattle.{net_plan.specs.declared.network.Network.Network, run_law.specs.declared.judgement.Reason.Reason}
 use Rattle.{pcf_values.specs.declared.pcf.Pcf.Pcf, run_law.specs.{control.Hearing.heard_as, declared.steps.Ripe.Ripe}}
 use Rattle.run_law.specs.control.Collections.{IsCollectedAs, master_of, observation_window, point_fault, points_of}

@@ -1,19 +1,20 @@
 -- What a device answers, and where each call leaves it.
 use Rattle.std.specs.Prelude.{if◌then◌else◌, ◌++◌, ◌+ℤ◌, ◌∷◌, ◌≡◌, Bool, List, Option, Some, [], false, option_map}
 use Rattle.std.specs.Prelude.{option_to_list, true, ℕ}
-use Rattle.{compression.specs.Clusters.{Point, point_at}, run_law.specs.timed.Arrivals.timed_arrival}
-use Rattle.{compression.specs.declared.compressed.Compressed.Compressed, membership.specs.Summary.{Summarizes, Summary}}
-use Rattle.{membership.specs.Hearing.Hearing, run_law.specs.declared.steps.Act.Act}
-use Rattle.net_plan.specs.declared.{ids.{DeviceId.DeviceId, LinkId.LinkId, VlId.VlId}, network.Network.Network}
+use Rattle.{compression.specs.Clusters.{Point, point_at}, sync_state.specs.membership.Hearing.Hearing}
+use Rattle.{compression.specs.declared.compressed.Compressed.Compressed, net_plan.specs.declared.ids.DeviceId.DeviceId}
+use Rattle.{net_plan.specs.declared.ids.{LinkId.LinkId, VlId.VlId}, sync_state.specs.Integration.joined_by}
+use Rattle.{net_plan.specs.declared.network.Network.Network, sync_state.specs.membership.Summary.{Summarizes, Summary}}
 use Rattle.pcf_values.specs.declared.{channel.Channel.Channel, members.Members.Members, pcf.Pcf.Pcf}
 use Rattle.run_law.specs.control.{Arrivals.control_arrival, Hearing.heard_as, Permanence.{IsPermanenceOutcome, ripe_as}}
 use Rattle.run_law.specs.control.{Collections.{master_of, observation_window}, Wires.{Signal, control, timed}}
+use Rattle.{run_law.specs.declared.steps.Act.Act, sync_state.specs.Verdicts.HasVerdict}
 use Rattle.run_law.specs.{declared.steps.{Arrival.Arrival, Moment.Moment, Ripe.Ripe}, device.States.is_synchronised}
 use Rattle.run_law.specs.machines.Nodes.{ClockTask, Node, Phase, acting, correcting, dispatching, last_taken_by}
 use Rattle.run_law.specs.machines.{Nodes.{local_at, sending, standpoint_at}, Tasks.{IsFirstTask, doing, emitting}}
 use Rattle.run_law.specs.{records.Frames.{dispatched_frame, integration_frame}, scenario.Devices.{channel_of, plan_of}}
+use Rattle.{run_law.specs.timed.Arrivals.timed_arrival, tte_units.specs.declared.units.Units.Units}
 use Rattle.sync_state.specs.{Calls.{after, heard_frame, reached_point, turned_on}, declared.answers.Verdict.Verdict}
-use Rattle.{sync_state.specs.{Integration.joined_by, Verdicts.HasVerdict}, tte_units.specs.declared.units.Units.Units}
 use Rattle.sync_state.specs.declared.answers.Verdict.TheVariants.{AsyncClique, Cleared, Corrected, SyncClique}
 use Rattle.run_law.specs.declared.steps.Act.TheVariants as acts
 use Rattle.run_law.specs.declared.steps.Arrival.TheVariants as arrivals

@@ -3,7 +3,7 @@ use Rattle.std.specs.List.{last_or}
 use Rattle.std.specs.Prelude.{◌&&◌, ◌+ℤ◌, ◌==◌, Bool, List, None, Option, [], false, filter, not, option_map, ℕ, ℤ}
 use Rattle.{compression.specs.Clusters.Point, tte_units.specs.Amount.{amount, units_of}}
 use Rattle.{compression.specs.declared.compressed.Compressed.Compressed, net_plan.specs.declared.ids.DeviceId.DeviceId}
-use Rattle.membership.specs.Hearing.{Hearing}
+use Rattle.sync_state.specs.membership.Hearing.{Hearing}
 use Rattle.{net_plan.specs.declared.ids.{RowId.RowId, VlId.VlId}, sync_state.specs.Standing.{Standing, begun}}
 use Rattle.{net_plan.specs.declared.network.Network.Network, run_law.specs.scenario.Devices.{plan_of, start_of}}
 use Rattle.run_law.specs.{declared.steps.Moment.Moment, device.{Standpoints.Standpoint, States.is_off}}

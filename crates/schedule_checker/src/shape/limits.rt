@@ -16,7 +16,7 @@ const MOST_VLS: usize = 64;
 const MOST_ROWS: usize = 1024;
 
 /// The parts of the rule: what a network has not too many of.
-#[derive(Clone, Copy, Debug, PartialEq, Eq)]
+#[derive(Clone, Copy, PartialEq, Eq)]
 enum Limit {
     Devices,
     Links,

@@ -14,7 +14,7 @@ const LEAST_MASTERS: usize = 4;
 const LEAST_THRESHOLD: u32 = 3;
 
 /// The parts of the rule: what the masters of a network are to be.
-#[derive(Clone, Copy, Debug, PartialEq, Eq)]
+#[derive(Clone, Copy, PartialEq, Eq)]
 enum Demand {
     Count,
     Members,

@@ -1,6 +1,7 @@
 -- The row by which a frame of the schedule enters a device.
 use Rattle.{net_plan.specs.declared.tables.Row.Row, run_law.proofs.scenario.Ways.way_itself, std.proofs.Common.{◌%◌, arith, cond, find}}
-use Rattle.{pcf_codec.specs.EtherType.least_type, tte_lemmas.proofs.{Integers.not_below, Lists.found_passes}}
+use Rattle.pcf_codec.specs.EtherType.{least_type}
+use Rattle.tte_units.proofs.general_lemmas.{Integers.not_below, Lists.found_passes}
 use Rattle.{run_law.specs.scenario.Ways.{is_way, is_way_of}, std.proofs.lemmas.Bool.{le-leb, not_from_true}, traffic_law.proofs.schedule.Rows.rows_go_once}
 use Rattle.{run_law.specs.timed.Arrivals.{entry_of, is_row_with, occurs_in, row_entering}, traffic_law.proofs.delivery.{Coming.same_id, Faultless.entering}}
 use Rattle.traffic_law.proofs.Words.{◌&&◌, ◌==◌, ◌||◌, ◌∙◌, ◌∷◌, ◌≡◌, ◌≤ℤ◌, ◌≤◌, Bool, DeviceId, Entry, IsEntry, KeepsRules, Link, LinkId, List, Network, None}

@@ -1,6 +1,6 @@
 -- What a device has found of a frame of the schedule that it takes.
-use Rattle.{net_plan.proofs.SameIds.one_link, std.proofs.Common.{◌%◌, arith}, tte_lemmas.proofs.Lists.find_at}
-use Rattle.{run_law.{proofs.{device.States.is_in, scenario.Ways.one_way}, specs.timed.Arrivals.occurs_in}, schedule_tables.proofs.Entries.entry_by}
+use Rattle.{net_plan.proofs.SameIds.one_link, run_law.proofs.{device.States.is_in, scenario.Ways.one_way}, std.proofs.Common.{◌%◌, arith}}
+use Rattle.{run_law.specs.timed.Arrivals.occurs_in, schedule_tables.proofs.Entries.entry_by, tte_units.proofs.general_lemmas.Lists.find_at}
 use Rattle.{std.proofs.lemmas.Bool.{leb-true, not-false, or_parts}, traffic_law.proofs.Words.{taken_or_fault, timed_arrival, true, way_to, window_of, ℕ}}
 use Rattle.traffic_law.proofs.Words.{◌==◌, ◌≡◌, ◌≤ℤ◌, ◌⊎◌, Arrival, Bool, DeviceId, Entry, IsEntry, LinkId, List, Network, None, OccursIn, Option, Reason, Some}
 use Rattle.traffic_law.proofs.Words.{Standpoint, Synchronised, VirtualLink, VlId, and_parts, ap, clock_of, cycle_at, entry_arrival, entry_entering, eqb-true}

@@ -40,8 +40,7 @@ apart v device n value m t is within reaches point =
 -- the device has no correction at the time
 abbrev pub HasNoCorrection : View → DeviceId → ℕ → Type 0
 HasNoCorrection v device t =
-    (g : Happening) (cycle : ℕ) (by adjustment : Units) → IsIn g v.records → time_of g ≡ t
-    → g.note.body ≡ notes.Corrected device cycle by adjustment → ⊥
+    (g : Happening) (cycle : ℕ) (by adjustment : Units) → IsIn g v.records → time_of g ≡ t → g.note.body ≡ notes.Corrected device cycle by adjustment → ⊥
 
 -- at the time at which its clock reaches its schedule it has none
 none_there : (v : View) (device : DeviceId) (n value t : ℕ) → IsView v → IsInSchedule v.sizes value

@@ -1,5 +1,6 @@
 -- Only a broken device puts octets of its own on a link.
-use Rattle.{precision_law.proofs.Plain.any_is, run_law.proofs.{law.{FirstDelays.given, FirstPlaces.in_at}, records.Order.in_any}, tte_lemmas.proofs.Options.one}
+use Rattle.precision_law.proofs.Plain.{any_is}
+use Rattle.{run_law.proofs.{law.{FirstDelays.given, FirstPlaces.in_at}, records.Order.in_any}, tte_units.proofs.general_lemmas.Options.one}
 use Rattle.run_law.{proofs.records.Members.in_kept, specs.{runs.DueRecords.IsEventRecord, scenario.{Faults.{Breaks, IsBroken}, Scenarios.events_up_to}}}
 use Rattle.run_law.specs.{declared.outside.Outside.TheVariants.{NotBroken, Order}, scenario.Hypothesis.{AreWithinHypothesis, breaks_at}}
 use Rattle.{std.proofs.lemmas.Bool.{le-leb, true_from_ne_false}, traffic_law.proofs.Words.{parted, refl, subst, sym, time_of, true, within_run}}

@@ -1,8 +1,8 @@
 -- A device that has the common time is not turned on.
-use Rattle.{run_law.proofs.{control.Joined.looking_by, records.Order.any_in, runs.Places.in_right, scenario.Devices.on_by}, traffic_law.proofs.Words.{zero, ℕ}}
-use Rattle.{run_law.specs.{declared.outside.Outside.TheVariants.NotOff, law.FirstLaws.IsLawful}, sync_state.specs.declared.state.State.TheVariants.Off}
-use Rattle.{run_law.specs.scenario.Faults.{BeginsOn, TurnsOn}, traffic_law.proofs.spans.Forward.turned_on_by, tte_lemmas.proofs.Lists.{any_behind, any_first}}
-use Rattle.std.proofs.Common.{Any}
+use Rattle.{run_law.{proofs.control.Joined.looking_by, specs.scenario.Faults.{BeginsOn, TurnsOn}}, sync_state.specs.declared.state.State.TheVariants.Off}
+use Rattle.{run_law.proofs.{records.Order.any_in, runs.Places.in_right, scenario.Devices.on_by}, traffic_law.proofs.spans.Forward.turned_on_by}
+use Rattle.{run_law.specs.{declared.outside.Outside.TheVariants.NotOff, law.FirstLaws.IsLawful}, tte_units.proofs.general_lemmas.Lists.{any_behind, any_first}}
+use Rattle.{std.proofs.Common.Any, traffic_law.proofs.Words.{zero, ℕ}}
 use Rattle.traffic_law.proofs.Words.{◌++◌, ◌<◌, ◌==◌, ◌∙◌, ◌∷◌, ◌≡◌, Bool, ChangesState, Device, DeviceId, Event, Happening, Integrates, Integrating, IsCaused}
 use Rattle.traffic_law.proofs.Words.{IsFoundedAt, IsIn, IsView, Joining, List, Network, NoteBody, Scenario, State, Synchronised, TimedAreNotTurnedOn, View, Why}
 use Rattle.traffic_law.proofs.Words.{[], amount, ap, append_assoc, arith, before_of, between, both_ways, device_at, earlier, earlier_before, earlier_parts}

@@ -1,13 +1,13 @@
 -- What a synchronised compression master sends was opened by a frame that passed its gate.
-use Rattle.{compression.specs.{Clusters.{Point, point_at}, Emission.emission}, traffic_law.proofs.{delivery.Sent.no_later, ports.Openers.opened_by}}
-use Rattle.{compression.specs.declared.compressed.Compressed.Compressed, run_law.proofs.records.Order.{contained, given_of, none_any, same_kept}}
-use Rattle.{drift_clock.specs.Reach.IsReach, run_law.{proofs.runs.Places.in_right, specs.{control.Emissions.Emits, scenario.Devices.is_cm}}}
-use Rattle.{pcf_values.specs.declared.members.Members.Members, precision_law.proofs.{clocks.Readings.permanence_is_sharp, records.Behind.behind_last}}
-use Rattle.{precision_law.proofs.records.Judged.all_judge, traffic_law.proofs.spans.Forward.no_joining, tte_lemmas.{proofs.{Integers.{whole as not_negative}}}}
+use Rattle.{compression.specs.{Clusters.{Point, point_at}, Emission.emission}, run_law.specs.control.Emissions.Emits, traffic_law.proofs.delivery.Sent.no_later}
+use Rattle.{compression.specs.declared.compressed.Compressed.Compressed, precision_law.proofs.{clocks.Readings.permanence_is_sharp, records.Behind.behind_last}}
+use Rattle.{drift_clock.specs.Reach.IsReach, run_law.{proofs.runs.Places.in_right, specs.scenario.Devices.is_cm}, std.proofs.Common.MatchBool}
+use Rattle.{pcf_values.specs.declared.members.Members.Members, run_law.specs.control.Permanence.{BecomesPermanent, IsCollectedOrDropped, IsJudgedBy, ripe_as}}
+use Rattle.{precision_law.proofs.records.Judged.all_judge, traffic_law.proofs.{ports.{Arrived.arrived_sound, Openers.opened_by}, spans.Forward.no_joining}}
+use Rattle.{run_law.proofs.records.Order.{contained, given_of, none_any, same_kept}, tte_units.proofs.general_lemmas.Integers.{whole as not_negative}}
 use Rattle.run_law.specs.{control.Collections.{ends_stretch, master_of, observation_window, point_by, point_fault, points_of}, records.Happenings.frame_by}
-use Rattle.{run_law.specs.control.Permanence.{BecomesPermanent, IsCollectedOrDropped, IsJudgedBy, ripe_as}, schedule_tables.specs.Margins.compression_time}
-use Rattle.{run_law.specs.device.States.{adjustment_at_hearing, cycle_in, has_joined_at, state_at_hearing}, traffic_law.proofs.ports.Arrived.arrived_sound}
-use Rattle.std.{proofs.Common.MatchBool, specs.List.after_last}
+use Rattle.{run_law.specs.device.States.{adjustment_at_hearing, cycle_in, has_joined_at, state_at_hearing}, schedule_tables.specs.Margins.compression_time}
+use Rattle.std.specs.List.{after_last}
 use Rattle.traffic_law.proofs.Words.{◌&&◌, ◌*◌, ◌++◌, ◌+ℤ◌, ◌+◌, ◌-ℤ◌, ◌<◌, ◌==◌, ◌||◌, ◌∙◌, ◌∷◌, ◌≡◌, ◌≤ℤ◌, ◌≤◌, Bool, DeviceId, Happening, IsBefore, IsCaused}
 use Rattle.traffic_law.proofs.Words.{IsDue, IsFounded, IsFoundedAt, IsIn, IsView, Joining, Judgement, LinkId, List, Network, None, NoteBody, Option, Pcf}
 use Rattle.traffic_law.proofs.Words.{Reason, Scenario, Sizes, Some, State, Synchronised, TimedAreNotTurnedOn, Units, View, [], adjustment_after}

@@ -1,9 +1,8 @@
 -- A switch that dispatches a frame gives no control frame to a link in the span of the cycle, until just before the next.
 use Rattle.{pcf_values.specs.declared.members.Members.Members, run_law.{proofs.records.Happenings.is_earlier, specs.control.Corrections.correction_value}}
 use Rattle.precision_law.proofs.{law.Together.{new_shows, old_shows, set_shows}, records.Points.point_timed, sizes.Instants.set_clocks_stay_at_correction}
-use Rattle.{precision_law.specs.{BlockLaws.BlockIsOver, Blocks.HasTimeAt, Hulls.IsOverBefore}, run_law.proofs.scenario.Devices.master_end}
-use Rattle.{run_law.specs.control.Leaving.Gives, traffic_law.proofs.{delivery.Receiving.state_is, ports.Arrived.arrived_sound, spans.Reaching.hull_behind}}
-use Rattle.{std.proofs.Common.unsigned_abs, tte_lemmas.proofs.Integers.whole}
+use Rattle.{precision_law.specs.BlockLaws.BlockIsOver, run_law.proofs.scenario.Devices.master_end, traffic_law.proofs.spans.Reaching.hull_behind}
+use Rattle.{precision_law.specs.{Blocks.HasTimeAt, Hulls.IsOverBefore}, run_law.specs.control.Leaving.Gives, std.proofs.Common.unsigned_abs}
 use Rattle.traffic_law.proofs.Words.{◌&&◌, ◌*◌, ◌+ℤ◌, ◌+◌, ◌-ℤ◌, ◌<ℤ◌, ◌<◌, ◌∙◌, ◌≡◌, ◌≤ℤ◌, ◌≤◌, Bool, BringsBlocks, ComesTo, Corrected, DeviceId}
 use Rattle.traffic_law.proofs.Words.{GivingsKeepAway, Happening, IsCaused, IsGood, IsIn, IsInBlock, IsInSpan, IsOldAt, IsTimedAt, IsView, Judgement, LinkId}
 use Rattle.traffic_law.proofs.Words.{List, None, NoteBody, Option, Sizes, Some, Stands, Synchronised, TimedAreNotTurnedOn, Units, View, [], adjustment_after}
@@ -12,6 +11,7 @@ use Rattle.traffic_law.proofs.Words.{by_lt_z, cases_lt, changes_adjustment, cloc
 use Rattle.traffic_law.proofs.Words.{follows_before, founded_at, has_time, inl, inr, int_lt, ints, is_end, is_relay, is_synchronised, is_turned_on_at}
 use Rattle.traffic_law.proofs.Words.{last_correction, last_setting, negsuc, not_less, offset_in_cycle, option_map_or, pos, reaches_by, refl, room, setting_is}
 use Rattle.traffic_law.proofs.Words.{shown_at, standpoint, state_after, state_left, subst, suc, sym, time_of, true, within_run, zero, ℕ, ℤ}
+use Rattle.{traffic_law.proofs.{delivery.Receiving.state_is, ports.Arrived.arrived_sound}, tte_units.proofs.general_lemmas.Integers.whole}
 use Rattle.traffic_law.proofs.{delivery.Sent.{no_later, none_last}, ports.Cycles.{same_end, same_next}, spans.Forward.synchronised_stay_so}
 use Rattle.traffic_law.proofs.{ports.Dispatched.{cycle_is, dispatches_are_in_spans}, spans.Corrected.{earlier_founded, in_places, last_is_correction, last_of}}
 use Rattle.traffic_law.proofs.{ports.{Gates.{PassesGate, emission_opened}, Leavings.{hull_proper, hulls_follow}}, spans.Synchronised.synchronised_stays}
@@ -234,8 +234,7 @@ opener_far brings v j q block device point is timed least most gate =
 -- a compression master sends nothing there
 cm_silent : BringsBlocks → TimedAreNotTurnedOn → (v : View) (c : ℕ) (g : Happening) (device : DeviceId) (opened at : Units) (cycle : ℕ) (members : Members)
     (verdict : Judgement) (span : IsInSpan v (suc c) (time_of g)) → IsView v → IsIn g v.records → g.note.body ≡ notes.Compressed device opened at cycle members
-    verdict
-    → IsTimedAt v device (time_of g) → (pos (time_of g) +ℤ pos (3 * v.sizes.precision)) <ℤ (span.block.before.hull.least +ℤ pos v.sizes.cycle) → ⊥
+    verdict → IsTimedAt v device (time_of g) → (pos (time_of g) +ℤ pos (3 * v.sizes.precision)) <ℤ (span.block.before.hull.least +ℤ pos v.sizes.cycle) → ⊥
 cm_silent brings never v c g device opened at cycle members verdict span is i body timed early =
     let t = time_of g in
     let sent = emission_opened never v device g opened at cycle members verdict is i body timed.synchronised in

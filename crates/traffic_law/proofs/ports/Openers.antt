@@ -2,7 +2,7 @@
 use Rattle.compression.{proofs.{Elements.{from_beyond, in_cases, in_head, in_none, in_tail}, Held.held-start}, specs.Middle.{last_but_one, middle_of, relative}}
 use Rattle.{compression.proofs.{Firsts.firsts-start, Growth.{end_of-least, end_of-most}}, traffic_law.proofs.Words.{pos, subst, sym, true, ℕ, ℤ}}
 use Rattle.compression.specs.Clusters.{AreClusters, Cluster, Point, beyond, cluster_of, end_of, firsts, has_master, of_cycle_within, with_first}
-use Rattle.{std.proofs.Common.{◌*ℤ◌, Contains, int_le, map}, tte_lemmas.proofs.Integers.int_le-is, tte_units.{proofs.Means.mean_of-floor, specs.Mean.mean_of}}
+use Rattle.{std.proofs.Common.{◌*ℤ◌, Contains, int_le, map}, tte_units.{proofs.{Means.mean_of-floor, general_lemmas.Integers.int_le-is}, specs.Mean.mean_of}}
 use Rattle.traffic_law.proofs.Words.{◌++◌, ◌+ℤ◌, ◌-ℤ◌, ◌∙◌, ◌∷◌, ◌≡◌, ◌≤ℤ◌, Bool, List, [], and_parts, ap, arith, false, fold, if◌then◌else◌, inl, inr, ints}
 
 -- ---- the middle of small numbers

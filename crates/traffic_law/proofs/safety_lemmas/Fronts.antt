@@ -35,8 +35,7 @@ event_of s hs time at run h i =
 -- ---- the front
 
 -- a run up to before a time goes well up to each earlier time
-pub goes_well_before : (s : Scenario) (ns : List Note) (time : ℕ) → IsLawful s → time ≤ 2 ^ 20 * amount s.network.cycle + 1
-    → IsScenarioRun s (time ∷ []) ns
+pub goes_well_before : (s : Scenario) (ns : List Note) (time : ℕ) → IsLawful s → time ≤ 2 ^ 20 * amount s.network.cycle + 1 → IsScenarioRun s (time ∷ []) ns
     → (until : ℕ) → until < time → GoesWell s (happenings s.network ns) until
 goes_well_before s ns time lawful short run until early =
     let next : time ≡ (time - 1) + 1 = omega (arith, early) in

@@ -1,5 +1,5 @@
 -- The cycle of a local value and its place in the cycle.
-use Rattle.{std.proofs.lemmas.Nat.{div-mul-add, mod-mul-add}, tte_lemmas.{proofs.{Integers.{whole as not_negative}}}}
+use Rattle.{std.proofs.lemmas.Nat.{div-mul-add, mod-mul-add}, tte_units.proofs.general_lemmas.Integers.{whole as not_negative}}
 use Rattle.traffic_law.proofs.Words.{◌*◌, ◌+◌, ◌-◌, ◌<ℤ◌, ◌<◌, ◌∙◌, ◌≡◌, ◌≤ℤ◌, IsView, Network, View, ap, arith, cycle_at, ints, negsuc, offset_in_cycle, pos}
 use Rattle.traffic_law.proofs.{Words.{sym, ℕ, ℤ}, ports.Dispatched.cycle_is}
 

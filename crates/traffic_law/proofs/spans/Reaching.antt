@@ -1,11 +1,12 @@
 -- A device that is synchronised when the span of a cycle begins reaches each value of the schedule there.
-use Rattle.precision_law.proofs.{block.{Coming.{set_before as changed_before}}, clocks.Epochs.clocks_have_reached, sizes.Instants.instants_are_in_order}
-use Rattle.{precision_law.specs.Hulls.{IsNarrow, start_hull}, std.proofs.Common.unsigned_abs, tte_lemmas.proofs.{Integers.whole, Options.one}}
+use Rattle.precision_law.proofs.{block.Coming.{set_before as changed_before}, clocks.Epochs.clocks_have_reached, sizes.Instants.instants_are_in_order}
+use Rattle.{precision_law.specs.Hulls.{IsNarrow, start_hull}, traffic_law.specs.Spans.ValuesAreReached, tte_units.proofs.general_lemmas.Options.one}
+use Rattle.std.proofs.Common.{unsigned_abs}
 use Rattle.traffic_law.proofs.Words.{◌*◌, ◌+ℤ◌, ◌+◌, ◌<ℤ◌, ◌<◌, ◌≡◌, ◌≤ℤ◌, ◌≤◌, BringsBlocks, DeviceId, Happening, IsInSpan, IsOldAt, IsTimedAt, IsView, None}
 use Rattle.traffic_law.proofs.Words.{Option, Some, Stands, TimedAreNotTurnedOn, Units, View, adjustment_left, adjustment_stays, ap, arith, before_narrow}
 use Rattle.traffic_law.proofs.Words.{changed_at, earlier, follows_before, has_before, hull_of, ints, last_correction, last_setting, negsuc, option_map_or, pos}
-use Rattle.traffic_law.proofs.{Words.{refl, room, setting_is, subst, suc, sym, time_of, within_run, zero, ℕ, ℤ}, ports.Cycles.hulls_grow}
-use Rattle.traffic_law.{proofs.spans.{Forward.synchronised_stay_so, Spans.{synchronised_keep_time, values_are_reached_in_spans}}, specs.Spans.ValuesAreReached}
+use Rattle.{traffic_law.proofs.Words.{refl, room, setting_is, subst, suc, sym, time_of, within_run, zero, ℕ, ℤ}, tte_units.proofs.general_lemmas.Integers.whole}
+use Rattle.traffic_law.proofs.{ports.Cycles.hulls_grow, spans.{Forward.synchronised_stay_so, Spans.{synchronised_keep_time, values_are_reached_in_spans}}}
 
 -- ---- the beginning of a span
 

@@ -1,10 +1,11 @@
 -- How a network file is judged.
-use Rattle.std.specs.Prelude.{◌<◌, ◌∷◌, ◌≡◌, ◌≤◌, ◌⊎◌, Err, List, Ok, [], length, ℕ}
+use Rattle.std.specs.Prelude.{◌<◌, ◌∷◌, ◌≡◌, ◌≤◌, ◌⊎◌, Err, List, Ok, Option, [], length, ℕ}
 use Rattle.{net_file.specs.Schema.network_read, schedule_tables.specs.Rules.KeepsRules}
 use Rattle.{net_file.specs.declared.refusal.FileRefusal.FileRefusal, net_plan.specs.declared.network.Network.Network}
 use Rattle.schedule_checker.specs.{Refusals.TellsFirstBroken, declared.refusal.RuleBroken.RuleBroken}
-use Rattle.tte_forms.specs.{Answering.Answer, networks.NetworkLine.{file_reason, network_refusal_line, rule_reason}}
-use Rattle.tte_forms.specs.{declared.status.Status.TheVariants.{NetworkRefused, TooLong}, frames.Answer.file_limit}
+use Rattle.tte_forms.specs.networks.NetworkLine.{file_reason, network_refusal_line, rule_reason}
+use Rattle.tte_forms.specs.{Answering.{Answer, ForOctets}, declared.status.Status.TheVariants.{NetworkRefused, TooLong}}
+use Rattle.tte_forms.specs.frames.Answer.{file_limit}
 
 -- the file is longer than files may be
 abbrev pub IsTooLong : List ℕ → Type 0
@@ -32,6 +33,10 @@ pub record MeansAccepted (octets : List ℕ) (network : Network) : Type 0 where
   pub fits : length octets ≤ file_limit
   pub read : network_read octets ≡ Ok network
   pub rules : KeepsRules network
+
+-- the fact holds for an accepted network that the octets of its file mean
+abbrev pub ForAccepted : Option (List ℕ) → (Network → Type 0) → Type 0
+ForAccepted left P = (network : Network) × ForOctets left (λ octets. MeansAccepted octets network) × P network
 
 -- the answer for a file that is too long
 abbrev pub too_long_answer : Answer

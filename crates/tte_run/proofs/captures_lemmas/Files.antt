@@ -17,26 +17,22 @@ head_whole file head is = elim (cases_lt (length file) head_length) [
   | inr size ↦ size
 ]
 
-pub capture_answer-fits : (file : List ℕ) → length file ≤ capture_limit
-    → capture_answer file ≡ opened_answer file (opened file)
+pub capture_answer-fits : (file : List ℕ) → length file ≤ capture_limit → capture_answer file ≡ opened_answer file (opened file)
 unfolding capture_answer
 capture_answer-fits file short = rw (le-ltb capture_limit (length file) short) refl
 
-capture_answer-long : (file : List ℕ) → capture_limit < length file
-    → capture_answer file ≡ record { status = TooLong; lines = [] }
+capture_answer-long : (file : List ℕ) → capture_limit < length file → capture_answer file ≡ record { status = TooLong; lines = [] }
 unfolding capture_answer
 capture_answer-long file long = rw (lt-ltb capture_limit (length file) long) refl
 
-pub answers-read : (left : Option (List ℕ)) (file : List ℕ) (status : Status) (old new : Shown)
-    → IfSome left (λ all. file ≡ all)
+pub answers-read : (left : Option (List ℕ)) (file : List ℕ) (status : Status) (old new : Shown) → IfSome left (λ all. file ≡ all)
     → length file ≤ capture_limit → Gives (opened_answer file (opened file)) status old new
     → Answers capture_answer left status old new
 answers-read left file status old new all short g =
     for_read left file (λ xs. Gives (capture_answer xs) status old new) all
     (subst (λ (a : Answer). Gives a status old new) (sym (capture_answer-fits file short)) g)
 
-pub answers-long : (left : Option (List ℕ)) (status : Status) (old new : Shown)
-    → IfSome left (λ all. capture_limit < length all)
+pub answers-long : (left : Option (List ℕ)) (status : Status) (old new : Shown) → IfSome left (λ all. capture_limit < length all)
     → Ends TooLong status old new → Answers capture_answer left status old new
 answers-long left status old new long ends =
     for_too_many capture_limit left (λ xs. Gives (capture_answer xs) status old new) long

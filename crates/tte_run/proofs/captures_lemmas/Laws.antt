@@ -21,8 +21,7 @@ has_type octets (size, is) =
     let same : (field 12 2 octets == pcf_type) ≡ true = grind (arith, nat_tests, is) in
     rw (long, same) refl
 
-told_type : (octets : List ℕ) (b : Bool) → has_pcf_type octets ≡ b → (HasPcfType octets → ⊥)
-    → has_pcf_type octets ≡ false
+told_type : (octets : List ℕ) (b : Bool) → has_pcf_type octets ≡ b → (HasPcfType octets → ⊥) → has_pcf_type octets ≡ false
 told_type octets false e other = e
 told_type octets true e other =
     let parts = and_parts (nat_le 14 (length octets)) (field 12 2 octets == pcf_type) e in
@@ -37,8 +36,7 @@ other_words octets (Ok p) is other =
     let s = is_spelling.read octets p is in absurd (other (omega (arith, s.size), s.ethertype))
 other_words octets (Err e) is other = rw (has_other_type octets other) refl
 
-refused_words : (octets : List ℕ) (e : PcfRefusal) → HasPcfType octets
-    → no_frame_words octets e ≡ codes "refused " ++ refusal_text e
+refused_words : (octets : List ℕ) (e : PcfRefusal) → HasPcfType octets → no_frame_words octets e ≡ codes "refused " ++ refusal_text e
 refused_words octets e type = rw (has_type octets type) refl
 
 pub shows_octets : ShowsOctets
@@ -52,14 +50,12 @@ shows_octets = record {
 -- ---- packets
 
 -- packets that stand one behind another need room
-takes_room : (head : CaptureHead) (file : List ℕ) (at : ℕ) (ps : List Packet) (to : ℕ) → StandFrom head file at ps to
-    → at + 16 * length ps ≤ to
+takes_room : (head : CaptureHead) (file : List ℕ) (at : ℕ) (ps : List Packet) (to : ℕ) → StandFrom head file at ps to → at + 16 * length ps ≤ to
 takes_room head file at [] to s = omega (arith, s)
 takes_room head file at (p ∷ ps) to (i, s) = omega (arith, i.from, i.to, takes_room head file p.to ps to s)
 
 -- packets that stand one behind another have their lines
-packets_shown : (ps : List Packet) (n k : ℕ) (head : CaptureHead) (file : List ℕ) (at to : ℕ)
-    → StandFrom head file at ps to
+packets_shown : (ps : List Packet) (n k : ℕ) (head : CaptureHead) (file : List ℕ) (at to : ℕ) → StandFrom head file at ps to
     → packets_answer (length ps + n) k head file at ≡ behind (packet_lines k file ps)
     (packets_answer n (k + length ps) head file to)
 packets_shown [] n k head file at to s =
@@ -94,8 +90,7 @@ shown_up_to file head ps at r f h s within is =
     ∙ ap (λ (x : Result (Option Packet) CaptureRefusal). found_answer (1 + length ps) file x
     (answer_behind (length file - length ps - 1) (1 + length ps) head file)) is)
 
-unopened : (file : List ℕ) (e : CaptureRefusal) → IsFile file → HasHeadFault file e
-    → capture_answer file ≡ line_answer CaptureRefused (head_refusal_line e)
+unopened : (file : List ℕ) (e : CaptureRefusal) → IsFile file → HasHeadFault file e → capture_answer file ≡ line_answer CaptureRefused (head_refusal_line e)
 unopened file e f h = capture_answer-fits file f.short
     ∙ ap (opened_answer file) ((finds_head.refused file e f.octets).1 h)
 
@@ -108,8 +103,7 @@ whole file head ps f h s =
     ∙ ap (λ (ls : List (List ℕ)). record { status = Done; lines = ls }) (append-nil (packet_lines 1 file ps))
 
 -- a fault stands within the file
-fault_within : (head : CaptureHead) (file : List ℕ) (at : ℕ) (e : CaptureRefusal) → HasPacketFault head file at e
-    → at ≤ length file
+fault_within : (head : CaptureHead) (file : List ℕ) (at : ℕ) (e : CaptureRefusal) → HasPacketFault head file at e → at ≤ length file
 fault_within head file at (reasons.PacketLength n) (stamp, is, long) = omega (arith, stamp)
 fault_within head file at reasons.Cut (inl (more, short)) = omega (arith, more)
 fault_within head file at reasons.Cut (inr (small, stamp, short)) = omega (arith, stamp)
@@ -118,8 +112,7 @@ fault_within head file at reasons.Magic h = absurd h
 fault_within head file at reasons.Version h = absurd h
 fault_within head file at reasons.LinkType h = absurd h
 
-refused : (file : List ℕ) (head : CaptureHead) (ps : List Packet) (at : ℕ) (e : CaptureRefusal) → IsFile file
-    → IsHead file head
+refused : (file : List ℕ) (head : CaptureHead) (ps : List Packet) (at : ℕ) (e : CaptureRefusal) → IsFile file → IsHead file head
     → StandFrom head file head_length ps at → HasPacketFault head file at e
     → capture_answer file ≡ refused_behind file ps e
 refused file head ps at e f h s bad =
@@ -133,13 +126,11 @@ refused file head ps at e f h s bad =
 -- ---- each file is judged
 
 -- one more packet in front
-one_more : (head : CaptureHead) (file : List ℕ) (at : ℕ) (p : Packet) → IsPacket head file at p
-    → HasPackets head file p.to → HasPackets head file at
+one_more : (head : CaptureHead) (file : List ℕ) (at : ℕ) (p : Packet) → IsPacket head file at p → HasPackets head file p.to → HasPackets head file at
 one_more head file at p i (ps, inl s) = (p ∷ ps, inl (i, s))
 one_more head file at p i (ps, inr (behind, e, s, bad)) = (p ∷ ps, inr (behind, e, (i, s), bad))
 
-packets_by : (turns : ℕ) (head : CaptureHead) (file : List ℕ) (at : ℕ) (r : Result (Option Packet) CaptureRefusal)
-    → at ≤ length file
+packets_by : (turns : ℕ) (head : CaptureHead) (file : List ℕ) (at : ℕ) (r : Result (Option Packet) CaptureRefusal) → at ≤ length file
     → length file < at + turns → packet_at head file at ≡ r → HasPackets head file at
 packets_by zero head file at r within few is = absurd (omega (arith, within, few))
 packets_by (suc n) head file at (Ok None) within few is = ([], inl ((finds_packets.ended head file at within).0 is))

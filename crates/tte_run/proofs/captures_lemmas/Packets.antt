@@ -31,8 +31,7 @@ IsShown-none head file s =
 
 -- what stands at a place decides the answer from it on
 decided : (k : ℕ) (head : CaptureHead) (file : List ℕ) (at : ℕ) (old now : Shown)
-    (r : Result (Option Packet) CaptureRefusal)
-    → (s : IsShown k head file at old now) → at ≤ length file → packet_at head file at ≡ r
+    (r : Result (Option Packet) CaptureRefusal) → (s : IsShown k head file at old now) → at ≤ length file → packet_at head file at ≡ r
     → packets_answer (length file) 1 head file head_length ≡ behind s.done
     (found_answer k file r (answer_behind (s.turns - 1) k head file))
 decided k head file at old now r s within is =
@@ -43,8 +42,7 @@ decided k head file at old now r s within is =
     ∙ ap (λ (x : Result (Option Packet) CaptureRefusal). found_answer k file x
     (answer_behind (s.turns - 1) k head file)) is)
 
-pub IsShown-more : (k : ℕ) (head : CaptureHead) (file : List ℕ) (at : ℕ) (p : Packet) (old now new : Shown)
-    → IsShown k head file at old now
+pub IsShown-more : (k : ℕ) (head : CaptureHead) (file : List ℕ) (at : ℕ) (p : Packet) (old now new : Shown) → IsShown k head file at old now
     → at ≤ length file → at + stamp_length ≤ p.to → packet_at head file at ≡ Ok (Some p)
     → Appends now.written new.written (packet_line k file p) → new.puts ≡ next_count now.puts
     → IsShown (k + 1) head file p.to old new
@@ -61,8 +59,7 @@ IsShown-more k head file at p old now new s within further is w c =
     }
 
 -- all packets were shown
-pub IsShown-all : (k : ℕ) (head : CaptureHead) (file : List ℕ) (at : ℕ) (status : Status) (old now new : Shown)
-    → IsShown k head file at old now
+pub IsShown-all : (k : ℕ) (head : CaptureHead) (file : List ℕ) (at : ℕ) (status : Status) (old now new : Shown) → IsShown k head file at old now
     → at ≤ length file → packet_at head file at ≡ Ok None → Ends Done status now new
     → Gives (packets_answer (length file) 1 head file head_length) status old new
 IsShown-all k head file at status old now new s within is ends =
@@ -72,8 +69,7 @@ IsShown-all k head file at status old now new s within is ends =
     subst (λ (a : Answer). Gives a status old new) (sym whole) (Ends-gives s.done Done status old now new s.puts ends)
 
 -- the put of a packet's line failed
-pub IsShown-fails : (k : ℕ) (head : CaptureHead) (file : List ℕ) (at : ℕ) (p : Packet) (old now new : Shown)
-    → IsShown k head file at old now
+pub IsShown-fails : (k : ℕ) (head : CaptureHead) (file : List ℕ) (at : ℕ) (p : Packet) (old now new : Shown) → IsShown k head file at old now
     → at ≤ length file → packet_at head file at ≡ Ok (Some p)
     → AppendsFront now.written new.written (packet_line k file p)
     → new.puts ≡ next_count now.puts → Gives (packets_answer (length file) 1 head file head_length) WriteFault old new
@@ -85,8 +81,7 @@ IsShown-fails k head file at p old now new s within is w c =
 
 -- a packet is refused
 pub IsShown-refused : (k : ℕ) (head : CaptureHead) (file : List ℕ) (at : ℕ) (e : CaptureRefusal) (status : Status)
-    (old now new : Shown)
-    → IsShown k head file at old now → at ≤ length file → packet_at head file at ≡ Err e
+    (old now new : Shown) → IsShown k head file at old now → at ≤ length file → packet_at head file at ≡ Err e
     → Gives (line_answer CaptureRefused (packet_refusal_line k e)) status now new
     → Gives (packets_answer (length file) 1 head file head_length) status old new
 IsShown-refused k head file at e status old now new s within is g =

@@ -1,6 +1,6 @@
 -- What an observer knows at an event.
 use Rattle.{net_plan.specs.declared.event.What.What, tte_run.specs.stamps.Stamping.MayStamp, world_drive.specs.Observing.Befell}
-use Rattle.{run_law.{specs.{declared.{note.{NoteBody.{NoteBody, TheVariants.{Event as Befalls}}}}}}, world_drive.specs.exact.Worlds.StandsExact}
+use Rattle.{run_law.specs.declared.note.NoteBody.{NoteBody, TheVariants.{Event as Befalls}}, world_drive.specs.exact.Worlds.StandsExact}
 use Rattle.tte_run.proofs.stamps_lemmas.Words.{◌++◌, ◌+◌, ◌∙◌, ◌∷◌, ◌≡◌, Event, ExactWorld, IsAtLine, List, Network, Note, [], ap, length, subst, sym, ℕ}
 
 same_line : (a b : ℕ) (what other : What) → ◌≡◌ {A = NoteBody} (Befalls a what) (Befalls b other) → a ≡ b

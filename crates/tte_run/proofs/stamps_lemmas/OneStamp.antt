@@ -1,5 +1,5 @@
 -- The stamp of one device, and those of the first devices.
-use Rattle.{drift_world.specs.Locals.IsLocalClockBefore, tte_run.specs.stamps.{StampLines.lines_by, granules.Lines.Line}, tte_traces.proofs.Given.PutFails-more}
+use Rattle.{drift_world.specs.Locals.IsLocalClockBefore, tte_forms.proofs.Puts.PutFails-more, tte_run.specs.stamps.{StampLines.lines_by, granules.Lines.Line}}
 use Rattle.{std.proofs.Common.length-append, tte_forms.specs.Putting.PutFails, tte_io.specs.declared.ends.Sink.Ghosts, world_law.specs.source.Agreeing.scenario}
 use Rattle.{std.specs.Io.KnownBytes.Appends, tte_io.specs.{Faults.next_count, Told.AppendsFront}}
 use Rattle.{std.specs.Prelude.{option_map, option_to_list}, tte_forms.proofs.Puts.{PutFails-behind, PutsLines-append, PutsLines-fails, PutsLines-more}}
@@ -18,8 +18,7 @@ module _ (granule : ℕ) (network : Network) (world : ExactWorld) (number : ℕ)
   -- what the world shows is what the line is stamped by
   shown_at_line : (o : Option ℤ)
       → IsLocalClockBefore (scenario network (clock_reading network (before ++ event ∷ [])) (before ++ event ∷ [])) (happenings network notes) device
-      world.now o
-      → IsShownAt network (line_at network before event notes) device o
+      world.now o → IsShownAt network (line_at network before event notes) device o
   shown_at_line o is =
       subst (λ (t : ℕ). IsLocalClockBefore (scenario network (clock_reading network (before ++ event ∷ [])) (before ++ event ∷ []))
       (happenings network notes) device t o) (ap unsigned_abs at.reached.now) is
@@ -27,8 +26,7 @@ module _ (granule : ℕ) (network : Network) (world : ExactWorld) (number : ℕ)
   -- the lines of the stamp
   lines_are : (o : Option ℤ)
       → IsLocalClockBefore (scenario network (clock_reading network (before ++ event ∷ [])) (before ++ event ∷ [])) (happenings network notes) device
-      world.now o
-      → lines_by granule network (line_at network before event notes) device
+      world.now o → lines_by granule network (line_at network before event notes) device
       ≡ option_to_list (option_map (stamp_line number (device_name network device)) (option_map (stamp_of granule) o))
   lines_are o is =
       ap (λ (x : Option ℤ). option_to_list (option_map (stamp_line (length (before ++ event ∷ [])) (device_name network device)) x))

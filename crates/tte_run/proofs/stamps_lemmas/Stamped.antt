@@ -45,8 +45,7 @@ module _ (granule : ℕ) (network : Network) (world : ExactWorld) (events : List
   only (suc k) e is = absurd cc
 
   -- the stamps with those of one more line
-  pub one_line_more : (others : List Note) → AreRecordsSoFar network events others
-      → stamp_lines granule network (events ++ event ∷ []) (notes ++ note ∷ [])
+  pub one_line_more : (others : List Note) → AreRecordsSoFar network events others → stamp_lines granule network (events ++ event ∷ []) (notes ++ note ∷ [])
       ≡ stamp_lines granule network events others ++ line_stamps granule network (line_at network events event (notes ++ note ∷ []))
   one_line_more others run =
       let follows : MayFollow events event [] = record { from = only; unended = befell.may.unended; order = not_before_last } in

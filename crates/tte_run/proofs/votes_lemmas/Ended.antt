@@ -84,8 +84,7 @@ module _ {B K : Type 0} (source : sources.Ghosts B) (sink : sinks.Ghosts K) (beg
       → (d : DrivesSoFar sink (trace_stopped source sink) vote_sees network first origin stop now trace begun it old put) → stop ≡ ends.Fault fault
       → line ≡ trace.lines + 1
       → Gives (record { status = fault_status fault; lines = vote_lines begun.votes.voters network [] d.notes ++ fault_lines line fault }) status
-      (shown_by sink put) (shown_by sink new)
-      → (status ≡ fault_status fault) ⊎ ((status ≡ WriteFault) × X) → Ends status new
+      (shown_by sink put) (shown_by sink new) → (status ≡ fault_status fault) ⊎ ((status ≡ WriteFault) × X) → Ends status new
   ends_fault it stop fault line status new d is number g which =
       let count : line ≡ length d.events + 1 = number ∙ ap (λ (n : ℕ). n + 1) d.stopped.lines in
       let a = faulty_answer (vote_lines begun.votes.voters) network d.events d.notes fault in

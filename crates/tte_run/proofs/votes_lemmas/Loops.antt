@@ -1,5 +1,5 @@
 -- The lines of ballots are put one after another.
-use Rattle.{net_plan.specs.Belonging.device_name, tte_forms.specs.Putting.PutFails, tte_run.specs.votes.Putting.PutsAll, tte_traces.proofs.Given.PutFails-more}
+use Rattle.{net_plan.specs.Belonging.device_name, tte_forms.{proofs.Puts.PutFails-more, specs.Putting.PutFails}, tte_run.specs.votes.Putting.PutsAll}
 use Rattle.{run_law.proofs.records.Happenings.as_many, std.proofs.Common.{Err, Ok, Result, nat_lt}, world_drive.specs.exact.Worlds.{ExactWorld, StandsExact}}
 use Rattle.{run_law.proofs.runs.NetworkRuns.one_more, tte_run.specs.votes.{VoteLines.{is_cast, lines_before, vote_line}, ballots.Keeping.{AreOpenFrom, IsNext}}}
 use Rattle.{run_law.specs.records.Happenings.happening, tte_forms.proofs.Puts.{PutFails-behind, PutsLines-append, PutsLines-fails, PutsLines-more}}

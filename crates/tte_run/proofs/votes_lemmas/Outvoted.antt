@@ -2,10 +2,10 @@
 use Rattle.{device_rules.specs.frames.traced.RecordOctets.record_octets, tte_run.specs.votes.{Safely.TwoOutvote, law.Outvoting.{AreTwoOwed, sent_payload}}}
 use Rattle.{drift_clock.specs.Segment.{fresh_segment, segment_reading, stepped_segment}, tte_run.proofs.votes_lemmas.Words.{true, vote_lines, voted, ℕ}}
 use Rattle.{net_plan.specs.Places.{device_at, is_end_system}, run_law.specs.{declared.note.NoteBody.NoteBody, law.Safety.{FramesAreDelivered, IsOwed}}}
-use Rattle.{net_plan.specs.declared.tables.Device.Device, std.specs.Prelude.{option_and_then, option_map}, traffic_law.specs.safety.Headline.IsEventOf}
-use Rattle.{run_law.proofs.runs.{NetworkRuns.one_more, Places.in_left}, tte_lemmas.proofs.Options.opened}
-use Rattle.{run_law.specs.records.{Happenings.happening, Order.IsIn}, std.proofs.Common.{append_assoc, cond, find}, traffic_law.specs.safety.Under.scenario_of}
-use Rattle.{run_law.specs.scenario.Scenarios.Scenario, std.proofs.lemmas.Option.slice_get_within, tte_run.proofs.votes_lemmas.Told.in_lines}
+use Rattle.{net_plan.specs.declared.tables.Device.Device, std.specs.Prelude.{option_and_then, option_map}, tte_units.proofs.general_lemmas.Options.opened}
+use Rattle.{run_law.proofs.runs.{NetworkRuns.one_more, Places.in_left}, tte_run.proofs.votes_lemmas.Told.in_lines}
+use Rattle.{run_law.specs.records.{Happenings.happening, Order.IsIn}, std.proofs.Common.{append_assoc, cond, find}, traffic_law.specs.safety.Headline.IsEventOf}
+use Rattle.{run_law.specs.scenario.Scenarios.Scenario, std.proofs.lemmas.Option.slice_get_within, traffic_law.specs.safety.Under.scenario_of}
 use Rattle.tte_run.proofs.votes_lemmas.Words.{◌++◌, ◌+◌, ◌<◌, ◌^◌, ◌∙◌, ◌∷◌, ◌≡◌, Bool, DeviceId, Event, Happening, List, Network, Note, Option, Some}
 use Rattle.tte_run.proofs.votes_lemmas.Words.{VirtualLink, VlId, Voters, Votes, [], ap, append-nil, ballot_of, false, happenings, inl, inr, length, refl, sym}
 use Rattle.tte_run.{proofs.votes_lemmas.law_lemmas.Outvoted.two_outvote_the_third, specs.votes.law.Ballots.{is_delivery, payload_in, payload_taken}}

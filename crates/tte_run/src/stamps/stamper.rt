@@ -1,8 +1,7 @@
 ghost use Rattle.std.specs.Prelude.{◌≡◌, IfErr, List};
-ghost use Rattle.net_plan.specs.{Belonging.HasDevice, Ranges.IsInRange, declared.event.Event.Event as EventValue};
-ghost use Rattle.run_law.specs.declared.note.Note.{Note as NoteValue};
-ghost use Rattle.world_drive.specs.Observing.{PutsFurther};
-ghost use Rattle.tte_run.specs.stamps.StampLines.{line_at, line_stamps, lines_by};
+ghost use Rattle.{net_plan.specs.Belonging.HasDevice, tte_run.specs.stamps.StampLines.{line_at, line_stamps, lines_by}};
+ghost use Rattle.{net_plan.specs.Ranges.IsInRange, run_law.specs.declared.note.Note.{Note as NoteValue}};
+ghost use Rattle.{net_plan.specs.declared.event.Event.{Event as EventValue}, world_drive.specs.Observing.PutsFurther};
 ghost use Rattle.tte_run.specs.stamps.Stamping.{IsAtLine, MayStamp, PutsAll, PutsStamps, StopsStamps, stops_here};
 
 use crate::stamps::granules::Granule;

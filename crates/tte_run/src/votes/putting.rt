@@ -1,10 +1,9 @@
 //! The votes are put, and then the line of the trace's fault, if it has one.
 
 ghost use Rattle.std.specs.Prelude.{◌++◌, ◌≡◌, List, []};
-ghost use Rattle.{net_plan.specs.Ranges.IsInRange, tte_run.specs.votes.Putting.{FailsSo, PutsAll}};
-ghost use Rattle.{run_law.{specs.{declared.{note.{Note.{Note as NoteValue}}}}}, tte_forms.specs.Answering.Gives};
+ghost use Rattle.{net_plan.specs.Ranges.IsInRange, tte_forms.specs.{Answering.Gives, Putting.Over}};
+ghost use Rattle.{run_law.specs.declared.note.Note.{Note as NoteValue}, tte_run.specs.votes.Putting.{FailsSo, PutsAll}};
 ghost use Rattle.{tte_forms.specs.Faults.{IsWanted, PutFailed}, tte_traces.specs.FaultLine.{fault_lines, fault_status}};
-ghost use Rattle.tte_forms.specs.Putting.{Over};
 ghost use Rattle.tte_run.specs.declared.votes.law.voters.Voters.{Voters as VotersValue};
 ghost use Rattle.tte_run.specs.votes.{VoteLines.{is_cast, lines_at, vote_lines}, ballots.Keeping.HoldsVotes};
 

@@ -1,12 +1,12 @@
 -- The events of a storm given one after another.
-use Rattle.{fault_hypothesis.specs.Watching.Watches, net_plan.specs.{Belonging.IsOfNetwork, declared.event.Event.Event}, trace_text.specs.Ranges.IsEventInRange}
-use Rattle.{net_plan.specs.declared.network.Network.Network, std.proofs.lemmas.List.Quantifiers.Any-push, storm.proofs.Storms.{no_events, none_later, one_more}}
-use Rattle.{run_law.specs.declared.note.Note.Note, tte_traces.{proofs.Taken.holds_a_time, specs.storms.Counts.IsSeen}, world_drive.specs.Sources.MayGive}
+use Rattle.fault_hypothesis.{proofs.storm_lemmas.Ends.end_is_behind, specs.{Watching.Watches, storm.Events.{AreNoLater, AreStormEvents, IsStormEvent, time_of}}}
+use Rattle.{fault_hypothesis.proofs.storm_lemmas.Storms.{no_events, none_later, one_more}, tte_traces.specs.declared.storms.events.StormEvents.StormEvents}
+use Rattle.{fault_hypothesis.specs.storm.Progress.Progress, net_plan.specs.declared.network.Network.Network, std.proofs.lemmas.List.Quantifiers.Any-push}
+use Rattle.{net_plan.specs.{Belonging.IsOfNetwork, declared.event.Event.Event}, run_law.specs.declared.note.Note.Note, trace_text.specs.Ranges.IsEventInRange}
 use Rattle.{run_law.specs.scenario.Hypothesis.IsWithinHypothesis, tte_traces.specs.{declared.storms.counting.Seen.Seen, storms.Storms.{HasStormed, IsStormTo}}}
 use Rattle.std.proofs.Common.{◌*◌, ◌++◌, ◌+◌, ◌-◌, ◌<◌, ◌∙◌, ◌∷◌, ◌≡◌, ◌≤◌, Err, List, None, Ok, Result, [], ap, arith, inl, inr, length, length-append, subst}
-use Rattle.std.proofs.Common.{sym, ℕ}
-use Rattle.{std.specs.Prelude.MatchResult, storm.{proofs.Ends.end_is_behind, specs.Progress.Progress}, world_drive.specs.Observing.Told}
-use Rattle.{storm.specs.Events.{AreNoLater, AreStormEvents, IsStormEvent, time_of}, tte_traces.specs.declared.storms.events.StormEvents.StormEvents}
+use Rattle.std.{proofs.Common.{sym, ℕ}, specs.Prelude.MatchResult}
+use Rattle.{tte_traces.{proofs.Taken.holds_a_time, specs.storms.Counts.IsSeen}, world_drive.specs.{Observing.Told, Sources.MayGive}}
 use Rattle.world_drive.{proofs.exact_lemmas.Events.{last_or_none, parted}, specs.exact.{Records.{AreAllRecords, HaveEnded}, Worlds.{ExactWorld, StandsExact}}}
 use Rattle.net_plan.specs.declared.event.What.TheVariants as kinds
 

@@ -1,23 +1,24 @@
 -- There is a storm of each seed, and an answer for it.
-use Rattle.{hex.specs.Hex.IsBytes, schedule_tables.specs.Rules.KeepsRules, tte_lemmas.proofs.Lists.{in_all, some_at}, tte_traces.proofs.Existing.all_records}
-use Rattle.{net_plan.specs.Places.{is_master, link_at}, tte_units.specs.{Amount.amount, declared.units.Units.Units}, world_drive.specs.exact.Records.HaveEnded}
-use Rattle.{net_plan.specs.Ranges.{IsDeviceInRange, IsInRange}, storm.specs.Events.{AreStormEvents, IsChosen, IsDrawn, IsEventOf, IsStorm, substitute, time_of}}
+use Rattle.fault_hypothesis.proofs.storm_lemmas.{Belongings.{some_link, some_master}, Storms.{more_events, no_events, storms_within, time_in_run}}
+use Rattle.fault_hypothesis.proofs.storm_lemmas.Masters.{IsLastBelow, last_of_all, master_found, master_uplink, next_master, next_other}
+use Rattle.fault_hypothesis.{proofs.storm_lemmas.Within.broken_is_master, specs.storm.Striking.{IsLastMaster, IsMaster, SendsForged, Strikes, forged}}
+use Rattle.fault_hypothesis.specs.storm.{Choosing.{channel_of, choice_of, device_of, hold_of, link_of, rate_of, way_of, wire_of}, Words.draw_at}
+use Rattle.{fault_hypothesis.specs.storm.Events.{AreStormEvents, IsChosen, IsDrawn, IsEventOf, IsStorm, substitute, time_of}, pcf_codec.specs.Encoded.encoded}
+use Rattle.{hex.specs.Hex.IsBytes, std.proofs.lemmas.Int.ints}
+use Rattle.{net_plan.specs.{Places.{is_master, link_at}, declared.{event.What.What, tables.Link.Link}}, std.specs.Int.{byte_at, bytes_high_first}}
+use Rattle.{net_plan.specs.Ranges.{IsDeviceInRange, IsInRange}, tte_traces.specs.storms.summary.{Counting.counts_of, Lines.summary_lines}}
 use Rattle.{net_plan.specs.declared.{event.Event.Event, ids.DeviceId.DeviceId, network.Network.Network}, pcf_codec.proofs.Encoding.{Fits, padding, spells}}
-use Rattle.{net_plan.specs.declared.{event.What.What, tables.Link.Link}, std.specs.Int.{byte_at, bytes_high_first}, tte_lemmas.proofs.Naturals.byte_at_small}
-use Rattle.{pcf_codec.specs.Encoded.encoded, std.proofs.{Math.Nat.{div-lt_iff_lt-mul, mod-lt}, lemmas.{Bool.{cases_Bool, cases_lt}, List.Quantifiers.Any-push}}}
-use Rattle.{pcf_codec.specs.{EtherType.pcf_type, Spelling.code_of}, pcf_values.specs.declared.pcf.Pcf.Pcf, storm.proofs.Within.broken_is_master}
+use Rattle.{pcf_codec.specs.{EtherType.pcf_type, Spelling.code_of}, schedule_tables.specs.Rules.KeepsRules, tte_traces.proofs.Existing.all_records}
+use Rattle.{pcf_values.specs.declared.pcf.{Pcf.Pcf, PcfKind.PcfKind}, std.proofs.{Math.Nat.{div-lt_iff_lt-mul, mod-lt}, lemmas.List.{append-nil, get_or_past}}}
 use Rattle.{pcf_values.specs.declared.pcf.PcfKind.TheVariants.{ColdStart, ColdStartAck, Integration}, tte_forms.specs.declared.status.Status.TheVariants.Done}
-use Rattle.{pcf_values.specs.declared.pcf.PcfKind.PcfKind, run_law.specs.scenario.Faults.{Breaks, IsBroken}, std.proofs.lemmas.List.{append-nil, get_or_past}}
-use Rattle.{run_law.proofs.scenario.Decided.hypothesis_is_decided, tte_traces.{proofs.storms_lemmas.Widest.greatest_spread, specs.storms.Answer.exact_scenario}}
+use Rattle.run_law.{proofs.scenario.Decided.hypothesis_is_decided, specs.scenario.{Faults.{Breaks, IsBroken}, Hypothesis.AreWithinHypothesis}}
 use Rattle.{run_law.proofs.scenario.Decisions.{IsDecided, decided_any}, std.specs.{List.All, Prelude.{IfSome, IsSomeAnd, MatchOption, is_some, slice_index}}}
-use Rattle.{run_law.specs.records.Happenings.happenings, storm.specs.Choosing.{channel_of, choice_of, device_of, hold_of, link_of, rate_of, way_of, wire_of}}
-use Rattle.{run_law.specs.scenario.Hypothesis.AreWithinHypothesis, tte_traces.specs.storms.summary.{Counting.counts_of, Lines.summary_lines}}
+use Rattle.{run_law.specs.records.Happenings.happenings, std.proofs.lemmas.Bool.{cases_Bool, cases_lt}, tte_traces.specs.storms.Answer.exact_scenario}
 use Rattle.std.proofs.Common.{◌%◌, ◌*◌, ◌++◌, ◌+◌, ◌-◌, ◌<◌, ◌==◌, ◌^◌, ◌||◌, ◌∙◌, ◌∷◌, ◌≡◌, ◌≤◌, Any, Bool, List, None, Option, Some, [], append_assoc, arith}
 use Rattle.std.proofs.{Common.{false, if◌then◌else◌, inl, inr, length, length-append, refl, replicate, subst, suc, sym, true, zero, ℕ}, Math.Pow.pow-lt}
-use Rattle.{std.proofs.lemmas.Int.ints, storm.specs.Words.draw_at}
 use Rattle.{std.proofs.lemmas.List.Elements.{All-append, All-cons, All-nil, All-replicate}, tte_traces.specs.storms.Laws.{FitsFrames, StormAnswersExist}}
-use Rattle.storm.proofs.{Belongings.{some_link, some_master}, Masters.{IsLastBelow, last_of_all, master_found, master_uplink, next_master, next_other}}
-use Rattle.storm.{proofs.Storms.{more_events, no_events, storms_within, time_in_run}, specs.Striking.{IsLastMaster, IsMaster, SendsForged, Strikes, forged}}
+use Rattle.{std.proofs.lemmas.List.Quantifiers.Any-push, tte_units.specs.{Amount.amount, declared.units.Units.Units}, world_drive.specs.exact.Records.HaveEnded}
+use Rattle.{tte_traces.proofs.storms_lemmas.Widest.greatest_spread, tte_units.proofs.general_lemmas.{Lists.{in_all, some_at}, Naturals.byte_at_small}}
 use Rattle.net_plan.specs.declared.event.What.TheVariants as kinds
 
 -- what is known of the network and of the time of a step

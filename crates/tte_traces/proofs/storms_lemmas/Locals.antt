@@ -1,8 +1,8 @@
 -- The least and the greatest of local clocks, device by device.
-use Rattle.{drift_world.specs.Locals.IsWide, run_law.specs.law.Safety.IsInStep, std.{proofs.lemmas.Bool.cases_lt, specs.{Int.w128, Prelude.int_lt}}}
-use Rattle.{net_plan.specs.declared.ids.DeviceId.DeviceId, std.proofs.{Common.{pos, refl, rules, subst, sym, to_z, true, ℕ, ℤ}, lemmas.Int.{ints, to_z-of_z}}}
-use Rattle.{run_law.specs.{device.LocalClocks.local, records.Happenings.Happening, scenario.Scenarios.Scenario}, tte_lemmas.proofs.Integers.through}
+use Rattle.{drift_world.specs.Locals.IsWide, run_law.specs.law.Safety.IsInStep, std.{proofs.lemmas.{Bool.cases_lt, Int.{ints, to_z-of_z}}, specs.Int.w128}}
+use Rattle.{net_plan.specs.declared.ids.DeviceId.DeviceId, run_law.specs.{device.LocalClocks.local, records.Happenings.Happening, scenario.Scenarios.Scenario}}
 use Rattle.std.proofs.Common.{◌+◌, ◌-ℤ◌, ◌<◌, ◌^◌, ◌∙◌, ◌≡◌, ◌≤ℤ◌, ◌⊎◌, FitsSigned, List, None, Option, Some, ap, arith, false, inl, inr, length, neg_ℤ, of_z}
+use Rattle.{std.{proofs.Common.{pos, refl, rules, subst, sym, to_z, true, ℕ, ℤ}, specs.Prelude.int_lt}, tte_units.proofs.general_lemmas.Integers.through}
 use Rattle.tte_traces.specs.{declared.storms.spreads.Ends.Ends, storms.Spreads.{AreEnds, AreEndsOf, IsOfOne, IsSpreadAt, Widens}}
 
 -- one more device is one of those before it, or the next

@@ -29,8 +29,7 @@ most_of_one P (negsuc n) p only = record {
 }
 
 -- those of two kinds
-pub most_of_two : (P Q R : ℤ → Type 0) → ((x : ℤ) → R x → P x ⊎ Q x) → ((x : ℤ) → P x → R x) → ((x : ℤ) → Q x → R x)
-    → HasMost P → HasMost Q → HasMost R
+pub most_of_two : (P Q R : ℤ → Type 0) → ((x : ℤ) → R x → P x ⊎ Q x) → ((x : ℤ) → P x → R x) → ((x : ℤ) → Q x → R x) → HasMost P → HasMost Q → HasMost R
 most_of_two P Q R parts first second a b = by_lt_z {P = HasMost R} a.most b.most (λ lt. record {
   most = b.most;
   least = b.least;

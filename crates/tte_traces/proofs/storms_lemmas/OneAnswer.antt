@@ -1,11 +1,12 @@
 -- An accepted network has one answer under a storm.
-use Rattle.{net_plan.specs.declared.event.Event.Event, run_law.proofs.runs.NetworkRuns.run_is_one, tte_units.specs.{Amount.amount, declared.units.Units.Units}}
-use Rattle.{net_plan.specs.declared.network.Network.Network, run_law.specs.records.Happenings.happenings, schedule_checker.specs.Refusals.RefusalIsOne}
-use Rattle.{run_law.specs.declared.note.Note.Note, schedule_tables.specs.Rules.KeepsRules, storm.{proofs.OneStorm.one_storm, specs.Events.IsStorm}}
+use Rattle.{fault_hypothesis.proofs.storm_lemmas.OneStorm.one_storm, tte_traces.proofs.storms_lemmas.{Ends.storm_ends, summary_lemmas.Spreads.spread_is_one}}
+use Rattle.{fault_hypothesis.specs.storm.Events.IsStorm, run_law.{proofs.runs.NetworkRuns.run_is_one, specs.records.Happenings.happenings}}
+use Rattle.{net_plan.specs.declared.event.Event.Event, schedule_tables.specs.Rules.KeepsRules, tte_units.specs.{Amount.amount, declared.units.Units.Units}}
+use Rattle.{net_plan.specs.declared.network.Network.Network, schedule_checker.specs.Refusals.RefusalIsOne, tte_forms.specs.networks.Accepting.IsNetworkAnswer}
+use Rattle.{run_law.specs.declared.note.Note.Note, tte_forms.specs.Answering.Answer}
 use Rattle.{std.proofs.Common.{◌+◌, ◌∙◌, ◌∷◌, ◌≡◌, ◌≤◌, List, [], ap, subst, sym, ℕ}, tte_traces.specs.storms.Answer.{IsStormAnswer, IsWidest, exact_scenario}}
-use Rattle.{tte_forms.proofs.networks.Answers.network_answer_one, world_drive.specs.exact.Records.{AreAllRecords, AreRecordsBefore, clock_reading}}
-use Rattle.{tte_forms.specs.{Answering.Answer, networks.Accepting.IsNetworkAnswer}, tte_traces.specs.storms.summary.{Counting.counts_of, Lines.summary_lines}}
-use Rattle.{tte_forms.specs.declared.status.Status.TheVariants.Done, tte_traces.proofs.storms_lemmas.{Ends.storm_ends, summary_lemmas.Spreads.spread_is_one}}
+use Rattle.{tte_forms.proofs.networks.Answers.network_answer_one, tte_traces.specs.storms.summary.{Counting.counts_of, Lines.summary_lines}}
+use Rattle.{tte_forms.specs.declared.status.Status.TheVariants.Done, world_drive.specs.exact.Records.{AreAllRecords, AreRecordsBefore, clock_reading}}
 
 -- the records of a storm's run, up to its end, are one list
 pub same_records : (network : Network) (seed cycles : ℕ) (events : List Event) (notes others : List Note) → IsStorm network seed cycles events

@@ -1,17 +1,17 @@
 -- The summary of a storm's run, and its lines.
-use Rattle.{drift_clock.proofs.ExactSegments.exact_laws, run_law.specs.scenario.Scenarios.Scenario, tte_units.specs.{Amount.amount, declared.units.Units.Units}}
+use Rattle.{drift_clock.proofs.ExactSegments.exact_laws, net_plan.specs.declared.network.Network.Network, world_drive.proofs.exact_lemmas.Clocks.exact_begins}
 use Rattle.{drift_clock.specs.Segment.{fresh_segment, segment_reading, stepped_segment}, tte_forms.proofs.Puts.{Ends-gives, PutsLines-fails, PutsLines-more}}
-use Rattle.{net_plan.specs.Ranges.IsInRange, std.{proofs.lemmas.{Int.ints, List.append-nil}, specs.Io.KnownBytes.Appends}, storm.proofs.Storms.storms_within}
-use Rattle.{net_plan.specs.declared.network.Network.Network, traffic_law.proofs.safety_lemmas.Clocked.ended, tte_traces.specs.storms.summary.Lines.lines_of}
-use Rattle.{run_law.specs.device.LocalClocks.local, schedule_tables.specs.Rules.KeepsRules, std.specs.Prelude.slice_get, traffic_law.specs.safety.Under.IsUnder}
+use Rattle.{fault_hypothesis.proofs.storm_lemmas.Storms.storms_within, net_plan.specs.Ranges.IsInRange, tte_forms.specs.Putting.{PutsLines, Shown, WriteFails}}
+use Rattle.{run_law.specs.{device.LocalClocks.local, scenario.Scenarios.Scenario}, tte_io.specs.Faults.next_count, tte_units.specs.declared.units.Units.Units}
 use Rattle.{run_law.specs.records.{Happenings.{Happening, happenings, time_of}, Order.IsIn}, tte_traces.specs.storms.Storms.{EndsStorm, HasStormed, Summarises}}
+use Rattle.{schedule_tables.specs.Rules.KeepsRules, std.{proofs.lemmas.List.append-nil, specs.Io.KnownBytes.Appends}, tte_io.specs.Told.AppendsFront}
 use Rattle.std.proofs.Common.{◌++◌, ◌+◌, ◌^◌, ◌∙◌, ◌∷◌, ◌≡◌, ◌≤ℤ◌, ◌≤◌, FitsSigned, List, Option, Some, [], ap, append_assoc, arith, inl, inr, length}
 use Rattle.{std.proofs.Common.{length-append, pos, refl, rules, subst, sym, ℕ, ℤ}, tte_traces.proofs.storms_lemmas.summary_lemmas.Spreads.within_precision}
-use Rattle.{std.specs.Int.{w128, w64}, tte_io.specs.{Faults.next_count, Told.AppendsFront}}
-use Rattle.{traffic_law.specs.safety.Headline.IsWholeRun, tte_forms.{proofs.networks.Answers.answered_accepted, specs.Putting.{PutsLines, Shown, WriteFails}}}
+use Rattle.{std.{proofs.lemmas.Int.ints, specs.{Int.{w128, w64}, Prelude.slice_get}}, tte_units.specs.Amount.amount}
+use Rattle.{traffic_law.{proofs.safety_lemmas.Clocked.ended, specs.safety.{Headline.IsWholeRun, Under.IsUnder}}, tte_traces.specs.storms.summary.Lines.lines_of}
+use Rattle.{tte_forms.proofs.networks.Answers.answered_accepted, tte_traces.specs.{declared.storms.counting.Seen.Seen, storms.summary.Counting.counts_of}}
 use Rattle.tte_forms.specs.{Answering.{AnswersOne, Ends, ForOctets, Gives, GivesAnswer}, declared.status.Status.{Status, TheVariants.{Done, WriteFault}}}
 use Rattle.{tte_forms.specs.networks.Accepting.{IsNetworkAnswer, MeansAccepted}, tte_traces.specs.declared.storms.summary.summary.Summary.Summary}
-use Rattle.{tte_traces.specs.{declared.storms.counting.Seen.Seen, storms.summary.Counting.counts_of}, world_drive.proofs.exact_lemmas.Clocks.exact_begins}
 use Rattle.tte_traces.specs.{declared.storms.summary.counts.Counts.Counts, storms.{Answer.{IsStormAnswer, exact_scenario}, summary.Spread.IsGreatestSpread}}
 
 -- so many of the lines were put

@@ -1,10 +1,11 @@
 -- What `storm` writes is the summary of a run that is safe.
 use Rattle.std.specs.Prelude.{◌≡◌, ◌≤ℤ◌, ◌⊎◌, List, Option, ℕ}
 use Rattle.drift_clock.specs.Segment.{fresh_segment, segment_reading, stepped_segment}
-use Rattle.{net_plan.specs.declared.event.Event.Event, tte_units.specs.declared.units.Units.Units}
+use Rattle.{fault_hypothesis.specs.storm.Events.IsStorm, tte_units.specs.declared.units.Units.Units}
+use Rattle.{net_plan.specs.declared.event.Event.Event, run_law.specs.declared.note.Note.Note}
 use Rattle.{net_plan.specs.declared.network.Network.Network, traffic_law.specs.safety.Headline.IsWholeRun}
-use Rattle.{run_law.specs.declared.note.Note.Note, storm.specs.Events.IsStorm, tte_forms.specs.Safely.PutsSafely}
 use Rattle.tte_forms.specs.{Answering.ForOctets, Putting.{PutsLines, PutsSo, Shown}, networks.Accepting.MeansAccepted}
+use Rattle.tte_forms.specs.Safely.{PutsSafely}
 use Rattle.tte_forms.specs.{declared.status.Status.{Status, TheVariants.Done}, networks.NetworkLine.IsRefusalText}
 use Rattle.tte_traces.specs.storms.{Answer.IsWidest, summary.{Counting.counts_of, Lines.summary_lines}}
 

@@ -3,10 +3,10 @@ use Rattle.std.specs.Prelude.{◌*◌, ◌++◌, ◌+◌, ◌-◌, ◌<◌, ◌�
 use Rattle.std.specs.Prelude.{length, ℕ}
 use Rattle.drift_clock.specs.Segment.{fresh_segment, segment_reading, stepped_segment}
 use Rattle.{fault_hypothesis.specs.Watching.Watches, net_plan.specs.{Belonging.IsOfNetwork, declared.event.Event.Event}}
+use Rattle.{fault_hypothesis.specs.storm.Events.{AreStormEvents, IsStorm}, traffic_law.specs.safety.Headline.IsWholeRun}
 use Rattle.{net_plan.specs.declared.network.Network.Network, world_drive.specs.exact.Records.{AreAllRecords, HaveEnded}}
 use Rattle.{run_law.specs.declared.note.Note.Note, tte_traces.specs.storms.Answer.IsWidest}
-use Rattle.{run_law.specs.law.FirstLaws.IsEventInRange, traffic_law.specs.safety.Headline.IsWholeRun}
-use Rattle.{storm.specs.Events.{AreStormEvents, IsStorm}, tte_units.specs.declared.units.Units.Units}
+use Rattle.{run_law.specs.law.FirstLaws.IsEventInRange, tte_units.specs.declared.units.Units.Units}
 use Rattle.{tte_forms.specs.Answering.Gives, world_drive.specs.Sources.MayGive}
 use Rattle.tte_forms.specs.{Putting.{PutsNone, Shown}, declared.status.Status.{Status, TheVariants.{Done, OutOfMemory}}}
 use Rattle.tte_traces.specs.{declared.storms.counting.Seen.Seen, storms.summary.{Counting.counts_of, Lines.lines_of}}

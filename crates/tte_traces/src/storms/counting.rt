@@ -1,7 +1,6 @@
 ghost use Rattle.std.specs.Prelude.{◌≡◌, refl};
+ghost use Rattle.{run_law.specs.plain.Bodies.body_of, world_drive.specs.declared.observing.Cut.{Cut as CutValue}};
 ghost use Rattle.tte_traces.specs.storms.{Counts.{IsSeen, corrects}, summary.Counting.{counted_as, counts_of}};
-ghost use Rattle.run_law.specs.plain.Bodies.{body_of};
-ghost use Rattle.world_drive.specs.declared.observing.Cut.{Cut as CutValue};
 
 use crate::storms::spreads::spread_at;
 use crate::storms::summary::{Counted, Tally};

@@ -3,9 +3,9 @@ ghost use Rattle.net_plan.specs.declared.{event.Event.Event as EventValue, netwo
 ghost use Rattle.tte_traces.specs.storms.Storms.{GivesStorm, IsStormTo, left_of};
 
 use fault_hypothesis::Watch;
+use fault_hypothesis::storm::Storm;
 use net_plan::Event;
 use schedule_tables::Accepted;
-use storm::Storm;
 use tte_io::Sink;
 use world_drive::Events;
 

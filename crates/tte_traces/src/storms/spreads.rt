@@ -1,7 +1,7 @@
 ghost use Rattle.std.specs.Prelude.{◌^◌, ◌≡◌, ◌≤ℤ◌, ◌⊎◌, IfSome, IsSomeAnd, List, pos};
 ghost use Rattle.{drift_world.specs.Locals.IsWide, world_drive.specs.Observing.IsCompleteExact};
-ghost use Rattle.net_plan.specs.{Ranges.IsInRange, declared.{event.{Event.{Event as EventValue}}}};
-ghost use Rattle.run_law.specs.{declared.{note.{Note.{Note as NoteValue}}}, records.Happenings.happenings};
+ghost use Rattle.net_plan.specs.{Ranges.IsInRange, declared.event.Event.{Event as EventValue}};
+ghost use Rattle.run_law.specs.{declared.note.Note.{Note as NoteValue}, records.Happenings.happenings};
 ghost use Rattle.tte_traces.specs.storms.{Answer.exact_scenario, Spreads.{IsSpreadAt, MayShowExact}};
 ghost use Rattle.tte_units.specs.Amount.{amount};
 

@@ -1,7 +1,7 @@
 -- Machines that have just begun, one more at a time.
-use Rattle.{net_plan.specs.declared.ids.DeviceId.DeviceId, run_law.specs.machines.Nodes.begun_node, std.specs.Prelude.slice_get, tte_lemmas.proofs.Lists.pushed}
+use Rattle.{net_plan.specs.declared.ids.DeviceId.DeviceId, run_law.specs.machines.Nodes.begun_node, tte_units.proofs.general_lemmas.Lists.pushed}
 use Rattle.{net_plan.specs.declared.network.Network.Network, std.proofs.Common.{◌++◌, ◌∙◌, ◌∷◌, ◌≡◌, List, Some, [], length, subst, sym, ℕ, ⊎_elim}}
-use Rattle.world_drive.specs.{declared.machines.device_machine.DeviceMachine.DeviceMachine, machines.Standing.StandsAsDevice}
+use Rattle.{std.specs.Prelude.slice_get, world_drive.specs.{declared.machines.device_machine.DeviceMachine.DeviceMachine, machines.Standing.StandsAsDevice}}
 
 -- the machine stands for the device at the place, which has just begun
 abbrev pub HasBegun : Network → ℕ → DeviceMachine → Type 0

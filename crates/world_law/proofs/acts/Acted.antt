@@ -1,6 +1,6 @@
 -- After an act a device has the tasks that it had before, and such as are for later readings.
 use Rattle.{compression.specs.Emission.compressed, run_law.specs.scenario.Devices.is_cm, std.proofs.Common.Contains, world_law.specs.device.Acted.IsCarried}
-use Rattle.{membership.specs.Members.count_of, sync_state.specs.Calls.state_by}
+use Rattle.sync_state.specs.{Calls.state_by, membership.Members.count_of}
 use Rattle.{pcf_values.specs.declared.members.Members.Members, world_law.proofs.Words.{point_in, pos, refl, sending, subst, sym, true, value_of, ℕ, ℤ}}
 use Rattle.{run_law.specs.control.Hearing.{heard_by_schedule, heard_enough, is_in_schedule, last_cycle}, std.proofs.lemmas.List.Elements.Contains-append_left}
 use Rattle.{run_law.specs.control.Permanence.ripe_as, sync_state.{proofs.StateFacts.{no_longer, no_point}, specs.declared.plan.SyncPlan.SyncPlan}}

@@ -1,6 +1,6 @@
 -- When a device acts by itself, it has a task that is due.
-use Rattle.{run_law.specs.machines.Tasks.{IsDeedOf, IsUndone}, std.proofs.lemmas.Bool.and_from, tte_lemmas.proofs.Integers.{int_le-from, int_le-is, int_lt-is}}
-use Rattle.std.proofs.Common.{Contains}
+use Rattle.{run_law.specs.machines.Tasks.{IsDeedOf, IsUndone}, tte_units.proofs.general_lemmas.Integers.{int_le-from, int_le-is, int_lt-is}}
+use Rattle.std.proofs.{Common.Contains, lemmas.Bool.and_from}
 use Rattle.world_law.proofs.Words.{◌+ℤ◌, ◌+◌, ◌-ℤ◌, ◌-◌, ◌<ℤ◌, ◌<◌, ◌∙◌, ◌≡◌, ◌≤ℤ◌, ◌≤◌, AreClusters, Bool, ClockTask, Compressed, DeviceId, Emits, Happening}
 use Rattle.world_law.proofs.Words.{HasDone, HasSent, HasTaskBy, Integrating, IsAtCorrection, IsLeft, IsStill, Joining, Judgement, List, Node, Off, Reaches}
 use Rattle.world_law.proofs.Words.{Scenario, Sends, Some, State, Synchronised, Units, adjustment_before, and_parts, ap, arith, both_ways, cases_Bool}
@@ -150,8 +150,7 @@ pub had_come_by : (s : Scenario) (hs : List Happening) (device : DeviceId) (t la
     → IsLeft s hs device t node
     → ((cycle : ℕ) → IsDeedOf s.network device node (correcting cycle) → node.changed <ℤ correction_value s.network cycle
     → Contains node.done (correcting cycle) → (x : ℕ) × (changed_at hs device t ≤ x) × (x < t)
-    × ((correction_value s.network cycle -ℤ node.standing.adjustment.0) ≤ℤ pos (s.reading device x)))
-    → is_timed node.standing.state ≡ true
+    × ((correction_value s.network cycle -ℤ node.standing.adjustment.0) ≤ℤ pos (s.reading device x))) → is_timed node.standing.state ≡ true
     → has_cleared s hs device t t ≡ false → has_cleared s hs device later later ≡ true → node.broken ≡ false → HasTaskBy s device node (later - 1)
 had_come_by s hs device t later node u left has timed not_yet cleared sound =
     let moved : has_cleared s hs device t later ≡ true = sym (cleared_still s hs device t later later u.le u.still) ∙ cleared in

@@ -40,8 +40,7 @@ plain_lost device link cause (kinds.State other state from why) e = absurd cc
 plain_lost device link cause body e = e
 
 pub plain_tt : (device : DeviceId) (link : LinkId) (cause : ℕ) (vl : VlId) (cycle : ℕ) (body : NoteBody) → plain_body body ≡ kinds.TtSent device link cause vl
-    cycle
-    → body ≡ kinds.TtSent device link cause vl cycle
+    cycle → body ≡ kinds.TtSent device link cause vl cycle
 plain_tt device link cause vl cycle (kinds.State other state from why) e = absurd cc
 plain_tt device link cause vl cycle body e = e
 

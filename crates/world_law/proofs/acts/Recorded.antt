@@ -118,8 +118,7 @@ dispatch_late s device now link cause vl cycle =
 pub recorded_on : (s : Scenario) (js gs coming new : List Happening) (now : ℕ) (device : DeviceId) (node : Node) → earlier now gs ≡ earlier now js
     → ((h : Happening) → IsIn h js → (g : Happening) × IsIn g gs × (plain_body g.note.body ≡ plain_body h.note.body) × (time_of g ≡ time_of h))
     → ((z : Happening) → IsIn z new → (((y : Happening) × IsIn y coming × (plain_body z.note.body ≡ plain_body y.note.body))
-    ⊎ IsNoAct s js now device z.note.body) × (time_of z ≡ now))
-    → AreRecorded s js coming now device node → AreRecorded s gs new now device node
+    ⊎ IsNoAct s js now device z.note.body) × (time_of z ≡ now)) → AreRecorded s js coming now device node → AreRecorded s gs new now device node
 recorded_on s js gs coming new now device node same on back r =
     let still : (body : NoteBody) → IsShown js now body → IsShown gs now body = λ body x.
     let g = on x.by x.there in

@@ -30,8 +30,7 @@ counts_still n f g events more hs device t node reads all sound left =
 pub stands_still : (n : Network) (f g : DeviceId → ℕ → ℕ) (events more : List Event) (hs : List Happening) (device : DeviceId) (t : ℕ) (node : Node)
     → ReadAlike f g t → ((h : Happening) → IsIn h hs → time_of h ≤ t)
     → is_broken (scenario n f events) device t ≡ is_broken (scenario n g more) device t → is_turned_on_at (scenario n f events) device t ≡ is_turned_on_at
-    (scenario n g more) device t
-    → IsLeft (scenario n f events) hs device t node → IsLeft (scenario n g more) hs device t node
+    (scenario n g more) device t → IsLeft (scenario n f events) hs device t node → IsLeft (scenario n g more) hs device t node
 stands_still n f g events more hs device t node reads all sound same left = record {
   counted = counts_still n f g events more hs device t node reads all sound left.counted;
   state = left.state ∙ ap (λ (b : Bool). if b then Integrating else state_after (scenario n f events) (earlier t hs) device) same;

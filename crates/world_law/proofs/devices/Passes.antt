@@ -1,5 +1,5 @@
 -- Time passes at a device that no record moves.
-use Rattle.{membership.specs.Hearing.Hearing, run_law.proofs.records.Order.after_same}
+use Rattle.{run_law.proofs.records.Order.after_same, sync_state.specs.membership.Hearing.Hearing}
 use Rattle.world_law.proofs.Words.{◌&&◌, ◌+ℤ◌, ◌+◌, ◌-◌, ◌==◌, ◌||◌, ◌∙◌, ◌≡◌, ◌≤◌, Bool, DeviceId, Happening, IfSome, Integrating, IsLeft, IsStill, List, Node}
 use Rattle.world_law.proofs.Words.{Option, Scenario, Units, adjustment_before, after_last, ap, arith, cases_lt, changed_at, changes_adjustment}
 use Rattle.world_law.proofs.Words.{correction_value, earlier, false, filter, filter_map, has_cleared, heard_since, hearing_by, if◌then◌else◌, inl, inr, int_le}
@@ -8,7 +8,7 @@ use Rattle.world_law.proofs.Words.{nat_lt, next_cycle, not, option_map_or, pos, 
 use Rattle.world_law.proofs.{Words.ℕ, devices.OwnRecords.{adjustment_still, change_still, changes_no_other, cycle_still, integration_still, state_still}}
 
 -- has a joiner cleared by the time, where its last adjustment came at `changed`?
-abbrev cleared_as : Scenario → DeviceId → Bool → ℕ → ℕ → Units → ℕ → Bool
+abbrev pub cleared_as : Scenario → DeviceId → Bool → ℕ → ℕ → Units → ℕ → Bool
 cleared_as s device joining cycle changed adjustment by =
     joining
     && (int_lt (pos (s.reading device changed) +ℤ adjustment.0) (correction_value s.network cycle)

@@ -5,7 +5,8 @@ use Rattle.world_law.proofs.Words.{Option, Scenario, Some, State, Units, [], adj
 use Rattle.world_law.proofs.Words.{changed_at, changes_adjustment, cons_option, cycle_after, cycle_in, earlier, ends_stretch, filter, filter_map, fold}
 use Rattle.world_law.proofs.Words.{has_cleared, heard_since, hearing_by, if◌then◌else◌, inl, inr, integration_cycle, is_joined_by, is_turned_on_at, last_or}
 use Rattle.world_law.proofs.Words.{nat_lt, not, option_map_or, plain, plain_body, plains, point_by, points_of, recorded_cycle, refl, state_after, state_with}
-use Rattle.world_law.proofs.{Words.{subst, sym, time_of, ℕ}, devices.Borne.by_last, lists.Lists.{behind_no, behind_yes}}
+use Rattle.world_law.proofs.{Words.{subst, sym, time_of, ℕ}, devices.{Borne.by_last, Passes.cleared_as}, lists.Lists.{behind_no, behind_yes}}
+use Rattle.world_law.proofs.Words.{◌+ℤ◌, ◌==◌, ◌≤◌, IfSome, false, is_integration_cycle, pos}
 use Rattle.run_law.specs.declared.judgement.Why.TheVariants as whys
 use Rattle.run_law.specs.declared.note.NoteBody.TheVariants as notes
 
@@ -126,19 +127,15 @@ before_plain s hs device t = ap (λ (l : List Happening). adjustment_after s l d
 
 cleared_plain : (s : Scenario) (hs : List Happening) (device : DeviceId) (t by : ℕ) → has_cleared s (plains hs) device t by ≡ has_cleared s hs device t by
 cleared_plain s hs device t by =
-    grind (
-      arith,
-      recorded_cycle,
-      earlier,
-      plains,
-      changed_at,
-      adjustment_before,
-      integration_plain,
-      integration_cycle,
-      recorded_plain,
-      changes_at_plain,
-      before_plain,
-    )
+    ap (λ (o : Option ℕ). cleared_as s device (option_map_or (λ cycle. recorded_cycle (earlier t (plains hs)) device == cycle) o false)
+    (recorded_cycle (earlier t (plains hs)) device) (changed_at (plains hs) device t) (adjustment_before s (plains hs) device t) by)
+    (integration_plain hs device t)
+    ∙ ap (λ (n : ℕ). cleared_as s device (option_map_or (λ cycle. n == cycle) (integration_cycle (earlier t hs) device) false) n
+    (changed_at (plains hs) device t) (adjustment_before s (plains hs) device t) by) (recorded_plain hs device t)
+    ∙ ap (λ (n : ℕ). cleared_as s device (is_integration_cycle (earlier t hs) device) (recorded_cycle (earlier t hs) device) n
+    (adjustment_before s (plains hs) device t) by) (changes_at_plain hs device t)
+    ∙ ap (λ (u : Units). cleared_as s device (is_integration_cycle (earlier t hs) device) (recorded_cycle (earlier t hs) device) (changed_at hs device t) u by)
+    (before_plain s hs device t)
 
 pub heard_plain : (s : Scenario) (hs : List Happening) (device : DeviceId) (t : ℕ) → heard_since s (plains hs) device t ≡ heard_since s hs device t
 heard_plain s hs device t =
@@ -156,23 +153,25 @@ heard_plain s hs device t =
 -- the device stands by the records without their numbers and these causes
 pub left_plain : (s : Scenario) (hs : List Happening) (device : DeviceId) (t : ℕ) (node : Node) → IsLeft s hs device t node → IsLeft s (plains hs) device t node
 left_plain s hs device t node left = record {
-  counted =
-      grind (
-        arith,
-        before_plain,
-        integration_plain,
-        recorded_cycle,
-        earlier,
-        plains,
-        cleared_plain,
-        has_cleared,
-        recorded_plain,
-        adjustment_before,
-        changes_at_plain,
-        changed_at,
-        heard_plain,
-        integration_cycle,
-      );
+  counted = record {
+    plan = left.counted.plan;
+    adjustment = left.counted.adjustment ∙ sym (before_plain s hs device t);
+    integrated = left.counted.integrated ∙ sym (integration_plain hs device t);
+    number = λ timed.
+        left.counted.number timed
+        ∙ sym (ap (λ (b : Bool). if b then recorded_cycle (earlier t (plains hs)) device + 1 else recorded_cycle (earlier t (plains hs)) device)
+        (cleared_plain s hs device t t)
+        ∙ ap (λ (n : ℕ). if has_cleared s hs device t t then n + 1 else n) (recorded_plain hs device t));
+    changed =
+        left.counted.changed
+        ∙ sym (ap (λ (n : ℕ). pos (s.reading device n) +ℤ (adjustment_before s (plains hs) device t).0) (changes_at_plain hs device t)
+        ∙ ap (λ (u : Units). pos (s.reading device (changed_at hs device t)) +ℤ u.0) (before_plain s hs device t));
+    heard = λ timed. left.counted.heard timed ∙ sym (heard_plain s hs device t);
+    started =
+        subst (λ (o : Option ℕ). IfSome o (λ cycle. cycle ≤ recorded_cycle (earlier t (plains hs)) device)) (sym (integration_plain hs device t))
+        (subst (λ (n : ℕ). IfSome (integration_cycle (earlier t hs) device) (λ cycle. cycle ≤ n)) (sym (recorded_plain hs device t)) left.counted.started);
+    broken = left.counted.broken;
+  };
   state =
       left.state ∙ ap (λ (x : State). if is_turned_on_at s device t then Integrating else x)
       (sym (ap (λ (l : List Happening). state_after s l device) (earlier_plain t hs) ∙ states_plain s (earlier t hs) device));
@@ -182,23 +181,26 @@ left_plain s hs device t node left = record {
 pub left_numbered : (s : Scenario) (hs : List Happening) (device : DeviceId) (t : ℕ) (node : Node) → IsLeft s (plains hs) device t node
     → IsLeft s hs device t node
 left_numbered s hs device t node left = record {
-  counted =
-      grind (
-        arith,
-        before_plain,
-        integration_plain,
-        recorded_cycle,
-        earlier,
-        plains,
-        cleared_plain,
-        has_cleared,
-        recorded_plain,
-        adjustment_before,
-        changes_at_plain,
-        changed_at,
-        heard_plain,
-        integration_cycle,
-      );
+  counted = record {
+    plan = left.counted.plan;
+    adjustment = left.counted.adjustment ∙ before_plain s hs device t;
+    integrated = left.counted.integrated ∙ integration_plain hs device t;
+    number = λ timed.
+        left.counted.number timed
+        ∙ ap (λ (b : Bool). if b then recorded_cycle (earlier t (plains hs)) device + 1 else recorded_cycle (earlier t (plains hs)) device)
+        (cleared_plain s hs device t t)
+        ∙ ap (λ (n : ℕ). if has_cleared s hs device t t then n + 1 else n) (recorded_plain hs device t);
+    changed =
+        left.counted.changed
+        ∙ ap (λ (n : ℕ). pos (s.reading device n) +ℤ (adjustment_before s (plains hs) device t).0) (changes_at_plain hs device t)
+        ∙ ap (λ (u : Units). pos (s.reading device (changed_at hs device t)) +ℤ u.0) (before_plain s hs device t);
+    heard = λ timed. left.counted.heard timed ∙ heard_plain s hs device t;
+    started =
+        subst (λ (n : ℕ). IfSome (integration_cycle (earlier t hs) device) (λ cycle. cycle ≤ n)) (recorded_plain hs device t)
+        (subst (λ (o : Option ℕ). IfSome o (λ cycle. cycle ≤ recorded_cycle (earlier t (plains hs)) device)) (integration_plain hs device t)
+        left.counted.started);
+    broken = left.counted.broken;
+  };
   state =
       left.state ∙ ap (λ (x : State). if is_turned_on_at s device t then Integrating else x)
       (ap (λ (l : List Happening). state_after s l device) (earlier_plain t hs) ∙ states_plain s (earlier t hs) device);

@@ -1,11 +1,11 @@
 -- A frame that comes up from below is that of one master, where octets are sent by end systems alone.
-use Rattle.{net_plan.{proofs.{Shape.rules_give_trees, TableFacts.no_path}, specs.Ranges.IsDeviceInRange}, world_law.specs.world.World.IsFromEnd}
-use Rattle.{net_plan.specs.Paths.IsUplink, std.{proofs.Common.IsSomeAnd, specs.Prelude.{is_some, unwrap_or}}}
-use Rattle.{net_plan.specs.Places.{IsDeviceOf, IsSwitchOf, is_end_system, is_master}, schedule_tables.specs.declared.rule.Rule.TheVariants.Joints}
-use Rattle.{pcf_values.specs.declared.members.Members.Members, schedule_tables.proofs.Margins.shape_rules, world_law.proofs.giving.Given.some_same}
-use Rattle.{run_law.{proofs.law.FirstPlaces.{front_founded, numbered_in}, specs.machines.Calls.{IsOfMaster, IsOneMaster}}, tte_lemmas.proofs.Lists.in_all}
-use Rattle.run_law.specs.{control.Arrivals.{are_others, is_of_other_member}, scenario.Devices.{IsParentOf, has_role, is_parent_of, member_of}}
-use Rattle.{tte_lemmas.proofs.Options.{at_known, closed, opened}, world_law.proofs.frames.Proper.{has_come, is_sound, launch_signal, not_control, received}}
+use Rattle.{net_plan.{proofs.Shape.rules_give_trees, specs.Ranges.IsDeviceInRange}, world_law.{proofs.giving.Given.some_same, specs.world.World.IsFromEnd}}
+use Rattle.{net_plan.{proofs.TableFacts.no_path, specs.Paths.IsUplink}, std.{proofs.Common.IsSomeAnd, specs.Prelude.{is_some, unwrap_or}}}
+use Rattle.{net_plan.specs.Places.{IsDeviceOf, IsSwitchOf, is_end_system, is_master}, run_law.specs.control.Arrivals.{are_others, is_of_other_member}}
+use Rattle.{pcf_values.specs.declared.members.Members.Members, schedule_tables.proofs.Margins.shape_rules, tte_units.proofs.general_lemmas.Lists.in_all}
+use Rattle.{run_law.proofs.law.FirstPlaces.{front_founded, numbered_in}, schedule_tables.specs.declared.rule.Rule.TheVariants.Joints}
+use Rattle.{run_law.specs.machines.Calls.{IsOfMaster, IsOneMaster}, world_law.proofs.frames.Proper.{has_come, is_sound, launch_signal, not_control, received}}
+use Rattle.{run_law.specs.scenario.Devices.{IsParentOf, has_role, is_parent_of, member_of}, tte_units.proofs.general_lemmas.Options.{at_known, closed, opened}}
 use Rattle.world_law.proofs.Words.{◌++◌, ◌==◌, ◌^◌, ◌∙◌, ◌∷◌, ◌≡◌, ◌≤◌, ◌⊎◌, Bool, Device, DeviceId, Down, Event, Gives, Happening, IsCaused, IsDue, IsFounded}
 use Rattle.world_law.proofs.Words.{IsIn, IsInRange, KeepsRules, Launch, Link, LinkId, List, Network, None, NoteBody, Ok, Option, Pcf, Scenario, Send, Some, Up}
 use Rattle.world_law.proofs.Words.{Way, [], ap, arith, both_ways, cases_Bool, control, device_at, eq-eqb, eqb-true, false, founded_at, frame_by, if◌then◌else◌}

@@ -64,8 +64,7 @@ came_so s hs device t link cause is frame of a = by_signal a.signal a.arrives a.
         record { putting = a.putting; there = a.there; came = came; arrives = arrives; taken = record { none = it.0; is = it.1 } }
 
 pub arrived_so : (s : Scenario) (hs : List Happening) (device : DeviceId) (t : ℕ) (link : LinkId) (cause clock : ℕ)
-    (a : IsArrivedRecord s hs device t link cause clock)
-    → CameSo s hs device t link cause a.frame
+    (a : IsArrivedRecord s hs device t link cause clock) → CameSo s hs device t link cause a.frame
 arrived_so s hs device t link cause clock a =
     elim a.taken [
       | inl waits ↦ came_so s hs device t link cause _ a.frame refl waits

@@ -120,8 +120,7 @@ inside z front back rest y h e (inr i) = inr (subst (λ (l : List Happening). Is
 
 -- a record behind the first has its place in what is to come
 in_front : (s : Scenario) (hs : List Happening) (z : Happening) (rest front back : List Happening) (y h : Happening) → IsFollowing s hs z rest → rest ≡ front
-    ++ y ∷ back → IsIn h front
-    → (f : List Happening) × IsBefore (place_of z) (place_of h) × (time_of h ≡ time_of z) × IsDue s (hs ++ z ∷ f) h
+    ++ y ∷ back → IsIn h front → (f : List Happening) × IsBefore (place_of z) (place_of h) × (time_of h ≡ time_of z) × IsDue s (hs ++ z ∷ f) h
 in_front s hs z rest front back y h all e i =
     let at = parted h front i in
     let whole : rest ≡ at.0 ++ h ∷ (at.1 ++ y ∷ back) = e ∙ ap (λ (l : List Happening). l ++ y ∷ back) at.2
@@ -130,8 +129,7 @@ in_front s hs z rest front back y h all e i =
     (at.0, due.0, due.1, due.2)
 
 named_cause : (s : Scenario) (hs : List Happening) (z : Happening) (rest front back : List Happening) (y : Happening) → IsFollowing s hs z rest → rest ≡ front
-    ++ y ∷ back
-    → (t : ℕ) (device : DeviceId) (state : State) (cause : ℕ) (why : Why) → ChangesState s (hs ++ z ∷ front) device t state cause why
+    ++ y ∷ back → (t : ℕ) (device : DeviceId) (state : State) (cause : ℕ) (why : Why) → ChangesState s (hs ++ z ∷ front) device t state cause why
     → IsNamedSo z.note.body device cause why (length hs)
 named_cause s hs z rest front back y all e t device state cause whys.On c =
     elim (numbered_split hs front z c.2.1 cause c.2.2.there) [
@@ -177,8 +175,7 @@ named_cause s hs z rest front back y all e t device state cause whys.SyncClique 
 named_cause s hs z rest front back y all e t device state cause whys.AsyncClique c = inl (omega (arith, c.1))
 
 named_due : (s : Scenario) (hs : List Happening) (z : Happening) (rest front back : List Happening) (y : Happening) → IsFollowing s hs z rest → rest ≡ front
-    ++ y ∷ back → length hs + 1 < none_yet
-    → (time : Units) (body : NoteBody) → IsCaused s (hs ++ z ∷ front) time body
+    ++ y ∷ back → length hs + 1 < none_yet → (time : Units) (body : NoteBody) → IsCaused s (hs ++ z ∷ front) time body
     → named_body (length hs + 1) z.note.body (hidden_body (length hs) body) ≡ hidden_body (length hs + 1) body
 named_due s hs z rest front back y all e room time (notes.State device state cause why) c =
     named_so z.note.body device state cause why (length hs) room (named_cause s hs z rest front back y all e (amount time) device state cause why c)

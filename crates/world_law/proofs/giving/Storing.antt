@@ -1,6 +1,6 @@
 -- What switches hold, once one more record is given.
-use Rattle.{std.proofs.Common.arith, world_law.specs.world.{Moves.AreTaken, World.{AreStored, IsStored, Stored, last_taking}}}
-use Rattle.{tte_lemmas.proofs.Lists.last_more, world_law.proofs.Words.{filter-append, if◌then◌else◌, inl, inr, is_accepted, last_or, refl, sym, true, ℕ}}
+use Rattle.{std.proofs.Common.arith, world_law.proofs.Words.{filter-append, if◌then◌else◌, inl, inr, is_accepted, last_or, refl, sym, true, ℕ}}
+use Rattle.{tte_units.proofs.general_lemmas.Lists.last_more, world_law.specs.world.{Moves.AreTaken, World.{AreStored, IsStored, Stored, last_taking}}}
 use Rattle.world_law.proofs.Words.{◌++◌, ◌∙◌, ◌∷◌, ◌≡◌, Bool, DeviceId, Happening, IsIn, List, Option, Some, VlId, [], ap, cases_Bool, false, filter}
 
 last_one : {X : Type 0} (b : Bool) (o : Option X) (x : X) → last_or o (if b then x ∷ [] else []) ≡ (if b then Some x else o)

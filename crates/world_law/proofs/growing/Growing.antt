@@ -1,15 +1,15 @@
 -- Where a device has acted, each task that is still due at the moment stands behind what it did.
-use Rattle.{compression.proofs.Elements.in_head, std.proofs.Common.Contains, tte_lemmas.proofs.Options.same_next}
+use Rattle.{compression.proofs.Elements.in_head, std.proofs.Common.Contains, sync_state.proofs.StateFacts.integrating_point}
 use Rattle.{run_law.specs.machines.{Answers.with_done, Tasks.{IsFirstTask, order_of}}, schedule_tables.specs.Dispatches.dispatch_order}
 use Rattle.{schedule_tables.specs.declared.rule.Rule.TheVariants.ScheduleStart, world_law.proofs.Words.{sending, subst, sym, value_of, ℕ, ℤ}}
-use Rattle.{std.proofs.lemmas.List.Elements.Contains-append_right, world_law.{proofs.rows.AtHand.value_is, specs.device.Growing.{ActsGrow, order_of_act}}}
-use Rattle.{sync_state.proofs.StateFacts.integrating_point, tte_lemmas.{proofs.{Integers.{whole as natural}}}, world_law.proofs.acts.Acted.{acted, heard_so}}
+use Rattle.{std.proofs.lemmas.List.Elements.Contains-append_right, world_law.proofs.{acts.Acted.{acted, heard_so}, rows.Apart.{apart_so, precise, row_apart}}}
+use Rattle.{tte_units.proofs.general_lemmas.{Integers.{whole as natural}, Options.same_next}, world_law.proofs.growing.Openings.{from_zero, one_waiting}}
 use Rattle.world_law.proofs.Words.{◌++◌, ◌+ℤ◌, ◌+◌, ◌-ℤ◌, ◌<ℤ◌, ◌<◌, ◌∙◌, ◌∷◌, ◌≡◌, ◌≤ℤ◌, ◌≤◌, ◌⊎◌, Act, AsyncClique, Cleared, ClockTask, Compressed, Corrected}
 use Rattle.world_law.proofs.Words.{DeviceId, Entry, IsActOf, IsBefore, IsEntry, IsFromZero, IsInRange, IsPending, KeepsRules, List, MayCall, Moment, Network}
 use Rattle.world_law.proofs.Words.{Node, Option, Pcf, Ripe, Row, RowId, Some, Summary, SyncClique, Task, Verdict, [], acting, after_correction, after_emission}
 use Rattle.world_law.proofs.Words.{amount, ap, arith, called, cases_lt, cases_order, correcting, correction_value, dispatching, doing, either_way, emitting}
 use Rattle.world_law.proofs.Words.{inl, inr, ints, next_point, no_cluster, observation_window, option_map_or, own_hearing, plan_of, pos, reading_for, refl}
-use Rattle.world_law.proofs.{growing.Openings.{from_zero, one_waiting}, rows.{Apart.{apart_so, precise, row_apart}, Reached.{ShowsAt, cycles_apart}}}
+use Rattle.world_law.{proofs.rows.{AtHand.value_is, Reached.{ShowsAt, cycles_apart}}, specs.device.Growing.{ActsGrow, order_of_act}}
 use Rattle.run_law.specs.declared.steps.Act.TheVariants as acts
 
 -- ---- the precision

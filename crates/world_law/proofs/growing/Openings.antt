@@ -1,7 +1,7 @@
 -- The clusters of a list of points open at different readings.
 use Rattle.{compression.proofs.Elements.{all_at, beyond-all, in_cases, in_none}, std.proofs.{Common.Contains, lemmas.List.Elements.recursion_from_All}}
-use Rattle.{compression.proofs.{Standing.AreClusters-unique, Times.{first_end, open_beyond}}, run_law.specs.machines.Tasks.IsWaiting}
-use Rattle.{compression.specs.{Clusters.beyond, Emission.compressed}, tte_lemmas.proofs.Integers.whole}
+use Rattle.{compression.proofs.{Standing.AreClusters-unique, Times.{first_end, open_beyond}}, tte_units.proofs.general_lemmas.Integers.whole}
+use Rattle.{compression.specs.{Clusters.beyond, Emission.compressed}, run_law.specs.machines.Tasks.IsWaiting}
 use Rattle.world_law.proofs.Words.{◌<ℤ◌, ◌∙◌, ◌∷◌, ◌≡◌, ◌≤ℤ◌, AllByRecursion, AreClusters, Cluster, Compressed, DeviceId, IsFromZero, List, Network, Node}
 use Rattle.world_law.proofs.Words.{Point, [], amount, ap, arith, inl, inr, ints, negsuc, observation_window, pos, subst, sym, ℤ}
 

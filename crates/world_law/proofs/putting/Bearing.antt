@@ -76,16 +76,14 @@ changed_aside s n hs front back w device t misses =
     ∙ changed_by s n (hs ++ front) back w device t misses
     ∙ ap (λ (l : List Happening). changed_at l device t) (append_assoc hs front (w ∷ map (bump_behind n) back))
 
-pub stated_aside : (s : Scenario) (n : ℕ) (hs front back : List Happening) (w : Happening) (device : DeviceId) (t : ℕ)
-    → bears_on device w.note.body ≡ false
+pub stated_aside : (s : Scenario) (n : ℕ) (hs front back : List Happening) (w : Happening) (device : DeviceId) (t : ℕ) → bears_on device w.note.body ≡ false
     → state_after s (up_to t (hs ++ (front ++ back))) device ≡ state_after s (up_to t (hs ++ placed n front w back)) device
 stated_aside s n hs front back w device t misses =
     ap (λ (l : List Happening). state_after s (up_to t l) device) (sym (append_assoc hs front back))
     ∙ stated_by s n (hs ++ front) back w device t misses
     ∙ ap (λ (l : List Happening). state_after s (up_to t l) device) (append_assoc hs front (w ∷ map (bump_behind n) back))
 
-pub adjusted_aside : (s : Scenario) (n : ℕ) (hs front back : List Happening) (w : Happening) (device : DeviceId) (t : ℕ)
-    → bears_on device w.note.body ≡ false
+pub adjusted_aside : (s : Scenario) (n : ℕ) (hs front back : List Happening) (w : Happening) (device : DeviceId) (t : ℕ) → bears_on device w.note.body ≡ false
     → adjustment_after s (up_to t (hs ++ (front ++ back))) device ≡ adjustment_after s (up_to t (hs ++ placed n front w back)) device
 adjusted_aside s n hs front back w device t misses =
     ap (λ (l : List Happening). adjustment_after s (up_to t l) device) (sym (append_assoc hs front back))
@@ -93,8 +91,7 @@ adjusted_aside s n hs front back w device t misses =
     ∙ ap (λ (l : List Happening). adjustment_after s (up_to t l) device) (append_assoc hs front (w ∷ map (bump_behind n) back))
 
 -- the state of the records of earlier times
-pub earlier_aside : (s : Scenario) (n : ℕ) (hs front back : List Happening) (w : Happening) (device : DeviceId) (t : ℕ)
-    → bears_on device w.note.body ≡ false
+pub earlier_aside : (s : Scenario) (n : ℕ) (hs front back : List Happening) (w : Happening) (device : DeviceId) (t : ℕ) → bears_on device w.note.body ≡ false
     → state_after s (earlier t (hs ++ (front ++ back))) device ≡ state_after s (earlier t (hs ++ placed n front w back)) device
 earlier_aside s n hs front back w device t misses =
     ap (λ (l : List Happening). state_after s (earlier t l) device) (sym (append_assoc hs front back))
@@ -220,8 +217,7 @@ frames_aside s n hs front back w device misses takes =
 pub kept_aside : {M : Type 0} (stands : M → Network → DeviceId → Node → Type 0) (s : Scenario) (n : ℕ) (hs front back : List Happening) (cursor : List ℕ)
     (now : ℕ) (device : DeviceId) (machine : M) (w : Happening) → bears_on device w.note.body ≡ false
     → is_sending device w.note.body ≡ false → time_of w ≡ now → frames_taken s (hs ++ (front ++ back)) device ≡ frames_taken s (hs ++ placed n front w back)
-    device
-    → IsKept stands s hs (front ++ back) cursor now device machine → IsKept stands s hs (placed n front w back) cursor now device machine
+    device → IsKept stands s hs (front ++ back) cursor now device machine → IsKept stands s hs (placed n front w back) cursor now device machine
 kept_aside stands s n hs front back cursor now device machine w misses sends at frames k = record {
   node = k.node;
   is = k.is;
@@ -253,8 +249,7 @@ kept_aside stands s n hs front back cursor now device machine w misses sends at 
 pub held_aside : {M : Type 0} (stands : M → Network → DeviceId → Node → Type 0) (s : Scenario) (n : ℕ) (hs front back : List Happening) (cursor : List ℕ)
     (now : ℕ) (device : DeviceId) (machine : M) (w : Happening) → bears_on device w.note.body ≡ false
     → is_sending device w.note.body ≡ false → time_of w ≡ now → frames_taken s (hs ++ (front ++ back)) device ≡ frames_taken s (hs ++ placed n front w back)
-    device
-    → IsHeld stands s hs (front ++ back) cursor now device machine → IsHeld stands s hs (placed n front w back) cursor now device machine
+    device → IsHeld stands s hs (front ++ back) cursor now device machine → IsHeld stands s hs (placed n front w back) cursor now device machine
 held_aside stands s n hs front back cursor now device machine w misses sends at frames (inl k) =
     inl (kept_aside stands s n hs front back cursor now device machine w misses sends at frames k)
 held_aside stands s n hs front back cursor now device machine w misses sends at frames (inr k) = grind (arith, stated_aside, adjusted_aside)

@@ -138,8 +138,7 @@ keys_up : (n m k : ℕ) (body other : NoteBody) → rank body ≡ rank other →
 keys_up n m k body other e b =
     grind (arith, seven, key, keys_of_states, rank, raised_same)
 
-pub places_up : (t u r q : ℕ) (k l m o : List ℕ) → (r ≡ q → IsBefore k l → IsBefore m o) → IsBefore (t ∷ r ∷ k) (u ∷ q ∷ l)
-    → IsBefore (t ∷ r ∷ m) (u ∷ q ∷ o)
+pub places_up : (t u r q : ℕ) (k l m o : List ℕ) → (r ≡ q → IsBefore k l → IsBefore m o) → IsBefore (t ∷ r ∷ k) (u ∷ q ∷ l) → IsBefore (t ∷ r ∷ m) (u ∷ q ∷ o)
 places_up t u r q k l m o up (inl lt) = inl lt
 places_up t u r q k l m o up (inr (e, inl lt)) = inr (e, inl lt)
 places_up t u r q k l m o up (inr (e, inr (f, b))) = inr (e, inr (f, up f b))

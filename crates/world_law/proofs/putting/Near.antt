@@ -1,5 +1,5 @@
 -- What is due by one of two lists of records that tell the same up to a source is due by the other.
-use Rattle.membership.specs.Summary.{Summarizes}
+use Rattle.sync_state.specs.membership.Summary.{Summarizes}
 use Rattle.{run_law.specs.{control.{Corrections.standing_before, Permanence.IsJudgedBy}, records.Happenings.octets_by}, sync_state.specs.Verdicts.HasVerdict}
 use Rattle.world_law.proofs.Words.{◌++◌, ◌+ℤ◌, ◌+◌, ◌-◌, ◌<◌, ◌==◌, ◌∙◌, ◌∷◌, ◌≡◌, ◌≤◌, ◌⊎◌, Arrival, ArrivesAs, BecomesPermanent, Bool, ChangesState}
 use Rattle.world_law.proofs.Words.{ComesToCorrection, Compressed, Departs, Departure, DeviceId, Dispatches, Emits, Happening, Integrating, IsActing, IsBefore}

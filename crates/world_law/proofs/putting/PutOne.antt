@@ -1,5 +1,5 @@
 -- A source of the instant is worked off: its record is put in, or its record and the change of state that follows it.
-use Rattle.{run_law.specs.timed.Receptions.comes_before, tte_lemmas.proofs.Naturals.unequal, world_law.proofs.putting.Near.hears}
+use Rattle.{run_law.specs.timed.Receptions.comes_before, tte_units.proofs.general_lemmas.Naturals.unequal, world_law.proofs.putting.Near.hears}
 use Rattle.std.proofs.lemmas.Bool.{and_left}
 use Rattle.world_law.proofs.Words.{◌&&◌, ◌++◌, ◌+◌, ◌==◌, ◌||◌, ◌∙◌, ◌∷◌, ◌≡◌, ◌≤◌, ◌⊎◌, AllBefore, AreSettled, Bool, ChangesState, DeviceId, Happening}
 use Rattle.world_law.proofs.Words.{Integrating, IsBefore, IsCaused, IsDue, IsFounded, IsIn, IsOwnSource, IsSource, Joining, LinkId, List, NoneBefore, NoteBody}

@@ -425,8 +425,7 @@ still_put s hs front back now device w idle still h i now_is =
 
 turned_put : (s : Scenario) (hs front back : List Happening) (cursor : List ℕ) (now : ℕ) (device : DeviceId) (w : Happening) → IsIdle w.note.body
     → HasTurnedOn s hs (front ++ back) cursor device now → state_after s (earlier now (hs ++ (front ++ back))) device ≡ state_after s
-    (earlier now (hs ++ put_list front w back)) device
-    → HasTurnedOn s hs (put_list front w back) cursor device now
+    (earlier now (hs ++ put_list front w back)) device → HasTurnedOn s hs (put_list front w back) cursor device now
 turned_put s hs front back cursor now device w idle it same = record {
   off = sym same ∙ it.off;
   number = it.number;

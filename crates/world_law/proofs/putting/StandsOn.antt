@@ -111,8 +111,7 @@ pub stands_on : {C M : Type 0} (reading : C → ℕ → ℕ) (stands : M → Net
     → AreAtPorts s (happenings s.network notes) (behind (world.now ∷ r ∷ more)) ports
     → AreWaiting s (happenings s.network notes) (behind (world.now ∷ r ∷ more)) world.now waiting
     → ((device : DeviceId) → device.0 < length s.network.device → world.ended ≡ true → IsBefore (clock_place world.now device) (behind (world.now ∷ r ∷ more)) ↔
-    (device.0 < shown))
-    → StandsBehind reading stands s
+    (device.0 < shown)) → StandsBehind reading stands s
     (record world { machines = machines; wires = wires; ports = ports; waiting = waiting; early = false; settled = settled; shown = shown })
     notes (behind place)
 stands_on reading stands s world notes old r more place machines wires ports waiting settled coming shown m at shows room are known devices later on_wires

@@ -1,5 +1,6 @@
 -- A device comes to no row's value where it comes to a correction point, or to the beginning of a cycle.
-use Rattle.{schedule_tables.{proofs.Entries.begun_below, specs.Delays.pcf_port_time}, tte_lemmas.{proofs.{Integers.{whole as not_negative}, Lists.in_all}}}
+use Rattle.schedule_tables.{proofs.Entries.begun_below, specs.Delays.pcf_port_time}
+use Rattle.tte_units.proofs.general_lemmas.{Integers.{whole as not_negative}, Lists.in_all}
 use Rattle.{schedule_tables.specs.declared.rule.Rule.TheVariants.ScheduleStart, world_law.proofs.rows.Reached.{ShowsAt, cycles_apart, row_ends, shows_at}}
 use Rattle.world_law.proofs.Words.{◌*◌, ◌+◌, ◌≤◌, DeviceId, Dispatches, Entry, Happening, IsAtCorrection, IsEntry, IsInRange, IsSteady, KeepsRules, Link}
 use Rattle.world_law.proofs.Words.{LinkId, List, Network, Reaches, Scenario, Sends, VlId, amount, arith, cases_lt, ints, local_before, pos, subst, ℕ, ℤ}
@@ -12,8 +13,7 @@ pub record IsApart (network : Network) (offset : ℕ) : Type 0 where
   pub ends : offset + 4 * amount network.precision ≤ amount network.cycle
 
 -- so each row's offset is
-pub row_apart : (network : Network) (place : ℕ) (entry : Entry) → KeepsRules network → IsEntry network place entry
-    → IsApart network (amount entry.row.offset)
+pub row_apart : (network : Network) (place : ℕ) (entry : Entry) → KeepsRules network → IsEntry network place entry → IsApart network (amount entry.row.offset)
 row_apart network place entry rules is =
     let begun = begun_below network (amount entry.row.offset + 1) place entry rules is (omega arith) in
     let start = in_all

@@ -1,8 +1,8 @@
 -- What the node has of a row's frame when its clock reaches the row's value is what the records say that it has at hand.
-use Rattle.{run_law.specs.{machines.Nodes.last_taken_frame, timed.Dispatching.{HasAccepted, last_accepted}}, world_law.specs.device.Takings.taken_in}
-use Rattle.{run_law.specs.machines.Tasks.HasFrame, schedule_tables.specs.Windows.OccursIn, std.proofs.lemmas.Bool.cases_eq, tte_lemmas.proofs.Bools.turned}
-use Rattle.std.specs.Option.{IsSomeAnd}
-use Rattle.{tte_lemmas.proofs.Lists.{last_if, last_more}, world_law.proofs.rows.Reached.{IsForwarded, accepted_at, below_value, delivered_at, none_at_value}}
+use Rattle.{run_law.specs.machines.Nodes.last_taken_frame, world_law.proofs.rows.Reached.{IsForwarded, accepted_at, below_value, delivered_at, none_at_value}}
+use Rattle.{run_law.specs.machines.Tasks.HasFrame, schedule_tables.specs.Windows.OccursIn, world_law.specs.device.Takings.taken_in}
+use Rattle.{run_law.specs.timed.Dispatching.{HasAccepted, last_accepted}, tte_units.proofs.general_lemmas.{Bools.turned, Lists.{last_if, last_more}}}
+use Rattle.std.{proofs.lemmas.Bool.cases_eq, specs.Option.IsSomeAnd}
 use Rattle.world_law.proofs.Words.{◌&&◌, ◌*◌, ◌++◌, ◌+◌, ◌<ℤ◌, ◌<◌, ◌==◌, ◌∙◌, ◌∷◌, ◌≡◌, ◌≤◌, ◌⊎◌, Bool, DeviceId, Entry, Happening, HasAtHand, IsDue, IsEntry}
 use Rattle.world_law.proofs.Words.{IsFounded, IsIn, IsInRange, IsSteady, KeepsRules, List, Network, Node, None, NoteBody, Option, Reaches, Row, RowId, Scenario}
 use Rattle.world_law.proofs.Words.{Some, TakenFrame, VlId, [], amount, and_parts, ap, arith, cases_Bool, cases_lt, dispatching, earlier, eqb-true, false}

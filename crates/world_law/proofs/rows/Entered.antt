@@ -1,13 +1,13 @@
 -- What a device found of a time-triggered frame that it took: a row of its virtual link enters the device, the cycle of its
 -- clock was one from 1 on, and the place in the cycle was not behind the row's window.
-use Rattle.{net_plan.proofs.SameIds.one_link, run_law.proofs.scenario.Ways.one_way, tte_lemmas.proofs.{Integers.not_less, Lists.find_at}}
+use Rattle.{net_plan.proofs.SameIds.one_link, world_law.proofs.Words.{slice_get_within, standpoint, subst, sym, target_by, timed, timed_arrival, true, ℕ, ℤ}}
 use Rattle.{pcf_codec.specs.{Fields.field, declared.refusal.PcfRefusal.PcfRefusal}, run_law.specs.scenario.{Devices.{is_parent_of, is_relay}, Ways.receiver_of}}
-use Rattle.{run_law.proofs.control.Verdicts.none_first, std.{proofs.lemmas.Bool.{leb-true, not-false, or_parts}, specs.Int.{int_div_euclid, int_rem_euclid}}}
+use Rattle.{run_law.proofs.control.Verdicts.none_first, schedule_tables.specs.Windows.window_end, std.specs.Int.{int_div_euclid, int_rem_euclid}}
+use Rattle.{run_law.proofs.scenario.Ways.one_way, schedule_tables.{proofs.Entries.entry_by, specs.Entries.target_of}, std.proofs.Math.Nat.{div-add-mod, mod-lt}}
 use Rattle.run_law.specs.{control.Arrivals.{frame_fault, frame_or_fault}, device.Standpoints.{clock_of, cycle_at, natural, offset_in_cycle}}
 use Rattle.run_law.specs.timed.Arrivals.{entry_arrival, entry_entering, octets_fault, octets_or_fault, row_fault, taken_or_fault}
-use Rattle.{schedule_tables.{proofs.Entries.entry_by, specs.{Entries.target_of, Windows.window_end}}, std.proofs.Math.Nat.{div-add-mod, mod-lt}}
-use Rattle.std.proofs.Common.{◌%◌, ◌/◌}
-use Rattle.{std.specs.Prelude.{Err, Result}, world_law.proofs.Words.{slice_get_within, standpoint, subst, sym, target_by, timed, timed_arrival, true, ℕ, ℤ}}
+use Rattle.{std.proofs.{Common.{◌%◌, ◌/◌}, lemmas.Bool.{leb-true, not-false, or_parts}}, tte_units.proofs.general_lemmas.{Integers.not_less, Lists.find_at}}
+use Rattle.std.specs.Prelude.{Err, Result}
 use Rattle.world_law.proofs.Words.{◌*◌, ◌+◌, ◌<◌, ◌==◌, ◌∙◌, ◌≡◌, ◌≤ℤ◌, ◌≤◌, Arrival, ArrivesAs, Bool, DeviceId, Down, Entry, Happening, IsEntry, Link, LinkId}
 use Rattle.world_law.proofs.Words.{List, Network, None, Ok, Option, Pcf, Reason, Scenario, Signal, Some, Standpoint, Units, Up, VlId, Way, and_parts, ap, arith}
 use Rattle.world_law.proofs.Words.{arrival_of, cases_Bool, control, control_arrival, eq-eqb, eqb-true, false, if◌then◌else◌, int_lt, is_end, last_taken, length}
@@ -172,8 +172,7 @@ pub taken_at : (s : Scenario) (front : List Happening) (device : DeviceId) (t : 
     → ArrivesAs s front device t link cause (arrivals.Accepted vl cycle) → IsTakenAt s.network device vl cycle (local_before s front device t)
 taken_at s front device t link cause vl cycle a = by a.signal a.arrives.receiver a.becomes
   where
-    by : (signal : Signal) → receiver_of s.network link a.arrives.way ≡ Some device
-        → arrivals.Accepted vl cycle ≡ arrival_of s front device t link cause signal
+    by : (signal : Signal) → receiver_of s.network link a.arrives.way ≡ Some device → arrivals.Accepted vl cycle ≡ arrival_of s front device t link cause signal
         → IsTakenAt s.network device vl cycle (local_before s front device t)
     by (control frame) received e = absurd ((none_control s.network device link (standpoint s front device t) frame).0 vl cycle (sym e))
     by (timed octets) received e =
@@ -184,8 +183,7 @@ pub delivered_end : (s : Scenario) (front : List Happening) (device : DeviceId) 
     → ArrivesAs s front device t link cause (arrivals.Delivered vl cycle) → is_end s.network device ≡ true
 delivered_end s front device t link cause vl cycle a = by a.signal a.becomes
   where
-    by : (signal : Signal) → arrivals.Delivered vl cycle ≡ arrival_of s front device t link cause signal
-        → is_end s.network device ≡ true
+    by : (signal : Signal) → arrivals.Delivered vl cycle ≡ arrival_of s front device t link cause signal → is_end s.network device ≡ true
     by (control frame) e = absurd ((none_control s.network device link (standpoint s front device t) frame).1 vl cycle (sym e))
     by (timed octets) e =
         delivered_so s.network device link (standpoint s front device t) octets (last_taken front device t link cause) vl cycle (sym e)

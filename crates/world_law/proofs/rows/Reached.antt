@@ -1,8 +1,8 @@
 -- A device's clock reaches a value: what it shows then, and what it has taken by then.
-use Rattle.{run_law.proofs.law.FirstPlaces.IsFoundedAt, schedule_tables.specs.Windows.window_end, std.specs.Int.{int_div_euclid, int_rem_euclid}}
-use Rattle.{run_law.specs.device.Standpoints.{natural, offset_in_cycle}, schedule_tables.specs.declared.rule.Rule.TheVariants.{Forwarding, WindowEnds}}
-use Rattle.{std.proofs.Math.Nat.mul-le-mul_right, tte_lemmas.proofs.Naturals.same_heads}
-use Rattle.{tte_lemmas.{proofs.{Integers.{whole as not_negative}}}, world_law.proofs.{devices.Resting.in_time_of, runs.SourcesBack.earlier_still}}
+use Rattle.{run_law.proofs.law.FirstPlaces.IsFoundedAt, schedule_tables.specs.Windows.window_end, std.proofs.Math.Nat.mul-le-mul_right}
+use Rattle.{run_law.specs.device.Standpoints.{natural, offset_in_cycle}, tte_units.proofs.general_lemmas.Naturals.same_heads}
+use Rattle.{schedule_tables.specs.declared.rule.Rule.TheVariants.{Forwarding, WindowEnds}, tte_units.proofs.general_lemmas.Integers.{whole as not_negative}}
+use Rattle.{std.specs.Int.{int_div_euclid, int_rem_euclid}, world_law.proofs.{devices.Resting.in_time_of, runs.SourcesBack.earlier_still}}
 use Rattle.world_law.proofs.Words.{◌*◌, ◌+ℤ◌, ◌+◌, ◌-ℤ◌, ◌-◌, ◌<ℤ◌, ◌<◌, ◌∙◌, ◌∷◌, ◌≡◌, ◌≤ℤ◌, ◌≤◌, DeviceId, Entry, Happening, IsCaused, IsDue, IsEntry}
 use Rattle.world_law.proofs.Words.{IsFounded, IsIn, IsInRange, IsSteady, KeepsRules, List, Network, Reaches, Scenario, VlId, adjustment_after}
 use Rattle.world_law.proofs.Words.{adjustment_before, amount, ap, arith, cases_lt, changed_at, earlier, founded_at, inl, inr, ints, is_end, local_before}

@@ -1,5 +1,6 @@
 -- What is due at a time is so in each scenario that agrees up to then.
-use Rattle.{membership.specs.Summary.Summarizes, std.{proofs.lemmas.Bool.le-leb, specs.Option.unwrap_or}, sync_state.specs.Verdicts.HasVerdict}
+use Rattle.sync_state.specs.{Verdicts.HasVerdict, membership.Summary.Summarizes}
+use Rattle.std.{proofs.lemmas.Bool.le-leb, specs.Option.unwrap_or}
 use Rattle.run_law.{proofs.records.Order.in_drop, specs.{control.Corrections.standing_before, scenario.{Hypothesis.breaks_at, Scenarios.{last_set, turns_on}}}}
 use Rattle.world_law.proofs.Words.{◌&&◌, ◌+ℤ◌, ◌+◌, ◌-◌, ◌<ℤ◌, ◌<◌, ◌==◌, ◌||◌, ◌∙◌, ◌∷◌, ◌≡◌, ◌≤ℤ◌, ◌≤◌, Agree, Bool, ComesToCorrection, DeviceId, Event}
 use Rattle.world_law.proofs.Words.{Happening, IfSome, Integrating, IsIn, IsReach, List, Network, None, Option, Reaches, Sends, Some, Standing, Verdict, What}

@@ -1,7 +1,7 @@
 -- A run goes on by the record of an event.
 use Rattle.{run_law.proofs.{law.FirstPlaces.at_length, runs.NetworkRuns.{one_more, same_notes}}, std.proofs.lemmas.List.Elements.Contains-push_cases}
-use Rattle.{run_law.proofs.records.Order.time_before, world_law.specs.source.Applying.{IsEventBody, MayBefall, RunGoesOnByEvent, note_of_event, place_of_event}}
-use Rattle.{run_law.{proofs.runs.Grow.grow, specs.runs.{DueRecords.EndsAt, Runs.IsRun}}, tte_lemmas.proofs.Lists.pushed}
+use Rattle.{run_law.{proofs.{records.Order.time_before, runs.Grow.grow}, specs.runs.DueRecords.EndsAt}, tte_units.proofs.general_lemmas.Lists.pushed}
+use Rattle.{run_law.specs.runs.Runs.IsRun, world_law.specs.source.Applying.{IsEventBody, MayBefall, RunGoesOnByEvent, note_of_event, place_of_event}}
 use Rattle.world_law.proofs.Words.{◌++◌, ◌+◌, ◌<◌, ◌∙◌, ◌∷◌, ◌≡◌, ◌≤◌, ◌⊎◌, Agree, AllBefore, DeviceId, Event, Happening, IsBefore, IsCaused, IsDue}
 use Rattle.world_law.proofs.Words.{IsEventRecord, IsIn, IsScenarioRun, List, Network, Note, NoteBody, Scenario, Units, What, [], amount, ap, arith, behind}
 use Rattle.world_law.proofs.Words.{cases_lt, happening, happenings, in_front, in_right, inl, inr, key, length, length-map, members_in, never_self, parted}

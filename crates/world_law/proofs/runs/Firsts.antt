@@ -1,5 +1,5 @@
 -- Where no source and nothing settled is before a place, nothing that is due is.
-use Rattle.{run_law.specs.scenario.Ways.hold_at, tte_lemmas.proofs.Lists.pushed, world_law.specs.source.Sources.{IsArriving, IsDeparting}}
+use Rattle.{run_law.specs.scenario.Ways.hold_at, tte_units.proofs.general_lemmas.Lists.pushed, world_law.specs.source.Sources.{IsArriving, IsDeparting}}
 use Rattle.world_law.proofs.Words.{◌++◌, ◌+◌, ◌∷◌, ◌≡◌, ◌⊎◌, Arrives, DeviceId, Gives, Happening, IsBefore, LinkId, List, Scenario, Signal, Some, [], arith}
 use Rattle.world_law.proofs.Words.{chain, in_front, inl, inr, length, numbered, subst, suc, sym, time_of, way_from, zero, ℕ}
 

@@ -1,5 +1,5 @@
 -- What causes a record at a time causes it in each scenario that agrees up to then.
-use Rattle.{run_law.proofs.law.FirstPlaces.numbered_in, std.proofs.Common.arith, transparent_clock.specs.Points.point_of}
+use Rattle.{drift_clock.specs.transparent.Points.point_of, run_law.proofs.law.FirstPlaces.numbered_in, std.proofs.Common.arith}
 use Rattle.run_law.specs.{control.Leaving.{departure, on_cut_way, too_old}, scenario.Ways.{cut_set, delay_at, hold_at, hold_set, wire_of, wire_set}}
 use Rattle.{run_law.specs.control.Permanence.IsPermanenceOutcome, world_law.proofs.Words.{state_before, subst, sym, time_of, timed, timed_arrival, way_from, ℕ}}
 use Rattle.world_law.proofs.Words.{◌∙◌, ◌≡◌, ◌≤◌, Agree, Arrival, Arrives, ArrivesAs, BecomesPermanent, Bool, ChangesState, Compressed, Departs, Departure}

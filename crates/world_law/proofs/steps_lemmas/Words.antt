@@ -9,7 +9,7 @@ pub use Rattle.std.proofs.lemmas.List.{Elements.{Contains-append_left, Contains-
 pub use Rattle.std.specs.{List.{AllByRecursion, after_last, cons_option, last_or, list_any}, Option.option_map_or, Prelude.{nat_le, nat_lt}}
 pub use Rattle.compression.specs.Clusters.{AreClusters, Point, point_at}
 pub use Rattle.compression.specs.declared.compressed.Compressed.{Compressed}
-pub use Rattle.membership.specs.{Hearing.Hearing, Summary.Summary}
+pub use Rattle.sync_state.specs.membership.{Hearing.Hearing, Summary.Summary}
 pub use Rattle.net_plan.proofs.SameIds.{same_device, self}
 pub use Rattle.net_plan.specs.{Places.link_at, Ranges.IsInRange}
 pub use Rattle.net_plan.specs.declared.{event.{Event.Event, What.What}, ids.{DeviceId.DeviceId, LinkId.LinkId, RowId.RowId, VlId.VlId}, network.Network.Network}
@@ -49,8 +49,8 @@ pub use Rattle.schedule_tables.specs.declared.entry.Entry.{Entry}
 pub use Rattle.sync_state.specs.Calls.{adjustment_by, state_by}
 pub use Rattle.sync_state.specs.declared.{answers.Verdict.{Verdict, TheVariants.{AsyncClique, Cleared, Corrected, SyncClique}}, plan.SyncPlan.SyncPlan}
 pub use Rattle.sync_state.specs.declared.state.State.{State, TheVariants.{Integrating, Joining, Off, Synchronised}}
-pub use Rattle.transparent_clock.specs.Points.{point_of}
-pub use Rattle.tte_lemmas.proofs.{Bools.or_none, Integers.{never_both, whole, whole as natural}, Lists.none_in}
+pub use Rattle.drift_clock.specs.transparent.Points.{point_of}
+pub use Rattle.tte_units.proofs.general_lemmas.{Bools.or_none, Integers.{never_both, whole, whole as natural}, Lists.none_in}
 pub use Rattle.tte_units.specs.Amount.{amount, units_of}
 pub use Rattle.tte_units.specs.declared.units.Units.{Units}
 pub use Rattle.world_law.proofs.acts.{Acted.{IsAlike, undone_alike, waiting_alike}, Acting.point_number, NoActs.points_same}

@@ -5,7 +5,8 @@ use Rattle.std.specs.Prelude.{None, Option, Some, [], false, filter, ifâ—Œthenâ—
 use Rattle.{net_plan.specs.Places.link_at, run_law.specs.control.Leaving.Gives}
 use Rattle.{net_plan.specs.{Ranges.IsInRange, declared.ids.VlId.VlId}, schedule_tables.specs.Rules.KeepsRules}
 use Rattle.{net_plan.specs.declared.{event.Event.Event, ids.LinkId.LinkId}, run_law.specs.records.Causes.IsOfThisTime}
-use Rattle.{net_plan.specs.declared.{event.What.What, tables.Way.Way}, transparent_clock.specs.Points.point_of}
+use Rattle.net_plan.specs.declared.{event.What.What, tables.Way.Way}
+use Rattle.drift_clock.specs.transparent.Points.{point_of}
 use Rattle.net_plan.specs.declared.{ids.DeviceId.DeviceId, network.Network.Network, tables.Way.TheVariants.{Down, Up}}
 use Rattle.{pcf_values.specs.declared.pcf.Pcf.Pcf, sync_state.specs.declared.state.State.TheVariants.{Integrating, Off}}
 use Rattle.run_law.specs.{control.Permanence.waits_for, device.LocalClocks.changed_at, timed.Dispatching.is_accepted}

@@ -23,8 +23,7 @@ module _ {T : Type 0} where
       let at : place ≡ e.place = cc in
       subst (λ (o : Option (Entry T)). IfSome o (λ e. IsFirst entries e.place)) (sym is) (subst (IsFirst entries) at first)
 
-  place_mapped : (place : DueAt) (o : Option T) → is_some o ≡ true
-      → option_map (λ (e : Entry T). e.place) (option_map (entry_at place) o) ≡ Some place
+  place_mapped : (place : DueAt) (o : Option T) → is_some o ≡ true → option_map (λ (e : Entry T). e.place) (option_map (entry_at place) o) ≡ Some place
   place_mapped place None some = absurd (both_ways _ refl some)
   place_mapped place (Some content) some = refl
 

@@ -1,7 +1,7 @@
 -- Places in a heap with their slots: one is put in, and the first is taken out.
-use Rattle.{run_law.proofs.records.Order.{given_of, is_given}, tte_lemmas.proofs.Naturals.flips, world_state.specs.declared.queue.{DueAt.DueAt, Entry.Entry}}
-use Rattle.{run_law.specs.records.Order.{IsBefore, IsIn}, std.specs.{List.Sorted.IsPermutation, Option.option_map, declared.cmp.Reverse.Reverse}}
-use Rattle.{slab.specs.Slab.{Slab, Updates, get}, std.specs.Ordering.is_lt}
+use Rattle.{run_law.proofs.records.Order.{given_of, is_given}, tte_units.proofs.general_lemmas.Naturals.flips, world_state.specs.declared.queue.DueAt.DueAt}
+use Rattle.{run_law.specs.records.Order.{IsBefore, IsIn}, std.specs.declared.cmp.Reverse.Reverse, world_state.specs.declared.queue.Entry.Entry}
+use Rattle.{slab.specs.Slab.{Slab, Updates, get}, std.specs.{List.Sorted.IsPermutation, Option.option_map, Ordering.is_lt}}
 use Rattle.std.proofs.Common.{◌∙◌, ◌∷◌, ◌≡◌, ◌≢◌, List, None, Option, Some, ap, false, inl, inr, is_some, length, map, nat_eq, refl, subst, sym, true, ℕ}
 use Rattle.std.{proofs.lemmas.{Bool.both_ways, List.Sorted.{IsPermutation-map, IsPermutation-sym}}, specs.BinaryHeap.{IsUpperBound, KeepsHeap, PopsGreatest}}
 use Rattle.std.{proofs.lemmas.Map.Keys.{IsDistinct-IsPermutation, IsDistinct-cons, IsDistinct-head, IsDistinct-tail}, specs.List.{IsDistinct, cons_option}}

@@ -1,4 +1,4 @@
-use Rattle.{audit_devices.specs.Keeping.records_before, membership.specs.{Hearing.Hearing, Summary.Summarizes}}
+use Rattle.{audit_devices.specs.Keeping.records_before, sync_state.specs.membership.{Hearing.Hearing, Summary.Summarizes}}
 use Rattle.audit_sweep.proofs.{HeardPoints.{heard_before_corrections, unchanged_before}, Words.{◌∷◌, List, [], refl, scenario_under, subst}}
 use Rattle.audit_sweep.proofs.clocks.heard.Goals as goal
 

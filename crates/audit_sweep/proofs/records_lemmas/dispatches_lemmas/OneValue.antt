@@ -1,6 +1,6 @@
 -- When a clock crosses one value.
 use Rattle.audit_devices.specs.{Showing.Shown, clocks.Finding.{CrossesAt, IsNextOrNone, value_in}, declared.clocks.finding.{Crossed.Crossed, Series.Series}}
-use Rattle.{audit_devices.specs.events.Readings.ReadsOn, std.{proofs.{Common.{true, ℕ, ℤ}, lemmas.{Bool.{cases_lt, eqb-true}, Int.ints}}, specs.Prelude.◌==◌}}
+use Rattle.{audit_law.specs.events.Readings.ReadsOn, std.{proofs.{Common.{true, ℕ, ℤ}, lemmas.{Bool.{cases_lt, eqb-true}, Int.ints}}, specs.Prelude.◌==◌}}
 use Rattle.audit_sweep.{proofs.records_lemmas.dispatches_lemmas.Occurring.not_none, specs.records.dispatches.Crossing.{IsCrossingOrNone, first_time}}
 use Rattle.std.proofs.Common.{◌*◌, ◌-◌, ◌<◌, ◌^◌, ◌≡◌, ◌≤◌, Bool, None, Option, Some, arith, false, if◌then◌else◌, inl, inr, mul-le-mul_right, refl, subst, sym}
 
@@ -8,8 +8,7 @@ first_value : (series : Series) → value_in series 0 ≡ series.first
 first_value series = omega (arith, ints)
 
 -- a clock that never falls crosses a value once
-once : (reading : ℕ → ℕ) (shown : Shown) (value : ℤ) (t u : ℕ) → ReadsOn reading → CrossesAt reading shown value t → CrossesAt reading shown value u
-    → t < u → ⊥
+once : (reading : ℕ → ℕ) (shown : Shown) (value : ℤ) (t u : ℕ) → ReadsOn reading → CrossesAt reading shown value t → CrossesAt reading shown value u → t < u → ⊥
 once reading shown value t u on at_t at_u lt =
     let up = on.never_falls t (u - 1) (omega (arith, lt)) in
     let reached = at_t.reached in
@@ -45,8 +44,7 @@ crossed_alone reading shown series after until None on far limit none = λ t lat
     none t 0 later (omega (arith, timely)) (subst (λ (v : ℤ). CrossesAt reading shown v t) (sym (first_value series)) crosses)
 crossed_alone reading shown series after until (Some crossed) on far limit next = by (crossed.number == 0) refl
   where
-    by : (b : Bool) → (crossed.number == 0) ≡ b
-        → IsCrossingOrNone reading shown series.first after until (if b then Some crossed.time else None)
+    by : (b : Bool) → (crossed.number == 0) ≡ b → IsCrossingOrNone reading shown series.first after until (if b then Some crossed.time else None)
     by true is =
         let first : crossed.number ≡ 0 = eqb-true crossed.number 0 is in
         let at = subst (λ (v : ℤ). CrossesAt reading shown v crossed.time) (first_value series)

@@ -1,9 +1,9 @@
 -- The rows of each link, as they are found one after another.
 use Rattle.audit_sweep.specs.{declared.records.dispatches.leaving.LeavingRow.LeavingRow, records.dispatches.Leaving.{AreRowsOn, IsRowOn, leaving_by}}
 use Rattle.audit_sweep.specs.{declared.records.dispatches.exits.Exits.Exits, records.dispatches.Exits.{AreExits, AreNoRows, rows_on}}
-use Rattle.{net_plan.specs.declared.ids.LinkId.LinkId, schedule_tables.specs.Entries.IsEntry, std.specs.Prelude.◌==◌, tte_lemmas.proofs.Naturals.below_next}
-use Rattle.{net_plan.specs.declared.network.Network.Network, schedule_tables.{proofs.EntryLemmas.one_entry, specs.declared.entry.Entry.Entry}}
+use Rattle.{net_plan.specs.declared.{ids.LinkId.LinkId, network.Network.Network}, schedule_tables.specs.Entries.IsEntry, std.specs.Prelude.◌==◌}
 use Rattle.{run_law.{proofs.runs.Places.{in_left, in_parts, in_right}, specs.records.Order.IsIn}, std.proofs.lemmas.Bool.{eq-eqb, eqb-true, false≢true}}
+use Rattle.{schedule_tables.{proofs.EntryLemmas.one_entry, specs.declared.entry.Entry.Entry}, tte_units.proofs.general_lemmas.Naturals.below_next}
 use Rattle.std.proofs.Common.{◌++◌, ◌+◌, ◌<◌, ◌∙◌, ◌∷◌, ◌≡◌, ◌≤◌, ◌⊎◌, Bool, Global, List, Vec, [], ap, arith, false, if◌then◌else◌, inl, inr, length, refl}
 use Rattle.std.{proofs.{Common.{slice_get, subst, suc, sym, true, zero, ℕ}, lemmas.Option.{slice_get_past, slice_get_within}}, specs.Option.option_map_or}
 
@@ -16,15 +16,13 @@ pub none_at : (i : ℕ) → items_at [] i ≡ []
 none_at zero = refl
 none_at (suc i) = refl
 
-pub one_list : (lists : List (Vec LeavingRow Global)) (x : Vec LeavingRow Global) (i : ℕ) → x.items ≡ []
-    → items_at (lists ++ x ∷ []) i ≡ items_at lists i
+pub one_list : (lists : List (Vec LeavingRow Global)) (x : Vec LeavingRow Global) (i : ℕ) → x.items ≡ [] → items_at (lists ++ x ∷ []) i ≡ items_at lists i
 one_list [] x zero none = none
 one_list [] x (suc i) none = none_at i
 one_list (y ∷ lists) x zero none = refl
 one_list (y ∷ lists) x (suc i) none = one_list lists x i none
 
-pub past_all : (network : Network) (exits : Exits) (link : LinkId) → length exits.links.items ≤ link.0 → AreExits network exits
-    → AreRowsOn network link []
+pub past_all : (network : Network) (exits : Exits) (link : LinkId) → length exits.links.items ≤ link.0 → AreExits network exits → AreRowsOn network link []
 past_all network exits link past are =
     subst (λ rows. AreRowsOn network link (option_map_or (λ (v : Vec LeavingRow Global). v.items) rows []))
     (slice_get_past exits.links.items link.0 past) (are link)

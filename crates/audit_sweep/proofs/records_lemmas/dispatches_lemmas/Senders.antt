@@ -5,7 +5,7 @@ use Rattle.{audit_devices.specs.declared.clocks.finding.{Crossed.Crossed, Series
 use Rattle.{audit_sweep.specs.declared.records.dispatches.leaving.LeavingRow.LeavingRow, run_law.specs.records.Happenings.{Happening, earlier, numbered}}
 use Rattle.audit_sweep.specs.records.dispatches.{Leaving.{AreRowsOn, leaving_by}, Leavings.{AreLeavings, IsRowFit, cycle_of, leaving_value}}
 use Rattle.audit_sweep.specs.records.dispatches.Sent.{AreFoundByNumber, AreRowsFit, CrossesSome, ReachesSome, SendsBy, SendsBySome, SendsSome}
-use Rattle.{net_plan.{proofs.InRange.amount_most, specs.declared.ids.{DeviceId.DeviceId, LinkId.LinkId}}, tte_lemmas.proofs.Lists.in_all}
+use Rattle.{net_plan.{proofs.InRange.amount_most, specs.declared.ids.{DeviceId.DeviceId, LinkId.LinkId}}, tte_units.proofs.general_lemmas.Lists.in_all}
 use Rattle.{net_plan.specs.declared.network.Network.Network, run_law.{proofs.law.FirstDeliveries.accepted_in, specs.timed.Dispatching.{HasAtHand, IsUp}}}
 use Rattle.std.proofs.Common.{◌+◌, ◌-◌, ◌↔◌, ◌∙◌, ◌≡◌, IsTrue, List, None, Option, Some, ap, arith, inl, inr, pos, refl, subst, suc, sym, zero, ℕ, ℤ}
 use Rattle.std.{proofs.lemmas.Int.ints, specs.Prelude.is_some}

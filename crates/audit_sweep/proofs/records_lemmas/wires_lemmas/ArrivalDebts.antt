@@ -1,11 +1,11 @@
 -- What arrives is owed: wires take time, so it is behind the record that put it there.
 use Rattle.audit_sweep.specs.{declared.records.wires.receiving.Reception.Reception, records.wires.Receptions.{IsOwedArrival, IsReceivedBy}}
-use Rattle.{net_plan.specs.Places.link_at, std.specs.Prelude.option_map, tte_lemmas.proofs.Lists.in_all, tte_units.specs.Amount.amount}
-use Rattle.{net_plan.specs.{Ranges.{IsInRange, IsLinkInRange}, declared.{event.Event.Event, ids.LinkId.LinkId}}, run_law.specs.scenario.Scenarios.Scenario}
-use Rattle.{net_plan.specs.declared.tables.{Link.Link, Way.Way}, run_law.specs.timed.Receptions.arrival_of, schedule_tables.specs.Entries.target_by}
-use Rattle.run_law.{proofs.law.FirstDelays.{last_is, sets_wire}, specs.scenario.{Hypothesis.AreWithinHypothesis, Ways.{delay_at, wire_of, wire_set}}}
-use Rattle.{run_law.{proofs.runs.Places.parted, specs.records.Order.IsIn}, std.specs.Option.option_map_or, tte_lemmas.proofs.Options.{closed, one}}
+use Rattle.{net_plan.specs.{Places.link_at, declared.tables.{Link.Link, Way.Way}}, run_law.proofs.runs.Places.parted, schedule_tables.specs.Entries.target_by}
+use Rattle.{net_plan.specs.Ranges.{IsInRange, IsLinkInRange}, run_law.proofs.law.FirstDelays.{last_is, sets_wire}, tte_units.proofs.general_lemmas.Lists.in_all}
+use Rattle.{net_plan.specs.declared.{event.Event.Event, ids.LinkId.LinkId}, run_law.specs.{scenario.Scenarios.Scenario, timed.Receptions.arrival_of}}
 use Rattle.run_law.specs.{control.Wires.{Arrives, Signal}, declared.outside.Outside.TheVariants.Wire, records.Happenings.{Happening, numbered, time_of}}
+use Rattle.{run_law.specs.records.Order.IsIn, std.specs.{Option.option_map_or, Prelude.option_map}, tte_units.specs.Amount.amount}
+use Rattle.{run_law.specs.scenario.{Hypothesis.AreWithinHypothesis, Ways.{delay_at, wire_of, wire_set}}, tte_units.proofs.general_lemmas.Options.{closed, one}}
 use Rattle.std.proofs.{Common.{◌+ℤ◌, ◌<ℤ◌, ◌<◌, ◌≡◌, ◌≤ℤ◌, ◌≤◌, ◌⊎◌, List, None, Option, Some, ap, arith, inl, pos, refl, subst, ℕ}, lemmas.Int.{by_lt_z, ints}}
 
 there_is : {X Y : Type 0} (f : X → Y) (o : Option X) (y : Y) → option_map f o ≡ Some y → (x : X) × (o ≡ Some x)

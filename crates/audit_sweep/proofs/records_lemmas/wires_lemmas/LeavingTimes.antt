@@ -1,10 +1,10 @@
 -- When control frames leave, and what becomes of them.
-use Rattle.{audit_devices.specs.law.Departures.{OwesDeparture, leaves_at}, audit_sweep.specs.declared.records.kept.KeptRecord.KeptRecord}
+use Rattle.{audit_law.specs.law.Departures.{OwesDeparture, leaves_at}, run_law.specs.records.Happenings.{Happening, numbered}}
 use Rattle.{audit_sweep.proofs.records_lemmas.wires_lemmas.Givers.{given, gives}, run_law.specs.control.Leaving.{Departs, Departure, Gives, departure}}
-use Rattle.{audit_sweep.specs.records.{Keeping.record_of, wires.Departings.{IsLeaving, giver}}, run_law.specs.records.Happenings.{Happening, numbered}}
+use Rattle.audit_sweep.specs.{declared.records.kept.KeptRecord.KeptRecord, records.{Keeping.record_of, wires.Departings.{IsLeaving, giver}}}
 use Rattle.{net_plan.specs.declared.ids.DeviceId.DeviceId, std.proofs.Common.{◌+◌, ◌<◌, ◌∙◌, ◌≡◌, ◌≤◌, List, Some, ap, arith, false, refl, subst, sym, true, ℕ}}
-use Rattle.{net_plan.specs.declared.ids.LinkId.LinkId, run_law.specs.scenario.{Scenarios.{Scenario, is_broken}, Ways.{hold_at, way_from}}}
-use Rattle.{pcf_values.specs.declared.pcf.Pcf.Pcf, tte_lemmas.proofs.Options.one}
+use Rattle.{net_plan.specs.declared.ids.LinkId.LinkId, pcf_values.specs.declared.pcf.Pcf.Pcf}
+use Rattle.{run_law.specs.scenario.{Scenarios.{Scenario, is_broken}, Ways.{hold_at, way_from}}, tte_units.proofs.general_lemmas.Options.one}
 
 -- ---- what is kept tells it
 
@@ -106,8 +106,7 @@ other_time_departs s hs h r device t link cause there k none is x =
     grind (arith, one, leaves_is)
 
 pub departs : (s : Scenario) (hs : List Happening) (h : Happening) (r : KeptRecord) (frame : Pcf) (device : DeviceId) (t : ℕ) (link : LinkId) (cause : ℕ)
-    (is : Departure)
-    → numbered hs cause ≡ Some h → r ≡ record_of h → r.frame ≡ Some frame → giver s.network link r.kept ≡ Some device
+    (is : Departure) → numbered hs cause ≡ Some h → r ≡ record_of h → r.frame ≡ Some frame → giver s.network link r.kept ≡ Some device
     → t ≡ kept_leaves s device link r → is_broken s device t ≡ false → is ≡ departure s device link frame r.time t
     → Departs s hs device t link cause is
 departs s hs h r frame device t link cause is there k framed by at correct becomes =

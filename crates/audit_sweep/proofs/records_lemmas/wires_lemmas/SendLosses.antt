@@ -1,9 +1,10 @@
 -- What is lost of `send` events.
-use Rattle.{audit_devices.specs.law.LostSends.OwesLoss, run_law.specs.{control.Losses.IsSendLost, declared.note.NoteBody.NoteBody, scenario.Scenarios.Scenario}}
+use Rattle.{audit_law.specs.law.LostSends.OwesLoss, net_plan.specs.declared.tables.Link.Link, run_law.specs.control.Losses.IsSendLost}
 use Rattle.audit_sweep.specs.{declared.records.{kept.{Kept.Kept, KeptRecord.KeptRecord}, wires.leaving.Leaving.Leaving}, records.Keeping.{kept_of, record_of}}
 use Rattle.{audit_sweep.specs.records.wires.Departings.IsLostAt, net_plan.specs.declared.{ids.{DeviceId.DeviceId, LinkId.LinkId}, tables.Way.TheVariants.Up}}
-use Rattle.{net_plan.specs.declared.tables.Link.Link, run_law.specs.scenario.Ways.is_cut, std.proofs.lemmas.Option.same_Some, tte_lemmas.proofs.Options.one}
+use Rattle.{run_law.specs.{declared.note.NoteBody.NoteBody, scenario.{Scenarios.Scenario, Ways.is_cut}}, tte_units.proofs.general_lemmas.Options.one}
 use Rattle.{run_law.specs.records.Happenings.{Happening, numbered}, std.proofs.Common.{◌≡◌, List, None, Option, Some, ap, arith, false, slice_get, true, ℕ}}
+use Rattle.std.proofs.lemmas.Option.{same_Some}
 use Rattle.audit_sweep.specs.declared.records.kept.Kept.TheVariants as kepts
 use Rattle.net_plan.specs.declared.event.What.TheVariants as events
 use Rattle.run_law.specs.declared.note.NoteBody.TheVariants as notes
@@ -53,8 +54,7 @@ same_loss s hs h r device other t u link way cause there k x y =
     grind (arith, lost_on, one, slice_get)
 
 pub lost_elsewhere : (s : Scenario) (hs : List Happening) (h : Happening) (r : KeptRecord) (device : DeviceId) (t : ℕ) (link : LinkId) (cause : ℕ)
-    (lost : Leaving)
-    → numbered hs cause ≡ Some h → r ≡ record_of h
+    (lost : Leaving) → numbered hs cause ≡ Some h → r ≡ record_of h
     → ((o : OwesLoss s hs t cause) × (lost.device ≡ o.device) × (lost.link ≡ o.link) × (lost.time ≡ o.time))
     → IsSendLost s hs device t link cause → IsLostAt lost device link t
 lost_elsewhere s hs h r device t link cause lost there k x y =

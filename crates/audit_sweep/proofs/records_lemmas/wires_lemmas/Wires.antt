@@ -2,10 +2,10 @@
 use Rattle.audit_sweep.{proofs.records_lemmas.wires_lemmas.Launching.{by_cause, launched_put, put_launched}, specs.records.Keeping.{kept_of, record_of}}
 use Rattle.audit_sweep.specs.declared.records.{kept.KeptRecord.KeptRecord, wires.{putting.Put.Put, receiving.Reception.Reception}}
 use Rattle.audit_sweep.specs.records.wires.{Receptions.{IsArriving, IsAt, IsReception}, Signals.{ShowsByCause, on_wire_of, port_time, put_by, put_of, stops}}
-use Rattle.{net_plan.specs.{Places.link_at, declared.tables.Link.Link}, schedule_tables.specs.Entries.target_by, tte_lemmas.proofs.Options.one}
+use Rattle.{net_plan.specs.{Places.link_at, declared.tables.Link.Link}, run_law.specs.scenario.Scenarios.Scenario, schedule_tables.specs.Entries.target_by}
 use Rattle.{net_plan.specs.declared.{ids.{DeviceId.DeviceId, LinkId.LinkId}, network.Network.Network}, run_law.specs.scenario.Ways.{delay_at, receiver_of}}
 use Rattle.run_law.specs.{control.Wires.{Arrives, Launch, Signal, control, launched, time_on_port, timed}, records.Happenings.{Happening, time_of}}
-use Rattle.{run_law.specs.scenario.Scenarios.Scenario, std.proofs.Common.{◌+◌, ◌<◌, ◌∙◌, ◌≡◌, ◌≤◌, None, Some, ap, arith, false, refl, subst, sym, true, ℕ}}
+use Rattle.{std.proofs.Common.{◌+◌, ◌<◌, ◌∙◌, ◌≡◌, ◌≤◌, None, Some, ap, arith, false, refl, subst, sym, true, ℕ}, tte_units.proofs.general_lemmas.Options.one}
 use Rattle.std.specs.Prelude.{option_map}
 
 -- ---- what arrives is told

@@ -1,4 +1,4 @@
-use Rattle.{audit_sweep.{proofs.PermanentFrames.{arrived_clock, from_arrival}, specs.Ripenings.waiting_clock}, transparent_clock.specs.Points.point_of}
+use Rattle.{audit_sweep.{proofs.PermanentFrames.{arrived_clock, from_arrival}, specs.Ripenings.waiting_clock}, drift_clock.specs.transparent.Points.point_of}
 use Rattle.audit_sweep.proofs.Words.{◌∙◌, ◌≡◌, Happening, KeptRecord, NoteBody, Some, ap, clock_reading, kept_of, numbered, one, pos, refl, subst, sym, time_of}
 use Rattle.{audit_sweep.proofs.Words.ℕ, drift_clock.specs.Reach.IsReach}
 use Rattle.audit_sweep.proofs.ripening.permanent_frame.Goals as goal

@@ -42,8 +42,7 @@ pub one_taken : (s : Scenario) (hs : List Happening) (link : LinkId) (row : Leav
     → MatchBool b
     (IsAtHand s.network hs row.device row.sender row.vl t taking.number cycle
     × (IsTold s hs link row t (record { cause = taking.number; cycle = cycle }) → ⊥))
-    (IsAtHand s.network hs row.device row.sender row.vl t taking.number cycle
-    → IsTold s hs link row t (record { cause = taking.number; cycle = cycle }))
+    (IsAtHand s.network hs row.device row.sender row.vl t taking.number cycle → IsTold s hs link row t (record { cause = taking.number; cycle = cycle }))
     → MatchBool b (LacksOne s hs link row t cycle) (AreTold s hs link row t cycle)
 one_taken s hs link row t cycle accepted taking true some so own lacks = record { cause = taking.number; at_hand = lacks.0; untold = lacks.1 }
 one_taken s hs link row t cycle accepted taking false some so own told = λ cause hand.

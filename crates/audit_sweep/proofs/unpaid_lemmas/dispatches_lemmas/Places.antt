@@ -1,9 +1,9 @@
 -- Where the records of dispatches stand.
-use Rattle.{audit_devices.specs.law.{Debts.IsPaid, Owed.Pays}, std.specs.Prelude.◌↔◌}
-use Rattle.{audit_devices.specs.law.Dispatched.{Dispatch, dispatch_record, is_cut_then}, std.proofs.Common.{◌≡◌, Bool, List, ap, arith, false, refl, true, ℕ}}
+use Rattle.{audit_law.specs.law.{Debts.IsPaid, Owed.Pays}, std.specs.Prelude.◌↔◌}
+use Rattle.{audit_law.specs.law.Dispatched.{Dispatch, dispatch_record, is_cut_then}, std.proofs.Common.{◌≡◌, Bool, List, ap, arith, false, refl, true, ℕ}}
 use Rattle.{audit_sweep.specs.records.places.Placing.HasRecordAt, net_plan.specs.declared.ids.DeviceId.DeviceId, run_law.specs.declared.note.NoteBody.NoteBody}
 use Rattle.{net_plan.specs.declared.ids.{LinkId.LinkId, VlId.VlId}, run_law.specs.{records.{Happenings.Happening, Ranks.place_at}, scenario.Scenarios.Scenario}}
-use Rattle.audit_devices.specs.law.Owed as debts
+use Rattle.audit_law.specs.law.Owed as debts
 use Rattle.run_law.specs.declared.note.NoteBody.TheVariants as notes
 
 abbrev device_by : ℕ → DeviceId

@@ -1,14 +1,14 @@
 -- The dispatches by a row, by the rows of a link, and by all rows.
-use Rattle.audit_devices.specs.law.{Debts.IsPaid, Owed.Pays}
-use Rattle.{audit_devices.specs.law.{Dispatched.{Dispatch, OwesDispatch}, FirstDebts.earlier_of}, net_plan.specs.declared.ids.{DeviceId.DeviceId, VlId.VlId}}
+use Rattle.{audit_law.specs.law.{Debts.IsPaid, Dispatched.{Dispatch, OwesDispatch}, FirstDebts.earlier_of}, tte_units.proofs.general_lemmas.Naturals.below_next}
+use Rattle.{audit_law.specs.law.Owed.Pays, net_plan.specs.declared.ids.VlId.VlId}
 use Rattle.audit_sweep.proofs.{records_lemmas.dispatches_lemmas.Rows.{no_row, placed}, unpaid_lemmas.Among.{first_of_both, first_of_more}}
 use Rattle.audit_sweep.{proofs.unpaid_lemmas.dispatches_lemmas.RowFacts.reached_later, specs.records.dispatches.Leaving.{AreRowsOn, IsRowOn, leaving_by}}
 use Rattle.audit_sweep.specs.{declared.records.dispatches.leaving.LeavingRow.LeavingRow, unpaid.dispatches.Frames.{IsBy, IsTold, OwesFrame, dispatch_of}}
 use Rattle.audit_sweep.specs.{declared.unpaid.dispatches.debtor.Frame.Frame, unpaid.{Unpaid.TellsFirstAmong, points.FirstUnpaid.TellsFirstUnpaid}}
-use Rattle.{net_plan.specs.declared.ids.LinkId.LinkId, run_law.specs.{records.Happenings.Happening, scenario.Scenarios.Scenario, timed.Dispatching.Dispatches}}
-use Rattle.{schedule_tables.specs.Entries.source_of, std.proofs.lemmas.{Bool.cases_lt, Option.slice_get_within}, tte_lemmas.proofs.Naturals.below_next}
+use Rattle.{net_plan.specs.declared.ids.{DeviceId.DeviceId, LinkId.LinkId}, run_law.specs.{records.Happenings.Happening, timed.Dispatching.Dispatches}}
+use Rattle.{run_law.specs.scenario.Scenarios.Scenario, schedule_tables.specs.Entries.source_of, std.proofs.lemmas.{Bool.cases_lt, Option.slice_get_within}}
 use Rattle.std.proofs.Common.{◌+◌, ◌<◌, ◌∙◌, ◌≡◌, ◌≤◌, ◌⊎◌, List, None, Option, Some, ap, arith, inl, inr, length, refl, slice_index_or, subst, sym, ℕ}
-use Rattle.audit_devices.specs.law.Owed as debts
+use Rattle.audit_law.specs.law.Owed as debts
 
 -- ---- a row
 

@@ -3,11 +3,11 @@ use Rattle.audit_devices.{proofs.clocks_lemmas.Reached.changed_early, specs.{Sho
 use Rattle.{audit_devices.specs.clocks.Finding.{IsNextCrossing, value_in}, net_plan.specs.Ranges.{IsInRange, IsLinkInRange, IsRowInRange, IsVlInRange}}
 use Rattle.audit_sweep.specs.{declared.records.dispatches.leaving.LeavingRow.LeavingRow, records.dispatches.Leavings.{AreLeavings, IsRowFit, first_cycle}}
 use Rattle.{audit_sweep.specs.records.dispatches.Leaving.IsRowOn, net_plan.specs.declared.{network.Network.Network, tables.Way.{TheVariants.{Down, Up}, Way}}}
-use Rattle.{net_plan.proofs.InRange.amount_most, run_law.specs.device.LocalClocks.Reaches, schedule_tables.specs.Entries.source_by}
-use Rattle.{net_plan.specs.{Belonging.{HasDevice, HasLink}, declared.ids.{DeviceId.DeviceId, LinkId.LinkId}}, run_law.specs.records.Happenings.Happening}
-use Rattle.{net_plan.specs.declared.tables.Link.Link, run_law.specs.scenario.Scenarios.Scenario, std.proofs.lemmas.{Int.ints, Option.slice_get_within}}
+use Rattle.{net_plan.{proofs.InRange.amount_most, specs.declared.tables.Link.Link}, schedule_tables.specs.Entries.source_by, tte_units.specs.Amount.amount}
+use Rattle.{net_plan.specs.{Belonging.{HasDevice, HasLink}, declared.ids.{DeviceId.DeviceId, LinkId.LinkId}}, tte_units.proofs.general_lemmas.Lists.in_all}
+use Rattle.{run_law.specs.{device.LocalClocks.Reaches, records.Happenings.Happening, scenario.Scenarios.Scenario}, std.proofs.lemmas.Option.slice_get_within}
 use Rattle.std.proofs.Common.{◌*◌, ◌+◌, ◌<◌, ◌^◌, ◌≡◌, ◌≤◌, List, ap, arith, mul-le-mul_left, mul-le-mul_right, pos, subst, suc, sym, zero, ℕ, ℤ}
-use Rattle.{std.specs.Prelude.{◌+ℤ◌, ◌≤ℤ◌}, tte_lemmas.proofs.Lists.in_all, tte_units.specs.Amount.amount}
+use Rattle.std.{proofs.lemmas.Int.ints, specs.Prelude.{◌+ℤ◌, ◌≤ℤ◌}}
 
 -- ---- the row
 

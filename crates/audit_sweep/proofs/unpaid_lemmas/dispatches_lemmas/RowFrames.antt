@@ -1,12 +1,13 @@
 -- What a row's device dispatches while the same is shown of it.
 use Rattle.audit_devices.{proofs.clocks_lemmas.Reached.{come_reaches, reaches_come}, specs.clocks.Finding.{CrossesAt, IsNextCrossing, NoneCrossed, value_in}}
-use Rattle.{audit_devices.specs.{Showing.{Shown, Shows}, events.Readings.ReadsOn}, net_plan.specs.declared.ids.LinkId.LinkId, std.proofs.lemmas.Bool.cases_lt}
+use Rattle.{audit_devices.specs.Showing.{Shown, Shows}, audit_law.specs.events.Readings.ReadsOn, run_law.specs.timed.Dispatching.IsUp}
 use Rattle.{audit_devices.specs.declared.clocks.finding.{Crossed.Crossed, Series.Series}, sync_state.specs.declared.state.State.TheVariants.Synchronised}
 use Rattle.audit_sweep.{proofs.unpaid_lemmas.points_lemmas.Sendings.{one_crossed, shown_up}, specs.declared.unpaid.dispatches.debtor.Frame.Frame}
 use Rattle.audit_sweep.specs.{declared.records.dispatches.leaving.LeavingRow.LeavingRow, records.dispatches.Leavings.{AreLeavings, cycle_of, leaving_value}}
 use Rattle.{audit_sweep.specs.records.dispatches.Dispatched.IsAtHand, run_law.specs.{records.Happenings.{Happening, earlier}, scenario.Scenarios.Scenario}}
 use Rattle.audit_sweep.specs.unpaid.{dispatches.Frames.{AreTold, IsTold, LacksOne, OwesFrame}, points.{FirstUnpaid.{ArePaid, IsFirstUnpaid}, Kept.ShowsWithin}}
-use Rattle.{run_law.specs.timed.Dispatching.IsUp, std.proofs.Common.{◌+◌, ◌-◌, ◌^◌, ◌∙◌, ◌≡◌, ◌≤◌, List, ap, arith, inl, inr, pos, refl, subst, sym, ℕ, ℤ}}
+use Rattle.{net_plan.specs.declared.ids.LinkId.LinkId, std.proofs.Common.{◌+◌, ◌-◌, ◌^◌, ◌∙◌, ◌≡◌, ◌≤◌, List, ap, arith, inl, inr, pos, refl, subst, sym, ℕ, ℤ}}
+use Rattle.std.proofs.lemmas.Bool.{cases_lt}
 
 -- the device's clock crosses the value of the cycle
 pub record IsCrossed (s : Scenario) (shown : Shown) (row : LeavingRow) (series : Series) (t cycle : ℕ) : Type 0 where

@@ -1,21 +1,20 @@
 -- Emissions come in the order in which their clusters open.
-use Rattle.{audit_devices.proofs.collections_lemmas.Sending.{none_is, some_is}, std.proofs.Common.{map, pos, slice_get, subst, suc, sym, true, zero, ℕ, ℤ}}
-use Rattle.audit_devices.{proofs.collections_lemmas.Spaced.{AreSpaced, spaced}, specs.declared.collections.emitted.Emitted.Emitted}
-use Rattle.{audit_devices.specs.collections.Gathered.Gathers, compression.proofs.{Growth.end_of-least, Middles.{middle_of-ends, middle_of-inner}}}
-use Rattle.audit_devices.specs.{collections.Kept.{History, clusters_in, emissions_in, emitted}, declared.collections.gathering.Gathering.Gathering}
-use Rattle.{compression.{proofs.{Elements.in_filter, Firsts.counts, Held.held-start}, specs.Ascent.offset_at}, tte_units.proofs.Means.mean_of-floor}
+use Rattle.{audit_law.proofs.collections_lemmas.Sending.{none_is, some_is}, std.proofs.Common.{map, pos, slice_get, subst, suc, sym, true, zero, ℕ, ℤ}}
+use Rattle.audit_law.{proofs.collections_lemmas.Spaced.{AreSpaced, spaced}, specs.{collections.Gathered.Gathers, declared.collections.emitted.Emitted.Emitted}}
+use Rattle.audit_law.specs.{collections.Kept.{History, clusters_in, emissions_in, emitted}, declared.collections.gathering.Gathering.Gathering}
+use Rattle.{compression.{proofs.{Elements.in_filter, Held.held-start}, specs.Middle.{middle_of, relative}}, std.proofs.lemmas.Bool.{and_parts, cases_lt}}
+use Rattle.{compression.{proofs.Firsts.counts, specs.Ascent.offset_at}, std.specs.List.AllByRecursion, tte_units.proofs.Means.mean_of-floor}
+use Rattle.{compression.proofs.{Growth.end_of-least, Middles.{middle_of-ends, middle_of-inner}}, std.specs.Prelude.{◌&&◌, ◌==◌, Contains, int_le}}
 use Rattle.compression.specs.{Clusters.{AreClusters, Cluster, Point, beyond, cluster_of, end_of, firsts, has_master, of_cycle_within}, Emission.emission}
-use Rattle.{compression.specs.Middle.{middle_of, relative}, std.{proofs.lemmas.Bool.{and_parts, cases_lt}, specs.Prelude.{◌&&◌, ◌==◌, Contains, int_le}}}
 use Rattle.std.proofs.Common.{◌*ℤ◌, ◌+ℤ◌, ◌+◌, ◌-ℤ◌, ◌-◌, ◌<ℤ◌, ◌<◌, ◌∙◌, ◌∷◌, ◌≡◌, ◌≤ℤ◌, ◌≤◌, Bool, List, Some, [], ap, arith, false, get_or, inl, inr, length}
-use Rattle.{std.{proofs.lemmas.Int.ints, specs.List.AllByRecursion}, tte_units.specs.Mean.mean_of}
+use Rattle.{std.proofs.lemmas.Int.ints, tte_units.specs.Mean.mean_of}
 
 -- ---- the middle of points
 
 abbrev LieIn : ℤ → ℤ → List ℤ → Type 0
 LieIn low high ps = AllByRecursion (λ q. (low ≤ℤ q) × (q ≤ℤ high)) ps
 
-at_place : (low high : ℤ) (ps : List ℤ) (i : ℕ) → i < length ps → LieIn low high ps
-    → (low ≤ℤ get_or ps i (pos 0)) × (get_or ps i (pos 0) ≤ℤ high)
+at_place : (low high : ℤ) (ps : List ℤ) (i : ℕ) → i < length ps → LieIn low high ps → (low ≤ℤ get_or ps i (pos 0)) × (get_or ps i (pos 0) ≤ℤ high)
 at_place low high [] i lt all = absurd (omega (arith, lt))
 at_place low high (p ∷ ps) zero lt all = all.0
 at_place low high (p ∷ ps) (suc i) lt all = at_place low high ps i (omega (arith, lt)) all.1
@@ -33,8 +32,7 @@ mean_in : (a b most : ℤ) → (pos 0 ≤ℤ a) × (a ≤ℤ most) → (pos 0 �
 mean_in a b most first second = grind (arith, mean_of-floor, ints)
 
 -- it is none of them before the first, and none behind the last
-middle_in : (p high : ℤ) (ps : List ℤ) → LieIn p high (p ∷ ps)
-    → (pos 0 ≤ℤ middle_of (relative (p ∷ ps))) × (middle_of (relative (p ∷ ps)) ≤ℤ (high -ℤ p))
+middle_in : (p high : ℤ) (ps : List ℤ) → LieIn p high (p ∷ ps) → (pos 0 ≤ℤ middle_of (relative (p ∷ ps))) × (middle_of (relative (p ∷ ps)) ≤ℤ (high -ℤ p))
 middle_in p high ps all =
     let last = length ps in
     let InIt : ℤ → Type 0 = λ m. (pos 0 ≤ℤ m) × (m ≤ℤ (high -ℤ p)) in
@@ -84,8 +82,7 @@ inside ow calc o ps some =
     by end (middle_of (relative (map (λ q. q.reading) (firsts (of_cycle_within o.cycle o.reading end (o ∷ ps))))))
     (subst (λ (xs : List ℤ). (pos 0 ≤ℤ middle_of (relative xs)) × (middle_of (relative xs) ≤ℤ (end -ℤ o.reading))) (sym same) middle)
   where
-    by : (end m : ℤ) → (pos 0 ≤ℤ m) × (m ≤ℤ (end -ℤ o.reading))
-        → ((o.reading +ℤ (pos 2 *ℤ ow) +ℤ calc) ≤ℤ (o.reading +ℤ (pos 2 *ℤ ow) +ℤ calc +ℤ m))
+    by : (end m : ℤ) → (pos 0 ≤ℤ m) × (m ≤ℤ (end -ℤ o.reading)) → ((o.reading +ℤ (pos 2 *ℤ ow) +ℤ calc) ≤ℤ (o.reading +ℤ (pos 2 *ℤ ow) +ℤ calc +ℤ m))
         × ((o.reading +ℤ (pos 2 *ℤ ow) +ℤ calc +ℤ m) ≤ℤ (end +ℤ (pos 2 *ℤ ow) +ℤ calc))
     by end m between = (omega (arith, ints, between.0), omega (arith, ints, between.1))
 

@@ -1,18 +1,19 @@
 -- The first of what is unpaid, from one change of a stretch to the next and from one device to the next.
-use Rattle.audit_devices.{proofs.stretches_lemmas.Clustering.emissions_same, specs.declared.{collections.emitted.Emitted.Emitted, stretches.kept.Entry.Entry}}
-use Rattle.audit_devices.specs.{collections.Kept.{History, emissions_in}, law.FirstDebts.{TellsFirst, earlier_of}, stretches.Keeping.{Keeps, Stretches}}
-use Rattle.{audit_devices.specs.declared.collections.gathering.Gathering.Gathering, audit_sweep.proofs.unpaid_lemmas.emissions_lemmas.Ascending.opens_before}
+use Rattle.audit_devices.{proofs.stretches_lemmas.Clustering.emissions_same, specs.stretches.{Keeping.{Keeps, Stretches}, Points.{HasPoints, emissions_for}}}
 use Rattle.audit_devices.specs.{declared.stretches.history.StretchHistory.StretchHistory, stretches.Standing.{IsBehind, Stands, device_count, kept_of}}
-use Rattle.{audit_devices.specs.events.Readings.ReadsOn, net_plan.specs.declared.{ids.DeviceId.DeviceId, network.Network.Network, tables.Device.Device}}
-use Rattle.{audit_devices.specs.stretches.Points.{HasPoints, emissions_for}, compression.specs.declared.compressed.Compressed.Compressed}
+use Rattle.{audit_devices.specs.declared.stretches.kept.Entry.Entry, std.proofs.{Common.{slice_get, subst, sym, true, w64, ℕ, ℤ}, lemmas.Bool.cases_lt}}
+use Rattle.{audit_law.specs.{collections.Kept.{History, emissions_in}, events.Readings.ReadsOn}, compression.specs.Clusters.{AreClusters, Cluster, Point}}
+use Rattle.{audit_law.specs.declared.collections.emitted.Emitted.Emitted, compression.specs.declared.compressed.Compressed.Compressed}
+use Rattle.{audit_law.specs.declared.collections.gathering.Gathering.Gathering, audit_sweep.proofs.unpaid_lemmas.emissions_lemmas.Ascending.opens_before}
+use Rattle.{audit_law.specs.law.FirstDebts.{TellsFirst, earlier_of}, run_law.specs.{control.Collections.observation_window, records.Happenings.Happening}}
 use Rattle.audit_sweep.proofs.unpaid_lemmas.emissions_lemmas.{Joining.{HasParts, first_as, first_of_both, first_of_none}, Owing.{are_in, owed_within}}
 use Rattle.audit_sweep.specs.unpaid.emissions.{Emissions.{IsShort, IsTold, OwesAmong, OwesAt, OwesBehind, OwesWithin}, Firsts.TellsFirstOf}
-use Rattle.{compression.specs.Clusters.{AreClusters, Cluster, Point}, std.proofs.{Common.{slice_get, subst, sym, true, w64, ℕ, ℤ}, lemmas.List.length-map}}
-use Rattle.{drift_clock.specs.Reach.IsReach, net_plan.proofs.SameIds.same_device, std.proofs.lemmas.{Bool.cases_lt, Int.ints}}
-use Rattle.{run_law.{proofs.law.FirstPlaces.in_at, specs.scenario.{Devices.is_cm, Scenarios.Scenario}}, tte_lemmas.proofs.{Lists.some_at, Naturals.below_next}}
-use Rattle.{run_law.specs.{control.Collections.observation_window, records.Happenings.Happening}, std.proofs.lemmas.Option.{same_Some, slice_get_past}}
+use Rattle.{drift_clock.specs.Reach.IsReach, net_plan.proofs.SameIds.same_device, run_law.{proofs.law.FirstPlaces.in_at, specs.scenario.Devices.is_cm}}
+use Rattle.{net_plan.specs.declared.{ids.DeviceId.DeviceId, network.Network.Network, tables.Device.Device}, run_law.specs.scenario.Scenarios.Scenario}
 use Rattle.std.proofs.Common.{◌+◌, ◌<◌, ◌^◌, ◌∙◌, ◌≡◌, ◌≤ℤ◌, ◌≤◌, FitsSigned, List, None, Option, Some, ap, arith, false, inl, inr, length, neg_ℤ, pos, refl}
-use Rattle.audit_devices.specs.law.Owed as debts
+use Rattle.std.proofs.lemmas.Int.{ints}
+use Rattle.{std.proofs.lemmas.{List.length-map, Option.{same_Some, slice_get_past}}, tte_units.proofs.general_lemmas.{Lists.some_at, Naturals.below_next}}
+use Rattle.audit_law.specs.law.Owed as debts
 
 -- ---- the stretch behind an entry
 

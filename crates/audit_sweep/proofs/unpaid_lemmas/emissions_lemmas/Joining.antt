@@ -1,6 +1,6 @@
 -- The first of what is unpaid, of two parts and of one that is looked at.
-use Rattle.{audit_devices.specs.law.FirstDebts.earlier_of, std.proofs.Common.{◌≡◌, ◌≤◌, ◌⊎◌, None, Option, Some, arith, inl, inr, subst, ℕ}}
-use Rattle.{audit_sweep.specs.unpaid.emissions.Firsts.{IsFirstOf, TellsFirstOf}, std.{proofs.lemmas.Bool.cases_lt, specs.Prelude.min}}
+use Rattle.{audit_law.specs.law.FirstDebts.earlier_of, std.proofs.{Common.{◌≡◌, ◌≤◌, ◌⊎◌, None, Option, Some, arith, inl, inr, subst, ℕ}, lemmas.Bool.cases_lt}}
+use Rattle.{audit_sweep.specs.unpaid.emissions.Firsts.{IsFirstOf, TellsFirstOf}, std.specs.Prelude.min}
 
 -- what is owed is owed in one of two parts
 pub record HasParts {O : Type 0} (All One Other : O → ℕ → Type 0) : Type 0 where

@@ -1,17 +1,17 @@
 -- What a compression master owes is of a cluster that is kept.
-use Rattle.{audit_devices.proofs.collections_lemmas.Sending.in_map, compression.specs.Clusters.{AreClusters, Cluster, Point}, drift_clock.specs.Reach.IsReach}
-use Rattle.{audit_devices.specs.{Keeping.time_at, law.Emitted.{before_place, emission_place}}, compression.specs.declared.compressed.Compressed.Compressed}
-use Rattle.audit_devices.specs.{collections.Kept.{History, as_emitted, clusters_in, emitted}, stretches.Keeping.{Keeps, StandsFor, Stretches, entry_before}}
-use Rattle.{audit_devices.specs.declared.collections.emitted.Emitted.Emitted, compression.proofs.Elements.{in_cases, in_head, in_none, in_tail}}
-use Rattle.{audit_devices.specs.declared.collections.gathering.Gathering.Gathering, run_law.specs.device.States.{adjustment_at_hearing, state_at_hearing}}
-use Rattle.{audit_devices.specs.declared.stretches.kept.Entry.Entry, run_law.proofs.{law.FirstPlaces.in_filter, records.Order.{has_passed, index_of, is_there}}}
-use Rattle.{audit_devices.specs.stretches.Points.{HasPoints, emissions_for}, run_law.specs.control.Collections.{observation_window, points_of}}
+use Rattle.audit_devices.specs.{Keeping.time_at, stretches.{Keeping.{Keeps, StandsFor, Stretches, entry_before}, Points.{HasPoints, emissions_for}}}
+use Rattle.{audit_devices.specs.declared.stretches.kept.Entry.Entry, audit_law.specs.law.Emitted.{before_place, emission_place}, tte_units.specs.Amount.amount}
+use Rattle.{audit_law.proofs.collections_lemmas.Sending.in_map, run_law.specs.scenario.{Devices.{is_cm, plan_of}, Scenarios.{Scenario, is_broken}}}
+use Rattle.{audit_law.specs.collections.Kept.{History, as_emitted, clusters_in, emitted}, run_law.specs.device.States.{adjustment_at_hearing, state_at_hearing}}
+use Rattle.{audit_law.specs.declared.collections.emitted.Emitted.Emitted, run_law.specs.control.{Collections.{observation_window, points_of}, Hearing.heard_as}}
+use Rattle.{audit_law.specs.declared.collections.gathering.Gathering.Gathering, compression.proofs.Elements.{in_cases, in_head, in_none, in_tail}}
 use Rattle.{audit_sweep.specs.unpaid.emissions.Emissions.{Owes, OwesAt, OwesBehind, OwesWithin, sent_of}, std.proofs.Common.{subst, suc, sym, true, zero, ℕ, ℤ}}
-use Rattle.{compression.proofs.{ClusterFacts.no_cluster, Standing.AreClusters-unique}, net_plan.specs.declared.{ids.DeviceId.DeviceId, network.Network.Network}}
-use Rattle.{run_law.specs.{control.{Emissions.Emits, Hearing.heard_as}, records.Happenings.Happening}, tte_lemmas.proofs.Lists.got_within}
-use Rattle.run_law.specs.{records.Order.{IsBefore, IsIn, is_before}, scenario.{Devices.{is_cm, plan_of}, Scenarios.{Scenario, is_broken}}}
+use Rattle.{compression.{proofs.ClusterFacts.no_cluster, specs.Clusters.{AreClusters, Cluster, Point}}, run_law.specs.records.Order.{IsBefore, IsIn, is_before}}
+use Rattle.{compression.proofs.Standing.AreClusters-unique, net_plan.specs.declared.network.Network.Network, tte_units.proofs.general_lemmas.Lists.got_within}
+use Rattle.{compression.specs.declared.compressed.Compressed.Compressed, run_law.proofs.records.Order.{has_passed, index_of, is_there}}
+use Rattle.{drift_clock.specs.Reach.IsReach, run_law.specs.control.Emissions.Emits, std.specs.{List.last_or, Prelude.Contains}}
+use Rattle.{net_plan.specs.declared.ids.DeviceId.DeviceId, run_law.{proofs.law.FirstPlaces.in_filter, specs.records.Happenings.Happening}}
 use Rattle.std.proofs.Common.{◌∙◌, ◌∷◌, ◌≡◌, ◌≤◌, Bool, List, None, Option, Some, [], ap, arith, false, filter, inl, inr, length, map, pos, refl, slice_get}
-use Rattle.{std.specs.{List.last_or, Prelude.Contains}, tte_units.specs.Amount.amount}
 
 -- ---- lists
 

@@ -1,11 +1,11 @@
 -- The records that say that a compression master sent the frame of a cluster stand at one place.
-use Rattle.{audit_devices.proofs.law_lemmas.Debts.due_in, run_law.proofs.runs.Determined.same_members, tte_units.specs.declared.units.Units.Units}
-use Rattle.{audit_devices.specs.law.DueRecords.{IsCaused, IsDue}, net_plan.specs.declared.ids.DeviceId.DeviceId, run_law.specs.declared.note.NoteBody.NoteBody}
-use Rattle.{audit_devices.specs.law.Emitted.{TellsEmission, emission_place}, compression.specs.declared.compressed.Compressed.Compressed}
+use Rattle.{audit_law.proofs.law_lemmas.Debts.due_in, drift_clock.{proofs.Reaches.one_reach, specs.Reach.IsReach}, net_plan.proofs.SameIds.same_device}
+use Rattle.{audit_law.specs.law.DueRecords.{IsCaused, IsDue}, net_plan.specs.declared.ids.DeviceId.DeviceId, run_law.specs.declared.note.NoteBody.NoteBody}
+use Rattle.{audit_law.specs.law.Emitted.{TellsEmission, emission_place}, compression.specs.declared.compressed.Compressed.Compressed}
 use Rattle.{audit_sweep.specs.{records.places.Placing.HasRecordAt, unpaid.emissions.Emissions.IsTold}, run_law.specs.records.Happenings.{Happening, time_of}}
-use Rattle.{drift_clock.proofs.Reaches.one_reach, net_plan.proofs.SameIds.same_device, run_law.specs.{runs.Runs.IsFounded, scenario.Scenarios.Scenario}}
-use Rattle.{drift_clock.specs.Reach.IsReach, tte_units.specs.Amount.amount}
+use Rattle.{run_law.{proofs.runs.Determined.same_members, specs.{runs.Runs.IsFounded, scenario.Scenarios.Scenario}}, tte_units.specs.declared.units.Units.Units}
 use Rattle.{run_law.specs.records.Ranks.{members_in, place_at, place_of, sign}, std.proofs.Common.{◌∙◌, ◌≡◌, List, ap, arith, pos, refl, unsigned_abs, ℕ}}
+use Rattle.tte_units.specs.Amount.{amount}
 use Rattle.run_law.specs.declared.note.NoteBody.TheVariants as notes
 
 -- ---- the record at the place
@@ -22,8 +22,7 @@ told_at u m t d sent (notes.Compressed other opened at cycle members verdict) e 
     grind (arith, same_device, same_units, same_members)
 told_at u m t d sent other e = absurd cc
 
-pub told_there : (s : Scenario) (hs : List Happening) (d : DeviceId) (t : ℕ) (sent : Compressed) → HasRecordAt hs (emission_place t d sent)
-    → IsTold s hs d sent
+pub told_there : (s : Scenario) (hs : List Happening) (d : DeviceId) (t : ℕ) (sent : Compressed) → HasRecordAt hs (emission_place t d sent) → IsTold s hs d sent
 told_there s hs d t sent there =
     (there.0, there.1, told_at (time_of there.0) (members_in there.0) t d sent there.0.note.body there.2)
 

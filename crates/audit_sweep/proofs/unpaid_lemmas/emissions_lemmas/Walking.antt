@@ -1,10 +1,10 @@
 -- The first of what is unpaid, from the last cluster of a stretch back.
-use Rattle.{audit_devices.specs.Keeping.time_at, compression.specs.Clusters.Point, drift_clock.{proofs.Reaches.one_reach, specs.Reach.IsReach}}
-use Rattle.audit_devices.specs.{collections.{Gathered.Gathers, Kept.{History, as_emitted, emissions_in}}, declared.collections.emitted.Emitted.Emitted}
-use Rattle.{audit_devices.specs.{declared.stretches.kept.Entry.Entry, law.FirstDebts.earlier_of}, audit_sweep.specs.unpaid.emissions.Firsts.TellsFirstOf}
+use Rattle.{audit_devices.specs.{Keeping.time_at, declared.stretches.kept.Entry.Entry}, audit_sweep.specs.unpaid.emissions.Firsts.TellsFirstOf}
+use Rattle.audit_law.specs.{collections.{Gathered.Gathers, Kept.{History, as_emitted, emissions_in}}, declared.collections.emitted.Emitted.Emitted}
+use Rattle.{audit_law.specs.law.FirstDebts.earlier_of, net_plan.specs.declared.ids.DeviceId.DeviceId, run_law.specs.records.Happenings.Happening}
 use Rattle.audit_sweep.proofs.unpaid_lemmas.emissions_lemmas.{Ascending.ascending, Joining.{HasParts, first_as, first_of_both, first_of_none}}
 use Rattle.{audit_sweep.specs.unpaid.emissions.Emissions.{IsTold, Owes, OwesBehind, sent_of}, compression.specs.declared.compressed.Compressed.Compressed}
-use Rattle.{net_plan.specs.declared.ids.DeviceId.DeviceId, run_law.specs.{records.Happenings.Happening, scenario.Scenarios.Scenario}}
+use Rattle.{compression.specs.Clusters.Point, drift_clock.{proofs.Reaches.one_reach, specs.Reach.IsReach}, run_law.specs.scenario.Scenarios.Scenario}
 use Rattle.std.proofs.Common.{◌+◌, ◌<ℤ◌, ◌<◌, ◌∷◌, ◌≡◌, ◌≤ℤ◌, ◌≤◌, List, None, Option, Some, [], ap, arith, inl, inr, length, pos, refl, slice_get, subst, suc}
 use Rattle.std.proofs.{Common.{sym, zero, ℕ}, lemmas.{Bool.cases_lt, Int.ints}}
 

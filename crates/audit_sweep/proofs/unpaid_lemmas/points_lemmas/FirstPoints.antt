@@ -1,15 +1,15 @@
 -- The first of all correction points that are not told of.
-use Rattle.audit_devices.{proofs.clocks_lemmas.Reached.changed_early, specs.law.{CorrectionNumbers.ComesToPoint, CorrectionPoints.OwesPoint}}
-use Rattle.{audit_devices.specs.law.FirstDebts.TellsFirst, net_plan.specs.declared.tables.Device.Device, run_law.specs.scenario.Devices.start_of}
+use Rattle.{audit_devices.proofs.clocks_lemmas.Reached.changed_early, std.proofs.{Common.{Bool, fold, if◌then◌else◌, suc, zero}, lemmas.Option.slice_get_past}}
+use Rattle.{audit_law.specs.law.{CorrectionNumbers.ComesToPoint, CorrectionPoints.OwesPoint}, run_law.specs.device.States.{is_joined_by, state_with}}
+use Rattle.{audit_law.specs.law.FirstDebts.TellsFirst, audit_sweep.specs.unpaid.points.Told.AreOfDevices, sync_state.specs.Standing.{point_in, state_at_start}}
 use Rattle.audit_sweep.proofs.unpaid_lemmas.points_lemmas.Words.{◌<◌, ◌∙◌, ◌∷◌, ◌≡◌, DeviceId, Happening, Integrating, IsTold, List, None, NoteBody, Option}
 use Rattle.audit_sweep.proofs.unpaid_lemmas.points_lemmas.Words.{OwesAt, Scenario, Some, State, TellsFirstAmong, Verdict, [], ap, arith, cases_lt, earlier}
 use Rattle.audit_sweep.proofs.unpaid_lemmas.points_lemmas.Words.{false, inl, inr, ints, is_turned_on_at, length, refl, state_after, true, up_to, ℕ, ℤ}
-use Rattle.{audit_sweep.specs.unpaid.points.Told.AreOfDevices, run_law.proofs.law.FirstPlaces.in_filter, sync_state.specs.Standing.{point_in, state_at_start}}
 use Rattle.net_plan.proofs.SameIds.{other_device}
+use Rattle.{net_plan.specs.declared.tables.Device.Device, run_law.{proofs.law.FirstPlaces.in_filter, specs.device.LocalClocks.Reaches}}
 use Rattle.{run_law.specs.declared.judgement.Judgement.TheVariants.Integrates, sync_state.specs.declared.state.State.TheVariants.{Joining, Off}}
-use Rattle.{run_law.specs.device.{LocalClocks.Reaches, States.{is_joined_by, state_with}}, std.proofs.Common.{Bool, fold, if◌then◌else◌, suc, zero}}
-use Rattle.{run_law.specs.records.{Causes.device_of, Order.IsIn}, std.{proofs.lemmas.Option.slice_get_past, specs.Prelude.{◌==◌, option_and_then}}}
-use Rattle.audit_devices.specs.law.Owed as debts
+use Rattle.{run_law.specs.{records.{Causes.device_of, Order.IsIn}, scenario.Devices.start_of}, std.specs.Prelude.{◌==◌, option_and_then}}
+use Rattle.audit_law.specs.law.Owed as debts
 use Rattle.run_law.specs.declared.note.NoteBody.TheVariants as notes
 
 -- ---- a device that no record is of has no correction point

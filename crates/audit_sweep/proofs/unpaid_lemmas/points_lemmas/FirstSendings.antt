@@ -1,10 +1,10 @@
 -- The first of all sendings that are not paid.
-use Rattle.{audit_devices.specs.law.{Debts.IsPaid, Owed.Pays}, run_law.specs.scenario.Devices.has_role, std.proofs.lemmas.Option.slice_get_past}
-use Rattle.{audit_devices.specs.law.{Dispatched.Sending, FirstDebts.TellsFirst}, net_plan.specs.declared.{network.Network.Network, tables.Device.Device}}
-use Rattle.{audit_sweep.{proofs.unpaid_lemmas.points_lemmas.Sendings.none_at_first, specs.unpaid.points.Sent.sending_of}, net_plan.specs.Places.is_master}
+use Rattle.{audit_law.specs.law.Debts.IsPaid, net_plan.specs.Places.is_master, run_law.specs.scenario.Devices.has_role, std.proofs.lemmas.Option.slice_get_past}
+use Rattle.{audit_law.specs.law.{Dispatched.Sending, FirstDebts.TellsFirst, Owed.Pays}, net_plan.specs.declared.{network.Network.Network, tables.Device.Device}}
+use Rattle.audit_sweep.{proofs.unpaid_lemmas.points_lemmas.Sendings.none_at_first, specs.unpaid.points.Sent.sending_of}
 use Rattle.audit_sweep.proofs.unpaid_lemmas.points_lemmas.Words.{◌<◌, ◌≡◌, DeviceId, Happening, IsSent, List, None, Option, Scenario, Sends, Some}
 use Rattle.audit_sweep.proofs.unpaid_lemmas.points_lemmas.Words.{TellsFirstAmong, ap, arith, cases_lt, inl, inr, length, refl, true, ℕ}
-use Rattle.audit_devices.specs.law.Owed as debts
+use Rattle.audit_law.specs.law.Owed as debts
 
 -- a master is a device of the network
 master_there : (network : Network) (device : DeviceId) → has_role network is_master device ≡ true → device.0 < length network.device

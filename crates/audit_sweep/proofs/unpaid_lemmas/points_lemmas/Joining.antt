@@ -1,9 +1,9 @@
 -- What is unpaid first in one stretch of time after another, and of one device after another.
-use Rattle.{audit_devices.specs.{Lasting.{IsUpTo, ShowsUpTo}, law.FirstDebts.earlier_of}, audit_sweep.specs.unpaid.points.Ends.end_of}
+use Rattle.{audit_devices.specs.Lasting.{IsUpTo, ShowsUpTo}, audit_sweep.specs.unpaid.points.Ends.end_of, std.specs.Prelude.{MatchOption, is_some, min}}
+use Rattle.audit_law.specs.law.FirstDebts.{earlier_of}
 use Rattle.audit_sweep.proofs.unpaid_lemmas.points_lemmas.Words.{◌+◌, ◌<◌, ◌≡◌, ◌≤◌, ArePaid, DeviceId, Happening, IsFirstUnpaid, List, None, Option, Scenario}
 use Rattle.audit_sweep.proofs.unpaid_lemmas.points_lemmas.Words.{Shown, ShowsWithin, Some, TellsFirstAmong, ap, arith, cases_lt, false, inl, inr, refl, subst}
 use Rattle.audit_sweep.{proofs.unpaid_lemmas.points_lemmas.Words.{sym, true, ℕ}, specs.unpaid.points.FirstUnpaid.{IsFirstAmong, TellsFirstUnpaid}}
-use Rattle.std.specs.Prelude.{MatchOption, is_some, min}
 
 pub paid_both : {C : Type 0} (Owes Paid : ℕ → C → Type 0) (after mid before : ℕ) → ArePaid Owes Paid after (mid + 1) → ArePaid Owes Paid mid before
     → ArePaid Owes Paid after before

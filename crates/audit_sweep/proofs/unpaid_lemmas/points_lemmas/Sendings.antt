@@ -2,11 +2,11 @@
 use Rattle.audit_devices.{proofs.clocks_lemmas.Reached.{changed_early, come_reaches, reaches_come}, specs.declared.clocks.finding.Crossed.Crossed}
 use Rattle.{audit_devices.specs.clocks.Finding.{CrossesAt, IsNextCrossing, NoneCrossed}, sync_state.specs.declared.state.State.TheVariants.Synchronised}
 use Rattle.{audit_devices.specs.declared.clocks.finding.Series.Series, std.proofs.Common.{◌*◌, ◌^◌, mul-le-mul_left, mul-le-mul_right, suc, zero}}
-use Rattle.{audit_devices.specs.events.Readings.ReadsOn, run_law.specs.scenario.Devices.has_role, std.specs.Prelude.◌≤ℤ◌, sync_state.proofs.StateFacts.up_state}
+use Rattle.{audit_law.specs.events.Readings.ReadsOn, run_law.specs.{scenario.Devices.has_role, timed.Dispatching.IsUp}, sync_state.proofs.StateFacts.up_state}
 use Rattle.audit_sweep.proofs.unpaid_lemmas.points_lemmas.Words.{◌+◌, ◌-◌, ◌<◌, ◌∙◌, ◌≡◌, ◌≤◌, ArePaid, DeviceId, Happening, IsFirstUnpaid, List, Scenario}
 use Rattle.audit_sweep.proofs.unpaid_lemmas.points_lemmas.Words.{Sends, Shown, Shows, ShowsWithin, ap, arith, cases_lt, earlier, inl, inr, ints}
 use Rattle.audit_sweep.proofs.unpaid_lemmas.points_lemmas.Words.{is_turned_on_at, pos, refl, state_after, subst, sym, true, value_in, ℕ, ℤ}
-use Rattle.{net_plan.specs.Places.is_master, run_law.specs.timed.Dispatching.IsUp, tte_units.specs.Amount.amount}
+use Rattle.{net_plan.specs.Places.is_master, std.specs.Prelude.◌≤ℤ◌, tte_units.specs.Amount.amount}
 
 -- the series is that of the beginnings of cycles
 abbrev pub AreBeginnings : Scenario → Series → Type 0

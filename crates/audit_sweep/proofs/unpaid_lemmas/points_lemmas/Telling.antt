@@ -1,5 +1,5 @@
 -- Which records tell of correction points.
-use Rattle.audit_devices.{proofs.law_lemmas.Numbered.founded_at, specs.law.{CorrectionPoints.IsPointOf, DueRecords.{ChangesState, IsCaused}}}
+use Rattle.audit_law.{proofs.law_lemmas.Numbered.founded_at, specs.law.{CorrectionPoints.IsPointOf, DueRecords.{ChangesState, IsCaused}}}
 use Rattle.{audit_devices.specs.clocks.Points.ComesTo, sync_state.specs.declared.answers.Verdict.TheVariants.{AsyncClique, Cleared, Corrected, SyncClique}}
 use Rattle.{audit_devices.specs.declared.clocks.correcting.Point.Point, audit_sweep.proofs.unpaid_lemmas.points_lemmas.Words.{subst, sym, time_of, ℕ}}
 use Rattle.audit_sweep.proofs.unpaid_lemmas.points_lemmas.Words.{◌∙◌, ◌∷◌, ◌≡◌, DeviceId, Happening, HasRecordAt, IsDue, IsFounded, IsTold, List, NoteBody}

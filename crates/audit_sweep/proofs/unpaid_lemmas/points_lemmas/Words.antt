@@ -4,8 +4,8 @@ pub use Rattle.std.proofs.Common.{true, ℕ, ℤ}
 pub use Rattle.std.proofs.lemmas.{Bool.{cases_lt, false≢true}, Int.ints}
 pub use Rattle.audit_devices.specs.clocks.Finding.{value_in}
 pub use Rattle.audit_devices.specs.Showing.{Shown, Shows}
-pub use Rattle.audit_devices.specs.events.Readings.{scenario_under}
-pub use Rattle.audit_devices.specs.law.DueRecords.{IsDue}
+pub use Rattle.audit_law.specs.events.Readings.{scenario_under}
+pub use Rattle.audit_law.specs.law.DueRecords.{IsDue}
 pub use Rattle.audit_sweep.specs.records.places.Placing.{HasRecordAt}
 pub use Rattle.net_plan.specs.declared.{event.Event.Event, ids.DeviceId.DeviceId}
 pub use Rattle.run_law.specs.declared.note.NoteBody.{NoteBody}

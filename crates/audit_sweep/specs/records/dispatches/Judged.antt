@@ -1,13 +1,13 @@
 -- What a device dispatches at a time, judged by what is known of the records before.
 use Rattle.std.specs.Prelude.{◌<◌, ◌≡◌, List, Option, option_map, true, ℕ}
-use Rattle.audit_devices.specs.{Showing.{Shown, Shows}, Takings.{HasTaken, taker_count}, events.Readings.scenario_under}
-use Rattle.audit_devices.specs.declared.{events.history.EventHistory.EventHistory, takings.Takings.Takings}
-use Rattle.audit_devices.specs.events.Remembering.{Remembers}
+use Rattle.{audit_devices.specs.Showing.{Shown, Shows}, run_law.specs.scenario.Scenarios.Scenario}
+use Rattle.audit_devices.specs.{Takings.{HasTaken, taker_count}, declared.takings.Takings.Takings}
+use Rattle.audit_law.specs.{declared.events.history.EventHistory.EventHistory, events.Readings.scenario_under}
+use Rattle.{audit_law.specs.events.Remembering.Remembers, run_law.specs.timed.Dispatching.Dispatches}
 use Rattle.audit_sweep.specs.{declared.records.{dispatches.judging.At.At, kept.Kept.Kept}, records.Keeping.kept_of}
-use Rattle.net_plan.specs.{Belonging.HasDevice, declared.{event.Event.Event, ids.{DeviceId.DeviceId, LinkId.LinkId}}}
-use Rattle.net_plan.specs.declared.{ids.VlId.VlId, network.Network.Network}
-use Rattle.run_law.specs.{records.Happenings.{Happening, earlier, numbered}, scenario.Scenarios.Scenario}
-use Rattle.run_law.specs.{scenario.Ways.{is_cut, way_from}, timed.Dispatching.Dispatches}
+use Rattle.net_plan.specs.{Belonging.HasDevice, declared.ids.VlId.VlId}
+use Rattle.net_plan.specs.declared.{event.Event.Event, ids.{DeviceId.DeviceId, LinkId.LinkId}, network.Network.Network}
+use Rattle.run_law.specs.{records.Happenings.{Happening, earlier, numbered}, scenario.Ways.{is_cut, way_from}}
 
 -- the events and the records are these, and this is what is known of them and shown of the device before the time
 pub record IsKnown (network : Network) (befallen : List Event) (hs : List Happening) (events : EventHistory)

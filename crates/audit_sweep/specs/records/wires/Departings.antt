@@ -1,7 +1,7 @@
 -- When control frames leave, and what is lost of `send` events.
 use Rattle.std.specs.{Option.option_map_or, Prelude.ℕ}
 use Rattle.std.specs.Prelude.{◌&&◌, ◌==◌, ◌||◌, ◌≡◌, Bool, List, MatchOption, None, Option, Some, false, if◌then◌else◌}
-use Rattle.audit_devices.specs.law.{Departures.{OwesDeparture, leaves_at}, LostSends.OwesLoss}
+use Rattle.audit_law.specs.law.{Departures.{OwesDeparture, leaves_at}, LostSends.OwesLoss}
 use Rattle.audit_sweep.specs.declared.records.{kept.Kept.Kept, wires.leaving.Leaving.Leaving}
 use Rattle.device_rules.specs.{Answers.departure_as, declared.leaving.Departed.Departed}
 use Rattle.net_plan.specs.{Places.link_at, declared.{ids.{DeviceId.DeviceId, LinkId.LinkId}, network.Network.Network}}

@@ -1,10 +1,9 @@
 -- Where and when a frame arrives.
 use Rattle.std.specs.Prelude.{◌≡◌, ◌≤◌, List, MatchOption, Option, ℕ}
-use Rattle.audit_devices.specs.law.Arrivals.{OwesArrival}
-use Rattle.net_plan.specs.declared.ids.{DeviceId.DeviceId, LinkId.LinkId}
-use Rattle.run_law.specs.{control.Wires.{Arrives, Signal}, records.Happenings.Happening, scenario.Scenarios.Scenario}
-use Rattle.audit_sweep.specs.records.{wires.Signals.on_wire_of}
+use Rattle.{audit_law.specs.law.Arrivals.OwesArrival, net_plan.specs.declared.ids.LinkId.LinkId}
 use Rattle.audit_sweep.specs.declared.records.wires.{putting.OnWire.OnWire, receiving.Reception.Reception}
+use Rattle.{audit_sweep.specs.records.wires.Signals.on_wire_of, net_plan.specs.declared.ids.DeviceId.DeviceId}
+use Rattle.run_law.specs.{control.Wires.{Arrives, Signal}, records.Happenings.Happening, scenario.Scenarios.Scenario}
 
 -- what the record puts on a wire arrives so, and in no other way
 pub record IsReception (s : Scenario) (h : Happening) (r : Reception) : Type 0 where

@@ -1,8 +1,8 @@
 -- What is known of the records that owe those of dispatches.
 use Rattle.std.specs.Prelude.{◌^◌, ◌≡◌, ◌≤◌, List, length}
-use Rattle.audit_devices.specs.{Keeping.{Stands, device_count}, Takings.{HasTaken, taker_count}}
-use Rattle.{audit_devices.specs.events.Readings.scenario_under, audit_sweep.specs.records.dispatches.Exits.AreExits}
-use Rattle.{audit_devices.specs.events.Remembering.Remembers, run_law.specs.records.Happenings.Happening}
+use Rattle.{audit_devices.specs.Keeping.{Stands, device_count}, audit_law.specs.events.Readings.scenario_under}
+use Rattle.{audit_devices.specs.Takings.{HasTaken, taker_count}, audit_sweep.specs.records.dispatches.Exits.AreExits}
+use Rattle.{audit_law.specs.events.Remembering.Remembers, run_law.specs.records.Happenings.Happening}
 use Rattle.audit_sweep.specs.{declared.unpaid.dispatches.debtor.RowDebtor.RowDebtor, records.places.Placing.ArePlacesOf}
 use Rattle.{net_plan.specs.{Ranges.IsInRange, declared.event.Event.Event}, run_law.specs.scenario.Scenarios.Scenario}
 

@@ -1,12 +1,12 @@
 -- The frames of a row that its device dispatches, and the records that tell of them.
 use Rattle.std.specs.Prelude.{◌≡◌, List, pos, ℕ}
-use Rattle.{audit_devices.specs.law.{Debts.IsPaid, Dispatched.Dispatch}, net_plan.specs.declared.ids.LinkId.LinkId}
-use Rattle.audit_devices.specs.law.Owed.{Pays}
+use Rattle.audit_law.specs.law.{Debts.IsPaid, Owed.Pays}
+use Rattle.{audit_law.specs.law.Dispatched.Dispatch, run_law.specs.{device.LocalClocks.Reaches, timed.Dispatching.IsUp}}
 use Rattle.audit_sweep.specs.declared.records.dispatches.leaving.LeavingRow.{LeavingRow}
 use Rattle.{audit_sweep.specs.declared.unpaid.dispatches.debtor.Frame.Frame, run_law.specs.records.Happenings.Happening}
 use Rattle.audit_sweep.specs.records.dispatches.{Dispatched.IsAtHand, Leavings.{Occurs, leaving_value}}
-use Rattle.run_law.specs.{device.LocalClocks.Reaches, scenario.Scenarios.Scenario, timed.Dispatching.IsUp}
-use Rattle.audit_devices.specs.law.Owed as debts
+use Rattle.{net_plan.specs.declared.ids.LinkId.LinkId, run_law.specs.scenario.Scenarios.Scenario}
+use Rattle.audit_law.specs.law.Owed as debts
 
 -- the row's device, which is up, has this frame at hand, whose cycle is one of the virtual link, and its clock reaches
 -- the row's place in the cycle

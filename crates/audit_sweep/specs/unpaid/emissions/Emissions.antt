@@ -1,12 +1,12 @@
 -- What compression masters owe, and the records that say that it was sent.
 use Rattle.std.specs.Prelude.{◌<ℤ◌, ◌<◌, ◌^◌, ◌≡◌, ◌≤ℤ◌, ◌≤◌, List, Some, neg_ℤ, pos, slice_get, ℕ, ℤ}
-use Rattle.audit_devices.specs.{Keeping.time_at, collections.Kept.{History, as_emitted, emissions_in}, law.Debts.IsPaid}
-use Rattle.audit_devices.specs.declared.{collections.emitted.Emitted.Emitted, stretches.kept.Entry.Entry}
-use Rattle.{audit_devices.specs.law.Emitted.{before_place, emission_place}, run_law.specs.scenario.Scenarios.Scenario}
-use Rattle.audit_devices.specs.law.Owed.{Pays}
+use Rattle.{audit_devices.specs.Keeping.time_at, audit_law.specs.collections.Kept.{History, as_emitted, emissions_in}}
+use Rattle.{audit_devices.specs.declared.stretches.kept.Entry.Entry, run_law.specs.scenario.Scenarios.Scenario}
+use Rattle.audit_law.specs.{declared.collections.emitted.Emitted.Emitted, law.Emitted.{before_place, emission_place}}
+use Rattle.audit_law.specs.law.{Debts.IsPaid, Owed.Pays}
 use Rattle.{compression.specs.declared.compressed.Compressed.Compressed, net_plan.specs.declared.ids.DeviceId.DeviceId}
 use Rattle.run_law.specs.{control.Emissions.Emits, declared.judgement.Judgement.Judgement, records.Happenings.Happening}
-use Rattle.audit_devices.specs.law.Owed as debts
+use Rattle.audit_law.specs.law.Owed as debts
 
 -- a number of 64 bits
 pub record IsShort (x : ℤ) : Type 0 where

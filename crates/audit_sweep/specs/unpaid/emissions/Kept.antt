@@ -1,6 +1,6 @@
 -- What is kept of a report.
 use Rattle.std.specs.Prelude.{◌≡◌, List, true, ℕ}
-use Rattle.audit_devices.specs.{events.Remembering.Remembers, declared.events.history.EventHistory.EventHistory}
+use Rattle.audit_law.specs.{declared.events.history.EventHistory.EventHistory, events.Remembering.Remembers}
 use Rattle.audit_sweep.specs.records.places.Placing.{ArePlacesOf}
 use Rattle.audit_devices.specs.{stretches.Standing.Stands, declared.stretches.history.StretchHistory.StretchHistory}
 use Rattle.net_plan.specs.declared.{event.Event.Event, ids.DeviceId.DeviceId, network.Network.Network}

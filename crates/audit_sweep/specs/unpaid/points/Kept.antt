@@ -1,10 +1,11 @@
 -- What is kept of a report.
 use Rattle.std.specs.Prelude.{◌<◌, ◌≤◌, List, ℕ}
-use Rattle.{audit_devices.specs.Keeping.Stands, run_law.specs.scenario.Scenarios.Scenario}
-use Rattle.audit_devices.specs.{Showing.{Shown, Shows}, events.{Readings.scenario_under, Remembering.Remembers}}
-use Rattle.audit_devices.specs.declared.{events.history.EventHistory.EventHistory, standings.Standings.Standings}
+use Rattle.audit_devices.specs.{Keeping.Stands, Showing.{Shown, Shows}}
+use Rattle.{audit_devices.specs.declared.standings.Standings.Standings, net_plan.specs.declared.network.Network.Network}
+use Rattle.audit_law.specs.{declared.events.history.EventHistory.EventHistory, events.Readings.scenario_under}
+use Rattle.{audit_law.specs.events.Remembering.Remembers, net_plan.specs.declared.ids.DeviceId.DeviceId}
 use Rattle.{audit_sweep.specs.records.places.Placing.ArePlacesOf, run_law.specs.records.Happenings.{Happening, earlier}}
-use Rattle.net_plan.specs.declared.{event.Event.Event, ids.DeviceId.DeviceId, network.Network.Network}
+use Rattle.{net_plan.specs.declared.event.Event.Event, run_law.specs.scenario.Scenarios.Scenario}
 
 -- these events befell the network and these are the records: so the histories and the places are of them
 pub record IsKept (network : Network) (befallen : List Event) (hs : List Happening) (events : EventHistory)

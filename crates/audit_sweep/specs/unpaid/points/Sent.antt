@@ -1,9 +1,9 @@
 -- What a master sends, and the records that say so.
 use Rattle.std.specs.Prelude.{List, ℕ}
-use Rattle.audit_devices.specs.law.{Debts.IsPaid, Dispatched.Sending, Owed.Pays}
+use Rattle.audit_law.specs.law.{Debts.IsPaid, Dispatched.Sending, Owed.Pays}
 use Rattle.net_plan.specs.declared.ids.DeviceId.{DeviceId}
 use Rattle.run_law.specs.{records.Happenings.Happening, scenario.Scenarios.Scenario}
-use Rattle.audit_devices.specs.law.Owed as debts
+use Rattle.audit_law.specs.law.Owed as debts
 
 -- the device's frame of the cycle at the time
 abbrev pub sending_of : DeviceId → ℕ → ℕ → Sending

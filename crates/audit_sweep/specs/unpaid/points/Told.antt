@@ -1,11 +1,11 @@
 -- What correction points owe, and the records that tell of them.
 use Rattle.std.specs.Prelude.{◌≡◌, List, Some, ℕ}
-use Rattle.audit_devices.specs.law.{CorrectionNumbers.ComesToPoint, Debts.IsPaid, Owed.Pays}
+use Rattle.audit_law.specs.law.{CorrectionNumbers.ComesToPoint, Debts.IsPaid, Owed.Pays}
 use Rattle.net_plan.specs.{Belonging.HasDevice, declared.{ids.DeviceId.DeviceId, network.Network.Network}}
 use Rattle.run_law.specs.records.{Causes.device_of, Happenings.{Happening, up_to}, Order.IsIn}
 use Rattle.run_law.specs.scenario.Scenarios.{Scenario}
 use Rattle.sync_state.specs.declared.answers.Verdict.{Verdict, TheVariants.Cleared}
-use Rattle.audit_devices.specs.law.Owed as debts
+use Rattle.audit_law.specs.law.Owed as debts
 
 -- at the time the device has the correction point of the cycle, at which it does not only clear, judged by the records
 -- up to then

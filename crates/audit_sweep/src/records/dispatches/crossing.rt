@@ -2,13 +2,13 @@
 
 ghost use Rattle.std.specs.Prelude.{◌^◌, ◌≡◌, ◌≤◌, List, pos};
 ghost use Rattle.{audit_devices.specs.clocks.Finding.IsSeries, net_plan.specs.Belonging.HasDevice};
-ghost use Rattle.audit_devices.specs.events.{Readings.clock_reading, Remembering.{Remembers, RemembersSome}};
+ghost use Rattle.audit_law.specs.events.{Readings.clock_reading, Remembering.{Remembers, RemembersSome}};
 ghost use Rattle.audit_sweep.specs.records.dispatches.Crossing.{IsCrossingOrNone, first_time};
-ghost use Rattle.net_plan.specs.declared.{event.Event.Event, network.{Network.{Network as NetworkValue}}};
+ghost use Rattle.net_plan.specs.declared.{event.Event.Event, network.Network.{Network as NetworkValue}};
 
 use audit_devices::Shown;
 use audit_devices::clocks::{Crossed, Series, next_crossing};
-use audit_devices::events::{EventHistory, reading_law};
+use audit_law::events::{EventHistory, reading_law};
 use net_plan::DeviceId;
 
 /// The time later than `after`, up to `until`, at which the device's clock crosses the value, where no record changes

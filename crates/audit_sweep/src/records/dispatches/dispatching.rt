@@ -2,10 +2,9 @@ ghost use Rattle.std.specs.Prelude.{◌*◌, ◌+◌, ◌^◌, ◌↔◌, ◌≡
 ghost use Rattle.{audit_devices.specs.clocks.Moments.StandsAt, run_law.specs.records.Happenings.Happening};
 ghost use Rattle.audit_sweep.specs.records.dispatches.Dispatched.{IsAcceptedLast, IsReady, IsRowDispatched};
 ghost use Rattle.audit_sweep.specs.records.dispatches.{Dispatched.SomeDispatched, Leaving.{AreRowsOn, HavePeriods}};
-ghost use Rattle.net_plan.specs.{Ranges.IsInRange, declared.{network.{Network.{Network as NetworkValue}}}};
-ghost use Rattle.net_plan.specs.declared.ids.DeviceId.{DeviceId as DeviceIdValue};
+ghost use Rattle.net_plan.specs.{Ranges.IsInRange, declared.network.Network.{Network as NetworkValue}};
+ghost use Rattle.{net_plan.specs.declared.ids.DeviceId.{DeviceId as DeviceIdValue}, tte_units.specs.Amount.amount};
 ghost use Rattle.run_law.specs.{device.LocalClocks.Reaches, scenario.Scenarios.Scenario, timed.Dispatching.Dispatches};
-ghost use Rattle.tte_units.specs.Amount.{amount};
 
 use crate::records::dispatches::holding::is_at_hand;
 use crate::records::dispatches::{Dispatch, LeavingRow};

@@ -10,7 +10,7 @@ use schedule_tables::{Entry, entry_of};
 use std::alloc::{AllocError, Global};
 
 /// The rows of a network by which time-triggered frames are put on its links.
-#[derive(Debug, Drop)]
+#[derive(Drop)]
 pub struct Exits {
     links: Vec<Vec<LeavingRow>>,
 }

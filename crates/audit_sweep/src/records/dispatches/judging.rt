@@ -1,7 +1,7 @@
 //! The judges of time-triggered frames that are dispatched, on ways that are whole and on ways that are cut.
 
 ghost use Rattle.std.specs.Prelude.{◌^◌, ◌↔◌, ◌≡◌, ◌≤◌, IsTrue, List, ℕ};
-ghost use Rattle.audit_devices.specs.events.{Readings.scenario_under, Remembering.{Remembers, RemembersSome}};
+ghost use Rattle.audit_law.specs.events.{Readings.scenario_under, Remembering.{Remembers, RemembersSome}};
 ghost use Rattle.net_plan.specs.{Belonging.HasLink, Ranges.IsInRange, declared.event.Event.Event};
 ghost use Rattle.run_law.specs.{control.Losses.IsDispatchedOn, records.Happenings.Happening};
 ghost use Rattle.run_law.specs.{scenario.Ways.{is_cut, way_from}, timed.Dispatching.Dispatches};
@@ -11,20 +11,20 @@ ghost use Rattle.audit_sweep.specs.records.dispatches.Judged.{DispatchesSome, Is
 use crate::records::Kept;
 use crate::records::dispatches::{Dispatch, Exits, dispatches, sends_some};
 use audit_devices::clocks::Moment;
-use audit_devices::events::EventHistory;
 use audit_devices::{Shown, Takings};
+use audit_law::events::EventHistory;
 use device_rules::is_parent_of;
 use net_plan::{DeviceId, LinkId, Network, Way};
 
 /// A device at a time.
-#[derive(Clone, Copy, Debug, PartialEq, Eq)]
+#[derive(Clone, Copy)]
 pub struct At {
     pub device: DeviceId,
     pub time: u64,
 }
 
 /// What a record says of a frame that is lost on a link.
-#[derive(Clone, Copy, Debug, PartialEq, Eq)]
+#[derive(Clone, Copy)]
 pub struct Loss {
     pub link: LinkId,
     pub cause: u64,

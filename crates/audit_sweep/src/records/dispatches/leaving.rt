@@ -6,7 +6,7 @@ use net_plan::{DeviceId, LinkId, VlId};
 use schedule_tables::Entry;
 
 /// A frame of a virtual link that is put on a link.
-#[derive(Clone, Copy, Debug, PartialEq, Eq)]
+#[derive(Clone, Copy)]
 pub struct Dispatch {
     pub link: LinkId,
     /// The record by which a switch took it, or 0 at the sender.
@@ -16,7 +16,7 @@ pub struct Dispatch {
 }
 
 /// A row by which frames of a virtual link leave a device, as far as dispatches are judged by it.
-#[derive(Clone, Copy, Debug, PartialEq, Eq)]
+#[derive(Clone, Copy)]
 pub struct LeavingRow {
     pub device: DeviceId,
     pub vl: VlId,

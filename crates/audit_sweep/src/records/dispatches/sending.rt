@@ -1,18 +1,18 @@
 //! What a device dispatches as the sender of a virtual link.
 
 ghost use Rattle.std.specs.Prelude.{◌^◌, ◌↔◌, ◌≡◌, ◌≤◌, IsTrue, List, ℕ};
-ghost use Rattle.audit_devices.specs.{Showing.Shows, events.Remembering.{Remembers, RemembersSome}};
-ghost use Rattle.audit_devices.specs.{clocks.Finding.IsSeries, events.Readings.{clock_reading, scenario_under}};
-ghost use Rattle.{audit_sweep.specs.records.dispatches.Exits.AreExits, net_plan.specs.Belonging.HasDevice};
+ghost use Rattle.{audit_devices.specs.Showing.Shows, audit_law.specs.events.Remembering.{Remembers, RemembersSome}};
+ghost use Rattle.{audit_devices.specs.clocks.Finding.IsSeries, audit_sweep.specs.records.dispatches.Exits.AreExits};
+ghost use Rattle.{audit_law.specs.events.Readings.{clock_reading, scenario_under}, net_plan.specs.Belonging.HasDevice};
 ghost use Rattle.audit_sweep.specs.records.dispatches.{Leavings.IsRowFit, Sent.{SendsBy, SendsBySome, SendsSome}};
 ghost use Rattle.audit_sweep.specs.records.dispatches.Sent.{AreFoundByNumber, AreRowsFit, CrossesSome, ReachesSome};
 ghost use Rattle.{net_plan.specs.Ranges.IsInRange, run_law.specs.records.Happenings.{Happening, earlier}};
-ghost use Rattle.net_plan.specs.declared.{event.Event.Event, network.{Network.{Network as NetworkValue}}};
+ghost use Rattle.net_plan.specs.declared.{event.Event.Event, network.Network.{Network as NetworkValue}};
 
 use crate::records::dispatches::{Exits, LeavingRow};
 use audit_devices::Shown;
 use audit_devices::clocks::{Moment, Series, is_up, next_crossing};
-use audit_devices::events::{EventHistory, reading_law};
+use audit_law::events::{EventHistory, reading_law};
 use net_plan::{DeviceId, LinkId, Network};
 
 /// Does the device, as a sender, dispatch a frame on the link at the time, up to 2^60? This is what the records of

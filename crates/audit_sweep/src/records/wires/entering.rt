@@ -4,7 +4,7 @@ ghost use Rattle.std.specs.Prelude.{◌^◌, ◌≡◌, ◌≤◌, List, ℕ};
 ghost use Rattle.audit_sweep.specs.records.wires.Entrances.{IsEnteredAs, IsJudgeable, IsLastTaken, judged_as};
 ghost use Rattle.{audit_sweep.specs.records.wires.Signals.on_wire_of, run_law.specs.device.Standpoints.standpoint};
 ghost use Rattle.{device_rules.specs.Entering.AreEntrances, run_law.specs.control.Wires.Signal};
-ghost use Rattle.net_plan.specs.{Ranges.IsInRange, declared.{ids.{LinkId.{LinkId as LinkIdValue}}}};
+ghost use Rattle.net_plan.specs.{Ranges.IsInRange, declared.ids.LinkId.{LinkId as LinkIdValue}};
 ghost use Rattle.run_law.specs.{records.Happenings.Happening, scenario.Scenarios.Scenario, timed.Receptions.arrival_of};
 
 use crate::records::wires::OnWire;
@@ -13,7 +13,7 @@ use net_plan::{DeviceId, LinkId, Network};
 use run_law::{Arrival, Reason};
 
 /// How what arrives enters a device.
-#[derive(Clone, Copy, Debug, PartialEq, Eq)]
+#[derive(Clone, Copy)]
 pub enum Entered {
     /// This becomes of a control frame.
     Control(Arrival),
@@ -24,7 +24,7 @@ pub enum Entered {
 }
 
 /// What becomes of what arrives.
-#[derive(Clone, Copy, Debug, PartialEq, Eq)]
+#[derive(Clone, Copy)]
 pub enum Judged {
     /// This becomes of a control frame.
     Control(Arrival),

@@ -1,22 +1,21 @@
 //! When control frames leave devices, and what becomes of them.
 
 ghost use Rattle.std.specs.Prelude.{◌+◌, ◌-◌, ◌^◌, ◌↔◌, ◌≡◌, ◌≤◌, IsTrue, List, Some, ℕ};
-ghost use Rattle.audit_devices.specs.events.{Readings.scenario_under, Remembering.{Remembers, RemembersSome}};
-ghost use Rattle.audit_sweep.specs.records.Keeping.{record_of};
-ghost use Rattle.net_plan.specs.{Belonging.{HasDevice, HasLink}, Ranges.IsInRange};
-ghost use Rattle.net_plan.specs.declared.{event.Event.Event as EventValue, ids.DeviceId.DeviceId as DeviceIdValue};
-ghost use Rattle.net_plan.specs.declared.network.Network.{Network as NetworkValue};
-ghost use Rattle.run_law.specs.{records.Happenings.{Happening, numbered}, scenario.Ways.{hold_at, way_from}};
+ghost use Rattle.audit_law.specs.events.{Readings.scenario_under, Remembering.{Remembers, RemembersSome}};
+ghost use Rattle.{audit_sweep.specs.records.Keeping.record_of, net_plan.specs.Ranges.IsInRange};
 ghost use Rattle.audit_sweep.specs.records.wires.Departings.{IsDeparted, IsLeavingBy, giver, is_child_of, passes};
+ghost use Rattle.net_plan.specs.{Belonging.{HasDevice, HasLink}, declared.ids.DeviceId.{DeviceId as DeviceIdValue}};
+ghost use Rattle.net_plan.specs.declared.{event.Event.{Event as EventValue}, network.Network.{Network as NetworkValue}};
+ghost use Rattle.run_law.specs.{records.Happenings.{Happening, numbered}, scenario.Ways.{hold_at, way_from}};
 
 use crate::records::wires::putting::way_from;
 use crate::records::{Kept, KeptRecord};
-use audit_devices::events::EventHistory;
+use audit_law::events::EventHistory;
 use device_rules::{Departed, is_parent_of, is_relay};
 use net_plan::{DeviceId, LinkId, Network};
 
 /// A frame that leaves.
-#[derive(Clone, Copy, Debug, PartialEq, Eq)]
+#[derive(Clone, Copy)]
 pub struct Leaving {
     pub device: DeviceId,
     pub link: LinkId,

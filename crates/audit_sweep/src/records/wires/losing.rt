@@ -1,14 +1,14 @@
 //! What is lost of the octets of `send` events, on ways that are cut.
 
 ghost use Rattle.std.specs.Prelude.{◌↔◌, ◌≡◌, IsTrue, List, Some, ℕ};
-ghost use Rattle.audit_devices.specs.events.{Readings.scenario_under, Remembering.Remembers};
+ghost use Rattle.audit_law.specs.events.{Readings.scenario_under, Remembering.Remembers};
 ghost use Rattle.audit_sweep.specs.records.{Keeping.record_of, wires.Departings.{IsLossBy, IsLostAt}};
 ghost use Rattle.net_plan.specs.declared.event.Event.{Event as EventValue};
 ghost use Rattle.run_law.specs.{control.Losses.IsSendLost, records.Happenings.{Happening, numbered}};
 
 use crate::records::wires::Leaving;
 use crate::records::{Kept, KeptRecord};
-use audit_devices::events::EventHistory;
+use audit_law::events::EventHistory;
 use net_plan::{DeviceId, LinkId, Network, Way};
 
 /// By which device and link, and when, the octets of the `send` event of the number `cause` are lost, if they are by

@@ -1,21 +1,20 @@
 //! What records put on wires.
 
 ghost use Rattle.std.specs.Prelude.{◌≡◌, List, option_map};
-ghost use Rattle.audit_devices.specs.events.{Readings.scenario_under, Remembering.Remembers};
-ghost use Rattle.net_plan.specs.{Belonging.HasLink, declared.event.Event.Event as EventValue};
-ghost use Rattle.net_plan.specs.declared.network.Network.{Network as NetworkValue};
-ghost use Rattle.run_law.specs.scenario.Ways.{way_from};
+ghost use Rattle.audit_law.specs.events.{Readings.scenario_under, Remembering.Remembers};
 ghost use Rattle.audit_sweep.specs.records.wires.Signals.{control_on_wire, put_by, put_on, sent_on_wire, stops};
+ghost use Rattle.{net_plan.specs.Belonging.HasLink, run_law.specs.scenario.Ways.way_from};
+ghost use Rattle.net_plan.specs.declared.{event.Event.{Event as EventValue}, network.Network.{Network as NetworkValue}};
 
 use crate::records::{Kept, KeptRecord, Sending};
-use audit_devices::events::EventHistory;
+use audit_law::events::EventHistory;
 use device_rules::{Heading, is_parent_of};
 use net_plan::{DeviceId, LinkId, Network, Way};
 use pcf_codec::PcfRefusal;
 use pcf_values::Pcf;
 
 /// What is on a wire.
-#[derive(Clone, Copy, Debug, PartialEq, Eq)]
+#[derive(Clone, Copy)]
 pub enum OnWire {
     /// A protocol control frame, as its octets decode.
     Control(Result<Pcf, PcfRefusal>),
@@ -24,7 +23,7 @@ pub enum OnWire {
 }
 
 /// A frame that is put on a way of a link.
-#[derive(Clone, Copy, Debug, PartialEq, Eq)]
+#[derive(Clone, Copy)]
 pub(crate) struct Put {
     pub(crate) link: LinkId,
     pub(crate) way: Way,

@@ -1,10 +1,10 @@
 //! Where and when frames arrive.
 
 ghost use Rattle.std.specs.Prelude.{◌+◌, ◌^◌, ◌↔◌, ◌≡◌, ◌≤◌, IsTrue, List, Some, ℕ};
-ghost use Rattle.audit_devices.specs.events.{Readings.scenario_under, Remembering.Remembers};
+ghost use Rattle.audit_law.specs.events.{Readings.scenario_under, Remembering.Remembers};
 ghost use Rattle.audit_sweep.specs.records.{Keeping.record_of, wires.Signals.{ShowsByCause, port_time}};
 ghost use Rattle.audit_sweep.specs.records.wires.Receptions.{IsArriving, IsAt, IsOwedArrival, IsReceivedBy};
-ghost use Rattle.net_plan.specs.{Belonging.HasLink, declared.{network.{Network.{Network as NetworkValue}}}};
+ghost use Rattle.net_plan.specs.{Belonging.HasLink, declared.network.Network.{Network as NetworkValue}};
 ghost use Rattle.net_plan.specs.declared.event.Event.{Event as EventValue};
 ghost use Rattle.{run_law.specs.records.Happenings.{Happening, numbered}, schedule_tables.specs.Entries.target_by};
 ghost use Rattle.{run_law.specs.scenario.Ways.delay_at, tte_units.specs.OctetTime.octet_time};
@@ -12,12 +12,12 @@ ghost use Rattle.{run_law.specs.scenario.Ways.delay_at, tte_units.specs.OctetTim
 use crate::records::KeptRecord;
 use crate::records::wires::OnWire;
 use crate::records::wires::putting::{Put, is_stopped, put_by};
-use audit_devices::events::EventHistory;
+use audit_law::events::EventHistory;
 use net_plan::{DeviceId, Link, LinkId, Network, Way};
 use tte_units::{Speed, octets};
 
 /// A frame that arrives.
-#[derive(Clone, Copy, Debug, PartialEq, Eq)]
+#[derive(Clone, Copy)]
 pub struct Reception {
     pub device: DeviceId,
     pub link: LinkId,

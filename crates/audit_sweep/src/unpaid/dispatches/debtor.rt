@@ -1,7 +1,7 @@
 use crate::records::dispatches::Exits;
 use crate::records::places::Places;
-use audit_devices::events::EventHistory;
 use audit_devices::{Standings, Takings};
+use audit_law::events::EventHistory;
 use net_plan::Network;
 
 /// The records of a report, which owe those of the dispatches up to a time; and what is known of them.
@@ -18,7 +18,7 @@ pub struct RowDebtor<'a> {
 }
 
 /// A frame of a row.
-#[derive(Clone, Copy, Debug, PartialEq, Eq)]
+#[derive(Clone, Copy)]
 pub(crate) struct Frame {
     /// The record by which a switch took it, or 0 at the sender.
     pub(crate) cause: u64,

@@ -1,20 +1,21 @@
 //! Which dispatch has no record first: link by link, row by row, and in the order of time.
 
 ghost use Rattle.std.specs.Prelude.{◌^◌, ◌≡◌, ◌≤◌, List};
-ghost use Rattle.audit_devices.specs.{clocks.Finding.IsSeries, law.{Dispatched.Dispatch, FirstDebts.TellsFirst}};
+ghost use Rattle.audit_devices.specs.clocks.Finding.{IsSeries};
+ghost use Rattle.audit_law.specs.law.{Dispatched.Dispatch, FirstDebts.TellsFirst};
 ghost use Rattle.audit_sweep.specs.records.dispatches.{Leaving.IsRowOn, Leavings.AreLeavings};
 ghost use Rattle.audit_sweep.specs.unpaid.{Unpaid.TellsFirstAmong, dispatches.Frames.{IsBy, IsTold, OwesFrame}};
 ghost use Rattle.audit_sweep.specs.unpaid.dispatches.Debtors.{AreKnown, AreSomeKnown, IsFit, scenario_of};
 ghost use Rattle.audit_sweep.specs.unpaid.points.{FirstUnpaid.TellsFirstUnpaid, Kept.ShowsWithin};
 ghost use Rattle.{net_plan.specs.declared.event.Event.Event, run_law.specs.records.Happenings.Happening};
-ghost use Rattle.audit_devices.specs.law.Owed as debts;
+ghost use Rattle.audit_law.specs.law.Owed as debts;
 
 use crate::records::dispatches::LeavingRow;
 use crate::unpaid::dispatches::RowDebtor;
 use crate::unpaid::points::{earlier, end_of};
 use audit_devices::Shown;
 use audit_devices::clocks::{Series, next_crossing};
-use audit_devices::events::reading_law;
+use audit_law::events::reading_law;
 use net_plan::LinkId;
 use sync_state::State;
 

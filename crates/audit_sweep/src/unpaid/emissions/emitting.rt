@@ -1,17 +1,17 @@
 ghost use Rattle.std.specs.Prelude.{◌<◌, ◌↔◌, ◌≡◌, IsTrue, List, false, pos, true};
-ghost use Rattle.audit_devices.specs.{events.Readings.scenario_under, stretches.Standing.{Stands, device_count}};
-ghost use Rattle.audit_devices.specs.{events.Remembering.Remembers, law.{DueRecords.IsDue, Emitted.emission_place}};
+ghost use Rattle.{audit_devices.specs.stretches.Standing.{Stands, device_count}, net_plan.specs.Belonging.HasDevice};
+ghost use Rattle.{audit_law.specs.events.Readings.scenario_under, net_plan.specs.declared.network.Network.Network};
+ghost use Rattle.audit_law.specs.{events.Remembering.Remembers, law.{DueRecords.IsDue, Emitted.emission_place}};
 ghost use Rattle.audit_sweep.specs.{records.places.Placing.ArePlacesOf, unpaid.emissions.Kept.{IsKept, IsKeptOfMaster}};
 ghost use Rattle.audit_sweep.specs.unpaid.emissions.Emissions.{IsShort, IsTold, Owes, sent_of};
-ghost use Rattle.drift_clock.specs.Reach.{IsReach};
-ghost use Rattle.net_plan.specs.{Belonging.HasDevice, declared.{event.Event.Event, network.Network.Network}};
-ghost use Rattle.run_law.specs.{records.{Happenings.Happening, Ranks.place_of}, runs.Runs.IsFounded};
-ghost use Rattle.run_law.specs.scenario.{Devices.is_cm, Scenarios.Scenario};
+ghost use Rattle.{drift_clock.specs.Reach.IsReach, run_law.specs.runs.Runs.IsFounded};
+ghost use Rattle.{net_plan.specs.declared.event.Event.Event, run_law.specs.records.Happenings.Happening};
+ghost use Rattle.run_law.specs.{records.Ranks.place_of, scenario.{Devices.is_cm, Scenarios.Scenario}};
 
 use crate::records::places::Places;
-use audit_devices::collections::Emitted;
-use audit_devices::events::EventHistory;
 use audit_devices::stretches::StretchHistory;
+use audit_law::collections::Emitted;
+use audit_law::events::EventHistory;
 use net_plan::DeviceId;
 use run_law::plain::Place;
 use tte_units::Units;

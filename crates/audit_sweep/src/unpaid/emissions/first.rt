@@ -1,19 +1,19 @@
 ghost use Rattle.std.specs.Prelude.{◌<◌, ◌^◌, ◌≡◌, ◌≤◌, List, Some, length, slice_get, true, ℕ};
 ghost use Rattle.audit_devices.specs.{declared.stretches.kept.Entry.Entry, stretches.Standing.{device_count, kept_of}};
-ghost use Rattle.audit_devices.specs.{events.Readings.scenario_under, stretches.Keeping.Stretches};
-ghost use Rattle.{audit_devices.specs.law.{DueRecords.IsDue, FirstDebts.TellsFirst}, net_plan.specs.Ranges.IsInRange};
+ghost use Rattle.{audit_devices.specs.stretches.Keeping.Stretches, audit_law.specs.events.Readings.scenario_under};
+ghost use Rattle.{audit_law.specs.law.{DueRecords.IsDue, FirstDebts.TellsFirst}, run_law.specs.scenario.Devices.is_cm};
 ghost use Rattle.audit_sweep.specs.unpaid.emissions.{Emissions.{IsTold, OwesAt, OwesBehind}, Kept.{IsKept, IsSomeKept}};
 ghost use Rattle.{audit_sweep.specs.unpaid.emissions.Firsts.TellsFirstOf, run_law.specs.records.Happenings.Happening};
 ghost use Rattle.{compression.specs.declared.compressed.Compressed.Compressed, run_law.specs.records.Ranks.place_of};
-ghost use Rattle.{net_plan.specs.Belonging.HasDevice, run_law.specs.{runs.Runs.IsFounded, scenario.Devices.is_cm}};
-ghost use Rattle.net_plan.specs.declared.{event.Event.Event, ids.{DeviceId.{DeviceId as DeviceIdValue}}};
-ghost use Rattle.audit_devices.specs.law.Owed as debts;
+ghost use Rattle.{net_plan.specs.{Belonging.HasDevice, Ranges.IsInRange}, run_law.specs.runs.Runs.IsFounded};
+ghost use Rattle.net_plan.specs.declared.{event.Event.Event, ids.DeviceId.{DeviceId as DeviceIdValue}};
+ghost use Rattle.audit_law.specs.law.Owed as debts;
 
 use crate::records::places::Places;
 use crate::unpaid::emissions::earliest::earlier_of;
 use crate::unpaid::emissions::emitting::is_unemitted;
-use audit_devices::events::{EventHistory, reading_law};
 use audit_devices::stretches::StretchHistory;
+use audit_law::events::{EventHistory, reading_law};
 use device_rules::is_cm;
 use net_plan::{DeviceId, Network};
 

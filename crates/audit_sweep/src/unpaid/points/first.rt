@@ -1,5 +1,5 @@
 ghost use Rattle.std.specs.Prelude.{◌≡◌, min};
-ghost use Rattle.{audit_devices.specs.law.FirstDebts.earlier_of, audit_sweep.specs.unpaid.points.Ends.end_of};
+ghost use Rattle.{audit_law.specs.law.FirstDebts.earlier_of, audit_sweep.specs.unpaid.points.Ends.end_of};
 
 /// The earlier of two times, as far as there are such.
 pub fn earlier(first: Option<u64>, second: Option<u64>) -> Option<u64>

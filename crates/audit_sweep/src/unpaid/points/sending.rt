@@ -1,19 +1,20 @@
 ghost use Rattle.std.specs.Prelude.{◌+◌, ◌<◌, ◌^◌, ◌↔◌, ◌≡◌, ◌≤◌, IsTrue, List, false, length, true, ℕ};
-ghost use Rattle.audit_devices.specs.{Keeping.device_count, events.{Readings.scenario_under, Remembering.Remembers}};
-ghost use Rattle.audit_devices.specs.{Showing.Shows, law.{Dispatched.Sending, FirstDebts.TellsFirst}};
+ghost use Rattle.{audit_devices.specs.{Keeping.device_count, Showing.Shows}, run_law.specs.scenario.Scenarios.Scenario};
+ghost use Rattle.{audit_law.specs.events.Readings.scenario_under, net_plan.specs.Places.{is_master as is_master_role}};
+ghost use Rattle.{audit_law.specs.events.Remembering.Remembers, run_law.specs.records.Happenings.{Happening, earlier}};
+ghost use Rattle.{audit_law.specs.law.Dispatched.Sending, run_law.specs.scenario.Devices.has_role};
+ghost use Rattle.{audit_law.specs.law.FirstDebts.TellsFirst, run_law.specs.timed.Dispatching.{IsUp, Sends}};
 ghost use Rattle.audit_sweep.specs.{records.places.Placing.ArePlacesOf, unpaid.points.FirstUnpaid.TellsFirstUnpaid};
 ghost use Rattle.audit_sweep.specs.unpaid.points.{Kept.{IsKept, IsSomeKept, RemembersSomeOf, ShowsWithin}, Sent.IsSent};
-ghost use Rattle.net_plan.specs.{Belonging.HasDevice, Places.is_master as is_master_role, Ranges.IsInRange};
-ghost use Rattle.net_plan.specs.declared.{event.Event.Event, network.Network.Network as NetworkValue};
-ghost use Rattle.run_law.specs.{records.Happenings.{Happening, earlier}, scenario.Devices.has_role};
-ghost use Rattle.run_law.specs.{scenario.Scenarios.Scenario, timed.Dispatching.{IsUp, Sends}};
-ghost use Rattle.audit_devices.specs.law.Owed as debts;
+ghost use Rattle.net_plan.specs.{Belonging.HasDevice, Ranges.IsInRange};
+ghost use Rattle.net_plan.specs.declared.{event.Event.Event, network.Network.{Network as NetworkValue}};
+ghost use Rattle.audit_law.specs.law.Owed as debts;
 
 use crate::records::places::Places;
 use crate::unpaid::points::first::{earlier, end_of};
 use audit_devices::clocks::{Crossed, Moment, beginnings, is_master, is_up, next_crossing};
-use audit_devices::events::{EventHistory, reading_law};
 use audit_devices::{Shown, Standings};
+use audit_law::events::{EventHistory, reading_law};
 use net_plan::{DeviceId, Network};
 use run_law::plain::Place;
 use sync_state::State;

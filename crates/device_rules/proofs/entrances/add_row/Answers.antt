@@ -1,6 +1,6 @@
-use Rattle.{device_rules.{proofs.KeptRows.{row_kept, row_skipped}, specs.Entering.{entrance_cmp, entrance_of}}, tte_lemmas.proofs.Options.{none_at, some_by}}
+use Rattle.device_rules.proofs.KeptRows.{row_kept, row_skipped}
+use Rattle.{device_rules.specs.Entering.{entrance_cmp, entrance_of}, std.specs.BTreeMap.Updates, tte_units.proofs.general_lemmas.Options.{none_at, some_by}}
 use Rattle.{device_rules.specs.declared.entrances.{EnteringRow.EnteringRow, Entrance.Entrance}, std.proofs.Common.{◌∙◌, ◌≡◌, Some, false, subst, sym, true}}
-use Rattle.std.specs.BTreeMap.{Updates}
 use Rattle.device_rules.proofs.entrances.add_row.Goals as goal
 
 pub returns-then-not-is_of : goal.returns-then-not-is_of

@@ -1,5 +1,5 @@
 use Rattle.{device_rules.{proofs.KeptRows.have_entries, specs.Entering.AreRows}, net_plan.specs.declared.tables.Row.Row}
-use Rattle.{std.proofs.Common.{List, ap, arith, length, subst, sym, take}, tte_lemmas.proofs.Lists.{take_all, take_more}}
+use Rattle.{std.proofs.Common.{List, ap, arith, length, subst, sym, take}, tte_units.proofs.general_lemmas.Lists.{take_all, take_more}}
 use Rattle.device_rules.proofs.entrances.rows_of.Goals as goal
 
 pub loop-place-preserved : goal.loop-place-preserved

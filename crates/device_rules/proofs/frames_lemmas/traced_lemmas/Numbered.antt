@@ -3,7 +3,7 @@ use Rattle.{device_rules.specs.declared.frames.traced.kept.Kept.Kept, std.specs.
 use Rattle.device_rules.specs.frames.traced.Keeping.{IsHeld, Traced, at_number, kept_frame, kept_octets, kept_shown, traced, view_of, views_of}
 use Rattle.{device_rules.specs.frames.traced.RecordOctets.record_octets, run_law.specs.records.Happenings.{Happening, frame_from, numbered, octets_from}}
 use Rattle.{net_plan.specs.declared.network.Network.Network, std.proofs.Common.{◌∙◌, ◌≡◌, List, None, Option, Some, [], ap, refl, slice_get, suc, sym, zero, ℕ}}
-use Rattle.{std.proofs.lemmas.Option.slice_get-map, tte_lemmas.proofs.Lists.in_all}
+use Rattle.{std.proofs.lemmas.Option.slice_get-map, tte_units.proofs.general_lemmas.Lists.in_all}
 
 -- what is kept of the record of this number is held
 pub held_at : (pool : List ℕ) (ks : List Kept) (n : ℕ) (k : Kept) → All (IsHeld pool) ks → at_number ks n ≡ Some k → IsHeld pool k

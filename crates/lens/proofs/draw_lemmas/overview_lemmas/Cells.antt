@@ -107,8 +107,7 @@ module _ (grid : Grid) (row : Row) where
           ≡ (if b then cleared_by (k + j - k) shade else future grid row next (col grid note) notes (k + j))
       future_by b e = ap (λ (x : Bool). if x then cleared_by (k + j - k) shade else future grid row next (col grid note) notes (k + j)) e
 
-      by : (k + j < col grid note) ⊎ (col grid note ≤ k + j)
-          → cells_from next (col grid note) notes (k + j - col grid note)
+      by : (k + j < col grid note) ⊎ (col grid note ≤ k + j) → cells_from next (col grid note) notes (k + j - col grid note)
           ≡ future grid row next (col grid note) notes (col grid note + (k + j - col grid note))
           → cells_from shade k (note ∷ notes) j ≡ future grid row shade k (note ∷ notes) (k + j)
       by (inl less) rest =

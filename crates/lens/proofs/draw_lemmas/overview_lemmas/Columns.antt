@@ -1,9 +1,8 @@
 -- Each record lies in one of the columns, and never in an earlier one than the record before it.
-use Rattle.std.{proofs.{Common.{◌+◌, ◌-◌, ◌/◌, ◌<◌, ◌∷◌, ◌≡◌, ◌≤◌, List, [], arith, inl, inr, subst, sym, ℕ}, lemmas.Nat.le-div}, specs.Prelude.{fold, max}}
-use Rattle.std.proofs.Math.Nat.{div-mul-le_self, le-max_left, le-max_right, min-eq_left}
 use Rattle.lens.{proofs.draw_lemmas.overview_lemmas.{Cells.ArePlaced, Ribbons.{AreWithin, Rises, col}}, specs.declared.draw.overview.grid.Grid.Grid}
-use Rattle.lens.specs.draw.{overview.{Grids.greatest, Laws.lies_in}, svg.{Laws.NeverFall, Sketching.moment}}
-use Rattle.run_law.specs.{declared.note.Note.Note, records.Order.IsIn}
+use Rattle.{lens.specs.draw.overview.Grids.greatest, std.proofs.Common.{◌+◌, ◌-◌, ◌/◌, ◌<◌, ◌∷◌, ◌≡◌, ◌≤◌, List, [], arith, inl, inr, subst, sym, ℕ}}
+use Rattle.{lens.specs.draw.overview.Laws.lies_in, std.proofs.{Math.Nat.{div-mul-le_self, le-max_left, le-max_right, min-eq_left}, lemmas.Nat.le-div}}
+use Rattle.{lens_svg.specs.{Laws.NeverFall, Sketching.moment}, run_law.specs.{declared.note.Note.Note, records.Order.IsIn}, std.specs.Prelude.{fold, max}}
 
 -- the times of the records are no greater than this
 abbrev pub AreUpTo : ℕ → List Note → Type 0

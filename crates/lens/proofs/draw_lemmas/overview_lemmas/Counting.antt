@@ -68,8 +68,7 @@ module _ (vl : VlId) (link : LinkId) where
       shaded_fades ns (delivered vl link (change_of note.body) shade) (change_fades (change_of note.body) shade fades)
 
   -- what a record makes of a shade is the shade, or the record delivers
-  one_by : (b : Bool) (other : VlId) (by : LinkId) (shade : Shade) → is_of other by ≡ b
-      → ((if b then more shade else shade) ≡ shade) ⊎ IsOf (Delivers other by)
+  one_by : (b : Bool) (other : VlId) (by : LinkId) (shade : Shade) → is_of other by ≡ b → ((if b then more shade else shade) ≡ shade) ⊎ IsOf (Delivers other by)
   one_by true other by shade e =
       let both = both_true (other.0 == vl.0) (by.0 == link.0) e in
       let first = both.0 in

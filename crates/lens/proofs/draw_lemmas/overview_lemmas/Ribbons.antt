@@ -5,7 +5,7 @@ use Rattle.lens.specs.declared.draw.overview.{change.News.News, grid.{Grid.Grid,
 use Rattle.{lens.specs.draw.overview.Changes.{after, news_of}, std.{proofs.lemmas.Bool.Decides.nat_tests, specs.Prelude.{if◌then◌else◌, nat_lt}}}
 use Rattle.lens.specs.draw.overview.{Grids.{column_of, pen_at}, Sweeps.{Sweep, behind, last_ribbons, moved, moved_ribbons, stepped, steps_to, sweep_ribbons}}
 use Rattle.lens.specs.draw.overview.{Laws.Covers, Shades.{cleared, is_blank, is_same}, Strips.{ended, ribbon_of, ribbon_to, ribbons_of, some_ribbon, taken}}
-use Rattle.{lens.specs.draw.svg.Sketching.moment, run_law.specs.{declared.note.Note.Note, records.Order.IsIn}}
+use Rattle.{lens_svg.specs.Sketching.moment, run_law.specs.{declared.note.Note.Note, records.Order.IsIn}}
 use Rattle.std.proofs.Common.{◌+◌, ◌-◌, ◌<◌, ◌∙◌, ◌∷◌, ◌≡◌, ◌≤◌, ◌⊎◌, Bool, List, [], ap, arith, false, inl, inr, refl, subst, suc, sym, true, zero, ℕ}
 
 -- a shade behind the ends of so many columns
@@ -268,8 +268,7 @@ module _ (grid : Grid) (V : Row → ℕ → Shade) where
   -- the cells of the strips from here on are what these records make of them
   abbrev pub Good : Sweep → List Note → Type 0
   Good w notes =
-      (s : Strip) → IsIn s w.strips
-      → Agrees w.column s × ((c : ℕ) → w.column ≤ c → c < grid.columns → V s.row c ≡ future grid s.row s.shade w.column notes c)
+      (s : Strip) → IsIn s w.strips → Agrees w.column s × ((c : ℕ) → w.column ≤ c → c < grid.columns → V s.row c ≡ future grid s.row s.shade w.column notes c)
 
   taken_of : (news : News) (s : Strip) (k : ℕ) → Agrees k s → Agrees k (taken news s)
   taken_of news s k agrees = record { from = agrees.from; drawn = agrees.drawn }

@@ -8,7 +8,7 @@ use Rattle.lens.specs.{declared.draw.overview.{grid.Grid.Grid, strip.Strip.Strip
 use Rattle.{lens.specs.{declared.draw.overview.row.Row.Row, draw.overview.Strips.{fresh, start_of}}, net_plan.specs.declared.network.Network.Network}
 use Rattle.lens.specs.draw.overview.{Grids.greatest, Laws.{Covers, IsDelivered, IsFilled, OverviewsShowRuns, ShowsWhole, cell, in_column, lies_in, shaded}}
 use Rattle.{lens.specs.draw.overview.{Rows.height_of, Sweeps.begun}, net_plan.{proofs.Amounts.amount_within, specs.declared.ids.{LinkId.LinkId, VlId.VlId}}}
-use Rattle.{lens.specs.draw.svg.Laws.NeverFall, run_law.specs.{declared.note.Note.Note, records.Order.IsIn}, tte_units.specs.Amount.amount}
+use Rattle.{lens_svg.specs.Laws.NeverFall, run_law.specs.{declared.note.Note.Note, records.Order.IsIn}, tte_units.specs.Amount.amount}
 use Rattle.std.proofs.Common.{◌*◌, ◌+◌, ◌/◌, ◌<◌, ◌^◌, ◌∙◌, ◌∷◌, ◌≡◌, ◌≤◌, List, [], ap, arith, false, inl, inr, refl, subst, suc, sym, zero, ℕ}
 use Rattle.lens.specs.declared.draw.overview.shade.Shade.TheVariants as shades
 

@@ -4,12 +4,12 @@ use Rattle.lens.specs.{declared.draw.overview.strip.{Ends.TheVariants.{Column, P
 use Rattle.{lens.specs.declared.draw.overview.{board.Board.Board, grid.Grid.Grid, strip.Strip.Strip}, tte_forms.specs.Answering.{Answer, Gives, line_answer}}
 use Rattle.{lens.specs.declared.draw.overview.grid.Pen.Pen, std.proofs.lemmas.List.{append-nil, map-append}, tte_forms.proofs.frames.Frames.Gives-behind}
 use Rattle.lens.specs.draw.overview.{Answer.{overview_answer, ribbons_answer}, Overview.{front_lines, grid_for, overview_lines, ribbon_lines, ribbons_for}}
-use Rattle.{lens.specs.draw.overview.{Changes.news_of, Strips.{ended, ribbons_of, taken}}, tte_traces.specs.declared.reports.records.Records.Records}
+use Rattle.{lens.specs.draw.overview.{Changes.news_of, Strips.{ended, ribbons_of, taken}}, tte_audit.specs.declared.reports.records.Records.Records}
 use Rattle.lens.specs.draw.overview.{Pieces.ribbon_line, Sweeps.{Sweep, begun, behind, last_ribbons, moved, moved_ribbons, stepped, steps_to, sweep_ribbons}}
-use Rattle.{lens.specs.draw.svg.Sketching.moment, run_law.specs.declared.note.Note.Note, tte_traces.specs.reports.Reports.AreLeft}
+use Rattle.{lens_svg.specs.Sketching.moment, run_law.specs.declared.note.Note.Note, std.proofs.Math.Nat.sub-add-eq-max, tte_audit.specs.reports.Reports.AreLeft}
 use Rattle.{net_plan.specs.declared.network.Network.Network, tte_forms.specs.{Putting.{PutFails, PutsLines, Shown}, declared.status.Status.Status}}
 use Rattle.std.proofs.Common.{◌++◌, ◌+◌, ◌-◌, ◌<◌, ◌∙◌, ◌∷◌, ◌≡◌, ◌≤◌, List, [], ap, append_assoc, arith, inl, inr, refl, subst, suc, sym, zero, ℕ}
-use Rattle.std.{proofs.Math.Nat.sub-add-eq-max, specs.Prelude.{fold, map, max}}
+use Rattle.std.specs.Prelude.{fold, map, max}
 use Rattle.tte_forms.{proofs.Puts.{PutFails-behind, PutsLines-append, PutsLines-none}, specs.declared.status.Status.TheVariants.{Done, OutOfMemory, WriteFault}}
 
 -- ---- the greatest time
@@ -21,8 +21,7 @@ pub record IsMeasured (network : Network) (notes : List Note) (records : Records
   pub whole : greatest notes ≡ fold (λ time note. max time (moment note)) last rest
 
 pub measured_more : (network : Network) (notes : List Note) (records after : Records) (last : ℕ) (note : Note) (rest : List Note)
-    (h : IsMeasured network notes records last) → h.rest ≡ note ∷ rest → AreLeft network after rest
-    → IsMeasured network notes after (max last (moment note))
+    (h : IsMeasured network notes records last) → h.rest ≡ note ∷ rest → AreLeft network after rest → IsMeasured network notes after (max last (moment note))
 measured_more network notes records after last note rest h next left = record {
   rest = rest;
   left = left;

@@ -3,10 +3,10 @@ use Rattle.std.specs.{Option.option_map_or, Prelude.{slice_get, suc, zero, ℕ}}
 use Rattle.std.specs.Prelude.{◌++◌, ◌+◌, ◌==◌, ◌∷◌, ◌≡◌, Bool, List, [], false, flat_map, if◌then◌else◌, length, map}
 use Rattle.lens.specs.declared.draw.overview.{row.Row.TheVariants.{Count, Flow, Lane, Passage}, strip.Strip.Strip}
 use Rattle.lens.specs.declared.draw.overview.{board.{Board.Board, Part.Part, TheConstants.{LOSSES, PARTS}}, row.Row.Row}
-use Rattle.lens.specs.draw.{overview.{Rows.height_of, Strips.fresh}, svg.Lanes.rank_of}
-use Rattle.lens.specs.declared.draw.overview.board.Part.TheVariants as parts
+use Rattle.{lens.specs.draw.overview.{Rows.height_of, Strips.fresh}, lens_svg.specs.Lanes.rank_of}
 use Rattle.net_plan.specs.{Places.{device_at, is_end_system, link_at}, declared.tables.Way.TheVariants.{Down, Up}}
 use Rattle.net_plan.specs.declared.{ids.{DeviceId.DeviceId, LinkId.LinkId}, network.Network.Network, tables.Way.Way}
+use Rattle.lens.specs.declared.draw.overview.board.Part.TheVariants as parts
 
 -- the rows of the places below this one
 abbrev pub rows_below : (ℕ → List Row) → ℕ → List Row

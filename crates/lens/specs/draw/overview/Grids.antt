@@ -2,7 +2,7 @@
 use Rattle.std.specs.Prelude.{ℕ, ◌+◌, ◌-◌, ◌*◌, ◌/◌, ◌≤◌, ◌^◌, nat_lt, if◌then◌else◌, List, fold, max, min}
 use Rattle.{lens.specs.declared.draw.overview.grid.Grid.Grid, net_plan.specs.declared.network.Network.Network}
 use Rattle.{lens.specs.declared.draw.overview.grid.Pen.Pen, run_law.specs.declared.note.Note.Note}
-use Rattle.{lens.specs.draw.svg.Sketching.moment, tte_units.specs.Amount.amount}
+use Rattle.{lens_svg.specs.Sketching.moment, tte_units.specs.Amount.amount}
 
 -- how many columns a picture has at most
 abbrev pub most_columns : ℕ

@@ -6,8 +6,8 @@ use Rattle.{lens.specs.draw.overview.{Boards.rows_of, Strips.start_of}, tte_unit
 use Rattle.lens.specs.draw.overview.{Changes.{after, change_of, news_of}, Overview.{grid_for, ribbons_for}}
 use Rattle.{lens.specs.draw.overview.Grids.pen_at, net_plan.specs.declared.{ids.VlId.VlId, tables.Way.Way}}
 use Rattle.{lens.specs.draw.overview.Shades.{cleared, is_blank}, net_plan.specs.declared.network.Network.Network}
-use Rattle.{lens.specs.draw.svg.Sketching.moment, run_law.specs.{declared.note.Note.Note, records.Order.IsIn}}
-use Rattle.{net_plan.specs.declared.ids.{DeviceId.DeviceId, LinkId.LinkId}, tte_traces.specs.reports.Reports.IsReportOf}
+use Rattle.{lens_svg.specs.Sketching.moment, run_law.specs.{declared.note.Note.Note, records.Order.IsIn}}
+use Rattle.{net_plan.specs.declared.ids.{DeviceId.DeviceId, LinkId.LinkId}, tte_audit.specs.reports.Reports.IsReportOf}
 
 -- which column a record lies in, from the beginning of the run on
 abbrev pub lies_in : Grid → Note → ℕ

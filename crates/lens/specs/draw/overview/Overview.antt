@@ -2,7 +2,7 @@
 use Rattle.std.specs.Prelude.{ℕ, ◌+◌, ◌*◌, ◌/◌, List, [], ◌∷◌, ◌++◌, flat_map, map}
 use Rattle.lens.specs.declared.draw.overview.putting.Layer.TheVariants.{Caption, Labels, Marks, Opening, Shared}
 use Rattle.lens.specs.declared.draw.overview.{putting.{Layer.Layer, TheConstants.LAYERS}, strip.Ribbon.Ribbon}
-use Rattle.lens.specs.{declared.draw.overview.{grid.Grid.Grid, strip.Strip.Strip}, draw.svg.Elements.opening_line}
+use Rattle.{lens.specs.declared.draw.overview.{grid.Grid.Grid, strip.Strip.Strip}, lens_svg.specs.Elements.opening_line}
 use Rattle.lens.specs.draw.{Picture.lines_from, overview.Pieces.{caption_line, label_line, mark_line, ribbon_line}}
 use Rattle.lens.specs.draw.overview.{Boards.{bottom_of, rows_of, top}, Grids.{greatest, grid_of, pen_at, width_of}}
 use Rattle.lens.specs.draw.overview.{Signs.{close_line, sign_line}, Sweeps.{begun, sweep_ribbons}}

@@ -3,7 +3,7 @@ use Rattle.std.specs.Prelude.{ℕ, ◌++◌, List, codes, decimal}
 use Rattle.lens.specs.declared.draw.overview.{grid.Grid.Grid, row.Row.TheVariants.{Count, Flow, Lane, Passage, Title}}
 use Rattle.lens.specs.{declared.draw.overview.strip.Ribbon.Ribbon, draw.overview.Rows.{group_word, kind_word, row_word}}
 use Rattle.lens.specs.{declared.draw.overview.{grid.Pen.Pen, row.Row.Row}, draw.overview.Shades.shade_word}
-use Rattle.{lens.specs.draw.svg.Numbers.micros_text, trace_text.specs.EventWords.way_text}
+use Rattle.{lens_svg.specs.Numbers.micros_text, trace_text.specs.EventWords.way_text}
 use Rattle.net_plan.specs.{Belonging.{device_name, link_name, vl_name}, declared.network.Network.Network}
 
 -- what a row is of

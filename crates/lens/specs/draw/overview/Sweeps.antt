@@ -3,7 +3,7 @@ use Rattle.std.specs.Prelude.{ℕ, zero, suc, ◌+◌, ◌-◌, List, [], ◌∷
 use Rattle.lens.specs.declared.draw.overview.strip.{Ends.TheVariants.{Column, Picture}, Ribbon.Ribbon, Strip.Strip}
 use Rattle.lens.specs.{declared.draw.overview.grid.Grid.Grid, draw.overview.Grids.{column_of, pen_at}}
 use Rattle.lens.specs.draw.overview.{Boards.{laid, rows_of, top}, Changes.news_of, Strips.{ended, ribbons_of, taken}}
-use Rattle.lens.specs.draw.svg.Sketching.{moment}
+use Rattle.lens_svg.specs.Sketching.{moment}
 use Rattle.{net_plan.specs.declared.network.Network.Network, run_law.specs.declared.note.Note.Note}
 
 -- the column of the last record, and the strips behind it

@@ -7,7 +7,7 @@ ghost use Rattle.{lens.specs.draw.overview.Putting.listed, net_plan.specs.Ranges
 use crate::draw::overview::row::height_of;
 use crate::draw::overview::strip::fresh;
 use crate::draw::overview::{Group, Kind, Row, Strip};
-use crate::draw::svg::rank_in;
+use lens_svg::rank_in;
 use net_plan::{DeviceId, LinkId, Network, Way};
 use std::alloc::Global;
 use tte_io::OutOfMemory;

@@ -9,7 +9,7 @@ ghost use Rattle.tte_io.specs.Line.{line_limit};
 use crate::draw::overview::row::{group_word, kind_word, row_word};
 use crate::draw::overview::shade::shade_word;
 use crate::draw::overview::{Grid, Pen, Ribbon, Row};
-use crate::draw::svg::push_micros;
+use lens_svg::push_micros;
 use net_plan::{DeviceId, LinkId, Network, VlId};
 use trace_text::way_text;
 use tte_io::LineText;

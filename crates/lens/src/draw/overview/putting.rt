@@ -1,9 +1,9 @@
 //! The lines of an overview, put one after another.
 ghost use Rattle.std.specs.Prelude.{◌≡◌, ◌≤◌, ◌^◌, ◌∷◌, [], MatchResult};
-ghost use Rattle.lens.specs.draw.{Putting.Draws, overview.{Grids.IsNarrow, Signs.sign_line}, svg.Elements.opening_line};
+ghost use Rattle.lens.specs.draw.{Putting.Draws, overview.{Grids.IsNarrow, Putting.listed, Signs.sign_line}};
 ghost use Rattle.lens.specs.draw.overview.Overview.{front_lines, labels_lines, layer_lines, marks_lines, ribbon_lines};
 ghost use Rattle.lens.specs.draw.overview.{Pieces.{caption_line, label_line, mark_line}, Strips.ribbons_of};
-ghost use Rattle.{lens.specs.draw.overview.Putting.listed, tte_forms.specs.{Faults.PutFailed, Putting.Over}};
+ghost use Rattle.{lens_svg.specs.Elements.opening_line, tte_forms.specs.{Faults.PutFailed, Putting.Over}};
 ghost use Rattle.net_plan.specs.Ranges.{IsInRange};
 
 use crate::draw::overview::board::Board;
@@ -11,7 +11,7 @@ use crate::draw::overview::pieces::{make_caption, make_label, make_mark, make_ri
 use crate::draw::overview::signs::Sign;
 use crate::draw::overview::strip::{Ends, ribbon_of};
 use crate::draw::overview::{Grid, Pen, Ribbon, Strip};
-use crate::draw::svg::{Element, make_element_line};
+use lens_svg::{Element, make_element_line};
 use net_plan::Network;
 use tte_io::{LineText, Sink, SinkFailed};
 

@@ -2,7 +2,7 @@ ghost use Rattle.std.specs.Prelude.{◌&&◌, ◌==◌, ◌||◌, ◌≡◌, nat
 ghost use Rattle.run_law.specs.plain.Places.{before_then, numbers_of, numbers_with};
 
 /// The numbers of a place, from the left, and how many they are; those behind them are 0.
-#[derive(Debug, Drop)]
+#[derive(Drop)]
 pub(crate) struct Numbers {
     pub(crate) time: u64,
     pub(crate) first: u64,

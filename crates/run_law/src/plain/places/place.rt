@@ -16,7 +16,7 @@ use std::marker::Model;
 use tte_units::Units;
 
 /// Where a record stands in the order of a report: its time, the rank of its kind, and numbers of its own.
-#[derive(Debug, Drop)]
+#[derive(Drop)]
 pub struct Place {
     numbers: Numbers,
 }

@@ -1,4 +1,4 @@
-use Rattle.{membership.specs.Members.count_of, pcf_values.specs.declared.members.Members.Members, sync_state.proofs.VerdictLemmas.outnumbered}
+use Rattle.{pcf_values.specs.declared.members.Members.Members, sync_state.{proofs.VerdictLemmas.outnumbered, specs.membership.Members.count_of}}
 use Rattle.std.proofs.Common.{◌∙◌, ap}
 use Rattle.sync_state.proofs.sync.is_outnumbered.Goals as goal
 

@@ -1,11 +1,11 @@
 -- What the numbers in the places of records are bounded by.
-use Rattle.{compression.proofs.Times.one_list_of_clusters, net_plan.specs.declared.network.Network.Network, run_law.specs.declared.note.NoteBody.NoteBody}
+use Rattle.{compression.proofs.Times.one_list_of_clusters, drift_clock.specs.transparent.Points.point_of, run_law.specs.declared.note.NoteBody.NoteBody}
 use Rattle.{compression.specs.{Emission.compressed, declared.compressed.Compressed.Compressed}, std.proofs.Common.{slice_get, suc, unsigned_abs, zero, ℕ, ℤ}}
-use Rattle.{net_plan.specs.declared.tables.Link.Link, run_law.specs.{device.States.adjustment_after, records.Order.IsIn, scenario.Scenarios.Scenario}}
-use Rattle.{run_law.proofs.law.FirstPlaces.in_at, std.proofs.lemmas.Int.ints, transparent_clock.specs.Points.point_of, tte_lemmas.proofs.Integers.amount_least}
+use Rattle.{net_plan.specs.declared.{network.Network.Network, tables.Link.Link}, tte_units.{proofs.general_lemmas.Integers.amount_least, specs.Amount.amount}}
+use Rattle.run_law.{proofs.law.FirstPlaces.in_at, specs.{device.States.adjustment_after, records.Order.IsIn, scenario.Scenarios.Scenario}}
 use Rattle.run_law.specs.{control.Collections.{observation_window, points_of}, records.{Happenings.{Happening, earlier, numbered, time_of}, Ranks.members_in}}
 use Rattle.std.proofs.Common.{◌++◌, ◌+ℤ◌, ◌+◌, ◌-ℤ◌, ◌<◌, ◌==◌, ◌∷◌, ◌≡◌, ◌≤ℤ◌, ◌≤◌, ◌⊎◌, List, Some, [], ap, arith, if◌then◌else◌, inl, inr, length, pos, refl}
-use Rattle.tte_units.specs.Amount.{amount}
+use Rattle.std.proofs.lemmas.Int.{ints}
 use Rattle.net_plan.specs.declared.event.What.TheVariants as events
 use Rattle.run_law.specs.declared.note.NoteBody.TheVariants as notes
 

@@ -6,7 +6,7 @@ use Rattle.run_law.{proofs.scenario.Decisions.{IsDecided, decided_and, decided_b
 use Rattle.run_law.specs.{records.Happenings.{Happening, numbered, time_of}, runs.DueRecords.{IsArrivedRecord, IsCaused}, scenario.Ways.{delay_at, receiver_of}}
 use Rattle.{run_law.specs.records.Ranks.{key, rank}, traffic_law.proofs.existence_lemmas.decisions.Places.{HasCaused, OfThree, by_three, caused, members_by}}
 use Rattle.{run_law.specs.timed.Receptions.{ArrivesAs, arrival_of}, std.proofs.Common.{◌+◌, ◌∙◌, ◌≡◌, List, Some, ap, arith, inl, inr, refl, subst, sym, ℕ}}
-use Rattle.{tte_lemmas.{proofs.{Options.{one as same_some}}}, tte_units.specs.Amount.units_of}
+use Rattle.tte_units.{proofs.general_lemmas.Options.{one as same_some}, specs.Amount.units_of}
 use Rattle.run_law.specs.declared.note.NoteBody.TheVariants as notes
 use Rattle.run_law.specs.declared.steps.Arrival.TheVariants as arrivals
 

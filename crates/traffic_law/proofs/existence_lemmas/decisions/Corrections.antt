@@ -1,12 +1,12 @@
 -- Decisions: to what a correction point comes, and whether the record of a correction is due.
-use Rattle.{membership.proofs.OneSummary.one_summary, run_law.specs.device.LocalClocks.Reaches, sync_state.proofs.LawLemmas.one_verdict}
-use Rattle.{membership.specs.Summary.Summary, run_law.specs.records.Ranks.{key, rank}, sync_state.specs.Verdicts.HasVerdict, tte_units.specs.Amount.units_of}
-use Rattle.{net_plan.specs.declared.ids.DeviceId.DeviceId, run_law.specs.{declared.note.NoteBody.NoteBody, device.States.adjustment_before}}
-use Rattle.{run_law.proofs.control.Summaries.{summary_of, verdict_of}, traffic_law.proofs.existence_lemmas.decisions.Clocks.reaches_decided}
-use Rattle.{run_law.proofs.scenario.Choices.at_integration, std.proofs.Common.{◌+ℤ◌, ◌≡◌, List, Some, arith, false, inl, inr, refl, subst, ℕ}}
+use Rattle.{net_plan.specs.declared.ids.DeviceId.DeviceId, run_law.proofs.{control.Summaries.{summary_of, verdict_of}, scenario.Choices.at_integration}}
 use Rattle.run_law.{proofs.scenario.Decisions.{IsDecided, decided_and, decided_by, decided_false}, specs.runs.DueRecords.{IsCaused, IsCorrectedRecord}}
 use Rattle.run_law.specs.{control.Corrections.{ComesToCorrection, correction_value, heard_since, standing_before}, scenario.Scenarios.{Scenario, is_broken}}
-use Rattle.{run_law.specs.records.Happenings.Happening, tte_lemmas.{proofs.{Options.{one as same_some}}}, tte_units.specs.declared.units.Units.Units}
+use Rattle.{run_law.specs.{declared.note.NoteBody.NoteBody, device.States.adjustment_before}, sync_state.specs.membership.Summary.Summary}
+use Rattle.{run_law.specs.{device.LocalClocks.Reaches, records.{Happenings.Happening, Ranks.{key, rank}}}, tte_units.specs.declared.units.Units.Units}
+use Rattle.{std.proofs.Common.{◌+ℤ◌, ◌≡◌, List, Some, arith, false, inl, inr, refl, subst, ℕ}, tte_units.proofs.general_lemmas.Options.{one as same_some}}
+use Rattle.{sync_state.{proofs.LawLemmas.one_verdict, specs.Verdicts.HasVerdict}, tte_units.specs.Amount.units_of}
+use Rattle.{sync_state.proofs.membership_lemmas.OneSummary.one_summary, traffic_law.proofs.existence_lemmas.decisions.Clocks.reaches_decided}
 use Rattle.sync_state.specs.{Standing.{Standing, next_point}, declared.answers.Verdict.{TheVariants.{AsyncClique, Cleared, Corrected, SyncClique}, Verdict}}
 use Rattle.traffic_law.proofs.existence_lemmas.decisions.{Places.{HasCaused, OfOne, by_one, caused, members_by}, Values.{decided_in, decided_within}}
 use Rattle.run_law.specs.declared.note.NoteBody.TheVariants as notes

@@ -1,12 +1,12 @@
 -- Decisions: whether the record of a frame that leaves a device is due.
 use Rattle.net_plan.specs.{Places.link_at, Rules.IsChildOf}
-use Rattle.{net_plan.specs.declared.ids.DeviceId.DeviceId, run_law.{proofs.runs.SameSteps.same_departure, specs.scenario.Ways.{hold_at, way_from}}}
-use Rattle.{net_plan.specs.declared.ids.LinkId.LinkId, run_law.specs.scenario.Devices.IsParentOf, tte_lemmas.{proofs.{Options.{one as same_some}}}}
+use Rattle.{net_plan.specs.declared.ids.DeviceId.DeviceId, run_law.{proofs.scenario.Conditions.same_device, specs.declared.note.NoteBody.NoteBody}}
+use Rattle.{net_plan.specs.declared.ids.LinkId.LinkId, run_law.{proofs.runs.SameSteps.same_departure, specs.scenario.Ways.{hold_at, way_from}}}
 use Rattle.{net_plan.specs.declared.network.Network.Network, std.proofs.Common.{◌+◌, ◌∙◌, ◌≡◌, List, Some, ap, arith, false, inl, inr, refl, subst, sym, ℕ}}
-use Rattle.{pcf_values.specs.declared.pcf.Pcf.Pcf, run_law.specs.{records.Ranks.{key, rank}, runs.DueRecords.IsCaused}, tte_units.specs.Amount.units_of}
-use Rattle.run_law.{proofs.scenario.Conditions.same_device, specs.{declared.note.NoteBody.NoteBody, records.Happenings.{Happening, numbered, time_of}}}
+use Rattle.{pcf_values.specs.declared.pcf.Pcf.Pcf, run_law.specs.{runs.DueRecords.IsCaused, scenario.Devices.IsParentOf}, tte_units.specs.Amount.units_of}
 use Rattle.run_law.proofs.scenario.Decisions.{IsDecided, decided_and, decided_by, decided_false, decided_or, decided_same, decided_some, decided_true}
 use Rattle.run_law.specs.{control.Leaving.{Departs, Departure, Gives, Passes, departure, leaves, on_cut_way, too_old}, scenario.Scenarios.{Scenario, is_broken}}
+use Rattle.{run_law.specs.records.{Happenings.{Happening, numbered, time_of}, Ranks.{key, rank}}, tte_units.proofs.general_lemmas.Options.{one as same_some}}
 use Rattle.traffic_law.proofs.existence_lemmas.decisions.{Places.{HasCaused, OfThree, by_three, caused, members_by}, Values.{decided_in, decided_within}}
 use Rattle.run_law.specs.declared.note.NoteBody.TheVariants as notes
 

@@ -1,11 +1,11 @@
 -- Decisions: whether the record of a master's frame, or of a time-triggered frame that is dispatched, is due.
-use Rattle.{net_plan.specs.declared.ids.{DeviceId.DeviceId, VlId.VlId}, run_law.{proofs.scenario.Conditions.same_device, specs.declared.note.NoteBody.NoteBody}}
-use Rattle.{net_plan.specs.declared.ids.LinkId.LinkId, run_law.specs.records.Happenings.Happening, tte_lemmas.{proofs.{Options.{one as same_some}}}}
-use Rattle.{net_plan.specs.declared.tables.Link.Link, run_law.specs.{device.{LocalClocks.Reaches, States.state_before}, runs.DueRecords.IsCaused}}
-use Rattle.{net_plan.specs.declared.tables.{Row.Row, VirtualLink.VirtualLink}, schedule_tables.specs.{Entries.{IsEntry, source_of}, declared.entry.Entry.Entry}}
+use Rattle.{net_plan.specs.declared.{ids.DeviceId.DeviceId, tables.VirtualLink.VirtualLink}, tte_units.proofs.general_lemmas.Options.{one as same_some}}
+use Rattle.{net_plan.specs.declared.{ids.LinkId.LinkId, tables.Link.Link}, run_law.specs.{control.Losses.IsDispatchedOn, records.Happenings.Happening}}
+use Rattle.{net_plan.specs.declared.ids.VlId.VlId, run_law.specs.{records.Ranks.{key, rank}, runs.DueRecords.IsCaused}}
+use Rattle.{net_plan.specs.declared.tables.Row.Row, run_law.specs.device.{LocalClocks.Reaches, States.state_before}, tte_units.specs.Amount.{amount, units_of}}
 use Rattle.run_law.proofs.scenario.{Choices.decided_le, Decisions.{IsDecided, decided_and, decided_by, decided_false, decided_or, decided_same, decided_true}}
-use Rattle.{run_law.specs.{control.Losses.IsDispatchedOn, scenario.{Devices.is_end, Ways.{is_cut, way_from}}}, schedule_tables.proofs.EntryLemmas.one_entry}
-use Rattle.{run_law.specs.records.Ranks.{key, rank}, schedule_tables.specs.Windows.OccursIn, tte_units.specs.Amount.{amount, units_of}}
+use Rattle.{run_law.proofs.scenario.Conditions.same_device, schedule_tables.specs.{Entries.{IsEntry, source_of}, Windows.OccursIn, declared.entry.Entry.Entry}}
+use Rattle.{run_law.specs.{declared.note.NoteBody.NoteBody, scenario.{Devices.is_end, Ways.{is_cut, way_from}}}, schedule_tables.proofs.EntryLemmas.one_entry}
 use Rattle.run_law.specs.{scenario.Scenarios.{Scenario, is_broken}, timed.Dispatching.{Dispatches, HasAccepted, HasAtHand, IsUp, Sends, last_accepted}}
 use Rattle.std.proofs.{Common.{◌%◌, ◌*◌, ◌+◌, ◌<◌, ◌∙◌, ◌≡◌, List, Some, ap, arith, inr, length, pos, slice_get, subst, sym, ℕ}, lemmas.Option.slice_get_within}
 use Rattle.traffic_law.proofs.existence_lemmas.decisions.{Clocks.reaches_decided, Values.{decided_below, decided_in, is_synchronised, same_link, same_vl}}

@@ -1,10 +1,10 @@
 -- Decisions: whether the record of an event, or of a device's clock at the end, is due.
-use Rattle.{net_plan.specs.declared.event.Event.Event, sync_state.specs.declared.state.State.State, tte_units.specs.declared.units.Units.Units}
+use Rattle.{net_plan.specs.declared.event.Event.Event, run_law.specs.{records.Ranks.{key, rank}, scenario.Scenarios.Scenario}}
 use Rattle.{net_plan.specs.declared.event.What.{TheVariants.End, What}, run_law.proofs.scenario.Decisions.{IsDecided, decided_and, decided_any, decided_by}}
 use Rattle.{net_plan.specs.declared.tables.Device.Device, run_law.specs.{declared.note.NoteBody.NoteBody, records.Happenings.{Happening, up_to}}}
 use Rattle.run_law.specs.{device.States.{adjustment_after, state_after}, runs.DueRecords.{EndsAt, IsCaused, IsClockRecord, IsEventRecord}}
-use Rattle.{run_law.specs.{records.Ranks.{key, rank}, scenario.Scenarios.Scenario}, tte_lemmas.proofs.Options.one, tte_units.specs.Amount.units_of}
 use Rattle.std.proofs.Common.{◌∙◌, ◌≡◌, Any, List, Some, ap, arith, inl, inr, pos, refl, slice_get, slice_index_or, subst, suc, zero, ℕ, ℤ}
+use Rattle.{sync_state.specs.declared.state.State.State, tte_units.{proofs.general_lemmas.Options.one, specs.{Amount.units_of, declared.units.Units.Units}}}
 use Rattle.traffic_law.proofs.existence_lemmas.decisions.{Places.{HasCaused, OfOne, by_one, caused, members_by}, Values.{decided_in, same_int}}
 use Rattle.run_law.specs.declared.note.NoteBody.TheVariants as notes
 

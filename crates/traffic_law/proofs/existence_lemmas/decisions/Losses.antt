@@ -1,16 +1,16 @@
 -- Decisions: whether the record of a frame that is lost, or dropped, is due.
-use Rattle.{net_plan.specs.declared.{event.What.TheVariants.Send, ids.LinkId.LinkId, tables.Way.TheVariants.Up}, run_law.proofs.scenario.Conditions.same_device}
-use Rattle.{net_plan.specs.declared.ids.{DeviceId.DeviceId, VlId.VlId}, run_law.specs.{control.Leaving.{Departs, too_old}, declared.judgement.Reason.Reason}}
+use Rattle.{net_plan.specs.declared.{event.What.TheVariants.Send, tables.Way.TheVariants.Up}, tte_units.proofs.general_lemmas.Options.{one as same_some}}
+use Rattle.{net_plan.specs.declared.ids.{DeviceId.DeviceId, LinkId.LinkId, VlId.VlId}, run_law.specs.declared.{note.NoteBody.NoteBody, steps.Arrival.Arrival}}
 use Rattle.{net_plan.specs.declared.tables.Link.Link, run_law.specs.{runs.DueRecords.IsCaused, scenario.Scenarios.Scenario, timed.Receptions.ArrivesAs}}
-use Rattle.run_law.{proofs.runs.SameSteps.same_arrival, specs.{declared.{note.NoteBody.NoteBody, steps.Arrival.Arrival}, scenario.Ways.{is_cut, way_from}}}
+use Rattle.run_law.{proofs.runs.SameSteps.same_arrival, specs.{records.Happenings.Happening, scenario.Ways.{is_cut, way_from}, timed.Dispatching.Dispatches}}
+use Rattle.run_law.{proofs.scenario.Conditions.same_device, specs.{control.Leaving.{Departs, too_old}, declared.judgement.Reason.Reason}}
 use Rattle.run_law.{proofs.scenario.Decisions.{IsDecided, decided_and, decided_by, decided_or, decided_true}, specs.declared.judgement.Reason.TheVariants.Old}
 use Rattle.{run_law.specs.control.Losses.{IsDropped, IsLost, IsSendLost}, traffic_law.proofs.existence_lemmas.bounds.{Ranks.cycle_of_dispatch, Weights.bound}}
-use Rattle.{run_law.specs.{records.{Happenings.Happening, Ranks.{key, rank}}, timed.Dispatching.Dispatches}, tte_lemmas.{proofs.{Options.{one as same_some}}}}
+use Rattle.{run_law.specs.records.Ranks.{key, rank}, tte_units.specs.Amount.{amount, units_of}}
 use Rattle.std.proofs.{Common.{◌<◌, ◌≡◌, ◌≤◌, ◌⊎◌, List, Some, ap, arith, inl, inr, length, refl, slice_get, subst, true, ℕ}, lemmas.Option.slice_get_within}
 use Rattle.traffic_law.proofs.existence_lemmas.decisions.{Arrivals.arrives, Dispatches.dispatches_decided, Permanence.{HasDropped, dropped_decided}}
 use Rattle.traffic_law.proofs.existence_lemmas.decisions.{Departures.{cut_decided, old_decided}, Values.{decided_below, decided_in, decided_within, same_link}}
 use Rattle.traffic_law.proofs.existence_lemmas.decisions.Places.{HasCaused, OfThree, by_three, cause_decided, caused, members_by}
-use Rattle.tte_units.specs.Amount.{amount, units_of}
 use Rattle.run_law.specs.declared.note.NoteBody.TheVariants as notes
 use Rattle.run_law.specs.declared.steps.Arrival.TheVariants as arrivals
 

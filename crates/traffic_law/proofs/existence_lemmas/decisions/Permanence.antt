@@ -1,14 +1,14 @@
 -- Decisions: whether the record of a frame that is permanent is due, and what becomes of the frame.
-use Rattle.{drift_clock.specs.Reach.IsReach, std.proofs.Common.{◌∙◌, ◌∷◌, ◌≡◌, List, Some, [], ap, arith, false, inl, inr, pos, refl, subst, sym, true, ℕ, ℤ}}
-use Rattle.{net_plan.specs.declared.ids.DeviceId.DeviceId, tte_lemmas.{proofs.{Options.{one as same_some}}}, tte_units.specs.declared.units.Units.Units}
-use Rattle.{net_plan.specs.declared.ids.LinkId.LinkId, transparent_clock.specs.Points.point_of, tte_units.specs.Amount.{amount, units_of}}
-use Rattle.{pcf_values.specs.declared.pcf.Pcf.Pcf, run_law.specs.{declared.steps.Ripe.Ripe, records.Ranks.{key, rank}, runs.DueRecords.IsCaused}}
-use Rattle.run_law.{proofs.{control.Verdicts.{never_dropped, some_outcome}, runs.SameSteps.{same_point, same_ripening}}, specs.control.Collections.points_of}
+use Rattle.{drift_clock.specs.Reach.IsReach, pcf_values.specs.declared.pcf.Pcf.Pcf, run_law.specs.records.Ranks.{key, rank}}
+use Rattle.{drift_clock.specs.transparent.Points.point_of, net_plan.specs.declared.ids.DeviceId.DeviceId, run_law.specs.declared.judgement.Reason.Reason}
+use Rattle.{net_plan.specs.declared.ids.LinkId.LinkId, run_law.specs.runs.DueRecords.IsCaused, tte_units.specs.Amount.{amount, units_of}}
+use Rattle.{run_law.proofs.control.Verdicts.{never_dropped, some_outcome}, tte_units.proofs.general_lemmas.Options.{one as same_some}}
+use Rattle.run_law.{proofs.runs.SameSteps.{same_point, same_ripening}, specs.{declared.judgement.Judgement.Judgement, scenario.Scenarios.{Scenario, is_broken}}}
 use Rattle.run_law.proofs.scenario.{Conditions.same_device, Decisions.{IsDecided, decided_and, decided_by, decided_false, decided_same, decided_true}}
+use Rattle.{run_law.specs.{control.Collections.points_of, declared.{note.NoteBody.NoteBody, steps.Ripe.Ripe}}, tte_units.specs.declared.units.Units.Units}
 use Rattle.run_law.specs.{control.Permanence.{BecomesPermanent, before_permanence, ripe_as, waits_for}, device.States.{adjustment_at_hearing, state_at_hearing}}
-use Rattle.run_law.specs.{declared.{judgement.{Judgement.Judgement, Reason.Reason}, note.NoteBody.NoteBody}, scenario.Scenarios.{Scenario, is_broken}}
 use Rattle.{run_law.specs.records.Happenings.{Happening, frame_from, numbered, time_of}, traffic_law.proofs.existence_lemmas.decisions.Clocks.reach_decided}
-use Rattle.std.specs.Option.{option_map_or}
+use Rattle.std.{proofs.Common.{◌∙◌, ◌∷◌, ◌≡◌, List, Some, [], ap, arith, false, inl, inr, pos, refl, subst, sym, true, ℕ, ℤ}, specs.Option.option_map_or}
 use Rattle.traffic_law.proofs.existence_lemmas.decisions.{Places.{HasCaused, OfFive, by_five, members_by}, Values.{decided_in, decided_within, same_link}}
 use Rattle.run_law.specs.declared.judgement.Judgement.TheVariants as judgements
 use Rattle.run_law.specs.declared.note.NoteBody.TheVariants as notes

@@ -2,9 +2,9 @@
 use Rattle.run_law.{proofs.scenario.Decisions.{IsDecided, decided_and, decided_by, decided_same}, specs.declared.note.{Note.Note, NoteBody.NoteBody}}
 use Rattle.run_law.specs.records.{Causes.IsOfThisTime, Happenings.{Happening, frame_by, happening, numbered, time_of}, Ranks.{key, members_in, place_of, rank}}
 use Rattle.{run_law.specs.runs.DueRecords.{IsCaused, IsDue}, traffic_law.proofs.existence_lemmas.{Sweep.HasDue, decisions.Values.decided_in}}
-use Rattle.{run_law.specs.scenario.Scenarios.Scenario, std.specs.Option.option_map_or, tte_units.{proofs.Amounts.units_are, specs.Amount.units_of}}
-use Rattle.{std.proofs.Common.{◌+◌, ◌∙◌, ◌∷◌, ◌≡◌, List, Some, [], ap, arith, inr, length, refl, subst, sym, ℕ}, tte_units.specs.declared.units.Units.Units}
-use Rattle.{std.proofs.lemmas.Int.ints, tte_lemmas.proofs.Options.one}
+use Rattle.{run_law.specs.scenario.Scenarios.Scenario, tte_units.{proofs.Amounts.units_are, specs.{Amount.units_of, declared.units.Units.Units}}}
+use Rattle.{std.proofs.Common.{◌+◌, ◌∙◌, ◌∷◌, ◌≡◌, List, Some, [], ap, arith, inr, length, refl, subst, sym, ℕ}, tte_units.proofs.general_lemmas.Options.one}
+use Rattle.std.{proofs.lemmas.Int.ints, specs.Option.option_map_or}
 
 -- the members of the frame that a record of this body has, as a number
 abbrev pub members_by : Scenario → List Happening → NoteBody → ℕ

@@ -1,5 +1,5 @@
 use Rattle.{run_law.specs.declared.note.NoteBody.TheVariants.Event, tte_audit.proofs.Words.{◌∙◌, ◌≡◌, Some, ap, behind_word, head_word, rules}}
-use Rattle.{tte_audit.{proofs.NoteWords.words_of_text, specs.Report.saying}, tte_lemmas.proofs.Options.some_same}
+use Rattle.{tte_audit.{proofs.NoteWords.words_of_text, specs.Report.saying}, tte_units.proofs.general_lemmas.Options.some_same}
 use Rattle.tte_audit.proofs.event_lines.candidate.Goals as goal
 
 pub returns-in_err-number-clause-back : goal.returns-in_err-number-clause-back

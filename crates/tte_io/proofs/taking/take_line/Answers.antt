@@ -1,5 +1,6 @@
-use Rattle.std.proofs.{Common.{◌∙◌, arith, refl}, lemmas.Result.err_from_is_err_and}
+use Rattle.std.proofs.{Common.{◌∙◌, arith, refl, subst, ℕ}, lemmas.Result.err_from_is_err_and}
 use Rattle.tte_io.proofs.{Coming.outcome_told, Making.{found_too_long, kept_after_failure, making_advanced, making_filled, taken_at_end, taken_at_lf}}
+use Rattle.tte_io.specs.Faults.{Rose}
 use Rattle.tte_io.proofs.taking.take_line.Goals as goal
 
 pub returns-in_err-fill-clause-next : goal.returns-in_err-fill-clause-next
@@ -45,3 +46,11 @@ returns-in-Ended-clause-told g c = outcome_told _ _ _ _ _ _ (returns-in-Ended-cl
 
 pub returns-in-TooLong-clause-told : goal.returns-in-TooLong-clause-told
 returns-in-TooLong-clause-told g c = outcome_told _ _ _ _ _ _ (returns-in-TooLong-clause-next g c)
+
+pub returns-in_err-fill-clause-ok_unchanged : goal.returns-in_err-fill-clause-ok_unchanged
+returns-in_err-fill-clause-ok_unchanged g c = rw ((err_from_is_err_and c.from_residual.result c.from_residual.ensures.1).1) tt
+
+pub returns-in_err-fill-clause-failed_rose : goal.returns-in_err-fill-clause-failed_rose
+returns-in_err-fill-clause-failed_rose g c =
+    let failure = err_from_is_err_and c.from_residual.result c.from_residual.ensures.1 in
+    rw failure.1 (subst (λ (n : ℕ). Rose n (g.S.Source.faults c.fill.new.source)) c.reads.invariant.unchanged c.in_err-fill.ensures.failed_rose)

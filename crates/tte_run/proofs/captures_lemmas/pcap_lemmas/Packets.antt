@@ -1,7 +1,8 @@
 -- At a place of a file stands a packet, its end or a first fault, and `packet_at` answers so.
 use Rattle.std.proofs.Common.{◌+◌, ◌<◌, ◌∙◌, ◌≡◌, ◌≤◌, Err, List, None, Ok, Option, Result, Some, ap, arith, eq-eqb, inl, inr, length, refl, subst, sym, ℕ}
-use Rattle.{std.proofs.lemmas.Bool.{cases_lt, le-ltb, lt-ltb}, tte_lemmas.proofs.Naturals.goes_on, tte_run.specs.captures.pcap.Reading.{packet_at, packet_of}}
+use Rattle.std.proofs.lemmas.Bool.{cases_lt, le-ltb, lt-ltb}
 use Rattle.tte_run.specs.{captures.pcap.Layout.{IsPacket, most_captured, number, stamp_length}, declared.captures.pcap.capture.CaptureHead.CaptureHead}
+use Rattle.{tte_run.specs.captures.pcap.Reading.{packet_at, packet_of}, tte_units.proofs.general_lemmas.Naturals.goes_on}
 use Rattle.tte_run.specs.{captures.pcap.ReadingLaw.{FindsPackets, HasPacketFault}, declared.captures.pcap.capture.Packet.Packet}
 use Rattle.tte_run.specs.declared.captures.pcap.refusal.CaptureRefusal.{CaptureRefusal, TheVariants.{Cut, Header, LinkType, Magic, PacketLength, Version}}
 

@@ -5,8 +5,7 @@ use borrow.Rule.Slice.PartMut.{mid_of, put_mid}
 use Rattle.tte_run.specs.captures.pcap.{Layout.number, Writing.{packet_octets, stamp_octets}}
 
 -- zeros, over which the four numbers are written one after another
-pub writes : (seconds micros n : ℕ) (b1 b2 b3 b4 : List ℕ)
-    → b1 ≡ little_bytes 4 seconds ++ drop 4 (replicate 16 0)
+pub writes : (seconds micros n : ℕ) (b1 b2 b3 b4 : List ℕ) → b1 ≡ little_bytes 4 seconds ++ drop 4 (replicate 16 0)
     → b2 ≡ little_bytes 4 micros ++ drop 4 (mid_of 4 12 b1)
     → b3 ≡ little_bytes 4 n ++ drop 4 (mid_of 8 8 (put_mid 4 12 b1 b2))
     → b4 ≡ little_bytes 4 n ++ drop 4 (mid_of 12 4 (put_mid 8 8 (put_mid 4 12 b1 b2) b3))

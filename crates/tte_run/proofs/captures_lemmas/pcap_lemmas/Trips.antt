@@ -90,8 +90,7 @@ octets_there front octets rest xs behind =
     let place : drop (length front + stamp_length) (front ++ xs) ≡ octets ++ rest = drop-append-add front xs 16 ∙ behind in
     rw (size, place) (take-append_seam octets rest)
 
-shows : (front : List ℕ) (s : Stamped) (rest : List ℕ)
-    → Shows (front ++ (packet_octets s.seconds s.micros s.octets ++ rest)) (packet_there s (length front)) s
+shows : (front : List ℕ) (s : Stamped) (rest : List ℕ) → Shows (front ++ (packet_octets s.seconds s.micros s.octets ++ rest)) (packet_there s (length front)) s
 unfolding packet_there
 shows front s rest = record {
   seconds = refl;

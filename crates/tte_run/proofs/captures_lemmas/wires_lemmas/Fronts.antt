@@ -26,8 +26,7 @@ module _ (link : LinkId) (way : Way) (network : Network) (events : List Event) (
     (parts : happenings network notes ≡ front ++ left)
     (settled : (h : Happening) → IsIn h front → is_settled (happenings network notes) h ≡ true) where
   -- the packets of settled records stay
-  stay : (more : List Event)
-      → ((event : Event) (behind : List Event) → more ≡ event ∷ behind
+  stay : (more : List Event) → ((event : Event) (behind : List Event) → more ≡ event ∷ behind
       → AllBefore place_of (happenings network notes) (place_of_event events event) × AreFrom (amount event.time) (event ∷ behind))
       → packets_of (scenario_under network (events ++ more)) link way front ≡ packets_of (scenario_under network events) link way front
   stay [] behind = ap (λ (es : List Event). packets_of (scenario_under network es) link way front) (append-nil events)

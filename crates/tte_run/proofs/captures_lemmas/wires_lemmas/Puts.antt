@@ -2,7 +2,8 @@
 use Rattle.{std.{proofs.{Common.{drop, get_or}, Math.Seq.take-suc}, specs.{Io.KnownBytes.Appends, List.concat}}, tte_io.specs.Told.AppendsFront}
 use Rattle.{std.proofs.lemmas.List.{map-append, take-append-drop}, world_drive.specs.declared.observing.Cut.TheVariants.{OutOfMemory, WriteFault}}
 use Rattle.{tte_forms.proofs.Puts.{PutsLines-fails, PutsLines-more}, tte_run.proofs.captures_lemmas.wires_lemmas.Words.{subst, suc, sym, take, told_by, ℕ}}
-use Rattle.{tte_io.specs.Faults.{Rose, next_count}, tte_traces.proofs.{Given.PutFails-more, Streams.writes_fails}, world_drive.specs.Observing.PutsFurther}
+use Rattle.{tte_forms.proofs.Puts.PutFails-more, tte_io.specs.Faults.{Rose, next_count}, tte_traces.proofs.Streams.writes_fails}
+use Rattle.{world_drive.specs.Observing.PutsFurther}
 use Rattle.tte_run.proofs.captures_lemmas.wires_lemmas.Words.{◌++◌, ◌+◌, ◌<◌, ◌∙◌, ◌∷◌, ◌≡◌, Cut, Err, Ghosts, List, Ok, PutFails-behind, PutsAll, PutsLines}
 use Rattle.tte_run.proofs.captures_lemmas.wires_lemmas.Words.{PutsLines-append, PutsLines-none, Result, [], ap, arith, length, map, packet_at, refl, shown_as}
 

@@ -192,8 +192,7 @@ part_first {X} p (x ∷ xs) closed =
         ∙ ap (λ (l : List X). x ∷ l) (all_kept (λ y. not (p y)) xs (λ y i. not_from_false (p y) (none y i))))
 
 -- in a run the settled records stand first
-pub settled_first : (hs : List Happening)
-    → ((ps qs : List Happening) (x : Happening) → hs ≡ ps ++ x ∷ qs → AllBefore place_of ps (place_of x))
+pub settled_first : (hs : List Happening) → ((ps qs : List Happening) (x : Happening) → hs ≡ ps ++ x ∷ qs → AllBefore place_of ps (place_of x))
     → hs ≡ settled hs ++ unsettled hs
 settled_first hs order = part_first (is_settled hs) hs (λ ps x qs is holds y i.
     let s = settling hs x holds in

@@ -1,23 +1,21 @@
 -- What a device shows that stamps a line, and what it showed just before.
-use Rattle.{net_plan.specs.{Bounds.IsBeta, Places.device_at}, run_law.specs.law.Safety.IsInStep, tte_lemmas.proofs.Lists.in_all, tte_units.specs.Amount.amount}
+use Rattle.{net_plan.specs.{Bounds.IsBeta, Places.device_at}, precision_law.proofs.Plain.reached, std.proofs.lemmas.Int.ints, tte_units.specs.Amount.amount}
 use Rattle.{net_plan.specs.Ranges.{IsDeviceInRange, IsInRange, IsWithin}, tte_run.proofs.stamps_lemmas.granules_lemmas.{Stamped.IsReady, Traces.unbroken}}
 use Rattle.{net_plan.specs.declared.ids.DeviceId.DeviceId, sync_state.specs.Standing.adjustment_at_start, tte_run.specs.stamps.granules.Stamps.shown_at}
 use Rattle.{net_plan.specs.declared.network.Network.Network, precision_law.{proofs.law.Precision.{timed_of, up_to_is}, specs.Sizes.{HaveRoom, Sizes, sizes_of}}}
-use Rattle.{net_plan.specs.declared.tables.Device.Device, precision_law.specs.IdealClocks.ideal_error, tte_units.specs.declared.units.Units.Units}
-use Rattle.{precision_law.proofs.Plain.reached, run_law.specs.{declared.note.Note.Note, law.FirstLaws.IsLawful}, sync_state.proofs.StateFacts.up_state}
+use Rattle.{net_plan.specs.declared.tables.Device.Device, precision_law.specs.IdealClocks.ideal_error, tte_units.proofs.general_lemmas.Lists.in_all}
 use Rattle.{precision_law.proofs.{block.Starts.{has_start, none_at_start}, law.Whole.cycles_kept}, run_law.specs.scenario.Scenarios.{Scenario, is_turned_on_at}}
 use Rattle.{precision_law.{proofs.clocks.Readings.clocks_are_steady, specs.Dispatches.AreFromTo}, run_law.specs.device.States.{adjustment_after, state_after}}
-use Rattle.{precision_law.specs.{Epochs.epoch_cycle, Precision.IsRunUpTo}, run_law.specs.{device.LocalClocks.local, scenario.Devices.start_of}}
+use Rattle.{precision_law.specs.{Epochs.epoch_cycle, Precision.IsRunUpTo}, run_law.specs.scenario.Devices.start_of, tte_units.specs.declared.units.Units.Units}
+use Rattle.{run_law.specs.{declared.note.Note.Note, device.LocalClocks.local, law.{FirstLaws.IsLawful, Safety.IsInStep}}, sync_state.proofs.StateFacts.up_state}
 use Rattle.{run_law.specs.records.Happenings.{Happening, earlier, happenings, up_to}, tte_run.specs.stamps.granules.Lines.{IsLineOf, Line, scenario_at}}
 use Rattle.{schedule_tables.specs.declared.rule.Rule.TheVariants.Masters, sync_state.specs.declared.state.State.TheVariants.Synchronised}
 use Rattle.std.proofs.Common.{◌*◌, ◌+ℤ◌, ◌+◌, ◌-ℤ◌, ◌^◌, ◌∙◌, ◌≡◌, ◌≤ℤ◌, ◌≤◌, IfSome, List, Option, Some, [], ap, arith, pos, refl, subst, suc, sym, zero, ℕ, ℤ}
-use Rattle.std.proofs.lemmas.Int.{ints}
 
 -- ---- at time 0
 
 -- a start is from 0 to settled
-start_within : (s : Scenario) (device : DeviceId) (u : Units) → IsLawful s → start_of s.network device ≡ Some u
-    → (pos 0 ≤ℤ u.0) × (u.0 ≤ℤ s.network.settled.0)
+start_within : (s : Scenario) (device : DeviceId) (u : Units) → IsLawful s → start_of s.network device ≡ Some u → (pos 0 ≤ℤ u.0) × (u.0 ≤ℤ s.network.settled.0)
 start_within s device u lawful e =
     let n = s.network in
     let from = reached (λ (d : Device). d.start) (device_at n device) u e in
@@ -78,8 +76,7 @@ last_has_come : (s : Scenario) (hs : List Happening) (t cycle : ℕ) (first last
 last_has_come s hs t zero first last at = omega (arith, ints, at.1)
 last_has_come s hs t (suc c) first last at = omega (arith, ints, at.last_is, at.is_latest.by_then)
 
-above_zero : (cycles t error : ℕ) (last shown : ℤ) → ((pos cycles +ℤ pos t) -ℤ last) ≤ℤ (shown +ℤ pos error) → last ≤ℤ pos t
-    → pos 0 ≤ℤ (shown +ℤ pos error)
+above_zero : (cycles t error : ℕ) (last shown : ℤ) → ((pos cycles +ℤ pos t) -ℤ last) ≤ℤ (shown +ℤ pos error) → last ≤ℤ pos t → pos 0 ≤ℤ (shown +ℤ pos error)
 above_zero cycles t error last shown least come = omega (arith, ints, least, come)
 
 -- a clock in step shows at least 0, but for its error

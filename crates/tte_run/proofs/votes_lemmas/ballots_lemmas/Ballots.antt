@@ -1,11 +1,11 @@
 -- The ballots of a run behind a further record.
-use Rattle.{net_plan.specs.declared.ids.DeviceId.DeviceId, run_law.specs.records.Happenings.Happening, tte_lemmas.proofs.Bools.{both_left, both_right}}
-use Rattle.{net_plan.specs.declared.ids.VlId.VlId, tte_run.proofs.votes_lemmas.ballots_lemmas.Casting.{is_of, none_taken, seat_cast, seat_stays, some_taken}}
+use Rattle.{net_plan.specs.declared.ids.DeviceId.DeviceId, run_law.specs.records.Happenings.Happening, std.specs.BTreeMap.{BTreeMap, Updates, get, is_at}}
+use Rattle.{net_plan.specs.declared.ids.VlId.VlId, std.proofs.Common.{nat_lt, refl, subst, sym, true, ℕ}, tte_run.specs.declared.votes.law.voters.Voters.Voters}
 use Rattle.std.proofs.Common.{◌&&◌, ◌*◌, ◌++◌, ◌+◌, ◌<◌, ◌==◌, ◌^◌, ◌||◌, ◌∙◌, ◌∷◌, ◌≡◌, Bool, List, None, Option, Some, [], ap, arith, cond, false, length}
-use Rattle.std.{proofs.Common.{nat_lt, refl, subst, sym, true, ℕ}, specs.{BTreeMap.{BTreeMap, Updates, get, is_at}, Cmp.nat_cmp_is, Ordering.{is_eq, nat_cmp}}}
-use Rattle.std.{proofs.Math.Bool.and-true, specs.Prelude.unwrap_or}
-use Rattle.{std.{proofs.{lemmas.{Bool.{eq-eqb, eqb-true, false_from_ne_true as not_true, or_parts}}}}, tte_run.specs.declared.votes.law.voters.Voters.Voters}
-use Rattle.{std.specs.declared.cmp.Ordering.TheVariants.{Equal, Greater, Less}, tte_run.specs.declared.votes.ballots.seats.{Delivery.Delivery, Seats.Seats}}
+use Rattle.std.{proofs.Math.Bool.and-true, specs.{Cmp.nat_cmp_is, Prelude.unwrap_or}}
+use Rattle.std.{proofs.lemmas.Bool.{eq-eqb, eqb-true, false_from_ne_true as not_true, or_parts}, specs.declared.cmp.Ordering.TheVariants.{Equal, Greater, Less}}
+use Rattle.{std.specs.Ordering.{is_eq, nat_cmp}, tte_run.proofs.votes_lemmas.ballots_lemmas.Casting.{is_of, none_taken, seat_cast, seat_stays, some_taken}}
+use Rattle.{tte_run.specs.declared.votes.ballots.seats.{Delivery.Delivery, Seats.Seats}, tte_units.proofs.general_lemmas.Bools.{both_left, both_right}}
 use Rattle.tte_run.specs.votes.{ballots.Keeping.{AreBallots, AreCast, delivery_in, is_voter, key_of, none_cast, seats_at, seats_with}, law.Ballots.is_delivery}
 
 -- ---- a ballot that the record is not of

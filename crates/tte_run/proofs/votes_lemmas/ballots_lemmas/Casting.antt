@@ -1,9 +1,9 @@
 -- The seats of a ballot behind a further record.
-use Rattle.{net_plan.specs.declared.ids.{DeviceId.DeviceId, VlId.VlId}, run_law.specs.{declared.note.NoteBody.NoteBody, records.Happenings.Happening}}
+use Rattle.{net_plan.specs.declared.ids.{DeviceId.DeviceId, VlId.VlId}, tte_units.proofs.general_lemmas.Options.{more_by, same_by}}
 use Rattle.{run_law.proofs.law.FirstPlaces.{numbered_front, numbered_next}, tte_run.specs.votes.ballots.Keeping.{IsCastBy, delivery_in, seat_with}}
+use Rattle.{run_law.specs.{declared.note.NoteBody.NoteBody, records.Happenings.Happening}, std.specs.Prelude.if◌then◌else◌}
 use Rattle.std.proofs.Common.{◌&&◌, ◌++◌, ◌+◌, ◌==◌, ◌∙◌, ◌∷◌, ◌≡◌, Bool, List, None, Option, Some, [], ap, cond, false, find, length, refl, true, ℕ}
 use Rattle.{std.proofs.lemmas.Option.same_Some, tte_run.specs.{declared.votes.ballots.seats.Delivery.Delivery, votes.law.Ballots.{delivery_of, is_delivery}}}
-use Rattle.{std.specs.Prelude.if◌then◌else◌, tte_lemmas.proofs.Options.{more_by, same_by}}
 use Rattle.run_law.specs.declared.note.NoteBody.TheVariants as notes
 
 -- ---- what is taken by a record

@@ -1,13 +1,13 @@
 -- What a device takes of a frame that is owed to it.
-use Rattle.{byteorder.specs.Endian.big_bytes, run_law.specs.{law.Safety.IsDelivered, scenario.Scenarios.Scenario}, std.proofs.Math.Seq.drop-append_seam}
-use Rattle.{byteorder.specs.Numbers.length-bytes_high_first, net_plan.specs.declared.network.Network.Network, tte_run.specs.votes.law.Outvoting.sent_payload}
-use Rattle.{device_rules.specs.frames.traced.RecordOctets.{record_octets, shown}, tte_run.proofs.votes_lemmas.law_lemmas.Found.find_one}
-use Rattle.{net_plan.{proofs.SameIds.{same_device, same_vl}, specs.declared.ids.{LinkId.LinkId, VlId.VlId}}, run_law.specs.records.Happenings.Happening}
-use Rattle.{net_plan.specs.declared.ids.DeviceId.DeviceId, std.specs.Prelude.{option_and_then, option_map}, tte_lemmas.proofs.Bools.{both_left, both_right}}
+use Rattle.{byteorder.specs.Endian.big_bytes, run_law.specs.{law.Safety.IsDelivered, records.Order.IsIn, scenario.Scenarios.Scenario}}
+use Rattle.{byteorder.specs.Numbers.length-bytes_high_first, run_law.specs.records.Frames.{mac_of, tt_frame_by}, tte_run.specs.votes.law.Outvoting.sent_payload}
+use Rattle.{device_rules.specs.frames.traced.RecordOctets.{record_octets, shown}, tte_units.proofs.general_lemmas.Bools.{both_left, both_right}}
+use Rattle.{net_plan.proofs.SameIds.{same_device, same_vl}, run_law.specs.records.Happenings.Happening, std.specs.Prelude.{option_and_then, option_map}}
+use Rattle.{net_plan.specs.declared.{ids.{DeviceId.DeviceId, LinkId.LinkId, VlId.VlId}, network.Network.Network}, run_law.specs.declared.note.NoteBody.NoteBody}
 use Rattle.{net_plan.specs.declared.tables.VirtualLink.VirtualLink, tte_run.specs.votes.law.Ballots.{delivery_of, is_delivery, payload_in, payload_taken}}
-use Rattle.{run_law.specs.{declared.note.NoteBody.NoteBody, records.Frames.{mac_of, tt_frame_by}}, std.proofs.lemmas.Bool.{and_from, eq-eqb, eqb-true}}
-use Rattle.{run_law.specs.records.Order.IsIn, std.proofs.Common.{true, ℕ}}
 use Rattle.std.proofs.Common.{◌&&◌, ◌++◌, ◌-◌, ◌==◌, ◌∙◌, ◌≡◌, List, Option, Some, ap, append_assoc, arith, drop, length, length-append, refl, replicate, sym}
+use Rattle.std.proofs.Common.{true, ℕ}
+use Rattle.{std.proofs.{Math.Seq.drop-append_seam, lemmas.Bool.{and_from, eq-eqb, eqb-true}}, tte_run.proofs.votes_lemmas.law_lemmas.Found.find_one}
 use Rattle.run_law.specs.declared.note.NoteBody.TheVariants as notes
 
 -- ---- the payload that a sender makes
@@ -77,8 +77,7 @@ told vl cycle device (notes.Delivered other link cause of_vl of_cycle) e =
     (link, cause, cc)
 told vl cycle device other e = absurd cc
 
-hits : (vl : VlId) (cycle : ℕ) (device : DeviceId) (link : LinkId) (cause : ℕ)
-    → is_delivery vl cycle device (notes.Delivered device link cause vl cycle) ≡ true
+hits : (vl : VlId) (cycle : ℕ) (device : DeviceId) (link : LinkId) (cause : ℕ) → is_delivery vl cycle device (notes.Delivered device link cause vl cycle) ≡ true
 hits vl cycle device link cause =
     and_from (device.0 == device.0) (vl.0 == vl.0 && cycle == cycle) (eq-eqb device.0 device.0 refl)
     (and_from (vl.0 == vl.0) (cycle == cycle) (eq-eqb vl.0 vl.0 refl) (eq-eqb cycle cycle refl))

@@ -2,8 +2,7 @@
 use Rattle.{run_law.specs.records.Order.IsIn, std.proofs.Common.{◌∙◌, ◌∷◌, ◌≡◌, Bool, List, Some, [], ap, cond, false, find, inl, inr, refl, sym, true}}
 
 -- the one entry that passes is found
-pub find_one : {X : Type 0} (p : X → Bool) (xs : List X) (x : X) → IsIn x xs → p x ≡ true → ((y : X) → IsIn y xs → p y ≡ true → y ≡ x)
-    → find p xs ≡ Some x
+pub find_one : {X : Type 0} (p : X → Bool) (xs : List X) (x : X) → IsIn x xs → p x ≡ true → ((y : X) → IsIn y xs → p y ≡ true → y ≡ x) → find p xs ≡ Some x
 find_one p [] x at hit one = absurd at
 find_one {X} p (y ∷ xs) x at hit one =
     by (p y) refl (λ there. find_one p xs x there hit (λ z is passes. one z (inr is) passes))

@@ -1,10 +1,10 @@
 -- Two of three outvote the third.
-use Rattle.{byteorder.specs.Endian.big_bytes, std.proofs.Common.{◌&&◌, ◌++◌, ◌-◌, ◌==◌, ◌∙◌, ◌≡◌, List, Some, ap, inl, inr, not, replicate, sym, true, ℕ}}
-use Rattle.{net_plan.specs.declared.{ids.{DeviceId.DeviceId, VlId.VlId}, tables.VirtualLink.VirtualLink}, run_law.specs.law.Safety.{FramesAreDelivered, IsOwed}}
-use Rattle.{run_law.specs.{records.Happenings.Happening, scenario.Scenarios.Scenario}, tte_lemmas.proofs.Bools.{both_left, both_right}}
-use Rattle.std.proofs.lemmas.Bool.{eqb-true}
+use Rattle.{byteorder.specs.Endian.big_bytes, net_plan.specs.declared.ids.VlId.VlId, tte_run.specs.votes.law.Voting.is_match}
+use Rattle.{net_plan.specs.declared.{ids.DeviceId.DeviceId, tables.VirtualLink.VirtualLink}, tte_run.specs.votes.law.Ballots.{ballot_of, payload_taken}}
+use Rattle.run_law.specs.{law.Safety.{FramesAreDelivered, IsOwed}, records.Happenings.Happening, scenario.Scenarios.Scenario}
+use Rattle.std.proofs.{Common.{◌&&◌, ◌++◌, ◌-◌, ◌==◌, ◌∙◌, ◌≡◌, List, Some, ap, inl, inr, not, replicate, sym, true, ℕ}, lemmas.Bool.eqb-true}
 use Rattle.tte_run.proofs.votes_lemmas.law_lemmas.{Delivered.payload_delivered, Voted.{first_and_second, first_and_third, second_and_third}}
-use Rattle.tte_run.specs.votes.law.{Ballots.{ballot_of, payload_taken}, Outvoting.{TwoOutvoteTheThird, sent_payload}, Voting.is_match}
+use Rattle.{tte_run.specs.votes.law.Outvoting.{TwoOutvoteTheThird, sent_payload}, tte_units.proofs.general_lemmas.Bools.{both_left, both_right}}
 
 same_length : (a b : VirtualLink) → is_match a b ≡ true → a.length ≡ b.length
 same_length a b e =

@@ -20,8 +20,7 @@ pub vote_first : (v : Votes) → AreEqual v.first v.second ⊎ AreEqual v.first 
 vote_first v (inl e) = ((1, (λ same. omega (arith, same)), e), λ other h. omega arith)
 vote_first v (inr e) = ((2, (λ same. omega (arith, same)), e), λ other h. omega arith)
 
-pub vote_second : (v : Votes) → (AreEqual v.first v.second → ⊥) → (AreEqual v.first v.third → ⊥) → AreEqual v.second v.third
-    → IsVote v (Some 1)
+pub vote_second : (v : Votes) → (AreEqual v.first v.second → ⊥) → (AreEqual v.first v.third → ⊥) → AreEqual v.second v.third → IsVote v (Some 1)
 vote_second v no_second no_third e = ((2, (λ same. omega (arith, same)), e), least)
   where
     least : (other : ℕ) → IsSeconded v other → 1 ≤ other

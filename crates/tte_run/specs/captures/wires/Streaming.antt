@@ -3,7 +3,8 @@ use Rattle.std.specs.Prelude.{◌∷◌, List, Option, ℕ}
 use Rattle.net_plan.specs.declared.{ids.LinkId.LinkId, network.Network.Network, tables.Way.Way}
 use Rattle.tte_run.specs.captures.{pcap.Writing.head_octets, wires.{Answer.IsNamed, Packets.settled_capture}}
 use Rattle.tte_forms.specs.Putting.{IsPassedOn, Shown}
-use Rattle.tte_traces.specs.{Answer.LinesOf, Streaming.{ForAccepted, ForTrace, StopsBehindLines, TakesLittle}}
+use Rattle.tte_forms.specs.networks.Accepting.{ForAccepted}
+use Rattle.tte_traces.specs.{Answer.LinesOf, Streaming.{ForTrace, StopsBehindLines, TakesLittle}}
 
 -- the packets of the way, but for those that a further event may cut
 abbrev pub settled_lines : LinkId → Way → LinesOf

@@ -17,14 +17,14 @@ const STAMP_LENGTH: usize = 16;
 const MOST_CAPTURED: u32 = 262_144;
 
 /// What the header of a capture tells: the order of the octets of each number.
-#[derive(Clone, Copy, Debug, PartialEq, Eq)]
+#[derive(Clone, Copy, PartialEq, Eq)]
 pub struct CaptureHead {
     /// Whether the greatest octet comes first.
     pub big: bool,
 }
 
 /// A packet of a capture.
-#[derive(Clone, Copy, Debug, PartialEq, Eq)]
+#[derive(Clone, Copy, PartialEq, Eq)]
 pub struct Packet {
     /// The whole seconds of its stamp.
     pub seconds: u32,

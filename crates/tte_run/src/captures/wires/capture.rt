@@ -1,11 +1,11 @@
 ghost use Rattle.std.specs.Prelude.{◌++◌, ◌^◌, ◌∷◌, ◌≡◌, ◌≤◌, IfErr, List, OnOk, [], false, length, true, ℕ};
-ghost use Rattle.net_plan.specs.{Belonging.HasLink, Ranges.IsInRange, declared.{event.{Event.{Event as EventValue}}}};
+ghost use Rattle.net_plan.specs.{Belonging.HasLink, Ranges.IsInRange, declared.event.Event.{Event as EventValue}};
 ghost use Rattle.run_law.specs.declared.note.Note.{Note as NoteValue};
 ghost use Rattle.tte_run.specs.captures.wires.Packets.{is_sent_on, packets_of, scenario_under};
 ghost use Rattle.tte_run.specs.captures.wires.Seeing.{IsTimely, PassesTo, PutsAll, SeesWay, StopsWay, TakesWhat};
 ghost use Rattle.tte_run.specs.captures.wires.Seeing.{last_happening, sent_packets};
 ghost use Rattle.{tte_units.specs.Amount.{amount, units_of}, world_drive.specs.Observing.PutsFurther};
-ghost use Rattle.world_drive.specs.{declared.{observing.{Cut.{Cut as CutValue}}}, exact.Worlds.StandsExact};
+ghost use Rattle.world_drive.specs.{declared.observing.Cut.{Cut as CutValue}, exact.Worlds.StandsExact};
 
 use crate::captures::wires::frames::{is_sent_on, is_way_of, put_frames, put_signal};
 use device_rules::frames::MadeFrame;

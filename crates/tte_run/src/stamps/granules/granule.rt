@@ -15,7 +15,7 @@ pub fn least(accepted: &Accepted) -> Units
 }
 
 /// A granule of global time.
-#[derive(Clone, Copy, Debug)]
+#[derive(Clone, Copy)]
 pub struct Granule {
     units: u64,
 }

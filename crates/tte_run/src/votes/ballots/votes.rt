@@ -2,10 +2,9 @@ ghost use Rattle.std.specs.Prelude.{◌++◌, ◌+◌, ◌<◌, ◌^◌, ◌∷�
 ghost use Rattle.std.specs.Prelude.{length, ℕ};
 ghost use Rattle.{device_rules.specs.frames.traced.Keeping.Keeps, net_plan.specs.declared.network.Network.Network};
 ghost use Rattle.run_law.specs.declared.note.Note.{Note as NoteValue};
-ghost use Rattle.tte_run.specs.declared.votes.law.voters.Voters.{Voters as VotersValue};
+ghost use Rattle.tte_run.specs.{declared.votes.law.voters.Voters.{Voters as VotersValue}, votes.law.Ballots.payload_in};
 ghost use Rattle.tte_run.specs.votes.ballots.Keeping.{AreOpenFrom, HoldsFrom, HoldsVotes, IsNext, kept_count};
 ghost use Rattle.tte_run.specs.votes.{ballots.Keeping.{seat_payload, with_cast}, tmr.Vote.{IsOpen, payload_of}};
-ghost use Rattle.tte_run.specs.votes.law.Ballots.{payload_in};
 
 use crate::votes::ballots::keeping::take_record;
 use crate::votes::ballots::seats::{Seats, cycle_of, device_of};

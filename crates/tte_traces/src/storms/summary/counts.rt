@@ -1,5 +1,5 @@
 /// How many records of each kind a run has.
-#[derive(Clone, Copy, Debug, PartialEq, Eq)]
+#[derive(Clone, Copy, PartialEq, Eq)]
 pub struct Counts {
     /// The records of all kinds.
     pub records: u64,

@@ -10,7 +10,7 @@ use tte_units::Units;
 pub const LINES: usize = 23;
 
 /// The summary of a run under the storm of a seed over so many cycles.
-#[derive(Clone, Copy, Debug, PartialEq, Eq)]
+#[derive(Clone, Copy, PartialEq, Eq)]
 pub struct Summary {
     pub seed: u64,
     pub cycles: u32,

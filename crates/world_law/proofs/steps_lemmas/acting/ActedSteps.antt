@@ -1,6 +1,6 @@
 -- A device acts: where more is due of it at the instant, the cursor stays, and else it goes by.
-use Rattle.{membership.specs.Members.count_of, run_law.specs.machines.Tasks.IsWaiting, world_law.proofs.acts.Acted.beyond_it}
 use Rattle.{run_law.specs.control.Hearing.{heard_by_schedule, heard_enough, is_in_schedule, last_cycle}, world_law.proofs.steps_lemmas.Words.{sym, true, ℕ}}
+use Rattle.{run_law.specs.machines.Tasks.IsWaiting, sync_state.specs.membership.Members.count_of, world_law.proofs.acts.Acted.beyond_it}
 use Rattle.world_law.proofs.steps_lemmas.Words.{◌&&◌, ◌++◌, ◌+◌, ◌≡◌, ◌≤◌, ◌⊎◌, Act, ArePutIn, AsyncClique, Cleared, Compressed, Corrected, DeviceId, Happening}
 use Rattle.world_law.proofs.steps_lemmas.Words.{HasActed, HasDoneFrom, HasSentFrom, HasTaskBy, Integrating, IsDueNow, IsSet, Joining, List, Members, Network}
 use Rattle.world_law.proofs.steps_lemmas.Words.{Node, Note, NoteBody, Off, Ripe, Scenario, Stands, StandsBehind, State, SyncClique, SyncPlan, Synchronised}

@@ -1,5 +1,5 @@
 -- All that is due from the acts of a device is among the records to come, once it has nothing more to do at the instant.
-use Rattle.{membership.proofs.OneSummary.one_summary, sync_state.{proofs.LawLemmas.one_verdict, specs.Verdicts.HasVerdict}}
+use Rattle.sync_state.{proofs.{LawLemmas.one_verdict, membership_lemmas.OneSummary.one_summary}, specs.Verdicts.HasVerdict}
 use Rattle.world_law.proofs.{devices.Plains.heard_plain, steps_lemmas.acting.{Emitting.none_heard, Stays.{heard_by_these, heard_more, heard_put}}}
 use Rattle.world_law.proofs.steps_lemmas.Words.{◌++◌, ◌<ℤ◌, ◌∙◌, ◌∷◌, ◌≡◌, ◌≤ℤ◌, ◌≤◌, ◌⊎◌, AllBefore, AreRecorded, AsyncClique, Bool, Cleared, ComesTo}
 use Rattle.world_law.proofs.steps_lemmas.Words.{ComesToCorrection, Compressed, Corrected, DeviceId, Dispatches, Happening, HasCleared, Hearing, IsAllOfIt}

@@ -1,7 +1,8 @@
 -- A joiner that comes to the correction point of the cycle by whose frame it joined clears what it has heard.
 use Rattle.{compression.proofs.Held.int_le-false, std.proofs.lemmas.Bool.and_from, sync_state.specs.Standing.IsAtIntegration}
 use Rattle.{run_law.specs.control.Corrections.next_cycle, world_law.proofs.{acts.Acted.next_turn, devices.{OwnRecords.cycle_still, Passes.cleared_still}}}
-use Rattle.{run_law.specs.{device.LocalClocks.local_at_change, machines.Answers.after_correction}, tte_lemmas.proofs.Integers.{int_le-from, int_lt-from}}
+use Rattle.run_law.specs.{device.LocalClocks.local_at_change, machines.Answers.after_correction}
+use Rattle.tte_units.proofs.general_lemmas.Integers.{int_le-from, int_lt-from}
 use Rattle.world_law.proofs.steps_lemmas.Words.{◌&&◌, ◌++◌, ◌+ℤ◌, ◌+◌, ◌-ℤ◌, ◌-◌, ◌<ℤ◌, ◌<◌, ◌||◌, ◌∙◌, ◌∷◌, ◌≡◌, ◌≤ℤ◌, ◌≤◌, ◌⊎◌, Bool, Cleared, ClockTask}
 use Rattle.world_law.proofs.steps_lemmas.Words.{Compressed, Contains-push_cases, DeviceId, Happening, HasCleared, IsIn, IsLeft, IsUndone, IsWaiting, Joining}
 use Rattle.world_law.proofs.steps_lemmas.Words.{List, Moment, Node, Scenario, Summary, Synchronised, Units, [], acting, adjustment_before, after_last, amount}

@@ -1,6 +1,6 @@
 -- The clusters of a list of points are one list, and each opens behind those before it.
 use Rattle.compression.{proofs.Held.int_lt-false, specs.Emission.compressed}
-use Rattle.{compression.{proofs.Standing.AreClusters-unique, specs.Clusters.{Cluster, beyond, end_of}}, tte_lemmas.proofs.Integers.same_number}
+use Rattle.{compression.{proofs.Standing.AreClusters-unique, specs.Clusters.{Cluster, beyond, end_of}}, tte_units.proofs.general_lemmas.Integers.same_number}
 use Rattle.{run_law.proofs.records.Order.contained, world_law.proofs.steps_lemmas.Words.{nat_le, observation_window, pos, refl, subst, sym, true, ℤ}}
 use Rattle.world_law.proofs.steps_lemmas.Words.{◌<ℤ◌, ◌∙◌, ◌∷◌, ◌≡◌, ◌≤ℤ◌, AreClusters, Bool, Compressed, IsFrameOf, IsIn, List, Network, Node, Point, []}
 use Rattle.world_law.proofs.steps_lemmas.Words.{amount, ap, arith, both_ways, cases_Bool, cases_int, false, if◌then◌else◌, inl, inr, int_lt, ints, length}

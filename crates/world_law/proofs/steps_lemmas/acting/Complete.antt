@@ -62,34 +62,39 @@ IsActCause s js now device other = ⊥
 here_at : (t now d e : ℕ) → t ∷ 4 ∷ d ∷ [] ≡ now ∷ 4 ∷ e ∷ [] → (t ≡ now) × (d ≡ e)
 here_at t now d e same = (cc, cc)
 
+-- what is so of the other at the time is so of the device at the instant
+at_it : (now t : ℕ) (device other : DeviceId) (p : DeviceId → ℕ → Type 0) → now ∷ 4 ∷ device.0 ∷ [] ≡ t ∷ 4 ∷ other.0 ∷ [] → p other t
+    → (t ≡ now) × ((other ≡ device) × p device now)
+at_it now t device other p own c =
+    let e = here_at now t device.0 other.0 own in
+    let same = same_device other device (sym e.1) in
+    (sym e.0, (same, subst (λ (n : ℕ). p device n) (sym e.0) (subst (λ (d : DeviceId). p d t) same c)))
+
 -- what comes from the acts of the device is of the instant, and caused by an act
 pub act_cause : (s : Scenario) (js : List Happening) (now : ℕ) (device : DeviceId) (time : Units) (m : ℕ) (body : NoteBody)
     → IsOwnSource s js (amount time) m body (act_place now device) → IsCaused s js time body → (amount time ≡ now) × IsActCause s js now device body
 act_cause s js now device time m (kinds.Compressed other opened at cycle members verdict) own c =
-    grind (arith, here_at, amount, same_device)
+    at_it now (amount time) device other (λ d n. Emits s js d n (record { opened = opened; at = at; cycle = cycle; members = members }) verdict) own c
 act_cause s js now device time m (kinds.Sent other cycle) own c =
-    grind (arith, here_at, amount, same_device)
+    at_it now (amount time) device other (λ d n. Sends s js d n cycle) own c
 act_cause s js now device time m (kinds.Corrected other cycle by adjustment) own c =
-    let e = here_at now (amount time) device.0 other.0 own in
-    let same = same_device other device (sym e.1) in (
-      sym e.0,
-      (
-        same,
-        subst (λ (n : ℕ). IsCorrectedRecord s js device n cycle by adjustment) (sym e.0)
-            (subst (λ (d : DeviceId). IsCorrectedRecord s js d (amount time) cycle by adjustment) same c),
-      ),
-    )
+    at_it now (amount time) device other (λ d n. IsCorrectedRecord s js d n cycle by adjustment) own c
 act_cause s js now device time m (kinds.State other state cause whys.SyncClique) own c =
-    grind (arith, here_at, amount, same_device)
+    let x = at_it now (amount time) device other (λ d n. (cycle : ℕ) × ComesToCorrection s js d n cycle SyncClique) own c.2 in
+    (x.0, (x.1.0, c.0, c.1, x.1.1))
 act_cause s js now device time m (kinds.State other state cause whys.AsyncClique) own c =
-    grind (arith, here_at, amount, same_device)
+    let x = at_it now (amount time) device other (λ d n. (cycle : ℕ) × ComesToCorrection s js d n cycle AsyncClique) own c.2 in
+    (x.0, (x.1.0, c.0, c.1, x.1.1))
 act_cause s js now device time m (kinds.Lost other link cause) (inl own) c = absurd (let bad : ◌≡◌ {A = ℕ} 4 8 = let e = own.0 in cc in omega (arith, bad))
 act_cause s js now device time m (kinds.Lost other link cause) (inr (inl own)) c =
-    grind (arith, here_at, amount, same_device, is_cut, way_from)
+    at_it now (amount time) device other (λ d n.
+    (vl : VlId) × (cycle : ℕ) × Dispatches s js d n link cause vl cycle × (is_cut s link (way_from s.network d link) n ≡ true)) own.0 own.1
 act_cause s js now device time m (kinds.Lost other link cause) (inr (inr own)) c =
     absurd (let bad : ◌≡◌ {A = ℕ} 4 2 = let e = own.0 in cc in omega (arith, bad))
 act_cause s js now device time m (kinds.TtSent other link cause vl cycle) own c =
-    grind (arith, here_at, amount, same_device, is_cut, way_from)
+    let x = at_it now (amount time) device other
+    (λ d n. Dispatches s js d n link cause vl cycle × (is_cut s link (way_from s.network d link) n ≡ false)) own (c.dispatches, c.whole) in
+    (x.0, (x.1.0, x.1.1.0, x.1.1.1))
 act_cause s js now device time m (kinds.Event line what) own c = absurd (let bad : ◌≡◌ {A = ℕ} 4 1 = cc in omega (arith, bad))
 act_cause s js now device time m (kinds.Permanent other link cause point verdict) own c = absurd (let bad : ◌≡◌ {A = ℕ} 4 3 = cc in omega (arith, bad))
 act_cause s js now device time m (kinds.Left other link cause clock) own c = absurd (let bad : ◌≡◌ {A = ℕ} 4 8 = cc in omega (arith, bad))
@@ -235,8 +240,7 @@ found_at hs new now device x y k rest before i at late its = elim (in_parts x hs
 
 -- so is what tells of a dispatch
 pub found_dispatched : (s : Scenario) (hs new : List Happening) (now : ℕ) (device : DeviceId) (link : LinkId) (cause : ℕ) (vl : VlId) (cycle : ℕ)
-    (y : Happening)
-    → AllBefore place_of hs (act_place now device) → IsShown (hs ++ new) now (dispatch_body s device now link cause vl cycle)
+    (y : Happening) → AllBefore place_of hs (act_place now device) → IsShown (hs ++ new) now (dispatch_body s device now link cause vl cycle)
     → y.note.body ≡ dispatch_body s device now link cause vl cycle → time_of y ≡ now → (z : Happening) × IsIn z new × (place_of z ≡ place_of y)
 found_dispatched s hs new now device link cause vl cycle y before x e at =
     let lost : (h : Happening) → h.note.body ≡ kinds.Lost device link cause → time_of h ≡ now → place_of h ≡ now ∷ 9 ∷ device.0 ∷ link.0 ∷ cause ∷ [] =

@@ -6,7 +6,8 @@ use Rattle.world_law.proofs.steps_lemmas.Words.{Happening, HasActed, HasCleared,
 use Rattle.world_law.proofs.steps_lemmas.Words.{IsShownPut, IsUnfollowed, Joining, List, Network, Node, Note, NoteBody, Scenario, Some, Stands, StandsBehind}
 use Rattle.world_law.proofs.steps_lemmas.Words.{State, Summary, SyncClique, Synchronised, Units, Verdict, Why, World, [], act_place, acting, adjustment_by}
 use Rattle.world_law.proofs.steps_lemmas.Words.{all_without, ap, arith, before_it, behind, called, cases_eq, correcting, doing, earlier_still, ends_stretch}
-use Rattle.world_law.proofs.steps_lemmas.Words.{false, happenings, held_moves, hidden, in_right, inl, inr, is_turned_on_at, length, length_is, map, moment_of}
+use Rattle.world_law.proofs.steps_lemmas.Words.{false, happenings, held_moves, hidden, if◌then◌else◌, in_right, inl, inr}
+use Rattle.world_law.proofs.steps_lemmas.Words.{is_turned_on_at, length, length_is, map, moment_of}
 use Rattle.world_law.proofs.steps_lemmas.Words.{none_in, none_yet, one_shown, place_of, point_number, port_place, ports_move, put_at, rank, record_of, refl}
 use Rattle.world_law.proofs.steps_lemmas.Words.{slice_get, stands_on, state_after, state_by, subst, sym, told_wires, true, turned_moves, waiting_moves}
 use Rattle.world_law.proofs.steps_lemmas.{Words.{wire_place, wires_move, with_clique, ℕ}, acting.Kept.{IsBare, bare_act, kept_over, may_act_now, ready_after}}
@@ -57,8 +58,7 @@ one_point_step : {C M : Type 0} (reading : C → ℕ → ℕ) (stands : M → Ne
     → IsActRecord s (happenings s.network notes) p.front p.back world.now device body → IsNoTaking device body
     → IsAtPoint s device world.now node cycle heard verdict
     → HasOutcome (put_at (happenings s.network notes) p.front (record_of s.network (happenings s.network notes) p.front world.now body) p.back) world.now device
-    verdict
-    → IsThen stands s (happenings s.network notes) (put_at (happenings s.network notes) p.front
+    verdict → IsThen stands s (happenings s.network notes) (put_at (happenings s.network notes) p.front
     (record_of s.network (happenings s.network notes) p.front world.now body) p.back) world.now device after node then_
     → IsSet device.0 after world.machines machines
     → StandsBehind reading stands s (record world { early = false; machines = machines; settled = settled }) notes (behind (act_place world.now device))
@@ -88,8 +88,7 @@ one_point_step reading stands s world notes old device machine after node then_ 
 pub cleared_goes_by : {C M : Type 0} (reading : C → ℕ → ℕ) (stands : M → Network → DeviceId → Node → Type 0) (s : Scenario) (world : World C M)
     (notes : List Note)
     (old : Stands reading stands s world notes) (device : DeviceId) (machine after : M) (cycle : ℕ) (was : State) (adjustment : Units) (machines : List M)
-    (settled : List Happening)
-    → IsCorrecting reading stands s world notes old device machine after cycle Cleared was adjustment machines settled
+    (settled : List Happening) → IsCorrecting reading stands s world notes old device machine after cycle Cleared was adjustment machines settled
     → StandsBehind reading stands s (record world { early = false; machines = machines; settled = settled }) notes (behind (act_place world.now device))
 cleared_goes_by {C} {M} reading stands s world notes old device machine after cycle was adjustment machines settled x =
     let hs = happenings s.network notes in
@@ -186,7 +185,9 @@ clique_step reading stands s world notes old device machine after cycle was adju
     let same_length = length_is s notes in
     let room = room_for reading stands s world notes old (act_place now device) x.first in
     let body = kinds.State device Integrating 0 why in
-    let p : IsShownPut s.network hs now body old.coming settled = grind (arith, hs, now, body, one_shown, same_length, room, map, hidden) in
+    let p : IsShownPut s.network hs now body old.coming settled = subst (λ (l : List Happening). IsShownPut s.network hs now body old.coming l) (sym put.2)
+    (one_shown s.network hs now body old.coming world.settled put.0 (omega (arith, same_length, room)) (omega arith)
+    (old.settled ∙ ap (λ (n : ℕ). map (hidden n) old.coming) same_length) put.1) in
     let w = record_of s.network hs p.front now body in
     let new = put_at hs p.front w p.back in
     let st2 : Stage stands s hs (p.front ++ p.back) old.mark old.cursor now device machine node =
@@ -212,8 +213,7 @@ clique_step reading stands s world notes old device machine after cycle was adju
 pub alone_goes_by : {C M : Type 0} (reading : C → ℕ → ℕ) (stands : M → Network → DeviceId → Node → Type 0) (s : Scenario) (world : World C M)
     (notes : List Note)
     (old : Stands reading stands s world notes) (device : DeviceId) (machine after : M) (cycle : ℕ) (was : State) (adjustment : Units) (machines : List M)
-    (settled : List Happening)
-    → IsCorrecting reading stands s world notes old device machine after cycle SyncClique was adjustment machines settled
+    (settled : List Happening) → IsCorrecting reading stands s world notes old device machine after cycle SyncClique was adjustment machines settled
     → StandsBehind reading stands s (record world { early = false; machines = machines; settled = settled }) notes (behind (act_place world.now device))
 alone_goes_by reading stands s world notes old device machine after cycle was adjustment machines settled x =
     clique_step reading stands s world notes old device machine after cycle was adjustment machines settled SyncClique whys.SyncClique x IsClique.alone x.put
@@ -262,19 +262,24 @@ corrected_goes_by reading stands s world notes old device machine after cycle by
     let same_length = length_is s notes in
     let room = room_for reading stands s world notes old (act_place now device) x.first in
     let body = kinds.Corrected device cycle by adjustment in
-    let p : IsShownPut s.network hs now body old.coming settled = grind (arith, hs, now, body, one_shown, same_length, room, map, hidden) in
+    let p : IsShownPut s.network hs now body old.coming settled = subst (λ (l : List Happening). IsShownPut s.network hs now body old.coming l) (sym x.put.2)
+    (one_shown s.network hs now body old.coming world.settled x.put.0 (omega (arith, same_length, room)) (omega arith)
+    (old.settled ∙ ap (λ (n : ℕ). map (hidden n) old.coming) same_length) x.put.1) in
     let w = record_of s.network hs p.front now body in
     let new = put_at hs p.front w p.back in
     let st2 : Stage stands s hs (p.front ++ p.back) old.mark old.cursor now device machine node =
     subst (λ (l : List Happening). Stage stands s hs l old.mark old.cursor now device machine node) p.parts st in
-    let so : IsCorrectedSo s device (now + 1) node w cycle by adjustment (moment_of s device now) = grind (arith, body, point_is.0, point_is.1, sum, sum_is) in
+    let so : IsCorrectedSo s device (now + 1) node w cycle by adjustment (moment_of s device now) =
+    record { body = refl; before = omega arith; timed = point_is.0; number = point_is.1; sum = sym sum_is; reads = refl } in
     let quiet = no_frames s device now node cycle heard (Corrected by) first.pending.0 point in
     let over : IsOver s (hs ++ new) now device act.0 = subst (λ (n : Node). IsOver s (hs ++ new) now device n) (sym is)
     (corrected_over s hs p.front p.back new now device node w cycle by adjustment (moment_of s device now) heard st2.work off st2.calm.off st2.calm.broken
     (as_put hs p.front p.back now w refl (omega arith)) p.none so synchronised quiet) in
     let cleared : HasCleared act.0 = subst HasCleared (sym is) (λ n there. absurd (none_in (correcting n) there)) in
-    let lone : IsUnfollowed s hs now body =
-    grind (arith, corrected_unfollowed, hs, now, earlier_still, st.work.of_now, not_joining, synchronised, st.work.left.state, is_turned_on_at, state_after) in
+    let lone : IsUnfollowed s hs now body = corrected_unfollowed s hs now device cycle by adjustment (λ joining.
+    let same = earlier_still now hs old.coming (λ z i. let at = (st.work.of_now z i).0 in omega (arith, at)) in
+    not_joining (sym synchronised ∙ st.work.left.state
+    ∙ ap (λ (l : List Happening). if is_turned_on_at s device now then Integrating else state_after s l device) same ∙ joining)) in
     one_point_step reading stands s world notes old device machine after node act.0 machines settled body cycle heard (Corrected by) st p room (omega arith)
     (corrected_record stands s hs p.front p.back old.mark old.cursor now device machine node cycle heard by adjustment st2 off point sum_is p.none lone)
     (λ at. refl) point

@@ -1,7 +1,7 @@
 -- A device that has come to its correction point: the instant is over for it.
-use Rattle.{run_law.specs.machines.Answers.with_corrected, world_law.proofs.{runs.Foremost.unmoved_by, steps_lemmas.acting.Over.IsOver}}
-use Rattle.{std.proofs.Common.Contains, tte_lemmas.proofs.Integers.ahead_yet, world_law.specs.device.Own.{IsStill, borne}}
-use Rattle.{sync_state.proofs.StateFacts.{no_longer, no_point}, world_law.proofs.devices.{Borne.{left_alike, tell_alike}, Plains.changes_at_plain}}
+use Rattle.{run_law.specs.machines.Answers.with_corrected, sync_state.proofs.StateFacts.{no_longer, no_point}, world_law.proofs.steps_lemmas.acting.Over.IsOver}
+use Rattle.{std.proofs.Common.Contains, world_law.{proofs.runs.Foremost.unmoved_by, specs.device.Own.{IsStill, borne}}}
+use Rattle.{tte_units.proofs.general_lemmas.Integers.ahead_yet, world_law.proofs.devices.{Borne.{left_alike, tell_alike}, Plains.changes_at_plain}}
 use Rattle.world_law.proofs.devices.{OwnRecords.{adjustment_still, cycle_still, integration_still, state_still}, Passes.{local_still, started_still}}
 use Rattle.world_law.proofs.steps_lemmas.Words.{◌++◌, ◌+ℤ◌, ◌+◌, ◌-ℤ◌, ◌<ℤ◌, ◌<◌, ◌∙◌, ◌∷◌, ◌≡◌, ◌≤ℤ◌, ◌≤◌, AreClusters, Bool, ClockTask, Compressed, DeviceId}
 use Rattle.world_law.proofs.steps_lemmas.Words.{Happening, HasDoneFrom, HasSentFrom, Integrating, IsDeedOf, IsIn, IsLeft, IsWaiting, Joining, List, Moment}

@@ -43,8 +43,7 @@ dispatch_cause s device now link cause vl cycle =
 
 -- a device that has to dispatch a row, whose frame it has at hand by the records given, dispatches it by any records of the instant
 pub dispatches_it : (s : Scenario) (hs coming other : List Happening) (now : ℕ) (device : DeviceId) (node : Node) (row : RowId) (entry : Entry)
-    (cause cycle : ℕ)
-    → IsAtWork s hs coming now device node → ((z : Happening) → IsIn z other → time_of z ≡ now)
+    (cause cycle : ℕ) → IsAtWork s hs coming now device node → ((z : Happening) → IsIn z other → time_of z ≡ now)
     → IsPending s.network device node (doing (dispatching row cycle))
     → reading_for s.network node (doing (dispatching row cycle)) ≤ℤ pos (s.reading device now) → IsEntry s.network row.0 entry
     → HasAtHand s.network hs device entry now cause cycle
@@ -199,8 +198,7 @@ none_taken : (s : Scenario) (device of : DeviceId) (now : ℕ) (link : LinkId) (
 none_taken s device of now link cause vl cycle = grind (arith, is_cut, way_from)
 
 dispatches_on : (s : Scenario) (hs front back new : List Happening) (now : ℕ) (device : DeviceId) (node : Node) (w : Happening) (row : RowId) (cycle : ℕ)
-    (moment : Moment)
-    → IsAtWork s hs (front ++ back) now device node → IsPutAs now front back new w → hearing_by s.network device w w.note.body ≡ None
+    (moment : Moment) → IsAtWork s hs (front ++ back) now device node → IsPutAs now front back new w → hearing_by s.network device w w.note.body ≡ None
     → moves device w.note.body ≡ false
     → reading_for s.network node (doing (dispatching row cycle)) ≤ℤ pos (s.reading device now)
     → IsReadyAt (s.reading device) s.network device (called moment acting (with_done node (dispatching row cycle))) now
@@ -230,8 +228,7 @@ dispatched_recorded s hs front back new now device node w row link cause vl cycl
     let high = dispatch_late s device now link cause vl cycle in
     let add = dispatching row cycle ∷ [] in
     let never_five : (body : NoteBody) (z : Happening) → rank body ≤ 5 → Rattle.world_law.specs.device.Plain.plain z ≡ Rattle.world_law.specs.device.Plain.plain
-    w
-    → plain_body z.note.body ≡ body → ⊥ = λ body z low here is.
+    w → plain_body z.note.body ≡ body → ⊥ = λ body z low here is.
     let same_rank : rank (dispatch_body s device now link cause vl cycle) ≡ rank body = ap rank (sym tells ∙ sym (body_plain z w here) ∙ is) in
     omega (arith, same_rank, low, high) in
     record {

@@ -124,8 +124,7 @@ has_emitted_it : {M : Type 0} (stands : M → Network → DeviceId → Node → 
     (device : DeviceId) (machine then_ : M) (node after : Node) (sent : Compressed) (heard : Ripe)
     → Stage stands s hs (front ++ back) mark cursor now device machine node
     → IsFirstTask s.network device node (moment_of s device now).reading.0 (emitting sent) → IsActOf s.network device node (moment_of s device now)
-    (acts.Emit sent heard) after
-    → after ≡ node_emitted s.network device node (moment_of s device now) sent (own_judgement s.network device node sent)
+    (acts.Emit sent heard) after → after ≡ node_emitted s.network device node (moment_of s device now) sent (own_judgement s.network device node sent)
     → StaysBy (own_judgement s.network device node sent) → stands then_ s.network device after
     → ((y : Happening) → IsIn y back → (c : Compressed) (u : Judgement) → y.note.body ≡ emission_body device c u → ⊥)
     → HasSentIt stands s hs (put_at hs front (record_of s.network hs front now (emission_body device sent (own_judgement s.network device node sent))) back) now

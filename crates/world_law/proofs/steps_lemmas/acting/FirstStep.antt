@@ -33,7 +33,24 @@ pub record ArePairParts (hs front back front2 back2 : List Happening) (w : Happe
 pub pair_parts : (hs front back front2 back2 : List Happening) (w : Happening) → put_at hs front w back ≡ front2 ++ back2
     → before_it hs front < before_it hs front2 → ArePairParts hs front back front2 back2 w
 pair_parts hs front back front2 back2 w parts far =
-    grind (arith, before_it, split_two, map, bump_behind, length-append, length, split_placed)
+    let n = before_it hs front in
+    elim (split_two front (map (bump_behind n) back) w front2 back2 parts) [
+      | inl it ↦
+          let a = length-append hs front in
+          let b = length-append hs front2 in
+          let c = ap length it.1 in
+          let d = length-append front2 it.0 in
+          absurd (omega (arith, far, a, b, c, d))
+      | inr it ↦
+          let x = split_placed n back it.0 back2 it.2 in
+          record {
+            mid = x.0;
+            rest = x.1;
+            parts = x.2;
+            first = it.1 ∙ ap (λ (l : List Happening). front ++ w ∷ l) x.3;
+            second = x.4;
+          }
+    ]
 
 pub pair_plains : (hs front back front2 back2 : List Happening) (w v : Happening) → (x : ArePairParts hs front back front2 back2 w)
     → plains (put_at hs front2 v back2) ≡ plains (front ++ w ∷ (x.mid ++ v ∷ x.rest))
@@ -78,8 +95,7 @@ pub record IsActPair (s : Scenario) (hs front back front2 back2 : List Happening
 
 pub two_go_by : {C M : Type 0} (reading : C → ℕ → ℕ) (stands : M → Network → DeviceId → Node → Type 0) (s : Scenario) (world : World C M) (notes : List Note)
     (old : Stands reading stands s world notes) (device : DeviceId) (machine after : M) (node : Node) (machines : List M) (settled : List Happening)
-    (body : NoteBody) (state : State) (why : _)
-    → Stage stands s (happenings s.network notes) old.coming old.mark old.cursor world.now device machine node
+    (body : NoteBody) (state : State) (why : _) → Stage stands s (happenings s.network notes) old.coming old.mark old.cursor world.now device machine node
     → (q : IsShownPair s.network (happenings s.network notes) world.now body device state why old.coming settled)
     → length notes + length old.coming + 2 < none_yet
     → IsActPair s (happenings s.network notes) q.front q.back q.front2 q.back2 world.now device body state why

@@ -10,8 +10,7 @@ use Rattle.run_law.specs.declared.note.NoteBody.TheVariants as kinds
 abbrev pub PermanentFromZero : List Happening → DeviceId → Type 0
 PermanentFromZero hs device =
     (h : Happening) → IsIn h hs → (link : LinkId) (cause : ℕ) (point : Units) (verdict : Judgement) → h.note.body ≡ kinds.Permanent device link cause point
-    verdict
-    → pos 0 ≤ℤ point.0
+    verdict → pos 0 ≤ℤ point.0
 
 -- so it is where the records are founded
 pub permanent_from_zero : (s : Scenario) (hs : List Happening) (device : DeviceId) → IsInRange s.network → IsFounded place_of (IsDue s) hs

@@ -1,5 +1,5 @@
 -- A compression master that emits a frame by which it joins: what bears on it, and that all that is due of it is there.
-use Rattle.{run_law.specs.records.Ranks.sign, sync_state.{proofs.{StateFacts.{no_longer, no_point as no_next}}}, world_law.proofs.devices.TurnedOn.IsQuiet}
+use Rattle.{run_law.specs.records.Ranks.sign, sync_state.proofs.StateFacts.{no_longer, no_point as no_next}, world_law.proofs.devices.TurnedOn.IsQuiet}
 use Rattle.world_law.proofs.steps_lemmas.Words.{◌++◌, ◌+◌, ◌<◌, ◌∙◌, ◌∷◌, ◌≡◌, ◌≤ℤ◌, ◌≤◌, ◌⊎◌, AllBefore, AreClusters, AreRecorded, AsState, Compressed}
 use Rattle.world_law.proofs.steps_lemmas.Words.{DeviceId, Emits, Happening, Integrating, IsAllOfIt, IsAtRest, IsBefore, IsIn, IsPending, IsShown, Judgement}
 use Rattle.world_law.proofs.steps_lemmas.Words.{List, Node, NoneBefore, NoteBody, Point, Scenario, [], act_place, amount, ap, append_assoc, arith, bears_on}

@@ -36,13 +36,23 @@ pub record IsJoining {C M : Type 0} (reading : C → ℕ → ℕ) (stands : M �
 
 no_correction : (s : Scenario) (device : DeviceId) (now cycle : ℕ) (h : Happening) (by adjustment : _) → IsAtRest s device now h.note.body
     → h.note.body ≡ kinds.Corrected device cycle by adjustment → ⊥
-no_correction s device now cycle h by adjustment rest e = grind (arith, both_ways, eq-eqb)
+no_correction s device now cycle h by adjustment rest e = from (subst (IsAtRest s device now) e rest)
+  where
+    from : IsAtRest s device now (kinds.Corrected device cycle by adjustment) → ⊥
+    from (inl still) = both_ways _ still (eq-eqb device.0 device.0 refl)
+    from (inr on) = let bad : false ≡ true = on.0 in cc
 
 -- a change of state whose cause is given stands before that which the frame brings
 early_change : (n now : ℕ) (device : DeviceId) (z v : Happening) (c : ChangesIt device (now + 1) z) → time_of z ≡ now → c.cause ≤ n
     → place_of v ≡ now ∷ 7 ∷ device.0 ∷ (n + 1) ∷ [] → IsBefore (place_of (bump_behind n z)) (place_of v)
 early_change n now device z v c at le place =
-    grind (arith, place_of, bump_behind, time_of, rank, key, members_in, up_low)
+    let here : place_of (bump_behind n z) ≡ now ∷ 7 ∷ device.0 ∷ c.cause ∷ [] =
+    ap (λ (b : NoteBody). time_of z ∷ rank (Rattle.world_law.proofs.putting.Bumped.raised n b)
+    ∷ key (members_in z) (Rattle.world_law.proofs.putting.Bumped.raised n b)) c.is
+    ∙ ap (λ (k : ℕ). time_of z ∷ 7 ∷ device.0 ∷ k ∷ []) (up_low n c.cause le) ∙ ap (λ (k : ℕ). k ∷ 7 ∷ device.0 ∷ c.cause ∷ []) at in
+    let lt : c.cause < n + 1 = omega (arith, le) in
+    subst (λ (p : List ℕ). IsBefore p (place_of v)) (sym here)
+    (subst (λ (p : List ℕ). IsBefore (now ∷ 7 ∷ device.0 ∷ c.cause ∷ []) p) (sym place) (inr (refl, inr (refl, inr (refl, inl lt)))))
 
 -- where each record of the new list comes from
 pub parts_of_pair : (front mid rest new : List Happening) (now : ℕ) (w v : Happening)
@@ -65,8 +75,7 @@ parts_of_pair front mid rest new now w v same late z i =
 
 pub join_goes_by : {C M : Type 0} (reading : C → ℕ → ℕ) (stands : M → Network → DeviceId → Node → Type 0) (s : Scenario) (world : World C M)
     (notes : List Note) (old : Stands reading stands s world notes) (device : DeviceId) (machine after : M) (sent : Compressed) (machines : List M)
-    (settled : List Happening)
-    → IsJoining reading stands s world notes old device machine after sent machines settled
+    (settled : List Happening) → IsJoining reading stands s world notes old device machine after sent machines settled
     → StandsBehind reading stands s (record world { early = false; machines = machines; settled = settled }) notes (behind (act_place world.now device))
 join_goes_by reading stands s world notes old device machine after sent machines settled x =
     let hs = happenings s.network notes in

@@ -1,7 +1,7 @@
 -- How a device stands at the next unit of time behind a record of the instant that moves it.
-use Rattle.{run_law.{proofs.runs.Determined.same_units, specs.machines.Answers.with_corrected}, sync_state.specs.Integration.joined_by}
-use Rattle.run_law.specs.{declared.judgement.Judgement.TheVariants.Integrates, device.{LocalClocks.local_at_change, States.joined_adjustment}}
-use Rattle.{tte_lemmas.proofs.Lists.last_pushed, world_law.specs.device.{Left.IsCounted, Told.change_in}}
+use Rattle.run_law.{proofs.runs.Determined.same_units, specs.{device.{LocalClocks.local_at_change, States.joined_adjustment}, machines.Answers.with_corrected}}
+use Rattle.{run_law.specs.declared.judgement.Judgement.TheVariants.Integrates, tte_units.proofs.general_lemmas.Lists.last_pushed}
+use Rattle.{sync_state.specs.Integration.joined_by, world_law.specs.device.{Left.IsCounted, Told.change_in}}
 use Rattle.world_law.proofs.{lists.Lists.map_none, steps_lemmas.{Words.{sym, time_of, true, with_clique, with_joined, ℕ, ℤ}, ripening.Judged.not_yet}}
 use Rattle.world_law.proofs.steps_lemmas.Words.{◌&&◌, ◌++◌, ◌+ℤ◌, ◌+◌, ◌-◌, ◌<◌, ◌==◌, ◌||◌, ◌∙◌, ◌∷◌, ◌≡◌, ◌≤◌, Bool, DeviceId, Happening, Hearing, IfSome}
 use Rattle.world_law.proofs.steps_lemmas.Words.{Integrating, IsLeft, Joining, List, Members, Moment, Node, None, NoteBody, Option, Pcf, Scenario, Some, State}
@@ -99,8 +99,7 @@ pub record IsCorrectedSo (s : Scenario) (device : DeviceId) (u : ℕ) (node : No
   pub reads : moment.reading.0 ≡ pos (s.reading device (time_of h))
 
 pub corrected_counts : (s : Scenario) (hs : List Happening) (device : DeviceId) (u : ℕ) (node : Node) (h : Happening) (cycle : ℕ) (by adjustment : Units)
-    (moment : Moment) (heard : Summary)
-    → IsCorrectedSo s device u node h cycle by adjustment moment → IsBase s hs device u node
+    (moment : Moment) (heard : Summary) → IsCorrectedSo s device u node h cycle by adjustment moment → IsBase s hs device u node
     → IsCounted s (hs ++ h ∷ []) device u (with_corrected node moment heard by)
 corrected_counts s hs device u node h cycle by adjustment moment heard so left =
     let w = earlier u hs in
@@ -253,8 +252,7 @@ clique_counts s hs device u node heard verdict lost same left =
 
 -- a device that found itself outside the others stands as the record of its state leaves it
 pub cliques : (s : Scenario) (hs : List Happening) (device : DeviceId) (u : ℕ) (node : Node) (h : Happening) (cause : ℕ) (why : Why) (heard : Summary)
-    (verdict : Verdict)
-    → state_by node.standing.state verdict ≡ Integrating → adjustment_by node.standing.adjustment verdict ≡ node.standing.adjustment
+    (verdict : Verdict) → state_by node.standing.state verdict ≡ Integrating → adjustment_by node.standing.adjustment verdict ≡ node.standing.adjustment
     → h.note.body ≡ notes.State device Integrating cause why → ends_stretch device (notes.State device Integrating cause why) ≡ true → time_of h < u
     → is_turned_on_at s device u ≡ false → IsBase s hs device u node → IsLeft s (hs ++ h ∷ []) device u (with_clique node heard verdict)
 cliques s hs device u node h cause why heard verdict lost same e ends lt off left =
@@ -273,8 +271,7 @@ pub record IsJoinedSo (s : Scenario) (device : DeviceId) (u : ℕ) (h : Happenin
   pub reads : moment.reading.0 ≡ pos (s.reading device (time_of h))
 
 pub joins : (s : Scenario) (hs : List Happening) (device : DeviceId) (u : ℕ) (node : Node) (h : Happening) (opened : Units) (cycle : ℕ) (members : Members)
-    (point : Units) (frame : Pcf) (moment : Moment)
-    → IsJoinedSo s device u h opened cycle members point frame moment → is_turned_on_at s device u ≡ false
+    (point : Units) (frame : Pcf) (moment : Moment) → IsJoinedSo s device u h opened cycle members point frame moment → is_turned_on_at s device u ≡ false
     → node.standing.plan ≡ plan_of s.network device → node.broken ≡ is_broken s device u
     → IsLeft s (hs ++ h ∷ []) device u (with_joined node moment frame point)
 joins s hs device u node h opened cycle members point frame moment so off plan sound =

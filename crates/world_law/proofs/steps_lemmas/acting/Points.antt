@@ -88,8 +88,7 @@ corrected_at t u m d (kinds.Delivered other link cause vl n) e device is = absur
 corrected_at t u m d (kinds.Dropped other link cause reason) e device is = absurd (let bad : ◌≡◌ {A = ℕ} 6 13 = cc in omega (arith, bad))
 corrected_at t u m d (kinds.Clock other reading adjustment state) e device is = absurd (let bad : ◌≡◌ {A = ℕ} 6 14 = cc in omega (arith, bad))
 
-state_at : (t u m d c : ℕ) (body : NoteBody) → t ∷ 7 ∷ d ∷ c ∷ [] ≡ u ∷ rank body ∷ key m body → (device : DeviceId) → d ≡ device.0
-    → moves device body ≡ true
+state_at : (t u m d c : ℕ) (body : NoteBody) → t ∷ 7 ∷ d ∷ c ∷ [] ≡ u ∷ rank body ∷ key m body → (device : DeviceId) → d ≡ device.0 → moves device body ≡ true
 state_at t u m d c (kinds.State other state cause why) e device is = let a : d ≡ other.0 = cc in eq-eqb device.0 other.0 (sym is ∙ a)
 state_at t u m d c (kinds.Corrected other n by adjustment) e device is = absurd (let bad : ◌≡◌ {A = ℕ} 7 6 = cc in omega (arith, bad))
 state_at t u m d c (kinds.Event line what) e device is = absurd (let bad : ◌≡◌ {A = ℕ} 7 1 = cc in omega (arith, bad))

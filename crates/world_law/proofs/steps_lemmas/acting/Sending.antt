@@ -112,8 +112,7 @@ pub has_sent_it : {M : Type 0} (stands : M → Network → DeviceId → Node →
     (device : DeviceId) (machine then_ : M) (node after : Node) (frame : Pcf) (cycle : ℕ)
     → Stage stands s hs (front ++ back) mark cursor now device machine node
     → IsFirstTask s.network device node (moment_of s device now).reading.0 (doing (sending cycle)) → IsActOf s.network device node (moment_of s device now)
-    (acts.Send frame) after
-    → after ≡ called (moment_of s device now) acting (with_done node (sending cycle)) → stands then_ s.network device after
+    (acts.Send frame) after → after ≡ called (moment_of s device now) acting (with_done node (sending cycle)) → stands then_ s.network device after
     → HasSentIt stands s hs (put_at hs front (record_of s.network hs front now (kinds.Sent device cycle)) back) now device then_ node after
 has_sent_it stands s hs front back mark cursor now device machine then_ node after frame cycle st first act is stood =
     let w = record_of s.network hs front now (kinds.Sent device cycle) in

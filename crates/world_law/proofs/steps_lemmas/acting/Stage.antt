@@ -175,8 +175,7 @@ others_so device other after machine old new set not there = set.same other.0 no
 
 pub one_stays : {C M : Type 0} (reading : C → ℕ → ℕ) (stands : M → Network → DeviceId → Node → Type 0) (s : Scenario) (world : World C M) (notes : List Note)
     (old : Stands reading stands s world notes) (device : DeviceId) (machine after : M) (node : Node) (machines : List M) (settled : List Happening)
-    (body : NoteBody)
-    → Stage stands s (happenings s.network notes) old.coming old.mark old.cursor world.now device machine node
+    (body : NoteBody) → Stage stands s (happenings s.network notes) old.coming old.mark old.cursor world.now device machine node
     → (p : IsShownPut s.network (happenings s.network notes) world.now body old.coming settled) → settled ≡ map (hidden (length notes)) (put_at
     (happenings s.network notes) p.front (record_of s.network (happenings s.network notes) p.front world.now body) p.back)
     → length notes + length old.coming + 1 < none_yet
@@ -220,8 +219,7 @@ one_stays {C} {M} reading stands s world notes old device machine after node mac
 
 pub one_goes_by : {C M : Type 0} (reading : C → ℕ → ℕ) (stands : M → Network → DeviceId → Node → Type 0) (s : Scenario) (world : World C M) (notes : List Note)
     (old : Stands reading stands s world notes) (device : DeviceId) (machine after : M) (node : Node) (machines : List M) (settled : List Happening)
-    (body : NoteBody)
-    → Stage stands s (happenings s.network notes) old.coming old.mark old.cursor world.now device machine node
+    (body : NoteBody) → Stage stands s (happenings s.network notes) old.coming old.mark old.cursor world.now device machine node
     → (p : IsShownPut s.network (happenings s.network notes) world.now body old.coming settled) → settled ≡ map (hidden (length notes)) (put_at
     (happenings s.network notes) p.front (record_of s.network (happenings s.network notes) p.front world.now body) p.back)
     → length notes + length old.coming + 1 < none_yet

@@ -1,5 +1,5 @@
 -- Records of the present instant that do not move a device leave it as it was before the instant, but for what it has heard.
-use Rattle.{tte_lemmas.proofs.Bools.kept_flag, world_law.proofs.{devices.TurnedOn.IsQuiet, steps_lemmas.Words.{time_of, true, ℕ}}}
+use Rattle.{tte_units.proofs.general_lemmas.Bools.kept_flag, world_law.proofs.{devices.TurnedOn.IsQuiet, steps_lemmas.Words.{time_of, true, ℕ}}}
 use Rattle.world_law.proofs.steps_lemmas.Words.{◌&&◌, ◌++◌, ◌||◌, ◌∙◌, ◌∷◌, ◌≡◌, ◌≤◌, ◌⊎◌, Bool, DeviceId, Happening, Hearing, IsAtRest, IsIn, IsLeft, List}
 use Rattle.world_law.proofs.steps_lemmas.Words.{Node, None, Option, Scenario, Some, [], adjustment_after, ap, append-nil, append_assoc, arith, behind_no}
 use Rattle.world_law.proofs.steps_lemmas.Words.{by_last, changes_adjustment, cleared_in, cons_option, earlier, false, filter, filter_map, filter_map-append}

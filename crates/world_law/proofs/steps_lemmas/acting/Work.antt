@@ -1,5 +1,5 @@
 -- A device that has something due at the present instant: how it stands before it acts, and what is due then.
-use Rattle.{membership.specs.Summary.Summarizes, sync_state.specs.Verdicts.HasVerdict}
+use Rattle.sync_state.specs.{Verdicts.HasVerdict, membership.Summary.Summarizes}
 use Rattle.{run_law.specs.timed.Dispatching.Sends, world_law.{proofs.runs.SourcesBack.standing_in, specs.source.Sources.IsAtCorrection}}
 use Rattle.{sync_state.specs.Standing.{Standing, next_point}, world_law.proofs.{devices.TurnedOn.quiet_joins, steps_lemmas.Words.{up_back, value_of, ℕ, ℤ}}}
 use Rattle.world_law.proofs.steps_lemmas.Words.{◌++◌, ◌+◌, ◌-ℤ◌, ◌<ℤ◌, ◌||◌, ◌∙◌, ◌∷◌, ◌≡◌, ◌≤ℤ◌, ◌≤◌, AreClusters, Bool, ClockTask, ComesTo, ComesToCorrection}

@@ -23,8 +23,7 @@ pub record AreToldOf (s : Scenario) (hs coming : List Happening) (cursor : List 
 -- ---- what such a record says of a device
 
 -- the device of which it speaks is turned on by an event
-on_so : (s : Scenario) (hs : List Happening) (now n line : ℕ) (d : DeviceId) (h : Happening) → IsFounded place_of (IsDue s) hs
-    → (it : IsOfThisTime hs now n h)
+on_so : (s : Scenario) (hs : List Happening) (now n line : ℕ) (d : DeviceId) (h : Happening) → IsFounded place_of (IsDue s) hs → (it : IsOfThisTime hs now n h)
     → h.note.body ≡ kinds.Event line (events.On d) → is_turned_on_at s d now ≡ true
 on_so s hs now n line d h founded it is =
     on_by_record s h.note.time line now d (event_due s hs h line (events.On d) founded (numbered_in hs n h it.there) is) it.same_time

@@ -55,7 +55,13 @@ put_real : (s : Scenario) (hs : List Happening) (befell : List Befell) (old new 
     → IsIn e old ⊎ IsPutByOne s hs befell e
 put_real s hs [] old new put e i = inl (subst (λ (l : List OnWire). IsIn e l) put i)
 put_real s hs (x ∷ befell) old new (mid, h, there, first, later) e i =
-    grind (arith, (put_real s hs befell mid new later e i))
+    elim (put_real s hs befell mid new later e i) [
+      | inl before ↦ elim (first.real e before) [
+        | inl was ↦ inl was
+        | inr it ↦ inr (record { x = x; one = inl refl; h = h; there = there; cause = it.0; arrives = it.1 })
+      ]
+      | inr it ↦ inr (record { x = it.x; one = inr it.one; h = it.h; there = it.there; cause = it.cause; arrives = it.arrives })
+    ]
 
 put_kept : (s : Scenario) (hs : List Happening) (befell : List Befell) (old new : List OnWire) → ArePutBy s hs befell old new → (e : OnWire) → IsIn e old
     → IsIn e new
@@ -115,7 +121,12 @@ wires_told s hs cursor now befell wires new m forward are put = record {
 
 pub ports_told : (s : Scenario) (hs : List Happening) (cursor : List ℕ) (now : ℕ) (befell : List Befell) (ports : List AtPort)
     → IsTelling hs cursor now befell → AreAtPorts s hs cursor ports → AreAtPorts s hs (behind (now ∷ 2 ∷ [])) ports
-ports_told s hs cursor now befell ports m are = grind (arith, not_gone_by, goes_on)
+ports_told s hs cursor now befell ports m are = record {
+  real = λ e i.
+      let was = are.real e i in
+      (was.0, λ b. was.1 (not_gone_by hs cursor now befell e.at 8 e.device.0 (e.link.0 ∷ e.cause ∷ []) m (omega arith) b));
+  all = λ t device link cause d not. are.all t device link cause d (λ b. not (goes_on hs cursor now befell m _ b));
+}
 
 pub waiting_told : (s : Scenario) (hs : List Happening) (cursor : List ℕ) (now : ℕ) (befell : List Befell) (waiting : List Waiting)
     → IsTelling hs cursor now befell → AreWaiting s hs cursor now waiting → AreWaiting s hs (behind (now ∷ 2 ∷ [])) now waiting

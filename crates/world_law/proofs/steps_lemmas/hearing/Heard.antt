@@ -176,8 +176,7 @@ taking_by stands s hs front back mark cursor now e is w vl cycle a r high takes 
 abbrev frame_of : VlId → ℕ → ℤ → TakenFrame
 frame_of vl cycle z = record { vl = vl; cycle = cycle; at = z }
 
-self_takes : (device : DeviceId) (vl : VlId) (cycle : ℕ) (z : ℤ)
-    → (if device.0 == device.0 then frame_of vl cycle z ∷ [] else []) ≡ frame_of vl cycle z ∷ []
+self_takes : (device : DeviceId) (vl : VlId) (cycle : ℕ) (z : ℤ) → (if device.0 == device.0 then frame_of vl cycle z ∷ [] else []) ≡ frame_of vl cycle z ∷ []
 self_takes device vl cycle z = ap (λ (b : Bool). if b then frame_of vl cycle z ∷ [] else []) (eq-eqb device.0 device.0 refl)
 
 kept_there : {M : Type 0} (stands : M → Network → DeviceId → Node → Type 0) (s : Scenario) (n : ℕ) (hs front back : List Happening) (mark cursor : List ℕ)

@@ -1,10 +1,10 @@
 -- A control frame that comes up from a switch, and one that a switch takes from below, is of one master.
-use Rattle.{net_plan.{proofs.Shape.rules_give_trees, specs.Paths.{IsPath, IsTree, IsUplink}}, tte_lemmas.{proofs.{Options.{closed, opened as at_some}}}}
-use Rattle.{net_plan.specs.Places.{IsCmOf, IsRoleOf, device_at, is_end_system}, run_law.specs.machines.Calls.{IsFromSwitch, IsLinkAt, IsOneMaster, MayArrive}}
+use Rattle.net_plan.{proofs.Shape.rules_give_trees, specs.{Paths.{IsPath, IsTree, IsUplink}, declared.tables.{Device.Device, Role.TheVariants.{Cm, Relay}}}}
+use Rattle.{net_plan.specs.Places.{IsCmOf, IsRoleOf, device_at, is_end_system}, run_law.specs.records.Happenings.{frame_by, frame_in, with_clock}}
 use Rattle.{net_plan.specs.Rules.IsChildOf, run_law.proofs.{law.FirstPlaces.number_is, scenario.Devices.master_end}, schedule_tables.proofs.Margins.shape_rules}
-use Rattle.{net_plan.specs.declared.tables.{Device.Device, Role.TheVariants.{Cm, Relay}}, schedule_tables.specs.declared.rule.Rule.TheVariants.Joints}
-use Rattle.run_law.specs.{control.Arrivals.{are_others, is_of_other_member}, records.Happenings.{frame_by, frame_in, with_clock}, scenario.Devices.member_of}
-use Rattle.{run_law.specs.{scenario.Ways.receiver_of, timed.Receptions.ArrivesAs}, world_law.proofs.frames.Proper.no_reason}
+use Rattle.{run_law.specs.control.Arrivals.{are_others, is_of_other_member}, schedule_tables.specs.declared.rule.Rule.TheVariants.Joints}
+use Rattle.{run_law.specs.machines.Calls.{IsFromSwitch, IsLinkAt, IsOneMaster, MayArrive}, tte_units.proofs.general_lemmas.Options.{closed, opened as at_some}}
+use Rattle.{run_law.specs.{scenario.{Devices.member_of, Ways.receiver_of}, timed.Receptions.ArrivesAs}, world_law.proofs.frames.Proper.no_reason}
 use Rattle.std.proofs.Common.{Err, IsSomeAnd, Ok}
 use Rattle.world_law.proofs.steps_lemmas.Words.{◌&&◌, ◌+◌, ◌==◌, ◌^◌, ◌∙◌, ◌∷◌, ◌≡◌, ◌≤◌, Arrival, Arrives, Bool, Channel, DeviceId, Down, Event, Gives}
 use Rattle.world_law.proofs.steps_lemmas.Words.{Happening, IsArrivedRecord, IsCaused, IsDue, IsFounded, IsIn, IsOfMaster, IsOnWire, IsParentOf, KeepsRules}

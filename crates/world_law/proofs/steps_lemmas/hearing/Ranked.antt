@@ -97,8 +97,7 @@ pub standpoint_still : (s : Scenario) (hs zs : List Happening) (device : DeviceI
 standpoint_still s hs zs device t late = ap (standpoint_in s device t) (earlier_still t hs zs late)
 
 pub control_still : (s : Scenario) (hs zs : List Happening) (device : DeviceId) (t : ℕ) (link : LinkId) (cause : ℕ)
-    (frame : Rattle.std.specs.Prelude.Result Pcf PcfRefusal)
-    → ((z : Happening) → IsIn z zs → t ≤ time_of z)
+    (frame : Rattle.std.specs.Prelude.Result Pcf PcfRefusal) → ((z : Happening) → IsIn z zs → t ≤ time_of z)
     → arrival_of s (hs ++ zs) device t link cause (control frame) ≡ arrival_of s hs device t link cause (control frame)
 control_still s hs zs device t link cause frame late =
     ap (λ (p : Standpoint). control_arrival s.network device link p frame) (standpoint_still s hs zs device t late)

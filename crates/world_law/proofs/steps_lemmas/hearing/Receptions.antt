@@ -1,6 +1,6 @@
 -- What becomes of a frame that arrives: the one record of it.
-use Rattle.{net_plan.specs.Ranges.IsLinkInRange, run_law.specs.timed.Receptions.ArrivesAs, tte_lemmas.proofs.Lists.in_all}
-use Rattle.{run_law.proofs.runs.SameSteps.same_arrival, world_law.proofs.steps_lemmas.Words.{second, subst, sym, target_by, time_of, true, ℕ}}
+use Rattle.{net_plan.specs.Ranges.IsLinkInRange, run_law.{proofs.runs.SameSteps.same_arrival, specs.timed.Receptions.ArrivesAs}}
+use Rattle.{tte_units.proofs.general_lemmas.Lists.in_all, world_law.proofs.steps_lemmas.Words.{second, subst, sym, target_by, time_of, true, ℕ}}
 use Rattle.world_law.proofs.steps_lemmas.Words.{◌++◌, ◌<◌, ◌∙◌, ◌∷◌, ◌≡◌, ◌≤◌, ◌⊎◌, Arrival, DeviceId, Down, Happening, IsArrivedRecord, IsBefore, IsCaused}
 use Rattle.world_law.proofs.steps_lemmas.Words.{IsInRange, IsOnWire, IsOwnSource, Link, LinkId, List, Network, None, NoteBody, OnWire, Option, Scenario, Some}
 use Rattle.world_law.proofs.steps_lemmas.Words.{Units, Up, Way, [], amount, ap, arith, arrival_body, arrival_of, cause_of, false, hidden_body, inl, inr}
@@ -118,8 +118,7 @@ pub record ComesAs (s : Scenario) (js : List Happening) (now : ℕ) (e : OnWire)
   pub place : now ∷ rank (arrival_body e.device e.link e.cause is) ∷ e.device.0 ∷ e.link.0 ∷ e.cause ∷ [] ≡ t ∷ rank body ∷ key members body
 
 comes : (s : Scenario) (js : List Happening) (now : ℕ) (e : OnWire) (t members : ℕ) (device : DeviceId) (link : LinkId) (cause : ℕ) (body : NoteBody)
-    (is : Arrival)
-    → now ∷ 2 ∷ e.device.0 ∷ e.link.0 ∷ e.cause ∷ [] ≡ t ∷ 2 ∷ device.0 ∷ link.0 ∷ cause ∷ [] → ArrivesAs s js device t link cause is
+    (is : Arrival) → now ∷ 2 ∷ e.device.0 ∷ e.link.0 ∷ e.cause ∷ [] ≡ t ∷ 2 ∷ device.0 ∷ link.0 ∷ cause ∷ [] → ArrivesAs s js device t link cause is
     → rank (arrival_body e.device e.link e.cause is) ≡ rank body → device.0 ∷ link.0 ∷ cause ∷ [] ≡ key members body
     → ComesAs s js now e t members body
 comes s js now e t members device link cause body is at a ranks keys = record {

@@ -1,6 +1,6 @@
 -- What a device took last, by its node and by the records.
-use Rattle.std.proofs.Common.{arith}
-use Rattle.{std.proofs.lemmas.Bool.or_right, tte_lemmas.proofs.{Lists.{last_if, last_more}, Naturals.flips}, world_law.specs.device.Takings.taken_by}
+use Rattle.std.proofs.{Common.arith, lemmas.Bool.or_right}
+use Rattle.{tte_units.proofs.general_lemmas.{Lists.{last_if, last_more}, Naturals.flips}, world_law.specs.device.Takings.taken_by}
 use Rattle.world_law.proofs.steps_lemmas.Words.{◌&&◌, ◌<◌, ◌==◌, ◌||◌, ◌∙◌, ◌∷◌, ◌≡◌, ◌⊎◌, Bool, DeviceId, Happening, IsIn, LinkId, List, Node, None, NoteBody}
 use Rattle.world_law.proofs.steps_lemmas.Words.{Option, Scenario, Some, TakenFrame, VlId, [], ap, comes_before, eq-eqb, eqb-true, false, filter, filter-append}
 use Rattle.world_law.proofs.steps_lemmas.Words.{frames_taken, if◌then◌else◌, inl, inr, is_taken_before, last_or, last_taken, last_taken_by, lt-ltb, nat_lt}

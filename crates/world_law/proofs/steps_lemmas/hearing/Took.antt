@@ -1,7 +1,7 @@
 -- A device that took a frame has the tasks that it had, and such as are for later readings.
-use Rattle.{run_law.specs.machines.{Answers.with_taken, Nodes.{last_taken_frame, local_at}}, tte_lemmas.proofs.Lists.{last_kept, last_pushed}}
+use Rattle.{run_law.specs.machines.Answers.with_taken, world_law.proofs.steps_lemmas.Words.{reading_for, refl, sending, subst, sym, true, value_of, ℕ, ℤ}}
+use Rattle.{run_law.specs.machines.Nodes.{last_taken_frame, local_at}, tte_units.proofs.general_lemmas.{Integers.ahead_yet, Lists.{last_kept, last_pushed}}}
 use Rattle.std.proofs.Common.{IsSomeAnd}
-use Rattle.{tte_lemmas.proofs.Integers.ahead_yet, world_law.proofs.steps_lemmas.Words.{reading_for, refl, sending, subst, sym, true, value_of, ℕ, ℤ}}
 use Rattle.world_law.proofs.steps_lemmas.Words.{◌+ℤ◌, ◌<ℤ◌, ◌==◌, ◌≡◌, ◌≤ℤ◌, ◌⊎◌, Bool, ClockTask, DeviceId, Happening, HasDoneFrom, HasSentFrom, IsDeedOf}
 use Rattle.world_law.proofs.steps_lemmas.Words.{IsLeft, IsPending, IsReadyAt, IsSteady, IsUndone, IsWaiting, List, Moment, Network, Node, Option, Scenario}
 use Rattle.world_law.proofs.steps_lemmas.Words.{Some, TakenFrame, Task, VlId, [], amount, ap, arith, arriving, called, cases_Bool, correcting, dispatching}
@@ -12,8 +12,7 @@ abbrev pub took : Moment → VlId → ℕ → Node → Node
 took moment vl cycle node = called moment arriving (with_taken node moment vl cycle)
 
 -- the frame that it took last of a virtual link is that one, or the one before
-last_took : (node : Node) (moment : Moment) (vl own : VlId) (cycle : ℕ) (b : Bool) → (vl.0 == own.0) ≡ b
-    → last_taken_frame (took moment vl cycle node) own
+last_took : (node : Node) (moment : Moment) (vl own : VlId) (cycle : ℕ) (b : Bool) → (vl.0 == own.0) ≡ b → last_taken_frame (took moment vl cycle node) own
     ≡ (if b then Some (record { vl = vl; cycle = cycle; at = local_at node moment }) else last_taken_frame node own)
 last_took node moment vl own cycle b e =
     grind (arith, last_or, filter-append, filter, last_pushed, last_kept)

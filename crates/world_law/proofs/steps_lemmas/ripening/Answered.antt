@@ -72,8 +72,15 @@ may_be_asked stands s hs coming mark cursor now e machine r k master =
     (in_left h c.front (arrival ∷ c.rest) i) in
     let on = still_on s mark hs c.front now t0 device r.run r.of_now r.befallen le inside flags.0 flags.1 in
     let late = all_late s hs coming mark cursor now (ripe_more e) r.moving r.run.within in
-    let broken : k.node.broken ≡ false = grind (arith, yet.stands, is_broken, device, no_later_breaks) in
-    let hearing : IsHearing s.network device k.node = grind (arith, on, is_off, hears.state, joined_or, has_joined_at, device, state_before, sound, broken) in
+    let broken : k.node.broken ≡ false = k.left.counted.broken ∙ elim yet.stands [
+      | inl here ↦ ap (is_broken s device) here.0 ∙ k.sound
+      | inr over ↦ ap (is_broken s device) over.0 ∙ no_later_breaks s mark now (now + 1) device r.befallen (omega arith) ∙ k.sound
+    ] in
+    let hearing : IsHearing s.network device k.node = record {
+      linked = (e.link, at);
+      on = ap is_off hears.state ∙ joined_or (has_joined_at hs device now) (state_before s hs device now) on;
+      sound = broken;
+    } in
     let call = may_call stands s hs coming cursor now device machine ripening (ripe_more e) k r.steady r.limit r.moving.waits in
     let points : (p : Point) → IsIn p k.node.points → p.reading ≤ℤ e.point.0 = λ p i. elim (cases_Bool (is_cm s.network device)) [
       | inl cm ↦ points_no_later s hs coming mark cursor now e r late p (subst (λ (l : List Point). IsIn p l) (k.left.points cm) i)
@@ -131,7 +138,12 @@ high_now s hs coming mark cursor now e r z i = (r.moving.are.of_now z i, all_hig
 pub sole : (s : Scenario) (hs coming : List Happening) (mark cursor : List ℕ) (now : ℕ) (e : Waiting) → IsRipe s hs coming mark cursor now e
     → (z : Happening) → IsIn z coming → (it : AsState z.note.body) → it.cause ≤ length hs
 sole s hs coming mark cursor now e r z i it =
-    grind (arith, parted, in_left, all_late, ripe_more, state_cause, all_high)
+    let at = parted z coming i in
+    let inside : (y : Happening) → IsIn y at.0 → IsIn y coming = λ y j. subst (λ (l : List Happening). IsIn y l) (sym at.2) (in_left y at.0 (z ∷ at.1) j) in
+    let late = all_late s hs coming mark cursor now (ripe_more e) r.moving r.run.within in
+    let due = (r.moving.are.founded at.0 at.1 z at.2).1 in
+    state_cause s hs at.0 it.device _ it.state it.cause it.why (λ y j. late y (inside y j)) (λ y j. all_high s hs coming mark cursor now e r y (inside y j))
+    (subst IsLateKind it.is (late z i)) (subst (λ (b : NoteBody). Rattle.run_law.specs.runs.DueRecords.IsCaused s (hs ++ at.0) z.note.time b) it.is due.cause)
 
 -- ---- the frame is collected, or heard
 

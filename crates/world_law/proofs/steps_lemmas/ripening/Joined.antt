@@ -35,8 +35,7 @@ at_join f z hs zs w same =
     ap (fold f z) (sym (append_assoc hs (w ∷ []) zs)) ∙ fold_rest f z (hs ++ w ∷ []) zs same ∙ fold-append f z hs (w ∷ [])
 
 pub joined_changes : (s : Scenario) (hs zs : List Happening) (device : DeviceId) (now : ℕ) (w : Happening) (link : LinkId) (cause : ℕ) (point : Units)
-    (frame : Pcf)
-    → IsJoin s hs zs device now w link cause point frame → changed_at (hs ++ w ∷ zs) device (now + 1) ≡ now
+    (frame : Pcf) → IsJoin s hs zs device now w link cause point frame → changed_at (hs ++ w ∷ zs) device (now + 1) ≡ now
 joined_changes s hs zs device now w link cause point frame j =
     let p = λ (h : Happening). changes_adjustment device h.note.body in
     let changes : p w ≡ true = ap (changes_adjustment device) j.body ∙ self device in

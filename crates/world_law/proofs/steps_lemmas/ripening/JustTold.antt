@@ -43,20 +43,22 @@ now_states : (device : DeviceId) (now : ℕ) (z : State) (l : List Happening) �
     → fold (λ state h. state_with device state h.note.body) z l ≡ (if has_joined_at l device now then Joining else z)
 now_states device now z [] low = refl
 now_states device now z (h ∷ l) low =
-    grind (
-      arith,
-      time_of,
-      eq-eqb,
-      state_with,
-      is_joined_by,
-      low_state,
-      cases_Bool,
-      fold,
-      if_same,
-      has_joined_at,
-      (now_states device now Joining l (λ g i. low g (inr i))),
-      (now_states device now z l (λ g i. low g (inr i))),
-    )
+    let this = low h (inl refl) in
+    let time_is : (time_of h == now) ≡ true = eq-eqb (time_of h) now this.0 in
+    let step : state_with device z h.note.body ≡ (if is_joined_by device h.note.body then Joining else z) = low_state device z h.note.body this.1 in
+    elim (cases_Bool (is_joined_by device h.note.body)) [
+      | inl joined ↦
+          ap (λ (y : State). fold (λ state g. state_with device state g.note.body) y l) (step ∙ ap (λ (b : Bool). if b then Joining else z) joined)
+          ∙ now_states device now Joining l (λ g i. low g (inr i))
+          ∙ if_same (has_joined_at l device now) Joining
+          ∙ sym (ap (λ (b : Bool). if (b && is_joined_by device h.note.body) || has_joined_at l device now then Joining else z) time_is
+          ∙ ap (λ (b : Bool). if b || has_joined_at l device now then Joining else z) joined)
+      | inr not ↦
+          ap (λ (y : State). fold (λ state g. state_with device state g.note.body) y l) (step ∙ ap (λ (b : Bool). if b then Joining else z) not)
+          ∙ now_states device now z l (λ g i. low g (inr i))
+          ∙ sym (ap (λ (b : Bool). if (b && is_joined_by device h.note.body) || has_joined_at l device now then Joining else z) time_is
+          ∙ ap (λ (b : Bool). if b || has_joined_at l device now then Joining else z) not)
+    ]
 
 in_time_rest : (x : Happening) (hs : List Happening) → IsInTime (x ∷ hs) → IsInTime hs
 in_time_rest x hs sorted front rest y e h i = sorted (x ∷ front) rest y (ap (λ (l : List Happening). x ∷ l) e) h i
@@ -98,7 +100,11 @@ fold_filter : {B : Type 0} (f : B → Happening → B) (q : Happening → Bool) 
     → fold f z hs ≡ fold f z (filter q hs)
 fold_filter f q z [] same = refl
 fold_filter {B} f q z (h ∷ hs) same =
-    grind (arith, cases_Bool, fold, filter, (fold_filter f q (f z h) hs (λ g i. same g (inr i))), (fold_filter f q z hs (λ g i. same g (inr i))))
+    elim (cases_Bool (q h)) [
+      | inl kept ↦ fold_filter f q (f z h) hs (λ g i. same g (inr i)) ∙ sym (ap (λ (b : Bool). fold f z (if b then h ∷ filter q hs else filter q hs)) kept)
+      | inr left ↦ ap (λ (b : B). fold f b hs) (same h (inl refl) left z) ∙ fold_filter f q z hs (λ g i. same g (inr i))
+          ∙ sym (ap (λ (b : Bool). fold f z (if b then h ∷ filter q hs else filter q hs)) left)
+    ]
 
 pub adjustment_now : (s : Scenario) (hs coming : List Happening) (mark cursor : List ℕ) (now : ℕ) (e : Waiting) → IsRipe s hs coming mark cursor now e
     → adjustment_after s (hs ++ coming) e.device ≡ adjustment_at_hearing s hs e.device now
@@ -109,7 +115,10 @@ adjustment_now s hs coming mark cursor now e r =
     fold_rest f _ hs coming (λ h i old. mere_adjustment s e.device (cycle_in h) old h.note.body (late_mere e.device h.note.body (late h i)))
     ∙ fold_filter f (λ h. nat_lt (time_of h) now || is_joined_by e.device h.note.body) _ hs (λ h i out old.
     let parts = or_parts (nat_lt (time_of h) now) (is_joined_by e.device h.note.body) out in
-    let at : time_of h ≡ now = grind (arith, cases_lt, time_of, both_ways, nat_lt, parts.0, lt-ltb) in
+    let at : time_of h ≡ now = elim (cases_lt (time_of h) now) [
+      | inl lt ↦ absurd (both_ways (nat_lt (time_of h) now) parts.0 (lt-ltb (time_of h) now lt))
+      | inr ge ↦ (let le = r.past h i in omega (arith, ge, le))
+    ] in
     low_adjustment s e.device (cycle_in h) old h.note.body (low h i at) parts.1)
 
 -- ---- what is to come says of its state
@@ -176,7 +185,14 @@ said_by s hs front device now time other late high kind at c = inl refl
 high_rank : (s : Scenario) (hs coming : List Happening) (mark cursor : List ℕ) (now : ℕ) (more : List ℕ) → IsMoving s hs coming mark cursor now 3 more
     → ((h : Happening) → IsIn h hs → IsBefore (place_of h) mark) → (y : Happening) → IsIn y coming → 4 ≤ rank y.note.body
 high_rank s hs coming mark cursor now more m within y i =
-    grind (arith, all_late, rank)
+    by_kind y.note.body (all_late s hs coming mark cursor now more m within y i)
+    (Rattle.world_law.proofs.runs.SourcesBack.at_least y now 3 more (m.are.of_now y i) (m.after y i))
+  where
+    by_kind : (body : NoteBody) → IsLateKind body → 3 ≤ rank body → 4 ≤ rank body
+    by_kind (kinds.Permanent device link cause point verdict) late le = absurd late
+    by_kind (kinds.Event line what) late le = absurd (omega (arith, le))
+    by_kind (kinds.Arrived device link cause clock) late le = absurd (omega (arith, le))
+    by_kind other late le = omega arith
 
 pub all_high : (s : Scenario) (hs coming : List Happening) (mark cursor : List ℕ) (now : ℕ) (e : Waiting) → IsRipe s hs coming mark cursor now e
     → (y : Happening) → IsIn y coming → 4 ≤ rank y.note.body
@@ -238,6 +254,9 @@ split_sorted p (z ∷ zs) sorted =
         ],
       )
     ]
+
+state_parts : {d e : DeviceId} {s t : State} {c k : ℕ} {w y : Why} → kinds.State d s c w ≡ kinds.State e t k y → (s ≡ t) × (c ≡ k)
+state_parts same = (cc, cc)
 
 place_state : (t m now d n : ℕ) (body : NoteBody) → t ∷ rank body ∷ key m body ≡ now ∷ 7 ∷ d ∷ n ∷ [] → (other : DeviceId) × (state : State) × (cause : ℕ)
     × (why : Why)
@@ -324,7 +343,7 @@ told_joining s hs coming mark cursor now e z told joined =
       | inr (inl on) ↦
           let by = on.1 in
           let cause : by.1 ≡ n = (let same : kinds.State by.0 Integrating by.1 whys.On ≡ kinds.State shape.0 shape.1 shape.2 shape.3 = sym by.3
-          ∙ shape.4 in let c : by.1 ≡ shape.2 = cc in c) ∙ shape.6 in
+          ∙ shape.4 in (state_parts same).1) ∙ shape.6 in
           let same : by.2 ≡ j = some_same by.2 j _ by.4 (ap (numbered hs) cause ∙ at_n) in
           let two = joined_rank device j.note.body flags.1 in
           let one = by.6 in
@@ -332,7 +351,7 @@ told_joining s hs coming mark cursor now e z told joined =
           absurd (omega (arith, ranks, one, two))
       | inr (inr frame) ↦
           let same : kinds.State frame.0 Joining frame.1 whys.Frame ≡ kinds.State shape.0 shape.1 shape.2 shape.3 = sym frame.3 ∙ shape.4 in
-          let is : shape.1 ≡ Joining = cc in
+          let is : shape.1 ≡ Joining = sym (state_parts same).0 in
           ap (state_with device old) shape.4 ∙ ap (λ (b : Bool). if b then shape.1 else old) own ∙ is
     ] in
     let rest : (h : Happening) → IsIn h at.1 → state_with device Joining h.note.body ≡ Joining = λ h i.
@@ -426,5 +445,7 @@ state_now s hs coming mark cursor now e told =
       | inl joined ↦ told_joining s hs coming mark cursor now e _ told joined
           ∙ sym (ap (λ (b : Bool). if b then Joining else state_before s hs device now) joined)
       | inr none ↦
-          grind (arith, fold, f, given, state_after, earlier, device, told_looking, looking, state_before)
+          ap (λ (x : State). fold f x coming) (given ∙ ap (λ (b : Bool). if b then Joining else state_after s (earlier now hs) device) none)
+          ∙ told_looking s hs coming mark cursor now e told none
+          ∙ sym looking ∙ sym (ap (λ (b : Bool). if b then Joining else state_before s hs device now) none)
     ]

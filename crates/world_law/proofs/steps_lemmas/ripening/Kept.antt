@@ -101,8 +101,7 @@ pub record IsNext (s : Scenario) (hs coming coming2 : List Happening) (now up : 
       → (h : Happening) → IsIn h (hs ++ coming2) → time_of h ≡ now → IsAtRest s device now h.note.body
   pub turned : (cursor : List ℕ) → HasTurnedOn s hs coming cursor device now → HasTurnedOn s hs coming2 cursor device now
   pub frames : frames_taken s (hs ++ coming) device ≡ frames_taken s (hs ++ coming2) device
-  pub back : (z : Happening) → IsIn z coming2
-      → ((y : Happening) × IsIn y coming × (plain_body z.note.body ≡ plain_body y.note.body) × (time_of z ≡ time_of y))
+  pub back : (z : Happening) → IsIn z coming2 → ((y : Happening) × IsIn y coming × (plain_body z.note.body ≡ plain_body y.note.body) × (time_of z ≡ time_of y))
       ⊎ (IsNoOwnAct z.note.body × (time_of z ≡ now))
 
 pub turned_on : (s : Scenario) (hs coming : List Happening) (mark cursor : List ℕ) (now : ℕ) (more : List ℕ) (device : DeviceId)

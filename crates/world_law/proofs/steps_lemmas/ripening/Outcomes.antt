@@ -34,7 +34,7 @@ wrong : (k : ℕ) → 3 ≡ k → (k < 3) ⊎ (3 < k) → ⊥
 wrong k e (inl lt) = omega (arith, e, lt)
 wrong k e (inr lt) = omega (arith, e, lt)
 
-rank_at : (now t k : ℕ) (more ws : List ℕ) → now ∷ 3 ∷ more ≡ t ∷ k ∷ ws → 3 ≡ k
+pub rank_at : (now t k : ℕ) (more ws : List ℕ) → now ∷ 3 ∷ more ≡ t ∷ k ∷ ws → 3 ≡ k
 rank_at now t k more ws e = cc
 
 kind_at : (s : Scenario) (js : List Happening) (t m now : ℕ) (body : NoteBody) (more : List ℕ) → IsOwnSource s js t m body (now ∷ 3 ∷ more)
@@ -68,8 +68,7 @@ pub record IsHere (now t : ℕ) (e : Waiting) (device : DeviceId) (link : LinkId
   pub from : cause ≡ e.cause
 
 is_here : (now t d a m l c : ℕ) (e : Waiting) (device : DeviceId) (link : LinkId) → device.0 ≡ d → link.0 ≡ l → now ∷ 3 ∷ ripe_more e ≡ t ∷ 3 ∷ d ∷ a ∷ m ∷ l
-    ∷ c ∷ []
-    → IsHere now t e device link c
+    ∷ c ∷ [] → IsHere now t e device link c
 is_here now t d a m l c e device link dev of_link at =
     grind arith
 
@@ -168,9 +167,20 @@ drop_fresh s hs coming mark cursor now e r permanent y i at =
     (subst (λ (b : NoteBody). IsOwnSource s (hs ++ part.0) (time_of y) (members_in y) b by.0) body by.1) in
     elim own [
       | inl a ↦
-          grind (arith, some_same, numbered_front, part.0, no_launch, time_of)
+          let same = some_same a.1.putting r.it.arrival _ a.1.there (numbered_front hs part.0 e.cause r.it.arrival r.it.there) in
+          no_launch s a.1.putting (time_of a.1.putting) a.1.putting.note.body e.device e.link r.it.awaited.from r.it.awaited.clock _
+          (ap (λ (h : Happening). h.note.body) same ∙ r.it.awaited.arrived) a.1.arrives.put
       | inr (inl p) ↦
-          grind (arith, same_place, part.0, is_here, by.0, here, amount, by.3, ripe_more, time_of, wrong, rank_at)
+          let both = same_place s (hs ++ part.0) now e.device e.link e.cause p.1.frame e.frame p.0 e.point p.1.permanent (permanent part.0) in
+          let is_here : by.0 ≡ here =
+          p.2 ∙ ap (λ (u : Units). now ∷ 3 ∷ e.device.0 ∷ amount u ∷ p.1.frame.members.0 ∷ e.link.0 ∷ e.cause ∷ []) both.1
+          ∙ ap (λ (f : Pcf). now ∷ 3 ∷ e.device.0 ∷ amount e.point ∷ f.members.0 ∷ e.link.0 ∷ e.cause ∷ []) both.0 in
+          elim by.3 [
+            | inl b ↦ r.moving.waits (subst (λ (q : List ℕ). IsBefore q cursor) is_here b)
+            | inr at_act ↦
+                let bad : now ∷ 3 ∷ ripe_more e ≡ time_of y ∷ 4 ∷ at_act.1.0.0 ∷ [] = sym is_here ∙ at_act.1.1 in
+                wrong 4 (rank_at now (time_of y) 4 (ripe_more e) _ bad) (inr (omega arith))
+          ]
       | inr (inr d) ↦ grind (arith, under, no_higher, ripe_more, here)
     ]
   where

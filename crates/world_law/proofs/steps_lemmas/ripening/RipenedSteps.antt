@@ -1,6 +1,6 @@
 -- A frame that waits is permanent.
-use Rattle.{net_plan.specs.Ranges.IsLinkInRange, tte_lemmas.proofs.Lists.in_all, world_law.specs.source.Sources.IsRipening}
-use Rattle.run_law.{proofs.{law.FirstPlaces.numbered_next, runs.Determined.same_units}, specs.records.Happenings.frame_from}
+use Rattle.{net_plan.specs.Ranges.IsLinkInRange, run_law.proofs.runs.Determined.same_units, world_law.specs.source.Sources.IsRipening}
+use Rattle.{run_law.{proofs.law.FirstPlaces.numbered_next, specs.records.Happenings.frame_from}, tte_units.proofs.general_lemmas.Lists.in_all}
 use Rattle.world_law.proofs.{frames.{Masters.of_master, Proper.{IsReceiver, received}}, putting.{PutTwo.{IsPair, two_by}, StandsOn.shown_still}}
 use Rattle.world_law.proofs.{putting.Moving.{stays, worked_or_here}, steps_lemmas.{hearing.Quiet.frames_placed, ripening.Grown.IsByRole}}
 use Rattle.world_law.proofs.steps_lemmas.Words.{◌++◌, ◌+◌, ◌<◌, ◌∙◌, ◌∷◌, ◌≡◌, ◌≤ℤ◌, ◌≤◌, ◌⊎◌, AllBefore, AreOfNetwork, ArePutIn, AreSettled, AreWaiting, Bool}
@@ -16,7 +16,7 @@ use Rattle.world_law.proofs.steps_lemmas.Words.{one_shown, place_of, placed, pla
 use Rattle.world_law.proofs.steps_lemmas.Words.{ripe_place, same_device, slice_get, some_same, stands_on, subst, sym, time_of, told_wires, true, two_shown}
 use Rattle.world_law.{proofs.steps_lemmas.Words.{wire_place, wires_move, ℕ}, specs.steps.Ripening.{HasRipened, RipenedStep, ripe_bodies}}
 use Rattle.world_law.proofs.steps_lemmas.ripening.Answered.{answered, dropped_kept, high_now, joined_kept, not_before_high, placed_high, quiet_kept, sole}
-use Rattle.world_law.proofs.steps_lemmas.ripening.{Judged.{IsKindOf, becomes_now, outcome_kind}, Outcomes.{drop_fresh, dropped_all, permanent_all}}
+use Rattle.world_law.proofs.steps_lemmas.ripening.{Judged.{IsKindOf, becomes_now, outcome_kind}, Outcomes.{drop_fresh, dropped_all, permanent_all, rank_at}}
 use Rattle.world_law.proofs.steps_lemmas.ripening.Ripens.{IsRipe, come_of, permanent_at, reach_by, reach_now, ripe_more, ripening_at, sooner_of}
 use Rattle.run_law.specs.declared.judgement.Judgement.TheVariants as judgements
 use Rattle.run_law.specs.declared.judgement.Why.TheVariants as whys
@@ -39,7 +39,7 @@ ripening_first reading stands s world notes e old i reached first =
     let reach = reach_by s hs old.cursor now e it first.none (old.waiting.later e i) sound le reached in
     record {
       moving = comes_first reading stands s world notes old 3 (ripe_more e) (ripe_place now e) (λ seven. omega (arith, seven))
-          (λ same. (let two : ◌≡◌ {A = ℕ} 2 3 = cc in omega (arith, two))) refl (old.waiting.later e i now (ripening_at s hs e now it reach sound)) first;
+          (λ same. omega (arith, rank_at _ _ _ _ _ (sym same))) refl (old.waiting.later e i now (ripening_at s hs e now it reach sound)) first;
       run = old.run;
       of_now = old.of_now;
       past = past;
@@ -55,13 +55,17 @@ ripening_first reading stands s world notes e old i reached first =
 
 -- ---- what waits then
 
+same_places : {t u d e a b m n l k c f : ℕ} → t ∷ 3 ∷ d ∷ a ∷ m ∷ l ∷ c ∷ [] ≡ u ∷ 3 ∷ e ∷ b ∷ n ∷ k ∷ f ∷ [] → (t ≡ u) × (d ≡ e) × (l ≡ k) × (c ≡ f)
+same_places same = (cc, cc, cc, cc)
+
 -- a frame that waits at this very place is this one, by its number
 ripens_too : (s : Scenario) (hs : List Happening) (now : ℕ) (e f : Waiting) → IsPermanent s hs e.device now e.link e.cause e.frame e.point → IsWaitingFor s hs f
     → ripe_place now f ≡ ripe_place now e → IsRipening s hs now f.device f.link f.cause f.point
 ripens_too s hs now e f p it at =
-    let d : e.device.0 ≡ f.device.0 = cc in
-    let l : e.link.0 ≡ f.link.0 = cc in
-    let c : e.cause ≡ f.cause = cc in
+    let same = same_places at in
+    let d : e.device.0 ≡ f.device.0 = sym same.1 in
+    let l : e.link.0 ≡ f.link.0 = sym same.2 in
+    let c : e.cause ≡ f.cause = sym same.3 in
     let device : e.device ≡ f.device = ap (λ (n : ℕ). let x : DeviceId = record { 0 = n } in x) d in
     let link : e.link ≡ f.link = ap (λ (n : ℕ). let x : LinkId = record { 0 = n } in x) l in
     let q : IsPermanent s hs f.device now f.link f.cause e.frame e.point =
@@ -74,8 +78,8 @@ ripens_too s hs now e f p it at =
     sym it.awaited.arrived ∙ ap (λ (h : Happening). h.note.body) arrival ∙ q.arrived in
     let clock : it.awaited.clock ≡ q.clock = cc in
     let point : e.point ≡ f.point = same_units e.point f.point (q.at_point
-    ∙ ap (λ (h : Happening). Rattle.transparent_clock.specs.Points.point_of (pos (s.reading f.device (time_of h))) q.clock s.network.dmax.0) (sym arrival)
-    ∙ ap (λ (n : ℕ). Rattle.transparent_clock.specs.Points.point_of (pos (s.reading f.device (time_of it.arrival))) n s.network.dmax.0) (sym clock)
+    ∙ ap (λ (h : Happening). Rattle.drift_clock.specs.transparent.Points.point_of (pos (s.reading f.device (time_of h))) q.clock s.network.dmax.0) (sym arrival)
+    ∙ ap (λ (n : ℕ). Rattle.drift_clock.specs.transparent.Points.point_of (pos (s.reading f.device (time_of it.arrival))) n s.network.dmax.0) (sym clock)
     ∙ sym it.awaited.at_point) in
     record { frame = e.frame; permanent = subst (λ (u : Units). IsPermanent s hs f.device now f.link f.cause e.frame u) point q }
 
@@ -102,7 +106,7 @@ waiting_ripe s hs coming mark cursor now e waiting new r are without =
             | inl yet ↦ are.later f was.0 t x (subst (λ (q : List ℕ). IsBefore q cursor) at yet)
             | inr same ↦
                 let place : ripe_place t f ≡ ripe_place now e = sym at ∙ same in
-                let time : t ≡ now = cc in
+                let time : t ≡ now = (same_places place).0 in
                 was.1 (subst (λ (n : ℕ). ripe_place n f ≡ ripe_place now e) time place)
           ];
       sound = λ f i. are.sound f ((without f).0 i).0;
@@ -150,14 +154,14 @@ ripened_behind reading stands s world notes e after machines waiting settled com
             k.0,
             set.same device.0 ne ∙ k.1,
             others device k.0 ne (held_moves stands s hs old.coming old.mark old.cursor now 3 more device k.0 m
-                (λ same. (let four : ◌≡◌ {A = ℕ} 4 3 = cc in omega (arith, four))) k.2),
+                (λ same. omega (arith, rank_at _ _ _ _ _ (sym same))) k.2),
           )
     ])
     over
     (wires_move s hs old.coming old.mark old.cursor now 3 more world.wires world.wires m (told_wires reading stands s world notes old 3 more m over)
-    (all_without wire_place here world.wires (λ x same. (let two : ◌≡◌ {A = ℕ} 2 3 = cc in omega (arith, two)))))
+    (all_without wire_place here world.wires (λ x same. omega (arith, rank_at _ _ _ _ _ (sym same)))))
     (ports_move s hs old.coming old.mark old.cursor now 3 more world.ports world.ports m old.ports
-    (all_without port_place here world.ports (λ x same. (let eight : ◌≡◌ {A = ℕ} 8 3 = cc in omega (arith, eight)))))
+    (all_without port_place here world.ports (λ x same. omega (arith, rank_at _ _ _ _ _ (sym same)))))
     (waiting_ripe s hs old.coming old.mark old.cursor now e world.waiting waiting r old.waiting without)
     (shown_still reading stands s world notes old 3 more (omega arith) m)
 
@@ -195,8 +199,7 @@ few_cause : (s : Scenario) (hs coming : List Happening) (mark cursor : List ℕ)
 few_cause s hs coming mark cursor now e r = let lt = numbered_within hs e.cause r.it.arrival r.it.there in omega (arith, lt)
 
 permanent_in : (s : Scenario) (hs coming : List Happening) (mark cursor : List ℕ) (now : ℕ) (e : Waiting) (r : IsRipe s hs coming mark cursor now e)
-    (f : List Happening)
-    → IsPermanent s (hs ++ f) e.device now e.link e.cause e.frame e.point
+    (f : List Happening) → IsPermanent s (hs ++ f) e.device now e.link e.cause e.frame e.point
 permanent_in s hs coming mark cursor now e r f = record {
   arrival = r.it.arrival;
   there = numbered_front hs f e.cause r.it.arrival r.it.there;
@@ -321,7 +324,7 @@ quiet_step reading stands s world notes e machine after verdict machines waiting
       here =
           IsSource.ripening now e.device e.link e.cause e.point
           (record { frame = e.frame; permanent = permanent_in s hs (front ++ back) old.mark old.cursor now e r front });
-      aside = λ z i device same hears. (let three : ◌≡◌ {A = ℕ} 3 4 = cc in omega (arith, three));
+      aside = λ z i device same hears. omega (arith, rank_at _ _ _ _ _ same);
     } in
     let coming2 = put_at hs front w back in
     let after_all : (z : Happening) → IsIn z coming2 → IsBefore (place_of z) (now ∷ 3 ∷ ripe_more e) → ⊥ = λ z i b.
@@ -395,7 +398,7 @@ dropped_step reading stands s world notes e machine after reason machines waitin
       here =
           IsSource.ripening now e.device e.link e.cause e.point
           (record { frame = e.frame; permanent = permanent_in s hs (front ++ back) old.mark old.cursor now e r front });
-      aside = λ z i device same hears. (let three : ◌≡◌ {A = ℕ} 3 4 = cc in omega (arith, three));
+      aside = λ z i device same hears. omega (arith, rank_at _ _ _ _ _ same);
     } in
     let coming2 = put_at hs front w back in
     let after_all : (z : Happening) → IsIn z coming2 → IsBefore (place_of z) (now ∷ 3 ∷ ripe_more e) → ⊥ = λ z i b.
@@ -459,14 +462,11 @@ joined_step reading stands s world notes e machine after machines waiting settle
         → (front back front2 back2 : List Happening) → x.old.coming ≡ front ++ back
         → AllBefore place_of front
         (place_of (record_of s.network (happenings s.network notes) front world.now
-        (kinds.Permanent e.device e.link e.cause e.point judgements.Integrates)))
-        → NoneBefore place_of back
+        (kinds.Permanent e.device e.link e.cause e.point judgements.Integrates))) → NoneBefore place_of back
         (place_of (record_of s.network (happenings s.network notes) front world.now
-        (kinds.Permanent e.device e.link e.cause e.point judgements.Integrates)))
-        → put_at (happenings s.network notes) front
+        (kinds.Permanent e.device e.link e.cause e.point judgements.Integrates))) → put_at (happenings s.network notes) front
         (record_of s.network (happenings s.network notes) front world.now (kinds.Permanent e.device e.link e.cause e.point judgements.Integrates)) back
-        ≡ front2 ++ back2
-        → before_it (happenings s.network notes) front < before_it (happenings s.network notes) front2
+        ≡ front2 ++ back2 → before_it (happenings s.network notes) front < before_it (happenings s.network notes) front2
         → AllBefore place_of front2 (place_of (record_of s.network (happenings s.network notes) front2 world.now
         (kinds.State e.device Joining (before_it (happenings s.network notes) front + 1) whys.Frame)))
         → NoneBefore place_of back2 (place_of (record_of s.network (happenings s.network notes) front2 world.now
@@ -528,7 +528,7 @@ joined_step reading stands s world notes e machine after machines waiting settle
           here =
               IsSource.ripening now e.device e.link e.cause e.point
               (record { frame = e.frame; permanent = permanent_in s hs back old.mark old.cursor now e r [] });
-          aside = λ z i device same hears. (let three : ◌≡◌ {A = ℕ} 3 4 = cc in omega (arith, three));
+          aside = λ z i device same hears. omega (arith, rank_at _ _ _ _ _ same);
         } in
         let long_one = length-append hs [] in
         let long_two = length-append hs front2 in
@@ -553,7 +553,7 @@ joined_step reading stands s world notes e machine after machines waiting settle
           before = before2;
           none = none2;
           fresh = fresh2;
-          aside = λ z i same hears. (let three : ◌≡◌ {A = ℕ} 3 4 = cc in omega (arith, three));
+          aside = λ z i same hears. omega (arith, rank_at _ _ _ _ _ same);
         } in
         let coming2 = put_at hs front2 v back2 in
         let high_one : (z : Happening) → IsIn z (front2 ++ back2) → (z ≡ w) ⊎ ((time_of z ≡ now) × (4 ≤ rank z.note.body)) = λ z i.

@@ -264,8 +264,7 @@ points_no_later s hs coming mark cursor now e r late p i =
     ]
 
 pub emitted_no_later : (s : Scenario) (hs coming : List Happening) (mark cursor : List ℕ) (now up : ℕ) (e : Waiting) (node : Node)
-    (r : IsRipe s hs coming mark cursor now e)
-    → HasSentFrom s e.device node up now → (c : Compressed) → Contains node.emitted c → c.at.0 ≤ℤ e.point.0
+    (r : IsRipe s hs coming mark cursor now e) → HasSentFrom s e.device node up now → (c : Compressed) → Contains node.emitted c → c.at.0 ≤ℤ e.point.0
 emitted_no_later s hs coming mark cursor now up e node r sent c there =
     let x = sent.sent c there in
     let reached = x.2 in
@@ -275,8 +274,7 @@ emitted_no_later s hs coming mark cursor now up e node r sent c there =
 -- ---- so it may be permanent
 
 pub may_ripen : (s : Scenario) (hs coming : List Happening) (mark cursor : List ℕ) (now : ℕ) (e : Waiting) (node : Node)
-    (r : IsRipe s hs coming mark cursor now e)
-    → IsReadyAt (s.reading e.device) s.network e.device node now
+    (r : IsRipe s hs coming mark cursor now e) → IsReadyAt (s.reading e.device) s.network e.device node now
     → (IsParentOf s.network e.device e.link → IsOfMaster s.network e.device e.link e.frame.members)
     → ((p : Point) → IsIn p node.points → p.reading ≤ℤ e.point.0) → ((c : Compressed) → Contains node.emitted c → c.at.0 ≤ℤ e.point.0)
     → MayRipen s.network e.device node (moment_of s e.device now) e.link e.frame e.point

@@ -1,8 +1,8 @@
 -- An event befalls before all else of its instant: the world stands again.
-use Rattle.{run_law.proofs.law.FirstPlaces.numbered_next, world_law.{proofs.giving.Storing.stored_still, specs.steps.Steps.{AppliedStep, FitsWorld}}}
+use Rattle.{run_law.{proofs.law.FirstPlaces.numbered_next, specs.runs.DueRecords.{EndsAt, IsScenarioRun}}, world_law.specs.steps.Steps.{AppliedStep, FitsWorld}}
 use Rattle.{run_law.proofs.runs.{NetworkRuns.one_more, Places.{before_next_time, before_of_time}}, world_law.proofs.runs.Firsts.{numbered_more, numbered_still}}
-use Rattle.{run_law.specs.runs.DueRecords.{EndsAt, IsScenarioRun}, world_law.specs.world.Outcomes.{also_befell, ends_world}}
-use Rattle.{std.{proofs.lemmas.{List.length_push, Option.slice_get_within}, specs.List.Contains}, tte_lemmas.{proofs.{Lists.{pushed as get_more}}}}
+use Rattle.{std.{proofs.lemmas.{List.length_push, Option.slice_get_within}, specs.List.Contains}, world_law.proofs.giving.Storing.stored_still}
+use Rattle.{tte_units.proofs.general_lemmas.Lists.{pushed as get_more}, world_law.specs.world.Outcomes.{also_befell, ends_world}}
 use Rattle.world_law.{proofs.{giving.GivenParts.up_to_place, steps_lemmas.steps.AppliedParts.wires_apply}, specs.world.World.{AreInOrder, AreStored, IsFromEnd}}
 use Rattle.world_law.{proofs.runs.Applies.{line_before, run_goes_on_by_event, same_length}, specs.source.Applying.{MayBefall, note_of_event, place_of_event}}
 use Rattle.world_law.proofs.steps_lemmas.Words.{◌&&◌, ◌++◌, ◌+◌, ◌<◌, ◌==◌, ◌||◌, ◌↔◌, ◌∙◌, ◌∷◌, ◌≡◌, ◌≤ℤ◌, ◌≤◌, ◌⊎◌, AreAtPorts, AreOfNetwork, AreOnWires}
@@ -135,8 +135,7 @@ no_coming hs (z ∷ coming) s mark cursor now are early = absurd (never_self (no
 
 -- octets are sent by an end system
 sent_by : {C M : Type 0} (stands : M → Network → DeviceId → Node → Type 0) (network : Network) (world : World C M) (what : What) (link : LinkId)
-    (octets : List ℕ)
-    → FitsWorld stands network world what → what ≡ events.Send link octets → IsFromEnd network link
+    (octets : List ℕ) → FitsWorld stands network world what → what ≡ events.Send link octets → IsFromEnd network link
 sent_by stands network world what link octets may is = subst (λ (w : What). FitsWorld stands network world w) is may
 
 under_two : (now line : ℕ) → IsBefore (now ∷ 1 ∷ line ∷ []) (now ∷ 2 ∷ [])

@@ -196,8 +196,7 @@ pub kept_less : {M : Type 0} (stands : M → Network → DeviceId → Node → T
     → HasNoMore network device k.node new → stands after network device new → is_broken (scenario network g (past ++ event ∷ [])) device now ≡ false
     → (k.up ≡ now → IsLeft (scenario network g (past ++ event ∷ [])) hs device now new)
     → (k.up ≡ now → is_turned_on_at (scenario network g (past ++ event ∷ [])) device now ≡ true → state_after (scenario network f past) (earlier now hs)
-    device ≡ Off)
-    → IsKept stands (scenario network g (past ++ event ∷ [])) (hs ++ ev ∷ []) [] (now ∷ 2 ∷ []) now device after
+    device ≡ Off) → IsKept stands (scenario network g (past ++ event ∷ [])) (hs ++ ev ∷ []) [] (now ∷ 2 ∷ []) now device after
 kept_less stands network f g past event hs cursor now number ev device machine after new m k a is sound left off =
     let r = scenario network g (past ++ event ∷ []) in
     let js = hs ++ ev ∷ [] in

@@ -1,6 +1,6 @@
 -- An event befalls before all else of its instant: what is under way then, and what is due.
-use Rattle.{run_law.specs.scenario.Hypothesis.breaks_at, std.proofs.lemmas.Option.slice_get_within, world_law.proofs.runs.Agreement.{broken_same, reach_same}}
-use Rattle.{std.proofs.lemmas.Bool.{le-leb, lt-leb}, tte_lemmas.proofs.Lists.pushed, world_law.specs.{source.Agreeing.Agree, world.World.IsForward}}
+use Rattle.{run_law.specs.scenario.Hypothesis.breaks_at, std.proofs.lemmas.Bool.{le-leb, lt-leb}, world_law.specs.source.Agreeing.Agree}
+use Rattle.{std.proofs.lemmas.Option.slice_get_within, tte_units.proofs.general_lemmas.Lists.pushed, world_law.proofs.runs.Agreement.{broken_same, reach_same}}
 use Rattle.world_law.proofs.runs.{Applies.{agree_back, event_cause, event_place}, Firsts.{numbered_more, numbered_still}, SameCauses.{arrives_same, hold_same}}
 use Rattle.world_law.proofs.steps_lemmas.Words.{◌&&◌, ◌++◌, ◌+◌, ◌<◌, ◌==◌, ◌||◌, ◌↔◌, ◌∙◌, ◌∷◌, ◌≡◌, ◌≤◌, ◌⊎◌, AreAtPorts, AreOnWires, AreSettled, AreWaiting}
 use Rattle.world_law.proofs.steps_lemmas.Words.{AtPort, Bool, DeviceId, Event, Gives, Happening, IsBefore, IsCaused, IsEventBody, IsIn, IsOnWire, IsOwnSource}
@@ -8,6 +8,7 @@ use Rattle.world_law.proofs.steps_lemmas.Words.{IsPermanent, IsWaitingFor, LinkI
 use Rattle.world_law.proofs.steps_lemmas.Words.{ap, arith, behind, cases_lt, false, filter_no, filter_yes, inl, inr, ints, is_broken, is_turned_on_at, length}
 use Rattle.world_law.proofs.steps_lemmas.Words.{list_any, members_in, nat_le, numbered, numbered_in, or_none, own_time, place_of, point_of, port_place, pos}
 use Rattle.world_law.proofs.steps_lemmas.Words.{rank, refl, ripe_place, scenario, subst, sym, time_of, true, turns_on, way_from, wire_place, ℕ}
+use Rattle.world_law.specs.world.World.{IsForward}
 use Rattle.run_law.specs.declared.judgement.Why.TheVariants as whys
 use Rattle.run_law.specs.declared.note.NoteBody.TheVariants as notes
 

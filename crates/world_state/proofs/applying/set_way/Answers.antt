@@ -1,6 +1,6 @@
 use Rattle.{std.proofs.Common.{◌∙◌, ◌≡◌, Some, ap, arith, inl, inr, length, set, subst, sym, ℕ}, world_state.specs.declared.contents.WayState.WayState}
-use Rattle.std.{proofs.lemmas.Bool.cases_eq, specs.List.slice_get}
-use Rattle.{std.proofs.lemmas.Option.get_or_from_slice_get, tte_lemmas.proofs.Lists.set_same, world_state.{proofs.Befalls.set_there, specs.Applying.way_after}}
+use Rattle.{std.{proofs.lemmas.Bool.cases_eq, specs.List.slice_get}, world_state.specs.Applying.way_after}
+use Rattle.{std.proofs.lemmas.Option.get_or_from_slice_get, tte_units.proofs.general_lemmas.Lists.set_same, world_state.proofs.Befalls.set_there}
 use Rattle.world_state.proofs.applying.set_way.Goals as goal
 
 pub index-was-requires : goal.index-was-requires

@@ -1,5 +1,5 @@
 use Rattle.{run_law.specs.machines.Calls.StandsFor, std.proofs.Common.subst, world_state.specs.{Hearing.{IsAsSent, MayCome}, Keeping.keeps}}
-use Rattle.world_state.{proofs.Hearings.{control_octets, given_octets, may_hear}, specs.{Views.signal_as, declared.{contents.{Signal.{Signal as SignalSent}}}}}
+use Rattle.world_state.{proofs.Hearings.{control_octets, given_octets, may_hear}, specs.{Views.signal_as, declared.contents.Signal.{Signal as SignalSent}}}
 use Rattle.world_state.specs.declared.contents.Signal.TheVariants as signals
 use Rattle.world_state.proofs.hearing.hear_signal.Goals as goal
 

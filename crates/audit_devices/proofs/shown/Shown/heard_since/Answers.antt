@@ -1,5 +1,5 @@
 use Rattle.audit_devices.proofs.{Reading.heard_since_is, Words.{◌-◌, ◌∙◌, ◌≡◌, Network, Summarizes, Summary, ap, heard_by_then, points_by, subst, sym}}
-use Rattle.audit_devices.specs.law.CorrectionNumbers.{heard_since_point}
+use Rattle.audit_law.specs.law.CorrectionNumbers.{heard_since_point}
 use Rattle.audit_devices.proofs.shown.Shown.heard_since.Goals as goal
 
 pub returns : goal.returns

@@ -1,8 +1,8 @@
-use Rattle.{audit_devices.specs.law.Dispatched.{Dispatch, Sending}, audit_sweep.specs.{Lacking.{AreEventsTold, TellsFirstLack}, unpaid.Clocks.IsOnlyEnd}}
-use Rattle.{audit_devices.specs.law.FirstDebts.{Firsts, earlier_of, earliest}, compression.specs.declared.compressed.Compressed.Compressed}
+use Rattle.{audit_law.specs.law.Dispatched.{Dispatch, Sending}, audit_sweep.specs.{Lacking.{AreEventsTold, TellsFirstLack}, unpaid.Clocks.IsOnlyEnd}}
+use Rattle.{audit_law.specs.law.FirstDebts.{Firsts, earlier_of, earliest}, compression.specs.declared.compressed.Compressed.Compressed}
 use Rattle.audit_sweep.proofs.Lacks.{back, first_of, founded, here, kept_for_clocks, kept_for_clusters, of_devices, only_end, some_here, tells_lack, there}
 use Rattle.audit_sweep.proofs.Words.{◌∙◌, ◌≡◌, DeviceId, LinkId, Network, None, Units, amount, ap, refl, scenario_under, subst, sym, ℕ}
-use Rattle.audit_devices.specs.law.Owed as debts
+use Rattle.audit_law.specs.law.Owed as debts
 use Rattle.audit_sweep.specs.unpaid.points.Kept as clocks
 use Rattle.audit_sweep.specs.unpaid.emissions.Kept as clusters
 use Rattle.audit_sweep.proofs.sweep.Sweep.first_lack.Goals as goal

@@ -1,8 +1,8 @@
 use Rattle.drift_world.proofs.{Fits.{below_without, have_octets, sized_so}, state.State.hear_wire.Goals.{After-index_mut-machine, After-read}}
-use Rattle.drift_world.proofs.{Hears.{as_sent, heard_octets, heard_stands, may_come, moment_is}, OwnPlaces.{arrived_device, arrived_own}}
+use Rattle.{drift_world.proofs.Hears.{as_sent, heard_octets, heard_stands, may_come, moment_is}, tte_units.proofs.general_lemmas.Lists.{set_aside, set_same}}
+use Rattle.{drift_world.proofs.{OwnPlaces.{arrived_device, arrived_own}, Words.{subst, sym, world_of}}, world_state.proofs.UnderWays.sound_without}
 use Rattle.drift_world.proofs.Words.{◌+◌, ◌<◌, ◌≡◌, DeviceId, IsPutAt, List, Moment, Network, Note, Scenario, Settled, Some, Stands, arith, changed_device}
 use Rattle.drift_world.proofs.Words.{keeps, length, length-set, length_permutation, moment_of, numbers_of, place_of, rank, refl, settled_at, slice_get_read}
-use Rattle.{drift_world.proofs.Words.{subst, sym, world_of}, tte_lemmas.proofs.Lists.{set_aside, set_same}, world_state.proofs.UnderWays.sound_without}
 use Rattle.{std.proofs.Common.{set, slice_get}, world_law.proofs.giving.Given.some_same}
 use Rattle.drift_world.proofs.state.State.hear_wire.Given as given
 use Rattle.drift_world.proofs.state.State.hear_wire.Goals as goal

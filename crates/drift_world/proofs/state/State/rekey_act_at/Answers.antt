@@ -1,7 +1,7 @@
-use Rattle.{drift_world.proofs.{Timings.{IsLow, acts_timed, not_past}, state.State.rekey_act_at.Given.Over}, tte_lemmas.proofs.Lists.{set_aside, set_same}}
+use Rattle.{drift_world.proofs.{Timings.{IsLow, acts_timed, not_past}, Words.{sym, ℕ}}, tte_units.proofs.general_lemmas.Lists.{set_aside, set_same}}
 use Rattle.drift_world.proofs.Words.{◌+◌, ◌<◌, ◌∙◌, ◌≡◌, ◌≤◌, DeviceId, List, Network, ap, arith, length, length-set, refl, slice_get_read, slice_set, subst}
-use Rattle.drift_world.proofs.Words.{sym, ℕ}
-use Rattle.{std.proofs.{Common.{All, slice_get}, lemmas.List.Elements.All-set}, world_law.proofs.giving.Given.some_same, world_state.specs.Timing.IsTimeFor}
+use Rattle.{drift_world.proofs.state.State.rekey_act_at.Given.Over, std.proofs.lemmas.List.Elements.All-set, world_law.proofs.giving.Given.some_same}
+use Rattle.{std.proofs.Common.{All, slice_get}, world_state.specs.Timing.IsTimeFor}
 use Rattle.drift_world.proofs.state.State.rekey_act_at.Goals as goal
 
 -- the slots, as they are set

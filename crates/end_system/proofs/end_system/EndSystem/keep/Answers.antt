@@ -1,5 +1,5 @@
 use Rattle.end_system.proofs.{Ripe.{heard_frame_of, keeps}, Words.{◌++◌, ◌∷◌, Channel, List, Summarizes, [], subst}}
-use Rattle.membership.specs.{Hearing.Hearing, Summary.Hears}
+use Rattle.sync_state.specs.membership.{Hearing.Hearing, Summary.Hears}
 use Rattle.end_system.proofs.end_system.EndSystem.keep.Goals as goal
 
 pub returns : goal.returns

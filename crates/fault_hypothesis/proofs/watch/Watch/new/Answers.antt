@@ -1,5 +1,5 @@
-use Rattle.{fault_hypothesis.proofs.{Cuts.faulty_begins, Keeping.none_on}, std.proofs.Common.{arith, refl}, tte_lemmas.proofs.Lists.{any_none, none_stands}}
-use Rattle.run_law.specs.scenario.Faults.{Breaks}
+use Rattle.{fault_hypothesis.proofs.{Cuts.faulty_begins, Keeping.none_on}, tte_units.proofs.general_lemmas.Lists.{any_none, none_stands}}
+use Rattle.{run_law.specs.scenario.Faults.Breaks, std.proofs.Common.{arith, refl}}
 use Rattle.fault_hypothesis.proofs.watch.Watch.new.Goals as goal
 
 pub returns : goal.returns

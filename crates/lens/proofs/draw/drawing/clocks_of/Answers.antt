@@ -1,5 +1,5 @@
-use Rattle.lens.{proofs.draw_lemmas.Marking.{AreHeard, heard_all, heard_more, left_less}, specs.draw.svg.Clocks.{Clocks, clocks_with}}
-use Rattle.{run_law.specs.declared.note.Note.Note, std.{proofs.Common.{List, ap, subst, sym}, specs.Prelude.fold}, tte_traces.specs.reports.Reports.AreLeft}
+use Rattle.{lens.proofs.draw_lemmas.Marking.{AreHeard, heard_all, heard_more, left_less}, lens_svg.specs.Clocks.{Clocks, clocks_with}}
+use Rattle.{run_law.specs.declared.note.Note.Note, std.{proofs.Common.{List, ap, subst, sym}, specs.Prelude.fold}, tte_audit.specs.reports.Reports.AreLeft}
 use Rattle.lens.proofs.draw.drawing.clocks_of.Goals as goal
 
 pub records-init : goal.records-init

@@ -1,8 +1,8 @@
-use Rattle.{lens.specs.declared.draw.svg.layout.Span.Span, net_plan.specs.declared.network.Network.Network, tte_forms.specs.declared.status.Status.Status}
 use Rattle.{lens.specs.draw.Answer.IsDrawAnswer, tte_audit.specs.Named.IsNamed}
-use Rattle.{lens.specs.why.past.Pasts.{IsSomeReport, ShowsAll}, tte_traces.proofs.reports_lemmas.Reports.{no_report_answered, report_given, report_there}}
+use Rattle.{lens_svg.specs.declared.layout.Span.Span, tte_forms.specs.Putting.{Shown, shown_by}, tte_units.specs.declared.units.Units.Units}
+use Rattle.{lens_why.specs.past.Pasts.{IsSomeReport, ShowsAll}, tte_audit.proofs.reports_lemmas.Reports.{no_report_answered, report_given, report_there}}
+use Rattle.{net_plan.specs.declared.network.Network.Network, tte_audit.specs.reports.Reports.IsReportOf, tte_forms.specs.declared.status.Status.Status}
 use Rattle.{run_law.specs.declared.note.Note.Note, std.proofs.Common.{List, subst, sym, ℕ}, tte_forms.specs.Answering.GivesAnswer}
-use Rattle.{tte_forms.specs.Putting.{Shown, shown_by}, tte_traces.specs.reports.Reports.IsReportOf, tte_units.specs.declared.units.Units.Units}
 use Rattle.lens.proofs.draw.drawing.draw_file.Goals as goal
 
 -- for any records that the octets are the report of, an answer was given

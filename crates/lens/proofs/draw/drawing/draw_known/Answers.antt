@@ -1,6 +1,6 @@
 use Rattle.{lens.proofs.draw_lemmas.Asking.report_askable, run_law.specs.records.Happenings.happenings, std.proofs.Common.{◌∙◌, ap, inl, refl, subst, sym}}
-use Rattle.{lens.specs.draw.{Answer.draw_answer, Asking.IsAskable, Picture.clocks_of, svg.{Plan.Plan, Windows.windows_in}}, tte_audit.specs.Report.events_of}
-use Rattle.std.specs.Prelude.{All}
+use Rattle.{lens.specs.draw.{Answer.draw_answer, Asking.IsAskable, Picture.clocks_of}, lens_svg.specs.Windows.windows_in, tte_audit.specs.Report.events_of}
+use Rattle.{lens_svg.specs.Plan.Plan, std.specs.Prelude.All}
 use Rattle.lens.proofs.draw.drawing.draw_known.Goals as goal
 
 pub sketch_of-requires-clause-left : goal.sketch_of-requires-clause-left

@@ -1,5 +1,5 @@
-use Rattle.lens.{proofs.draw_lemmas.Marking.{IsSketched, left_less, sketched_all, sketched_more}, specs.draw.svg.{Plan.Plan, Sketching.{begun, plan_behind}}}
-use Rattle.{run_law.specs.declared.note.Note.Note, std.proofs.Common.{List, ap, subst, sym}, tte_traces.specs.reports.Reports.AreLeft}
+use Rattle.{lens.proofs.draw_lemmas.Marking.{IsSketched, left_less, sketched_all, sketched_more}, lens_svg.specs.{Plan.Plan, Sketching.{begun, plan_behind}}}
+use Rattle.{run_law.specs.declared.note.Note.Note, std.proofs.Common.{List, ap, subst, sym}, tte_audit.specs.reports.Reports.AreLeft}
 use Rattle.lens.proofs.draw.drawing.sketch_of.Goals as goal
 
 pub records-init : goal.records-init

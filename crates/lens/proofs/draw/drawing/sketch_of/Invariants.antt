@@ -1,5 +1,5 @@
-use Rattle.{lens.proofs.draw_lemmas.Marking.IsSketched, run_law.specs.declared.note.Note.Note, tte_traces.specs.reports.Reports.AreLeft}
-use Rattle.{lens.specs.draw.svg.Sketching.begun, std.proofs.Common.{List, length}}
+use Rattle.{lens.proofs.draw_lemmas.Marking.IsSketched, run_law.specs.declared.note.Note.Note, tte_audit.specs.reports.Reports.AreLeft}
+use Rattle.{lens_svg.specs.Sketching.begun, std.proofs.Common.{List, length}}
 use Rattle.lens.proofs.draw.drawing.sketch_of.Given as goal
 
 abbrev pub decreases-records : goal.decreases-records

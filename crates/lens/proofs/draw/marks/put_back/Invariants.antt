@@ -1,5 +1,5 @@
-use Rattle.{lens.proofs.draw_lemmas.Marking.IsMarked, std.proofs.Common.{◌≡◌, ◌≤◌, List, length}, tte_traces.specs.reports.Reports.AreLeft}
-use Rattle.{lens.specs.draw.svg.Layout.widest, run_law.specs.declared.note.Note.Note, tte_forms.specs.Putting.shown_by}
+use Rattle.{lens.proofs.draw_lemmas.Marking.IsMarked, std.proofs.Common.{◌≡◌, ◌≤◌, List, length}, tte_audit.specs.reports.Reports.AreLeft}
+use Rattle.{lens_svg.specs.Layout.widest, run_law.specs.declared.note.Note.Note, tte_forms.specs.Putting.shown_by}
 use Rattle.lens.proofs.draw.marks.put_back.Given as goal
 
 abbrev pub decreases-records : goal.decreases-records

@@ -1,6 +1,6 @@
-use Rattle.lens.{proofs.draw_lemmas.Parts.draws_one, specs.draw.{Picture.marks_of, Putting.Draws, svg.{Layout.holds, Marking.mark_line, Sketching.moment}}}
+use Rattle.{lens.{proofs.draw_lemmas.Parts.draws_one, specs.draw.Picture.marks_of}, lens_svg.specs.Marking.mark_line, tte_forms.specs.Putting.shown_by}
+use Rattle.{lens.specs.draw.Putting.Draws, lens_svg.specs.{Layout.holds, Sketching.moment}, std.proofs.lemmas.Int.to_z-of_z}
 use Rattle.std.{proofs.Common.{◌∙◌, ◌∷◌, ◌≡◌, Bool, List, [], ap, rules, subst, sym, true, w64, ℕ}, specs.Prelude.{if◌then◌else◌, unsigned_abs}}
-use Rattle.{std.proofs.lemmas.Int.to_z-of_z, tte_forms.specs.Putting.shown_by}
 use Rattle.lens.proofs.draw.marks.put_mark.Goals as goal
 
 pub returns-then-holds-clause-draws : goal.returns-then-holds-clause-draws

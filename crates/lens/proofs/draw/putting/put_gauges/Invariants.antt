@@ -1,4 +1,4 @@
-use Rattle.{lens.specs.draw.{Picture.some_line, svg.Clocks.gauge_of}, std.proofs.Common.{◌≡◌, take}, tte_forms.specs.Putting.{PutsLines, shown_by}}
+use Rattle.{lens.specs.draw.Picture.some_line, lens_svg.specs.Clocks.gauge_of, std.proofs.Common.{◌≡◌, take}, tte_forms.specs.Putting.{PutsLines, shown_by}}
 use Rattle.std.specs.Prelude.{flat_map}
 use Rattle.lens.proofs.draw.putting.put_gauges.Given as goal
 

@@ -1,4 +1,5 @@
-use Rattle.{lens.specs.draw.{Picture.{lines_from, some_line}, svg.Layers.on_lane}, std.proofs.Common.◌≡◌, tte_forms.specs.Putting.{PutsLines, shown_by}}
+use Rattle.{lens.specs.draw.Picture.{lines_from, some_line}, lens_svg.specs.Layers.on_lane, tte_forms.specs.Putting.{PutsLines, shown_by}}
+use Rattle.std.proofs.Common.{◌≡◌}
 use Rattle.lens.proofs.draw.putting.put_lanes.Given as goal
 
 abbrev pub invariant-lanes : goal.invariant-lanes

@@ -1,4 +1,4 @@
-use Rattle.{lens.specs.draw.{Picture.some_line, svg.Layers.on_mark}, std.proofs.Common.{◌≡◌, take}, tte_forms.specs.Putting.{PutsLines, shown_by}}
+use Rattle.{lens.specs.draw.Picture.some_line, lens_svg.specs.Layers.on_mark, std.proofs.Common.{◌≡◌, take}, tte_forms.specs.Putting.{PutsLines, shown_by}}
 use Rattle.std.specs.Prelude.{flat_map}
 use Rattle.lens.proofs.draw.putting.put_marks.Given as goal
 

@@ -1,5 +1,5 @@
-use Rattle.{audit_devices.specs.events.Readings.scenario_under, lens.specs.why.past.Pasts.{IsPast, clock_at}, run_law.specs.records.Happenings.Happening}
-use Rattle.{lens.specs.draw.svg.Windows.windows_in, net_plan.specs.declared.event.Event.Event, std.proofs.Common.{◌≡◌, List, take}}
+use Rattle.{audit_law.specs.events.Readings.scenario_under, lens_why.specs.past.Pasts.{IsPast, clock_at}, run_law.specs.records.Happenings.Happening}
+use Rattle.{lens_svg.specs.Windows.windows_in, net_plan.specs.declared.event.Event.Event, std.proofs.Common.{◌≡◌, List, take}}
 use Rattle.lens.proofs.draw.windows.windows_of.Given as goal
 
 abbrev pub invariant-frames : goal.invariant-frames

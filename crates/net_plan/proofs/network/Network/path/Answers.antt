@@ -1,7 +1,7 @@
 use Rattle.{net_plan.{proofs.Trees.{ended, followed}, specs.{Paths.{IsPath, IsUplink}, Places.{IsSwitchOf, link_at}}}, std.proofs.lemmas.Grind.common_steps}
-use Rattle.{net_plan.{specs.{declared.{ids.{LinkId.{LinkId as LinkIdValue}}, tables.Link.Link}}}, std.proofs.lemmas.Option.{slice_get-get_or, slice_get_within}}
+use Rattle.{net_plan.specs.declared.{ids.LinkId.{LinkId as LinkIdValue}, tables.Link.Link}, std.proofs.lemmas.Option.{slice_get-get_or, slice_get_within}}
 use Rattle.std.proofs.Common.{◌++◌, ◌∙◌, ◌∷◌, ◌≡◌, ◌≤◌, List, Some, [], ap, append-nil, append_assoc, arith, get_or, length, subst, sym}
-use Rattle.tte_lemmas.proofs.Options.{opened}
+use Rattle.tte_units.proofs.general_lemmas.Options.{opened}
 use Rattle.net_plan.proofs.network.Network.path.Goals as goal
 
 pub loop-link-preserved : goal.loop-link-preserved

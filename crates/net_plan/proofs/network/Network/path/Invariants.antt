@@ -1,4 +1,4 @@
-use Rattle.{net_plan.{specs.{Paths.IsPath, declared.{ids.{LinkId.{LinkId as LinkIdValue}}}}}, std.proofs.Common.{◌++◌, ◌-◌, ◌≤◌, List, length}}
+use Rattle.{net_plan.specs.{Paths.IsPath, declared.ids.LinkId.{LinkId as LinkIdValue}}, std.proofs.Common.{◌++◌, ◌-◌, ◌≤◌, List, length}}
 use Rattle.net_plan.proofs.network.Network.path.Given as goal
 
 -- what is behind and some rest make a path of at most eight links

@@ -1,6 +1,8 @@
-use Rattle.{std.proofs.Common.{◌∙◌, ◌≡◌, Ok, ap, refl, subst, sym}, tte_io.specs.declared.{ends.SourceFailed.SourceFailed, lines.LineTaken.TheVariants.Long}}
+use Rattle.{std.proofs.{Common.{◌∙◌, ◌≡◌, Ok, ap, refl, subst, sym}, lemmas.Result.err_from_is_err_and}}
+use Rattle.tte_io.specs.declared.{ends.SourceFailed.SourceFailed, lines.LineTaken.TheVariants.Long}
 use Rattle.tte_io.{proofs.Coming.outcome_told, specs.{NextLine.NextLine, Progress.reader_state, declared.lines.Progress.Progress}}
-use Rattle.tte_io.{proofs.Making.{MadeOf, found_ended, long_unended, made_next, made_on, still_too_long}, specs.declared.lines.Progress.TheVariants.TooLong}
+use Rattle.tte_io.proofs.Making.{MadeOf, found_ended, long_unended, made_next, made_on, still_too_long, taken_of_made}
+use Rattle.tte_io.{specs.declared.lines.Progress.TheVariants.TooLong}
 use Rattle.tte_io.{proofs.lines.LineReader.next_line.Goals.{in-Taken, in-Unfinished}, specs.ReaderState.{KeepsEnd, KeepsLongLine, LineReaderState, pending}}
 use Rattle.tte_io.proofs.lines.LineReader.next_line.Goals as goal
 
@@ -35,3 +37,20 @@ returns-then-self-clause-next g c =
 
 pub returns-then-self-clause-told : goal.returns-then-self-clause-told
 returns-then-self-clause-told g c = outcome_told _ _ _ _ _ _ (returns-then-self-clause-next g c)
+
+pub returns-in_err-taken-clause-next : goal.returns-in_err-taken-clause-next
+returns-in_err-taken-clause-next g c =
+    let r = c.self.inside in
+    let at = c.match-self.self-inside in
+    let made : MadeOf c.args.self.now at.line at.ahead at.ended =
+    elim c.match-self.branch [
+      | in-Taken w ↦
+          rw w.self-inside-is (made_next r.progress r.line r.ahead r.ended w.clear.new.self c.args.self.now c.self.view_is w.in-Taken.is w.clear.ensures
+          c.self.invariant.3)
+      | in-Unfinished w ↦ rw w.self-inside-is (made_on r.progress r.line r.ahead r.ended c.args.self.now c.self.view_is w.in-Unfinished.is c.self.invariant.3)
+    ] in
+    rw ((err_from_is_err_and c.from_residual.result c.from_residual.ensures.1).1)
+    (taken_of_made c.args.self.now at.line at.ahead at.ended _ _ _ _ made c.if-self.false c.in_err-taken.ensures.next)
+
+pub returns-in_err-taken-clause-told : goal.returns-in_err-taken-clause-told
+returns-in_err-taken-clause-told g c = outcome_told _ _ _ _ _ _ (returns-in_err-taken-clause-next g c)

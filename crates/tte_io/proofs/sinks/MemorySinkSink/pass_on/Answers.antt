@@ -1,4 +1,4 @@
-use Rattle.{std.proofs.Common.{◌≡◌, ap, arith, take, take_all}, tte_io.{proofs.Passing.{passes_all, passes_none}, specs.InMemory.SinkState}}
+use Rattle.{std.proofs.Common.{◌≡◌, ap, arith, refl, sym, take, take_all}, tte_io.{proofs.Passing.{passes_all, passes_none}, specs.InMemory.SinkState}}
 use Rattle.tte_io.proofs.sinks.MemorySinkSink.pass_on.Goals as goal
 
 pub returns-then-next_fails-clause-passes : goal.returns-then-next_fails-clause-passes
@@ -14,3 +14,10 @@ returns-clause-passes c =
     let all : take c.len-self-inside.result r.written.items ≡ r.written.items =
     take_all c.len-self-inside.result r.written.items (omega (arith, c.len-self-inside.ensures)) in
     rw all (passes_all c.args.self.now.passed r.written.items r.passed same)
+
+pub returns-clause-ok : goal.returns-clause-ok
+returns-clause-ok c =
+    let r = c.self.inside in
+    let all : take c.len-self-inside.result r.written.items ≡ r.written.items =
+    take_all c.len-self-inside.result r.written.items (omega (arith, c.len-self-inside.ensures)) in
+    rw (sym c.self.view_is, all, c.next_fails.ensures.counts, c.next_fails.ensures.failing) refl

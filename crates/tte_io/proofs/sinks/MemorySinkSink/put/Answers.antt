@@ -1,4 +1,4 @@
-use Rattle.{std.proofs.Common.{◌∙◌, ◌≡◌, ap, take}, tte_io.{proofs.Passing.{passed_still, passes_none}, specs.InMemory.SinkState}}
+use Rattle.{std.proofs.Common.{◌∙◌, ◌≡◌, ap, refl, sym, take}, tte_io.{proofs.Passing.{passed_still, passes_none}, specs.InMemory.SinkState}}
 use Rattle.tte_io.proofs.sinks.MemorySinkSink.put.Goals as goal
 
 pub returns-then-fails-clause-passes : goal.returns-then-fails-clause-passes
@@ -15,3 +15,10 @@ returns-clause-passes c =
     ap (take r.passed) c.in-Ok.ensures.items ∙ passed_still r.written.items c.args.bytes.now r.passed c.self.invariant.2
     ∙ ap (λ (s : SinkState). s.passed) c.self.view_is in
     rw same (passes_none c.args.self.now.passed all r.passed same)
+
+pub returns-clause-ok : goal.returns-clause-ok
+returns-clause-ok c =
+    let r = c.self.inside in
+    let still = passed_still r.written.items c.args.bytes.now r.passed c.self.invariant.2 in
+    let calls = c.next_fails-fails.ensures in
+    rw (sym c.self.view_is, c.in-Ok.ensures.items, still, calls.counts, calls.failing) refl

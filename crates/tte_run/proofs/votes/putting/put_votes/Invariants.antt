@@ -1,5 +1,5 @@
 use Rattle.tte_run.proofs.votes_lemmas.{Places.lines_to, Words.{◌^◌, ◌≡◌, ◌≤◌, HoldsVotes, List, PutsLines, happenings, shown_by, ℕ}}
-use Rattle.tte_run.specs.{declared.{votes.{law.{voters.{Voters.{Voters as VotersValue}}}}}, votes.ballots.Keeping.{HoldsFrom, kept_count}}
+use Rattle.tte_run.specs.{declared.votes.law.voters.Voters.{Voters as VotersValue}, votes.ballots.Keeping.{HoldsFrom, kept_count}}
 use Rattle.run_law.specs.declared.note.Note.{Note as NoteValue}
 use Rattle.tte_run.proofs.votes.putting.put_votes.Given as goal
 

@@ -1,7 +1,6 @@
-use Rattle.{drift_world.specs.Locals.IsWide, std.specs.Prelude.IfSome, tte_traces.specs.storms.Spreads.AreEnds, tte_units.specs.Amount.amount}
-use Rattle.{net_plan.{specs.{declared.{event.{Event.{Event as EventValue}}}}}, run_law.{specs.{declared.{note.{Note.{Note as NoteValue}}}}}}
-use Rattle.{run_law.specs.records.Happenings.happenings, tte_traces.specs.storms.Answer.exact_scenario, world_drive.specs.Observing.IsCompleteExact}
-use Rattle.std.proofs.Common.{List}
+use Rattle.{drift_world.specs.Locals.IsWide, tte_traces.specs.storms.{Answer.exact_scenario, Spreads.AreEnds}, world_drive.specs.Observing.IsCompleteExact}
+use Rattle.{net_plan.specs.declared.event.Event.{Event as EventValue}, run_law.specs.{declared.note.Note.{Note as NoteValue}, records.Happenings.happenings}}
+use Rattle.{std.{proofs.Common.List, specs.Prelude.IfSome}, tte_units.specs.Amount.amount}
 use Rattle.tte_traces.proofs.storms.spreads.spread_at.Given as goal
 
 abbrev pub invariant-devices : goal.invariant-devices

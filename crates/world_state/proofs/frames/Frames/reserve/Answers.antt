@@ -1,6 +1,6 @@
-use Rattle.{run_law.specs.records.Order.IsIn, std.specs.{Option.option_map_or, Prelude.OnOk}, tte_lemmas.proofs.Lists.set_same}
+use Rattle.{run_law.specs.records.Order.IsIn, std.specs.{Option.option_map_or, Prelude.OnOk}, world_state.specs.{Frames.Waiting, queue.Queues.Queue}}
 use Rattle.{std.proofs.Common.{◌<◌, ◌∙◌, List, Option, ap, length, refl, subst, sym}, world_state.specs.declared.{contents.Waits.Waits, queue.Entry.Entry}}
-use Rattle.{std.proofs.lemmas.Option.slice_get_read, world_state.{proofs.Queues.{same_in, set_queued}, specs.{Frames.Waiting, queue.Queues.Queue}}}
+use Rattle.{std.proofs.lemmas.Option.slice_get_read, tte_units.proofs.general_lemmas.Lists.set_same, world_state.proofs.Queues.{same_in, set_queued}}
 use Rattle.world_state.proofs.frames.Frames.reserve.Goals as goal
 
 pub invariant_of-self : goal.invariant_of-self

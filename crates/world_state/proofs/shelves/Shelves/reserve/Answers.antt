@@ -1,5 +1,5 @@
 use Rattle.std.{proofs.{Common.{◌<◌, ◌∙◌, Option, ap, length, refl, subst, sym}, lemmas.Option.slice_get_read}, specs.{Option.option_map_or, Prelude.OnOk}}
-use Rattle.tte_lemmas.proofs.Lists.{set_same}
+use Rattle.tte_units.proofs.general_lemmas.Lists.{set_same}
 use Rattle.world_state.{proofs.Placings.{longer_in, longer_shelved}, specs.Shelves.{Places, Shelved}}
 use Rattle.world_state.proofs.shelves.Shelves.reserve.Goals as goal
 

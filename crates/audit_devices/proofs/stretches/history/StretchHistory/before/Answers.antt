@@ -1,5 +1,5 @@
-use Rattle.{audit_devices.specs.{Keeping.records_before, stretches.{Keeping.Stretches, Points.HasPoints}}, run_law.specs.control.Collections.points_of}
-use Rattle.{std.proofs.Common.{subst, sym}, tte_lemmas.proofs.Lists.got_at}
+use Rattle.{audit_devices.specs.{Keeping.records_before, stretches.{Keeping.Stretches, Points.HasPoints}}, tte_units.proofs.general_lemmas.Lists.got_at}
+use Rattle.{run_law.specs.control.Collections.points_of, std.proofs.Common.{subst, sym}}
 use Rattle.audit_devices.proofs.stretches.history.StretchHistory.before.Goals as goal
 
 pub returns : goal.returns

@@ -1,4 +1,4 @@
-use Rattle.{audit_devices.specs.{Keeping.time_at, stretches.Keeping.Stretches}, tte_lemmas.proofs.Lists.got_at}
+use Rattle.{audit_devices.specs.{Keeping.time_at, stretches.Keeping.Stretches}, tte_units.proofs.general_lemmas.Lists.got_at}
 use Rattle.{audit_devices.specs.declared.stretches.kept.Entry.Entry, std.proofs.Common.{◌<◌, ◌∙◌, ◌≡◌, Some, ap, arith, length, slice_get, sym}}
 use Rattle.audit_devices.proofs.stretches.history.StretchHistory.changed.Goals as goal
 

@@ -1,5 +1,5 @@
-use Rattle.{audit_devices.specs.stretches.{Keeping.Stretches, Points.HasPoints}, run_law.specs.control.Collections.points_of, tte_lemmas.proofs.Lists.got_at}
-use Rattle.std.proofs.Common.{subst, sym}
+use Rattle.{audit_devices.specs.stretches.{Keeping.Stretches, Points.HasPoints}, std.proofs.Common.{subst, sym}, tte_units.proofs.general_lemmas.Lists.got_at}
+use Rattle.run_law.specs.control.Collections.{points_of}
 use Rattle.audit_devices.proofs.stretches.history.StretchHistory.latest.Goals as goal
 
 pub returns : goal.returns

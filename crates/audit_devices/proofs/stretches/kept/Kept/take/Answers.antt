@@ -1,6 +1,6 @@
 use Rattle.audit_devices.{proofs.stretches_lemmas.Keeping.{GoesOn, kept_on, points_then}, specs.declared.stretches.kept.Entry.Entry}
-use Rattle.{audit_devices.specs.collections.{Gathered.Gathers, Kept.History}, std.proofs.Common.{◌++◌, ◌∙◌, ◌∷◌, ◌≡◌, List, [], ap, refl, subst, sym, ℕ}}
-use Rattle.{audit_devices.specs.stretches.{Keeping.Stretches, Points.points_with}, run_law.specs.control.Collections.points_of}
+use Rattle.{audit_devices.specs.stretches.{Keeping.Stretches, Points.points_with}, std.proofs.Common.{◌++◌, ◌∙◌, ◌∷◌, ◌≡◌, List, [], ap, refl, subst, sym, ℕ}}
+use Rattle.{audit_law.specs.collections.{Gathered.Gathers, Kept.History}, run_law.specs.control.Collections.points_of}
 use Rattle.audit_devices.proofs.stretches.kept.Kept.take.Goals as goal
 
 pub returns : goal.returns

@@ -1,5 +1,5 @@
-use Rattle.audit_devices.{proofs.stretches_lemmas.Clustering.{emissions_same, equal_emitted, same_emitted}, specs.declared.collections.emitted.Emitted.Emitted}
-use Rattle.{audit_devices.specs.collections.Kept.emissions_in, std.{proofs.lemmas.Int.to_z-of_z, specs.Prelude.{All, Contains}}}
+use Rattle.{audit_devices.proofs.stretches_lemmas.Clustering.{emissions_same, equal_emitted, same_emitted}, std.proofs.lemmas.Int.to_z-of_z}
+use Rattle.{audit_law.specs.{collections.Kept.emissions_in, declared.collections.emitted.Emitted.Emitted}, std.specs.Prelude.{All, Contains}}
 use Rattle.std.proofs.{Common.{◌∙◌, ◌≡◌, FitsSigned, IsTrue, List, None, Some, false, refl, rules, subst, sym, w64, ℤ}, lemmas.List.Elements.All-contains}
 use Rattle.audit_devices.proofs.stretches.stretch.Stretch.emits.Goals as goal
 

@@ -1,4 +1,4 @@
-use Rattle.{audit_devices.specs.{clocks.Moments.StandsAt, events.Readings.scenario_under}, std.proofs.Common.refl}
+use Rattle.{audit_devices.specs.clocks.Moments.StandsAt, audit_law.specs.events.Readings.scenario_under, std.proofs.Common.refl}
 use Rattle.audit_sweep.proofs.records.dispatches.judging.leaves.Goals as goal
 
 pub returns : goal.returns

@@ -1,5 +1,5 @@
 use Rattle.audit_sweep.proofs.unpaid_lemmas.Words.{◌+◌, AreKnown, Event, Happening, List, TellsFirstBelow, scenario_of, ℕ}
-use Rattle.audit_devices.specs.law.Owed as debts
+use Rattle.audit_law.specs.law.Owed as debts
 use Rattle.audit_sweep.proofs.unpaid.debtor.Debtor.first_unpaid_permanence.Given as goal
 
 -- it is the first of what the records so far bring

@@ -1,4 +1,4 @@
-use Rattle.{audit_devices.specs.law.Changes.OwesChange, audit_sweep.proofs.unpaid_lemmas.PaidChanges.{change_marked, change_time, owed_change}}
+use Rattle.{audit_law.specs.law.Changes.OwesChange, audit_sweep.proofs.unpaid_lemmas.PaidChanges.{change_marked, change_time, owed_change}}
 use Rattle.audit_sweep.proofs.unpaid_lemmas.Words.{◌∙◌, ◌≡◌, ◌≤◌, KeptRecord, ap, both_ways, scenario_of, subst, time_of, ℕ}
 use Rattle.audit_sweep.proofs.unpaid.debtor.Debtor.unpaid_change.Goals as goal
 

@@ -1,6 +1,6 @@
 use Rattle.audit_sweep.proofs.unpaid_lemmas.Words.{◌<◌, ◌≡◌, AreKnown, Event, Happening, LinkId, List, Some, TellsFirstAmong, numbered, scenario_of, ℕ}
 use Rattle.audit_sweep.specs.records.Keeping.{record_of}
-use Rattle.audit_devices.specs.law.Owed as debts
+use Rattle.audit_law.specs.law.Owed as debts
 use Rattle.audit_sweep.proofs.unpaid.debtor.Debtor.unpaid_departure.Given as goal
 
 -- it is the first of those by the links so far

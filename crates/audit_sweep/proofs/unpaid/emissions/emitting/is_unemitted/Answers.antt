@@ -1,4 +1,4 @@
-use Rattle.{audit_devices.specs.events.Readings.scenario_under, std.proofs.{Common.{◌∙◌, sym}, lemmas.Bool.false≢true}}
+use Rattle.{audit_law.specs.events.Readings.scenario_under, std.proofs.{Common.{◌∙◌, sym}, lemmas.Bool.false≢true}}
 use Rattle.audit_sweep.proofs.unpaid.emissions.emitting.is_unemitted.Goals as goal
 
 pub returns-then-is_told-clause-unemitted : goal.returns-then-is_told-clause-unemitted

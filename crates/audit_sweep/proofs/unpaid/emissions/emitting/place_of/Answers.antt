@@ -1,5 +1,5 @@
 use Rattle.{audit_sweep.specs.unpaid.emissions.Emissions.sent_of, run_law.specs.{declared.note.NoteBody.TheVariants.Compressed, records.Ranks.place_at}}
-use Rattle.{compression.{specs.{declared.{compressed.{Compressed.{Compressed as Sent}}}}}, run_law.specs.declared.judgement.Judgement.TheVariants.Ignored}
+use Rattle.{compression.specs.declared.compressed.Compressed.{Compressed as Sent}, run_law.specs.declared.judgement.Judgement.TheVariants.Ignored}
 use Rattle.{std.{proofs.{Common.{◌∙◌, ◌≡◌, ap, refl, rules, w64, ℤ}, lemmas.Int.to_z-of_z}, specs.Int.w128}, tte_units.specs.declared.units.Units.Units}
 use Rattle.audit_sweep.proofs.unpaid.emissions.emitting.place_of.Goals as goal
 

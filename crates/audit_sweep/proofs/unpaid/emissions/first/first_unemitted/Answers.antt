@@ -1,4 +1,4 @@
-use Rattle.{audit_devices.specs.events.Readings.scenario_under, compression.specs.declared.compressed.Compressed.Compressed}
+use Rattle.{audit_law.specs.events.Readings.scenario_under, compression.specs.declared.compressed.Compressed.Compressed}
 use Rattle.audit_sweep.{proofs.unpaid_lemmas.emissions_lemmas.Entries.{devices_more, devices_none, first_emission}, specs.unpaid.emissions.Firsts.TellsFirstOf}
 use Rattle.{audit_sweep.specs.unpaid.emissions.Emissions.{IsTold, OwesAmong}, std.proofs.Common.{◌+◌, Option, ap, arith, length, refl, subst, sym, ℕ}}
 use Rattle.net_plan.specs.declared.ids.DeviceId.{DeviceId}

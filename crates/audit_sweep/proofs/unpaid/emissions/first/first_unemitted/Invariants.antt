@@ -1,6 +1,6 @@
-use Rattle.{audit_devices.specs.{events.Readings.scenario_under, law.DueRecords.IsDue}, audit_sweep.specs.unpaid.emissions.Firsts.TellsFirstOf}
+use Rattle.{audit_law.specs.events.Readings.scenario_under, audit_sweep.specs.unpaid.emissions.Firsts.TellsFirstOf, run_law.specs.records.Happenings.Happening}
+use Rattle.{audit_law.specs.law.DueRecords.IsDue, net_plan.specs.declared.{event.Event.Event, ids.DeviceId.DeviceId}, run_law.specs.records.Ranks.place_of}
 use Rattle.{audit_sweep.specs.unpaid.emissions.{Emissions.{IsTold, OwesAmong}, Kept.IsKept}, compression.specs.declared.compressed.Compressed.Compressed}
-use Rattle.{net_plan.specs.declared.{event.Event.Event, ids.DeviceId.DeviceId}, run_law.specs.records.{Happenings.Happening, Ranks.place_of}}
 use Rattle.{run_law.specs.runs.Runs.IsFounded, std.proofs.Common.List}
 use Rattle.audit_sweep.proofs.unpaid.emissions.first.first_unemitted.Given as goal
 

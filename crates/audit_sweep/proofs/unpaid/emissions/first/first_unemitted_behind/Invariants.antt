@@ -1,7 +1,8 @@
-use Rattle.{audit_devices.specs.{collections.Kept.emissions_in, stretches.{Keeping.Stretches, Standing.kept_of}}, run_law.specs.records.Happenings.Happening}
-use Rattle.{audit_devices.specs.{declared.stretches.kept.Entry.Entry, events.Readings.scenario_under}, audit_sweep.specs.unpaid.emissions.Firsts.TellsFirstOf}
-use Rattle.{audit_devices.specs.law.DueRecords.IsDue, net_plan.specs.declared.event.Event.Event, run_law.specs.{records.Ranks.place_of, runs.Runs.IsFounded}}
+use Rattle.{audit_devices.specs.{declared.stretches.kept.Entry.Entry, stretches.Keeping.Stretches}, audit_sweep.specs.unpaid.emissions.Firsts.TellsFirstOf}
+use Rattle.{audit_devices.specs.stretches.Standing.kept_of, audit_law.specs.{collections.Kept.emissions_in, events.Readings.scenario_under}}
+use Rattle.{audit_law.specs.law.DueRecords.IsDue, net_plan.specs.declared.event.Event.Event, run_law.specs.records.{Happenings.Happening, Ranks.place_of}}
 use Rattle.{audit_sweep.specs.unpaid.emissions.{Emissions.{IsTold, OwesBehind}, Kept.IsKept}, std.proofs.Common.{◌≡◌, ◌≤◌, List, Some, length, slice_get}}
+use Rattle.run_law.specs.runs.Runs.{IsFounded}
 use Rattle.audit_sweep.proofs.unpaid.emissions.first.first_unemitted_behind.Given as goal
 
 -- it is the first of what the clusters from this place on owe

@@ -1,4 +1,4 @@
-use Rattle.{audit_devices.specs.events.Remembering.Remembers, audit_sweep.specs.records.places.Placing.ArePlacesOf}
+use Rattle.{audit_law.specs.events.Remembering.Remembers, audit_sweep.specs.records.places.Placing.ArePlacesOf}
 use Rattle.audit_sweep.proofs.unpaid_lemmas.points_lemmas.Words.{◌+◌, ◌-◌, ◌≤◌, ArePaid, Event, Happening, IsSent, List, Sends, ShowsWithin, scenario_under}
 use Rattle.audit_sweep.proofs.unpaid.points.sending.first_unsent_within.Given as goal
 

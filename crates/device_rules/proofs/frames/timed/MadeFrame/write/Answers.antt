@@ -1,6 +1,6 @@
 use Rattle.{device_rules.proofs.frames_lemmas.Made.{found_at, made_found, made_none, zeros_behind}, net_plan.specs.declared.tables.VirtualLink.VirtualLink}
 use Rattle.{net_plan.specs.Ranges.IsVlInRange, std.proofs.{Common.{◌≡◌, ◌≤◌, List, Some, length, slice_get, subst}, lemmas.Option.slice_get_past}}
-use Rattle.tte_lemmas.proofs.Lists.{in_all}
+use Rattle.tte_units.proofs.general_lemmas.Lists.{in_all}
 use Rattle.device_rules.proofs.frames.timed.MadeFrame.write.Goals as goal
 
 pub invariant_of-self : goal.invariant_of-self

@@ -1,4 +1,4 @@
-use Rattle.{lens.{proofs.draw_lemmas.Parts.draws_one, specs.draw.svg.Elements.opening_line}, std.proofs.Common.{◌∙◌, ◌∷◌, ◌≡◌, List, [], subst, ℕ}}
+use Rattle.{lens.proofs.draw_lemmas.Parts.draws_one, lens_svg.specs.Elements.opening_line, std.proofs.Common.{◌∙◌, ◌∷◌, ◌≡◌, List, [], subst, ℕ}}
 use Rattle.{lens.specs.draw.Putting.Draws, tte_forms.specs.Putting.shown_by}
 use Rattle.lens.proofs.draw.overview.putting.put_opening.Goals as goal
 

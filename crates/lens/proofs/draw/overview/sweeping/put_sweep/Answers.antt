@@ -1,7 +1,7 @@
 use Rattle.lens.proofs.draw_lemmas.{Marking.left_less, overview_lemmas.Swept.{IsSwept, swept_all, swept_fails, swept_first, swept_more}}
 use Rattle.{lens.specs.declared.draw.overview.change.News.News, std.proofs.{Common.{◌∙◌, ◌≡◌, List, ap, refl, rules, subst, sym, w64, ℕ}, lemmas.Int.to_z-of_z}}
-use Rattle.{lens.specs.draw.overview.{Grids.column_of, Strips.taken}, std.specs.Prelude.{map, max, unsigned_abs}, tte_traces.specs.reports.Reports.AreLeft}
-use Rattle.{lens.specs.draw.svg.Sketching.moment, run_law.specs.declared.note.Note.Note, tte_forms.specs.Putting.shown_by}
+use Rattle.{lens.specs.draw.overview.{Grids.column_of, Strips.taken}, std.specs.Prelude.{map, max, unsigned_abs}, tte_audit.specs.reports.Reports.AreLeft}
+use Rattle.{lens_svg.specs.Sketching.moment, run_law.specs.declared.note.Note.Note, tte_forms.specs.Putting.shown_by}
 use Rattle.lens.proofs.draw.overview.sweeping.put_sweep.Goals as goal
 
 pub records-init : goal.records-init

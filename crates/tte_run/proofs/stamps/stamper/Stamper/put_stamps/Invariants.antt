@@ -1,4 +1,4 @@
-use Rattle.{net_plan.{specs.{declared.{event.{Event.{Event as EventValue}}}}}, run_law.{specs.{declared.{note.{Note.{Note as NoteValue}}}}}}
+use Rattle.{net_plan.specs.declared.event.Event.{Event as EventValue}, run_law.specs.declared.note.Note.{Note as NoteValue}}
 use Rattle.{tte_run.proofs.stamps_lemmas.Words.{◌≡◌, IsAtLine, List, PutsLines, line_at, lines_by_first, shown_as, told_by}, world_drive.proofs.More.PutsSoFar}
 use Rattle.tte_run.proofs.stamps.stamper.Stamper.put_stamps.Given as goal
 

@@ -1,7 +1,7 @@
-use Rattle.audit_devices.{proofs.Partitions.in_index, specs.law.Dispatched.Dispatch}
+use Rattle.{audit_devices.proofs.Partitions.in_index, audit_law.specs.law.Dispatched.Dispatch}
 use Rattle.audit_sweep.proofs.{records_lemmas.dispatches_lemmas.Rows.no_row, unpaid_lemmas.dispatches_lemmas.RowDebts.{IsByFirst, all_rows, next_row, no_rows}}
 use Rattle.{audit_sweep.specs.unpaid.{Unpaid.TellsFirstAmong, dispatches.Debtors.scenario_of}, std.proofs.Common.{◌+◌, Option, subst, sym, ℕ}}
-use Rattle.audit_devices.specs.law.Owed as debts
+use Rattle.audit_law.specs.law.Owed as debts
 use Rattle.audit_sweep.proofs.unpaid.dispatches.debtor.RowDebtor.first_on.Goals as goal
 
 pub rows-init : goal.rows-init

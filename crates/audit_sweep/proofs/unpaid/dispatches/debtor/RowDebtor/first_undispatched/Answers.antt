@@ -1,7 +1,7 @@
-use Rattle.{audit_devices.specs.law.Dispatched.Dispatch, audit_sweep.specs.unpaid.Unpaid.TellsFirstAmong}
+use Rattle.{audit_law.specs.law.Dispatched.Dispatch, audit_sweep.specs.unpaid.Unpaid.TellsFirstAmong}
 use Rattle.{audit_sweep.proofs.unpaid_lemmas.Among.first_among_all, std.proofs.Common.{◌+◌, ◌<◌, Option, ap, arith, length, subst, sym, ℕ}}
 use Rattle.audit_sweep.{proofs.unpaid_lemmas.dispatches_lemmas.RowDebts.{link_within, next_link}, specs.unpaid.dispatches.Debtors.scenario_of}
-use Rattle.audit_devices.specs.law.Owed as debts
+use Rattle.audit_law.specs.law.Owed as debts
 use Rattle.audit_sweep.proofs.unpaid.dispatches.debtor.RowDebtor.first_undispatched.Goals as goal
 
 pub links-init : goal.links-init

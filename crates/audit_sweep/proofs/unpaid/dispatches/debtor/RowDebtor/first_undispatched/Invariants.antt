@@ -1,6 +1,6 @@
-use Rattle.{audit_devices.specs.law.Dispatched.Dispatch, audit_sweep.specs.unpaid.{Unpaid.TellsFirstAmong, dispatches.Debtors.{AreKnown, scenario_of}}}
-use Rattle.{net_plan.specs.declared.event.Event.Event, run_law.specs.records.Happenings.Happening, std.proofs.Common.{◌<◌, List}}
-use Rattle.audit_devices.specs.law.Owed as debts
+use Rattle.{audit_law.specs.law.Dispatched.Dispatch, net_plan.specs.declared.event.Event.Event, std.proofs.Common.{◌<◌, List}}
+use Rattle.{audit_sweep.specs.unpaid.{Unpaid.TellsFirstAmong, dispatches.Debtors.{AreKnown, scenario_of}}, run_law.specs.records.Happenings.Happening}
+use Rattle.audit_law.specs.law.Owed as debts
 use Rattle.audit_sweep.proofs.unpaid.dispatches.debtor.RowDebtor.first_undispatched.Given as goal
 
 abbrev pub invariant-links : goal.invariant-links

@@ -1,5 +1,0 @@
-use Rattle.audit_devices.proofs.law_lemmas.Arriving.{arrival_law}
-use Rattle.audit_devices.proofs.law.debt_laws.arrival_law.Goals as goal
-
-pub returns : goal.returns
-returns c = arrival_law

@@ -1,5 +1,0 @@
-use Rattle.audit_devices.proofs.law_lemmas.Changing.{change_law}
-use Rattle.audit_devices.proofs.law.debt_laws.change_law.Goals as goal
-
-pub returns : goal.returns
-returns c = change_law

@@ -1,5 +1,0 @@
-use Rattle.audit_devices.proofs.law_lemmas.Departing.{departure_law}
-use Rattle.audit_devices.proofs.law.debt_laws.departure_law.Goals as goal
-
-pub returns : goal.returns
-returns c = departure_law

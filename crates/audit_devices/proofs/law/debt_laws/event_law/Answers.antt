@@ -1,5 +1,0 @@
-use Rattle.audit_devices.proofs.law_lemmas.TracingEvents.{event_law}
-use Rattle.audit_devices.proofs.law.debt_laws.event_law.Goals as goal
-
-pub returns : goal.returns
-returns c = event_law

@@ -1,5 +1,0 @@
-use Rattle.audit_devices.proofs.law_lemmas.Earliest.{first_debt_law}
-use Rattle.audit_devices.proofs.law.debt_laws.first_debt_law.Goals as goal
-
-pub returns : goal.returns
-returns c = first_debt_law

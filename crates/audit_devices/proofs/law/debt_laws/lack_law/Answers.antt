@@ -1,5 +1,0 @@
-use Rattle.audit_devices.proofs.law_lemmas.FirstUnpaid.{lack_law}
-use Rattle.audit_devices.proofs.law.debt_laws.lack_law.Goals as goal
-
-pub returns : goal.returns
-returns c = lack_law

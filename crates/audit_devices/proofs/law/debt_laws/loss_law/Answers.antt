@@ -1,5 +1,0 @@
-use Rattle.audit_devices.proofs.law_lemmas.LosingSends.{loss_law}
-use Rattle.audit_devices.proofs.law.debt_laws.loss_law.Goals as goal
-
-pub returns : goal.returns
-returns c = loss_law

@@ -1,5 +1,0 @@
-use Rattle.audit_devices.proofs.law_lemmas.Ripening.{permanence_law}
-use Rattle.audit_devices.proofs.law.debt_laws.permanence_law.Goals as goal
-
-pub returns : goal.returns
-returns c = permanence_law

@@ -1,5 +1,0 @@
-use Rattle.audit_devices.proofs.law_lemmas.Correcting.{point_law}
-use Rattle.audit_devices.proofs.law.debt_laws.point_law.Goals as goal
-
-pub returns : goal.returns
-returns c = point_law

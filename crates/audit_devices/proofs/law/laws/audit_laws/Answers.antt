@@ -1,5 +1,0 @@
-use Rattle.audit_devices.proofs.law_lemmas.Findings.{audit_laws}
-use Rattle.audit_devices.proofs.law.laws.audit_laws.Goals as goal
-
-pub returns : goal.returns
-returns c = audit_laws

@@ -1,5 +1,0 @@
-use Rattle.audit_devices.proofs.law_lemmas.Findings.{next_law}
-use Rattle.audit_devices.proofs.law.laws.next_law.Goals as goal
-
-pub returns : goal.returns
-returns c = next_law

@@ -1,5 +1,0 @@
-use Rattle.audit_devices.proofs.law_lemmas.SameRuns.{same_runs}
-use Rattle.audit_devices.proofs.law.laws.same_runs_law.Goals as goal
-
-pub returns : goal.returns
-returns c = same_runs

@@ -1,0 +1,9 @@
+use Rattle.{audit_law.proofs.events_lemmas.Valuing.later_found, std.{proofs.Common.{◌∙◌, ap}, specs.Prelude.drop}}
+use Rattle.audit_law.proofs.events.settings.Settings.after.Goals as goal
+
+pub returns : goal.returns
+returns g c = λ order.
+    let items = c.args.self.now.changes.items in
+    let count = c.count_up_to-count.result in
+    c.split_at.ensures.back ∙ ap (drop count) c.deref.ensures.value
+    ∙ later_found items c.args.time count (c.count_up_to-count.ensures.part order)

@@ -1,0 +1,5 @@
+use Rattle.audit_law.proofs.law_lemmas.EndingClocks.{clock_law}
+use Rattle.audit_law.proofs.law.debt_laws.clock_law.Goals as goal
+
+pub returns : goal.returns
+returns c = clock_law

@@ -1,0 +1,5 @@
+use Rattle.audit_law.proofs.law_lemmas.AllOwed.{debt_law}
+use Rattle.audit_law.proofs.law.debt_laws.debt_law.Goals as goal
+
+pub returns : goal.returns
+returns c = debt_law

@@ -1,0 +1,5 @@
+use Rattle.audit_law.proofs.law_lemmas.Ripening.{permanence_law}
+use Rattle.audit_law.proofs.law.debt_laws.permanence_law.Goals as goal
+
+pub returns : goal.returns
+returns c = permanence_law

@@ -1,0 +1,5 @@
+use Rattle.audit_law.proofs.law_lemmas.Dispatching.{sending_law}
+use Rattle.audit_law.proofs.law.debt_laws.sending_law.Goals as goal
+
+pub returns : goal.returns
+returns c = sending_law

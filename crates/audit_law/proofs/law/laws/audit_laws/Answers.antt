@@ -1,0 +1,5 @@
+use Rattle.audit_law.proofs.law_lemmas.Findings.{audit_laws}
+use Rattle.audit_law.proofs.law.laws.audit_laws.Goals as goal
+
+pub returns : goal.returns
+returns c = audit_laws

@@ -1,0 +1,5 @@
+use Rattle.audit_law.proofs.law_lemmas.Findings.{gap_law}
+use Rattle.audit_law.proofs.law.laws.gap_law.Goals as goal
+
+pub returns : goal.returns
+returns c = gap_law

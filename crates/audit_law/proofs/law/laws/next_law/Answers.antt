@@ -1,0 +1,5 @@
+use Rattle.audit_law.proofs.law_lemmas.Findings.{next_law}
+use Rattle.audit_law.proofs.law.laws.next_law.Goals as goal
+
+pub returns : goal.returns
+returns c = next_law

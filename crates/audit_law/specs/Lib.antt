@@ -1,0 +1,3 @@
+pub mod law
+pub mod events
+pub mod collections

@@ -1,0 +1,25 @@
+-- A clock, and what the steps of its rate make of it.
+use Rattle.std.specs.{List.{All, Sorted.IsNonDecreasingBy}, Prelude.{◌^◌, ◌∷◌, ◌≡◌, ◌≤◌, List, [], ℕ}}
+use Rattle.drift_clock.specs.{RateSteps.RateStep, Segment.{Segment, segment_reading, stepped_segment}}
+use Rattle.audit_law.specs.{declared.events.settings.Change.Change, events.Settings.{change_to, value_at}}
+
+-- what each of the steps makes of the clock, from its time on
+abbrev pub clocks_after : Segment → List RateStep → List (Change Segment)
+clocks_after clock [] = []
+clocks_after clock (s ∷ steps) =
+    change_to s.at (stepped_segment clock s.at s.rate) ∷ clocks_after (stepped_segment clock s.at s.rate) steps
+
+-- from this time on the clock can be read
+pub record IsReadable (change : Change Segment) : Type 0 where
+  pub stepped : change.value.at ≤ change.from
+  pub limit : change.from ≤ 2 ^ 60
+
+-- a clock at its beginning, then as the steps of its rate leave it, in the order of time
+pub record AreClocks (initial : Segment) (changes : List (Change Segment)) : Type 0 where
+  pub begins : initial.at ≡ 0
+  pub in_order : IsNonDecreasingBy (λ c. c.from) changes
+  pub each : All IsReadable changes
+
+-- what the clocks read at a time
+abbrev pub clocks_reading : Segment → List (Change Segment) → ℕ → ℕ
+clocks_reading initial changes time = segment_reading (value_at initial changes time) time

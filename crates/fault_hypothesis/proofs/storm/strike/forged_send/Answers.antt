@@ -1,0 +1,30 @@
+use Rattle.{fault_hypothesis.proofs.storm_lemmas.{Belongings.uplink_within, Masters.master_uplink}, std.proofs.Common.{◌∙◌, List, ap, refl, rules, subst, sym}}
+use Rattle.{net_plan.specs.Paths.IsUplink, pcf_codec.specs.Spelling.Spells, pcf_values.specs.declared.pcf.Pcf.Pcf, std.specs.Prelude.slice_get}
+use Rattle.{net_plan.specs.declared.tables.Device.Device, pcf_values.specs.declared.channel.Channel.Channel, std.proofs.lemmas.Option.slice_get_read}
+use Rattle.fault_hypothesis.proofs.storm.strike.forged_send.Goals as goal
+
+pub returns-in_err-link-clause-value : goal.returns-in_err-link-clause-value
+returns-in_err-link-clause-value c = λ keeps is.
+    let up = master_uplink c.args.network.now c.args.device c.channel.result keeps is in
+    absurd (c.in_err-link.ensures.none up.0 up.1)
+
+pub returns-clause-value : goal.returns-clause-value
+returns-clause-value c = λ keeps is. record {
+  master = c.in_ok-master.master.now;
+  member = c.in_ok-member.member;
+  link = c.in_ok-link.link;
+  octets = c.spelled.result;
+  at = ap (λ (xs : List Device). slice_get xs c.args.device.0) (sym c.as_slice.ensures)
+      ∙ slice_get_read c.as_slice.result.now _ c.args.device.0 c.in_ok-master.master.now refl c.in_ok-master.ensures.lookup.3.0
+      c.in_ok-master.ensures.lookup.1;
+  numbered = search rules;
+  uplink = subst (λ (n : Channel). IsUplink c.args.network.now n c.args.device c.in_ok-link.link) c.channel.ensures c.in_ok-link.ensures.first.leads;
+  spells = subst (λ (p : Pcf). Spells c.spelled.result p) c.forged_frame-frame.ensures c.spelled.ensures.spells;
+  padding = c.spelled.ensures.padding;
+  sends = refl;
+  bytes = c.spelled.ensures.bytes;
+}
+
+pub returns-clause-of_network : goal.returns-clause-of_network
+returns-clause-of_network c =
+    uplink_within c.args.network.now c.args.device c.in_ok-link.link c.channel.result c.in_ok-link.ensures.first.leads

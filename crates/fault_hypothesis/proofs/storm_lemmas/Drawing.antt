@@ -1,0 +1,40 @@
+-- What the kinds of events draw.
+use Rattle.fault_hypothesis.specs.{declared.storm.draw.Choice.{Choice, TheVariants.{Hold, Wire}}, storm.Choosing.{choice_of, hold_of, link_of, way_of, wire_of}}
+use Rattle.{fault_hypothesis.specs.declared.storm.draw.Draw.Draw, net_plan.specs.declared.network.Network.Network, tte_units.specs.declared.units.Units.Units}
+use Rattle.{fault_hypothesis.specs.storm.Events.{IsChosen, IsDrawn}, std.proofs.Common.{◌∙◌, ◌≡◌, List, None, Option, Some, ap, subst, sym}}
+use Rattle.net_plan.specs.{Places.link_at, declared.tables.Way.Way}
+use Rattle.{net_plan.specs.declared.{event.{Event.Event, What.What}, ids.LinkId.LinkId, tables.Link.Link}, std.specs.Prelude.{IsSomeAnd, MatchOption}}
+use Rattle.net_plan.specs.declared.event.What.TheVariants as kinds
+
+-- what is chosen is drawn where the words choose its kind
+pub drawn_by : (network : Network) (before : List Event) (time : Units) (draw : Draw) (choice : Choice) (what : What) → choice ≡ choice_of draw.kind
+    → IsChosen network before time draw choice what → IsDrawn network before time draw what
+drawn_by network before time draw choice what chosen is =
+    subst (λ (k : Choice). IsChosen network before time draw k what) chosen is
+
+-- the wire delay of a link
+pub wire_drawn : (network : Network) (before : List Event) (time : Units) (draw : Draw) (link : LinkId) (way : Way) (delay : Units) (found : Link)
+    → link ≡ link_of network draw → link_at network link ≡ Some found → way ≡ way_of draw → delay ≡ wire_of found draw
+    → IsChosen network before time draw Wire (kinds.Wire link way delay)
+wire_drawn network before time draw link way delay found link_is at way_is delay_is =
+    let there : link_at network (link_of network draw) ≡ Some found = ap (link_at network) (sym link_is) ∙ at in
+    let same : kinds.Wire link way delay ≡ kinds.Wire (link_of network draw) (way_of draw) (wire_of found draw) = cc in
+    subst
+    (λ (o : Option Link). IsSomeAnd o (λ l. kinds.Wire link way delay ≡ kinds.Wire (link_of network draw) (way_of draw) (wire_of l draw)))
+    (sym there) same
+
+-- the hold of a link
+pub hold_drawn : (network : Network) (before : List Event) (time : Units) (draw : Draw) (link : LinkId) (way : Way) (delay : Units) (found : Link)
+    → link ≡ link_of network draw → link_at network link ≡ Some found → way ≡ way_of draw → delay ≡ hold_of found draw
+    → IsChosen network before time draw Hold (kinds.Hold link way delay)
+hold_drawn network before time draw link way delay found link_is at way_is delay_is =
+    let there : link_at network (link_of network draw) ≡ Some found = ap (link_at network) (sym link_is) ∙ at in
+    let same : kinds.Hold link way delay ≡ kinds.Hold (link_of network draw) (way_of draw) (hold_of found draw) = cc in
+    subst
+    (λ (o : Option Link). IsSomeAnd o (λ l. kinds.Hold link way delay ≡ kinds.Hold (link_of network draw) (way_of draw) (hold_of l draw)))
+    (sym there) same
+
+-- where a value is there and has one property, it has each that follows
+pub match_some : {X : Type 0} (o : Option X) (P Q : X → Type 0) → ((x : X) → P x → Q x) → MatchOption o ⊥ P → MatchOption o ⊥ Q
+match_some None P Q follows is = is
+match_some (Some x) P Q follows is = follows x is

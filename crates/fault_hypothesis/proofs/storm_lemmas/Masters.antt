@@ -1,0 +1,79 @@
+-- The masters of a network: the last one, and the uplinks that they have.
+use Rattle.{fault_hypothesis.specs.storm.Striking.{IsLastMaster, IsMaster}, schedule_tables.specs.declared.rule.Rule.TheVariants.Connections}
+use Rattle.{net_plan.specs.Paths.IsUplink, schedule_tables.{proofs.Margins.master_ends, specs.Rules.KeepsRules}, std.proofs.lemmas.Bool.cases_order}
+use Rattle.{net_plan.specs.{Places.{IsEndSystem, device_at, is_master}, declared.ids.LinkId.LinkId}, std.specs.Prelude.{IsSomeAnd, MatchOption, slice_get}}
+use Rattle.{net_plan.specs.declared.{ids.DeviceId.DeviceId, network.Network.Network, tables.Device.Device}, pcf_values.specs.declared.channel.Channel.Channel}
+use Rattle.std.proofs.{Common.{◌+◌, ◌<◌, ◌∙◌, ◌≡◌, None, Option, Some, ap, arith, inl, inr, length, refl, subst, true, ℕ}, lemmas.Option.slice_get_within}
+
+-- the device is the last master below a place, or there is none below it
+abbrev pub IsLastBelow : Network → Option DeviceId → ℕ → Type 0
+IsLastBelow network None place = (device : DeviceId) → device.0 < place → IsMaster network device → ⊥
+IsLastBelow network (Some master) place =
+    (master.0 < place) × IsMaster network master
+    × ((later : DeviceId) → master.0 < later.0 → later.0 < place → IsMaster network later → ⊥)
+
+-- a master at the place is the last one below the next
+pub next_master : (network : Network) (place : ℕ) (found : Device) → slice_get network.device place ≡ Some found → is_master found.role ≡ true
+    → IsLastBelow network (Some (record { 0 = place })) (place + 1)
+next_master network place found at master =
+    (omega arith, rw at master, λ later above below is. omega (arith, above, below))
+
+-- a master at the place has a master's role
+not_here : (network : Network) (place : ℕ) (found : Device) (device : DeviceId) → slice_get network.device place ≡ Some found → device.0 ≡ place
+    → IsMaster network device → is_master found.role ≡ true
+not_here network place found device at same is =
+    let there : device_at network device ≡ Some found = ap (slice_get network.device) same ∙ at in
+    subst (λ (o : Option Device). IsSomeAnd o (λ d. is_master d.role ≡ true)) there is
+
+-- where no master stands at the place, the last one below it is that below the next
+pub next_other : (network : Network) (place : ℕ) (found : Device) (last : Option DeviceId) → slice_get network.device place ≡ Some found
+    → (is_master found.role ≡ true → ⊥) → IsLastBelow network last place → IsLastBelow network last (place + 1)
+next_other network place found None at other below = λ device within is.
+    elim (cases_order device.0 place) [
+      | inl same ↦ other (not_here network place found device at same is)
+      | inr (inl less) ↦ below device less is
+      | inr (inr more) ↦ omega (arith, more, within)
+    ]
+next_other network place found (Some master) at other below = (
+  omega (arith, below.0),
+  below.1,
+  λ later above within is. elim (cases_order later.0 place) [
+    | inl same ↦ other (not_here network place found later at same is)
+    | inr (inl less) ↦ below.2 later above less is
+    | inr (inr more) ↦ omega (arith, more, within)
+  ],
+)
+
+some_found : (o : Option Device) → IsSomeAnd o (λ d. is_master d.role ≡ true) → (d : Device) × (o ≡ Some d) × (is_master d.role ≡ true)
+some_found None is = absurd is
+some_found (Some d) is = (d, refl, is)
+
+-- a master stands below the end of the list
+pub master_within : (network : Network) (device : DeviceId) → IsMaster network device → device.0 < length network.device
+master_within network device is =
+    let found = some_found (device_at network device) is in
+    slice_get_within network.device device.0 found.0 found.1
+
+-- the device of a master
+pub master_found : (network : Network) (device : DeviceId) → IsMaster network device
+    → (d : Device) × (device_at network device ≡ Some d) × (is_master d.role ≡ true)
+master_found network device is = some_found (device_at network device) is
+
+-- the last one below the end is the last
+pub last_of_all : (network : Network) (last : Option DeviceId) → IsLastBelow network last (length network.device)
+    → MatchOption last ((device : DeviceId) → IsMaster network device → ⊥) (IsLastMaster network)
+last_of_all network None below = λ device is. below device (master_within network device is) is
+last_of_all network (Some master) below =
+    record { master = below.1; last = λ later above is. below.2 later above (master_within network later is) is }
+
+pub master_is_end : (network : Network) (device : DeviceId) → IsMaster network device → IsEndSystem network device
+master_is_end network device is =
+    let found = master_found network device is in
+    rw found.1 (master_ends found.0.role found.2)
+
+-- a master of a network that keeps the rules has an uplink on each channel
+pub master_uplink : (network : Network) (device : DeviceId) (channel : Channel) → KeepsRules network → IsMaster network device
+    → (link : LinkId) × IsUplink network channel device link
+master_uplink network device channel rules is =
+    let one = (rules Connections device.0).ends (master_is_end network device is) channel in
+    (one.0, one.1)

@@ -1,0 +1,49 @@
+-- What the words of a step choose.
+use Rattle.std.specs.Prelude.{if◌then◌else◌, ◌%◌, ◌*◌, ◌+ℤ◌, ◌+◌, ◌-ℤ◌, ◌==◌, ◌^◌, ◌||◌, length, nat_lt, pos, ℕ}
+use Rattle.net_plan.specs.declared.{ids.{DeviceId.DeviceId, LinkId.LinkId}, network.Network.Network, tables.Link.Link}
+use Rattle.net_plan.specs.declared.tables.Way.{Way, TheVariants.{Down, Up}}
+use Rattle.pcf_values.specs.declared.channel.Channel.{Channel, TheVariants.{A, B}}
+use Rattle.tte_units.specs.{Amount.{amount, units_of}, declared.{rates.Ppb.Ppb, units.Units.Units}}
+use Rattle.fault_hypothesis.specs.declared.storm.draw.Choice.{Choice}
+use Rattle.fault_hypothesis.specs.declared.storm.draw.Choice.TheVariants.{Cut, Heal, Hold, On, Rate, Strike, Wire}
+use Rattle.fault_hypothesis.specs.declared.storm.draw.{Draw.Draw}
+
+-- the kind of event that the first word chooses: two of eight are rates
+abbrev pub choice_of : ℕ → Choice
+choice_of word =
+    let rest = word % 8 in
+    if rest == 0 || rest == 1 then Rate
+    else (if rest == 2 then Wire
+    else (if rest == 3 then Hold
+    else (if rest == 4 then Cut
+    else (if rest == 5 then Heal
+    else (if rest == 6 then On
+    else Strike)))))
+
+-- the device that the second word chooses
+abbrev pub device_of : Network → Draw → DeviceId
+device_of network draw = record { 0 = draw.place % length network.device }
+
+-- the link that the second word chooses
+abbrev pub link_of : Network → Draw → LinkId
+link_of network draw = record { 0 = draw.place % length network.link }
+
+-- the way that the second word chooses: up where its highest bit is 0
+abbrev pub way_of : Draw → Way
+way_of draw = if nat_lt draw.place (2 ^ 31) then Up else Down
+
+-- the channel that the second word chooses: a where it is even
+abbrev pub channel_of : Draw → Channel
+channel_of draw = if draw.place % 2 == 0 then A else B
+
+-- the rate that the third word chooses, from -rho to rho
+abbrev pub rate_of : Network → Draw → Ppb
+rate_of network draw = record { 0 = pos (draw.size % (2 * network.rho + 1)) -ℤ pos network.rho }
+
+-- the wire delay that the third word chooses, from the link's wire to that and its jitter
+abbrev pub wire_of : Link → Draw → Units
+wire_of link draw = record { 0 = link.wire.0 +ℤ pos (draw.size % (amount link.jitter + 1)) }
+
+-- the hold that the third word chooses, up to the link's
+abbrev pub hold_of : Link → Draw → Units
+hold_of link draw = units_of (draw.size % (amount link.hold + 1))

@@ -1,5 +1,0 @@
-use Rattle.{lens.specs.draw.svg.Clocks.{ends_with, is_among}, std.{proofs.Common.{◌≡◌, take}, specs.Prelude.{None, fold}}}
-use Rattle.lens.proofs.draw.svg.clock.Clocks.ends.Given as goal
-
-abbrev pub invariant-clocks : goal.invariant-clocks
-invariant-clocks l = l.ends ≡ fold (λ ends told. ends_with ends (is_among l.self.broken told.device) told) None (take l.told-index l.self.told)

@@ -1,8 +1,0 @@
-use Rattle.{lens.specs.draw.svg.Lanes.beside, std.proofs.Common.{◌≡◌, ◌≤◌, take}}
-use Rattle.lens.proofs.draw.svg.lanes.beside.Given as goal
-
-abbrev pub invariant-devices : goal.invariant-devices
-invariant-devices l = record {
-  counted : l.count ≡ beside l.rank (take l.device-index l.devices);
-  few : l.count ≤ l.device-index;
-}

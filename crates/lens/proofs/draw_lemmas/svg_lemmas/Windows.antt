@@ -1,9 +1,0 @@
--- The window of a row, by its entry.
-use Rattle.{lens.{proofs.why_lemmas.Windows.entry_is, specs.draw.svg.Windows.window_at}, schedule_tables.specs.{Entries.IsEntry, Windows.window_of}}
-use Rattle.{net_plan.specs.declared.network.Network.Network, schedule_tables.specs.declared.entry.Entry.Entry, std.proofs.Common.{◌≡◌, Option, Some, ap, ℕ}}
-use Rattle.std.specs.Prelude.{option_map}
-
--- the window of an entry is that of the row
-pub window_is : (network : Network) (place : ℕ) (entry : Entry) → IsEntry network place entry
-    → window_at network place ≡ Some (window_of network entry)
-window_is network place entry is = ap (λ (o : Option Entry). option_map (window_of network) o) (entry_is network place entry is)

@@ -1,5 +1,0 @@
-use Rattle.lens.specs.flows.counts.PartLists.{AreFlowsBefore}
-use Rattle.lens.proofs.flows.counts.flows.push_flows.Given as goal
-
-abbrev pub invariant-devices : goal.invariant-devices
-invariant-devices l = AreFlowsBefore l.network l.vl.0 0 l.fn.flows.items → AreFlowsBefore l.network l.vl.0 l.place l.flows.items

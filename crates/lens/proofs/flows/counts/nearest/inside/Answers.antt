@@ -1,5 +1,0 @@
-use Rattle.{lens.proofs.flows_lemmas.counts_lemmas.Leasts.inside_least, std.proofs.Common.{pos, rules}}
-use Rattle.lens.proofs.flows.counts.nearest.inside.Goals as goal
-
-pub returns : goal.returns
-returns c = inside_least c.args.window (pos c.args.place) _ _ (search rules) (search rules)

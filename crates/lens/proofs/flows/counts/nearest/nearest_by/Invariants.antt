@@ -1,5 +1,0 @@
-use Rattle.{lens.{proofs.flows_lemmas.counts_lemmas.Leasts.IsInsideBefore, specs.flows.counts.Nearest.TellsLeast}, std.proofs.Common.pos}
-use Rattle.lens.proofs.flows.counts.nearest.nearest_by.Given as goal
-
-abbrev pub invariant-rows : goal.invariant-rows
-invariant-rows l = TellsLeast (IsInsideBefore l.network l.flow l.link (pos l.place) l.row) l.nearest

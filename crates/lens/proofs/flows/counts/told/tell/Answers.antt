@@ -1,5 +1,0 @@
-use Rattle.lens.proofs.flows.counts.told.tell.Goals as goal
-
-pub returns-clause-told : goal.returns-clause-told
-returns-clause-told c befallen hs known =
-    record { fates = c.count_fates.ensures befallen hs known; deliveries = c.count_deliveries.ensures befallen hs known }

@@ -1,6 +1,0 @@
-use Rattle.{lens.proofs.slack_lemmas.Singles.sender_first, std.proofs.Common.rules}
-use Rattle.lens.proofs.slack.bounds.coming_bound.Goals as goal
-
-pub returns-then-eq-clause-tightest : goal.returns-then-eq-clause-tightest
-returns-then-eq-clause-tightest c =
-    sender_first c.args.network.now c.args.row c.entry_of-entry.result c.found.result c.entry_of-entry.ensures.is (search rules) (search rules)

@@ -1,9 +1,0 @@
-use Rattle.{lens.proofs.slack_lemmas.Ones.beta_same, net_plan.specs.Bounds.IsBeta, std.proofs.{Common.{◌≡◌, arith, subst, sym}, lemmas.Int.ints}}
-use Rattle.lens.proofs.slack.bounds.errors_of.Goals as goal
-
-pub returns-clause-value : goal.returns-clause-value
-returns-clause-value c beta is =
-    let network = c.args.plan.now.network.now in
-    let same : beta ≡ c.beta_amount.result =
-    beta_same network c.requires.tree beta c.beta_amount.result is (subst (IsBeta network) (sym c.beta_amount.ensures.value) c.requires.beta) in
-    omega (arith, ints, same, c.amount.ensures.whole, c.gamma.ensures, c.amount-2.ensures.value)

@@ -1,8 +1,0 @@
-use Rattle.{lens.{proofs.slack_lemmas.Keeping.Below, specs.slack.{Bounds.IsGapBound, Keeping.IsSmall, Tightest.IsFirstTightest}}, std.specs.Prelude.IfSome}
-use Rattle.lens.proofs.slack.bounds.gap_bound.Given as goal
-
-abbrev pub invariant-earlier : goal.invariant-earlier
-invariant-earlier l = record {
-  so_far : IsFirstTightest (Below (IsGapBound l.network l.row) l.number) l.best;
-  small : IfSome l.best IsSmall;
-}

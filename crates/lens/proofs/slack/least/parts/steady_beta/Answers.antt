@@ -1,9 +1,0 @@
-use Rattle.{lens.proofs.slack_lemmas.SmallBeta.beta_small, net_plan.specs.Bounds.IsBeta, std.proofs.Common.{arith, subst, ℤ}}
-use Rattle.lens.proofs.slack.least.parts.steady_beta.Goals as goal
-
-pub returns-clause-bound : goal.returns-clause-bound
-returns-clause-bound c =
-    let n = c.args.network.now in
-    let most =
-    beta_small n c.requires.range c.requires.tree c.amount-2.result (subst (λ (z : ℤ). IsBeta n z) c.amount-2.ensures.whole c.beta.ensures) in
-    omega (arith, most)

@@ -1,5 +1,0 @@
-use Rattle.lens.proofs.slack_lemmas.Taken.{ArePushed}
-use Rattle.lens.proofs.slack.measuring.push_spots.Given as goal
-
-abbrev pub invariant-spots : goal.invariant-spots
-invariant-spots l = ArePushed l.plan.network.now l.measure l.number l.fn.findings.items l.findings.items

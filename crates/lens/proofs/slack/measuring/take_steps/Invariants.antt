@@ -1,5 +1,0 @@
-use Rattle.{lens.proofs.slack_lemmas.Taken.StandBefore, std.specs.Prelude.drop}
-use Rattle.lens.proofs.slack.measuring.take_steps.Given as goal
-
-abbrev pub invariant-steps : goal.invariant-steps
-invariant-steps l = StandBefore l.plan.network.now l.steps (drop l.step-index l.steps) l.findings.items

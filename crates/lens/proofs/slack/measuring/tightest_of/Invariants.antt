@@ -1,8 +1,0 @@
-use Rattle.{lens.{proofs.slack_lemmas.Keeping.Below, specs.slack.{Keeping.IsSmall, Spots.IsFoundAt, Tightest.IsFirstTightest}}, std.specs.Prelude.IfSome}
-use Rattle.lens.proofs.slack.measuring.tightest_of.Given as goal
-
-abbrev pub invariant-spots : goal.invariant-spots
-invariant-spots l = record {
-  so_far : IsFirstTightest (Below (IsFoundAt l.plan.network.now l.measure) l.number) l.best;
-  small : IfSome l.best IsSmall;
-}

@@ -1,9 +1,0 @@
-use Rattle.{lens.specs.{declared.slack.step.Step.Step, slack.Answer.{IsFileAnswer, IsSlackOf}}, tte_forms.specs.{Answering.AnswersOne, Putting.shown_by}}
-use Rattle.std.proofs.Common.{List, subst}
-use Rattle.lens.proofs.slack.slacking.slack_of_rule.Goals as goal
-
-pub returns-clause-general : goal.returns-clause-general
-returns-clause-general g c =
-    let shown = shown_by g.K.Sink in
-    subst (λ (steps : List Step). AnswersOne (IsFileAnswer (IsSlackOf steps)) (g.A.Source.left c.args.source.now) c.slack_by.result (shown c.args.out.now)
-    (shown c.slack_by.new.out)) c.steps_of.ensures c.slack_by.ensures.general

@@ -1,8 +1,0 @@
-use Rattle.{lens.specs.why.Grounds.{row_of, window_ground}, std.{proofs.{Common.{◌∙◌, ap, rules, ℤ}, lemmas.Int.to_z-of_z}, specs.Int.w128}}
-use Rattle.lens.proofs.why.ground.taken.Goals as goal
-
-pub returns : goal.returns
-returns c befallen hs known =
-    c.window_on.ensures
-    ∙ ap (λ (z : ℤ). window_ground c.args.network.now z (row_of c.args.network.now c.args.vl c.args.link))
-    (to_z-of_z w128 c.position_at-at.result (search rules) ∙ c.position_at-at.ensures befallen hs known)

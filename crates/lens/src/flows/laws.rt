@@ -1,6 +1,0 @@
-ghost use Rattle.lens.specs.flows.Laws.{NoneIsMissing};
-
-/// In the answer for a report of an accepted network no frame that is owed is missing.
-pub fn flows_law()
-    ensures { NoneIsMissing }
-{}

@@ -1,0 +1,31 @@
+-- Nothing that is owed is missing.
+use Rattle.{audit_law.specs.events.Readings.scenario_under, lens_flows.specs.Answer.{IsMissing, IsMissingAt}, net_plan.specs.declared.network.Network.Network}
+use Rattle.{lens_flows.{proofs.counts_lemmas.Orders.all_none, specs.counts.Ordered.{AreTimes, IsCountOf}}, tte_audit.proofs.reports_lemmas.Safely.report_well}
+use Rattle.{lens_flows.specs.Laws.NoneIsMissing, run_law.specs.declared.note.Note.Note, schedule_tables.specs.Rules.KeepsRules, tte_units.specs.Amount.amount}
+use Rattle.{lens_flows.specs.declared.{counts.told.FlowTold.FlowTold, judge.flow.Flow.Flow}, std.proofs.Common.{◌<◌, ◌∷◌, ◌≡◌, List, [], inl, refl, ℕ}}
+use Rattle.{run_law.specs.records.Happenings.happenings, tte_audit.specs.reports.Reports.IsReportOf, tte_units.specs.declared.units.Units.Units}
+use Rattle.tte_audit.specs.Report.{events_of}
+
+none_counted : (IsSo : ℕ → Type 0) (n : ℕ) → ((t : ℕ) → IsSo t → ⊥) → IsCountOf IsSo n → n ≡ 0
+none_counted IsSo n none ([], are, is) = is
+none_counted IsSo n none (t ∷ ts, are, is) = absurd (none t (are.each t (inl refl)))
+
+none_at : (network : Network) (octets : List ℕ) (ns : List Note) (end : Units) (flow : Flow) (t : ℕ) → KeepsRules network → IsReportOf network octets ns end
+    → IsMissingAt (scenario_under network (events_of ns)) (happenings network ns) (amount end) flow t → ⊥
+none_at network octets ns end flow t rules r m =
+    let d = (report_well network octets ns end rules r).safe.delivery flow.vl flow.of_vl m.cycle flow.device m.owed.owed in
+    m.none d.delivery d.link d.cause d.there d.is
+
+pub missing_none : (network : Network) (octets : List ℕ) (ns : List Note) (end : Units) (one : FlowTold) → KeepsRules network
+    → IsReportOf network octets ns end → IsMissing network ns end one 0
+missing_none network octets ns end one rules r = (
+  [],
+  all_none (IsMissingAt (scenario_under network (events_of ns)) (happenings network ns) (amount end) one.flow) (λ t u. t < u)
+      (λ t. none_at network octets ns end one.flow t rules r),
+  refl,
+)
+
+pub none_is_missing : NoneIsMissing
+none_is_missing network octets ns end a rules r answer one i =
+    none_counted (IsMissingAt (scenario_under network (events_of ns)) (happenings network ns) (amount end) one.flow) (answer.missing one)
+    (λ t. none_at network octets ns end one.flow t rules r) (answer.counted one i)

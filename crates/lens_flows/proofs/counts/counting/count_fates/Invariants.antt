@@ -1,0 +1,13 @@
+use Rattle.lens_flows.{proofs.counts_lemmas.Fated.{AreCountsUpTo, AreUpTo}, specs.judge.Courses.{IsCourse, scenario_of}}
+use Rattle.{net_plan.specs.declared.event.Event.Event, run_law.specs.records.Happenings.Happening, std.proofs.Common.{◌-◌, ◌^◌, ◌≤◌, List}}
+use Rattle.lens_flows.proofs.counts.counting.count_fates.Given as goal
+
+-- the cycles that have begun are counted, and no count is above the time
+abbrev pub invariant-begun : goal.invariant-begun
+invariant-begun l =
+    (l.after ≤ 2 ^ 60) × AreUpTo l.after l.counts
+    × ((befallen : List Event) (hs : List Happening) → IsCourse befallen hs l.course
+    → AreCountsUpTo (scenario_of l.course befallen) hs l.course.until l.flow l.after l.counts)
+
+abbrev pub decreases-begun : goal.decreases-begun
+decreases-begun l = l.course.until - l.after

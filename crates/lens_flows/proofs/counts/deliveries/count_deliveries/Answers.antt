@@ -1,0 +1,37 @@
+use Rattle.std.proofs.{Common.{◌<◌, ◌^◌, ◌∙◌, ◌≡◌, List, ap, arith, length, rules, subst, sym, take, ℕ}, Math.Seq.take-length, lemmas.List.take_more}
+use Rattle.lens_flows.proofs.counts_lemmas.Sums.{few_counted, next_delivered, none_delivered, taken_short}
+use Rattle.lens_flows.specs.{counts.Deliveries.AreDeliveries, declared.counts.deliveries.Delivery.Delivery, judge.Courses.scenario_of}
+use Rattle.lens_flows.proofs.counts.deliveries.count_deliveries.Goals as goal
+
+pub one_more-counted-requires-clause-few : goal.one_more-counted-requires-clause-few
+one_more-counted-requires-clause-few c =
+    let some = c.requires.known in
+    let s = scenario_of c.args.course.now some.0 in
+    let few = few_counted s some.1 (take c.deliveries.delivery-index c.args.deliveries.now) c.args.flow.now c.deliveries.counted
+    (c.deliveries.invariant some.0 some.1 some.2) in
+    let short = taken_short c.deliveries.delivery-index c.args.deliveries.now in
+    let total = few.0 in
+    let by_a = few.1 in
+    let by_b = few.2 in
+    let all : length c.args.deliveries.now < 2 ^ 63 = search rules in
+    record { total = omega (arith, total, short, all); by_a = omega (arith, by_a, short, all); by_b = omega (arith, by_b, short, all) }
+
+pub deliveries-init : goal.deliveries-init
+deliveries-init c befallen hs known = none_delivered (scenario_of c.args.course.now befallen) hs c.args.flow.now
+
+pub deliveries-preserved : goal.deliveries-preserved
+deliveries-preserved c befallen hs known =
+    let s = scenario_of c.args.course.now befallen in
+    let ds = c.args.deliveries.now in
+    let n = c.deliveries.delivery-index in
+    subst (λ (xs : List Delivery). AreDeliveries s hs xs c.args.flow.now c.one_more-counted.result) (sym (take_more ds n _ c.deliveries-test.true))
+    (next_delivered c.args.course.now befallen hs (take n ds) _ c.args.flow.now c.deliveries.counted c.one_more-counted.result known
+    (c.deliveries.invariant befallen hs known) c.one_more-counted.ensures)
+
+pub returns : goal.returns
+returns c befallen hs known =
+    let s = scenario_of c.args.course.now befallen in
+    let ds = c.args.deliveries.now in
+    let whole : take c.deliveries.delivery-index ds ≡ ds =
+    ap (λ (i : ℕ). take i ds) (omega (arith, c.deliveries-test.false, c.deliveries.auto.delivery-index-end)) ∙ take-length ds in
+    subst (λ (xs : List Delivery). AreDeliveries s hs xs c.args.flow.now c.deliveries.counted) whole (c.deliveries.invariant befallen hs known)

@@ -1,0 +1,11 @@
+use Rattle.{lens_flows.proofs.counts_lemmas.FlowParts.next_vl, net_plan.specs.declared.tables.Device.Device, std.proofs.Common.{List, ap, arith, length}}
+use Rattle.lens_flows.proofs.counts.flows.push_flows.Goals as goal
+
+pub devices-preserved : goal.devices-preserved
+devices-preserved c before = c.in_ok-push_flow.ensures (c.devices.invariant before)
+
+pub returns : goal.returns
+returns c before =
+    let e = ap (λ (devices : List Device). length devices) c.as_slice-place-end.ensures in
+    let h = c.devices-test.false in
+    next_vl c.args.network.now c.args.vl.0 c.devices.place c.devices.flows.items (omega (arith, h, e)) (c.devices.invariant before)

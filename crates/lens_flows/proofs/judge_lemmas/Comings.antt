@@ -1,0 +1,46 @@
+-- When a clock reaches a value where its device is synchronised.
+pub use Rattle.audit_sweep.proofs.unpaid_lemmas.dispatches_lemmas.Hands.{when_true}
+pub use Rattle.audit_sweep.proofs.unpaid_lemmas.dispatches_lemmas.RowFacts.{reached_later as not_at_first}
+use Rattle.{lens_flows.specs.judge.Fates.{HasComeInStep, ReachesInStep}, sync_state.specs.declared.state.State.TheVariants.Synchronised}
+use Rattle.{lens_flows.specs.judge.Times.{IsFirstTime, NoneWithin}, run_law.specs.{records.Happenings.{Happening, up_to}, scenario.Scenarios.Scenario}}
+use Rattle.{net_plan.specs.declared.ids.DeviceId.DeviceId, run_law.specs.device.LocalClocks.Reaches, std.specs.Prelude.{◌↔◌, IsTrue, MatchBool}}
+use Rattle.{run_law.specs.{device.States.state_after, law.Safety.ReachesPlace}, tte_units.specs.Amount.amount}
+use Rattle.std.proofs.{Common.{◌*◌, ◌+◌, ◌<◌, ◌≡◌, ◌≤◌, Bool, List, ap, arith, false, inl, inr, pos, refl, subst, true, ℕ}, lemmas.Bool.{cases_lt, false≢true}}
+
+pub none_in_step : (s : Scenario) (hs : List Happening) (device : DeviceId) (cycle place after before last : ℕ) → last ≤ before
+    → NoneWithin (ReachesPlace s hs device cycle place) after before → NoneWithin (ReachesInStep s hs device cycle place) after last
+none_in_step s hs device cycle place after before last le none t lt early r = none t lt (omega (arith, early, le)) r.reaches
+
+-- the first time, where the device is not synchronised at it
+pub passed_in_step : (s : Scenario) (hs : List Happening) (device : DeviceId) (cycle place after until time : ℕ)
+    → IsFirstTime (ReachesPlace s hs device cycle place) after until time
+    → (state_after s (up_to time hs) device ≡ Synchronised → ⊥) → NoneWithin (ReachesInStep s hs device cycle place) after (time + 1)
+passed_in_step s hs device cycle place after until time first out t lt early r =
+    elim (cases_lt t time) [
+      | inl less ↦ first.none_before t lt less r.reaches
+      | inr more ↦
+          let same : t ≡ time = omega (arith, early, more) in
+          out (subst (λ (x : ℕ). state_after s (up_to x hs) device ≡ Synchronised) same r.synchronised)
+    ]
+
+-- where it has come to none behind time 0, it has come to none
+pub not_come : (s : Scenario) (hs : List Happening) (device : DeviceId) (cycle place before : ℕ)
+    → NoneWithin (ReachesInStep s hs device cycle place) 0 before → HasComeInStep s hs device cycle place before → ⊥
+not_come s hs device cycle place before none come =
+    none come.time (not_at_first s hs device (pos (cycle * amount s.network.cycle + place)) come.time come.reaches.reaches) come.early come.reaches
+
+-- ---- the answer
+
+-- it came to the place before the time
+abbrev pub Comes : Scenario → List Happening → DeviceId → ℕ → ℕ → ℕ → Type 0
+Comes s hs device cycle place before = (time : ℕ) × (time < before) × ReachesInStep s hs device cycle place time
+
+pub has_come : (s : Scenario) (hs : List Happening) (device : DeviceId) (cycle place before : ℕ)
+    → Comes s hs device cycle place before → HasComeInStep s hs device cycle place before
+has_come s hs device cycle place before w = record { time = w.0; early = w.1; reaches = w.2 }
+
+pub tells_come : (s : Scenario) (hs : List Happening) (device : DeviceId) (cycle place before : ℕ) (r : Bool)
+    → MatchBool r (Comes s hs device cycle place before) (NoneWithin (ReachesInStep s hs device cycle place) 0 before)
+    → IsTrue r ↔ HasComeInStep s hs device cycle place before
+tells_come s hs device cycle place before true w = (λ e. has_come s hs device cycle place before w, λ come. refl)
+tells_come s hs device cycle place before false none = (λ e. absurd (false≢true e), λ come. absurd (not_come s hs device cycle place before none come))

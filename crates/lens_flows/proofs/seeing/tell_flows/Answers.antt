@@ -1,0 +1,48 @@
+use Rattle.{lens_flows.proofs.{AllTold.{all_told, flows_each}, Reading.{deliveries_soon, end_soon}}, run_law.specs.records.Happenings.happenings}
+use Rattle.{lens_flows.specs.counts.FlowLists.AreFlows, std.specs.Prelude.{All, unsigned_abs}, tte_units.specs.{Amount.amount, declared.units.Units.Units}}
+use Rattle.{lens_flows.specs.declared.counts.deliveries.Delivery.Delivery, std.proofs.Common.{◌^◌, ◌∙◌, ◌≡◌, ◌≤◌, List, ap, arith, rules, subst, sym, ℤ}}
+use Rattle.{std.{proofs.lemmas.Int.to_z-of_z, specs.Int.w64}, tte_audit.specs.Report.events_of}
+use Rattle.lens_flows.proofs.seeing.tell_flows.Goals as goal
+
+pub flows_of-requires : goal.flows_of-requires
+flows_of-requires c = c.requires.report.2.range
+
+pub tell_all-requires-clause-fit : goal.tell_all-requires-clause-fit
+tell_all-requires-clause-fit c =
+    let some = c.requires.report in
+    let read = c.requires.events some.0 some.1 some.2 in
+    let seen = c.in_ok-seen.ensures some.0 some.1 some.2 in
+    let soon = end_soon c.args.network.now c.args.report.now.octets some.0 some.1 some.2 in
+    let until = c.unsigned_abs-until.ensures.value ∙ ap (λ (z : ℤ). unsigned_abs z) (to_z-of_z w64 c.args.read.now.end.0 (search rules))
+    ∙ ap (λ (u : Units). amount u) read.end in
+    record { range = some.2.range; standing = seen.standing; timely = omega (arith, until, soon) }
+
+pub tell_all-requires-clause-known : goal.tell_all-requires-clause-known
+tell_all-requires-clause-known c =
+    let some = c.requires.report in
+    let read = c.requires.events some.0 some.1 some.2 in
+    let seen = c.in_ok-seen.ensures some.0 some.1 some.2 in
+    (events_of some.0, happenings c.args.network.now some.0, record { remembers = read.history; stands = seen.standings })
+
+pub tell_all-requires-clause-flows : goal.tell_all-requires-clause-flows
+tell_all-requires-clause-flows c =
+    let network = c.args.network.now in
+    flows_each network c.as_slice-all.result.now (subst (AreFlows network) (sym c.as_slice-all.ensures.value) c.in_ok-flows.ensures)
+
+pub tell_all-requires-clause-timely : goal.tell_all-requires-clause-timely
+tell_all-requires-clause-timely c =
+    let some = c.requires.report in
+    let seen = c.in_ok-seen.ensures some.0 some.1 some.2 in
+    subst (λ (ds : List Delivery). All (λ (d : Delivery). d.time ≤ 2 ^ 60) ds) (sym (c.as_slice-deliveries.ensures.value ∙ seen.deliveries))
+    (deliveries_soon c.args.network.now c.args.report.now.octets some.0 some.1 some.2)
+
+pub returns : goal.returns
+returns c notes end r =
+    let network = c.args.network.now in
+    let read = c.requires.events notes end r in
+    let seen = c.in_ok-seen.ensures notes end r in
+    let until = c.unsigned_abs-until.ensures.value ∙ ap (λ (z : ℤ). unsigned_abs z) (to_z-of_z w64 c.args.read.now.end.0 (search rules))
+    ∙ ap (λ (u : Units). amount u) read.end in
+    all_told network notes end c.unsigned_abs-until.result c.as_slice-deliveries.result.now c.as_slice-all.result.now c.in_ok-told.told.items
+    (subst (AreFlows network) (sym c.as_slice-all.ensures.value) c.in_ok-flows.ensures) until (c.as_slice-deliveries.ensures.value ∙ seen.deliveries)
+    (c.in_ok-told.ensures (events_of notes) (happenings network notes) (record { remembers = read.history; stands = seen.standings }))

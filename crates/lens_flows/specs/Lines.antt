@@ -1,0 +1,44 @@
+-- The line of a flow.
+--
+--     flow VL to DEVICE owed N delivered N by a N by b N missing N
+--         not owed receiver N sender N end N nearest early E late L
+--
+-- Behind `nearest` stands `none` where no frame is delivered within its window.
+use Rattle.std.specs.Prelude.{ℕ, List, ◌++◌, codes, decimal, Option, Some, None}
+use Rattle.lens_flows.specs.declared.counts.{counting.FateCounts.FateCounts, nearest.Nearest.Nearest}
+use Rattle.lens_flows.specs.declared.{counts.told.FlowTold.FlowTold, judge.flow.Flow.Flow}
+use Rattle.net_plan.specs.{Belonging.{device_name, vl_name}, declared.network.Network.Network}
+
+-- a word and a number, each behind a space
+unfoldable pub count_words : List ℕ → ℕ → List ℕ
+count_words word n = codes " " ++ (word ++ (codes " " ++ decimal n))
+
+-- the flow's virtual link and its receiver
+unfoldable pub flow_words : Network → Flow → List ℕ
+flow_words network flow =
+    codes "flow " ++ (vl_name network flow.vl ++ (codes " to " ++ device_name network flow.device))
+
+-- in how many cycles delivery is owed, how many frames are delivered, and how many on each channel, and how many that
+-- are owed are not delivered
+unfoldable pub delivered_words : FlowTold → ℕ → List ℕ
+delivered_words t missing =
+    count_words (codes "owed") t.fates.owed
+    ++ (count_words (codes "delivered") t.deliveries.total
+    ++ (count_words (codes "by a") t.deliveries.by_a
+    ++ (count_words (codes "by b") t.deliveries.by_b ++ count_words (codes "missing") missing)))
+
+-- in how many cycles it is not owed, by what keeps it from being owed
+unfoldable pub unowed_words : FateCounts → List ℕ
+unowed_words fates =
+    count_words (codes "not owed receiver") fates.receiver
+    ++ (count_words (codes "sender") fates.sender ++ count_words (codes "end") fates.end)
+
+-- the least distances of deliveries to the two ends of their windows
+abbrev pub nearest_words : Option Nearest → List ℕ
+nearest_words None = codes " nearest none"
+nearest_words (Some n) = codes " nearest" ++ (count_words (codes "early") n.early ++ count_words (codes "late") n.late)
+
+unfoldable pub flow_line : Network → FlowTold → ℕ → List ℕ
+flow_line network t missing =
+    flow_words network t.flow
+    ++ (delivered_words t missing ++ (unowed_words t.fates ++ (nearest_words t.deliveries.nearest ++ codes "\n")))

@@ -1,0 +1,164 @@
+//! The deliveries of a flow.
+
+ghost use Rattle.std.specs.Prelude.{◌≡◌, ◌<◌, ◌^◌, ◌≤◌, All, List};
+ghost use Rattle.lens_flows.specs.counts.Deliveries.{AreDeliveries, IsBelow, IsOneMore, delivery_by, is_channel, is_of};
+ghost use Rattle.{lens_flows.specs.counts.Deliveries.{is_on, one_if}, run_law.specs.scenario.Devices.channel_of_link};
+ghost use Rattle.lens_flows.specs.judge.{Courses.{IsCourse, IsFit, IsSomeCourse, scenario_of}, Flows.IsFlow};
+ghost use Rattle.{net_plan.specs.declared.event.Event.Event, run_law.specs.records.Happenings.Happening};
+
+use crate::counts::Nearest;
+use crate::counts::nearest::{nearer, nearest_by, place_at};
+use crate::judge::{Course, Flow};
+use net_plan::{DeviceId, LinkId, Network, VlId};
+use pcf_values::Channel;
+use run_law::NoteBody;
+
+/// A delivery that a record tells.
+#[derive(Clone, Copy, PartialEq, Eq)]
+pub struct Delivery {
+    /// The world time, in units of 2^-16 ns.
+    pub time: u64,
+    pub device: DeviceId,
+    /// The link that the frame came by.
+    pub link: LinkId,
+    pub vl: VlId,
+}
+
+/// What is counted of the deliveries of a flow.
+#[derive(Clone, Copy, PartialEq, Eq)]
+pub struct Deliveries {
+    pub total: u64,
+    pub by_a: u64,
+    pub by_b: u64,
+    /// How near they came to the ends of their windows.
+    pub nearest: Option<Nearest>,
+}
+
+/// What a record at the time says of a delivery, if it says that a frame is delivered.
+pub(crate) fn delivery_by(time: u64, body: &NoteBody) -> Option<Delivery>
+    ensures { result ≡ delivery_by time body.now }
+{
+    match body {
+        NoteBody::Delivered {
+            device,
+            link,
+            vl,
+            ..
+        } => Some(Delivery {
+            time,
+            device: *device,
+            link: *link,
+            vl: *vl,
+        }),
+        NoteBody::Event { .. }
+        | NoteBody::Arrived { .. }
+        | NoteBody::Permanent { .. }
+        | NoteBody::Compressed { .. }
+        | NoteBody::Sent { .. }
+        | NoteBody::Corrected { .. }
+        | NoteBody::State { .. }
+        | NoteBody::Left { .. }
+        | NoteBody::Lost { .. }
+        | NoteBody::TtSent { .. }
+        | NoteBody::Accepted { .. }
+        | NoteBody::Dropped { .. }
+        | NoteBody::Clock { .. } => None,
+    }
+}
+
+/// Counts those of the deliveries that are of the flow. Their times are at most 2^60.
+pub(crate) fn count_deliveries(
+    course: &Course<'_>,
+    flow: &Flow,
+    deliveries: &[Delivery],
+) -> Deliveries
+    requires fit { IsFit course.now }
+    requires known { IsSomeCourse course.now }
+    requires flow { IsFlow course.now.network.now flow.now }
+    requires timely { All (λ d. d.time ≤ 2 ^ 60) deliveries.now }
+    ensures { (befallen : List Event) (hs : List Happening) → IsCourse befallen hs course.now
+        → AreDeliveries (scenario_of course.now befallen) hs deliveries.now flow.now result }
+{
+    let mut counted = Deliveries {
+        total: 0,
+        by_a: 0,
+        by_b: 0,
+        nearest: None,
+    };
+    'deliveries: for delivery in deliveries {
+        counted = one_more(counted, course, flow, delivery);
+    }
+    counted
+}
+
+/// The same with the delivery, if it is of the flow.
+fn one_more(
+    counted: Deliveries,
+    course: &Course<'_>,
+    flow: &Flow,
+    delivery: &Delivery,
+) -> Deliveries
+    requires fit { IsFit course.now }
+    requires known { IsSomeCourse course.now }
+    requires flow { IsFlow course.now.network.now flow.now }
+    requires few { IsBelow (2 ^ 63) counted }
+    requires timely { delivery.now.time ≤ 2 ^ 60 }
+    ensures { IsOneMore course.now flow.now delivery.now counted result }
+{
+    if !is_of(flow, delivery) {
+        return counted;
+    }
+    let place = place_at(course, flow.device, delivery.time);
+    let found = nearest_by(course.network, flow, delivery.link, place);
+    Deliveries {
+        total: counted.total + 1,
+        by_a: counted.by_a + one_if(is_on(course.network, Channel::A, delivery)),
+        by_b: counted.by_b + one_if(is_on(course.network, Channel::B, delivery)),
+        nearest: nearer(counted.nearest, found),
+    }
+}
+
+/// One if it is so.
+fn one_if(so: bool) -> u64
+    ensures value { result ≡ one_if so }
+    ensures most { result ≤ 1 }
+{
+    if so { 1 } else { 0 }
+}
+
+/// Is the delivery one of the flow?
+fn is_of(flow: &Flow, delivery: &Delivery) -> bool
+    ensures { result ≡ is_of flow.now delivery.now }
+{
+    delivery.device.0 == flow.device.0 && delivery.vl.0 == flow.vl.0
+}
+
+/// Did it come on the channel?
+fn is_on(network: &Network, channel: Channel, delivery: &Delivery) -> bool
+    ensures { result ≡ is_on network.now channel delivery.now }
+{
+    is_channel(channel, channel_of_link(network, delivery.link))
+}
+
+/// Is it the channel?
+fn is_channel(channel: Channel, found: Option<Channel>) -> bool
+    ensures { result ≡ is_channel channel found }
+{
+    match (channel, found) {
+        (Channel::A, Some(Channel::A)) | (Channel::B, Some(Channel::B)) => true,
+        (Channel::A, Some(Channel::B)) | (Channel::B, Some(Channel::A)) => false,
+        (Channel::A, None) | (Channel::B, None) => false,
+    }
+}
+
+/// The channel of a link, which is that of its parent.
+fn channel_of_link(network: &Network, link: LinkId) -> Option<Channel>
+    ensures { result ≡ channel_of_link network.now link }
+{
+    let found = network.link.as_slice().get(link.0 as usize)?;
+    network
+        .device
+        .as_slice()
+        .get(found.parent.0 as usize)?
+        .channel
+}

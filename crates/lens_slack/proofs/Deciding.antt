@@ -1,0 +1,180 @@
+-- A rule that is an inequality is kept at a place exactly where all its bounds there are.
+use Rattle.lens_slack.specs.Bounds.{IsBoundAt, begin_bound, calc_bound, clear_time, correction_bound, end_bound, entering_bound, found, gap_bound}
+use Rattle.{lens_slack.specs.{Laws.BoundsDecide, Tightest.IsEnough}, net_plan.specs.Bounds.gamma_of, tte_units.specs.{Amount.amount, OctetTime.octet_time}}
+use Rattle.lens_slack.specs.{Spots.{IsSpotAt, device_of, row_of}, declared.spot.{Beside.TheVariants.{Before, Behind}, Finding.Finding, Spot.Spot}}
+use Rattle.{net_plan.specs.declared.ids.RowId.RowId, std.proofs.lemmas.Bool.{cases_lt, le-ltb, lt-ltb}, tte_units.specs.declared.speed.Speed.Speed}
+use Rattle.{net_plan.specs.declared.{network.Network.Network, tables.Link.Link}, schedule_tables.specs.declared.{entry.Entry.Entry, rule.Rule.Rule}}
+use Rattle.{schedule_checker.proofs.Selection.{all_of_each, each_of_all}, schedule_tables.specs.Schedule.{ComesInTime, EndsInCycle, IsClearBefore, StandsApart}}
+use Rattle.{schedule_tables.specs.Delays.{CorrectionFits, DelaysFit, ErrorsSettle, PrecisionFits, ScheduleFits, delay_on, pcf_port_time}, std.specs.Prelude.◌↔◌}
+use Rattle.{schedule_tables.specs.Windows.{port_time, window_end}, std.proofs.Common.{◌*◌, ◌+◌, ◌<◌, ◌≡◌, ◌≤◌, ◌⊎◌, arith, inl, inr, refl, subst, sym, ℕ}}
+use Rattle.schedule_tables.specs.declared.rule.Rule.TheVariants.{Correction, Delays, Forwarding, Precision, ScheduleStart, Settling, Spacing, WindowEnds}
+use Rattle.lens_slack.specs.declared.spot.Spot.TheVariants as spots
+use Rattle.tte_units.specs.declared.speed.Speed.TheVariants as speeds
+
+-- what is the same is as much
+enough_by : (f g : Finding) → f ≡ g → IsEnough g → IsEnough f
+enough_by f g same enough = subst IsEnough (sym same) enough
+
+-- the bounds of a rule at a place are kept
+abbrev AreEnough : Network → Rule → ℕ → Type 0
+AreEnough network rule place = (spot : Spot) (n : ℕ) (f : Finding) → IsSpotAt rule place spot → IsBoundAt network spot n f → IsEnough f
+
+-- a bound of a spot that is this one
+moved : (network : Network) (n : ℕ) (f : Finding) (spot other : Spot) → spot ≡ other → IsBoundAt network spot n f → IsBoundAt network other n f
+moved network n f spot other same bound = subst (λ (s : Spot). IsBoundAt network s n f) same bound
+
+-- ---- the rules of times
+
+delays : (network : Network) (place : ℕ) → DelaysFit network place ↔ AreEnough network Delays place
+delays network place = (
+  λ kept spot n f at bound. let b = (moved network n f spot _ at.1 bound).1 in
+      enough_by f _ b.is (kept b.beta at.0 b.links b.is_beta b.member b.path),
+  λ all beta channel links is member path.
+      all (spots.Path (device_of place) channel) 0 (found (spots.Path (device_of place) channel) (amount network.dmax) (beta + delay_on network links))
+      (channel, refl) (refl, record { beta = beta; is_beta = is; links = links; member = member; path = path; is = refl }),
+)
+
+settling : (network : Network) (place : ℕ) → ErrorsSettle network ↔ AreEnough network Settling place
+settling network place = (
+  λ kept spot n f at bound. let b = (moved network n f spot _ at bound).1 in enough_by f _ b.is (kept b.beta b.is_beta),
+  λ all beta is.
+      all spots.Settled 0 (found spots.Settled (amount network.settled) (8 * beta + 12 * gamma_of network + 40 * amount network.grain)) refl
+      (refl, record { beta = beta; is_beta = is; is = refl }),
+)
+
+precision : (network : Network) (place : ℕ) → PrecisionFits network ↔ AreEnough network Precision place
+precision network place = (
+  λ kept spot n f at bound. elim (moved network n f spot spots.Precision at bound) [
+    | inl errors ↦ let b = errors.1 in enough_by f _ b.is (kept.errors b.beta b.is_beta)
+    | inr calc ↦ enough_by f (calc_bound network) calc.1 kept.calc
+  ],
+  λ all. record {
+    errors = λ beta is.
+        all spots.Precision 0
+        (found spots.Precision (amount network.precision) (amount network.settled + 16 * beta + 24 * gamma_of network + 80 * amount network.grain))
+        refl (inl (refl, record { beta = beta; is_beta = is; is = refl }));
+    calc = all spots.Precision 1 (calc_bound network) refl (inr (refl, refl));
+  },
+)
+
+correction : (network : Network) (place : ℕ) → CorrectionFits network ↔ AreEnough network Correction place
+correction network place = (
+  λ kept spot n f at bound. enough_by f (correction_bound network) (moved network n f spot spots.Correction at bound).1 kept,
+  λ all. all spots.Correction 0 (correction_bound network) refl (refl, refl),
+)
+
+start : (network : Network) (place : ℕ) → ScheduleFits network ↔ AreEnough network ScheduleStart place
+start network place =
+    let begins : Link → Type 0 = λ link.
+    amount network.correction + amount network.dmax + 4 * amount network.precision + pcf_port_time link ≤ amount network.tt_start in (
+      λ kept spot n f at bound. elim at [
+        | inl begin ↦
+            let b = moved network n f spot spots.Begin begin bound in
+            enough_by f (begin_bound network b.0) b.2 (each_of_all begins network.link kept.begins n b.0 b.1)
+        | inr end ↦ enough_by f (end_bound network) (moved network n f spot spots.End end bound).1 kept.ends
+      ],
+      λ all. record {
+        begins = all_of_each begins network.link (λ k link there. all spots.Begin k (begin_bound network link) (inl refl) (link, there, refl));
+        ends = all spots.End 0 (end_bound network) (inr refl) (refl, refl);
+      },
+    )
+
+windows : (network : Network) (place : ℕ) → EndsInCycle network place ↔ AreEnough network WindowEnds place
+windows network place = (
+  λ kept spot n f at bound. let b = (moved network n f spot _ at bound).1 in enough_by f _ b.2 (kept b.0 b.1),
+  λ all entry is.
+      all (spots.Window (row_of place)) 0
+      (found (spots.Window (row_of place)) (amount network.cycle) (window_end network entry + 4 * amount network.precision)) refl
+      (refl, (entry, is, refl)),
+)
+
+-- ---- rows of one port
+
+-- a frame occupies its port for some time
+some_time : (speed : Speed) (octets : ℕ) → 1 ≤ (octets + 24) * octet_time speed
+some_time speeds.Mbit100 octets = omega arith
+some_time speeds.Gbit1 octets = omega arith
+
+gap_before : (network : Network) (row : RowId) (earlier entry : Entry) → amount entry.row.offset < amount earlier.row.offset
+    → gap_bound network row earlier entry ≡ record {
+      spot = spots.Gap row;
+      has = amount earlier.row.offset;
+      wants = clear_time network entry;
+      beside = Before earlier.row.vl;
+    }
+gap_before network row earlier entry less = rw (lt-ltb (amount entry.row.offset) (amount earlier.row.offset) less) refl
+
+gap_behind : (network : Network) (row : RowId) (earlier entry : Entry) → amount earlier.row.offset ≤ amount entry.row.offset
+    → gap_bound network row earlier entry ≡ record {
+      spot = spots.Gap row;
+      has = amount entry.row.offset;
+      wants = clear_time network earlier;
+      beside = Behind earlier.row.vl;
+    }
+gap_behind network row earlier entry most = rw (le-ltb (amount entry.row.offset) (amount earlier.row.offset) most) refl
+
+gap_kept : (network : Network) (row : RowId) (earlier entry : Entry) → IsClearBefore network earlier entry ⊎ IsClearBefore network entry earlier
+    → IsEnough (gap_bound network row earlier entry)
+gap_kept network row earlier entry clear = grind (arith, cases_lt, enough_by, gap_before, gap_behind, some_time)
+
+gap_clear : (network : Network) (row : RowId) (earlier entry : Entry) → IsEnough (gap_bound network row earlier entry)
+    → IsClearBefore network earlier entry ⊎ IsClearBefore network entry earlier
+gap_clear network row earlier entry enough = grind (arith, cases_lt, gap_before, gap_behind)
+
+gaps : (network : Network) (place : ℕ) → StandsApart network place ↔ AreEnough network Spacing place
+gaps network place = (
+  λ kept spot n f at bound.
+      let b = moved network n f spot (spots.Gap (row_of place)) at bound in
+      enough_by f _ b.is (gap_kept network (row_of place) b.earlier b.entry
+      (kept n b.earlier b.entry b.before b.is_earlier b.is_entry b.of_port.same_link b.of_port.same_way b.of_port.coincide)),
+  λ all k earlier entry before is_earlier is_entry same_link same_way coincide.
+      gap_clear network (row_of place) earlier entry
+      (all (spots.Gap (row_of place)) k (gap_bound network (row_of place) earlier entry) refl (record {
+        earlier = earlier;
+        entry = entry;
+        before = before;
+        is_earlier = is_earlier;
+        is_entry = is_entry;
+        of_port = record { same_link = same_link; same_way = same_way; coincide = coincide };
+        is = refl;
+      })),
+)
+
+-- ---- when rows come
+
+comings : (network : Network) (place : ℕ) → ComesInTime network place ↔ AreEnough network Forwarding place
+comings network place = (
+  λ kept spot n f at bound. elim (moved network n f spot (spots.Coming (row_of place)) at bound) [
+    | inl sender ↦ let b = sender.1 in enough_by f _ b.is (kept.from_sender b.entry b.is_entry b.sender)
+    | inr b ↦
+        let behind = kept.from_switch n b.entering b.entry b.is_entering b.is_entry b.enters.same_vl b.no_sender b.enters.enters in
+        enough_by f _ b.is (omega (arith, behind))
+  ],
+  λ all. record {
+    from_sender = λ entry is sender.
+        all (spots.Coming (row_of place)) 0 (found (spots.Coming (row_of place)) (amount entry.row.offset) (amount network.tt_start)) refl
+        (inl (refl, record { entry = entry; is_entry = is; sender = sender; is = refl }));
+    from_switch = λ k entering entry is_entering is_entry same_vl no_sender enters.
+        let enough = all (spots.Coming (row_of place)) k (entering_bound network (row_of place) entering entry) refl (inr (record {
+          entering = entering;
+          entry = entry;
+          is_entering = is_entering;
+          is_entry = is_entry;
+          no_sender = no_sender;
+          enters = record { same_vl = same_vl; enters = enters };
+          is = refl;
+        })) in
+        omega (arith, enough);
+  },
+)
+
+pub bounds_decide : BoundsDecide
+bounds_decide network Delays place is = delays network place
+bounds_decide network Settling place is = settling network place
+bounds_decide network Precision place is = precision network place
+bounds_decide network Correction place is = correction network place
+bounds_decide network ScheduleStart place is = start network place
+bounds_decide network WindowEnds place is = windows network place
+bounds_decide network Spacing place is = gaps network place
+bounds_decide network Forwarding place is = comings network place
+bounds_decide network other place is = absurd is

@@ -1,0 +1,8 @@
+use Rattle.{lens_slack.{proofs.Keeping.Below, specs.{Bounds.IsBeginBound, Keeping.IsSmall, Tightest.IsFirstTightest}}, std.specs.Prelude.IfSome}
+use Rattle.lens_slack.proofs.bounds.begin_bound.Given as goal
+
+abbrev pub invariant-links : goal.invariant-links
+invariant-links l = record {
+  so_far : IsFirstTightest (Below (IsBeginBound l.network) l.link-index) l.best;
+  small : IfSome l.best IsSmall;
+}

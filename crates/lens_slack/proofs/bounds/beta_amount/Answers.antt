@@ -1,0 +1,10 @@
+use Rattle.{lens_slack.proofs.SmallBeta.beta_small, net_plan.specs.Bounds.IsBeta, std.proofs.Common.{subst, sym, ℤ}}
+use Rattle.lens_slack.proofs.bounds.beta_amount.Goals as goal
+
+pub returns-clause-value : goal.returns-clause-value
+returns-clause-value c = sym c.amount.ensures.whole
+
+pub returns-clause-bound : goal.returns-clause-bound
+returns-clause-bound c =
+    beta_small c.args.network.now c.requires.range c.requires.tree c.amount.result
+    (subst (λ (z : ℤ). IsBeta c.args.network.now z) c.amount.ensures.whole c.requires.beta)

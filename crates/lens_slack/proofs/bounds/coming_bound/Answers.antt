@@ -1,0 +1,6 @@
+use Rattle.{lens_slack.proofs.Singles.sender_first, std.proofs.Common.rules}
+use Rattle.lens_slack.proofs.bounds.coming_bound.Goals as goal
+
+pub returns-then-eq-clause-tightest : goal.returns-then-eq-clause-tightest
+returns-then-eq-clause-tightest c =
+    sender_first c.args.network.now c.args.row c.entry_of-entry.result c.found.result c.entry_of-entry.ensures.is (search rules) (search rules)

@@ -1,0 +1,11 @@
+use Rattle.{lens_slack.proofs.Singles.settled_first, schedule_checker.proofs.BetaLemmas.beta_is_whole, std.proofs.Common.{rules, subst}}
+use Rattle.{net_plan.specs.Bounds.IsBeta, tte_units.specs.Amount.amount}
+use Rattle.lens_slack.proofs.bounds.settled_bound.Goals as goal
+
+pub returns-clause-tightest : goal.returns-clause-tightest
+returns-clause-tightest c =
+    let plan = c.args.plan.now in
+    let network = plan.network.now in
+    let is = c.requires.beta in
+    settled_first network c.errors_of.result (amount plan.beta) (subst (IsBeta network) (beta_is_whole network plan.beta is) is) c.errors_of.ensures.value
+    c.found.result (search rules)

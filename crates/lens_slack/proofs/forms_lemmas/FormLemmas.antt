@@ -1,0 +1,150 @@
+-- The form of words by their count and their first, and the numbers of forms.
+use Rattle.lens_slack.specs.declared.forms.form.Form.{Form, TheVariants.{Draw, DrawWhole, Events, Flows, Least, Slack, SlackOf, Why}}
+use Rattle.lens_slack.specs.forms.Forms.{IsFormInRange, IsInequality, draw_form, events_form, five_words_form, form_of, four_words_form, greatest_number}
+use Rattle.lens_slack.specs.forms.Forms.{inequality_spelled, network_form, part_form, slack_of_form, three_words_form, why_form}
+use Rattle.{schedule_tables.specs.declared.rule.Rule.Rule, std.proofs.Common.{◌∷◌, ◌≡◌, ◌≤◌, Bool, List, None, Some, [], arith, false, length, refl, true, ℕ}}
+use Rattle.{std.proofs.lemmas.Bool.Decides.nat_tests, trace_text.specs.Numbers.number_up_to}
+use Rattle.std.specs.{Option.{option_and_then, option_map}, Prelude.{◌==◌, IfSome, Option, bytes_eq, codes, if◌then◌else◌, nat_le, slice_get}}
+use Rattle.tte_forms.{proofs.FormLemmas.{form_in_range as storm_in_range}, specs.declared.form.Form.TheVariants.Storm}
+use Rattle.tte_forms.specs.Forms.{IsFormInRange as IsStormInRange, cycles_spelled, form_of as storm_form_of, if_some, seed_spelled, storm_form}
+
+pub no_words : (words : List (List ℕ)) → length words ≤ 0 → None ≡ form_of words
+unfolding form_of
+no_words [] e = refl
+no_words (a ∷ words) e = absurd (omega (arith, e))
+
+pub other_count : (words : List (List ℕ)) → (length words ≡ 2 → ⊥) → (length words ≡ 3 → ⊥) → (length words ≡ 4 → ⊥) → (length words ≡ 5 → ⊥)
+    → None ≡ form_of words
+unfolding form_of
+other_count [] h k l m = refl
+other_count (a ∷ []) h k l m = refl
+other_count (a ∷ b ∷ []) h k l m = absurd (h refl)
+other_count (a ∷ b ∷ c ∷ []) h k l m = absurd (k refl)
+other_count (a ∷ b ∷ c ∷ d ∷ []) h k l m = absurd (l refl)
+other_count (a ∷ b ∷ c ∷ d ∷ e ∷ []) h k l m = absurd (m refl)
+other_count (a ∷ b ∷ c ∷ d ∷ e ∷ x ∷ rest) h k l m = refl
+
+pub network_words : (words : List (List ℕ)) (command : List ℕ) → length words ≡ 2 → slice_get words 0 ≡ Some command → form_of words ≡ network_form command
+unfolding form_of
+network_words [] command n e = absurd (omega arith)
+network_words (a ∷ []) command n e = absurd (omega arith)
+network_words (a ∷ b ∷ []) command n e = let same : a ≡ command = cc in rw same refl
+network_words (a ∷ b ∷ c ∷ rest) command n e = absurd (omega arith)
+
+pub three_words : (words : List (List ℕ)) (command third : List ℕ) → length words ≡ 3 → slice_get words 0 ≡ Some command → slice_get words 2 ≡ Some third
+    → form_of words ≡ three_words_form command third
+unfolding form_of
+three_words [] command third n e f = absurd (omega arith)
+three_words (a ∷ []) command third n e f = absurd (omega arith)
+three_words (a ∷ b ∷ []) command third n e f = absurd (omega arith)
+three_words (a ∷ b ∷ c ∷ []) command third n e f =
+    grind arith
+three_words (a ∷ b ∷ c ∷ d ∷ rest) command third n e f = absurd (omega arith)
+
+pub four_words : (words : List (List ℕ)) (command third last : List ℕ) → length words ≡ 4 → slice_get words 0 ≡ Some command
+    → slice_get words 2 ≡ Some third → slice_get words 3 ≡ Some last → form_of words ≡ four_words_form command third last
+unfolding form_of
+four_words [] command third last n e f g = absurd (omega arith)
+four_words (a ∷ []) command third last n e f g = absurd (omega arith)
+four_words (a ∷ b ∷ []) command third last n e f g = absurd (omega arith)
+four_words (a ∷ b ∷ c ∷ []) command third last n e f g = absurd (omega arith)
+four_words (a ∷ b ∷ c ∷ d ∷ []) command third last n e f g =
+    grind arith
+four_words (a ∷ b ∷ c ∷ d ∷ x ∷ rest) command third last n e f g = absurd (omega arith)
+
+pub five_words : (words : List (List ℕ)) (command fourth last : List ℕ) → length words ≡ 5 → slice_get words 0 ≡ Some command
+    → slice_get words 3 ≡ Some fourth → slice_get words 4 ≡ Some last → form_of words ≡ five_words_form command fourth last
+unfolding form_of
+five_words [] command fourth last n e f g = absurd (omega arith)
+five_words (a ∷ []) command fourth last n e f g = absurd (omega arith)
+five_words (a ∷ b ∷ []) command fourth last n e f g = absurd (omega arith)
+five_words (a ∷ b ∷ c ∷ []) command fourth last n e f g = absurd (omega arith)
+five_words (a ∷ b ∷ c ∷ d ∷ []) command fourth last n e f g = absurd (omega arith)
+five_words (a ∷ b ∷ c ∷ d ∷ e' ∷ []) command fourth last n e f g =
+    grind arith
+five_words (a ∷ b ∷ c ∷ d ∷ e' ∷ x ∷ rest) command fourth last n e f g = absurd (omega arith)
+
+-- ---- the numbers of forms
+
+-- those of a storm are in their ranges
+storm_range : (seed cycles : List ℕ) → IfSome (storm_form seed cycles) IsStormInRange
+unfolding storm_form_of
+storm_range seed cycles = storm_in_range (codes "storm" ∷ [] ∷ seed ∷ cycles ∷ [])
+
+-- and so are those of its events
+events_by : (seed cycles : Option ℕ) → IfSome (option_and_then (λ s. option_map (λ c. Storm s c) cycles) seed) IsStormInRange
+    → IfSome (option_and_then (λ s. option_map (λ c. Events s c) cycles) seed) IsFormInRange
+events_by None cycles range = tt
+events_by (Some s) None range = tt
+events_by (Some s) (Some c) range = range
+
+-- the number of a record is not 0
+some_number : (n : ℕ) (b : Bool) → (b ≡ false → 1 ≤ n) → IfSome (option_map (λ m. Why m) (if b then None else Some n)) IsFormInRange
+some_number n true some = tt
+some_number n false some = some refl
+
+why_by : (o : Option ℕ) → IfSome (option_map (λ m. Why m) (option_and_then if_some o)) IsFormInRange
+why_by None = tt
+why_by (Some n) = some_number n (n == 0) (λ e. grind (arith, nat_tests, e))
+
+four_words_by : (b d : Bool) (why events : Option Form) → IfSome why IsFormInRange → IfSome events IsFormInRange
+    → IfSome (if b then why else if d then events else None) IsFormInRange
+four_words_by true d why events h k = h
+four_words_by false true why events h k = k
+four_words_by false false why events h k = tt
+
+-- a rule that is spelled is an inequality
+spelled_by : (b : Bool) (rule : Rule) (o : Option Rule) → IsInequality rule → IfSome o IsInequality → IfSome (if b then Some rule else o) IsInequality
+spelled_by true rule o is others = is
+spelled_by false rule o is others = others
+
+inequality_by : (text : List ℕ) → IfSome (inequality_spelled text) IsInequality
+inequality_by text =
+    grind (arith, spelled_by)
+
+network_by : (slack least : Bool) → IfSome (if slack then Some Slack else if least then Some Least else None) IsFormInRange
+network_by true least = tt
+network_by false true = tt
+network_by false false = tt
+
+slack_of_by : (o : Option Rule) → IfSome o IsInequality → IfSome (option_map (λ r. SlackOf r) o) IsFormInRange
+slack_of_by None is = tt
+slack_of_by (Some rule) is = is
+
+three_words_by : (slack draw flows : Bool) (of : Option Form) → IfSome of IsFormInRange
+    → IfSome (if slack then of else if draw then Some DrawWhole else if flows then Some Flows else None) IsFormInRange
+three_words_by true draw flows of h = h
+three_words_by false true flows of h = tt
+three_words_by false false true of h = tt
+three_words_by false false false of h = tt
+
+-- a part of a run ends no earlier than it begins
+part_by : (from to : ℕ) (b : Bool) → (b ≡ true → from ≤ to) → IfSome (if b then Some (Draw from to) else None) IsFormInRange
+part_by from to true later = later refl
+part_by from to false later = tt
+
+draw_by : (from to : Option ℕ) → IfSome (option_and_then (λ f. option_and_then (part_form f) to) from) IsFormInRange
+draw_by None to = tt
+draw_by (Some f) None = tt
+draw_by (Some f) (Some t) = part_by f t (nat_le f t) (λ e. grind (arith, nat_tests, e))
+
+five_words_by : (b : Bool) (draw : Option Form) → IfSome draw IsFormInRange → IfSome (if b then draw else None) IsFormInRange
+five_words_by true draw h = h
+five_words_by false draw h = tt
+
+-- the numbers of the form of words lie in their ranges
+pub form_in_range : (words : List (List ℕ)) → IfSome (form_of words) IsFormInRange
+unfolding form_of
+form_in_range [] = tt
+form_in_range (command ∷ []) = tt
+form_in_range (command ∷ network ∷ []) = network_by (bytes_eq command (codes "slack")) (bytes_eq command (codes "least"))
+form_in_range (command ∷ network ∷ third ∷ []) =
+    three_words_by (bytes_eq command (codes "slack")) (bytes_eq command (codes "draw")) (bytes_eq command (codes "flows")) (slack_of_form third)
+    (slack_of_by (inequality_spelled third) (inequality_by third))
+form_in_range (command ∷ network ∷ third ∷ last ∷ []) =
+    four_words_by (bytes_eq command (codes "why")) (bytes_eq command (codes "events")) (why_form last) (events_form third last)
+    (why_by (number_up_to greatest_number last)) (events_by (seed_spelled third) (cycles_spelled last) (storm_range third last))
+form_in_range (command ∷ network ∷ report ∷ fourth ∷ last ∷ []) =
+    five_words_by (bytes_eq command (codes "draw")) (draw_form fourth last)
+    (draw_by (number_up_to greatest_number fourth) (number_up_to greatest_number last))
+form_in_range (command ∷ network ∷ report ∷ fourth ∷ last ∷ more ∷ words) = tt

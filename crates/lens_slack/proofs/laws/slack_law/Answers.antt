@@ -1,0 +1,11 @@
+use Rattle.lens_slack.proofs.{Accepting.accepts, Deciding.bounds_decide, Refusing.refuses}
+use Rattle.lens_slack.proofs.laws.slack_law.Goals as goal
+
+pub returns-clause-bounds : goal.returns-clause-bounds
+returns-clause-bounds c = bounds_decide
+
+pub returns-clause-accepts : goal.returns-clause-accepts
+returns-clause-accepts c = accepts
+
+pub returns-clause-refuses : goal.returns-clause-refuses
+returns-clause-refuses c = refuses

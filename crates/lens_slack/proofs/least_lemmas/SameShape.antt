@@ -1,0 +1,110 @@
+-- The rules of a network's shape are kept with other times too, where no start is beyond settled.
+use Rattle.{lens_slack.{proofs.least_lemmas.SamePlan.first_path_to, specs.declared.least.times.Times.Times}, net_plan.specs.declared.network.Network.Network}
+use Rattle.{lens_slack.specs.least.{Parts.IsStartOf, Times.with_times}, tte_units.{proofs.general_lemmas.Lists.in_all, specs.declared.units.Units.Units}}
+use Rattle.{net_plan.proofs.Amounts.amount_within, std.{proofs.lemmas.Int.ints, specs.Prelude.{◌≤ℤ◌, IfSome}}, tte_units.specs.Amount.{amount, units_of}}
+use Rattle.{net_plan.specs.Ranges.{IsDeviceInRange, IsInRange, IsWithin}, std.proofs.Common.{◌^◌, ◌≡◌, ◌≤◌, None, Option, Some, ap, arith, pos, ℕ, ℤ}}
+use Rattle.{net_plan.specs.Rules.{HasOneCm, IsConnected, IsWithinLimits, MastersSuffice}, schedule_tables.specs.declared.rule.Rule.TheVariants.WindowEnds}
+use Rattle.{net_plan.specs.declared.tables.Device.Device, schedule_checker.proofs.Selection.all_of_each, schedule_tables.specs.Rules.{IsKept, KeepsBelow}}
+use Rattle.schedule_tables.specs.declared.rule.Rule.TheVariants.{BothChannels, CompressionMasters, Connections, Correction, Delays, DevicesDiffer, Forwarding}
+use Rattle.schedule_tables.specs.declared.rule.Rule.TheVariants.{Joints, Limits, LinksDiffer, LinksOnce, Masters, Periods, Precision, RowsOfDevice}
+use Rattle.schedule_tables.specs.declared.rule.Rule.TheVariants.{ScheduleStart, Senders, Settling, Sources, Spacing, Targets, VlIdsDiffer, VlNamesDiffer}
+use Rattle.std.specs.List.{All}
+
+-- a start that is no more than so much
+abbrev some_units : ℤ → Option Units
+some_units z = Some (record { 0 = z })
+
+start_within : (most : ℕ) (o : Option Units) → IfSome o (IsWithin 0 (2 ^ 40)) → ((k : ℕ) → o ≡ Some (units_of k) → k ≤ most) → IfSome o (λ s. s.0 ≤ℤ pos most)
+start_within most None range all = tt
+start_within most (Some s) range all =
+    let whole = (amount_within 0 (2 ^ 40) s range).0 in
+    let few = all (amount s) (ap some_units whole) in
+    omega (arith, ints, whole, few)
+
+module _ (n : Network) (t : Times) (range : IsInRange n) (most : (k : ℕ) → IsStartOf n k → k ≤ t.settled) where
+  abbrev m : Network
+  m = with_times n t
+
+  starts : All (λ (d : Device). IfSome d.start (λ s. s.0 ≤ℤ pos t.settled)) n.device
+  starts =
+      all_of_each (λ (d : Device). IfSome d.start (λ s. s.0 ≤ℤ pos t.settled)) n.device
+      (λ place d at.
+      start_within t.settled d.start (in_all IsDeviceInRange n.device place d range.devices at).start (λ k is. most k (place, d, at, is)))
+
+  limits : (part : ℕ) → IsWithinLimits n part → IsWithinLimits m part
+  limits part h = record { devices = h.devices; links = h.links; vls = h.vls; rows = h.rows }
+
+  cms : (part : ℕ) → HasOneCm n part → HasOneCm m part
+  cms part h = record { on_a = h.on_a; on_b = h.on_b }
+
+  connected : (i : ℕ) → IsConnected n i → IsConnected m i
+  connected i h = record {
+    ends = h.ends;
+    relays = h.relays;
+    paths = λ c member. let p = h.paths c member in (p.0, p.1, first_path_to n t c (record { 0 = i }) p.0 p.2);
+  }
+
+  masters : (part : ℕ) → MastersSuffice n part → MastersSuffice m part
+  masters part h = record {
+    least = h.least;
+    most = h.most;
+    members = h.members;
+    threshold_least = h.threshold_least;
+    threshold_most = h.threshold_most;
+    begin_on = h.begin_on;
+    starts = λ at. starts;
+    one_faulty = h.one_faulty;
+  }
+
+  pub shape_with : KeepsBelow 8 n → KeepsBelow 8 m
+  shape_with shape Limits less = λ part. limits part (shape Limits less part)
+  shape_with shape DevicesDiffer less = shape DevicesDiffer less
+  shape_with shape LinksDiffer less = shape LinksDiffer less
+  shape_with shape CompressionMasters less = λ part. cms part (shape CompressionMasters less part)
+  shape_with shape Joints less = shape Joints less
+  shape_with shape Connections less = λ i. connected i (shape Connections less i)
+  shape_with shape Masters less = λ part. masters part (shape Masters less part)
+  shape_with shape Delays less = absurd (omega (arith, less))
+  shape_with shape Settling less = absurd (omega (arith, less))
+  shape_with shape Precision less = absurd (omega (arith, less))
+  shape_with shape Correction less = absurd (omega (arith, less))
+  shape_with shape ScheduleStart less = absurd (omega (arith, less))
+  shape_with shape WindowEnds less = absurd (omega (arith, less))
+  shape_with shape VlNamesDiffer less = absurd (omega (arith, less))
+  shape_with shape VlIdsDiffer less = absurd (omega (arith, less))
+  shape_with shape Periods less = absurd (omega (arith, less))
+  shape_with shape Senders less = absurd (omega (arith, less))
+  shape_with shape LinksOnce less = absurd (omega (arith, less))
+  shape_with shape Sources less = absurd (omega (arith, less))
+  shape_with shape Targets less = absurd (omega (arith, less))
+  shape_with shape Spacing less = absurd (omega (arith, less))
+  shape_with shape BothChannels less = absurd (omega (arith, less))
+  shape_with shape Forwarding less = absurd (omega (arith, less))
+  shape_with shape RowsOfDevice less = absurd (omega (arith, less))
+
+-- each rule below 12, where those below 8 are kept and the four of times
+pub rules_below : (m : Network) → KeepsBelow 8 m → IsKept Delays m → IsKept Settling m → IsKept Precision m → IsKept Correction m → KeepsBelow 12 m
+rules_below m shape delays settling precision correction Limits less = shape Limits (omega arith)
+rules_below m shape delays settling precision correction DevicesDiffer less = shape DevicesDiffer (omega arith)
+rules_below m shape delays settling precision correction LinksDiffer less = shape LinksDiffer (omega arith)
+rules_below m shape delays settling precision correction CompressionMasters less = shape CompressionMasters (omega arith)
+rules_below m shape delays settling precision correction Joints less = shape Joints (omega arith)
+rules_below m shape delays settling precision correction Connections less = shape Connections (omega arith)
+rules_below m shape delays settling precision correction Masters less = shape Masters (omega arith)
+rules_below m shape delays settling precision correction Delays less = delays
+rules_below m shape delays settling precision correction Settling less = settling
+rules_below m shape delays settling precision correction Precision less = precision
+rules_below m shape delays settling precision correction Correction less = correction
+rules_below m shape delays settling precision correction ScheduleStart less = absurd (omega (arith, less))
+rules_below m shape delays settling precision correction WindowEnds less = absurd (omega (arith, less))
+rules_below m shape delays settling precision correction VlNamesDiffer less = absurd (omega (arith, less))
+rules_below m shape delays settling precision correction VlIdsDiffer less = absurd (omega (arith, less))
+rules_below m shape delays settling precision correction Periods less = absurd (omega (arith, less))
+rules_below m shape delays settling precision correction Senders less = absurd (omega (arith, less))
+rules_below m shape delays settling precision correction LinksOnce less = absurd (omega (arith, less))
+rules_below m shape delays settling precision correction Sources less = absurd (omega (arith, less))
+rules_below m shape delays settling precision correction Targets less = absurd (omega (arith, less))
+rules_below m shape delays settling precision correction Spacing less = absurd (omega (arith, less))
+rules_below m shape delays settling precision correction BothChannels less = absurd (omega (arith, less))
+rules_below m shape delays settling precision correction Forwarding less = absurd (omega (arith, less))
+rules_below m shape delays settling precision correction RowsOfDevice less = absurd (omega (arith, less))

@@ -1,0 +1,111 @@
+-- The forms of the words of `lens`.
+use Rattle.std.specs.{Option.{option_and_then, option_map}, Str.bytes_eq}
+use Rattle.std.specs.Prelude.{◌-◌, ◌^◌, ◌∷◌, ◌≤◌, List, None, Option, Some, [], codes, if◌then◌else◌, nat_le, ℕ}
+use Rattle.lens_slack.specs.declared.forms.form.Form.TheVariants.{Draw, DrawWhole, Events, Flows, Least, Slack, SlackOf}
+use Rattle.{lens_slack.specs.declared.forms.form.Form.{Form, TheVariants.Why}, trace_text.specs.Numbers.number_up_to}
+use Rattle.schedule_tables.specs.declared.rule.Rule.TheVariants.{Correction, Delays, Forwarding, Precision}
+use Rattle.schedule_tables.specs.declared.rule.Rule.{Rule, TheVariants.{ScheduleStart, Settling, Spacing, WindowEnds}}
+use Rattle.tte_forms.specs.Forms.{cycles_spelled, if_some, most_cycles, seed_spelled}
+
+-- a network alone: `slack NETWORK` and `least NETWORK`
+abbrev pub network_form : List ℕ → Option Form
+network_form command =
+    if bytes_eq command (codes "slack") then Some Slack
+    else if bytes_eq command (codes "least") then Some Least
+    else None
+
+-- the rule of this number, if it is an inequality
+abbrev pub inequality_spelled : List ℕ → Option Rule
+inequality_spelled text =
+    if bytes_eq text (codes "8") then Some Delays
+    else if bytes_eq text (codes "9") then Some Settling
+    else if bytes_eq text (codes "10") then Some Precision
+    else if bytes_eq text (codes "11") then Some Correction
+    else if bytes_eq text (codes "12") then Some ScheduleStart
+    else if bytes_eq text (codes "13") then Some WindowEnds
+    else if bytes_eq text (codes "21") then Some Spacing
+    else if bytes_eq text (codes "23") then Some Forwarding
+    else None
+
+-- a network and a rule: `slack NETWORK RULE`
+abbrev pub slack_of_form : List ℕ → Option Form
+slack_of_form rule = option_map (λ r. SlackOf r) (inequality_spelled rule)
+
+-- the greatest number of a time, of a record and of a seed
+abbrev pub greatest_number : ℕ
+greatest_number = 2 ^ 64 - 1
+
+-- a command with three words: `slack NETWORK RULE`, `draw NETWORK REPORT` or `flows NETWORK REPORT`
+abbrev pub three_words_form : List ℕ → List ℕ → Option Form
+three_words_form command third =
+    if bytes_eq command (codes "slack") then slack_of_form third
+    else if bytes_eq command (codes "draw") then Some DrawWhole
+    else if bytes_eq command (codes "flows") then Some Flows
+    else None
+
+-- the number of a record, at least 1, in decimal without leading zeros
+abbrev pub number_spelled : List ℕ → Option ℕ
+number_spelled text = option_and_then if_some (number_up_to greatest_number text)
+
+-- a record of a report, by its number: `why NETWORK REPORT N`
+abbrev pub why_form : List ℕ → Option Form
+why_form number = option_map (λ n. Why n) (number_spelled number)
+
+-- the events of a storm, by its seed and its cycles: `events NETWORK SEED CYCLES`
+abbrev pub events_form : List ℕ → List ℕ → Option Form
+events_form seed cycles =
+    option_and_then (λ s. option_map (λ c. Events s c) (cycles_spelled cycles)) (seed_spelled seed)
+
+-- a command with four words: `why NETWORK REPORT N` or `events NETWORK SEED CYCLES`
+abbrev pub four_words_form : List ℕ → List ℕ → List ℕ → Option Form
+four_words_form command third last =
+    if bytes_eq command (codes "why") then why_form last
+    else if bytes_eq command (codes "events") then events_form third last
+    else None
+
+-- a part of a run, from a time to one that is no earlier
+abbrev pub part_form : ℕ → ℕ → Option Form
+part_form from to = if nat_le from to then Some (Draw from to) else None
+
+-- a part of a run, by its two times: `draw NETWORK REPORT FROM TO`
+abbrev pub draw_form : List ℕ → List ℕ → Option Form
+draw_form from to =
+    option_and_then (λ f. option_and_then (part_form f) (number_up_to greatest_number to))
+    (number_up_to greatest_number from)
+
+-- a command with five words
+abbrev pub five_words_form : List ℕ → List ℕ → List ℕ → Option Form
+five_words_form command fourth last = if bytes_eq command (codes "draw") then draw_form fourth last else None
+
+-- the rule says that one number is at most another
+abbrev pub IsInequality : Rule → Type 0
+IsInequality Delays = Unit {0}
+IsInequality Settling = Unit {0}
+IsInequality Precision = Unit {0}
+IsInequality Correction = Unit {0}
+IsInequality ScheduleStart = Unit {0}
+IsInequality WindowEnds = Unit {0}
+IsInequality Spacing = Unit {0}
+IsInequality Forwarding = Unit {0}
+IsInequality other = ⊥
+
+-- the rule of the form is an inequality, and its numbers lie in their ranges
+abbrev pub IsFormInRange : Form → Type 0
+IsFormInRange Slack = Unit {0}
+IsFormInRange (SlackOf rule) = IsInequality rule
+IsFormInRange Least = Unit {0}
+IsFormInRange (Why number) = 1 ≤ number
+IsFormInRange DrawWhole = Unit {0}
+IsFormInRange (Draw from to) = from ≤ to
+IsFormInRange Flows = Unit {0}
+IsFormInRange (Events seed cycles) = (1 ≤ cycles) × (cycles ≤ most_cycles)
+
+-- the form of the words
+unfoldable pub form_of : List (List ℕ) → Option Form
+form_of [] = None
+form_of (command ∷ []) = None
+form_of (command ∷ network ∷ []) = network_form command
+form_of (command ∷ network ∷ third ∷ []) = three_words_form command third
+form_of (command ∷ network ∷ third ∷ last ∷ []) = four_words_form command third last
+form_of (command ∷ network ∷ report ∷ fourth ∷ last ∷ []) = five_words_form command fourth last
+form_of (command ∷ network ∷ report ∷ fourth ∷ last ∷ more ∷ words) = None

@@ -1,0 +1,174 @@
+ghost use Rattle.std.specs.Prelude.{◌≡◌, ◌≤◌, IfSome};
+ghost use Rattle.lens_slack.specs.forms.Forms.{IsFormInRange, IsInequality, draw_form, events_form, five_words_form};
+ghost use Rattle.lens_slack.specs.forms.Forms.{form_of, four_words_form, inequality_spelled, network_form};
+ghost use Rattle.lens_slack.specs.forms.Forms.{number_spelled, slack_of_form, three_words_form, why_form};
+
+use schedule_tables::Rule;
+use tte_forms::{Words, cycles_spelled, number_up_to};
+
+/// What the words ask for.
+#[derive(Clone, Copy, PartialEq, Eq)]
+pub enum Form {
+    /// `slack NETWORK`.
+    Slack,
+    /// `slack NETWORK RULE`, of a rule that is an inequality.
+    SlackOf(Rule),
+    /// `least NETWORK`.
+    Least,
+    /// `why NETWORK REPORT N`.
+    Why {
+        /// At least 1.
+        number: u64,
+    },
+    /// `draw NETWORK REPORT`.
+    DrawWhole,
+    /// `draw NETWORK REPORT FROM TO`.
+    Draw {
+        from: u64,
+        /// No earlier than `from`.
+        to: u64,
+    },
+    /// `flows NETWORK REPORT`.
+    Flows,
+    /// `events NETWORK SEED CYCLES`.
+    Events {
+        seed: u64,
+        /// From 1 to 100,000.
+        cycles: u32,
+    },
+}
+
+/// The form of a command with a network alone.
+fn network_form(command: &str) -> Option<Form>
+    ensures form { result ≡ network_form command.now }
+    ensures range { IfSome result IsFormInRange }
+{
+    match command {
+        "slack" => Some(Form::Slack),
+        "least" => Some(Form::Least),
+        _ => None,
+    }
+}
+
+/// The inequality of this number.
+fn inequality_spelled(text: &str) -> Option<Rule>
+    ensures rule { result ≡ inequality_spelled text.now }
+    ensures inequality { IfSome result IsInequality }
+{
+    match text {
+        "8" => Some(Rule::Delays),
+        "9" => Some(Rule::Settling),
+        "10" => Some(Rule::Precision),
+        "11" => Some(Rule::Correction),
+        "12" => Some(Rule::ScheduleStart),
+        "13" => Some(Rule::WindowEnds),
+        "21" => Some(Rule::Spacing),
+        "23" => Some(Rule::Forwarding),
+        _ => None,
+    }
+}
+
+/// The form of a network and a rule.
+fn slack_of_form(rule: &str) -> Option<Form>
+    ensures form { result ≡ slack_of_form rule.now }
+    ensures range { IfSome result IsFormInRange }
+{
+    let rule = inequality_spelled(rule)?;
+    Some(Form::SlackOf(rule))
+}
+
+/// The form of a command with three words, by its first and its last.
+fn three_words_form(command: &str, third: &str) -> Option<Form>
+    ensures form { result ≡ three_words_form command.now third.now }
+    ensures range { IfSome result IsFormInRange }
+{
+    match command {
+        "slack" => slack_of_form(third),
+        "draw" => Some(Form::DrawWhole),
+        "flows" => Some(Form::Flows),
+        _ => None,
+    }
+}
+
+/// The number of a record, if the text is the decimal of one that is not 0, without leading zeros.
+fn number_spelled(text: &str) -> Option<u64>
+    ensures value { result ≡ number_spelled text.now }
+    ensures least { IfSome result (λ n. 1 ≤ n) }
+{
+    match number_up_to(u64::MAX, text)? {
+        0 => None,
+        number => Some(number),
+    }
+}
+
+/// The form of a record of a report.
+fn why_form(number: &str) -> Option<Form>
+    ensures form { result ≡ why_form number.now }
+    ensures range { IfSome result IsFormInRange }
+{
+    let number = number_spelled(number)?;
+    Some(Form::Why { number })
+}
+
+/// The form of the events of a storm.
+fn events_form(seed: &str, cycles: &str) -> Option<Form>
+    ensures form { result ≡ events_form seed.now cycles.now }
+    ensures range { IfSome result IsFormInRange }
+{
+    let seed = number_up_to(u64::MAX, seed)?;
+    let cycles = cycles_spelled(cycles)?;
+    Some(Form::Events { seed, cycles })
+}
+
+/// The form of a command with four words, by its first and its last two.
+fn four_words_form(command: &str, third: &str, last: &str) -> Option<Form>
+    ensures form { result ≡ four_words_form command.now third.now last.now }
+    ensures range { IfSome result IsFormInRange }
+{
+    match command {
+        "why" => why_form(last),
+        "events" => events_form(third, last),
+        _ => None,
+    }
+}
+
+/// The form of a part of a run.
+fn draw_form(from: &str, to: &str) -> Option<Form>
+    ensures form { result ≡ draw_form from.now to.now }
+    ensures range { IfSome result IsFormInRange }
+{
+    let from = number_up_to(u64::MAX, from)?;
+    let to = number_up_to(u64::MAX, to)?;
+    if from <= to {
+        Some(Form::Draw { from, to })
+    } else {
+        None
+    }
+}
+
+/// The form of a command with five words, by its first and its last two.
+fn five_words_form(command: &str, fourth: &str, last: &str) -> Option<Form>
+    ensures form { result ≡ five_words_form command.now fourth.now last.now }
+    ensures range { IfSome result IsFormInRange }
+{
+    if command == "draw" {
+        draw_form(fourth, last)
+    } else {
+        None
+    }
+}
+
+/// The form of the words, if they have one.
+pub fn read_form(words: &Words) -> Option<Form>
+    ensures form { result ≡ form_of words.now }
+    ensures range { IfSome result IsFormInRange }
+{
+    let command = words.get(0)?;
+    match words.len() {
+        2 => network_form(command),
+        3 => three_words_form(command, words.get(2)?),
+        4 => four_words_form(command, words.get(2)?, words.get(3)?),
+        5 => five_words_form(command, words.get(3)?, words.get(4)?),
+        _ => None,
+    }
+}

@@ -1,0 +1,98 @@
+-- What holds of pictures.
+use Rattle.std.specs.Prelude.{◌≡◌, ◌≢◌, ℕ, ◌+◌, ◌<◌, ◌≤◌, true, List, [], ◌∷◌, ◌++◌, All, Some, filter, fold, length}
+use Rattle.std.specs.Prelude.{map, slice_get, take}
+use Rattle.{lens_svg.specs.Bodies.{look_of, scene_of}, run_law.specs.{declared.note.Note.Note, records.Causes.cause_of}}
+use Rattle.lens_svg.specs.{Lanes.start_of, Layout.holds, Plan.Plan}
+use Rattle.lens_svg.specs.{Layers.{is_gone, point_of, way_of}, declared.{element.Element.Element, mark.Ground.Ground}}
+use Rattle.lens_svg.specs.{Sketching.{fits, grounds_behind, moment, plan_of}, declared.element.Element.TheVariants.Way}
+use Rattle.{lens_svg.specs.declared.{layout.Span.Span, mark.Mark.Mark}, net_plan.specs.declared.network.Network.Network}
+
+-- the times of the records never fall, and none is before this time
+abbrev pub NeverFall : ℕ → List Note → Type 0
+NeverFall time [] = Unit {0}
+NeverFall time (note ∷ notes) = (time ≤ moment note) × NeverFall (moment note) notes
+
+-- where the instant of the first mark is earlier, it stands at least 26 pixels further to the left
+abbrev pub StandsLeft : Mark → Mark → Type 0
+StandsLeft earlier later = earlier.time < later.time → earlier.x + 26 ≤ later.x
+
+-- so does each mark to those behind it
+abbrev pub AreApart : List Mark → Type 0
+AreApart [] = Unit {0}
+AreApart (mark ∷ marks) = All (StandsLeft mark) marks × AreApart marks
+
+-- in a picture that fits, the marks stand in the order of their instants
+abbrev pub KeepsOrder : Type 0
+KeepsOrder =
+    (network : Network) (span : Span) (notes : List Note) → NeverFall 0 notes → fits (plan_of network span notes) ≡ true
+    → AreApart (plan_of network span notes).marks
+
+-- the records in the span
+abbrev pub shown : Span → List Note → List Note
+shown span notes = filter (λ note. holds span (moment note)) notes
+
+-- the mark tells of the record its number, its time, its device, its cause and what it draws
+pub record IsMarkOf (network : Network) (mark : Mark) (note : Note) : Type 0 where
+  pub number : mark.number ≡ note.number
+  pub time : mark.time ≡ moment note
+  pub device : mark.device ≡ scene_of network note.body
+  pub cause : mark.cause ≡ cause_of note.body
+  pub look : mark.look ≡ look_of note.body
+
+-- there is one for each of these records, in their order
+abbrev pub AreMarksOf : Network → List Mark → List Note → Type 0
+AreMarksOf network [] [] = Unit {0}
+AreMarksOf network (mark ∷ marks) (note ∷ notes) = IsMarkOf network mark note × AreMarksOf network marks notes
+AreMarksOf network marks notes = ⊥
+
+-- the numbers of the records follow each other from this one on
+abbrev pub NumbersFollow : ℕ → List Note → Type 0
+NumbersFollow number [] = Unit {0}
+NumbersFollow number (note ∷ notes) = (note.number ≡ number) × NumbersFollow (number + 1) notes
+
+-- the arrow from one mark to another
+abbrev pub arrow : Mark → Mark → Element
+arrow cause mark = Way mark.hue (is_gone mark.look) (point_of cause) (point_of mark)
+
+-- the second mark is of the record that the first one's comes from, and they are at two devices
+pub record ComesAcross (mark cause : Mark) : Type 0 where
+  pub number : cause.number ≡ mark.cause
+  pub apart : cause.device.0 ≢ mark.device.0
+
+-- the way to a mark is an arrow from that of the record that it comes from, at another device, where that is drawn; and
+-- else there is none
+pub record HasArrows (plan : Plan) : Type 0 where
+  pub each : (place : ℕ) (cause mark : Mark) → slice_get plan.marks place ≡ Some cause → ComesAcross mark cause
+      → way_of plan mark ≡ Some (arrow cause mark)
+  pub only : (mark : Mark) (element : Element) → way_of plan mark ≡ Some element
+      → (place : ℕ) × (cause : Mark) × (slice_get plan.marks place ≡ Some cause) × ComesAcross mark cause
+      × (element ≡ arrow cause mark)
+
+-- in a picture of records whose numbers follow each other and whose times never fall, there is a mark for each record
+-- in the span, and an arrow exactly where there is a cause
+abbrev pub ArrowsAreCauses : Type 0
+ArrowsAreCauses =
+    (network : Network) (span : Span) (notes : List Note) → NumbersFollow 1 notes → NeverFall 0 notes
+    → AreMarksOf network (plan_of network span notes).marks (shown span notes) × HasArrows (plan_of network span notes)
+
+-- the grounds of the lanes behind a record
+abbrev pub grounds_with : Network → List Ground → Note → List Ground
+grounds_with network grounds note = grounds_behind (look_of note.body) (scene_of network note.body).0 grounds
+
+-- behind these records, from the beginning of the run on: as each device begins, and then as its last record leaves it
+-- that says its state, or that it breaks
+abbrev pub grounds_after : Network → List Note → List Ground
+grounds_after network notes = fold (grounds_with network) (map start_of network.device) notes
+
+-- the grounds of the lanes as they are painted from a mark on, over what was there
+abbrev pub painted_with : List Ground → Mark → List Ground
+painted_with grounds mark = grounds_behind mark.look mark.device.0 grounds
+
+-- where the marks up to that of a record are painted, the lanes' grounds are those behind the records up to it
+abbrev pub LanesAreStates : Type 0
+LanesAreStates =
+    (network : Network) (span : Span) (front rest : List Note) (note : Note) → NeverFall 0 (front ++ note ∷ rest)
+    → holds span (moment note) ≡ true
+    → fold painted_with (plan_of network span (front ++ note ∷ rest)).grounds
+    (take (length (shown span (front ++ note ∷ []))) (plan_of network span (front ++ note ∷ rest)).marks)
+    ≡ grounds_after network (front ++ note ∷ [])

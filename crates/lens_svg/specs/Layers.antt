@@ -1,0 +1,72 @@
+-- The layers of a picture below its marks.
+use Rattle.std.specs.Prelude.{ℕ, ◌+◌, ◌==◌, Bool, true, false, if◌then◌else◌, Option, Some, None, slice_get}
+use Rattle.std.specs.Prelude.{option_and_then, option_map}
+use Rattle.lens_svg.specs.{Lanes.{bottom_of, y_of}, Sketching.mark_at, declared.element.Band.TheVariants.{Ground, Wait}}
+use Rattle.lens_svg.specs.{Layout.{right_of, width_of}, declared.mark.Look.{Look, TheVariants.{Gone, Turned, Waited}}}
+use Rattle.lens_svg.specs.{Plan.Plan, declared.layer.MarkLayer.{MarkLayer, TheVariants.{Ticks, Turns, Waits, Ways}}}
+use Rattle.lens_svg.specs.declared.element.{Element.{Element, TheVariants.{Bar, Opening, Rail, Tick, Way}}, Point.Point}
+use Rattle.lens_svg.specs.declared.{layer.LaneLayer.{LaneLayer, TheVariants.{Grounds, Rails}}, mark.Mark.Mark}
+use Rattle.net_plan.specs.declared.{ids.DeviceId.DeviceId, network.Network.Network}
+
+-- the beginning of the picture, which is 70 pixels higher than the lanes end
+abbrev pub opening_of : Network → Plan → Element
+opening_of network plan = Opening (width_of plan.pen) (bottom_of network + 70)
+
+-- the device at this place
+abbrev pub device_of : ℕ → DeviceId
+device_of place = record { 0 = place }
+
+-- what is drawn of the device at this place: its lane's ground where the picture begins, or its name and its lane
+abbrev pub on_lane : LaneLayer → Network → Plan → ℕ → Option Element
+on_lane Grounds network plan place =
+    let start : Point = record { x = 140; y = y_of network (device_of place) } in
+    option_map (λ shade. Bar (Ground shade) start (right_of plan.pen)) (slice_get plan.grounds place)
+on_lane Rails network plan place =
+    Some (Rail (device_of place) (y_of network (device_of place)) (right_of plan.pen))
+
+-- where a mark is
+abbrev pub point_of : Mark → Point
+point_of mark = record { x = mark.x; y = mark.y }
+
+-- the lane's ground from the mark on, where the record changes it
+abbrev pub turn_to : Look → Plan → Mark → Option Element
+turn_to (Turned shade) plan mark = Some (Bar (Ground shade) (point_of mark) (right_of plan.pen))
+turn_to look plan mark = None
+
+abbrev pub turn_of : Plan → Mark → Option Element
+turn_of plan mark = turn_to mark.look plan mark
+
+-- the instant, with its first mark
+abbrev pub tick_of : Network → Mark → Option Element
+tick_of network mark =
+    if mark.first then Some (Tick (record { x = mark.x; y = bottom_of network }) mark.time) else None
+
+-- how long the frame waited that is permanent with the mark
+abbrev pub wait_to : Look → Plan → Mark → Option Element
+wait_to Waited plan mark =
+    option_map (λ cause. Bar (Wait mark.hue) (point_of cause) mark.x) (mark_at plan.marks mark.cause)
+wait_to look plan mark = None
+
+abbrev pub wait_of : Plan → Mark → Option Element
+wait_of plan mark = wait_to mark.look plan mark
+
+-- the frame ends with the mark
+abbrev pub is_gone : Look → Bool
+is_gone Gone = true
+is_gone look = false
+
+-- the way to a mark from that of the record that it comes from, where they are at two devices
+abbrev pub way_between : Mark → Mark → Option Element
+way_between cause mark =
+    if cause.device.0 == mark.device.0 then None
+    else Some (Way mark.hue (is_gone mark.look) (point_of cause) (point_of mark))
+
+abbrev pub way_of : Plan → Mark → Option Element
+way_of plan mark = option_and_then (λ cause. way_between cause mark) (mark_at plan.marks mark.cause)
+
+-- what is drawn of the record of a mark
+abbrev pub on_mark : MarkLayer → Network → Plan → Mark → Option Element
+on_mark Turns network plan mark = turn_of plan mark
+on_mark Ticks network plan mark = tick_of network mark
+on_mark Waits network plan mark = wait_of plan mark
+on_mark Ways network plan mark = way_of plan mark

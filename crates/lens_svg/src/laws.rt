@@ -1,0 +1,17 @@
+ghost use Rattle.lens_svg.specs.Laws.{ArrowsAreCauses, KeepsOrder, LanesAreStates};
+
+/// In a picture that fits, the marks stand in the order of their instants, at least 26 pixels apart.
+pub fn order_law()
+    ensures { KeepsOrder }
+{}
+
+/// In a picture of a run there is a mark for each record, and an arrow exactly where a record comes from one at another
+/// device.
+pub fn arrows_law()
+    ensures { ArrowsAreCauses }
+{}
+
+/// The ground of each lane, from the mark of a record on, is what the records up to it leave its device in.
+pub fn lanes_law()
+    ensures { LanesAreStates }
+{}

@@ -1,0 +1,29 @@
+//! A picture of records as lines of SVG: what is drawn, and where.
+#![tactic(auto)]
+
+mod bodies;
+mod clock;
+mod element;
+mod glyphs;
+mod labels;
+mod lanes;
+mod laws;
+mod layer;
+mod layout;
+mod mark;
+mod marking;
+mod numbers;
+mod sketch;
+mod window;
+
+pub use clock::{Clocks, Ends, Told, gauge_of, spread_of};
+pub use element::{Band, Element, Point, make_element_line};
+pub use lanes::rank_in;
+pub use laws::{arrows_law, lanes_law, order_law};
+pub use layer::{LaneLayer, MarkLayer, on_lane, on_mark, opening_of};
+pub use layout::{Pen, Span};
+pub use mark::{Ground, Hue, Look, Mark};
+pub use marking::make_mark_line;
+pub use numbers::push_micros;
+pub use sketch::Sketch;
+pub use window::{Came, came_of};

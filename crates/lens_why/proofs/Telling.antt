@@ -1,0 +1,208 @@
+-- The lines of a chain put one record after another.
+use Rattle.lens_why.{proofs.Chains.{Along, along_both, along_more, along_there, none_at_zero, whole_of}, specs.Lines.{chain_lines, record_lines, told_lines}}
+use Rattle.lens_why.proofs.{Comings.{IsNoneOrThere, comes_from_earlier}, Notes.{founded_of, happening_at, none_there, note_in, note_numbered, number_of}}
+use Rattle.{lens_why.proofs.past_lemmas.Following.timely_in, net_plan.specs.declared.network.Network.Network, tte_forms.specs.declared.status.Status.Status}
+use Rattle.{lens_why.specs.{Answer.{IsWhyAnswer, chain_answer}, Records.{ComesFrom, IsRecordOf, note_at}}, tte_forms.specs.Putting.{PutFails, PutsLines, Shown}}
+use Rattle.{lens_why.specs.{Grounds.ground_of, past.Pasts.IsTimely}, run_law.specs.declared.note.Note.Note, tte_forms.proofs.Puts.PutFails-more}
+use Rattle.{lens_why.specs.declared.ground.Ground.Ground, tte_audit.specs.reports.Reports.IsReportOf, tte_forms.specs.Answering.{Ends, GivesAnswer}}
+use Rattle.{run_law.specs.records.{Causes.cause_of, Happenings.{Happening, happenings, numbered}}, tte_audit.proofs.reports_lemmas.Reports.{one_end, one_notes}}
+use Rattle.{run_law.specs.scenario.Scenarios.Scenario, std.proofs.lemmas.{Grind.flat_map-append, List.append-nil}, tte_units.specs.declared.units.Units.Units}
+use Rattle.std.proofs.Common.{◌++◌, ◌<◌, ◌∙◌, ◌∷◌, ◌≡◌, List, None, Option, Some, [], ap, append_assoc, arith, inl, inr, refl, subst, sym, ℕ}
+use Rattle.{std.specs.Prelude.option_map, tte_audit.specs.{Named.IsNamed, Report.scenario_of}}
+use Rattle.tte_forms.{proofs.Puts.{Ends-gives, PutFails-behind, PutsLines-append, PutsLines-none}, specs.declared.status.Status.TheVariants.{Done, WriteFault}}
+
+-- the lines of the records of a chain up to the one that is at hand were put
+pub record IsToldTo (network : Network) (octets : List ℕ) (first note : Note) (old now : Shown) : Type 0 where
+  pub notes : List Note
+  pub end : Units
+  pub of : IsReportOf network octets notes end
+  pub done : List Happening
+  pub at : ℕ
+  pub along : Along (happenings network notes) first.number done at
+  pub h : Happening
+  pub here : numbered (happenings network notes) at ≡ Some h
+  pub is : h.note ≡ note
+  pub puts : PutsLines (chain_lines (scenario_of network notes) (happenings network notes) done) old now
+
+pub told_none : (network : Network) (octets : List ℕ) (first : Note) (s : Shown) (notes : List Note) (end : Units) → IsReportOf network octets notes end
+    → (number : ℕ) → note_at notes number ≡ Some first → IsToldTo network octets first first s s
+told_none network octets first s notes end of number there =
+    let h = happening_at network notes number first there in
+    record {
+      notes = notes;
+      end = end;
+      of = of;
+      done = [];
+      at = number;
+      along = number_of network octets notes end of number first there;
+      h = h.0;
+      here = h.1;
+      is = h.2;
+      puts = PutsLines-none s;
+    }
+
+-- the last of some records apart
+abbrev first_of : List Happening → Happening → Happening
+first_of [] h = h
+first_of (x ∷ xs) h = x
+
+abbrev rest_of : List Happening → Happening → List Happening → List Happening
+rest_of [] h more = more
+rest_of (x ∷ xs) h more = xs ++ h ∷ more
+
+parts_of : (xs : List Happening) (h : Happening) (more : List Happening) → xs ++ h ∷ more ≡ first_of xs h ∷ rest_of xs h more
+parts_of [] h more = refl
+parts_of (x ∷ xs) h more = refl
+
+append_one : (xs : List Happening) (h : Happening) (more : List Happening) → (xs ++ h ∷ []) ++ more ≡ xs ++ h ∷ more
+append_one xs h more = append_assoc xs (h ∷ []) more
+
+not_both : (hs : List Happening) (n : ℕ) (h : Happening) → numbered hs n ≡ None → numbered hs n ≡ Some h → ⊥
+not_both hs n h none some = cc
+
+-- the lines of a chain in two parts
+lines_parts : (s : Scenario) (hs xs : List Happening) (h : Happening) (more : List Happening)
+    → chain_lines s hs (xs ++ h ∷ more) ≡ chain_lines s hs xs ++ (record_lines s hs h ++ chain_lines s hs more)
+lines_parts s hs xs h more = flat_map-append (record_lines s hs) xs (h ∷ more)
+
+module _ (network : Network) (octets : List ℕ) (first note : Note) (old now : Shown) (t : IsToldTo network octets first note old now) where
+  abbrev all : List Happening
+  all = happenings network t.notes
+
+  abbrev own : Scenario
+  own = scenario_of network t.notes
+
+  -- the record at hand comes from this one
+  pub comes_from : (giving : Option Note) → giving ≡ note_at t.notes (cause_of note.body) → ComesFrom own all t.h note giving
+  comes_from giving is = record {
+    founded = founded_of network octets t.notes t.end t.of;
+    number = t.at;
+    there = t.here;
+    is = sym t.is;
+    from = is ∙ ap (λ (n : Note). note_at t.notes (cause_of n.body)) (sym t.is) ∙ sym (note_numbered network t.notes (cause_of t.h.note.body));
+  }
+
+  -- its ground is what was found of it
+  pub said_as : (giving : Option Note) (said : Ground) → giving ≡ note_at t.notes (cause_of note.body)
+      → (ComesFrom own all t.h note giving → said ≡ ground_of own all t.h) → said ≡ ground_of own all t.h
+  said_as giving said is told = told (comes_from giving is)
+
+  -- it is there by its number
+  there_at : note_at t.notes t.at ≡ Some note
+  there_at = sym (note_numbered network t.notes t.at) ∙ ap (option_map (λ (h : Happening). h.note)) t.here ∙ ap Some t.is
+
+  -- it is of a time that clocks have
+  pub timely : IsTimely network note
+  timely = timely_in network octets t.notes t.end t.of note (note_in t.notes t.at note there_at)
+
+  -- it is one of the report
+  pub record_of : IsRecordOf network octets note
+  record_of = record {
+    notes = t.notes;
+    end = t.end;
+    report = t.of;
+    number = t.at;
+    there = there_at;
+  }
+
+  -- and its cause has a lower number
+  pub smaller : (next : Note) → note_at t.notes (cause_of note.body) ≡ Some next → next.number < note.number
+  smaller next there =
+      let at = cause_of t.h.note.body in
+      let found : note_at t.notes at ≡ Some next = ap (λ (n : Note). note_at t.notes (cause_of n.body)) t.is ∙ there in
+      let its = number_of network octets t.notes t.end t.of at next found in
+      let own_number = number_of network octets t.notes t.end t.of t.at note there_at in
+      let g = happening_at network t.notes at next found in
+      elim (comes_from_earlier own all (founded_of network octets t.notes t.end t.of) t.at t.h t.here) [
+        | inl none ↦ absurd (none_at_zero all at g.0 none g.1)
+        | inr e ↦ omega (arith, its, own_number, e.2)
+      ]
+
+  -- its lines are these
+  lines_at : (said : Ground) → said ≡ ground_of own all t.h → told_lines network note said ≡ record_lines own all t.h
+  lines_at said is = ap (λ (n : Note). told_lines network n said) (sym t.is) ∙ ap (told_lines network t.h.note) is
+
+  -- an answer for these records is one for any that the octets are the report of
+  among : IsNamed network → (notes : List Note) (end : Units) → IsReportOf network octets notes end → (status : Status) (after : Shown)
+      → GivesAnswer (IsWhyAnswer first.number network t.notes t.end) status old after
+      → GivesAnswer (IsWhyAnswer first.number network notes end) status old after
+  among named notes end of status after given =
+      subst (λ (ns : List Note). GivesAnswer (IsWhyAnswer first.number network ns end) status old after)
+      (one_notes network octets t.notes notes t.end end named t.of of)
+      (subst (λ (e : Units). GivesAnswer (IsWhyAnswer first.number network t.notes e) status old after)
+      (one_end network octets t.notes notes t.end end named t.of of) given)
+
+  -- the record at hand comes from none, or from another
+  there_or_none : IsNoneOrThere all (cause_of t.h.note.body)
+  there_or_none =
+      elim (comes_from_earlier own all (founded_of network octets t.notes t.end t.of) t.at t.h t.here) [ inl none ↦ inl none | inr g ↦ inr (g.0, g.1) ]
+
+  module _ (new : Shown) (said : Ground) (is : said ≡ ground_of own all t.h) where
+    -- with those before
+    put_on : PutsLines (told_lines network note said) now new → PutsLines (chain_lines own all (t.done ++ t.h ∷ [])) old new
+    put_on puts =
+        let here = subst (λ (ls : List (List ℕ)). PutsLines ls now new) (lines_at said is) puts in
+        let whole = lines_parts own all t.done t.h [] ∙ ap (λ (ls : List (List ℕ)). chain_lines own all t.done ++ ls) (append-nil (record_lines own all t.h)) in
+        subst (λ (ls : List (List ℕ)). PutsLines ls old new) (sym whole)
+        (PutsLines-append (chain_lines own all t.done) (record_lines own all t.h) old now new t.puts here)
+
+    -- they were put
+    pub told_more : PutsLines (told_lines network note said) now new → (next : Note) → note_at t.notes (cause_of note.body) ≡ Some next
+        → IsToldTo network octets first next old new
+    told_more puts next there =
+        let at = cause_of t.h.note.body in
+        let found : note_at t.notes at ≡ Some next = ap (λ (n : Note). note_at t.notes (cause_of n.body)) t.is ∙ there in
+        let g = happening_at network t.notes at next found in
+        record {
+          notes = t.notes;
+          end = t.end;
+          of = t.of;
+          done = t.done ++ t.h ∷ [];
+          at = at;
+          along = along_more all first.number t.done t.at t.h t.along t.here;
+          h = g.0;
+          here = g.1;
+          is = g.2;
+          puts = put_on puts;
+        }
+
+    -- the record has no cause: all was told
+    pub told_all : IsNamed network → PutsLines (told_lines network note said) now new → note_at t.notes (cause_of note.body) ≡ None
+        → (status : Status) (after : Shown) → Ends Done status new after → (notes : List Note) (end : Units) → IsReportOf network octets notes end
+        → GivesAnswer (IsWhyAnswer first.number network notes end) status old after
+    told_all named puts none status after ends notes end of =
+        let along = along_more all first.number t.done t.at t.h t.along t.here in
+        let last : cause_of t.h.note.body ≡ 0 =
+        elim (comes_from_earlier own all (founded_of network octets t.notes t.end t.of) t.at t.h t.here) [
+          | inl e ↦ e
+          | inr g ↦ absurd (not_both all (cause_of t.h.note.body) g.0
+              (none_there network t.notes (cause_of t.h.note.body) (ap (λ (n : Note). note_at t.notes (cause_of n.body)) t.is ∙ none)) g.1)
+        ] in
+        let chain = subst (λ (m : ℕ). Along all first.number (t.done ++ t.h ∷ []) m) last along in
+        let parted = subst (λ (c : List Happening). Along all first.number c 0) (parts_of t.done t.h []) chain in
+        let whole = whole_of all first.number (first_of t.done t.h) (rest_of t.done t.h []) parted in
+        let answer = chain_answer network t.notes (first_of t.done t.h ∷ rest_of t.done t.h []) in
+        let lines = ap (chain_lines own all) (parts_of t.done t.h []) in
+        let given = Ends-gives (chain_lines own all (first_of t.done t.h ∷ rest_of t.done t.h [])) Done status old new after
+        (subst (λ (ls : List (List ℕ)). PutsLines ls old new) lines (put_on puts)) ends in
+        among named notes end of status after (inl (answer, inr (first_of t.done t.h, rest_of t.done t.h [], whole, refl), given))
+
+    -- the put of one of them failed
+    pub told_fails : IsNamed network → PutFails (told_lines network note said) now new → (notes : List Note) (end : Units)
+        → IsReportOf network octets notes end → GivesAnswer (IsWhyAnswer first.number network notes end) WriteFault old new
+    told_fails named fails notes end of =
+        let founded = founded_of network octets t.notes t.end t.of in
+        let along = along_more all first.number t.done t.at t.h t.along t.here in
+        let more = along_there own all founded (cause_of t.h.note.body) there_or_none in
+        let chain = subst (λ (c : List Happening). Along all first.number c 0) (append_one t.done t.h more.0)
+        (along_both all first.number (t.done ++ t.h ∷ []) (cause_of t.h.note.body) more.0 0 along more.1) in
+        let parted = subst (λ (c : List Happening). Along all first.number c 0) (parts_of t.done t.h more.0) chain in
+        let whole = whole_of all first.number (first_of t.done t.h) (rest_of t.done t.h more.0) parted in
+        let answer = chain_answer network t.notes (first_of t.done t.h ∷ rest_of t.done t.h more.0) in
+        let here = subst (λ (ls : List (List ℕ)). PutFails ls now new) (lines_at said is) fails in
+        let behind = PutFails-behind (chain_lines own all t.done) (record_lines own all t.h ++ chain_lines own all more.0) old now new t.puts
+        (PutFails-more (record_lines own all t.h) (chain_lines own all more.0) now new here) in
+        let lines = lines_parts own all t.done t.h more.0 in
+        let failed = subst (λ (ls : List (List ℕ)). PutFails ls old new) (sym lines ∙ ap (chain_lines own all) (parts_of t.done t.h more.0)) behind in
+        among named notes end of WriteFault new
+        (inl (answer, inr (first_of t.done t.h, rest_of t.done t.h more.0, whole, refl), inr (inl (refl, inl failed))))

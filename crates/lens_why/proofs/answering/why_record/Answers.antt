@@ -1,0 +1,16 @@
+use Rattle.{lens_why.specs.Answer.IsWhyAnswer, tte_audit.{proofs.reports_lemmas.Sources.{files_accepted, files_refused}, specs.reports.Reports.IsReportAnswer}}
+use Rattle.tte_forms.specs.Putting.{shown_by}
+use Rattle.lens_why.proofs.answering.why_record.Goals as goal
+
+pub returns-in-Ok-clause-general : goal.returns-in-Ok-clause-general
+returns-in-Ok-clause-general g c =
+    let shown = shown_by g.K.Sink in
+    files_accepted (IsReportAnswer (IsWhyAnswer c.args.number)) (g.A.Source.left c.args.first.now) (g.B.Source.left c.args.second.now) c.in-Ok.accepted
+    c.why_in_file.result (shown c.args.out.now) (shown c.why_in_file.new.out) c.in-Ok.ensures.accepted c.why_in_file.ensures.gives
+
+pub returns-in-Err-clause-general : goal.returns-in-Err-clause-general
+returns-in-Err-clause-general g c =
+    let shown = shown_by g.K.Sink in
+    files_refused (IsReportAnswer (IsWhyAnswer c.args.number)) (g.A.Source.left c.args.first.now) (g.B.Source.left c.args.second.now) c.in-Err.cause
+    c.put_no_network.result (shown c.args.out.now) (shown c.put_no_network.new.out) c.in-Err.ensures.none c.put_no_network.ensures.gives
+    c.put_no_network.ensures.unput

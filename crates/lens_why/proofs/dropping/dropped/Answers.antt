@@ -1,0 +1,79 @@
+use Rattle.{lens_why.proofs.Grounded.past_there, std.proofs.Common.{◌∙◌, ap, sym}, tte_units.specs.{Amount.amount, declared.units.Units.Units}}
+use Rattle.{lens_why.specs.Grounds.{beside_ground, dropped_ground, entry_given, gate_ground}, run_law.specs.device.Standpoints.{clock_of, standpoint}}
+use Rattle.{run_law.specs.{declared.judgement.Reason.Reason, records.Happenings.{happenings, numbered}}, tte_audit.specs.Report.{events_of, scenario_of}}
+use Rattle.lens_why.proofs.dropping.dropped.Goals as goal
+
+pub beside-requires-clause-past : goal.beside-requires-clause-past
+beside-requires-clause-past c = past_there c.args.network.now c.args.known.now c.requires.report c.requires.past
+
+pub beside-requires-in-Late-clause-past : goal.beside-requires-in-Late-clause-past
+beside-requires-in-Late-clause-past c = past_there c.args.network.now c.args.known.now c.requires.report c.requires.past
+
+pub shut-requires-clause-past : goal.shut-requires-clause-past
+shut-requires-clause-past c = past_there c.args.network.now c.args.known.now c.requires.report c.requires.past
+
+pub returns-in-Early : goal.returns-in-Early
+returns-in-Early c ns end h of there at =
+    let network = c.args.network.now in
+    let s = scenario_of network ns in
+    let hs = happenings network ns in
+    let p = c.args.passage in
+    c.beside.ensures (events_of ns) hs (c.requires.past ns end of)
+    ∙ ap (λ (u : Units). beside_ground s hs p.device (amount u) (entry_given network p.device p.link (numbered hs p.cause))) (sym at)
+    ∙ ap (λ (r : Reason). dropped_ground s hs h p.device p.link p.cause (numbered hs p.cause) r) (sym c.in-Early.is)
+
+pub returns-in-Late : goal.returns-in-Late
+returns-in-Late c ns end h of there at =
+    let network = c.args.network.now in
+    let s = scenario_of network ns in
+    let hs = happenings network ns in
+    let p = c.args.passage in
+    c.beside-in-Late.ensures (events_of ns) hs (c.requires.past ns end of)
+    ∙ ap (λ (u : Units). beside_ground s hs p.device (amount u) (entry_given network p.device p.link (numbered hs p.cause))) (sym at)
+    ∙ ap (λ (r : Reason). dropped_ground s hs h p.device p.link p.cause (numbered hs p.cause) r) (sym c.in-Late.is)
+
+pub returns-in-Repeat : goal.returns-in-Repeat
+returns-in-Repeat c ns end h of there at =
+    let network = c.args.network.now in
+    let s = scenario_of network ns in
+    let hs = happenings network ns in
+    let p = c.args.passage in
+    c.repeated.ensures ns end h of there at
+    ∙ ap (λ (r : Reason). dropped_ground s hs h p.device p.link p.cause (numbered hs p.cause) r) (sym c.in-Repeat.is)
+
+pub returns-in-Length : goal.returns-in-Length
+returns-in-Length c ns end h of there at =
+    let network = c.args.network.now in
+    let s = scenario_of network ns in
+    let hs = happenings network ns in
+    let p = c.args.passage in
+    c.of_length.ensures (events_of ns) hs (c.requires.past ns end of)
+    ∙ ap (λ (r : Reason). dropped_ground s hs h p.device p.link p.cause (numbered hs p.cause) r) (sym c.in-Length.is)
+
+pub returns-in-Unknown : goal.returns-in-Unknown
+returns-in-Unknown c ns end h of there at =
+    let network = c.args.network.now in
+    let s = scenario_of network ns in
+    let hs = happenings network ns in
+    let p = c.args.passage in
+    c.unknown.ensures (events_of ns) hs (c.requires.past ns end of)
+    ∙ ap (λ (r : Reason). dropped_ground s hs h p.device p.link p.cause (numbered hs p.cause) r) (sym c.in-Unknown.is)
+
+pub returns-in-Unsynchronised : goal.returns-in-Unsynchronised
+returns-in-Unsynchronised c ns end h of there at =
+    let network = c.args.network.now in
+    let s = scenario_of network ns in
+    let hs = happenings network ns in
+    let p = c.args.passage in
+    c.unsynchronised.ensures ns end h of there at
+    ∙ ap (λ (r : Reason). dropped_ground s hs h p.device p.link p.cause (numbered hs p.cause) r) (sym c.in-Unsynchronised.is)
+
+pub returns-in-Gate : goal.returns-in-Gate
+returns-in-Gate c ns end h of there at =
+    let network = c.args.network.now in
+    let s = scenario_of network ns in
+    let hs = happenings network ns in
+    let p = c.args.passage in
+    c.shut.ensures (events_of ns) hs (c.requires.past ns end of)
+    ∙ ap (λ (u : Units). gate_ground network p.device (clock_of (standpoint s hs p.device (amount u)))) (sym at)
+    ∙ ap (λ (r : Reason). dropped_ground s hs h p.device p.link p.cause (numbered hs p.cause) r) (sym c.in-Gate.is)

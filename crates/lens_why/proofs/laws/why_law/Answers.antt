@@ -1,0 +1,5 @@
+use Rattle.lens_why.proofs.Whole.{why_law}
+use Rattle.lens_why.proofs.laws.why_law.Goals as goal
+
+pub returns : goal.returns
+returns c = why_law

@@ -1,0 +1,5 @@
+use Rattle.lens_why.proofs.Within.{taken_in_windows}
+use Rattle.lens_why.proofs.laws.windows_law.Goals as goal
+
+pub returns : goal.returns
+returns c = taken_in_windows

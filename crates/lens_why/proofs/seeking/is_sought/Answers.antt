@@ -1,0 +1,43 @@
+use Rattle.{lens_why.specs.Seeking.is_sought, run_law.specs.declared.note.{Note.Note, NoteBody.NoteBody}, std.proofs.Common.{◌∙◌, ap, sym, ℕ}}
+use Rattle.{lens_why.specs.declared.seeking.Sought.{Sought, TheVariants.{Cut, Frame, Opening, Taking, Turning}}, run_law.specs.timed.Receptions.is_taken_before}
+use Rattle.tte_units.specs.Amount.{amount}
+use Rattle.lens_why.proofs.seeking.is_sought.Goals as goal
+
+pub returns-in-Cut : goal.returns-in-Cut
+returns-in-Cut c befallen hs h known there same =
+    let network = c.args.network.now in
+    c.sets_cut.ensures network h
+    ∙ ap (λ (b : NoteBody). is_sought network (Cut c.in-Cut.link c.in-Cut.way) h b) (sym (ap (λ (n : Note). n.body) same))
+    ∙ ap (λ (s : Sought). is_sought network s h h.note.body) (sym c.in-Cut.is)
+
+pub returns-in-Frame : goal.returns-in-Frame
+returns-in-Frame c befallen hs h known there same =
+    let network = c.args.network.now in
+    let f = c.in-Frame in
+    c.is_heard.ensures h (c.carried-carried.ensures network befallen hs h known there)
+    ∙ ap (λ (b : NoteBody). is_sought network (Frame f.device f.channel f.frame) h b) (sym (ap (λ (n : Note). n.body) same))
+    ∙ ap (λ (s : Sought). is_sought network s h h.note.body) (sym f.is)
+
+pub returns-in-Taking : goal.returns-in-Taking
+returns-in-Taking c befallen hs h known there same =
+    let network = c.args.network.now in
+    let f = c.in-Taking.coming in
+    c.is_taken_before.ensures
+    ∙ ap (λ (t : ℕ). is_taken_before f.device f.vl f.time f.link f.cause t c.args.note.now.body)
+    (c.magnitude.ensures ∙ ap (λ (n : Note). amount n.time) (sym same))
+    ∙ ap (λ (b : NoteBody). is_sought network (Taking f) h b) (sym (ap (λ (n : Note). n.body) same))
+    ∙ ap (λ (s : Sought). is_sought network s h h.note.body) (sym c.in-Taking.is)
+
+pub returns-in-Turning : goal.returns-in-Turning
+returns-in-Turning c befallen hs h known there same =
+    let network = c.args.network.now in
+    c.turns.ensures
+    ∙ ap (λ (b : NoteBody). is_sought network (Turning c.in-Turning.device) h b) (sym (ap (λ (n : Note). n.body) same))
+    ∙ ap (λ (s : Sought). is_sought network s h h.note.body) (sym c.in-Turning.is)
+
+pub returns-in-Opening : goal.returns-in-Opening
+returns-in-Opening c befallen hs h known there same =
+    let network = c.args.network.now in
+    c.opens.ensures
+    ∙ ap (λ (b : NoteBody). is_sought network (Opening c.in-Opening.device c.in-Opening.point) h b) (sym (ap (λ (n : Note). n.body) same))
+    ∙ ap (λ (s : Sought). is_sought network s h h.note.body) (sym c.in-Opening.is)

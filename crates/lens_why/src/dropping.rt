@@ -1,0 +1,327 @@
+//! What a frame that was dropped was judged by.
+ghost use Rattle.std.specs.{Option.option_map_or, Prelude.position};
+ghost use Rattle.std.specs.Prelude.{◌&&◌, ◌*◌, ◌+ℤ◌, ◌+◌, ◌<◌, ◌^◌, ◌≡◌, ◌≤◌, IfSome, List, Some, length, pos};
+ghost use Rattle.{audit_law.specs.events.Readings.scenario_under, schedule_tables.specs.Entries.IsEntryInRange};
+ghost use Rattle.{device_rules.specs.Widths.IsLocal, tte_units.specs.declared.units.Units.{Units as UnitsValue}};
+ghost use Rattle.lens_why.specs.Grounds.{beside_ground, cycle_before, dropped_ground, entry_given, gate_ground};
+ghost use Rattle.lens_why.specs.Grounds.{length_ground, repeat_ground, unknown_ground, unsynchronised_ground};
+ghost use Rattle.lens_why.specs.{Records.IsThere, past.Pasts.{IsPast, IsSomePast, IsSomeReport, ShowsAll}};
+ghost use Rattle.{net_plan.specs.Belonging.HasDevice, tte_audit.specs.{Report.scenario_of, reports.Reports.IsReportOf}};
+ghost use Rattle.{net_plan.specs.Ranges.IsInRange, tte_audit.specs.Named.IsNamed, tte_units.specs.Amount.amount};
+ghost use Rattle.net_plan.specs.declared.{event.Event.Event, network.Network.{Network as NetworkValue}};
+ghost use Rattle.run_law.specs.{declared.note.Note.{Note as NoteValue}, timed.Arrivals.{entry_entering, is_row_with}};
+ghost use Rattle.run_law.specs.device.Standpoints.{clock_of, cycle_at, offset_in_cycle, standpoint};
+ghost use Rattle.run_law.specs.{records.Happenings.{Happening, happenings, numbered}, scenario.Ways.is_way_of};
+
+use crate::ground::{Ground, magnitude, place_in_cycle, position_at};
+use crate::past::{KnownReport, Past};
+use crate::seeking::{Coming, Sought, last_before};
+use device_rules::{is_relay, way_to};
+use net_plan::{DeviceId, LinkId, Network, Row, RowId, Way};
+use run_law::Reason;
+use schedule_tables::{Entry, entry_of, window_of};
+use tte_units::Units;
+
+/// What comes to the device by the link at the time, from the record of the number `cause`, and is dropped with the
+/// record of the number.
+#[derive(Clone, Copy)]
+pub(crate) struct Passage {
+    pub(crate) number: u64,
+    pub(crate) time: Units,
+    pub(crate) device: DeviceId,
+    pub(crate) link: LinkId,
+    pub(crate) cause: u64,
+}
+
+/// What the frame was judged by that is dropped for the reason.
+pub(crate) fn dropped(
+    known: &KnownReport,
+    network: &Network,
+    passage: Passage,
+    reason: Reason,
+) -> Ground
+    requires named { IsNamed network.now }
+    requires report { IsSomeReport network.now known.now.report.octets }
+    requires past { ShowsAll network.now known.now }
+    requires there { HasDevice network.now passage.device }
+    requires soon { amount passage.time ≤ 2 ^ 60 }
+    ensures { (notes : List NoteValue) (end : UnitsValue) (h : Happening)
+        → IsReportOf network.now known.now.report.octets notes end → IsThere network.now notes passage.number h
+        → h.note.time ≡ passage.time → result ≡ dropped_ground (scenario_of network.now notes)
+        (happenings network.now notes) h passage.device passage.link passage.cause
+        (numbered (happenings network.now notes) passage.cause) reason }
+{
+    match reason {
+        Reason::Early => beside(&known.past, network, passage),
+        Reason::Late => beside(&known.past, network, passage),
+        Reason::Repeat => repeated(known, network, passage),
+        Reason::Length => of_length(&known.past, network, passage),
+        Reason::Unknown => unknown(&known.past, network, passage.cause),
+        Reason::Unsynchronised => unsynchronised(known, network, passage),
+        Reason::Gate => shut(&known.past, network, passage.device, passage.time),
+        Reason::Off
+        | Reason::ColdStart
+        | Reason::Domain
+        | Reason::Member
+        | Reason::Old
+        | Reason::Cycle
+        | Reason::RefusedLength(_)
+        | Reason::RefusedEtherType
+        | Reason::RefusedReserved(_)
+        | Reason::RefusedKind(_) => Ground::Untold,
+    }
+}
+
+/// The entry by which the time-triggered frame comes to the device by the link that the record of the number `cause`
+/// gave.
+fn entry_given(past: &Past, network: &Network, passage: Passage) -> Option<Entry>
+    requires { IsInRange network.now }
+    ensures is { (befallen : List Event) (hs : List Happening) → IsPast network.now befallen hs past.now
+        → result ≡ entry_given network.now passage.device passage.link (numbered hs passage.cause) }
+    ensures range { IfSome result (IsEntryInRange network.now) }
+{
+    match past.heading(passage.cause) {
+        Some(heading) => entry_entering(network, passage.device, passage.link, heading.id),
+        None => None,
+    }
+}
+
+/// The entry by which a frame with this id comes to the device by the link.
+fn entry_entering(network: &Network, device: DeviceId, link: LinkId, id: u16) -> Option<Entry>
+    requires { IsInRange network.now }
+    ensures is { result ≡ entry_entering network.now device link id }
+    ensures range { IfSome result (IsEntryInRange network.now) }
+{
+    match place_entering(network, way_to(network, device, link), link, id) {
+        Some(place) => Some(entry_of(network, RowId(place as u32))),
+        None => None,
+    }
+}
+
+/// The place of the first row by which a frame with this id goes on the way of the link.
+fn place_entering(network: &Network, way: Way, link: LinkId, id: u16) -> Option<usize>
+    ensures is { result ≡ position (λ row. is_way_of link way row.link row.way && is_row_with network.now id row)
+        network.now.row }
+    ensures there { IfSome result (λ place. place < length network.now.row) }
+{
+    network
+        .row
+        .as_slice()
+        .iter()
+        .position(|row| enters(network, way, link, id, row))
+}
+
+/// Does a frame with this id go on the way of the link by the row?
+fn enters(network: &Network, way: Way, link: LinkId, id: u16, row: &Row) -> bool
+    ensures { result ≡ (is_way_of link way row.now.link row.now.way && is_row_with network.now id row.now) }
+{
+    link.0 == row.link.0 && way == row.way && is_row_with(network, id, row)
+}
+
+/// Is the row's virtual link the one with this id in the frames?
+fn is_row_with(network: &Network, id: u16, row: &Row) -> bool
+    ensures { result ≡ is_row_with network.now id row.now }
+{
+    match network.vl.as_slice().get(row.vl.0 as usize) {
+        Some(vl) => vl.id == id,
+        None => false,
+    }
+}
+
+/// The cycle and the place in which the frame came, and between which places it is taken.
+fn beside(past: &Past, network: &Network, passage: Passage) -> Ground
+    requires range { IsInRange network.now }
+    requires past { IsSomePast network.now past.now }
+    requires there { HasDevice network.now passage.device }
+    requires soon { amount passage.time ≤ 2 ^ 60 }
+    ensures { (befallen : List Event) (hs : List Happening) → IsPast network.now befallen hs past.now
+        → result ≡ beside_ground (scenario_under network.now befallen) hs passage.device (amount passage.time)
+        (entry_given network.now passage.device passage.link (numbered hs passage.cause)) }
+{
+    match entry_given(past, network, passage) {
+        Some(entry) => missed(past, network, passage, &entry),
+        None => Ground::Untold,
+    }
+}
+
+/// The same, of a frame of the entry.
+fn missed(past: &Past, network: &Network, passage: Passage, entry: &Entry) -> Ground
+    requires range { IsInRange network.now }
+    requires past { IsSomePast network.now past.now }
+    requires there { HasDevice network.now passage.device }
+    requires soon { amount passage.time ≤ 2 ^ 60 }
+    requires entry { IsEntryInRange network.now entry.now }
+    ensures { (befallen : List Event) (hs : List Happening) → IsPast network.now befallen hs past.now
+        → result ≡ beside_ground (scenario_under network.now befallen) hs passage.device (amount passage.time)
+        (Some entry.now) }
+{
+    let cycle = cycle_before(past, network, passage.device, passage.time);
+    let at = position_at(past, network, passage.device, passage.time);
+    let places = window_of(network, entry);
+    Ground::Missed(cycle, at, places.from, places.to)
+}
+
+/// In which cycle of its local clock something comes to the device at the time.
+fn cycle_before(past: &Past, network: &Network, device: DeviceId, time: Units) -> u128
+    requires range { IsInRange network.now }
+    requires past { IsSomePast network.now past.now }
+    requires there { HasDevice network.now device }
+    requires soon { amount time ≤ 2 ^ 60 }
+    ensures { (befallen : List Event) (hs : List Happening) → IsPast network.now befallen hs past.now
+        → result ≡ cycle_before (scenario_under network.now befallen) hs device (amount time) }
+{
+    cycle_at(network, past.clock_at(network, device, magnitude(time)))
+}
+
+/// The cycle of a local value, which is 0 before the first cycle.
+fn cycle_at(network: &Network, value: i128) -> u128
+    requires { IsInRange network.now }
+    ensures { result ≡ cycle_at network.now value }
+{
+    if value < 0 {
+        0
+    } else {
+        value as u128 / u128::from(magnitude(network.cycle))
+    }
+}
+
+/// The cycle in which the frame came, and the last record before by which the device took one of its virtual link.
+fn repeated(known: &KnownReport, network: &Network, passage: Passage) -> Ground
+    requires named { IsNamed network.now }
+    requires report { IsSomeReport network.now known.now.report.octets }
+    requires past { ShowsAll network.now known.now }
+    requires there { HasDevice network.now passage.device }
+    requires soon { amount passage.time ≤ 2 ^ 60 }
+    ensures { (notes : List NoteValue) (end : UnitsValue) (h : Happening)
+        → IsReportOf network.now known.now.report.octets notes end → IsThere network.now notes passage.number h
+        → h.note.time ≡ passage.time → result ≡ repeat_ground (scenario_of network.now notes)
+        (happenings network.now notes) h passage.device passage.link passage.cause
+        (entry_given network.now passage.device passage.link (numbered (happenings network.now notes) passage.cause)) }
+{
+    match entry_given(&known.past, network, passage) {
+        Some(entry) => taken(known, network, passage, &entry),
+        None => Ground::Untold,
+    }
+}
+
+/// The same, of a frame of the entry.
+fn taken(known: &KnownReport, network: &Network, passage: Passage, entry: &Entry) -> Ground
+    requires named { IsNamed network.now }
+    requires report { IsSomeReport network.now known.now.report.octets }
+    requires past { ShowsAll network.now known.now }
+    requires there { HasDevice network.now passage.device }
+    requires soon { amount passage.time ≤ 2 ^ 60 }
+    ensures { (notes : List NoteValue) (end : UnitsValue) (h : Happening)
+        → IsReportOf network.now known.now.report.octets notes end → IsThere network.now notes passage.number h
+        → h.note.time ≡ passage.time
+        → result ≡ repeat_ground (scenario_of network.now notes) (happenings network.now notes) h passage.device
+        passage.link passage.cause (Some entry.now) }
+{
+    let cycle = cycle_before(&known.past, network, passage.device, passage.time);
+    let coming = Coming {
+        device: passage.device,
+        vl: entry.row.vl,
+        time: magnitude(passage.time),
+        link: passage.link,
+        cause: passage.cause,
+    };
+    let number = last_before(known, network, passage.number, Sought::Taking(coming));
+    Ground::Taken(cycle, number)
+}
+
+/// How many octets the frame has, and how many those of its virtual link have.
+fn of_length(past: &Past, network: &Network, passage: Passage) -> Ground
+    requires { IsInRange network.now }
+    ensures { (befallen : List Event) (hs : List Happening) → IsPast network.now befallen hs past.now → result
+        ≡ length_ground (option_map_or (λ g. length g.octets) (numbered hs passage.cause) 0)
+        (entry_given network.now passage.device passage.link (numbered hs passage.cause)) }
+{
+    match entry_given(past, network, passage) {
+        Some(entry) => Ground::Length(size(past, passage.cause), u64::from(entry.vl.length)),
+        None => Ground::Untold,
+    }
+}
+
+/// How many octets the frame has that the record of the number gave.
+fn size(past: &Past, number: u64) -> u64
+    ensures { (network : NetworkValue) (befallen : List Event) (hs : List Happening)
+        → IsPast network befallen hs past.now
+        → result ≡ option_map_or (λ g. length g.octets) (numbered hs number) 0 }
+{
+    match past.heading(number) {
+        Some(heading) => heading.length as u64,
+        None => 0,
+    }
+}
+
+/// The marker of the frame that the record of the number gave, that of the network, and the id in the frame.
+fn unknown(past: &Past, network: &Network, number: u64) -> Ground
+    ensures { (befallen : List Event) (hs : List Happening) → IsPast network.now befallen hs past.now
+        → result ≡ unknown_ground network.now (numbered hs number) }
+{
+    match past.heading(number) {
+        Some(heading) => Ground::Unknown(heading.marker, network.marker, heading.id),
+        None => Ground::Untold,
+    }
+}
+
+/// The state of the device, which has no common time, and the last record before by which it came to one.
+fn unsynchronised(known: &KnownReport, network: &Network, passage: Passage) -> Ground
+    requires named { IsNamed network.now }
+    requires report { IsSomeReport network.now known.now.report.octets }
+    requires past { ShowsAll network.now known.now }
+    requires there { HasDevice network.now passage.device }
+    ensures { (notes : List NoteValue) (end : UnitsValue) (h : Happening)
+        → IsReportOf network.now known.now.report.octets notes end → IsThere network.now notes passage.number h
+        → h.note.time ≡ passage.time → result
+        ≡ unsynchronised_ground (scenario_of network.now notes) (happenings network.now notes) h passage.device }
+{
+    let state = known
+        .past
+        .state_before(network, passage.device, magnitude(passage.time));
+    let since = last_before(
+        known,
+        network,
+        passage.number,
+        Sought::Turning(passage.device),
+    );
+    Ground::Unsynchronised(state, since)
+}
+
+/// How far beyond the opening of its gate the clock of the device, a relay, stands at the time, and up to where it is
+/// open.
+fn shut(past: &Past, network: &Network, device: DeviceId, time: Units) -> Ground
+    requires range { IsInRange network.now }
+    requires past { IsSomePast network.now past.now }
+    requires there { HasDevice network.now device }
+    requires soon { amount time ≤ 2 ^ 60 }
+    ensures { (befallen : List Event) (hs : List Happening) → IsPast network.now befallen hs past.now
+        → result ≡ gate_ground network.now device
+        (clock_of (standpoint (scenario_under network.now befallen) hs device (amount time))) }
+{
+    if is_relay(network, device) {
+        gate(network, past.clock_at(network, device, magnitude(time)))
+    } else {
+        Ground::Untold
+    }
+}
+
+/// How far a local value is beyond the opening of the gate of a relay, and up to where it is open.
+fn gate(network: &Network, value: i128) -> Ground
+    requires range { IsInRange network.now }
+    requires value { IsLocal value }
+    ensures { result ≡ Ground.Gate (offset_in_cycle network.now (value +ℤ pos (2 * amount network.now.precision)))
+        (amount network.now.correction + 2 * amount network.now.precision) }
+{
+    let before = 2 * u128::from(magnitude(network.precision));
+    let beyond = place_in_cycle(network, later(value, magnitude(network.precision)));
+    Ground::Gate(beyond, u128::from(magnitude(network.correction)) + before)
+}
+
+/// A local value, and so much twice.
+fn later(value: i128, by: u64) -> i128
+    requires { IsLocal value }
+    ensures { result ≡ value +ℤ pos (2 * by) }
+{
+    value + 2 * i128::from(by)
+}

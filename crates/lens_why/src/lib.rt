@@ -1,0 +1,18 @@
+//! The command `why`: a record of a report, what bore on it, and so on by its causes.
+#![tactic(auto)]
+
+mod answering;
+mod causes;
+mod collecting;
+mod correcting;
+mod dropping;
+mod ground;
+mod laws;
+mod lines;
+pub mod past;
+mod seeking;
+
+pub use answering::why_record;
+pub use collecting::Collection;
+pub use ground::{Best, Ground, Told};
+pub use laws::{best_law, collections_law, middles_law, names_law, row_law, why_law, windows_law};

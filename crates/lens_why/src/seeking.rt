@@ -1,0 +1,337 @@
+//! The last record before another one by which something came about.
+ghost use Rattle.std.specs.Prelude.{if◌then◌else◌, ◌≡◌, List, Some, option_map, true};
+ghost use Rattle.{audit_devices.specs.Effects.carried_by, tte_audit.specs.{Named.IsNamed, reports.Reports.IsReportOf}};
+ghost use Rattle.{audit_devices.specs.Keeping.records_before, run_law.specs.control.Corrections.{heard_by, hearing_by}};
+ghost use Rattle.lens_why.specs.{Records.IsThere, past.Pasts.{IsPast, IsSomeReport, ShowsAll}};
+ghost use Rattle.lens_why.specs.Seeking.{is_channel, is_frame, is_hearing_of, is_sought, last_sought, opens, turns};
+ghost use Rattle.net_plan.specs.declared.{event.Event.{Event as EventValue}, network.Network.{Network as NetworkValue}};
+ghost use Rattle.run_law.specs.{declared.note.Note.{Note as NoteValue}, scenario.Devices.{channel_of, channel_of_link}};
+ghost use Rattle.run_law.specs.records.{Happenings.{Happening, happenings, numbered}, Ranks.place_of};
+ghost use Rattle.run_law.specs.timed.Receptions.{comes_before, is_taken_before};
+ghost use Rattle.tte_units.specs.declared.units.Units.{Units as UnitsValue};
+
+use crate::ground::magnitude;
+use crate::past::{KnownReport, Past};
+use audit_devices::Carried;
+use net_plan::{DeviceId, LinkId, Network, VlId, Way, What};
+use pcf_values::Channel;
+use run_law::{Judgement, Note, NoteBody};
+use sync_state::membership::HeardFrame;
+use tte_units::Units;
+
+/// By what a record is looked for.
+#[derive(Clone, Copy)]
+pub(crate) enum Sought {
+    /// An event cuts the way, or heals it.
+    Cut(LinkId, Way),
+    /// The device hears the frame, come by the channel within its time.
+    Frame(DeviceId, Channel, HeardFrame),
+    /// The device takes a frame of the virtual link before this one.
+    Taking(Coming),
+    /// The state of the device changes.
+    Turning(DeviceId),
+    /// A collection of the device opens at the point.
+    Opening(DeviceId, Units),
+}
+
+/// A frame of the virtual link that comes to the device by the link, from the record of the number `cause`, at a time
+/// in units of 2^-16 ns.
+#[derive(Clone, Copy)]
+pub(crate) struct Coming {
+    pub(crate) device: DeviceId,
+    pub(crate) vl: VlId,
+    pub(crate) time: u64,
+    pub(crate) link: LinkId,
+    pub(crate) cause: u64,
+}
+
+/// The number of the last record before that of the number by which it came about, or 0.
+pub(crate) fn last_before(
+    known: &KnownReport,
+    network: &Network,
+    number: u64,
+    sought: Sought,
+) -> u64
+    requires named { IsNamed network.now }
+    requires report { IsSomeReport network.now known.now.report.octets }
+    requires past { ShowsAll network.now known.now }
+    ensures { (notes : List NoteValue) (end : UnitsValue) (h : Happening)
+        → IsReportOf network.now known.now.report.octets notes end → IsThere network.now notes number h
+        → result ≡ last_sought network.now sought (records_before (place_of h) (happenings network.now notes)) }
+{
+    let mut records = known.report.records();
+    let mut count = 0;
+    let mut last = 0;
+    'records: loop {
+        match records.next(network) {
+            Some(note) => {
+                count = note.number;
+                if count == number {
+                    return last;
+                }
+                last = last_of(is_sought(&known.past, network, &note, sought), count, last);
+            }
+            None => return last,
+        }
+    }
+}
+
+/// The number of the last so far, where the next one is looked for or not.
+fn last_of(found: bool, number: u64, last: u64) -> u64
+    ensures { result ≡ (if found then number else last) }
+{
+    if found { number } else { last }
+}
+
+/// Did it come about by the record?
+fn is_sought(past: &Past, network: &Network, note: &Note, sought: Sought) -> bool
+    ensures { (befallen : List EventValue) (hs : List Happening) (h : Happening)
+        → IsPast network.now befallen hs past.now → numbered hs note.now.number ≡ Some h → h.note ≡ note.now
+        → result ≡ is_sought network.now sought h h.note.body }
+{
+    match sought {
+        Sought::Cut(link, way) => sets_cut(link, way, &note.body),
+        Sought::Frame(device, channel, frame) => {
+            let carried = past.carried(note.number);
+            is_heard(network, carried, &note.body, device, channel, frame)
+        }
+        Sought::Taking(coming) => is_taken_before(coming, magnitude(note.time), &note.body),
+        Sought::Turning(device) => turns(device, &note.body),
+        Sought::Opening(device, point) => opens(device, point, &note.body),
+    }
+}
+
+/// Did a device take a frame of the virtual link by a record of this body at the time `at`, before this one?
+fn is_taken_before(coming: Coming, at: u64, body: &NoteBody) -> bool
+    ensures { result ≡ is_taken_before coming.device coming.vl coming.time coming.link coming.cause at body.now }
+{
+    match body {
+        NoteBody::Accepted {
+            device,
+            link,
+            cause,
+            vl,
+            ..
+        }
+        | NoteBody::Delivered {
+            device,
+            link,
+            cause,
+            vl,
+            ..
+        } => {
+            coming.device.0 == device.0
+                && coming.vl.0 == vl.0
+                && (at < coming.time || (at == coming.time && comes_before(*link, *cause, coming)))
+        }
+        NoteBody::Event { .. }
+        | NoteBody::Arrived { .. }
+        | NoteBody::Permanent { .. }
+        | NoteBody::Compressed { .. }
+        | NoteBody::Sent { .. }
+        | NoteBody::Corrected { .. }
+        | NoteBody::State { .. }
+        | NoteBody::Left { .. }
+        | NoteBody::Lost { .. }
+        | NoteBody::TtSent { .. }
+        | NoteBody::Dropped { .. }
+        | NoteBody::Clock { .. } => false,
+    }
+}
+
+/// Is the arrival of this link and cause, at one time, before this one?
+fn comes_before(link: LinkId, cause: u64, coming: Coming) -> bool
+    ensures { result ≡ comes_before link cause coming.link coming.cause }
+{
+    link.0 < coming.link.0 || (link.0 == coming.link.0 && cause < coming.cause)
+}
+
+/// Does a record of this body change the device's state?
+fn turns(device: DeviceId, body: &NoteBody) -> bool
+    ensures { result ≡ turns device body.now }
+{
+    match body {
+        NoteBody::State { device: other, .. } => device.0 == other.0,
+        NoteBody::Permanent {
+            device: other,
+            verdict,
+            ..
+        }
+        | NoteBody::Compressed {
+            device: other,
+            verdict,
+            ..
+        } => device.0 == other.0 && matches!(verdict, Judgement::Integrates),
+        NoteBody::Event { .. }
+        | NoteBody::Arrived { .. }
+        | NoteBody::Sent { .. }
+        | NoteBody::Corrected { .. }
+        | NoteBody::Left { .. }
+        | NoteBody::Lost { .. }
+        | NoteBody::TtSent { .. }
+        | NoteBody::Accepted { .. }
+        | NoteBody::Delivered { .. }
+        | NoteBody::Dropped { .. }
+        | NoteBody::Clock { .. } => false,
+    }
+}
+
+/// Does by a record of this body a frame open a collection of the device at the point?
+fn opens(device: DeviceId, point: Units, body: &NoteBody) -> bool
+    ensures { result ≡ opens device point body.now }
+{
+    match body {
+        NoteBody::Permanent {
+            device: other,
+            point: at,
+            verdict: Judgement::Opened,
+            ..
+        } => device.0 == other.0 && (at.0 <= point.0 && point.0 <= at.0),
+        NoteBody::Permanent { .. }
+        | NoteBody::Event { .. }
+        | NoteBody::Arrived { .. }
+        | NoteBody::Compressed { .. }
+        | NoteBody::Sent { .. }
+        | NoteBody::Corrected { .. }
+        | NoteBody::State { .. }
+        | NoteBody::Left { .. }
+        | NoteBody::Lost { .. }
+        | NoteBody::TtSent { .. }
+        | NoteBody::Accepted { .. }
+        | NoteBody::Delivered { .. }
+        | NoteBody::Dropped { .. }
+        | NoteBody::Clock { .. } => false,
+    }
+}
+
+/// Does the record tell of an event that cuts the way, or heals it?
+fn sets_cut(link: LinkId, way: Way, body: &NoteBody) -> bool
+    ensures { (network : NetworkValue) (h : Happening) → result ≡ is_sought network (Sought.Cut link way) h body.now }
+{
+    match body {
+        NoteBody::Event {
+            what: What::Cut(other, turned) | What::Heal(other, turned),
+            ..
+        } => link.0 == other.0 && way == *turned,
+        NoteBody::Event { .. }
+        | NoteBody::Arrived { .. }
+        | NoteBody::Permanent { .. }
+        | NoteBody::Compressed { .. }
+        | NoteBody::Sent { .. }
+        | NoteBody::Corrected { .. }
+        | NoteBody::State { .. }
+        | NoteBody::Left { .. }
+        | NoteBody::Lost { .. }
+        | NoteBody::TtSent { .. }
+        | NoteBody::Accepted { .. }
+        | NoteBody::Delivered { .. }
+        | NoteBody::Dropped { .. }
+        | NoteBody::Clock { .. } => false,
+    }
+}
+
+/// Does the device hear the frame by a record of this body, come by the channel within its time?
+fn is_heard(
+    network: &Network,
+    carried: Carried,
+    body: &NoteBody,
+    device: DeviceId,
+    channel: Channel,
+    frame: HeardFrame,
+) -> bool
+    ensures { (h : Happening) → carried ≡ carried_by h
+        → result ≡ is_hearing_of channel frame (hearing_by network.now device h body.now) }
+{
+    match body {
+        NoteBody::Permanent {
+            device: other,
+            link,
+            point,
+            verdict: Judgement::Within,
+            ..
+        } => {
+            device.0 == other.0
+                && is_heard_on(
+                    channel_of_link(network, *link),
+                    channel,
+                    carried,
+                    *point,
+                    frame,
+                )
+        }
+        NoteBody::Compressed {
+            device: other,
+            at,
+            verdict: Judgement::Within,
+            ..
+        } => {
+            device.0 == other.0
+                && is_heard_on(channel_of(network, device), channel, carried, *at, frame)
+        }
+        NoteBody::Permanent { .. }
+        | NoteBody::Compressed { .. }
+        | NoteBody::Event { .. }
+        | NoteBody::Arrived { .. }
+        | NoteBody::Sent { .. }
+        | NoteBody::Corrected { .. }
+        | NoteBody::State { .. }
+        | NoteBody::Left { .. }
+        | NoteBody::Lost { .. }
+        | NoteBody::TtSent { .. }
+        | NoteBody::Accepted { .. }
+        | NoteBody::Delivered { .. }
+        | NoteBody::Dropped { .. }
+        | NoteBody::Clock { .. } => false,
+    }
+}
+
+/// Is it the frame, come by the channel, that says this and is heard at the point where it came by `on`, if by one?
+fn is_heard_on(
+    on: Option<Channel>,
+    channel: Channel,
+    carried: Carried,
+    point: Units,
+    frame: HeardFrame,
+) -> bool
+    ensures { (h : Happening) → carried ≡ carried_by h
+        → result ≡ is_hearing_of channel frame (option_map (λ c. heard_by c h point true) on) }
+{
+    match on {
+        Some(on) => is_channel(on, channel) && is_frame(carried, point, frame),
+        None => false,
+    }
+}
+
+/// Is it the frame that says this and is heard at the point?
+fn is_frame(carried: Carried, point: Units, frame: HeardFrame) -> bool
+    ensures { result ≡ is_frame (record { cycle = carried.cycle; members = carried.members; point = point }) frame }
+{
+    carried.cycle == frame.cycle
+        && (carried.members.0 == frame.members.0
+            && (point.0 <= frame.point.0 && frame.point.0 <= point.0))
+}
+
+/// Are the two channels one?
+fn is_channel(channel: Channel, other: Channel) -> bool
+    ensures { result ≡ is_channel channel other }
+{
+    match channel {
+        Channel::A => matches!(other, Channel::A),
+        Channel::B => matches!(other, Channel::B),
+    }
+}
+
+/// The channel of a link, which is that of its parent.
+fn channel_of_link(network: &Network, link: LinkId) -> Option<Channel>
+    ensures { result ≡ channel_of_link network.now link }
+{
+    let found = network.link.as_slice().get(link.0 as usize)?;
+    channel_of(network, found.parent)
+}
+
+/// The channel of a switch.
+fn channel_of(network: &Network, device: DeviceId) -> Option<Channel>
+    ensures { result ≡ channel_of network.now device }
+{
+    network.device.as_slice().get(device.0 as usize)?.channel
+}

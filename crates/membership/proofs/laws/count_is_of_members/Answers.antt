@@ -1,5 +1,0 @@
-use Rattle.membership.proofs.CountLemmas.{ones_by_bits}
-use Rattle.membership.proofs.laws.count_is_of_members.Goals as goal
-
-pub returns : goal.returns
-returns c = λ width m small. ones_by_bits width m.0 small

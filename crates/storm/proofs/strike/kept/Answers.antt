@@ -1,8 +1,0 @@
-use Rattle.std.{proofs.Common.{List, ap, arith, ℕ}, specs.Prelude.slice_index}
-use Rattle.storm.proofs.strike.kept.Goals as goal
-
-pub returns-clause-bytes : goal.returns-clause-bytes
-returns-clause-bytes c = λ i.
-    let fits = c.type_inv.octets i in
-    let same = ap (λ (o : List ℕ). slice_index o i) c.new.ensures in
-    omega (arith, fits, same)

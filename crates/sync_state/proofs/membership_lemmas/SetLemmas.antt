@@ -1,0 +1,26 @@
+-- Sets of masters by their bits.
+use Rattle.{pcf_values.specs.declared.members.Members.Members, std.specs.Int.bit_at}
+use Rattle.{std.proofs.Common.{◌↔◌, ◌∙◌, ◌≡◌, ◌⊎◌, ap, arith, inl, inr, sym, ℕ}, sync_state.specs.membership.Members.{IsMember, none, single, union}}
+use Rattle.std.proofs.lemmas.{Bool.cases_eq, Nat.Bits.{bit_at-lt, bit_at-pow_other, bit_at-pow_same, bit_at-zero, bit_at_or, same_from_bits}}
+
+pub single-members : (k i : ℕ) → IsMember i (single k) ↔ (i ≡ k)
+single-members k i = grind (arith, bit_at-pow_same, cases_eq, bit_at-pow_other)
+
+pub union-members : (a b : Members) (i : ℕ) → IsMember i (union a b) ↔ (IsMember i a ⊎ IsMember i b)
+union-members a b i = grind (arith, bit_at_or, cases_eq, bit_at-lt)
+
+pub none-members : (i : ℕ) → IsMember i none → ⊥
+none-members i set = omega (arith, set, bit_at-zero i)
+
+-- two sets of the same masters are one
+pub same_members : (a b : Members) → ((i : ℕ) → IsMember i a ↔ IsMember i b) → a ≡ b
+same_members a b same = ap (λ (n : ℕ). record { 0 = n }) (same_from_bits a.0 b.0 each) where
+  each : (i : ℕ) → bit_at a.0 i ≡ bit_at b.0 i
+  each i = elim (cases_eq (bit_at a.0 i) 1) [
+    | inl set ↦ set ∙ sym ((same i).0 set)
+    | inr clear ↦
+        elim (cases_eq (bit_at b.0 i) 1) [
+          | inl set ↦ absurd (clear ((same i).1 set))
+          | inr too ↦ omega (arith, clear, too, bit_at-lt a.0 i, bit_at-lt b.0 i)
+        ]
+  ]

@@ -1,0 +1,13 @@
+-- How much of a report was read.
+use Rattle.std.specs.{Io.KnownBytes.IsAtEnd, Prelude.{◌≡◌, ◌⊎◌, List, Option, ℕ}}
+use Rattle.tte_forms.specs.declared.status.Status.{Status, TheVariants.{AuditRefused, Done}}
+use Rattle.{tte_io.specs.Whole.TakesSome, tte_forms.specs.networks.Accepting.ForAccepted}
+
+-- octets of a report were taken; where it was judged, by this status, they are all
+pub record TakesReport (left after : Option (List ℕ)) (status : Status) : Type 0 where
+  pub some : TakesSome left after
+  pub whole : (status ≡ Done) ⊎ (status ≡ AuditRefused) → IsAtEnd after
+
+-- octets of a report were taken, for an accepted network
+abbrev pub ReadsReport : Option (List ℕ) → Option (List ℕ) → Option (List ℕ) → Status → Type 0
+ReadsReport first second after status = ForAccepted first (λ network. TakesReport second after status)

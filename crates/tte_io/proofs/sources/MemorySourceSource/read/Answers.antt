@@ -1,0 +1,40 @@
+use Rattle.std.proofs.{Common.{◌+◌, ◌∙◌, ◌≡◌, ◌≤◌, List, ap, arith, drop, drop-drop, length, length-append, length-drop, refl, sym, take, ℕ}}
+use Rattle.std.proofs.lemmas.List.{drop_all, length-take}
+use Rattle.tte_io.{proofs.Taken.given_front, specs.InMemory.SourceState}
+use Rattle.tte_io.proofs.sources.MemorySourceSource.read.Goals as goal
+
+pub returns-clause-octets : goal.returns-clause-octets
+returns-clause-octets c =
+    let s = c.self.inside in
+    let n = c.min-count.result in
+    let state = ap (λ (s : SourceState). s.left) c.self.view_is in
+    let left : c.split_at.result.1.now ≡ c.args.self.now.left =
+    c.split_at.ensures.back ∙ ap (λ (l : List ℕ). drop s.taken l) c.deref.ensures.value ∙ state in
+    let copy : c.copy_from_slice.new.self ≡ take n c.args.self.now.left =
+    c.copy_from_slice.ensures.after ∙ c.split_at-2.ensures.front ∙ ap (λ (l : List ℕ). take n l) left in
+    let size = ap (λ (l : List ℕ). length l) left in
+    let within : n ≤ length c.args.self.now.left = omega (arith, size, c.min.ensures, c.min-count.ensures) in (
+      given_front s.octets.items _ _ (drop n c.args.buf.now) s.taken n state copy within,
+      λ zero some. drop_all (s.taken + n) s.octets.items
+          (omega (
+            arith,
+            zero,
+            some,
+            size,
+            ap (λ (l : List ℕ). length l) state,
+            length-drop s.taken s.octets.items,
+            length-take n c.args.buf.now,
+            length-append c.copy_from_slice.new.self (drop n c.args.buf.now),
+            length-drop n c.args.buf.now,
+            c.copy_from_slice.ensures.len,
+            c.min.ensures,
+            c.min-count.ensures,
+            c.self.invariant.1,
+          )),
+    )
+
+pub returns-clause-ok : goal.returns-clause-ok
+returns-clause-ok c =
+    let s = c.self.inside in
+    let calls = c.next_fails.ensures in
+    rw (sym c.self.view_is, drop-drop c.min-count.result s.taken s.octets.items, calls.counts, calls.failing) refl
