@@ -3,11 +3,11 @@ use audit_devices::Shown;
 use audit_devices::clocks::{
     Moment, Point, Sending, coming_cycle, coming_point, next_sending, reaches, sends,
 };
-use audit_devices::events::EventHistory;
+use audit_law::events::EventHistory;
 use device_rules::PointVerdict;
-use membership::Heard;
 use net_plan::DeviceId;
 use std::test::Fail;
+use sync_state::membership::Heard;
 
 #[test]
 fn a_lone_master_sends_and_then_loses_the_time(rt: HostRuntime) -> Result<(), Fail> {

@@ -1,6 +1,6 @@
 use crate::judges::networks::sender;
-use audit_devices::events::{EventHistory, reading_law};
 use audit_devices::{Standings, Takings};
+use audit_law::events::{EventHistory, reading_law};
 use audit_sweep::records::dispatches::Exits;
 use audit_sweep::records::places::Places;
 use audit_sweep::unpaid::dispatches::RowDebtor;

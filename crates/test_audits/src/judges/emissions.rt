@@ -1,7 +1,7 @@
 use crate::judges::networks::master;
 use audit_devices::Carried;
-use audit_devices::events::EventHistory;
 use audit_devices::stretches::StretchHistory;
+use audit_law::events::EventHistory;
 use audit_sweep::records::places::Places;
 use audit_sweep::unpaid::emissions::first_unemitted;
 use net_plan::{DeviceId, LinkId};

@@ -1,8 +1,8 @@
 ghost use Rattle.std.specs.Prelude.{◌≡◌, ◌≤◌, ◌<◌, [], IfOk, length, unsigned_abs};
-ghost use Rattle.{audit_devices.specs.events.Remembering.{Remembers, RemembersSome}, net_plan.specs.Ranges.IsInRange};
+ghost use Rattle.{audit_law.specs.events.Remembering.{Remembers, RemembersSome}, net_plan.specs.Ranges.IsInRange};
 
 use crate::judges::networks::master;
-use audit_devices::events::{EventHistory, OutOfMemory, Settings, reading_law};
+use audit_law::events::{EventHistory, OutOfMemory, Settings, reading_law};
 use net_plan::{DeviceId, Event, LinkId, Network, Way, What};
 use std::test::Fail;
 use tte_units::{Ppb, Units};

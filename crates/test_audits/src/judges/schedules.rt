@@ -1,6 +1,6 @@
 use crate::judges::networks::sender;
-use audit_devices::events::EventHistory;
 use audit_devices::{Shown, Takings};
+use audit_law::events::EventHistory;
 use audit_sweep::records::dispatches::{
     At, Dispatch, Exits, Loss, loses_dispatch, sends_some, sends_timed,
 };

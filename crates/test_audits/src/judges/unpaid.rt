@@ -1,6 +1,6 @@
 use crate::judges::networks::master;
 use audit_devices::Standings;
-use audit_devices::events::EventHistory;
+use audit_law::events::EventHistory;
 use audit_sweep::records::KeptRecords;
 use audit_sweep::records::places::Places;
 use audit_sweep::unpaid::{Debtor, Paid, Payments};

@@ -1,9 +1,9 @@
 use fault_hypothesis::Watch;
+use fault_hypothesis::storm::{Storm, Words};
 use net_plan::Event;
 use schedule_tables::Accepted;
 use std::process::Abort;
 use std::test::Fail;
-use storm::{Storm, Words};
 use trace_text::{LineRefusal, line};
 use worked_network::{accepted_of, edited, silent};
 

@@ -1,8 +1,8 @@
 use fault_hypothesis::Watch;
+use fault_hypothesis::storm::Storm;
 use std::alloc::Global;
 use std::process::Abort;
 use std::test::Fail;
-use storm::Storm;
 use trace_text::print;
 use tte_forms::accept;
 use tte_io::{MemorySink, MemorySource, SteadySource};

@@ -1,7 +1,7 @@
 ghost use Rattle.std.specs.Prelude.{IfOk};
-ghost use Rattle.audit_devices.specs.collections.Gathered.{IsGathered, IsHeld, IsLatest};
+ghost use Rattle.audit_law.specs.collections.Gathered.{IsGathered, IsHeld, IsLatest};
 
-use audit_devices::collections::{CollectionHistory, Emitted, Gathering};
+use audit_law::collections::{CollectionHistory, Emitted, Gathering};
 use compression::{Compressed, Taken};
 use pcf_values::Members;
 use std::alloc::{AllocError, Global};

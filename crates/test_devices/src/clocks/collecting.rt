@@ -1,5 +1,10 @@
+ghost use Rattle.std.specs.Prelude.{◌-ℤ◌, ◌<ℤ◌, ◌<◌, ◌≡◌, ◌≤ℤ◌, ◌⊎◌, All, IfSome, None, length};
+ghost use Rattle.compression.specs.{Clusters.point_at, Collecting.{emissions, with_joined, with_opened}, Role.open_at};
+ghost use Rattle.tte_units.specs.Reading.{greatest_reading};
+
 use compression::{Collector, Compressed, Points, Taken, middle};
 use pcf_values::Members;
+use std::process::Abort;
 use tte_units::Units;
 
 #[test]
@@ -59,16 +64,60 @@ fn middle_of_eight_points(rt: HostRuntime) {
     assert!(rt; middle(&points) == Units(3));
 }
 
+// The point opens a collection.
+fn opens(rt: &impl Abort, collector: &mut Collector, reading: i64, master: u32, cycle: u32)
+    requires order { collector.old.earliest ≤ℤ reading }
+    requires high { reading ≤ℤ greatest_reading }
+    requires master { master < 32 }
+    requires due { All (λ at. (reading -ℤ collector.old.ow) <ℤ at) (emissions collector.old) }
+    requires none { open_at collector.old.waiting reading ≡ None }
+    ensures { collector.new ≡ with_opened collector.old (point_at reading master cycle) }
+{
+    assert!(rt; collector.point(Units(reading), master, cycle) == Taken::Opened);
+}
+
+// The point joins the open collection.
+fn joins(rt: &impl Abort, collector: &mut Collector, reading: i64, master: u32, cycle: u32)
+    requires order { collector.old.earliest ≤ℤ reading }
+    requires high { reading ≤ℤ greatest_reading }
+    requires master { master < 32 }
+    requires due { All (λ at. (reading -ℤ collector.old.ow) <ℤ at) (emissions collector.old) }
+    requires room { IfSome (open_at collector.old.waiting reading) (λ c. length c.points < 8) }
+    ensures { collector.new ≡ with_joined collector.old (point_at reading master cycle) }
+{
+    assert!(rt; collector.point(Units(reading), master, cycle) == Taken::Joined);
+}
+
+// The point changes nothing.
+fn ignores(
+    rt: &impl Abort,
+    collector: &mut Collector,
+    reading: i64,
+    master: u32,
+    cycle: u32,
+    wanted: Taken,
+)
+    requires order { collector.old.earliest ≤ℤ reading }
+    requires high { reading ≤ℤ greatest_reading }
+    requires master { master < 32 }
+    requires due { All (λ at. (reading -ℤ collector.old.ow) <ℤ at) (emissions collector.old) }
+    requires room { IfSome (open_at collector.old.waiting reading) (λ c. length c.points < 8) }
+    requires wanted { wanted ≡ Taken.Repeat ⊎ wanted ≡ Taken.OtherCycle }
+    ensures { collector.new ≡ collector.old }
+{
+    assert!(rt; collector.point(Units(reading), master, cycle) == wanted);
+}
+
 #[test]
 fn a_collection_takes_points_over_two_windows(rt: HostRuntime) {
     let mut collector = Collector::new(Units(10), Units(1));
     assert!(rt; collector.due() == None);
-    assert!(rt; collector.point(Units(100), 0, 1) == Taken::Opened);
-    assert!(rt; collector.point(Units(105), 0, 1) == Taken::Repeat);
-    assert!(rt; collector.point(Units(106), 1, 2) == Taken::OtherCycle);
-    assert!(rt; collector.point(Units(110), 1, 1) == Taken::Joined);
-    assert!(rt; collector.point(Units(120), 2, 1) == Taken::Joined);
-    assert!(rt; collector.point(Units(121), 3, 1) == Taken::Opened);
+    opens(&rt, &mut collector, 100, 0, 1);
+    ignores(&rt, &mut collector, 105, 0, 1, Taken::Repeat);
+    ignores(&rt, &mut collector, 106, 1, 2, Taken::OtherCycle);
+    joins(&rt, &mut collector, 110, 1, 1);
+    joins(&rt, &mut collector, 120, 2, 1);
+    opens(&rt, &mut collector, 121, 3, 1);
     assert!(rt; collector.due() == Some(Units(131)));
     let first = Compressed {
         opened: Units(100),
@@ -85,8 +134,8 @@ fn a_collection_takes_points_over_two_windows(rt: HostRuntime) {
 #[test]
 fn a_point_beyond_one_window_of_one_master_opens_another(rt: HostRuntime) {
     let mut collector = Collector::new(Units(10), Units(1));
-    assert!(rt; collector.point(Units(100), 0, 1) == Taken::Opened);
-    assert!(rt; collector.point(Units(111), 1, 1) == Taken::Opened);
+    opens(&rt, &mut collector, 100, 0, 1);
+    opens(&rt, &mut collector, 111, 1, 1);
 }
 
 // The window and the time to calculate are those of a network with a precision of 16 us. Each
@@ -99,10 +148,10 @@ fn a_point_beyond_one_window_of_one_master_opens_another(rt: HostRuntime) {
 #[test]
 fn an_early_broken_master_does_not_split_the_others(rt: HostRuntime) {
     let mut collector = Collector::new(Units(1_048_576_000), Units(65_536_000));
-    assert!(rt; collector.point(Units(133_200_224_000), 3, 1) == Taken::Opened);
-    assert!(rt; collector.point(Units(134_148_800_000), 2, 1) == Taken::Joined);
-    assert!(rt; collector.point(Units(134_248_800_000), 1, 1) == Taken::Joined);
-    assert!(rt; collector.point(Units(134_348_800_000), 0, 1) == Taken::Joined);
+    opens(&rt, &mut collector, 133_200_224_000, 3, 1);
+    joins(&rt, &mut collector, 134_148_800_000, 2, 1);
+    joins(&rt, &mut collector, 134_248_800_000, 1, 1);
+    joins(&rt, &mut collector, 134_348_800_000, 0, 1);
     let all = Compressed {
         opened: Units(133_200_224_000),
         at: Units(133_200_224_000 + 2 * 1_048_576_000 + 65_536_000 + 998_576_000),
@@ -115,14 +164,14 @@ fn an_early_broken_master_does_not_split_the_others(rt: HostRuntime) {
 #[test]
 fn five_collections_wait_at_once(rt: HostRuntime) {
     let mut collector = Collector::new(Units(10), Units(10));
-    assert!(rt; collector.point(Units(0), 0, 1) == Taken::Opened);
-    assert!(rt; collector.point(Units(10), 1, 1) == Taken::Joined);
-    assert!(rt; collector.point(Units(20), 2, 1) == Taken::Joined);
-    assert!(rt; collector.point(Units(20), 3, 1) == Taken::Joined);
-    assert!(rt; collector.point(Units(21), 0, 1) == Taken::Opened);
-    assert!(rt; collector.point(Units(32), 0, 1) == Taken::Opened);
-    assert!(rt; collector.point(Units(43), 0, 1) == Taken::Opened);
-    assert!(rt; collector.point(Units(54), 0, 1) == Taken::Opened);
+    opens(&rt, &mut collector, 0, 0, 1);
+    joins(&rt, &mut collector, 10, 1, 1);
+    joins(&rt, &mut collector, 20, 2, 1);
+    joins(&rt, &mut collector, 20, 3, 1);
+    opens(&rt, &mut collector, 21, 0, 1);
+    opens(&rt, &mut collector, 32, 0, 1);
+    opens(&rt, &mut collector, 43, 0, 1);
+    opens(&rt, &mut collector, 54, 0, 1);
     assert!(rt; collector.due() == Some(Units(45)));
     assert!(rt; collector.emit().at == Units(45));
     assert!(rt; collector.emit().at == Units(51));

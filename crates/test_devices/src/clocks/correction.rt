@@ -1,4 +1,4 @@
-use clock_correction::{correction, deviation};
+use sync_state::correction::{correction, deviation};
 use tte_units::Units;
 
 #[test]

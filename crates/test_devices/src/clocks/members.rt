@@ -1,5 +1,5 @@
-use membership::{Heard, HeardFrame, count, join, one};
 use pcf_values::{Channel, Members};
+use sync_state::membership::{Heard, HeardFrame, count, join, one};
 use tte_units::Units;
 
 fn frame(members: u32, point: i64) -> HeardFrame {
@@ -7,6 +7,13 @@ fn frame(members: u32, point: i64) -> HeardFrame {
         cycle: 7,
         members: Members(members),
         point: Units(point),
+    }
+}
+
+/// Hears frames of these members on channels at points, within their windows or outside.
+fn hear(heard: &mut Heard, frames: &[(Channel, u32, i64, bool)]) {
+    for (channel, members, point, within) in frames {
+        heard.hear(*channel, frame(*members, *point), *within);
     }
 }
 
@@ -23,13 +30,16 @@ fn sets_are_bits(rt: HostRuntime) {
 fn most_members_then_the_latest_point_then_the_last(rt: HostRuntime) {
     let mut heard = Heard::default();
     assert!(rt; heard.best(Channel::A) == None);
-    heard.hear(Channel::A, frame(0x7, 10), true);
-    heard.hear(Channel::A, frame(0x3, 90), true);
-    heard.hear(Channel::B, frame(0xf, 50), true);
-    heard.hear(Channel::A, frame(0xf, 99), false);
+    let first = &[
+        (Channel::A, 0x7, 10, true),
+        (Channel::A, 0x3, 90, true),
+        (Channel::B, 0xf, 50, true),
+        (Channel::A, 0xf, 99, false),
+    ];
+    hear(&mut heard, first);
     assert!(rt; heard.best(Channel::A) == Some(frame(0x7, 10)));
-    heard.hear(Channel::A, frame(0xb, 20), true);
-    heard.hear(Channel::A, frame(0xd, 15), true);
+    let later = &[(Channel::A, 0xb, 20, true), (Channel::A, 0xd, 15, true)];
+    hear(&mut heard, later);
     assert!(rt; heard.best(Channel::A) == Some(frame(0xb, 20)));
     heard.hear(Channel::A, frame(0xe, 20), true);
     assert!(rt; heard.best(Channel::A) == Some(frame(0xe, 20)));
@@ -49,9 +59,12 @@ fn a_channel_qualifies_from_the_threshold_on(rt: HostRuntime) {
 #[test]
 fn frames_outside_are_kept_as_one_set(rt: HostRuntime) {
     let mut heard = Heard::new();
-    heard.hear(Channel::A, frame(0x1, 5), false);
-    heard.hear(Channel::B, frame(0x9, 6), false);
-    heard.hear(Channel::A, frame(0x6, 7), true);
+    let frames = &[
+        (Channel::A, 0x1, 5, false),
+        (Channel::B, 0x9, 6, false),
+        (Channel::A, 0x6, 7, true),
+    ];
+    hear(&mut heard, frames);
     assert!(rt; heard.outside() == Members(0x9));
     heard.clear();
     assert!(rt; heard.outside() == Members(0));

@@ -1,8 +1,8 @@
 ghost use Rattle.std.specs.Prelude.{◌≡◌, ◌^◌, ◌≤ℤ◌, pos, neg_ℤ, IfSome};
 
-use membership::{Heard, HeardFrame};
 use pcf_values::{Channel, Mac, Members, Pcf, PcfKind};
 use std::process::Abort;
+use sync_state::membership::{Heard, HeardFrame};
 use sync_state::{Joined, State, Sync, SyncPlan, Verdict};
 use tte_units::Units;
 
@@ -58,32 +58,53 @@ fn reach(rt: &impl Abort, sync: &mut Sync, heard: &Heard) -> Verdict
     sync.at_correction(heard)
 }
 
+/// What was heard of frames of these cycles and members on channels at points, within their windows or outside.
+fn heard_of(frames: &[(Channel, u32, u32, i64, bool)]) -> Heard {
+    let mut heard = Heard::new();
+    for (channel, cycle, members, point, within) in frames {
+        heard.hear(*channel, frame(*cycle, *members, *point), *within);
+    }
+    heard
+}
+
+/// A device that begins on at this time comes to its first correction point: the verdict there, and the device behind.
+fn corrected(rt: &impl Abort, start: i64, heard: &Heard) -> (Verdict, Sync) {
+    let mut sync = Sync::new(PLAN, Some(Units(start)));
+    let verdict = reach(rt, &mut sync, heard);
+    (verdict, sync)
+}
+
 #[test]
 fn devices_that_begin_on_meet_at_the_mean(rt: HostRuntime) {
-    let mut heard = Heard::new();
-    heard.hear(Channel::A, frame(1, 0x7, 139_688_288_000), true);
-    heard.hear(Channel::B, frame(1, 0xe, 139_588_288_000), true);
-    let mut m1 = Sync::new(PLAN, Some(Units(0)));
-    let mut m3 = Sync::new(PLAN, Some(Units(200_000_000)));
-    assert!(rt; reach(&rt, &mut m1, &heard) == Verdict::Corrected(Units(150_000_000)));
-    assert!(rt; reach(&rt, &mut m3, &heard) == Verdict::Corrected(Units(-50_000_000)));
+    let heard = heard_of(&[
+        (Channel::A, 1, 0x7, 139_688_288_000, true),
+        (Channel::B, 1, 0xe, 139_588_288_000, true),
+    ]);
+    let (verdict, m1) = corrected(&rt, 0, &heard);
+    assert!(rt; verdict == Verdict::Corrected(Units(150_000_000)));
     assert!(rt; m1.adjustment() == Units(150_000_000));
-    assert!(rt; m3.adjustment() == Units(150_000_000));
     assert!(rt; m1.state() == State::Synchronised);
     assert!(rt; m1.next_correction() == Some(2));
+    let (verdict, m3) = corrected(&rt, 200_000_000, &heard);
+    assert!(rt; verdict == Verdict::Corrected(Units(-50_000_000)));
+    assert!(rt; m3.adjustment() == Units(150_000_000));
 }
 
 #[test]
 fn one_channel_is_enough(rt: HostRuntime) {
-    let mut heard = Heard::new();
-    heard.hear(Channel::A, frame(1, 0x7, 139_688_288_000), true);
-    heard.hear(Channel::B, frame(1, 0x9, 139_588_288_000), true);
-    let mut c1 = Sync::new(PLAN, Some(Units(0)));
-    assert!(rt; reach(&rt, &mut c1, &heard) == Verdict::Corrected(Units(100_000_000)));
+    let heard = heard_of(&[
+        (Channel::A, 1, 0x7, 139_688_288_000, true),
+        (Channel::B, 1, 0x9, 139_588_288_000, true),
+    ]);
+    let (verdict, _) = corrected(&rt, 0, &heard);
+    assert!(rt; verdict == Verdict::Corrected(Units(100_000_000)));
 }
 
-#[test]
-fn a_joiner_corrects_from_the_cycle_after_its_own(rt: HostRuntime) {
+/// A device that was off, and joined by the frame of cycle 2.
+fn joiner(rt: &impl Abort) -> Sync
+    ensures cycle { result.plan.cycle_length.0 ≡ pos 131072000000 }
+    ensures expected { result.plan.expected.0 ≡ pos 8716288000 }
+{
     let mut m4 = Sync::new(PLAN, None);
     assert!(rt; m4.state() == State::Off);
     assert!(rt; m4.next_correction() == None);
@@ -91,17 +112,19 @@ fn a_joiner_corrects_from_the_cycle_after_its_own(rt: HostRuntime) {
     let point = Units(270_860_288_000);
     assert!(rt; m4.integrate(&control_frame(2, 0x3), point) == None);
     assert!(rt; m4.state() == State::Integrating);
-    let joined = m4.integrate(&control_frame(2, 0x7), point);
-    assert!(rt;
-        joined
-            == Some(Joined {
-                cycle: 2,
-                adjustment: Units(0)
-            })
-    );
+    let joined = Some(Joined {
+        cycle: 2,
+        adjustment: Units(0),
+    });
+    assert!(rt; m4.integrate(&control_frame(2, 0x7), point) == joined);
     assert!(rt; m4.state() == State::Joining);
     assert!(rt; m4.integrate(&control_frame(2, 0x7), point) == None);
+    m4
+}
 
+#[test]
+fn a_joiner_corrects_from_the_cycle_after_its_own(rt: HostRuntime) {
+    let mut m4 = joiner(&rt);
     let mut heard = Heard::new();
     assert!(rt; reach(&rt, &mut m4, &heard) == Verdict::Cleared);
     assert!(rt; m4.state() == State::Joining);
@@ -114,25 +137,27 @@ fn a_joiner_corrects_from_the_cycle_after_its_own(rt: HostRuntime) {
 
 #[test]
 fn a_device_that_is_alone_integrates_again(rt: HostRuntime) {
-    let mut heard = Heard::new();
-    heard.hear(Channel::B, frame(1, 0x9, 139_788_288_000), true);
-    heard.hear(Channel::A, frame(1, 0xf, 9), false);
-    let mut rb = Sync::new(PLAN, Some(Units(0)));
-    assert!(rt; reach(&rt, &mut rb, &heard) == Verdict::SyncClique);
+    let heard = heard_of(&[
+        (Channel::B, 1, 0x9, 139_788_288_000, true),
+        (Channel::A, 1, 0xf, 9, false),
+    ]);
+    let (verdict, rb) = corrected(&rt, 0, &heard);
+    assert!(rt; verdict == Verdict::SyncClique);
     assert!(rt; rb.state() == State::Integrating);
     assert!(rt; rb.next_correction() == None);
 }
 
 #[test]
 fn a_device_outnumbered_from_outside_integrates_again(rt: HostRuntime) {
-    let mut heard = Heard::new();
-    heard.hear(Channel::A, frame(1, 0x7, 139_788_288_000), true);
-    heard.hear(Channel::B, frame(1, 0x18, 139_788_288_000), true);
-    heard.hear(Channel::B, frame(1, 0x3, 9), false);
-    let mut ra = Sync::new(PLAN, Some(Units(0)));
-    assert!(rt; reach(&rt, &mut ra, &heard) == Verdict::Corrected(Units(0)));
+    let mut heard = heard_of(&[
+        (Channel::A, 1, 0x7, 139_788_288_000, true),
+        (Channel::B, 1, 0x18, 139_788_288_000, true),
+        (Channel::B, 1, 0x3, 9, false),
+    ]);
+    let (verdict, _) = corrected(&rt, 0, &heard);
+    assert!(rt; verdict == Verdict::Corrected(Units(0)));
     heard.hear(Channel::A, frame(1, 0x6, 9), false);
-    let mut rb = Sync::new(PLAN, Some(Units(0)));
-    assert!(rt; reach(&rt, &mut rb, &heard) == Verdict::AsyncClique);
+    let (verdict, rb) = corrected(&rt, 0, &heard);
+    assert!(rt; verdict == Verdict::AsyncClique);
     assert!(rt; rb.state() == State::Integrating);
 }

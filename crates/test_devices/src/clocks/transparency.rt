@@ -1,4 +1,4 @@
-use transparent_clock::{arrive, leave, path_law, permanence, waiting_law};
+use drift_clock::transparent::{arrive, leave, path_law, permanence, waiting_law};
 use tte_units::Units;
 
 const DMAX: Units = Units(3_276_800_000);

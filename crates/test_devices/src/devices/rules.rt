@@ -5,7 +5,6 @@ use device_rules::{
     Departed, Entrances, Heading, PointStanding, PointVerdict, Standpoint, departure, heard_as,
     joined_adjustment, point_fault, verdict,
 };
-use membership::{Heard, HeardFrame};
 use net_plan::{DeviceId, LinkId, Network};
 use pcf_values::{Channel, Members};
 use run_law::{Judgement, Reason};
@@ -13,6 +12,7 @@ use std::alloc::Global;
 use std::process::Abort;
 use std::test::Fail;
 use sync_state::State;
+use sync_state::membership::{Heard, HeardFrame};
 use tte_units::Units;
 use worked_network::{network_of, numbers};
 

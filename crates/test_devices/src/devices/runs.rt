@@ -4,19 +4,25 @@ use run_law::{
 };
 use tte_units::Units;
 
+const NUMBERS: &[(Outside, u8)] = &[
+    (Outside::Order, 1),
+    (Outside::Late, 2),
+    (Outside::Rate, 3),
+    (Outside::Wire, 4),
+    (Outside::Hold, 5),
+    (Outside::Channel, 6),
+    (Outside::NotMaster, 7),
+    (Outside::SecondBreak, 8),
+    (Outside::TooFewMasters, 9),
+    (Outside::NotBroken, 10),
+    (Outside::NotOff, 11),
+];
+
 #[test]
 fn the_conditions_are_numbered_as_they_are_judged(rt: HostRuntime) {
-    assert!(rt; Outside::Order.number() == 1);
-    assert!(rt; Outside::Late.number() == 2);
-    assert!(rt; Outside::Rate.number() == 3);
-    assert!(rt; Outside::Wire.number() == 4);
-    assert!(rt; Outside::Hold.number() == 5);
-    assert!(rt; Outside::Channel.number() == 6);
-    assert!(rt; Outside::NotMaster.number() == 7);
-    assert!(rt; Outside::SecondBreak.number() == 8);
-    assert!(rt; Outside::TooFewMasters.number() == 9);
-    assert!(rt; Outside::NotBroken.number() == 10);
-    assert!(rt; Outside::NotOff.number() == 11);
+    for (condition, number) in NUMBERS {
+        assert!(rt; condition.number() == *number, "for {number}");
+    }
 }
 
 #[test]

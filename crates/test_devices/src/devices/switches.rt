@@ -1,5 +1,6 @@
-ghost use Rattle.std.specs.Prelude.{◌≡◌, IfOk, ◌^◌};
-ghost use Rattle.{net_plan.specs.Ranges.IsWithin, switch_ports.specs.Standpoints.IsSiteInRange};
+ghost use Rattle.std.specs.Prelude.{◌≡◌, IfOk, IfSome, ◌^◌};
+ghost use Rattle.net_plan.specs.Ranges.{IsWithin};
+ghost use Rattle.switch_ports.specs.{Leaving.{IsFit, IsHeldFit}, Standpoints.IsSiteInRange};
 
 use device_rules::EnteringRow;
 use device_rules::least_key::{Keys, NO_KEY};
@@ -71,39 +72,34 @@ fn frame(cycle: u32, members: u32) -> Pcf {
     }
 }
 
+// What becomes of a frame of cycle 1 that comes to the relay so long behind the beginning of that cycle.
+fn arrival(site: &Site, late: u16, link: u32, members: u32) -> Arrival
+    requires { IsSiteInRange site.now }
+{
+    let at = Standpoint {
+        state: State::Synchronised,
+        reading: Units(131_072_000_000 + i64::from(late) * 1_000_000),
+        adjustment: Units(0),
+    };
+    site.frame_arrival(&at, LinkId(link), &frame(1, members))
+}
+
 #[test]
 fn a_relay_passes_a_master_s_frame_up(rt: HostRuntime) -> Result<(), Fail> {
     let site = relay(rt.alloc())?;
-    let at = Standpoint {
-        state: State::Synchronised,
-        reading: Units(131_072_000_000),
-        adjustment: Units(0),
-    };
     let grown = Pcf {
         clock: 32_768_000,
         ..frame(1, 1)
     };
-    assert!(rt;
-        site.frame_arrival(&at, LinkId(0), &frame(1, 1)) == Arrival::Passes(grown, Way::Up)
-    );
-    assert!(rt;
-        site.frame_arrival(&at, LinkId(0), &frame(1, 2)) == Arrival::Dropped(Reason::Member)
-    );
-    assert!(rt;
-        site.frame_arrival(&at, LinkId(1), &frame(1, 1)) == Arrival::Dropped(Reason::Member)
-    );
-    let noon = Standpoint {
-        reading: Units(131_072_000_000 + 60_000_000_000),
-        ..at
-    };
-    assert!(rt;
-        site.frame_arrival(&noon, LinkId(0), &frame(1, 1)) == Arrival::Dropped(Reason::Gate)
-    );
+    assert!(rt; arrival(&site, 0, 0, 1) == Arrival::Passes(grown, Way::Up));
+    assert!(rt; arrival(&site, 0, 0, 2) == Arrival::Dropped(Reason::Member));
+    assert!(rt; arrival(&site, 0, 1, 1) == Arrival::Dropped(Reason::Member));
+    assert!(rt; arrival(&site, 60_000, 0, 1) == Arrival::Dropped(Reason::Gate));
     Ok(())
 }
 
-#[test]
-fn a_row_judges_frames(rt: HostRuntime) -> Result<(), Fail> {
+// How a row of the cycles 1, 3, 5 .. with a window from 100 to 300 judges a frame.
+fn judged(length: usize, cycle: u64, place: i128, last: Option<u32>) -> Option<Reason> {
     let row = EnteringRow {
         vl: VlId(0),
         length: 200,
@@ -114,31 +110,52 @@ fn a_row_judges_frames(rt: HostRuntime) -> Result<(), Fail> {
             to: Units(300),
         },
     };
-    assert!(rt; row.fault(200, 3, 100, None) == None);
-    assert!(rt; row.fault(200, 3, 300, Some(1)) == None);
-    assert!(rt; row.fault(201, 3, 200, None) == Some(Reason::Length));
-    assert!(rt; row.fault(200, 2, 200, None) == Some(Reason::Early));
-    assert!(rt; row.fault(200, 3, 99, None) == Some(Reason::Early));
-    assert!(rt; row.fault(200, 3, 301, None) == Some(Reason::Late));
-    assert!(rt; row.fault(200, 3, 200, Some(3)) == Some(Reason::Repeat));
-    Ok(())
+    row.fault(length, cycle, place, last)
 }
 
-fn leaving_row(row: u32, offset: u64) -> LeavingRow
-    ensures offset { result.offset ≡ offset }
-    ensures period { result.period ≡ 2 }
-    ensures link { result.link.0 ≡ 2 }
-    ensures place { result.place ≡ 1 }
+#[test]
+fn a_row_judges_frames(rt: HostRuntime) {
+    for (length, cycle, place, last, fault) in [
+        (200, 3, 100, None, None),
+        (200, 3, 300, Some(1), None),
+        (201, 3, 200, None, Some(Reason::Length)),
+        (200, 2, 200, None, Some(Reason::Early)),
+        (200, 3, 99, None, Some(Reason::Early)),
+        (200, 3, 301, None, Some(Reason::Late)),
+        (200, 3, 200, Some(3), Some(Reason::Repeat)),
+    ] {
+        assert!(rt;
+            judged(length, cycle, place, last) == fault,
+            "at {place} in {cycle}"
+        );
+    }
+}
+
+// A row that leaves by a link and has a place, with what it holds and what it awaits.
+fn departure(link: u8, place: u8, held: Option<Held>, awaited: Option<Held>) -> Departure
+    requires held { IfSome held IsHeldFit }
+    requires awaited { IfSome awaited IsHeldFit }
+    ensures { IsFit result }
 {
-    LeavingRow {
-        row: RowId(row),
-        link: LinkId(2),
+    let of = LeavingRow {
+        row: RowId(7),
+        link: LinkId(u32::from(link)),
         vl: VlId(5),
-        offset,
+        offset: 500,
         period: 2,
         phase: 1,
-        place: 1,
+        place: usize::from(place),
         before: None,
+    };
+    Departure { of, held, awaited }
+}
+
+fn held(cycle: u32, value: u16) -> Held
+    ensures { IsHeldFit result }
+{
+    Held {
+        cycle,
+        value: Units(i64::from(value)),
     }
 }
 
@@ -155,88 +172,57 @@ fn taking(cycle: u32, at: i64) -> Taking
 const CYCLE: Units = Units(10_000);
 
 #[test]
-fn a_row_dispatches_what_is_taken_before_its_place(rt: HostRuntime) -> Result<(), Fail> {
-    let row = leaving_row(7, 500);
-    let held = Held {
-        cycle: 3,
-        value: Units(30_500),
-    };
-    assert!(rt; row.held(CYCLE, &taking(3, 30_499)) == Some(held));
+fn a_row_dispatches_what_is_taken_before_its_place(rt: HostRuntime) {
+    let row = departure(2, 1, None, None).of;
+    assert!(rt; row.held(CYCLE, &taking(3, 30_499)) == Some(held(3, 30_500)));
     assert!(rt; row.held(CYCLE, &taking(3, 30_500)) == None);
     assert!(rt; row.held(CYCLE, &taking(2, 20_100)) == None);
     assert!(rt; row.held(CYCLE, &taking(0, 100)) == None);
-    Ok(())
+}
+
+// What the row holds and what it awaits, where a frame of cycle 3 is taken in the place of an awaited one.
+fn taken_anew(at: i64) -> (Option<Held>, Option<Held>) {
+    let first = Some(held(1, 10_500));
+    let mut departure = departure(2, 1, first, first);
+    departure.take(CYCLE, &taking(3, at), Units(0));
+    (departure.held, departure.awaited)
 }
 
 #[test]
-fn a_new_frame_takes_the_place_of_the_last(rt: HostRuntime) -> Result<(), Fail> {
-    let first = Some(Held {
-        cycle: 1,
-        value: Units(10_500),
-    });
-    let before = Departure {
-        of: leaving_row(7, 500),
-        held: first,
-        awaited: first,
-    };
-    let mut departure = before;
-    departure.take(CYCLE, &taking(3, 30_400), Units(0));
-    let last = Some(Held {
-        cycle: 3,
-        value: Units(30_500),
-    });
-    assert!(rt; departure.held == last && departure.awaited == last);
-    let mut departure = before;
-    departure.take(CYCLE, &taking(3, 30_600), Units(0));
-    assert!(rt; departure.held == None && departure.awaited == None);
-    Ok(())
+fn a_new_frame_takes_the_place_of_the_last(rt: HostRuntime) {
+    let last = Some(held(3, 30_500));
+    assert!(rt; taken_anew(30_400) == (last, last));
+    assert!(rt; taken_anew(30_600) == (None, None));
 }
 
 #[test]
-fn a_correction_tells_anew_what_is_awaited(rt: HostRuntime) -> Result<(), Fail> {
-    let held = Some(Held {
-        cycle: 3,
-        value: Units(30_500),
-    });
-    let mut departure = Departure {
-        of: leaving_row(7, 500),
-        held,
-        awaited: None,
-    };
+fn a_correction_tells_anew_what_is_awaited(rt: HostRuntime) {
+    let held = Some(held(3, 30_500));
+    let mut departure = departure(2, 1, held, None);
     departure.reopen(Units(30_499));
     assert!(rt; departure.awaited == held);
     departure.reopen(Units(30_500));
     assert!(rt; departure.awaited == None && departure.held == held);
-    Ok(())
+}
+
+// The key of a row that leaves by a link, has a place, and awaits a frame of this value.
+fn key(link: u8, place: u8, value: u16) -> u128 {
+    departure(link, place, Some(held(1, 10_500)), Some(held(1, value))).key()
+}
+
+// The key of the same row where it awaits none.
+fn key_of_none(link: u8, place: u8) -> u128 {
+    departure(link, place, Some(held(1, 10_500)), None).key()
 }
 
 #[test]
-fn rows_dispatch_by_values_links_and_places(rt: HostRuntime) -> Result<(), Fail> {
-    let held = Some(Held {
-        cycle: 1,
-        value: Units(10_500),
-    });
-    let next = Departure {
-        of: leaving_row(7, 500),
-        held,
-        awaited: held,
-    };
-    let mut sooner = next;
-    sooner.of.link = LinkId(3);
-    sooner.awaited = Some(Held {
-        cycle: 1,
-        value: Units(10_499),
-    });
-    let mut left = next;
-    left.of.link = LinkId(1);
-    left.of.place = 4;
-    let mut above = next;
-    above.of.place = 0;
-    assert!(rt; sooner.key() < next.key() && left.key() < next.key() && above.key() < next.key());
-    let mut none = next;
-    none.awaited = None;
-    assert!(rt; next.key() < none.key() && none.key() == NO_KEY);
-    Ok(())
+fn rows_dispatch_by_values_links_and_places(rt: HostRuntime) {
+    let next = key(2, 1, 10_500);
+    assert!(rt; key(3, 1, 10_499) < next);
+    assert!(rt; key(1, 4, 10_500) < next);
+    assert!(rt; key(2, 0, 10_500) < next);
+    assert!(rt; next < key_of_none(2, 1));
+    assert!(rt; key_of_none(2, 1) == NO_KEY);
 }
 
 #[test]

@@ -1,6 +1,6 @@
 use crate::calls::try_call;
 use lens::Status;
-use lens::slack::forms::{Form, read_form};
+use lens_slack::forms::{Form, read_form};
 use schedule_tables::Rule;
 use std::test::Fail;
 use worked_network::{call_of_one, words_of};

@@ -1,5 +1,5 @@
 use crate::pictures::drawn::{count_lines, drawn, has_lines, text_of};
-use lens::draw::svg::Span;
+use lens_svg::Span;
 use std::test::Fail;
 use worked_network::CALM;
 

@@ -1,5 +1,5 @@
 use lens::draw::draw_report;
-use lens::draw::svg::Span;
+use lens_svg::Span;
 use std::alloc::Global;
 use std::process::Abort;
 use std::test::Fail;

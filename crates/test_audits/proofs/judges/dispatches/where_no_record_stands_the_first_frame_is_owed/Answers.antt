@@ -1,4 +1,5 @@
-use Rattle.{audit_devices.specs.{Showing.IsSteady, events.Readings.scenario_under}, net_plan.specs.declared.ids.DeviceId.DeviceId, std.proofs.Common.{[], refl}}
+use Rattle.{audit_devices.specs.Showing.IsSteady, audit_law.specs.events.Readings.scenario_under, net_plan.specs.declared.ids.DeviceId.DeviceId}
+use Rattle.std.proofs.Common.{[], refl}
 use Rattle.test_audits.proofs.judges.dispatches.where_no_record_stands_the_first_frame_is_owed.Goals as goal
 
 pub first_undispatched-requires-clause-known : goal.first_undispatched-requires-clause-known

@@ -1,4 +1,4 @@
-use Rattle.{audit_devices.proofs.events_lemmas.OneRate.rate_within, net_plan.specs.declared.ids.DeviceId.DeviceId, std.proofs.Common.{[], refl}}
+use Rattle.{audit_law.proofs.events_lemmas.OneRate.rate_within, net_plan.specs.declared.ids.DeviceId.DeviceId, std.proofs.Common.{[], refl}}
 use Rattle.test_audits.proofs.judges.events.set_rate.Goals as goal
 
 pub add-requires-clause-within : goal.add-requires-clause-within
