@@ -1,6 +1,5 @@
 use pcf_codec::{PcfReader, PcfRefusal, TtRefusal, decode, decode_tt, encode, is_pcf};
 use pcf_values::{Mac, Members, Pcf, PcfKind, TtHead};
-use std::process::Abort;
 
 // What a master with member number 0 sends in cycle 7.
 const FRAME: [u8; 60] = [
@@ -62,18 +61,13 @@ fn a_frame_has_sixty_octets_and_any_padding(rt: HostRuntime) {
     assert!(rt; decode(&octets[..60]) == Ok(value()));
 }
 
-// The reader takes these octets one by one, and has no frame before the last.
-fn feed_each(rt: &impl Abort, reader: &mut PcfReader, octets: &[u8]) {
-    for octet in octets {
-        assert!(rt; reader.take() == None);
-        assert!(rt; reader.feed(&[*octet]) == Ok(1));
-    }
-}
-
 #[test]
 fn a_frame_comes_in_pieces_of_any_length(rt: HostRuntime) {
     let mut reader = PcfReader::new();
-    feed_each(&rt, &mut reader, &FRAME);
+    for octet in FRAME.iter() {
+        assert!(rt; reader.take() == None);
+        assert!(rt; reader.feed(&[*octet]) == Ok(1));
+    }
     assert!(rt; reader.take() == Some(value()));
 
     let mut twice = [0; 120];
@@ -101,17 +95,11 @@ fn a_reader_keeps_to_its_refusal(rt: HostRuntime) {
     }
 }
 
-// Octets with the head of a time-triggered frame.
-fn headed() -> [u8; 1515] {
+#[test]
+fn the_head_of_a_time_triggered_frame_is_read(rt: HostRuntime) {
     let head = [3, 4, 5, 6, 0, 1, 2, 0, 0, 0, 0, 0x11, 0x08, 0];
     let mut octets = [0; 1515];
     octets[..14].copy_from_slice(&head);
-    octets
-}
-
-#[test]
-fn the_head_of_a_time_triggered_frame_is_read(rt: HostRuntime) {
-    let octets = headed();
     let value = TtHead {
         marker: 0x0304_0506,
         id: 1,
@@ -120,11 +108,6 @@ fn the_head_of_a_time_triggered_frame_is_read(rt: HostRuntime) {
         length: 60,
     };
     assert!(rt; decode_tt(&octets[..60]) == Ok(value));
-}
-
-#[test]
-fn other_frames_are_refused(rt: HostRuntime) {
-    let mut octets = headed();
     assert!(rt; decode_tt(&octets[..59]) == Err(TtRefusal::Length(59)));
     assert!(rt; decode_tt(&octets) == Err(TtRefusal::Length(1515)));
     assert!(rt; decode_tt(&FRAME) == Err(TtRefusal::EtherType));
