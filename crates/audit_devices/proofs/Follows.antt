@@ -26,8 +26,7 @@ by_effect s hs device h t body carried readings old new (Hears channel frame wit
 
 effect_met : (network : Network) (device : DeviceId) (s : Scenario) (h : Happening) (t : ℕ) (body : NoteBody) (carried : Carried) (readings : Readings)
     → s.network ≡ network → IsMet s device h t body carried readings → effect_of s.network device h ≡ effect_by network device carried body
-effect_met network device s h t body carried readings of met =
-    grind (arith, effect_by, carried_by)
+effect_met network device s h t body carried readings of met = grind (arith, effect_by, carried_by)
 
 -- what follows a record is what the records with it show
 pub follows : (network : Network) (device : DeviceId) (t : ℕ) (body : NoteBody) (carried : Carried) (readings : Readings) (old new : Shown) (e : Effect)

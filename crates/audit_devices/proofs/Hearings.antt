@@ -8,19 +8,16 @@ use Rattle.{audit_devices.{proofs.Words.{time_of, ℕ}, specs.Showing.IsSteady},
 
 -- it is heard where so many points have come
 heard_there : (s : Scenario) (hs : List Happening) (device : DeviceId) (h : Happening) (shown : Shown) (hearing : Hearing) (points : ℕ)
-    → TellsAs s device h (Hears hearing.channel hearing.frame hearing.within)
-    → points ≡ points_by s.network shown (s.reading device (time_of h - 1))
+    → TellsAs s device h (Hears hearing.channel hearing.frame hearing.within) → points ≡ points_by s.network shown (s.reading device (time_of h - 1))
     → heard_at s (hs ++ h ∷ []) device shown points ≡ heard_at s hs device shown points ++ hearing ∷ []
-heard_there s hs device h shown hearing points t is =
-    grind (arith, hearing_by, kept_where, eqb_same, heard_on, heard_at, filter_map, cons_option)
+heard_there s hs device h shown hearing points t is = grind (arith, hearing_by, kept_where, eqb_same, heard_on, heard_at, filter_map, cons_option)
 
 -- and nowhere else
 heard_else : (s : Scenario) (hs : List Happening) (device : DeviceId) (h : Happening) (shown : Shown) (hearing : Hearing) (points more : ℕ)
     → TellsAs s device h (Hears hearing.channel hearing.frame hearing.within)
     → points ≡ points_by s.network shown (s.reading device (time_of h - 1)) → points < more
     → heard_at s (hs ++ h ∷ []) device shown more ≡ heard_at s hs device shown more
-heard_else s hs device h shown hearing points more t is lt =
-    grind (arith, hearing_by, kept_where, goes_on, heard_on, heard_at, filter_map, append-nil)
+heard_else s hs device h shown hearing points more t is lt = grind (arith, hearing_by, kept_where, goes_on, heard_on, heard_at, filter_map, append-nil)
 
 -- what is kept of what was heard where so many points had come
 pub kept_then : (s : Scenario) (hs : List Happening) (device : DeviceId) (shown : Shown) (points : ℕ) → Shows s hs device shown → shown.come ≤ points

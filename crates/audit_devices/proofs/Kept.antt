@@ -63,8 +63,7 @@ abbrev entry_of : Happening → Shown → Entry
 entry_of h shown = record { place = place_of h; shown = shown }
 
 pub kept_on : (s : Scenario) (hs : List Happening) (d : DeviceId) (h : Happening) (old new : History) (shown : Shown)
-    → AllBefore place_of hs (place_of h) → new.first ≡ old.first
-    → new.entries.items ≡ old.entries.items ++ record { place = place_of h; shown = shown } ∷ []
+    → AllBefore place_of hs (place_of h) → new.first ≡ old.first → new.entries.items ≡ old.entries.items ++ record { place = place_of h; shown = shown } ∷ []
     → Shows s (hs ++ h ∷ []) d shown → Keeps s hs d old → Keeps s (hs ++ h ∷ []) d new
 kept_on s hs d h old new shown all first items shows keeps = record {
   latest = subst (Shows s (hs ++ h ∷ []) d) (sym (ap (shown_of new.first) items ∙ newest (old.entries.items))) shows;
@@ -102,11 +101,7 @@ kept_on s hs d h old new shown all first items shows keeps = record {
     by_entry e (inl there) =
         let r = keeps.places e there in
         record { h = r.h; there = in_left r.h hs (h ∷ []) r.there; place = r.place }
-    by_entry e (inr (inl same)) = record {
-      h = h;
-      there = in_right h hs (h ∷ []) (inl refl);
-      place = ap (λ (x : Entry). x.place) same;
-    }
+    by_entry e (inr (inl same)) = record { h = h; there = in_right h hs (h ∷ []) (inl refl); place = ap (λ (x : Entry). x.place) same }
     by_entry e (inr (inr none)) = absurd none
 
     ordered : (place : List ℕ) → is_before (place_of h) place ≡ true → (y : Entry) → IsIn y old.entries.items → is_before y.place place ≡ true

@@ -20,8 +20,7 @@ also_on_ok (Err e) P Q also holds = tt
 -- ---- the step
 
 pub all_still : (s : Scenario) (hs : List Happening) (h : Happening) (body : NoteBody) (histories : List History) → h.note.body ≡ body
-    → ((device : DeviceId) → device.0 < length histories → subject_of body ≡ Some device → ⊥) → KeepsAll s hs histories
-    → KeepsAll s (hs ++ h ∷ []) histories
+    → ((device : DeviceId) → device.0 < length histories → subject_of body ≡ Some device → ⊥) → KeepsAll s hs histories → KeepsAll s (hs ++ h ∷ []) histories
 all_still s hs h body histories is none keeps device history there =
     kept_still s hs device h history
     (nothing_of s.network device (carried_by h) h.note.body
@@ -35,8 +34,7 @@ all_on s hs h d new histories subject within kept keeps device history there =
       | inl same ↦
           let mk : ℕ → DeviceId = λ n. record { 0 = n } in
           let one : d ≡ device = ap mk same in
-          let found : Some new ≡ Some history =
-          sym (set_same histories d.0 new within) ∙ ap (slice_get (slice_set histories d.0 new)) same ∙ there in
+          let found : Some new ≡ Some history = sym (set_same histories d.0 new within) ∙ ap (slice_get (slice_set histories d.0 new)) same ∙ there in
           let is : new ≡ history = cc in
           subst (λ (x : DeviceId). Keeps s (hs ++ h ∷ []) x history) one (subst (Keeps s (hs ++ h ∷ []) d) is kept)
       | inr (inl lt) ↦ other (λ e. absurd (omega (arith, e, lt)))
@@ -54,14 +52,12 @@ all_on s hs h d new histories subject within kept keeps device history there =
 
 pub place_met : (s : Scenario) (d : DeviceId) (h : Happening) (t : ℕ) (body : NoteBody) (carried : Carried) (readings : Readings)
     → IsMet s d h t body carried readings → place_at t carried.members.0 body ≡ place_of h
-place_met s d h t body carried readings met =
-    grind (arith, place_at, time_of, members_in)
+place_met s d h t body carried readings met = grind (arith, place_at, time_of, members_in)
 
 -- ---- before a time
 
 pub earlier_are : (t : ℕ) (hs : List Happening) → records_before (t ∷ []) hs ≡ earlier t hs
-earlier_are t hs =
-    same_kept (λ h. is_before (place_of h) (t ∷ [])) (λ h. nat_lt (time_of h) t) hs (λ h i. no_more (nat_lt (time_of h) t) (time_of h == t))
+earlier_are t hs = same_kept (λ h. is_before (place_of h) (t ∷ [])) (λ h. nat_lt (time_of h) t) hs (λ h i. no_more (nat_lt (time_of h) t) (time_of h == t))
 
 -- ---- at first
 
@@ -73,8 +69,7 @@ shown_then place first es = shown_last first (filter (λ e. is_before e.place pl
 
 pub kept_first : (s : Scenario) (network : Network) (d : DeviceId) (history : History) → s.network ≡ network → IsSteady s d → IsFresh network d history
     → Keeps s [] d history
-kept_first s network d history is steady fresh =
-    grind (arith, length)
+kept_first s network d history is steady fresh = grind (arith, length)
 
 -- one more history that is fresh
 pub fresh_more : (network : Network) (xs : List History) (x : History)

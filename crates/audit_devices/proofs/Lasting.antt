@@ -13,8 +13,7 @@ by_time (x ∷ xs) t lt = no_more (nat_lt x t) (x == t)
 -- the entries before a time that is none later than that of the entry behind the point are those up to the point
 pub front_at : (items : List Entry) (time point t : ℕ) → ((place : List ℕ) → IsPartitionedBy (λ e. is_before e.place place) items)
     → point ≤ length items → IsPartitionPoint (λ e. nat_le (time_at e.place) time ≡ true) (λ e. nat_le (time_at e.place) time ≡ false) items point
-    → time < t → ((e : Entry) → slice_get items point ≡ Some e → t ≤ time_at e.place)
-    → filter (λ e. is_before e.place (t ∷ [])) items ≡ take point items
+    → time < t → ((e : Entry) → slice_get items point ≡ Some e → t ≤ time_at e.place) → filter (λ e. is_before e.place (t ∷ [])) items ≡ take point items
 front_at items time point t order bound parts lt next =
     kept_front (λ e. is_before e.place (t ∷ [])) items point bound (
       λ k d some here.
@@ -51,8 +50,7 @@ lasting history time point next order bound parts up later t lt le =
 pub later_at : (items : List Entry) (time point : ℕ) (e : Entry)
     → IsPartitionPoint (λ e. nat_le (time_at e.place) time ≡ true) (λ e. nat_le (time_at e.place) time ≡ false) items point
     → slice_get items point ≡ Some e → time < time_at e.place
-later_at items time point e parts is =
-    grind (arith, got_within, get_or, slice_get-get_or, time_at, leb-false)
+later_at items time point e parts is = grind (arith, got_within, get_or, slice_get-get_or, time_at, leb-false)
 
 -- the entries up to a time are the first
 pub ordered_by : (items : List Entry) (time : ℕ) → ((place : List ℕ) → IsPartitionedBy (λ e. is_before e.place place) items)

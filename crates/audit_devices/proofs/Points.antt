@@ -15,8 +15,7 @@ quotients a b n some le = le-div (a / n) b n some (omega (arith, div-mul-le_self
 
 -- the quotient does not fall
 quotient_on : (a b c : ℤ) → pos 0 <ℤ c → pos 0 ≤ℤ a → a ≤ℤ b → natural (int_div_euclid a c) ≤ natural (int_div_euclid b c)
-quotient_on a b c some low le =
-    grind (arith, whole, ints, quotients)
+quotient_on a b c some low le = grind (arith, whole, ints, quotients)
 
 come_on : (p q r : Bool) (m n : ℕ) → (q ≡ true → r ≡ true) → (q ≡ true → m ≤ n) → (if p && q then m + 1 else 0) ≤ (if p && r then n + 1 else 0)
 come_on false q r m n more le = omega arith
@@ -51,14 +50,12 @@ not_counted p q m e = sym (ap (λ (b : Bool). if b then m + 1 else 0) e)
 pub then_comes : (network : Network) (shown : Shown) (before first n r : ℕ) → pos first ≡ correction_value network shown.cycle
     → shown.at_change <ℤ pos first → pos first ≤ℤ (pos before +ℤ shown.adjustment) → pos n ≡ ((pos before +ℤ shown.adjustment) -ℤ pos first)
     → r ≡ natural (int_div_euclid (pos n) network.cycle.0) → r + 1 ≡ points_by network shown before
-then_comes network shown before first n r is below reached apart value =
-    grind (arith, counted, int_lt-from, int_le-from)
+then_comes network shown before first n r is below reached apart value = grind (arith, counted, int_lt-from, int_le-from)
 
 -- where it has passed that value at the change
 pub has_passed : (network : Network) (shown : Shown) (before first : ℕ) → pos first ≡ correction_value network shown.cycle
     → pos first ≤ℤ shown.at_change → 0 ≡ points_by network shown before
-has_passed network shown before first is passed =
-    grind (arith, not_below, not_counted)
+has_passed network shown before first is passed = grind (arith, not_below, not_counted)
 
 -- where it has not come to it
 pub not_come : (network : Network) (shown : Shown) (before first : ℕ) → pos first ≡ correction_value network shown.cycle

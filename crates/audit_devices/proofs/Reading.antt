@@ -17,8 +17,7 @@ pub record ShowsPoints (s : Scenario) (es : List Happening) (device : DeviceId) 
 -- so many correction points have come
 pub points_are : (s : Scenario) (hs : List Happening) (device : DeviceId) (shown : Shown) (t by : ℕ) → ShowsPoints s (earlier t hs) device shown
     → points_come s hs device t by ≡ points_by s.network shown (s.reading device (by - 1))
-points_are s hs device shown t by is =
-    grind arith
+points_are s hs device shown t by is = grind arith
 
 pub points_shown : (s : Scenario) (hs : List Happening) (device : DeviceId) (shown : Shown) → Shows s hs device shown → ShowsPoints s hs device shown
 points_shown s hs device shown sh = record { adjustment = sh.adjustment; cycle = sh.cycle; at_change = sh.at_change }
@@ -26,27 +25,23 @@ points_shown s hs device shown sh = record { adjustment = sh.adjustment; cycle =
 -- ---- records that change nothing count for nothing
 
 fold_by : {X B : Type 0} (f : B → X → B) (p : X → Bool) (a : B) (x : X) (xs : List X) → (b : Bool)
-    → ((c : B) → fold f c (filter p xs) ≡ fold f c xs) → (b ≡ false → f a x ≡ a)
-    → fold f a (if b then x ∷ filter p xs else filter p xs) ≡ fold f a (x ∷ xs)
+    → ((c : B) → fold f c (filter p xs) ≡ fold f c xs) → (b ≡ false → f a x ≡ a) → fold f a (if b then x ∷ filter p xs else filter p xs) ≡ fold f a (x ∷ xs)
 fold_by f p a x xs true more still = more (f a x)
 fold_by {X} {B} f p a x xs false more still = more a ∙ ap (λ (c : B). fold f c xs) (sym (still refl))
 
 fold_through : {X B : Type 0} (f : B → X → B) (p : X → Bool) (a : B) (xs : List X) → ((x : X) → IsIn x xs → p x ≡ false → (b : B) → f b x ≡ b)
     → fold f a (filter p xs) ≡ fold f a xs
 fold_through f p a [] still = refl
-fold_through f p a (x ∷ xs) still =
-    fold_by f p a x xs (p x) (λ c. fold_through f p c xs (λ y i. still y (inr i))) (λ e. still x (inl refl) e a)
+fold_through f p a (x ∷ xs) still = fold_by f p a x xs (p x) (λ c. fold_through f p c xs (λ y i. still y (inr i))) (λ e. still x (inl refl) e a)
 
 filter_by : {X : Type 0} (q p : X → Bool) (x : X) (xs : List X) → (b : Bool) → filter q (filter p xs) ≡ filter q xs → (b ≡ false → q x ≡ false)
     → filter q (if b then x ∷ filter p xs else filter p xs) ≡ filter q (x ∷ xs)
 filter_by {X} q p x xs true more still = ap (λ (ys : List X). if q x then x ∷ ys else ys) more
-filter_by {X} q p x xs false more still =
-    more ∙ ap (λ (b : Bool). if b then x ∷ filter q xs else filter q xs) (sym (still refl))
+filter_by {X} q p x xs false more still = more ∙ ap (λ (b : Bool). if b then x ∷ filter q xs else filter q xs) (sym (still refl))
 
 filter_through : {X : Type 0} (q p : X → Bool) (xs : List X) → ((x : X) → IsIn x xs → p x ≡ false → q x ≡ false) → filter q (filter p xs) ≡ filter q xs
 filter_through q p [] still = refl
-filter_through q p (x ∷ xs) still =
-    filter_by q p x xs (p x) (filter_through q p xs (λ y i. still y (inr i))) (still x (inl refl))
+filter_through q p (x ∷ xs) still = filter_by q p x xs (p x) (filter_through q p xs (λ y i. still y (inr i))) (still x (inl refl))
 
 cycle_still : (e : Effect) (next : ℕ) → changes_by e ≡ false → cycle_by next e ≡ next
 cycle_still Nothing next same = refl
@@ -105,8 +100,7 @@ heard_since_is s hs device shown t after sh =
 
 pub number_is : (s : Scenario) (hs : List Happening) (device : DeviceId) (shown : Shown) (t : ℕ) → Shows s (earlier t hs) device shown
     → shown.cycle + points_by s.network shown (s.reading device (t - 1)) ≡ next_number s hs device t
-number_is s hs device shown t sh =
-    grind (arith, points_by, points_are, points_shown)
+number_is s hs device shown t sh = grind (arith, points_by, points_are, points_shown)
 
 -- ---- when a frame is heard
 
@@ -122,8 +116,7 @@ hearing_adjustment s hs device shown t late only sh =
     (λ h i fails old.
     let parts = neither (nat_lt (time_of h) t) (is_joined_by device h.note.body) fails in
     let t' = tells s device h h.note.body in
-    let same : changes_adjustment device h.note.body ≡ false =
-    sym (only h i (omega (arith, ltb-false (time_of h) t parts.0, late h i))) ∙ parts.1 in
+    let same : changes_adjustment device h.note.body ≡ false = sym (only h i (omega (arith, ltb-false (time_of h) t parts.0, late h i))) ∙ parts.1 in
     t'.adjustment_is old ∙ adjustment_still s device (effect_of s.network device h) old (sym t'.changes_is ∙ same))))
   where
     neither : (a b : Bool) → (a || b) ≡ false → (a ≡ false) × (b ≡ false)

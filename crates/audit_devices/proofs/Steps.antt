@@ -46,13 +46,11 @@ integrated_on s hs device h e t =
 
 pub joined_on : (s : Scenario) (hs : List Happening) (device : DeviceId) (h : Happening) (e : Effect) → TellsAs s device h e
     → (if joins_by e then Some (time_of h) else last_joining hs device) ≡ last_joining (with_one hs h) device
-joined_on s hs device h e t =
-    ap (λ (b : Bool). if b then Some (time_of h) else last_joining hs device) (sym t.joins_is) ∙ sym (fold-append _ _ hs (h ∷ []))
+joined_on s hs device h e t = ap (λ (b : Bool). if b then Some (time_of h) else last_joining hs device) (sym t.joins_is) ∙ sym (fold-append _ _ hs (h ∷ []))
 
 changed_at_once : (hs : List Happening) (device : DeviceId) (h : Happening) → changes_adjustment device h.note.body ≡ true
     → time_of h ≡ last_change (with_one hs h) device
-changed_at_once hs device h is =
-    grind (arith, changes_adjustment, option_map_or, time_of, last_or, filter_on, last_pushed, filter)
+changed_at_once hs device h is = grind (arith, changes_adjustment, option_map_or, time_of, last_or, filter_on, last_pushed, filter)
 
 pub unchanged : (hs : List Happening) (device : DeviceId) (h : Happening) → changes_adjustment device h.note.body ≡ false
     → last_change hs device ≡ last_change (with_one hs h) device
@@ -68,26 +66,22 @@ pub heard_on : (s : Scenario) (hs : List Happening) (device : DeviceId) (h : Hap
     → changes_adjustment device h.note.body ≡ false → heard_at s (with_one hs h) device shown points
     ≡ heard_at s hs device shown points
     ++ filter_map (λ x. hearing_by s.network device x x.note.body) (if kept_where s device shown points h then h ∷ [] else [])
-heard_on s hs device h shown points same =
-    grind (arith, changes_adjustment, hearing_by, after_more, filter_map, filter, filter-append, filter_map-append)
+heard_on s hs device h shown points same = grind (arith, changes_adjustment, hearing_by, after_more, filter_map, filter, filter-append, filter_map-append)
 
 -- nothing more is heard by a record that tells nothing heard
 heard_same : (s : Scenario) (hs : List Happening) (device : DeviceId) (h : Happening) (shown : Shown) (points : ℕ)
     → changes_adjustment device h.note.body ≡ false → hearing_by s.network device h h.note.body ≡ None
     → heard_at s (with_one hs h) device shown points ≡ heard_at s hs device shown points
-heard_same s hs device h shown points same none =
-    grind (arith, hearing_by, heard_on, heard_at, append-nil, filter_map, cons_option)
+heard_same s hs device h shown points same none = grind (arith, hearing_by, heard_on, heard_at, append-nil, filter_map, cons_option)
 
 -- nothing is heard since a change
 heard_none : (s : Scenario) (hs : List Happening) (device : DeviceId) (h : Happening) (shown : Shown) (points : ℕ)
     → changes_adjustment device h.note.body ≡ true → heard_at s (with_one hs h) device shown points ≡ []
-heard_none s hs device h shown points is =
-    grind (arith, changes_adjustment, hearing_by, filter_map, filter, after_one)
+heard_none s hs device h shown points is = grind (arith, changes_adjustment, hearing_by, filter_map, filter, after_one)
 
 has_joined_on : (s : Scenario) (hs : List Happening) (device : DeviceId) (h : Happening) (e : Effect) (t : ℕ) → TellsAs s device h e
     → has_joined_at (with_one hs h) device t ≡ (has_joined_at hs device t || (time_of h == t && joins_by e))
-has_joined_on s hs device h e t told =
-    grind (arith, list_any-append, time_of, is_joined_by)
+has_joined_on s hs device h e t told = grind (arith, list_any-append, time_of, is_joined_by)
 
 -- no frame tells it the time at this time by a record that tells it of none
 pub not_joined : (s : Scenario) (hs : List Happening) (device : DeviceId) (h : Happening) (e : Effect) (t : ℕ) → TellsAs s device h e
@@ -99,8 +93,7 @@ not_joined s hs device h e t told none =
 
 none_earlier : (hs : List Happening) (device : DeviceId) (t : ℕ) → ((x : Happening) → IsIn x hs → time_of x < t) → has_joined_at hs device t ≡ false
 none_earlier [] device t each = refl
-none_earlier (x ∷ hs) device t each =
-    grind (arith, is_joined_by, ne_eqb, time_of, (none_earlier hs device t (λ y i. each y (inr i))))
+none_earlier (x ∷ hs) device t each = grind (arith, is_joined_by, ne_eqb, time_of, (none_earlier hs device t (λ y i. each y (inr i))))
 
 -- at the time of a record by which one does, it is that of the last that does
 joined_last : (s : Scenario) (hs : List Happening) (device : DeviceId) (h : Happening) (e : Effect) (t : ℕ) → TellsAs s device h e
@@ -172,8 +165,7 @@ quiet s hs device h shown is sh =
 
 pub corrected : (s : Scenario) (hs : List Happening) (device : DeviceId) (h : Happening) (shown : Shown) (cycle : ℕ) (adjustment : Units) (t reading : ℕ)
     → effect_of s.network device h ≡ Corrects cycle adjustment → t ≡ time_of h → reading ≡ s.reading device (time_of h)
-    → Summarizes silence [] → Shows s hs device shown
-    → Shows s (hs ++ h ∷ []) device (changed_to shown adjustment.0 (cycle + 1) t reading)
+    → Summarizes silence [] → Shows s hs device shown → Shows s (hs ++ h ∷ []) device (changed_to shown adjustment.0 (cycle + 1) t reading)
 corrected s hs device h shown cycle adjustment time reading is at reads none sh =
     let t = told s device h (Corrects cycle adjustment) is in
     let new = changed_to shown adjustment.0 (cycle + 1) time reading in
@@ -195,8 +187,7 @@ corrected s hs device h shown cycle adjustment time reading is at reads none sh 
 
 pub joined : (s : Scenario) (hs : List Happening) (device : DeviceId) (h : Happening) (shown : Shown) (cycle own : ℕ) (point : Units) (t reading : ℕ)
     → effect_of s.network device h ≡ Joins cycle own point → NoneLater (time_of h) hs → t ≡ time_of h → reading ≡ s.reading device (time_of h)
-    → Summarizes silence [] → Shows s hs device shown
-    → Shows s (hs ++ h ∷ []) device (joined_to shown (joined_adjustment s device own point).0 cycle t reading)
+    → Summarizes silence [] → Shows s hs device shown → Shows s (hs ++ h ∷ []) device (joined_to shown (joined_adjustment s device own point).0 cycle t reading)
 joined s hs device h shown cycle own point time reading is late at reads none sh =
     let e : Effect = Joins cycle own point in
     let t = told s device h e is in

@@ -75,8 +75,7 @@ taken_fits device vl t link cause at number (notes.Accepted other by from of_vl 
       | inl none ↦ inl none
       | inr (some, same, says) ↦ inr (e, some, same, says)
     ]
-taken_fits device vl t link cause at number (notes.Delivered other by from of_vl cycle) =
-    grind (arith, both_fit, is_taking_before, came)
+taken_fits device vl t link cause at number (notes.Delivered other by from of_vl cycle) = grind (arith, both_fit, is_taking_before, came)
 taken_fits device vl t link cause at number body = inl (refl, refl)
 
 pub last_taken_is : (hs : List Happening) (device : DeviceId) (t : ℕ) (link : LinkId) (cause : ℕ) (vl : VlId)
@@ -99,8 +98,7 @@ none_below : (a b : Bool) → a ≡ false → (a || (b && false)) ≡ false
 none_below a b e = no_more a b ∙ e
 
 came_earlier : (at t by from : ℕ) → nat_lt at t ≡ (nat_lt at t || (at == t && (nat_lt by 0 || (by == 0 && (nat_lt from 0 || (from == 0 && false))))))
-came_earlier at t by from =
-    grind (arith, none_below, nat_lt, le-ltb, no_more)
+came_earlier at t by from = grind (arith, none_below, nat_lt, le-ltb, no_more)
 
 switch_fit : (z x y : Bool) (e : Taking) (passes : Bool) → z ≡ passes → (((if x && y then Some e else None) ≡ None) × ((z && (x && y)) ≡ false))
     ⊎ (((if x && y then Some e else None) ≡ Some e) × ((z && (x && y)) ≡ passes) × ((if x && y then Some e else None) ≡ Some e))
@@ -110,8 +108,7 @@ switch_fit z true false e passes same = inl (refl, none_shorter z)
 switch_fit z false y e passes same = inl (refl, none_shorter z)
 
 accepted_fits : (network : Network) (device : DeviceId) (vl : VlId) (t at number : ℕ) (body : NoteBody) → is_end network device ≡ false
-    → TakesRightly network body
-    → AcceptedFits device vl t at number body
+    → TakesRightly network body → AcceptedFits device vl t at number body
 accepted_fits network device vl t at number (notes.Accepted other by from of_vl cycle) switch right =
     grind (arith, switch_fit, nat_lt, is_taking_before, came_earlier)
 accepted_fits network device vl t at number (notes.Delivered other by from of_vl cycle) switch right = by_device (device.0 == other.0) refl
@@ -126,8 +123,7 @@ accepted_fits network device vl t at number (notes.Delivered other by from of_vl
 accepted_fits network device vl t at number body switch right = inl (refl, none_shorter (nat_lt at t))
 
 pub last_accepted_is : (network : Network) (hs : List Happening) (device : DeviceId) (vl : VlId) (t : ℕ) → is_end network device ≡ false
-    → ((h : Happening) → IsIn h hs → TakesRightly network h.note.body)
-    → option_and_then (taking_of device vl) (last_accepted hs device vl t)
+    → ((h : Happening) → IsIn h hs → TakesRightly network h.note.body) → option_and_then (taking_of device vl) (last_accepted hs device vl t)
     ≡ last_or None (filter (is_taking_before t (record { 0 = 0 }) 0) (takings_of hs device vl))
 last_accepted_is network hs device vl t switch rightly =
     ap (λ (xs : List Happening). option_and_then (taking_of device vl) (last_or None xs))
@@ -167,10 +163,8 @@ taking_rank network device = if is_end network device then 12 else 11
 
 placed : (network : Network) (device : DeviceId) (vl : VlId) (at number members : ℕ) (body : NoteBody) (e : Taking) → TakesRightly network body
     → option_and_then (taken_at device vl) (taken_by at number body) ≡ Some e → place_at at members body ≡ taking_place (taking_rank network device) device e
-placed network device vl at number members (notes.Accepted other by from of_vl cycle) e right made =
-    grind (arith, taken_so, alike)
-placed network device vl at number members (notes.Delivered other by from of_vl cycle) e right made =
-    grind (arith, taken_so, alike)
+placed network device vl at number members (notes.Accepted other by from of_vl cycle) e right made = grind (arith, taken_so, alike)
+placed network device vl at number members (notes.Delivered other by from of_vl cycle) e right made = grind (arith, taken_so, alike)
 placed network device vl at number members body e right made = absurd cc
 
 came_first : (r d t l c u m k : ℕ) → IsBefore (t ∷ r ∷ d ∷ l ∷ c ∷ []) (u ∷ r ∷ d ∷ m ∷ k ∷ []) → IsBefore (t ∷ l ∷ c ∷ []) (u ∷ m ∷ k ∷ [])
@@ -234,8 +228,7 @@ taken_on network hs h old new count more right all has = record {
 -- what the record of this time, number and body says was taken
 pub told_by : (h : Happening) (time number : ℕ) (body : NoteBody) → time ≡ time_of h → number ≡ h.note.number → h.note.body ≡ body
     → taken_by (time_of h) h.note.number h.note.body ≡ taken_by time number body
-told_by h time number body at count is =
-    grind (arith, time_of)
+told_by h time number body at count is = grind (arith, time_of)
 
 -- a record by which nothing was taken
 pub nothing_taken : (h : Happening) (device : DeviceId) (vl : VlId) (taken : List Taking) → taken_by (time_of h) h.note.number h.note.body ≡ None
@@ -248,14 +241,12 @@ of_other device vl t not = ap (λ (b : Bool). if b && vl.0 == t.vl.0 then Some t
 -- a record by which another device took something
 pub other_taken : (h : Happening) (device : DeviceId) (vl : VlId) (t : Taken) (taken : List Taking) → taken_by (time_of h) h.note.number h.note.body ≡ Some t
     → (device.0 ≡ t.device.0 → ⊥) → taken ≡ more_by (taking_of device vl h) taken
-other_taken h device vl t taken is not =
-    ap (λ o. more_by o taken) (sym (ap (option_and_then (taken_at device vl)) is ∙ of_other device vl t not))
+other_taken h device vl t taken is not = ap (λ o. more_by o taken) (sym (ap (option_and_then (taken_at device vl)) is ∙ of_other device vl t not))
 
 -- a record by which the device took something
 pub this_taken : (h : Happening) (device : DeviceId) (vl : VlId) (t : Taken) (taken : List Taking) → taken_by (time_of h) h.note.number h.note.body ≡ Some t
     → device.0 ≡ t.device.0 → (if vl.0 == t.vl.0 then taken ++ t.taking ∷ [] else taken) ≡ more_by (taking_of device vl h) taken
-this_taken h device vl t taken is same =
-    grind (arith, eq-eqb)
+this_taken h device vl t taken is same = grind (arith, eq-eqb)
 
 -- ---- what is kept of one device
 

@@ -2,7 +2,7 @@
 use Rattle.audit_devices.proofs.Words.{◌+◌, ◌==◌, ◌≡◌, Bool, Corrects, DeviceId, Effect, Happening, Hearing, Hears, Joins, None, NoteBody, Nothing, Option}
 use Rattle.audit_devices.proofs.Words.{Scenario, Some, Turns, Units, carried_by, changes_adjustment, effect_by, false, hearing_by, if◌then◌else◌, is_joined_by}
 use Rattle.{audit_devices.{proofs.Words.{option_map, true, ℕ}, specs.Effects.heard_on}, sync_state.specs.declared.state.State.State}
-use Rattle.{pcf_values.specs.declared.channel.Channel.Channel, run_law.specs.control.Corrections.{cycle_after, heard_by}, std.proofs.Common.arith}
+use Rattle.{run_law.specs.control.Corrections.{cycle_after, heard_by}, std.proofs.Common.arith, tte_units.specs.declared.frames.channel.Channel.Channel}
 use Rattle.{run_law.specs.declared.judgement.Judgement.TheVariants.{Integrates, Outside, Within}, sync_state.specs.declared.state.State.TheVariants.Joining}
 use Rattle.run_law.specs.{device.States.{adjustment_with, cycle_in, joined_adjustment, state_with}, scenario.Devices.{channel_of, channel_of_link}}
 use Rattle.run_law.specs.declared.note.NoteBody.TheVariants as notes
@@ -93,16 +93,12 @@ TellsBody s device h body =
 
 pub tells : (s : Scenario) (device : DeviceId) (h : Happening) (body : NoteBody) → TellsBody s device h body
 tells s device h (notes.Permanent other link cause point Integrates) = integrates s device (device.0 == other.0) (cycle_in h) (cycle_in h) point
-tells s device h (notes.Permanent other link cause point Within) =
-    hears s device (device.0 == other.0) h (channel_of_link s.network link) point true
-tells s device h (notes.Permanent other link cause point Outside) =
-    hears s device (device.0 == other.0) h (channel_of_link s.network link) point false
+tells s device h (notes.Permanent other link cause point Within) = hears s device (device.0 == other.0) h (channel_of_link s.network link) point true
+tells s device h (notes.Permanent other link cause point Outside) = hears s device (device.0 == other.0) h (channel_of_link s.network link) point false
 tells s device h (notes.Permanent other link cause point verdict) = quiet_if s device (cycle_in h) (device.0 == other.0)
 tells s device h (notes.Compressed other opened at cycle members Integrates) = integrates s device (device.0 == other.0) (cycle_in h) cycle at
-tells s device h (notes.Compressed other opened at cycle members Within) =
-    hears s device (device.0 == other.0) h (channel_of s.network device) at true
-tells s device h (notes.Compressed other opened at cycle members Outside) =
-    hears s device (device.0 == other.0) h (channel_of s.network device) at false
+tells s device h (notes.Compressed other opened at cycle members Within) = hears s device (device.0 == other.0) h (channel_of s.network device) at true
+tells s device h (notes.Compressed other opened at cycle members Outside) = hears s device (device.0 == other.0) h (channel_of s.network device) at false
 tells s device h (notes.Compressed other opened at cycle members verdict) = quiet_if s device (cycle_in h) (device.0 == other.0)
 tells s device h (notes.Corrected other cycle by adjustment) = corrects s device (cycle_in h) (device.0 == other.0) cycle adjustment
 tells s device h (notes.State other state cause why) = turns s device (cycle_in h) (device.0 == other.0) state

@@ -1,8 +1,8 @@
 -- What a record shows of a device.
 use Rattle.std.specs.Prelude.{if◌then◌else◌, ◌==◌, Bool, None, Option, Some, false, true, ℕ}
-use Rattle.{audit_devices.specs.declared.effect.Carried.Carried, pcf_values.specs.declared.channel.Channel.Channel}
+use Rattle.{audit_devices.specs.declared.effect.Carried.Carried, net_plan.specs.declared.ids.DeviceId.DeviceId}
 use Rattle.audit_devices.specs.declared.effect.Effect.{Effect, TheVariants.{Corrects, Hears, Joins, Nothing, Turns}}
-use Rattle.net_plan.specs.declared.{ids.DeviceId.DeviceId, network.Network.Network}
+use Rattle.{net_plan.specs.declared.network.Network.Network, tte_units.specs.declared.frames.channel.Channel.Channel}
 use Rattle.run_law.specs.declared.judgement.Judgement.{Judgement, TheVariants.{Integrates, Outside, Within}}
 use Rattle.run_law.specs.{declared.note.NoteBody.NoteBody, scenario.Devices.{channel_of, channel_of_link}}
 use Rattle.{run_law.specs.device.States.cycle_in, sync_state.specs.declared.membership.frame.HeardFrame.HeardFrame}

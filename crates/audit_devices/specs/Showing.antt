@@ -35,13 +35,11 @@ points_from network cycle at_change local =
 
 -- the same, by what is shown of a device whose clock reads this
 abbrev pub points_by : Network → Shown → ℕ → ℕ
-points_by network shown reading =
-    points_from network shown.cycle shown.at_change (pos reading +ℤ shown.adjustment)
+points_by network shown reading = points_from network shown.cycle shown.at_change (pos reading +ℤ shown.adjustment)
 
 -- when the records changed the device's adjustment last, or 0
 abbrev pub last_change : List Happening → DeviceId → ℕ
-last_change hs device =
-    option_map_or time_of (last_or None (filter (λ h. changes_adjustment device h.note.body) hs)) 0
+last_change hs device = option_map_or time_of (last_or None (filter (λ h. changes_adjustment device h.note.body) hs)) 0
 
 -- when a frame told the device the time last
 abbrev pub last_joining : List Happening → DeviceId → Option ℕ

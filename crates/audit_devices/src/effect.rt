@@ -4,11 +4,11 @@ ghost use Rattle.audit_devices.specs.declared.effect.Effect.TheVariants.{Nothing
 ghost use Rattle.run_law.specs.scenario.Devices.{channel_of, channel_of_link};
 
 use net_plan::{DeviceId, LinkId, Network};
-use pcf_values::{Channel, Members};
 use run_law::{Judgement, NoteBody};
 use sync_state::State;
 use sync_state::membership::HeardFrame;
 use tte_units::Units;
+use tte_units::frames::{Channel, Members};
 
 /// What the frame of a record says: its cycle and its members, or 0 and none where the record has no frame.
 #[derive(Clone, Copy)]

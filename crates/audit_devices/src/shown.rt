@@ -7,12 +7,12 @@ use crate::Carried;
 use crate::effect::{Effect, effect_of};
 use device_rules::joined_adjustment;
 use net_plan::{DeviceId, Network};
-use pcf_values::Channel;
 use run_law::NoteBody;
 use std::marker::Model;
 use sync_state::State;
 use sync_state::membership::{Heard, HeardFrame};
 use tte_units::Units;
+use tte_units::frames::Channel;
 
 /// What a device's clock reads at a time, and a unit of time before.
 #[derive(Clone, Copy)]

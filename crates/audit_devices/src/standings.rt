@@ -5,11 +5,11 @@ use crate::history::History;
 use crate::subject::subject_of;
 use crate::{Carried, Readings, Shown};
 use net_plan::{DeviceId, LinkId, Network};
-use pcf_values::Members;
 use run_law::NoteBody;
 use run_law::plain::{Place, Rank};
 use std::alloc::{AllocError, Global};
 use tte_units::Units;
+use tte_units::frames::Members;
 
 /// What the records so far show of each device, at any place of their order.
 #[derive(Drop)]

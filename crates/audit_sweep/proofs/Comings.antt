@@ -27,8 +27,7 @@ taken s hs device t link cause clock other x shows = absurd shows
 -- and what has one was taken so
 pub takes : (s : Scenario) (hs : List Happening) (device : DeviceId) (t : ℕ) (link : LinkId) (cause clock : ℕ) (is : Arrival)
     → ArrivesAs s hs device t link cause is → IsArrivedRecord s hs device t link cause clock → TakesWith clock is
-takes s hs device t link cause clock is x y =
-    grind (arith, same_arrival)
+takes s hs device t link cause clock is x y = grind (arith, same_arrival)
 
 -- something becomes of what has a record of its arrival
 pub comes : (s : Scenario) (hs : List Happening) (device : DeviceId) (t : ℕ) (link : LinkId) (cause clock : ℕ)

@@ -22,8 +22,7 @@ joins_only device (notes.Corrected other cycle by adjustment) low = absurd (omeg
 joins_only device body low = refl
 
 pub only_joined : (t : ℕ) (judged : List Happening) (device : DeviceId) → IsHeardBefore t judged → OnlyJoined judged device t
-only_joined t judged device b h i at =
-    grind (arith, rank_before, time_of, rank, key, members_in, joins_only)
+only_joined t judged device b h i at = grind (arith, rank_before, time_of, rank, key, members_in, joins_only)
 
 pub heard_before : (t r : ℕ) (rest : List ℕ) (hs : List Happening) → r < 6 → IsHeardBefore t (filter (λ h. is_before (place_of h) (t ∷ r ∷ rest)) hs)
 heard_before t r rest hs low = record {

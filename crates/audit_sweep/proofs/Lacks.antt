@@ -36,8 +36,7 @@ back P network befallen end hs sweep swept holds =
 
 pub founded : (network : Network) (befallen : List Event) (end : Units) (hs : List Happening) (sweep : Sweep) → IsSwept network befallen end hs sweep
     → IsFounded place_of (IsDue (scenario_under network befallen)) hs
-founded network befallen end hs sweep swept =
-    founded_of_sound place_of (IsDue (scenario_under network befallen)) ((amount end + 1) ∷ []) hs swept.sound
+founded network befallen end hs sweep swept = founded_of_sound place_of (IsDue (scenario_under network befallen)) ((amount end + 1) ∷ []) hs swept.sound
 
 of_named : (body : NoteBody) (device : DeviceId) → device_of body ≡ Some device → device_named body ≡ Some device
 of_named (notes.Event line what) device e = absurd cc
@@ -57,19 +56,14 @@ only_end network befallen hs sweep swept =
     let end = sweep.known.end in
     let ends = (swept.known.end end).0 refl in
     let same = of_amount end (begun befallen end swept.known.events.begun ends) in
-    record {
-      ends = subst (EndsAt befallen) same ends;
-      only = λ t at. ap amount ((swept.known.end (units_of t)).1 at);
-    }
+    record { ends = subst (EndsAt befallen) same ends; only = λ t at. ap amount ((swept.known.end (units_of t)).1 at) }
 
 -- what is kept for the debts of clocks, and for those of clusters
 pub kept_for_clocks : (sweep : Sweep) → SweptHere sweep → clocks.IsSomeKept sweep.network.now sweep.known.events sweep.known.standings sweep.places
-kept_for_clocks sweep (befallen, hs, w) =
-    (befallen, hs, record { remembers = w.known.events; stands = w.known.standings; places_are = w.places })
+kept_for_clocks sweep (befallen, hs, w) = (befallen, hs, record { remembers = w.known.events; stands = w.known.standings; places_are = w.places })
 
 pub kept_for_clusters : (sweep : Sweep) → SweptHere sweep → clusters.IsSomeKept sweep.network.now sweep.known.events sweep.known.stretches sweep.places
-kept_for_clusters sweep (befallen, hs, w) =
-    (befallen, hs, record { remembers = w.known.events; stands = w.known.stretches; places_are = w.places })
+kept_for_clusters sweep (befallen, hs, w) = (befallen, hs, record { remembers = w.known.events; stands = w.known.stretches; places_are = w.places })
 
 -- a debtor of the network that owes up to the time
 pub first_of : {O : Type 0} (network own : Network) (befallen : List Event) (hs : List Happening) (until by : ℕ) (debt_of : O → Debt) (result : Option ℕ)

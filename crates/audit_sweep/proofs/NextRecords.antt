@@ -10,8 +10,7 @@ use Rattle.run_law.specs.declared.note.NoteBody.TheVariants as notes
 -- of the records with the next one, each is one of them, or the next one
 numbered_next : (hs : List Happening) (h g : Happening) (number : ℕ) → numbered (hs ++ h ∷ []) number ≡ Some g → (numbered hs number ≡ Some g) ⊎ (h ≡ g)
 numbered_next hs h g zero e = absurd cc
-numbered_next hs h g (suc before) e =
-    grind (arith, pushed)
+numbered_next hs h g (suc before) e = grind (arith, pushed)
 
 -- ---- of no records
 
@@ -26,8 +25,7 @@ none_young network number g device link cause clock e is = absurd (none_numbered
 -- a record that is made of a note has what it has by its cause
 pub show_next : (network : Network) (hs : List Happening) (note : Note) → AllShowByCause network hs
     → AllShowByCause network (hs ++ happening network hs note ∷ [])
-show_next network hs note all number g e =
-    grind (arith, numbered_next, happening)
+show_next network hs note all number g e = grind (arith, numbered_next, happening)
 
 -- a record that is due shows no transparent clock above the greatest delay
 pub young_next : (s : Scenario) (hs : List Happening) (h : Happening) → IsDue s hs h → AllYoung s.network hs → AllYoung s.network (hs ++ h ∷ [])

@@ -1,5 +1,6 @@
 -- What is kept of frames that wait to be permanent.
-use Rattle.audit_sweep.{proofs.Words.{◌&&◌, ◌==◌, ◌∙◌, ◌≡◌, DeviceId, LinkId, NoteBody, Some, ap, kept_of, sym, true, ℕ}, specs.records.Keeping.kept_of_event}
+use Rattle.audit_sweep.proofs.Words.{◌&&◌, ◌==◌, ◌∙◌, ◌≡◌, DeviceId, Happening, KeptRecord, LinkId, None, NoteBody, Some, ap, kept_of, sym, true, ℕ}
+use Rattle.audit_sweep.specs.records.Keeping.{kept_of_event, record_of}
 use Rattle.{audit_sweep.specs.Ripenings.waiting_clock, std.proofs.Common.arith, tte_units.proofs.general_lemmas.Bools.picked}
 use Rattle.{net_plan.{proofs.SameIds.{same_device, same_link}, specs.declared.event.What.What}, std.proofs.lemmas.Bool.{and_from, and_parts, eq-eqb, eqb-true}}
 use Rattle.net_plan.specs.declared.event.What.TheVariants as events
@@ -27,5 +28,14 @@ from_arrival device link clock rest e = absurd cc
 -- and of such a record it is kept
 pub arrived_clock : (device : DeviceId) (link : LinkId) (from clock : ℕ)
     → waiting_clock device link (kept_of (notes.Arrived device link from clock)) ≡ Some clock
-arrived_clock device link from clock =
-    grind (arith, and_from, eq-eqb)
+arrived_clock device link from clock = grind (arith, and_from, eq-eqb)
+
+-- also where the record was found by its number
+pub clock_found : (device : DeviceId) (link : LinkId) (from clock : ℕ) (kept : KeptRecord) (h g : Happening) → kept ≡ record_of g → h ≡ g
+    → h.note.body ≡ notes.Arrived device link from clock → waiting_clock device link kept.kept ≡ Some clock
+clock_found device link from clock kept h g is same arrived =
+    ap (λ (r : KeptRecord). waiting_clock device link r.kept) is ∙ sym (ap (λ (x : Happening). waiting_clock device link (kept_of x.note.body)) same)
+    ∙ ap (λ (b : NoteBody). waiting_clock device link (kept_of b)) arrived ∙ arrived_clock device link from clock
+
+pub none_some : {X : Type 0} (x : X) → None ≡ Some x → ⊥
+none_some x e = cc

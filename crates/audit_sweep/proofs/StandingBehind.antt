@@ -1,5 +1,5 @@
 -- A record that stands behind others.
-use Rattle.{audit_law.proofs.law_lemmas.Correcting.time_before, audit_sweep.specs.Judging.StandsBehind, pcf_values.specs.declared.members.Members.Members}
+use Rattle.{audit_law.proofs.law_lemmas.Correcting.time_before, audit_sweep.specs.Judging.StandsBehind, tte_units.specs.declared.frames.members.Members.Members}
 use Rattle.audit_sweep.proofs.Words.{DeviceId, Happening, IsHeardBefore, Judgement, List, NoneLater, NoteBody, Units, amount, arith, key, members_in, rank}
 use Rattle.audit_sweep.proofs.Words.{time_of, ℕ}
 use Rattle.run_law.specs.declared.note.NoteBody.TheVariants as notes

@@ -1,5 +1,5 @@
 -- Switches accept frames, and end systems have them delivered.
-use Rattle.{audit_devices.specs.Takings.TakesRightly, pcf_values.specs.declared.pcf.Pcf.Pcf, std.{proofs.Common.{false, length}, specs.Prelude.{Err, Ok}}}
+use Rattle.{audit_devices.specs.Takings.TakesRightly, std.{proofs.Common.{false, length}, specs.Prelude.{Err, Ok}}, tte_units.specs.declared.frames.pcf.Pcf.Pcf}
 use Rattle.audit_sweep.proofs.Words.{◌≡◌, Arrival, ArrivesAs, Bool, DeviceId, Happening, IsCaused, IsDue, LinkId, List, Network, None, NoteBody, Option}
 use Rattle.audit_sweep.proofs.Words.{Scenario, Some, Standpoint, Units, amount, if◌then◌else◌, refl, subst, sym, true, ℕ}
 use Rattle.{net_plan.specs.declared.{ids.VlId.VlId, tables.Way.TheVariants.{Down, Up}}, run_law.specs.control.Arrivals.{frame_fault, frame_or_fault}}
@@ -23,14 +23,12 @@ taken_right network device vl cycle false is = is
 row_right : (network : Network) (device : DeviceId) (at : Standpoint) (entry : Entry) (fault : Option Reason)
     → IsRight network device (taken_or_fault network device at entry fault)
 row_right network device at entry (Some reason) = tt
-row_right network device at entry None =
-    taken_right network device entry.row.vl (cycle_at network (clock_of at)) (is_end network device) refl
+row_right network device at entry None = taken_right network device entry.row.vl (cycle_at network (clock_of at)) (is_end network device) refl
 
 entry_right : (network : Network) (device : DeviceId) (at : Standpoint) (size : ℕ) (last : VlId → Option ℕ) (entry : Option Entry)
     → IsRight network device (entry_arrival network device at size last entry)
 entry_right network device at size last None = tt
-entry_right network device at size last (Some entry) =
-    row_right network device at entry (row_fault network at entry size (last entry.row.vl))
+entry_right network device at size last (Some entry) = row_right network device at entry (row_fault network at entry size (last entry.row.vl))
 
 octets_right : (network : Network) (device : DeviceId) (link : LinkId) (at : Standpoint) (octets : List ℕ) (last : VlId → Option ℕ) (fault : Option Reason)
     → IsRight network device (octets_or_fault network device link at octets last fault)
@@ -59,14 +57,11 @@ arrival_right s hs device t link cause (timed octets) =
 
 outcome_right : (s : Scenario) (hs : List Happening) (device : DeviceId) (t : ℕ) (link : LinkId) (cause : ℕ) (is : Arrival)
     → ArrivesAs s hs device t link cause is → IsRight s.network device is
-outcome_right s hs device t link cause is a =
-    subst (IsRight s.network device) (sym a.becomes) (arrival_right s hs device t link cause a.signal)
+outcome_right s hs device t link cause is a = subst (IsRight s.network device) (sym a.becomes) (arrival_right s hs device t link cause a.signal)
 
 caused_right : (s : Scenario) (hs : List Happening) (time : Units) (body : NoteBody) → IsCaused s hs time body → TakesRightly s.network body
-caused_right s hs time (notes.Accepted device link cause vl cycle) a =
-    outcome_right s hs device (amount time) link cause (arrivals.Accepted vl cycle) a
-caused_right s hs time (notes.Delivered device link cause vl cycle) a =
-    outcome_right s hs device (amount time) link cause (arrivals.Delivered vl cycle) a
+caused_right s hs time (notes.Accepted device link cause vl cycle) a = outcome_right s hs device (amount time) link cause (arrivals.Accepted vl cycle) a
+caused_right s hs time (notes.Delivered device link cause vl cycle) a = outcome_right s hs device (amount time) link cause (arrivals.Delivered vl cycle) a
 caused_right s hs time body a = tt
 
 -- by a record that is due a switch accepts a frame, or an end system has it delivered

@@ -2,10 +2,10 @@
 use Rattle.std.specs.Prelude.{if◌then◌else◌, ◌&&◌, ◌==◌, ◌≡◌, List, MatchOption, None, Option, Some, pos, ℕ, ℤ}
 use Rattle.audit_sweep.specs.declared.{passage.Passage.Passage, ripening.PermanentFrame.PermanentFrame}
 use Rattle.{audit_sweep.specs.declared.records.kept.Kept.Kept, drift_clock.specs.transparent.Points.point_of}
-use Rattle.{drift_clock.specs.Reach.IsReach, pcf_values.specs.declared.pcf.Pcf.Pcf}
+use Rattle.{drift_clock.specs.Reach.IsReach, run_law.specs.scenario.Scenarios.Scenario}
 use Rattle.{net_plan.specs.declared.ids.DeviceId.DeviceId, run_law.specs.control.Permanence.IsPermanent}
-use Rattle.{net_plan.specs.declared.ids.LinkId.LinkId, run_law.specs.scenario.Scenarios.Scenario}
-use Rattle.{run_law.specs.records.Happenings.Happening, tte_units.specs.declared.units.Units.Units}
+use Rattle.{net_plan.specs.declared.ids.LinkId.LinkId, tte_units.specs.declared.units.Units.Units}
+use Rattle.{run_law.specs.records.Happenings.Happening, tte_units.specs.declared.frames.pcf.Pcf.Pcf}
 use Rattle.audit_sweep.specs.declared.records.kept.Kept.TheVariants as kepts
 
 -- the transparent clock of a frame that arrived at the device by the link, if this is kept of one

@@ -18,10 +18,10 @@ use audit_devices::{Carried, Readings, Standings, Takings};
 use audit_law::events::{EventHistory, reading_law};
 use device_rules::Entrances;
 use net_plan::Network;
-use pcf_values::{Members, Pcf};
 use run_law::{Note, NoteBody};
 use std::alloc::Global;
 use tte_units::Units;
+use tte_units::frames::{Members, Pcf};
 
 /// What is known of a report: what all its events set, and what its records so far show.
 #[derive(Drop)]

@@ -14,8 +14,8 @@ use crate::records::Kept;
 use audit_law::events::reading_law;
 use device_rules::{is_parent_of, is_relay};
 use net_plan::{DeviceId, LinkId, Network};
-use pcf_values::Pcf;
 use tte_units::Units;
+use tte_units::frames::Pcf;
 
 /// A frame that is permanent at its point.
 #[derive(Clone, Copy)]

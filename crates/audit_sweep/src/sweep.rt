@@ -18,11 +18,11 @@ use crate::records::places::Places;
 use crate::unpaid::Payments;
 use audit_law::events::EventHistory;
 use net_plan::Network;
-use pcf_values::Pcf;
 use run_law::plain::Place;
 use run_law::{Note, NoteBody};
 use std::alloc::Global;
 use tte_units::Units;
+use tte_units::frames::Pcf;
 
 /// The records of a report, as far as they have come: each is sound given those before it.
 #[derive(Drop)]

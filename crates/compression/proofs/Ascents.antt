@@ -28,8 +28,7 @@ IsAscending-push (q ∷ r ∷ rs) p up may = (up.0, IsAscending-push (r ∷ rs) 
 
 -- to compare with the last is to ask whether the number may follow
 pub MayFollow-last : (ps : List ℤ) (q p : ℤ) → last_or None ps ≡ Some q → (IsTrue (int_le q p) → MayFollow ps p) × (MayFollow ps p → IsTrue (int_le q p))
-MayFollow-last ps q p e =
-    (λ h. rw e (grind (arith, ints, h)), λ may. let le : q ≤ℤ p = rw e at may in grind (arith, ints, le))
+MayFollow-last ps q p e = (λ h. rw e (grind (arith, ints, h)), λ may. let le : q ≤ℤ p = rw e at may in grind (arith, ints, le))
 
 -- the first number of a rising list is the least
 first_least : (p : ℤ) (ps : List ℤ) (i : ℕ) → IsAscending (p ∷ ps) → i < length (p ∷ ps) → p ≤ℤ get_or (p ∷ ps) i (pos 0)

@@ -65,22 +65,19 @@ Ordered-from (p ∷ ps) up = (all_above p.reading p ps (omega (arith, ints)) up,
 
 pub all-filter : {X : Type 0} (P : X → Type 0) (test : X → Bool) (xs : List X) → AllByRecursion P xs → AllByRecursion P (filter test xs)
 all-filter P test [] all = tt
-all-filter P test (x ∷ xs) all =
-    grind (arith, cases_Bool, (all-filter P test xs all.1))
+all-filter P test (x ∷ xs) all = grind (arith, cases_Bool, (all-filter P test xs all.1))
 
 -- those beyond an end are in order too, and beyond it
 pub Ordered-beyond : (end : ℤ) (ps : List Point) → Ordered ps → Ordered (beyond end ps)
 Ordered-beyond end [] up = tt
-Ordered-beyond end (p ∷ ps) up =
-    grind (arith, cases_Bool, all-filter, (Ordered-beyond end ps up.1))
+Ordered-beyond end (p ∷ ps) up = grind (arith, cases_Bool, all-filter, (Ordered-beyond end ps up.1))
 
 pub all-beyond : (low end : ℤ) (ps : List Point) → AllByRecursion (λ q. low <ℤ q.reading) ps → AllByRecursion (λ q. low <ℤ q.reading) (beyond end ps)
 all-beyond low end ps all = all-filter (λ (q : Point). low <ℤ q.reading) (λ q. int_lt end q.reading) ps all
 
 pub beyond-all : (end : ℤ) (ps : List Point) → AllByRecursion (λ q. end <ℤ q.reading) (beyond end ps)
 beyond-all end [] = tt
-beyond-all end (p ∷ ps) =
-    grind (arith, cases_Bool, ints, (beyond-all end ps))
+beyond-all end (p ∷ ps) = grind (arith, cases_Bool, ints, (beyond-all end ps))
 
 pub in_beyond : (end : ℤ) (ps : List Point) (p : Point) → Contains ps p → end <ℤ p.reading → Contains (beyond end ps) p
 in_beyond end ps p at past = in_filter_from (λ q. int_lt end q.reading) ps p at (int_lt-from end p.reading past)
@@ -92,5 +89,4 @@ from_beyond end ps p at =
 
 pub length-beyond : (end : ℤ) (ps : List Point) → length (beyond end ps) ≤ length ps
 length-beyond end [] = omega arith
-length-beyond end (p ∷ ps) =
-    grind (arith, cases_Bool, (length-beyond end ps))
+length-beyond end (p ∷ ps) = grind (arith, cases_Bool, (length-beyond end ps))

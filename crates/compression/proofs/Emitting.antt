@@ -67,5 +67,4 @@ take-all (x ∷ xs) ys = ap (λ t. x ∷ t) (take-all xs ys)
 
 -- what is emitted is the front of the clusters
 pub emitted_in_order : EmittedInOrder
-emitted_in_order v points emitted clusters s are =
-    grind (arith, AreClusters-unique, length, length-map, take-all, drop-front)
+emitted_in_order v points emitted clusters s are = grind (arith, AreClusters-unique, length, length-map, take-all, drop-front)

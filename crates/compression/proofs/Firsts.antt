@@ -59,8 +59,7 @@ has_more : (acc more : List Point) (m : ℕ) → has_master acc m ≡ true → h
 has_more acc more m has = list_any-append (λ q. q.master == m) acc more ∙ or_left (has_master acc m) (has_master more m) has
 
 has_with_first : (acc : List Point) (x : Point) → has_master (with_first acc x) x.master ≡ true
-has_with_first acc x =
-    grind (arith, cases_Bool, with_first-old, with_first-new, list_any-append, or_right, or_left, eq-eqb)
+has_with_first acc x = grind (arith, cases_Bool, with_first-old, with_first-new, list_any-append, or_right, or_left, eq-eqb)
 
 has_fold : (acc xs : List Point) (y : Point) → Contains xs y → has_master (fold with_first acc xs) y.master ≡ true
 has_fold acc [] y at = absurd (in_none y at)
@@ -101,18 +100,15 @@ bit_at-fold a (x ∷ xs) m =
 
 -- the bit of a master that has no point is clear
 pub members_of-clear : (xs : List Point) (m : ℕ) → has_master xs m ≡ false → bit_and (members_of xs) (2 ^ m) ≡ 0
-members_of-clear xs m e =
-    grind (arith, max, cond, bit_at-fold, bit_at-zero, and_pow)
+members_of-clear xs m e = grind (arith, max, cond, bit_at-fold, bit_at-zero, and_pow)
 
 -- and that of one that has is set
 pub members_of-set : (xs : List Point) (m : ℕ) → has_master xs m ≡ true → bit_and (members_of xs) (2 ^ m) ≡ 0 → ⊥
-members_of-set xs m e zero_is =
-    grind (arith, max, cond, bit_at-fold, bit_at-zero, and_pow, pow_pos)
+members_of-set xs m e zero_is = grind (arith, max, cond, bit_at-fold, bit_at-zero, and_pow, pow_pos)
 
 -- so the set of members tells whether a master has a point
 pub has_point_of-is : (c : Cluster) (xs : List Point) (m : ℕ) → c.members ≡ members_of xs → has_point_of c m ≡ has_master xs m
-has_point_of-is c xs m e =
-    grind (arith, cases_Bool, not, ne_eqb, members_of-set, eq-eqb, members_of-clear)
+has_point_of-is c xs m e = grind (arith, cases_Bool, not, ne_eqb, members_of-set, eq-eqb, members_of-clear)
 
 pub members_of-push : (xs : List Point) (p : Point) → members_of (xs ++ p ∷ []) ≡ bit_or (members_of xs) (2 ^ p.master)
 members_of-push xs p = fold-append (λ members q. bit_or members (2 ^ q.master)) 0 xs (p ∷ [])

@@ -33,23 +33,19 @@ abbrev pub cluster_by : Point → ℤ → List Point → Cluster
 cluster_by o end counts = record { opened = o.reading; end = end; cycle = o.cycle; points = map (λ q. q.reading) counts; members = members_of counts }
 
 pub end_of-least : (ow : ℤ) (o : Point) (ps : List Point) → pos 0 ≤ℤ ow → window_end ow o ≤ℤ end_of ow o ps
-end_of-least ow o ps some =
-    grind (arith, cases_Bool, length, ints)
+end_of-least ow o ps some = grind (arith, cases_Bool, length, ints)
 
 -- a point beyond the end changes nothing
 pub cluster_of-beyond : (ow : ℤ) (o : Point) (ps : List Point) (p : Point) → pos 0 ≤ℤ ow → end_of ow o ps <ℤ p.reading
     → cluster_of ow o (ps ++ p ∷ []) ≡ cluster_of ow o ps
-cluster_of-beyond ow o ps p some past =
-    grind (arith, end_of-least, held-push_beyond, ints, end_of-same)
+cluster_of-beyond ow o ps p some past = grind (arith, end_of-least, held-push_beyond, ints, end_of-same)
 
 -- nor does one of another cycle
 pub cluster_of-other : (ow : ℤ) (o : Point) (ps : List Point) (p : Point) → p.cycle ≢ o.cycle → cluster_of ow o (ps ++ p ∷ []) ≡ cluster_of ow o ps
-cluster_of-other ow o ps p other =
-    grind (arith, held-push_other, end_of-same)
+cluster_of-other ow o ps p other = grind (arith, held-push_other, end_of-same)
 
 pub end_of-most : (ow : ℤ) (o : Point) (ps : List Point) → pos 0 ≤ℤ ow → end_of ow o ps ≤ℤ extended_end ow o
-end_of-most ow o ps some =
-    grind (arith, cases_Bool, length, ints)
+end_of-most ow o ps some = grind (arith, cases_Bool, length, ints)
 
 -- a point of the opener's cycle that comes to a cluster beyond which there is none yet
 pub record Comes (ow : ℤ) (o : Point) (ps : List Point) (p : Point) : Type 0 where
@@ -63,8 +59,7 @@ pub record Comes (ow : ℤ) (o : Point) (ps : List Point) (p : Point) : Type 0 w
 -- what counts up to an end that is not before the cluster's
 counted-push : (ow : ℤ) (o : Point) (ps : List Point) (p : Point) → Comes ow o ps p → (end : ℤ) → end_of ow o ps ≤ℤ end
     → counted end o (ps ++ p ∷ []) ≡ with_first (counted (end_of ow o ps) o ps) p
-counted-push ow o ps p comes end le =
-    grind (arith, held-push_in, ints, held-same, firsts-push)
+counted-push ow o ps p comes end le = grind (arith, held-push_in, ints, held-same, firsts-push)
 
 -- what counts in the first window with a point that lies in it, and with one that does not
 window-push_in : (ow : ℤ) (o : Point) (ps : List Point) (p : Point) → Comes ow o ps p → p.reading ≤ℤ window_end ow o
@@ -78,8 +73,7 @@ window-push_out : (ow : ℤ) (o : Point) (ps : List Point) (p : Point) → windo
 window-push_out ow o ps p past = ap firsts (held-push_beyond o.cycle o.reading (window_end ow o) ps p past)
 
 length-with_first : (xs : List Point) (p : Point) → length xs ≤ length (with_first xs p)
-length-with_first xs p =
-    grind (arith, cases_Bool, with_first-old, with_first-new, length-append)
+length-with_first xs p = grind (arith, cases_Bool, with_first-old, with_first-new, length-append)
 
 -- where the first window has one master, the cluster has no more
 one_window : (ow : ℤ) (o : Point) (ps : List Point) → length (counted (window_end ow o) o ps) < 2 → counted (end_of ow o ps) o ps ≡ counted (window_end ow o) o
@@ -113,8 +107,7 @@ end_of-repeat ow o ps p comes old =
     grind (arith, cases_Bool, ints, window-push_in, cases_lt, length, one_window, end_of-same, with_first-old, length-with_first, end_of-two, window-push_out)
 
 joined_end-later : (ow : ℤ) (o : Point) (ps : List Point) (reading : ℤ) → pos 0 ≤ℤ ow → end_of ow o ps ≤ℤ joined_end ow (cluster_of ow o ps) reading
-joined_end-later ow o ps reading some =
-    grind (arith, end_of-most, cases_Bool, ints)
+joined_end-later ow o ps reading some = grind (arith, end_of-most, cases_Bool, ints)
 
 abbrev pub cluster_with : Point → ℤ → List ℤ → ℕ → Cluster
 cluster_with o end points members = record { opened = o.reading; end = end; cycle = o.cycle; points = points; members = members }
@@ -151,8 +144,7 @@ alone p to within = ap firsts (held-start p to [] within)
 
 -- the cluster that one point opens
 pub cluster_of-alone : (ow : ℤ) (p : Point) → pos 0 ≤ℤ ow → cluster_of ow p (p ∷ []) ≡ opening ow p
-cluster_of-alone ow p some =
-    grind (arith, ints, length, alone, end_of-one)
+cluster_of-alone ow p some = grind (arith, ints, length, alone, end_of-one)
 
 -- the first point counts in the first window
 pub window-starts : (ow : ℤ) (o : Point) (ps : List Point) → pos 0 ≤ℤ ow → (more : List Point) × (counted (window_end ow o) o (o ∷ ps) ≡ o ∷ more)
@@ -191,8 +183,7 @@ pub record Grows (ow : ℤ) (c d : Cluster) (p : Point) : Type 0 where
 
 grows_whole : (ow : ℤ) (o : Point) (ps : List Point) (d : Cluster) (p : Point) → Comes' ow o ps p → Grows ow (cluster_of ow o ps) d p
     → d ≡ cluster_of ow o (ps ++ p ∷ [])
-grows_whole ow o ps d p comes grows =
-    grind (arith, cases_eq, cases_Bool, cluster_of-repeat, cluster_of-joined, cluster_of-other)
+grows_whole ow o ps d p comes grows = grind (arith, cases_eq, cases_Bool, cluster_of-repeat, cluster_of-joined, cluster_of-other)
 
 cluster_of-grows : (ow : ℤ) (o : Point) (ps : List Point) (c d : Cluster) (p : Point) → pos 0 ≤ℤ ow → c ≡ cluster_of ow o (o ∷ ps) → beyond c.end ps ≡ []
     → c.opened ≤ℤ p.reading → p.reading ≤ℤ c.end → Grows ow c d p → d ≡ cluster_of ow o ((o ∷ ps) ++ p ∷ [])
@@ -210,8 +201,7 @@ pub AreClusters-within : (ow : ℤ) (ps : List Point) (cs : List Cluster) (c d :
     → AreClusters ow (ps ++ p ∷ []) (cs ++ d ∷ [])
 AreClusters-within ow [] [] c d p some are past low high longer grows = absurd are
 AreClusters-within ow [] (k ∷ cs) c d p some are past low high longer grows = absurd are
-AreClusters-within ow (o ∷ ps) [] c d p some are past low high longer grows =
-    grind (arith, no_clusters, beyond-push_in, ints, beyond-later, cluster_of-grows)
+AreClusters-within ow (o ∷ ps) [] c d p some are past low high longer grows = grind (arith, no_clusters, beyond-push_in, ints, beyond-later, cluster_of-grows)
 AreClusters-within ow (o ∷ ps) (k ∷ cs) c d p some are past low high longer grows =
     let beyond_end : end_of ow o (o ∷ ps) <ℤ p.reading = subst (λ (x : Cluster). x.end <ℤ p.reading) are.0 past.0 in
     let rest = AreClusters-within ow (beyond k.end ps) cs c d p some are.1 past.1 low high longer grows in (

@@ -20,26 +20,22 @@ filter-push_out test ps p e = filter-append test ps (p ∷ []) ∙ ap (λ (b : B
 -- a point of the cycle in the interval
 pub held-push_in : (cycle : ℕ) (from to : ℤ) (ps : List Point) (p : Point) → p.cycle ≡ cycle → from ≤ℤ p.reading → p.reading ≤ℤ to
     → of_cycle_within cycle from to (ps ++ p ∷ []) ≡ of_cycle_within cycle from to ps ++ p ∷ []
-held-push_in cycle from to ps p same low high =
-    grind (arith, and_from, eq-eqb, int_le-from, filter-push_in)
+held-push_in cycle from to ps p same low high = grind (arith, and_from, eq-eqb, int_le-from, filter-push_in)
 
 -- one beyond it
 pub held-push_beyond : (cycle : ℕ) (from to : ℤ) (ps : List Point) (p : Point) → to <ℤ p.reading
     → of_cycle_within cycle from to (ps ++ p ∷ []) ≡ of_cycle_within cycle from to ps
-held-push_beyond cycle from to ps p past =
-    grind (arith, and_right, int_le-false, filter-push_out)
+held-push_beyond cycle from to ps p past = grind (arith, and_right, int_le-false, filter-push_out)
 
 -- one of another cycle
 pub held-push_other : (cycle : ℕ) (from to : ℤ) (ps : List Point) (p : Point) → p.cycle ≢ cycle → of_cycle_within cycle from to (ps ++ p ∷ []) ≡ of_cycle_within
     cycle from to ps
-held-push_other cycle from to ps p other =
-    grind (arith, and_left, ne_eqb, filter-push_out)
+held-push_other cycle from to ps p other = grind (arith, and_left, ne_eqb, filter-push_out)
 
 -- the first, of its own cycle
 pub held-start : (o : Point) (to : ℤ) (ps : List Point) → o.reading ≤ℤ to → of_cycle_within o.cycle o.reading to (o ∷ ps) ≡ o
     ∷ of_cycle_within o.cycle o.reading to ps
-held-start o to ps within =
-    grind (arith, and_from, eq-eqb, int_le-from, ints, cond)
+held-start o to ps within = grind (arith, and_from, eq-eqb, int_le-from, ints, cond)
 
 pub beyond-push_in : (end : ℤ) (ps : List Point) (p : Point) → p.reading ≤ℤ end → beyond end (ps ++ p ∷ []) ≡ beyond end ps
 beyond-push_in end ps p within = filter-push_out (λ q. int_lt end q.reading) ps p (int_lt-false end p.reading within)
@@ -49,8 +45,7 @@ beyond-push_out end ps p past = filter-push_in (λ q. int_lt end q.reading) ps p
 
 -- where none lies beyond an end, the first does not, nor one of the others
 pub beyond-none : (end : ℤ) (q : Point) (qs : List Point) → beyond end (q ∷ qs) ≡ [] → (q.reading ≤ℤ end) × (beyond end qs ≡ [])
-beyond-none end q qs none =
-    grind (arith, cases_Bool, not_less)
+beyond-none end q qs none = grind (arith, cases_Bool, not_less)
 
 -- and none lies beyond a later end
 pub beyond-later : (end later : ℤ) (ps : List Point) → end ≤ℤ later → beyond end ps ≡ [] → beyond later ps ≡ []

@@ -45,8 +45,7 @@ opened-end ow c col =
 
 -- a reading that is later
 pub MayFollow-later : (ps : List ℤ) (t r : ℤ) → t ≤ℤ r → MayFollow ps t → MayFollow ps r
-MayFollow-later ps t r le may =
-    grind (arith, ints)
+MayFollow-later ps t r le may = grind (arith, ints)
 
 -- what the last collection of a row is, and where the others end
 pub record Last (ow reading : ℤ) (front : List Cluster) (c : Cluster) : Type 0 where

@@ -12,8 +12,7 @@ none_is_some c e = cc
 
 -- what is open at a reading is the last, and ends no earlier
 pub open_at-some : (cs : List Cluster) (reading : ℤ) (c : Cluster) → open_at cs reading ≡ Some c → (last_or None cs ≡ Some c) × (reading ≤ℤ c.end)
-open_at-some cs reading c e =
-    grind (arith, none_is_some, cases_Bool, ints)
+open_at-some cs reading c e = grind (arith, none_is_some, cases_Bool, ints)
 
 -- where none is open, all ended before
 pub all_ended : (v : Collecting) (reading : ℤ) → IsSound v → v.earliest ≤ℤ reading → open_at v.waiting reading ≡ None
@@ -69,14 +68,12 @@ last_from-push p (r ∷ rs) q = last_from-push r rs q
 
 pub joined_end-within : (ow : ℤ) (c : Cluster) (reading : ℤ) → IsCollection ow c → pos 0 ≤ℤ ow → (c.end ≤ℤ joined_end ow c reading)
     × (joined_end ow c reading ≤ℤ (c.opened +ℤ (pos 2 *ℤ ow)))
-joined_end-within ow c reading col some =
-    grind (arith, cases_Bool, ints)
+joined_end-within ow c reading col some = grind (arith, cases_Bool, ints)
 
 -- a collection with a point that joins it
 pub IsCollection-joined : (ow : ℤ) (c : Cluster) (reading : ℤ) (master : ℕ) → IsCollection ow c → pos 0 ≤ℤ ow → MayFollow c.points reading → reading ≤ℤ c.end
     → IsCollection ow (joined ow c reading master)
-IsCollection-joined ow c reading master col some may here =
-    grind (arith, joined_end-within, IsAscending-push, last_from-push, ints)
+IsCollection-joined ow c reading master col some may here = grind (arith, joined_end-within, IsAscending-push, last_from-push, ints)
 
 last_or-push : (ps : List ℤ) (q : ℤ) → last_or None (ps ++ q ∷ []) ≡ Some q
 last_or-push [] q = refl

@@ -23,18 +23,15 @@ pub record Ignores (o : Option Cluster) (p : Point) : Type 0 where
 
 pub role_in-opened : (o : Option Cluster) (p : Point) → role_in o p ≡ Opened → o ≡ None
 role_in-opened None p e = refl
-role_in-opened (Some c) p e =
-    grind (arith, cases_Bool)
+role_in-opened (Some c) p e = grind (arith, cases_Bool)
 
 pub role_in-joined : (o : Option Cluster) (p : Point) → role_in o p ≡ Joined → Joins o p
 role_in-joined None p e = grind arith
-role_in-joined (Some c) p e =
-    grind (arith, cases_Bool, eqb-true)
+role_in-joined (Some c) p e = grind (arith, cases_Bool, eqb-true)
 
 pub role_in-ignored : (o : Option Cluster) (p : Point) → (role_in o p ≡ Repeat) ⊎ (role_in o p ≡ OtherCycle) → Ignores o p
 role_in-ignored None p e = grind arith
-role_in-ignored (Some c) p e =
-    grind (arith, cases_Bool, eqb-false)
+role_in-ignored (Some c) p e = grind (arith, cases_Bool, eqb-false)
 
 -- the last collection can take a point that is not beyond it
 pub able : (v : Collecting) (reading : ℤ) (master : ℕ) → IsSound v → v.earliest ≤ℤ reading
@@ -63,8 +60,7 @@ able v reading master sound order room =
 pub last_is_joined : (v : Collecting) (p : Point) (waiting : List Cluster) → Joined ≡ role v.waiting p
     → ((front : List Cluster) (c : Cluster) → v.waiting ≡ front ++ c ∷ [] → waiting ≡ front ++ joined v.ow c p.reading p.master ∷ [])
     → waiting ≡ last_joined v.ow p v.waiting
-last_is_joined v p waiting is joins =
-    grind (arith, role_in-joined, open_at-some, last_split, last_joined-split)
+last_is_joined v p waiting is joins = grind (arith, role_in-joined, open_at-some, last_split, last_joined-split)
 
 -- where a collector stands with a point that opens a collection, one that joins, and one that is ignored
 pub Stands-role_opened : (v w : Collecting) (p : Point) → IsSound v → v.earliest ≤ℤ p.reading → Opened ≡ role v.waiting p → w ≡ with_opened v p
@@ -76,13 +72,11 @@ Stands-role_opened v w p sound order is opens points emitted s =
 pub Stands-role_joined : (v w : Collecting) (p : Point) → IsSound v → v.earliest ≤ℤ p.reading → Joined ≡ role v.waiting p
     → ((front : List Cluster) (c : Cluster) → v.waiting ≡ front ++ c ∷ [] → w ≡ with_last v front c p) → (points : List Point) (emitted : List Compressed)
     → StandsForPoints v points emitted → StandsForPoints w (points ++ p ∷ []) emitted
-Stands-role_joined v w p sound order is joins points emitted s =
-    grind (arith, role_in-joined, open_at-some, last_split, Stands-joined)
+Stands-role_joined v w p sound order is joins points emitted s = grind (arith, role_in-joined, open_at-some, last_split, Stands-joined)
 
 pub Stands-role_ignored : (v w : Collecting) (p : Point) → IsSound v → v.earliest ≤ℤ p.reading → (role v.waiting p ≡ Repeat) ⊎ (role v.waiting p ≡ OtherCycle)
     → w ≡ v → (points : List Point) (emitted : List Compressed) → StandsForPoints v points emitted → StandsForPoints w (points ++ p ∷ []) emitted
-Stands-role_ignored v w p sound order is same points emitted s =
-    grind (arith, role_in-ignored, open_at-some, last_split, Stands-ignored)
+Stands-role_ignored v w p sound order is same points emitted s = grind (arith, role_in-ignored, open_at-some, last_split, Stands-ignored)
 
 last_or-append : {X : Type 0} (xs ys : List X) (y : X) → last_or None ys ≡ Some y → last_or None (xs ++ ys) ≡ Some y
 last_or-append [] ys y e = e
@@ -102,8 +96,7 @@ all-last reading (k ∷ ks) c all = all-last reading ks c all.1
 
 -- where all clusters have ended none is open
 ended_none : (cs : List Cluster) (reading : ℤ) → AllByRecursion (λ c. c.end <ℤ reading) cs → open_at cs reading ≡ None
-ended_none cs reading all =
-    grind (arith, open_at-none, last_split, open_at-beyond, all-last)
+ended_none cs reading all = grind (arith, open_at-none, last_split, open_at-beyond, all-last)
 
 -- the role by what waits is the role by all clusters
 pub role-whole : (v : Collecting) (p : Point) → v.earliest ≤ℤ p.reading → (points : List Point) (emitted : List Compressed) (cs : List Cluster)
@@ -126,5 +119,4 @@ role-whole v p order points emitted cs s are =
 pub IsSound-takes : (v : Collecting) (p : Point) (waiting : List Cluster) → IsSound v → v.earliest ≤ℤ p.reading → role v.waiting p ≡ Joined
     → ((front : List Cluster) (c : Cluster) → v.waiting ≡ front ++ c ∷ [] → waiting ≡ front ++ joined v.ow c p.reading p.master ∷ [])
     → IsSound (record v { earliest = p.reading; waiting = waiting })
-IsSound-takes v p waiting sound order is joins =
-    grind (arith, role_in-joined, open_at-some, last_split, IsSound-joined)
+IsSound-takes v p waiting sound order is joins = grind (arith, role_in-joined, open_at-some, last_split, IsSound-joined)

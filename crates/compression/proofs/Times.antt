@@ -37,8 +37,7 @@ not_before o ps p up at =
 
 -- one that lies beyond the first cluster comes after the first point
 pub in_rest : (o : Point) (ps : List Point) (p : Point) (end : ℤ) → o.reading ≤ℤ end → end <ℤ p.reading → Contains (o ∷ ps) p → Contains (beyond end ps) p
-in_rest o ps p end start past at =
-    grind (arith, in_cases, in_beyond, ints)
+in_rest o ps p end start past at = grind (arith, in_cases, in_beyond, ints)
 
 one_time : (ow : ℤ) (ps : List Point) (cs : List Cluster) → pos 0 ≤ℤ ow → Ordered ps → AreClusters ow ps cs → (p : Point) → Contains ps p → (c : Cluster)
     × Contains cs c × LiesIn c p × ((d : Cluster) → Contains cs d → LiesIn d p → d ≡ c)

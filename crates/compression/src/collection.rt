@@ -1,9 +1,9 @@
 ghost use Rattle.std.specs.Prelude.{◌≡◌, ◌≢◌, ◌+◌, ◌<◌, ◌^◌, pos, ◌≤ℤ◌, Some, length};
 
 use crate::{Compressed, Points, Taken, middle};
-use pcf_values::Members;
 use std::marker::Model;
 use tte_units::Units;
+use tte_units::frames::Members;
 
 /// A collection: the points that count since it opened, and where it ends by them.
 #[derive(Drop)]

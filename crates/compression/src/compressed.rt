@@ -1,5 +1,5 @@
-use pcf_values::Members;
 use tte_units::Units;
+use tte_units::frames::Members;
 
 /// What is emitted for a collection.
 #[derive(Clone, Copy, PartialEq, Eq)]

@@ -47,8 +47,7 @@ row_found network entrances Down e o are up down = down refl ∙ are.down e
 
 -- what was looked up is kept of the row by which the frame enters
 pub found_is : (network : Network) (entrances : Entrances) (device : DeviceId) (link : LinkId) (id : ℕ) (way : Way) (o : Option EnteringRow)
-    → AreEntrances network entrances → way ≡ way_to network device link
-    → (way ≡ Up → o ≡ get entrance_cmp entrances.up (record { link = link; id = id }))
+    → AreEntrances network entrances → way ≡ way_to network device link → (way ≡ Up → o ≡ get entrance_cmp entrances.up (record { link = link; id = id }))
     → (way ≡ Down → o ≡ get entrance_cmp entrances.down (record { link = link; id = id }))
     → o ≡ option_map (entering_by network) (entry_entering network device link id)
 found_is network entrances device link id way o are is up down =
@@ -117,14 +116,12 @@ pub by_entry : (network : Network) (device : DeviceId) (link : LinkId) (at : Sta
     (last : VlId → Option ℕ) → heading_of octets ≡ heading → heading_fault at.takes_part at.state network.marker heading ≡ None
     → entry_entering network device link heading.id ≡ o
     → timed_arrival network device link at octets last ≡ entry_arrival network device at (length octets) last o
-by_entry network device link at octets heading o last is none there =
-    grind (arith, length)
+by_entry network device link at octets heading o last is none there = grind (arith, length)
 
 -- a frame that enters by a row is judged by it
 pub entered : (network : Network) (device : DeviceId) (link : LinkId) (at : Standpoint) (octets : List ℕ) (heading : Heading) (row : EnteringRow)
     → heading_of octets ≡ heading → heading_fault at.takes_part at.state network.marker heading ≡ None
-    → option_map (entering_by network) (entry_entering network device link heading.id) ≡ Some row
-    → (entry : Entry) × (row ≡ entering_by network entry)
+    → option_map (entering_by network) (entry_entering network device link heading.id) ≡ Some row → (entry : Entry) × (row ≡ entering_by network entry)
     × ((last : VlId → Option ℕ) → timed_arrival network device link at octets last
     ≡ taken_or_fault network device at entry (row_fault network at entry (length octets) (last row.vl)))
 entered network device link at octets heading row is none e =

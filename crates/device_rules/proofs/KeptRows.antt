@@ -22,8 +22,7 @@ made link id = record { link = link; id = id }
 -- a frame of the entry's row enters by its own entrance alone
 entrance_is : (network : Network) (which : Which) (place : ℕ) (entry : Entry) (e : Entrance) → IsEntry network place entry
     → enters network which e entry.row ≡ true → (e ≡ entrance_of entry) × (is_of network which entry.row ≡ true)
-entrance_is network which place entry e is t =
-    grind (arith, and_parts, same_link, eqb-true, id_by)
+entrance_is network which place entry e is t = grind (arith, and_parts, same_link, eqb-true, id_by)
 
 enters_own : (network : Network) (which : Which) (place : ℕ) (entry : Entry) → IsEntry network place entry → is_of network which entry.row ≡ true
     → enters network which (entrance_of entry) entry.row ≡ true
@@ -31,8 +30,7 @@ enters_own network which place entry is comes =
     rw comes (rw (eqb_same entry.row.link.0) (id_by (slice_get network.vl entry.row.vl.0) entry.vl entry.vl.id is.vl ∙ eqb_same entry.vl.id))
 
 same_entrance : (a b : Entrance) → is_eq (entrance_cmp a b) ≡ true → a ≡ b
-same_entrance a b e =
-    grind (arith, cmp_same, ranked, same_link)
+same_entrance a b e = grind (arith, cmp_same, ranked, same_link)
 
 cmp_itself : (a : Entrance) → is_eq (entrance_cmp a a) ≡ true
 cmp_itself a =

@@ -6,3 +6,4 @@ pub mod Verdicts
 pub mod KeptRows
 pub mod Entered
 pub mod Takings
+pub mod AtPlace

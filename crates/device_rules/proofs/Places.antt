@@ -1,8 +1,8 @@
 -- The links of a network, and the end systems at them.
-use Rattle.net_plan.specs.Places.{link_at}
+use Rattle.net_plan.specs.{Places.link_at, declared.tables.Link.Link}
 use Rattle.{net_plan.specs.declared.{ids.{DeviceId.DeviceId, LinkId.LinkId}, network.Network.Network}, tte_units.proofs.general_lemmas.Naturals.unequal}
-use Rattle.{net_plan.specs.declared.tables.Link.Link, pcf_values.specs.declared.members.Members.Members, run_law.specs.scenario.Devices.{is_end, member_of}}
 use Rattle.{run_law.specs.control.Arrivals.{are_others, is_of_other_member}, std.proofs.lemmas.Option.{slice_get_past, slice_get_read}}
+use Rattle.{run_law.specs.scenario.Devices.{is_end, member_of}, tte_units.specs.declared.frames.members.Members.Members}
 use Rattle.std.proofs.Common.{◌&&◌, ◌<◌, ◌==◌, ◌∙◌, ◌≡◌, ◌≤◌, Bool, List, Some, ap, arith, false, get_or, length, refl, slice_get, subst, sym, true, ℕ}
 
 -- what was read at a place of a list
@@ -22,8 +22,7 @@ other_end network device members = is_end network device && are_others (member_o
 
 other_by : (network : Network) (device : DeviceId) (link : LinkId) (members : Members) (l : Link) → link_at network link ≡ Some l
     → is_of_other_member network device link members ≡ ((l.parent.0 == device.0) && other_end network l.child members)
-other_by network device link members l e =
-    rw e (regrouped (l.parent.0 == device.0) (is_end network l.child) (are_others (member_of network l.child) members))
+other_by network device link members l e = rw e (regrouped (l.parent.0 == device.0) (is_end network l.child) (are_others (member_of network l.child) members))
 
 -- the device is the link's parent
 pub other_below : (network : Network) (device : DeviceId) (link : LinkId) (members : Members) (l : Link) (is : Bool) → link_at network link ≡ Some l

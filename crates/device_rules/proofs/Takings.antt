@@ -85,13 +85,11 @@ pub judged : (network : Network) (device : DeviceId) (link : LinkId) (heading : 
     (cycle : ℕ) (place : ℤ) (last : Option ℕ) (fault : Option Reason)
     → option_map (entering_by network) (entry_entering network device link heading.id) ≡ Some row
     → cycle ≡ cycle_at network (clock_of at) → place ≡ offset_in_cycle network (clock_of at) → last ≡ last_by taken row.vl
-    → fault ≡ fault_of row heading.length cycle place last
-    → row_arrival network device link heading at taken ≡ arrival_by network device row.vl cycle fault
+    → fault ≡ fault_of row heading.length cycle place last → row_arrival network device link heading at taken ≡ arrival_by network device row.vl cycle fault
 judged network device link heading at taken row cycle place last fault found cycle_is place_is last_is is =
     let m = some_mapped network (entry_entering network device link heading.id) row found in
     let entry = m.0 in
-    let same : fault ≡ row_fault network at entry heading.length (last_by taken entry.row.vl) =
-    is ∙ ap (fault_of row heading.length cycle place) last_is
+    let same : fault ≡ row_fault network at entry heading.length (last_by taken entry.row.vl) = is ∙ ap (fault_of row heading.length cycle place) last_is
     ∙ ap (λ (n : ℕ). fault_of row heading.length n place (last_by taken row.vl)) cycle_is
     ∙ ap (λ (z : ℤ). fault_of row heading.length (cycle_at network (clock_of at)) z (last_by taken row.vl)) place_is
     ∙ ap (λ (r : EnteringRow). fault_of r heading.length (cycle_at network (clock_of at)) (offset_in_cycle network (clock_of at)) (last_by taken r.vl)) m.2 in

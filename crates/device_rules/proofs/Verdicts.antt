@@ -1,14 +1,13 @@
 -- What a correction point comes to.
-use Rattle.{device_rules.specs.Answers.in_units, std.proofs.Common.{ℤ, ⊎_elim}}
-use Rattle.{pcf_values.specs.declared.channel.Channel.TheVariants.{A, B}, std.proofs.lemmas.Bool.leb-true, sync_state.specs.correction.Correction.correction_of}
-use Rattle.std.proofs.Common.{◌∙◌, ◌≡◌, ◌≤◌, ◌⊎◌, Bool, None, Option, Some, ap, arith, false, if◌then◌else◌, inl, inr, nat_le, option_and_then, refl, true, ℕ}
+use Rattle.{device_rules.specs.Answers.in_units, std.proofs.{Common.{sym, true, ℕ, ℤ, ⊎_elim}, lemmas.Bool.{le-leb, leb-true}}}
+use Rattle.std.proofs.Common.{◌∙◌, ◌≡◌, ◌≤◌, ◌⊎◌, Bool, None, Option, Some, ap, arith, false, if◌then◌else◌, inl, inr, nat_le, option_and_then, refl, subst}
 use Rattle.sync_state.specs.{Standing.Standing, Verdicts.{SomeQualifies, deviation_by, deviation_on}, declared.membership.frame.HeardFrame.HeardFrame}
-use Rattle.{sync_state.specs.membership.{BestFrame.Qualifies, Members.count_of, Summary.Summary}, tte_units.specs.declared.units.Units.Units}
+use Rattle.{sync_state.specs.correction.Correction.correction_of, tte_units.specs.declared.frames.channel.Channel.{Channel, TheVariants.{A, B}}}
+use Rattle.{sync_state.specs.membership.{BestFrame.Qualifies, Members.count_of, Summary.{Summary, best_on}}, tte_units.specs.declared.units.Units.Units}
 
 -- the deviation that a best frame shows, where there is one that qualifies
 abbrev shown_by : Standing → Option HeardFrame → Option Units
-shown_by s best =
-    option_and_then (λ frame. if nat_le s.plan.threshold (count_of frame.members) then Some (deviation_by s frame) else None) best
+shown_by s best = option_and_then (λ frame. if nat_le s.plan.threshold (count_of frame.members) then Some (deviation_by s frame) else None) best
 
 if_none : {X : Type 0} (b : Bool) (x : X) → (if b then Some x else None) ≡ None → b ≡ false
 if_none true x e = absurd cc
@@ -60,6 +59,12 @@ some_qualifies s heard by e = ⊎_elim
 
 -- the correction by whole numbers is that by the deviations of the channels
 pub corrects : (s : Standing) (heard : Summary) (by a b : Option ℤ) → in_units by ≡ correction_of (in_units a) (in_units b)
-    → in_units a ≡ deviation_on s heard A → in_units b ≡ deviation_on s heard B
-    → in_units by ≡ correction_of (deviation_on s heard A) (deviation_on s heard B)
+    → in_units a ≡ deviation_on s heard A → in_units b ≡ deviation_on s heard B → in_units by ≡ correction_of (deviation_on s heard A) (deviation_on s heard B)
 corrects s heard by a b e ea eb = e ∙ ap (λ (o : Option Units). correction_of o (in_units b)) ea ∙ ap (correction_of (deviation_on s heard A)) eb
+
+-- what a best frame shows that qualifies
+pub shown : (s : Standing) (heard : Summary) (channel : Channel) (frame : HeardFrame) → best_on channel heard ≡ Some frame
+    → Qualifies s.plan.threshold (best_on channel heard) → Some (deviation_by s frame) ≡ deviation_on s heard channel
+shown s heard channel frame is =
+    subst (λ (best : Option HeardFrame). Qualifies s.plan.threshold best → Some (deviation_by s frame) ≡ shown_by s best) (sym is)
+    (λ enough. ap (λ (b : Bool). if b then Some (deviation_by s frame) else None) (sym (le-leb s.plan.threshold (count_of frame.members) enough)))

@@ -1,9 +1,8 @@
 -- How a frame that arrives is judged.
 use Rattle.std.specs.Prelude.{if◌then◌else◌, ◌≡◌, Err, None, Ok, Option, Result, Some, nat_lt, ℕ}
 use Rattle.net_plan.specs.declared.{ids.{DeviceId.DeviceId, LinkId.LinkId}, network.Network.Network}
-use Rattle.{pcf_values.specs.declared.pcf.Pcf.Pcf, run_law.specs.device.Standpoints.Standpoint}
 use Rattle.run_law.specs.{control.Arrivals.{clock_on_arrival, frame_fault}, declared.judgement.Reason.Reason}
-use Rattle.tte_units.specs.Amount.{amount}
+use Rattle.{run_law.specs.device.Standpoints.Standpoint, tte_units.specs.{Amount.amount, declared.frames.pcf.Pcf.Pcf}}
 
 -- this is the frame's clock as the wire has grown it, or why the frame is dropped
 abbrev pub IsGrownSo : Network → DeviceId → LinkId → Standpoint → Pcf → Result ℕ Reason → Type 0

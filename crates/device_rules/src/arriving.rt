@@ -13,10 +13,10 @@ use crate::frames::member_of;
 use crate::network::{is_end, is_parent_of, is_relay, place_in_cycle, precision, wire_of};
 use net_plan::{DeviceId, LinkId, Network, Way};
 use pcf_codec::PcfRefusal;
-use pcf_values::{Members, Pcf, PcfKind};
 use run_law::{Arrival, Reason};
 use sync_state::membership::one;
 use tte_units::Units;
+use tte_units::frames::{Members, Pcf, PcfKind};
 
 /// What becomes of a protocol control frame that arrives at the device by the link.
 ///

@@ -9,10 +9,10 @@ ghost use Rattle.device_rules.specs.{Answers.{in_units, standing_of, verdict_as}
 
 use crate::network::{begun, expected_at};
 use net_plan::{DeviceId, Network};
-use pcf_values::Channel;
 use sync_state::membership::Heard;
 use sync_state::{State, is_outnumbered};
 use tte_units::Units;
+use tte_units::frames::Channel;
 
 /// What a correction point comes to.
 #[derive(Clone, Copy, PartialEq, Eq)]

@@ -9,10 +9,10 @@ ghost use Rattle.run_law.specs.control.Hearing.{heard_as, heard_by_schedule, hea
 use crate::network::{expected_at, precision};
 use crate::standpoint::shown;
 use net_plan::{DeviceId, Network};
-use pcf_values::Members;
 use run_law::Judgement;
 use sync_state::State;
 use sync_state::membership::count;
+use tte_units::frames::Members;
 
 /// A frame of a later cycle is not used.
 const LAST_CYCLE: u32 = (1 << 20) + (1 << 17);

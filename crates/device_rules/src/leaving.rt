@@ -2,7 +2,7 @@
 
 ghost use Rattle.std.specs.Prelude.{◌-◌, ◌≡◌, ℕ};
 ghost use Rattle.net_plan.specs.{Ranges.IsInRange, declared.ids.{DeviceId.DeviceId, LinkId.LinkId}};
-ghost use Rattle.pcf_values.specs.declared.pcf.Pcf.{Pcf};
+ghost use Rattle.tte_units.specs.declared.frames.pcf.Pcf.{Pcf};
 ghost use Rattle.run_law.specs.{control.Leaving.departure, scenario.{Scenarios.Scenario, Ways.{is_cut, way_from}}};
 ghost use Rattle.device_rules.specs.Answers.{departure_as};
 

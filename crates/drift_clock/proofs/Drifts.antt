@@ -28,8 +28,7 @@ with_drift (negsuc m) n base x slow short much is =
 -- without it, so many are lacking
 without_drift : (r : ℤ) (n base : ℕ) (x : ℤ) → unsigned_abs r ≤ 1000000 → n < 2 ^ 42 → 4400000000000000000 ≤ base → x ≡ pos base -ℤ (r *ℤ pos n)
     → unsigned_abs x + gain r * n ≡ base + 1000000000 * n
-without_drift (pos m) n base x slow short much is =
-    grind (arith, times_small, pos-*ℤ-pos, ints)
+without_drift (pos m) n base x slow short much is = grind (arith, times_small, pos-*ℤ-pos, ints)
 without_drift (negsuc m) n base x slow short much is =
     let g = gain (negsuc m) in
     let g_is : g + suc m ≡ 1000000000 = omega (arith, ints, slow) in
@@ -49,12 +48,10 @@ pub parts_read : (r : ℤ) (n part : ℕ) (d : ℤ) → unsigned_abs r ≤ 10000
     → unsigned_abs d ≤ 4400000000000000000
     → unsigned_abs (to_z w64 (of_z w64 (to_z w64 (4500000000000000000 + part) +ℤ to_z w64 (of_z w64 d)))) + 1000000000 * n
     ≡ 4500000000000000000 + part + gain r * n
-parts_read r n part d slow short less is small =
-    grind (arith, to_z, w64, of_z, pos_read, reads, ints, with_drift)
+parts_read r n part d slow short less is small = grind (arith, to_z, w64, of_z, pos_read, reads, ints, with_drift)
 
 pub lack_read : (r : ℤ) (n part each : ℕ) (d : ℤ) → unsigned_abs r ≤ 1000000 → n < 2 ^ 42 → part < 1000000000 → each ≡ gain r → d ≡ r *ℤ pos n
-    → unsigned_abs d ≤ 4400000000000000000
-    → unsigned_abs (to_z w64 (of_z w64 (to_z w64 (4500000000 * each - part) -ℤ to_z w64 (of_z w64 d)))) + each * n + part
+    → unsigned_abs d ≤ 4400000000000000000 → unsigned_abs (to_z w64 (of_z w64 (to_z w64 (4500000000 * each - part) -ℤ to_z w64 (of_z w64 d)))) + each * n + part
     ≡ 1000000000 * n + each * 4500000000
 lack_read r n part each d slow short less each_is is small =
     let near = gain_near r 1000000 slow (omega arith) in
@@ -76,8 +73,7 @@ lack_read r n part each d slow short less each_is is small =
 
 -- a quotient rounded up is the one that is just enough
 one_ceiling : (x g q : ℕ) → 0 < g → x ≤ q * g → q * g < x + g → q ≡ div_ceil x g
-one_ceiling x g q some enough least =
-    grind (arith, div_ceil_times, cases_lt, mul-le-mul_right)
+one_ceiling x g q some enough least = grind (arith, div_ceil_times, cases_lt, mul-le-mul_right)
 
 -- fewer steps by as many as the shift has more
 pub shifted_ceiling : (x y g m s d : ℕ) → 0 < g → d ≡ div_ceil x g → x + g * m ≡ y + g * s → m + d ≡ div_ceil y g + s
@@ -100,5 +96,4 @@ shifted_ceiling x y g m s d some is same =
 -- ---- whole units in whole grains
 
 pub whole_grains : (grain whole part : ℕ) → part < 1000000000 → rounded grain (counted whole part) ≡ grain * (whole / grain)
-whole_grains grain whole part less =
-    grind (arith, div-div-eq-div-mul)
+whole_grains grain whole part less = grind (arith, div-div-eq-div-mul)

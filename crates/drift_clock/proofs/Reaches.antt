@@ -26,8 +26,7 @@ pub record IsCounted (c : Segment) (m t : ℕ) : Type 0 where
 
 counts_up : (at count g m d : ℕ) → 0 < g → count ≤ 10 ^ 9 * m → d ≡ div_ceil (10 ^ 9 * m - count) g
     → (10 ^ 9 * m ≤ count + g * ((at + d) - at)) × ((x : ℕ) → at ≤ x → x < at + d → count + g * (x - at) < 10 ^ 9 * m)
-counts_up at count g m d fast ahead steps =
-    grind (arith, ceiling, mul-le-mul_left)
+counts_up at count g m d fast ahead steps = grind (arith, ceiling, mul-le-mul_left)
 
 pub segment_counts_up : (c : Segment) (m d : ℕ) → 0 < gain c.rate → c.count ≤ 10 ^ 9 * m → d ≡ div_ceil (10 ^ 9 * m - c.count) (gain c.rate)
     → IsCounted c m (c.at + d)
@@ -35,8 +34,7 @@ segment_counts_up c m d fast ahead steps = let up = counts_up c.at c.count (gain
 
 -- a reading below n has a count below m, the next whole grain
 pub ahead : (c : Segment) (s n m : ℕ) → 1 ≤ c.grain → m % c.grain ≡ 0 → n ≤ m → segment_reading c s < n → segment_count c s < 10 ^ 9 * m
-ahead c s n m some whole enough short =
-    grind (arith, cases_lt, le-rounded)
+ahead c s n m some whole enough short = grind (arith, cases_lt, le-rounded)
 
 grows : (n g a b : ℕ) → a ≤ b → n + g * a ≤ n + g * b
 grows n g a b le = omega (arith, mul-le-mul_left g le)
@@ -60,8 +58,7 @@ segment_reaches c s n m t some whole enough least after short counted = record {
 -- the time in whole grains is at least n from the next whole grain m on
 pub steady_reaches : (grain s n m : ℕ) → 1 ≤ grain → m % grain ≡ 0 → n ≤ m → m < n + grain → grain * (s / grain) < n
     → IsReachFrom (λ t. grain * (t / grain)) s n m
-steady_reaches grain s n m some whole enough least short =
-    grind (arith, cases_lt, le-div, mul-le-mul_left, mul-div-le, lt_of_mul-lt-mul_left)
+steady_reaches grain s n m some whole enough least short = grind (arith, cases_lt, le-div, mul-le-mul_left, mul-div-le, lt_of_mul-lt-mul_left)
 
 -- a reading comes to a value but once
 pub one_reach : (reading : ℕ → ℕ) (from v : ℤ) (u t : ℕ) → IsReach reading from v (pos u) → IsReach reading from v (pos t) → u ≡ t

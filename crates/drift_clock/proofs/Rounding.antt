@@ -16,18 +16,15 @@ lt-rounded grain x some =
 
 -- a count of at least m, in whole grains, is at least m rounded
 pub le-rounded : (grain n m x : ℕ) → 1 ≤ grain → m % grain ≡ 0 → n ≤ m → 10 ^ 9 * m ≤ x → n ≤ rounded grain x
-le-rounded grain n m x some whole small enough =
-    grind (arith, le-div, mul-le-mul_left)
+le-rounded grain n m x some whole small enough = grind (arith, le-div, mul-le-mul_left)
 
 -- a count below m, the first whole grains from n on, is below n rounded
 pub rounded-lt : (grain n m x : ℕ) → 1 ≤ grain → m % grain ≡ 0 → m < n + grain → x < 10 ^ 9 * m → rounded grain x < n
-rounded-lt grain n m x some whole least short =
-    grind (arith, mul-div-le, lt_of_mul-lt-mul_left, mul-le-mul_left)
+rounded-lt grain n m x some whole least short = grind (arith, mul-div-le, lt_of_mul-lt-mul_left, mul-le-mul_left)
 
 -- more is not less when it is rounded
 pub rounded-mono : (grain a b : ℕ) → 1 ≤ grain → a ≤ b → rounded grain a ≤ rounded grain b
-rounded-mono grain a b some le =
-    grind (arith, mul-div-le, le-div, mul-le-mul_left)
+rounded-mono grain a b some le = grind (arith, mul-div-le, le-div, mul-le-mul_left)
 
 apart : (rho grain d a b x y : ℕ) → Advances rho d a b → 10 ^ 9 * x ≤ a → a < 10 ^ 9 * x + grain * 10 ^ 9 → 10 ^ 9 * y ≤ b → b < 10 ^ 9 * y + grain * 10 ^ 9
     → x ≤ y → Measures rho grain d (y - x)

@@ -47,16 +47,14 @@ early rho grain reading from u v s t laws below first second after =
 
 pub slips_little : SlipsLittle
 slips_little rho grain reading from u v s t small some laws below first second =
-    let ordered : s ≤ t =
-    elim (cases_lt t s) [
+    let ordered : s ≤ t = elim (cases_lt t s) [
       | inr ge ↦ ge
       | inl lt ↦
           let short = first.not_before t (second.from_on) (omega (arith, ints)) in
           absurd (omega (arith, ints, short, second.reached))
     ] in
     let e = early rho grain reading from u v s t laws below first second ordered in
-    let near : 10 ^ 9 * abs_diff t (s + v) ≤ rho * (t - s + 1) + 2 * grain * 10 ^ 9 =
-    elim (cases_lt s t) [
+    let near : 10 ^ 9 * abs_diff t (s + v) ≤ rho * (t - s + 1) + 2 * grain * 10 ^ 9 = elim (cases_lt s t) [
       | inl lt ↦ let l = late rho grain reading from u v s t laws first second lt in omega (arith, e, l)
       | inr ge ↦ omega (arith, e)
     ] in

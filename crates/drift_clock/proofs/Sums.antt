@@ -20,5 +20,4 @@ grain_stays c [] = refl
 grain_stays c (s ∷ steps) = grain_stays (stepped_segment c s.at s.rate) steps
 
 pub reads_count : ReadsCount fresh_segment stepped_segment segment_reading
-reads_count grain steps t =
-    grind (arith, counts, zero-add, grain_stays)
+reads_count grain steps t = grind (arith, counts, zero-add, grain_stays)

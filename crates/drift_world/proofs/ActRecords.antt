@@ -44,8 +44,7 @@ module _ (other network : Network) (now : ℕ) (hs : List Happening) where
   )
 
   pub both_put : (first second : Option Settled) (old mid new : List Settled) → IsSomePut first old mid → IsSomePut second mid new → InOrder (all_at old)
-      → IsOwn other network now hs first → IsOwn other network now hs second
-      → ArePutIn other hs now (body_of first ++ body_of second) (all_at old) (all_at new)
+      → IsOwn other network now hs first → IsOwn other network now hs second → ArePutIn other hs now (body_of first ++ body_of second) (all_at old) (all_at new)
   both_put None second old mid new one two order own also =
       subst (λ (l : List Settled). ArePutIn other hs now (body_of second) (all_at l) (all_at new)) one
       (one_by second mid new two (order_then None old mid one order) also)
@@ -153,8 +152,7 @@ module _ (s : Scenario) (hs : List Happening) (now : ℕ) (device : DeviceId) (w
 
   told_own : octets_of s.network hand.octets ≡ octets_now → (b : Bool) → IsOwn s.network s.network now hs (Some (told b))
   told_own octets true = refl
-  told_own octets false =
-      ap (λ (l : List ℕ). let h : Happening = record (settled_at s.network now (told false)) { octets = l } in h) octets
+  told_own octets false = ap (λ (l : List ℕ). let h : Happening = record (settled_at s.network now (told false)) { octets = l } in h) octets
 
   told_fine : (b : Bool) → IsFine now device (Some (told b))
   told_fine true = (tt, late now device (told true) (omega arith))

@@ -124,8 +124,7 @@ module _ {C M : Type 0} (reading : C → ℕ → ℕ) (stands : M → Network �
       → IsStateOf (keeps stands) s.network device machine was before → IsStateOf (keeps stands) s.network device after is adjustment
       → AreOutcomes s state.stored.items state.time device was adjustment act outcomes
       → (more ≡ true → IsDueNow (keeps stands) s.network device (moment_of s device state.time) after)
-      → (more ≡ false → IsIdle stands s state.time device after)
-      → StandsBehind reading (keeps stands) s
+      → (more ≡ false → IsIdle stands s state.time device after) → StandsBehind reading (keeps stands) s
       (record (world_of network state) { early = false; machines = machines; settled = map (settled_at network state.time) new }) notes
       (act_cursor more state.time device)
   acted_once after was is before adjustment act outcomes mid new machines more set one two s notes old first acted stood stands_then are yes_it no_it =
@@ -161,8 +160,7 @@ module _ {C M : Type 0} (reading : C → ℕ → ℕ) (stands : M → Network �
           (subst (λ (n : Network). IsOwn s.network n state.time (happenings s.network notes) outcomes.second) (sym old.same) own.second)
 
       by : (b : Bool) → (b ≡ true → IsDueNow (keeps stands) s.network device (moment_of s device state.time) after)
-          → (b ≡ false → IsIdle stands s state.time device after)
-          → StandsBehind reading (keeps stands) s
+          → (b ≡ false → IsIdle stands s state.time device after) → StandsBehind reading (keeps stands) s
           (record (world_of network state) { early = false; machines = machines; settled = map (settled_at network state.time) new }) notes
           (act_cursor b state.time device)
       by true yes_it no_it =

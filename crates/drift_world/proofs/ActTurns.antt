@@ -42,8 +42,7 @@ pub record IsActed {C M : Type 0} (last_step : C → ℕ) (reading : C → ℕ �
       → StandsBehind reading (keeps stands) s (world_of network new) notes (act_cursor more old.time device)
   pub due : more ≡ true → IsDueAt reading stands network new device
   pub acted : (s : Scenario) (notes : List Note) (machine : Kept M) → Stands reading (keeps stands) s (world_of network old) notes
-      → slice_get old.machines.items device.0 ≡ Some machine
-      → (act : Act) × (after : Kept M) × (slice_get new.machines.items device.0 ≡ Some after)
+      → slice_get old.machines.items device.0 ≡ Some machine → (act : Act) × (after : Kept M) × (slice_get new.machines.items device.0 ≡ Some after)
       × HasActed (keeps stands) s.network device (moment_of s device old.time) act machine after
 
 module _ {C M : Type 0} (last_step : C → ℕ) (reading : C → ℕ → ℕ) (stands : M → Network → DeviceId → Node → Type 0) (network : Network) (device : DeviceId)

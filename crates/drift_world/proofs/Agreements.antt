@@ -16,8 +16,7 @@ one_of (Some step) = step ∷ []
 
 steps_more : (past : List Event) (event : Event) (device : DeviceId)
     → rate_steps (past ++ event ∷ []) device ≡ rate_steps past device ++ one_of (step_by device (amount event.time) event.what)
-steps_more past event device =
-    grind (arith, filter_map-append, amount, rate_steps)
+steps_more past event device = grind (arith, filter_map-append, amount, rate_steps)
 
 -- what the last step makes of a clock
 step_last : {C : Type 0} (after_step : C → ℕ → ℤ → C) (o : Option RateStep) (clock : C)
@@ -28,16 +27,14 @@ step_last after_step (Some step) clock = refl
 pub clock_more : {C : Type 0} (fresh : ℕ → C) (after_step : C → ℕ → ℤ → C) (network : Network) (past : List Event) (event : Event) (device : DeviceId)
     → clock_of fresh after_step network (past ++ event ∷ []) device
     ≡ clock_after after_step device event.time event.what (clock_of fresh after_step network past device)
-clock_more {C} fresh after_step network past event device =
-    grind (arith, amount, steps_more, fold-append, rate_steps, step_last)
+clock_more {C} fresh after_step network past event device = grind (arith, amount, steps_more, fold-append, rate_steps, step_last)
 
 -- ---- each step is at the time of its event
 
 all_one : (t time : ℕ) (o : Option RateStep) (steps : List RateStep) → time ≤ t → Holds o (λ s. s.at ≡ time) → All (λ s. s.at ≤ t) steps
     → All (λ s. s.at ≤ t) (Rattle.std.specs.List.cons_option o steps)
 all_one t time None steps le at all = all
-all_one t time (Some step) steps le at all =
-    Rattle.std.proofs.lemmas.List.Elements.All-cons (λ (s : RateStep). s.at ≤ t) step steps (omega (arith, le, at)) all
+all_one t time (Some step) steps le at all = Rattle.std.proofs.lemmas.List.Elements.All-cons (λ (s : RateStep). s.at ≤ t) step steps (omega (arith, le, at)) all
 
 -- up to a time all steps have come, where all events have
 pub all_come : (events : List Event) (device : DeviceId) (t : ℕ) → ((e : Event) → IsIn e events → amount e.time ≤ t)
@@ -60,8 +57,7 @@ reads_value fresh after_step reading network events device t past =
 -- a step does not change what is read at its time
 step_reads : {C : Type 0} (fresh : ℕ → C) (after_step : C → ℕ → ℤ → C) (reading : C → ℕ → ℕ) (grain : C → ℕ) (count : C → ℕ → ℕ)
     (law : IsLawful fresh after_step reading grain count) (clock : C) (t : ℕ) (rate : ℤ) → reading (after_step clock t rate) t ≡ reading clock t
-step_reads fresh after_step reading grain count law clock t rate =
-    grind arith
+step_reads fresh after_step reading grain count law clock t rate = grind arith
 
 one_reads : {C : Type 0} (fresh : ℕ → C) (after_step : C → ℕ → ℤ → C) (reading : C → ℕ → ℕ) (grain : C → ℕ) (count : C → ℕ → ℕ)
     (law : IsLawful fresh after_step reading grain count) (clock : C) (time x : ℕ) (o : Option RateStep) → Holds o (λ s. s.at ≡ time) → x ≤ time

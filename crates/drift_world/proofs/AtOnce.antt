@@ -15,8 +15,7 @@ module _ {C M : Type 0} (last_step : C → ℕ) (reading : C → ℕ → ℕ) (s
   -- the first that is under way is not before it
   port_aside : (state : State C M) (place : Option DueAt) (port rank : ℕ) (rest : List ℕ) → IsRunning reading stands network state
       → AreUnderWay network state.under_way.entries → rank < port → IfSome place (λ p. IsFirst state.under_way.entries p)
-      → IfSome place (λ p. p.at ≡ state.time → port ≤ p.rank)
-      → IfSome place (λ p. IsBefore (numbers_of p) (state.time ∷ rank ∷ rest) → ⊥)
+      → IfSome place (λ p. p.at ≡ state.time → port ≤ p.rank) → IfSome place (λ p. IsBefore (numbers_of p) (state.time ∷ rank ∷ rest) → ⊥)
   port_aside state None port rank rest running under_way lt first is = tt
   port_aside state (Some p) port rank rest running under_way lt first is =
       aside_by_rank p.at state.time p.rank rank (p.device ∷ p.link ∷ p.cause ∷ []) rest
@@ -24,8 +23,7 @@ module _ {C M : Type 0} (last_step : C → ℕ) (reading : C → ℕ → ℕ) (s
 
   -- nor what the first timer is for
   slot_aside : (state : State C M) (due : Option Due) (slot rank : ℕ) (rest : List ℕ) → AreTimed reading stands network state → rank < slot
-      → IfSome due (λ d. IsFirstDue state.timers d)
-      → IfSome due (λ d. d.time ≡ state.time → d.slot < length network.device → slot ≤ 3)
+      → IfSome due (λ d. IsFirstDue state.timers d) → IfSome due (λ d. d.time ≡ state.time → d.slot < length network.device → slot ≤ 3)
       → IfSome due (λ d. d.time ≡ state.time → length network.device ≤ d.slot → slot ≤ 4)
       → IfSome due (λ d. (IsBefore (due_place (length network.device) d) (state.time ∷ rank ∷ rest) → ⊥)
       ⊎ IsRipePlace reading network state d (state.time ∷ rank ∷ rest))
@@ -44,8 +42,7 @@ module _ {C M : Type 0} (last_step : C → ℕ) (reading : C → ℕ → ℕ) (s
 
   -- the ranks of the first of both queues, and of what is in none, tell what is to come of the instant
   pub ranks_tell : (state : State C M) (place : Option DueAt) (due : Option Due) (port slot other next : ℕ) → IsWell last_step reading stands network state
-      → AreFirsts state place due
-      → IfSome place (λ p. p.at ≡ state.time → port ≤ p.rank)
+      → AreFirsts state place due → IfSome place (λ p. p.at ≡ state.time → port ≤ p.rank)
       → IfSome due (λ d. d.time ≡ state.time → d.slot < length network.device → slot ≤ 3)
       → IfSome due (λ d. d.time ≡ state.time → length network.device ≤ d.slot → slot ≤ 4)
       → (state.pending ≡ true → other ≤ 2) → (state.ended ≡ true → state.shown < length network.device → other ≤ 14)
@@ -90,8 +87,7 @@ module _ {C M : Type 0} (last_step : C → ℕ) (reading : C → ℕ → ℕ) (s
   work_turns E old new until note (Err e) early well says = tt
 
   pub gives_turns : (E : Type 0) (old new : State C M) (until : ℕ) (note : Note) (result : Result Turn E) → old.time < until
-      → IsWell last_step reading stands network new → IfOk result (GivesAt old new note)
-      → IfOk result (TurnsTo reading stands network until old new note)
+      → IsWell last_step reading stands network new → IfOk result (GivesAt old new note) → IfOk result (TurnsTo reading stands network until old new note)
   gives_turns E old new until note result early well says =
       work_turns E old new until note result early well (gives_then E old old new note result refl refl says)
 

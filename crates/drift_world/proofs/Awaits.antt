@@ -27,8 +27,7 @@ split false true e = (refl, refl)
 split false false e = absurd cc
 
 same_waiting : (e f : Waiting) → e.device ≡ f.device → e.link ≡ f.link → e.cause ≡ f.cause → e.frame ≡ f.frame → e.point.0 ≡ f.point.0 → e ≡ f
-same_waiting e f device link cause frame point =
-    grind arith
+same_waiting e f device link cause frame point = grind arith
 
 -- nothing waits by it
 pub none_awaited : (s : Scenario) (x : Happening) (number : ℕ) (old : List Waiting)

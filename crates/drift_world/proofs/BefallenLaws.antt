@@ -36,8 +36,7 @@ way_found s now link ups (Some w) found is = record { way = w; found = found; is
 
 way_up : (s : Scenario) (now : ℕ) (ups downs : List WayState) → AreWays s now (map way_as ups) (map way_as downs) → (link : LinkId)
     → link.0 < length s.network.link → IsUp s now link ups
-way_up s now ups downs ways link lt =
-    way_found s now link ups (slice_get ups link.0) refl (sym (slice_get-map way_as ups link.0) ∙ ways.up link lt)
+way_up s now ups downs ways link lt = way_found s now link ups (slice_get ups link.0) refl (sym (slice_get-map way_as ups link.0) ∙ ways.up link lt)
 
 -- ---- what an event puts on wires
 

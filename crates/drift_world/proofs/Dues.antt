@@ -9,10 +9,7 @@ module _ {C M : Type 0} (reading : C → ℕ → ℕ) (stands : M → Network �
   pub due_by : (clock : C) (machine : Kept M) (device : DeviceId) (now time : ℕ) (due : Option Units) (node : Node)
       → keeps stands machine network device node → IsDueReading network device node due → ActsAt reading stands network clock machine device now time
       → IsDueBy reading clock due now time
-  due_by clock machine device now time None node kept least acts = record {
-    none = tt;
-    one = λ lt. let task = acts.one lt node kept in least task.0 task.1;
-  }
+  due_by clock machine device now time None node kept least acts = record { none = tt; one = λ lt. let task = acts.one lt node kept in least task.0 task.1 }
   due_by clock machine device now time (Some at) node kept least acts = record {
     none = λ u from most reached.
         let first = least.0 in
@@ -50,8 +47,7 @@ module _ {C M : Type 0} (reading : C → ℕ → ℕ) (stands : M → Network �
   due_stays last_step old new device due well of_it least clocks now timers clock time own at =
       let timed = (well.timed.each device of_it).act in
       let clock_is : timed.clock ≡ clock = some_same _ _ _ timed.of_clock (sym (ap (λ (c : _). slice_get c.items device.0) clocks) ∙ own) in
-      let time_is : timed.act ≡ time =
-      some_same _ _ _ timed.of_act (sym (ap (λ (l : List ℕ). slice_get l (length network.device + device.0)) timers) ∙ at) in
+      let time_is : timed.act ≡ time = some_same _ _ _ timed.of_act (sym (ap (λ (l : List ℕ). slice_get l (length network.device + device.0)) timers) ∙ at) in
       let node = node_of reading stands network old well.running device timed.machine of_it timed.of_machine in
       let by = due_by timed.clock timed.machine device old.time timed.act due node.0 node.1
       (least timed.machine network device node.0 timed.of_machine node.1) timed.acts in

@@ -10,8 +10,7 @@ use Rattle.net_plan.specs.declared.event.What.TheVariants as events
 
 other_clock : {C : Type 0} (after_step : C → ℕ → ℤ → C) (device : DeviceId) (time : Units) (what : What) (clock : C) → IsElsewhere what device
     → clock_after after_step device time what clock ≡ clock
-other_clock {C} after_step device time (events.Rate other rate) clock away =
-    grind (arith, option_map_or, amount, false_from_ne_true, eqb-true)
+other_clock {C} after_step device time (events.Rate other rate) clock away = grind (arith, option_map_or, amount, false_from_ne_true, eqb-true)
 other_clock after_step device time (events.Wire link way delay) clock away = refl
 other_clock after_step device time other clock away = refl
 
@@ -29,15 +28,13 @@ breaks_other device w rest away at = refl
 
 in_kept : {X : Type 0} (q : X → Bool) (xs : List X) (x : X) → q x ≡ true → IsIn x xs → IsIn x (filter q xs)
 in_kept q [] x passes i = i
-in_kept q (y ∷ ys) x passes (inl same) =
-    subst (λ (b : Bool). IsIn x (if b then y ∷ filter q ys else filter q ys)) (sym (ap q (sym same) ∙ passes)) (inl same)
+in_kept q (y ∷ ys) x passes (inl same) = subst (λ (b : Bool). IsIn x (if b then y ∷ filter q ys else filter q ys)) (sym (ap q (sym same) ∙ passes)) (inl same)
 in_kept q (y ∷ ys) x passes (inr i) =
     elim (q y) as (λ b. IsIn x (if b then y ∷ filter q ys else filter q ys)) [ true ↦ inr (in_kept q ys x passes i) | false ↦ in_kept q ys x passes i ]
 
 pub waits_elsewhere : (old new : List Waits) (device : DeviceId) (what : What) → new ≡ filter (λ w. not (breaks_at w.device.0 what)) old
     → IsElsewhere what device → (w : Waits) → w.device.0 ≡ device.0 → IsIn w new ↔ IsIn w old
-waits_elsewhere old new device what is away w at =
-    grind (arith, not, breaks_at, breaks_other, in_filter, in_kept)
+waits_elsewhere old new device what is away w at = grind (arith, not, breaks_at, breaks_other, in_filter, in_kept)
 
 -- ---- the timers
 
@@ -48,14 +45,11 @@ pub timed_by_event : {C M : Type 0} (reading : C → ℕ → ℕ) (stands : M �
     → (slice_get mid.clocks.items device.0 ≡ slice_get old.clocks.items device.0)
     × (slice_get mid.machines.items device.0 ≡ slice_get old.machines.items device.0)
     × ((w : Waits) → w.device.0 ≡ device.0 → IsIn w mid.waiting.items ↔ IsIn w old.waiting.items)) → mid.timers ≡ old.timers → mid.time ≡ old.time
-    → new ≡ record mid { timers = new.timers }
-    → ((device : DeviceId) → device_in what ≡ Some device → IsTimed reading stands network new.timers new device)
-    → length new.timers ≡ length mid.timers
-    → ((device : DeviceId) → device.0 < length network.device → IsElsewhere what device
+    → new ≡ record mid { timers = new.timers } → ((device : DeviceId) → device_in what ≡ Some device → IsTimed reading stands network new.timers new device)
+    → length new.timers ≡ length mid.timers → ((device : DeviceId) → device.0 < length network.device → IsElsewhere what device
     → (slice_get new.timers device.0 ≡ slice_get mid.timers device.0)
     × (slice_get new.timers (length network.device + device.0) ≡ slice_get mid.timers (length network.device + device.0)))
-    → (All (λ (time : ℕ). mid.time ≤ time) mid.timers → All (λ (time : ℕ). new.time ≤ time) new.timers)
-    → AreTimed reading stands network new
+    → (All (λ (time : ℕ). mid.time ≤ time) mid.timers → All (λ (time : ℕ). new.time ≤ time) new.timers) → AreTimed reading stands network new
 timed_by_event {C} {M} reading stands network old mid new what are away timers time same own sized others later = record {
   sized = sized ∙ ap length timers ∙ are.sized;
   each = λ device there. each device there (device_in what) refl;
@@ -77,8 +71,7 @@ timed_by_event {C} {M} reading stands network old mid new what are away timers t
 
     each : (device : DeviceId) → device.0 < length network.device → (o : Option DeviceId) → device_in what ≡ o
         → IsTimed reading stands network new.timers new device
-    each device there None none =
-        still device there (subst (λ (o : Option DeviceId). IfSome o (λ d. d.0 ≢ device.0)) (sym none) tt)
+    each device there None none = still device there (subst (λ (o : Option DeviceId). IfSome o (λ d. d.0 ≢ device.0)) (sym none) tt)
     each device there (Some other) is = elim (cases_eq other.0 device.0) [
       | inl at ↦ own device (is ∙ ap (λ (n : ℕ). Some (let d : DeviceId = record { 0 = n } in d)) at)
       | inr ne ↦ still device there (subst (λ (o : Option DeviceId). IfSome o (λ d. d.0 ≢ device.0)) (sym is) ne)

@@ -35,13 +35,11 @@ module _ {C M : Type 0} (reading : C → ℕ → ℕ) (stands : M → Network �
   worked : (w : List ℕ) → IsSource s hs w → IsBefore w (world.now ∷ 2 ∷ []) → IsBefore w old.cursor
   unfolding hs
   worked w (IsSource.arriving t device link cause a) b = by_time t 2 (device.0 ∷ link.0 ∷ cause ∷ []) (omega arith) b
-  worked w (IsSource.ripening t device link cause point r) b =
-      by_time t 3 (device.0 ∷ amount point ∷ r.frame.members.0 ∷ link.0 ∷ cause ∷ []) (omega arith) b
+  worked w (IsSource.ripening t device link cause point r) b = by_time t 3 (device.0 ∷ amount point ∷ r.frame.members.0 ∷ link.0 ∷ cause ∷ []) (omega arith) b
   worked w (IsSource.acting t device a) b = by_time t 4 (device.0 ∷ []) (omega arith) b
   worked w (IsSource.departing t device link cause d) b = by_time t 8 (device.0 ∷ link.0 ∷ cause ∷ []) (omega arith) b
   worked w (IsSource.following t cause h it) b = by_time t 2 [] (omega arith) b
-  worked w (IsSource.befalling time line what r) b =
-      subst (λ (n : ℕ). IsBefore (n ∷ 1 ∷ []) old.cursor) (ap amount (sym r.at)) (told r.before r.event r.is)
+  worked w (IsSource.befalling time line what r) b = subst (λ (n : ℕ). IsBefore (n ∷ 1 ∷ []) old.cursor) (ap amount (sym r.at)) (told r.before r.event r.is)
   worked w (IsSource.ending time device is there ends) b = by_time (amount time) 14 (device.0 ∷ []) (omega arith) b
 
   -- nothing is to come

@@ -4,13 +4,11 @@ use Rattle.drift_world.proofs.Words.{◌∙◌, ◌∷◌, ◌≡◌, DeviceId, 
 use Rattle.drift_world.proofs.Words.{append-nil, frame_by, happening, happenings, hidden, hidden_body, length, map, note_of, octets_by, refl, sym, ℕ}
 
 same_frame : (network : Network) (hs : List Happening) (given : ℕ) (body : NoteBody) → frame_by network hs (hidden_body given body) ≡ frame_by network hs body
-same_frame network hs given body =
-    grind (arith, change_or_other, frame_by, hidden_body)
+same_frame network hs given body = grind (arith, change_or_other, frame_by, hidden_body)
 
 same_octets : (network : Network) (hs : List Happening) (given : ℕ) (body : NoteBody)
     → octets_by network hs (hidden_body given body) ≡ octets_by network hs body
-same_octets network hs given body =
-    grind (arith, change_or_other, octets_by, hidden_body)
+same_octets network hs given body = grind (arith, change_or_other, octets_by, hidden_body)
 
 pub record IsFirstOf (given : ℕ) (coming : List Happening) (z : Happening) : Type 0 where
   pub first : Happening

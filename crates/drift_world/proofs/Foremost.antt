@@ -35,8 +35,7 @@ of_end until le (inr (e, b)) = b
 -- what a slot is for is due at the slot's time
 pub slot_time : (devices : ℕ) (due : Due) (p : List ℕ) → (IsBefore (due.time ∷ 3 ∷ due.slot ∷ []) p → ⊥)
     → (IsBefore (due.time ∷ 4 ∷ (due.slot - devices) ∷ []) p → ⊥) → IsBefore (due_place devices due) p → ⊥
-slot_time devices due p low high b =
-    grind (arith, cases_lt, slot_low, slot_high)
+slot_time devices due p low high b = grind (arith, cases_lt, slot_low, slot_high)
 
 -- ---- nothing under way, and no timer, is past
 
@@ -44,8 +43,7 @@ module _ {C M : Type 0} (reading : C → ℕ → ℕ) (stands : M → Network �
     (running : IsRunning reading stands network state) where
   -- no place before the present time is still to be worked off
   past : (p q : List ℕ) → p ≡ q → (IsBefore p running.is.cursor → ⊥) → IsBefore q (state.time ∷ []) → ⊥
-  past p q same not b =
-      not (subst (λ (r : List ℕ). IsBefore r running.is.cursor) (sym same) (running.is.ahead q (running.is.of_now q b)))
+  past p q same not b = not (subst (λ (r : List ℕ). IsBefore r running.is.cursor) (sym same) (running.is.ahead q (running.is.of_now q b)))
 
   entry_later : (e : Entry Content) (content : Content) → e.content ≡ content → IsIn e state.under_way.entries → e.place.rank ≡ rank_of content
       → state.time ≤ e.place.at
@@ -83,8 +81,7 @@ module _ {C M : Type 0} (reading : C → ℕ → ℕ) (stands : M → Network �
 
   -- nor the first place
   pub first_later : AreUnderWay network state.under_way.entries → (place : DueAt) → IsFirst state.under_way.entries place → state.time ≤ place.at
-  first_later are place first =
-      subst (λ (p : DueAt). state.time ≤ p.at) first.at (entries_later are first.entry first.there)
+  first_later are place first = subst (λ (p : DueAt). state.time ≤ p.at) first.at (entries_later are first.entry first.there)
 
   -- the node of a device's machine
   pub node_of : (device : DeviceId) (machine : Kept M) → device.0 < length network.device → slice_get state.machines.items device.0 ≡ Some machine
@@ -153,8 +150,7 @@ pub record HasShape (devices : ℕ) (due : Due) (p : List ℕ) : Type 0 where
 
 shape_of : {C M : Type 0} (reading : C → ℕ → ℕ) (network : Network) (state : State C M) (due : Due) (p : List ℕ)
     → (p ≡ due_place (length network.device) due) ⊎ IsRipePlace reading network state due p → HasShape (length network.device) due p
-shape_of reading network state due p (inl e) =
-    grind (arith, cases_lt, length, slot_low, slot_high)
+shape_of reading network state due p (inl e) = grind (arith, cases_lt, length, slot_low, slot_high)
 shape_of reading network state due p (inr r) = grind arith
 
 module _ {C M : Type 0} (last_step : C → ℕ) (reading : C → ℕ → ℕ) (stands : M → Network → DeviceId → Node → Type 0) (network : Network)
@@ -181,10 +177,8 @@ module _ {C M : Type 0} (last_step : C → ℕ) (reading : C → ℕ → ℕ) (s
 
   -- none is before the place, where each is so
   are_not : (p : List ℕ) → (IsBefore ((2 ^ 60 + 1) ∷ []) p → ⊥)
-      → ((q : DueAt) → place ≡ Some q → now ≤ q.at → (q.rank ≡ 2) ⊎ (q.rank ≡ 8) → IsBefore (numbers_of q) p → ⊥)
-      → ((d : Due) → due ≡ Some d → now ≤ d.time
-      → (IsBefore (due_place (length network.device) d) p → ⊥) ⊎ IsRipePlace reading network state d p)
-      → (state.pending ≡ true → IsBefore (now ∷ 2 ∷ []) p → ⊥)
+      → ((q : DueAt) → place ≡ Some q → now ≤ q.at → (q.rank ≡ 2) ⊎ (q.rank ≡ 8) → IsBefore (numbers_of q) p → ⊥) → ((d : Due) → due ≡ Some d → now ≤ d.time
+      → (IsBefore (due_place (length network.device) d) p → ⊥) ⊎ IsRipePlace reading network state d p) → (state.pending ≡ true → IsBefore (now ∷ 2 ∷ []) p → ⊥)
       → (state.ended ≡ true → state.shown < length network.device → IsBefore (now ∷ 14 ∷ state.shown ∷ []) p → ⊥)
       → HasNothingBefore reading stands network state p
   are_not p in_time places dues befell clocks =
@@ -213,8 +207,7 @@ module _ {C M : Type 0} (last_step : C → ℕ) (reading : C → ℕ → ℕ) (s
       (not_earlier d.time now (4 ∷ (d.slot - length network.device) ∷ []) more le (λ e. absurd (not e)))
 
   clocks_after : (rank : ℕ) (rest : List ℕ) → rank < 14 → IsBefore (now ∷ 14 ∷ state.shown ∷ []) (now ∷ rank ∷ rest) → ⊥
-  clocks_after rank rest lt =
-      not_earlier now now (14 ∷ state.shown ∷ []) (rank ∷ rest) (omega arith) (λ e. higher 14 rank (state.shown ∷ []) rest lt)
+  clocks_after rank rest lt = not_earlier now now (14 ∷ state.shown ∷ []) (rank ∷ rest) (omega arith) (λ e. higher 14 rank (state.shown ∷ []) rest lt)
 
   none_befell : (p : List ℕ) → state.pending ≡ false → state.pending ≡ true → IsBefore (now ∷ 2 ∷ []) p → ⊥
   none_befell p calm told = absurd (both_ways state.pending calm told)
@@ -231,13 +224,11 @@ module _ {C M : Type 0} (last_step : C → ℕ) (reading : C → ℕ → ℕ) (s
 
   -- what is the first that is under way, and there now
   placed_first : (q : DueAt) (rank : ℕ) → rank < 14 → state.pending ≡ false → place ≡ Some q → q.at ≡ state.time → q.rank ≡ rank
-      → ((d : Due) → due ≡ Some d → now ≤ d.time
-      → IsBefore (due_place (length network.device) d) (now ∷ rank ∷ q.device ∷ q.link ∷ q.cause ∷ []) → ⊥)
+      → ((d : Due) → due ≡ Some d → now ≤ d.time → IsBefore (due_place (length network.device) d) (now ∷ rank ∷ q.device ∷ q.link ∷ q.cause ∷ []) → ⊥)
       → HasNothingBefore reading stands network state (numbers_of q)
   placed_first q rank lt calm is at of_rank dues =
       let rest : List ℕ = q.device ∷ q.link ∷ q.cause ∷ [] in
-      let same : now ∷ rank ∷ rest ≡ numbers_of q =
-      ap (λ (n : ℕ). n ∷ rank ∷ rest) (sym at) ∙ ap (λ (n : ℕ). q.at ∷ n ∷ rest) (sym of_rank) in
+      let same : now ∷ rank ∷ rest ≡ numbers_of q = ap (λ (n : ℕ). n ∷ rank ∷ rest) (sym at) ∙ ap (λ (n : ℕ). q.at ∷ n ∷ rest) (sym of_rank) in
       subst (HasNothingBefore reading stands network state) same
       (are_not (now ∷ rank ∷ rest) (of_run now (rank ∷ rest) well.sound.sized.limit)
       (λ r e le either.
@@ -291,8 +282,7 @@ module _ {C M : Type 0} (last_step : C → ℕ) (reading : C → ℕ → ℕ) (s
 
   -- the clock that is to be shown
   pub clock_first : state.pending ≡ false → IfSome place (λ q. q.at ≡ state.time → q.rank ≡ 2 → ⊥) → IfSome due (λ d. d.time ≡ state.time → ⊥)
-      → IfSome place (λ q. q.at ≡ state.time → q.rank ≡ 8 → ⊥)
-      → HasNothingBefore reading stands network state (state.time ∷ 14 ∷ state.shown ∷ [])
+      → IfSome place (λ q. q.at ≡ state.time → q.rank ≡ 8 → ⊥) → HasNothingBefore reading stands network state (state.time ∷ 14 ∷ state.shown ∷ [])
   clock_first calm no_arrival no_due no_departure =
       are_not (now ∷ 14 ∷ state.shown ∷ []) (of_run now (14 ∷ state.shown ∷ []) well.sound.sized.limit)
       (λ q e le either. not_earlier q.at now (q.rank ∷ q.device ∷ q.link ∷ q.cause ∷ []) (14 ∷ state.shown ∷ []) le

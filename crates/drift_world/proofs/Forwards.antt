@@ -52,8 +52,7 @@ kept_by setting es o (Some n) is here more = more (Some n) here
 last_kept : (setting : Event → Option ℕ) (es : List Event) (o : Option ℕ) → IsSome1 o → ((e : Event) → IsIn e es → IsSome1 (setting e))
     → IsSome1 (last_or o (filter_map setting es))
 last_kept setting [] o is each = is
-last_kept setting (e ∷ es) o is each =
-    kept_by setting es o (setting e) is (each e (inl refl)) (λ q here. last_kept setting es q here (λ d i. each d (inr i)))
+last_kept setting (e ∷ es) o is each = kept_by setting es o (setting e) is (each e (inl refl)) (λ q here. last_kept setting es q here (λ d i. each d (inr i)))
 
 unwrapped : (o : Option ℕ) (n : ℕ) → IsSome1 o → 1 ≤ n → 1 ≤ unwrap_or o n
 unwrapped None n is some = some

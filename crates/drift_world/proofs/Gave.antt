@@ -103,8 +103,7 @@ same_cause p q e = ap cause_in e
 
 -- it is sound with what is put on a wire, where all else is by records before, or at ports
 pub wire_sound : (network : Network) (number : ℕ) (old new : List (Entry Content)) (o : Option (Entry Content)) → IfSome o (IsOnWire network number)
-    → IsPutOn o old new → ((d : Entry Content) → IsIn d old → (d.place.cause < number) ⊎ (d.place.rank ≡ 8)) → AreUnderWay network old
-    → AreUnderWay network new
+    → IsPutOn o old new → ((d : Entry Content) → IsIn d old → (d.place.cause < number) ⊎ (d.place.rank ≡ 8)) → AreUnderWay network old → AreUnderWay network new
 wire_sound network number old new None is put apart was = subst (AreUnderWay network) (sym put) was
 wire_sound network number old new (Some e) is put apart was =
     sound_with network old new e was put (is.two ∙ sym is.kind) is.device is.link
@@ -151,8 +150,7 @@ pub waits_more : {C M : Type 0} (reading : C → ℕ → ℕ) (network : Network
     (giving : Option Giving) → IsGivenOut reading network old new body frame number giving
     → (new.waiting.items ≡ old.waiting.items) ⊎ HasOneMore body number old.waiting.items new.waiting.items
 waits_more reading network old new body frame number None out = inl out.no_wait
-waits_more reading network old new body frame number (Some g) out =
-    grind (arith, one_more, awaited_so)
+waits_more reading network old new body frame number (Some g) out = grind (arith, one_more, awaited_so)
 
 waits_at : (number : ℕ) (xs ys : List Waits) → ys ≡ xs → All (λ w. w.cause < number) xs → All (λ w. w.cause < number + 1) ys
 waits_at number xs ys is all = subst (λ (l : List Waits). All (λ w. w.cause < number + 1) l) (sym is)
@@ -161,8 +159,7 @@ waits_at number xs ys is all = subst (λ (l : List Waits). All (λ w. w.cause < 
 pub waits_below : (body : NoteBody) (number : ℕ) (old new : List Waits) → (new ≡ old) ⊎ HasOneMore body number old new → All (λ w. w.cause < number) old
     → All (λ w. w.cause < number + 1) new
 waits_below body number old new (inl same) all = waits_at number old new same all
-waits_below body number old new (inr more) all =
-    below_one_more number more.one old new more.is more.cause all
+waits_below body number old new (inr more) all = below_one_more number more.one old new more.is more.cause all
 
 pub waits_apart : (body : NoteBody) (number : ℕ) (old new : List Waits) → (new ≡ old) ⊎ HasOneMore body number old new → All (λ w. w.cause < number) old
     → AreApart old → AreApart new

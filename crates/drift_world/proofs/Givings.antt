@@ -45,8 +45,7 @@ GivesOn {C} {M} reading stands s network =
     (state after : State C M) (notes : List Note) (first : Settled) (rest : List Settled) (giving : Option Giving) (entries : List (Entry Content))
     (held : List Holding) → (old : Stands reading stands s (with_first network state first rest) notes)
     → NoSourceBefore s (happenings s.network notes) old.cursor (place_of (settled_at network state.time first))
-    → MayBeGiven network first.body first.frame first.octets
-    → IsGivenOut reading network state after first.body first.frame (length notes + 1) giving
+    → MayBeGiven network first.body first.frame first.octets → IsGivenOut reading network state after first.body first.frame (length notes + 1) giving
     → IsPutOn (wire_entry network state.ups.items state.downs.items first.body first.frame first.octets state.time (length notes + 1))
     after.under_way.entries entries → IsStoredBy first.body first.octets (length notes + 1) state.stored.items held → StandsBehind reading stands s
     (record (with_first network state first rest) {

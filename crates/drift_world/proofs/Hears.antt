@@ -71,11 +71,9 @@ module _ (network other : Network) (hs : List Happening) (device : DeviceId) (li
       })
 
 told_settled : (network other : Network) (now : ℕ) (hs : List Happening) (place : DueAt) (signal : SignalSent) (is : Arrival)
-    → IsTold network other hs (record { 0 = place.device }) (record { 0 = place.link }) place.cause signal is
-    → settled_at network now (arrived place is signal)
+    → IsTold network other hs (record { 0 = place.device }) (record { 0 = place.link }) place.cause signal is → settled_at network now (arrived place is signal)
     ≡ settled_as other hs now (arrival_body (record { 0 = place.device }) (record { 0 = place.link }) place.cause is)
-told_settled network other now hs place signal is so =
-    grind (arith, units_of, octets_in, frame_by)
+told_settled network other now hs place signal is so = grind (arith, units_of, octets_in, frame_by)
 
 -- the record has its octets, where it needs them
 sent_octets : (place : DueAt) (given : _) (is : Arrival) → have_octets (arrived place is (signals.Octets given))
@@ -98,8 +96,7 @@ arrival_octets network other device node moment place link (signals.Octets given
 pub moment_is : {C : Type 0} (reading : C → ℕ → ℕ) (s : Scenario) (now : ℕ) (device : DeviceId) (own clock : C) (time read : Units) → own ≡ clock
     → IsClockOf reading s now device own → time ≡ units_of now → read.0 ≡ pos (reading clock (amount time))
     → record { time = time; reading = read } ≡ moment_of s device now
-moment_is reading s now device own clock time read same of at reads =
-    grind (arith, units_of, same_units, amount)
+moment_is reading s now device own clock time read same of at reads = grind (arith, units_of, same_units, amount)
 
 -- ---- it may come
 
@@ -195,12 +192,10 @@ module _ {C M : Type 0} (reading : C → ℕ → ℕ) (stands : Kept M → Netwo
 
     -- and the world stands again
     pub heard_stands : (heard : Kept M) (octets : List ℕ) (result : Arrival) (machines : List (Kept M)) (settled : List Settled) (put_at : ℕ)
-        → AreUnderWay network state.under_way.entries
-        → ComesFirst reading stands s (world_of network state) notes old (numbers_of place)
+        → AreUnderWay network state.under_way.entries → ComesFirst reading stands s (world_of network state) notes old (numbers_of place)
         → AreOctetsOf (signal_as network signal) octets
         → ((other : Network) (device : DeviceId) → HasHeard stands other device moment e.link octets result machine heard)
-        → IsSet place.device heard state.machines.items machines
-        → IsPutAt (arrived place result signal) state.settled.items settled put_at
+        → IsSet place.device heard state.machines.items machines → IsPutAt (arrived place result signal) state.settled.items settled put_at
         → StandsBehind reading stands s
         (record (world_of network state) {
           early = false;

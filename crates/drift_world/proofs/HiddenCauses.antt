@@ -52,8 +52,7 @@ two_changes t u d e c b c' b' up (inr (s, inr (r, inr (q, inl x)))) (inr (s', in
 two_changes t u d e c b c' b' up (inr (s, inr (r, inr (q, inr x)))) y = x.1
 
 hides_up : (given c b : ℕ) → given < none_yet → c < b → (if nat_lt given c then none_yet else c) ≤ (if nat_lt given b then none_yet else b)
-hides_up given c b few lt =
-    grind (arith, cases_lt, none_yet, lt-ltb, le-ltb)
+hides_up given c b few lt = grind (arith, cases_lt, none_yet, lt-ltb, le-ltb)
 
 abbrev placed : ℕ → ℕ → NoteBody → List ℕ
 placed t members body = t ∷ rank body ∷ key members body

@@ -57,8 +57,7 @@ module _ {C M : Type 0} (reading : C → ℕ → ℕ) (stands : Kept M → Netwo
       } in
       let there = is_given (on_wire network) state.under_way.entries e w holds.there (ap (wire_at network e.place) wire.1) in
       let real = (is.wires.real w there).0 in
-      let own : real.putting ≡ h =
-      some_same real.putting h _ real.there (ap (numbered (happenings s.network notes)) holds.fits.1 ∙ of.there) in
+      let own : real.putting ≡ h = some_same real.putting h _ real.there (ap (numbered (happenings s.network notes)) holds.fits.1 ∙ of.there) in
       let put : put_by s real.putting ≡ Some (signal_as network wire.0) = ap (option_map (λ (l : Launch). l.signal)) real.arrives.put in
       (wire.0, sym holds.is ∙ wire.1, sym put ∙ ap (put_by s) own)
 
@@ -92,8 +91,7 @@ module _ {C M : Type 0} (reading : C → ℕ → ℕ) (stands : Kept M → Netwo
 
   -- what is found on a wire is what the record put there
   pub just_put : (found : Option Content) → IfSome found (HoldsAt state.under_way.entries 2 number)
-      → IfNone found (HoldsNoneAt state.under_way.entries 2 number)
-      → IsOnOwnLink s h → option_map (signal_as network) (on_wire_in found) ≡ put_by s h
+      → IfNone found (HoldsNoneAt state.under_way.entries 2 number) → IsOnOwnLink s h → option_map (signal_as network) (on_wire_in found) ≡ put_by s h
   just_put None some none own = none_put (launched s h (time_of h) h.note.body) refl own none
   just_put (Some content) some none own =
       let it = found_is content some in

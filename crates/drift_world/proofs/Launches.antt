@@ -26,8 +26,7 @@ pub gives_within : (network : Network) (body : NoteBody) (device : DeviceId) (li
 gives_within network (Sent master cycle) device link gives = within_and (λ (l : Link). l.child ≡ device) network.link link.0 _ refl gives.1
 gives_within network (Compressed cm opened at cycle members verdict) device link gives =
     within_and (λ (l : Link). l.parent ≡ device) network.link link.0 _ refl gives.1
-gives_within network (Arrived relay from cause clock) device link gives =
-    grind (arith, within_and)
+gives_within network (Arrived relay from cause clock) device link gives = grind (arith, within_and)
 gives_within network other device link gives = absurd gives
 
 pub gives_by : (network : Network) (body : NoteBody) (device : DeviceId) (link : LinkId) → Gives network body device link → giver_of body ≡ Some device
@@ -52,8 +51,7 @@ pub gives_in : (network : Network) (body : NoteBody) (device : DeviceId) (link :
     → device.0 < length network.device
 gives_in network (Sent master cycle) device link range gives = child_in network device link.0 _ refl range gives.1
 gives_in network (Compressed cm opened at cycle members verdict) device link range gives = parent_in network device link.0 _ refl range gives.1
-gives_in network (Arrived relay from cause clock) device link range gives =
-    grind (arith, child_in, parent_in)
+gives_in network (Arrived relay from cause clock) device link range gives = grind (arith, child_in, parent_in)
 gives_in network other device link range gives = absurd gives
 
 -- ---- the ways
@@ -100,12 +98,7 @@ module _ (s : Scenario) (now : ℕ) (ups downs : List WayState) (ways : AreWays 
 
     given_so : (link : LinkId) → link.0 < length s.network.link → Gives s.network x.note.body giving.device link → IsGivenBy s x (port_of link)
     given_so link lt gives =
-        record {
-          gives = gives;
-          held = held_so link lt;
-          of_frame = frame;
-          read = read ∙ ap (s.reading giving.device) (sym at);
-        }
+        record { gives = gives; held = held_so link lt; of_frame = frame; read = read ∙ ap (s.reading giving.device) (sym at) }
 
     pub given_to : (old new : List (Entry Content)) → ArePutTo (length s.network.link) s.network ups downs x.note.body giving old new
         → AreGiven s x number (filter_map at_port old) (filter_map at_port new)
@@ -149,8 +142,7 @@ sound_after reading network state body frame number old new (Some g) giver sound
 -- what the device gives to links is in its port, or waits
 pub given_out : {C M : Type 0} (reading : C → ℕ → ℕ) (s : Scenario) (old new : State C M) (x : Happening) (number : ℕ) (giving : Option Giving)
     → IsOf reading s s.network old → IsInRange s.network → time_of x ≡ old.time → HasItsFrame x.note.body x.frame
-    → ArrivedAt (length s.network.device) x.note.body
-    → IsGivenOut reading s.network old new x.note.body x.frame number giving
+    → ArrivedAt (length s.network.device) x.note.body → IsGivenOut reading s.network old new x.note.body x.frame number giving
     → AreGiven s x number (filter_map at_port old.under_way.entries) (filter_map at_port new.under_way.entries)
     × AreAwaited s x number (map waiting_as old.waiting.items) (map waiting_as new.waiting.items)
 given_out reading s old new x number (Some g) of range at framed arrived out =

@@ -17,8 +17,7 @@ small_kept stands small (Out state adjustment) network device node is sound = le
 shown_small : (broken : Bool) (state : DeviceState) (reading : ℕ) (adjustment : Units) → reading ≤ 2 ^ 60 + 2 ^ 51
     → (broken ≡ false → IsSmall adjustment.0) → IfSome (local_shown broken state reading adjustment) IsLocalValue
 shown_small true state reading adjustment low small = tt
-shown_small false states.Synchronised reading adjustment low small =
-    grind (arith, ints)
+shown_small false states.Synchronised reading adjustment low small = grind (arith, ints)
 shown_small false states.Off reading adjustment low small = tt
 shown_small false states.Integrating reading adjustment low small = tt
 shown_small false states.Joining reading adjustment low small = tt
@@ -27,8 +26,7 @@ shown_small false states.Joining reading adjustment low small = tt
 small_held : {M : Type 0} (stands : M → Network → DeviceId → Node → Type 0) → AreSmall stands → (s : Scenario) (hs coming : List Happening)
     (mark cursor : List ℕ) (now : ℕ) (device : DeviceId) (kept : Kept M) → HaveBefallen s mark now → IsHeld (keeps stands) s hs coming cursor now device kept
     → (node : Node) × keeps stands kept s.network device node × (is_broken s device now ≡ false → IsSmall node.standing.adjustment.0)
-small_held stands small s hs coming mark cursor now device kept befallen (inl k) =
-    grind (arith, small_kept, no_later_breaks)
+small_held stands small s hs coming mark cursor now device kept befallen (inl k) = grind (arith, small_kept, no_later_breaks)
 small_held stands small s hs coming mark cursor now device kept befallen (inr k) =
     (k.node, k.is, λ sound. (let no : true ≡ false = sym k.broken ∙ sound in absurd cc))
 

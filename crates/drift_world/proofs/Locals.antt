@@ -16,8 +16,7 @@ use Rattle.sync_state.specs.declared.state.State.TheVariants as states
 all_befallen : (t : ℕ) (events : List Event) → ((e : Event) → IsIn e events → amount e.time ≤ t)
     → filter (λ (e : Event). nat_le (amount e.time) t) events ≡ events
 all_befallen t [] past = refl
-all_befallen t (e ∷ events) past =
-    grind (arith, filter, nat_le, amount, le-leb, (all_befallen t events (λ d i. past d (inr i))))
+all_befallen t (e ∷ events) past = grind (arith, filter, nat_le, amount, le-leb, (all_befallen t events (λ d i. past d (inr i))))
 
 -- so no device breaks between then and a later time
 still_broken : (s : Scenario) (device : DeviceId) (t now : ℕ) → t ≤ now → ((e : Event) → IsIn e s.events → amount e.time ≤ t)

@@ -46,8 +46,7 @@ sound_shows stands s hs coming cursor now device machine (inl k) empty early =
             ∙ ap (λ (l : List Happening). adjustment_before s l device now) all;
       },
     )
-sound_shows stands s hs coming cursor now device machine (inr k) empty early =
-    (k.node, k.is, λ sound. (let no : true ≡ false = sym k.broken ∙ sound in cc))
+sound_shows stands s hs coming cursor now device machine (inr k) empty early = (k.node, k.is, λ sound. (let no : true ≡ false = sym k.broken ∙ sound in cc))
 
 -- ---- what is shown
 
@@ -67,8 +66,7 @@ shown_before s hs device t false states.Joining x a broken reads shows = λ step
 pub local_is_before : {C M : Type 0} (reading : C → ℕ → ℕ) (stands : M → Network → DeviceId → Node → Type 0) (s : Scenario) (own : Network)
     (state : State C M) (notes : List Note) (device : DeviceId) (t : ℕ) (shown : Option ℤ)
     → Stands reading (keeps stands) s (world_of own state) notes → state.early ≡ true → device.0 < length own.device → t ≡ state.time
-    → Shows reading stands state device t shown
-    → IsLocalClockBefore s (happenings s.network notes) device state.time shown
+    → Shows reading stands state device t shown → IsLocalClockBefore s (happenings s.network notes) device state.time shown
 local_is_before reading stands s own state notes device t shown old early lt at shows =
     let world = world_of own state in
     let hs = happenings s.network notes in

@@ -68,8 +68,7 @@ caused_may s hs time (Clock a b c d) frame range founded caused own = record { b
 
 -- a record that hides its cause may be given as it may with it
 hidden_may : (network : Network) (given : ℕ) (body : NoteBody) (frame : Option Pcf) → MayBut network body frame → MayBut network (hidden_body given body) frame
-hidden_may network given body frame may =
-    grind (arith, change_or_other, hidden_body)
+hidden_may network given body frame may = grind (arith, change_or_other, hidden_body)
 
 -- ---- the first of what is settled
 

@@ -19,8 +19,7 @@ come_now now t ts le = ap (λ (b : Bool). if b then come now ts else come now ts
 -- no more than there are
 pub come_most : (now : ℕ) (ts : List ℕ) → come now ts ≤ length ts
 come_most now [] = omega arith
-come_most now (t ∷ ts) =
-    grind (arith, cases_lt, length, come_later, come_now, (come_most now ts))
+come_most now (t ∷ ts) = grind (arith, cases_lt, length, come_later, come_now, (come_most now ts))
 
 -- as many, where the times are the same
 come_same : (now : ℕ) (xs ys : List ℕ) → ((j : ℕ) → slice_get ys j ≡ slice_get xs j) → come now ys ≡ come now xs
@@ -215,16 +214,14 @@ module _ {C M : Type 0} (last_step : C → ℕ) (reading : C → ℕ → ℕ) (s
 
 -- the events of the instant are settled
 pub settled_less : {C M : Type 0} (network : Network) (old new : State C M) → old.pending ≡ true → new.pending ≡ false
-    → length new.befell.items + length new.under_way.entries ≤ length old.befell.items + length old.under_way.entries
-    → new ≡ record old {
+    → length new.befell.items + length new.under_way.entries ≤ length old.befell.items + length old.under_way.entries → new ≡ record old {
       under_way = new.under_way;
       befell = new.befell;
       settled = new.settled;
       early = new.early;
       pending = new.pending;
     } → IsLess network old new
-settled_less network old new was is most same =
-    grind (arith, length)
+settled_less network old new was is most same = grind (arith, length)
 
 -- a clock is shown
 pub shown_less : {C M : Type 0} (network : Network) (old new : State C M)

@@ -1,18 +1,19 @@
 -- A device that began off, and that no event turned on, is off.
-use Rattle.{compression.specs.Clusters.point_at, net_plan.proofs.SameIds.one_device, std.proofs.Common.{arith, fold}, world_law.specs.device.Own.moves}
+use Rattle.{compression.specs.Clusters.point_at, net_plan.proofs.SameIds.one_device, run_law.proofs.law.FirstPlaces.in_at, std.proofs.Common.{arith, fold}}
 use Rattle.drift_world.proofs.Words.{◌&&◌, ◌++◌, ◌==◌, ◌∙◌, ◌∷◌, ◌≡◌, Bool, DeviceId, Happening, Integrating, IsCaused, IsDue, IsIn, Joining, LinkId, List}
 use Rattle.drift_world.proofs.Words.{None, NoteBody, Off, Option, Scenario, Some, Units, [], amount, and_parts, any_in, ap, append_assoc, false}
 use Rattle.drift_world.proofs.Words.{false_from_ne_true, if◌then◌else◌, in_filter, in_parts, inl, inr, is_turned_on_at, nat_lt, numbered_in, refl, subst, sym}
-use Rattle.{drift_world.proofs.Words.{time_of, true, turns_on, ℕ, ℤ}, run_law.specs.{declared.judgement.Why.Why, scenario.Devices.{is_cm, plan_of, start_of}}}
-use Rattle.{net_plan.specs.declared.{event.Event.Event, tables.Device.Device}, run_law.specs.{device.StateChanges.ChangesState, runs.DueRecords.IsEventRecord}}
+use Rattle.{drift_world.proofs.Words.{time_of, true, turns_on, ℕ, ℤ}, tte_units.specs.declared.frames.members.Members.Members, world_law.specs.device.Own.moves}
+use Rattle.{net_plan.specs.declared.event.Event.Event, run_law.specs.runs.DueRecords.IsEventRecord, sync_state.specs.declared.state.State.State}
 use Rattle.{net_plan.specs.declared.event.What.TheVariants.On, sync_state.specs.{Standing.{point_in, state_at_start}, declared.plan.SyncPlan.SyncPlan}}
-use Rattle.{pcf_values.specs.declared.members.Members.Members, run_law.specs.declared.judgement.Reason.Reason, traffic_law.proofs.spans.Forward.ripe_integrates}
-use Rattle.{run_law.{proofs.{control.Verdicts.role_not, scenario.Devices.on_by}, specs.records.Happenings.earlier}, sync_state.specs.declared.state.State.State}
-use Rattle.{run_law.{proofs.law.FirstPlaces.in_at, specs.{control.{Emissions.Emits, Hearing.heard_as}, scenario.Faults.BeginsOn}}, std.specs.Prelude.MatchBool}
+use Rattle.{net_plan.specs.declared.tables.Device.Device, run_law.specs.{declared.judgement.{Reason.Reason, Why.Why}, device.StateChanges.ChangesState}}
+use Rattle.{precision_law.proofs.traffic_lemmas.spans.Forward.ripe_integrates, sync_state.specs.declared.answers.Verdict.TheVariants.Corrected}
+use Rattle.run_law.{proofs.{control.Verdicts.role_not, scenario.Devices.on_by}, specs.{control.{Emissions.Emits, Hearing.heard_as}, records.Happenings.earlier}}
 use Rattle.run_law.specs.{control.Collections.{master_of, observation_window, point_fault, points_of}, declared.judgement.Judgement.TheVariants.Integrates}
 use Rattle.run_law.specs.control.{Corrections.{ComesToCorrection, next_cycle}, Permanence.{BecomesPermanent, IsCollectedOrDropped, before_permanence, ripe_as}}
 use Rattle.run_law.specs.device.States.{adjustment_at_hearing, has_joined_at, state_after, state_at_hearing, state_before, state_with}
-use Rattle.{sync_state.specs.declared.answers.Verdict.TheVariants.Corrected, world_law.proofs.devices.OwnRecords.{joins_no_other, keeps_state}}
+use Rattle.{run_law.specs.scenario.{Devices.{is_cm, plan_of, start_of}, Faults.BeginsOn}, world_law.proofs.devices.OwnRecords.{joins_no_other, keeps_state}}
+use Rattle.std.specs.Prelude.{MatchBool}
 use Rattle.run_law.specs.declared.judgement.Why.TheVariants as whys
 use Rattle.run_law.specs.declared.note.NoteBody.TheVariants as notes
 use Rattle.run_law.specs.declared.steps.Ripe.TheVariants as ripe
@@ -30,8 +31,7 @@ off_hears plan precision adjustment point cycle members other off e = cc
 none_joined : (device : DeviceId) (t : ℕ) (hs : List Happening) → ((h : Happening) → IsIn h hs → moves device h.note.body ≡ false)
     → has_joined_at hs device t ≡ false
 none_joined device t [] still = refl
-none_joined device t (h ∷ hs) still =
-    grind (arith, time_of, joins_no_other, (none_joined device t hs (λ g i. still g (inr i))))
+none_joined device t (h ∷ hs) still = grind (arith, time_of, joins_no_other, (none_joined device t hs (λ g i. still g (inr i))))
 
 unmoved : (device : DeviceId) (first : State) (hs : List Happening) → ((h : Happening) → IsIn h hs → moves device h.note.body ≡ false)
     → fold (λ state h. state_with device state h.note.body) first hs ≡ first
@@ -57,8 +57,7 @@ module _ (s : Scenario) (device : DeviceId) (begins : state_at_start (start_of s
       ∙ begins
 
   off_at_hearing : (hs : List Happening) (t : ℕ) → ((h : Happening) → IsIn h hs → moves device h.note.body ≡ false) → state_at_hearing s hs device t ≡ Off
-  off_at_hearing hs t still =
-      ap (λ (b : Bool). if b then Joining else state_before s hs device t) (none_joined device t hs still) ∙ off_then hs t still
+  off_at_hearing hs t still = ap (λ (b : Bool). if b then Joining else state_before s hs device t) (none_joined device t hs still) ∙ off_then hs t still
 
   no_point : (hs : List Happening) (t cycle : ℕ) → ((h : Happening) → IsIn h hs → moves device h.note.body ≡ false)
       → point_in (state_before s hs device t) (next_cycle s hs device t) ≡ Some cycle → ⊥
@@ -95,8 +94,7 @@ module _ (s : Scenario) (device : DeviceId) (begins : state_at_start (start_of s
 
   -- nor does the next
   no_change : (hs : List Happening) (t : ℕ) (state : State) (cause : ℕ) (why : Why) → ((h : Happening) → IsIn h hs → moves device h.note.body ≡ false)
-      → ((h : Happening) → IsIn h hs → (line : ℕ) → h.note.body ≡ notes.Event line (On device) → ⊥)
-      → ChangesState s hs device t state cause why → ⊥
+      → ((h : Happening) → IsIn h hs → (line : ℕ) → h.note.body ≡ notes.Event line (On device) → ⊥) → ChangesState s hs device t state cause why → ⊥
   no_change hs t state cause whys.On still untold c = untold c.2.1 (numbered_in hs cause c.2.1 c.2.2.there) c.2.0 c.2.3
   no_change hs t state cause whys.Frame still untold c =
       let h = c.1.0 in
@@ -107,8 +105,7 @@ module _ (s : Scenario) (device : DeviceId) (begins : state_at_start (start_of s
   no_change hs t state cause whys.AsyncClique still untold c = no_point hs t c.2.0 still c.2.1.next
 
   stays : (hs : List Happening) (time : Units) (body : NoteBody) → ((h : Happening) → IsIn h hs → moves device h.note.body ≡ false)
-      → ((h : Happening) → IsIn h hs → (line : ℕ) → h.note.body ≡ notes.Event line (On device) → ⊥)
-      → IsCaused s hs time body → moves device body ≡ true → ⊥
+      → ((h : Happening) → IsIn h hs → (line : ℕ) → h.note.body ≡ notes.Event line (On device) → ⊥) → IsCaused s hs time body → moves device body ≡ true → ⊥
   stays hs time (notes.State other state cause why) still untold c own =
       no_change hs (amount time) state cause why still untold
       (subst (λ (d : DeviceId). ChangesState s hs d (amount time) state cause why) (one_device device other own) c)

@@ -89,10 +89,8 @@ module _ {C M E : Type 0} (fresh : ℕ → C) (after_step : C → ℕ → ℤ �
     (clocks : OnOk result ((device : DeviceId) (clock : C) → slice_get state.clocks.items device.0 ≡ Some clock
     → slice_get new.clocks.items device.0 ≡ Some (clock_after after_step device event.time event.what clock)))
     (step : (f h : DeviceId → ℕ → ℕ) (past : List Event) (notes : List Note)
-    → (old : Stands reading (keeps stands) (scenario network f past) (world_of network state) notes)
-    → Follows after_step reading network f h past event state
-    → FitsWorld (keeps stands) network (world_of network state) event.what
-    → IfOk result (λ note. (note ≡ note_of_event notes past event)
+    → (old : Stands reading (keeps stands) (scenario network f past) (world_of network state) notes) → Follows after_step reading network f h past event state
+    → FitsWorld (keeps stands) network (world_of network state) event.what → IfOk result (λ note. (note ≡ note_of_event notes past event)
     × Stands reading (keeps stands) (scenario network h (past ++ event ∷ [])) (world_of network new) (notes ++ note ∷ []))) where
   pub goes_on : (events : List Event) (notes : List Note) → StandsUnder fresh after_step reading stands network (world_of network state) events notes
       → IsWithinHypothesis network events event
@@ -159,15 +157,12 @@ module _ {C M : Type 0} (fresh : ℕ → C) (after_step : C → ℕ → ℤ → 
     (clocks : (device : DeviceId) (clock : C) → slice_get state.clocks.items device.0 ≡ Some clock
     → slice_get new.clocks.items device.0 ≡ Some (clock_after after_step device event.time event.what clock))
     (step : (f h : DeviceId → ℕ → ℕ) (past : List Event) (notes : List Note)
-    → (old : Stands reading (keeps stands) (scenario network f past) (world_of network state) notes)
-    → Follows after_step reading network f h past event state
-    → FitsWorld (keeps stands) network (world_of network state) event.what
-    → (note ≡ note_of_event notes past event)
+    → (old : Stands reading (keeps stands) (scenario network f past) (world_of network state) notes) → Follows after_step reading network f h past event state
+    → FitsWorld (keeps stands) network (world_of network state) event.what → (note ≡ note_of_event notes past event)
     × Stands reading (keeps stands) (scenario network h (past ++ event ∷ [])) (world_of network new) (notes ++ note ∷ [])) where
   -- it stands again, and the records are the run behind the events of the instant
   pub befalls : (n : Network) (events : List Event) (notes : List Note) → StandsUnder fresh after_step reading stands n world events notes
-      → IsWithinHypothesis n events event
-      → StandsUnder fresh after_step reading stands n (world_of network new) (events ++ event ∷ []) (notes ++ note ∷ [])
+      → IsWithinHypothesis n events event → StandsUnder fresh after_step reading stands n (world_of network new) (events ++ event ∷ []) (notes ++ note ∷ [])
       × IsRunOf n (reading_of fresh after_step reading n (events ++ event ∷ [])) (events ++ event ∷ []) (behind_events world.now) (notes ++ note ∷ [])
   befalls n events notes under within =
       let here = subst (λ (w : World C (Kept M)). StandsUnder fresh after_step reading stands n w events notes) (sym view) under in

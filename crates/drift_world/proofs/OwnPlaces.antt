@@ -30,8 +30,7 @@ arrived_device place other signal e = absurd (omega (arith, e))
 -- so does that of a frame that left
 pub departed_own : (network : Network) (reading : ℕ) (cut : Bool) (e : AtPort) → rank (departed network reading cut e).body ≡ 8
     → own_place (departed network reading cut e) ≡ 8 ∷ e.device.0 ∷ e.link.0 ∷ e.cause ∷ []
-departed_own network reading cut e =
-    grind (arith, option_map_or, rank, departure_body)
+departed_own network reading cut e = grind (arith, option_map_or, rank, departure_body)
 
 pub departed_none : (network : Network) (reading : ℕ) (cut : Bool) (e : AtPort) → changed_device (departed network reading cut e).body ≡ 2 ^ 32
 departed_none network reading cut e = grind (arith, changed_device, departure_body)
@@ -69,8 +68,7 @@ judged_alone w (ripe.Dropped reason) settled judged none = absurd judged
 judged_alone w other settled judged none = record { mid = _; at = 0; first = put_alone _ settled none; more = refl }
 
 pub put_on_none : (z : Settled) (settled new : List Settled) (at : ℕ) → settled ≡ [] → IsPutAt z settled new at → new ≡ z ∷ []
-put_on_none z settled new at none put =
-    grind arith
+put_on_none z settled new at none put = grind arith
 
 -- the world of a state in which it alone is settled, elsewhere in memory
 pub lone_world : {C M : Type 0} (network : Network) (old new : State C M) (first : Settled) (rest : List Settled)
@@ -82,8 +80,7 @@ lone_world {C} {M} network old new first rest entries waiting stored none same =
 
 pub settled_alone : {C M : Type 0} (network : Network) (old new : State C M) (first : Settled)
     → new.under_way.entries ≡ old.under_way.entries → new.waiting.items ≡ old.waiting.items → new.stored.items ≡ old.stored.items
-    → new.settled.items ≡ first ∷ []
-    → new ≡ record old { under_way = new.under_way; waiting = new.waiting; stored = new.stored; settled = new.settled }
+    → new.settled.items ≡ first ∷ [] → new ≡ record old { under_way = new.under_way; waiting = new.waiting; stored = new.stored; settled = new.settled }
     → world_of network new ≡ with_first network old first []
 settled_alone {C} {M} network old new first entries waiting stored settled same =
     ap (λ (zs : List Settled). let w : World C (Kept M) = record (world_of network new) { settled = map (settled_at network new.time) zs } in w) settled

@@ -54,8 +54,7 @@ module _ (network : Network) (now : ℕ) where
   none_before zero [] z none h there before = absurd there
   none_before zero (x ∷ old) z none h (inl e) before = none 0 z (omega arith) (omega arith)
       (untimed x z (subst (λ (h : Happening). IsBefore (place_of h) (place_of (shown z))) e before))
-  none_before zero (x ∷ old) z none h (inr rest) before =
-      none_before zero old z (λ k d le lt. none (suc k) d (omega arith) (omega (arith, lt))) h rest before
+  none_before zero (x ∷ old) z none h (inr rest) before = none_before zero old z (λ k d le lt. none (suc k) d (omega arith) (omega (arith, lt))) h rest before
   none_before (suc at) [] z none h there before = absurd there
   none_before (suc at) (x ∷ old) z none h there before =
       none_before at old z (λ k d le lt. none (suc k) d (omega (arith, le)) (omega (arith, lt))) h there before
@@ -92,8 +91,7 @@ some_put_in other network now hs body z old new false put order is = one_put_in 
 -- the record of a frame that leaves
 pub departed_is : (other network : Network) (now : ℕ) (hs : List Happening) (e : AtPort) (d : Departure) → frame_from hs e.cause ≡ Some e.frame
     → settled_at network now (record { body = departure_body e d; frame = frame_after e.frame d; octets = None }) ≡ settled_as other hs now (departure_body e d)
-departed_is other network now hs e (leaves clock) of =
-    grind (arith, units_of, departure_body, with_clock)
+departed_is other network now hs e (leaves clock) of = grind (arith, units_of, departure_body, with_clock)
 departed_is other network now hs e too_old of = refl
 departed_is other network now hs e on_cut_way of = refl
 

@@ -14,8 +14,7 @@ module _ {C M : Type 0} (reading : C → ℕ → ℕ) (stands : M → Network �
   -- memory ran out before the time
   try_again : (until : Units) (n : ℕ) → until.0 ≡ pos n → IsAfter old new → IsRunning reading stands own old
       → ((s : Scenario) (notes : List Note) → Stands reading (keeps stands) s (world_of own old) notes
-      → Stands reading (keeps stands) s (world_of own new) (notes ++ [])) → new.time < n
-      → MayTryAgain (world_of own old) (world_of own new) until
+      → Stands reading (keeps stands) s (world_of own new) (notes ++ [])) → new.time < n → MayTryAgain (world_of own old) (world_of own new) until
   try_again until n is after run still lt =
       let a = run.is in
       let b = still run.s run.notes run.is in
@@ -29,8 +28,7 @@ module _ {C M : Type 0} (reading : C → ℕ → ℕ) (stands : M → Network �
       }
 
   pub comes_up_to : (E : Type 0) (result : Result Bool E) (note : Note) (until : Units) (n : ℕ) → until.0 ≡ pos n → IsAfter old new
-      → IsRunning reading stands own old
-      → ((s : Scenario) (notes : List Note) → Stands reading (keeps stands) s (world_of own old) notes
+      → IsRunning reading stands own old → ((s : Scenario) (notes : List Note) → Stands reading (keeps stands) s (world_of own old) notes
       → Stands reading (keeps stands) s (world_of own new) (notes ++ given_by (next_of result note)))
       → IfOk result (λ more. more ≡ false → (old.ended ≡ false → n ≤ 2 ^ 60 → HasCome new n)) → OnErr result (new.time < n)
       → ComesUpTo (world_of own old) (world_of own new) until (next_of result note)

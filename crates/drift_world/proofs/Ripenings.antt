@@ -93,8 +93,7 @@ module _ {C M : Type 0} (reading : C → ℕ → ℕ) (stands : M → Network �
 
   pub low : (s : Scenario) (notes : List Note) → Stands reading (keeps stands) s (world_of network state) notes → (clock : C)
       → slice_get state.clocks.items w.device.0 ≡ Some clock → reading clock state.time ≤ 2 ^ 60 + 2 ^ 51
-  low s notes old clock own =
-      subst (λ (n : ℕ). n ≤ 2 ^ 60 + 2 ^ 51) (sym (reads s notes old clock own)) ((old.steady w.device).low state.time old.limit)
+  low s notes old clock own = subst (λ (n : ℕ). n ≤ 2 ^ 60 + 2 ^ 51) (sym (reads s notes old clock own)) ((old.steady w.device).low state.time old.limit)
 
   pub moment_is : (s : Scenario) (notes : List Note) → Stands reading (keeps stands) s (world_of network state) notes → (clock : C)
       → slice_get state.clocks.items w.device.0 ≡ Some clock → (number : ℕ) → number ≡ reading clock state.time → (time read : Units)
@@ -115,20 +114,14 @@ module _ {C M : Type 0} (reading : C → ℕ → ℕ) (stands : M → Network �
         w.device,
         ask.node,
         subst (λ (m : Kept M). keeps stands m s.network w.device ask.node) machine_is ask.is,
-        record {
-          call = ask.asked.call;
-          reached = ask.asked.ripens.reached;
-          in_time = ask.asked.ripens.in_time;
-          ripens = λ hearing. ask.asked.ripens;
-        },
+        record { call = ask.asked.call; reached = ask.asked.ripens.reached; in_time = ask.asked.ripens.in_time; ripens = λ hearing. ask.asked.ripens },
       )
 
 -- ---- its records
 
 frame_is : (s : Scenario) (network : Network) (now : ℕ) (hs : List Happening) (w : Waits) (verdict : Judgement) → frame_from hs w.cause ≡ Some w.frame
     → settled_at network now (judged_so w verdict) ≡ settled_as s.network hs now (kinds.Permanent w.device w.link w.cause w.point verdict)
-frame_is s network now hs w verdict of =
-    grind (arith, units_of)
+frame_is s network now hs w verdict of = grind (arith, units_of)
 
 module _ (s : Scenario) (network : Network) (now : ℕ) (hs : List Happening) (w : Waits) (of : frame_from hs w.cause ≡ Some w.frame) where
   judged_in : (verdict : Judgement) (old mid new : List Settled) (at : ℕ) → IsPutAt (judged_so w verdict) old mid at
@@ -169,8 +162,7 @@ record_fits w ripe.Ignored = tt
 record_fits w (ripe.Dropped reason) = tt
 
 joined_fits : (device : DeviceId) (result : Ripe) (z : Settled) → joined_record device result ≡ Some z → have_octets z
-joined_fits device ripe.Integrates z e =
-    subst have_octets (some_same _ z _ refl e) tt
+joined_fits device ripe.Integrates z e = subst have_octets (some_same _ z _ refl e) tt
 joined_fits device other z e = absurd cc
 
 pub octets_fit : (w : Waits) (result : Ripe) (old new : List Settled) → AreSettledSo w result old new → All have_octets old → All have_octets new
@@ -184,8 +176,7 @@ pub ripened : {C M : Type 0} (reading : C → ℕ → ℕ) (stands : M → Netwo
     (w : Waits) (new : List Waits) (machine after : Kept M) (result : Ripe) (settled : List Settled)
     → IsPermutation state.waiting.items (w ∷ new) → AreApart state.waiting.items
     → ((clock : C) → slice_get state.clocks.items w.device.0 ≡ Some clock → w.point.0 ≤ℤ pos (reading clock state.time))
-    → w.device.0 < length state.machines.items → slice_get state.machines.items w.device.0 ≡ Some machine
-    → AreSettledSo w result state.settled.items settled
+    → w.device.0 < length state.machines.items → slice_get state.machines.items w.device.0 ≡ Some machine → AreSettledSo w result state.settled.items settled
     → (s : Scenario) (notes : List Note) (old : Stands reading (keeps stands) s (world_of network state) notes)
     → ComesFirst reading (keeps stands) s (world_of network state) notes old (ripe_place state.time (waiting_as w))
     → HasRipened (keeps stands) s.network w.device (moment_of s w.device state.time) w.link w.frame w.point result machine after

@@ -24,5 +24,4 @@ way_by s now ups downs link way false are lt found = way_is s now ups downs link
 pub departure_is : (s : Scenario) (now : ℕ) (e : AtPort) (network : Network) (reading : ℕ) (cut : Bool) → network ≡ s.network
     → is_broken s e.device now ≡ false → reading ≡ s.reading e.device now → cut ≡ is_cut s e.link (way_from s.network e.device e.link) now
     → Some (departed network reading cut e) ≡ departure_in s now e
-departure_is s now e network reading cut same sound read is =
-    grind (arith, is_cut, way_from)
+departure_is s now e network reading cut same sound read is = grind (arith, is_cut, way_from)

@@ -29,25 +29,20 @@ in_run t rank rest p in_time b =
 -- ---- slots in the order of their places
 
 pub slot_low : (devices : ℕ) (due : Due) → due.slot < devices → due_place devices due ≡ due.time ∷ 3 ∷ due.slot ∷ []
-slot_low devices due lt =
-    ap (λ (b : Bool). if b then due.time ∷ 3 ∷ due.slot ∷ [] else due.time ∷ 4 ∷ (due.slot - devices) ∷ []) (lt-ltb due.slot devices lt)
+slot_low devices due lt = ap (λ (b : Bool). if b then due.time ∷ 3 ∷ due.slot ∷ [] else due.time ∷ 4 ∷ (due.slot - devices) ∷ []) (lt-ltb due.slot devices lt)
 
 pub slot_high : (devices : ℕ) (due : Due) → devices ≤ due.slot → due_place devices due ≡ due.time ∷ 4 ∷ (due.slot - devices) ∷ []
-slot_high devices due le =
-    ap (λ (b : Bool). if b then due.time ∷ 3 ∷ due.slot ∷ [] else due.time ∷ 4 ∷ (due.slot - devices) ∷ []) (le-ltb due.slot devices le)
+slot_high devices due le = ap (λ (b : Bool). if b then due.time ∷ 3 ∷ due.slot ∷ [] else due.time ∷ 4 ∷ (due.slot - devices) ∷ []) (le-ltb due.slot devices le)
 
 -- no slot's time is less than that of the first, and that of a lower slot is greater
 least_slot : (times : List ℕ) (due : Due) (slot time : ℕ) → IsFirstDue times due → slice_get times slot ≡ Some time → due.time ≤ time
-least_slot times due slot time first at =
-    grind (arith, slice_get_within, get_or_from_slice_get)
+least_slot times due slot time first at = grind (arith, slice_get_within, get_or_from_slice_get)
 
 lower_slot : (times : List ℕ) (due : Due) (slot time : ℕ) → IsFirstDue times due → slice_get times slot ≡ Some time → slot < due.slot → due.time < time
-lower_slot times due slot time first at lower =
-    grind (arith, get_or_from_slice_get)
+lower_slot times due slot time first at lower = grind (arith, get_or_from_slice_get)
 
 two_places : (time rank slot first_time first_rank first_slot : ℕ) → first_time ≤ time → (rank < first_rank → first_time < time)
-    → (rank ≡ first_rank → slot < first_slot → first_time < time)
-    → IsBefore (time ∷ rank ∷ slot ∷ []) (first_time ∷ first_rank ∷ first_slot ∷ []) → ⊥
+    → (rank ≡ first_rank → slot < first_slot → first_time < time) → IsBefore (time ∷ rank ∷ slot ∷ []) (first_time ∷ first_rank ∷ first_slot ∷ []) → ⊥
 two_places time rank slot first_time first_rank first_slot le ranks slots (inl lt) = absurd (omega (arith, le, lt))
 two_places time rank slot first_time first_rank first_slot le ranks slots (inr (same, inl lt)) =
     let later = ranks lt in absurd (omega (arith, same, later))
@@ -58,14 +53,12 @@ two_places time rank slot first_time first_rank first_slot le ranks slots (inr (
 -- the frames that wait at a device, by its timer, are not due before the first
 ripe_slot : (devices : ℕ) (times : List ℕ) (due : Due) (slot time : ℕ) → IsFirstDue times due → slice_get times slot ≡ Some time → slot < devices
     → IsBefore (time ∷ 3 ∷ slot ∷ []) (due_place devices due) → ⊥
-ripe_slot devices times due slot time first at low b =
-    grind (arith, least_slot, lower_slot, cases_lt, two_places, slot_low, slot_high)
+ripe_slot devices times due slot time first at low b = grind (arith, least_slot, lower_slot, cases_lt, two_places, slot_low, slot_high)
 
 -- the acts of a device neither
 act_slot : (devices : ℕ) (times : List ℕ) (due : Due) (device time : ℕ) → IsFirstDue times due → slice_get times (devices + device) ≡ Some time
     → IsBefore (time ∷ 4 ∷ device ∷ []) (due_place devices due) → ⊥
-act_slot devices times due device time first at b =
-    grind (arith, least_slot, lower_slot, cases_lt, two_places, slot_low, slot_high)
+act_slot devices times due device time first at b = grind (arith, least_slot, lower_slot, cases_lt, two_places, slot_low, slot_high)
 
 -- what parts the frames that are permanent at one device at one time
 abbrev pub parting : Waits → List ℕ
@@ -118,8 +111,7 @@ module _ {C M : Type 0} (last_step : C → ℕ) (reading : C → ℕ → ℕ) (s
       (omega (arith, least, le)) (subst (λ (q : List ℕ). IsBefore (ripe_place t (waiting_as w)) q) r.place b) in
       let now : t ≡ d.time = by.0 in
       let one = r.at in
-      let low : r.one.device.0 ≤ w.device.0 =
-      elim (cases_lt w.device.0 d.slot) [
+      let low : r.one.device.0 ≤ w.device.0 = elim (cases_lt w.device.0 d.slot) [
         | inl lt ↦ absurd (let later = lower_slot state.timers d w.device.0 time first at lt in omega (arith, later, le, now))
         | inr ge ↦ omega (arith, ge, one)
       ] in
@@ -147,8 +139,7 @@ module _ {C M : Type 0} (last_step : C → ℕ) (reading : C → ℕ → ℕ) (s
 
   -- nor what is under way
   under_way_by : (place : Option DueAt) → IfSome place (λ q. IsFirst state.under_way.entries q) → IfNone place (state.under_way.entries ≡ [])
-      → IfSome place (λ q. IsBefore (numbers_of q) p → ⊥) → (e : Entry Content) → IsIn e state.under_way.entries
-      → IsBefore (numbers_of e.place) p → ⊥
+      → IfSome place (λ q. IsBefore (numbers_of q) p → ⊥) → (e : Entry Content) → IsIn e state.under_way.entries → IsBefore (numbers_of e.place) p → ⊥
   under_way_by None first none not e there b = subst (λ (es : List (Entry Content)). IsIn e es) none there
   under_way_by (Some q) first none not e there b = not_sooner (numbers_of e.place) (numbers_of q) p (first.none e there) not b
 

@@ -1,10 +1,10 @@
 -- What a clock reads under events within the hypothesis is steady.
-use Rattle.{drift_clock.specs.ClockLaws.{AlwaysBeginsAtZero, AlwaysKeepsClockLaws, KeepsClockLaws}, traffic_law.proofs.safety_lemmas.Histories.history}
+use Rattle.{drift_clock.specs.ClockLaws.{AlwaysBeginsAtZero, AlwaysKeepsClockLaws, KeepsClockLaws}, schedule_tables.proofs.Margins.shape_rules}
 use Rattle.drift_world.proofs.Words.{◌*◌, ◌+◌, ◌-◌, ◌<◌, ◌^◌, ◌≡◌, ◌≤ℤ◌, ◌≤◌, AreWithinHypothesis, DeviceId, IsIn, IsInRange, KeepsRules, List, Network, amount}
-use Rattle.{drift_world.proofs.Words.{arith, ints, pos, rate_steps, reading_of, subst, ℕ, ℤ}, schedule_tables.specs.declared.rule.Rule.TheVariants.Precision}
-use Rattle.{net_plan.proofs.Beta.beta_exists, std.proofs.Math.Nat.mul-le-mul_right, world_law.{proofs.devices.Leaps.no_leap, specs.device.Ready.IsSteady}}
-use Rattle.{net_plan.{proofs.Shape.rules_give_trees, specs.{Bounds.{IsBeta, beta_at}, declared.event.Event.Event}}, schedule_tables.proofs.Margins.shape_rules}
-use Rattle.std.specs.Int.{abs_diff}
+use Rattle.{drift_world.proofs.Words.{arith, ints, pos, rate_steps, reading_of, subst, ℕ, ℤ}, net_plan.specs.declared.event.Event.Event}
+use Rattle.{net_plan.proofs.Beta.beta_exists, std.{proofs.Math.Nat.mul-le-mul_right, specs.Int.abs_diff}}
+use Rattle.{net_plan.{proofs.Shape.rules_give_trees, specs.Bounds.{IsBeta, beta_at}}, world_law.{proofs.devices.Leaps.no_leap, specs.device.Ready.IsSteady}}
+use Rattle.{precision_law.proofs.traffic_lemmas.safety_lemmas.Histories.history, schedule_tables.specs.declared.rule.Rule.TheVariants.Precision}
 
 -- the precision holds eighty grains
 pub many_grains : (network : Network) → KeepsRules network → 80 * amount network.grain ≤ amount network.precision

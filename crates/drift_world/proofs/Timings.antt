@@ -38,8 +38,7 @@ reads_so reading clock now value time (inr is) true_time = is.reached
 -- ---- the timers of a device are right
 
 pub ripe_timed : {C : Type 0} (reading : C → ℕ → ℕ) (clock : C) (waiting : List Waits) (device now : ℕ) (point : Option Units) (time : ℕ)
-    → IsLow reading clock now → IsLeastPoint waiting device point → IsTimeFor reading clock now point time
-    → IsRipeAt reading clock waiting device now time
+    → IsLow reading clock now → IsLeastPoint waiting device point → IsTimeFor reading clock now point time → IsRipeAt reading clock waiting device now time
 ripe_timed reading clock waiting device now None time low none is = grind arith
 ripe_timed reading clock waiting device now (Some point) time low least is = record {
   none = λ w there at u from most reached.
@@ -71,8 +70,7 @@ acts_timed reading stands network clock machine device now (Some due) time low l
 pub still_timed : {C M : Type 0} (reading : C → ℕ → ℕ) (stands : M → Network → DeviceId → Node → Type 0) (network : Network) (old new : State C M)
     (device : DeviceId) → IsTimed reading stands network old.timers old device → slice_get new.clocks.items device.0 ≡ slice_get old.clocks.items device.0
     → slice_get new.machines.items device.0 ≡ slice_get old.machines.items device.0
-    → ((w : Waits) → w.device.0 ≡ device.0 → IsIn w new.waiting.items ↔ IsIn w old.waiting.items)
-    → old.time ≤ new.time
+    → ((w : Waits) → w.device.0 ≡ device.0 → IsIn w new.waiting.items ↔ IsIn w old.waiting.items) → old.time ≤ new.time
     → slice_get new.timers device.0 ≡ slice_get old.timers device.0
     → slice_get new.timers (length network.device + device.0) ≡ slice_get old.timers (length network.device + device.0)
     → IsTimed reading stands network new.timers new device
@@ -177,8 +175,7 @@ module _ {C M : Type 0} (reading : C → ℕ → ℕ) (stands : M → Network �
 
   pub unchanged : (old new : State C M) → AreTimed reading stands network old → ((device : ℕ) → ChangesOnly device old new) → new.timers ≡ old.timers
       → AreTimed reading stands network new
-  unchanged old new are changes timers =
-      aside (length network.device) old new are (omega arith) (changes (length network.device)) timers
+  unchanged old new are changes timers = aside (length network.device) old new are (omega arith) (changes (length network.device)) timers
 
   -- time passes, up to no timer's time
   pub passed : (old : State C M) (t : ℕ) (early : Bool) → AreTimed reading stands network old → old.time ≤ t → All (λ (time : ℕ). t ≤ time) old.timers
@@ -210,8 +207,7 @@ module _ {C M : Type 0} (last_step : C → ℕ) (reading : C → ℕ → ℕ) (s
       (sized_so last_step network old (record old { timers = state.timers }) is refl refl refl refl refl refl refl)
 
   pub running_with : IsRunning reading stands network old → IsRunning reading stands network state
-  running_with is =
-      subst (λ (s : State C M). IsRunning reading stands network s) (sym same) (record { s = is.s; notes = is.notes; is = is.is })
+  running_with is = subst (λ (s : State C M). IsRunning reading stands network s) (sym same) (record { s = is.s; notes = is.notes; is = is.is })
 
 -- so timers may be set when others have been
 pub may_still : {C M : Type 0} (last_step : C → ℕ) (reading : C → ℕ → ℕ) (stands : M → Network → DeviceId → Node → Type 0) (network : Network)

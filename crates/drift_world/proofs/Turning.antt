@@ -131,8 +131,7 @@ module _ {C M : Type 0} (last_step : C → ℕ) (reading : C → ℕ → ℕ) (s
   -- nothing comes before the first that is settled, where nothing that is under way is before it
   pub first_gives : (state : State C M) (z : Settled) (others : List Settled) (s : Scenario) (notes : List Note)
       → IsSound last_step network state → HasNothingBefore reading stands network state (place_of (settled_at network state.time z))
-      → state.settled.items ≡ z ∷ others
-      → (old : Stands reading (keeps stands) s (world_of network state) notes)
+      → state.settled.items ≡ z ∷ others → (old : Stands reading (keeps stands) s (world_of network state) notes)
       → NoSourceBefore s (happenings s.network notes) old.cursor (place_of (settled_at network state.time z))
   first_gives state z others s notes sound nothing whole old =
       let p = place_of (settled_at network state.time z) in
@@ -162,22 +161,16 @@ module _ {C M : Type 0} (last_step : C → ℕ) (reading : C → ℕ → ℕ) (s
 
   pub runs_on : (old new : State C M) → IsRunning reading stands network old
       → ((s : Scenario) (notes : List Note) → Stands reading (keeps stands) s (world_of network old) notes
-      → Stands reading (keeps stands) s (world_of network new) notes)
-      → IsRunning reading stands network new
+      → Stands reading (keeps stands) s (world_of network new) notes) → IsRunning reading stands network new
   runs_on old new is still = record { s = is.s; notes = is.notes; is = still is.s is.notes is.is }
 
   -- a step that changes no device
   pub plain_step : (old new : State C M) → IsWell last_step reading stands network old → IsSound last_step network new
       → ((n : ℕ) → ChangesOnly n old new) → new.timers ≡ old.timers → new.given ≡ old.given
       → ((s : Scenario) (notes : List Note) → Stands reading (keeps stands) s (world_of network old) notes
-      → Stands reading (keeps stands) s (world_of network new) notes)
-      → IsStep last_step reading stands network old new
+      → Stands reading (keeps stands) s (world_of network new) notes) → IsStep last_step reading stands network old new
   plain_step old new well sound changes timers given still = record {
-    well = record {
-      sound = sound;
-      running = runs_on old new well.running still;
-      timed = unchanged reading stands network old new well.timed changes timers;
-    };
+    well = record { sound = sound; running = runs_on old new well.running still; timed = unchanged reading stands network old new well.timed changes timers };
     after = record { clocks = (changes 0).clocks; ended = (changes 0).ended; later = let same = (changes 0).time in omega (arith, same) };
     still = still;
     time = (changes 0).time;
@@ -295,8 +288,7 @@ module _ {C M : Type 0} (last_step : C → ℕ) (reading : C → ℕ → ℕ) (s
       → HasNothingBefore reading stands network old (time ∷ []) → old.time < time → time ≤ 2 ^ 60
       → new ≡ record old { time = time; early = true } → IsSound last_step network new
       → ((s : Scenario) (notes : List Note) → Stands reading (keeps stands) s (world_of network old) notes
-      → Stands reading (keeps stands) s (world_of network new) notes)
-      → IsWell last_step reading stands network new
+      → Stands reading (keeps stands) s (world_of network new) notes) → IsWell last_step reading stands network new
   passes old new time well none later limit same sound still = record {
     sound = sound;
     running = runs_on old new well.running still;
@@ -309,8 +301,7 @@ module _ {C M : Type 0} (last_step : C → ℕ) (reading : C → ℕ → ℕ) (s
 
 pub passed_same : {C M : Type 0} (old new : State C M) (time : ℕ) (early : Bool) → new ≡ record old { time = time; early = early }
     → new ≡ record old { time = new.time; early = new.early }
-passed_same {C} {M} old new time early same =
-    same ∙ ap (λ (t : State C M). let k : State C M = record old { time = t.time; early = t.early } in k) (sym same)
+passed_same {C} {M} old new time early same = same ∙ ap (λ (t : State C M). let k : State C M = record old { time = t.time; early = t.early } in k) (sym same)
 
 -- a source that is not later is of the present instant
 pub now_so : (source : Source) → ((time : ℕ) → source ≡ Later time → ⊥) → IsNow source
@@ -340,8 +331,7 @@ firsts_passed old new place due same are =
     (record { some_place = are.some_place; no_place = are.no_place; some_due = are.some_due; no_due = are.no_due })
 
 pub room_passed : {C M : Type 0} (old new : State C M) → new ≡ record old { time = new.time; early = new.early } → HasRoom old → HasRoom new
-room_passed old new same room =
-    subst (λ (t : State _ _). HasRoom t) (sym same) (record { places = room.places; numbers = room.numbers })
+room_passed old new same room = subst (λ (t : State _ _). HasRoom t) (sym same) (record { places = room.places; numbers = room.numbers })
 
 -- ---- one turn after the other
 

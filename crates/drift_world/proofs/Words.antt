@@ -13,7 +13,7 @@ pub use Rattle.net_plan.specs.{Belonging.IsOfNetwork, Places.link_at, Ranges.{Is
 pub use Rattle.net_plan.specs.declared.{event.What.What, ids.{DeviceId.DeviceId, LinkId.LinkId, VlId.VlId}, network.Network.Network, tables.Link.Link}
 pub use Rattle.net_plan.specs.declared.tables.Way.{Way, TheVariants.{Down, Up}}
 pub use Rattle.pcf_codec.specs.Fields.{field}
-pub use Rattle.pcf_values.specs.declared.pcf.Pcf.{Pcf}
+pub use Rattle.tte_units.specs.declared.frames.pcf.Pcf.{Pcf}
 pub use Rattle.run_law.proofs.law.FirstPlaces.{in_filter, numbered_in}
 pub use Rattle.run_law.proofs.records.Order.{any_in, given_of, is_given}
 pub use Rattle.run_law.proofs.runs.Places.{chain, in_parts, in_right, never_self, parted}

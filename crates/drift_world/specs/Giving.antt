@@ -1,11 +1,11 @@
 -- The frame of a record is given out.
 use Rattle.std.specs.Prelude.{◌+◌, ◌<◌, ◌^◌, ◌≡◌, ◌≤◌, IfNone, IfSome, List, None, Option, Some, [], length}
 use Rattle.std.specs.Prelude.{slice_get, ℕ}
-use Rattle.{drift_world.specs.{Views.with_first, declared.state.State.State}, run_law.specs.scenario.Scenarios.Scenario}
+use Rattle.{drift_world.specs.Views.with_first, run_law.specs.{machines.Nodes.Node, scenario.Scenarios.Scenario}}
+use Rattle.{drift_world.specs.declared.state.State.State, tte_units.specs.declared.frames.pcf.Pcf.Pcf}
 use Rattle.{net_plan.specs.declared.ids.DeviceId.DeviceId, run_law.specs.declared.note.{Note.Note, NoteBody.NoteBody}}
 use Rattle.{net_plan.specs.declared.network.Network.Network, world_state.specs.declared.giving.Giving.Giving}
-use Rattle.{pcf_values.specs.declared.pcf.Pcf.Pcf, world_law.specs.world.World.Stands}
-use Rattle.{run_law.specs.machines.Nodes.Node, world_state.specs.Frames.IsOneMore}
+use Rattle.{world_law.specs.world.World.Stands, world_state.specs.Frames.IsOneMore}
 use Rattle.world_state.specs.{Giving.{ArePutTo, awaited_by, giver_of}, Keeping.keeps, declared.contents.Settled.Settled}
 
 -- the frame of a record is given, or waited for, by this device, whose clock reads so

@@ -50,5 +50,4 @@ pub record MayApplyAgain {C M : Type 0} (old new : World C (Kept M)) (time : Uni
 
 -- the time, or the one behind the end, where that has come and is earlier
 abbrev pub bounded : {C M : Type 0} → World C (Kept M) → Units → Units
-bounded world until =
-    if world.ended && int_lt (pos (world.now + 1)) until.0 then units_of (world.now + 1) else until
+bounded world until = if world.ended && int_lt (pos (world.now + 1)) until.0 then units_of (world.now + 1) else until

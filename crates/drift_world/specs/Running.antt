@@ -8,7 +8,7 @@ use Rattle.net_plan.specs.declared.{event.What.{TheVariants.Hold, What}, ids.Dev
 use Rattle.run_law.specs.{declared.note.{Note.Note, NoteBody.TheVariants.{Event as Befalls}}, machines.Nodes.Node}
 use Rattle.run_law.specs.{law.FirstLaws.IsEventInRange, scenario.Hypothesis.{AreWithinHypothesis, IsWithinHypothesis}}
 use Rattle.{world_law.specs.world.World.{Stands, World}, world_state.specs.{Keeping.keeps, declared.kept.Kept.Kept}}
-pub use Rattle.traffic_law.specs.safety.Under.{clock_of, last_time, reading_of}
+pub use Rattle.precision_law.specs.traffic.safety.Under.{clock_of, last_time, reading_of}
 
 -- the events are the network's, their times are none below 0, and each is within the fault hypothesis; the records
 -- given are those of the run under them, and each part of the world is as these events and records leave it

@@ -6,10 +6,10 @@ ghost use Rattle.run_law.specs.{declared.note.Note.Note, records.Order.behind, s
 use crate::state::State;
 use drift_clock::Clock;
 use net_plan::{DeviceId, Network};
-use pcf_values::Pcf;
 use run_law::Machine;
 use run_law::plain::{PlainBody, PlainKind, PlainNote};
 use tte_units::Units;
+use tte_units::frames::Pcf;
 use world_state::OutOfMemory;
 use world_state::contents::{Settled, Spot, Timed};
 use world_state::giving::{Giving, give_frame, make_room};

@@ -8,12 +8,12 @@ ghost use Rattle.world_state.specs.queue.Places.{IsFirst, numbers_of};
 use device_rules::frames::MadeFrame;
 use drift_clock::Clock;
 use net_plan::{DeviceId, Event, LinkId, Network, Way, What};
-use pcf_values::Pcf;
 use run_law::plain::{PlainBody, PlainKind};
 use run_law::{Machine, NoteBody};
 use std::collections::VecDeque;
 use sync_state::State as DeviceState;
 use tte_units::Units;
+use tte_units::frames::Pcf;
 use world_state::OutOfMemory;
 use world_state::applying::{
     befall_machines, breaks_on, drop_waiting, ends, keep_befallen, set_broken, set_rate, set_way,

@@ -41,7 +41,7 @@ impl<'a, C: Clock, M: Machine + Drop> Model for World<'a, C, M> {
 }
 
 impl<'a, C: Clock, M: Machine + Drop> World<'a, C, M> {
-    ghost use Rattle.traffic_law.specs.safety.Headline.{IsSafeFront};
+    ghost use Rattle.precision_law.specs.traffic.safety.Headline.{IsSafeFront};
     ghost use Rattle.drift_world.specs.{Beginning.AreFresh, Locals.{IsWide, MayShow, MayShowAt, MayShowBefore}};
     ghost use Rattle.drift_world.specs.Later.{ComesBehind, IsAtTime, IsOpenFrom, MayApply, MayApplyAgain, bounded};
     ghost use Rattle.drift_world.specs.Locals.{AreSmall, IsComplete, IsLocalClock, IsLocalClockBefore, IsLocalValue};

@@ -103,8 +103,7 @@ some_more n h = omega arith
 -- the sending that comes after one that was done
 pub sending_next : (network : Network) (device : DeviceId) (own : Own) (s : Standing) (changed : ℤ) (done : List ClockTask) (old new : Appointment)
     → IsOwnOf network device own → IsSending network device s changed done (Some old) → new.cycle ≡ old.cycle + 1
-    → new.at.0 ≡ (old.at.0 +ℤ own.plan.cycle_length.0)
-    → IsSending network device s changed (done ++ sending old.cycle ∷ []) (Some new)
+    → new.at.0 ≡ (old.at.0 +ℤ own.plan.cycle_length.0) → IsSending network device s changed (done ++ sending old.cycle ∷ []) (Some new)
 sending_next network device own s changed done old new own_is is next at =
     let later : IsNextSending network changed (done ++ sending old.cycle ∷ []) (old.cycle + 1) = record {
       begun = some_more old.cycle is.2.begun;

@@ -15,12 +15,9 @@ use Rattle.tte_units.proofs.general_lemmas.{Bools.takes_by, Integers.whole, Natu
 
 off_signal : (network : Network) (device : DeviceId) (node : Node) (moment : Moment) (link : LinkId) (signal : Signal) → is_off node.standing.state ≡ true
     → Dropped Off ≡ arrival_at network device node moment link signal
-off_signal network device node moment link (control (Ok frame)) off =
-    grind (arith, not, amount)
-off_signal network device node moment link (control (Err refusal)) off =
-    grind (arith, not, amount)
-off_signal network device node moment link (timed octets) off =
-    grind (arith, not, amount)
+off_signal network device node moment link (control (Ok frame)) off = grind (arith, not, amount)
+off_signal network device node moment link (control (Err refusal)) off = grind (arith, not, amount)
+off_signal network device node moment link (timed octets) off = grind (arith, not, amount)
 
 pub off_arrival : (network : Network) (device : DeviceId) (node : Node) (e : EndSystem) (moment : Moment) (link : LinkId) (signal : Signal)
     → StandsAsEnd e network device node → is_off e.sync.state ≡ true → Dropped Off ≡ arrival_at network device node moment link signal
@@ -67,20 +64,17 @@ taken_waits network device link frame point e = waits_in (is_relay network devic
 
 -- the same tests, with what the network says in place of what the device knows
 same_parts : (network : Network) (device : DeviceId) (own : Own) (link : LinkId) (at : Standpoint) (reading : Units) (frame : Pcf) → IsOwnOf network device own
-    → IsLinkOf network device own link → reading.0 ≡ pos at.reading
-    → frame_arrival_of own reading link frame
+    → IsLinkOf network device own link → reading.0 ≡ pos at.reading → frame_arrival_of own reading link frame
     ≡ (if is_cold_start frame.kind then Dropped ColdStart
     else (if is_of_other_domain network frame then Dropped Domain
     else (if nat_lt (amount network.dmax) (clock_on_arrival network link frame) then Dropped Old else frame_or_fault network device link at frame None)))
-same_parts network device own link at reading frame is of read =
-    grind (arith, not, amount, nat_lt, taken_waits)
+same_parts network device own link at reading frame is of read = grind (arith, not, amount, nat_lt, taken_waits)
 
 -- a control frame is judged as an end system judges it
 pub judged : (network : Network) (device : DeviceId) (own : Own) (link : LinkId) (at : Standpoint) (reading : Units) (frame : Pcf) → IsOwnOf network device own
     → IsLinkOf network device own link → at.takes_part ≡ true → reading.0 ≡ pos at.reading
     → frame_arrival_of own reading link frame ≡ control_arrival network device link at (Ok frame)
-judged network device own link at reading frame is of takes read =
-    grind (arith, same_parts, by_faults, nat_lt, amount, no_other_member, no_gate)
+judged network device own link at reading frame is of takes read = grind (arith, same_parts, by_faults, nat_lt, amount, no_other_member, no_gate)
 
 -- what a refusal comes to
 refused_at : (at : Standpoint) (refusal : PcfRefusal) → at.takes_part ≡ true
@@ -114,8 +108,7 @@ still_domain node moment false r a e = e
 pub control_still : (own : Own) (reading : Units) (link : LinkId) (node : Node) (moment : Moment) (decoded : Result Pcf PcfRefusal)
     → after_arrival node moment (arrival_of own reading link decoded) ≡ node
 control_still own reading link node moment (Err refusal) = refl
-control_still own reading link node moment (Ok frame) =
-    grind (arith, still_domain, not, still_waits, nat_lt, amount)
+control_still own reading link node moment (Ok frame) = grind (arith, still_domain, not, still_waits, nat_lt, amount)
 
 -- ---- what is on the wire
 

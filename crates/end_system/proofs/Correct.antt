@@ -27,10 +27,8 @@ some_number : (network : Network) (s : Standing) (heard : Summary) (reading : �
 some_number network s heard reading o cycle e h = subst (λ (x : Option ℕ). IfSome x (HasNumber network s heard reading)) e h
 
 pub at_point : (network : Network) (device : DeviceId) (node : Node) (e : EndSystem) (next : Appointment) → StandsAsEnd e network device node
-    → IsCorrection network node.standing node.changed node.done (Some next)
-    → IsAtPoint network e.sync e.heard node.last.reading.0 next.cycle
-at_point network device node e next stands here =
-    grind (arith, some_number, next_point)
+    → IsCorrection network node.standing node.changed node.done (Some next) → IsAtPoint network e.sync e.heard node.last.reading.0 next.cycle
+at_point network device node e next stands here = grind (arith, some_number, next_point)
 
 some_point : (o : Option ℕ) (n : ℕ) → o ≡ Some n → n ≤ 2 ^ 20 + 2 ^ 17 + 2 → IsSomeAnd o (λ k. k ≤ 2 ^ 21 + 2 ^ 18)
 some_point o n e h = subst (λ (x : Option ℕ). IsSomeAnd x (λ k. k ≤ 2 ^ 21 + 2 ^ 18)) (sym e) (omega arith)
@@ -108,8 +106,7 @@ empty_agenda network device s changed done agenda lost empty = grind (arith, no_
 corrected_number : (network : Network) (device : DeviceId) (own : Own) (s new : Standing) (heard silent : Summary) (by : Units) (before reading : ℤ)
     (next : Appointment) → IsOwnOf network device own → IsAtPoint network s heard before next.cycle → HasVerdict s heard (Corrected by)
     → next.at.0 ≡ (correction_value network next.cycle -ℤ s.adjustment.0) → next.at.0 ≤ℤ reading → silent ≡ silence
-    → new ≡ after s (reached_point heard (Corrected by))
-    → HasNumber network new silent reading (s.number + 1)
+    → new ≡ after s (reached_point heard (Corrected by)) → HasNumber network new silent reading (s.number + 1)
 corrected_number network device own s new heard silent by before reading next is at verdict on due none value =
     let number = point_is s.state s.number next.cycle at.point in
     subst (λ (x : Standing). HasNumber network x silent reading (s.number + 1)) (sym value)

@@ -50,8 +50,7 @@ has_numbers network device own is =
 -- ---- a frame that was heard in time is near
 
 near_by : (n f c e p : ℕ) (en ef q a : ℤ) → n ≤ 2 ^ 20 + 2 ^ 17 + 2 → f ≤ 2 ^ 20 + 2 ^ 17 → c ≤ 2 ^ 40 → e ≤ 2 ^ 43 → p ≤ 2 ^ 40 → en ≡ pos (n * c + e)
-    → ef ≡ pos (f * c + e)
-    → (ef -ℤ pos p) ≤ℤ (q +ℤ a) → (q +ℤ a) ≤ℤ (ef +ℤ pos p) → neg_ℤ (pos (2 ^ 40)) ≤ℤ q → q ≤ℤ pos (2 ^ 60 + 2 ^ 51) → IsSmall (en -ℤ q)
+    → ef ≡ pos (f * c + e) → (ef -ℤ pos p) ≤ℤ (q +ℤ a) → (q +ℤ a) ≤ℤ (ef +ℤ pos p) → neg_ℤ (pos (2 ^ 40)) ≤ℤ q → q ≤ℤ pos (2 ^ 60 + 2 ^ 51) → IsSmall (en -ℤ q)
     × IsSmall ((en -ℤ q) -ℤ a)
 near_by n f c e p en ef q a bn bf bc be bp isn isf from to low high =
     let mn : n * c ≤ n * 2 ^ 40 = mul-le-mul_left n bc in
@@ -86,8 +85,7 @@ abbrev pub IsBackBy : ℕ → Option Units → Type 0
 IsBackBy p o = IfSome o (λ d. pos 0 ≤ℤ (d.0 +ℤ pos p))
 
 deviation_back : (network : Network) (device : DeviceId) (own : Own) (s : Standing) (o : Option HeardFrame) → IsOwnOf network device own
-    → s.plan ≡ end_plan network → 2 ^ 20 + 2 ^ 17 ≤ s.number → IfSome o (IsHeardSo network s)
-    → IsBackBy (amount network.precision)
+    → s.plan ≡ end_plan network → 2 ^ 20 + 2 ^ 17 ≤ s.number → IfSome o (IsHeardSo network s) → IsBackBy (amount network.precision)
     (option_and_then (λ frame. if nat_le s.plan.threshold (count_of frame.members) then Some (deviation_by s frame) else None) o)
 deviation_back network device own s None is plan late h = tt
 deviation_back network device own s (Some frame) is plan late h =

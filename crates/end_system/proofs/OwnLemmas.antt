@@ -54,8 +54,7 @@ relay_not network device end =
 never_switch : (o : Option Device) (channel : Channel) → ((d : Device) → o ≡ Some d → is_some d.channel ≡ not (is_end_system d.role))
     → IsSomeAnd o (λ d. is_end_system d.role ≡ true) → IsSomeAnd o (λ d. d.channel ≡ Some channel) → ⊥
 never_switch None channel range h k = h
-never_switch (Some d) channel range h k =
-    grind (arith, is_some, not, false≢true)
+never_switch (Some d) channel range h k = grind (arith, is_some, not, false≢true)
 
 no_switch : (network : Network) (device : DeviceId) (channel : Channel) → IsInRange network → IsEndSystem network device → IsSwitchOf network channel device → ⊥
 no_switch network device channel range end switch =
@@ -97,8 +96,7 @@ link_facts network device link range keeps end parent =
 
 parent_by : (o : Option Link) (l : Link) (device : DeviceId) → o ≡ Some l → (l.parent ≡ device → ⊥)
     → option_map_or (λ l. l.parent.0 == device.0) o false ≡ false
-parent_by o l device e out =
-    grind (arith, option_map_or, ⊎_elim, same_device, eqb-true, cases_Bool)
+parent_by o l device e out = grind (arith, option_map_or, ⊎_elim, same_device, eqb-true, cases_Bool)
 
 -- the choice between the two links
 is_first : {X : Type 0} (link a : LinkId) (x y : X) → link ≡ a → (if link.0 == a.0 then x else y) ≡ x
@@ -109,13 +107,11 @@ is_second link a x y out = grind (arith, ⊎_elim, same_link, eqb-true, cases_Bo
 
 -- the two uplinks differ
 apart : (network : Network) (device : DeviceId) (link : LinkId) → IsUplink network A device link → IsUplink network B device link → ⊥
-apart network device link a b =
-    grind (arith, some_of, link_at, one_some)
+apart network device link a b = grind (arith, some_of, link_at, one_some)
 
 channel_by_parent : (o : Option Link) (network : Network) (channel : Channel) (l : Link) → o ≡ Some l → IsSwitchOf network channel l.parent
     → option_and_then (λ l. channel_of network l.parent) o ≡ Some channel
-channel_by_parent o network channel l e switch =
-    grind (arith, some_of, option_and_then)
+channel_by_parent o network channel l e switch = grind (arith, some_of, option_and_then)
 
 wire_is : (network : Network) (link : LinkId) (wire : Units) → IsSomeAnd (link_at network link) (λ l. l.wire ≡ wire) → wire_of network link ≡ amount wire
 wire_is network link wire h =
@@ -132,10 +128,8 @@ uplink_is network channel device link other keeps end h k =
 link_of_channel : (network : Network) (device : DeviceId) (own : Own) (channel : Channel) (link : LinkId) → KeepsRules network → IsEndSystem network device
     → IsUplinkOf network A device own.a → IsUplinkOf network B device own.b → IsUplink network channel device link
     → (channel ≡ channel_by own link) × (wire_of network link ≡ amount (wire_by own link))
-link_of_channel network device own A link keeps end a b up =
-    grind (arith, uplink_is, is_first, wire_is, amount)
-link_of_channel network device own B link keeps end a b up =
-    grind (arith, uplink_is, apart, is_second, wire_is, amount)
+link_of_channel network device own A link keeps end a b up = grind (arith, uplink_is, is_first, wire_is, amount)
+link_of_channel network device own B link keeps end a b up = grind (arith, uplink_is, apart, is_second, wire_is, amount)
 
 link_is : (network : Network) (device : DeviceId) (own : Own) (link : LinkId) → IsInRange network → KeepsRules network → IsEndSystem network device
     → IsUplinkOf network A device own.a → IsUplinkOf network B device own.b → IsLinkAt network device link → IsLinkOf network device own link

@@ -1,7 +1,6 @@
 -- Frames that are permanent at an end system.
-use Rattle.{end_system.proofs.Advance.{not_fallen, number_stays}, sync_state.specs.{Calls.{after, heard_frame, turned_on}, membership.Summary.{Hears, silence}}}
-use Rattle.{end_system.proofs.Correct.heard_nothing, run_law.specs.declared.steps.Ripe.Ripe, sync_state.specs.{Plan.expected_at, Standing.point_in}}
-use Rattle.{end_system.proofs.Heard.{expected_is, has_numbers}, sync_state.specs.{declared.answers.Joined.Joined, membership.BestFrame.IsBetterOf}}
+use Rattle.{end_system.proofs.{Advance.{not_fallen, number_stays}, Heard.{expected_is, has_numbers}}, sync_state.specs.membership.Summary.{Hears, silence}}
+use Rattle.{end_system.{proofs.Correct.heard_nothing, specs.Owns.channel_by}, run_law.specs.declared.steps.Ripe.Ripe, sync_state.specs.Plan.expected_at}
 use Rattle.end_system.proofs.Words.{◌&&◌, ◌*◌, ◌++◌, ◌+ℤ◌, ◌+◌, ◌-ℤ◌, ◌<ℤ◌, ◌<◌, ◌^◌, ◌∙◌, ◌∷◌, ◌≡◌, ◌≤ℤ◌, ◌≤◌, A, Agenda, Appointment, AreHeardSo, AreRowsOf}
 use Rattle.end_system.proofs.Words.{B, Bool, Channel, ClockTask, DeviceId, Dispatch, EndSystem, HasNumber, IfSome, IsAgenda, IsAtSlot, IsCorrection, IsDispatch}
 use Rattle.end_system.proofs.Words.{IsOwnOf, IsSending, IsSmall, LinkId, List, MayCall, Moment, Network, Node, None, Option, Own, Pcf, Some, Standing}
@@ -9,14 +8,14 @@ use Rattle.end_system.proofs.Words.{StandsAsEnd, Summarizes, Summary, SyncPlan, 
 use Rattle.end_system.proofs.Words.{expected_offset, false, from_zero, inl, inr, ints, is_off, mul-le-mul_left, mul-le-mul_right, neg_ℤ, next_point, pos, refl}
 use Rattle.{end_system.{proofs.Words.{subst, sym, true, ℕ, ℤ}, specs.Standing.{IsAtEnd, IsHeardSo}}, run_law.specs.scenario.Devices.channel_of_link}
 use Rattle.{end_system.specs.{Controls.heard_by, Ripening.{IsTold, heard_so}}, std.proofs.{Common.{SomeIff, int_le, nat_le}, lemmas.Bool.{both_ways, leb-true}}}
-use Rattle.end_system.specs.Owns.{channel_by}
-use Rattle.{pcf_values.specs.declared.members.Members.Members, tte_units.proofs.general_lemmas.{Bools.match_false, Integers.int_le-is}}
 use Rattle.{run_law.proofs.control.Verdicts.{enough_not, in_time_by, in_time_not, tells_by}, sync_state.specs.declared.membership.frame.HeardFrame.HeardFrame}
 use Rattle.run_law.specs.control.{Corrections.correction_value, Hearing.{heard_as, heard_by_schedule, heard_enough, is_in_schedule, last_cycle}}
 use Rattle.{run_law.specs.{control.Permanence.ripe_as, machines.Nodes.{Phase, ripening}}, sync_state.specs.membership.{Hearing.Hearing, Members.count_of}}
 use Rattle.{run_law.specs.declared.steps.Ripe.TheVariants.{Ignored, Integrates, Outside, Within}, sync_state.proofs.StateFacts.{integrating_point, no_longer}}
 use Rattle.run_law.specs.machines.{Answers.{IsPermanenceOutcomeAt, hearings, node_turned_on, with_heard, with_joined}, Calls.{IsLaterMoment, MayRipen}}
+use Rattle.{sync_state.specs.{Calls.{after, heard_frame, turned_on}, membership.BestFrame.IsBetterOf}, tte_units.specs.declared.frames.members.Members.Members}
 use Rattle.sync_state.specs.{Integration.{Integrates as DoesIntegrate, joined_by}, declared.state.State.{State, TheVariants.{Integrating, Joining, Off}}}
+use Rattle.{sync_state.specs.{Standing.point_in, declared.answers.Joined.Joined}, tte_units.proofs.general_lemmas.{Bools.match_false, Integers.int_le-is}}
 
 -- ---- the range of points
 
@@ -57,8 +56,7 @@ heard_frame_of frame point = record { cycle = frame.cycle; members = frame.membe
 pub is_heard_so : (network : Network) (device : DeviceId) (own : Own) (s : Standing) (frame : Pcf) (point : Units) → IsOwnOf network device own
     → s.plan ≡ end_plan network → neg_ℤ (pos (2 ^ 40)) ≤ℤ point.0 → point.0 ≤ℤ pos (2 ^ 60 + 2 ^ 51) → heard_by own s frame point ≡ Within
     → IsHeardSo network s (heard_frame_of frame point)
-is_heard_so network device own s frame point is plan low high e =
-    grind (arith, and_parts, nat_le, within_in, amount, int_le, leb-true, int_le-is)
+is_heard_so network device own s frame point is plan low high e = grind (arith, and_parts, nat_le, within_in, amount, int_le, leb-true, int_le-is)
 
 -- no frame is within its time at the end of all
 too_late : (f c d e p : ℕ) (v ef r x q a w : ℤ) → f ≤ 2 ^ 20 + 2 ^ 17 → v ≡ pos ((2 ^ 20 + 2 ^ 17 + 1) * c + d) → ef ≡ pos (f * c + e) → v ≤ℤ ((x +ℤ a) +ℤ w)
@@ -188,8 +186,7 @@ told_in own Synchronised adjustment point cycle members p e = absurd (in_time_no
 
 pub tells : (network : Network) (device : DeviceId) (own : Own) (s : Standing) (frame : Pcf) (point : Units) → IsOwnOf network device own
     → s.plan ≡ end_plan network → heard_by own s frame point ≡ Integrates → DoesIntegrate s frame
-tells network device own s frame point is plan e =
-    grind (arith, told_in, amount, and_parts, nat_le, leb-true)
+tells network device own s frame point is plan e = grind (arith, told_in, amount, and_parts, nat_le, leb-true)
 
 small_joined : (f c e : ℕ) (ef q : ℤ) → f ≤ 2 ^ 20 + 2 ^ 17 → c ≤ 2 ^ 40 → e ≤ 2 ^ 43 → ef ≡ pos (f * c + e) → neg_ℤ (pos (2 ^ 40)) ≤ℤ q
     → q ≤ℤ pos (2 ^ 60 + 2 ^ 51) → IsSmall (ef -ℤ q)
@@ -291,8 +288,7 @@ wide_range z low high = (omega (arith, ints), omega (arith, ints))
 
 pub ripe_at : (network : Network) (device : DeviceId) (node : Node) (e : EndSystem) (frame : Pcf) (point : Units) (is : Ripe)
     → StandsAsEnd e network device node → is ≡ heard_by e.own e.sync frame point → IsPermanenceOutcomeAt network device node frame point is
-ripe_at network device node e frame point is stands r =
-    grind (arith, match_false, amount)
+ripe_at network device node e frame point is stands r = grind (arith, match_false, amount)
 
 ignored_time : (b : Bool) → (ripe_as (heard_by_schedule b) ≡ Within → ⊥) → (ripe_as (heard_by_schedule b) ≡ Outside → ⊥)
     → ripe_as (heard_by_schedule b) ≡ Ignored
@@ -319,8 +315,7 @@ pub stands_later : (network : Network) (device : DeviceId) (node : Node) (e : En
     → IsLaterMoment node.last moment
     → StandsAsEnd (record { own = e.own; sync = e.sync; heard = e.heard; agenda = e.agenda; rows = e.rows; entering = e.entering; last = moment }) network
     device (called moment phase node)
-stands_later network device node e moment phase stands later =
-    grind (arith, not_fallen, number_stays, next_point)
+stands_later network device node e moment phase stands later = grind (arith, not_fallen, number_stays, next_point)
 
 -- it is on
 pub is_on : (network : Network) (device : DeviceId) (node : Node) (e : EndSystem) → StandsAsEnd e network device node → is_off e.sync.state ≡ false
@@ -370,5 +365,4 @@ pub turns_on : (network : Network) (device : DeviceId) (node : Node) (e : EndSys
     → node.standing.state ≡ Off → sync ≡ after e.sync turned_on
     → StandsAsEnd (record { own = e.own; sync = sync; heard = e.heard; agenda = e.agenda; rows = e.rows; entering = e.entering; last = e.last }) network device
     (node_turned_on node)
-turns_on network device node e sync stands off value =
-    grind (arith, heard_still, on_sending, on_correction, on_dispatch)
+turns_on network device node e sync stands off value = grind (arith, heard_still, on_sending, on_correction, on_dispatch)

@@ -82,8 +82,7 @@ short network device own slot is of =
 is_at : (network : Network) (device : DeviceId) (own : Own) (rows : Rows) (s : Standing) (adjustment : Units) (first : ℕ) (bound : Slot) (next : Dispatch)
     → IsOwnOf network device own → IsSlotOf network (SentBy device) next.slot → s.adjustment ≡ adjustment
     → IsNextFrom own rows adjustment.0 first bound next → next.at.0 ≡ (value_of network (dispatching next.slot.place.row next.cycle) -ℤ s.adjustment.0)
-is_at network device own rows s adjustment first bound next is of same found =
-    grind (arith, length_is, amount, offset_is, value_of, dispatching)
+is_at network device own rows s adjustment first bound next is of same found = grind (arith, length_is, amount, offset_is, value_of, dispatching)
 
 -- ---- the first behind a local value
 
@@ -205,10 +204,8 @@ after_from first m n r q a b c x y z from is at (inl less) = grind arith
 after_from first m n r q a b c x y z from is at (inr (same, above)) = grind (arith, below_more)
 
 from_after : (first m n r q a b c x y z : ℕ) → first ≡ m - m % 64 → q ≡ m % 64 → r ≡ n % 64 → first ≤ n
-    → (n < first + 64 → IsBelow (r ∷ a ∷ b ∷ c ∷ []) (q ∷ x ∷ y ∷ (z + 1) ∷ []) → ⊥)
-    → IsBelow (m ∷ x ∷ y ∷ z ∷ []) (n ∷ a ∷ b ∷ c ∷ [])
-from_after first m n r q a b c x y z from is at reached behind =
-    grind (arith, cases_of, not_below_more, same_block)
+    → (n < first + 64 → IsBelow (r ∷ a ∷ b ∷ c ∷ []) (q ∷ x ∷ y ∷ (z + 1) ∷ []) → ⊥) → IsBelow (m ∷ x ∷ y ∷ z ∷ []) (n ∷ a ∷ b ∷ c ∷ [])
+from_after first m n r q a b c x y z from is at reached behind = grind (arith, cases_of, not_below_more, same_block)
 
 -- lists compared through one between
 trans_below : (xs ys zs : List ℕ) → IsBelow xs ys → IsBelow ys zs → IsBelow xs zs
@@ -241,8 +238,7 @@ row_id n = record { 0 = n }
 
 sooner_by : (network : Network) (other : RowId) (n : ℕ) (row : RowId) (m : ℕ) (next : RowId) (k : ℕ) → dispatching other n ≡ dispatching row m
     → IsSooner network row m next k → IsSooner network other n next k
-sooner_by network other n row m next k e h =
-    grind arith
+sooner_by network other n row m next k e h = grind arith
 
 done_same : (done : List ClockTask) (other : RowId) (n : ℕ) (row : RowId) (m : ℕ) → other.0 ≡ row.0 → n ≡ m
     → Contains (done ++ dispatching row m ∷ []) (dispatching other n)
@@ -323,8 +319,7 @@ first_next network device own rows s adjustment local value first bound (Some ne
 pub next_next : (network : Network) (device : DeviceId) (own : Own) (rows : Rows) (s : Standing) (changed : ℤ) (done : List ClockTask) (adjustment : Units)
     (last : Dispatch) (first : ℕ) (bound : Slot) (o : Option Dispatch) → IsOwnOf network device own → AreRowsOf network device rows
     → s.adjustment ≡ adjustment → IsAtSlot rows last → IsDispatch network device s changed done (Some last) → IsAfter last first bound
-    → IsFirstFrom own rows adjustment.0 first bound o
-    → IsDispatch network device s changed (done ++ dispatching last.slot.place.row last.cycle ∷ []) o
+    → IsFirstFrom own rows adjustment.0 first bound o → IsDispatch network device s changed (done ++ dispatching last.slot.place.row last.cycle ∷ []) o
 next_next network device own rows s changed done adjustment last first bound None is are same at was after found =
     λ sync row cycle h. no_rows network device own rows is are found row cycle h
 next_next network device own rows s changed done adjustment last first bound (Some next) is are same at was after found =

@@ -32,8 +32,7 @@ in_block first n c r q a b d e f g = (λ h. omega arith, λ h. omega arith)
 -- what has no earlier turn comes no earlier in the 64 cycles
 least_here : (first : ℕ) (s t : Slot) (n : ℕ) → first % 64 ≡ 0 → s.residue < 64 → t.residue ≡ n % 64 → first ≤ n
     → (n < first + 64 → IsBelow (turn_of t) (turn_of s) → ⊥) → IsBelow (n ∷ numbers_of t.place) ((first + s.residue) ∷ numbers_of s.place) → ⊥
-least_here first s t n whole small residue from later below =
-    grind (arith, numbers_of, in_block)
+least_here first s t n whole small residue from later below = grind (arith, numbers_of, in_block)
 
 -- the search's answer, where a slot is not below the bound
 pub first_here : (network : Network) (device : DeviceId) (own : Own) (rows : Rows) (adjustment : ℤ) (first : ℕ) (bound : Slot) (next : Dispatch)

@@ -32,8 +32,7 @@ pub pending_task : (network : Network) (device : DeviceId) (node : Node) (deed :
     → IsAhead network device node.standing node.changed node.done deed → IsPending network device node (doing deed)
 pending_task network device node (sending cycle) sound h = (sound, record { own = h.own; ahead = h.ahead; not_yet = h.not_yet })
 pending_task network device node (correcting cycle) sound h = (sound, record { own = h.own; ahead = h.ahead; not_yet = h.not_yet })
-pending_task network device node (dispatching row cycle) sound h =
-    grind arith
+pending_task network device node (dispatching row cycle) sound h = grind arith
 
 -- ---- each kind has its next
 

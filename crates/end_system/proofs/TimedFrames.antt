@@ -17,15 +17,13 @@ pub heading_at : (network : Network) (device : DeviceId) (node : Node) (e : EndS
     → StandsAsEnd e network device node → is_off node.standing.state ≡ false
     → heading_fault (standpoint_at node moment).takes_part (standpoint_at node moment).state network.marker heading
     ≡ heading_fault true e.sync.state e.own.marker heading
-heading_at network device node e moment heading stands on =
-    grind (arith, takes_by, is_off)
+heading_at network device node e moment heading stands on = grind (arith, takes_by, is_off)
 
 pub stands_with : (network : Network) (device : DeviceId) (node : Node) (e : EndSystem) (moment : Moment) (entering : Intake) (taken : List TakenFrame)
     → StandsAsEnd e network device node → IsLaterMoment node.last moment → HasTaken network device entering taken
     → StandsAsEnd (record { own = e.own; sync = e.sync; heard = e.heard; agenda = e.agenda; rows = e.rows; entering = entering; last = moment }) network device
     (called moment arriving (record node { taken = taken }))
-stands_with network device node e moment entering taken stands later are =
-    grind (arith, not_fallen, number_stays, next_point)
+stands_with network device node e moment entering taken stands later are = grind (arith, not_fallen, number_stays, next_point)
 
 pub clock_is : (network : Network) (device : DeviceId) (node : Node) (e : EndSystem) (moment : Moment) (local : ℤ) → StandsAsEnd e network device node
     → pos 0 ≤ℤ moment.reading.0 → local ≡ (moment.reading.0 +ℤ e.sync.adjustment.0) → local ≡ clock_of (standpoint_at node moment)

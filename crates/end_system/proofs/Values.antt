@@ -31,10 +31,8 @@ same_cycle m n e = cc
 
 pub next_correction : (network : Network) (device : DeviceId) (own : Own) (s : Standing) (local : ℤ) (next : Appointment) (value : ℕ)
     → IsOwnOf network device own → next_point s ≡ Some next.cycle → value ≡ next.cycle * amount own.plan.cycle_length + amount own.correction
-    → local <ℤ pos value → next.at.0 ≡ (pos value -ℤ s.adjustment.0)
-    → IsCorrection network s local [] (Some next)
-next_correction network device own s local next value is point value_is ahead at =
-    grind (arith, amount, correction_is, none_in, correcting)
+    → local <ℤ pos value → next.at.0 ≡ (pos value -ℤ s.adjustment.0) → IsCorrection network s local [] (Some next)
+next_correction network device own s local next value is point value_is ahead at = grind (arith, amount, correction_is, none_in, correcting)
 
 pub passed_correction : (network : Network) (device : DeviceId) (own : Own) (s : Standing) (local : ℤ) (cycle value : ℕ) → IsOwnOf network device own
     → next_point s ≡ Some cycle → value ≡ cycle * amount own.plan.cycle_length + amount own.correction → pos value ≤ℤ local

@@ -12,7 +12,7 @@ pub use Rattle.sync_state.specs.membership.Summary.{Summarizes, Summary}
 pub use Rattle.net_plan.proofs.InRange.{amount_most}
 pub use Rattle.net_plan.specs.{Places.link_at, Ranges.IsInRange}
 pub use Rattle.net_plan.specs.declared.{ids.{DeviceId.DeviceId, LinkId.LinkId, RowId.RowId}, network.Network.Network, tables.{Link.Link, Row.Row}}
-pub use Rattle.pcf_values.specs.declared.{channel.Channel.{Channel, TheVariants.{A, B}}, pcf.Pcf.Pcf}
+pub use Rattle.tte_units.specs.declared.frames.{channel.Channel.{Channel, TheVariants.{A, B}}, pcf.Pcf.Pcf}
 pub use Rattle.run_law.specs.declared.{judgement.Reason.Reason, steps.Moment.Moment}
 pub use Rattle.run_law.specs.device.{Standpoints.{Standpoint, first_reason}, States.is_off}
 pub use Rattle.run_law.specs.machines.{Answers.called, Calls.MayCall, Nodes.{ClockTask, Node, arriving, correcting, dispatching, sending, standpoint_at}}

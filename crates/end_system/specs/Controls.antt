@@ -1,10 +1,10 @@
 -- How an end system judges control frames, by what it knows of its network.
 use Rattle.std.specs.Prelude.{if◌then◌else◌, ◌&&◌, ◌+◌, ◌==◌, Err, Ok, Result, nat_lt, not, pos, ℕ}
 use Rattle.{drift_clock.specs.transparent.Points.point_of, pcf_codec.specs.declared.refusal.PcfRefusal.PcfRefusal}
-use Rattle.{end_system.specs.{Owns.wire_by, declared.own.Own.Own}, run_law.specs.declared.steps.Ripe.Ripe}
-use Rattle.{net_plan.specs.declared.ids.LinkId.LinkId, run_law.specs.control.Hearing.heard_as}
-use Rattle.{pcf_values.specs.declared.pcf.Pcf.Pcf, sync_state.specs.Standing.Standing, tte_units.specs.Amount.amount}
-use Rattle.{run_law.specs.control.Arrivals.{is_cold_start, refused}, tte_units.specs.declared.units.Units.Units}
+use Rattle.{end_system.specs.Owns.wire_by, sync_state.specs.Standing.Standing}
+use Rattle.{end_system.specs.declared.own.Own.Own, run_law.specs.{control.Hearing.heard_as, declared.steps.Ripe.Ripe}}
+use Rattle.{net_plan.specs.declared.ids.LinkId.LinkId, tte_units.specs.{Amount.amount, declared.units.Units.Units}}
+use Rattle.{run_law.specs.control.Arrivals.{is_cold_start, refused}, tte_units.specs.declared.frames.pcf.Pcf.Pcf}
 use Rattle.run_law.specs.{control.Permanence.ripe_as, declared.steps.Arrival.{Arrival, TheVariants.{Dropped, Waits}}}
 use Rattle.run_law.specs.{declared.judgement.Reason.TheVariants.{ColdStart, Domain, Old}, records.Happenings.with_clock}
 

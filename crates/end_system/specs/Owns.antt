@@ -3,7 +3,7 @@ use Rattle.std.specs.Prelude.{if◌then◌else◌, ◌*ℤ◌, ◌*◌, ◌+ℤ�
 use Rattle.std.specs.Prelude.{pos, true, ℕ}
 use Rattle.net_plan.specs.{Paths.IsUplink, Places.{is_master, link_at}, Ranges.{IsInRange, IsWithin}, Rules.IsChildOf}
 use Rattle.net_plan.specs.declared.{ids.{DeviceId.DeviceId, LinkId.LinkId, RowId.RowId}, network.Network.Network}
-use Rattle.pcf_values.specs.declared.channel.Channel.{Channel, TheVariants.{A, B}}
+use Rattle.tte_units.specs.declared.frames.channel.Channel.{Channel, TheVariants.{A, B}}
 use Rattle.run_law.specs.{machines.{Calls.{HasLink, IsLinkAt}, Tasks.offset_of}, records.Frames.dispatched_frame}
 use Rattle.run_law.specs.scenario.Devices.{channel_of_link, has_role, is_cm, is_end, is_parent_of, is_relay, plan_of}
 use Rattle.run_law.specs.scenario.Ways.{wire_of}

@@ -1,7 +1,7 @@
 -- What an end system does with a frame that is permanent.
 use Rattle.std.specs.Prelude.{if◌then◌else◌, ◌≡◌, Bool}
 use Rattle.net_plan.specs.declared.{ids.{DeviceId.DeviceId, LinkId.LinkId}, network.Network.Network}
-use Rattle.pcf_values.specs.declared.pcf.Pcf.{Pcf}
+use Rattle.tte_units.specs.declared.frames.pcf.Pcf.{Pcf}
 use Rattle.run_law.specs.declared.steps.{Moment.Moment, Ripe.{Ripe, TheVariants.{Integrates, Outside, Within}}}
 use Rattle.run_law.specs.machines.{Answers.{called, with_heard, with_joined}, Calls.{MayCall, MayRipen, StandsFor}}
 use Rattle.run_law.specs.{machines.Nodes.{Node, ripening}, scenario.Devices.channel_of_link}

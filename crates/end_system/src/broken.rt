@@ -3,10 +3,10 @@ ghost use Rattle.{end_system.specs.Broken.StandsBroken, run_law.specs.machines.N
 ghost use Rattle.net_plan.specs.declared.{ids.DeviceId.DeviceId, network.Network.Network};
 
 use net_plan::LinkId;
-use pcf_values::Pcf;
 use run_law::{Act, Arrival, Machine, Moment, Reason, Ripe};
 use sync_state::{State, Verdict};
 use tte_units::Units;
+use tte_units::frames::Pcf;
 
 /// A broken device. It hears nothing and does nothing by itself, and keeps the state and the adjustment that it had.
 #[derive(Clone, Copy)]

@@ -11,11 +11,11 @@ use device_rules::refused;
 use drift_clock::transparent::{arrive, permanence};
 use net_plan::LinkId;
 use pcf_codec::PcfRefusal;
-use pcf_values::{Pcf, PcfKind};
 use run_law::{Arrival, Reason, Ripe};
 use sync_state::membership::count;
 use sync_state::{State, Sync};
 use tte_units::Units;
+use tte_units::frames::{Pcf, PcfKind};
 
 /// A frame of a later cycle is not used.
 const LAST_CYCLE: u32 = (1 << 20) + (1 << 17);

@@ -14,13 +14,13 @@ use crate::rows::{Dispatch, Rows};
 use device_rules::{Heading, Intake};
 use net_plan::{DeviceId, LinkId, Network};
 use pcf_codec::{decode, is_pcf};
-use pcf_values::Pcf;
 use run_law::{Act, Arrival, Machine, Moment, Reason, Ripe};
 use schedule_tables::Accepted;
 use std::alloc::Global;
 use sync_state::membership::{Heard, HeardFrame};
 use sync_state::{State, Sync, Verdict};
 use tte_units::Units;
+use tte_units::frames::Pcf;
 
 /// A master or a client. After it is made it takes no memory.
 #[derive(Drop)]

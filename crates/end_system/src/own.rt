@@ -6,10 +6,10 @@ ghost use Rattle.run_law.specs.{control.Hearing.is_in_schedule, scenario.Devices
 ghost use Rattle.{schedule_tables.specs.Rules.KeepsRules, sync_state.specs.Plan.expected_at};
 
 use net_plan::{DeviceId, LinkId, Network, Role};
-use pcf_values::{Channel, Members, Pcf, PcfKind};
 use sync_state::SyncPlan;
 use sync_state::membership::one;
 use tte_units::Units;
+use tte_units::frames::{Channel, Members, Pcf, PcfKind};
 
 /// A link from the device to a switch.
 #[derive(Clone, Copy)]

@@ -4,8 +4,7 @@ use Rattle.std.{proofs.lemmas.List.Quantifiers.Any-push, specs.List.Any}
 
 -- what holds of some element of a list holds of some element of the longer one
 pub any_left : {X : Type 0} (P : X → Type 0) (xs : List X) (y : X) → Any P xs → Any P (xs ++ y ∷ [])
-any_left P xs y (k, x, within, at, holds) =
-    (k, x, omega (arith, length-append xs (y ∷ []), within), get_or-append xs (y ∷ []) x k within ∙ at, holds)
+any_left P xs y (k, x, within, at, holds) = (k, x, omega (arith, length-append xs (y ∷ []), within), get_or-append xs (y ∷ []) x k within ∙ at, holds)
 
 -- what holds of the last element holds of some
 pub any_last : {X : Type 0} (P : X → Type 0) (xs : List X) (y : X) → P y → Any P (xs ++ y ∷ [])

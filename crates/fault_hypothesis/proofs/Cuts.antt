@@ -3,8 +3,8 @@ use Rattle.{fault_hypothesis.proofs.Befalling.stands_where, net_plan.specs.{Belo
 use Rattle.{fault_hypothesis.proofs.Standing.some_both, net_plan.specs.declared.{event.Event.Event, ids.LinkId.LinkId, tables.{Device.Device, Link.Link}}}
 use Rattle.{fault_hypothesis.specs.Watching.AreOfNetwork, tte_units.proofs.general_lemmas.Lists.{any_behind, any_first, any_none, any_of, none_stands, some_at}}
 use Rattle.{net_plan.{proofs.TableFacts.cuts_or_not, specs.{Rules.HasOffSwitch, declared.tables.Way.Way}}, std.specs.{List.Any, Prelude.{MatchOption, is_some}}}
-use Rattle.{net_plan.specs.Places.{IsSwitchOf, device_at, link_at}, run_law.specs.scenario.Faults.{Cuts, CutsOn, IsFaulty, IsFirstCutOn, IsLinkOf}}
-use Rattle.{pcf_values.specs.declared.channel.Channel.Channel, schedule_tables.specs.{Rules.KeepsRules, declared.rule.Rule.TheVariants.{Joints, Masters}}}
+use Rattle.{net_plan.specs.Places.{IsSwitchOf, device_at, link_at}, schedule_tables.specs.{Rules.KeepsRules, declared.rule.Rule.TheVariants.{Joints, Masters}}}
+use Rattle.{run_law.specs.scenario.Faults.{Cuts, CutsOn, IsFaulty, IsFirstCutOn, IsLinkOf}, tte_units.specs.declared.frames.channel.Channel.Channel}
 use Rattle.std.proofs.Common.{◌++◌, ◌↔◌, ◌∙◌, ◌∷◌, ◌≡◌, ◌⊎◌, List, None, Option, Some, [], ap, append_assoc, arith, false, inl, inr, refl, subst, suc, sym}
 use Rattle.std.proofs.Common.{true}
 use Rattle.net_plan.specs.declared.event.What.TheVariants as events

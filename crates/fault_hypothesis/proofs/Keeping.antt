@@ -43,8 +43,7 @@ broken_breaks network admitted event device broken within what known = λ d. (
 
 -- what a watch knows of the devices that were turned on
 abbrev pub KnowsTurnedOn : Network → List Event → List Bool → Type 0
-KnowsTurnedOn network events on =
-    (d : DeviceId) → HasDevice network d → (slice_get on d.0 ≡ Some true) ↔ IsTurnedOn events d
+KnowsTurnedOn network events on = (d : DeviceId) → HasDevice network d → (slice_get on d.0 ≡ Some true) ↔ IsTurnedOn events d
 
 -- where the event turns nothing on, these devices are as they were
 pub on_stays : (network : Network) (admitted : List Event) (event : Event) (on : List Bool) → ((d : DeviceId) → TurnsOn d event → ⊥)

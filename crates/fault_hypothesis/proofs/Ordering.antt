@@ -7,8 +7,7 @@ use Rattle.std.{proofs.Common.{◌+◌, ◌-◌, ◌<◌, ◌∙◌, ◌∷◌, 
 
 -- the conditions, by their numbers
 abbrev pub conditions : List Outside
-conditions =
-    Order ∷ Late ∷ Rate ∷ Wire ∷ Hold ∷ Channel ∷ NotMaster ∷ SecondBreak ∷ TooFewMasters ∷ NotBroken ∷ NotOff ∷ []
+conditions = Order ∷ Late ∷ Rate ∷ Wire ∷ Hold ∷ Channel ∷ NotMaster ∷ SecondBreak ∷ TooFewMasters ∷ NotBroken ∷ NotOff ∷ []
 
 -- each condition stands at the place below its number
 pub stands_by_number : (condition other : Outside) → slice_index_or conditions (condition_number condition - 1) other ≡ condition

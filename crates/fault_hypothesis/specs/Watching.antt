@@ -1,6 +1,6 @@
 -- How a watch stands to the events that it admitted.
 use Rattle.std.specs.{List.All, Prelude.{◌++◌, ◌↔◌, ◌∷◌, ◌≡◌, List, None, Option, Some, [], slice_get, true}}
-use Rattle.{fault_hypothesis.specs.declared.watch.Watch.Watch, pcf_values.specs.declared.channel.Channel.Channel}
+use Rattle.{fault_hypothesis.specs.declared.watch.Watch.Watch, tte_units.specs.declared.frames.channel.Channel.Channel}
 use Rattle.net_plan.specs.{Belonging.{HasDevice, IsOfNetwork}, declared.{event.Event.Event, network.Network.Network}}
 use Rattle.{net_plan.specs.declared.ids.DeviceId.DeviceId, tte_units.specs.declared.units.Units.Units}
 use Rattle.run_law.specs.scenario.{Faults.{IsBroken, IsFaulty, IsTurnedOn}, Hypothesis.AreWithinHypothesis}

@@ -11,8 +11,8 @@ ghost use Rattle.run_law.specs.scenario.Hypothesis.{SetsLongHold, SetsOtherWire,
 use crate::places::{begins_on, channel_of, device_at, link_at};
 use crate::{Outside, Watch};
 use net_plan::{Device, DeviceId, Event, Link, LinkId, Network, Role, What};
-use pcf_values::Channel;
 use tte_units::Units;
+use tte_units::frames::Channel;
 
 /// The most cycles of a run.
 const MOST_CYCLES: i64 = 1 << 20;

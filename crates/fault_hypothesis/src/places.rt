@@ -1,10 +1,10 @@
 ghost use Rattle.std.specs.{Option.option_copied, Prelude.{◌↔◌, ◌≡◌, IsTrue, MatchOption}};
 ghost use Rattle.net_plan.specs.{Places.{device_at, link_at}, Rules.HasOffSwitch};
-ghost use Rattle.pcf_values.specs.declared.channel.Channel.{Channel as ChannelValue};
+ghost use Rattle.tte_units.specs.declared.frames.channel.Channel.{Channel as ChannelValue};
 ghost use Rattle.run_law.specs.scenario.Faults.{BeginsOn, IsLinkOf};
 
 use net_plan::{Device, DeviceId, Link, LinkId, Network};
-use pcf_values::Channel;
+use tte_units::frames::Channel;
 
 /// The device of this id, if the network has it.
 pub(crate) fn device_at(network: &Network, device: DeviceId) -> Option<&Device>

@@ -1,16 +1,16 @@
 ghost use Rattle.std.specs.Prelude.{◌++◌, ◌↔◌, ◌∷◌, ◌≡◌, ◌≤◌, List, MatchResult, OnErr, Some, [], slice_set, true};
 ghost use Rattle.net_plan.specs.{Belonging.IsOfNetwork, declared.event.Event.Event as EventValue};
 ghost use Rattle.net_plan.specs.declared.{ids.DeviceId.DeviceId as DeviceIdValue, network.Network.Network};
-ghost use Rattle.pcf_values.specs.declared.channel.Channel.{Channel as ChannelValue};
+ghost use Rattle.tte_units.specs.declared.frames.channel.Channel.{Channel as ChannelValue};
 ghost use Rattle.run_law.specs.scenario.{Faults.{IsBroken, IsFaulty}, Hypothesis.{IsOutsideBy, IsWithinHypothesis}};
 ghost use Rattle.fault_hypothesis.specs.{Own.{behind_own, first_own}, Watching.Watches};
 
 use crate::Outside;
 use crate::places::{channel_of, off_channel};
 use net_plan::{DeviceId, Event, What};
-use pcf_values::Channel;
 use schedule_tables::Accepted;
 use tte_units::Units;
+use tte_units::frames::Channel;
 
 /// The most devices of a network that keeps the rules.
 const MOST_DEVICES: usize = 64;

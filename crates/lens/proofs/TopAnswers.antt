@@ -1,14 +1,14 @@
 -- The answer for the words.
 use Rattle.{fault_hypothesis.proofs.storm_lemmas.OneStorm.one_storm, std.proofs.Common.{◌∙◌, ◌≡◌, ◌≤◌, List, None, Some, ap, subst, sym, ℕ}}
 use Rattle.lens.specs.{Top.{AnswerIsOne, AnswersWords, IsAnswerBy}, draw.overview.Answer.IsOverviewAnswer, events.Answer.{IsEventsAnswer, event_lines}}
-use Rattle.{lens.specs.draw.Answer.IsDrawAnswer, lens_flows.specs.Answer.IsFlowsAnswer, lens_slack.specs.Answer.IsSlackOf, std.specs.Prelude.{IfSome, Option}}
-use Rattle.{lens_flows.proofs.OneAnswer.flows_answer_one, lens_slack.proofs.OneSlack.{octets_one, slack_one}, net_plan.specs.declared.network.Network.Network}
+use Rattle.{lens.specs.draw.Answer.IsDrawAnswer, lens_slack.specs.Answer.IsSlackOf, std.specs.Prelude.{IfSome, Option}, tte_reports.proofs.Reports.report_one}
+use Rattle.{lens_flows.proofs.OneAnswer.flows_answer_one, net_plan.specs.declared.network.Network.Network, schedule_checker.specs.Refusals.RefusalIsOne}
+use Rattle.{lens_flows.specs.Answer.IsFlowsAnswer, net_plan.specs.declared.event.Event.Event, schedule_tables.specs.Rules.KeepsRules}
+use Rattle.{lens_slack.proofs.OneSlack.{octets_one, slack_one}, tte_forms.specs.{declared.status.Status.Status, networks.Accepting.IsNetworkAnswer}}
 use Rattle.{lens_slack.proofs.{forms_lemmas.FormLemmas.form_in_range, least_lemmas.OneLeast.least_one}, tte_forms.specs.declared.status.Status.TheVariants.Done}
 use Rattle.{lens_slack.specs.{Steps.{all_steps, rule_steps}, forms.Forms.{IsFormInRange, form_of}}, tte_forms.proofs.networks.Answers.network_answer_one}
 use Rattle.lens_slack.specs.{declared.forms.form.Form.{Form, TheVariants.{Draw, DrawWhole, Events, Flows, Least, Slack, SlackOf, Why}}, least.Answer.IsLeastOf}
 use Rattle.{lens_why.proofs.Whole.why_one, tte_forms.specs.{Answering.Answer, Putting.Shown}}
-use Rattle.{net_plan.specs.declared.event.Event.Event, schedule_checker.specs.Refusals.RefusalIsOne, schedule_tables.specs.Rules.KeepsRules}
-use Rattle.{tte_audit.proofs.reports_lemmas.Reports.report_one, tte_forms.specs.{declared.status.Status.Status, networks.Accepting.IsNetworkAnswer}}
 
 -- what is answered for the form is answered for the words
 pub words_as : {f form : Option Form} → f ≡ form → (first second : Option (List ℕ)) (status : Status) (old new : Shown)

@@ -1,11 +1,11 @@
 -- What the program `lens` answers.
 use Rattle.std.specs.Prelude.{◌++◌, ◌≡◌, ◌≢◌, ◌⊎◌, List, None, Option, Some, [], codes, ℕ}
-use Rattle.{lens.specs.draw.Answer.IsDrawAnswer, lens_flows.specs.Answer.IsFlowsAnswer}
-use Rattle.{lens.specs.draw.overview.Answer.IsOverviewAnswer, tte_audit.specs.reports.Reports.IsReportAnswer}
-use Rattle.{lens.specs.events.Answer.IsEventsAnswer, lens_slack.specs.{forms.Forms.form_of, least.Answer.IsLeastAnswer}}
+use Rattle.{lens.specs.draw.Answer.IsDrawAnswer, lens_why.specs.Answer.IsWhyAnswer}
+use Rattle.{lens.specs.draw.overview.Answer.IsOverviewAnswer, lens_slack.specs.least.Answer.IsLeastAnswer}
+use Rattle.{lens.specs.events.Answer.IsEventsAnswer, tte_reports.specs.Reports.IsReportAnswer}
+use Rattle.{lens_flows.specs.Answer.IsFlowsAnswer, lens_slack.specs.forms.Forms.form_of}
 use Rattle.lens_slack.specs.{Answer.{IsSlackAnswer, IsSlackAnswerOf}, declared.forms.form.Form.{Form, TheVariants.Why}}
 use Rattle.lens_slack.specs.declared.forms.form.Form.TheVariants.{Draw, DrawWhole, Events, Flows, Least, Slack, SlackOf}
-use Rattle.lens_why.specs.Answer.{IsWhyAnswer}
 use Rattle.tte_forms.specs.{Answering.{Answer, ForOctets, Gives, GivesAnswer, line_answer}, Putting.Shown}
 use Rattle.tte_forms.specs.{declared.status.Status.{Status, TheVariants.Usage}, networks.Accepting.IsNetworkAnswer}
 

@@ -11,9 +11,4 @@ pub record IsNext (network : Network) (all : List FlowTold) (n : ℕ) (text : Li
 
 pub next_line : (network : Network) (all : List FlowTold) (d : FlowTold) (n : ℕ) (text : List ℕ) → n < length all
     → text ≡ flow_line network (get_or all n d) 0 → IsNext network all n text
-next_line network all d n text within is = record {
-  one = get_or all n d;
-  line = is;
-  front = take_more all n d within;
-  rest = drop_more all n d within;
-}
+next_line network all d n text within is = record { one = get_or all n d; line = is; front = take_more all n d within; rest = drop_more all n d within }

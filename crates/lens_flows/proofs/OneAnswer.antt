@@ -1,9 +1,9 @@
 -- The answer for a report is one.
-use Rattle.{audit_law.specs.events.Readings.scenario_under, net_plan.specs.declared.network.Network.Network, run_law.specs.records.Happenings.happenings}
+use Rattle.{audit_law.specs.events.Readings.scenario_under, run_law.specs.records.Happenings.happenings, tte_units.specs.declared.units.Units.Units}
 use Rattle.lens_flows.{proofs.counts_lemmas.OneTold.{all_told_one, count_one, flows_one}, specs.{Lines.flow_line, declared.counts.told.FlowTold.FlowTold}}
-use Rattle.{lens_flows.specs.{Answer.{IsFlowsAnswer, IsMissingAt}, counts.Deliveries.deliveries_of}, tte_audit.proofs.reports_lemmas.Reports.IsOneFor}
-use Rattle.{run_law.specs.{declared.note.Note.Note, records.Order.IsIn}, tte_forms.specs.Answering.Answer, tte_units.specs.Amount.amount}
-use Rattle.{schedule_tables.specs.Rules.KeepsRules, tte_audit.specs.{Report.events_of, reports.Reports.IsReportOf}, tte_units.specs.declared.units.Units.Units}
+use Rattle.{lens_flows.specs.{Answer.{IsFlowsAnswer, IsMissingAt}, counts.Deliveries.deliveries_of}, net_plan.specs.declared.network.Network.Network}
+use Rattle.{run_law.specs.declared.note.Note.Note, schedule_tables.specs.Rules.KeepsRules, tte_reports.{proofs.Reports.IsOneFor, specs.Reports.IsReportOf}}
+use Rattle.{run_law.specs.records.Order.IsIn, tte_audit.specs.Report.events_of, tte_forms.specs.Answering.Answer, tte_units.specs.Amount.amount}
 use Rattle.{std.proofs.Common.{◌∙◌, ◌∷◌, ◌≡◌, List, [], ap, inl, inr, map, refl, subst, sym, ℕ}, tte_forms.specs.declared.status.Status.TheVariants.Done}
 
 lines_same : (network : Network) (told : List FlowTold) (m n : FlowTold → ℕ) → ((one : FlowTold) → IsIn one told → m one ≡ n one)

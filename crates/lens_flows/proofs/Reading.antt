@@ -4,12 +4,12 @@ use Rattle.{lens_flows.specs.Seeing.{IsReadBy, IsSeenSoFar}, net_plan.specs.decl
 use Rattle.{lens_flows.specs.counts.Deliveries.{deliveries_of, delivery_by}, run_law.specs.records.Happenings.{Happening, happening, happenings}}
 use Rattle.{lens_flows.specs.counts.Seen.HasSeen, run_law.specs.{declared.note.Note.Note, records.Ranks.place_of}, tte_audit.proofs.OneAnswer.same_of}
 use Rattle.{lens_flows.specs.declared.counts.{deliveries.Delivery.Delivery, seen.Seen.Seen}, report_text.specs.NoteLine.{note_line, note_text, report_of}}
-use Rattle.{report_text.specs.Ranges.IsNoteOf, std.specs.Prelude.{All, Some}, tte_audit.{proofs.OnlyEnd.ends_soon, specs.{Report.events_of, Telling.IsReadOf}}}
-use Rattle.{run_law.proofs.records.{Happenings.{happenings_on, soon}, Order.{all_of, given_of}}, std.proofs.lemmas.List.{append-nil, length-append}}
+use Rattle.{report_text.specs.Ranges.IsNoteOf, tte_audit.{proofs.OnlyEnd.ends_soon, specs.{Named.IsNamed, Report.events_of, Telling.IsReadOf}}}
+use Rattle.{run_law.proofs.records.{Happenings.{happenings_on, soon}, Order.{all_of, given_of}}, tte_audit.specs.declared.passes.ReportEvents.ReportEvents}
 use Rattle.{run_law.proofs.runs.NetworkRuns.one_more, std.proofs.lemmas.List.Elements.All-head, tte_units.specs.{Amount.amount, declared.units.Units.Units}}
 use Rattle.std.proofs.Common.{◌++◌, ◌+◌, ◌<◌, ◌^◌, ◌∙◌, ◌∷◌, ◌≡◌, ◌≤◌, List, [], ap, append_assoc, arith, inl, inr, length, refl, subst, sym, ℕ}
-use Rattle.std.specs.List.{concat}
-use Rattle.tte_audit.specs.{Named.IsNamed, declared.{passes.ReportEvents.ReportEvents, reports.records.Records.Records}, reports.Reports.{AreLeft, IsReportOf}}
+use Rattle.{std.proofs.lemmas.List.{append-nil, length-append}, tte_reports.specs.{Reports.{AreLeft, IsReportOf}, declared.records.Records.Records}}
+use Rattle.std.specs.{List.concat, Prelude.{All, Some}}
 use Rattle.run_law.specs.declared.note.NoteBody.TheVariants as notes
 
 -- ---- the events
@@ -18,10 +18,7 @@ pub read_by : (network : Network) (octets : List ℕ) (others notes : List Note)
     → IsReadOf network octets others read → IsReportOf network octets notes end → IsReadBy network notes end read
 read_by network octets others notes end read named of r =
     let same = same_of network octets others notes read.end end named of.of r.events in
-    record {
-      end = same.times;
-      history = subst (λ (ns : List Note). Remembers network (events_of ns) read.history) same.lists of.history;
-    }
+    record { end = same.times; history = subst (λ (ns : List Note). Remembers network (events_of ns) read.history) same.lists of.history }
 
 -- ---- the times
 
@@ -51,8 +48,7 @@ note_soon network octets notes before rest note end r parts =
 
 -- those before it stand before it
 pub stand_before : (network : Network) (octets : List ℕ) (notes before rest : List Note) (note : Note) (end : Units) → IsReportOf network octets notes end
-    → notes ≡ before ++ note ∷ rest
-    → AllBefore place_of (happenings network before) (place_of (happening network (happenings network before) note))
+    → notes ≡ before ++ note ∷ rest → AllBefore place_of (happenings network before) (place_of (happening network (happenings network before) note))
 stand_before network octets notes before rest note end r parts =
     let hs = happenings network before in
     let h = happening network hs note in

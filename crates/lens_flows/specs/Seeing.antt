@@ -1,10 +1,10 @@
 -- What was read of a report.
 use Rattle.std.specs.Prelude.{◌≡◌, ◌++◌, List, ℕ}
-use Rattle.{audit_law.specs.events.Remembering.Remembers, net_plan.specs.declared.network.Network.Network}
+use Rattle.{audit_law.specs.events.Remembering.Remembers, tte_reports.specs.Reports.{AreLeft, IsReportOf}}
 use Rattle.{lens_flows.specs.counts.Seen.HasSeen, tte_audit.specs.Report.events_of}
-use Rattle.{lens_flows.specs.declared.counts.seen.Seen.Seen, tte_audit.specs.reports.Reports.{AreLeft, IsReportOf}}
+use Rattle.{lens_flows.specs.declared.counts.seen.Seen.Seen, tte_audit.specs.declared.passes.ReportEvents.ReportEvents}
+use Rattle.{net_plan.specs.declared.network.Network.Network, tte_reports.specs.declared.records.Records.Records}
 use Rattle.{run_law.specs.declared.note.Note.Note, tte_units.specs.declared.units.Units.Units}
-use Rattle.tte_audit.specs.declared.{passes.ReportEvents.ReportEvents, reports.records.Records.Records}
 
 -- the octets are the report of some records
 abbrev pub IsSomeReport : Network → List ℕ → Type 0

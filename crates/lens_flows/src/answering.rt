@@ -4,7 +4,7 @@ ghost use Rattle.{net_plan.specs.Ranges.IsInRange, tte_forms.specs.Faults.{HasCa
 ghost use Rattle.run_law.specs.declared.note.Note.{Note as NoteValue};
 ghost use Rattle.tte_forms.specs.{Answering.{ForOctets, Gives, GivesAnswer}, networks.Accepting.IsNetworkAnswer};
 ghost use Rattle.{tte_forms.specs.Putting.Over, tte_units.specs.declared.units.Units.{Units as UnitsValue}};
-ghost use Rattle.tte_audit.specs.reports.{Answer.IsAuditStatus, Reports.{IsReportAnswer, IsReportOf}};
+ghost use Rattle.tte_reports.specs.{Answer.IsAuditStatus, Reports.{IsReportAnswer, IsReportOf}};
 
 use crate::counts::FlowTold;
 use crate::lines::make_flow_line;
@@ -12,9 +12,9 @@ use crate::seeing::flows_told;
 use net_plan::Network;
 use schedule_tables::Accepted;
 use std::alloc::Global;
-use tte_audit::reports::{AuditedReport, put_no_report, read_report};
 use tte_forms::{Status, accept, end_with, put_no_network};
 use tte_io::{LineText, Sink, Source};
+use tte_reports::{AuditedReport, put_no_report, read_report};
 
 /// Tells of each flow of the network of the first file what the report of the second shows: in how many cycles delivery
 /// is owed, how many frames are delivered and on which channel, how many are missing, in how many cycles none is owed

@@ -3,8 +3,8 @@
 ghost use Rattle.std.specs.Prelude.{◌≡◌, IfOk, List};
 ghost use Rattle.lens_flows.specs.{Answer.AreAllTold, Seeing.{IsSomeReport, TellsEvents}, counts.Seen.HasSeen};
 ghost use Rattle.{net_plan.specs.Ranges.IsInRange, tte_audit.specs.Named.IsNamed};
-ghost use Rattle.{run_law.specs.declared.note.Note.{Note as NoteValue}, tte_audit.specs.reports.Reports.IsReportOf};
-ghost use Rattle.{tte_audit.specs.Report.events_of, tte_units.specs.declared.units.Units.{Units as UnitsValue}};
+ghost use Rattle.{run_law.specs.declared.note.Note.{Note as NoteValue}, tte_audit.specs.Report.events_of};
+ghost use Rattle.{tte_reports.specs.Reports.IsReportOf, tte_units.specs.declared.units.Units.{Units as UnitsValue}};
 
 use crate::counts::{FlowTold, OutOfMemory, Seen, flows_of, tell_all};
 use crate::judge::Course;
@@ -12,8 +12,8 @@ use audit_law::events::EventHistory;
 use net_plan::Network;
 use schedule_tables::Accepted;
 use std::alloc::Global;
-use tte_audit::reports::AuditedReport;
 use tte_audit::{ReportEvents, keep_names_apart, read_events};
+use tte_reports::AuditedReport;
 
 /// What is told of each flow by an audited report.
 ///

@@ -186,8 +186,7 @@ done_whole fs Whole done = (refl, eqb-true (shorts_of fs) 0 (done_if (shorts_of 
 done_whole fs (Broken rule place) done = absurd cc
 
 pub whole_done : (fs : List Finding) (end : Ending) → end ≡ Whole → shorts_of fs ≡ 0 → ending_status fs end ≡ Done
-whole_done fs end whole none =
-    ap (ending_status fs) whole ∙ ap (λ (b : Bool). if b then Done else NetworkRefused) (eq-eqb (shorts_of fs) 0 none)
+whole_done fs end whole none = ap (ending_status fs) whole ∙ ap (λ (b : Bool). if b then Done else NetworkRefused) (eq-eqb (shorts_of fs) 0 none)
 
 pub accepts : SlackAccepts
 accepts network a range is =

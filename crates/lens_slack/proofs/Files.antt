@@ -29,8 +29,7 @@ answered_unread Is left cause status old new h g unput =
     (λ octets none. unread_given Is octets cause status old new none g unput) h
 
 pub answered_network : (Is : Network → Answer → Type 0) (left : Option (List ℕ)) (network : Network) (status : Status) (old new : Shown)
-    → ForOctets left (λ octets. MeansNetwork octets network) → GivesAnswer (Is network) status old new
-    → AnswersOne (IsFileAnswer Is) left status old new
+    → ForOctets left (λ octets. MeansNetwork octets network) → GivesAnswer (Is network) status old new → AnswersOne (IsFileAnswer Is) left status old new
 answered_network Is left network status old new h g =
     for_more left (λ octets. MeansNetwork octets network) (λ octets. GivesAnswer (IsFileAnswer Is octets) status old new)
     (λ octets m. answer_widened (Is network) (IsFileAnswer Is octets) status old new (λ a is. inr (inr (network, m, is))) g) h

@@ -62,10 +62,8 @@ Rises n (Listed measure ∷ steps) = ⊥
 at_least : (n : ℕ) (steps : List Step) (measure : Measure) → Rises n steps → IsIn measure steps → n ≤ number_of (rule_of measure)
 at_least n [] measure rises is = absurd is
 at_least n (Judged rule ∷ steps) measure rises is = at_least n steps measure rises.1 is
-at_least n (Measured other ∷ steps) measure rises (inl same) =
-    subst (λ (m : Measure). n ≤ number_of (rule_of m)) (sym same) rises.0
-at_least n (Measured other ∷ steps) measure rises (inr is) =
-    grind (arith, (at_least (number_of (rule_of other)) steps measure rises.1 is))
+at_least n (Measured other ∷ steps) measure rises (inl same) = subst (λ (m : Measure). n ≤ number_of (rule_of m)) (sym same) rises.0
+at_least n (Measured other ∷ steps) measure rises (inr is) = grind (arith, (at_least (number_of (rule_of other)) steps measure rises.1 is))
 at_least n (Listed other ∷ steps) measure rises is = absurd rises
 
 pub record ShortMeasure (network : Network) (steps : List Step) (fs : List Finding) : Type 0 where
@@ -126,8 +124,7 @@ module _ (network : Network) (tree : IsTree network) (others : KeepsOthers netwo
     | inl short ↦ inl (judged_first rule steps fs short)
     | inr hold ↦ inr (kept, hold)
   ]
-  short_or n (Judged rule ∷ steps) fs end rises (inr (place, breaks, empty, broken)) =
-      absurd (breaks.broken (others (plan_rule rule) rises.0 place))
+  short_or n (Judged rule ∷ steps) fs end rises (inr (place, breaks, empty, broken)) = absurd (breaks.broken (others (plan_rule rule) rises.0 place))
   short_or n (Measured measure ∷ steps) fs end rises (o, gs, tightest, rest, same) = elim (met_or o) [
     | inl (f, is, short) ↦ inl (this_measure n measure steps o f fs gs rises tightest is short same)
     | inr met ↦ elim (short_or (number_of (rule_of measure)) steps gs end rises.1 rest) [
@@ -159,8 +156,7 @@ all_rise = grind (arith, no)
 
 -- the spots of the measure from the first number on, and before this one, are enough
 abbrev pub AreMet : Network → Measure → ℕ → ℕ → Type 0
-AreMet network measure first number =
-    (n : ℕ) (g : Finding) → first ≤ n → n < number → IsTightestAt network (spot_at measure n) (Some g) → IsEnough g
+AreMet network measure first number = (n : ℕ) (g : Finding) → first ≤ n → n < number → IsTightestAt network (spot_at measure n) (Some g) → IsEnough g
 
 -- the finding is of a spot of the measure, and those before it are enough
 pub record ShortSpot (network : Network) (measure : Measure) (first : ℕ) (f : Finding) : Type 0 where
@@ -220,8 +216,7 @@ module _ (network : Network) (tree : IsTree network) where
   -- a spot from the first number on is short, or all are enough
   spot_or : (measure : Measure) (first n : ℕ) (fs : List Finding) → AreFound network measure first n fs
       → FoundShort (ShortSpot network measure first) fs ⊎ (AreMet network measure first (first + n) × All IsEnough fs)
-  spot_or measure first zero fs none =
-      inr (λ n g least less its. absurd (omega (arith, least, less)), subst (All IsEnough) (sym none) (All-nil IsEnough))
+  spot_or measure first zero fs none = inr (λ n g least less its. absurd (omega (arith, least, less)), subst (All IsEnough) (sym none) (All-nil IsEnough))
   spot_or measure first (suc n) fs (o, gs, tightest, rest, same) = elim (met_or o) [
     | inl (f, is, short) ↦ inl (this_spot measure first o f fs gs tightest is short same)
     | inr met ↦
@@ -231,11 +226,7 @@ module _ (network : Network) (tree : IsTree network) where
           | inl short ↦ inl (record {
             f = short.f;
             first = first_behind (some_found o) gs fs short.f (some_enough o met) short.first same;
-            is = record {
-              number = short.is.number;
-              tightest = short.is.tightest;
-              before = more_met measure first short.is.number here short.is.before;
-            };
+            is = record { number = short.is.number; tightest = short.is.tightest; before = more_met measure first short.is.number here short.is.before };
           })
           | inr (all, enough) ↦ inr (
             λ k g least less its. more_met measure first (first + 1 + n) here all k g least (omega (arith, less)) its,
@@ -260,8 +251,7 @@ module _ (network : Network) (tree : IsTree network) where
     })
     | inr met ↦ inr met
   ]
-  listed_or (Judged rule ∷ steps) fs end others none (inr (place, breaks, empty, broken)) =
-      absurd (breaks.broken (others (plan_rule rule) none.0 place))
+  listed_or (Judged rule ∷ steps) fs end others none (inr (place, breaks, empty, broken)) = absurd (breaks.broken (others (plan_rule rule) none.0 place))
   listed_or (Measured measure ∷ steps) fs end others none are = absurd none
   listed_or (Listed measure ∷ steps) fs end others none (found, gs, are, rest, same) =
       elim (spot_or measure 0 (spots_of measure network) found are) [

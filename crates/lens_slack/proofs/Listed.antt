@@ -11,5 +11,4 @@ pub record IsNext (network : Network) (all : List Finding) (n : ℕ) (text : Lis
 
 pub next_line : (network : Network) (all listed : List Finding) (d : Finding) (n : ℕ) (text : List ℕ) → listed ≡ all → n < length listed
     → text ≡ finding_line network (get_or listed n d) → IsNext network all n text
-next_line network all listed d n text same within is =
-    grind (arith, get_or, take_more, drop_next)
+next_line network all listed d n text same within is = grind (arith, get_or, take_more, drop_next)

@@ -4,9 +4,9 @@ use Rattle.lens_slack.{proofs.Writable.device_by, specs.Spots.{IsFoundAt, IsSpot
 use Rattle.{lens_slack.specs.{Bounds.{IsBoundAt, clear_time, gap_bound}, declared.spot.Finding.Finding}, net_plan.specs.declared.network.Network.Network}
 use Rattle.lens_slack.specs.{Tightest.{ComesFirst, IsEnough, IsFirstTightest, IsTightestAt}, declared.spot.{Beside.TheVariants.{Before, Behind}, Spot.Spot}}
 use Rattle.{net_plan.specs.{Paths.IsTree, Places.device_at}, std.proofs.lemmas.Bool.cases_lt, tte_units.specs.Amount.amount}
-use Rattle.{pcf_values.specs.declared.channel.Channel.{Channel, TheVariants.{A, B}}, std.specs.Prelude.{◌%◌, Bool, false, if◌then◌else◌, nat_lt, true}}
 use Rattle.schedule_tables.specs.declared.rule.Rule.TheVariants.{Correction, Delays, Forwarding, Precision, ScheduleStart, Settling, Spacing, WindowEnds}
 use Rattle.std.proofs.{Common.{◌*◌, ◌+◌, ◌<◌, ◌∙◌, ◌≡◌, None, Option, Some, ap, arith, inl, inr, length, refl, subst, sym, ℕ}, lemmas.Option.slice_get_within}
+use Rattle.{std.specs.Prelude.{◌%◌, Bool, false, if◌then◌else◌, nat_lt, true}, tte_units.specs.declared.frames.channel.Channel.{Channel, TheVariants.{A, B}}}
 use Rattle.lens_slack.specs.declared.spot.Measure.TheVariants as measures
 use Rattle.lens_slack.specs.declared.spot.Spot.TheVariants as spots
 
@@ -21,10 +21,8 @@ channel_number A = 0
 channel_number B = 1
 
 pub path_number : (place : ℕ) (channel : Channel) → spot_at measures.Paths (2 * place + channel_number channel) ≡ spots.Path (device_of place) channel
-path_number place A =
-    grind arith
-path_number place B =
-    grind arith
+path_number place A = grind arith
+path_number place B = grind arith
 
 path_numbered : (network : Network) (place : ℕ) (channel : Channel) → place < length network.device
     → IsNumbered network measures.Paths (2 * place + channel_number channel) (spots.Path (device_of place) channel)
@@ -174,8 +172,7 @@ met_by Has (Some f) first met n g has short =
 module _ (network : Network) (tree : IsTree network) where
   pub spot_met : (spot : Spot) → ((f : Finding) → IsTightestAt network spot (Some f) → IsEnough f) → (n : ℕ) (g : Finding) → IsBoundAt network spot n g
       → IsEnough g
-  spot_met spot met n g bound =
-      enough_unless g (λ short. some_at network tree spot (λ o first. met_by (IsBoundAt network spot) o first met n g bound short))
+  spot_met spot met n g bound = enough_unless g (λ short. some_at network tree spot (λ o first. met_by (IsBoundAt network spot) o first met n g bound short))
 
   measure_met : (measure : Measure) → ((f : Finding) → IsTightestOf network measure (Some f) → IsEnough f) → (n : ℕ) (g : Finding)
       → IsFoundAt network measure n g → IsEnough g

@@ -97,5 +97,4 @@ octets_one Is one octets a b (inr (inl p)) (inr (inl q)) =
 octets_one Is one octets a b (inr (inl p)) (inr (inr q)) = absurd (no_both octets q.0 p.0 q.1.read p.1.read)
 octets_one Is one octets a b (inr (inr p)) (inl q) = let long = q.0 in let fits = p.1.fits in absurd (omega (arith, long, fits))
 octets_one Is one octets a b (inr (inr p)) (inr (inl q)) = absurd (no_both octets p.0 q.0 p.1.read q.1.read)
-octets_one Is one octets a b (inr (inr p)) (inr (inr q)) =
-    one q.0 a b (subst (λ (n : Network). Is n a) (same_network octets p.0 q.0 p.1.read q.1.read) p.2) q.2
+octets_one Is one octets a b (inr (inr p)) (inr (inr q)) = one q.0 a b (subst (λ (n : Network). Is n a) (same_network octets p.0 q.0 p.1.read q.1.read) p.2) q.2

@@ -73,8 +73,7 @@ module _ (network : Network) (tree : IsTree network) where
   bound_one spots.Precision n f g (inr (at, a)) (inl (here, b)) = absurd (omega (arith, at, here))
   bound_one spots.Precision n f g (inr (at, a)) (inr (here, b)) = a ∙ sym b
   bound_one spots.Correction n f g (at, a) (here, b) = a ∙ sym b
-  bound_one spots.Begin n f g (link, there, a) (other, here, b) =
-      a ∙ ap (begin_bound network) (one (slice_get network.link n) link other there here) ∙ sym b
+  bound_one spots.Begin n f g (link, there, a) (other, here, b) = a ∙ ap (begin_bound network) (one (slice_get network.link n) link other there here) ∙ sym b
   bound_one spots.End n f g (at, a) (here, b) = a ∙ sym b
   bound_one (spots.Window row) n f g (at, (entry, is, a)) (here, (other, its, b)) =
       let by : Entry → Finding = λ e. found (spots.Window row) (amount network.cycle) (window_end network e + 4 * amount network.precision) in
@@ -136,8 +135,7 @@ module _ (network : Network) (tree : IsTree network) where
   one_of measure o p is other = one_first (IsFoundAt network measure) (found_one measure) o p is other
 
   pub some_of : (measure : Measure) → ((o : Option Finding) → IsTightestOf network measure o → ⊥) → ⊥
-  some_of measure deny =
-      some_first (IsFoundAt network measure) (found_one measure) (spots_of measure network) (λ n f is. is.0) deny
+  some_of measure deny = some_first (IsFoundAt network measure) (found_one measure) (spots_of measure network) (λ n f is. is.0) deny
 
   -- what is found at the spot of a number
   pub found_at : (measure : Measure) (n : ℕ) (o : Option Finding) → n < spots_of measure network → IsTightestAt network (spot_at measure n) o

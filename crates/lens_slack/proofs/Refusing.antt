@@ -1,14 +1,14 @@
 -- The first measure that is short is of the rule that `check` refuses, and its first spot is at the place that is told.
 use Rattle.lens_slack.{proofs.Accepting.{kept_enough, met_kept, rule_inequality, rules_kept, tightest_enough}, specs.declared.measuring.Ending.Ending}
-use Rattle.{lens_slack.proofs.Deciding.bounds_decide, net_plan.proofs.Shape.rules_give_trees, schedule_checker.proofs.{OneRefusal.same_rule, Trees.tree_of}}
+use Rattle.{lens_slack.proofs.Deciding.bounds_decide, schedule_checker.proofs.{OneRefusal.same_rule, Trees.tree_of}, schedule_tables.specs.Numbers.number_of}
 use Rattle.lens_slack.proofs.FirstShort.{AreMet, IsListedIn, ShortMeasure, ShortSpot, all_in, all_rise, listed_or, lists_only, lists_own, none_measured}
-use Rattle.{lens_slack.proofs.FirstShort.short_or, std.proofs.Common.{◌*◌, ◌+◌, ◌<◌, ◌∙◌, ◌≡◌, ◌≤◌, ◌⊎◌, List, Some, ap, arith, inl, inr, refl, subst, sym, ℕ}}
+use Rattle.{lens_slack.{proofs.FirstShort.short_or, specs.Finds.IsFoundIn}, net_plan.specs.Paths.IsTree, std.{proofs.lemmas.Bool.cases_lt, specs.Prelude.◌/◌}}
 use Rattle.lens_slack.{proofs.Numbers.{bound_spot, channel_number, has_number, path_number, spot_met}, specs.Laws.{IsFirstShort, KeepsOthers, SlackRefuses}}
-use Rattle.{lens_slack.specs.{Finds.IsFoundIn, Spots.{IsSpotAt, rule_of, spot_at, spots_of}}, pcf_values.specs.declared.channel.Channel.TheVariants.{A, B}}
 use Rattle.lens_slack.specs.{Lines.{spot_index, spot_rule}, Steps.{all_steps, rule_steps}, declared.spot.Measure.Measure, forms.Forms.IsInequality}
+use Rattle.{lens_slack.specs.Spots.{IsSpotAt, rule_of, spot_at, spots_of}, schedule_tables.specs.declared.rule.Rule.{Rule, TheVariants.WindowEnds}}
 use Rattle.{lens_slack.specs.{Tightest.{IsEnough, IsTightestAt}, declared.spot.{Finding.Finding, Spot.Spot}}, net_plan.specs.declared.network.Network.Network}
-use Rattle.{net_plan.specs.Paths.IsTree, std.{proofs.lemmas.Bool.cases_lt, specs.Prelude.◌/◌}}
-use Rattle.schedule_tables.specs.{Numbers.number_of, Rules.{IsFirstBroken, IsKeptAt, KeepsBelow}, declared.rule.Rule.{Rule, TheVariants.WindowEnds}}
+use Rattle.{net_plan.proofs.Shape.rules_give_trees, std.proofs.Common.{◌*◌, ◌+◌, ◌<◌, ◌∙◌, ◌≡◌, ◌≤◌, ◌⊎◌, List, Some, ap, arith, inl, inr, refl, subst, sym, ℕ}}
+use Rattle.{schedule_tables.specs.Rules.{IsFirstBroken, IsKeptAt, KeepsBelow}, tte_units.specs.declared.frames.channel.Channel.TheVariants.{A, B}}
 use Rattle.schedule_tables.specs.declared.rule.Rule.TheVariants.{BothChannels, CompressionMasters, Connections, Correction, Delays, DevicesDiffer, Forwarding}
 use Rattle.schedule_tables.specs.declared.rule.Rule.TheVariants.{Joints, Limits, LinksDiffer, LinksOnce, Masters, Periods, Precision, RowsOfDevice}
 use Rattle.schedule_tables.specs.declared.rule.Rule.TheVariants.{ScheduleStart, Senders, Settling, Sources, Spacing, Targets, VlIdsDiffer, VlNamesDiffer}
@@ -191,8 +191,7 @@ spots_kept network tree rule place is met =
     (subst (λ (s : Spot). IsTightestAt network s (Some f)) (sym has.numbered.is) tightest)) n g bound)
 
 refuses_place : (network : Network) (rule : Rule) (place : ℕ) (fs : List Finding) (end : Ending) → KeepsOthers network → IsFirstBroken network rule place
-    → IsFoundIn network (rule_steps rule) fs end
-    → (f : Finding) × IsFirstShort fs f × (spot_rule f.spot ≡ rule) × (spot_index f.spot ≡ place)
+    → IsFoundIn network (rule_steps rule) fs end → (f : Finding) × IsFirstShort fs f × (spot_rule f.spot ≡ rule) × (spot_index f.spot ≡ place)
 refuses_place network rule place fs end others first (inl broken) = absurd (shape_kept network broken.0 broken.1 others broken.2 broken.3)
 refuses_place network rule place fs end others first (inr (shape, are)) =
     let is = inequality_broken network rule place others first in

@@ -1,12 +1,12 @@
 -- The spots that have one bound, and that of the path of a device, which has one or none.
 use Rattle.lens_slack.{proofs.Keeping.{Below, IsAt, next_tightest, none_below, only_one, tightest_of_all}, specs.Tightest.{IsFirstTightest, IsTightestAt}}
 use Rattle.lens_slack.specs.{Bounds.{IsBoundAt, IsErrorsBound, IsPrecisionBound, calc_bound, correction_bound, end_bound, found}, declared.spot.Finding.Finding}
-use Rattle.{lens_slack.specs.Keeping.tighter_of, net_plan.{proofs.Beta.beta_is_unique, specs.{Paths.{IsPath, IsTree}, Places.IsDeviceOf}}}
+use Rattle.{lens_slack.specs.Keeping.tighter_of, net_plan.{proofs.Beta.beta_is_unique, specs.Paths.{IsPath, IsTree}}, schedule_tables.specs.Delays.delay_on}
 use Rattle.{net_plan.{proofs.Trees.paths_are_unique, specs.{Bounds.{IsBeta, gamma_of}, declared.ids.RowId.RowId}}, schedule_checker.specs.Timing.errors_of}
+use Rattle.{net_plan.specs.Places.IsDeviceOf, std.proofs.lemmas.Int.ints, tte_units.specs.Amount.amount}
 use Rattle.{net_plan.specs.declared.ids.{DeviceId.DeviceId, LinkId.LinkId}, schedule_tables.{proofs.EntryLemmas.one_entry, specs.Windows.window_end}}
-use Rattle.{net_plan.specs.declared.network.Network.Network, schedule_tables.specs.{Delays.delay_on, Entries.{IsEntry, source_of}, declared.entry.Entry.Entry}}
-use Rattle.{pcf_values.specs.declared.channel.Channel.Channel, std.proofs.Common.{◌*◌, ◌+◌, ◌∙◌, ◌≡◌, List, None, Some, ap, arith, inl, inr, pos, refl, sym, ℕ}}
-use Rattle.{std.proofs.lemmas.Int.ints, tte_units.specs.Amount.amount}
+use Rattle.{net_plan.specs.declared.network.Network.Network, std.proofs.Common.{◌*◌, ◌+◌, ◌∙◌, ◌≡◌, List, None, Some, ap, arith, inl, inr, pos, refl, sym, ℕ}}
+use Rattle.{schedule_tables.specs.{Entries.{IsEntry, source_of}, declared.entry.Entry.Entry}, tte_units.specs.declared.frames.channel.Channel.Channel}
 use Rattle.lens_slack.specs.declared.spot.Spot.TheVariants as spots
 
 -- ---- numbers of the whole network
@@ -35,11 +35,7 @@ module _ (network : Network) (errors beta : ℕ) (is_beta : IsBeta network (pos 
     errors_wanted b is_b = let same = each b is_b in omega (arith, same)
 
     pub errors_first : (f : Finding) → f ≡ found spots.Precision (amount network.precision) (amount network.settled + 2 * errors) → IsErrorsBound network f
-    errors_first f is = record {
-      beta = beta;
-      is_beta = is_beta;
-      is = is ∙ ap (found spots.Precision (amount network.precision)) (errors_wanted beta is_beta);
-    }
+    errors_first f is = record { beta = beta; is_beta = is_beta; is = is ∙ ap (found spots.Precision (amount network.precision)) (errors_wanted beta is_beta) }
 
 -- ---- the precision, which has two
 
@@ -56,8 +52,7 @@ precision_first network errors calc is_errors is_calc =
           b.is ∙ ap wants same ∙ sym is_errors.is
       | inr second ↦ absurd (omega (arith, second.0))
     ] in
-    let one : IsFirstTightest (Below Has 1) (Some errors) =
-    next_tightest Has 0 None (Some errors) (none_below Has) (inl (refl, is_errors), only) in
+    let one : IsFirstTightest (Below Has 1) (Some errors) = next_tightest Has 0 None (Some errors) (none_below Has) (inl (refl, is_errors), only) in
     let second : IsAt Has 1 (Some calc) = (
       inr (refl, is_calc),
       λ g bound. elim bound [ inl first ↦ absurd (omega (arith, first.0)) | inr other ↦ other.1 ∙ sym is_calc ],
@@ -71,8 +66,7 @@ precision_first network errors calc is_errors is_calc =
 pub window_first : (network : Network) (row : RowId) (entry : Entry) (f : Finding) → IsEntry network row.0 entry
     → f ≡ found (spots.Window row) (amount network.cycle) (window_end network entry + 4 * amount network.precision)
     → IsTightestAt network (spots.Window row) (Some f)
-window_first network row entry f is_entry is =
-    grind (arith, only_one, one_entry)
+window_first network row entry f is_entry is = grind (arith, only_one, one_entry)
 
 -- ---- a path
 
@@ -82,8 +76,7 @@ no_path network device channel none n f bound = none bound.1.member
 
 module _ (network : Network) (tree : IsTree network) (device : DeviceId) (channel : Channel) where
   pub path_first : (beta : ℕ) (links : List LinkId) (f : Finding) → IsBeta network (pos beta) → IsDeviceOf network channel device
-      → IsPath network channel device links
-      → f ≡ found (spots.Path device channel) (amount network.dmax) (beta + delay_on network links)
+      → IsPath network channel device links → f ≡ found (spots.Path device channel) (amount network.dmax) (beta + delay_on network links)
       → IsTightestAt network (spots.Path device channel) (Some f)
   path_first beta links f is_beta member path is =
       let by : ℕ → List LinkId → Finding = λ b ls. found (spots.Path device channel) (amount network.dmax) (b + delay_on network ls) in
@@ -99,5 +92,4 @@ module _ (network : Network) (tree : IsTree network) (device : DeviceId) (channe
 
 pub sender_first : (network : Network) (row : RowId) (entry : Entry) (f : Finding) → IsEntry network row.0 entry → source_of entry ≡ entry.vl.sender
     → f ≡ found (spots.Coming row) (amount entry.row.offset) (amount network.tt_start) → IsTightestAt network (spots.Coming row) (Some f)
-sender_first network row entry f is_entry sender is =
-    grind (arith, only_one, one_entry)
+sender_first network row entry f is_entry sender is = grind (arith, only_one, one_entry)

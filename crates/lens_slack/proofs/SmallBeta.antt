@@ -1,10 +1,10 @@
 -- How great beta is at most.
-use Rattle.{net_plan.{proofs.Trees.paths_are_unique, specs.declared.tables.Link.Link}, std.proofs.{Math.Nat.mul-le-mul_right, lemmas.List.Sums.sum_by-cons}}
-use Rattle.{net_plan.specs.Bounds.{IsBeta, IsGreatest, IsOfPath, beta_at, gamma_of, jitter_of, jitter_on}, pcf_values.specs.declared.channel.Channel.Channel}
-use Rattle.{net_plan.specs.Paths.{IsPath, IsTree}, std.specs.Option.option_map_or, tte_units.specs.OctetTime.octet_time}
+use Rattle.{net_plan.proofs.Trees.paths_are_unique, std.proofs.{Math.Nat.mul-le-mul_right, lemmas.List.Sums.sum_by-cons}, tte_units.specs.OctetTime.octet_time}
+use Rattle.net_plan.specs.{Bounds.{IsBeta, IsGreatest, IsOfPath, beta_at, gamma_of, jitter_of, jitter_on}, declared.{network.Network.Network, tables.Link.Link}}
+use Rattle.{net_plan.specs.Paths.{IsPath, IsTree}, std.specs.Option.option_map_or}
 use Rattle.{net_plan.specs.Places.{IsDeviceOf, link_at}, tte_units.{proofs.general_lemmas.Lists.in_all, specs.{Amount.amount, declared.speed.Speed.Speed}}}
 use Rattle.{net_plan.specs.{Ranges.{IsInRange, IsLinkInRange}, declared.ids.{DeviceId.DeviceId, LinkId.LinkId}}, schedule_tables.specs.Entries.IsEntryInRange}
-use Rattle.{net_plan.specs.declared.network.Network.Network, schedule_tables.specs.{Windows.{port_time, window_end}, declared.entry.Entry.Entry}}
+use Rattle.{schedule_tables.specs.{Windows.{port_time, window_end}, declared.entry.Entry.Entry}, tte_units.specs.declared.frames.channel.Channel.Channel}
 use Rattle.std.proofs.{Common.{◌*◌, ◌+◌, ◌^◌, ◌∷◌, ◌≡◌, ◌≤◌, List, None, Option, Some, [], arith, inl, inr, length, pos, refl, subst, ℕ}, lemmas.Int.ints}
 use Rattle.tte_units.specs.declared.speed.Speed.TheVariants as speeds
 

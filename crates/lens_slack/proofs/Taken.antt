@@ -8,8 +8,7 @@ use Rattle.std.specs.Prelude.{Option}
 
 -- these findings stand before those of the steps that are left
 abbrev pub StandBefore : Network → List Step → List Step → List Finding → Type 0
-StandBefore network steps left found =
-    (others : List Finding) (end : Ending) → AreOf network left others end → AreOf network steps (found ++ others) end
+StandBefore network steps left found = (others : List Finding) (end : Ending) → AreOf network left others end → AreOf network steps (found ++ others) end
 
 pub stand_first : (network : Network) (steps : List Step) → StandBefore network steps steps []
 stand_first network steps others end are = are
@@ -19,15 +18,12 @@ pub stand_next : (network : Network) (steps : List Step) (step : Step) (left : L
     → StandBefore network steps (step ∷ left) old → Takes network step old new Whole → StandBefore network steps left new
 stand_next network steps (Judged rule) left old new stand (kept, same) others end are =
     subst (λ (fs : List Finding). AreOf network steps (fs ++ others) end) (sym same) (stand others end (inl (kept, are)))
-stand_next network steps (Measured measure) left old new stand (whole, (f, tightest, same)) others end are =
-    grind (arith, append_assoc)
-stand_next network steps (Listed measure) left old new stand (whole, (found, are_found, same)) others end are =
-    grind (arith, append_assoc)
+stand_next network steps (Measured measure) left old new stand (whole, (f, tightest, same)) others end are = grind (arith, append_assoc)
+stand_next network steps (Listed measure) left old new stand (whole, (found, are_found, same)) others end are = grind (arith, append_assoc)
 
 -- all steps were taken
 pub stand_all : (network : Network) (steps : List Step) (found : List Finding) → StandBefore network steps [] found → AreOf network steps found Whole
-stand_all network steps found stand =
-    subst (λ (fs : List Finding). AreOf network steps fs Whole) (append-nil found) (stand [] Whole (refl, refl))
+stand_all network steps found stand = subst (λ (fs : List Finding). AreOf network steps fs Whole) (append-nil found) (stand [] Whole (refl, refl))
 
 -- a rule is broken
 pub stand_broken : (network : Network) (steps : List Step) (step : Step) (left : List Step) (old new : List Finding) (told : Rule) (place : ℕ)
@@ -100,11 +96,9 @@ pushed_next network measure n old new newer o (found, are, same) tightest more =
 pub stand_step : (network : Network) (steps : List Step) (d : Step) (n : ℕ) (old new : List Finding) (end : Ending) → n < length steps
     → StandBefore network steps (drop n steps) old → Takes network (get_or steps n d) old new end → end ≡ Whole
     → StandBefore network steps (drop (n + 1) steps) new
-stand_step network steps d n old new end within stand takes whole =
-    grind (arith, stand_next, get_or, drop, drop_next)
+stand_step network steps d n old new end within stand takes whole = grind (arith, stand_next, get_or, drop, drop_next)
 
 pub stand_end : (network : Network) (steps : List Step) (d : Step) (n : ℕ) (old new : List Finding) (end : Ending) (told : Rule) (place : ℕ)
     → n < length steps → StandBefore network steps (drop n steps) old → Takes network (get_or steps n d) old new end → end ≡ Broken told place
     → AreOf network steps new (Broken told place)
-stand_end network steps d n old new end told place within stand takes broken =
-    grind (arith, stand_broken, get_or, drop, drop_next)
+stand_end network steps d n old new end told place within stand takes broken = grind (arith, stand_broken, get_or, drop, drop_next)

@@ -28,8 +28,7 @@ gap_by network row earlier entry true within vl = record { spot = within; next =
 gap_by network row earlier entry false within vl = record { spot = within; next = vl }
 
 pub bound_writable : (network : Network) (spot : Spot) (n : ℕ) (f : Finding) → IsSpotOf network spot → IsBoundAt network spot n f → IsWritable network f
-bound_writable network (spots.Path device channel) n f of_network bound =
-    grind (arith, as_writable, device_by)
+bound_writable network (spots.Path device channel) n f of_network bound = grind (arith, as_writable, device_by)
 bound_writable network spots.Settled n f of_network bound = as_writable network f _ bound.1.is (record { spot = tt; next = tt })
 bound_writable network spots.Precision n f of_network (inl first) = as_writable network f _ first.1.is (record { spot = tt; next = tt })
 bound_writable network spots.Precision n f of_network (inr second) = as_writable network f (calc_bound network) second.1 (record { spot = tt; next = tt })
@@ -37,8 +36,7 @@ bound_writable network spots.Correction n f of_network bound = as_writable netwo
 bound_writable network spots.Begin n f of_network bound = as_writable network f _ bound.2 (record { spot = tt; next = tt })
 bound_writable network spots.End n f of_network bound = as_writable network f _ bound.1 (record { spot = tt; next = tt })
 bound_writable network (spots.Window row) n f of_network bound = as_writable network f _ bound.1.2 (record { spot = of_network; next = tt })
-bound_writable network (spots.Gap row) n f of_network bound =
-    grind (arith, as_writable, gap_by, slice_get_within)
+bound_writable network (spots.Gap row) n f of_network bound = grind (arith, as_writable, gap_by, slice_get_within)
 bound_writable network (spots.Coming row) n f of_network (inl sender) = as_writable network f _ sender.1.is (record { spot = of_network; next = tt })
 bound_writable network (spots.Coming row) n f of_network (inr bound) = as_writable network f _ bound.is (record { spot = of_network; next = tt })
 

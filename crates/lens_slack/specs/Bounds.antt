@@ -2,11 +2,11 @@
 use Rattle.std.specs.Prelude.{if◌then◌else◌, ◌*◌, ◌+◌, ◌<◌, ◌≡◌, ◌≢◌, ◌⊎◌, List, Some, nat_lt, pos, slice_get, ℕ}
 use Rattle.lens_slack.specs.declared.spot.{Beside.TheVariants.{Before, Behind, Calc, Nothing}, Finding.Finding}
 use Rattle.{lens_slack.specs.declared.spot.Spot.Spot, net_plan.specs.declared.ids.{DeviceId.DeviceId, LinkId.LinkId}}
-use Rattle.{net_plan.specs.{Bounds.{IsBeta, gamma_of}, Paths.IsPath, Places.IsDeviceOf}, tte_units.specs.Amount.amount}
-use Rattle.{net_plan.specs.declared.{ids.RowId.RowId, tables.Link.Link}, schedule_tables.specs.Schedule.Coincide}
-use Rattle.{net_plan.specs.declared.network.Network.Network, schedule_tables.specs.declared.entry.Entry.Entry}
-use Rattle.{pcf_values.specs.declared.channel.Channel.Channel, schedule_tables.specs.Windows.{port_time, window_end}}
+use Rattle.net_plan.specs.{Bounds.{IsBeta, gamma_of}, Places.IsDeviceOf, declared.{ids.RowId.RowId, tables.Link.Link}}
+use Rattle.{net_plan.specs.Paths.IsPath, tte_units.specs.Amount.amount}
+use Rattle.{net_plan.specs.declared.network.Network.Network, tte_units.specs.declared.frames.channel.Channel.Channel}
 use Rattle.schedule_tables.specs.{Delays.{delay_on, pcf_port_time}, Entries.{IsEntry, source_of, target_of}}
+use Rattle.schedule_tables.specs.{Schedule.Coincide, Windows.{port_time, window_end}, declared.entry.Entry.Entry}
 use Rattle.lens_slack.specs.declared.spot.Spot.TheVariants as spots
 
 -- at this spot the network has so much, and so much is wanted

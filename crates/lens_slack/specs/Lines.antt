@@ -4,7 +4,7 @@ use Rattle.std.specs.Prelude.{if◌then◌else◌, ◌++◌, ◌-◌, ◌==◌, 
 use Rattle.{lens_slack.specs.{Spots.device_of, declared.spot.Spot.Spot}, net_plan.specs.declared.ids.RowId.RowId}
 use Rattle.lens_slack.specs.declared.spot.{Beside.{Beside, TheVariants.{Before, Behind, Calc}}, Finding.Finding}
 use Rattle.net_plan.specs.{Belonging.{device_name, link_name, vl_name}, declared.network.Network.Network}
-use Rattle.pcf_values.specs.declared.channel.Channel.{Channel, TheVariants.{A, B}}
+use Rattle.tte_units.specs.declared.frames.channel.Channel.{Channel, TheVariants.{A, B}}
 use Rattle.schedule_tables.specs.{Numbers.number_of, declared.rule.Rule.{Rule, TheVariants.{VlNamesDiffer, WindowEnds}}}
 use Rattle.schedule_tables.specs.declared.rule.Rule.TheVariants.{BothChannels, CompressionMasters, Connections}
 use Rattle.schedule_tables.specs.declared.rule.Rule.TheVariants.{Correction, Delays, DevicesDiffer, Forwarding, Joints}

@@ -1,7 +1,7 @@
 -- Which spots a rule bounds, and in which order they are looked at.
 use Rattle.std.specs.Prelude.{if◌then◌else◌, ◌%◌, ◌*◌, ◌/◌, ◌<◌, ◌==◌, ◌∷◌, ◌≡◌, ◌⊎◌, List, Option, Some, [], length, ℕ}
 use Rattle.net_plan.specs.declared.{ids.{DeviceId.DeviceId, RowId.RowId}, network.Network.Network}
-use Rattle.pcf_values.specs.declared.channel.Channel.{Channel, TheVariants.{A, B}}
+use Rattle.tte_units.specs.declared.frames.channel.Channel.{Channel, TheVariants.{A, B}}
 use Rattle.schedule_tables.specs.declared.rule.Rule.TheVariants.{Correction, Delays, Forwarding, Precision}
 use Rattle.schedule_tables.specs.declared.rule.Rule.{Rule, TheVariants.{ScheduleStart, Settling, Spacing, WindowEnds}}
 use Rattle.lens_slack.specs.{Tightest.{IsFirstTightest, IsTightestAt}, declared.spot.Finding.Finding}

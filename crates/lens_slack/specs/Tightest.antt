@@ -22,8 +22,7 @@ ComesFirst n f k g = IsTighter f g ⊎ ((f.has + g.wants ≡ g.has + f.wants) ×
 -- the first of the tightest of numbered findings, or none where there are none
 abbrev pub IsFirstTightest : (ℕ → Finding → Type 0) → Option Finding → Type 0
 IsFirstTightest Has None = (n : ℕ) (f : Finding) → Has n f → ⊥
-IsFirstTightest Has (Some f) =
-    (n : ℕ) × Has n f × ((k : ℕ) (g : Finding) → Has k g → ComesFirst n f k g)
+IsFirstTightest Has (Some f) = (n : ℕ) × Has n f × ((k : ℕ) (g : Finding) → Has k g → ComesFirst n f k g)
 
 -- the first of the tightest bounds at the spot
 abbrev pub IsTightestAt : Network → Spot → Option Finding → Type 0

@@ -11,10 +11,10 @@ ghost use Rattle.lens_slack.specs.declared.spot.Spot.TheVariants as spots;
 use crate::tightest::tighter_of;
 use crate::{Beside, Finding, Spot};
 use net_plan::{DeviceId, Link, Network, RowId, VirtualLink};
-use pcf_values::Channel;
 use schedule_checker::{Plan, delay_on, pcf_port_time};
 use schedule_tables::{Entry, entry_of, window_of};
 use tte_units::Units;
+use tte_units::frames::Channel;
 
 /// The tightest bound at the spot, and the first where several are as tight.
 pub(crate) fn tightest_at(plan: &Plan<'_>, spot: Spot) -> Option<Finding>

@@ -7,10 +7,10 @@ ghost use Rattle.lens_slack.specs.{Lines.{want_text, where_text}, Writing.{HasPl
 
 use crate::{Beside, Finding, Spot};
 use net_plan::{DeviceId, LinkId, Network, RowId, VlId};
-use pcf_values::Channel;
 use schedule_tables::Rule;
 use trace_text::way_text;
 use tte_io::LineText;
+use tte_units::frames::Channel;
 
 fn channel_text(channel: Channel) -> &'static str
     ensures text { result.now ≡ channel_text channel }

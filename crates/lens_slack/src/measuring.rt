@@ -10,11 +10,11 @@ use crate::step::Step;
 use crate::tightest::tighter_of;
 use crate::{Finding, Measure, Spot};
 use net_plan::{DeviceId, Network, RowId, rules_give_trees};
-use pcf_values::Channel;
 use schedule_checker::{Plan, PlanRule, broken_plan, groups_of, judge_shape};
 use schedule_tables::{Rule, entries_of};
 use std::alloc::Global;
 use tte_io::OutOfMemory;
+use tte_units::frames::Channel;
 
 /// How it ends.
 #[derive(Clone, Copy)]

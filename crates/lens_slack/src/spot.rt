@@ -1,6 +1,6 @@
 //! Where a network has a number that a rule bounds, and what it has and wants there.
 use net_plan::{DeviceId, RowId, VlId};
-use pcf_values::Channel;
+use tte_units::frames::Channel;
 
 /// A number of the network that a rule bounds from below.
 #[derive(Clone, Copy, PartialEq, Eq)]

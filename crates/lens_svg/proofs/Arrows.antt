@@ -154,12 +154,7 @@ module _ (network : Network) (plan : Plan) (note : Note) (next time : ℕ) (posi
       → Follows (took_at side network plan note) (next + 1) (moment note)
   follows_took Before e h = record { first = h.first; follow = h.follow; begins = h.begins; reaches = still e h h.reaches }
   follows_took Within e h = follows_drawn e h h.reaches
-  follows_took Behind e h = record {
-    first = h.first;
-    follow = h.follow;
-    begins = h.begins;
-    reaches = inr (inr (behind_to plan.span (moment note) e));
-  }
+  follows_took Behind e h = record { first = h.first; follow = h.follow; begins = h.begins; reaches = inr (inr (behind_to plan.span (moment note) e)) }
 
 -- where the marks of a plan follow each other from a number above 0
 record AreFollowing (marks : List Mark) : Type 0 where
@@ -201,8 +196,7 @@ module _ (marks : List Mark) (follow : AreFollowing marks) where
       ∙ there
 
   found_by : (number : ℕ) (mark first : Mark) → slice_get marks 0 ≡ Some first → (b : Bool) → nat_lt number first.number ≡ b
-      → (if b then None else slice_get marks (number - first.number)) ≡ Some mark
-      → (place : ℕ) × (slice_get marks place ≡ Some mark) × (mark.number ≡ number)
+      → (if b then None else slice_get marks (number - first.number)) ≡ Some mark → (place : ℕ) × (slice_get marks place ≡ Some mark) × (mark.number ≡ number)
   found_by number mark first there true test e = absurd cc
   found_by number mark first there false test e =
       let least = follow_at follow.first 0 marks first follow.follow there in
@@ -251,10 +245,7 @@ module _ (plan : Plan) (follow : AreFollowing plan.marks) where
       (there.0, cause, there.1, record { number = there.2; apart = apart.0 }, apart.1)
 
   has_arrows : HasArrows plan
-  has_arrows = record {
-    each = arrow_each;
-    only = λ mark element way. arrow_from mark element (mark_at plan.marks mark.cause) refl way;
-  }
+  has_arrows = record { each = arrow_each; only = λ mark element way. arrow_from mark element (mark_at plan.marks mark.cause) refl way }
 
 pub arrows_are_causes : ArrowsAreCauses
 arrows_are_causes network span notes numbers falls =

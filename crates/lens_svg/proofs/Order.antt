@@ -57,11 +57,7 @@ module _ (pen : Pen) (time : ℕ) (later : pen.time ≤ time) (inside : (moved p
       let x = moved_whole pen time inside in
       let t = moved_time pen time in
       let hx = h.x in
-      let ht = h.time in record {
-        x = omega (arith, x, hx);
-        time = omega (arith, t, ht, later);
-        apart = λ less. past_apart m h (omega (arith, less, t));
-      }
+      let ht = h.time in record { x = omega (arith, x, hx); time = omega (arith, t, ht, later); apart = λ less. past_apart m h (omega (arith, less, t)) }
 
 -- ---- the plan
 
@@ -152,10 +148,7 @@ order_took network plan note time Within at later inside h =
       ordered = ordered_drawn network plan note (not_later plan time (moment note) h.behind later from) inside h.ordered;
       behind = inl (omega (arith, t));
     }
-order_took network plan note time Behind at later inside h = record {
-  ordered = h.ordered;
-  behind = still_behind plan time (moment note) h.behind later;
-}
+order_took network plan note time Behind at later inside h = record { ordered = h.ordered; behind = still_behind plan time (moment note) h.behind later }
 
 order_behind : (network : Network) (plan : Plan) (notes : List Note) (time : ℕ) → NeverFall time notes → plan.pen.x ≤ widest
     → (plan_behind network plan notes).pen.x < widest → IsInOrder plan time → AreApart (plan_behind network plan notes).marks

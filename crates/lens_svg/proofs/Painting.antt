@@ -69,8 +69,7 @@ module _ (network : Network) (plan : Plan) (note : Note) (time : ℕ) (later : t
   painted_took : (side : Side) → side_of plan.span (moment note) ≡ side → HasBegun plan time
       → painted (took_at side network plan note) ≡ grounds_with network (painted plan) note
   painted_took Before e begins = painted_before e begins
-  painted_took Within e begins =
-      fold-append painted_with plan.grounds plan.marks (mark_of network plan (moved plan.pen (moment note)) note ∷ [])
+  painted_took Within e begins = fold-append painted_with plan.grounds plan.marks (mark_of network plan (moved plan.pen (moment note)) note ∷ [])
   painted_took Behind e begins = let past = behind_to plan.span (moment note) e in absurd (omega (arith, past, most))
 
   begins_before : side_of plan.span (moment note) ≡ Before → HasBegun plan time → HasBegun (took_at Before network plan note) (moment note)
@@ -119,8 +118,7 @@ grounds_kept network plan (note ∷ notes) time falls from =
 
 pub span_behind : (network : Network) (plan : Plan) (notes : List Note) → (plan_behind network plan notes).span ≡ plan.span
 span_behind network plan [] = refl
-span_behind network plan (note ∷ notes) =
-    span_behind network (took network plan note) notes ∙ span_took network plan note (side_of plan.span (moment note))
+span_behind network plan (note ∷ notes) = span_behind network (took network plan note) notes ∙ span_took network plan note (side_of plan.span (moment note))
 
 in_span : (side : Side) → is_within side ≡ true → side ≡ Within
 in_span Before e = absurd cc
@@ -136,8 +134,7 @@ module _ (network : Network) (span : Span) (front rest : List Note) (note : Note
   whole = plan_of network span (front ++ note ∷ rest)
 
   later : whole ≡ plan_behind network here rest
-  later =
-      ap (plan_of network span) (sym (append_assoc front (note ∷ []) rest)) ∙ behind_both network (begun network span) (front ++ note ∷ []) rest
+  later = ap (plan_of network span) (sym (append_assoc front (note ∷ []) rest)) ∙ behind_both network (begun network span) (front ++ note ∷ []) rest
 
   both : (span.from ≤ moment note) × (moment note ≤ span.to)
   both = within_both span (moment note) (in_span (side_of span (moment note)) held)

@@ -9,8 +9,7 @@ use Rattle.std.specs.Fmt.{signed_decimal}
 
 -- what is visible is plain
 visible_plain : (text : List ℕ) → IsVisible text → IsPlain text
-visible_plain text h =
-    All-weaker (λ c. is_visible c ≡ true) (λ c. is_plain c ≡ true) (λ c e. (and_parts (nat_lt 32 c) (not (c == 60 || c == 38)) e).1) text h
+visible_plain text h = All-weaker (λ c. is_visible c ≡ true) (λ c. is_plain c ≡ true) (λ c e. (and_parts (nat_lt 32 c) (not (c == 60 || c == 38)) e).1) text h
 
 -- so are two texts with a space between them
 spaced_plain : (front back : List ℕ) → IsPlain front → IsPlain back → IsPlain (front ++ space ∷ back)

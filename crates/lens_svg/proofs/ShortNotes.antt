@@ -3,10 +3,10 @@ use Rattle.{hex.proofs.HexLemmas.length-encode_with, report_text.specs.Ranges.{I
 use Rattle.{hex.specs.Hex.{encode_lower, lower_digits}, net_plan.specs.Ranges.{IsInRange, IsVlInRange}, sync_state.specs.declared.state.State.State}
 use Rattle.{lens_svg.specs.Marking.title_room, std.{proofs.Math.Seq.take-append_seam, specs.{Fmt.signed_decimal, Int.{to_be_bytes, w32, w64}}}}
 use Rattle.{net_plan.specs.{Belonging.{HasVl, vl_name}, declared.ids.VlId.VlId}, run_law.specs.declared.note.Note.Note, std.proofs.lemmas.Fmt.length-decimal-le}
-use Rattle.{net_plan.specs.declared.network.Network.Network, pcf_values.specs.declared.members.Members.Members, run_law.specs.declared.note.NoteBody.NoteBody}
+use Rattle.{net_plan.specs.declared.network.Network.Network, run_law.specs.declared.{judgement.{Judgement.Judgement, Reason.Reason}, note.NoteBody.NoteBody}}
 use Rattle.{report_text.proofs.Short.{device_short, joined_short, link_short, size, what_short}, std.specs.Prelude.{FitsSigned, codes, decimal, negsuc, pos, ℤ}}
 use Rattle.report_text.specs.{NoteLine.{body_text, body_words, note_text}, NoteWords.{judgement_text, members_text, reason_words, state_text, why_text}}
-use Rattle.{run_law.specs.declared.judgement.{Judgement.Judgement, Reason.Reason, Why.Why}, tte_units.proofs.general_lemmas.Lists.{in_all, some_at}}
+use Rattle.{run_law.specs.declared.judgement.Why.Why, tte_units.{proofs.general_lemmas.Lists.{in_all, some_at}, specs.declared.frames.members.Members.Members}}
 use Rattle.std.proofs.{Common.{◌*◌, ◌++◌, ◌+◌, ◌-◌, ◌<◌, ◌^◌, ◌∙◌, ◌∷◌, ◌≡◌, ◌≤◌, List, [], ap, arith, length, length-append, suc, take, ℕ}, lemmas.Int.ints}
 use Rattle.run_law.specs.declared.judgement.Judgement.TheVariants as judgements
 use Rattle.run_law.specs.declared.judgement.Reason.TheVariants as reasons

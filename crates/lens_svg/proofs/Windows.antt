@@ -1,5 +1,5 @@
 -- The window of a row, by its entry.
-use Rattle.{lens_svg.specs.Windows.window_at, lens_why.proofs.Windows.entry_is, schedule_tables.specs.{Entries.IsEntry, Windows.window_of}}
+use Rattle.{lens_svg.specs.Windows.window_at, run_law.proofs.timed.Rows.entry_is, schedule_tables.specs.{Entries.IsEntry, Windows.window_of}}
 use Rattle.{net_plan.specs.declared.network.Network.Network, schedule_tables.specs.declared.entry.Entry.Entry, std.proofs.Common.{◌≡◌, Option, Some, ap, ℕ}}
 use Rattle.std.specs.Prelude.{option_map}
 

@@ -6,7 +6,8 @@ use Rattle.lens_svg.specs.{Marks.{ground_text, hue_text}, declared.{element.{Ban
 use Rattle.lens_svg.specs.declared.element.{Band.TheVariants.{Ground, Wait}, Element.{Element, TheVariants.Window}}
 use Rattle.lens_svg.specs.declared.element.Element.TheVariants.{Bar, Caption, Gauge, Opening, Rail, Spread, Tick, Way}
 use Rattle.net_plan.specs.{Belonging.{HasDevice, device_name}, declared.{ids.DeviceId.DeviceId, tables.Role.Role}}
-use Rattle.{net_plan.specs.Places.device_at, pcf_values.specs.declared.channel.Channel.{Channel, TheVariants.{A, B}}}
+use Rattle.net_plan.specs.Places.{device_at}
+use Rattle.tte_units.specs.declared.frames.channel.Channel.{Channel, TheVariants.{A, B}}
 use Rattle.net_plan.specs.declared.{network.Network.Network, tables.Role.TheVariants.{Client, Cm, Master, Relay}}
 
 -- a place: how far to the right and how far down

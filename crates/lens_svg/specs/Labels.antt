@@ -5,9 +5,9 @@ use Rattle.net_plan.specs.{Belonging.{device_name, link_name, vl_name}, declared
 use Rattle.net_plan.specs.declared.event.What.{TheVariants.{Break, Cut, End, Heal, Hold, On, Rate, Send, Wire}, What}
 use Rattle.{net_plan.specs.declared.{ids.LinkId.LinkId, tables.Way.Way}, run_law.specs.declared.note.NoteBody.NoteBody}
 use Rattle.{net_plan.specs.declared.ids.VlId.VlId, run_law.specs.declared.judgement.Why.Why}
-use Rattle.{pcf_values.specs.declared.members.Members.Members, run_law.specs.declared.judgement.Reason.Reason}
 use Rattle.report_text.specs.NoteWords.{judgement_text, members_text, state_text, why_text}
 use Rattle.run_law.specs.declared.{judgement.Judgement.Judgement, note.NoteBody.TheVariants.{Permanent, State}}
+use Rattle.{run_law.specs.declared.judgement.Reason.Reason, tte_units.specs.declared.frames.members.Members.Members}
 use Rattle.run_law.specs.declared.note.NoteBody.TheVariants.{Compressed, Corrected, Delivered, Dropped, Event, Lost}
 use Rattle.run_law.specs.declared.judgement.Judgement.TheVariants as judgements
 use Rattle.run_law.specs.declared.judgement.Reason.TheVariants as reasons

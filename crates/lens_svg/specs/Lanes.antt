@@ -4,8 +4,7 @@ use Rattle.std.specs.{Option.option_map_or, Prelude.{◌*◌, ◌+◌, ◌==◌,
 use Rattle.lens_svg.specs.declared.mark.Ground.{Ground, TheVariants.{Off, Synchronised}}
 use Rattle.net_plan.specs.{Places.device_at, declared.{ids.DeviceId.DeviceId, tables.{Device.Device, Role.Role}}}
 use Rattle.net_plan.specs.declared.{network.Network.Network, tables.Role.TheVariants.{Client, Cm, Master, Relay}}
-use Rattle.pcf_values.specs.declared.channel.Channel.{Channel, TheVariants.{A, B}}
-use Rattle.tte_units.specs.declared.units.Units.{Units}
+use Rattle.tte_units.specs.declared.{frames.channel.Channel.{Channel, TheVariants.{A, B}}, units.Units.Units}
 
 -- the groups of lanes from the top: channel a's compression master and its relays, the end systems, and channel b's
 -- relays and its compression master

@@ -21,8 +21,7 @@ abbrev pub on_lane : LaneLayer → Network → Plan → ℕ → Option Element
 on_lane Grounds network plan place =
     let start : Point = record { x = 140; y = y_of network (device_of place) } in
     option_map (λ shade. Bar (Ground shade) start (right_of plan.pen)) (slice_get plan.grounds place)
-on_lane Rails network plan place =
-    Some (Rail (device_of place) (y_of network (device_of place)) (right_of plan.pen))
+on_lane Rails network plan place = Some (Rail (device_of place) (y_of network (device_of place)) (right_of plan.pen))
 
 -- where a mark is
 abbrev pub point_of : Mark → Point
@@ -38,8 +37,7 @@ turn_of plan mark = turn_to mark.look plan mark
 
 -- the instant, with its first mark
 abbrev pub tick_of : Network → Mark → Option Element
-tick_of network mark =
-    if mark.first then Some (Tick (record { x = mark.x; y = bottom_of network }) mark.time) else None
+tick_of network mark = if mark.first then Some (Tick (record { x = mark.x; y = bottom_of network }) mark.time) else None
 
 -- how long the frame waited that is permanent with the mark
 abbrev pub wait_to : Look → Plan → Mark → Option Element

@@ -11,8 +11,8 @@ use crate::mark::{ground_text, hue_text};
 use crate::numbers::push_micros;
 use crate::{Ground, Hue, Span};
 use net_plan::{DeviceId, Network, Role};
-use pcf_values::Channel;
 use tte_io::LineText;
+use tte_units::frames::Channel;
 
 /// A place in the picture, in pixels from its left and from its top.
 #[derive(Clone, Copy)]

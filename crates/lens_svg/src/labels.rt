@@ -7,12 +7,12 @@ ghost use Rattle.{report_text.specs.Ranges.IsBodyOf, tte_io.specs.Line.line_limi
 
 use crate::numbers::push_nanos;
 use net_plan::{DeviceId, LinkId, Network, VlId, Way, What};
-use pcf_values::Members;
 use report_text::{judgement_text, state_text, why_text};
 use run_law::{Judgement, NoteBody, Reason, Why};
 use sync_state::State;
 use trace_text::way_text;
 use tte_io::LineText;
+use tte_units::frames::Members;
 
 /// Adds a device's name behind a word.
 fn push_named(line: &mut LineText, network: &Network, word: &str, device: DeviceId)

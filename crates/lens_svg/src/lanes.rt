@@ -5,7 +5,7 @@ ghost use Rattle.net_plan.specs.Ranges.{IsInRange};
 
 use crate::Ground;
 use net_plan::{Device, DeviceId, Network, Role};
-use pcf_values::Channel;
+use tte_units::frames::Channel;
 
 /// Which group of lanes a device of this role and channel is in, from the top: 0 to 4.
 pub fn rank_in(channel: Option<Channel>, role: Role) -> u64

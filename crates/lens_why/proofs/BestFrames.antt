@@ -1,24 +1,24 @@
 -- What a correction comes from: the best frames that were heard.
-use Rattle.{audit_devices.specs.Keeping.records_before, run_law.proofs.runs.Places.{chain, in_parts}, tte_audit.specs.reports.Reports.IsReportOf}
-use Rattle.{audit_devices.specs.Showing.IsAfter, run_law.specs.runs.Runs.IsFounded, std.proofs.lemmas.List.append-nil, tte_audit.specs.Named.IsNamed}
-use Rattle.{audit_law.proofs.law_lemmas.Correcting.time_before, run_law.specs.{declared.note.NoteBody.NoteBody, records.Order.{IsBefore, IsIn, is_before}}}
-use Rattle.{audit_law.specs.law.CorrectionNumbers.standing_at, lens_why.specs.past.Pasts.before_corrections, pcf_values.specs.declared.members.Members.Members}
-use Rattle.{audit_sweep.proofs.HeardBefore.rank_below, run_law.specs.scenario.Scenarios.Scenario, tte_units.specs.declared.units.Units.Units}
-use Rattle.{audit_sweep.proofs.HeardPoints.unchanged_before, run_law.{proofs.records.Order.{has_passed, is_there}, specs.device.States.adjustment_before}}
+use Rattle.{audit_devices.specs.Keeping.records_before, run_law.proofs.runs.Places.{chain, in_parts}, tte_units.specs.declared.units.Units.Units}
+use Rattle.{audit_devices.specs.Showing.IsAfter, lens_why.specs.Seeking.last_sought, run_law.specs.runs.Runs.IsFounded, tte_audit.specs.Report.scenario_of}
+use Rattle.{audit_law.{proofs.law_lemmas.Correcting.time_before, specs.law.CorrectionNumbers.standing_at}, run_law.proofs.records.Order.{has_passed, is_there}}
+use Rattle.{audit_sweep.proofs.{HeardBefore.rank_below, HeardPoints.unchanged_before}, net_plan.specs.declared.{ids.DeviceId.DeviceId, network.Network.Network}}
 use Rattle.lens_why.specs.Corrections.{better, channel_ground, clique_ground, corrected_ground, heard_at_point, is_behind, is_clique, said_by, summary_of}
-use Rattle.{lens_why.specs.{Corrections.{told_on, value_of, with_hearing}, Seeking.last_sought}, run_law.specs.records.Ranks.{key, members_in, place_of, rank}}
+use Rattle.{lens_why.specs.Corrections.{told_on, value_of, with_hearing}, sync_state.specs.membership.{BestFrame.{IsBehind, IsBetterOf}, Members.count_of}}
 use Rattle.{lens_why.specs.declared.{ground.Best.Best, seeking.Sought.TheVariants.Frame}, run_law.proofs.law.FirstPlaces.{front_founded, in_filter}}
 use Rattle.{lens_why.specs.declared.ground.Ground.TheVariants.{Clique, Corrected}, sync_state.specs.declared.membership.frame.HeardFrame.HeardFrame}
-use Rattle.{lens_why.specs.declared.ground.Told.Told, run_law.{proofs.{records.Members.in_kept, runs.Lacking.behind_first}, specs.declared.judgement.Why.Why}}
-use Rattle.{net_plan.specs.declared.{ids.DeviceId.DeviceId, network.Network.Network}, sync_state.specs.{declared.state.State.State, membership.Hearing.Hearing}}
-use Rattle.{pcf_values.specs.declared.channel.Channel.{Channel, TheVariants.{A, B}}, sync_state.specs.membership.BestFrame.{IsBehind, IsBetterOf}}
-use Rattle.{run_law.specs.declared.note.Note.Note, sync_state.specs.Standing.next_point, tte_audit.{proofs.ReportRuns.audit_run, specs.Report.scenario_of}}
-use Rattle.{run_law.specs.records.Happenings.{Happening, happenings, time_of}, sync_state.specs.membership.Summary.{Summarizes, Summary, best_on}}
+use Rattle.{lens_why.specs.declared.ground.Told.Told, run_law.{proofs.{records.Members.in_kept, runs.Lacking.behind_first}, specs.scenario.Scenarios.Scenario}}
+use Rattle.{lens_why.specs.past.Pasts.before_corrections, sync_state.specs.{Standing.next_point, declared.state.State.State, membership.Hearing.Hearing}}
+use Rattle.{run_law.specs.declared.{judgement.Why.Why, note.Note.Note}, tte_audit.proofs.ReportRuns.audit_run, tte_reports.specs.Reports.IsReportOf}
+use Rattle.{run_law.specs.{declared.note.NoteBody.NoteBody, records.Order.{IsBefore, IsIn, is_before}}, tte_units.specs.declared.frames.members.Members.Members}
+use Rattle.{run_law.specs.device.States.adjustment_before, std.proofs.lemmas.Bool.{and_from, cases_Bool, eq-eqb, eqb-true, lt-ltb, ltb-true, or_left, or_right}}
+use Rattle.{run_law.specs.records.Happenings.{Happening, happenings, time_of}, std.specs.Prelude.{◌||◌, int_lt, nat_le, nat_lt, option_and_then}}
+use Rattle.{run_law.specs.records.Ranks.{key, members_in, place_of, rank}, tte_units.proofs.general_lemmas.Integers.{int_lt-from, int_lt-is}}
 use Rattle.std.proofs.Common.{◌&&◌, ◌++◌, ◌==◌, ◌∙◌, ◌∷◌, ◌≡◌, ◌≤◌, Bool, List, None, Option, Some, [], ap, append_assoc, arith, false, filter, fold}
 use Rattle.{std.proofs.Common.{if◌then◌else◌, inl, inr, refl, subst, sym, true, ℕ, ℤ}, tte_units.proofs.general_lemmas.Bools.{both_left, both_right, not_both}}
-use Rattle.{std.proofs.lemmas.Bool.{and_from, cases_Bool, eq-eqb, eqb-true, lt-ltb, ltb-true, or_left, or_right}, sync_state.specs.membership.Members.count_of}
-use Rattle.{std.specs.Prelude.{◌||◌, int_lt, nat_le, nat_lt, option_and_then}, tte_units.proofs.general_lemmas.Integers.{int_lt-from, int_lt-is}}
+use Rattle.{std.proofs.lemmas.List.append-nil, tte_audit.specs.Named.IsNamed}
 use Rattle.sync_state.proofs.membership_lemmas.{OneSummary.one_summary, SummaryLemmas.{hears_on_a, hears_on_b, hears_outside, silence_summarizes}}
+use Rattle.{sync_state.specs.membership.Summary.{Summarizes, Summary, best_on}, tte_units.specs.declared.frames.channel.Channel.{Channel, TheVariants.{A, B}}}
 use Rattle.audit_law.specs.law.DueRecords as audits
 use Rattle.run_law.specs.declared.judgement.Why.TheVariants as whys
 use Rattle.run_law.specs.declared.note.NoteBody.TheVariants as notes
@@ -101,8 +101,7 @@ module _ (network : Network) (octets : List ℕ) (ns : List Note) (end : Units) 
   caused body is = subst (λ (b : NoteBody). audits.IsCaused own before h.note.time b) is (audited before later h parts).1.cause
 
   before_founded : IsFounded place_of (audits.IsDue own) before
-  before_founded =
-      front_founded place_of (audits.IsDue own) before (h ∷ later) (subst (IsFounded place_of (audits.IsDue own)) parts audited)
+  before_founded = front_founded place_of (audits.IsDue own) before (h ∷ later) (subst (IsFounded place_of (audits.IsDue own)) parts audited)
 
   none_later : (g : Happening) → IsIn g before → time_of g ≤ time_of h
   none_later g i =
@@ -130,10 +129,7 @@ module _ (network : Network) (octets : List ℕ) (ns : List Note) (end : Units) 
       let moved : (g : Happening) → IsIn g (filter test all) → IsIn g (filter test before) = λ g i.
       let passes = has_passed test all g i in
       in_kept test before g (stands_before high g (in_filter test all g i) (is_there (place_of g) (time_of h ∷ 6 ∷ []) passes)) passes in
-      record {
-        none_later = λ g i. after.none_later g (moved g i);
-        unchanged = λ g i at. after.unchanged g (moved g i) at;
-      }
+      record { none_later = λ g i. after.none_later g (moved g i); unchanged = λ g i at. after.unchanged g (moved g i) at }
 
   -- so it is where the device is corrected
   pub after_change : (cycle : ℕ) (by adjustment : Units) → h.note.body ≡ notes.Corrected device cycle by adjustment
@@ -186,12 +182,10 @@ said_none s hs h device cycle adjustment channel frame few =
 pub corrected_is : (s : Scenario) (hs : List Happening) (h : Happening) (device : DeviceId) (cycle t : ℕ) (heard : Summary) (adjustment : ℤ)
     (a b : Option Best) → t ≡ time_of h → heard ≡ heard_at_point s hs device t → adjustment ≡ (adjustment_before s hs device t).0
     → a ≡ option_and_then (said_by s hs h device cycle adjustment A) (best_on A heard)
-    → b ≡ option_and_then (said_by s hs h device cycle adjustment B) (best_on B heard)
-    → Corrected a b ≡ corrected_ground s hs h device cycle
+    → b ≡ option_and_then (said_by s hs h device cycle adjustment B) (best_on B heard) → Corrected a b ≡ corrected_ground s hs h device cycle
 corrected_is s hs h device cycle t heard adjustment a b at is changed said_a said_b =
     let heard_so : heard ≡ heard_at_point s hs device (time_of h) = is ∙ ap (heard_at_point s hs device) at in
-    let changed_so : adjustment ≡ (adjustment_before s hs device (time_of h)).0 =
-    changed ∙ ap (λ (u : ℕ). (adjustment_before s hs device u).0) at in
+    let changed_so : adjustment ≡ (adjustment_before s hs device (time_of h)).0 = changed ∙ ap (λ (u : ℕ). (adjustment_before s hs device u).0) at in
     let each : (channel : Channel) → option_and_then (said_by s hs h device cycle adjustment channel) (best_on channel heard)
     ≡ channel_ground s hs h device cycle channel = λ channel.
     ap (λ (z : ℤ). option_and_then (said_by s hs h device cycle z channel) (best_on channel heard)) changed_so

@@ -1,20 +1,20 @@
 -- The records that told the best frames of channels are there.
-use Rattle.{audit_devices.specs.Keeping.records_before, lens_why.specs.past.Pasts.before_corrections, run_law.specs.control.Corrections.hearing_by}
+use Rattle.{audit_devices.specs.Keeping.records_before, sync_state.specs.membership.Members.count_of, tte_units.specs.declared.units.Units.Units}
 use Rattle.{audit_law.specs.law.CorrectionNumbers.{heard_since_point, points_come}, run_law.specs.records.Happenings.{Happening, happenings, numbered, time_of}}
 use Rattle.{audit_law.specs.law.CorrectionPoints.IsPointOf, net_plan.specs.declared.{ids.DeviceId.DeviceId, network.Network.Network}}
-use Rattle.{lens_why.proofs.{BestFrames.summarized, Naming.earlier_by}, run_law.specs.declared.note.Note.Note, std.specs.List.{after_last, last_or}}
+use Rattle.{lens_why.proofs.{BestFrames.summarized, Naming.earlier_by}, run_law.proofs.records.Members.in_kept, tte_reports.specs.Reports.IsReportOf}
 use Rattle.lens_why.specs.Corrections.{channel_ground, clique_ground, corrected_ground, heard_at_point, said_by, told_by, told_on, value_of}
-use Rattle.{lens_why.specs.Grounds.ground_by, std.proofs.lemmas.Int.ints, tte_audit.specs.Report.scenario_of}
+use Rattle.{lens_why.specs.{Grounds.ground_by, declared.seeking.Sought.TheVariants.Frame}, run_law.specs.records.Ranks.{key, members_in, place_of, rank}}
 use Rattle.lens_why.specs.{Laws.{BestAreThere, best_number, told_in, told_number}, Seeking.{is_channel, is_frame, is_hearing_of, is_sought, last_sought}}
-use Rattle.{lens_why.specs.declared.seeking.Sought.TheVariants.Frame, pcf_values.specs.declared.channel.Channel.{Channel, TheVariants.{A, B}}}
-use Rattle.run_law.{proofs.{law.FirstPlaces.{founded_at, in_filter}, runs.Places.{in_parts, in_right}}, specs.device.LocalClocks.changes_adjustment}
-use Rattle.{run_law.proofs.records.Members.in_kept, std.{proofs.{Common.{subst, sym, true, ℕ, ℤ}, lemmas.Bool.{and_from, eq-eqb}}, specs.Option.option_map_or}}
+use Rattle.{lens_why.specs.past.Pasts.before_corrections, run_law.specs.control.Corrections.hearing_by, sync_state.specs.membership.Hearing.within_on}
+use Rattle.run_law.{proofs.law.FirstPlaces.{founded_at, in_filter}, specs.{device.LocalClocks.changes_adjustment, records.Order.{IsBefore, IsIn, is_before}}}
 use Rattle.{run_law.proofs.records.Order.{before_is, given_of, has_passed, in_drop, is_there}, sync_state.specs.declared.membership.frame.HeardFrame.HeardFrame}
-use Rattle.{run_law.specs.{declared.note.NoteBody.NoteBody, device.States.adjustment_before}, sync_state.specs.membership.{Hearing.within_on, Members.count_of}}
-use Rattle.{run_law.specs.records.Order.{IsBefore, IsIn, is_before}, sync_state.specs.membership.{BestFrame.{IsBest, IsBestOf}, Summary.{Summary, best_on}}}
-use Rattle.{run_law.specs.records.Ranks.{key, members_in, place_of, rank}, std.specs.Prelude.{int_le, nat_le, nat_lt, option_and_then, option_map}}
-use Rattle.{run_law.specs.scenario.Scenarios.Scenario, tte_audit.specs.reports.Reports.IsReportOf, tte_units.specs.declared.units.Units.Units}
+use Rattle.run_law.{proofs.runs.Places.{in_parts, in_right}, specs.{declared.note.{Note.Note, NoteBody.NoteBody}, device.States.adjustment_before}}
+use Rattle.{run_law.specs.scenario.Scenarios.Scenario, std.proofs.{Common.{subst, sym, true, ℕ, ℤ}, lemmas.{Bool.{and_from, eq-eqb}, Int.ints}}}
 use Rattle.std.proofs.Common.{◌&&◌, ◌<◌, ◌==◌, ◌∙◌, ◌∷◌, ◌≡◌, ◌≤◌, Bool, List, None, Option, Some, [], ap, arith, false, filter, if◌then◌else◌, inl, inr, refl}
+use Rattle.{std.specs.{List.{after_last, last_or}, Option.option_map_or}, tte_audit.specs.Report.scenario_of}
+use Rattle.{std.specs.Prelude.{int_le, nat_le, nat_lt, option_and_then, option_map}, tte_units.specs.declared.frames.channel.Channel.TheVariants.{A, B}}
+use Rattle.{sync_state.specs.membership.{BestFrame.{IsBest, IsBestOf}, Summary.{Summary, best_on}}, tte_units.specs.declared.frames.channel.Channel.Channel}
 use Rattle.run_law.specs.declared.judgement.Why.TheVariants as whys
 use Rattle.run_law.specs.declared.note.NoteBody.TheVariants as notes
 
@@ -113,8 +113,7 @@ module _ (network : Network) (octets : List ℕ) (ns : List Note) (end : Units) 
       let t = time_of h in
       let heard = heard_since_point own (before_corrections t all) device t in
       let best : IsBest heard channel frame = subst (IsBestOf heard channel) e ((summarized heard).best channel) in
-      let in_heard : IsIn (within_on channel frame) heard =
-      subst (IsIn (within_on channel frame)) (sym best.is_heard)
+      let in_heard : IsIn (within_on channel frame) heard = subst (IsIn (within_on channel frame)) (sym best.is_heard)
       (in_right (within_on channel frame) best.before (within_on channel frame ∷ best.after) (inl refl)) in
       let bc : List Happening = before_corrections t all in
       let since : List Happening = after_last (λ x. nat_lt (time_of x) t && changes_adjustment device x.note.body) bc in
@@ -129,8 +128,7 @@ module _ (network : Network) (octets : List ℕ) (ns : List Note) (end : Units) 
       there_by device channel frame g.0 kept (ap (is_hearing_of channel frame) g.2 ∙ own_hearing channel frame)
 
   of_enough : (device : DeviceId) (channel : Channel) (frame : HeardFrame) (value : ℤ) (b : Bool) (n : ℕ)
-      → Earlier (last_sought network (Frame device channel frame) (records_before (place_of h) all))
-      → IsIn n (best_number (if b then Some (record {
+      → Earlier (last_sought network (Frame device channel frame) (records_before (place_of h) all)) → IsIn n (best_number (if b then Some (record {
         number = last_sought network (Frame device channel frame) (records_before (place_of h) all);
         members = frame.members;
         value = value;
@@ -148,8 +146,7 @@ module _ (network : Network) (octets : List ℕ) (ns : List Note) (end : Units) 
       (best_found device channel frame high e) i
 
   of_told : (device : DeviceId) (channel : Channel) (o : Option HeardFrame) (n : ℕ) → 6 ≤ rank h.note.body
-      → best_on channel (heard_at_point own all device (time_of h)) ≡ o
-      → IsIn n (told_number (option_map (told_by network all h device channel) o)) → Earlier n
+      → best_on channel (heard_at_point own all device (time_of h)) ≡ o → IsIn n (told_number (option_map (told_by network all h device channel) o)) → Earlier n
   of_told device channel None n high e i = absurd i
   of_told device channel (Some frame) n high e (inl same) = subst Earlier (sym same) (best_found device channel frame high e)
   of_told device channel (Some frame) n high e (inr none) = absurd none

@@ -2,16 +2,16 @@
 use Rattle.{audit_devices.specs.Effects.carried_by, compression.proofs.Sound.open_at-some, run_law.{proofs.records.Order.after_more, specs.records.Order.IsIn}}
 use Rattle.{audit_devices.specs.Keeping.records_before, compression.proofs.{Rows.last_split, Taking.role_in-joined}, tte_units.specs.declared.units.Units.Units}
 use Rattle.{audit_devices.specs.declared.effect.Carried.Carried, audit_law.proofs.collections_lemmas.Stepping.{AreBefore, are-ignored, are-joined, are-opened}}
-use Rattle.{compression.proofs.{Elements.{Ordered, Ordered-from}, Standing.AreClusters-unique}, tte_audit.specs.reports.Reports.{AreLeft, IsReportOf}}
-use Rattle.{compression.specs.{Clusters.{AreClusters, Cluster, Point}, Collection.{joined, opening}}, tte_audit.specs.declared.reports.records.Records.Records}
-use Rattle.{compression.specs.Role.{open_at, role}, std.proofs.lemmas.List.append-nil}
+use Rattle.{compression.proofs.{Elements.{Ordered, Ordered-from}, Standing.AreClusters-unique}, std.proofs.lemmas.List.{Elements.filter_map-append, append-nil}}
+use Rattle.{compression.specs.Clusters.{AreClusters, Cluster, Point}, tte_reports.specs.{Reports.{AreLeft, IsReportOf}, declared.records.Records.Records}}
+use Rattle.{compression.specs.{Collection.{joined, opening}, declared.taken.Taken.Taken}, std.specs.Prelude.{filter_map, fold, option_map}}
+use Rattle.compression.specs.Role.{open_at, role}
 use Rattle.{compression.specs.declared.taken.Taken.TheVariants.{Joined, Opened, OtherCycle, Repeat}, lens_why.specs.declared.collecting.Collection.Collection}
-use Rattle.{compression.specs.declared.taken.Taken.Taken, std.proofs.lemmas.List.Elements.filter_map-append, tte_units.proofs.general_lemmas.Lists.last_pushed}
 use Rattle.{lens_why.proofs.LastRecords.gone_more, run_law.specs.{declared.note.Note.Note, device.States.cycle_in}, std.proofs.lemmas.List.Sums.fold_push}
 use Rattle.{lens_why.proofs.Notes.{IsUnderWay, begun, begun_none, next_missed}, run_law.specs.records.Happenings.{Happening, happening, happenings}}
 use Rattle.lens_why.specs.Collections.{LastIsOfClusters, behind_point, collected_ground, last_collection, last_of, taken_to, told_of}
 use Rattle.{lens_why.specs.declared.ground.Ground.TheVariants.Collected, std.specs.List.{AllByRecursion, after_last, cons_option, last_or}}
-use Rattle.{net_plan.specs.declared.{ids.DeviceId.DeviceId, network.Network.Network}, std.specs.Prelude.{filter_map, fold, option_map}}
+use Rattle.{net_plan.specs.declared.{ids.DeviceId.DeviceId, network.Network.Network}, tte_units.proofs.general_lemmas.Lists.last_pushed}
 use Rattle.run_law.specs.{control.Collections.{ends_stretch, master_of, observation_window, point_by, points_of}, records.Ranks.{members_in, place_of}}
 use Rattle.std.proofs.Common.{◌++◌, ◌∙◌, ◌∷◌, ◌≡◌, ◌≤ℤ◌, List, None, Option, Some, [], ap, append_assoc, false, inl, inr, pos, refl, subst, sym, ℕ, ℤ}
 
@@ -62,8 +62,7 @@ all_of (b ∷ before) p after up = (first before up.0, all_of before p after up.
 
 rises_from : (before after : List Point) → Ordered (before ++ after) → Rises before after
 rises_from before [] up = tt
-rises_from before (p ∷ after) up =
-    (all_of before p after up, rises_from (before ++ p ∷ []) after (subst Ordered (sym (append_assoc before (p ∷ []) after)) up))
+rises_from before (p ∷ after) up = (all_of before p after up, rises_from (before ++ p ∷ []) after (subst Ordered (sym (append_assoc before (p ∷ []) after)) up))
 
 -- these points have these clusters, the last of which is this collection
 record IsLastOf (ow : ℤ) (points : List Point) (last : Option Cluster) : Type 0 where

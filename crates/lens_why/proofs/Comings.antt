@@ -62,8 +62,7 @@ module _ (s : Scenario) (ps : List Happening) (founded : IsFounded place_of (IsD
 
 -- the record of this number comes from none, or from one of a lower number
 abbrev pub ComesFromEarlier : List Happening → ℕ → Happening → Type 0
-ComesFromEarlier hs n h =
-    (cause_of h.note.body ≡ 0) ⊎ ((g : Happening) × (numbered hs (cause_of h.note.body) ≡ Some g) × (cause_of h.note.body < n))
+ComesFromEarlier hs n h = (cause_of h.note.body ≡ 0) ⊎ ((g : Happening) × (numbered hs (cause_of h.note.body) ≡ Some g) × (cause_of h.note.body < n))
 
 pub comes_from_earlier : (s : Scenario) (hs : List Happening) → IsFounded place_of (IsDue s) hs → (n : ℕ) (h : Happening) → numbered hs n ≡ Some h
     → ComesFromEarlier hs n h

@@ -52,7 +52,4 @@ pub is_there : (network : Network) (ns : List Note) (h : Happening) (note : Note
     → ComesFrom (scenario_of network ns) (happenings network ns) h note giving → IsThere network ns note.number h
 is_there network ns h note giving from =
     let s = scenario_of network ns in
-    record {
-      there = there_so s (happenings network ns) h note giving from;
-      own = own_number s (happenings network ns) h note giving from;
-    }
+    record { there = there_so s (happenings network ns) h note giving from; own = own_number s (happenings network ns) h note giving from }

@@ -17,8 +17,7 @@ heard_made point a b c d e f p q first second third last =
 
 -- the numbers that are told are those of the ground
 pub heard_is : (point : Units) (adjustment expected joined sum off : ℤ) (precision : ℕ) → joined ≡ (expected -ℤ point.0) → sum ≡ (joined +ℤ point.0)
-    → off ≡ (adjustment -ℤ joined)
-    → Heard point adjustment sum off precision ≡ Heard point adjustment expected ((point.0 +ℤ adjustment) -ℤ expected) precision
+    → off ≡ (adjustment -ℤ joined) → Heard point adjustment sum off precision ≡ Heard point adjustment expected ((point.0 +ℤ adjustment) -ℤ expected) precision
 heard_is point adjustment expected joined sum off precision a b c =
     let first : sum ≡ expected = omega (arith, ints, a, b) in
     let second : off ≡ ((point.0 +ℤ adjustment) -ℤ expected) = omega (arith, ints, a, c) in
@@ -47,8 +46,7 @@ adjustment_is s hs h time frame verdict n t adjustment p same at is =
 pub scheduled_is : (s : Scenario) (hs : List Happening) (h : Happening) (time : Units) (frame : Permanence) (verdict : Judgement) (carried : Carried) (t : ℕ)
     (adjustment : ℤ) (result : Ground) → IsPermanence h time frame verdict → carried ≡ carried_by h → t ≡ amount time
     → adjustment ≡ (adjustment_at_hearing s (records_before (permanence_place t carried.members.0 frame) hs) frame.device t).0
-    → result ≡ heard_ground s.network frame.device adjustment carried.cycle frame.point
-    → result ≡ scheduled_ground s hs frame.device frame.point h
+    → result ≡ heard_ground s.network frame.device adjustment carried.cycle frame.point → result ≡ scheduled_ground s hs frame.device frame.point h
 scheduled_is s hs h time frame verdict carried t adjustment result p said at is told =
     let cycle : carried.cycle ≡ cycle_in h = ap (λ (c : Carried). c.cycle) said in
     let members : carried.members.0 ≡ members_in h = ap (λ (c : Carried). c.members.0) said in

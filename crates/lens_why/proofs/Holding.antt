@@ -1,11 +1,11 @@
 -- How long a frame was held, and how much of that was measured, as its records tell it.
 use Rattle.{lens_why.specs.Grounds.{ground_by, ground_of, held_ground}, tte_units.{proofs.general_lemmas.Options.{mapped, some_same}, specs.Amount.amount}}
 use Rattle.{lens_why.specs.{Records.{ComesFrom, clock_given}, declared.ground.Ground.TheVariants.Held}, std.specs.Prelude.{if◌then◌else◌, nat_lt, option_map}}
-use Rattle.{lens_why.specs.declared.ground.Ground.Ground, run_law.specs.{runs.{DueRecords.{IsCaused, IsDue}, Runs.IsFounded}, scenario.Scenarios.Scenario}}
+use Rattle.{lens_why.specs.declared.ground.Ground.Ground, run_law.specs.runs.DueRecords.{IsCaused, IsDue}, tte_units.specs.declared.frames.pcf.Pcf.Pcf}
 use Rattle.{net_plan.specs.declared.{ids.{DeviceId.DeviceId, LinkId.LinkId}, network.Network.Network}, run_law.specs.declared.note.NoteBody.NoteBody}
-use Rattle.{pcf_values.specs.declared.pcf.Pcf.Pcf, run_law.specs.{declared.note.Note.Note, records.{Causes.cause_of, Ranks.place_of}}}
 use Rattle.run_law.{proofs.law.FirstPlaces.{founded_at, numbered_front, numbered_in}, specs.records.Happenings.{Happening, frame_by, numbered, time_of}}
 use Rattle.run_law.specs.{control.Leaving.{Departs, Gives, clock_at_leaving, leaves, on_cut_way, too_old}, scenario.Ways.{hold_at, is_cut, way_from}}
+use Rattle.run_law.specs.{declared.note.Note.Note, records.{Causes.cause_of, Ranks.place_of}, runs.Runs.IsFounded, scenario.Scenarios.Scenario}
 use Rattle.std.proofs.Common.{◌-◌, ◌∙◌, ◌∷◌, ◌≡◌, Bool, List, Option, Some, ap, arith, false, refl, subst, sym, true, ℕ}
 use Rattle.run_law.specs.declared.note.NoteBody.TheVariants as notes
 

@@ -1,15 +1,15 @@
 -- The last record that is looked for, found one record after another.
-use Rattle.{audit_devices.specs.Keeping.records_before, tte_audit.proofs.reports_lemmas.Reports.one_notes, tte_units.proofs.general_lemmas.Lists.last_pushed}
-use Rattle.{lens_why.proofs.Notes.{IsUnderWay, begun, begun_none, next_gone, next_missed, next_number}, run_law.specs.records.Order.{IsBefore, IsIn, is_before}}
-use Rattle.{lens_why.specs.{Records.IsThere, Seeking.{is_sought, last_sought}, declared.seeking.Sought.Sought}, tte_units.specs.declared.units.Units.Units}
+use Rattle.{audit_devices.specs.Keeping.records_before, lens_why.specs.{Records.IsThere, Seeking.{is_sought, last_sought}, declared.seeking.Sought.Sought}}
+use Rattle.{lens_why.proofs.Notes.{IsUnderWay, begun, begun_none, next_gone, next_missed, next_number}, run_law.proofs.runs.Places.{chain, never_self, parted}}
 use Rattle.{net_plan.specs.declared.network.Network.Network, std.proofs.{Common.{refl, subst, suc, sym, true, ℕ}, lemmas.List.Elements.filter-append}}
 use Rattle.run_law.{proofs.law.FirstPlaces.{at_length, none_kept, numbered_in}, specs.records.Happenings.{Happening, happening, happenings, numbered}}
-use Rattle.{run_law.proofs.records.{Happenings.as_many, Order.{all_kept, before_is, is_there}}, tte_audit.specs.declared.reports.records.Records.Records}
-use Rattle.{run_law.{proofs.runs.{Lacking.behind_first, NetworkRuns.one_more}, specs.declared.note.Note.Note}, std.proofs.lemmas.Bool.false_from_ne_true}
-use Rattle.{run_law.proofs.runs.Places.{chain, never_self, parted}, tte_audit.{proofs.UnderWay.happening_there, specs.reports.Reports.{AreLeft, IsReportOf}}}
-use Rattle.{run_law.specs.{records.Ranks.place_of, runs.{DueRecords.IsDue, Runs.IsFounded}}, tte_audit.specs.{Named.IsNamed, Report.scenario_of}}
+use Rattle.run_law.{proofs.records.{Happenings.as_many, Order.{all_kept, before_is, is_there}}, specs.records.Order.{IsBefore, IsIn, is_before}}
+use Rattle.run_law.{proofs.runs.{Lacking.behind_first, NetworkRuns.one_more}, specs.{declared.note.Note.Note, records.Ranks.place_of, runs.DueRecords.IsDue}}
+use Rattle.{run_law.specs.runs.Runs.IsFounded, std.specs.Option.option_map_or, tte_audit.specs.Report.scenario_of, tte_reports.proofs.Reports.one_notes}
 use Rattle.std.proofs.Common.{◌++◌, ◌∙◌, ◌∷◌, ◌≡◌, Bool, List, None, Option, Some, [], ap, arith, false, filter, if◌then◌else◌, inl, inr, length, length-append}
-use Rattle.std.{proofs.lemmas.List.append-nil, specs.{List.last_or, Option.option_map_or}}
+use Rattle.{std.proofs.lemmas.{Bool.false_from_ne_true, List.append-nil}, tte_audit.proofs.UnderWay.happening_there, tte_units.specs.declared.units.Units.Units}
+use Rattle.{std.specs.List.last_or, tte_audit.specs.Named.IsNamed}
+use Rattle.{tte_reports.specs.{Reports.{AreLeft, IsReportOf}, declared.records.Records.Records}, tte_units.proofs.general_lemmas.Lists.last_pushed}
 
 -- the records before the place of one are those that stand before it
 split_before : (network : Network) (octets : List ℕ) (ns : List Note) (end : Units) → IsReportOf network octets ns end → (before later : List Happening)

@@ -1,22 +1,22 @@
 -- The records that a ground names stand earlier in the report.
-use Rattle.{audit_devices.specs.Keeping.records_before, lens_why.specs.Collections.collected_ground, tte_audit.specs.reports.Reports.IsReportOf}
-use Rattle.{compression.proofs.Rows.last_split, run_law.specs.runs.{DueRecords.IsDue, Runs.IsFounded}, tte_audit.specs.Report.scenario_of}
-use Rattle.{lens_why.proofs.LastRecords.parted_there, run_law.specs.{records.{Order.IsIn, Ranks.place_of}, scenario.Devices.is_relay, timed.Arrivals.entry_of}}
+use Rattle.{audit_devices.specs.Keeping.records_before, lens_why.specs.{Collections.collected_ground, declared.ground.Ground.Ground}}
+use Rattle.{compression.proofs.Rows.last_split, run_law.specs.runs.DueRecords.IsDue, tte_audit.specs.Report.scenario_of, tte_reports.specs.Reports.IsReportOf}
+use Rattle.{lens_why.proofs.LastRecords.parted_there, run_law.specs.scenario.{Devices.is_relay, Scenarios.Scenario}, tte_units.specs.declared.units.Units.Units}
 use Rattle.lens_why.specs.Corrections.{channel_ground, clique_ground, corrected_ground, heard_at_point, is_clique, said_by, told_by, told_on, value_of}
 use Rattle.lens_why.specs.Grounds.{beside_ground, dispatch_ground, dropped_ground, entry_given, ground_by, held_ground, is_by_schedule, is_collected}
 use Rattle.lens_why.specs.Grounds.{length_ground, places_ground, position_at, repeat_ground, row_of, scheduled_ground, unknown_ground, window_ground}
 use Rattle.{lens_why.specs.Laws.{IsEarlier, NamesEarlier, best_number, named_in, told_number}, sync_state.specs.declared.membership.frame.HeardFrame.HeardFrame}
-use Rattle.{lens_why.specs.Seeking.{is_sought, last_sought}, net_plan.specs.declared.network.Network.Network, std.proofs.Common.{refl, subst, sym, true, ℕ, ℤ}}
+use Rattle.{lens_why.specs.{Seeking.{is_sought, last_sought}, declared.seeking.Coming.Coming}, net_plan.specs.declared.ids.{DeviceId.DeviceId, LinkId.LinkId}}
 use Rattle.lens_why.specs.declared.{ground.Ground.TheVariants.{Gate, Untold}, seeking.Sought.{Sought, TheVariants.{Cut, Frame, Opening, Taking, Turning}}}
-use Rattle.{lens_why.specs.declared.ground.Ground.Ground, run_law.specs.{declared.note.{Note.Note, NoteBody.NoteBody}, device.States.adjustment_before}}
-use Rattle.{lens_why.specs.declared.seeking.Coming.Coming, net_plan.specs.declared.ids.DeviceId.DeviceId, run_law.proofs.runs.Places.{in_parts, in_right}}
-use Rattle.{net_plan.specs.declared.ids.LinkId.LinkId, run_law.specs.scenario.{Scenarios.Scenario, Ways.way_from}, tte_units.specs.declared.units.Units.Units}
-use Rattle.{pcf_values.specs.declared.channel.Channel.{Channel, TheVariants.{A, B}}, std.specs.Prelude.{◌++◌, nat_le, option_and_then, option_map, slice_get}}
+use Rattle.{net_plan.specs.declared.network.Network.Network, schedule_tables.specs.declared.entry.Entry.Entry, std.proofs.Common.{refl, subst, sym, true, ℕ, ℤ}}
 use Rattle.run_law.{proofs.law.FirstPlaces.{by_number, front_founded, in_filter, numbered_front, numbered_within}, specs.declared.judgement.Reason.Reason}
+use Rattle.run_law.{proofs.runs.Places.{in_parts, in_right}, specs.{declared.note.{Note.Note, NoteBody.NoteBody}, device.States.adjustment_before}}
 use Rattle.run_law.specs.{device.Standpoints.{clock_of, offset_in_cycle, standpoint}, records.Happenings.{Happening, happenings, numbered, time_of}}
-use Rattle.{schedule_tables.specs.{Windows.window_of, declared.entry.Entry.Entry}, sync_state.specs.membership.{Members.count_of, Summary.{Summary, best_on}}}
+use Rattle.{run_law.specs.{records.{Order.IsIn, Ranks.place_of}, scenario.Ways.way_from, timed.Arrivals.entry_of}, schedule_tables.specs.Windows.window_of}
+use Rattle.{run_law.specs.runs.Runs.IsFounded, std.specs.{List.last_or, Option.option_map_or}, tte_units.specs.Amount.amount}
 use Rattle.std.proofs.Common.{◌*◌, ◌+ℤ◌, ◌+◌, ◌∷◌, ◌≡◌, Bool, List, None, Option, Some, [], ap, arith, false, filter, if◌then◌else◌, inl, inr, length, pos}
-use Rattle.{std.specs.{List.last_or, Option.option_map_or}, tte_units.specs.Amount.amount}
+use Rattle.{std.specs.Prelude.{◌++◌, nat_le, option_and_then, option_map, slice_get}, tte_units.specs.declared.frames.channel.Channel.TheVariants.{A, B}}
+use Rattle.{sync_state.specs.membership.{Members.count_of, Summary.{Summary, best_on}}, tte_units.specs.declared.frames.channel.Channel.Channel}
 use Rattle.run_law.specs.declared.judgement.Reason.TheVariants as reasons
 use Rattle.run_law.specs.declared.note.NoteBody.TheVariants as notes
 
@@ -42,8 +42,7 @@ module _ (network : Network) (octets : List ℕ) (ns : List Note) (end : Units) 
       by : (o : Option Happening) → last_or None (filter test before) ≡ o → IsEarlier all h (last_sought network sought before)
       by None e = inl (ap (λ (o : Option Happening). option_map_or (λ (g : Happening). g.note.number) o 0) e)
       by (Some g) e =
-          let is : last_sought network sought before ≡ g.note.number =
-          ap (λ (o : Option Happening). option_map_or (λ (x : Happening). x.note.number) o 0) e in
+          let is : last_sought network sought before ≡ g.note.number = ap (λ (o : Option Happening). option_map_or (λ (x : Happening). x.note.number) o 0) e in
           let due = (of.run.founded before later h parts).1 in
           let founded = front_founded place_of (IsDue own) before (h ∷ later) (subst (IsFounded place_of (IsDue own)) parts of.run.founded) in
           let found = by_number own before g founded (in_filter test before g (last_in (filter test before) g e)) in
@@ -167,12 +166,10 @@ module _ (network : Network) (octets : List ℕ) (ns : List Note) (end : Units) 
   of_dropped device link cause o reasons.Early n i = of_beside device (time_of h) (entry_given network device link o) n i
   of_dropped device link cause o reasons.Late n i = of_beside device (time_of h) (entry_given network device link o) n i
   of_dropped device link cause o reasons.Repeat n i = of_repeat device link cause (entry_given network device link o) n i
-  of_dropped device link cause o reasons.Length n i =
-      of_length (option_map_or (λ (g : Happening). length g.octets) o 0) (entry_given network device link o) n i
+  of_dropped device link cause o reasons.Length n i = of_length (option_map_or (λ (g : Happening). length g.octets) o 0) (entry_given network device link o) n i
   of_dropped device link cause o reasons.Unknown n i = of_unknown o n i
   of_dropped device link cause o reasons.Unsynchronised n i = one (Turning device) n i
-  of_dropped device link cause o reasons.Gate n i =
-      of_gate (clock_of (standpoint own all device (time_of h))) (is_relay network device) n i
+  of_dropped device link cause o reasons.Gate n i = of_gate (clock_of (standpoint own all device (time_of h))) (is_relay network device) n i
   of_dropped device link cause o other n i = absurd i
 
   pub names_by : (body : NoteBody) → Names (ground_by own all h body)

@@ -1,13 +1,12 @@
 -- Records of a report by their numbers.
-use Rattle.{lens_why.specs.Records.{IsFound, note_at}, run_law.specs.declared.note.Note.Note, std.specs.{List.concat, Prelude.{option_map, slice_get}}}
-use Rattle.{net_plan.specs.declared.network.Network.Network, tte_audit.{proofs.reports_lemmas.Reports.one_notes, specs.reports.Reports.{AreLeft, IsReportOf}}}
+use Rattle.{lens_why.specs.Records.{IsFound, note_at}, run_law.proofs.runs.NetworkRuns.same_notes, std.specs.{List.concat, Prelude.{option_map, slice_get}}}
+use Rattle.{net_plan.specs.declared.network.Network.Network, tte_units.{proofs.general_lemmas.{Lists.in_all, Options.mapped}, specs.declared.units.Units.Units}}
 use Rattle.{report_text.specs.{NoteLine.{note_line, note_text, report_of}, Ranges.IsNoteOf}, run_law.proofs.law.FirstPlaces.{at_length, in_at, number_is}}
-use Rattle.{run_law.proofs.runs.NetworkRuns.same_notes, tte_units.{proofs.general_lemmas.{Lists.in_all, Options.mapped}, specs.declared.units.Units.Units}}
+use Rattle.{run_law.specs.{declared.note.Note.Note, records.Ranks.place_of, runs.{DueRecords.IsDue, Runs.IsFounded}}, tte_reports.proofs.Reports.one_notes}
 use Rattle.{run_law.specs.records.{Happenings.{Happening, happenings, numbered}, Order.IsIn}, std.proofs.Common.{length-append, refl, subst, suc, sym, zero, ℕ}}
-use Rattle.{run_law.specs.{records.Ranks.place_of, runs.{DueRecords.IsDue, Runs.IsFounded}}, std.proofs.lemmas.{Bool.cases_lt, List.append-nil}}
 use Rattle.std.proofs.Common.{◌++◌, ◌+◌, ◌<◌, ◌∙◌, ◌∷◌, ◌≡◌, ◌⊎◌, List, None, Option, Result, Some, [], ap, append_assoc, arith, inl, inr, length}
-use Rattle.{std.proofs.lemmas.Option.{slice_get-map, slice_get_past}, tte_audit.specs.{Report.scenario_of, declared.reports.records.Records.Records}}
-use Rattle.tte_audit.specs.Named.{IsNamed}
+use Rattle.{std.proofs.lemmas.{Bool.cases_lt, List.append-nil}, tte_audit.specs.{Named.IsNamed, Report.scenario_of}}
+use Rattle.{std.proofs.lemmas.Option.{slice_get-map, slice_get_past}, tte_reports.specs.{Reports.{AreLeft, IsReportOf}, declared.records.Records.Records}}
 
 -- ---- records and their numbers
 

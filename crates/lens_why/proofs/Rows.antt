@@ -1,26 +1,11 @@
 -- The first row that passes a test, and that it is the only one.
-use Rattle.std.proofs.Common.{◌&&◌, ◌<◌, ◌==◌, ◌∙◌, ◌∷◌, ◌≡◌, Bool, List, None, Option, Some, [], ap, arith, cond, false, get_or, inl, inr, length, refl, sym}
-use Rattle.std.proofs.{Common.{true, ℕ}, lemmas.{Grind.common_steps, List.{Folds.find_at, Sums.position_or_len_is}}}
+use Rattle.{lens_why.specs.Laws.RowIsOne, std.proofs.lemmas.{Grind.common_steps, List.Folds.find_at}}
+use Rattle.{net_plan.specs.declared.{ids.{LinkId.LinkId, VlId.VlId}, tables.Row.Row}, schedule_tables.specs.{Entries.IsEntry, Rules.KeepsRules}}
+use Rattle.{net_plan.specs.declared.network.Network.Network, std.proofs.lemmas.List.Sums.position_or_len_is, tte_units.proofs.general_lemmas.Lists.got_within}
+use Rattle.{schedule_tables.specs.declared.entry.Entry.Entry, std.specs.{List.{find, position, position_or_len}, Prelude.{nat_lt, option_and_then, slice_get}}}
+use Rattle.{schedule_tables.specs.declared.rule.Rule.TheVariants.LinksOnce, tte_units.proofs.general_lemmas.{Bools.{both_left, both_right}, Naturals.eqb_same}}
+use Rattle.std.proofs.Common.{◌&&◌, ◌<◌, ◌==◌, ◌∙◌, ◌≡◌, Bool, List, None, Option, Some, ap, arith, cond, false, get_or, inl, inr, length, sym, true, ℕ}
 use Rattle.std.proofs.lemmas.{Bool.{cases_Bool, eqb-true, false_from_ne_true, ltb-false}, Option.{get_or_from_slice_get, slice_get-get_or, slice_get_past}}
-use Rattle.std.specs.{List.{AllWithin, HoldsAt, find, position, position_or_len}, Option.MatchOption, Prelude.{nat_lt, option_and_then, slice_get}}
-use Rattle.net_plan.specs.declared.{ids.{LinkId.LinkId, VlId.VlId}, network.Network.Network, tables.Row.Row}
-use Rattle.schedule_tables.specs.{Entries.IsEntry, Rules.KeepsRules, declared.{entry.Entry.Entry, rule.Rule.TheVariants.LinksOnce}}
-use Rattle.tte_units.proofs.general_lemmas.{Bools.{both_left, both_right}, Lists.got_within, Naturals.eqb_same}
-use Rattle.lens_why.specs.Laws.{RowIsOne}
-
--- what a search tells is the place of the first that passes
-pub searched : {X : Type 0} (p : X → Bool) (xs : List X) (r : Option ℕ) → MatchOption r (AllWithin (λ x. p x ≡ false) xs 0 (length xs))
-    (λ i. (i < length xs) × HoldsAt (λ x. p x ≡ true) xs i × AllWithin (λ x. p x ≡ false) xs 0 i) → r ≡ position p xs
-searched {X} p [] None h = refl
-searched {X} p [] (Some i) h = absurd (omega (arith, h.0))
-searched {X} p (x ∷ xs) None h =
-    let at : position_or_len p (x ∷ xs) ≡ length (x ∷ xs) =
-    position_or_len_is p (x ∷ xs) (length (x ∷ xs)) x (omega arith) (λ k lt. h k x (omega arith) lt) (λ lt. absurd (omega (arith, lt))) in
-    grind (arith, common_steps)
-searched {X} p (x ∷ xs) (Some i) h =
-    let at : position_or_len p (x ∷ xs) ≡ i = position_or_len_is p (x ∷ xs) i x (omega (arith, h.0)) (λ k lt. h.2 k x (omega arith) lt) (λ lt. h.1 x) in
-    let inside = h.0 in
-    grind (arith, common_steps)
 
 -- what is found stands at that place
 pub found_at : {X : Type 0} (p : X → Bool) (xs : List X) → find p xs ≡ option_and_then (slice_get xs) (position p xs)

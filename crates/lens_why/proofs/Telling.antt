@@ -1,15 +1,15 @@
 -- The lines of a chain put one record after another.
 use Rattle.lens_why.{proofs.Chains.{Along, along_both, along_more, along_there, none_at_zero, whole_of}, specs.Lines.{chain_lines, record_lines, told_lines}}
 use Rattle.lens_why.proofs.{Comings.{IsNoneOrThere, comes_from_earlier}, Notes.{founded_of, happening_at, none_there, note_in, note_numbered, number_of}}
-use Rattle.{lens_why.proofs.past_lemmas.Following.timely_in, net_plan.specs.declared.network.Network.Network, tte_forms.specs.declared.status.Status.Status}
-use Rattle.{lens_why.specs.{Answer.{IsWhyAnswer, chain_answer}, Records.{ComesFrom, IsRecordOf, note_at}}, tte_forms.specs.Putting.{PutFails, PutsLines, Shown}}
-use Rattle.{lens_why.specs.{Grounds.ground_of, past.Pasts.IsTimely}, run_law.specs.declared.note.Note.Note, tte_forms.proofs.Puts.PutFails-more}
-use Rattle.{lens_why.specs.declared.ground.Ground.Ground, tte_audit.specs.reports.Reports.IsReportOf, tte_forms.specs.Answering.{Ends, GivesAnswer}}
-use Rattle.{run_law.specs.records.{Causes.cause_of, Happenings.{Happening, happenings, numbered}}, tte_audit.proofs.reports_lemmas.Reports.{one_end, one_notes}}
-use Rattle.{run_law.specs.scenario.Scenarios.Scenario, std.proofs.lemmas.{Grind.flat_map-append, List.append-nil}, tte_units.specs.declared.units.Units.Units}
+use Rattle.lens_why.{proofs.past_lemmas.Following.timely_in, specs.{Answer.{IsWhyAnswer, chain_answer}, Records.{ComesFrom, IsRecordOf, note_at}}}
+use Rattle.{lens_why.specs.{Grounds.ground_of, past.Pasts.IsTimely}, std.proofs.lemmas.List.append-nil, tte_audit.specs.{Named.IsNamed, Report.scenario_of}}
+use Rattle.{lens_why.specs.declared.ground.Ground.Ground, net_plan.specs.declared.network.Network.Network, tte_reports.proofs.Reports.{one_end, one_notes}}
+use Rattle.{run_law.specs.{declared.note.Note.Note, records.Causes.cause_of}, std.proofs.lemmas.Grind.flat_map-append, tte_reports.specs.Reports.IsReportOf}
+use Rattle.{run_law.specs.records.Happenings.{Happening, happenings, numbered}, tte_forms.specs.declared.status.Status.{Status, TheVariants.{Done, WriteFault}}}
+use Rattle.{run_law.specs.scenario.Scenarios.Scenario, tte_forms.specs.Answering.{Ends, GivesAnswer}, tte_units.specs.declared.units.Units.Units}
 use Rattle.std.proofs.Common.{◌++◌, ◌<◌, ◌∙◌, ◌∷◌, ◌≡◌, List, None, Option, Some, [], ap, append_assoc, arith, inl, inr, refl, subst, sym, ℕ}
-use Rattle.{std.specs.Prelude.option_map, tte_audit.specs.{Named.IsNamed, Report.scenario_of}}
-use Rattle.tte_forms.{proofs.Puts.{Ends-gives, PutFails-behind, PutsLines-append, PutsLines-none}, specs.declared.status.Status.TheVariants.{Done, WriteFault}}
+use Rattle.std.specs.Prelude.{option_map}
+use Rattle.tte_forms.{proofs.Puts.{Ends-gives, PutFails-behind, PutFails-more, PutsLines-append, PutsLines-none}, specs.Putting.{PutFails, PutsLines, Shown}}
 
 -- the lines of the records of a chain up to the one that is at hand were put
 pub record IsToldTo (network : Network) (octets : List ℕ) (first note : Note) (old now : Shown) : Type 0 where
@@ -172,8 +172,7 @@ module _ (network : Network) (octets : List ℕ) (first note : Note) (old now : 
         → GivesAnswer (IsWhyAnswer first.number network notes end) status old after
     told_all named puts none status after ends notes end of =
         let along = along_more all first.number t.done t.at t.h t.along t.here in
-        let last : cause_of t.h.note.body ≡ 0 =
-        elim (comes_from_earlier own all (founded_of network octets t.notes t.end t.of) t.at t.h t.here) [
+        let last : cause_of t.h.note.body ≡ 0 = elim (comes_from_earlier own all (founded_of network octets t.notes t.end t.of) t.at t.h t.here) [
           | inl e ↦ e
           | inr g ↦ absurd (not_both all (cause_of t.h.note.body) g.0
               (none_there network t.notes (cause_of t.h.note.body) (ap (λ (n : Note). note_at t.notes (cause_of n.body)) t.is ∙ none)) g.1)

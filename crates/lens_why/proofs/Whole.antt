@@ -1,13 +1,13 @@
 -- The law: the chains that are told are whole.
-use Rattle.{lens_why.proofs.Chains.{Along, along_there, along_whole, goes_back, none_at_zero, one_along, whole_of}, run_law.proofs.law.FirstPlaces.numbered_in}
-use Rattle.{lens_why.{proofs.Notes.founded_of, specs.{Chain.IsWholeChain, Laws.{HasWhy, WhyLaw}}}, tte_forms.specs.Answering.Answer}
+use Rattle.{lens_why.proofs.Chains.{Along, along_there, along_whole, goes_back, none_at_zero, one_along, whole_of}, net_plan.specs.declared.ids.LinkId.LinkId}
+use Rattle.{lens_why.{proofs.Notes.founded_of, specs.Chain.IsWholeChain}, tte_forms.specs.Answering.Answer}
 use Rattle.{lens_why.specs.Answer.{IsWhyAnswer, chain_answer, number_refused_answer}, run_law.specs.records.Happenings.{Happening, happenings, numbered}}
-use Rattle.{net_plan.specs.declared.{event.What.TheVariants.Send, network.Network.Network}, run_law.proofs.law.FirstDeliveries.deliveries_begin}
+use Rattle.{lens_why.specs.Laws.{HasWhy, WhyLaw}, run_law.specs.{declared.note.Note.Note, law.FirstLaws.IsBeginning}, tte_reports.proofs.Reports.report_one}
+use Rattle.{net_plan.specs.declared.{event.What.TheVariants.Send, ids.VlId.VlId, network.Network.Network}, run_law.proofs.law.FirstDeliveries.deliveries_begin}
 use Rattle.{net_plan.specs.declared.ids.DeviceId.DeviceId, std.proofs.Common.{◌∙◌, ◌∷◌, ◌≡◌, List, None, Some, [], ap, inl, inr, length, refl, subst, sym, ℕ}}
-use Rattle.{net_plan.specs.declared.ids.{LinkId.LinkId, VlId.VlId}, run_law.specs.law.FirstLaws.IsBeginning, tte_units.specs.declared.units.Units.Units}
-use Rattle.{run_law.specs.{declared.note.{Note.Note, NoteBody.NoteBody}, records.Causes.{cause_of, last_from}}, schedule_checker.specs.Refusals.RefusalIsOne}
-use Rattle.{tte_audit.{proofs.reports_lemmas.Reports.report_one, specs.Report.{behind_time, scenario_of}}, tte_forms.specs.networks.Accepting.IsNetworkAnswer}
-use Rattle.{tte_audit.specs.reports.Reports.{IsReportAnswer, IsReportOf}, tte_units.proofs.general_lemmas.Options.some_or_none}
+use Rattle.{run_law.proofs.law.FirstPlaces.numbered_in, schedule_checker.specs.Refusals.RefusalIsOne, tte_audit.specs.Report.{behind_time, scenario_of}}
+use Rattle.{run_law.specs.{declared.note.NoteBody.NoteBody, records.Causes.{cause_of, last_from}}, tte_forms.specs.networks.Accepting.IsNetworkAnswer}
+use Rattle.{tte_reports.specs.Reports.{IsReportAnswer, IsReportOf}, tte_units.{proofs.general_lemmas.Options.some_or_none, specs.declared.units.Units.Units}}
 use Rattle.run_law.specs.declared.note.NoteBody.TheVariants as notes
 
 -- a beginning has no cause
@@ -53,8 +53,7 @@ module _ (network : Network) (octets : List ℕ) (ns : List Note) (end : Units) 
   is_one number a b (inr p) (inr q) = p.3 ∙ ap (chain_answer network ns) (one_chain number p.0 q.0 p.1 q.1 p.2 q.2) ∙ sym q.3
 
   begins : (number : ℕ) (first : Happening) (causes : List Happening) (device : DeviceId) (link : LinkId) (cause : ℕ) (vl : VlId) (cycle : ℕ)
-      → IsWholeChain all number first causes → first.note.body ≡ notes.Delivered device link cause vl cycle
-      → IsBeginning (last_from first causes).note.body
+      → IsWholeChain all number first causes → first.note.body ≡ notes.Delivered device link cause vl cycle → IsBeginning (last_from first causes).note.body
   begins number first causes device link cause vl cycle whole is =
       let back = deliveries_begin (scenario_of network ns) (behind_time end) ns first device link cause vl cycle of.run
       (numbered_in all number first whole.there) is in

@@ -1,15 +1,14 @@
 -- Where a frame is taken its position lies in the window.
-use Rattle.{audit_law.proofs.law_lemmas.Emitting.before_is_front, run_law.{proofs.law.FirstPlaces.{same_earlier, split}, specs.declared.note.NoteBody.NoteBody}}
-use Rattle.{lens_why.proofs.LastRecords.parted_there, net_plan.specs.declared.ids.VlId.VlId, schedule_tables.specs.{Rules.KeepsRules, Windows.window_of}}
-use Rattle.lens_why.proofs.Rows.{row_is_one}
-use Rattle.{lens_why.proofs.Windows.window_is, run_law.specs.declared.note.Note.Note, traffic_law.specs.Taken.SaysTaken, tte_audit.specs.Report.scenario_of}
-use Rattle.{lens_why.specs.Grounds.{ground_by, ground_of, position_at, row_of, window_ground}, run_law.specs.records.Ranks.{key, members_in, place_of, rank}}
-use Rattle.{lens_why.specs.Laws.{IsInWindow, TakenInWindows}, run_law.specs.runs.DueRecords.{IsCaused, IsDue}, traffic_law.proofs.delivery.Taken.never_control}
-use Rattle.{net_plan.specs.declared.{ids.{DeviceId.DeviceId, LinkId.LinkId}, network.Network.Network}, run_law.specs.control.Wires.{Signal, control, timed}}
+use Rattle.{audit_law.proofs.law_lemmas.Emitting.before_is_front, lens_why.specs.Grounds.{ground_by, ground_of, position_at, row_of, window_ground}}
+use Rattle.{lens_why.proofs.{LastRecords.parted_there, Windows.window_is}, run_law.specs.{runs.DueRecords.{IsCaused, IsDue}, scenario.Scenarios.Scenario}}
+use Rattle.{lens_why.proofs.Rows.row_is_one, tte_audit.specs.Report.scenario_of}
+use Rattle.{lens_why.specs.Laws.{IsInWindow, TakenInWindows}, net_plan.specs.declared.{ids.{DeviceId.DeviceId, LinkId.LinkId}, network.Network.Network}}
+use Rattle.{net_plan.specs.declared.ids.VlId.VlId, schedule_tables.specs.{Rules.KeepsRules, Windows.window_of}, tte_reports.specs.Reports.IsReportOf}
+use Rattle.precision_law.{proofs.traffic_lemmas.delivery.{Faultless.{FindsNone, TakesIn, finds_none}, Taken.never_control}, specs.traffic.Taken.SaysTaken}
+use Rattle.run_law.{proofs.law.FirstPlaces.{same_earlier, split}, specs.{control.Wires.{Signal, control, timed}, declared.note.{Note.Note, NoteBody.NoteBody}}}
 use Rattle.run_law.specs.{device.Standpoints.{clock_of, offset_in_cycle, standpoint}, records.Happenings.{Happening, earlier, happenings, numbered, time_of}}
-use Rattle.{run_law.specs.device.States.adjustment_after, tte_audit.specs.reports.Reports.IsReportOf, tte_units.specs.declared.units.Units.Units}
-use Rattle.{run_law.specs.scenario.Scenarios.Scenario, std.proofs.Common.{◌+ℤ◌, ◌∙◌, ◌∷◌, ◌≡◌, ◌≤ℤ◌, List, Option, Some, ap, inl, inr, pos, subst, sym, ℕ, ℤ}}
-use Rattle.{run_law.specs.timed.Receptions.{ArrivesAs, arrival_of, last_taken}, traffic_law.proofs.delivery.Faultless.{FindsNone, TakesIn, finds_none}}
+use Rattle.run_law.specs.{device.States.adjustment_after, records.Ranks.{key, members_in, place_of, rank}, timed.Receptions.{ArrivesAs, arrival_of, last_taken}}
+use Rattle.{std.proofs.Common.{◌+ℤ◌, ◌∙◌, ◌∷◌, ◌≡◌, ◌≤ℤ◌, List, Option, Some, ap, inl, inr, pos, subst, sym, ℕ, ℤ}, tte_units.specs.declared.units.Units.Units}
 use Rattle.run_law.specs.declared.note.NoteBody.TheVariants as notes
 use Rattle.run_law.specs.declared.steps.Arrival.TheVariants as arrivals
 
@@ -17,8 +16,7 @@ use Rattle.run_law.specs.declared.steps.Arrival.TheVariants as arrivals
 found : (s : Scenario) (hs : List Happening) (device : DeviceId) (t : ℕ) (link : LinkId) (cause : ℕ) (signal : Signal) (vl : VlId) (cycle : ℕ)
     → TakesIn (arrival_of s hs device t link cause signal) vl cycle
     → (octets : List ℕ) × FindsNone s.network device link (standpoint s hs device t) octets (last_taken hs device t link cause) vl cycle
-found s hs device t link cause (control frame) vl cycle takes =
-    absurd (never_control s.network device link (standpoint s hs device t) frame vl cycle takes)
+found s hs device t link cause (control frame) vl cycle takes = absurd (never_control s.network device link (standpoint s hs device t) frame vl cycle takes)
 found s hs device t link cause (timed octets) vl cycle takes = (
   octets,
   finds_none s.network device link (standpoint s hs device t) octets (last_taken hs device t link cause) vl cycle takes,
@@ -55,12 +53,10 @@ module _ (network : Network) (octets : List ℕ) (ns : List Note) (end : Units) 
 
   arrives : SaysTaken h.note.body device link cause vl cycle → (signal : Signal) × TakesIn (arrival_of own before device (time_of h) link cause signal) vl cycle
   arrives (inl is) =
-      let a : ArrivesAs own before device (time_of h) link cause (arrivals.Accepted vl cycle) =
-      caused (notes.Accepted device link cause vl cycle) is in
+      let a : ArrivesAs own before device (time_of h) link cause (arrivals.Accepted vl cycle) = caused (notes.Accepted device link cause vl cycle) is in
       (a.signal, inl (sym a.becomes))
   arrives (inr is) =
-      let a : ArrivesAs own before device (time_of h) link cause (arrivals.Delivered vl cycle) =
-      caused (notes.Delivered device link cause vl cycle) is in
+      let a : ArrivesAs own before device (time_of h) link cause (arrivals.Delivered vl cycle) = caused (notes.Delivered device link cause vl cycle) is in
       (a.signal, inr (sym a.becomes))
 
   said : SaysTaken h.note.body device link cause vl cycle
@@ -77,8 +73,7 @@ module _ (network : Network) (octets : List ℕ) (ns : List Note) (end : Units) 
       let clock : clock_of (standpoint own before device t) ≡ clock_of (standpoint own all device t) =
       ap (λ (es : List Happening). shown_by own device t es) same_times in
       let same : offset_in_cycle network (clock_of (standpoint own before device t)) ≡ at = ap (offset_in_cycle network) clock in
-      let row : row_of network vl link ≡ Some f.enters.place =
-      ap (λ (l : LinkId). row_of network vl l) (sym f.enters.by)
+      let row : row_of network vl link ≡ Some f.enters.place = ap (λ (l : LinkId). row_of network vl l) (sym f.enters.by)
       ∙ ap (λ (v : VlId). row_of network v f.entry.row.link) (sym f.of_vl)
       ∙ row_is_one network f.enters.place f.entry rules f.enters.row in
       let places = window_of network f.entry in

@@ -5,15 +5,15 @@ use Rattle.std.specs.Prelude.{◌*◌, ◌+◌, ◌-ℤ◌, ◌≡◌, ◌≤ℤ
 use Rattle.{audit_devices.specs.Keeping.records_before, lens_why.specs.declared.ground.Ground.Ground}
 use Rattle.compression.specs.{Clusters.{AreClusters, Cluster, Point, point_at}, Collection.{joined, opening}}
 use Rattle.{compression.specs.Middle.{middle_of, relative}, net_plan.specs.declared.ids.DeviceId.DeviceId}
-use Rattle.{compression.specs.{OneCluster.AreInOrder, Role.role_in}, lens_why.specs.Seeking.last_sought}
+use Rattle.{compression.specs.{OneCluster.AreInOrder, Role.role_in}, tte_units.specs.declared.units.Units.Units}
 use Rattle.compression.specs.declared.taken.Taken.{Taken, TheVariants.{Joined, Opened, OtherCycle, Repeat}}
-use Rattle.{lens_why.specs.declared.collecting.Collection.Collection, pcf_values.specs.declared.members.Members.Members}
-use Rattle.{lens_why.specs.declared.collecting.Given.Given, net_plan.specs.declared.network.Network.Network}
+use Rattle.{lens_why.specs.Seeking.last_sought, tte_reports.specs.Reports.IsReportOf, tte_units.specs.Amount.amount}
+use Rattle.{lens_why.specs.declared.collecting.Collection.Collection, net_plan.specs.declared.network.Network.Network}
+use Rattle.{lens_why.specs.declared.collecting.Given.Given, tte_units.specs.declared.frames.members.Members.Members}
 use Rattle.lens_why.specs.declared.{ground.Ground.TheVariants.{Collected, Middle}, seeking.Sought.TheVariants.Opening}
 use Rattle.run_law.specs.{control.Collections.{master_of, observation_window, points_of}, device.States.cycle_in}
 use Rattle.run_law.specs.declared.{judgement.Judgement.Judgement, note.{Note.Note, NoteBody.TheVariants.Compressed}}
 use Rattle.run_law.specs.records.{Happenings.{Happening, happenings, numbered}, Ranks.{members_in, place_of}}
-use Rattle.{tte_audit.specs.reports.Reports.IsReportOf, tte_units.specs.{Amount.amount, declared.units.Units.Units}}
 
 -- the last collection, where it is open at the reading
 abbrev pub open_in : Option Cluster → ℤ → Option Cluster
@@ -56,8 +56,7 @@ collected_ground network hs device h =
 -- how far the reading is behind that at which the collection would be sent which opened at the point, if its points had
 -- their middle at the first: two observation windows and the time to calculate later
 abbrev pub middle_told : Network → Units → Units → ℤ
-middle_told network opened at =
-    (at.0 -ℤ opened.0) -ℤ pos (2 * amount network.precision + amount network.calc)
+middle_told network opened at = (at.0 -ℤ opened.0) -ℤ pos (2 * amount network.precision + amount network.calc)
 
 -- the ground of what the compression master sends with this record, at the reading, for the collection that opened at
 -- the point: the last record before by which a frame opened one there, and the middle of its points, from the first on

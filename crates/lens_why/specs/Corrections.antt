@@ -8,7 +8,7 @@ use Rattle.{lens_why.specs.Seeking.last_sought, run_law.specs.records.Ranks.plac
 use Rattle.lens_why.specs.{declared.ground.{Best.Best, Ground.Ground, Told.Told}, past.Pasts.before_corrections}
 use Rattle.lens_why.specs.declared.{ground.Ground.TheVariants.{Clique, Corrected}, seeking.Sought.TheVariants.Frame}
 use Rattle.{net_plan.specs.declared.ids.DeviceId.DeviceId, run_law.specs.records.Happenings.{Happening, time_of}}
-use Rattle.pcf_values.specs.declared.channel.Channel.{Channel, TheVariants.{A, B}}
+use Rattle.tte_units.specs.declared.frames.channel.Channel.{Channel, TheVariants.{A, B}}
 use Rattle.run_law.specs.{declared.judgement.Why.TheVariants.{AsyncClique, SyncClique}, device.States.adjustment_before}
 use Rattle.run_law.specs.{declared.judgement.Why.Why, scenario.{Devices.plan_of, Scenarios.Scenario}}
 use Rattle.sync_state.specs.{correction.Deviation.deviation_of, declared.membership.frame.HeardFrame.HeardFrame}

@@ -194,8 +194,7 @@ ground_by s hs h (notes.Delivered device link cause vl cycle) =
     window_ground s.network (position_at s hs device (time_of h)) (row_of s.network vl link)
 ground_by s hs h (notes.Dropped device link cause reason) =
     dropped_ground s hs h device link cause (numbered hs cause) reason
-ground_by s hs h (notes.Compressed device opened at cycle members verdict) =
-    sent_ground s.network hs h device opened at
+ground_by s hs h (notes.Compressed device opened at cycle members verdict) = sent_ground s.network hs h device opened at
 ground_by s hs h (notes.Corrected device cycle by adjustment) = corrected_ground s hs h device cycle
 ground_by s hs h (notes.State device state cause why) = state_ground s hs h device why
 ground_by s hs h (notes.Lost device link cause) = lost_ground s.network hs h device link

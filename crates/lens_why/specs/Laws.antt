@@ -1,15 +1,15 @@
 -- What holds of the chains that `why` tells.
 use Rattle.std.specs.Prelude.{◌++◌, ◌<◌, ◌∷◌, ◌≡◌, ◌≤ℤ◌, ◌⊎◌, List, None, Option, Some, [], ℕ, ℤ}
 use Rattle.{audit_law.specs.law.CorrectionPoints.IsPointOf, net_plan.specs.declared.network.Network.Network}
-use Rattle.{lens_why.specs.{Answer.IsWhyAnswer, Chain.IsWholeChain}, traffic_law.specs.Taken.SaysTaken}
+use Rattle.{lens_why.specs.{Answer.IsWhyAnswer, Chain.IsWholeChain}, tte_audit.specs.Report.scenario_of}
 use Rattle.{lens_why.specs.Grounds.{ground_of, row_of}, net_plan.specs.declared.ids.{LinkId.LinkId, VlId.VlId}}
 use Rattle.{lens_why.specs.declared.ground.{Best.Best, Ground.Ground}, net_plan.specs.declared.ids.DeviceId.DeviceId}
 use Rattle.lens_why.specs.declared.ground.Ground.TheVariants.{Clique, Corrected, CutBy, Middle, Taken, Unsynchronised}
 use Rattle.{lens_why.specs.declared.ground.Ground.TheVariants.Window, schedule_tables.specs.declared.entry.Entry.Entry}
 use Rattle.{lens_why.specs.declared.ground.Told.Told, run_law.specs.{declared.note.Note.Note, records.Causes.last_from}}
+use Rattle.{precision_law.specs.traffic.Taken.SaysTaken, tte_units.specs.declared.units.Units.Units}
 use Rattle.run_law.specs.{law.FirstLaws.IsBeginning, records.{Happenings.{Happening, happenings, numbered}, Order.IsIn}}
-use Rattle.{schedule_tables.specs.{Entries.IsEntry, Rules.KeepsRules}, tte_audit.specs.Report.scenario_of}
-use Rattle.{tte_audit.specs.reports.Reports.IsReportOf, tte_units.specs.declared.units.Units.Units}
+use Rattle.{schedule_tables.specs.{Entries.IsEntry, Rules.KeepsRules}, tte_reports.specs.Reports.IsReportOf}
 use Rattle.tte_forms.specs.Answering.{Answer}
 use Rattle.run_law.specs.declared.note.NoteBody.TheVariants as notes
 

@@ -3,7 +3,8 @@ use Rattle.std.specs.{Fmt.{decimal, signed_decimal}, Int.{to_be_bytes, w32}, Lis
 use Rattle.std.specs.Prelude.{if◌then◌else◌, ◌++◌, ◌∷◌, Bool, List, None, Option, Some, [], codes, false, true, ℕ, ℤ}
 use Rattle.{hex.specs.Hex.encode_lower, report_text.specs.NoteLine.note_line, run_law.specs.declared.note.Note.Note}
 use Rattle.{lens_why.specs.{Grounds.ground_of, declared.ground.Told.Told}, run_law.specs.scenario.Scenarios.Scenario}
-use Rattle.{lens_why.specs.declared.collecting.Collection.Collection, pcf_values.specs.declared.members.Members.Members}
+use Rattle.lens_why.specs.declared.collecting.Collection.{Collection}
+use Rattle.tte_units.specs.declared.frames.members.Members.{Members}
 use Rattle.{lens_why.specs.declared.ground.{Best.Best, Ground.Ground}, sync_state.specs.membership.Members.count_of}
 use Rattle.lens_why.specs.declared.ground.Ground.TheVariants.{Clique, Clock, Collected, Corrected, CutBy, Dispatched}
 use Rattle.lens_why.specs.declared.ground.Ground.TheVariants.{Gate, Heard, Held, Length, Line, Local, Middle, Missed}
@@ -44,8 +45,7 @@ off_text off precision = codes " off " ++ (signed_decimal off ++ (codes " precis
 
 -- the local value that is expected, how far beyond it a clock stands, and how far it may
 unfoldable pub against_text : ℤ → ℤ → ℕ → List ℕ
-against_text expected off precision =
-    codes " expected " ++ (signed_decimal expected ++ off_text off precision)
+against_text expected off precision = codes " expected " ++ (signed_decimal expected ++ off_text off precision)
 
 -- a marker: its four octets
 abbrev pub marker_text : ℕ → List ℕ
@@ -85,8 +85,7 @@ ground_text (Taken cycle number) = codes "cycle " ++ (decimal cycle ++ (codes " 
 ground_text (Length size of) = codes "length " ++ (decimal size ++ (codes " of " ++ decimal of))
 ground_text (Unknown marker of id) =
     codes "marker " ++ (marker_text marker ++ (codes " of " ++ (marker_text of ++ (codes " id " ++ decimal id))))
-ground_text (Unsynchronised state number) =
-    codes "state " ++ (state_text state ++ (codes " since " ++ decimal number))
+ground_text (Unsynchronised state number) = codes "state " ++ (state_text state ++ (codes " since " ++ decimal number))
 ground_text (Gate beyond most) = codes "gate " ++ (signed_decimal beyond ++ (codes " open " ++ decimal most))
 ground_text (Reading reading) = codes "reading " ++ signed_decimal reading.0
 
@@ -101,8 +100,7 @@ ground_line said = codes "ground " ++ (ground_text said ++ codes "\n")
 
 -- the lines of a record and of its ground, if that says anything
 abbrev pub told_lines : Network → Note → Ground → List (List ℕ)
-told_lines network note said =
-    note_line network note ∷ (if is_told said then ground_line said ∷ [] else [])
+told_lines network note said = note_line network note ∷ (if is_told said then ground_line said ∷ [] else [])
 
 -- the same, of a record among these
 abbrev pub record_lines : Scenario → List Happening → Happening → List (List ℕ)

@@ -4,10 +4,10 @@ use Rattle.std.specs.Prelude.{zero, ℕ}
 use Rattle.{lens_why.specs.declared.past.past.Permanence.Permanence, net_plan.specs.declared.network.Network.Network}
 use Rattle.{net_plan.specs.declared.ids.DeviceId.DeviceId, run_law.specs.declared.note.{Note.Note, NoteBody.NoteBody}}
 use Rattle.run_law.specs.{declared.judgement.Judgement.Judgement, records.Happenings.{Happening, happenings, numbered}}
-use Rattle.run_law.specs.{declared.judgement.Why.Why, records.{Causes.cause_of, Ranks.place_of}, runs.DueRecords.IsDue}
+use Rattle.run_law.specs.{declared.judgement.Why.Why, records.Causes.cause_of, scenario.Scenarios.Scenario}
+use Rattle.{run_law.specs.{records.Ranks.place_of, runs.DueRecords.IsDue}, tte_reports.specs.Reports.IsReportOf}
 use Rattle.run_law.specs.runs.Runs.{IsFounded}
-use Rattle.{run_law.specs.scenario.Scenarios.Scenario, tte_units.specs.declared.units.Units.Units}
-use Rattle.{sync_state.specs.declared.state.State.State, tte_audit.specs.reports.Reports.IsReportOf}
+use Rattle.{sync_state.specs.declared.state.State.State, tte_units.specs.declared.units.Units.Units}
 use Rattle.run_law.specs.declared.note.NoteBody.TheVariants as notes
 
 -- the record of this number, from 1; 0 is the number of none

@@ -1,14 +1,13 @@
 -- The last record before another one by which something came about.
 use Rattle.std.specs.{List.last_or, Option.option_map_or}
 use Rattle.std.specs.Prelude.{◌&&◌, ◌==◌, Bool, List, None, Option, Some, false, filter, int_le, is_some, true, ℕ}
-use Rattle.sync_state.specs.{declared.membership.frame.HeardFrame.HeardFrame, membership.Hearing.Hearing}
-use Rattle.net_plan.specs.declared.{ids.DeviceId.DeviceId, network.Network.Network}
-use Rattle.pcf_values.specs.declared.channel.Channel.{Channel, TheVariants.{A, B}}
-use Rattle.run_law.specs.{control.Corrections.hearing_by, declared.note.NoteBody.{NoteBody, TheVariants.Event}}
-use Rattle.run_law.specs.{device.States.is_joined_by, records.Happenings.{Happening, time_of}, scenario.Ways.cut_set}
-use Rattle.run_law.specs.{declared.judgement.Judgement.TheVariants.Opened, timed.Receptions.is_taken_before}
-use Rattle.tte_units.specs.declared.units.Units.{Units}
 use Rattle.lens_why.specs.declared.seeking.Sought.{Sought, TheVariants.{Cut, Frame, Opening, Taking, Turning}}
+use Rattle.{net_plan.specs.declared.ids.DeviceId.DeviceId, run_law.specs.timed.Receptions.is_taken_before}
+use Rattle.{net_plan.specs.declared.network.Network.Network, run_law.specs.records.Happenings.{Happening, time_of}}
+use Rattle.run_law.specs.{control.Corrections.hearing_by, device.States.is_joined_by, scenario.Ways.cut_set}
+use Rattle.run_law.specs.declared.{judgement.Judgement.TheVariants.Opened, note.NoteBody.{NoteBody, TheVariants.Event}}
+use Rattle.sync_state.specs.{declared.membership.frame.HeardFrame.HeardFrame, membership.Hearing.Hearing}
+use Rattle.tte_units.specs.declared.{frames.channel.Channel.{Channel, TheVariants.{A, B}}, units.Units.Units}
 use Rattle.run_law.specs.declared.note.NoteBody.TheVariants as notes
 
 -- are the two channels one?
@@ -45,8 +44,7 @@ opens device point other = false
 abbrev pub is_sought : Network → Sought → Happening → NoteBody → Bool
 is_sought network (Cut link way) h (Event line what) = is_some (cut_set link way what)
 is_sought network (Cut link way) h other = false
-is_sought network (Frame device channel frame) h body =
-    is_hearing_of channel frame (hearing_by network device h body)
+is_sought network (Frame device channel frame) h body = is_hearing_of channel frame (hearing_by network device h body)
 is_sought network (Taking c) h body = is_taken_before c.device c.vl c.time c.link c.cause (time_of h) body
 is_sought network (Turning device) h body = turns device body
 is_sought network (Opening device point) h body = opens device point body

@@ -1,7 +1,7 @@
 ghost use Rattle.std.specs.Prelude.{◌≡◌, ◌⊎◌, List};
 ghost use Rattle.lens_why.specs.{Answer.{IsWhyAnswer, IsWhyStatus}, past.Pasts.{IsSomeReport, ShowsAll}};
-ghost use Rattle.{lens_why.specs.Records.IsRecordOf, tte_audit.specs.reports.Reports.{IsReportAnswer, IsReportOf}};
-ghost use Rattle.{report_text.specs.Ranges.IsNoteOf, tte_units.specs.declared.units.Units.{Units as UnitsValue}};
+ghost use Rattle.{lens_why.specs.Records.IsRecordOf, tte_units.specs.declared.units.Units.{Units as UnitsValue}};
+ghost use Rattle.{report_text.specs.Ranges.IsNoteOf, tte_reports.specs.Reports.{IsReportAnswer, IsReportOf}};
 ghost use Rattle.run_law.specs.declared.note.Note.{Note as NoteValue};
 ghost use Rattle.{tte_audit.specs.Named.IsNamed, tte_forms.specs.Faults.{HasCause, IsWanted, PutFailed, ReadFailed}};
 ghost use Rattle.tte_forms.specs.{Answering.{ForOctets, GivesAnswer}, Putting.Over, networks.Accepting.IsNetworkAnswer};
@@ -15,9 +15,9 @@ use run_law::Note;
 use schedule_tables::Accepted;
 use std::alloc::Global;
 use tte_audit::keep_names_apart;
-use tte_audit::reports::put_no_report;
 use tte_forms::{Status, accept, end_with, put_last, put_no_network};
 use tte_io::{LineText, Sink, Source};
+use tte_reports::put_no_report;
 
 /// Tells of the report of the second file, over the network of the first, the record of the number and what bore on
 /// it, and so on by causes to a record without one. The report is audited first, so what is told is of the run.

@@ -1,13 +1,13 @@
 //! The records of a report by their numbers and by their causes.
 ghost use Rattle.std.specs.Prelude.{◌≡◌, IfOk, IfSome, List, option_map};
-ghost use Rattle.{lens_why.specs.Records.{IsFound, IsRecordOf, note_at}, tte_audit.specs.reports.Reports.IsReportOf};
-ghost use Rattle.{lens_why.specs.past.Pasts.IsSomeReport, tte_units.specs.declared.units.Units.{Units as UnitsValue}};
+ghost use Rattle.lens_why.specs.{Records.{IsFound, IsRecordOf, note_at}, past.Pasts.IsSomeReport};
 ghost use Rattle.{report_text.specs.Ranges.IsNoteOf, tte_audit.specs.Named.IsNamed};
 ghost use Rattle.run_law.specs.{declared.note.Note.{Note as NoteValue}, records.Causes.cause_of};
+ghost use Rattle.{tte_reports.specs.Reports.IsReportOf, tte_units.specs.declared.units.Units.{Units as UnitsValue}};
 
 use net_plan::Network;
 use run_law::{Note, NoteBody};
-use tte_audit::reports::AuditedReport;
+use tte_reports::AuditedReport;
 
 /// The number of the record that a record comes from, or 0.
 fn cause_of(body: &NoteBody) -> u64

@@ -3,19 +3,19 @@ ghost use Rattle.std.specs.Prelude.{◌^◌, ◌≡◌, ◌≤◌, List, option_
 ghost use Rattle.{device_rules.specs.Widths.IsWide, tte_audit.specs.{Named.IsNamed, Report.scenario_of}};
 ghost use Rattle.lens_why.specs.Corrections.{clique_ground, corrected_ground, is_clique, said_by, told_on, value_of};
 ghost use Rattle.lens_why.specs.{Records.{IsCorrection, IsState, IsThere}, past.Pasts.{IsSomeReport, ShowsAll}};
-ghost use Rattle.{net_plan.specs.Belonging.HasDevice, tte_units.specs.declared.units.Units.{Units as UnitsValue}};
-ghost use Rattle.{net_plan.specs.Ranges.IsInRange, tte_units.specs.Amount.amount};
-ghost use Rattle.{run_law.specs.declared.judgement.Why.Why, tte_audit.specs.reports.Reports.IsReportOf};
+ghost use Rattle.{net_plan.specs.{Belonging.HasDevice, Ranges.IsInRange}, tte_reports.specs.Reports.IsReportOf};
+ghost use Rattle.{run_law.specs.declared.judgement.Why.Why, tte_units.specs.declared.units.Units.{Units as UnitsValue}};
 ghost use Rattle.run_law.specs.{declared.note.Note.{Note as NoteValue}, records.Happenings.{Happening, happenings}};
+ghost use Rattle.tte_units.specs.Amount.{amount};
 
 use crate::ground::{Best, Ground, Told, beyond, magnitude};
 use crate::past::KnownReport;
 use crate::seeking::{Sought, last_before};
 use device_rules::joined_adjustment;
 use net_plan::{DeviceId, Network};
-use pcf_values::Channel;
 use sync_state::membership::{Heard, HeardFrame, count};
 use tte_units::Units;
+use tte_units::frames::Channel;
 
 /// What the channels say to the correction of the device's clock, that of the cycle, by the record of the number at the
 /// time.

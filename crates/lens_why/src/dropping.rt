@@ -2,16 +2,16 @@
 ghost use Rattle.std.specs.{Option.option_map_or, Prelude.position};
 ghost use Rattle.std.specs.Prelude.{◌&&◌, ◌*◌, ◌+ℤ◌, ◌+◌, ◌<◌, ◌^◌, ◌≡◌, ◌≤◌, IfSome, List, Some, length, pos};
 ghost use Rattle.{audit_law.specs.events.Readings.scenario_under, schedule_tables.specs.Entries.IsEntryInRange};
-ghost use Rattle.{device_rules.specs.Widths.IsLocal, tte_units.specs.declared.units.Units.{Units as UnitsValue}};
+ghost use Rattle.{device_rules.specs.Widths.IsLocal, tte_audit.specs.Named.IsNamed, tte_units.specs.Amount.amount};
 ghost use Rattle.lens_why.specs.Grounds.{beside_ground, cycle_before, dropped_ground, entry_given, gate_ground};
 ghost use Rattle.lens_why.specs.Grounds.{length_ground, repeat_ground, unknown_ground, unsynchronised_ground};
 ghost use Rattle.lens_why.specs.{Records.IsThere, past.Pasts.{IsPast, IsSomePast, IsSomeReport, ShowsAll}};
-ghost use Rattle.{net_plan.specs.Belonging.HasDevice, tte_audit.specs.{Report.scenario_of, reports.Reports.IsReportOf}};
-ghost use Rattle.{net_plan.specs.Ranges.IsInRange, tte_audit.specs.Named.IsNamed, tte_units.specs.Amount.amount};
+ghost use Rattle.{net_plan.specs.{Belonging.HasDevice, Ranges.IsInRange}, tte_audit.specs.Report.scenario_of};
 ghost use Rattle.net_plan.specs.declared.{event.Event.Event, network.Network.{Network as NetworkValue}};
 ghost use Rattle.run_law.specs.{declared.note.Note.{Note as NoteValue}, timed.Arrivals.{entry_entering, is_row_with}};
 ghost use Rattle.run_law.specs.device.Standpoints.{clock_of, cycle_at, offset_in_cycle, standpoint};
 ghost use Rattle.run_law.specs.{records.Happenings.{Happening, happenings, numbered}, scenario.Ways.is_way_of};
+ghost use Rattle.{tte_reports.specs.Reports.IsReportOf, tte_units.specs.declared.units.Units.{Units as UnitsValue}};
 
 use crate::ground::{Ground, magnitude, place_in_cycle, position_at};
 use crate::past::{KnownReport, Past};

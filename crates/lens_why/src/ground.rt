@@ -1,17 +1,17 @@
 ghost use Rattle.std.specs.Prelude.{◌*◌, ◌+ℤ◌, ◌+◌, ◌-ℤ◌, ◌-◌, ◌<◌, ◌^◌, ◌≡◌, ◌≤◌, IfSome, List, None, Option, Some};
 ghost use Rattle.std.specs.Prelude.{length, option_map};
-ghost use Rattle.{audit_law.specs.events.Readings.scenario_under, tte_audit.specs.reports.Reports.IsReportOf};
+ghost use Rattle.{audit_law.specs.events.Readings.scenario_under, net_plan.specs.declared.event.Event.Event};
 ghost use Rattle.{device_rules.specs.Widths.IsWide, run_law.specs.records.Happenings.{Happening, happenings, numbered}};
 ghost use Rattle.lens_why.specs.{Corrections.is_clique, Grounds.{scheduled_ground, state_ground, window_ground}};
 ghost use Rattle.lens_why.specs.Grounds.{dispatch_ground, ground_of, heard_ground, is_by_schedule, is_collected};
 ghost use Rattle.lens_why.specs.Grounds.{lost_ground, offset_at, permanent_ground, position_at, row_of};
 ghost use Rattle.lens_why.specs.Records.{ComesFrom, IsPermanence, IsState, IsThere, clock_given};
 ghost use Rattle.lens_why.specs.past.Pasts.{IsPast, IsSomePast, IsSomeReport, IsTimely, ShowsAll};
-ghost use Rattle.net_plan.specs.{Belonging.HasDevice, Ranges.IsInRange, declared.event.Event.Event};
+ghost use Rattle.{net_plan.specs.{Belonging.HasDevice, Ranges.IsInRange}, tte_audit.specs.Report.scenario_of};
 ghost use Rattle.run_law.specs.{declared.judgement.Judgement.{Judgement as JudgementValue}, scenario.Ways.way_from};
 ghost use Rattle.run_law.specs.{declared.note.Note.{Note as NoteValue}, device.Standpoints.offset_in_cycle};
 ghost use Rattle.{tte_audit.specs.Named.IsNamed, tte_units.specs.Amount.amount};
-ghost use Rattle.{tte_audit.specs.Report.scenario_of, tte_units.specs.declared.units.Units.{Units as UnitsValue}};
+ghost use Rattle.{tte_reports.specs.Reports.IsReportOf, tte_units.specs.declared.units.Units.{Units as UnitsValue}};
 
 use crate::collecting::{Collection, collected, sent_for};
 use crate::correcting::{clique, corrected};
@@ -20,11 +20,11 @@ use crate::past::{KnownReport, Past, Permanence};
 use crate::seeking::{Sought, last_before};
 use device_rules::{is_parent_of, joined_adjustment};
 use net_plan::{DeviceId, LinkId, Network, RowId, VlId, Way};
-use pcf_values::Members;
 use run_law::{Judgement, Note, NoteBody, Why};
 use schedule_tables::{entry_of, window_of};
 use sync_state::State;
 use tte_units::Units;
+use tte_units::frames::Members;
 
 /// What a channel says to a correction of a device's clock, by the best frame that the device has heard on it.
 #[derive(Clone, Copy, PartialEq, Eq)]

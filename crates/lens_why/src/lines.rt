@@ -9,13 +9,13 @@ ghost use Rattle.{sync_state.specs.membership.Members.count_of, tte_forms.specs.
 use crate::{Best, Collection, Ground, Told};
 use itoa::Buffer;
 use net_plan::Network;
-use pcf_values::Members;
 use report_text::{state_text, write_in};
 use run_law::Note;
 use sync_state::State;
 use sync_state::membership::count;
 use tte_io::{LineText, Sink, SinkFailed};
 use tte_units::Units;
+use tte_units::frames::Members;
 
 /// Adds a number that may be great, which takes at most 40 octets.
 fn push_wide(line: &mut LineText, n: u128)

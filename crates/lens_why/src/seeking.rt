@@ -1,23 +1,23 @@
 //! The last record before another one by which something came about.
 ghost use Rattle.std.specs.Prelude.{if◌then◌else◌, ◌≡◌, List, Some, option_map, true};
-ghost use Rattle.{audit_devices.specs.Effects.carried_by, tte_audit.specs.{Named.IsNamed, reports.Reports.IsReportOf}};
+ghost use Rattle.{audit_devices.specs.Effects.carried_by, lens_why.specs.past.Pasts.{IsPast, IsSomeReport, ShowsAll}};
 ghost use Rattle.{audit_devices.specs.Keeping.records_before, run_law.specs.control.Corrections.{heard_by, hearing_by}};
-ghost use Rattle.lens_why.specs.{Records.IsThere, past.Pasts.{IsPast, IsSomeReport, ShowsAll}};
+ghost use Rattle.{lens_why.specs.Records.IsThere, tte_units.specs.declared.units.Units.{Units as UnitsValue}};
 ghost use Rattle.lens_why.specs.Seeking.{is_channel, is_frame, is_hearing_of, is_sought, last_sought, opens, turns};
 ghost use Rattle.net_plan.specs.declared.{event.Event.{Event as EventValue}, network.Network.{Network as NetworkValue}};
 ghost use Rattle.run_law.specs.{declared.note.Note.{Note as NoteValue}, scenario.Devices.{channel_of, channel_of_link}};
 ghost use Rattle.run_law.specs.records.{Happenings.{Happening, happenings, numbered}, Ranks.place_of};
-ghost use Rattle.run_law.specs.timed.Receptions.{comes_before, is_taken_before};
-ghost use Rattle.tte_units.specs.declared.units.Units.{Units as UnitsValue};
+ghost use Rattle.{run_law.specs.timed.Receptions.{comes_before, is_taken_before}, tte_reports.specs.Reports.IsReportOf};
+ghost use Rattle.tte_audit.specs.Named.{IsNamed};
 
 use crate::ground::magnitude;
 use crate::past::{KnownReport, Past};
 use audit_devices::Carried;
 use net_plan::{DeviceId, LinkId, Network, VlId, Way, What};
-use pcf_values::Channel;
 use run_law::{Judgement, Note, NoteBody};
 use sync_state::membership::HeardFrame;
 use tte_units::Units;
+use tte_units::frames::Channel;
 
 /// By what a record is looked for.
 #[derive(Clone, Copy)]

@@ -172,11 +172,9 @@ each read so_far (item entries rest) = do
   thing ← read (length so_far) entries
   each read (so_far ++ thing ∷ []) rest
 
--- the network of the document's entries: the top table, then the kinds of the four arrays, then the
--- tables of each array
-unfoldable pub network_of : Data → Read Network
-network_of entries = do
-  network ← document_of entries
+-- the network with what the four arrays of the document mean, first the kinds of the arrays, then the tables of each
+unfoldable pub filled : Data → Network → Read Network
+filled entries network = do
   devices ← tables document keys.Device entries
   links ← tables document keys.Link entries
   vls ← tables document keys.Vl entries
@@ -186,6 +184,12 @@ network_of entries = do
   vl ← each (vl_of (first_of (device_names device))) [] vls
   row ← each (row_of (first_of (vl_names vl)) (first_of (link_names link))) [] rows
   Ok (record network { device = device; link = link; vl = vl; row = row })
+
+-- the network of the document's entries: the top table, then its arrays
+unfoldable pub network_of : Data → Read Network
+network_of entries = do
+  network ← document_of entries
+  filled entries network
 
 -- the network of what TOML reads, if it reads a document
 abbrev pub network_in : Option Members → Read Network

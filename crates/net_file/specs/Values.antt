@@ -1,11 +1,11 @@
 -- What the values of a network file mean.
 use Rattle.std.specs.{List.list_all, Prelude.{if◌then◌else◌, length, nat_le, negsuc, pos, ℕ, ℤ}}
 use Rattle.std.specs.Prelude.{◌&&◌, ◌==◌, Bool, Err, List, None, Ok, Option, Result, Some, bytes_eq, codes}
-use Rattle.{byteorder.specs.Endian.big_number, pcf_values.specs.declared.channel.Channel.{Channel, TheVariants.{A, B}}}
-use Rattle.{hex.specs.Hex.decode_sized, tte_units.specs.declared.speed.Speed.{Speed, TheVariants.{Gbit1, Mbit100}}}
+use Rattle.{byteorder.specs.Endian.big_number, net_plan.specs.declared.tables.{Role.Role, Way.Way}}
+use Rattle.{hex.specs.Hex.decode_sized, tte_units.specs.declared.frames.channel.Channel.{Channel, TheVariants.{A, B}}}
 use Rattle.{hex.specs.declared.error.FromHexError.FromHexError, net_plan.specs.NameText.is_name_character}
 use Rattle.net_plan.specs.declared.tables.{Role.TheVariants.{Client, Cm, Master, Relay}, Way.TheVariants.{Down, Up}}
-use Rattle.net_plan.specs.declared.tables.{Role.Role, Way.Way}
+use Rattle.tte_units.specs.declared.speed.Speed.{Speed, TheVariants.{Gbit1, Mbit100}}
 
 -- a whole number from low to high
 abbrev pub number_within : ℕ → ℕ → ℤ → Option ℕ

@@ -10,9 +10,9 @@ use crate::spots::Place;
 use crate::values::LONGEST;
 use crate::{FileRefusal, KeyName, TableName};
 use net_plan::{Device, Role};
-use pcf_values::Channel;
 use std::alloc::Global;
 use toml::Value;
+use tte_units::frames::Channel;
 
 fn device_keys(role: Role) -> &'static [KeyName]
     ensures { result.now ≡ device_keys role }

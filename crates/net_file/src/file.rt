@@ -1,5 +1,5 @@
 ghost use Rattle.std.specs.{Prelude.{◌≡◌, ◌≤◌, ◌⊎◌, IfOk, MatchResult, None, Some, length}, Str.is_utf8};
-ghost use Rattle.net_file.specs.Schema.{network_in, network_of, network_read, parsed};
+ghost use Rattle.net_file.specs.Schema.{filled, network_in, network_of, network_read, parsed};
 ghost use Rattle.net_file.specs.{Steps.Gives, declared.refusal.FileRefusal.TheVariants.{NotToml, OutOfMemory}};
 ghost use Rattle.{net_plan.specs.Ranges.IsInRange, toml.specs.{Data.table, Parse.parse_document, View.view}};
 
@@ -30,16 +30,16 @@ fn parse(alloc: Global, text: &[u8]) -> Result<Value, FileRefusal>
     }
 }
 
-#[tactic(auto, unfolding(crate::specs::Schema::network_of))]
-fn read_value(alloc: Global, value: &Value) -> Result<Network, FileRefusal>
-    ensures in_range { IfOk result IsInRange }
-    ensures value { Gives (λ n. n) (network_of (view value.now)) result }
+// Reads the tables of the document's arrays into the network.
+#[tactic(auto, unfolding(crate::specs::Schema::filled))]
+fn read_arrays(alloc: Global, document: &Value, network: &mut Network) -> Result<(), FileRefusal>
+    ensures in_range { IfOk result (λ _. IsInRange network.old → IsInRange network.new) }
+    ensures value { Gives (λ _. network.new) (filled (view document.now) network.old) result }
 {
     let top = Reader {
         place: DOCUMENT,
-        table: value,
+        table: document,
     };
-    let mut network = read_document(alloc, value)?;
     let devices = top.tables(KeyName::Device)?;
     let links = top.tables(KeyName::Link)?;
     let vls = top.tables(KeyName::Vl)?;
@@ -52,6 +52,15 @@ fn read_value(alloc: Global, value: &Value) -> Result<Network, FileRefusal>
     network.link = Links(links);
     network.vl = VirtualLinks(vls);
     network.row = Rows(rows);
+    Ok(())
+}
+
+fn read_value(alloc: Global, value: &Value) -> Result<Network, FileRefusal>
+    ensures in_range { IfOk result IsInRange }
+    ensures value { Gives (λ n. n) (network_of (view value.now)) result }
+{
+    let mut network = read_document(alloc, value)?;
+    read_arrays(alloc, value, &mut network)?;
     Ok(network)
 }
 

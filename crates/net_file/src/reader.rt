@@ -13,8 +13,8 @@ use crate::values::{
 };
 use crate::{FileRefusal, KeyName, Spot};
 use net_plan::{Name, Role, Way};
-use pcf_values::{Channel, Mac};
 use toml::{Table, Value};
+use tte_units::frames::{Channel, Mac};
 use tte_units::{Speed, Units};
 
 /// A table of a network file, to be read key by key. Each reader of a key tells first that the key

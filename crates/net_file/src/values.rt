@@ -5,7 +5,7 @@ ghost use Rattle.net_file.specs.Values.{role_of, speed_of, way_of};
 
 use byteorder::{BigEndian, ByteOrder};
 use net_plan::{Name, Role, Way};
-use pcf_values::{Channel, Mac};
+use tte_units::frames::{Channel, Mac};
 use tte_units::{Speed, Units};
 
 /// The EtherType of protocol control frames (SAE AS6802).

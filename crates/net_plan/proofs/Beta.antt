@@ -1,9 +1,9 @@
 -- A network of trees has one beta.
 use Rattle.net_plan.proofs.Greatest.{IsOfPathBelow, greatest_below_all, greatest_below_more, greatest_below_none, greatest_from_none, greatest_from_path}
-use Rattle.net_plan.{proofs.Greatest.{greatest_is_unique, greatest_of_channels}, specs.{Paths.IsTree, Places.{IsDeviceOf, device_at, is_end_system}}}
-use Rattle.net_plan.specs.{Bounds.{BetaExists, BetaIsUnique, IsGreatest, IsOfPath, IsOfPathFrom, IsOfPathOn, beta_at, jitter_on}, declared.tables.Device.Device}
-use Rattle.{net_plan.specs.declared.{ids.DeviceId.DeviceId, network.Network.Network}, pcf_values.specs.declared.channel.Channel.{Channel, TheVariants.{A, B}}}
-use Rattle.{net_plan.specs.declared.ids.LinkId.LinkId, std.{proofs.Common.{zero, ℕ, ⊎_elim}, specs.Prelude.IsSomeAnd}}
+use Rattle.{net_plan.proofs.Greatest.{greatest_is_unique, greatest_of_channels}, tte_units.specs.declared.frames.channel.Channel.{Channel, TheVariants.{A, B}}}
+use Rattle.net_plan.specs.{Bounds.{BetaExists, BetaIsUnique, IsGreatest, IsOfPath, IsOfPathFrom, IsOfPathOn, beta_at, jitter_on}, declared.ids.LinkId.LinkId}
+use Rattle.{net_plan.specs.Paths.IsTree, std.{proofs.Common.{zero, ℕ, ⊎_elim}, specs.Prelude.IsSomeAnd}}
+use Rattle.net_plan.specs.{Places.{IsDeviceOf, device_at, is_end_system}, declared.{ids.DeviceId.DeviceId, network.Network.Network, tables.Device.Device}}
 use Rattle.std.proofs.Common.{◌+◌, ◌∙◌, ◌≡◌, ◌⊎◌, Bool, List, None, Option, Some, ap, arith, false, inl, inr, length, max, pos, refl, subst, suc, sym, true}
 
 pub beta_is_unique : BetaIsUnique

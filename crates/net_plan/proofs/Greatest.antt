@@ -1,14 +1,13 @@
 -- The greatest of some numbers, of two kinds together and over the paths of a channel.
-use Rattle.{net_plan.proofs.Trees.paths_are_unique, std.proofs.lemmas.{Bool.cases_lt, Option.slice_get_within}, tte_units.proofs.general_lemmas.Options.opened}
-use Rattle.net_plan.specs.{Bounds.{IsGreatest, IsOfPath, IsOfPathFrom, IsOfPathOn}, Places.{IsDeviceOf, device_at, is_end_system}, declared.ids.LinkId.LinkId}
-use Rattle.net_plan.specs.Paths.{IsPath, IsTree}
-use Rattle.{net_plan.specs.declared.{ids.DeviceId.DeviceId, network.Network.Network}, pcf_values.specs.declared.channel.Channel.{Channel, TheVariants.{A, B}}}
+use Rattle.{net_plan.proofs.Trees.paths_are_unique, std.proofs.lemmas.{Bool.cases_lt, Option.slice_get_within}}
+use Rattle.{net_plan.specs.Bounds.{IsGreatest, IsOfPath, IsOfPathFrom, IsOfPathOn}, tte_units.specs.declared.frames.channel.Channel.TheVariants.{A, B}}
+use Rattle.{net_plan.specs.{Paths.{IsPath, IsTree}, Places.{IsDeviceOf, device_at, is_end_system}}, tte_units.specs.declared.frames.channel.Channel.Channel}
+use Rattle.{net_plan.specs.declared.{ids.{DeviceId.DeviceId, LinkId.LinkId}, network.Network.Network}, tte_units.proofs.general_lemmas.Options.opened}
 use Rattle.std.proofs.Common.{◌+◌, ◌<◌, ◌∙◌, ◌≡◌, ◌≤◌, ◌⊎◌, List, ap, arith, inl, inr, length, max, refl, subst, sym, ℕ, ⊎_elim}
 
 -- no two numbers are the greatest
 pub greatest_is_unique : (Has : ℕ → Type 0) (m n : ℕ) → IsGreatest Has m → IsGreatest Has n → m ≡ n
-greatest_is_unique Has m n g h =
-    grind (arith, ⊎_elim)
+greatest_is_unique Has m n g h = grind (arith, ⊎_elim)
 
 -- the greatest of one number, and of none
 pub greatest_of_one : (Has : ℕ → Type 0) (m : ℕ) → Has m → ((n : ℕ) → Has n → n ≡ m) → IsGreatest Has m
@@ -30,8 +29,7 @@ greatest_of_both P Q R a b g h split left right = grind (arith, ⊎_elim, max, m
 
 -- the measure of a path of one of the first devices
 abbrev pub IsOfPathBelow : Network → Channel → ℕ → (List LinkId → ℕ) → ℕ → Type 0
-IsOfPathBelow network channel places measure n =
-    (device : DeviceId) × (device.0 < places) × IsOfPathFrom network channel device measure n
+IsOfPathBelow network channel places measure n = (device : DeviceId) × (device.0 < places) × IsOfPathFrom network channel device measure n
 
 pub greatest_below_none : (n : Network) (c : Channel) (measure : List LinkId → ℕ) → IsGreatest (IsOfPathBelow n c 0 measure) 0
 greatest_below_none n c measure = greatest_of_none (IsOfPathBelow n c 0 measure) (λ k h. omega (arith, h.1))

@@ -1,7 +1,7 @@
 -- The rules of a network's shape make its links a tree on each channel.
 use Rattle.net_plan.specs.{Paths.{HasPath, IsFirstPath, IsPath, IsUplink, LeadsToCm}, declared.{network.Network.Network, tables.Role.TheVariants.{Cm, Relay}}}
 use Rattle.net_plan.specs.{Places.{IsCmOf, IsEndSystem, IsRoleOf, IsSwitchOf, is_end_system, link_at}, Rules.{IsChildOf, KeepsShapeRules, RulesGiveTrees}}
-use Rattle.{net_plan.specs.declared.{ids.{DeviceId.DeviceId, LinkId.LinkId}, tables.Device.Device}, pcf_values.specs.declared.channel.Channel.Channel}
+use Rattle.{net_plan.specs.declared.{ids.{DeviceId.DeviceId, LinkId.LinkId}, tables.Device.Device}, tte_units.specs.declared.frames.channel.Channel.Channel}
 use Rattle.{net_plan.specs.declared.tables.{Link.Link, Role.Role}, std.proofs.lemmas.Bool.false≢true}
 use Rattle.{std.proofs.Common.{◌∙◌, ◌∷◌, ◌≡◌, List, [], arith, subst, sym, true, ⊎_elim}, tte_units.proofs.general_lemmas.Options.{at_known, closed, opened}}
 
@@ -13,8 +13,7 @@ cm_is_no_relay : (r : Role) → r ≡ Cm → r ≡ Relay → ⊥
 cm_is_no_relay r e h = grind (arith, e, h)
 
 root : (n : Network) → KeepsShapeRules n → (c : Channel) (cm : DeviceId) (link : LinkId) → IsCmOf n c cm → IsUplink n c cm link → ⊥
-root n keeps c cm link h u =
-    grind (arith, opened, ⊎_elim, cm_is_no_end, at_known, cm_is_no_relay)
+root n keeps c cm link h u = grind (arith, opened, ⊎_elim, cm_is_no_end, at_known, cm_is_no_relay)
 
 pub child_of : (n : Network) (c : Channel) (d : DeviceId) (link : LinkId) → IsUplink n c d link → IsChildOf n d link
 child_of n c d link u =
@@ -44,8 +43,4 @@ has_path : (n : Network) (c : Channel) (d : DeviceId) → LeadsToCm n c d → Ha
 has_path n c d h = (h.0, h.1, first_path n c d h.0 h.2)
 
 pub rules_give_trees : RulesGiveTrees
-rules_give_trees n keeps = record {
-  root = root n keeps;
-  one_uplink = one_uplink n keeps;
-  reach = λ c d h. has_path n c d ((keeps.connected d.0).paths c h);
-}
+rules_give_trees n keeps = record { root = root n keeps; one_uplink = one_uplink n keeps; reach = λ c d h. has_path n c d ((keeps.connected d.0).paths c h) }

@@ -1,9 +1,9 @@
 -- Links, virtual links, events and their ways.
-use Rattle.{net_plan.specs.{Paths.{IsPath, IsTree, IsUplink}, declared.network.Network.Network}, pcf_values.specs.declared.channel.Channel.Channel}
-use Rattle.net_plan.specs.{Places.{IsSwitchOf, link_at}, declared.{event.{Event.Event, What.What}, ids.{DeviceId.DeviceId, LinkId.LinkId}, tables.Way.Way}}
-use Rattle.{net_plan.specs.declared.tables.{Link.Link, VirtualLink.VirtualLink}, tte_units.proofs.general_lemmas.Options.{closed, one as same_some, opened}}
+use Rattle.net_plan.specs.{Paths.{IsPath, IsTree, IsUplink}, declared.{ids.DeviceId.DeviceId, network.Network.Network, tables.VirtualLink.VirtualLink}}
+use Rattle.{net_plan.specs.{Places.{IsSwitchOf, link_at}, declared.{event.Event.Event, ids.LinkId.LinkId}}, std.proofs.lemmas.Option.slice_get_within}
+use Rattle.{net_plan.specs.declared.{event.What.What, tables.{Link.Link, Way.Way}}, std.specs.{Option.option_map_or, Prelude.IsSomeAnd}}
 use Rattle.std.proofs.Common.{◌++◌, ◌<◌, ◌==◌, ◌∙◌, ◌∷◌, ◌≡◌, ◌⊎◌, List, None, Option, Some, [], ap, false, inl, inr, length, refl, subst, sym, ℕ}
-use Rattle.std.{proofs.lemmas.Option.slice_get_within, specs.{Option.option_map_or, Prelude.IsSomeAnd}}
+use Rattle.tte_units.{proofs.general_lemmas.Options.{closed, one as same_some, opened}, specs.declared.frames.channel.Channel.Channel}
 use Rattle.net_plan.specs.declared.event.What.TheVariants as events
 
 pub link_there : (o : Option Link) (P : Link → Type 0) → IsSomeAnd o P → (l : Link) × (o ≡ Some l)

@@ -1,6 +1,6 @@
 -- Paths in the trees of a network.
-use Rattle.{net_plan.specs.{Paths.{IsPath, IsTree, IsUplink, PathsAreUnique}, Places.{IsSwitchOf, link_at}}, pcf_values.specs.declared.channel.Channel.Channel}
-use Rattle.net_plan.specs.declared.{ids.{DeviceId.DeviceId, LinkId.LinkId}, network.Network.Network, tables.Link.Link}
+use Rattle.{net_plan.specs.Paths.{IsPath, IsTree, IsUplink, PathsAreUnique}, tte_units.specs.declared.frames.channel.Channel.Channel}
+use Rattle.net_plan.specs.{Places.{IsSwitchOf, link_at}, declared.{ids.{DeviceId.DeviceId, LinkId.LinkId}, network.Network.Network, tables.Link.Link}}
 use Rattle.{std.proofs.Common.{◌∙◌, ◌∷◌, ◌≡◌, List, Some, [], ap, arith, refl, sym}, tte_units.proofs.general_lemmas.Options.{at_known, closed, opened}}
 
 -- the first link of a path is an uplink
@@ -13,8 +13,7 @@ uplink_of_path n c d link links h =
 pub followed : (n : Network) (c : Channel) (d : DeviceId) (link : LinkId) (k : Link) (rest : List LinkId) → IsTree n → IsUplink n c d link
     → link_at n link ≡ Some k → IsPath n c d rest → (later : List LinkId) × (rest ≡ link ∷ later) × IsPath n c k.parent later
 followed n c d link k [] tree up at h = absurd (tree.root c d link h up)
-followed n c d link k (m ∷ ms) tree up at h =
-    grind (arith, uplink_of_path, at_known)
+followed n c d link k (m ∷ ms) tree up at h = grind (arith, uplink_of_path, at_known)
 
 -- a path of a device with no uplink is empty
 pub ended : (n : Network) (c : Channel) (d : DeviceId) (rest : List LinkId) → ((link : LinkId) → IsUplink n c d link → ⊥) → IsPath n c d rest → rest ≡ []

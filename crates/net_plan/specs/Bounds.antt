@@ -2,7 +2,7 @@ use Rattle.std.specs.{List.sum_by, Option.option_map_or}
 use Rattle.std.specs.Prelude.{◌*◌, ◌+◌, ◌-◌, ◌/◌, ◌^◌, ◌≡◌, ◌≤◌, ◌⊎◌, List, length, pos, ℕ, ℤ}
 use Rattle.{net_plan.specs.Paths.{IsPath, IsTree}, tte_units.specs.{Amount.amount, Slip.slip_of}}
 use Rattle.net_plan.specs.{Places.{IsDeviceOf, link_at}, declared.ids.{DeviceId.DeviceId, LinkId.LinkId}}
-use Rattle.{net_plan.specs.declared.network.Network.Network, pcf_values.specs.declared.channel.Channel.Channel}
+use Rattle.{net_plan.specs.declared.network.Network.Network, tte_units.specs.declared.frames.channel.Channel.Channel}
 
 -- gamma: how far two clocks drift apart over two cycles, with the roundings of four readings of
 -- one grain each

@@ -1,5 +1,5 @@
 use Rattle.std.specs.Prelude.{◌<◌, ◌∷◌, ◌≡◌, ◌≤◌, IsSomeAnd, List, [], length}
-use Rattle.pcf_values.specs.declared.channel.Channel.{Channel}
+use Rattle.tte_units.specs.declared.frames.channel.Channel.{Channel}
 use Rattle.net_plan.specs.{Places.{IsCmOf, IsDeviceOf, IsSwitchOf, link_at}, declared.ids.DeviceId.DeviceId}
 use Rattle.net_plan.specs.declared.{ids.LinkId.LinkId, network.Network.Network}
 
@@ -30,13 +30,11 @@ IsFirstPath network channel device (link ∷ links) =
 
 -- some path of the device on the channel has at most eight links
 abbrev pub HasPath : Network → Channel → DeviceId → Type 0
-HasPath network channel device =
-    (links : List LinkId) × (length links ≤ 8) × IsPath network channel device links
+HasPath network channel device = (links : List LinkId) × (length links ≤ 8) × IsPath network channel device links
 
 -- from the device the first uplinks lead to the channel's compression master over at most eight links
 abbrev pub LeadsToCm : Network → Channel → DeviceId → Type 0
-LeadsToCm network channel device =
-    (links : List LinkId) × (length links ≤ 8) × IsFirstPath network channel device links
+LeadsToCm network channel device = (links : List LinkId) × (length links ≤ 8) × IsFirstPath network channel device links
 
 -- each channel is a tree: its compression master is its root, no device has two uplinks, and each
 -- device of the channel has a path

@@ -1,5 +1,5 @@
 use Rattle.std.specs.Prelude.{◌≡◌, ◌⊎◌, Bool, IsSomeAnd, Option, Some, false, slice_get, true}
-use Rattle.{net_plan.specs.declared.ids.DeviceId.DeviceId, pcf_values.specs.declared.channel.Channel.Channel}
+use Rattle.{net_plan.specs.declared.ids.DeviceId.DeviceId, tte_units.specs.declared.frames.channel.Channel.Channel}
 use Rattle.net_plan.specs.declared.{ids.LinkId.LinkId, tables.{Device.Device, Link.Link, Role.Role}}
 use Rattle.net_plan.specs.declared.{network.Network.Network, tables.Role.TheVariants.{Client, Cm, Master, Relay}}
 

@@ -2,7 +2,7 @@
 -- link, or the number of a part.
 use Rattle.std.specs.{List.{All, count_by, filter}, Prelude.{if◌then◌else◌, is_some, length, slice_get, ℕ}}
 use Rattle.std.specs.Prelude.{◌+◌, ◌<◌, ◌==◌, ◌≡◌, ◌≢◌, ◌≤ℤ◌, ◌≤◌, ◌⊎◌, IfSome, IsNone, IsSomeAnd, List, Some}
-use Rattle.pcf_values.specs.declared.channel.Channel.{Channel, TheVariants.{A, B}}
+use Rattle.tte_units.specs.declared.frames.channel.Channel.{Channel, TheVariants.{A, B}}
 use Rattle.net_plan.specs.{Paths.{IsTree, IsUplink, LeadsToCm}, declared.tables.{Device.Device, Role.TheVariants.Relay}}
 use Rattle.net_plan.specs.Places.{IsCmOf, IsDeviceOf, IsEndSystem, IsRoleOf, IsSwitchOf, device_at, is_master, link_at}
 use Rattle.net_plan.specs.declared.{ids.{DeviceId.DeviceId, LinkId.LinkId}, network.Network.Network, tables.Link.Link}

@@ -3,7 +3,7 @@ ghost use Rattle.net_plan.specs.Bounds.{IsBeta, IsGreatest, IsOfPathFrom, IsOfPa
 ghost use Rattle.{net_plan.specs.{Paths.IsTree, Ranges.IsInRange}, tte_units.specs.Amount.amount};
 
 use crate::{DeviceId, LinkId, Network, Path};
-use pcf_values::Channel;
+use tte_units::frames::Channel;
 use tte_units::{Units, slip};
 
 /// Eight readings are rounded at each link, and at two more places.

@@ -4,7 +4,7 @@ ghost use Rattle.net_plan.specs.Belonging.{HasDevice, HasLink, HasVl, device_nam
 ghost use Rattle.net_plan.specs.{Ranges.IsInRange, Rules.HasOffSwitch};
 
 use crate::{Device, DeviceId, LinkId, Network, VlId};
-use pcf_values::Channel;
+use tte_units::frames::Channel;
 
 impl Network {
     /// The first device of this name. It is None exactly where no device has it.

@@ -1,6 +1,6 @@
 use crate::{Devices, Links, Rows, VirtualLinks};
-use pcf_values::Mac;
 use tte_units::Units;
+use tte_units::frames::Mac;
 
 /// A network as its designer writes it. Times are in units of 2^-16 ns.
 #[derive(Drop)]

@@ -6,8 +6,8 @@ ghost use Rattle.net_plan.specs.declared.ids.LinkId.{LinkId as LinkIdValue};
 
 use crate::{DeviceId, LinkId, Network};
 use arrayvec::ArrayVec;
-use pcf_values::Channel;
 use std::marker::Model;
+use tte_units::frames::Channel;
 
 /// The most links of a path.
 const MOST_LINKS: usize = 8;

@@ -2,8 +2,8 @@ ghost use Rattle.std.specs.Prelude.{◌≡◌};
 ghost use Rattle.net_plan.specs.Places.{is_end_system};
 
 use crate::{DeviceId, LinkId, Name, VlId};
-use pcf_values::{Channel, Mac};
 use std::marker::Model;
+use tte_units::frames::{Channel, Mac};
 use tte_units::{Speed, Units};
 
 /// One of the two ways of a link.

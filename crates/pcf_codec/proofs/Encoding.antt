@@ -1,5 +1,5 @@
 -- The octets that `encode` writes.
-use Rattle.{byteorder.specs.{Endian.big_bytes, Numbers.big_number-reads_back}, pcf_values.specs.declared.pcf.Pcf.Pcf, std.proofs.lemmas.List.get_or-drop}
+use Rattle.{byteorder.specs.{Endian.big_bytes, Numbers.big_number-reads_back}, std.proofs.lemmas.List.get_or-drop, tte_units.specs.declared.frames.pcf.Pcf.Pcf}
 use Rattle.std.proofs.Common.{◌++◌, ◌+◌, ◌-◌, ◌<◌, ◌^◌, ◌∙◌, ◌≡◌, ◌≤◌, List, [], arith, drop, get_or, inl, inr, length, refl, replicate, slice_set, suc, sym}
 use Rattle.std.proofs.Common.{zero, ℕ}
 use borrow.Rule.Slice.PartMut.{mid_of, put_mid}
@@ -7,12 +7,10 @@ use Rattle.pcf_codec.specs.{Encoded.encoded, EtherType.pcf_type, Spelling.{IsPad
 
 -- zeros, over which the fields are written one after another
 pub writes : (p : Pcf) (destination source kind : ℕ) (b1 b2 b3 b4 b5 b6 : List ℕ) → destination ≡ p.destination → source ≡ p.source → kind ≡ code_of p.kind
-    → b1 ≡ big_bytes 6 destination ++ drop 6 (replicate 60 0)
-    → b2 ≡ big_bytes 6 source ++ drop 6 (mid_of 6 54 b1)
+    → b1 ≡ big_bytes 6 destination ++ drop 6 (replicate 60 0) → b2 ≡ big_bytes 6 source ++ drop 6 (mid_of 6 54 b1)
     → b3 ≡ big_bytes 2 pcf_type ++ drop 2 (mid_of 12 48 (put_mid 6 54 b1 b2))
     → b4 ≡ big_bytes 4 p.cycle ++ drop 4 (mid_of 14 46 (put_mid 12 48 (put_mid 6 54 b1 b2) b3))
-    → b5 ≡ big_bytes 4 p.members.0 ++ drop 4 (mid_of 18 42 (put_mid 14 46 (put_mid 12 48 (put_mid 6 54 b1 b2) b3) b4))
-    → b6 ≡ big_bytes 8 p.clock
+    → b5 ≡ big_bytes 4 p.members.0 ++ drop 4 (mid_of 18 42 (put_mid 14 46 (put_mid 12 48 (put_mid 6 54 b1 b2) b3) b4)) → b6 ≡ big_bytes 8 p.clock
     ++ drop 8 (mid_of 34 26
     (slice_set (slice_set (slice_set (put_mid 18 42 (put_mid 14 46 (put_mid 12 48 (put_mid 6 54 b1 b2) b3) b4) b5) 26 p.priority) 27 p.domain) 28 kind))
     → put_mid 34 26 (slice_set (slice_set (slice_set (put_mid 18 42 (put_mid 14 46 (put_mid 12 48 (put_mid 6 54 b1 b2) b3) b4) b5) 26 p.priority) 27 p.domain)

@@ -1,7 +1,7 @@
 -- Octets spell a frame, or have a first fault, and `decoded` answers so.
 use Rattle.std.proofs.Common.{◌-◌, ◌<◌, ◌∙◌, ◌≡◌, ◌≢◌, ◌≤◌, Err, List, Ok, ap, arith, inl, inr, le_antisymm, length, length-append, refl, slice_index, subst}
 use Rattle.std.proofs.{Common.{sym, ℕ}, lemmas.{Bool.{cases_lt, Decides.eqb_tells}, List.nil_from_length}}
-use Rattle.pcf_values.specs.declared.pcf.{Pcf.Pcf, PcfKind.{PcfKind, TheVariants.{ColdStart, ColdStartAck, Integration}}}
+use Rattle.tte_units.specs.declared.frames.pcf.{Pcf.Pcf, PcfKind.{PcfKind, TheVariants.{ColdStart, ColdStartAck, Integration}}}
 use Rattle.pcf_codec.proofs.Spellings.{AreZero, fields_all, fields_first, fields_kind, fields_second, kind, kind_told, none, other, right_type, wrong_length}
 use Rattle.pcf_codec.{proofs.Spellings.{wrong_type, zeros, zeros_told}, specs.{Decoding.{decoded, frame_in}, EtherType.pcf_type}}
 use Rattle.pcf_codec.specs.{Faults.{HasFault, IsFirstFault, offset_of}, Fields.field, Spelling.{IsReserved, Spells, code_of, pcf_length}}

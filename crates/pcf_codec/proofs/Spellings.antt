@@ -2,8 +2,8 @@
 use Rattle.pcf_codec.{proofs.Zeros.{ends, goes_on, stops}, specs.{Decoding.{decoded, fields_read, frame_in, kind_read, zeros_read}, EtherType.pcf_type}}
 use Rattle.pcf_codec.specs.Fields.{field}
 use Rattle.pcf_codec.specs.{Spelling.{code_of, pcf_length}, declared.refusal.PcfRefusal.{PcfRefusal, TheVariants.{EtherType, Kind, Length, Reserved}}}
-use Rattle.{pcf_values.specs.declared.pcf.PcfKind.{PcfKind, TheVariants.{ColdStart, ColdStartAck, Integration}}, std.proofs.lemmas.Bool.Decides.eqb_tells}
 use Rattle.std.proofs.Common.{◌+◌, ◌-◌, ◌<◌, ◌∙◌, ◌≡◌, ◌≢◌, ◌≤◌, Err, List, Ok, arith, inl, inr, length, refl, slice_index, suc, sym, zero, ℕ}
+use Rattle.{std.proofs.lemmas.Bool.Decides.eqb_tells, tte_units.specs.declared.frames.pcf.PcfKind.{PcfKind, TheVariants.{ColdStart, ColdStartAck, Integration}}}
 
 -- n octets from place i on are zero
 abbrev pub AreZero : ℕ → ℕ → List ℕ → Type 0

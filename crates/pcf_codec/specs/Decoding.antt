@@ -1,8 +1,8 @@
 -- Reading a protocol control frame.
 use Rattle.std.specs.Prelude.{if◌then◌else◌, ◌+◌, ◌==◌, Err, List, Ok, Result, length, slice_index, suc, zero, ℕ}
 use Rattle.pcf_codec.specs.{EtherType.pcf_type, Fields.field, Spelling.pcf_length}
-use Rattle.{pcf_codec.specs.declared.refusal.PcfRefusal.PcfRefusal, pcf_values.specs.declared.pcf.Pcf.Pcf}
-use Rattle.pcf_values.specs.declared.pcf.PcfKind.{PcfKind, TheVariants.{ColdStart, ColdStartAck, Integration}}
+use Rattle.{pcf_codec.specs.declared.refusal.PcfRefusal.PcfRefusal, tte_units.specs.declared.frames.pcf.Pcf.Pcf}
+use Rattle.tte_units.specs.declared.frames.pcf.PcfKind.{PcfKind, TheVariants.{ColdStart, ColdStartAck, Integration}}
 use Rattle.pcf_codec.specs.declared.refusal.PcfRefusal.TheVariants as refusals
 
 -- the first of n octets from place i on that is not zero, as a fault

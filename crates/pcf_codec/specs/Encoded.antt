@@ -1,7 +1,7 @@
 -- The octets that are written for a protocol control frame.
 use Rattle.std.specs.Prelude.{◌++◌, ◌∷◌, List, replicate, ℕ}
-use Rattle.{byteorder.specs.Endian.big_bytes, pcf_codec.specs.EtherType.pcf_type, pcf_values.specs.declared.pcf.Pcf.Pcf}
-use Rattle.pcf_codec.specs.Spelling.{code_of}
+use Rattle.byteorder.specs.Endian.{big_bytes}
+use Rattle.{pcf_codec.specs.{EtherType.pcf_type, Spelling.code_of}, tte_units.specs.declared.frames.pcf.Pcf.Pcf}
 
 -- the spelling of the frame with zero padding, field by field in the order of their offsets: the two addresses,
 -- the EtherType, the cycle, the members; 4 zeros; the priority, the domain, the kind; 5 zeros; the clock; 18 zeros

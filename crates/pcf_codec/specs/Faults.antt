@@ -1,6 +1,6 @@
 -- What can be wrong with octets that are to be a protocol control frame.
 use Rattle.std.specs.Prelude.{◌≡◌, ◌≢◌, ◌≤◌, List, length, slice_index, ℕ}
-use Rattle.pcf_values.specs.declared.pcf.PcfKind.{PcfKind}
+use Rattle.tte_units.specs.declared.frames.pcf.PcfKind.{PcfKind}
 use Rattle.pcf_codec.specs.{EtherType.pcf_type, Fields.field, Spelling.{IsReserved, code_of, pcf_length}}
 use Rattle.pcf_codec.specs.declared.refusal.PcfRefusal.{PcfRefusal, TheVariants.{EtherType, Kind, Length, Reserved}}
 

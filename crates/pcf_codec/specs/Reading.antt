@@ -1,7 +1,7 @@
 -- A reader of the frames of a stream that comes in pieces.
 use Rattle.std.specs.Prelude.{if◌then◌else◌, ◌++◌, ◌-◌, ◌∷◌, ◌≡◌, Err, List, None, Ok, Option, Result, Some, [], length}
 use Rattle.std.specs.Prelude.{nat_lt, take, ℕ}
-use Rattle.pcf_values.specs.declared.pcf.Pcf.{Pcf}
+use Rattle.tte_units.specs.declared.frames.pcf.Pcf.{Pcf}
 use Rattle.pcf_codec.specs.{Decoding.decoded, Sequence.{IsLongestFront, IsRefusedFrame, IsUnfinished}}
 use Rattle.pcf_codec.specs.{Spelling.pcf_length, declared.refusal.PcfRefusal.{PcfRefusal, TheVariants.Length}}
 

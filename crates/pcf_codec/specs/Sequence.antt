@@ -1,6 +1,6 @@
 -- Frames one after another.
 use Rattle.std.specs.Prelude.{◌++◌, ◌<◌, ◌∷◌, ◌≡◌, ◌≤◌, Err, List, [], length, ℕ}
-use Rattle.pcf_values.specs.declared.pcf.Pcf.{Pcf}
+use Rattle.tte_units.specs.declared.frames.pcf.Pcf.{Pcf}
 use Rattle.pcf_codec.specs.{Decoding.decoded, Spelling.{Spells, pcf_length}, declared.refusal.PcfRefusal.PcfRefusal}
 
 -- the octets are the spellings of these frames, one after another

@@ -1,7 +1,7 @@
 -- The layout of a protocol control frame (SAE AS6802).
 use Rattle.std.specs.Prelude.{◌<◌, ◌≡◌, ◌≤◌, ◌⊎◌, List, length, slice_index, ℕ}
-use Rattle.{pcf_codec.specs.{EtherType.pcf_type, Fields.field}, pcf_values.specs.declared.pcf.Pcf.Pcf}
-use Rattle.pcf_values.specs.declared.pcf.PcfKind.{PcfKind, TheVariants.{ColdStart, ColdStartAck, Integration}}
+use Rattle.{pcf_codec.specs.{EtherType.pcf_type, Fields.field}, tte_units.specs.declared.frames.pcf.Pcf.Pcf}
+use Rattle.tte_units.specs.declared.frames.pcf.PcfKind.{PcfKind, TheVariants.{ColdStart, ColdStartAck, Integration}}
 
 -- how many octets a frame has, without its check sequence
 abbrev pub pcf_length : ℕ

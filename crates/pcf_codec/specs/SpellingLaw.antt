@@ -1,7 +1,7 @@
 -- What `decoded` has to do with the layout of a frame.
 use Rattle.std.specs.Prelude.{◌++◌, ◌≡◌, Err, List, Ok, [], ℕ}
 use Rattle.pcf_codec.specs.{Decoding.decoded, Faults.IsFirstFault, Spelling.Spells}
-use Rattle.{pcf_codec.specs.declared.refusal.PcfRefusal.PcfRefusal, pcf_values.specs.declared.pcf.Pcf.Pcf}
+use Rattle.{pcf_codec.specs.declared.refusal.PcfRefusal.PcfRefusal, tte_units.specs.declared.frames.pcf.Pcf.Pcf}
 
 -- reading and spelling agree in both directions, for every list of octets
 pub record IsSpelling : Type 0 where

@@ -1,6 +1,6 @@
 -- The head of a time-triggered frame.
 use Rattle.std.specs.Prelude.{◌<◌, ◌≡◌, ◌≢◌, ◌≤◌, ◌⊎◌, List, length, ℕ}
-use Rattle.{pcf_codec.specs.EtherType.{least_type, pcf_type}, pcf_values.specs.declared.tt.TtHead.TtHead}
+use Rattle.{pcf_codec.specs.EtherType.{least_type, pcf_type}, tte_units.specs.declared.frames.tt.TtHead.TtHead}
 use Rattle.pcf_codec.specs.{Fields.field, declared.refusal.TtRefusal.{TheVariants.{EtherType, Length}, TtRefusal}}
 
 -- how many octets an Ethernet frame has, without its check sequence (IEEE 802.3)

@@ -2,7 +2,7 @@ ghost use Rattle.std.specs.Prelude.{◌≡◌, ◌≤◌, ◌+◌, length, drop}
 ghost use Rattle.pcf_codec.specs.Fields.{field};
 
 use byteorder::{BigEndian, ByteOrder};
-use pcf_values::Mac;
+use tte_units::frames::Mac;
 
 /// The octets from an offset on.
 pub fn from(octets: &[u8], at: usize) -> &[u8]

@@ -6,7 +6,7 @@ use crate::PcfRefusal;
 use crate::ethertype::PCF_TYPE;
 use crate::fields::{from, read_mac};
 use byteorder::{BigEndian, ByteOrder};
-use pcf_values::{Members, Pcf, PcfKind};
+use tte_units::frames::{Members, Pcf, PcfKind};
 
 /// How many octets a protocol control frame has, without its check sequence.
 pub const PCF_LENGTH: usize = 60;

@@ -1,10 +1,10 @@
 ghost use Rattle.std.specs.Prelude.{◌≡◌, ℕ, ◌<◌, ◌≤◌, ◌+◌, ◌-◌, ◌^◌, ◌++◌, [], List, length, min, take, option_to_list};
-ghost use Rattle.pcf_values.specs.declared.pcf.Pcf.{Pcf as Frame};
+ghost use Rattle.tte_units.specs.declared.frames.pcf.Pcf.{Pcf as Frame};
 ghost use Rattle.pcf_codec.specs.Reading.{holding, taken_of, fed, Answers, frame_of, emptied, ended, Reads};
 
 use crate::{PCF_LENGTH, PcfRefusal, decode};
-use pcf_values::Pcf;
 use std::marker::Model;
+use tte_units::frames::Pcf;
 
 /// Reads the protocol control frames of a stream that comes in pieces of any length.
 ///

@@ -5,7 +5,7 @@ use crate::TtRefusal;
 use crate::ethertype::{LEAST_TYPE, PCF_TYPE};
 use crate::fields::{from, read_mac};
 use byteorder::{BigEndian, ByteOrder};
-use pcf_values::TtHead;
+use tte_units::frames::TtHead;
 
 const LEAST_LENGTH: usize = 60;
 

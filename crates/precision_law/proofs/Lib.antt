@@ -1,3 +1,4 @@
+pub mod traffic_lemmas
 pub mod words
 pub mod Plain
 pub mod sizes

@@ -1,13 +1,12 @@
 -- The compressed frames that compression masters send, their bases, and who hears them.
 use Rattle.std.specs.Prelude.{◌+ℤ◌, ◌+◌, ◌-ℤ◌, ◌≡◌, ◌≤ℤ◌, ◌⊎◌, Some, pos, ℕ, ℤ}
-use Rattle.sync_state.specs.membership.Members.{IsMember}
-use Rattle.net_plan.specs.declared.{ids.{DeviceId.DeviceId, LinkId.LinkId}, tables.Way.TheVariants.Down}
-use Rattle.pcf_values.specs.declared.{channel.Channel.Channel, members.Members.Members}
-use Rattle.run_law.specs.{declared.judgement.Judgement.Judgement, records.Causes.GoesBackTo}
-use Rattle.run_law.specs.records.{Happenings.{Happening, time_of}, Order.IsIn}
-use Rattle.run_law.specs.scenario.{Devices.{channel_of, member_of}, Ways.way_to}
-use Rattle.tte_units.specs.declared.units.Units.{Units}
-use Rattle.precision_law.specs.{Hulls.{Hull, hull_of}, Sizes.{Sizes, expectation}, Views.{IsBad, IsGood, View}}
+use Rattle.{net_plan.specs.declared.ids.DeviceId.DeviceId, precision_law.specs.Views.{IsBad, IsGood, View}}
+use Rattle.{net_plan.specs.declared.ids.LinkId.LinkId, precision_law.specs.Hulls.{Hull, hull_of}}
+use Rattle.{net_plan.specs.declared.tables.Way.TheVariants.Down, run_law.specs.records.Happenings.{Happening, time_of}}
+use Rattle.{precision_law.specs.Sizes.{Sizes, expectation}, sync_state.specs.membership.Members.IsMember}
+use Rattle.run_law.specs.{declared.judgement.Judgement.Judgement, scenario.Devices.{channel_of, member_of}}
+use Rattle.run_law.specs.{records.{Causes.GoesBackTo, Order.IsIn}, scenario.Ways.way_to}
+use Rattle.tte_units.specs.declared.{frames.{channel.Channel.Channel, members.Members.Members}, units.Units.Units}
 use Rattle.run_law.specs.declared.note.NoteBody.TheVariants as notes
 
 -- the base of what is sent at a time: when its members' frames would have been dispatched

@@ -1,14 +1,13 @@
 -- What compression masters send, and when it is heard.
 use Rattle.std.specs.Prelude.{◌+◌, ◌<ℤ◌, ◌<◌, ◌≡◌, ◌≤ℤ◌, ◌≤◌, ◌⊎◌, Some, pos, suc, ℕ, ℤ}
-use Rattle.sync_state.specs.membership.Members.{count_of}
-use Rattle.run_law.specs.{device.States.cycle_in, records.Order.IsIn}
-use Rattle.{net_plan.specs.declared.ids.{DeviceId.DeviceId, LinkId.LinkId}, tte_units.specs.declared.units.Units.Units}
-use Rattle.pcf_values.specs.declared.{channel.Channel.Channel, members.Members.Members}
+use Rattle.{net_plan.specs.declared.ids.DeviceId.DeviceId, sync_state.specs.membership.Members.count_of}
+use Rattle.{net_plan.specs.declared.ids.LinkId.LinkId, run_law.specs.{device.States.cycle_in, records.Order.IsIn}}
 use Rattle.precision_law.specs.Bases.{AreBad, AreGood, HasGood, IsBaseIn, IsEmission, IsHeard, base_of}
 use Rattle.precision_law.specs.{Hulls.{Hull, IsNarrow, IsTidyBefore, first_correction, hull_of}, Readings.IsFirstRead}
 use Rattle.{precision_law.specs.Views.{IsDispatch, IsView, View}, run_law.specs.records.Happenings.{Happening, time_of}}
 use Rattle.run_law.specs.declared.judgement.Judgement.{Judgement, TheVariants.{Integrates, Outside, Within}}
 use Rattle.run_law.specs.{records.Ranks.members_in, scenario.Devices.{channel_of, channel_of_link, expected_by}}
+use Rattle.tte_units.specs.declared.{frames.{channel.Channel.Channel, members.Members.Members}, units.Units.Units}
 use Rattle.run_law.specs.declared.note.NoteBody.TheVariants as notes
 
 -- a compression master's clock reaches the emission reading sharply

@@ -1,3 +1,4 @@
+pub mod traffic
 pub mod Sizes
 pub mod Views
 pub mod Hulls

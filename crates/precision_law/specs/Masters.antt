@@ -1,11 +1,11 @@
 -- What the fault hypothesis leaves: enough good masters, and a channel that loses nothing.
 use Rattle.std.specs.Prelude.{◌≡◌, ◌≤◌, Some, false, true, ℕ}
-use Rattle.net_plan.specs.{Places.{IsSwitchOf, is_master}, declared.ids.{DeviceId.DeviceId, LinkId.LinkId}}
-use Rattle.{net_plan.specs.declared.tables.Way.Way, run_law.specs.law.FirstLaws.IsLawful}
-use Rattle.{pcf_values.specs.declared.channel.Channel.Channel, sync_state.specs.membership.Members.{IsMember, count_of}}
-use Rattle.{pcf_values.specs.declared.members.Members.Members, run_law.specs.scenario.Faults.{BeginsOn, IsLinkOf}}
+use Rattle.{net_plan.specs.Places.{IsSwitchOf, is_master}, run_law.specs.scenario.Faults.{BeginsOn, IsLinkOf}}
+use Rattle.{net_plan.specs.declared.ids.DeviceId.DeviceId, sync_state.specs.membership.Members.{IsMember, count_of}}
+use Rattle.{net_plan.specs.declared.{ids.LinkId.LinkId, tables.Way.Way}, run_law.specs.law.FirstLaws.IsLawful}
 use Rattle.precision_law.specs.Views.{IsBad, IsGood, IsSound, IsSoundSwitch, IsView, View}
 use Rattle.run_law.specs.scenario.{Devices.{has_role, member_of}, Scenarios.{Scenario, is_broken}, Ways.is_cut}
+use Rattle.tte_units.specs.declared.frames.{channel.Channel.Channel, members.Members.Members}
 
 -- the device is a good master that began on
 pub record IsFirstMaster (v : View) (device : DeviceId) : Type 0 where

@@ -2,7 +2,7 @@
 -- and only switches of the faulty channel lose the common time.
 use Rattle.std.specs.Prelude.{◌*◌, ◌^◌, ◌≡◌, ◌≤◌, List, true, ℕ}
 use Rattle.{net_plan.specs.Places.IsSwitchOf, run_law.specs.law.{FirstLaws.IsLawful, Safety.ClocksAgree}}
-use Rattle.{net_plan.specs.declared.ids.DeviceId.DeviceId, pcf_values.specs.declared.channel.Channel.Channel}
+use Rattle.{net_plan.specs.declared.ids.DeviceId.DeviceId, tte_units.specs.declared.frames.channel.Channel.Channel}
 use Rattle.{precision_law.specs.{Blocks.IsClique, Views.{Covers, IsSound}}, sync_state.specs.declared.state.State.State}
 use Rattle.run_law.specs.{declared.{judgement.Why.Why, note.Note.Note}, scenario.{Devices.is_end, Scenarios.Scenario}}
 use Rattle.run_law.specs.{records.Happenings.{Happening, happenings, time_of}, runs.DueRecords.IsScenarioRun}

@@ -1,10 +1,9 @@
 -- What the compression master of the sound channel sends.
 use Rattle.std.specs.Prelude.{◌+ℤ◌, ◌≡◌, ◌≤ℤ◌, ◌≤◌, Some, pos, suc, ℕ}
-use Rattle.net_plan.specs.Places.{IsCmOf}
-use Rattle.{net_plan.specs.declared.ids.DeviceId.DeviceId, precision_law.specs.Hulls.{Hull, first_correction, hull_of}}
-use Rattle.{pcf_values.specs.declared.members.Members.Members, run_law.specs.records.Happenings.{Happening, time_of}}
-use Rattle.{precision_law.specs.Bases.{IsEmission, base_of}, sync_state.specs.membership.Members.count_of}
-use Rattle.precision_law.specs.{Blocks.IsInBlock, Standings.IsNearHull, Views.{IsView, View}}
+use Rattle.{net_plan.specs.Places.IsCmOf, precision_law.specs.{Standings.IsNearHull, Views.{IsView, View}}}
+use Rattle.{net_plan.specs.declared.ids.DeviceId.DeviceId, tte_units.specs.declared.frames.members.Members.Members}
+use Rattle.precision_law.specs.{Bases.{IsEmission, base_of}, Blocks.IsInBlock, Hulls.{Hull, first_correction, hull_of}}
+use Rattle.{run_law.specs.records.Happenings.{Happening, time_of}, sync_state.specs.membership.Members.count_of}
 
 -- the sound channel's compression master sends one frame of cycle n + 1 of enough masters, whose base lies in the hull
 pub record SendsSo (v : View) (n : ℕ) (hull : Hull) : Type 0 where

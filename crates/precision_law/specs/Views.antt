@@ -2,7 +2,7 @@
 use Rattle.std.specs.Prelude.{◌*◌, ◌+◌, ◌^◌, ◌∷◌, ◌≡◌, ◌≤◌, ◌⊎◌, List, [], false, pos, true, ℕ}
 use Rattle.net_plan.specs.Bounds.{IsBeta}
 use Rattle.{net_plan.specs.Places.IsSwitchOf, run_law.specs.runs.Runs.IsRun, tte_units.specs.Amount.amount}
-use Rattle.{net_plan.specs.declared.ids.DeviceId.DeviceId, pcf_values.specs.declared.channel.Channel.Channel}
+use Rattle.{net_plan.specs.declared.ids.DeviceId.DeviceId, tte_units.specs.declared.frames.channel.Channel.Channel}
 use Rattle.{precision_law.specs.Sizes.{Sizes, sizes_of}, run_law.specs.records.{Order.{IsBefore, IsIn}, Ranks.place_of}}
 use Rattle.run_law.specs.{law.FirstLaws.IsLawful, runs.DueRecords.IsDue, scenario.{Devices.is_end, Faults.IsFaulty}}
 use Rattle.run_law.specs.{records.Happenings.Happening, scenario.Scenarios.{Scenario, events_up_to, is_broken}}

@@ -3,6 +3,7 @@
 
 pub mod falls;
 mod laws;
+pub mod traffic;
 
 pub use laws::{
     clocks_keep_the_span, clocks_keep_their_cycles, clocks_stay_together, dispatches_halve,

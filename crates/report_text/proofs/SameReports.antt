@@ -47,8 +47,7 @@ made number time body = record { number = number; time = time; body = body }
 
 same_parts : (number number' : ℕ) (time time' : Units) (body body' : NoteBody) → number ≡ number' → time ≡ time' → body ≡ body'
     → made number time body ≡ made number' time' body'
-same_parts number number' time time' body body' e f g =
-    ap (λ n. made n time body) e ∙ ap (λ t. made number' t body) f ∙ ap (λ b. made number' time' b) g
+same_parts number number' time time' body body' e f g = ap (λ n. made n time body) e ∙ ap (λ t. made number' t body) f ∙ ap (λ b. made number' time' b) g
 
 pub same_note : (network : Network) (note other : Note) → IsNamedApart network → IsWritable network note → IsWritable network other
     → note_text network note ≡ note_text network other → note ≡ other

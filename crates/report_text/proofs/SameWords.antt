@@ -1,16 +1,16 @@
 -- Words of one spelling are one.
 use Rattle.{hex.specs.Hex.encode_lower, std.specs.{Fmt.signed_decimal, List.join_with_byte, Option.option_map_or}}
 use Rattle.net_plan.specs.{Belonging.{HasDevice, HasLink, HasVl, IsOfNetwork, device_name, link_name, vl_name}, declared.network.Network.Network}
-use Rattle.{net_plan.specs.{Ranges.IsInRange, Rules.{DeviceIsNew, LinkIsNew}, declared.tables.Device.Device}, std.specs.Int.{from_be_bytes, to_be_bytes, w32}}
-use Rattle.{net_plan.specs.declared.{event.{Event.Event, What.What}, ids.{LinkId.LinkId, VlId.VlId}}, trace_text.specs.Steps.{Read, Words, space}}
+use Rattle.{net_plan.specs.Ranges.IsInRange, report_text.proofs.Visible.units_mag, trace_text.specs.Ranges.IsWhatInRange, tte_units.specs.Amount.units_of}
+use Rattle.{net_plan.specs.{Rules.{DeviceIsNew, LinkIsNew}, declared.{ids.VlId.VlId, tables.Device.Device}}, std.specs.Int.{from_be_bytes, to_be_bytes, w32}}
+use Rattle.{net_plan.specs.declared.event.{Event.Event, What.What}, schedule_tables.specs.Schedule.VlNameIsNew, sync_state.specs.declared.state.State.State}
 use Rattle.{net_plan.specs.declared.ids.DeviceId.DeviceId, report_text.specs.NoteWords.{judgement_text, members_text, reason_words, state_text, why_text}}
-use Rattle.{pcf_values.specs.declared.members.Members.Members, run_law.specs.declared.judgement.{Judgement.Judgement, Reason.Reason, Why.Why}}
+use Rattle.{net_plan.specs.declared.ids.LinkId.LinkId, trace_text.{proofs.EventsBack.reads_back, specs.{EventReading.event_read, Steps.{Read, Words, space}}}}
 use Rattle.report_text.{proofs.Characters.{octet_is_byte, same_octets, word_is_bytes}, specs.Ranges.{IsCount, IsReasonInRange, IsShortCount, IsSignedUnits}}
-use Rattle.{report_text.proofs.Visible.units_mag, trace_text.{proofs.EventsBack.reads_back, specs.Ranges.IsWhatInRange}, tte_units.specs.Amount.units_of}
-use Rattle.{schedule_tables.specs.Schedule.VlNameIsNew, sync_state.specs.declared.state.State.State, tte_units.specs.declared.units.Units.Units}
+use Rattle.{run_law.specs.declared.judgement.{Judgement.Judgement, Reason.Reason, Why.Why}, tte_units.proofs.general_lemmas.Lists.{differ, some_at}}
 use Rattle.std.proofs.{Common.{◌++◌, ◌<◌, ◌^◌, ◌∙◌, ◌∷◌, ◌≡◌, ◌≢◌, Err, List, Ok, Some, [], ap, arith, refl, sym, ℕ}, lemmas.Nat.from_be_bytes-to_be_bytes_4}
 use Rattle.std.{proofs.lemmas.{Fmt.{decimal_injective, signed_decimal_injective}, Int.ints}, specs.Prelude.{Result, codes, decimal, get_or, length, slice_get}}
-use Rattle.{trace_text.specs.{EventLine.{event_text, what_text, what_words}, EventReading.event_read}, tte_units.proofs.general_lemmas.Lists.{differ, some_at}}
+use Rattle.{trace_text.specs.EventLine.{event_text, what_text, what_words}, tte_units.specs.declared.{frames.members.Members.Members, units.Units.Units}}
 use Rattle.run_law.specs.declared.judgement.Judgement.TheVariants as judgements
 use Rattle.run_law.specs.declared.judgement.Reason.TheVariants as reasons
 use Rattle.run_law.specs.declared.judgement.Why.TheVariants as whys

@@ -1,9 +1,8 @@
 -- The words of records.
 use Rattle.std.specs.{Int.{to_be_bytes, w32}, Prelude.{◌∷◌, List, [], codes, decimal, ℕ}}
-use Rattle.hex.specs.Hex.{encode_lower}
-use Rattle.{pcf_values.specs.declared.members.Members.Members, run_law.specs.declared.judgement.Judgement.Judgement}
-use Rattle.{run_law.specs.declared.judgement.{Reason.Reason, Why.Why}, trace_text.specs.Steps.Words}
+use Rattle.{hex.specs.Hex.encode_lower, run_law.specs.declared.judgement.{Judgement.Judgement, Reason.Reason, Why.Why}}
 use Rattle.sync_state.specs.declared.state.State.{State, TheVariants.{Integrating, Joining, Off, Synchronised}}
+use Rattle.{trace_text.specs.Steps.Words, tte_units.specs.declared.frames.members.Members.Members}
 use Rattle.run_law.specs.declared.judgement.Judgement.TheVariants as judgements
 use Rattle.run_law.specs.declared.judgement.Reason.TheVariants as reasons
 use Rattle.run_law.specs.declared.judgement.Why.TheVariants as whys

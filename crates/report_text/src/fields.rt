@@ -5,9 +5,9 @@ ghost use Rattle.{net_plan.specs.Ranges.IsInRange, trace_text.specs.Steps.space,
 ghost use Rattle.report_text.specs.{NoteLine.{passage_words, stream_words}, NoteWords.members_text};
 
 use net_plan::{DeviceId, LinkId, Network, VlId};
-use pcf_values::Members;
 use tte_io::LineText;
 use tte_units::Units;
+use tte_units::frames::Members;
 
 // Adds a number of units, which takes at most 21 octets.
 pub(crate) fn push_units(line: &mut LineText, units: Units)

@@ -9,13 +9,13 @@ ghost use Rattle.run_law.specs.declared.note.NoteBody.TheVariants as bodies;
 use crate::fields::{push_device, push_members, push_passage, push_stream, push_units};
 use crate::words::{judgement_text, push_reason, state_text, why_text};
 use net_plan::{DeviceId, LinkId, Network, VlId, What};
-use pcf_values::Members;
 use run_law::plain::{EventOrPlain, PlainKind};
 use run_law::{Judgement, NoteBody, Reason, Why};
 use sync_state::State;
 use trace_text::push_what;
 use tte_io::LineText;
 use tte_units::Units;
+use tte_units::frames::Members;
 
 // Adds what the record of an event says.
 pub(crate) fn push_event(line: &mut LineText, network: &Network, of_trace: u64, what: &What)

@@ -10,7 +10,7 @@ pub use Rattle.net_plan.specs.{Bounds.beta_at, Places.{device_at, is_master, lin
 pub use Rattle.net_plan.specs.declared.{event.{Event.Event, What.{What, TheVariants.Send}}, ids.{DeviceId.DeviceId, LinkId.LinkId, VlId.VlId}}
 pub use Rattle.net_plan.specs.declared.{network.Network.Network, tables.{Device.Device, Link.Link, Role.{Role, TheVariants.{Client, Cm, Master, Relay}}}}
 pub use Rattle.net_plan.specs.declared.tables.Way.{Way, TheVariants.{Down, Up}}
-pub use Rattle.pcf_values.specs.declared.{channel.Channel.TheVariants.{A, B}, members.Members.Members, pcf.Pcf.Pcf}
+pub use Rattle.tte_units.specs.declared.frames.{channel.Channel.TheVariants.{A, B}, members.Members.Members, pcf.Pcf.Pcf}
 pub use Rattle.sync_state.specs.Standing.{adjustment_at_start}
 pub use Rattle.sync_state.specs.declared.state.State.{State, TheVariants.{Integrating, Joining, Synchronised}}
 pub use Rattle.tte_units.proofs.general_lemmas.{Lists.in_all, Options.{one as same_some}}

@@ -9,9 +9,9 @@ ghost use Rattle.run_law.specs.{machines.Nodes.{Node, acting, arriving, ripening
 
 use crate::{Act, Arrival, Moment, Ripe};
 use net_plan::LinkId;
-use pcf_values::Pcf;
 use sync_state::State;
 use tte_units::Units;
+use tte_units::frames::Pcf;
 
 /// A device as it behaves by itself: what becomes of the frames that come to it, and what it does when its clock
 /// reaches a value.

@@ -1,11 +1,11 @@
 use crate::{Judgement, Reason, Why};
 use net_plan::{DeviceId, LinkId, VlId, What};
-use pcf_values::Members;
 use sync_state::State;
 use tte_units::Units;
+use tte_units::frames::Members;
 
 /// A record of a run.
-#[derive(PartialEq, Eq, Drop)]
+#[derive(Drop)]
 pub struct Note {
     /// Its place among the records of its run, from 1.
     pub number: u64,

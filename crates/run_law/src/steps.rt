@@ -1,9 +1,9 @@
 use crate::Reason;
 use compression::Compressed;
 use net_plan::{RowId, VlId, Way};
-use pcf_values::Pcf;
 use sync_state::Verdict;
 use tte_units::Units;
+use tte_units::frames::Pcf;
 
 /// An instant, as a device meets it.
 #[derive(Clone, Copy, PartialEq, Eq)]
@@ -15,7 +15,7 @@ pub struct Moment {
 }
 
 /// What a device does by itself.
-#[derive(Clone, Copy, PartialEq, Eq)]
+#[derive(Clone, Copy)]
 pub enum Act {
     /// A master sends this frame by both links.
     Send(Pcf),

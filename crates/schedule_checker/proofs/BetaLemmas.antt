@@ -1,8 +1,8 @@
 -- The rules that speak of beta, at a beta of the network.
-use Rattle.{net_plan.specs.{Bounds.{BetaIsUnique, IsBeta, gamma_of}, declared.network.Network.Network}, schedule_tables.specs.Delays.{DelaysFit, PrecisionFits}}
-use Rattle.{net_plan.specs.declared.ids.DeviceId.DeviceId, schedule_checker.specs.Timing.{DelaysFitOn, errors_of}, tte_units.specs.declared.units.Units.Units}
-use Rattle.{pcf_values.specs.declared.channel.Channel.{Channel, TheVariants.{A, B}}, std.proofs.Common.{◌*◌, ◌+◌, ◌∙◌, ◌≡◌, ◌≤◌, ap, arith, pos, subst, sym, ℕ}}
-use Rattle.{std.specs.Prelude.unsigned_abs, tte_units.specs.Amount.amount}
+use Rattle.{net_plan.specs.{Bounds.{BetaIsUnique, IsBeta, gamma_of}, declared.network.Network.Network}, schedule_checker.specs.Timing.{DelaysFitOn, errors_of}}
+use Rattle.{net_plan.specs.declared.ids.DeviceId.DeviceId, std.specs.Prelude.unsigned_abs, tte_units.specs.Amount.amount}
+use Rattle.{schedule_tables.specs.Delays.{DelaysFit, PrecisionFits}, tte_units.specs.declared.{frames.channel.Channel.Channel, units.Units.Units}}
+use Rattle.{std.proofs.Common.{◌*◌, ◌+◌, ◌∙◌, ◌≡◌, ◌≤◌, ap, arith, pos, subst, sym, ℕ}, tte_units.specs.declared.frames.channel.Channel.TheVariants.{A, B}}
 
 -- a beta is no negative number
 pub beta_is_whole : (n : Network) (beta : Units) → IsBeta n beta.0 → beta.0 ≡ pos (amount beta)

@@ -5,8 +5,7 @@ use Rattle.{std.specs.{Bool.MatchBool, List.{AllWithin, HoldsAt}, Prelude.{IsTru
 
 -- the element at the place has a mark that no earlier one has
 abbrev pub IsNewAt : {X Y : Type 0} → (X → Y) → List X → ℕ → Type 0
-IsNewAt {X} mark xs place =
-    (k : ℕ) (earlier x : X) → k < place → slice_get xs k ≡ Some earlier → slice_get xs place ≡ Some x → mark x ≢ mark earlier
+IsNewAt {X} mark xs place = (k : ℕ) (earlier x : X) → k < place → slice_get xs k ≡ Some earlier → slice_get xs place ≡ Some x → mark x ≢ mark earlier
 
 -- what `all` answers at a test of the elements before the place against this one
 abbrev pub IsCompared : {X Y : Type 0} → (X → Y) → List X → ℕ → X → Bool → Type 0

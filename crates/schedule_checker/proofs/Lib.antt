@@ -16,3 +16,4 @@ pub mod RouteLemmas
 pub mod Selection
 pub mod SomePlaces
 pub mod Grouping
+pub mod AtPlace

@@ -2,7 +2,7 @@
 use Rattle.{net_plan.specs.Places.IsEndSystem, schedule_checker.proofs.SomePlaces.HoldsBy, std.specs.{Bool.Decides, List.{All, slice_get}}}
 use Rattle.{net_plan.specs.declared.{ids.{DeviceId.DeviceId, VlId.VlId}, network.Network.Network, tables.Row.Row}, std.proofs.lemmas.Bool.Decides.Decides-like}
 use Rattle.{net_plan.specs.declared.tables.VirtualLink.VirtualLink, schedule_checker.proofs.EntryPlaces.{all_of_earlier, earlier_of_all, entry_at, stands_at}}
-use Rattle.{pcf_values.specs.declared.channel.Channel.{Channel, TheVariants.{A, B}}, tte_units.proofs.general_lemmas.Options.some_same}
+use Rattle.tte_units.{proofs.general_lemmas.Options.some_same, specs.declared.frames.channel.Channel.{Channel, TheVariants.{A, B}}}
 use Rattle.schedule_checker.{proofs.Selection.{Each, Holds}, specs.Routes.{IsEntering, IsEnteringEnd, IsLeaving, LeavesOnBoth, ShareChannel, TargetIsAlike}}
 use Rattle.schedule_checker.specs.Routes.{EntersAgain, EntersAlike, EntersAllAlike, EntersEndSystem, EntersSource, GoesElsewhere, IsEnteredElsewhere}
 use Rattle.schedule_tables.specs.{Entries.{AreEntries, EntryIsOne, IsEntry, IsOnChannel, source_of, target_of}, declared.entry.Entry.Entry}

@@ -14,8 +14,7 @@ decides_all P Q (y ∷ ys) false apart h = (λ e. absurd (false≢true e), λ al
 
 -- the element at the place differs from each before it
 abbrev pub IsNew : {X : Type 0} → (X → X → Type 0) → List X → ℕ → Type 0
-IsNew {X} Differ xs i =
-    (k : ℕ) (earlier x : X) → k < i → slice_get xs k ≡ Some earlier → slice_get xs i ≡ Some x → Differ x earlier
+IsNew {X} Differ xs i = (k : ℕ) (earlier x : X) → k < i → slice_get xs k ≡ Some earlier → slice_get xs i ≡ Some x → Differ x earlier
 
 pub new_from_all : {X : Type 0} (Differ : X → X → Type 0) (xs : List X) (i : ℕ) (x : X) → slice_get xs i ≡ Some x → All (Differ x) (take i xs)
     → IsNew Differ xs i

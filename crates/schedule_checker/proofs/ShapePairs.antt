@@ -5,13 +5,11 @@ use Rattle.std.{proofs.lemmas.Option.{get_or_from_slice_get, none-some, same_Som
 
 -- each two elements are so related, the earlier first
 abbrev pub AtPairs : {X : Type 0} → (X → X → Type 0) → List X → Type 0
-AtPairs {X} R xs =
-    (j k : ℕ) (x y : X) → j < k → slice_get xs j ≡ Some x → slice_get xs k ≡ Some y → R x y
+AtPairs {X} R xs = (j k : ℕ) (x y : X) → j < k → slice_get xs j ≡ Some x → slice_get xs k ≡ Some y → R x y
 
 -- the same for the elements that pass a test, below a place
 abbrev pub PairsBelow : {X : Type 0} → (X → Bool) → (X → X → Type 0) → List X → ℕ → Type 0
-PairsBelow {X} p R xs n =
-    (j k : ℕ) (x y : X) → j < k → k < n → slice_get xs j ≡ Some x → slice_get xs k ≡ Some y → p x ≡ true → p y ≡ true → R x y
+PairsBelow {X} p R xs n = (j k : ℕ) (x y : X) → j < k → k < n → slice_get xs j ≡ Some x → slice_get xs k ≡ Some y → p x ≡ true → p y ≡ true → R x y
 
 -- an element before one, where it passes
 abbrev pub Before : {X : Type 0} → (X → Bool) → (X → X → Type 0) → X → X → Type 0

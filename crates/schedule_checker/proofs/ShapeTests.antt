@@ -3,7 +3,7 @@ use Rattle.std.proofs.{Common.{◌&&◌, ◌≡◌, ◌≤◌, Bool, None, Optio
 use Rattle.std.{proofs.lemmas.Bool.Decides.{Decides-and, Decides-eqb, Decides-like, nat_tests}, specs.{Bool.Decides, Prelude.IsSomeAnd}}
 use Rattle.net_plan.specs.{Places.{IsSwitchOf, device_at}, declared.{ids.DeviceId.DeviceId, network.Network.Network, tables.{Device.Device, Link.Link}}}
 use Rattle.net_plan.specs.declared.tables.Role.{Role, TheVariants.{Client, Cm, Master, Relay}}
-use Rattle.pcf_values.specs.declared.channel.Channel.{Channel, TheVariants.{A, B}}
+use Rattle.tte_units.specs.declared.frames.channel.Channel.{Channel, TheVariants.{A, B}}
 
 same_channel : Channel → Channel → Bool
 same_channel A A = true

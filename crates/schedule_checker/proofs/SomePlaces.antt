@@ -57,8 +57,7 @@ each_there P xs places r has =
 pub all_there : {X : Type 0} (P : X → Type 0) (xs : List X) (places : List ℕ) (r : Bool)
     → ((k : ℕ) (x : X) → slice_get xs k ≡ Some x → (Contains places k → P x) → P x)
     → Decides r (Each (λ (k : ℕ). IfSome (slice_get xs k) P) places) → Decides r (All P xs)
-all_there P xs places r has each =
-    Decides-like r (all_of_each P xs) (each_of_all P xs) (each_there P xs places r has each)
+all_there P xs places r has each = Decides-like r (all_of_each P xs) (each_of_all P xs) (each_there P xs places r has each)
 
 -- the same of the first n elements
 pub all_before : {X : Type 0} (P : X → Type 0) (xs : List X) (places : List ℕ) (n : ℕ) (r : Bool)

@@ -26,8 +26,7 @@ plan_rules =
     ∷ plans.RowsOfDevice ∷ []
 
 pub shape_number : (i : ℕ) → i < 7 → number_of (shape_rule (get_or shape_rules i shapes.Limits)) ≡ 1 + i
-shape_number i below =
-    number_at (λ r. number_of (shape_rule r)) shape_rules 1 i shapes.Limits (refl, (refl, (refl, (refl, (refl, (refl, (refl, tt))))))) below
+shape_number i below = number_at (λ r. number_of (shape_rule r)) shape_rules 1 i shapes.Limits (refl, (refl, (refl, (refl, (refl, (refl, (refl, tt))))))) below
 
 pub plan_number : (i : ℕ) → i < 17 → number_of (plan_rule (get_or plan_rules i plans.Delays)) ≡ 8 + i
 plan_number i below =

@@ -1,6 +1,6 @@
 -- The numbers of the parts of rules that have parts.
 use Rattle.std.specs.Prelude.{ℕ}
-use Rattle.pcf_values.specs.declared.channel.Channel.{Channel, TheVariants.{A, B}}
+use Rattle.tte_units.specs.declared.frames.channel.Channel.{Channel, TheVariants.{A, B}}
 use Rattle.schedule_checker.specs.declared.shape.{limits.Limit.Limit, masters.Demand.Demand}
 use Rattle.schedule_checker.specs.declared.shape.limits.Limit.TheVariants as limits
 use Rattle.schedule_checker.specs.declared.shape.masters.Demand.TheVariants as demands

@@ -3,7 +3,7 @@ use Rattle.std.specs.Prelude.{◌≤◌, ◌⊎◌, List, length, ℕ}
 use Rattle.net_plan.specs.{Paths.{IsFirstPath, IsUplink, LeadsToCm}, declared.tables.Role.TheVariants.Relay}
 use Rattle.net_plan.specs.{Places.{IsDeviceOf, IsEndSystem, IsRoleOf, IsSwitchOf}, declared.network.Network.Network}
 use Rattle.net_plan.specs.{Rules.{ExactlyOne, IsChildOf}, declared.{ids.LinkId.LinkId, tables.Link.Link}}
-use Rattle.{net_plan.specs.declared.ids.DeviceId.DeviceId, pcf_values.specs.declared.channel.Channel.Channel}
+use Rattle.{net_plan.specs.declared.ids.DeviceId.DeviceId, tte_units.specs.declared.frames.channel.Channel.Channel}
 
 -- the link's parent is a switch of the channel, and its child an end system or a relay of the channel
 abbrev pub JoinsOn : Network → Channel → Link → Type 0

@@ -2,7 +2,7 @@
 use Rattle.std.specs.Prelude.{◌*◌, ◌+◌, ◌≤◌, List, ℕ}
 use Rattle.{net_plan.specs.{Bounds.gamma_of, Paths.IsPath, Places.IsDeviceOf}, tte_units.specs.Amount.amount}
 use Rattle.{net_plan.specs.declared.ids.{DeviceId.DeviceId, LinkId.LinkId}, schedule_tables.specs.Delays.delay_on}
-use Rattle.{net_plan.specs.declared.network.Network.Network, pcf_values.specs.declared.channel.Channel.Channel}
+use Rattle.{net_plan.specs.declared.network.Network.Network, tte_units.specs.declared.frames.channel.Channel.Channel}
 
 -- on the channel, if the device is of it, dmax has room for beta and for the delays of the device's path
 abbrev pub DelaysFitOn : Network → ℕ → Channel → DeviceId → Type 0

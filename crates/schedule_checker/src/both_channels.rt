@@ -9,8 +9,8 @@ use crate::groups::Groups;
 use crate::roles::is_end_system;
 use crate::routes::is_on_channel;
 use net_plan::{DeviceId, Network, VlId};
-use pcf_values::Channel;
 use schedule_tables::{Entry, entries_law};
+use tte_units::frames::Channel;
 
 /// Does the virtual link leave its sender on both channels, enter an end system, and enter the
 /// same end systems on both?

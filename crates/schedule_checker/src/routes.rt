@@ -8,8 +8,8 @@ ghost use Rattle.schedule_tables.specs.Schedule.{EntersAnew, GoesOnceByLink, Has
 use crate::groups::Groups;
 use crate::roles::{is_end_system, is_switch};
 use net_plan::Network;
-use pcf_values::Channel;
 use schedule_tables::{Entry, entries_law};
+use tte_units::frames::Channel;
 
 /// Is this the first row by which its virtual link goes over its link?
 pub(crate) fn goes_once_by_link(

@@ -1,13 +1,12 @@
-ghost use Rattle.std.specs.Prelude.{◌*◌, ◌+◌, ◌<◌, ◌^◌, ◌↔◌, ◌≡◌, ◌≤ℤ◌, ◌≤◌, IsTrue, length, pos};
-ghost use Rattle.std.specs.List.{All};
+ghost use Rattle.std.specs.{List.All, Prelude.{◌*◌, ◌+◌, ◌<◌, ◌^◌, ◌↔◌, ◌≡◌, ◌≤ℤ◌, ◌≤◌, IsTrue, length, pos}};
 ghost use Rattle.{net_plan.specs.{Bounds.IsBeta, Paths.IsTree, Ranges.IsInRange}, tte_units.specs.Amount.amount};
 ghost use Rattle.{schedule_checker.specs.Timing.{DelaysFitOn, errors_of}, schedule_tables.specs.Entries.AreEntries};
 ghost use Rattle.schedule_tables.specs.Delays.{CorrectionFits, DelaysFit, ErrorsSettle, PrecisionFits, ScheduleFits};
 ghost use Rattle.schedule_tables.specs.{Delays.{delay_of, delay_on, pcf_port_time}, Schedule.EndsInCycle};
 
 use net_plan::{DeviceId, Link, LinkId, Network, Path, beta_is_unique, paths_are_unique};
-use pcf_values::Channel;
 use schedule_tables::{Entry, entries_law, window_of};
+use tte_units::frames::Channel;
 use tte_units::{Units, octets};
 
 /// The octets for which a protocol control frame occupies a port: its own 60, and 24 of preamble,

@@ -13,8 +13,7 @@ pub entry_by : (o : Option VirtualLink) (p : Option Link) (row : Row) (entry : E
     × (row ≡ entry.row)
 entry_by None p row entry e = absurd cc
 entry_by (Some vl) None row entry e = absurd cc
-entry_by (Some vl) (Some link) row entry e =
-    grind arith
+entry_by (Some vl) (Some link) row entry e = grind arith
 
 -- two ids are one device's or not
 pub same_or_other : (d e : DeviceId) → (d ≡ e) ⊎ (d ≢ e)
@@ -73,5 +72,4 @@ periods_agree n p q one two =
 -- virtual links that occur in one cycle coincide
 pub occur_together : (one two : VirtualLink) (cycle : ℕ) → Contains (1 ∷ 2 ∷ 4 ∷ 8 ∷ 16 ∷ 32 ∷ 64 ∷ []) one.period
     → Contains (1 ∷ 2 ∷ 4 ∷ 8 ∷ 16 ∷ 32 ∷ 64 ∷ []) two.period → OccursIn one cycle → OccursIn two cycle → Coincide one two
-occur_together one two cycle first second here there =
-    grind (arith, min, periods_agree)
+occur_together one two cycle first second here there = grind (arith, min, periods_agree)

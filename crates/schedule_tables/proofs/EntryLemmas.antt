@@ -15,8 +15,7 @@ abbrev entry : Row → VirtualLink → Link → Entry
 entry r v l = record { row = r; vl = v; link = l }
 
 pub one_entry : EntryIsOne
-one_entry n i e f a b =
-    grind (arith, one)
+one_entry n i e f a b = grind (arith, one)
 
 pub entry_pushed : (n : Network) (entries : List Entry) (e : Entry) (count : ℕ) → length entries ≡ count → IsEntry n count e
     → ((place : ℕ) (entry : Entry) → slice_get entries place ≡ Some entry → IsEntry n place entry)

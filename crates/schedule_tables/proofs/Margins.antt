@@ -1,16 +1,16 @@
 -- The rules of a network's times leave the margins.
-use Rattle.{net_plan.specs.Bounds.IsBeta, std.specs.{List.{All, filter}, Option.option_map_or}, tte_units.specs.Amount.amount}
-use Rattle.net_plan.specs.{Paths.{IsPath, IsTree, IsUplink}, Rules.{KeepsShapeRules, RulesGiveTrees}, declared.{ids.DeviceId.DeviceId, network.Network.Network}}
-use Rattle.net_plan.specs.{Places.{IsDeviceOf, IsEndSystem, IsRoleOf, IsSwitchOf, device_at, is_end_system, is_master, link_at}, declared.tables.Device.Device}
-use Rattle.{net_plan.specs.Ranges.{IsInRange, IsWithin}, std.proofs.lemmas.{Int.ints, List.Elements.All-weaker}, tte_units.specs.declared.units.Units.Units}
-use Rattle.{net_plan.specs.declared.{ids.LinkId.LinkId, tables.{Link.Link, Role.Role}}, std.proofs.lemmas.{List.Sums.sum_by-cons, Option.slice_get-get_or}}
-use Rattle.{net_plan.specs.declared.tables.Role.TheVariants.{Client, Cm, Master, Relay}, pcf_values.specs.declared.channel.Channel.{Channel, TheVariants.A}}
+use Rattle.{net_plan.specs.{Bounds.IsBeta, Rules.{KeepsShapeRules, RulesGiveTrees}}, tte_units.proofs.general_lemmas.{Lists.in_all, Options.{closed, opened}}}
+use Rattle.net_plan.specs.{Paths.{IsPath, IsTree, IsUplink}, declared.{ids.{DeviceId.DeviceId, LinkId.LinkId}, network.Network.Network, tables.Device.Device}}
+use Rattle.net_plan.specs.{Places.{IsDeviceOf, IsEndSystem, IsRoleOf, IsSwitchOf, device_at, is_end_system, is_master, link_at}, Ranges.{IsInRange, IsWithin}}
+use Rattle.{net_plan.specs.declared.tables.Link.Link, std.{proofs.lemmas.Bool.false≢true, specs.{List.{All, filter}, Option.option_map_or}}}
+use Rattle.{net_plan.specs.declared.tables.Role.{Role, TheVariants.{Client, Cm, Master, Relay}}, tte_units.specs.declared.frames.channel.Channel.TheVariants.A}
 use Rattle.schedule_tables.specs.Delays.{CorrectionFits, ErrorsSettle, PrecisionFits, ScheduleFits, delay_by, delay_of, pcf_port_time}
 use Rattle.schedule_tables.specs.{Margins.{CycleHasRoom, DriftHasRoom, ErrorsAreSmall, PrecisionHasRoom, RulesGiveMargins, SettledHasRoom}, Rules.KeepsRules}
 use Rattle.schedule_tables.specs.declared.rule.Rule.TheVariants.{CompressionMasters, Connections, Correction, Delays, DevicesDiffer, Joints, Limits}
-use Rattle.{schedule_tables.specs.declared.rule.Rule.TheVariants.{LinksDiffer, Masters, Precision, ScheduleStart, Settling}, std.proofs.lemmas.Bool.false≢true}
+use Rattle.schedule_tables.specs.declared.rule.Rule.TheVariants.{LinksDiffer, Masters, Precision, ScheduleStart, Settling}
 use Rattle.std.proofs.Common.{◌*◌, ◌+◌, ◌/◌, ◌^◌, ◌∙◌, ◌∷◌, ◌≡◌, ◌≤◌, ◌⊎◌, List, Option, Some, [], ap, arith, get_or, inl, inr, pos, refl, suc, ℕ, ⊎_elim}
-use Rattle.{std.specs.Prelude.{Bool, false, if◌then◌else◌, length, slice_get, true}, tte_units.proofs.general_lemmas.{Lists.in_all, Options.{closed, opened}}}
+use Rattle.{std.proofs.lemmas.{Int.ints, List.{Elements.All-weaker, Sums.sum_by-cons}, Option.slice_get-get_or}, tte_units.specs.declared.units.Units.Units}
+use Rattle.{std.specs.Prelude.{Bool, false, if◌then◌else◌, length, slice_get, true}, tte_units.specs.{Amount.amount, declared.frames.channel.Channel.Channel}}
 
 amount_within : (low high : ℕ) (units : Units) → IsWithin low high units → (low ≤ amount units) × (amount units ≤ high)
 amount_within low high units h = (omega (arith, ints, h.least, h.most), omega (arith, ints, h.least, h.most))
@@ -20,8 +20,7 @@ halved : (a b : ℕ) → b ≡ 2 * a → 2 * (a / 10 ^ 9) ≤ b / 10 ^ 9
 halved a b e = omega (arith, e)
 
 drift_room : (n : Network) → IsInRange n → DriftHasRoom n
-drift_room n range =
-    grind (arith, amount_within, halved)
+drift_room n range = grind (arith, amount_within, halved)
 
 precision_room : (n : Network) (beta : ℕ) → IsInRange n → DriftHasRoom n → PrecisionFits n → IsBeta n (pos beta) → PrecisionHasRoom n beta
 precision_room n beta range drift fits is =
@@ -63,8 +62,7 @@ shape_rules n keeps = record {
 -- the last control frame on a link, with the schedule's begin
 last_frame : (n : Network) → CorrectionFits n → ScheduleFits n
     → All (λ link. amount n.correction + amount n.dmax + 8 * amount n.precision + pcf_port_time link ≤ amount n.cycle) n.link
-last_frame n correction schedule =
-    grind (arith, All-weaker)
+last_frame n correction schedule = grind (arith, All-weaker)
 
 cycle_room : (n : Network) (beta : ℕ) (link : Link) → DriftHasRoom n → PrecisionFits n → PrecisionHasRoom n beta → CorrectionFits n → ScheduleFits n
     → amount n.correction + amount n.dmax + 4 * amount n.precision + pcf_port_time link ≤ amount n.tt_start → CycleHasRoom n beta
@@ -117,8 +115,7 @@ link_room n beta tree keeps is place link at =
     let joint = keeps Joints place link at in
     let up : IsUplink n joint.0 link.child (record { 0 = place }) = closed (λ (l : Link). (l.child ≡ link.child) × IsSwitchOf n joint.0 l.parent)
     (slice_get n.link place) link at (refl, joint.1) in
-    let member : IsDeviceOf n joint.0 link.child =
-    ⊎_elim
+    let member : IsDeviceOf n joint.0 link.child = ⊎_elim
     (λ (e : IsEndSystem n link.child). let d = opened (λ (d : Device). is_end_system d.role ≡ true) (device_at n link.child) e in
     let r : IsDeviceOf n joint.0 link.child = closed (λ (x : Device). (is_end_system x.role ≡ true) ⊎ (x.channel ≡ Some joint.0)) (device_at n link.child) d.0
     d.1 (inl d.2) in r)

@@ -43,8 +43,7 @@ comes_behind n (Some other) place it row (e, is, behind) at from =
 -- what comes behind the row is not below the bound
 not_below : (n : Network) (after : Option RowId) (place it : Place) (row : RowId) → IsBoundOf n after place
     → dispatch_order n row ≡ numbers_of it → ComesBehind n after row → IsBelow (numbers_of it) (numbers_of place) → ⊥
-not_below n None place it row of at behind below =
-    below_first it.offset it.link.0 it.row.0 (subst (λ (xs : List ℕ). IsBelow (numbers_of it) xs) of below)
+not_below n None place it row of at behind below = below_first it.offset it.link.0 it.row.0 (subst (λ (xs : List ℕ). IsBelow (numbers_of it) xs) of below)
 not_below n (Some other) place it row (e, is, more) at behind below =
     below_more it.offset it.link.0 it.row.0 (amount e.row.offset) e.row.link.0 other.0
     (subst (λ (xs : List ℕ). IsBelow (numbers_of it) xs) more below)
@@ -123,8 +122,7 @@ is_next_row n device cycle after place slots s begun are periods of same_device 
 
 -- where there is no such slot, there is no next row
 pub has_no_next_row : (n : Network) (device : DeviceId) (cycle : ℕ) (after : Option RowId) (place : Place) (slots : List Slot) → AreSlotsOf n slots
-    → ((k : ℕ) → HasPeriod n k)
-    → IsBoundOf n after place → AreBelow slots (bound_of device cycle place) → HasNoNextRow n device cycle after
+    → ((k : ℕ) → HasPeriod n k) → IsBoundOf n after place → AreBelow slots (bound_of device cycle place) → HasNoNextRow n device cycle after
 has_no_next_row n device cycle after place slots are periods of none row is behind =
     none (slot_of n device cycle row is) (are.complete _ (is_slot n device cycle row is periods)) (not_low n device cycle after place row is of behind)
 

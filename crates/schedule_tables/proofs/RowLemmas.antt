@@ -18,8 +18,7 @@ rows_more n count rows row are is = record {
 
 -- the window of a row by its entry
 pub window_at : (n : Network) (count : ℕ) (rows : List TimedRow) (place : ℕ) (row : TimedRow) (entry : Entry) → AreTimedRows n count rows → place < length rows
-    → row ≡ get_or rows place row → IsEntry n place entry
-    → row.window ≡ window_of n entry
+    → row ≡ get_or rows place row → IsEntry n place entry → row.window ≡ window_of n entry
 window_at n count rows place row entry are within found at =
     let is = are.each place row (slice_get_read rows (length rows) place row refl within found) in
     is.window ∙ ap (window_of n) (one_entry n place is.entry entry is.is at)

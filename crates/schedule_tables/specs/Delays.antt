@@ -3,7 +3,7 @@
 use Rattle.std.specs.{List.{All, sum_by}, Option.option_map_or, Prelude.{◌*◌, ◌+◌, ◌≤◌, List, pos, ℕ}}
 use Rattle.{net_plan.specs.Bounds.{IsBeta, gamma_of}, tte_units.specs.{Amount.amount, OctetTime.octet_time}}
 use Rattle.net_plan.specs.{Paths.IsPath, Places.{IsDeviceOf, link_at}, declared.{ids.LinkId.LinkId, tables.Link.Link}}
-use Rattle.{net_plan.specs.declared.network.Network.Network, pcf_values.specs.declared.channel.Channel.Channel}
+use Rattle.{net_plan.specs.declared.network.Network.Network, tte_units.specs.declared.frames.channel.Channel.Channel}
 
 -- how long a link delays a frame at most: its wire, its jitter and its hold
 abbrev pub delay_by : Link → ℕ

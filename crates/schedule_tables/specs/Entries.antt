@@ -3,7 +3,7 @@ use Rattle.std.specs.Prelude.{◌≡◌, List, Some, length, slice_get, ℕ}
 use Rattle.net_plan.specs.{Places.IsSwitchOf, declared.tables.Way.Way}
 use Rattle.net_plan.specs.{Ranges.{IsInRange, IsLinkInRange, IsRowInRange, IsVlInRange}, declared.tables.Link.Link}
 use Rattle.net_plan.specs.declared.{ids.DeviceId.DeviceId, network.Network.Network, tables.Way.TheVariants.{Down, Up}}
-use Rattle.{pcf_values.specs.declared.channel.Channel.Channel, schedule_tables.specs.declared.entry.Entry.Entry}
+use Rattle.{schedule_tables.specs.declared.entry.Entry.Entry, tte_units.specs.declared.frames.channel.Channel.Channel}
 
 -- the entry is the row at the place, with its virtual link and its link
 pub record IsEntry (network : Network) (place : ℕ) (entry : Entry) : Type 0 where

@@ -3,7 +3,7 @@
 use Rattle.std.specs.{List.All, Prelude.{◌*◌, ◌+◌, ◌/◌, ◌^◌, ◌≡◌, ◌≤◌, List, pos, ℕ}}
 use Rattle.net_plan.specs.{Bounds.{IsBeta, gamma_of}, Ranges.IsInRange, declared.ids.{DeviceId.DeviceId, LinkId.LinkId}}
 use Rattle.{net_plan.specs.{Paths.IsPath, Places.IsDeviceOf}, tte_units.specs.Amount.amount}
-use Rattle.{net_plan.specs.declared.network.Network.Network, pcf_values.specs.declared.channel.Channel.Channel}
+use Rattle.{net_plan.specs.declared.network.Network.Network, tte_units.specs.declared.frames.channel.Channel.Channel}
 use Rattle.schedule_tables.specs.{Delays.{delay_by, delay_on, pcf_port_time}, Rules.KeepsRules}
 
 -- how far a clock may drift over two cycles, with the roundings of two readings

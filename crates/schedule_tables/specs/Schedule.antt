@@ -2,12 +2,12 @@
 -- a row or of a device.
 use Rattle.std.specs.{List.{Contains, count_by}, Option.option_map_or, Prelude.{slice_get, ℕ}}
 use Rattle.std.specs.Prelude.{◌%◌, ◌*◌, ◌+◌, ◌<◌, ◌==◌, ◌∷◌, ◌≡◌, ◌≢◌, ◌≤◌, ◌⊎◌, Bool, IsSomeAnd, Some, [], false, min}
-use Rattle.net_plan.specs.{Bounds.gamma_of, declared.{ids.{DeviceId.DeviceId, VlId.VlId}, tables.Row.Row}}
-use Rattle.net_plan.specs.{Places.{IsEndSystem, device_at, is_end_system, link_at}, declared.network.Network.Network}
-use Rattle.{net_plan.specs.declared.tables.VirtualLink.VirtualLink, pcf_values.specs.declared.channel.Channel.Channel}
+use Rattle.{net_plan.specs.Bounds.gamma_of, tte_units.specs.Amount.amount}
+use Rattle.net_plan.specs.{Places.{IsEndSystem, device_at, is_end_system, link_at}, declared.tables.Row.Row}
+use Rattle.net_plan.specs.declared.{ids.DeviceId.DeviceId, network.Network.Network, tables.VirtualLink.VirtualLink}
+use Rattle.{net_plan.specs.declared.ids.VlId.VlId, tte_units.specs.declared.frames.channel.Channel.Channel}
 use Rattle.schedule_tables.specs.Entries.{IsEntry, IsOnChannel, source_by, source_of, target_of}
 use Rattle.schedule_tables.specs.{Windows.{port_time, window_end}, declared.entry.Entry.Entry}
-use Rattle.tte_units.specs.Amount.{amount}
 
 -- the row's window ends before the cycle does, with room for the precision
 abbrev pub EndsInCycle : Network → ℕ → Type 0

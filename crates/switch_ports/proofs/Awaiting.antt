@@ -27,8 +27,7 @@ awaits_later Joining network ds adjustment changed done x y h le = h
 
 -- at a call that changes nothing of it
 pub awaits_called : (s : Switch) (network : Network) (device : DeviceId) (node : Node) (moment : Moment) → StandsAs s network device node
-    → node.last.reading.0 ≤ℤ moment.reading.0
-    → AwaitsIn node.standing.state network s.departures node.standing.adjustment.0 node.changed node.done
+    → node.last.reading.0 ≤ℤ moment.reading.0 → AwaitsIn node.standing.state network s.departures node.standing.adjustment.0 node.changed node.done
     (moment.reading.0 +ℤ node.standing.adjustment.0)
 awaits_called s network device node moment st later =
     awaits_later node.standing.state network s.departures node.standing.adjustment.0 node.changed node.done _ _ st.awaits
@@ -95,11 +94,7 @@ pub departs_reopened : (network : Network) (device : DeviceId) (changed : ℤ) (
     → Changes (reopened changed) old new → HasDepartures network device old taken → HasDepartures network device new taken
 departs_reopened network device changed old new taken changes h =
     departs_each network device (reopened changed) old new taken taken changes (λ d. refl)
-    (λ d is. record {
-      of = is.of;
-      held = is.held;
-      fit = fit_reopened changed d is.fit;
-    }) h
+    (λ d is. record { of = is.of; held = is.held; fit = fit_reopened changed d is.fit }) h
 
 awaits_anew : (changed : ℤ) (d : Departure) → AwaitsSo changed [] (reopened changed d)
 awaits_anew changed d held = (
@@ -258,8 +253,7 @@ awaits_kept network device t changed x done d true passed le is h held =
 
 pub awaits_taken : (state : State) (network : Network) (device : DeviceId) (old new : Departures) (taken : List TakenFrame) (t : TakenFrame)
     (adjustment changed x : ℤ) (done : List ClockTask) → state ≡ Synchronised → HasDepartures network device old taken
-    → Changes (taken_as (amount network.cycle) changed t) old new
-    → KnowsNext adjustment new
+    → Changes (taken_as (amount network.cycle) changed t) old new → KnowsNext adjustment new
     → AwaitsIn state network old adjustment changed done x → x ≤ℤ t.at → AwaitsIn state network new adjustment changed done t.at
 awaits_taken Off network device old new taken t adjustment changed x done is has changes next h le = absurd cc
 awaits_taken Integrating network device old new taken t adjustment changed x done is has changes next h le = absurd cc

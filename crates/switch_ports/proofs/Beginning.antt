@@ -56,8 +56,7 @@ begun_stands s network device accepted site intake rows sync start heard collect
       plan = refl;
       heard = silent_now s.heard heard;
       changed = sym changed_is;
-      corrects =
-          grind (arith, and_then_same, correction_at, reading_of, correction_value, next_point, amount, option_and_then, standing, plan_of, changed_is);
+      corrects = grind (arith, and_then_same, correction_at, reading_of, correction_value, next_point, amount, option_and_then, standing, plan_of, changed_is);
       done = λ cycle there. nothing_done cycle 1 there;
       begun = never_less (pos 0);
       small = start_small (start_of network device) start;

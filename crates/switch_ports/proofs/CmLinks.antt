@@ -82,8 +82,7 @@ no_relay (Some d) channel other h k = let e : Cm ≡ Relay = sym h.0 ∙ k.0 in 
 
 never_below : (network : Network) (device : DeviceId) (channel other : Channel) (l : Link)
     → (IsEndSystem network l.child ⊎ IsRoleOf network Relay other l.child) → l.child ≡ device → IsCmOf network channel device → ⊥
-never_below network device channel other l below is cm =
-    grind (arith, no_master, no_relay)
+never_below network device channel other l below is cm = grind (arith, no_master, no_relay)
 
 -- it is the child of none
 pub not_child : (network : Network) (device : DeviceId) (channel : Channel) (link : LinkId) → IsAccepted network → is_cm network device ≡ true

@@ -181,8 +181,7 @@ kept_collects s new network device node true h e = subst (λ (c : Collecting). H
 kept_collects s new network device node false h e = fresh_collects s.collector new.collector network device node.points node.emitted h e
 
 corrected : (s new : Switch) (network : Network) (device : DeviceId) (node : Node) (moment : Moment) (cycle : ℕ) (by : Units) → StandsAs s network device node
-    → node.last.reading.0 ≤ℤ moment.reading.0
-    → (is_timed node.standing.state ≡ true) → (node.changed <ℤ correction_value network node.standing.number)
+    → node.last.reading.0 ≤ℤ moment.reading.0 → (is_timed node.standing.state ≡ true) → (node.changed <ℤ correction_value network node.standing.number)
     → correction_value network node.standing.number ≤ℤ (moment.reading.0 +ℤ node.standing.adjustment.0)
     → Corrects s moment (Corrected by) new → StandsAs new network device (called moment acting (after_correction node moment s.heard cycle (Corrected by)))
 corrected s new network device node moment cycle by st later timed lt due h =
@@ -256,8 +255,7 @@ not_the_next : (n : ℕ) (o : Option ℕ) → o ≡ Some n → o ≡ Some (n + 1
 not_the_next n o e f = let g : Some n ≡ Some (n + 1) = sym e ∙ f in let i : n ≡ n + 1 = cc in omega (arith, i)
 
 cleared : (s new : Switch) (network : Network) (device : DeviceId) (node : Node) (moment : Moment) (cycle : ℕ) → StandsAs s network device node
-    → node.last.reading.0 ≤ℤ moment.reading.0
-    → (is_timed node.standing.state ≡ true) → cycle ≡ node.standing.number
+    → node.last.reading.0 ≤ℤ moment.reading.0 → (is_timed node.standing.state ≡ true) → cycle ≡ node.standing.number
     → Corrects s moment Cleared new → StandsAs new network device (called moment acting (after_correction node moment s.heard cycle Cleared))
 cleared s new network device node moment cycle st later timed own h =
     let same = sync_same s new network device node moment Cleared st h in

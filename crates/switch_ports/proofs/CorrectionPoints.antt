@@ -17,8 +17,7 @@ number_some o n limit e h = subst (λ (p : Option ℕ). IsSomeAnd p (λ k. k ≤
 -- the number of the next correction point
 pub number_within : (s : Switch) (network : Network) (device : DeviceId) (node : Node) (cycle : ℕ) → StandsAs s network device node
     → next_point s.sync ≡ Some cycle → IsSomeAnd (next_point s.sync) (λ n. n ≤ last_cycle + 2)
-number_within s network device node cycle st e =
-    grind (arith, next_point, timed_next, number_some, last_cycle)
+number_within s network device node cycle st e = grind (arith, next_point, timed_next, number_some, last_cycle)
 
 near_by : (n l r e p : ℕ) (x point adjustment prec two : ℤ) → n ≤ l + 1 → l ≡ 2 ^ 20 + 2 ^ 17 → r ≤ 2 ^ 40 → e ≤ 2 ^ 43 → p ≤ 2 ^ 40 → prec ≡ pos p
     → two ≡ pos (2 * r) → x ≡ (pos (n * r) +ℤ pos e)

@@ -111,8 +111,7 @@ passed_more network node next x y row cycle le passed reached there =
 
 back_in : (state : State) (network : Network) (ds : Departures) (adjustment changed : ℤ) (done : List ClockTask) (x : ℤ) → state ≡ Synchronised
     → Awaits network ds adjustment changed done x → AwaitsIn state network ds adjustment changed done x
-back_in state network ds adjustment changed done x e h =
-    subst (λ (z : State). AwaitsIn z network ds adjustment changed done x) (sym e) h
+back_in state network ds adjustment changed done x e h = subst (λ (z : State). AwaitsIn z network ds adjustment changed done x) (sym e) h
 
 corrected_before : (node : Node) (next : Dispatch) (cycle : ℕ) → ((cycle : ℕ) → Contains node.done (correcting cycle) → cycle < node.standing.number)
     → Contains (node.done ++ dispatching next.row next.cycle ∷ []) (correcting cycle) → cycle < node.standing.number

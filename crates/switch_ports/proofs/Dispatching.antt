@@ -41,8 +41,7 @@ from_last length of cycle value (Some t) occurs v (e, lt) =
 to_last : (length : ℕ) (of : LeavingRow) (h : Held) (o : Option TakenFrame) → option_and_then (λ t. held_by length of t.cycle t.at) o ≡ Some h
     → (h ≡ held_in length of h.cycle) × (is_dispatch_in of h.cycle ≡ true) × IsSomeAnd o (λ t. (t.cycle ≡ h.cycle) × (t.at <ℤ value_in length of h.cycle))
 to_last length of h None e = absurd cc
-to_last length of h (Some t) e =
-    grind (arith, held_so, held_in)
+to_last length of h (Some t) e = grind (arith, held_so, held_in)
 
 its_vl : (network : Network) (device : DeviceId) (of : LeavingRow) (is : IsLeaving network device of) → of.vl ≡ is.entry.row.vl
 its_vl network device of is = ap (λ (o : LeavingRow). o.vl) is.kept
@@ -105,8 +104,7 @@ same_row : (a b : RowId) → a.0 ≡ b.0 → a ≡ b
 same_row a b e = ap (λ (n : ℕ). record { 0 = n }) e
 
 awaits_then : (state : State) (network : Network) (ds : Departures) (node : Node) (x : ℤ) → state ≡ Synchronised
-    → AwaitsIn state network ds node.standing.adjustment.0 node.changed node.done x
-    → Awaits network ds node.standing.adjustment.0 node.changed node.done x
+    → AwaitsIn state network ds node.standing.adjustment.0 node.changed node.done x → Awaits network ds node.standing.adjustment.0 node.changed node.done x
 awaits_then Synchronised network ds node x e h = h
 awaits_then other network ds node x e h = absurd cc
 
@@ -133,11 +131,7 @@ pending_dispatch s network device node row cycle st p =
     p.1.ahead in (
       d,
       r.1,
-      so.1 (record {
-        is = held;
-        ahead = ahead;
-        not_yet = λ there. p.1.not_yet (subst (λ (x : RowId). Contains node.done (dispatching x cycle)) same there);
-      }),
+      so.1 (record { is = held; ahead = ahead; not_yet = λ there. p.1.not_yet (subst (λ (x : RowId). Contains node.done (dispatching x cycle)) same there) }),
       same,
       p.1.own.0,
     )
@@ -217,8 +211,7 @@ next_of s network device node next st e =
 
 pub leaves_so : (s : Switch) (network : Network) (device : DeviceId) (node : Node) (d : Departure) → StandsAs s network device node
     → Contains s.departures.rows.items d → IsLeaving network device d.of
-leaves_so s network device node d st there =
-    (All-contains (IsDeparture network device node.taken) s.departures.rows.items d st.departs.each there).of
+leaves_so s network device node d st there = (All-contains (IsDeparture network device node.taken) s.departures.rows.items d st.departs.each there).of
 
 -- the dispatch that comes next is a task
 pub next_is : (s : Switch) (network : Network) (device : DeviceId) (node : Node) (next : Dispatch) → StandsAs s network device node

@@ -22,10 +22,8 @@ all_last P xs x all = All-contains P (xs ++ x ∷ []) x all (Contains-append_rig
 
 -- the switch that has sent it
 pub sent_stands : (s : Switch) (collector : Collecting) (network : Network) (device : DeviceId) (node : Node) (sent : Compressed)
-    → StandsAs s network device node
-    → collector ≡ record s.collector { earliest = int_max s.collector.earliest sent.at.0; waiting = collector.waiting }
-    → StandsForPoints collector node.points (node.emitted ++ sent ∷ [])
-    → StandsAs (record s { collector = collector }) network device (with_sent node sent)
+    → StandsAs s network device node → collector ≡ record s.collector { earliest = int_max s.collector.earliest sent.at.0; waiting = collector.waiting }
+    → StandsForPoints collector node.points (node.emitted ++ sent ∷ []) → StandsAs (record s { collector = collector }) network device (with_sent node sent)
 sent_stands s collector network device node sent st kept stands = record {
   accepted = st.accepted;
   intake = st.intake;
@@ -63,8 +61,7 @@ pub pending_before : (network : Network) (device : DeviceId) (node : Node) (sent
 pending_before network device node sent (emitting e) p = grind (arith, Contains-append_left)
 pending_before network device node sent (doing (sending cycle)) p = (p.0, record { own = p.1.own; ahead = p.1.ahead; not_yet = p.1.not_yet })
 pending_before network device node sent (doing (correcting cycle)) p = (p.0, record { own = p.1.own; ahead = p.1.ahead; not_yet = p.1.not_yet })
-pending_before network device node sent (doing (dispatching row cycle)) p =
-    grind arith
+pending_before network device node sent (doing (dispatching row cycle)) p = grind arith
 
 same_reading : (network : Network) (node : Node) (sent : Compressed) (task : Task) → reading_for network (with_sent node sent) task ≡ reading_for network node
     task
@@ -150,8 +147,7 @@ order_other s network device node n (doing (sending cycle)) (inr p) before = p
 -- the first collection's frame is the first task
 pub first_emission : (s : Switch) (network : Network) (device : DeviceId) (node : Node) (sent : Compressed) (first : Cluster) (rest : List Cluster)
     (reading : ℤ) → StandsAs s network device node → s.collector.waiting ≡ first ∷ rest → sent ≡ compressed s.collector.ow s.collector.calc first
-    → sent.at.0 ≤ℤ reading
-    → IsFirstTask network device node reading (emitting sent)
+    → sent.at.0 ≤ℤ reading → IsFirstTask network device node reading (emitting sent)
 first_emission s network device node sent first rest reading st is e due = record {
   pending =
       subst (λ (x : Compressed). IsPending network device node (emitting x)) (sym e)

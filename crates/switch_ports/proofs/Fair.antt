@@ -87,8 +87,7 @@ not_earlier n c r e k p point adjustment reading changed h = elim (decide n (c +
 
 pub behind : (n c r e k p : ℕ) (point adjustment reading changed : ℤ) → IsHeardBefore n c r e k p point adjustment reading changed
     → (point +ℤ adjustment) ≤ℤ ((pos (n * r) +ℤ pos e) +ℤ pos p)
-behind n c r e k p point adjustment reading changed h =
-    grind (arith, mul-le-mul_right, not_later, ints)
+behind n c r e k p point adjustment reading changed h = grind (arith, mul-le-mul_right, not_later, ints)
 
 pub ahead : (n c r e k p : ℕ) (point adjustment reading changed : ℤ) → IsHeardBefore n c r e k p point adjustment reading changed
     → (pos (n * r) +ℤ pos e) ≤ℤ ((point +ℤ adjustment) +ℤ pos (2 * r))

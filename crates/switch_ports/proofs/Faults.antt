@@ -4,6 +4,5 @@ use Rattle.run_law.specs.{control.Arrivals.is_gate_shut, device.{Standpoints.{St
 
 pub shut_is : (network : Network) (device : DeviceId) (at : Standpoint) (limit shown : ℤ) → is_relay network device ≡ true → is_synchronised at.state ≡ true
     → limit ≡ pos (amount network.correction + 2 * amount network.precision)
-    → shown ≡ offset_in_cycle network (clock_of at +ℤ pos (2 * amount network.precision))
-    → int_lt limit shown ≡ is_gate_shut network device at
+    → shown ≡ offset_in_cycle network (clock_of at +ℤ pos (2 * amount network.precision)) → int_lt limit shown ≡ is_gate_shut network device at
 shut_is network device at limit shown a b c d = rw a (rw b (rw c (rw d refl)))

@@ -89,8 +89,7 @@ same_at : (o' o x y : ℕ) (adjustment : ℤ) → x ≤ y → y + o ≤ x + o' �
 same_at o' o x y adjustment le from e = let same : x + o' ≡ y + o = omega (arith, le, from, e) in ap (λ (n : ℕ). pos n -ℤ adjustment) same
 
 order_tie : (o' l' r' o l r x y : ℕ) (adjustment : ℤ) → x ≤ y → y + o ≤ x + o'
-    → (pos (x + o') -ℤ adjustment ≡ pos (y + o) -ℤ adjustment → (l' < l) ⊎ ((l' ≡ l) × (r' < r)) → ⊥)
-    → IsBefore (o' ∷ l' ∷ r' ∷ []) (o ∷ l ∷ r ∷ []) → ⊥
+    → (pos (x + o') -ℤ adjustment ≡ pos (y + o) -ℤ adjustment → (l' < l) ⊎ ((l' ≡ l) × (r' < r)) → ⊥) → IsBefore (o' ∷ l' ∷ r' ∷ []) (o ∷ l ∷ r ∷ []) → ⊥
 order_tie o' l' r' o l r x y adjustment le from tie (inl lt) = omega (arith, le, from, lt)
 order_tie o' l' r' o l r x y adjustment le from tie (inr (e, inl lt)) = tie (same_at o' o x y adjustment le from e) (inl lt)
 order_tie o' l' r' o l r x y adjustment le from tie (inr (e, inr (f, inl lt))) = tie (same_at o' o x y adjustment le from e) (inr (f, lt))

@@ -35,8 +35,7 @@ heard_same s network device node point cycle members st =
 
 -- and so it answers
 pub heard_so : (s : Switch) (network : Network) (device : DeviceId) (node : Node) (point : ℤ) (cycle : ℕ) (members : Members) (is : Ripe)
-    → StandsAs s network device node
-    → is ≡ ripe_as (heard_as s.site.plan s.site.precision.0 s.sync.state s.sync.adjustment.0 point cycle members)
+    → StandsAs s network device node → is ≡ ripe_as (heard_as s.site.plan s.site.precision.0 s.sync.state s.sync.adjustment.0 point cycle members)
     → is ≡ ripe_as (heard_as (plan_of network device) (observation_window network) node.standing.state node.standing.adjustment.0 point cycle members)
 heard_so s network device node point cycle members is st e =
     e ∙ ap ripe_as (heard_same s network device node point cycle members st)
@@ -47,8 +46,7 @@ heard_so s network device node point cycle members is st e =
 pub heard_stands : (s new : Switch) (network : Network) (device : DeviceId) (node : Node) (moment : Moment) (phase : Phase) (channel : Option Channel)
     (frame : Pcf) (point : Units) (is : Ripe) → StandsAs s network device node → MayCall network device node moment phase → IsComing network moment point
     → is ≡ ripe_as (heard_as s.site.plan s.site.precision.0 s.sync.state s.sync.adjustment.0 point.0 frame.cycle frame.members)
-    → HearsSo s moment channel frame point new is
-    → StandsAs new network device (called moment phase (after_permanence node moment channel frame point is))
+    → HearsSo s moment channel frame point new is → StandsAs new network device (called moment phase (after_permanence node moment channel frame point is))
 heard_stands s new network device node moment phase channel frame point is st may coming e hears =
     let same : is ≡ ripe_as (heard_as (plan_of network device) network.precision.0 node.standing.state node.standing.adjustment.0 point.0 frame.cycle
     frame.members) =

@@ -147,8 +147,7 @@ hears_stands s new network device node moment phase channel frame point within s
 
 small_join : (c l r e : ℕ) (point adjustment : ℤ) → c ≤ l → l ≡ 2 ^ 20 + 2 ^ 17 → r ≤ 2 ^ 40 → e ≤ 2 ^ 43 → neg_ℤ (pos (2 ^ 41)) ≤ℤ point
     → point ≤ℤ pos (2 ^ 60 + 2 ^ 51) → adjustment ≡ ((pos (c * r) +ℤ pos e) -ℤ point) → IsSmall adjustment
-small_join c l r e point adjustment a is b d low high eq =
-    grind (arith, mul-le-mul_right, ints)
+small_join c l r e point adjustment a is b d low high eq = grind (arith, mul-le-mul_right, ints)
 
 join_lower : (x p r : ℕ) (x' reading point adjustment changed p3 r2 : ℤ) → x' ≡ pos x → adjustment ≡ (x' -ℤ point) → point ≤ℤ reading
     → changed ≡ (reading +ℤ adjustment) → p3 ≡ pos (3 * p) → r2 ≡ pos (2 * r) → 8 * p ≤ r → ((x' +ℤ p3) ≤ℤ (changed +ℤ r2)) × (x' ≤ℤ changed)

@@ -27,3 +27,4 @@ pub mod RowKeys
 pub mod Awaiting
 pub mod Dispatching
 pub mod Words
+pub mod Reckoning

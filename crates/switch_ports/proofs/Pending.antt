@@ -53,8 +53,7 @@ emission_pending s network device node c st at =
 
 -- and each emission to come is one of them
 pub pending_emission : (s : Switch) (network : Network) (device : DeviceId) (node : Node) (sent : Compressed) → StandsAs s network device node
-    → IsPending network device node (emitting sent)
-    → (c : Cluster) × Contains s.collector.waiting c × (sent ≡ compressed s.collector.ow s.collector.calc c)
+    → IsPending network device node (emitting sent) → (c : Cluster) × Contains s.collector.waiting c × (sent ≡ compressed s.collector.ow s.collector.calc c)
 pending_emission s network device node sent st p =
     let w = p.1 in
     let is : sent ≡ compressed s.collector.ow s.collector.calc w.cluster =

@@ -140,8 +140,7 @@ first_at adjustment rows lasts key k d (Some held) fit chained least lt at await
     let place : key % 2 ^ 64 % 2 ^ 32 ≡ k =
     let a = own.link in let b = own.place in
     omega (arith, a, b, here, ap (λ (x : Departure). x.of.place) (sym at) ∙ chained.places k no_departure lt) in
-    let there : slice_get rows (key % 2 ^ 64 % 2 ^ 32) ≡ Some d =
-    ap (slice_get rows) place ∙ slice_get-get_or rows k no_departure lt ∙ ap Some at in
+    let there : slice_get rows (key % 2 ^ 64 % 2 ^ 32) ≡ Some d = ap (slice_get rows) place ∙ slice_get-get_or rows k no_departure lt ∙ ap Some at in
     subst (λ o. IsFirstOf adjustment rows (option_and_then (dispatch_by adjustment) o)) (sym there)
     (subst (IsFirstOf adjustment rows) (sym (ap (option_map (dispatch_at adjustment d.of)) awaits))
     (first_some adjustment rows lasts k d held fit chained lt at awaits
@@ -179,8 +178,7 @@ set_here : (place : ℕ) (d e : Departure) (old new : Departures) → Sets place
 set_here place d e old new h lt = ap (λ (ds : List Departure). get_or ds place e) h.rows ∙ get_or-set_same old.rows.items place d e lt
 
 set_other : (place k : ℕ) (d e : Departure) (old new : Departures) → Sets place d old new → k ≢ place → get_or new.rows.items k e ≡ get_or old.rows.items k e
-set_other place k d e old new h apart =
-    ap (λ (ds : List Departure). get_or ds k e) h.rows ∙ get_or-set_other old.rows.items place k d e apart
+set_other place k d e old new h apart = ap (λ (ds : List Departure). get_or ds k e) h.rows ∙ get_or-set_other old.rows.items place k d e apart
 
 -- its key is set with it
 keys_set : (place : ℕ) (d : Departure) (old new : Departures) → Sets place d old new → AreKeys old.rows.items old.keys → AreKeys new.rows.items new.keys
@@ -243,15 +241,13 @@ taken_at : (f : Departure → Departure) (vl place k : ℕ) (old mid new : Depar
     → Sets place (f (get_or mid.rows.items place e)) mid new → get_or mid.rows.items place e ≡ get_or old.rows.items place e
     → place < length mid.rows.items → IsLast old.rows.items vl place at → bound_of at ≤ k → k < length old.rows.items
     → get_or new.rows.items k d ≡ f (get_or old.rows.items k d)
-taken_at f vl place k old mid new e d at other h sets was inside link from lt =
-    grind (arith, cases_Bool, get_or, set_here, get_or_default, set_other, skipped)
+taken_at f vl place k old mid new e d at other h sets was inside link from lt = grind (arith, cases_Bool, get_or, set_here, get_or_default, set_other, skipped)
 
 taking_by : (f : Departure → Departure) (vl place : ℕ) (old mid new : Departures) (e : Departure) (at : Option ℕ)
     → ((d : Departure) → (d.of.vl.0 ≡ vl → ⊥) → f d ≡ d) → IsTakingAt f vl (Some place) old mid
     → Sets place (f (get_or mid.rows.items place e)) mid new → get_or mid.rows.items place e ≡ get_or old.rows.items place e
     → place < length mid.rows.items → IsLast old.rows.items vl place at → IsTakingAt f vl at old new
-taking_by f vl place old mid new e at other h sets was inside link =
-    grind (arith, set_long, taken_at, rest_below, set_other, next_by, keys_set)
+taking_by f vl place old mid new e at other h sets was inside link = grind (arith, set_long, taken_at, rest_below, set_other, next_by, keys_set)
 
 -- one of them is done
 pub taking_on : (f : Departure → Departure) (vl place : ℕ) (old mid new : Departures) (e : Departure)
@@ -275,8 +271,7 @@ taken_all f vl old new h =
 
 -- a frame of another virtual link changes nothing
 pub other_same : (length : ℕ) (changed : ℤ) (taking : Taking) (d : Departure) → (d.of.vl.0 ≡ taking.vl.0 → ⊥) → with_taking length changed taking d ≡ d
-other_same length changed taking d other =
-    grind (arith, cases_Bool, eqb-true)
+other_same length changed taking d other = grind (arith, cases_Bool, eqb-true)
 
 -- and one of its own is kept
 pub mine_held : (length : ℕ) (changed : ℤ) (taking : Taking) (d : Departure) → d.of.vl.0 ≡ taking.vl.0
@@ -286,5 +281,4 @@ mine_held length changed taking d same = let y : (d.of.vl.0 == taking.vl.0) ≡ 
 -- the row that is next is of the virtual link
 pub own_row : (f : Departure → Departure) (vl place : ℕ) (old mid : Departures) (d : Departure)
     → IsTakingAt f vl (Some place) old mid → d ≡ get_or mid.rows.items place d → d.of.vl.0 ≡ vl
-own_row f vl place old mid d h is =
-    ap (λ (x : Departure). x.of.vl.0) (is ∙ h.rows.rest place d (omega arith) h.next.0) ∙ h.next.1 d
+own_row f vl place old mid d h is = ap (λ (x : Departure). x.of.vl.0) (is ∙ h.rows.rest place d (omega arith) h.next.0) ∙ h.next.1 d

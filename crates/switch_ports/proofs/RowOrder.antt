@@ -60,8 +60,7 @@ place_kept (x ∷ lasts) (suc vl) zero o apart = refl
 place_kept (x ∷ lasts) (suc vl) (suc other) o apart = place_kept lasts vl other o (λ e. apart (ap suc e))
 
 pub chained_pushed : (rows : List Departure) (lasts : List (Option ℕ)) (d : Departure) → AreChained rows lasts → d.of.place ≡ length rows
-    → d.of.before ≡ place_in lasts d.of.vl.0 → d.of.vl.0 < length lasts
-    → ((k : ℕ) (e : Departure) → k < length rows → (get_or rows k e).of.row.0 < d.of.row.0)
+    → d.of.before ≡ place_in lasts d.of.vl.0 → d.of.vl.0 < length lasts → ((k : ℕ) (e : Departure) → k < length rows → (get_or rows k e).of.row.0 < d.of.row.0)
     → AreChained (rows ++ d ∷ []) (slice_set lasts d.of.vl.0 (Some (length rows)))
 chained_pushed rows lasts d h place before vl below = record {
   places = λ k e lt. elim (below_next k (length rows) (subst (λ n. k < n) (more_long rows d) lt)) [

@@ -56,10 +56,8 @@ abbrev made_point : Bool → State → ℕ → ℤ → Point
 made_point part state reading adjustment = record { takes_part = part; state = state; reading = reading; adjustment = adjustment }
 
 pub point_same : (s : Switch) (network : Network) (device : DeviceId) (node : Node) (moment : Moment) (at : Standpoint) → StandsAs s network device node
-    → at.state ≡ s.sync.state → at.reading ≡ moment.reading → at.adjustment ≡ s.sync.adjustment
-    → standpoint_of at ≡ standpoint_at node moment
-point_same s network device node moment at st e r a =
-    grind (arith, not, and_true, amount)
+    → at.state ≡ s.sync.state → at.reading ≡ moment.reading → at.adjustment ≡ s.sync.adjustment → standpoint_of at ≡ standpoint_at node moment
+point_same s network device node moment at st e r a = grind (arith, not, and_true, amount)
 
 taken_none : (node : Node) (moment : Moment) (network : Network) (device : DeviceId) (link : LinkId) (frame : Pcf) (point : Units) (relay parent : Bool)
     → is_relay network device ≡ relay → is_parent_of network device link ≡ parent

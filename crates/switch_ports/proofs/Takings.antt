@@ -80,8 +80,7 @@ not_taken s intake ds network device node moment st later has as_before =
 -- the switch of whose frame this became
 pub arrival_stands : (s : Switch) (intake : Intake) (ds : Departures) (network : Network) (device : DeviceId) (node : Node) (moment : Moment) (at : Place)
     (is : Arrival) → StandsAs s network device node → node.last.reading.0 ≤ℤ moment.reading.0 → IsHere s moment at
-    → IsTakenSo network device node.taken intake is
-    → IsKeptSo s.departures (amount s.site.plan.cycle_length) s.changed.0 at is ds
+    → IsTakenSo network device node.taken intake is → IsKeptSo s.departures (amount s.site.plan.cycle_length) s.changed.0 at is ds
     → StandsAs (record s { intake = intake; departures = ds }) network device (called moment arriving (after_arrival node moment is))
 arrival_stands s intake ds network device node moment at (arrivals.Accepted vl cycle) st later here so kept =
     accepted_stands s intake ds network device node moment at vl cycle st later here so kept

@@ -30,8 +30,7 @@ opened_beyond ow low (o ∷ ps) (d ∷ cs) c all are at = elim (in_cases d c cs 
 ]
 
 end_after : (ow : ℤ) (o : Point) (ps : List Point) (d : Cluster) → pos 0 ≤ℤ ow → d ≡ cluster_of ow o (o ∷ ps) → d.opened ≤ℤ d.end
-end_after ow o ps d some is =
-    grind (arith, end_of-least, ints)
+end_after ow o ps d some is = grind (arith, end_of-least, ints)
 
 less_through : (x y z : ℤ) → x ≤ℤ y → y <ℤ z → x <ℤ z
 less_through x y z a b = omega (arith, ints, a, b)
@@ -50,8 +49,7 @@ opened_before ow (o ∷ ps) (k ∷ done) rest d c some are before at = elim (in_
 
 -- a cluster that was not sent waits
 pub waits : (v : Collecting) (points : List Point) (emitted : List Compressed) (clusters : List Cluster) (c : Cluster) → StandsForPoints v points emitted
-    → AreClusters v.ow points clusters → Contains clusters c
-    → (Contains emitted (compressed v.ow v.calc c) → ⊥) → Contains v.waiting c
+    → AreClusters v.ow points clusters → Contains clusters c → (Contains emitted (compressed v.ow v.calc c) → ⊥) → Contains v.waiting c
 waits v points emitted clusters c st are at not_yet =
     let one = one_list_of_clusters v.ow points in
     let same : clusters ≡ st.done ++ v.waiting = one.2 clusters are ∙ sym (one.2 (st.done ++ v.waiting) st.clusters) in

@@ -17,7 +17,7 @@ pub use Rattle.net_plan.proofs.InRange.{amount_most, its_amount}
 pub use Rattle.net_plan.specs.{Places.{is_end_system, is_master, link_at}, Ranges.{IsInRange, IsWithin}, Rules.masters}
 pub use Rattle.net_plan.specs.declared.{ids.{DeviceId.DeviceId, LinkId.LinkId, RowId.RowId, VlId.VlId}, network.Network.Network, tables.Device.Device}
 pub use Rattle.net_plan.specs.declared.tables.{Link.Link, Row.Row}
-pub use Rattle.pcf_values.specs.declared.{channel.Channel.{Channel, TheVariants.{A, B}}, members.Members.Members, pcf.Pcf.Pcf}
+pub use Rattle.tte_units.specs.declared.frames.{channel.Channel.{Channel, TheVariants.{A, B}}, members.Members.Members, pcf.Pcf.Pcf}
 pub use Rattle.run_law.specs.control.{Collections.{master_of, observation_window}, Corrections.correction_value, Hearing.{heard_as, last_cycle}}
 pub use Rattle.run_law.specs.control.Permanence.{ripe_as}
 pub use Rattle.run_law.specs.declared.{judgement.Reason.Reason, steps.Moment.Moment}

@@ -4,7 +4,7 @@ use Rattle.std.specs.Prelude.{slice_get, true, unwrap_or, ℕ}
 use Rattle.net_plan.specs.Places.{is_master}
 use Rattle.{net_plan.specs.declared.ids.DeviceId.DeviceId, switch_ports.specs.declared.site.{Peer.Peer, Port.Port}}
 use Rattle.{net_plan.specs.declared.{ids.LinkId.LinkId, tables.Link.Link}, switch_ports.specs.declared.site.Site.Site}
-use Rattle.{net_plan.specs.declared.network.Network.Network, pcf_values.specs.declared.members.Members.Members}
+use Rattle.{net_plan.specs.declared.network.Network.Network, tte_units.specs.declared.frames.members.Members.Members}
 use Rattle.{net_plan.specs.declared.tables.Role.Role, schedule_tables.specs.Margins.{compression_time, expected_offset}}
 use Rattle.{run_law.specs.{records.Frames.mac_of, scenario.Devices.plan_of}, tte_units.specs.Amount.{amount, units_of}}
 use Rattle.run_law.specs.scenario.Devices.{channel_of, has_role, is_cm, is_cm_role, is_end, is_relay, member_of}

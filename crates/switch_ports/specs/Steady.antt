@@ -1,7 +1,7 @@
 -- What is true of a device's clock and of the frames that it has heard.
 use Rattle.std.specs.Prelude.{◌*ℤ◌, ◌+ℤ◌, ◌+◌, ◌<ℤ◌, ◌≡◌, ◌≤ℤ◌, ◌≤◌, Bool, IfSome, Some, false, pos, true}
 use Rattle.{net_plan.specs.declared.network.Network.Network, run_law.specs.control.Hearing.last_cycle}
-use Rattle.{pcf_values.specs.declared.channel.Channel.Channel, run_law.specs.control.Corrections.correction_value}
+use Rattle.{run_law.specs.control.Corrections.correction_value, tte_units.specs.declared.frames.channel.Channel.Channel}
 use Rattle.{run_law.specs.machines.Nodes.Node, switch_ports.specs.Standpoints.IsPoint}
 use Rattle.sync_state.specs.Plan.{expected_at}
 use Rattle.sync_state.specs.{Standing.Standing, declared.state.State.{State, TheVariants.{Joining, Synchronised}}}

@@ -4,15 +4,15 @@ use Rattle.std.specs.Prelude.{option_and_then, true, ℤ}
 use Rattle.compression.specs.{Clusters.{AreClusters, Cluster, Point, point_at}, Role.role, Stands.StandsForPoints}
 use Rattle.compression.specs.{Collecting.{Collecting, fresh, with_joined, with_opened}, declared.taken.Taken.Taken}
 use Rattle.{compression.specs.declared.compressed.Compressed.Compressed, sync_state.specs.correction.Deviation.IsSmall}
-use Rattle.{pcf_values.specs.declared.channel.Channel.Channel, sync_state.specs.declared.answers.Verdict.Verdict}
-use Rattle.{pcf_values.specs.declared.pcf.Pcf.Pcf, sync_state.specs.Standing.next_point}
 use Rattle.run_law.specs.{control.Collections.{master_of, ripe_by_role}, device.States.is_synchronised}
-use Rattle.{run_law.specs.{declared.steps.Act.Act, machines.Answers.hearings}, sync_state.specs.Integration.joined_by}
-use Rattle.{run_law.specs.declared.steps.{Moment.Moment, Ripe.Ripe}, tte_units.specs.declared.units.Units.Units}
+use Rattle.{run_law.specs.declared.steps.Act.Act, sync_state.specs.{Integration.joined_by, Standing.next_point}}
+use Rattle.{run_law.specs.declared.steps.{Moment.Moment, Ripe.Ripe}, tte_units.specs.declared.frames.pcf.Pcf.Pcf}
+use Rattle.{run_law.specs.machines.Answers.hearings, tte_units.specs.declared.units.Units.Units}
 use Rattle.switch_ports.specs.{Corrections.correction_at, Leaving.closed, declared.switch.Switch.Switch}
 use Rattle.switch_ports.specs.{Departing.{Changes, IsAwaitedSo, KnowsNext}, declared.departures.Dispatch.Dispatch}
 use Rattle.sync_state.specs.{Calls.{after, heard_frame, reached_point}, Verdicts.{HasVerdict, IfCorrected}}
 use Rattle.sync_state.specs.declared.answers.Verdict.TheVariants.{AsyncClique, Cleared, Corrected, SyncClique}
+use Rattle.{sync_state.specs.declared.answers.Verdict.Verdict, tte_units.specs.declared.frames.channel.Channel.Channel}
 use Rattle.sync_state.specs.membership.{Hearing.Hearing, Summary.{Hears as Keeps, Summarizes, Summary, silence}}
 use Rattle.compression.specs.declared.taken.Taken.TheVariants as takens
 use Rattle.run_law.specs.declared.steps.Act.TheVariants as acts

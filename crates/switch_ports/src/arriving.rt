@@ -14,9 +14,9 @@ use device_rules::{is_cold_start, refused};
 use drift_clock::transparent::{arrive, permanence};
 use net_plan::{LinkId, Way};
 use pcf_codec::decode;
-use pcf_values::{Members, Pcf};
 use run_law::{Arrival, Reason};
 use tte_units::Units;
+use tte_units::frames::{Members, Pcf};
 
 impl Site {
     /// What becomes of a protocol control frame that arrives.

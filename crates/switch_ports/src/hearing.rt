@@ -4,11 +4,11 @@ ghost use Rattle.{run_law.specs.control.Permanence.ripe_as, sync_state.specs.cor
 ghost use Rattle.{switch_ports.specs.Standpoints.{IsPoint, IsSiteInRange}, sync_state.specs.Plan.expected_at};
 
 use crate::Site;
-use pcf_values::Members;
 use run_law::Ripe;
 use sync_state::State;
 use sync_state::membership::count;
 use tte_units::Units;
+use tte_units::frames::Members;
 
 /// A frame of a later cycle is not used.
 const LAST_CYCLE: u32 = (1 << 20) + (1 << 17);

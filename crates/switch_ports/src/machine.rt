@@ -5,10 +5,10 @@ ghost use Rattle.{net_plan.specs.declared.network.Network.Network, run_law.specs
 use crate::{Site, Switch};
 use net_plan::LinkId;
 use pcf_codec::is_pcf;
-use pcf_values::{Members, Pcf, PcfKind};
 use run_law::{Act, Arrival, Machine, Moment, Ripe};
 use sync_state::{State, Verdict};
 use tte_units::Units;
+use tte_units::frames::{Members, Pcf, PcfKind};
 
 impl Machine for Switch {
     ghost use Rattle.switch_ports.specs.Standing.{StandsAs};

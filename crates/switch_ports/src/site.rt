@@ -4,12 +4,12 @@ ghost use Rattle.{schedule_tables.specs.Schedule.IsSwitch, tte_units.specs.Amoun
 ghost use Rattle.switch_ports.specs.Sites.{IsSiteOf, expected_in, is_below, is_other_member, peer_below, peer_of};
 
 use net_plan::{DeviceId, Link, LinkId, Network, Role};
-use pcf_values::{Channel, Mac, Members};
 use schedule_tables::OutOfMemory;
 use std::alloc::{AllocError, Global};
 use sync_state::SyncPlan;
 use sync_state::membership::one;
 use tte_units::Units;
+use tte_units::frames::{Channel, Mac, Members};
 
 /// What stands at the other end of a link.
 #[derive(Clone, Copy)]

@@ -18,13 +18,13 @@ use crate::{Site, Standpoint};
 use compression::{Collector, Taken};
 use device_rules::Intake;
 use net_plan::{DeviceId, Network};
-use pcf_values::{Channel, Pcf};
 use run_law::{Act, Moment, Reason, Ripe};
 use schedule_tables::{Accepted, OutOfMemory};
 use std::alloc::Global;
 use sync_state::membership::{Heard, HeardFrame};
 use sync_state::{Sync, Verdict};
 use tte_units::Units;
+use tte_units::frames::{Channel, Pcf};
 
 /// A switch: a relay, or a channel's compression master. Readings, local values and adjustments are in
 /// units of 2^-16 ns.

@@ -45,10 +45,7 @@ after_all-push plan start calls call =
     (fold next_number 1 later) x) i
 
 pub stands_at_start : (plan : SyncPlan) (start : Option Units) → StandsAfter plan start [] (after_all plan start [])
-stands_at_start plan start = record {
-  stands = refl;
-  answered = λ earlier later call same. absurd (no_split earlier call later same);
-} where
+stands_at_start plan start = record { stands = refl; answered = λ earlier later call same. absurd (no_split earlier call later same) } where
   no_split : {X : Type 0} (ps : List X) (x : X) (qs : List X) → [] ≡ ps ++ x ∷ qs → ⊥
   no_split [] x qs same = cc
   no_split (p ∷ ps) x qs same = cc

@@ -1,8 +1,8 @@
 -- Laws of the verdicts.
-use Rattle.{pcf_values.specs.declared.channel.Channel.TheVariants.{A, B}, sync_state.specs.Verdicts.{HasVerdict, deviation_by, deviation_on}}
 use Rattle.std.proofs.Common.{◌+ℤ◌, ◌-ℤ◌, ◌∙◌, ◌≡◌, Bool, None, Option, Some, ap, arith, false, if◌then◌else◌, nat_le, option_and_then, option_map, refl, sym}
 use Rattle.{std.proofs.Common.{true, ℤ}, sync_state.specs.{Plan.expected_at, Standing.Standing}}
 use Rattle.{std.proofs.lemmas.{Int.ints, Option.same_Some}, tte_units.{proofs.Means.mean_of-floor, specs.{Mean.{IsMean, mean_of}, declared.units.Units.Units}}}
+use Rattle.{sync_state.specs.Verdicts.{HasVerdict, deviation_by, deviation_on}, tte_units.specs.declared.frames.channel.Channel.TheVariants.{A, B}}
 use Rattle.sync_state.specs.{correction.Correction.correction_of, declared.answers.Verdict.Verdict, membership.{Members.count_of, Summary.Summary}}
 use Rattle.sync_state.specs.declared.{answers.Verdict.TheVariants.{AsyncClique, Cleared, Corrected, SyncClique}, membership.frame.HeardFrame.HeardFrame}
 

@@ -38,8 +38,7 @@ expected_fits n f l e is cycle low high least most =
 
 -- the adjustment that shows it at a point
 pub adjustment_fits : (n : ℕ) (l e a p : ℤ) → a ≡ ((pos n *ℤ l) +ℤ e) → n ≤ 2 ^ 21 + 2 ^ 18 → pos (2 ^ 32) ≤ℤ l → l ≤ℤ pos (2 ^ 40)
-    → least_reading ≤ℤ e → e ≤ℤ greatest_reading → least_reading ≤ℤ p → p ≤ℤ greatest_reading
-    → FitsSigned w64 (to_z w64 (of_z w64 a) -ℤ to_z w64 (of_z w64 p))
+    → least_reading ≤ℤ e → e ≤ℤ greatest_reading → least_reading ≤ℤ p → p ≤ℤ greatest_reading → FitsSigned w64 (to_z w64 (of_z w64 a) -ℤ to_z w64 (of_z w64 p))
 adjustment_fits n l e a p is cycle low high least most from to =
     let start = start_bounds n l cycle low high in
     let first = whole a (omega (arith, ints, is, start.0, least)) (omega (arith, ints, is, start.1, most)) in

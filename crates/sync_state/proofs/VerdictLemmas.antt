@@ -1,11 +1,11 @@
 -- What a correction point comes to.
-use Rattle.{pcf_values.specs.declared.channel.Channel.TheVariants.{A, B}, std.proofs.Common.{nat_le, option_and_then, option_map, refl, subst, sym, true, ℕ, ℤ}}
 use Rattle.std.proofs.Common.{◌+ℤ◌, ◌-ℤ◌, ◌↔◌, ◌≡◌, ◌≤◌, Bool, IfSome, IsSome, IsSomeAnd, IsTrue, None, Option, Some, arith, false, if◌then◌else◌, leb, max}
-use Rattle.{std.proofs.lemmas.{Bool.{le-leb, leb-true}, Option.same_Some}, sync_state.specs.Calls.adjustment_by, tte_units.specs.declared.units.Units.Units}
-use Rattle.{std.proofs.lemmas.Int.ints, sync_state.specs.Plan.expected_at, tte_units.{proofs.Means.mean_of-floor, specs.Mean.{IsMean, mean_of}}}
-use Rattle.std.specs.Option.{unwrap_or}
-use Rattle.sync_state.specs.{Standing.Standing, correction.Deviation.IsSmall, declared.answers.Verdict.Verdict, membership.{Members.count_of, Summary.Summary}}
+use Rattle.{std.proofs.Common.{nat_le, option_and_then, option_map, refl, subst, sym, true, ℕ, ℤ}, sync_state.specs.declared.answers.Verdict.Verdict}
+use Rattle.{std.proofs.lemmas.{Bool.{le-leb, leb-true}, Int.ints}, sync_state.specs.membership.Summary.Summary, tte_units.specs.declared.units.Units.Units}
+use Rattle.{std.proofs.lemmas.Option.same_Some, sync_state.specs.Calls.adjustment_by, tte_units.{proofs.Means.mean_of-floor, specs.Mean.{IsMean, mean_of}}}
+use Rattle.{std.specs.Option.unwrap_or, sync_state.specs.{Plan.expected_at, Standing.Standing}}
 use Rattle.sync_state.specs.{Verdicts.{IfCorrected, IsNear, IsOutnumbered, deviation_by, deviation_on, members_of_best}, correction.Correction.correction_of}
+use Rattle.{sync_state.specs.{correction.Deviation.IsSmall, membership.Members.count_of}, tte_units.specs.declared.frames.channel.Channel.TheVariants.{A, B}}
 use Rattle.sync_state.specs.declared.{answers.Verdict.TheVariants.{AsyncClique, Cleared, Corrected, SyncClique}, membership.frame.HeardFrame.HeardFrame}
 
 best_within : (best : Option HeardFrame) (n : ℕ) → (unwrap_or (option_map (λ frame. count_of frame.members) best) 0 ≤ n) ↔ IfSome best
@@ -50,8 +50,7 @@ back_again : (e p x : ℤ) → IsSmall (e -ℤ p) → IsSmall (x +ℤ ((e -ℤ p
 back_again e p x small = (omega (arith, ints, small.0), omega (arith, ints, small.1))
 
 mean_small : (x a b m : ℤ) → IsMean a b m → IsSmall (x +ℤ a) → IsSmall (x +ℤ b) → IsSmall (x +ℤ m)
-mean_small x a b m mean small_a small_b =
-    (omega (arith, ints, mean.most, small_a.0, small_b.0), omega (arith, ints, mean.least, small_a.1, small_b.1))
+mean_small x a b m mean small_a small_b = (omega (arith, ints, mean.most, small_a.0, small_b.0), omega (arith, ints, mean.least, small_a.1, small_b.1))
 
 deviation_small : (s : Standing) (best : Option HeardFrame) → IfSome best (IsNear s)
     → SmallWith s.adjustment.0 (option_and_then (λ frame. if nat_le s.plan.threshold (count_of frame.members) then Some (deviation_by s frame) else None) best)
@@ -68,10 +67,8 @@ correction_small : (adjustment : ℤ) (a b : Option Units) (by : Units) → Smal
 correction_small adjustment (Some a) (Some b) by small_a small_b same =
     subst (λ (u : Units). IsSmall (adjustment +ℤ u.0)) (same_Some _ _ same)
     (mean_small adjustment a.0 b.0 (mean_of a.0 b.0) (mean_of-floor a.0 b.0) small_a small_b)
-correction_small adjustment (Some a) None by small_a small_b same =
-    subst (λ (u : Units). IsSmall (adjustment +ℤ u.0)) (same_Some _ _ same) small_a
-correction_small adjustment None (Some b) by small_a small_b same =
-    subst (λ (u : Units). IsSmall (adjustment +ℤ u.0)) (same_Some _ _ same) small_b
+correction_small adjustment (Some a) None by small_a small_b same = subst (λ (u : Units). IsSmall (adjustment +ℤ u.0)) (same_Some _ _ same) small_a
+correction_small adjustment None (Some b) by small_a small_b same = subst (λ (u : Units). IsSmall (adjustment +ℤ u.0)) (same_Some _ _ same) small_b
 correction_small adjustment None None by small_a small_b same = absurd (cc)
 
 pub corrected_small : (s : Standing) (heard : Summary) (by : Units) → IfSome heard.best_a (IsNear s) → IfSome heard.best_b (IsNear s)

@@ -1,5 +1,5 @@
 use Rattle.std.specs.Prelude.{◌++◌, ◌+ℤ◌, ◌+◌, ◌∷◌, ◌≡◌, IsSome, List, None, Option, Some, SomeIff, [], fold, ℕ}
-use Rattle.{pcf_values.specs.declared.pcf.Pcf.Pcf, tte_units.specs.declared.units.Units.Units}
+use Rattle.tte_units.specs.declared.{frames.pcf.Pcf.Pcf, units.Units.Units}
 use Rattle.sync_state.specs.{Integration.{Integrates, joined_by}, declared.answers.{Joined.Joined, Verdict.Verdict}}
 use Rattle.sync_state.specs.Standing.{Standing, adjustment_at_start, next_point, state_at_start}
 use Rattle.sync_state.specs.{Verdicts.HasVerdict, declared.plan.SyncPlan.SyncPlan, membership.Summary.Summary}

@@ -1,6 +1,6 @@
 use Rattle.std.specs.Prelude.{◌-ℤ◌, ◌≡◌, ◌≤◌}
 use Rattle.sync_state.specs.{Plan.expected_at, membership.Members.count_of}
-use Rattle.{pcf_values.specs.declared.pcf.Pcf.Pcf, tte_units.specs.declared.units.Units.Units}
+use Rattle.tte_units.specs.declared.{frames.pcf.Pcf.Pcf, units.Units.Units}
 use Rattle.sync_state.specs.{Standing.Standing, declared.{answers.Joined.Joined, plan.SyncPlan.SyncPlan}}
 use Rattle.sync_state.specs.declared.{state.State.TheVariants.Integrating, sync.TheConstants.LAST_CYCLE}
 

@@ -1,12 +1,11 @@
 use Rattle.std.specs.Prelude.{if◌then◌else◌, ◌-ℤ◌, ◌≡◌, ◌≤◌, ◌⊎◌, IfSome, None, Option, Some, nat_le, option_and_then}
 use Rattle.std.specs.Prelude.{option_map, unwrap_or, ℕ, ⊤}
-use Rattle.sync_state.specs.correction.{Correction.correction_of, Deviation.{IsSmall, deviation_of}}
-use Rattle.sync_state.specs.membership.{BestFrame.Qualifies, Members.count_of, Summary.{Summary, best_on}}
-use Rattle.sync_state.specs.declared.membership.frame.HeardFrame.{HeardFrame}
-use Rattle.tte_units.specs.declared.units.Units.{Units}
-use Rattle.pcf_values.specs.declared.channel.Channel.{Channel, TheVariants.{A, B}}
 use Rattle.sync_state.specs.{Plan.expected_at, Standing.{IsAtIntegration, Standing}, declared.answers.Verdict.Verdict}
+use Rattle.sync_state.specs.correction.{Correction.correction_of, Deviation.{IsSmall, deviation_of}}
 use Rattle.sync_state.specs.declared.answers.Verdict.TheVariants.{AsyncClique, Cleared, Corrected, SyncClique}
+use Rattle.sync_state.specs.{declared.membership.frame.HeardFrame.HeardFrame, membership.Summary.{Summary, best_on}}
+use Rattle.sync_state.specs.membership.{BestFrame.Qualifies, Members.count_of}
+use Rattle.tte_units.specs.declared.{frames.channel.Channel.{Channel, TheVariants.{A, B}}, units.Units.Units}
 
 -- the deviation that a frame shows at the next correction point
 abbrev pub deviation_by : Standing → HeardFrame → Units

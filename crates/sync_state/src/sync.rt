@@ -10,9 +10,9 @@ ghost use Rattle.tte_units.specs.{Reading.{greatest_reading, least_reading}, dec
 use crate::correction::{correction, deviation};
 use crate::membership::{Heard, count};
 use crate::{Joined, State, SyncPlan, Verdict};
-use pcf_values::{Channel, Pcf};
 use std::marker::Model;
 use tte_units::Units;
+use tte_units::frames::{Channel, Pcf};
 
 /// A frame of a later cycle integrates no device.
 pub const LAST_CYCLE: u32 = (1 << 20) + (1 << 17);

@@ -45,8 +45,7 @@ read_more text octets i v fits room high low value read =
 
 -- one of the next two is no digit
 pub spoilt_here : (text octets : List ℕ) (i : ℕ) → 2 * i + 1 < length text
-    → (16 ≤ digit_number (slice_index text (2 * i))) ⊎ (16 ≤ digit_number (slice_index text (2 * i + 1)))
-    → IsRead text octets i → IsSpoilt text
+    → (16 ≤ digit_number (slice_index text (2 * i))) ⊎ (16 ≤ digit_number (slice_index text (2 * i + 1))) → IsRead text octets i → IsSpoilt text
 spoilt_here text octets i fits bad read =
     let a = slice_index text (2 * i) in
     let b = slice_index text (2 * i + 1) in

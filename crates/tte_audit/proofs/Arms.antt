@@ -1,8 +1,8 @@
 -- What a record says is an event, or words of a kind of record tell it.
-use Rattle.{net_plan.specs.{Belonging.{HasDevice, device_name}, declared.ids.DeviceId.DeviceId}, pcf_values.specs.declared.members.Members.Members}
-use Rattle.{report_text.specs.NoteLine.body_words, run_law.specs.plain.Bodies.body_of, std.specs.Fmt.signed_decimal, tte_audit.specs.Report.saying}
-use Rattle.{report_text.specs.{NoteWords.members_text, Ranges.{IsShortCount, IsSignedUnits}}, run_law.specs.declared.plain.bodies.PlainKind.PlainKind}
-use Rattle.{std.specs.Prelude.{MatchOption, bytes_eq}, tte_audit.specs.declared.kind.KindWord.KindWord, tte_units.proofs.general_lemmas.Lists.differ}
+use Rattle.{net_plan.specs.{Belonging.{HasDevice, device_name}, declared.ids.DeviceId.DeviceId}, report_text.specs.Ranges.{IsShortCount, IsSignedUnits}}
+use Rattle.{report_text.specs.NoteLine.body_words, std.specs.{Fmt.signed_decimal, Prelude.{MatchOption, bytes_eq}}, tte_audit.specs.Report.saying}
+use Rattle.{report_text.specs.NoteWords.members_text, tte_audit.specs.declared.kind.KindWord.KindWord, tte_units.proofs.general_lemmas.Lists.differ}
+use Rattle.{run_law.specs.{declared.plain.bodies.PlainKind.PlainKind, plain.Bodies.body_of}, tte_units.specs.declared.frames.members.Members.Members}
 use Rattle.tte_audit.proofs.Words.{◌∷◌, ◌≡◌, IsTextOf, Judgement, List, Network, None, Note, NoteBody, Option, Some, State, Units, What, Words, [], ap}
 use Rattle.tte_audit.{proofs.Words.{behind_word, codes, decimal, false, head_word, judgement_text, kind_text, refl, state_text, ℕ}, specs.Spellings.first_word}
 use Rattle.tte_audit.specs.Kinds.{Tells}

@@ -59,10 +59,7 @@ pub same_of : (network : Network) (octets : List ℕ) (notes others : List Note)
     → IsOfEvents network octets others last → AreSame notes others time last
 same_of network octets notes others time last named a b =
     let lists = one_list network octets notes others named a.text b.text in
-    record {
-      lists = lists;
-      times = one_end (events_of notes) time last a.ends (subst (λ (ns : List Note). EndWith (events_of ns) last) (sym lists) b.ends);
-    }
+    record { lists = lists; times = one_end (events_of notes) time last a.ends (subst (λ (ns : List Note). EndWith (events_of ns) last) (sym lists) b.ends) }
 
 one_lack : (network : Network) (ns : List Note) (end t u : Units) → IsFirstLackOf network ns end t → IsFirstLackOf network ns end u → t ≡ u
 one_lack network ns end t u a b =

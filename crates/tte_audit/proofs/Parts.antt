@@ -85,8 +85,7 @@ text_at network n octets left i named e h = ap (head_of []) (sym (split_at octet
 pub one_text : (network : Network) (n m : ℕ) (octets left rest : List ℕ) → IsNamed network → (a : LineThen network n octets left)
     → (b : LineThen network m octets rest) → note_text network a.note ≡ note_text network b.note
 unfolding head_of
-one_text network n m octets left rest named a b =
-    ap (head_of []) (sym (split_line network n octets left named a) ∙ split_line network m octets rest named b)
+one_text network n m octets left rest named a b = ap (head_of []) (sym (split_line network n octets left named a) ∙ split_line network m octets rest named b)
 
 -- where the octets before the first LF are a record's text, its line is the first
 pub record_at : (network : Network) (octets : List ℕ) (i : ℕ) (note : Note) → position is_line_end octets ≡ Some i → IsTextOf network note (take i octets)

@@ -26,8 +26,7 @@ goes_by network befallen time (bodies.Dropped device link cause reason) h = reco
 goes_by network befallen time (bodies.Clock device reading adjustment state) h = record { may = tt; same = refl }
 
 by_fault : (network : Network) (notes : List Note) (note : Note) (old new : Told) (b : Bool) → is_some old.fault ≡ b → AreTold network notes old
-    → HasNoEvent note.body → new.fault ≡ old.fault → new.records ≡ old.records + 1 → new.befallen ≡ old.befallen
-    → AreTold network (notes ++ note ∷ []) new
+    → HasNoEvent note.body → new.fault ≡ old.fault → new.records ≡ old.records + 1 → new.befallen ≡ old.befallen → AreTold network (notes ++ note ∷ []) new
 by_fault network notes note old new true e told quiet fault next befallen = fault_stays network notes note old new told e fault next
 by_fault network notes note old new false e told quiet fault next befallen =
     let by = goes_by network (events_of notes) note.time note.body quiet in
@@ -38,7 +37,6 @@ by_fault network notes note old new false e told quiet fault next befallen =
 
 -- one record more that has no event
 pub passed_on : (network : Network) (notes : List Note) (note : Note) (old new : Told) → AreTold network notes old
-    → HasNoEvent note.body → new.fault ≡ old.fault → new.records ≡ old.records + 1 → new.befallen ≡ old.befallen
-    → AreTold network (notes ++ note ∷ []) new
+    → HasNoEvent note.body → new.fault ≡ old.fault → new.records ≡ old.records + 1 → new.befallen ≡ old.befallen → AreTold network (notes ++ note ∷ []) new
 passed_on network notes note old new told quiet fault next befallen =
     by_fault network notes note old new (is_some old.fault) refl told quiet fault next befallen

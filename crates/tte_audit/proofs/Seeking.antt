@@ -17,8 +17,7 @@ pub one_record : (network : Network) (note other : Note) (octets left rest : Lis
 one_record network note other octets left rest named a b =
     let own = line_of network note note.number octets left a refl in
     let its = line_of network other other.number octets rest b refl in
-    let text : note_text network note ≡ note_text network other =
-    one_text network note.number other.number octets left rest named own its in
+    let text : note_text network note ≡ note_text network other = one_text network note.number other.number octets left rest named own its in
     same_note network note other (apart_of network named) (record { of_network = a.of_network; in_range = a.in_range })
     (record { of_network = b.of_network; in_range = b.in_range }) text
 
@@ -31,8 +30,7 @@ at_more network report (p ∷ ps) place (n ∷ ns) note old new = (old.0, at_mor
 
 -- no events
 pub none_sought : (network : Network) (report : List ℕ) (sought : Sought) → sought.places.items ≡ []
-    → Follows network sought.befallen.watch sought.befallen.history sought.befallen.count sought.befallen.end []
-    → IsSought network report [] sought
+    → Follows network sought.befallen.watch sought.befallen.history sought.befallen.count sought.befallen.end [] → IsSought network report [] sought
 none_sought network report sought none follows = record {
   right = right_none network;
   follows = follows;

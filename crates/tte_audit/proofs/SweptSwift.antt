@@ -84,11 +84,9 @@ pub event_on : (network : Network) (octets rest left : List ℕ) (notes : List N
 event_on network octets rest left notes end places more records old new note named right h line taken first =
     let m = met network octets (length rest) more h.behind (subst (λ (ps : List ℕ). AreAt network octets ps h.behind) first h.awaited) in
     let ended : m.here.rest ≡ rest = one_end m.here.front _ m.here.rest rest (sym m.here.parts ∙ h.begins.text) m.here.long in
-    let same : m.note ≡ note =
-    one_record network m.note note rest m.here.left left named
+    let same : m.note ≡ note = one_record network m.note note rest m.here.left left named
     (subst (λ (os : List ℕ). BeginsWithRecord network m.note os m.here.left) ended m.here.begins) line.begins in
-    let parts : notes ≡ h.front ++ note ∷ m.more =
-    h.parts ∙ ap (λ (ns : List Note). h.front ++ ns) m.parts ∙ ap (λ (n : Note). h.front ++ n ∷ m.more) same in
+    let parts : notes ≡ h.front ++ note ∷ m.more = h.parts ∙ ap (λ (ns : List Note). h.front ++ ns) m.parts ∙ ap (λ (n : Note). h.front ++ n ∷ m.more) same in
     let may : MayCome network (events_of h.taken) note.time note.body =
     subst (λ (es : List Event). MayCome network es note.time note.body) (sym h.same) (right h.front m.more note parts) in
     let next : note.number ≡ length h.taken + 1 = line.numbered ∙ ap (λ (k : ℕ). k + 1) h.counted in

@@ -121,15 +121,13 @@ swept_on network befallen end taken note sweep swept =
     subst (λ (hs : List Happening). IsSwept network befallen end hs sweep) (sym (one_more network taken note)) swept
 
 pub swept_all : (network : Network) (octets : List ℕ) (ns taken : List Note) (end : Units) (sweep : Sweep) → ns ≡ taken
-    → IsSwept network (events_of ns) end (happenings network taken) sweep
-    → IsSwept network (events_of ns) end (happenings network ns) sweep
+    → IsSwept network (events_of ns) end (happenings network taken) sweep → IsSwept network (events_of ns) end (happenings network ns) sweep
 swept_all network octets ns taken end sweep all swept =
     subst (λ (ms : List Note). IsSwept network (events_of ns) end (happenings network ms) sweep) (sym all) swept
 
 -- a record that is not sound is the first
 pub unfounded_at : (network : Network) (octets : List ℕ) (ns taken behind : List Note) (note : Note) (end : Units) (n : ℕ) → IsOfEvents network octets ns end
-    → ns ≡ taken ++ note ∷ behind → n ≡ length taken + 1
-    → AreSound place_of (IsDue (scenario_of network ns)) (behind_time end) (happenings network taken)
+    → ns ≡ taken ++ note ∷ behind → n ≡ length taken + 1 → AreSound place_of (IsDue (scenario_of network ns)) (behind_time end) (happenings network taken)
     → (IsSound place_of (IsDue (scenario_of network ns)) (behind_time end) (happenings network taken)
     (happening network (happenings network taken) note) → ⊥) → IsRefusedBy network octets (refusals.Unfounded n)
 unfounded_at network octets ns taken behind note end n of parts number sound unsound =
@@ -171,8 +169,7 @@ events_paid network ns until line right owes =
     let by = told ns at.0 at.1 owes.event at.2 in
     let whole = happening_there network ns by.front by.rest by.note by.whole in
     let h = happening network (happenings network by.front) by.note in
-    let number : line ≡ length (events_of by.front) + 1 =
-    owes.line_is ∙ ap (λ (k : ℕ). k + 1) (sym at.3 ∙ ap length (sym by.same)) in (
+    let number : line ≡ length (events_of by.front) + 1 = owes.line_is ∙ ap (λ (k : ℕ). k + 1) (sym at.3 ∙ ap length (sym by.same)) in (
       h,
       subst (IsIn h) (sym whole.1) (in_right h (happenings network by.front) (h ∷ whole.0) (inl refl)),
       tells_line network (events_of by.front) by.note.time by.note.body owes.event line by.tells (right by.front by.rest by.note by.whole) number,
@@ -180,16 +177,14 @@ events_paid network ns until line right owes =
 
 -- a report whose records are all sound, and that lacks nothing, is passed
 pub passes : (network : Network) (octets : List ℕ) (ns : List Note) (end : Units) (n : ℕ) → IsNamed network → IsOfEvents network octets ns end
-    → n ≡ length ns → AreSoundNotes network ns end
-    → LacksNothing place_of (IsDue (scenario_of network ns)) (behind_time end) (happenings network ns)
+    → n ≡ length ns → AreSoundNotes network ns end → LacksNothing place_of (IsDue (scenario_of network ns)) (behind_time end) (happenings network ns)
     → IsAudited network octets n
 passes network octets ns end n named of counted sound lacks =
     subst (IsAudited network octets) (sym counted) ((passed_law network octets ns end named of).1 (sound, lacks))
 
 -- and one that lacks something is refused by the time of that
 pub lacks_at : (network : Network) (octets : List ℕ) (ns : List Note) (end : Units) (t : ℕ) → IsOfEvents network octets ns end → AreSoundNotes network ns end
-    → IsFirstDebt (scenario_of network ns) (happenings network ns) (amount end) t
-    → IsRefusedBy network octets (refusals.Lacking (units_of t))
+    → IsFirstDebt (scenario_of network ns) (happenings network ns) (amount end) t → IsRefusedBy network octets (refusals.Lacking (units_of t))
 lacks_at network octets ns end t of sound debt = (ns, end, of, sound, (report_lack_law network ns end t sound).1 debt)
 
 -- which is no later than the end

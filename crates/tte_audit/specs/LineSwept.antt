@@ -25,8 +25,7 @@ abbrev pub IsLineRefused : Network → ℕ → Sweep → List ℕ → AuditRefus
 IsLineRefused network number old octets (refusals.Unfounded n) =
     (n ≡ number) × (note : Note) × (left : List ℕ) × IsNextLine network number octets left note
     × IsUnsound network old note
-IsLineRefused network number old octets (refusals.Form n) =
-    (n ≡ number) × (BeginsWithLine network number octets → ⊥)
+IsLineRefused network number old octets (refusals.Form n) = (n ≡ number) × (BeginsWithLine network number octets → ⊥)
 IsLineRefused network number old octets refusals.OutOfMemory = Unit {0}
 IsLineRefused network number old octets other = ⊥
 

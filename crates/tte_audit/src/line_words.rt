@@ -1,16 +1,16 @@
 ghost use Rattle.std.specs.{Fmt.signed_decimal, Prelude.{decimal, length, position, ℕ}};
 ghost use Rattle.std.specs.Prelude.{◌<◌, ◌^◌, ◌∷◌, ◌≡◌, ◌≢◌, ◌≤◌, IfSome, MatchOption, None, Some, []};
-ghost use Rattle.{hex.specs.Hex.encode_lower, pcf_values.specs.declared.members.Members.{Members as MembersValue}};
+ghost use Rattle.{hex.specs.Hex.encode_lower, report_text.specs.Ranges.{IsCount, IsShortCount, IsSignedUnits}};
 ghost use Rattle.net_plan.specs.Belonging.{HasDevice, HasLink, HasVl, device_name, link_name, vl_name};
 ghost use Rattle.net_plan.specs.{Ranges.IsInRange, declared.ids.VlId.{VlId as VlIdValue}};
 ghost use Rattle.net_plan.specs.declared.ids.{DeviceId.{DeviceId as DeviceIdValue}, LinkId.{LinkId as LinkIdValue}};
 ghost use Rattle.report_text.specs.NoteWords.{judgement_text, members_text, state_text, why_text};
-ghost use Rattle.report_text.specs.Ranges.{IsCount, IsShortCount, IsSignedUnits};
 ghost use Rattle.run_law.specs.declared.judgement.{Judgement.{Judgement as JudgementValue}, Why.{Why as WhyValue}};
 ghost use Rattle.sync_state.specs.declared.state.State.{State as StateValue};
 ghost use Rattle.{trace_text.specs.Steps.{is_space, words}, tte_units.specs.declared.units.Units.{Units as UnitsValue}};
 ghost use Rattle.tte_audit.specs.Spellings.{behind_word, first_word, kind_text};
 ghost use Rattle.tte_audit.specs.declared.kind.KindWord.{KindWord as KindValue};
+ghost use Rattle.tte_units.specs.declared.frames.members.Members.{Members as MembersValue};
 
 use crate::enums::{judgement, state, why};
 use crate::hints::NameHints;
@@ -18,11 +18,11 @@ use crate::kind::{KindWord, kind_of_word};
 use crate::names::{device_of_name, link_of_name, vl_of_name};
 use crate::numbers::{exact_count, exact_digits, exact_members, exact_units, front_number};
 use net_plan::{DeviceId, LinkId, Network, VlId};
-use pcf_values::Members;
 use run_law::{Judgement, Why};
 use std::marker::Model;
 use sync_state::State;
 use tte_units::Units;
+use tte_units::frames::Members;
 
 fn first_space(text: &[u8]) -> Option<usize>
     ensures place { result ≡ position is_space text.now }

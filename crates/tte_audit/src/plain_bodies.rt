@@ -5,7 +5,7 @@ ghost use Rattle.std.specs.{Fmt.signed_decimal, Prelude.{◌++◌, ◌∷◌, �
 ghost use Rattle.net_plan.specs.{Belonging.{HasDevice, device_name}, declared.ids.VlId.{VlId as VlIdValue}};
 ghost use Rattle.{net_plan.specs.Ranges.IsInRange, sync_state.specs.declared.state.State.{State as StateValue}};
 ghost use Rattle.net_plan.specs.declared.ids.{DeviceId.{DeviceId as DeviceIdValue}, LinkId.{LinkId as LinkIdValue}};
-ghost use Rattle.pcf_values.specs.declared.members.Members.{Members as MembersValue};
+ghost use Rattle.tte_units.specs.declared.frames.members.Members.{Members as MembersValue};
 ghost use Rattle.report_text.specs.{NoteLine.{passage_words, stream_words}, Ranges.IsSignedUnits};
 ghost use Rattle.report_text.specs.NoteWords.{judgement_text, members_text, reason_words, state_text, why_text};
 ghost use Rattle.report_text.specs.Ranges.{HasPassage, HasStream, IsCount, IsReasonInRange, IsShortCount};

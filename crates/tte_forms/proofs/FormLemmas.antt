@@ -71,8 +71,7 @@ five_words (a ∷ b ∷ c ∷ d ∷ x ∷ []) command link way n e f g =
 five_words (a ∷ b ∷ c ∷ d ∷ x ∷ y ∷ rest) command link way n e f g = absurd (omega arith)
 
 pub six_words : (words : List (List ℕ)) (command first second third : List ℕ) → length words ≡ 6 → slice_get words 0 ≡ Some command
-    → slice_get words 3 ≡ Some first → slice_get words 4 ≡ Some second → slice_get words 5 ≡ Some third
-    → form_of words ≡ vote_form command first second third
+    → slice_get words 3 ≡ Some first → slice_get words 4 ≡ Some second → slice_get words 5 ≡ Some third → form_of words ≡ vote_form command first second third
 unfolding form_of
 six_words [] command first second third n e f g h = absurd (omega arith)
 six_words (a ∷ []) command first second third n e f g h = absurd (omega arith)
@@ -161,8 +160,7 @@ pub form_in_range : (words : List (List ℕ)) → IfSome (form_of words) IsFormI
 unfolding form_of
 form_in_range [] = tt
 form_in_range (command ∷ []) = tt
-form_in_range (command ∷ file ∷ []) =
-    one_file_by (bytes_eq command (codes "show")) (bytes_eq command (codes "check")) (bytes_eq command (codes "capture"))
+form_in_range (command ∷ file ∷ []) = one_file_by (bytes_eq command (codes "show")) (bytes_eq command (codes "check")) (bytes_eq command (codes "capture"))
 form_in_range (command ∷ file ∷ other ∷ []) = two_files_by (bytes_eq command (codes "run")) (bytes_eq command (codes "audit"))
 form_in_range (command ∷ file ∷ third ∷ last ∷ []) =
     four_words_by (bytes_eq command (codes "storm")) (bytes_eq command (codes "stamp")) (storm_form third last) (stamp_form last)

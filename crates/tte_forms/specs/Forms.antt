@@ -43,8 +43,7 @@ cycles_spelled text = option_and_then if_some (number_up_to most_cycles text)
 
 -- a storm's seed and cycles: `storm NETWORK SEED CYCLES`
 abbrev pub storm_form : List ℕ → List ℕ → Option Form
-storm_form seed cycles =
-    option_and_then (λ s. option_map (λ c. Storm s c) (cycles_spelled cycles)) (seed_spelled seed)
+storm_form seed cycles = option_and_then (λ s. option_map (λ c. Storm s c) (cycles_spelled cycles)) (seed_spelled seed)
 
 -- the greatest granule of stamps, in units
 abbrev pub greatest_granule : ℕ
@@ -79,8 +78,7 @@ wire_form command link way =
 
 -- three virtual links: `vote NETWORK TRACE VL VL VL`
 abbrev pub vote_form : List ℕ → List ℕ → List ℕ → List ℕ → Option Form
-vote_form command first second third =
-    if bytes_eq command (codes "vote") then Some (Vote first second third) else None
+vote_form command first second third = if bytes_eq command (codes "vote") then Some (Vote first second third) else None
 
 -- the numbers of the form lie in their ranges
 abbrev pub IsFormInRange : Form → Type 0

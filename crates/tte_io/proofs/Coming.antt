@@ -87,8 +87,7 @@ outcome_ended before left after rest (Ok taken.Whole) n = absurd (n.ends refl)
 outcome_ended before left after rest (Ok taken.Long) n = absurd (n.ends refl)
 outcome_ended before left after rest (Err e) n = absurd (n.ends refl)
 outcome_ended before left after rest (Ok taken.End) n =
-    let all : before ++ (n.earlier ++ n.last) ≡ [] =
-    n.nothing_lost ∙ ap (λ (g : List ℕ). g ++ pending after) n.answer.none ∙ ap pending n.answer.reader in
+    let all : before ++ (n.earlier ++ n.last) ≡ [] = n.nothing_lost ∙ ap (λ (g : List ℕ). g ++ pending after) n.answer.none ∙ ap pending n.answer.reader in
     let none : before ≡ [] = ends_none before (n.earlier ++ n.last) all in
     (append-nil before ∙ none, ap (λ (r : LineReaderState). to_come (pending r) r.ended rest) n.answer.reader)
   where

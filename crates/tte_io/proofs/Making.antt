@@ -1,10 +1,9 @@
 -- A line in the making, and what comes of it.
 use Rattle.std.proofs.Common.{◌++◌, ◌∙◌, ◌∷◌, ◌≡◌, ◌≢◌, ◌≤◌, ◌⊎◌, Bool, Err, List, Ok, Option, Result, [], ap, append-nil, append_assoc, arith, false, inl, inr}
-use Rattle.std.proofs.Common.{length}
-use Rattle.std.{proofs.{Common.{refl, subst, sym, true, ℕ}, KnownBytes.{Consumes-nil, Consumes-trans}}, specs.Io.KnownBytes.{Consumes, IsAtEnd}}
-use Rattle.tte_io.specs.{Line.{IsLine, IsTooLong, ahead_limit, lf}, NextLine.NextLine, Progress.{progress_after, reader_state}}
-use Rattle.tte_io.specs.{ReaderState.{KeepsEnd, LineReaderState, at_end, pending}, Steps.{Advances, Fills}, declared.lines.LineTaken.LineTaken}
-use Rattle.tte_io.specs.declared.lines.{LineTaken.TheVariants.{End, Long, Whole}, Progress.{Progress, TheVariants.{Taken, TooLong, Unfinished}}}
+use Rattle.std.{proofs.{Common.{length, refl, subst, sym, true, ℕ}, KnownBytes.{Consumes-nil, Consumes-trans}}, specs.Io.KnownBytes.{Consumes, IsAtEnd}}
+use Rattle.tte_io.specs.{Line.{IsLine, IsTooLong, ahead_limit, lf}, NextLine.NextLine, declared.lines.LineTaken.{LineTaken, TheVariants.{End, Long, Whole}}}
+use Rattle.tte_io.specs.{Progress.{progress_after, reader_state}, Steps.{Advances, Fills}}
+use Rattle.tte_io.specs.{ReaderState.{KeepsEnd, LineReaderState, at_end, pending}, declared.lines.Progress.{Progress, TheVariants.{Taken, TooLong, Unfinished}}}
 use Rattle.tte_io.specs.declared.taking.Step.TheVariants as step
 
 -- what was pending and what was read are the line so far and what is ahead

@@ -4,8 +4,7 @@ use Rattle.std.proofs.lemmas.Fmt.{decimal_digit, decimal_step, length-decimal-le
 
 -- one digit more than without the last
 size_step : (n : ℕ) → 10 ≤ n → n < 2 ^ 64 → length (decimal n) ≡ 1 + length (decimal (n / 10))
-size_step n some bound =
-    omega (arith, ap length (decimal_step n some bound), length-append (decimal (n / 10)) ((48 + n % 10) ∷ []))
+size_step n some bound = omega (arith, ap length (decimal_step n some bound), length-append (decimal (n / 10)) ((48 + n % 10) ∷ []))
 
 size_two : (n : ℕ) → 100 ≤ n → n < 2 ^ 64 → length (decimal n) ≡ 2 + length (decimal (n / 100))
 size_two n some bound =

@@ -1,8 +1,7 @@
 -- What was taken from a source was left in it.
 use Rattle.std.proofs.Common.{◌++◌, ◌+◌, ◌<◌, ◌∙◌, ◌≡◌, ◌≤◌, IfSome, List, None, Some, ap, arith, drop, drop-drop, length, length-append, sym, take, take_all}
 use Rattle.std.proofs.Common.{ℕ}
-use Rattle.std.{proofs.lemmas.List.{length-take, take-append-drop, take-append-le}, specs.declared.option.Option.Option}
-use Rattle.tte_io.specs.Whole.{TakesTooMany}
+use Rattle.{std.{proofs.lemmas.List.{length-take, take-append-drop, take-append-le}, specs.declared.option.Option.Option}, tte_io.specs.Whole.TakesTooMany}
 
 pub too_many-left : (old new : Option (List ℕ)) (limit : ℕ) → TakesTooMany old new limit → IfSome old (λ left. limit < length left)
 too_many-left None new limit taken = tt

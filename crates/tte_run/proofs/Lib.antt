@@ -1,5 +1,2 @@
-pub mod captures_lemmas
-pub mod stamps_lemmas
-pub mod votes_lemmas
 pub mod TopAnswers
 pub mod WireAnswers

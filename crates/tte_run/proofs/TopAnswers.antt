@@ -1,18 +1,18 @@
 -- The answer for the words.
-use Rattle.{net_plan.specs.Bounds.BetaIsUnique, tte_run.specs.Whole.{Completes, MeansRun}, tte_traces.specs.{Along.IsAllAdmitted, Answer.IsRunAnswer}}
-use Rattle.{net_plan.specs.declared.event.Event.Event, tte_forms.proofs.FormLemmas.form_in_range, tte_traces.specs.storms.Answer.IsStormAnswer}
-use Rattle.{net_plan.specs.declared.network.Network.Network, tte_run.{proofs.captures_lemmas.Laws.shows_packets, specs.votes.Answer.{IsVoteAnswer, the_names}}}
-use Rattle.{schedule_checker.specs.Refusals.RefusalIsOne, tte_audit.specs.reports.Answer.IsAuditAnswer, tte_traces.proofs.Completes.{run_done, run_one}}
-use Rattle.{std.proofs.Common.{◌∙◌, ◌≡◌, List, None, Option, Some, ap, inl, refl, subst, sym, ℕ}, tte_run.specs.Top.{AnswerIsOne, AnswersWords, IsFormAnswer}}
-use Rattle.{std.specs.Prelude.IfSome, tte_forms.proofs.Octets.for_more}
-use Rattle.{tte_audit.proofs.reports_lemmas.Answers.{audit_done, audit_one}, tte_forms.specs.Answering.{Answer, Answers, ForOctets, Gives, GivesAnswer, IsDone}}
-use Rattle.{tte_forms.{proofs.OneAnswers.answered_done, specs.{declared.form.Form.Form, frames.Answer.show_answer}}, tte_run.specs.stamps.Answer.IsStampAnswer}
-use Rattle.{tte_forms.{proofs.frames.Answers.shows_frames, specs.{Forms.{IsFormInRange, form_of}, Putting.Shown}}, tte_run.specs.captures.Answer.capture_answer}
-use Rattle.{tte_forms.proofs.networks.Answers.{acceptance_one, accepted_alone, network_answer_one}, tte_run.proofs.votes_lemmas.Completes.{vote_done, vote_one}}
+use Rattle.{net_plan.specs.Bounds.BetaIsUnique, std.specs.Prelude.IfSome, tte_forms.specs.Putting.Shown}
+use Rattle.{net_plan.specs.declared.event.Event.Event, tte_forms.specs.Forms.{IsFormInRange, form_of}, tte_traces.specs.storms.Answer.IsStormAnswer}
+use Rattle.{net_plan.specs.declared.network.Network.Network, tte_forms.specs.networks.Checking.IsAcceptance, tte_reports.proofs.Answers.{audit_done, audit_one}}
+use Rattle.{schedule_checker.specs.Refusals.RefusalIsOne, tte_forms.proofs.frames.Answers.shows_frames, tte_traces.proofs.Completes.{run_done, run_one}}
+use Rattle.{std.proofs.Common.{◌∙◌, ◌≡◌, List, None, Option, Some, ap, inl, refl, subst, sym, ℕ}, tte_observers.specs.votes.Answer.{IsVoteAnswer, the_names}}
+use Rattle.tte_forms.{proofs.{FormLemmas.form_in_range, Octets.for_more, OneAnswers.answered_done}, specs.{declared.form.Form.Form, frames.Answer.show_answer}}
+use Rattle.{tte_forms.proofs.networks.Answers.{acceptance_one, accepted_alone, network_answer_one}, tte_run.specs.Top.{AnswerIsOne, AnswersWords, IsFormAnswer}}
+use Rattle.{tte_forms.specs.Answering.{Answer, Answers, ForOctets, Gives, GivesAnswer, IsDone}, tte_observers.proofs.captures_lemmas.Laws.shows_packets}
 use Rattle.tte_forms.specs.{declared.form.Form.TheVariants.{Audit, Capture, Check, Run, Show, Stamp, Storm, Vote, Wire}, networks.Accepting.IsNetworkAnswer}
-use Rattle.{tte_forms.specs.declared.status.Status.{Status, TheVariants.{Done, ReadFault, WriteFault}}, tte_traces.proofs.storms_lemmas.OneAnswer.storm_one}
-use Rattle.{tte_forms.specs.networks.Checking.IsAcceptance, tte_run.{proofs.WireAnswers.{wire_done, wire_one}, specs.SecondFiles.{ForSecond, second_of}}}
-use Rattle.tte_run.{proofs.stamps_lemmas.Completes.{stamp_done, stamp_one}, specs.captures.wires.Answer.{IsWireAnswer, IsWireNetworkAnswer}}
+use Rattle.{tte_forms.specs.declared.status.Status.TheVariants.{Done, ReadFault, WriteFault}, tte_observers.proofs.votes_lemmas.Completes.{vote_done, vote_one}}
+use Rattle.{tte_forms.specs.declared.status.Status.Status, tte_run.{proofs.WireAnswers.{wire_done, wire_one}, specs.SecondFiles.{ForSecond, second_of}}}
+use Rattle.tte_observers.{proofs.stamps_lemmas.Completes.{stamp_done, stamp_one}, specs.captures.wires.Answer.{IsWireAnswer, IsWireNetworkAnswer}}
+use Rattle.{tte_observers.specs.{captures.Answer.capture_answer, stamps.Answer.IsStampAnswer}, tte_traces.proofs.storms_lemmas.OneAnswer.storm_one}
+use Rattle.{tte_reports.specs.Answer.IsAuditAnswer, tte_run.specs.Whole.{Completes, MeansRun}, tte_traces.specs.{Along.IsAllAdmitted, Answer.IsRunAnswer}}
 
 -- the one answer for the octets of a file is one of those
 pub as_one : (answer : List ℕ → Answer) (first : Option (List ℕ)) (status : Status) (old new : Shown) → Answers answer first status old new

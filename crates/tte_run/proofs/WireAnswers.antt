@@ -1,14 +1,14 @@
 -- The answer of `wire` is one, and valid input is written to its end.
-use Rattle.{drift_world.specs.Running.{behind_events, last_time}, tte_traces.{proofs.Faults.{end_has_no_fault, fault_one}, specs.FaultLine.fault_status}}
-use Rattle.{net_plan.specs.Bearers.link_names, tte_units.specs.Amount.amount}
-use Rattle.{net_plan.specs.declared.{event.Event.Event, ids.LinkId.LinkId, tables.Way.Way}, tte_traces.proofs.{Admitted.stopped_one, Answers.whole_is}}
-use Rattle.{net_plan.specs.declared.network.Network.Network, tte_run.specs.captures.pcap.Writing.head_octets, world_drive.specs.exact.Records.clock_reading}
-use Rattle.{run_law.proofs.runs.NetworkRuns.run_is_one, schedule_checker.specs.Refusals.RefusalIsOne, tte_forms.specs.Answering.{Answer, with_line}}
+use Rattle.{drift_world.specs.Running.{behind_events, last_time}, tte_forms.{proofs.networks.Answers.{alone_by, one_by}, specs.Answering.{Answer, with_line}}}
+use Rattle.{net_plan.specs.Bearers.link_names, tte_traces.proofs.Answers.whole_is, tte_units.specs.Amount.amount}
+use Rattle.{net_plan.specs.declared.event.Event.Event, run_law.proofs.runs.NetworkRuns.run_is_one, schedule_checker.specs.Refusals.RefusalIsOne}
+use Rattle.{net_plan.specs.declared.{ids.LinkId.LinkId, tables.Way.Way}, tte_traces.{proofs.Admitted.stopped_one, specs.FaultLine.fault_status}}
+use Rattle.{net_plan.specs.declared.network.Network.Network, tte_forms.specs.networks.Accepting.MeansAccepted, world_drive.specs.exact.Records.clock_reading}
 use Rattle.{run_law.specs.declared.note.Note.Note, trace_text.proofs.Bearing.place_found, tte_traces.specs.{Along.IsAllAdmitted, Answer.IsTraceAnswer}}
-use Rattle.{std.proofs.Common.{◌∙◌, ◌≡◌, List, ap, inl, inr, length, subst, sym, ℕ}, tte_traces.specs.declared.fault.TraceFault.TraceFault}
-use Rattle.{tte_forms.{proofs.networks.Answers.{alone_by, one_by}, specs.networks.Accepting.MeansAccepted}, tte_traces.specs.Lines.{AreAdmitted, behind_lines}}
-use Rattle.{tte_forms.specs.declared.status.Status.TheVariants.Done, tte_run.proofs.captures_lemmas.wires_lemmas.Fronts.{all_whole, either_stops}}
-use Rattle.tte_run.specs.captures.wires.Answer.{EndsEither, IsCapture, IsHeaded, IsNamed, IsWireAnswer, IsWireNetworkAnswer, silent_lines, way_lines}
+use Rattle.{std.proofs.Common.{◌∙◌, ◌≡◌, List, ap, inl, inr, length, subst, sym, ℕ}, tte_observers.specs.captures.pcap.Writing.head_octets}
+use Rattle.{tte_forms.specs.declared.status.Status.TheVariants.Done, tte_observers.proofs.captures_lemmas.wires_lemmas.Fronts.{all_whole, either_stops}}
+use Rattle.tte_observers.specs.captures.wires.Answer.{EndsEither, IsCapture, IsHeaded, IsNamed, IsWireAnswer, IsWireNetworkAnswer, silent_lines, way_lines}
+use Rattle.tte_traces.{proofs.Faults.{end_has_no_fault, fault_one}, specs.{Lines.{AreAdmitted, behind_lines}, declared.fault.TraceFault.TraceFault}}
 
 -- ---- the packets of a way
 
@@ -23,10 +23,8 @@ module _ (link : LinkId) (way : Way) (network : Network) (octets : List ℕ) whe
       let admitted : IsAllAdmitted network octets events = record { admitted = all; ended = w.ended; none_left = w.none_left } in
       let whole : IsTraceAnswer (way_lines link way) octets network b = record { events = events; admitted = all; is = inl v } in
       w.answer ∙ sym (whole_is (way_lines link way) network octets events w.notes b admitted w.records whole)
-  either_one events a b all (inl w) (inr g) =
-      absurd (end_has_no_fault network events (behind_lines (length events) octets) g.fault w.none_left w.ended g.is)
-  either_one events a b all (inr f) (inl v) =
-      absurd (end_has_no_fault network events (behind_lines (length events) octets) f.fault v.none_left v.ended f.is)
+  either_one events a b all (inl w) (inr g) = absurd (end_has_no_fault network events (behind_lines (length events) octets) g.fault w.none_left w.ended g.is)
+  either_one events a b all (inr f) (inl v) = absurd (end_has_no_fault network events (behind_lines (length events) octets) f.fault v.none_left v.ended f.is)
   either_one events a b all (inr f) (inr g) =
       let faults = fault_one network events (behind_lines (length events) octets) f.fault g.fault f.is g.is in
       let same = run_is_one network (clock_reading network events) events (behind_events (amount (last_time events))) f.notes g.notes f.records g.records in
@@ -37,8 +35,7 @@ module _ (link : LinkId) (way : Way) (network : Network) (octets : List ℕ) whe
 
   capture_one : (a b : Answer) → IsCapture link way octets network a → IsCapture link way octets network b → a ≡ b
   capture_one a b i j =
-      let same =
-      stopped_one network octets j.events i.events j.admitted (either_stops link way network octets j.events b j.is) i.admitted
+      let same = stopped_one network octets j.events i.events j.admitted (either_stops link way network octets j.events b j.is) i.admitted
       (either_stops link way network octets i.events a i.is) in
       either_one i.events a b i.admitted i.is (subst (λ (es : List Event). EndsEither (way_lines link way) network octets es b) same j.is)
 

@@ -2,9 +2,9 @@
 use Rattle.std.specs.Prelude.{◌≢◌, ◌⊎◌, List, Option, Some, [], ℕ}
 use Rattle.tte_forms.specs.{Answering.ForOctets, declared.form.Form.{Form, TheVariants.{Audit, Run, Stamp, Vote, Wire}}}
 use Rattle.tte_forms.specs.{Putting.Shown, declared.status.Status.{Status, TheVariants.GranuleRefused}}
-use Rattle.tte_run.specs.stamps.Answer.{StampStops, StampTakesLittle}
-use Rattle.tte_run.specs.votes.Streaming.{IsOfRun, VoteStops, VoteTakesLittle}
-use Rattle.tte_run.specs.captures.wires.Streaming.{WireStops, WireTakesLittle}
+use Rattle.tte_observers.specs.stamps.Answer.{StampStops, StampTakesLittle}
+use Rattle.tte_observers.specs.votes.Streaming.{IsOfRun, VoteStops, VoteTakesLittle}
+use Rattle.tte_observers.specs.captures.wires.Streaming.{WireStops, WireTakesLittle}
 use Rattle.tte_traces.specs.Streaming.{RunStops, RunTakesLittle}
 
 -- what the second file is, if there is one

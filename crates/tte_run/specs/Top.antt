@@ -1,16 +1,16 @@
 -- What the program answers.
 use Rattle.std.specs.Prelude.{◌++◌, ◌≡◌, ◌≢◌, List, None, Option, Some, codes, ℕ}
-use Rattle.{tte_audit.specs.reports.Answer.IsAuditAnswer, tte_run.specs.captures.Answer.capture_answer}
-use Rattle.{tte_audit.specs.reports.Safely.AuditsSafely, tte_traces.specs.storms.Answer.IsStormAnswer}
 use Rattle.tte_forms.specs.{Answering.{Answer, ForOctets, Gives, GivesAnswer, line_answer}, frames.Answer.show_answer}
 use Rattle.tte_forms.specs.{Forms.form_of, Putting.Shown}
 use Rattle.tte_forms.specs.declared.form.Form.TheVariants.{Audit, Capture, Check, Run, Show, Stamp, Storm, Vote, Wire}
-use Rattle.{tte_forms.specs.declared.form.Form.Form, tte_run.specs.stamps.{Answer.IsStampAnswer, Safely.StampsSafely}}
+use Rattle.{tte_forms.specs.declared.form.Form.Form, tte_traces.specs.{Answer.IsRunAnswer, storms.Answer.IsStormAnswer}}
 use Rattle.tte_forms.specs.{declared.status.Status.{Status, TheVariants.Usage}, networks.Accepting.IsNetworkAnswer}
-use Rattle.{tte_forms.specs.networks.Checking.IsCheckAnswer, tte_run.specs.votes.Answer.{IsVoteAnswer, the_names}}
-use Rattle.{tte_run.specs.SecondFiles.{ForSecond, second_of}, tte_traces.specs.storms.Safely.SummarisesSafely}
-use Rattle.tte_run.specs.captures.wires.{Answer.{IsWireAnswer, IsWireNetworkAnswer}, Safely.WiresSafely}
-use Rattle.{tte_run.specs.votes.Safely.VotesSafely, tte_traces.specs.{Answer.IsRunAnswer, Safely.WritesSafely}}
+use Rattle.{tte_forms.specs.networks.Checking.IsCheckAnswer, tte_observers.specs.stamps.Answer.IsStampAnswer}
+use Rattle.tte_observers.specs.{captures.Answer.capture_answer, votes.Answer.{IsVoteAnswer, the_names}}
+use Rattle.tte_observers.specs.captures.wires.{Answer.{IsWireAnswer, IsWireNetworkAnswer}, Safely.WiresSafely}
+use Rattle.{tte_observers.specs.stamps.Safely.StampsSafely, tte_traces.specs.storms.Safely.SummarisesSafely}
+use Rattle.{tte_observers.specs.votes.Safely.VotesSafely, tte_run.specs.SecondFiles.{ForSecond, second_of}}
+use Rattle.{tte_reports.specs.{Answer.IsAuditAnswer, Safely.AuditsSafely}, tte_traces.specs.Safely.WritesSafely}
 
 -- the line for words of no form
 abbrev pub usage_line : List ℕ
@@ -61,8 +61,7 @@ AnswersWords (Some form) first second status old new =
 -- audited
 abbrev pub AnswersSafely : Option Form → Option (List ℕ) → Option (List ℕ) → Status → Shown → Shown → Type 0
 AnswersSafely (Some Run) first second status old new = WritesSafely first second status old new
-AnswersSafely (Some (Storm seed cycles)) first second status old new =
-    SummarisesSafely seed cycles first status old new
+AnswersSafely (Some (Storm seed cycles)) first second status old new = SummarisesSafely seed cycles first status old new
 AnswersSafely (Some (Stamp granule)) first second status old new = StampsSafely granule first second status old new
 AnswersSafely (Some Audit) first second status old new = AuditsSafely first second status
 AnswersSafely (Some (Wire link way)) first second status old new = WiresSafely link way first second status old new

@@ -1,16 +1,17 @@
 -- What input is valid for each form; it is answered to its end.
 use Rattle.std.specs.Prelude.{◌≡◌, ◌≤◌, IfSome, List, None, Option, Some, [], length, true, ℕ}
-use Rattle.{net_plan.specs.declared.{event.Event.Event, ids.LinkId.LinkId}, world_drive.specs.exact.Records.HaveEnded}
+use Rattle.{net_plan.specs.declared.event.Event.Event, tte_units.specs.declared.{frames.pcf.Pcf.Pcf, units.Units.Units}}
+use Rattle.{net_plan.specs.declared.ids.LinkId.LinkId, world_drive.specs.exact.Records.HaveEnded}
 use Rattle.{net_plan.specs.declared.network.Network.Network, tte_forms.specs.declared.status.Status.Status}
 use Rattle.{pcf_codec.specs.Sequence.SpellsAll, tte_audit.specs.Answers.IsAudited, tte_forms.specs.Answering.IsDone}
-use Rattle.{pcf_values.specs.declared.pcf.Pcf.Pcf, tte_forms.specs.{declared.form.Form.Form, frames.Answer.file_limit}}
-use Rattle.{tte_audit.specs.reports.Answer.report_limit, tte_run.specs.captures.Law.{IsFile, StandFrom}}
 use Rattle.tte_forms.specs.declared.form.Form.TheVariants.{Audit, Capture, Check, Run, Show, Stamp, Storm, Vote, Wire}
+use Rattle.{tte_forms.specs.{declared.form.Form.Form, frames.Answer.file_limit}, tte_reports.specs.Answer.report_limit}
 use Rattle.{tte_forms.specs.networks.Accepting.MeansAccepted, tte_traces.specs.Lines.{AreAdmitted, behind_lines}}
-use Rattle.tte_run.specs.{captures.pcap.Layout.{IsHead, head_length}, stamps.granules.Granules.least_granule}
-use Rattle.{tte_run.specs.captures.wires.Answer.IsNamed, tte_units.specs.{Amount.amount, declared.units.Units.Units}}
-use Rattle.tte_run.specs.declared.captures.pcap.capture.{CaptureHead.CaptureHead, Packet.Packet}
-use Rattle.tte_run.specs.{declared.votes.law.voters.Voters.Voters, votes.Answer.{AreNamed, MayThey, Names, the_names}}
+use Rattle.tte_observers.specs.{captures.Law.{IsFile, StandFrom}, stamps.granules.Granules.least_granule}
+use Rattle.tte_observers.specs.{captures.pcap.Layout.{IsHead, head_length}, declared.votes.law.voters.Voters.Voters}
+use Rattle.tte_observers.specs.{captures.wires.Answer.IsNamed, votes.Answer.{AreNamed, MayThey, Names, the_names}}
+use Rattle.tte_observers.specs.declared.captures.pcap.capture.{CaptureHead.CaptureHead, Packet.Packet}
+use Rattle.tte_units.specs.Amount.{amount}
 
 -- a file that spells a sequence is shown to its end
 abbrev pub ShowsWhole : List ℕ → Status → Type 0
@@ -56,8 +57,7 @@ pub record HoldsPackets (octets : List ℕ) (head : CaptureHead) (ps : List Pack
 
 -- a capture whose packets are whole is shown to its end
 abbrev pub CapturesWhole : List ℕ → Status → Type 0
-CapturesWhole octets status =
-    (head : CaptureHead) (ps : List Packet) → HoldsPackets octets head ps → IsDone status
+CapturesWhole octets status = (head : CaptureHead) (ps : List Packet) → HoldsPackets octets head ps → IsDone status
 
 -- an accepted network that has the link, and whose whole trace is admitted, is run, and the way is written
 abbrev pub WiresWhole : List ℕ → List ℕ → List ℕ → Status → Type 0

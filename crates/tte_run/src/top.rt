@@ -1,19 +1,19 @@
 ghost use Rattle.std.specs.Prelude.{◌≡◌, ◌⊎◌};
-ghost use Rattle.{tte_audit.specs.reports.Reading.ReadsReport, tte_forms.specs.Putting.Over};
 ghost use Rattle.tte_forms.specs.{Answering.Gives, Faults.{HasCause, IsWanted, PutFailed, ReadFailed}, Forms.form_of};
+ghost use Rattle.{tte_forms.specs.Putting.Over, tte_reports.specs.Reading.ReadsReport};
 ghost use Rattle.tte_run.specs.SecondFiles.{FailsToRead, FormStops, FormTakesLittle, TakesSecond, second_of};
 ghost use Rattle.tte_run.specs.{Top.{AnswerIsOne, AnswersSafely, AnswersWords, usage_answer}, Whole.Completes};
 
 use crate::audit_report;
-use crate::captures::capture_file;
-use crate::captures::wires::wire_trace;
-use crate::stamps::stamp_trace;
-use crate::votes::vote_trace;
 use net_plan::beta_is_unique;
 use schedule_checker::refusal_is_one;
 use std::alloc::Global;
 use tte_forms::{Form, Status, Words, check_network, put_last, read_form, show};
 use tte_io::{Sink, Source};
+use tte_observers::captures::capture_file;
+use tte_observers::captures::wires::wire_trace;
+use tte_observers::stamps::stamp_trace;
+use tte_observers::votes::vote_trace;
 use tte_traces::run_trace;
 use tte_traces::storms::storm_run;
 

@@ -81,8 +81,7 @@ one_more : {X : Type 0} (x y : X) (xs ys : List X) → x ≡ y → xs ≡ ys →
 one_more x y xs ys e f = cc
 
 front_from : (network : Network) (octets : List ℕ) (before es fs : List Event) → AreAdmitted network octets (before ++ es)
-    → AreAdmitted network octets (before ++ fs) → IsStopped network octets (before ++ fs)
-    → (more : List Event) × (fs ≡ es ++ more)
+    → AreAdmitted network octets (before ++ fs) → IsStopped network octets (before ++ fs) → (more : List Event) × (fs ≡ es ++ more)
 front_from network octets before [] fs a b stop = (fs, refl)
 front_from network octets before (e ∷ es) [] a b stop = absurd (subst (IsStopped network octets) (append-nil before) stop e (a before es e refl))
 front_from network octets before (e ∷ es) (f ∷ fs) a b stop =
@@ -96,14 +95,12 @@ front_from network octets before (e ∷ es) (f ∷ fs) a b stop =
 
 -- the events admitted so far are the first of all those that are
 pub admitted_one : (network : Network) (octets : List ℕ) (events all : List Event) → AreAdmitted network octets events → AreAdmitted network octets all
-    → IsStopped network octets all
-    → (more : List Event) × (all ≡ events ++ more)
+    → IsStopped network octets all → (more : List Event) × (all ≡ events ++ more)
 admitted_one network octets events all a b stop = front_from network octets [] events all a b stop
 
 -- where none is admitted behind either, they are the same
 pub stopped_one : (network : Network) (octets : List ℕ) (events others : List Event) → AreAdmitted network octets events → IsStopped network octets events
-    → AreAdmitted network octets others → IsStopped network octets others
-    → events ≡ others
+    → AreAdmitted network octets others → IsStopped network octets others → events ≡ others
 stopped_one network octets events others a stop b halt =
     let more = admitted_one network octets events others a b halt in
     let rest = admitted_one network octets others events b a stop in

@@ -34,8 +34,7 @@ same_end network octets events time other all a b =
 
 -- the records up to just behind the time of the last event are all
 pub all_records : (events : List Event) (network : Network) (octets : List ℕ) (notes : List Note) → IsAllAdmitted network octets events
-    → AreRecordsBefore network events ((amount (last_time events) + 1) ∷ []) notes
-    → AreAllRecords network events notes
+    → AreRecordsBefore network events ((amount (last_time events) + 1) ∷ []) notes → AreAllRecords network events notes
 all_records events network octets notes all run =
     let end = ended_at events all.ended in
     let last = (admitted_in_order network octets events all.admitted).last end.0 end.1 in
@@ -51,8 +50,7 @@ module _ (lines : LinesOf) where
   pub all_is_whole : (network : Network) (octets : List ℕ) (events : List Event) (a : Answer) → IsAllAdmitted network octets events
       → IsTraceAnswer lines octets network a → AnswersAll lines network octets events a
   all_is_whole network octets events a all i =
-      let same =
-      stopped_one network octets i.events events i.admitted (answer_stops lines network octets i.events a i.is) all.admitted
+      let same = stopped_one network octets i.events events i.admitted (answer_stops lines network octets i.events a i.is) all.admitted
       (whole_stops network octets events all.none_left) in
       elim (subst (λ (es : List Event). AnswersEither lines network octets es a) same i.is) [
         | inl w ↦ w
@@ -61,8 +59,7 @@ module _ (lines : LinesOf) where
 
   -- it has the lines of all records
   pub whole_is : (network : Network) (octets : List ℕ) (events : List Event) (notes : List Note) (a : Answer) → IsAllAdmitted network octets events
-      → AreAllRecords network events notes → IsTraceAnswer lines octets network a
-      → a ≡ record { status = Done; lines = lines network events notes }
+      → AreAllRecords network events notes → IsTraceAnswer lines octets network a → a ≡ record { status = Done; lines = lines network events notes }
   whole_is network octets events notes a all records i =
       let w = all_is_whole network octets events a all i in
       let time = same_end network octets events w.records.0 records.0 all.admitted w.records.1 records.1 in
@@ -91,8 +88,7 @@ module _ (lines : LinesOf) where
       → IsFaultBehind network octets events fault → AreRecordsSoFar network events notes → IsTraceAnswer lines octets network a
       → a ≡ faulty_answer network events notes fault
   faulty_is network octets events notes fault a b run i =
-      let same =
-      stopped_one network octets i.events events i.admitted (answer_stops lines network octets i.events a i.is) b.admitted
+      let same = stopped_one network octets i.events events i.admitted (answer_stops lines network octets i.events a i.is) b.admitted
       (faulty_stops network octets events fault b.is) in
       faulty_alone network octets events notes fault a b run (subst (λ (es : List Event). AnswersEither lines network octets es a) same i.is)
 

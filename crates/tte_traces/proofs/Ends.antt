@@ -105,10 +105,7 @@ trace_stopped source sink at f o events stop n it before after = StoppedBehind s
 pub memory_cause : {X : Type 0} (status : Status) (old now new : ℕ) → (status ≡ OutOfMemory) ⊎ ((status ≡ WriteFault) × Rose now new) → now ≡ old
     → HasCause status X (Rose old new)
 memory_cause status old now new (inl e) same = record { read = λ is. absurd cc; write = λ is. absurd cc }
-memory_cause status old now new (inr w) same = record {
-  read = λ is. absurd (let e = w.0 in cc);
-  write = λ is. subst (λ (n : ℕ). Rose n new) same w.1;
-}
+memory_cause status old now new (inr w) same = record { read = λ is. absurd (let e = w.0 in cc); write = λ is. subst (λ (n : ℕ). Rose n new) same w.1 }
 
 -- what ended so for a network ended so for the same one
 pub ends_for : (Is : List ℕ → Network → Answer → Type 0) (lines : LinesOf) {n m : Network} {first left : Option (List ℕ)} {status : Status} {old new : Shown}
@@ -124,8 +121,7 @@ module _ {B K O : Type 0} (source : sources.Ghosts B) (sink : sinks.Ghosts K) (b
     (trace : Trace) (old put : K) where
   -- one of the answers was given, and little was taken
   abbrev pub EndsSo : Status → Shown → Type 0
-  EndsSo status new =
-      RunEnds (λ octets. Is octets network) lines network (source.left first) (source.left now) status (shown_by sink old) new
+  EndsSo status new = RunEnds (λ octets. Is octets network) lines network (source.left first) (source.left now) status (shown_by sink old) new
 
   -- up to the last whole event
   pub little_so_far : (events : List Event) (new : Shown) → Admits source network first events now

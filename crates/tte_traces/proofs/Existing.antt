@@ -1,5 +1,5 @@
 -- There is an answer for each trace.
-use Rattle.{traffic_law.proofs.existence_lemmas.Existence.runs_exist_to_each_mark, world_drive.proofs.exact_lemmas.Events.ended_at}
+use Rattle.{precision_law.proofs.traffic_lemmas.existence_lemmas.Existence.runs_exist_to_each_mark, world_drive.proofs.exact_lemmas.Events.ended_at}
 use Rattle.tte_traces.{proofs.{Splits.split, Words.{fault_lines, fault_status, inl, inr, last_time, length, refl, report_lines, ℕ}}, specs.Laws.RunAnswersExist}
 use Rattle.tte_traces.proofs.Words.{◌++◌, ◌+◌, ◌∷◌, ◌≡◌, Answer, AnswersAll, AnswersFault, AreAllRecords, AreRecordsBefore, Done, Event, HaveEnded, IsFault}
 use Rattle.tte_traces.proofs.Words.{IsInRange, IsTraceAnswer, LinesOf, List, Network, Note, TraceFault, [], amount, behind_events, behind_lines, clock_reading}

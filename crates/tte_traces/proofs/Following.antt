@@ -246,8 +246,7 @@ reads_same network octets events left old reader left_before left_after stop tol
     let line : pending reader ≡ reader.kept = ap (λ (a : List ℕ). reader.kept ++ a) unread ∙ append-nil reader.kept in
     let unended : old.reader.ended ≡ false = false_from_ne_true old.reader.ended (λ is. n.ends is) in
     let next = record old { reader = reader } in
-    let reads : Reads network octets events next o.0 =
-    record {
+    let reads : Reads network octets events next o.0 = record {
       follows = followed_with network events old reader r.follows;
       admitted = r.admitted;
       coming = r.coming ∙ sym o.2;

@@ -19,8 +19,7 @@ report_begins network notes front rest order = (report_of network rest, ap (repo
 
 -- what is before a place of the last event's time is up to the end
 pub up_to_end : (octets : List ℕ) (network : Network) (events : List Event) (time : Units) → AreAdmitted network octets events → EndsAt events time
-    → (p : List ℕ)
-    → IsBefore p (behind_events (amount (last_time events))) → IsBefore p ((amount time + 1) ∷ [])
+    → (p : List ℕ) → IsBefore p (behind_events (amount (last_time events))) → IsBefore p ((amount time + 1) ∷ [])
 up_to_end octets network events time all ends p before =
     let last = (admitted_in_order network octets events all).last time ends in
     subst (λ (t : Units). IsBefore p ((amount t + 1) ∷ [])) (sym last) (before_next_time p (amount (last_time events)) (2 ∷ []) before)
@@ -30,11 +29,9 @@ up_to_end octets network events time all ends p before =
 -- an answer of all admitted events begins with the records of their run up to a place of the last event's time
 stopped_begins : (network : Network) (octets : List ℕ) (events : List Event) (mark : List ℕ) (notes : List Note) (a : Answer)
     → AreAdmitted network octets events → ((p : List ℕ) → IsBefore p mark → IsBefore p (behind_events (amount (last_time events))))
-    → AreRecordsBefore network events mark notes → AnswersEither report_lines network octets events a
-    → BeginWith a.lines (report_of network notes)
+    → AreRecordsBefore network events mark notes → AnswersEither report_lines network octets events a → BeginWith a.lines (report_of network notes)
 stopped_begins network octets events mark notes a all low run (inl w) =
-    let r =
-    earlier_run_is_front network (clock_reading network events) events mark ((amount w.records.0 + 1) ∷ []) notes w.notes
+    let r = earlier_run_is_front network (clock_reading network events) events mark ((amount w.records.0 + 1) ∷ []) notes w.notes
     (λ p b. up_to_end octets network events w.records.0 all w.records.1 p (low p b)) run w.records.2 in
     let report = report_begins network w.notes notes r.0 r.1 in
     (report.0, ap (λ (b : Answer). b.lines) w.answer ∙ report.1)
@@ -74,8 +71,7 @@ next_begins network octets events event mark notes a all sooner run i =
 
 -- it begins with the records so far, of whichever first events
 pub answer_begins : (network : Network) (octets : List ℕ) (events : List Event) (notes : List Note) (a : Answer)
-    → AreAdmitted network octets events → AreRecordsSoFar network events notes → IsRunAnswer octets network a
-    → BeginWith a.lines (report_of network notes)
+    → AreAdmitted network octets events → AreRecordsSoFar network events notes → IsRunAnswer octets network a → BeginWith a.lines (report_of network notes)
 answer_begins network octets events notes a all run i =
     let stop = answer_stops report_lines network octets i.events a i.is in
     let more = admitted_one network octets events i.events all i.admitted stop in
@@ -100,8 +96,7 @@ answer_begins network octets events notes a all run i =
 pub ended_begins : (network : Network) (octets : List ℕ) (events : List Event) (mark : List ℕ) (notes : List Note) (a : Answer)
     → IsAllAdmitted network octets events
     → ((p : List ℕ) → IsBefore p mark → IsBefore p ((amount (last_time events) + 1) ∷ [])) → AreRecordsBefore network events mark notes
-    → IsRunAnswer octets network a
-    → BeginWith a.lines (report_of network notes)
+    → IsRunAnswer octets network a → BeginWith a.lines (report_of network notes)
 ended_begins network octets events mark notes a all up run i =
     let w = all_is_whole report_lines network octets events a all i in
     let last = (admitted_in_order network octets events all.admitted).last w.records.0 w.records.1 in

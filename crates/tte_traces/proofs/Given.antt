@@ -10,8 +10,7 @@ use Rattle.tte_traces.proofs.Words.{List, Network, Note, PutFails, PutsLines, Sh
 
 -- where a read failed or memory ran out
 pub front_given : (Is : Answer → Type 0) (lines : List (List ℕ)) (status : Status) (old new : Shown) → IsFrontOf Is lines
-    → (status ≡ ReadFault) ⊎ (status ≡ OutOfMemory) → PutsLines lines old new
-    → GivesOne Is status old new
+    → (status ≡ ReadFault) ⊎ (status ≡ OutOfMemory) → PutsLines lines old new → GivesOne Is status old new
 front_given Is lines status old new begins cause puts =
     inr (inr (cause, λ a is. let b = begins a is in record { done = lines; left = b.0; order = b.1; puts = puts }))
 

@@ -16,8 +16,7 @@ AreFrom t events = (k : ℕ) (e : Event) → slice_get events k ≡ Some e → t
 
 dropped : (x : ℕ) (o : Option RateStep) (steps : List RateStep) → Holds o (λ s. x < s.at) → up_to x steps ≡ [] → up_to x (cons_option o steps) ≡ []
 dropped x None steps late none = none
-dropped x (Some s) steps late none =
-    ap (λ (b : Bool). if b then s ∷ up_to x steps else up_to x steps) (lt-leb s.at x late) ∙ none
+dropped x (Some s) steps late none = ap (λ (b : Bool). if b then s ∷ up_to x steps else up_to x steps) (lt-leb s.at x late) ∙ none
 
 holds_later : (x time : ℕ) (o : Option RateStep) → x < time → Holds o (λ s. s.at ≡ time) → Holds o (λ s. x < s.at)
 holds_later x time None lt h = tt

@@ -1,17 +1,17 @@
 -- The devices, links and virtual links of a record of a run are the network's.
-use Rattle.{drift_world.proofs.Launches.{gives_in, gives_within}, run_law.specs.{control.Leaving.{Departs, Departure}, declared.note.NoteBody.NoteBody}}
+use Rattle.{drift_world.proofs.Launches.{gives_in, gives_within}, world_law.{proofs.rows.Entered.{delivered_of, taken_at}, specs.world.World.AreOfNetwork}}
 use Rattle.{fault_hypothesis.specs.Watching.{AreOfNetwork as AreEventsOf}, schedule_tables.specs.Entries.{IsEntry, source_by, source_of}}
-use Rattle.{net_plan.specs.Places.link_at, run_law.specs.runs.Runs.IsFounded, std.proofs.Common.option_map, world_law.specs.device.Own.moves}
-use Rattle.{net_plan.specs.{Ranges.IsLinkInRange, declared.ids.VlId.VlId}, std.proofs.lemmas.Bool.{cases_lt, eq-eqb}, world_law.specs.world.World.AreOfNetwork}
+use Rattle.{net_plan.specs.Places.link_at, run_law.specs.{records.Order.IsIn, runs.Runs.IsFounded}, world_law.specs.device.Own.moves}
+use Rattle.{net_plan.specs.{Ranges.IsLinkInRange, declared.ids.VlId.VlId}, run_law.specs.records.Ranks.place_of, std.proofs.lemmas.Bool.{cases_lt, eq-eqb}}
 use Rattle.{net_plan.specs.declared.{ids.DeviceId.DeviceId, tables.Way.TheVariants.{Down, Up}}, report_text.specs.Ranges.{HasPassage, HasStream, IsBodyOf}}
 use Rattle.{net_plan.specs.declared.ids.LinkId.LinkId, tte_traces.proofs.Words.{amount, ap, append_assoc, false, inl, inr, length, refl, subst, sym, true, ℕ}}
-use Rattle.{net_plan.specs.declared.tables.{Link.Link, Way.Way}, run_law.specs.scenario.Scenarios.Scenario, std.proofs.lemmas.Option.slice_get_within}
-use Rattle.{run_law.proofs.{law.FirstPlaces.numbered_in, runs.Places.{in_left, in_right, parted}}, world_law.proofs.rows.Entered.{delivered_of, taken_at}}
-use Rattle.run_law.{proofs.runs.NetworkRuns.one_more, specs.{records.Ranks.place_of, timed.Receptions.ArrivesAs}}
-use Rattle.tte_units.proofs.general_lemmas.Lists.{in_all as all_at}
-use Rattle.{run_law.specs.{control.Wires.{Arrives, Signal}, records.Order.IsIn, timed.Dispatching.Dispatches}, schedule_tables.specs.declared.entry.Entry.Entry}
+use Rattle.{net_plan.specs.declared.tables.{Link.Link, Way.Way}, run_law.specs.timed.Receptions.ArrivesAs, std.proofs.lemmas.Option.slice_get_within}
+use Rattle.{precision_law.proofs.traffic_lemmas.existence_lemmas.bounds.Named.device_there, world_law.proofs.steps_lemmas.hearing.Receptions.receiver_in}
+use Rattle.{run_law.proofs.{law.FirstPlaces.numbered_in, runs.Places.{in_left, in_right, parted}}, tte_units.proofs.general_lemmas.Lists.{in_all as all_at}}
+use Rattle.run_law.{proofs.runs.NetworkRuns.one_more, specs.{control.Wires.{Arrives, Signal}, scenario.Scenarios.Scenario, timed.Dispatching.Dispatches}}
+use Rattle.{run_law.specs.{control.Leaving.{Departs, Departure}, declared.note.NoteBody.NoteBody}, schedule_tables.specs.declared.entry.Entry.Entry}
 use Rattle.run_law.specs.{records.Happenings.{Happening, happening, happenings, time_of}, runs.DueRecords.{IsArrivedRecord, IsCaused, IsDue, IsScenarioRun}}
-use Rattle.{traffic_law.proofs.existence_lemmas.bounds.Named.device_there, world_law.proofs.steps_lemmas.hearing.Receptions.receiver_in}
+use Rattle.std.proofs.Common.{option_map}
 use Rattle.tte_traces.proofs.Words.{◌++◌, ◌<◌, ◌∙◌, ◌∷◌, ◌≡◌, IsInRange, IsNoteOf, IsOfNetwork, List, Network, None, Note, Option, Some, Units, What, []}
 use Rattle.run_law.specs.declared.note.NoteBody.TheVariants as kinds
 
@@ -115,8 +115,7 @@ body_of s hs time (kinds.Dropped device link cause reason) range all founded own
 body_of s hs time (kinds.Dropped device link cause reason) range all founded own (inr (inl r)) =
     let p = r.1.permanent in
     permanent_at s hs p.arrival device link p.from p.clock range founded (numbered_in hs cause p.arrival p.there) p.arrived
-body_of s hs time (kinds.Dropped device link cause reason) range all founded own (inr (inr d)) =
-    departs_at s hs device (amount time) link cause _ range d.0
+body_of s hs time (kinds.Dropped device link cause reason) range all founded own (inr (inr d)) = departs_at s hs device (amount time) link cause _ range d.0
 body_of s hs time (kinds.Clock device reading adjustment state) range all founded own c = slice_get_within s.network.device device.0 c.is c.there
 
 -- the front of founded records is founded
@@ -131,8 +130,7 @@ note_of s mark notes note coming range all run known =
     let hs = happenings s.network notes in
     let h = happening s.network hs note in
     let whole = one_more s.network notes note in
-    let there : IsIn h (happenings s.network (notes ++ note ∷ [])) =
-    subst (λ (l : List Happening). IsIn h l) (sym whole) (in_right h hs (h ∷ []) (inl refl)) in
+    let there : IsIn h (happenings s.network (notes ++ note ∷ [])) = subst (λ (l : List Happening). IsIn h l) (sym whole) (in_right h hs (h ∷ []) (inl refl)) in
     let founded : IsFounded place_of (IsDue s) (hs ++ h ∷ []) = subst (IsFounded place_of (IsDue s)) whole run.founded in
     let own : (device : DeviceId) → moves device note.body ≡ true → device.0 < length s.network.device = λ device moved.
     elim (cases_lt device.0 (length s.network.device)) [

@@ -1,11 +1,11 @@
 -- What a command over a trace writes is of a run that is safe.
-use Rattle.{drift_clock.proofs.ExactSegments.exact_laws, run_law.specs.law.FirstLaws.IsEventInRange, tte_traces.proofs.{EventRanges.event_in_range, Words.ℕ}}
+use Rattle.{drift_clock.proofs.ExactSegments.{exact_begins, exact_laws}, tte_forms.specs.{Answering.GivesAnswer, declared.accepting.NoNetwork.NoNetwork}}
 use Rattle.{drift_clock.specs.Segment.{fresh_segment, segment_reading, stepped_segment}, tte_forms.proofs.Safely.{IsSafeAnswer, none_safe, puts_safely}}
-use Rattle.{run_law.proofs.runs.{NetworkRuns.earlier_run_is_front, Places.before_next_time}, world_drive.proofs.exact_lemmas.Clocks.exact_begins}
-use Rattle.{std.proofs.lemmas.List.Elements.{All-cons, All-nil}, trace_text.proofs.ReadOfNetwork.read_of_network, tte_forms.specs.networks.NoNetworks.answer_by}
-use Rattle.{std.specs.List.All, tte_forms.specs.{Answering.GivesAnswer, Putting.PutsSo}}
-use Rattle.{traffic_law.proofs.safety_lemmas.{Clocked.{ended, own, so_far}, Times.last_in_time}, tte_forms.specs.declared.accepting.NoNetwork.NoNetwork}
-use Rattle.{traffic_law.specs.safety.Under.IsUnder, tte_forms.proofs.{Octets.for_all, OneAnswers.answer_widened}, tte_traces.proofs.Existing.records_before}
+use Rattle.precision_law.{proofs.traffic_lemmas.safety_lemmas.{Clocked.{ended, own, so_far}, Times.last_in_time}, specs.traffic.safety.Under.IsUnder}
+use Rattle.{run_law.proofs.runs.{NetworkRuns.earlier_run_is_front, Places.before_next_time}, std.proofs.lemmas.List.Elements.{All-cons, All-nil}}
+use Rattle.{run_law.specs.law.FirstLaws.IsEventInRange, tte_forms.proofs.{Octets.for_all, OneAnswers.answer_widened}, tte_traces.proofs.Existing.records_before}
+use Rattle.{std.specs.List.All, tte_forms.specs.Putting.PutsSo, tte_traces.proofs.Words.ℕ}
+use Rattle.{trace_text.proofs.ReadOfNetwork.read_of_network, tte_forms.specs.networks.NoNetworks.answer_by, tte_traces.proofs.EventRanges.event_in_range}
 use Rattle.tte_traces.proofs.Words.{◌++◌, ◌+◌, ◌∷◌, ◌≡◌, ◌⊎◌, After, Answer, AreAdmitted, AreAllRecords, AreRecordsSoFar, Done, Event, ForOctets, Gives}
 use Rattle.tte_traces.proofs.Words.{IsFault, IsInRange, IsOfNetwork, IsRunAnswer, IsTraceAnswer, Line, LinesOf, List, Long, MeansAccepted, Missing, Network}
 use Rattle.tte_traces.proofs.Words.{Note, Option, Outlaw, PutsLines, Shown, Status, TooMany, TraceFault, [], amount, ap, behind_events, behind_lines}
@@ -41,8 +41,7 @@ begins_run network events notes under records =
     let time = amount (last_time events) in
     let mark : List ℕ = (time + 1) ∷ [] in
     let there = records_before network events mark under.range in
-    let front =
-    earlier_run_is_front network (clock_reading network events) events (behind_events time) mark notes there.0
+    let front = earlier_run_is_front network (clock_reading network events) events (behind_events time) mark notes there.0
     (λ p b. before_next_time p time (2 ∷ []) b) records there.1 in
     record {
       whole = there.0;
@@ -135,8 +134,7 @@ module _ (IsWhole IsToFault IsRefusal : List (List ℕ) → Type 0) where
   -- that of a command that puts lines of the run
   pub trace_safe : (lines : LinesOf) (trace : List ℕ) (network : Network)
       → ((events : List Event) (notes : List Note) → AreAdmitted network trace events → AreAllRecords network events notes
-      → IsWhole (lines network events notes))
-      → ((events : List Event) (notes : List Note) (fault : TraceFault) → AreAdmitted network trace events
+      → IsWhole (lines network events notes)) → ((events : List Event) (notes : List Note) (fault : TraceFault) → AreAdmitted network trace events
       → IsFault network events (behind_lines (length events) trace) fault → AreRecordsSoFar network events notes
       → IsToFault (lines network events notes ++ fault_lines (length events + 1) fault)) → (a : Answer) → IsTraceAnswer lines trace network a → IsSafe a
   trace_safe lines trace network whole fault a i =

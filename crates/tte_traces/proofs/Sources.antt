@@ -7,8 +7,7 @@ use Rattle.tte_traces.proofs.Words.{◌≡◌, Answer, ForOctets, GivesOne, Line
 pub no_memory : (Is : List ℕ → Answer → Type 0) (lines : LinesOf) (network : Network) (left : Option (List ℕ)) (s : Shown) → lines network [] [] ≡ []
     → RunEnds Is lines network left left OutOfMemory s s
 no_memory Is lines network left s none = record {
-  general =
-      for_all left (λ trace. GivesOne (Is trace) OutOfMemory s s) (λ trace. inr (inr (inr refl, λ a is. none_put a.lines s s (PutsLines-none s))));
+  general = for_all left (λ trace. GivesOne (Is trace) OutOfMemory s s) (λ trace. inr (inr (inr refl, λ a is. none_put a.lines s s (PutsLines-none s))));
   cut = λ is. absurd cc;
   little = untouched lines network left s s none (writes_nothing s);
 }

@@ -1,7 +1,7 @@
 -- A trace is admitted line by line, up to its end or to a fault.
+use Rattle.{precision_law.proofs.traffic_lemmas.existence_lemmas.decisions.Events.is_end, tte_traces.proofs.Words.{length, length-append, refl, suc, zero, ℕ}}
 use Rattle.{run_law.proofs.scenario.{Decided.hypothesis_is_decided, Decisions.{IsDecided, decided_any}}, tte_traces.proofs.Following.more_admitted}
 use Rattle.{std.proofs.lemmas.Bool.cases_lt, tte_io.specs.Line.line_limit, tte_traces.{proofs.Admitted.admitted_none, specs.Lines.{HasEvent, IsOpen}}}
-use Rattle.{traffic_law.proofs.existence_lemmas.decisions.Events.is_end, tte_traces.proofs.Words.{length, length-append, refl, suc, zero, ℕ}}
 use Rattle.tte_traces.proofs.Words.{◌++◌, ◌+◌, ◌^◌, ◌∷◌, ◌≡◌, ◌≢◌, ◌≤◌, ◌⊎◌, After, AreAdmitted, End, Err, Event, HaveEnded, IsAdmitted, IsFault, Line, List}
 use Rattle.tte_traces.proofs.Words.{Long, Missing, Network, Ok, Outlaw, Read, TooMany, TraceFault, [], arith, behind_lines, event_read, first_line, inl, inr}
 
@@ -68,8 +68,7 @@ pub record IsSplit (network : Network) (octets : List ℕ) : Type 0 where
 
 -- behind these events, if what comes behind one more is known
 split_behind : (network : Network) (octets : List ℕ) (before : List Event) → length before + 1 ≤ 2 ^ 32 → AreAdmitted network octets before
-    → ((event : Event) → IsAdmitted network before (behind_lines (length before) octets) event → IsSplit network octets)
-    → IsSplit network octets
+    → ((event : Event) → IsAdmitted network before (behind_lines (length before) octets) event → IsSplit network octets) → IsSplit network octets
 split_behind network octets before number all further =
     elim (judged network before (behind_lines (length before) octets) number) [
       | inl stops ↦ record { events = before; admitted = all; stops = stops }

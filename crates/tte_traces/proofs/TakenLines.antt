@@ -34,8 +34,7 @@ failed_over before had left after left_after e f n = anew n left left_after (Err
 
 -- where no line was found ahead and nothing is read, the unfinished line stays
 pub unread : {F : Type 0} (before : List ℕ) (had : Bool) (left : Option (List ℕ)) (after : LineReaderState) (f : F) → had ≡ false → pending after ≡ before
-    → KeepsLine [] after
-    → NextLine before had left after left (Err f)
+    → KeepsLine [] after → NextLine before had left after left (Err f)
 unread before had left after f unended same keeps = record {
   earlier = [];
   last = [];

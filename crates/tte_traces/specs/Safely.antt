@@ -5,7 +5,7 @@ use Rattle.{drift_world.specs.Running.last_time, tte_forms.specs.Safely.PutsSafe
 use Rattle.{net_plan.specs.declared.event.Event.Event, tte_traces.specs.FaultLine.fault_lines}
 use Rattle.{net_plan.specs.declared.network.Network.Network, run_law.specs.records.Happenings.happenings}
 use Rattle.{report_text.specs.NoteLine.report_of, run_law.specs.declared.note.Note.Note, tte_units.specs.Amount.amount}
-use Rattle.traffic_law.specs.safety.{Headline.{GoesWell, IsRunBefore, IsWholeRun}, Under.scenario_of}
+use Rattle.precision_law.specs.traffic.safety.{Headline.{GoesWell, IsRunBefore, IsWholeRun}, Under.scenario_of}
 use Rattle.tte_forms.specs.{Answering.ForOctets, Putting.{PutsLines, PutsSo, Shown}, networks.NetworkLine.IsRefusalText}
 use Rattle.tte_forms.specs.declared.status.Status.{Status, TheVariants.{Done, OutsideHypothesis, TooLong, TraceRefused}}
 use Rattle.{tte_forms.specs.networks.Accepting.MeansAccepted, world_drive.specs.exact.Records.AreRecordsBefore}
@@ -85,8 +85,7 @@ RunsSafely IsWhole IsToFault IsRefusal first second status old new =
 
 -- the lines are the report of a run that goes well
 abbrev pub IsWholeReport : List ℕ → List ℕ → List (List ℕ) → Type 0
-IsWholeReport octets trace lines =
-    OfWholeRun octets trace (λ network events notes run. lines ≡ report_of network notes)
+IsWholeReport octets trace lines = OfWholeRun octets trace (λ network events notes run. lines ≡ report_of network notes)
 
 -- they are its report up to a fault of the trace, and then the fault
 abbrev pub IsReportToFault : List ℕ → List ℕ → List (List ℕ) → Type 0

@@ -1,6 +1,7 @@
 //! Time in whole units of 2^-16 ns, rates of clocks and speeds of links.
 #![tactic(auto)]
 
+pub mod frames;
 mod rates;
 mod speed;
 mod units;

@@ -153,8 +153,7 @@ module _ {B K E O : Type 0} (sink : Ghosts K) (give : Gave B E) (see : Sees O) (
         pub cut_at_event : (end : Gave B E) (stop : Stops O) (cut : Cut) (later : B) (next : E) (new : K)
             → give network first origin (d.events ++ event ∷ []) later next
             → CutsAtEvent stop network d.events d.notes event cut (start_by sink old begun_by) (told_by sink new)
-            → PutsFurther {T = Unit {0}} sink (Err cut) then_ new
-            → DrivesCut sink give end see stop network first origin cut later next begun_by old new
+            → PutsFurther {T = Unit {0}} sink (Err cut) then_ new → DrivesCut sink give end see stop network first origin cut later next begun_by old new
         cut_at_event end stop cut later next new gave k puts = record {
           events = d.events;
           so_far = seen_so_far new puts.grew;
@@ -198,8 +197,7 @@ module _ {B K E O : Type 0} (sink : Ghosts K) (give : Gave B E) (see : Sees O) (
 
         pub drives_all : (end : Gave B E) (later : B) (next : E) (past : ExactWorld) (other : O) (new : K) → end network first origin d.events later next
             → SeesUntil see network d.events d.notes until world past other (start_by sink old begun_by) (told_by sink new)
-            → PutsFurther {T = Unit {0}} sink (Ok (tt {0})) then_ new
-            → DrivesAll sink end see network first origin later next past begun_by other old new
+            → PutsFurther {T = Unit {0}} sink (Ok (tt {0})) then_ new → DrivesAll sink end see network first origin later next past begun_by other old new
         drives_all end later next past other new ended s puts = record {
           events = d.events;
           notes = d.notes ++ s.more;
@@ -214,8 +212,7 @@ module _ {B K E O : Type 0} (sink : Ghosts K) (give : Gave B E) (see : Sees O) (
 
         pub cut_at_end : (end : Gave B E) (stop : Stops O) (cut : Cut) (later : B) (next : E) (new : K) → end network first origin d.events later next
             → CutsBefore stop network d.events d.notes (amount until) cut (start_by sink old begun_by) (told_by sink new)
-            → PutsFurther {T = Unit {0}} sink (Err cut) then_ new
-            → DrivesCut sink give end see stop network first origin cut later next begun_by old new
+            → PutsFurther {T = Unit {0}} sink (Err cut) then_ new → DrivesCut sink give end see stop network first origin cut later next begun_by old new
         cut_at_end end stop cut later next new ended k puts = record {
           events = d.events;
           so_far = seen_so_far new puts.grew;

@@ -1,8 +1,8 @@
 -- The instant whose end is asked for.
-use Rattle.{drift_world.specs.Running.option_given, run_law.specs.records.{Order.IsIn, Ranks.rank}, world_drive.proofs.{Ways.past_is, Words.{unsigned_abs, ℕ}}}
-use Rattle.{run_law.proofs.{records.Order.index_of, runs.{NetworkRuns.one_more, Places.{in_left, in_right}}}, traffic_law.specs.safety.Headline.IsSafeFront}
-use Rattle.std.proofs.Common.{Bool, Result}
-use Rattle.{std.specs.Prelude.{IfNone, MatchResult, OnOk, option_to_list}, world_drive.specs.Observing.{IsCompleteExact, IsGiven}}
+use Rattle.{drift_world.specs.Running.option_given, run_law.proofs.records.Order.index_of, world_drive.proofs.{Ways.past_is, Words.{unsigned_abs, ℕ}}}
+use Rattle.{precision_law.specs.traffic.safety.Headline.IsSafeFront, std.specs.Prelude.{IfNone, MatchResult, OnOk, option_to_list}}
+use Rattle.{run_law.proofs.runs.{NetworkRuns.one_more, Places.{in_left, in_right}}, world_drive.specs.Observing.{IsCompleteExact, IsGiven}}
+use Rattle.{run_law.specs.records.{Order.IsIn, Ranks.rank}, std.proofs.Common.{Bool, Result}}
 use Rattle.world_drive.proofs.{Placed.{last_of, stays_now, unended_before}, exact_lemmas.Given.{amount_after, given_none, given_some, if_none, is_before}}
 use Rattle.world_drive.proofs.Words.{◌++◌, ◌+ℤ◌, ◌+◌, ◌<ℤ◌, ◌<◌, ◌^◌, ◌∙◌, ◌∷◌, ◌≡◌, AreRecordsBefore, Err, Event, ExactWorld, Happening, IsPast, IsUnderwayAt}
 use Rattle.world_drive.proofs.Words.{List, Network, None, Note, Ok, Reaches, Some, StandsExact, Units, [], amount, ap, append-nil, append_assoc, arith, false}

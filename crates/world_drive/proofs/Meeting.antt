@@ -107,8 +107,7 @@ module _ (network : Network) (world : ExactWorld) (events : List Event) (notes :
           more = s.more ++ note ∷ [];
           stands = subst (λ (ns : List Note). StandsExact network after (events ++ event ∷ []) ns) joined stands;
           so_far = subst (λ (ns : List Note). AreRecordsSoFar network (events ++ event ∷ []) ns) joined so_far;
-          sees =
-              subst (λ (ns : List Note). see network (events ++ event ∷ []) ns None old new later) joined sees;
+          sees = subst (λ (ns : List Note). see network (events ++ event ∷ []) ns None old new later) joined sees;
         }
 
         -- the observer failed at it

@@ -21,10 +21,7 @@ grows_on old now new a b = (a.0 ++ b.0, Appends-trans old.written now.written ne
 
 pub puts_more : {K T : Type 0} (sink : Ghosts K) (x : T) (old now new : K) → PutsSoFar sink old now → PutsFurther {T = T} sink (Ok x) now new
     → PutsSoFar sink old new
-puts_more sink x old now new a b = record {
-  grew = grows_on (told_by sink old) (told_by sink now) (told_by sink new) a.grew b.grew;
-  quiet = b.quiet ∙ a.quiet;
-}
+puts_more sink x old now new a b = record { grew = grows_on (told_by sink old) (told_by sink now) (told_by sink new) a.grew b.grew; quiet = b.quiet ∙ a.quiet }
 
 pub fails_on : {K : Type 0} (sink : Ghosts K) (e : Cut) (old now new : K) → sink.faults now ≡ sink.faults old → FailsBy sink now new e → FailsBy sink old new e
 fails_on sink WriteFault old now new still f = subst (λ (n : ℕ). Rose n (sink.faults new)) still f
@@ -74,8 +71,7 @@ pub record HasSeenMore {O : Type 0} (see : Sees O) (network : Network) (events :
 
 pub seen_none : {O : Type 0} (see : Sees O) (network : Network) (events : List Event) (notes : List Note) (instant : Option ℕ) (until : ℕ)
     (world : ExactWorld) (observer : O) (old : Start O) (put : Told) → StandsExact network world events notes
-    → see network events notes instant old put observer
-    → HasSeenMore see network events notes instant until world observer old put
+    → see network events notes instant old put observer → HasSeenMore see network events notes instant until world observer old put
 seen_none see network events notes instant until world observer old put a b = record {
   more = [];
   stands = subst (λ (ns : List Note). StandsExact network world events ns) (sym (append-nil notes)) a;

@@ -5,8 +5,7 @@ use Rattle.world_drive.proofs.Words.{◌+ℤ◌, ◌+◌, ◌<ℤ◌, ◌<◌, �
 
 -- the world is where it was, or before the time, or it has just come to it
 abbrev pub IsNearing : ExactWorld → ExactWorld → Units → Type 0
-IsNearing from world until =
-    (world ≡ from) ⊎ ((pos world.now <ℤ until.0) ⊎ ((pos world.now ≡ until.0) × (world.early ≡ true)))
+IsNearing from world until = (world ≡ from) ⊎ ((pos world.now <ℤ until.0) ⊎ ((pos world.now ≡ until.0) × (world.early ≡ true)))
 
 -- the same time is asked for
 pub asked_still : (network : Network) (until : Units) (world next : ExactWorld) (events : List Event) (notes others : List Note)

@@ -1,4 +1,3 @@
-pub mod Clocks
 pub mod Events
 pub mod Worlds
 pub mod Given

@@ -82,8 +82,7 @@ pub record SeesInstant {O : Type 0} (see : Sees O) (network : Network) (events :
 
 -- the world has come to the next unit of time, of which nothing but events is worked off; or it is at the end
 abbrev pub IsPast : ExactWorld → ExactWorld → Type 0
-IsPast old new =
-    ((new.now ≡ old.now + 1) × (new.early ≡ true)) ⊎ ((new.ended ≡ true) × (new.now ≡ old.now))
+IsPast old new = ((new.now ≡ old.now + 1) × (new.early ≡ true)) ⊎ ((new.ended ≡ true) × (new.now ≡ old.now))
 
 -- ---- an event
 

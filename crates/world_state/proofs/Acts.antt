@@ -34,8 +34,7 @@ still_sound network device node moment (acts.Correct cycle verdict) new (first, 
 pub some_due : (network : Network) (device : DeviceId) (node : Node) (due : Option Units) (reading : ℤ) → IsDueReading network device node due
     → IsSomeAnd due (λ at. at.0 ≤ℤ reading) → HasDue network device node reading
 some_due network device node None reading is reached = absurd reached
-some_due network device node (Some at) reading is reached =
-    (is.0.0, is.0.1, subst (λ (z : ℤ). z ≤ℤ reading) (sym is.0.2) reached)
+some_due network device node (Some at) reading is reached = (is.0.0, is.0.1, subst (λ (z : ℤ). z ≤ℤ reading) (sym is.0.2) reached)
 
 -- it is not: nothing is
 pub none_due : (network : Network) (device : DeviceId) (node : Node) (due : Option Units) (reading : ℤ) → IsDueReading network device node due

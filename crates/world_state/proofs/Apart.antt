@@ -39,11 +39,9 @@ ports_kept (Some e) old new none put y = (
 -- what is put from lists with the same on the wires
 pub put_from : (s : Scenario) (x : Happening) (number : ℕ) (old mid new : List OnWire) → ((y : OnWire) → IsIn y mid ↔ IsIn y old)
     → ArePut s x number mid new → ArePut s x number old new
-put_from s x number old mid new same put =
-    grind arith
+put_from s x number old mid new same put = grind arith
 
 -- and what is given to ports, to lists with the same at them
 pub given_then : (s : Scenario) (x : Happening) (number : ℕ) (old mid new : List AtPort) → ((y : AtPort) → IsIn y new ↔ IsIn y mid)
     → AreGiven s x number old mid → AreGiven s x number old new
-given_then s x number old mid new same given =
-    grind arith
+given_then s x number old mid new same given = grind arith

@@ -17,8 +17,7 @@ use Rattle.world_state.specs.declared.contents.Signal.TheVariants as signals
 module _ (network : Network) (broken : List Bool) (ups : List WayState) (time : ℕ) where
   pub settled_more : (befell : List Befallen) (b : Befallen) (old mid new : List Settled) (before between after : List (Entry Content))
       → AreSettledBy network broken ups time befell old mid before between → IsSomePut (record_of network broken ups b.number b.what) mid new
-      → IsPutOn (entry_of network ups time b.number b.what) between after
-      → AreSettledBy network broken ups time (befell ++ b ∷ []) old new before after
+      → IsPutOn (entry_of network ups time b.number b.what) between after → AreSettledBy network broken ups time (befell ++ b ∷ []) old new before after
   settled_more [] b old mid new before between after are one put = (
     new,
     after,
@@ -148,8 +147,7 @@ module _ (network : Network) (range : IsInRange network) (broken : List Bool) (u
       → AreSettledBy network broken ups time befell old new before after → AreUnderWay network before → AreBelow given before
       → AreInOrder (map befell_as befell) → ((b : Befallen) → IsIn b befell → b.number < given) → ((b : Befallen) → IsIn b befell → IsFreshOf before b.number)
       → AreUnderWay network after × AreBelow given after
-  sound_settled [] old new before after so are below order lt fresh =
-      (subst (AreUnderWay network) (sym so.1) are, subst (AreBelow given) (sym so.1) below)
+  sound_settled [] old new before after so are below order lt fresh = (subst (AreUnderWay network) (sym so.1) are, subst (AreBelow given) (sym so.1) below)
   sound_settled (b ∷ befell) old new before after (mid, between, one, put, rest) are below order lt fresh =
       let of = send_of network range ups time b.number b.what in
       let step = put_sound b.number _ before between of put are below (lt b (inl refl)) (fresh b (inl refl)) in
@@ -158,8 +156,7 @@ module _ (network : Network) (range : IsInRange network) (broken : List Bool) (u
 
   -- and nothing at the ports changes
   pub ports_settled : (befell : List Befallen) (old new : List Settled) (before after : List (Entry Content))
-      → AreSettledBy network broken ups time befell old new before after
-      → (y : AtPort) → IsIn y (filter_map at_port after) ↔ IsIn y (filter_map at_port before)
+      → AreSettledBy network broken ups time befell old new before after → (y : AtPort) → IsIn y (filter_map at_port after) ↔ IsIn y (filter_map at_port before)
   ports_settled [] old new before after so y = (
     λ there. subst (λ (l : List (Entry Content)). IsIn y (filter_map at_port l)) so.1 there,
     λ there. subst (λ (l : List (Entry Content)). IsIn y (filter_map at_port l)) (sym so.1) there,
@@ -174,5 +171,4 @@ module _ (network : Network) (range : IsInRange network) (broken : List Bool) (u
 pub settled_with : (network : Network) (broken own : List Bool) (ups ways : List WayState) (time : ℕ) (befell : List Befallen) (old was new : List Settled)
     (before first after : List (Entry Content)) → broken ≡ own → ups ≡ ways → old ≡ was → before ≡ first
     → AreSettledBy network broken ups time befell old new before after → AreSettledBy network own ways time befell was new first after
-settled_with network broken own ups ways time befell old was new before first after a b c d so =
-    grind arith
+settled_with network broken own ups ways time befell old was new before first after a b c d so = grind arith

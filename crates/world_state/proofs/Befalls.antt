@@ -16,13 +16,11 @@ on_other other turned device node apart = ap (λ (b : Bool). if b && not node.br
 
 pub break_other : (other : DeviceId) (turned : Bool) (device : DeviceId) (node : Node) → device.0 ≢ other.0
     → befallen_node turned (Break other) device node ≡ node
-break_other other turned device node apart =
-    grind (arith, not, ne_eqb)
+break_other other turned device node apart = grind (arith, not, ne_eqb)
 
 -- one of the machines is called, and the others stay
 pub one_befalls : {M : Type 0} (keeps : M → Network → DeviceId → Node → Type 0) (what : What) (at : DeviceId) (machines : List M) (after : M)
-    → at.0 < length machines
-    → ((turned : Bool) (device : DeviceId) (node : Node) → device.0 ≢ at.0 → befallen_node turned what device node ≡ node)
+    → at.0 < length machines → ((turned : Bool) (device : DeviceId) (node : Node) → device.0 ≢ at.0 → befallen_node turned what device node ≡ node)
     → (network : Network) (device : DeviceId) (machine : M) (turned : Bool) → slice_get machines device.0 ≡ Some machine
     → (device ≡ at → (node : Node) → keeps machine network device node → keeps after network device (befallen_node turned what device node))
     → (x : M) × (slice_get (set machines at.0 after) device.0 ≡ Some x) × ((node : Node) → keeps machine network device node

@@ -76,5 +76,4 @@ alike p q (w ∷ ws) same =
 
 pub all_kept : (p : Waits → Bool) (ws : List Waits) → ((w : Waits) → p w ≡ true) → filter p ws ≡ ws
 all_kept p [] all = refl
-all_kept p (w ∷ ws) all =
-    ap (λ (b : Bool). cond b (w ∷ filter p ws) (filter p ws)) (all w) ∙ ap (λ (l : List Waits). w ∷ l) (all_kept p ws all)
+all_kept p (w ∷ ws) all = ap (λ (b : Bool). cond b (w ∷ filter p ws) (filter p ws)) (all w) ∙ ap (λ (l : List Waits). w ∷ l) (all_kept p ws all)

@@ -1,8 +1,9 @@
 -- What a device hears, as its machine asks for it.
-use Rattle.{net_plan.specs.Ranges.IsInRange, pcf_codec.specs.{Decoding.decoded, Spelling.Spells}, run_law.specs.machines.Nodes.Node, std.specs.Prelude.Ok}
-use Rattle.{net_plan.specs.declared.ids.{DeviceId.DeviceId, LinkId.LinkId}, run_law.specs.{declared.steps.Moment.Moment, machines.Calls.{MayHear, StandsFor}}}
-use Rattle.{net_plan.specs.declared.ids.VlId.VlId, pcf_values.specs.declared.pcf.Pcf.Pcf, world_state.{proofs.Made.made_signal, specs.Views.octets_of}}
+use Rattle.{net_plan.specs.Ranges.IsInRange, pcf_codec.specs.Decoding.decoded, run_law.specs.machines.Nodes.Node, world_state.specs.Views.octets_of}
+use Rattle.{net_plan.specs.declared.ids.DeviceId.DeviceId, run_law.specs.machines.Calls.{MayHear, StandsFor}, tte_units.specs.declared.frames.pcf.Pcf.Pcf}
+use Rattle.{net_plan.specs.declared.ids.{LinkId.LinkId, VlId.VlId}, run_law.specs.declared.steps.Moment.Moment, world_state.proofs.Made.made_signal}
 use Rattle.{net_plan.specs.declared.network.Network.Network, world_state.specs.{Hearing.{AreOctetsOf, MayCome}, declared.contents.Timed.TheVariants.Made}}
+use Rattle.{pcf_codec.specs.Spelling.Spells, std.specs.Prelude.Ok}
 use Rattle.{run_law.specs.control.Wires.{Signal, control, signal_of, timed}, std.proofs.Common.{◌∙◌, ◌≡◌, ◌≤◌, List, ap, arith, eq-eqb, length, ℕ}}
 
 -- the octets of a control frame
@@ -14,8 +15,7 @@ pub may_hear : {M : Type 0} (stands : M → Network → DeviceId → Node
     → Type 0) (machine : M) (signal : Signal) (moment : Moment) (link : LinkId) (octets : List ℕ)
     → StandsFor stands machine (MayCome signal moment link) → AreOctetsOf signal octets
     → StandsFor stands machine (λ network device node. MayHear network device node moment link octets)
-may_hear stands machine signal moment link octets may are =
-    grind arith
+may_hear stands machine signal moment link octets may are = grind arith
 
 -- the octets of a frame that its sender made
 pub made_are : (network : Network) (vl : VlId) (cycle : ℕ) (octets : List ℕ) → IsInRange network → octets ≡ octets_of network (Made vl cycle)

@@ -14,8 +14,7 @@ made_octets network vl cycle lt = made_is network vl cycle lt
 
 -- a frame shows the EtherType of its virtual link
 pub type_shown : (network : Network) (vl : VirtualLink) (cycle : ℕ) → vl.ethertype < 2 ^ 16 → field 12 2 (tt_frame_by network vl cycle) ≡ vl.ethertype
-type_shown network vl cycle less =
-    grind (arith, replicate, length, length-append, append_assoc, read_behind)
+type_shown network vl cycle less = grind (arith, replicate, length, length-append, append_assoc, read_behind)
 
 -- octets with another EtherType are no protocol control frame
 pub plain_signal : (octets : List ℕ) → (field 12 2 octets == pcf_type) ≡ false → signal_of octets ≡ timed octets
@@ -35,5 +34,4 @@ made_type network vl cycle zeros range none = by (slice_get network.vl vl.0) ref
 
 pub made_signal : (network : Network) (vl : VlId) (cycle : ℕ) → IsInRange network
     → signal_of (octets_of network (Made vl cycle)) ≡ timed (octets_of network (Made vl cycle))
-made_signal network vl cycle range =
-    plain_signal (octets_of network (Made vl cycle)) (made_type network vl cycle (replicate 60 0) range refl)
+made_signal network vl cycle range = plain_signal (octets_of network (Made vl cycle)) (made_type network vl cycle (replicate 60 0) range refl)

@@ -22,8 +22,7 @@ module _ (network : Network) (ups downs : List WayState) (body : NoteBody) (givi
     (are : ArePutTo i network ups downs body giving old mid) where
   -- it is given to the link
   pub more_put : (new : List (Entry Content)) (entry : Entry Content) → entry ≡ entry_at_port network ups downs giving (record { 0 = i })
-      → Gives network body giving.device (record { 0 = i })
-      → IsPermutation (entry ∷ mid) new → ArePutTo (i + 1) network ups downs body giving old new
+      → Gives network body giving.device (record { 0 = i }) → IsPermutation (entry ∷ mid) new → ArePutTo (i + 1) network ups downs body giving old new
   more_put new entry is given same =
       record {
         real = λ e there.

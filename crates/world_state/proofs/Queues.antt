@@ -66,8 +66,7 @@ in_queue (q ∷ queues) w there =
 pub of_queue : (queues : List (Queue Waits)) (k : ℕ) (q : Queue Waits) (e : Entry Waits) → slice_get queues k ≡ Some q → IsIn e q.entries
     → IsIn e.content (frames_in queues)
 of_queue [] k q e at there = absurd cc
-of_queue (r ∷ queues) zero q e at there =
-    grind (arith, in_left, is_mapped)
+of_queue (r ∷ queues) zero q e at there = grind (arith, in_left, is_mapped)
 of_queue (r ∷ queues) (suc k) q e at there = in_right e.content (frames_of r) (frames_in queues) (of_queue queues k q e at there)
 
 -- ---- the first
@@ -181,8 +180,7 @@ has_room queues k (Some q) is room = slice_get_within queues k q is
 -- where the first is not reached, none is
 pub none_reached : (items : List Waits) (device : DeviceId) (reading : ℕ) (w : Waits) → IsFirstAt items device.0 w → (IsReached device reading w → ⊥)
     → (v : Waits) → IsIn v items → IsReached device reading v → ⊥
-none_reached items device reading w first not v there at =
-    grind (arith, cases_lt, not, ints)
+none_reached items device reading w first not v there at = grind (arith, cases_lt, not, ints)
 
 -- the first has the least point
 pub least_is : (items : List Waits) (device : ℕ) (w : Waits) → IsFirstAt items device w → IsLeastPoint items device (Some w.point)

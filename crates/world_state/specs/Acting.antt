@@ -3,7 +3,8 @@ use Rattle.std.specs.Prelude.{◌++◌, ◌<◌, ◌∷◌, ◌≡◌, Bool, Lis
 use Rattle.{compression.specs.declared.compressed.Compressed.Compressed, run_law.specs.records.Frames.integration_frame}
 use Rattle.{net_plan.specs.declared.ids.{DeviceId.DeviceId, VlId.VlId}, world_state.specs.declared.hands.AtHand.AtHand}
 use Rattle.{net_plan.specs.declared.network.Network.Network, schedule_tables.specs.declared.entry.Entry.Entry}
-use Rattle.{pcf_values.specs.declared.pcf.Pcf.Pcf, world_law.specs.world.{Outcomes.judged_as, World.none_yet}}
+use Rattle.tte_units.specs.declared.frames.pcf.Pcf.{Pcf}
+use Rattle.world_law.specs.world.{Outcomes.judged_as, World.none_yet}
 use Rattle.{run_law.specs.declared.{judgement.Why.Why, steps.Ripe.Ripe}, tte_units.specs.declared.units.Units.Units}
 use Rattle.run_law.specs.{declared.note.NoteBody.NoteBody, scenario.{Scenarios.Scenario, Ways.{is_cut, way_from}}}
 use Rattle.{run_law.specs.{declared.steps.Act.Act, records.Order.IsIn}, schedule_tables.specs.Entries.IsEntry}
@@ -56,10 +57,8 @@ clique_by device why = record { first = Some (bare (kinds.State device Integrati
 abbrev pub corrected_by : DeviceId → Standing → ℕ → Units → Verdict → Outcomes
 corrected_by device was cycle adjustment (verdicts.Corrected by) =
     record { first = Some (bare (kinds.Corrected device cycle by adjustment)); second = first_by device was }
-corrected_by device was cycle adjustment verdicts.SyncClique =
-    clique_by device whys.SyncClique
-corrected_by device was cycle adjustment verdicts.AsyncClique =
-    clique_by device whys.AsyncClique
+corrected_by device was cycle adjustment verdicts.SyncClique = clique_by device whys.SyncClique
+corrected_by device was cycle adjustment verdicts.AsyncClique = clique_by device whys.AsyncClique
 corrected_by device was cycle adjustment verdicts.Cleared = record { first = None; second = None }
 
 -- the records of what these are

@@ -3,12 +3,12 @@ use Rattle.std.specs.{List.Sorted.IsPermutation, Option.option_map_or}
 use Rattle.std.specs.Prelude.{if◌then◌else◌, ◌&&◌, ◌+◌, ◌<◌, ◌^◌, ◌∷◌, ◌≡◌, ◌≤◌, ◌⊎◌, Bool, List, None, Option, Some}
 use Rattle.std.specs.Prelude.{length, not, option_and_then, option_map, pos, slice_get, true, ℕ}
 use Rattle.{drift_clock.specs.transparent.Points.point_of, net_plan.specs.declared.ids.DeviceId.DeviceId}
-use Rattle.{net_plan.specs.{Rules.IsChildOf, declared.ids.LinkId.LinkId}, pcf_values.specs.declared.pcf.Pcf.Pcf}
+use Rattle.{net_plan.specs.Rules.IsChildOf, run_law.specs.records.Order.IsIn, tte_units.specs.Amount.amount}
+use Rattle.{net_plan.specs.declared.ids.LinkId.LinkId, run_law.specs.control.{Leaving.Gives, Permanence.waits_for}}
 use Rattle.{net_plan.specs.declared.network.Network.Network, run_law.specs.control.Wires.{time_on_port, timed}}
-use Rattle.{run_law.specs.control.{Leaving.Gives, Permanence.waits_for}, world_state.specs.declared.giving.Ends.Ends}
 use Rattle.{run_law.specs.declared.note.NoteBody.NoteBody, world_state.specs.declared.queue.Entry.Entry}
-use Rattle.{run_law.specs.records.Order.IsIn, tte_units.specs.Amount.amount, world_state.specs.Views.octets_of}
 use Rattle.run_law.specs.scenario.{Devices.{IsParentOf, is_parent_of}, Ways.{receiver_of, way_from}}
+use Rattle.{tte_units.specs.declared.frames.pcf.Pcf.Pcf, world_state.specs.{Views.octets_of, declared.giving.Ends.Ends}}
 use Rattle.world_state.specs.declared.contents.{Content.{Content, TheVariants.{Port, Wire}}, WayState.WayState}
 use Rattle.world_state.specs.declared.{contents.{Timed.Timed, Waits.Waits}, giving.Giving.Giving, queue.DueAt.DueAt}
 use Rattle.world_state.specs.declared.contents.Signal.TheVariants as signals

@@ -1,7 +1,7 @@
 -- What a device hears, and the record of what becomes of it.
 use Rattle.std.specs.Prelude.{◌≡◌, ◌≤◌, List, None, Option, Some, length, ℕ}
 use Rattle.net_plan.specs.declared.{ids.{DeviceId.DeviceId, LinkId.LinkId}, network.Network.Network}
-use Rattle.pcf_values.specs.declared.pcf.Pcf.{Pcf}
+use Rattle.tte_units.specs.declared.frames.pcf.Pcf.{Pcf}
 use Rattle.run_law.specs.{control.Wires.{Signal, signal_of, timed}, declared.steps.{Arrival.Arrival, Moment.Moment}}
 use Rattle.run_law.specs.machines.{Calls.{HasLink, MayArrive, MayCall}, Nodes.{Node, arriving}}
 use Rattle.world_law.specs.world.Outcomes.{arrival_body}

@@ -1,10 +1,10 @@
 -- What becomes of a frame at a port that leaves.
 use Rattle.std.specs.Prelude.{if◌then◌else◌, ◌+◌, ◌-◌, Bool, None, Option, Some, nat_lt, ℕ}
 use Rattle.{net_plan.specs.declared.network.Network.Network, world_law.specs.world.Outcomes.departure_body}
-use Rattle.{pcf_values.specs.declared.pcf.Pcf.Pcf, tte_units.specs.Amount.amount, world_law.specs.world.World.AtPort}
 use Rattle.run_law.specs.{control.Leaving.{Departure, leaves, on_cut_way, too_old}, scenario.Ways.{is_cut, way_from}}
 use Rattle.{run_law.specs.records.Happenings.with_clock, world_state.specs.declared.queue.DueAt.DueAt}
 use Rattle.{run_law.specs.scenario.Scenarios.{Scenario, is_broken}, world_state.specs.declared.contents.Settled.Settled}
+use Rattle.{tte_units.specs.{Amount.amount, declared.frames.pcf.Pcf.Pcf}, world_law.specs.world.World.AtPort}
 
 -- what is at the port
 abbrev pub port_entry : DueAt → Pcf → ℕ → AtPort

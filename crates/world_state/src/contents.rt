@@ -1,8 +1,8 @@
 use crate::packets::{Happened, Packet};
 use net_plan::{DeviceId, LinkId, VlId};
-use pcf_values::Pcf;
 use run_law::plain::PlainBody;
 use tte_units::Units;
+use tte_units::frames::Pcf;
 
 /// How a way of a link is at present. Times are in units of 2^-16 ns.
 #[derive(Clone, Copy)]

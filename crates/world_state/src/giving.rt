@@ -13,8 +13,8 @@ use crate::queue::{DueAt, UnderWay};
 use crate::shelves::Shelves;
 use crate::waiting::{awaited, wait_for};
 use net_plan::{DeviceId, LinkId, Network, Role};
-use pcf_values::Pcf;
 use run_law::plain::{PlainBody, PlainKind, Rank};
+use tte_units::frames::Pcf;
 
 /// Does the link lead from the device up to its parent?
 fn is_child(network: &Network, device: DeviceId, link: LinkId) -> bool

@@ -13,9 +13,9 @@ use crate::queue::{DueAt, UnderWay};
 use device_rules::frames::MadeFrame;
 use net_plan::{DeviceId, LinkId, Network};
 use pcf_codec::{PCF_LENGTH, encode};
-use pcf_values::Pcf;
 use run_law::plain::{PlainBody, PlainKind};
 use run_law::{Arrival, Machine, Moment};
+use tte_units::frames::Pcf;
 
 /// Takes out what is on a wire and the first of all that is under way.
 #[inline(always)]

@@ -6,9 +6,9 @@ ghost use Rattle.world_state.specs.{Leaving.{departed, port_entry}, Sound.{AreUn
 use crate::contents::{Content, Settled};
 use crate::queue::{DueAt, UnderWay};
 use net_plan::{DeviceId, LinkId, Network};
-use pcf_values::Pcf;
 use run_law::Reason;
 use run_law::plain::{PlainBody, PlainKind};
+use tte_units::frames::Pcf;
 
 /// Takes the frame out that is at a port, and the first of all that is under way; and what its device's clock read
 /// when it gave the frame to the link.

@@ -10,12 +10,12 @@ use crate::settled::put_some;
 use compression::Compressed;
 use device_rules::frames::integration_frame;
 use net_plan::{DeviceId, Network};
-use pcf_values::Pcf;
 use run_law::plain::{PlainBody, PlainKind};
 use run_law::{Judgement, Ripe, Why};
 use std::collections::VecDeque;
 use sync_state::{State, Verdict};
 use tte_units::Units;
+use tte_units::frames::Pcf;
 
 /// The records of an act, in their order: at most two.
 #[derive(Drop)]

@@ -9,12 +9,12 @@ use crate::contents::{Settled, Waits};
 use crate::kept::Kept;
 use crate::settled::{put_in, put_some};
 use net_plan::{DeviceId, LinkId};
-use pcf_values::Pcf;
 use run_law::plain::{PlainBody, PlainKind};
 use run_law::{Judgement, Machine, Moment, Reason, Ripe, Why};
 use std::collections::VecDeque;
 use sync_state::State as DeviceState;
 use tte_units::Units;
+use tte_units::frames::Pcf;
 
 impl<M: Machine + Drop> Kept<M> {
     /// What becomes of a frame that is permanent. A broken device has none.

@@ -6,8 +6,8 @@ use crate::contents::{Content, Signal, Timed, WayState};
 use crate::leaving::is_parent;
 use crate::queue::{DueAt, Entry, UnderWay};
 use net_plan::{DeviceId, LinkId, Network};
-use pcf_values::Pcf;
 use run_law::plain::{PlainBody, PlainKind, Rank};
+use tte_units::frames::Pcf;
 use tte_units::octets;
 
 /// How many octets a frame of the schedule has.

@@ -9,9 +9,9 @@ use crate::giving::is_a_relay;
 use crate::leaving::is_parent;
 use drift_clock::transparent::permanence;
 use net_plan::{DeviceId, LinkId, Network};
-use pcf_values::Pcf;
 use run_law::plain::{PlainBody, PlainKind};
 use tte_units::Units;
+use tte_units::frames::Pcf;
 
 /// Does the device wait for the permanence of what comes by the link?
 fn does_wait(network: &Network, device: DeviceId, link: LinkId) -> bool

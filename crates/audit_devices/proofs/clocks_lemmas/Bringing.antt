@@ -34,8 +34,7 @@ turns_on_by device body e = absurd (no_join (is_joined_by device body) bringers.
 
 corrects_by : (device : DeviceId) (body : NoteBody) → bringer_as device body ≡ bringers.Corrects
     → (cycle : ℕ) × (by : Units) × (adjustment : Units) × (body ≡ notes.Corrected device cycle by adjustment)
-corrects_by device (notes.Event line (On other)) e =
-    absurd (one_or_none (device.0 == other.0) bringers.TurnsOn bringers.Corrects (λ x. cc) (λ x. cc) e)
+corrects_by device (notes.Event line (On other)) e = absurd (one_or_none (device.0 == other.0) bringers.TurnsOn bringers.Corrects (λ x. cc) (λ x. cc) e)
 corrects_by device (notes.Corrected other cycle by adjustment) e =
     let same = is_one (device.0 == other.0) bringers.Corrects (λ x. cc) e in
     (cycle, by, adjustment, ap (λ (d : DeviceId). notes.Corrected d cycle by adjustment) (sym (same_device device other (same_nat device.0 other.0 same))))

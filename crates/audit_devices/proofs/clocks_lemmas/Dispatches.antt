@@ -20,8 +20,7 @@ state_in s hs device after until shown t in_stretch lt le =
 
 pub crossing_sends : (s : Scenario) (hs : List Happening) (device : DeviceId) (after until : ℕ) (shown : Shown) (series : Series) (t n : ℕ)
     → has_role s.network is_master device ≡ true → shown.state ≡ Synchronised → IsSteady s device → AreBeginnings s series
-    → IsStretch s hs device after until shown → after < t → t ≤ until → CrossesAt (s.reading device) shown (value_in series n) t
-    → Sends s hs device t (n + 1)
+    → IsStretch s hs device after until shown → after < t → t ≤ until → CrossesAt (s.reading device) shown (value_in series n) t → Sends s hs device t (n + 1)
 crossing_sends s hs device after until shown series t n master state steady are in_stretch lt le crosses = record {
   master = master;
   up = record { synchronised = state_in s hs device after until shown t in_stretch lt le ∙ state; correct = in_stretch.correct t lt le };

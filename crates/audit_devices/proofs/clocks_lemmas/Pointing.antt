@@ -27,8 +27,7 @@ number_is s hs device t c p = number_in (standing_at s hs device t).state (next_
 -- the fields of a standing
 pub same_standing : (a b : Standing) → a.plan ≡ b.plan → a.state ≡ b.state → a.adjustment ≡ b.adjustment → a.number ≡ b.number
     → a.integrated ≡ b.integrated → a ≡ b
-same_standing a b plans states adjustments numbers joined =
-    grind arith
+same_standing a b plans states adjustments numbers joined = grind arith
 
 -- the point comes to this, and to nothing else
 pub point_comes : (s : Scenario) (hs : List Happening) (device : DeviceId) (t c cycle : ℕ) (heard : Summary) (found verdict : Verdict)

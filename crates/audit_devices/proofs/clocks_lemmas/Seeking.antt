@@ -70,11 +70,7 @@ next_crossed reading shown series after until number passed sought time on is be
       timely = timely;
       least = λ t n lt crosses. behind.least n (crossed_behind reading shown after t passed (value_in series n) on is lt crosses);
       near = omega (arith, ints, there, same, most, small);
-      crosses = record {
-        changed = omega (arith, ints, change, more);
-        below = omega (arith, ints, low, same);
-        reached = omega (arith, ints, there, same);
-      };
+      crosses = record { changed = omega (arith, ints, change, more); below = omega (arith, ints, low, same); reached = omega (arith, ints, there, same) };
       none_before = none_while_short reading shown series after time number passed on is behind
           (λ x from_x lt. let short = reach.not_before x (omega (arith, ints, from_x)) (omega (arith, ints, lt)) in omega (arith, ints, short, same));
     }
@@ -83,8 +79,7 @@ next_crossed reading shown series after until number passed sought time on is be
 
 -- the quotient is the number of the last value up to this one
 pub quotient_behind : (series : Series) (passed : ℤ) (d : ℕ) → 1 ≤ series.step → pos d ≡ (passed -ℤ series.first) → IsBehind series passed (d / series.step + 1)
-quotient_behind series passed d some is =
-    grind (arith, div-add-mod', mod_below, ints, div_below)
+quotient_behind series passed d some is = grind (arith, div-add-mod', mod_below, ints, div_below)
 
 pub quotient_near : (series : Series) (passed : ℤ) (d : ℕ) → pos d ≡ (passed -ℤ series.first)
     → value_in series (d / series.step + 1) ≤ℤ (passed +ℤ pos series.step)

@@ -13,8 +13,7 @@ clusters_same network points clusters h g has are =
 
 pub emissions_same : (network : Network) (points : List Point) (clusters : List Cluster) (h : History) (g : Gathering) → HasPoints network points h g
     → AreClusters (observation_window network) points clusters → emissions_in h g ≡ emissions_for network clusters
-emissions_same network points clusters h g has are =
-    grind (arith, map, clusters_same)
+emissions_same network points clusters h g has are = grind (arith, map, clusters_same)
 
 -- ---- the test of what is emitted
 
@@ -31,9 +30,7 @@ abbrev of_numbers : ℤ → ℤ → ℕ → ℕ → Emitted
 of_numbers opened at cycle members = record { opened = opened; at = at; cycle = cycle; members = members }
 
 pub same_emitted : (f a : Emitted) (b : Bool) → b ≡ is_same f a → b ≡ true → f ≡ a
-same_emitted f a b is told =
-    grind (arith, and_parts, int_eq, same_numbers, eqb-true)
+same_emitted f a b is told = grind (arith, and_parts, int_eq, same_numbers, eqb-true)
 
 pub equal_emitted : (f a : Emitted) (b : Bool) → b ≡ is_same f a → f ≡ a → b ≡ true
-equal_emitted f a b is same =
-    grind (arith, and_from, int_eq, number_same, eq-eqb)
+equal_emitted f a b is same = grind (arith, and_from, int_eq, number_same, eq-eqb)

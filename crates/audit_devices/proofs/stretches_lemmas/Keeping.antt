@@ -62,8 +62,7 @@ still_for old new kept None points stands = stands
 still_for old new kept (Some e) points stands = kept e.gathering points stands
 
 pub kept_on : (network : Network) (hs : List Happening) (d : DeviceId) (h : Happening) (old new : Stretches) (g : Gathering)
-    → AllBefore place_of hs (place_of h) → GoesOn hs d h old new g → Keeps network hs d old
-    → Keeps network (hs ++ h ∷ []) d new
+    → AllBefore place_of hs (place_of h) → GoesOn hs d h old new g → Keeps network hs d old → Keeps network (hs ++ h ∷ []) d new
 kept_on network hs d h old new g all goes keeps = record {
   ow = goes.ow ∙ keeps.ow;
   calc = goes.calc ∙ keeps.calc;
@@ -103,11 +102,7 @@ kept_on network hs d h old new g all goes keeps = record {
     by_entry e (inl there) =
         let r = keeps.places e there in
         record { h = r.h; there = in_left r.h hs (h ∷ []) r.there; place = r.place }
-    by_entry e (inr (inl same)) = record {
-      h = h;
-      there = in_right h hs (h ∷ []) (inl refl);
-      place = ap (λ (x : Entry). x.place) same;
-    }
+    by_entry e (inr (inl same)) = record { h = h; there = in_right h hs (h ∷ []) (inl refl); place = ap (λ (x : Entry). x.place) same }
     by_entry e (inr (inr none)) = absurd none
 
     stands_still : (e : Entry) → IsIn e old.entries ⊎ IsIn e (entry_of h g ∷ []) → StandsForSome new.collections e
@@ -124,10 +119,8 @@ kept_on network hs d h old new g all goes keeps = record {
 -- ---- all devices
 
 pub all_still : (network : Network) (hs : List Happening) (h : Happening) (all : List Stretches)
-    → ((d : DeviceId) → d.0 < length all → is_cm network d ≡ true → IsQuiet d h.note.body) → KeepsAll network hs all
-    → KeepsAll network (hs ++ h ∷ []) all
-all_still network hs h all quiet keeps d kept there cm =
-    kept_still network hs d h kept (quiet d (got_within all d.0 kept there) cm) (keeps d kept there cm)
+    → ((d : DeviceId) → d.0 < length all → is_cm network d ≡ true → IsQuiet d h.note.body) → KeepsAll network hs all → KeepsAll network (hs ++ h ∷ []) all
+all_still network hs h all quiet keeps d kept there cm = kept_still network hs d h kept (quiet d (got_within all d.0 kept there) cm) (keeps d kept there cm)
 
 pub all_on : (network : Network) (hs : List Happening) (h : Happening) (d : DeviceId) (new : Stretches) (all : List Stretches)
     → collector_in h.note.body ≡ Some d → d.0 < length all → Keeps network (hs ++ h ∷ []) d new → KeepsAll network hs all
@@ -137,8 +130,7 @@ all_on network hs h d new all of within kept keeps device stretches there cm =
       | inl same ↦
           let mk : ℕ → DeviceId = λ n. record { 0 = n } in
           let one : d ≡ device = ap mk same in
-          let found : Some new ≡ Some stretches =
-          sym (set_same all d.0 new within) ∙ ap (slice_get (slice_set all d.0 new)) same ∙ there in
+          let found : Some new ≡ Some stretches = sym (set_same all d.0 new within) ∙ ap (slice_get (slice_set all d.0 new)) same ∙ there in
           let is : new ≡ stretches = cc in
           subst (λ (x : DeviceId). Keeps network (hs ++ h ∷ []) x stretches) one (subst (Keeps network (hs ++ h ∷ []) d) is kept)
       | inr (inl lt) ↦ other (λ e. absurd (omega (arith, e, lt)))

@@ -90,8 +90,7 @@ front_founded s hs ps qs e founded = λ ls rs x f. founded ls (rs ++ qs) x (e �
 given_before : (s : Scenario) (hs : List Happening) (h x : Happening) (device : DeviceId) (link other_link : LinkId) (cause other_cause : ℕ)
     (point other : Units)
     (verdict other_verdict : Judgement) → IsInRange s.network → NeverFall s → IsFounded place_of (IsDue s) hs → AllBefore place_of hs (place_of h)
-    → IsDue s hs h
-    → h.note.body ≡ notes.Permanent device link cause point verdict → IsIn x hs
+    → IsDue s hs h → h.note.body ≡ notes.Permanent device link cause point verdict → IsIn x hs
     → x.note.body ≡ notes.Permanent device other_link other_cause other other_verdict → other.0 ≤ℤ point.0
 given_before s hs h x device link other_link cause other_cause point other verdict other_verdict range rises founded all due is there was =
     let split = parted x hs there in

@@ -80,21 +80,18 @@ no_end d h e y (inr i) = absurd i
 
 went_on : (hs : List Happening) (h : Happening) (d : DeviceId) → ends_stretch d h.note.body ≡ false
     → points_of (hs ++ h ∷ []) d ≡ points_of hs d ++ cons_option (point_by d h h.note.body) []
-went_on hs h d on =
-    grind (arith, after_more, no_end, one_more)
+went_on hs h d on = grind (arith, after_more, no_end, one_more)
 
 append_none : (ps : List Point) → ps ++ [] ≡ ps
 append_none [] = refl
 append_none (p ∷ ps) = ap (λ (t : List Point). p ∷ t) (append_none ps)
 
 pub points_quiet : (hs : List Happening) (h : Happening) (d : DeviceId) → IsQuiet d h.note.body → points_of (hs ++ h ∷ []) d ≡ points_of hs d
-points_quiet hs h d quiet =
-    grind (arith, went_on, quiet_goes_on, quiet_point, append_none)
+points_quiet hs h d quiet = grind (arith, went_on, quiet_goes_on, quiet_point, append_none)
 
 pub points_ended : (hs : List Happening) (h : Happening) (d : DeviceId) → change_by h.note.body ≡ Some Ends → collector_in h.note.body ≡ Some d
     → points_of (hs ++ h ∷ []) d ≡ []
-points_ended hs h d change of =
-    grind (arith, after_one, ended)
+points_ended hs h d change of = grind (arith, after_one, ended)
 
 pub points_given : (hs : List Happening) (h : Happening) (d : DeviceId) (p : Units) → change_by h.note.body ≡ Some (Gives p)
     → collector_in h.note.body ≡ Some d → points_of (hs ++ h ∷ []) d ≡ points_of hs d ++ point_at p.0 (master_of (members_in h)) (cycle_in h) ∷ []

@@ -13,10 +13,10 @@ use crate::stretches::Stretch;
 use compression::Compressed;
 use device_rules::{heard_as, is_cm, point_fault};
 use net_plan::{DeviceId, Network};
-use pcf_values::{Members, Pcf};
 use run_law::{Judgement, Ripe};
 use sync_state::State;
 use tte_units::Units;
+use tte_units::frames::{Members, Pcf};
 
 /// Where a device stands as it hears a frame.
 ///

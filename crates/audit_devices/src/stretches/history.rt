@@ -13,11 +13,11 @@ use crate::stretches::change::{change_by, collector_in};
 use crate::stretches::kept::Kept;
 use device_rules::is_cm;
 use net_plan::{DeviceId, LinkId, Network};
-use pcf_values::Pcf;
 use run_law::NoteBody;
 use run_law::plain::Place;
 use std::alloc::{AllocError, Global};
 use tte_units::Units;
+use tte_units::frames::Pcf;
 
 /// The stretches of all compression masters of a network.
 #[derive(Drop)]

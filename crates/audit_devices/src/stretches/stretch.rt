@@ -6,8 +6,8 @@ ghost use Rattle.audit_devices.specs.stretches.Points.{HasPoints, IsSentFor, emi
 
 use audit_law::collections::{CollectionHistory, Emitted, Gathering};
 use compression::{Compressed, Taken};
-use pcf_values::Members;
 use tte_units::Units;
+use tte_units::frames::Members;
 
 /// The stretch of a compression master at a place of the order.
 #[derive(Clone, Copy)]

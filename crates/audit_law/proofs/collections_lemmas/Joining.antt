@@ -31,8 +31,7 @@ take-all (suc n) (x ∷ xs) le = ap (λ (ys : List _). x ∷ ys) (take-all n xs 
 -- the points up to the last, with one more
 points-joined : (counted : List ℤ) (from count : ℕ) (reading : ℤ) → from + count ≡ length counted
     → take (count + 1) (drop from (counted ++ reading ∷ [])) ≡ take count (drop from counted) ++ reading ∷ []
-points-joined counted from count reading ends =
-    grind (arith, drop, length, length-drop, take, drop-append-le, take-all, length-append)
+points-joined counted from count reading ends = grind (arith, drop, length, length-drop, take, drop-append-le, take-all, length-append)
 
 abbrev cluster_with : ℤ → ℤ → ℕ → List ℤ → ℕ → Cluster
 cluster_with opened end cycle points members = record { opened = opened; end = end; cycle = cycle; points = points; members = members }
@@ -43,14 +42,11 @@ kept_with opened end cycle members from count = record { opened = opened; end = 
 -- the cluster that a point joined
 pub joined-by : (counted more : List ℤ) (k : KeptCluster) (ow reading : ℤ) (master : ℕ) (opened end : ℤ) (members count : ℕ) → more ≡ counted ++ reading ∷ []
     → k.from + k.count ≡ length counted → opened ≡ k.opened → end ≡ joined_end ow (cluster_kept counted k) reading → members ≡ bit_or k.members (2 ^ master)
-    → count ≡ k.count + 1
-    → cluster_kept more (kept_with opened end k.cycle members k.from count) ≡ joined ow (cluster_kept counted k) reading master
-joined-by counted more k ow reading master opened end members count push ends start end_is members_is count_is =
-    grind (arith, take, drop, points-joined)
+    → count ≡ k.count + 1 → cluster_kept more (kept_with opened end k.cycle members k.from count) ≡ joined ow (cluster_kept counted k) reading master
+joined-by counted more k ow reading master opened end members count push ends start end_is members_is count_is = grind (arith, take, drop, points-joined)
 
 -- the cluster that a point opened
 pub opened-by : (counted more : List ℤ) (ow reading : ℤ) (master cycle : ℕ) (opened end : ℤ) (members from : ℕ) → more ≡ counted ++ reading ∷ []
     → from ≡ length counted → opened ≡ reading → end ≡ reading +ℤ ow → members ≡ 2 ^ master
     → cluster_kept more (kept_with opened end cycle members from 1) ≡ opening ow (point_at reading master cycle)
-opened-by counted more ow reading master cycle opened end members from push ends start end_is members_is =
-    grind (arith, take, drop, length, drop-front)
+opened-by counted more ow reading master cycle opened end members from push ends start end_is members_is = grind (arith, take, drop, length, drop-front)

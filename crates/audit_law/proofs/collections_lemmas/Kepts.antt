@@ -29,8 +29,7 @@ role-beyond counted front last p past =
 
 -- so many points it has
 pub length-points : (counted : List ℤ) (k : KeptCluster) → IsCounted counted k → length (points_kept counted k) ≡ k.count
-length-points counted k is =
-    length-take-le k.count (drop k.from counted) (rw (length-drop k.from counted) (omega (arith, is.within)))
+length-points counted k is = length-take-le k.count (drop k.from counted) (rw (length-drop k.from counted) (omega (arith, is.within)))
 
 -- a point of it by its place in the history
 pub get_or-points : (counted : List ℤ) (k : KeptCluster) (i : ℕ) → i < k.count → get_or (points_kept counted k) i (pos 0) ≡ get_or counted (k.from + i) (pos 0)
@@ -47,8 +46,7 @@ length-last counted k is = length-points counted k is ∙ omega (arith, is.some)
 -- what is emitted, by its parts
 pub emitted-is : (ow calc : ℤ) (c : Cluster) (opened at : ℤ) → opened ≡ c.opened → at ≡ emission ow calc c
     → emitted_by opened at c.cycle c.members ≡ emitted ow calc c
-emitted-is ow calc c opened at start is =
-    ap (λ (o : ℤ). emitted_by o at c.cycle c.members) start ∙ ap (λ (a : ℤ). emitted_by c.opened a c.cycle c.members) is
+emitted-is ow calc c opened at start is = ap (λ (o : ℤ). emitted_by o at c.cycle c.members) start ∙ ap (λ (a : ℤ). emitted_by c.opened a c.cycle c.members) is
 
 -- the emission at a place
 pub emission-at : (h : History) (ks : List KeptCluster) (place : ℕ) (k : KeptCluster) → slice_get ks place ≡ Some k

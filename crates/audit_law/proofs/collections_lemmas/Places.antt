@@ -27,8 +27,7 @@ gathered-rising h g row some is e =
 pub none-opened : (h : History) (ks : List KeptCluster) (opened : ℤ) (result : Option Emitted)
     → ((i : ℕ) (k : KeptCluster) → slice_get ks i ≡ Some k → k.opened ≡ opened → ⊥)
     → All (λ e. e.opened ≡ opened → result ≡ Some e) (map (emitted h.ow h.calc) (map (cluster_kept h.counted) ks))
-none-opened h ks opened result none =
-    all-emissions h (λ e. e.opened ≡ opened → result ≡ Some e) ks (λ i k at same. absurd (none i k at same))
+none-opened h ks opened result none = all-emissions h (λ e. e.opened ≡ opened → result ≡ Some e) ks (λ i k at same. absurd (none i k at same))
 
 -- where the place is behind all
 pub none-behind : (ks : List KeptCluster) (opened : ℤ) (place : ℕ) → IsPlaceFor ks opened place → length ks ≤ place → (i : ℕ) (k : KeptCluster)
@@ -55,8 +54,7 @@ none-beside ks opened place d up is there other i k at same =
 
 -- where it does open there, it is the only one
 pub only-there : (h : History) (ks : List KeptCluster) (opened : ℤ) (place : ℕ) (d : KeptCluster) → IsRising ks → IsPlaceFor ks opened place
-    → slice_get ks place ≡ Some d → d.opened ≡ opened
-    → All (λ e. e.opened ≡ opened → Some (emitted h.ow h.calc (cluster_kept h.counted d)) ≡ Some e)
+    → slice_get ks place ≡ Some d → d.opened ≡ opened → All (λ e. e.opened ≡ opened → Some (emitted h.ow h.calc (cluster_kept h.counted d)) ≡ Some e)
     (map (emitted h.ow h.calc) (map (cluster_kept h.counted) ks))
 only-there h ks opened place d up is there opens =
     all-emissions h (λ e. e.opened ≡ opened → Some (emitted h.ow h.calc (cluster_kept h.counted d)) ≡ Some e) ks each

@@ -31,8 +31,7 @@ sends-from h g sent e there same =
 
 -- and what is sent is found where it opened
 pub sends-found : (h : History) (g : Gathering) (sent : Compressed) (result : Option Emitted)
-    → All (λ e. e.opened ≡ sent.opened.0 → result ≡ Some e) (emissions_in h g)
-    → Sends h g sent → result ≡ Some (as_emitted sent)
+    → All (λ e. e.opened ≡ sent.opened.0 → result ≡ Some e) (emissions_in h g) → Sends h g sent → result ≡ Some (as_emitted sent)
 sends-found h g sent result all (c, there, is) =
     let same : emitted h.ow h.calc c ≡ as_emitted sent = ap as_emitted (sym is) in
     let at = map_in (emitted h.ow h.calc) (clusters_in h g) c there in

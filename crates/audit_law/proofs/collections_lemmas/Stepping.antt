@@ -52,8 +52,7 @@ are-opened ow ps cs p some are past is =
     AreClusters-opened ow ps cs p some are (ended ow ps cs p.reading some are past (role_in-opened (open_at cs p.reading) p (sym is)))
 
 within : (ow : ℤ) (ps : List Point) (front : List Cluster) (c d : Cluster) (p : Point) → pos 0 ≤ℤ ow → AreClusters ow ps (front ++ c ∷ [])
-    → AreBefore ps p.reading
-    → p.reading ≤ℤ c.end → c.end ≤ℤ d.end → Takes ow c d p → AreClusters ow (ps ++ p ∷ []) (front ++ d ∷ [])
+    → AreBefore ps p.reading → p.reading ≤ℤ c.end → c.end ≤ℤ d.end → Takes ow c d p → AreClusters ow (ps ++ p ∷ []) (front ++ d ∷ [])
 within ow ps front c d p some are past here longer takes =
     let front_is = before ow ps front c p.reading some are past in
     AreClusters-within ow ps front c d p some are front_is.0 front_is.1 here longer takes
@@ -62,8 +61,7 @@ true_is_false : true ≡ false → ⊥
 true_is_false e = cc
 
 longer-joined : (ow : ℤ) (c : Cluster) (reading : ℤ) → c.end ≤ℤ (c.opened +ℤ (pos 2 *ℤ ow)) → c.end ≤ℤ joined_end ow c reading
-longer-joined ow c reading most =
-    grind (arith, cases_Bool, ints)
+longer-joined ow c reading most = grind (arith, cases_Bool, ints)
 
 pub are-joined : (ow : ℤ) (ps : List Point) (front : List Cluster) (c : Cluster) (p : Point) → pos 0 ≤ℤ ow → AreClusters ow ps (front ++ c ∷ [])
     → AreBefore ps p.reading → Joined ≡ role (front ++ c ∷ []) p → AreClusters ow (ps ++ p ∷ []) (front ++ joined ow c p.reading p.master ∷ [])
@@ -101,8 +99,7 @@ all-front P (y ∷ ys) x all = (all.0, all-front P ys x all.1)
 
 map-grown : (old new : History) (ks : List KeptCluster) → Grows old new → AllByRecursion (IsCounted old.counted) ks
     → map (cluster_kept new.counted) ks ≡ map (cluster_kept old.counted) ks
-map-grown old new ks grows all =
-    ap (λ (xs : List ℤ). map (cluster_kept xs) ks) grows.counted ∙ clusters-same old.counted grows.later_points ks all
+map-grown old new ks grows all = ap (λ (xs : List ℤ). map (cluster_kept xs) ks) grows.counted ∙ clusters-same old.counted grows.later_points ks all
 
 held-by : (h : History) (g : Gathering) (row : Row) → g.row ≡ Some row → EndsWith h row → IsHeld h g
 held-by h g row is ends = subst (λ (r : Option Row). IfSome r (HasRow h)) (sym is) (has-ends h row ends)

@@ -139,8 +139,7 @@ pub same_way : (network : Network) (all : List Event) (link : LinkId) (way : Way
     → AreWaysTold network all ways → place ≡ way_place link way → slice_get ways place ≡ Some told
     → new.delay.initial ≡ told.delay.initial → new.delay.changes.items ≡ told.delay.changes.items
     → new.hold.initial ≡ told.hold.initial → new.hold.changes.items ≡ told.hold.changes.items
-    → new.cut.initial ≡ told.cut.initial → new.cut.changes.items ≡ told.cut.changes.items
-    → AreWaysTold network all (slice_set ways place new)
+    → new.cut.initial ≡ told.cut.initial → new.cut.changes.items ≡ told.cut.changes.items → AreWaysTold network all (slice_set ways place new)
 same_way network all link way place ways told new are here at a b c d e f =
     let h = are link way told (subst (λ p. slice_get ways p ≡ Some told) here at) in
     subst (λ p. AreWaysTold network all (slice_set ways p new)) (sym here)
@@ -157,8 +156,7 @@ same_way network all link way place ways told new are here at a b c d e f =
 pub rate_set : (network : Network) (all : List Event) (event : Event) (device : DeviceId) (rate : Ppb)
     (devices : List DeviceHistory) (told : DeviceHistory) (new : Settings Segment) → AreDevicesTold network all devices
     → slice_get devices device.0 ≡ Some told → event.what ≡ events.Rate device rate
-    → All (λ c. c.from ≤ amount event.time) told.clock.changes.items → new.initial ≡ told.clock.initial
-    → new.changes.items ≡ told.clock.changes.items
+    → All (λ c. c.from ≤ amount event.time) told.clock.changes.items → new.initial ≡ told.clock.initial → new.changes.items ≡ told.clock.changes.items
     ++ change_to (amount event.time) (stepped_segment (value_at told.clock.initial told.clock.changes.items (amount event.time)) (amount event.time) rate.0)
     ∷ [] → AreDevicesTold network (all ++ event ∷ []) (slice_set devices device.0 (record { clock = new; broken = told.broken; turned_on = told.turned_on }))
 rate_set network all event device rate devices told new are at what past first more =
@@ -203,8 +201,7 @@ same_device network all device devices told new are at first same =
 
 pub break_set : (network : Network) (all : List Event) (event : Event) (device : DeviceId) (time : ℕ) (devices : List DeviceHistory)
     (told : DeviceHistory) → AreDevicesTold network all devices → slice_get devices device.0 ≡ Some told
-    → event.what ≡ events.Break device → amount event.time ≡ time → IsWithinHypothesis network all event
-    → AreDevicesTold network (all ++ event ∷ [])
+    → event.what ≡ events.Break device → amount event.time ≡ time → IsWithinHypothesis network all event → AreDevicesTold network (all ++ event ∷ [])
     (slice_set devices device.0 (record { clock = told.clock; broken = Some time; turned_on = told.turned_on }))
 break_set network all event device time devices told are at what when within =
     let h = are device told at in
@@ -221,8 +218,7 @@ break_set network all event device time devices told are at what when within =
 
 pub turn_set : (network : Network) (all : List Event) (event : Event) (device : DeviceId) (time : ℕ) (devices : List DeviceHistory)
     (told : DeviceHistory) → AreDevicesTold network all devices → slice_get devices device.0 ≡ Some told
-    → event.what ≡ events.On device → amount event.time ≡ time → IsWithinHypothesis network all event
-    → AreDevicesTold network (all ++ event ∷ [])
+    → event.what ≡ events.On device → amount event.time ≡ time → IsWithinHypothesis network all event → AreDevicesTold network (all ++ event ∷ [])
     (slice_set devices device.0 (record { clock = told.clock; broken = told.broken; turned_on = Some time }))
 turn_set network all event device time devices told are at what when within =
     let h = are device told at in
@@ -243,8 +239,7 @@ pub nothing_set : (network : Network) (all : List Event) (event : Event) (what :
     → MayBefall network all event → pos 0 ≤ℤ event.time.0 → event.what ≡ what
     → ((l : LinkId) (w : Way) → wire_set l w what ≡ None) → ((l : LinkId) (w : Way) → hold_set l w what ≡ None)
     → ((l : LinkId) (w : Way) → cut_set l w what ≡ None) → ((d : DeviceId) → step_by d (amount event.time) what ≡ None)
-    → ((d : DeviceId) → breaks_at d.0 what ≡ false) → ((d : DeviceId) → turns_on d what ≡ false)
-    → Remembers network (all ++ event ∷ []) history
+    → ((d : DeviceId) → breaks_at d.0 what ≡ false) → ((d : DeviceId) → turns_on d what ≡ false) → Remembers network (all ++ event ∷ []) history
 nothing_set network all event what history h may begun is wires holds cuts steps breaks turns =
     remembers_more network all event history history h may begun refl
     (no_ways network all event what history.ways.items is wires holds cuts h.ways) refl

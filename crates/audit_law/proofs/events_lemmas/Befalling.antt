@@ -25,8 +25,7 @@ soon network before event range within begun = elim (cases_lt (2 ^ 60) (amount e
 -- events in the order of time, from a time on and up to 2^60, each of which sets no fast rate
 abbrev pub AreEventsFrom : ℕ → ℕ → List Event → Type 0
 AreEventsFrom rho least [] = Unit {0}
-AreEventsFrom rho least (e ∷ es) =
-    (least ≤ amount e.time) × (amount e.time ≤ 2 ^ 60) × IsSlow rho e.what × AreEventsFrom rho (amount e.time) es
+AreEventsFrom rho least (e ∷ es) = (least ≤ amount e.time) × (amount e.time ≤ 2 ^ 60) × IsSlow rho e.what × AreEventsFrom rho (amount e.time) es
 
 begun_in : (front : List Event) (e : Event) (rest : List Event) → HaveBegun (front ++ e ∷ rest) → pos 0 ≤ℤ e.time.0
 begun_in [] e rest begun = begun 0 e (omega arith)
@@ -85,5 +84,4 @@ one_more rho bound time (Some step) steps le here h = (omega (arith, le, here.at
 pub steps_up_to : (rho least : ℕ) (all : List Event) (event : Event) (device : DeviceId) → AreEventsFrom rho least (all ++ event ∷ [])
     → StepsUpTo (amount event.time) (rate_steps all device)
 steps_up_to rho least [] event device h = tt
-steps_up_to rho least (e ∷ es) event device h =
-    grind (arith, one_more, last_later, step_is, (steps_up_to rho (amount e.time) es event device h.3))
+steps_up_to rho least (e ∷ es) event device h = grind (arith, one_more, last_later, step_is, (steps_up_to rho (amount e.time) es event device h.3))

@@ -12,8 +12,7 @@ use Rattle.tte_units.specs.Amount.{amount}
 
 -- the ways of one link more
 pub two_more : (links : List Link) (ways : List WayHistory) (link : Link) (up down : WayHistory) → AreWaysOf links ways
-    → IsUntouchedWay (amount link.wire) up → IsUntouchedWay (amount link.wire) down
-    → AreWaysOf (links ++ link ∷ []) ((ways ++ up ∷ []) ++ down ∷ [])
+    → IsUntouchedWay (amount link.wire) up → IsUntouchedWay (amount link.wire) down → AreWaysOf (links ++ link ∷ []) ((ways ++ up ∷ []) ++ down ∷ [])
 two_more [] [] link up down h a b = (a, b, tt)
 two_more [] (w ∷ ways) link up down h a b = absurd h
 two_more (l ∷ links) [] link up down h a b = absurd h
@@ -66,12 +65,10 @@ untouched_device network device told h = grind arith
 
 pub all_untouched : (network : Network) (devices : List DeviceHistory) → All (IsUntouchedDevice (amount network.grain)) devices
     → (device : DeviceId) (told : DeviceHistory) → slice_get devices device.0 ≡ Some told → TellsDevice network [] device told
-all_untouched network devices all device told at =
-    grind (arith, untouched_device, get_or_from_slice_get, slice_get_within)
+all_untouched network devices all device told at = grind (arith, untouched_device, get_or_from_slice_get, slice_get_within)
 
 pub remembers_none : (network : Network) (history : EventHistory) → IsInRange network → AreWaysOf network.link history.ways.items
-    → length history.devices.items ≡ length network.device → All (IsUntouchedDevice (amount network.grain)) history.devices.items
-    → Remembers network [] history
+    → length history.devices.items ≡ length network.device → All (IsUntouchedDevice (amount network.grain)) history.devices.items → Remembers network [] history
 remembers_none network history range ways count devices = record {
   range = range;
   within = λ before behind event same. absurd (none_before before behind event same);

@@ -26,8 +26,7 @@ clocks_sorted : (rho least : ℕ) (clock : Segment) (steps : List RateStep) → 
     → IsNonDecreasingBy (λ c. c.from) (clocks_after clock steps)
 clocks_sorted rho least clock [] h i j d le lt = absurd (omega (arith, lt))
 clocks_sorted rho least clock (s ∷ steps) h zero zero d le lt = omega arith
-clocks_sorted rho least clock (s ∷ steps) h zero (suc j) d le lt =
-    clocks_from rho s.at (stepped_segment clock s.at s.rate) steps h.3 j d (omega (arith, lt))
+clocks_sorted rho least clock (s ∷ steps) h zero (suc j) d le lt = clocks_from rho s.at (stepped_segment clock s.at s.rate) steps h.3 j d (omega (arith, lt))
 clocks_sorted rho least clock (s ∷ steps) h (suc i) zero d le lt = absurd (omega (arith, le))
 clocks_sorted rho least clock (s ∷ steps) h (suc i) (suc j) d le lt =
     clocks_sorted rho s.at (stepped_segment clock s.at s.rate) steps h.3 i j d (omega (arith, le)) (omega (arith, lt))
@@ -35,8 +34,7 @@ clocks_sorted rho least clock (s ∷ steps) h (suc i) (suc j) d le lt =
 clocks_readable : (rho least : ℕ) (clock : Segment) (steps : List RateStep) → StepsFrom rho least steps → All IsReadable (clocks_after clock steps)
 clocks_readable rho least clock [] h k d lt = absurd (omega (arith, lt))
 clocks_readable rho least clock (s ∷ steps) h zero d lt = record { stepped = omega arith; limit = h.1 }
-clocks_readable rho least clock (s ∷ steps) h (suc k) d lt =
-    clocks_readable rho s.at (stepped_segment clock s.at s.rate) steps h.3 k d (omega (arith, lt))
+clocks_readable rho least clock (s ∷ steps) h (suc k) d lt = clocks_readable rho s.at (stepped_segment clock s.at s.rate) steps h.3 k d (omega (arith, lt))
 
 pub are_clocks : (rho least : ℕ) (clock : Segment) (steps : List RateStep) → clock.at ≡ 0 → StepsFrom rho least steps
     → AreClocks clock (clocks_after clock steps)

@@ -88,8 +88,7 @@ way_stays network all event link way told no_wire no_hold no_cut h = record {
 -- ---- the devices
 
 abbrev pub AreDevicesTold : Network → List Event → List DeviceHistory → Type 0
-AreDevicesTold network all devices =
-    (device : DeviceId) (told : DeviceHistory) → slice_get devices device.0 ≡ Some told → TellsDevice network all device told
+AreDevicesTold network all devices = (device : DeviceId) (told : DeviceHistory) → slice_get devices device.0 ≡ Some told → TellsDevice network all device told
 
 pub devices_set : (network : Network) (before behind : List Event) (device : DeviceId) (devices : List DeviceHistory) (new : DeviceHistory)
     → AreDevicesTold network before devices → TellsDevice network behind device new
@@ -125,8 +124,7 @@ none_of a b miss = ap (λ x. a || x) miss ∙ or_none a
 broken_more : (network : Network) (all : List Event) (event : Event) (device : DeviceId) (t : ℕ)
     → is_broken (scenario_under network (all ++ event ∷ [])) device t
     ≡ (is_broken (scenario_under network all) device t || (nat_le (amount event.time) t && breaks_at device.0 event.what))
-broken_more network all event device t =
-    grind (arith, nat_le, filter-append, list_any-append, or_none)
+broken_more network all event device t = grind (arith, nat_le, filter-append, list_any-append, or_none)
 
 -- whether one more event turns the device on then
 turned_more : (network : Network) (all : List Event) (event : Event) (device : DeviceId) (t : ℕ)
@@ -138,8 +136,7 @@ turned_more network all event device t =
 
 pub clock_stays : (all : List Event) (event : Event) (device : DeviceId) (clock : Segment) → step_by device (amount event.time) event.what ≡ None
     → clocks_after clock (rate_steps all device) ≡ clocks_after clock (rate_steps (all ++ event ∷ []) device)
-clock_stays all event device clock none =
-    ap (clocks_after clock) (append_none (rate_steps all device) ∙ sym (steps_more all event device None none))
+clock_stays all event device clock none = ap (clocks_after clock) (append_none (rate_steps all device) ∙ sym (steps_more all event device None none))
 
 pub broken_stays : (network : Network) (all : List Event) (event : Event) (device : DeviceId) (t : ℕ) → breaks_at device.0 event.what ≡ false
     → is_broken (scenario_under network (all ++ event ∷ [])) device t ≡ is_broken (scenario_under network all) device t
@@ -148,8 +145,7 @@ broken_stays network all event device t none =
 
 pub turned_stays : (network : Network) (all : List Event) (event : Event) (device : DeviceId) (t : ℕ) → turns_on device event.what ≡ false
     → is_turned_on_at (scenario_under network (all ++ event ∷ [])) device t ≡ is_turned_on_at (scenario_under network all) device t
-turned_stays network all event device t none =
-    turned_more network all event device t ∙ none_of _ _ (ap (λ b. b && amount event.time == t) none)
+turned_stays network all event device t none = turned_more network all event device t ∙ none_of _ _ (ap (λ b. b && amount event.time == t) none)
 
 -- a device that the event does not concern
 pub device_stays : (network : Network) (all : List Event) (event : Event) (device : DeviceId) (told : DeviceHistory)
@@ -185,8 +181,7 @@ none_filtered b p (e ∷ es) none =
 
 -- a break within the hypothesis is the first of the device
 pub broken_first : (network : Network) (all : List Event) (event : Event) (device : DeviceId) (t : ℕ) → IsWithinHypothesis network all event
-    → event.what ≡ events.Break device
-    → is_broken (scenario_under network (all ++ event ∷ [])) device t ≡ nat_le (amount event.time) t
+    → event.what ≡ events.Break device → is_broken (scenario_under network (all ++ event ∷ [])) device t ≡ nat_le (amount event.time) t
 broken_first network all event device t within what =
     let none = none_filtered (λ e. breaks_at device.0 e.what) (λ e. nat_le (amount e.time) t) all
     (none_any (Breaks device) (λ e. breaks_at device.0 e.what) (λ e hit. broken_by device e.what hit) all
@@ -202,8 +197,7 @@ broken_first network all event device t within what =
 
 -- and so is its turning on
 pub turned_first : (network : Network) (all : List Event) (event : Event) (device : DeviceId) (t : ℕ) → IsWithinHypothesis network all event
-    → event.what ≡ events.On device
-    → is_turned_on_at (scenario_under network (all ++ event ∷ [])) device t ≡ (amount event.time == t)
+    → event.what ≡ events.On device → is_turned_on_at (scenario_under network (all ++ event ∷ [])) device t ≡ (amount event.time == t)
 turned_first network all event device t within what =
     let none = none_any (TurnsOn device) (λ e. turns_on device e.what && amount e.time == t)
     (λ e hit. on_by device e.what (let parts = and_parts (turns_on device e.what) (amount e.time == t) hit in parts.0)) all
@@ -229,6 +223,5 @@ remembers_more network all event old new h may begun many_ways ways many_devices
 -- or to remember the same
 pub remembers_same : (network : Network) (all : List Event) (old new : EventHistory) → Remembers network all old
     → length new.ways.items ≡ length old.ways.items → AreWaysTold network all new.ways.items
-    → length new.devices.items ≡ length old.devices.items → AreDevicesTold network all new.devices.items
-    → Remembers network all new
+    → length new.devices.items ≡ length old.devices.items → AreDevicesTold network all new.devices.items → Remembers network all new
 remembers_same network all old new h many_ways ways many_devices devices = grind arith

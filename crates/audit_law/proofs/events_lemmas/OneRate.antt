@@ -12,8 +12,7 @@ pub rate_within : (network : Network) (event : Event) (device : DeviceId) (rate 
     → unsigned_abs rate.0 ≤ network.rho → IsWithinHypothesis network [] event
 rate_within network event device rate begins is slow outside.Order v = none_before v.front [] v.last v.order
 rate_within network event device rate begins is slow outside.Late v = omega (arith, ints, v, begins)
-rate_within network event device rate begins is slow outside.Rate v =
-    grind (arith, rate_of, unsigned_abs)
+rate_within network event device rate begins is slow outside.Rate v = grind (arith, rate_of, unsigned_abs)
 rate_within network event device rate begins is slow outside.Wire v = let what = v.what in absurd cc
 rate_within network event device rate begins is slow outside.Hold v = let what = v.what in absurd cc
 rate_within network event device rate begins is slow outside.Channel v = let what = v.what in absurd cc

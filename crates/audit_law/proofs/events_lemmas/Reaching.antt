@@ -162,7 +162,5 @@ pub reach_of_value : (r s : ℕ → ℕ) (from : ℕ) (value goal : ℤ) (until 
 reach_of_value r s from value goal until None same (inl low) none = λ x after before.
     let short = none x after before in absurd (omega (arith, ints, short, low.1))
 reach_of_value r s from value goal until None same (inr is) none = grind (arith, ints)
-reach_of_value r s from value goal until (Some time) same (inl low) found =
-    grind (arith, ints)
-reach_of_value r s from value goal until (Some time) same (inr is) found =
-    grind (arith, ints)
+reach_of_value r s from value goal until (Some time) same (inl low) found = grind (arith, ints)
+reach_of_value r s from value goal until (Some time) same (inr is) found = grind (arith, ints)

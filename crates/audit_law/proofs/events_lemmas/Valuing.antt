@@ -10,8 +10,7 @@ use Rattle.std.{proofs.lemmas.List.Elements.filter_map-append, specs.List.Sorted
 
 -- changes in order are parted by a time
 pub parted : {V : Type 0} (changes : List (Change V)) (time : ℕ) → IsNonDecreasingBy (λ c. c.from) changes → IsPartitionedBy (λ c. nat_le c.from time) changes
-parted changes time order i j d le within last =
-    grind (arith, leb-true, le-leb)
+parted changes time order i j d le within last = grind (arith, leb-true, le-leb)
 
 pub part_at : {V : Type 0} (changes : List (Change V)) (time place : ℕ)
     → IsPartitionPoint (λ c. nat_le c.from time ≡ true) (λ c. nat_le c.from time ≡ false) changes place
@@ -39,8 +38,7 @@ value_before v (c ∷ cs) time late =
 
 -- the last change up to the time counts
 pub value_found : {V : Type 0} (v : V) (changes : List (Change V)) (time place : ℕ) (d : Change V) → place < length changes
-    → IsPartitionPoint (λ c. c.from ≤ time) (λ c. time < c.from) changes (place + 1)
-    → value_at v changes time ≡ (slice_index_or changes place d).value
+    → IsPartitionPoint (λ c. c.from ≤ time) (λ c. time < c.from) changes (place + 1) → value_at v changes time ≡ (slice_index_or changes place d).value
 value_found v [] time place d within h = absurd (omega (arith, within))
 value_found v (c ∷ cs) time zero d within h =
     let first = le-leb c.from time (h.0 0 c (omega arith) (omega arith)) in

@@ -22,8 +22,7 @@ use Rattle.run_law.specs.declared.steps.Arrival.TheVariants as arrivals
 -- the device stands in one place by all records of earlier times
 pub same_standpoint : (s : Scenario) (device : DeviceId) (t : ℕ) (ps hs : List Happening) → earlier t ps ≡ earlier t hs
     → standpoint s ps device t ≡ standpoint s hs device t
-same_standpoint s device t ps hs same =
-    grind (arith, not, is_turned_on_at, state_after, is_broken, adjustment_after)
+same_standpoint s device t ps hs same = grind (arith, not, is_turned_on_at, state_after, is_broken, adjustment_after)
 
 -- a time-triggered frame is judged by the last cycle of its own virtual link alone
 by_entry : (network : Network) (device : DeviceId) (at : Standpoint) (size : ℕ) (last other : VlId → Option ℕ) (entry : Option Entry)
@@ -36,22 +35,19 @@ pub by_octets : (network : Network) (device : DeviceId) (link : LinkId) (at : St
     (fault : Option Reason)
     → ((vl : VlId) → last vl ≡ other vl) → octets_or_fault network device link at octets last fault ≡ octets_or_fault network device link at octets other fault
 by_octets network device link at octets last other (Some reason) same = refl
-by_octets network device link at octets last other None same =
-    by_entry network device at (length octets) last other _ same
+by_octets network device link at octets last other None same = by_entry network device at (length octets) last other _ same
 
 -- ---- what was taken before
 
 -- an arrival of one time that comes before another is before it by its route
 route_before : (link by : LinkId) (cause from : ℕ) → comes_before by from link cause ≡ true → IsBefore (by.0 ∷ from ∷ []) (link.0 ∷ cause ∷ [])
-route_before link by cause from e =
-    grind (arith, or_cases, nat_lt, ltb-true, and_parts, eqb-true)
+route_before link by cause from e = grind (arith, or_cases, nat_lt, ltb-true, and_parts, eqb-true)
 
 -- a record of a taking, of rank r, that is judged to be earlier is before a place whose rank is not lower
 taken_is_before : (t u r q : ℕ) (device other : DeviceId) (vl of_vl : VlId) (link by : LinkId) (cause from : ℕ) → r ≤ q
     → (device.0 == other.0 && vl.0 == of_vl.0 && (nat_lt u t || (u == t && comes_before by from link cause))) ≡ true
     → IsBefore (u ∷ r ∷ other.0 ∷ by.0 ∷ from ∷ []) (t ∷ q ∷ device.0 ∷ link.0 ∷ cause ∷ [])
-taken_is_before t u r q device other vl of_vl link by cause from le e =
-    grind (arith, and_parts, nat_lt, eqb-true, or_cases, ltb-true, route_before, cases_lt)
+taken_is_before t u r q device other vl of_vl link by cause from le e = grind (arith, and_parts, nat_lt, eqb-true, or_cases, ltb-true, route_before, cases_lt)
 
 -- the place of an arrival of rank q at the device
 abbrev arrival_place : ℕ → ℕ → DeviceId → LinkId → ℕ → List ℕ
@@ -100,14 +96,12 @@ taken_so network device vl cycle false is = is
 taken_or_dropped : (network : Network) (device : DeviceId) (at : Standpoint) (entry : Entry) (fault : Option Reason)
     → IsTimedOutcome network device (taken_or_fault network device at entry fault)
 taken_or_dropped network device at entry (Some reason) = tt
-taken_or_dropped network device at entry None =
-    taken_so network device entry.row.vl (cycle_at network (clock_of at)) (is_end network device) refl
+taken_or_dropped network device at entry None = taken_so network device entry.row.vl (cycle_at network (clock_of at)) (is_end network device) refl
 
 entry_outcome : (network : Network) (device : DeviceId) (at : Standpoint) (size : ℕ) (last : VlId → Option ℕ) (entry : Option Entry)
     → IsTimedOutcome network device (entry_arrival network device at size last entry)
 entry_outcome network device at size last None = tt
-entry_outcome network device at size last (Some entry) =
-    taken_or_dropped network device at entry (row_fault network at entry size (last entry.row.vl))
+entry_outcome network device at size last (Some entry) = taken_or_dropped network device at entry (row_fault network at entry size (last entry.row.vl))
 
 octets_outcome : (network : Network) (device : DeviceId) (link : LinkId) (at : Standpoint) (octets : List ℕ) (last : VlId → Option ℕ) (fault : Option Reason)
     → IsTimedOutcome network device (octets_or_fault network device link at octets last fault)
@@ -206,8 +200,7 @@ record_place t m device link cause other = refl
 -- an arrival of the list is one given a front of it that has the record that put the frame
 arrives_in_front : (s : Scenario) (hs : List Happening) (t : ℕ) (device : DeviceId) (link : LinkId) (cause : ℕ) (a : Arrival)
     → IsFounded place_of (IsDue s) hs → (at : IsSplit place_of hs (arrival_place t (rank (arrival_record device link cause a)) device link cause))
-    → (h : ArrivesAs s hs device t link cause a)
-    → IsBefore (place_of h.putting) (arrival_place t (rank (arrival_record device link cause a)) device link cause)
+    → (h : ArrivesAs s hs device t link cause a) → IsBefore (place_of h.putting) (arrival_place t (rank (arrival_record device link cause a)) device link cause)
     → ArrivesAs s at.front device t link cause a
 arrives_in_front s hs t device link cause a founded at h sooner = record {
   putting = h.putting;

@@ -47,8 +47,7 @@ leaves s front device t state cause whys.On quiet c = c.0
 leaves s front device t state cause whys.Frame quiet c =
     let body = c.1.0.note.body in
     absurd (both_ways (changes_adjustment device body) (quiet c.1.0 c.1.1.there c.1.1.same_time) (joined_changes device body c.1.2))
-leaves s front device t state cause whys.Correction quiet c =
-    grind (arith, both_ways, changes_adjustment, eq-eqb)
+leaves s front device t state cause whys.Correction quiet c = grind (arith, both_ways, changes_adjustment, eq-eqb)
 leaves s front device t state cause whys.SyncClique quiet c = c.0
 leaves s front device t state cause whys.AsyncClique quiet c = c.0
 
@@ -69,5 +68,4 @@ stays_integrating device (y ∷ ys) each =
 pub stays_or_leaves : (device : DeviceId) (old : State) (ys : List Happening) → ((h : Happening) → IsIn h ys → IsCalm device h.note.body)
     → (fold (after device) old ys ≡ old) ⊎ (fold (after device) old ys ≡ Integrating)
 stays_or_leaves device old [] each = inl refl
-stays_or_leaves device old (y ∷ ys) each =
-    grind (arith, fold, stays_integrating, (stays_or_leaves device old ys (λ h i. each h (inr i))))
+stays_or_leaves device old (y ∷ ys) each = grind (arith, fold, stays_integrating, (stays_or_leaves device old ys (λ h i. each h (inr i))))

@@ -57,16 +57,14 @@ of_this_time hs t cause h gs is there = record { there = there; same_time = is.s
 
 -- a change is one by other records that have what brings it, and the same earlier ones
 pub moved : (s : Scenario) (gs hs : List Happening) (device : DeviceId) (t : ℕ) (state : State) (cause : ℕ) (why : Why) → IsBrought why
-    → earlier t gs ≡ earlier t hs
-    → ((h : Happening) → IsOfThisTime gs t cause h → rank h.note.body < 7 → numbered hs cause ≡ Some h)
+    → earlier t gs ≡ earlier t hs → ((h : Happening) → IsOfThisTime gs t cause h → rank h.note.body < 7 → numbered hs cause ≡ Some h)
     → ChangesState s gs device t state cause why → ChangesState s hs device t state cause why
 moved s gs hs device t state cause whys.On b same there c =
     let low : rank c.2.1.note.body ≡ 1 = ap rank c.2.3 in
     (c.0, c.1, (c.2.0, c.2.1, of_this_time hs t cause c.2.1 gs c.2.2 (there c.2.1 c.2.2 (omega (arith, low))), c.2.3))
 moved s gs hs device t state cause whys.Frame b same there c =
     (c.0, (c.1.0, of_this_time hs t cause c.1.0 gs c.1.1 (there c.1.0 c.1.1 (joins_before device c.1.0.note.body c.1.2)), c.1.2))
-moved s gs hs device t state cause whys.Correction b same there c =
-    grind (arith, rank, is_turned_on_at, state_after, of_this_time)
+moved s gs hs device t state cause whys.Correction b same there c = grind (arith, rank, is_turned_on_at, state_after, of_this_time)
 moved s gs hs device t state cause whys.SyncClique b same there c = absurd b
 moved s gs hs device t state cause whys.AsyncClique b same there c = absurd b
 
@@ -148,8 +146,7 @@ told s hs cause x h some other is c e = absurd e
 
 -- two such records have one place
 same_place : (hs : List Happening) (cause : ℕ) (x y : Happening) → IsTold hs cause x → IsTold hs cause y → place_of x ≡ place_of y
-same_place hs cause x y a b =
-    grind (arith, same_some, numbered, time_of, place_at, members_in)
+same_place hs cause x y a b = grind (arith, same_some, numbered, time_of, place_at, members_in)
 
 pub change_law : ChangeLaw
 change_law s hs until founded = record {

@@ -29,8 +29,7 @@ come_by s device by es =
 
 standing_by : (s : Scenario) (gs hs : List Happening) (device : DeviceId) (t : ℕ) → earlier t gs ≡ earlier t hs
     → standing_at s gs device t ≡ standing_at s hs device t
-standing_by s gs hs device t same =
-    grind (arith, plan_of, is_turned_on_at, state_after, adjustment_after, recorded_cycle, integration_cycle)
+standing_by s gs hs device t same = grind (arith, plan_of, is_turned_on_at, state_after, adjustment_after, recorded_cycle, integration_cycle)
 
 -- a correction point is one by other records that have the same earlier ones, and tell the same to be heard
 pub comes_by : (s : Scenario) (gs hs : List Happening) (device : DeviceId) (t cycle : ℕ) (v : Verdict) → earlier t gs ≡ earlier t hs
@@ -84,8 +83,7 @@ late_part hs t r more high at =
 
 -- the records of earlier times are all in the front
 pub late_earlier : (hs : List Happening) (t : ℕ) (front : List Happening) → HasLate hs t front → earlier t (up_to t hs) ≡ earlier t front
-late_earlier hs t front l =
-    grind (arith, nat_lt, time_of, filter, none_kept, le-ltb, filter-append, append-nil)
+late_earlier hs t front l = grind (arith, nat_lt, time_of, filter, none_kept, le-ltb, filter-append, append-nil)
 
 -- the front tells all that is heard up to the time
 pub late_heard : (s : Scenario) (hs : List Happening) (device : DeviceId) (t : ℕ) (front : List Happening) → HasLate hs t front
@@ -187,8 +185,7 @@ shown_more s gs device t cycle Cleared body h e = h
 -- ---- the law
 
 some_point : (s : Scenario) (hs : List Happening) (until : ℕ) (device : DeviceId) (time : ℕ) → IsFounded place_of (IsDue s) hs
-    → OwesPoint s hs until device time
-    → PaidAt s hs until (IsDueByPoint s) time (λ x. TellsPoint device time x)
+    → OwesPoint s hs until device time → PaidAt s hs until (IsDueByPoint s) time (λ x. TellsPoint device time x)
 some_point s hs until device time founded o =
     let v = o.verdict in
     let p = point_place time device v in

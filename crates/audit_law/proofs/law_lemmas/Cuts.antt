@@ -49,8 +49,7 @@ from_last p o (x ∷ xs) order low =
 by_last : (p : Happening → Bool) (o : Option Happening) (xs : List Happening) (h : Happening) → AreSorted xs → IsIn h xs → p h ≡ true
     → time_of h ≤ latest o (of_kind p xs)
 by_last p o [] h order i is = absurd i
-by_last p o (x ∷ xs) h order (inl same) is =
-    grind (arith, from_last, time_of, filter)
+by_last p o (x ∷ xs) h order (inl same) is = grind (arith, from_last, time_of, filter)
 by_last p o (x ∷ xs) h order (inr i) is =
     elim (p x) as (λ b. time_of h ≤ latest o (if b then x ∷ filter p xs else filter p xs))
     [ true ↦ by_last p (Some x) xs h order.1 i is | false ↦ by_last p o xs h order.1 i is ]
@@ -120,8 +119,7 @@ run_before IsDue hs u t le run cut =
 -- a run is one by other causes that are the same where its records part
 pub run_by : (IsDue IsCaused : Due) (mark : List ℕ) (hs : List Happening)
     → ((ps qs : List Happening) (y : Happening) → hs ≡ ps ++ qs → AllBefore place_of ps (place_of y) → NoneBefore place_of qs (place_of y)
-    → IsBefore (place_of y) mark → (IsDue ps y → IsCaused ps y) × (IsCaused ps y → IsDue ps y))
-    → IsRun place_of IsDue mark hs → IsRun place_of IsCaused mark hs
+    → IsBefore (place_of y) mark → (IsDue ps y → IsCaused ps y) × (IsCaused ps y → IsDue ps y)) → IsRun place_of IsDue mark hs → IsRun place_of IsCaused mark hs
 run_by IsDue IsCaused mark hs same run = record {
   founded = λ ps qs x e.
       let due = run.founded ps qs x e in

@@ -62,8 +62,7 @@ due_by_part place IsDue IsDueSo ns x part h =
 pub unpaid_of_lack : {N O : Type 0} (place : N → List ℕ) (IsDue IsDueSo : List N → N → Type 0) (mark : List ℕ) (ns : List N) (IsOwed : O → Type 0)
     (falls : (o : O) → IsOwed o → ℕ) (Pays : N → O → Type 0)
     → IsPartOf IsDueSo IsDue → AreDebts place IsDue IsDueSo mark ns IsOwed falls Pays → AreSound place IsDue mark ns → (x : N) → IsLacking place IsDueSo ns x
-    → IsBefore (place x) mark
-    → (o : O) × (owed : IsOwed o) × Pays x o × IsOfTime (falls o owed) (place x) × (IsPaid ns Pays o → ⊥)
+    → IsBefore (place x) mark → (o : O) × (owed : IsOwed o) × Pays x o × IsOfTime (falls o owed) (place x) × (IsPaid ns Pays o → ⊥)
 unpaid_of_lack place IsDue IsDueSo mark ns IsOwed falls Pays part debts sound x lack here =
     let so = due_of_lack place IsDueSo ns x lack in
     let o = debts.each x so here in (

@@ -189,8 +189,7 @@ same_place s hs t u device other link by cause from d e causes links a b =
     let one : there.giving ≡ a.giving = same_some (numbered hs cause) there.giving a.giving there.there a.there in
     let devices : device ≡ other = one_giver s.network a.giving.note.body device other link a.gives
     (subst (λ (h : Happening). Gives s.network h.note.body other link) one there.gives) in
-    let times : t ≡ u =
-    a.held
+    let times : t ≡ u = a.held
     ∙ ap (λ (x : DeviceId). leaves_at s x link a.giving) devices
     ∙ ap (λ (h : Happening). leaves_at s other link h) (sym one)
     ∙ sym there.held in

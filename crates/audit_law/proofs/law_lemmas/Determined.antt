@@ -105,13 +105,11 @@ has_cause s hs t device other cause state whys.AsyncClique off c none = off
 
 same_state : (device other : DeviceId) (state later : State) (cause from : ℕ) (why : Why) → device.0 ≡ other.0 → state ≡ later → cause ≡ from
     → notes.State device state cause why ≡ notes.State other later from why
-same_state device other state later cause from why ids states causes =
-    grind (arith, same_device)
+same_state device other state later cause from why ids states causes = grind (arith, same_device)
 
 -- what is of a correction point has not the place of what is of none
 apart : (s : Scenario) (hs : List Happening) (time : Units) (m n : ℕ) (a b : NoteBody) → IsOfPoint a → IsOfNoPoint b → IsCaused s hs time a
-    → IsCaused s hs time b
-    → rank a ≡ rank b → key m a ≡ key n b → ⊥
+    → IsCaused s hs time b → rank a ≡ rank b → key m a ≡ key n b → ⊥
 apart s hs time m n (notes.Corrected device cycle by adjustment) (notes.Corrected other number gain later) p off a b kinds keys = off
 apart s hs time m n (notes.Corrected device cycle by adjustment) body p off a b kinds keys = omega (arith, kinds)
 apart s hs time m n (notes.State device state cause whys.SyncClique) (notes.State other later from for) p off a b kinds keys =

@@ -48,8 +48,7 @@ sending_owed s hs until x h here =
     (o, owed, record { at = refl; says = d.says }, refl)
 
 sending_place : (o : Sending) (x : Happening) → TellsSending o x → place_of x ≡ place_at o.time 0 (notes.Sent o.device o.cycle)
-sending_place o x h =
-    ap (λ (b : NoteBody). place_at (time_of x) (members_in x) b) h.says ∙ ap (λ (t : ℕ). place_at t 0 (notes.Sent o.device o.cycle)) h.at
+sending_place o x h = ap (λ (b : NoteBody). place_at (time_of x) (members_in x) b) h.says ∙ ap (λ (t : ℕ). place_at t 0 (notes.Sent o.device o.cycle)) h.at
 
 pub sending_law : SendingLaw
 sending_law s hs until founded = record {
@@ -106,8 +105,7 @@ dispatch_owed s hs until x h here =
     (d.is, owed, record { at = d.at; says = d.says }, d.at)
 
 dispatch_place : (s : Scenario) (o : Dispatch) (x : Happening) → TellsDispatch s o x → place_of x ≡ place_at o.time 0 (dispatch_record o (is_cut_then s o))
-dispatch_place s o x h =
-    grind (arith, place_at, time_of, members_in, record_place)
+dispatch_place s o x h = grind (arith, place_at, time_of, members_in, record_place)
 
 pub dispatch_law : DispatchLaw
 dispatch_law s hs until founded = record {

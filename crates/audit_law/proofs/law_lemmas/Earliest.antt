@@ -15,8 +15,7 @@ record IsFirstIn (s : Scenario) (hs : List Happening) (until : ℕ) (P : Debt �
   pub first : (other : Debt) → P other → (is : IsOwed s hs until other) → (IsPaid hs (Pays s) other → ⊥) → time ≤ falls_due s hs until other is
 
 abbrev FirstIn : Scenario → List Happening → ℕ → (Debt → Type 0) → Option ℕ → Type 0
-FirstIn s hs until P first =
-    MatchOption first ((o : Debt) → P o → IsOwed s hs until o → IsPaid hs (Pays s) o) (IsFirstIn s hs until P)
+FirstIn s hs until P first = MatchOption first ((o : Debt) → P o → IsOwed s hs until o → IsPaid hs (Pays s) o) (IsFirstIn s hs until P)
 
 -- the debt is of the kind
 abbrev OfKind : {O : Type 0} → (O → Debt) → Debt → Type 0
@@ -66,8 +65,7 @@ join s hs until P Q (Some t) (Some u) h g = elim (cases_lt u t) [
 ]
 
 of_all : (s : Scenario) (hs : List Happening) (until : ℕ) (P : Debt → Type 0) (first : Option ℕ) → AreSound place_of (IsDue s) ((until + 1) ∷ []) hs
-    → ((o : Debt) → P o) → FirstIn s hs until P first
-    → MatchOption first (LacksNothing place_of (IsDue s) ((until + 1) ∷ []) hs) (IsFirstDebt s hs until)
+    → ((o : Debt) → P o) → FirstIn s hs until P first → MatchOption first (LacksNothing place_of (IsDue s) ((until + 1) ∷ []) hs) (IsFirstDebt s hs until)
 of_all s hs until P None sound all h = grind (arith, debt_law)
 of_all s hs until P (Some t) sound all h =
     record { debt = h.debt; owed = h.owed; unpaid = h.unpaid; at = h.at; first = λ other is not. h.first other (all other) is not }

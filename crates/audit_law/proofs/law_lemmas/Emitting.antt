@@ -18,14 +18,12 @@ all_kept (h ∷ hs) p all =
 
 -- where a list parts at a place, its front is the records before that
 pub before_is_front : (hs : List Happening) (p : List ℕ) → (at : IsSplit place_of hs p) → before_place hs p ≡ at.front
-before_is_front hs p at =
-    grind (arith, is_before, place_of, filter, none_kept, false_from_ne_true, is_there, filter-append, append-nil, all_kept)
+before_is_front hs p at = grind (arith, is_before, place_of, filter, none_kept, false_from_ne_true, is_there, filter-append, append-nil, all_kept)
 
 -- ---- the law
 
 some_emission : (s : Scenario) (hs : List Happening) (until : ℕ) (device : DeviceId) (sent : Compressed) → IsFounded place_of (IsDue s) hs
-    → (o : OwesEmission s hs until device sent)
-    → PaidAt s hs until (IsDueByEmission s) o.time (λ x. TellsEmission device sent x.note.body)
+    → (o : OwesEmission s hs until device sent) → PaidAt s hs until (IsDueByEmission s) o.time (λ x. TellsEmission device sent x.note.body)
 some_emission s hs until device sent founded o =
     let body = emission_record device sent o.verdict in
     let p = emission_place o.time device sent in

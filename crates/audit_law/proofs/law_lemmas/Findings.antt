@@ -29,8 +29,7 @@ has_number s before device vl t cause cycle founded has =
 caused : (s : Scenario) (before : List Happening) (time : Units) (body : NoteBody) → IsFounded place_of (IsDue s) before → IsCaused s before time body
     → HasCauseAt before (cause_of body)
 caused s before time (notes.Event line what) founded h = inl refl
-caused s before time (notes.Arrived device link cause clock) founded h =
-    grind arith
+caused s before time (notes.Arrived device link cause clock) founded h = grind arith
 caused s before time (notes.Permanent device link cause point verdict) founded h = inr (h.permanent.arrival, h.permanent.there)
 caused s before time (notes.Compressed device opened at cycle members verdict) founded h = inl refl
 caused s before time (notes.Sent device cycle) founded h = inl refl
@@ -51,8 +50,7 @@ caused s before time (notes.TtSent device link cause vl cycle) founded h =
     elim h.dispatches.at_hand [ inl own ↦ inl own.1 | inr taken ↦ has_number s before device _ (amount time) cause _ founded taken.1 ]
 caused s before time (notes.Accepted device link cause vl cycle) founded h = inr (h.putting, h.there)
 caused s before time (notes.Delivered device link cause vl cycle) founded h = inr (h.putting, h.there)
-caused s before time (notes.Dropped device link cause reason) founded h =
-    grind arith
+caused s before time (notes.Dropped device link cause reason) founded h = grind arith
 caused s before time (notes.Clock device reading adjustment state) founded h = inl refl
 
 pub gap_law : GapLaw

@@ -78,8 +78,7 @@ by_send s before x cause due founded some sends other is c e = absurd e
 same_place : (s : Scenario) (hs : List Happening) (t u : ℕ) (device other : DeviceId) (link by : LinkId) (cause from : ℕ) → cause ≡ from
     → IsSendLost s hs device t link cause → IsSendLost s hs other u by from
     → place_at t 0 (notes.Lost device link cause) ≡ place_at u 0 (notes.Lost other by from)
-same_place s hs t u device other link by cause from causes a b =
-    grind (arith, same_some, numbered, slice_get, time_of, place_at)
+same_place s hs t u device other link by cause from causes a b = grind (arith, same_some, numbered, slice_get, time_of, place_at)
 
 due_so : (s : Scenario) (hs : List Happening) (until cause : ℕ) (x : Happening) → IsFounded place_of (IsDue s) hs → OwesLoss s hs until cause
     → (h : IsDueIn place_of (IsDue s) hs x) → TellsLoss cause x.note.body → (d : IsDueBySend s h.before x) × (d.cause ≡ cause)

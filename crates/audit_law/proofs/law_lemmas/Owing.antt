@@ -73,5 +73,4 @@ of_amount t begun = ap (λ (n : ℤ). let u : Units = record { 0 = n } in u) (wh
 
 -- a record that is due so in the list, and before the end of the time, tells this at the time at which it is owed
 abbrev pub PaidAt : Scenario → List Happening → ℕ → (List Happening → Happening → Type 0) → ℕ → (Happening → Type 0) → Type 0
-PaidAt s hs until IsDueSo time Tells =
-    (x : Happening) × IsDueIn place_of IsDueSo hs x × IsBefore (place_of x) ((until + 1) ∷ []) × Tells x × (time_of x ≡ time)
+PaidAt s hs until IsDueSo time Tells = (x : Happening) × IsDueIn place_of IsDueSo hs x × IsBefore (place_of x) ((until + 1) ∷ []) × Tells x × (time_of x ≡ time)

@@ -87,16 +87,13 @@ stood s device u state adjustment number integrated changed = record {
 }
 
 pub stands_same : (s : Scenario) (device : DeviceId) (u : ℕ) (hs gs : List Happening) → LeavesSame s device (earlier u hs) gs
-    → is_turned_on_at s device u ≡ false
-    → standing_at s hs device u ≡ standing_of s device u gs
-stands_same s device u hs gs same off =
-    grind (arith, earlier, state_after, adjustment_after, recorded_cycle, integration_cycle)
+    → is_turned_on_at s device u ≡ false → standing_at s hs device u ≡ standing_of s device u gs
+stands_same s device u hs gs same off = grind (arith, earlier, state_after, adjustment_after, recorded_cycle, integration_cycle)
 
 reaches_same : (s : Scenario) (device : DeviceId) (u : ℕ) (v : ℤ) (hs gs : List Happening) → LeavesSame s device (earlier u hs) gs
     → (pos (s.reading device (last_changed gs device)) +ℤ (adjustment_after s gs device).0) <ℤ v
     → IsReach (s.reading device) (pos (last_changed gs device)) (v -ℤ (adjustment_after s gs device).0) (pos u) → Reaches s hs device v u
-reaches_same s device u v hs gs same below reach =
-    grind (arith, adjustment_after, earlier)
+reaches_same s device u v hs gs same below reach = grind (arith, adjustment_after, earlier)
 
 -- ---- verdicts
 
@@ -161,8 +158,7 @@ module _ (s : Scenario) (clocked : IsClocked s) (gs : List Happening) (device : 
       let in_all : IsIn h gs = subst (IsIn h) (sym at.2) (in_right h at.0 (x ∷ at.1) (inr j)) in
       let order = in_time x h (behind_first place_of (IsDue s) at.0 at.1 x h (subst (IsFounded place_of (IsDue s)) at.2 run.founded) j) in
       calm_later h in_all (omega (arith, late, order))) in
-      let ends : state_after s gs device ≡ Integrating =
-      ap (fold leave start) at.2
+      let ends : state_after s gs device ≡ Integrating = ap (fold leave start) at.2
       ∙ fold_parts leave start at.0 (x ∷ at.1)
       ∙ ap (λ (u : State). fold leave u at.1) here
       ∙ rest in
@@ -443,10 +439,7 @@ module _ (s : Scenario) (clocked : IsClocked s) (gs : List Happening) (device : 
 
   -- the clock has come to one point at the most, which is the one at which the joiner clears
   passes_one : shown changed <ℤ first → first ≤ℤ shown until → PassesOne s gs device until
-  passes_one below reached = record {
-    joined = joined;
-    no_further = by_lt_z (shown until) (first +ℤ s.network.cycle.0) (λ lt. lt) (λ ge. absurd (second ge));
-  }
+  passes_one below reached = record { joined = joined; no_further = by_lt_z (shown until) (first +ℤ s.network.cycle.0) (λ lt. lt) (λ ge. absurd (second ge)) }
     where
       f : ComesFirst until
       f = first_comes below reached

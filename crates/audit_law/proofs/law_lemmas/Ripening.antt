@@ -183,8 +183,7 @@ permanence_owed s hs until x h here =
 -- the place of what is due by a permanence
 due_place : (s : Scenario) (before : List Happening) (x : Happening) → (h : IsDueByPermanence s before x)
     → place_of x ≡ record_place (time_of x) h.device h.link h.cause h.becomes.frame h.point h.is
-due_place s before x h =
-    grind (arith, place_at, time_of, members_in, framed, frame_there)
+due_place s before x h = grind (arith, place_at, time_of, members_in, framed, frame_there)
 
 -- what becomes of the frame, by the list
 due_becomes : (s : Scenario) (hs : List Happening) (x : Happening) → (h : IsDueIn place_of (IsDue s) hs x) → (d : IsDueByPermanence s h.before x)
@@ -252,8 +251,7 @@ one_permanence s hs t u device other link by cause f g p q a b =
 
 -- what became of the frames is one
 same_place : (s : Scenario) (hs : List Happening) (t u : ℕ) (device other : DeviceId) (link by : LinkId) (cause from : ℕ) (p q : Units) (a b : Ripe)
-    → cause ≡ from
-    → (x : BecomesPermanent s hs device t link cause p a) → (y : BecomesPermanent s hs other u by from q b)
+    → cause ≡ from → (x : BecomesPermanent s hs device t link cause p a) → (y : BecomesPermanent s hs other u by from q b)
     → record_place t device link cause x.frame p a ≡ record_place u other by from y.frame q b
 same_place s hs t u device other link by cause from p q a b causes x y =
     let there : IsPermanent s hs other u by cause y.frame q = subst (λ (n : ℕ). IsPermanent s hs other u by n y.frame q) (sym causes) y.permanent in

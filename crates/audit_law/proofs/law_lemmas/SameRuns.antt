@@ -8,8 +8,7 @@ use Rattle.run_law.specs.runs.DueRecords as runs
 -- the part before a record's place has all records of earlier times
 earlier_part : (hs ps qs : List Happening) (y : Happening) → hs ≡ ps ++ qs → NoneBefore place_of qs (place_of y)
     → earlier (time_of y) hs ≡ earlier (time_of y) ps
-earlier_part hs ps qs y whole none =
-    grind (arith, time_of, nat_lt, earlier, none_kept, cases_lt, le-ltb, filter-append, append-nil)
+earlier_part hs ps qs y whole none = grind (arith, time_of, nat_lt, earlier, none_kept, cases_lt, le-ltb, filter-append, append-nil)
 
 -- what is earlier in a run is the run up to then
 earlier_run : (IsDueSo : List Happening → Happening → Type 0) (hs ps qs : List Happening) (u : ℕ) (y : Happening) → IsRun place_of IsDueSo (u ∷ []) hs

@@ -23,21 +23,17 @@ record TellsSame (gs hs : List Happening) (until : ℕ) : Type 0 where
 
 -- what a filter keeps of a list is what it keeps of its front, where it keeps none of the rest
 of_front : (test : Happening → Bool) (gs rest : List Happening) → ((h : Happening) → IsIn h rest → test h ≡ false) → filter test gs ≡ filter test (gs ++ rest)
-of_front test gs rest fails =
-    grind (arith, append-nil, filter, none_kept, filter-append)
+of_front test gs rest fails = grind (arith, append-nil, filter, none_kept, filter-append)
 
 -- a later record is not taken before
 not_taken : (t u : ℕ) (device : DeviceId) (vl : VlId) (link : LinkId) (cause : ℕ) (body : NoteBody) → t < u
     → is_taken_before device vl t link cause u body ≡ false
-not_taken t u device vl link cause (notes.Accepted other by from of_vl cycle) late =
-    grind (arith, and_right, nat_lt, or_from, le-ltb, and_left, ne_eqb)
-not_taken t u device vl link cause (notes.Delivered other by from of_vl cycle) late =
-    grind (arith, and_right, nat_lt, or_from, le-ltb, and_left, ne_eqb)
+not_taken t u device vl link cause (notes.Accepted other by from of_vl cycle) late = grind (arith, and_right, nat_lt, or_from, le-ltb, and_left, ne_eqb)
+not_taken t u device vl link cause (notes.Delivered other by from of_vl cycle) late = grind (arith, and_right, nat_lt, or_from, le-ltb, and_left, ne_eqb)
 not_taken t u device vl link cause other late = refl
 
 not_before : (h : Happening) (t : ℕ) (ks : List ℕ) → t < time_of h → is_before (place_of h) (t ∷ ks) ≡ false
-not_before h t ks late =
-    grind (arith, false_from_ne_true, is_before, place_of, is_there)
+not_before h t ks late = grind (arith, false_from_ne_true, is_before, place_of, is_there)
 
 -- a list and its front, behind which all is later
 front_tells : (gs rest : List Happening) (until : ℕ) → ((h : Happening) → IsIn h rest → until < time_of h) → TellsSame gs (gs ++ rest) until
@@ -82,8 +78,7 @@ same_outcome : (s : Scenario) (gs hs : List Happening) (until : ℕ) (device : D
     → TellsSame gs hs until → t ≤ until → arrival_of s gs device t link cause signal ≡ arrival_of s hs device t link cause signal
 same_outcome s gs hs until device t link cause (control frame) same le =
     ap (λ (p : Standpoint). control_arrival s.network device link p frame) (same_standpoint s device t gs hs (same.earliers t le))
-same_outcome s gs hs until device t link cause (timed octets) same le =
-    grind (arith, same_standpoint, by_octets)
+same_outcome s gs hs until device t link cause (timed octets) same le = grind (arith, same_standpoint, by_octets)
 
 -- what comes to a time from an earlier one is not earlier
 sum_within : (t a b c until : ℕ) → t ≡ a + b + c → t ≤ until → a ≤ until
@@ -102,10 +97,8 @@ owed_by s gs hs until same (debts.arrival cause) o =
       becomes = a.becomes ∙ same_outcome s gs hs until o.device o.time o.link cause a.signal same o.timely;
     } in
     record { device = o.device; link = o.link; time = o.time; is = o.is; arrives = arrives; behind = o.behind; timely = o.timely }
-owed_by s gs hs until same (debts.permanence cause) o =
-    grind (arith, permanent_by, ints)
-owed_by s gs hs until same (debts.emission device sent) o =
-    grind (arith, rank, key)
+owed_by s gs hs until same (debts.permanence cause) o = grind (arith, permanent_by, ints)
+owed_by s gs hs until same (debts.emission device sent) o = grind (arith, rank, key)
 owed_by s gs hs until same (debts.sending given) o =
     record { sends = sends_by s gs hs given.device given.time given.cycle (same.earliers given.time o.timely) o.sends; timely = o.timely }
 owed_by s gs hs until same (debts.point device time) o = grind (arith, comes_by, up_to, earlier, heard_since_point)

@@ -18,11 +18,7 @@ pub sound_of_run : {N : Type 0} (place : N → List ℕ) (IsDue : List N → N �
     → AreSound place IsDue mark ns
 sound_of_run place IsDue mark ns run ps qs x e =
     let h = run.founded ps qs x e in
-    record {
-      behind_all = h.0;
-      due = h.1;
-      within = run.within x (subst (λ (t : List _). IsIn x t) (sym e) (in_right x ps (x ∷ qs) (inl refl)));
-    }
+    record { behind_all = h.0; due = h.1; within = run.within x (subst (λ (t : List _). IsIn x t) (sym e) (in_right x ps (x ∷ qs) (inl refl))) }
 
 -- ---- what a list lacks
 

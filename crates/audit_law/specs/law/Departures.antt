@@ -2,7 +2,7 @@
 use Rattle.std.specs.Prelude.{◌+◌, ◌≡◌, ◌≤◌, List, Some, false, ℕ}
 use Rattle.audit_law.specs.law.DueRecords.{IsDue}
 use Rattle.{net_plan.specs.declared.ids.DeviceId.DeviceId, run_law.specs.scenario.Scenarios.{Scenario, is_broken}}
-use Rattle.{net_plan.specs.declared.ids.LinkId.LinkId, pcf_values.specs.declared.pcf.Pcf.Pcf}
+use Rattle.{net_plan.specs.declared.ids.LinkId.LinkId, tte_units.specs.declared.frames.pcf.Pcf.Pcf}
 use Rattle.run_law.specs.control.Leaving.{Departs, Departure, Gives, leaves, on_cut_way, too_old}
 use Rattle.run_law.specs.{declared.judgement.Reason.TheVariants.Old, records.Happenings.{Happening, numbered, time_of}}
 use Rattle.run_law.specs.{declared.note.NoteBody.NoteBody, scenario.Ways.{hold_at, way_from}}

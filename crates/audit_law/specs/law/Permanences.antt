@@ -1,11 +1,10 @@
 -- What is owed of the frames that wait: each is permanent at its point, or is dropped there.
 use Rattle.std.specs.Prelude.{◌≡◌, ◌≤◌, List, ℕ}
-use Rattle.audit_law.specs.law.DueRecords.{IsDue}
+use Rattle.{audit_law.specs.law.DueRecords.IsDue, run_law.specs.{declared.steps.Ripe.Ripe, scenario.Scenarios.Scenario}}
 use Rattle.{net_plan.specs.declared.ids.DeviceId.DeviceId, run_law.specs.records.Happenings.{Happening, time_of}}
-use Rattle.{net_plan.specs.declared.ids.LinkId.LinkId, run_law.specs.scenario.Scenarios.Scenario}
-use Rattle.{pcf_values.specs.declared.pcf.Pcf.Pcf, run_law.specs.declared.steps.Ripe.Ripe}
+use Rattle.{net_plan.specs.declared.ids.LinkId.LinkId, tte_units.specs.declared.units.Units.Units}
 use Rattle.run_law.specs.{control.Permanence.{BecomesPermanent, IsPermanent}, declared.judgement.Reason.TheVariants.Old}
-use Rattle.{run_law.specs.declared.note.NoteBody.NoteBody, tte_units.specs.declared.units.Units.Units}
+use Rattle.{run_law.specs.declared.note.NoteBody.NoteBody, tte_units.specs.declared.frames.pcf.Pcf.Pcf}
 use Rattle.run_law.specs.declared.judgement.Judgement.TheVariants as judgements
 use Rattle.run_law.specs.declared.note.NoteBody.TheVariants as notes
 use Rattle.run_law.specs.declared.steps.Ripe.TheVariants as ripe

@@ -20,8 +20,7 @@ at_number hs number n = ap (numbered hs) (number_of number n)
 -- what is kept at a place is kept of the record of the next number
 pub found : (hs : List Happening) (rs : List KeptRecord) (number : ℕ) (r : KeptRecord) → rs ≡ records_of hs → (number ≡ 0 → ⊥)
     → number - 1 < length rs → r ≡ get_or rs (number - 1) r → (h : Happening) × (numbered hs number ≡ Some h) × (r ≡ record_of h)
-found hs rs number r e n lt at =
-    grind (arith, slice_get, slice_get_read, length, from_some, slice_get-map, at_number)
+found hs rs number r e n lt at = grind (arith, slice_get, slice_get_read, length, from_some, slice_get-map, at_number)
 
 -- where there is no such place there is no such record
 pub past : (hs : List Happening) (rs : List KeptRecord) (number : ℕ) → rs ≡ records_of hs → (number ≡ 0 → ⊥) → length rs ≤ number - 1

@@ -78,5 +78,4 @@ one_untold s hs until end device one timely none =
 -- the devices below the next are those below this one, and this one
 pub below_next : (P : DeviceId → Type 0) (n : ℕ) (last : DeviceId) → last.0 ≡ n → ((device : DeviceId) → device.0 < n → P device) → P last
     → (device : DeviceId) → device.0 < n + 1 → P device
-below_next P n last at all own device lt =
-    grind (arith, cases_lt, same_device)
+below_next P n last at all own device lt = grind (arith, cases_lt, same_device)

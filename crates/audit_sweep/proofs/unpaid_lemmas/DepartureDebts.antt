@@ -55,8 +55,7 @@ departure_paid s hs until cause link device t d founded owed departs =
 -- a leaving falls due at one time
 pub departure_time : (s : Scenario) (hs : List Happening) (until cause : ℕ) (link : LinkId) → IsFounded place_of (IsDue s) hs
     → (a b : OwesDeparture s hs until cause link) → leaves_at s a.device link a.giving ≡ leaves_at s b.device link b.giving
-departure_time s hs until cause link founded a b =
-    grind (arith, one_time, departure_law)
+departure_time s hs until cause link founded a b = grind (arith, one_time, departure_law)
 
 -- ---- over links and records
 

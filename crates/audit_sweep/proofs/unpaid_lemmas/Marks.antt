@@ -26,8 +26,7 @@ marked_parts f hs h cause m =
 
 -- a record that has no such cause pays nothing more
 unmarked : (f : Paid → Bool) (paid : Paid) (hs : List Happening) (h : Happening) (cause : ℕ)
-    → ((cause < h.note.number) → cause_of h.note.body ≡ cause → ⊥) → (f paid ≡ true) ↔ IsMarked f hs cause
-    → (f paid ≡ true) ↔ IsMarked f (hs ++ h ∷ []) cause
+    → ((cause < h.note.number) → cause_of h.note.body ≡ cause → ⊥) → (f paid ≡ true) ↔ IsMarked f hs cause → (f paid ≡ true) ↔ IsMarked f (hs ++ h ∷ []) cause
 unmarked f paid hs h cause other told = grind (arith, marked_more, marked_parts)
 
 -- one that has it pays what it says
@@ -88,8 +87,7 @@ got_more : {X : Type 0} (xs : List X) (x : X) (n : ℕ) (y : X) → slice_get (x
 got_more [] x zero y e = inr (refl, cc)
 got_more [] x (suc n) y e = absurd cc
 got_more (z ∷ xs) x zero y e = inl (omega arith, e)
-got_more (z ∷ xs) x (suc n) y e =
-    grind (arith, (got_more xs x n y e))
+got_more (z ∷ xs) x (suc n) y e = grind (arith, (got_more xs x n y e))
 
 -- the numbers of records are at most how many there are
 numbers_more : (hs : List Happening) (h : Happening) → ((g : Happening) → IsIn g hs → g.note.number ≤ length hs) → h.note.number ≡ length hs + 1
@@ -133,8 +131,7 @@ got_set [] i x n y e = absurd cc
 got_set (z ∷ xs) zero x zero y e = inl (refl, cc, omega arith)
 got_set (z ∷ xs) zero x (suc n) y e = inr (λ same. absurd (omega (arith, same)), e)
 got_set (z ∷ xs) (suc i) x zero y e = inr (λ same. absurd (omega (arith, same)), e)
-got_set (z ∷ xs) (suc i) x (suc n) y e =
-    grind (arith, (got_set xs i x n y e))
+got_set (z ∷ xs) (suc i) x (suc n) y e = grind (arith, (got_set xs i x n y e))
 
 -- one more record that pays what it says of what its cause brings
 pub more_marked : (hs : List Happening) (h : Happening) (payments : List Paid) (i : ℕ) (old : Paid) → ArePayments hs payments

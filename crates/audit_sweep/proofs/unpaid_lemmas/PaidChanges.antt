@@ -1,11 +1,11 @@
 -- What pays the debts of changes of state.
 use Rattle.{audit_law.{proofs.law_lemmas.Changing.change_law, specs.law.DueRecords.ChangesState}, sync_state.specs.declared.state.State.State}
 use Rattle.{audit_law.specs.law.Changes.{IsBrought, IsDueByChange, OwesChange, TellsChange}, run_law.specs.declared.judgement.Judgement.TheVariants.Integrates}
-use Rattle.audit_sweep.proofs.unpaid_lemmas.{Firsts.AreOfRecords, Payers.{one_time, payer_due}, Words.{sym, time_of, true, ℕ}}
+use Rattle.audit_sweep.proofs.{PermanentFrames.none_some, unpaid_lemmas.{Firsts.AreOfRecords, Payers.{one_time, payer_due}, Words.{sym, time_of, true, ℕ}}}
 use Rattle.audit_sweep.proofs.unpaid_lemmas.Words.{◌∙◌, ◌≡◌, ◌≤◌, DeviceId, Happening, IsDue, IsFounded, IsMarked, IsPaid, List, NoteBody, Paid, Pays, Scenario}
 use Rattle.audit_sweep.proofs.unpaid_lemmas.Words.{Some, ap, arith, cause_of, false, is_broken, numbered, numbered_within, paid_by, place_of, refl, same_some}
 use Rattle.{audit_sweep.specs.unpaid.Changing.HasChange, net_plan.specs.declared.event.What.TheVariants.On, tte_units.proofs.general_lemmas.Naturals.eqb_same}
-use Rattle.run_law.specs.{declared.judgement.Why.Why, records.Causes.IsOfThisTime}
+use Rattle.{run_law.specs.{declared.judgement.Why.Why, records.Causes.IsOfThisTime}, std.proofs.Common.None}
 use Rattle.{run_law.specs.device.States.{is_joined_by, state_before}, sync_state.specs.declared.state.State.TheVariants.{Integrating, Joining, Synchronised}}
 use Rattle.audit_law.specs.law.Owed as debts
 use Rattle.run_law.specs.declared.note.NoteBody.TheVariants as notes
@@ -14,6 +14,15 @@ use Rattle.run_law.specs.declared.judgement.Why.TheVariants as whys
 tells : (body : NoteBody) (cause : ℕ) → TellsChange cause body → (cause_of body ≡ cause) × ((paid_by body).change ≡ true)
 tells (notes.State device state from why) cause of = (of, refl)
 tells other cause of = absurd of
+
+-- what tells of a change pays it
+told : (body : NoteBody) (cause : ℕ) → cause_of body ≡ cause → (paid_by body).change ≡ true → TellsChange cause body
+told (notes.State device state from why) cause of pays = of
+told other cause of pays = absurd cc
+
+-- what is marked is paid
+pub change_paid : (s : Scenario) (hs : List Happening) (cause : ℕ) → IsMarked (λ (p : Paid). p.change) hs cause → IsPaid hs (Pays s) (debts.change cause)
+change_paid s hs cause m = (m.paying, m.there, told m.paying.note.body cause m.of_cause m.pays)
 
 -- what brings a change is the record of its cause
 pub bringer : (s : Scenario) (hs : List Happening) (device : DeviceId) (t : ℕ) (state : State) (cause : ℕ) (why : Why) → IsBrought why
@@ -51,11 +60,13 @@ changes_of_records s hs until cause owed =
     let from = bringer s hs owed.device owed.time owed.state cause owed.why owed.brought owed.changes in
     (from.0, from.1.there)
 
+pub change_of_record : (s : Scenario) (hs : List Happening) (until cause : ℕ) → OwesChange s hs until cause → numbered hs cause ≡ None → ⊥
+change_of_record s hs until cause owed none = none_some _ (sym none ∙ (changes_of_records s hs until cause owed).1)
+
 -- what is owed is a change by the record at its time
 pub owed_change : (s : Scenario) (hs : List Happening) (until cause : ℕ) (h : Happening) → numbered hs cause ≡ Some h → OwesChange s hs until cause
     → HasChange s hs cause (time_of h) × (time_of h ≤ until)
-owed_change s hs until cause h there o =
-    grind (arith, bringer, same_some, numbered, time_of)
+owed_change s hs until cause h there o = grind (arith, bringer, same_some, numbered, time_of)
 
 -- what a record of this body says that brings a change
 abbrev pub Brings : Scenario → List Happening → ℕ → NoteBody → Type 0

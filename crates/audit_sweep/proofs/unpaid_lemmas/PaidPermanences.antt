@@ -80,8 +80,7 @@ waits_so s hs until cause h there o =
 
 -- a record waits in one way
 one_waiting : (network : Network) (h : Happening) (a b : Waiting) → IsWaiting network h a → IsWaiting network h b → a ≡ b
-one_waiting network h a b x y =
-    grind arith
+one_waiting network h a b x y = grind arith
 
 -- where no frame waits none is owed
 pub none_waits : (s : Scenario) (hs : List Happening) (until cause : ℕ) (h : Happening) → numbered hs cause ≡ Some h

@@ -3,7 +3,8 @@ use Rattle.std.specs.Prelude.{if◌then◌else◌, ◌==◌, Bool, Err, List, Ok
 use Rattle.audit_sweep.specs.declared.records.kept.{Kept.Kept, KeptRecord.KeptRecord, Sending.Sending}
 use Rattle.{device_rules.specs.Headings.heading_of, run_law.specs.records.Happenings.{Happening, time_of}}
 use Rattle.{net_plan.specs.declared.event.What.What, pcf_codec.specs.declared.refusal.PcfRefusal.PcfRefusal}
-use Rattle.{pcf_codec.specs.{Decoding.decoded, EtherType.pcf_type, Fields.field}, pcf_values.specs.declared.pcf.Pcf.Pcf}
+use Rattle.pcf_codec.specs.{Decoding.decoded, EtherType.pcf_type, Fields.field}
+use Rattle.tte_units.specs.declared.frames.pcf.Pcf.{Pcf}
 use Rattle.run_law.specs.declared.{judgement.Judgement.{Judgement, TheVariants.Integrates}, note.NoteBody.NoteBody}
 use Rattle.audit_sweep.specs.declared.records.kept.Kept.TheVariants as kept
 use Rattle.audit_sweep.specs.declared.records.kept.Sending.TheVariants as sendings

@@ -3,7 +3,7 @@ use Rattle.std.specs.Prelude.{◌≡◌, ◌≤◌, List, MatchOption, Option, S
 use Rattle.{audit_law.specs.law.Permanences.OwesPermanence, net_plan.specs.declared.network.Network.Network}
 use Rattle.{audit_sweep.specs.declared.unpaid.permanences.Waiting.Waiting, run_law.specs.control.Permanence.waits_for}
 use Rattle.{drift_clock.specs.{Reach.IsReach, transparent.Points.point_of}, net_plan.specs.declared.ids.LinkId.LinkId}
-use Rattle.pcf_values.specs.declared.pcf.Pcf.{Pcf}
+use Rattle.tte_units.specs.declared.frames.pcf.Pcf.{Pcf}
 use Rattle.run_law.specs.{records.Happenings.{Happening, time_of}, scenario.Scenarios.{Scenario, is_broken}}
 use Rattle.run_law.specs.declared.note.NoteBody.TheVariants as notes
 

@@ -1,7 +1,7 @@
 use device_rules::Heading;
 use net_plan::{DeviceId, LinkId, VlId};
 use pcf_codec::PcfRefusal;
-use pcf_values::Pcf;
+use tte_units::frames::Pcf;
 
 /// What the octets of a `send` event are.
 #[derive(Clone, Copy)]

@@ -9,8 +9,8 @@ use crate::records::{Kept, Sending};
 use device_rules::Heading;
 use net_plan::{Octets, What};
 use pcf_codec::{decode, is_pcf};
-use pcf_values::Pcf;
 use run_law::{Judgement, NoteBody};
+use tte_units::frames::Pcf;
 
 /// What is kept of what a record says.
 pub(crate) fn kept_of(body: &NoteBody) -> Kept

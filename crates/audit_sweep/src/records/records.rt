@@ -10,10 +10,10 @@ use crate::records::{KeptRecord, OutOfMemory, making};
 use device_rules::Heading;
 use device_rules::frames::{dispatched_frame, integration_frame};
 use net_plan::{Network, VlId, What};
-use pcf_values::Pcf;
 use run_law::NoteBody;
 use std::alloc::Global;
 use std::marker::Model;
+use tte_units::frames::Pcf;
 
 /// The heading of no octets.
 const NO_OCTETS: Heading = Heading {

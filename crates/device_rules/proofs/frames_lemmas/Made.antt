@@ -7,13 +7,11 @@ use Rattle.std.proofs.Common.{◌++◌, ◌+◌, ◌-◌, ◌<◌, ◌∙◌, �
 
 -- of a virtual link of the network it is the frame of the law
 pub made_is : (network : Network) (vl : VlId) (cycle : ℕ) → vl.0 < length network.vl → made_frame network vl cycle ≡ tt_frame network vl cycle
-made_is network vl cycle lt =
-    grind (arith, slice_get_cases, replicate)
+made_is network vl cycle lt = grind (arith, slice_get_cases, replicate)
 
 -- how long the head is
 head_length : (network : Network) (vl : VirtualLink) (cycle : ℕ) → length (head_of network vl cycle) ≡ 18
-head_length network vl cycle =
-    grind (arith, length-append)
+head_length network vl cycle = grind (arith, length-append)
 
 -- the first octets of a longer frame are the frame
 pub front_made : (network : Network) (vl : VirtualLink) (cycle : ℕ) → IsVlInRange network vl

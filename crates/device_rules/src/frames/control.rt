@@ -5,8 +5,8 @@ ghost use Rattle.{net_plan.specs.Ranges.IsInRange, run_law.specs.scenario.Device
 ghost use Rattle.run_law.specs.records.Frames.{dispatched_frame, integration_frame, mac_of};
 
 use net_plan::{DeviceId, Network};
-use pcf_values::{Mac, Members, Pcf, PcfKind};
 use sync_state::membership::one;
+use tte_units::frames::{Mac, Members, Pcf, PcfKind};
 
 /// The address of the device.
 fn mac_of(network: &Network, device: DeviceId) -> Mac

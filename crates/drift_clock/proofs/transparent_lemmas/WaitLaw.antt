@@ -11,8 +11,7 @@ waits_for_point rho grain dmax clock t q reading small laws young permanent =
     let after : t ≤ q = omega (arith, ints, permanent.from_on) in
     let up = laws.never_falls t q after in
     let least : dmax - clock ≤ reading q - reading t = omega (arith, ints, permanent.reached) in
-    let most : reading q - reading t ≤ dmax - clock + 2 * grain =
-    elim (cases_lt t q) [
+    let most : reading q - reading t ≤ dmax - clock + 2 * grain = elim (cases_lt t q) [
       | inl later ↦
           let short = permanent.not_before (q - 1) (omega (arith, ints)) (omega (arith, ints)) in
           let step = one_step rho grain (q - (q - 1)) (reading q - reading (q - 1)) small (omega arith) (laws.drifts (q - 1) q (omega arith)) in

@@ -1,10 +1,10 @@
 -- A network that keeps the rules has devices and links.
-use Rattle.{fault_hypothesis.proofs.storm_lemmas.Masters.{master_uplink, master_within}, schedule_tables.specs.declared.rule.Rule.TheVariants.Masters}
-use Rattle.{fault_hypothesis.specs.storm.Striking.IsMaster, net_plan.specs.declared.{ids.DeviceId.DeviceId, network.Network.Network, tables.Device.Device}}
-use Rattle.{net_plan.{proofs.TableFacts.link_within, specs.{Places.is_master, declared.ids.LinkId.LinkId}}, schedule_tables.specs.Rules.KeepsRules}
-use Rattle.{net_plan.specs.Paths.IsUplink, std.specs.List.count_by}
-use Rattle.{pcf_values.specs.declared.channel.Channel.{Channel, TheVariants.A}, std.proofs.lemmas.{Bool.cases_Bool, List.Sums.{length-filter, sum_by-cons}}}
-use Rattle.std.{proofs.Common.{◌+◌, ◌<◌, ◌∷◌, ◌≡◌, Bool, List, Some, [], ap, arith, cond, inl, inr, length, refl, suc, true, zero, ℕ}, specs.Prelude.slice_get}
+use Rattle.{fault_hypothesis.proofs.storm_lemmas.Masters.{master_uplink, master_within}, tte_units.specs.declared.frames.channel.Channel.TheVariants.A}
+use Rattle.{fault_hypothesis.specs.storm.Striking.IsMaster, net_plan.{proofs.TableFacts.link_within, specs.{Places.is_master, declared.tables.Device.Device}}}
+use Rattle.{net_plan.specs.Paths.IsUplink, std.specs.{List.count_by, Prelude.slice_get}}
+use Rattle.{net_plan.specs.declared.{ids.{DeviceId.DeviceId, LinkId.LinkId}, network.Network.Network}, std.proofs.lemmas.List.Sums.{length-filter, sum_by-cons}}
+use Rattle.{schedule_tables.specs.{Rules.KeepsRules, declared.rule.Rule.TheVariants.Masters}, tte_units.specs.declared.frames.channel.Channel.Channel}
+use Rattle.std.proofs.{Common.{◌+◌, ◌<◌, ◌∷◌, ◌≡◌, Bool, List, Some, [], ap, arith, cond, inl, inr, length, refl, suc, true, zero, ℕ}, lemmas.Bool.cases_Bool}
 
 -- where some elements of a list pass a test, one stands at a place of it
 pub one_counted : {X : Type 0} (p : X → Bool) (xs : List X) → 0 < count_by p xs → (k : ℕ) × (x : X) × (slice_get xs k ≡ Some x) × (p x ≡ true)

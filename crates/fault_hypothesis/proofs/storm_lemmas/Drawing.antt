@@ -1,16 +1,15 @@
 -- What the kinds of events draw.
-use Rattle.fault_hypothesis.specs.{declared.storm.draw.Choice.{Choice, TheVariants.{Hold, Wire}}, storm.Choosing.{choice_of, hold_of, link_of, way_of, wire_of}}
-use Rattle.{fault_hypothesis.specs.declared.storm.draw.Draw.Draw, net_plan.specs.declared.network.Network.Network, tte_units.specs.declared.units.Units.Units}
-use Rattle.{fault_hypothesis.specs.storm.Events.{IsChosen, IsDrawn}, std.proofs.Common.{◌∙◌, ◌≡◌, List, None, Option, Some, ap, subst, sym}}
-use Rattle.net_plan.specs.{Places.link_at, declared.tables.Way.Way}
-use Rattle.{net_plan.specs.declared.{event.{Event.Event, What.What}, ids.LinkId.LinkId, tables.Link.Link}, std.specs.Prelude.{IsSomeAnd, MatchOption}}
+use Rattle.fault_hypothesis.specs.declared.storm.draw.{Choice.{Choice, TheVariants.{Cut, Heal, Hold, Rate, Wire}}, Draw.Draw}
+use Rattle.fault_hypothesis.specs.storm.{Choosing.{choice_of, device_of, hold_of, link_of, rate_of, way_of, wire_of}, Events.{IsChosen, IsDrawn}}
+use Rattle.{net_plan.specs.{Places.link_at, declared.tables.Way.Way}, std.specs.Prelude.{IsSomeAnd, MatchOption}, tte_units.specs.declared.rates.Ppb.Ppb}
+use Rattle.{net_plan.specs.declared.{event.{Event.Event, What.What}, ids.LinkId.LinkId, tables.Link.Link}, tte_units.specs.declared.units.Units.Units}
+use Rattle.{net_plan.specs.declared.{ids.DeviceId.DeviceId, network.Network.Network}, std.proofs.Common.{◌∙◌, ◌≡◌, List, None, Option, Some, ap, subst, sym}}
 use Rattle.net_plan.specs.declared.event.What.TheVariants as kinds
 
 -- what is chosen is drawn where the words choose its kind
 pub drawn_by : (network : Network) (before : List Event) (time : Units) (draw : Draw) (choice : Choice) (what : What) → choice ≡ choice_of draw.kind
     → IsChosen network before time draw choice what → IsDrawn network before time draw what
-drawn_by network before time draw choice what chosen is =
-    subst (λ (k : Choice). IsChosen network before time draw k what) chosen is
+drawn_by network before time draw choice what chosen is = subst (λ (k : Choice). IsChosen network before time draw k what) chosen is
 
 -- the wire delay of a link
 pub wire_drawn : (network : Network) (before : List Event) (time : Units) (draw : Draw) (link : LinkId) (way : Way) (delay : Units) (found : Link)
@@ -33,6 +32,19 @@ hold_drawn network before time draw link way delay found link_is at way_is delay
     subst
     (λ (o : Option Link). IsSomeAnd o (λ l. kinds.Hold link way delay ≡ kinds.Hold (link_of network draw) (way_of draw) (hold_of l draw)))
     (sym there) same
+
+-- the kinds that no link's own numbers bound
+pub rate_drawn : (network : Network) (before : List Event) (time : Units) (draw : Draw) (device : DeviceId) (rate : Ppb)
+    → device ≡ device_of network draw → rate ≡ rate_of network draw → IsChosen network before time draw Rate (kinds.Rate device rate)
+rate_drawn network before time draw device rate device_is rate_is = cc
+
+pub cut_drawn : (network : Network) (before : List Event) (time : Units) (draw : Draw) (link : LinkId) (way : Way)
+    → link ≡ link_of network draw → way ≡ way_of draw → IsChosen network before time draw Cut (kinds.Cut link way)
+cut_drawn network before time draw link way link_is way_is = cc
+
+pub heal_drawn : (network : Network) (before : List Event) (time : Units) (draw : Draw) (link : LinkId) (way : Way)
+    → link ≡ link_of network draw → way ≡ way_of draw → IsChosen network before time draw Heal (kinds.Heal link way)
+heal_drawn network before time draw link way link_is way_is = cc
 
 -- where a value is there and has one property, it has each that follows
 pub match_some : {X : Type 0} (o : Option X) (P Q : X → Type 0) → ((x : X) → P x → Q x) → MatchOption o ⊥ P → MatchOption o ⊥ Q

@@ -1,8 +1,8 @@
 -- The masters of a network: the last one, and the uplinks that they have.
 use Rattle.{fault_hypothesis.specs.storm.Striking.{IsLastMaster, IsMaster}, schedule_tables.specs.declared.rule.Rule.TheVariants.Connections}
 use Rattle.{net_plan.specs.Paths.IsUplink, schedule_tables.{proofs.Margins.master_ends, specs.Rules.KeepsRules}, std.proofs.lemmas.Bool.cases_order}
-use Rattle.{net_plan.specs.{Places.{IsEndSystem, device_at, is_master}, declared.ids.LinkId.LinkId}, std.specs.Prelude.{IsSomeAnd, MatchOption, slice_get}}
-use Rattle.{net_plan.specs.declared.{ids.DeviceId.DeviceId, network.Network.Network, tables.Device.Device}, pcf_values.specs.declared.channel.Channel.Channel}
+use Rattle.{net_plan.specs.{Places.{IsEndSystem, device_at, is_master}, declared.tables.Device.Device}, tte_units.specs.declared.frames.channel.Channel.Channel}
+use Rattle.{net_plan.specs.declared.{ids.{DeviceId.DeviceId, LinkId.LinkId}, network.Network.Network}, std.specs.Prelude.{IsSomeAnd, MatchOption, slice_get}}
 use Rattle.std.proofs.{Common.{◌+◌, ◌<◌, ◌∙◌, ◌≡◌, None, Option, Some, ap, arith, inl, inr, length, refl, subst, true, ℕ}, lemmas.Option.slice_get_within}
 
 -- the device is the last master below a place, or there is none below it
@@ -15,8 +15,7 @@ IsLastBelow network (Some master) place =
 -- a master at the place is the last one below the next
 pub next_master : (network : Network) (place : ℕ) (found : Device) → slice_get network.device place ≡ Some found → is_master found.role ≡ true
     → IsLastBelow network (Some (record { 0 = place })) (place + 1)
-next_master network place found at master =
-    (omega arith, rw at master, λ later above below is. omega (arith, above, below))
+next_master network place found at master = (omega arith, rw at master, λ later above below is. omega (arith, above, below))
 
 -- a master at the place has a master's role
 not_here : (network : Network) (place : ℕ) (found : Device) (device : DeviceId) → slice_get network.device place ≡ Some found → device.0 ≡ place

@@ -5,9 +5,9 @@ use Rattle.fault_hypothesis.{proofs.storm_lemmas.Storms.storms_within, specs.sto
 use Rattle.fault_hypothesis.{proofs.storm_lemmas.Within.{any_split, broken_is_master}, specs.storm.Striking.{IsLastMaster, SendsForged, Strikes, forged}}
 use Rattle.{fault_hypothesis.specs.declared.storm.draw.{Choice.Choice, Draw.Draw}, net_plan.specs.declared.{ids.DeviceId.DeviceId, network.Network.Network}}
 use Rattle.{fault_hypothesis.specs.storm.Laws.StormIsOne, net_plan.specs.declared.tables.Device.Device, run_law.specs.scenario.Faults.{Breaks, IsBroken}}
-use Rattle.{fault_hypothesis.specs.storm.Words.draw_at, run_law.proofs.scenario.Devices.within_front, tte_units.specs.declared.units.Units.Units}
-use Rattle.{net_plan.specs.Places.link_at, pcf_values.specs.declared.pcf.Pcf.Pcf, std.{proofs.lemmas.Bool.cases_order, specs.{List.Any, Prelude.IsSomeAnd}}}
-use Rattle.{net_plan.specs.declared.{event.{Event.Event, What.What}, tables.Link.Link}, pcf_codec.specs.Spelling.Spells, schedule_tables.specs.Rules.KeepsRules}
+use Rattle.{fault_hypothesis.specs.storm.Words.draw_at, run_law.proofs.scenario.Devices.within_front, tte_units.specs.declared.frames.pcf.Pcf.Pcf}
+use Rattle.{net_plan.specs.{Places.link_at, declared.{event.{Event.Event, What.What}, tables.Link.Link}}, tte_units.specs.declared.units.Units.Units}
+use Rattle.{pcf_codec.specs.Spelling.Spells, schedule_tables.specs.Rules.KeepsRules, std.{proofs.lemmas.Bool.cases_order, specs.{List.Any, Prelude.IsSomeAnd}}}
 use Rattle.{run_law.specs.declared.outside.Outside.TheVariants.SecondBreak, schedule_tables.specs.declared.rule.Rule.TheVariants.Connections}
 use Rattle.{run_law.specs.scenario.Hypothesis.{AreWithinHypothesis, IsWithinHypothesis}, tte_units.proofs.general_lemmas.Lists.{any_behind, any_first, any_of}}
 use Rattle.std.proofs.Common.{◌++◌, ◌∙◌, ◌∷◌, ◌≡◌, ◌⊎◌, List, None, Option, Some, [], ap, append_assoc, arith, inl, inr, length, refl, subst, sym, ℕ}

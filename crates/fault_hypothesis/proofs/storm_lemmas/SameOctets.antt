@@ -1,5 +1,5 @@
 -- Two spellings of one frame, of bytes and with zeros in the padding, are the same octets.
-use Rattle.{byteorder.specs.{Endian.big_from, Numbers.big_from-lt}, pcf_codec.specs.Spelling.{IsPadding, Spells}, pcf_values.specs.declared.pcf.Pcf.Pcf}
+use Rattle.{byteorder.specs.{Endian.big_from, Numbers.big_from-lt}, pcf_codec.specs.Spelling.{IsPadding, Spells}, tte_units.specs.declared.frames.pcf.Pcf.Pcf}
 use Rattle.{hex.specs.Hex.IsBytes, pcf_codec.specs.Fields.field}
 use Rattle.std.{proofs.Common.{◌*◌, ◌+◌, ◌-◌, ◌<◌, ◌^◌, ◌∙◌, ◌≡◌, ◌≤◌, List, ap, arith, drop, inl, inr, subst, suc, sym, zero, ℕ}, specs.Prelude.slice_index}
 use Rattle.{std.proofs.lemmas.{Bool.{cases_lt, cases_order}, List.{ext_get_or, get_or-drop}}, tte_units.proofs.general_lemmas.Naturals.same_heads}

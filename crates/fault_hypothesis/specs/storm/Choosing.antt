@@ -1,12 +1,11 @@
 -- What the words of a step choose.
 use Rattle.std.specs.Prelude.{if◌then◌else◌, ◌%◌, ◌*◌, ◌+ℤ◌, ◌+◌, ◌-ℤ◌, ◌==◌, ◌^◌, ◌||◌, length, nat_lt, pos, ℕ}
-use Rattle.net_plan.specs.declared.{ids.{DeviceId.DeviceId, LinkId.LinkId}, network.Network.Network, tables.Link.Link}
-use Rattle.net_plan.specs.declared.tables.Way.{Way, TheVariants.{Down, Up}}
-use Rattle.pcf_values.specs.declared.channel.Channel.{Channel, TheVariants.{A, B}}
-use Rattle.tte_units.specs.{Amount.{amount, units_of}, declared.{rates.Ppb.Ppb, units.Units.Units}}
-use Rattle.fault_hypothesis.specs.declared.storm.draw.Choice.{Choice}
 use Rattle.fault_hypothesis.specs.declared.storm.draw.Choice.TheVariants.{Cut, Heal, Hold, On, Rate, Strike, Wire}
-use Rattle.fault_hypothesis.specs.declared.storm.draw.{Draw.Draw}
+use Rattle.fault_hypothesis.specs.declared.storm.draw.{Choice.Choice, Draw.Draw}
+use Rattle.net_plan.specs.declared.{ids.DeviceId.DeviceId, network.Network.Network, tables.Way.TheVariants.{Down, Up}}
+use Rattle.{net_plan.specs.declared.{ids.LinkId.LinkId, tables.Link.Link}, tte_units.specs.Amount.{amount, units_of}}
+use Rattle.{net_plan.specs.declared.tables.Way.Way, tte_units.specs.declared.rates.Ppb.Ppb}
+use Rattle.tte_units.specs.declared.{frames.channel.Channel.{Channel, TheVariants.{A, B}}, units.Units.Units}
 
 -- the kind of event that the first word chooses: two of eight are rates
 abbrev pub choice_of : ℕ → Choice

@@ -1,15 +1,12 @@
 -- The events of a storm, step by step.
 use Rattle.std.specs.Prelude.{◌*◌, ◌++◌, ◌+◌, ◌/◌, ◌<◌, ◌∷◌, ◌≡◌, ◌≤ℤ◌, ◌⊎◌, IsSomeAnd, List, [], length, pos, ℕ}
-use Rattle.net_plan.specs.Places.{link_at}
-use Rattle.fault_hypothesis.specs.storm.Words.{draw_at}
-use Rattle.tte_units.specs.Amount.{amount, units_of}
-use Rattle.{net_plan.specs.declared.event.{Event.Event, What.What}, tte_units.specs.declared.units.Units.Units}
-use Rattle.{net_plan.specs.declared.network.Network.Network, run_law.specs.scenario.Hypothesis.IsWithinHypothesis}
-use Rattle.fault_hypothesis.specs.storm.Choosing.{choice_of, device_of, hold_of, link_of, rate_of, way_of, wire_of}
-use Rattle.fault_hypothesis.specs.storm.{Striking.Strikes}
-use Rattle.fault_hypothesis.specs.declared.storm.draw.Choice.{Choice}
 use Rattle.fault_hypothesis.specs.declared.storm.draw.Choice.TheVariants.{Cut, Heal, Hold, On, Rate, Strike, Wire}
-use Rattle.fault_hypothesis.specs.declared.storm.draw.{Draw.Draw}
+use Rattle.fault_hypothesis.specs.{declared.storm.draw.{Choice.Choice, Draw.Draw}, storm.Striking.Strikes}
+use Rattle.fault_hypothesis.specs.storm.Choosing.{choice_of, device_of, hold_of, link_of, rate_of, way_of, wire_of}
+use Rattle.{fault_hypothesis.specs.storm.Words.draw_at, tte_units.specs.declared.units.Units.Units}
+use Rattle.net_plan.specs.Places.{link_at}
+use Rattle.{net_plan.specs.declared.event.{Event.Event, What.What}, tte_units.specs.Amount.{amount, units_of}}
+use Rattle.{net_plan.specs.declared.network.Network.Network, run_law.specs.scenario.Hypothesis.IsWithinHypothesis}
 use Rattle.net_plan.specs.declared.event.What.TheVariants as kinds
 
 -- this befalls the network where an event of this kind is chosen, given the events before

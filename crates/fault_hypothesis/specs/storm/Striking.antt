@@ -1,12 +1,12 @@
 -- The strikes of a storm: a master breaks, and then sends forged frames.
 use Rattle.std.specs.Prelude.{◌%◌, ◌+◌, ◌/◌, ◌<◌, ◌≡◌, ◌⊎◌, IsSomeAnd, List, Some, slice_index, true, ℕ}
 use Rattle.fault_hypothesis.specs.{declared.storm.draw.Draw.Draw, storm.Choosing.channel_of}
-use Rattle.{hex.specs.Hex.IsBytes, net_plan.specs.Paths.IsUplink, pcf_values.specs.declared.pcf.Pcf.Pcf}
+use Rattle.{hex.specs.Hex.IsBytes, net_plan.specs.Paths.IsUplink, tte_units.specs.Amount.amount}
 use Rattle.net_plan.specs.{Places.{device_at, is_master}, declared.{event.Event.Event, ids.DeviceId.DeviceId}}
 use Rattle.net_plan.specs.declared.{event.What.TheVariants.{Break, Send}, network.Network.Network, tables.Device.Device}
 use Rattle.{net_plan.specs.declared.{event.What.What, ids.LinkId.LinkId}, run_law.specs.scenario.Faults.IsBroken}
-use Rattle.{pcf_codec.specs.Spelling.{IsPadding, Spells}, pcf_values.specs.declared.pcf.PcfKind.TheVariants.Integration}
-use Rattle.{sync_state.specs.membership.Members.single, tte_units.specs.{Amount.amount, declared.units.Units.Units}}
+use Rattle.{pcf_codec.specs.Spelling.{IsPadding, Spells}, sync_state.specs.membership.Members.single}
+use Rattle.tte_units.specs.declared.{frames.pcf.{Pcf.Pcf, PcfKind.TheVariants.Integration}, units.Units.Units}
 
 -- the device is a master
 abbrev pub IsMaster : Network → DeviceId → Type 0

@@ -3,8 +3,8 @@ ghost use Rattle.net_plan.specs.Belonging.{HasDevice, HasLink};
 ghost use Rattle.fault_hypothesis.specs.storm.Choosing.{channel_of, choice_of, device_of, link_of, rate_of, way_of};
 
 use net_plan::{DeviceId, LinkId, Network, Way};
-use pcf_values::Channel;
 use tte_units::Ppb;
+use tte_units::frames::Channel;
 
 /// The three words of a step: what kind of event comes, where, and how much.
 #[derive(Clone, Copy)]

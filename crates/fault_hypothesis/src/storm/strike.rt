@@ -7,8 +7,8 @@ ghost use Rattle.fault_hypothesis.specs.storm.Striking.{IsLastMaster, IsMaster, 
 use crate::storm::draw::Draw;
 use net_plan::{Device, DeviceId, Network, Octets, Role, What};
 use pcf_codec::{PCF_LENGTH, encode};
-use pcf_values::{Pcf, PcfKind};
 use tte_units::Units;
+use tte_units::frames::{Pcf, PcfKind};
 
 /// The last master of the network, if it has one.
 pub(crate) fn last_master(network: &Network) -> Option<DeviceId>

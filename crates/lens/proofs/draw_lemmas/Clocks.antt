@@ -1,19 +1,18 @@
 -- The clocks of a picture are those of correct synchronised devices at the end of the run.
-use Rattle.{lens.specs.draw.ClockLaws.{IsShown, IsTrueBar, PicturesShowClocks, ShowsClock, ShowsClocks}, tte_audit.proofs.reports_lemmas.Safely.report_well}
+use Rattle.{lens.specs.draw.ClockLaws.{IsShown, IsTrueBar, PicturesShowClocks, ShowsClock, ShowsClocks}, net_plan.specs.declared.network.Network.Network}
 use Rattle.lens_svg.specs.Clocks.{Clocks, apart_of, broken_by, clocks_in, clocks_with, ends_of, ends_with, is_among, local_of, no_clocks, share, told_by}
 use Rattle.{lens_svg.specs.{Clocks.{told_in, with_one}, declared.clock.Told.Told}, std.proofs.lemmas.{Bool.Decides.nat_tests, Int.ints, List.Sums.fold-append}}
-use Rattle.{lens_svg.specs.Layout.holds, std.specs.Option.option_map_or, tte_units.specs.Amount.amount}
-use Rattle.{lens_svg.specs.Sketching.moment, run_law.specs.law.Safety.AreClose, std.specs.List.{cons_option, list_any}, tte_audit.proofs.OnlyEnd.only_end}
+use Rattle.{lens_svg.specs.{Layout.holds, Sketching.moment}, std.specs.Option.option_map_or, tte_units.specs.Amount.amount}
 use Rattle.{lens_svg.specs.declared.{clock.Ends.Ends, layout.Span.Span}, net_plan.specs.declared.event.Event.Event, tte_units.specs.declared.units.Units.Units}
-use Rattle.{net_plan.specs.declared.event.What.What, run_law.specs.{declared.note.Note.Note, device.LocalClocks.local}, schedule_tables.specs.Rules.KeepsRules}
-use Rattle.{net_plan.specs.declared.ids.DeviceId.DeviceId, run_law.specs.declared.note.NoteBody.NoteBody, std.proofs.lemmas.List.Elements.filter-append}
-use Rattle.{net_plan.specs.declared.network.Network.Network, sync_state.specs.declared.state.State.TheVariants.{Integrating, Joining, Off, Synchronised}}
-use Rattle.{run_law.{proofs.runs.NetworkRuns.same_notes, specs.scenario.Hypothesis.breaks_at}, sync_state.specs.declared.state.State.State}
+use Rattle.{net_plan.specs.declared.event.What.What, run_law.specs.{declared.note.Note.Note, law.Safety.AreClose}, schedule_tables.specs.Rules.KeepsRules}
+use Rattle.{net_plan.specs.declared.ids.DeviceId.DeviceId, sync_state.specs.declared.state.State.{State, TheVariants.{Integrating, Joining, Off, Synchronised}}}
+use Rattle.run_law.{proofs.runs.NetworkRuns.same_notes, specs.{device.LocalClocks.local, records.{Order.{IsBefore, IsIn}, Ranks.{place_of, rank}}}}
 use Rattle.run_law.{proofs.runs.Places.{in_left, in_parts, in_right, parted}, specs.records.Happenings.{Happening, happenings, time_of, up_to}}
+use Rattle.{run_law.specs.{declared.note.NoteBody.NoteBody, scenario.{Hypothesis.breaks_at, Scenarios.Scenario}}, std.proofs.lemmas.List.Elements.filter-append}
 use Rattle.run_law.specs.{device.States.{adjustment_after, adjustment_with, cycle_in, state_after, state_with}, runs.DueRecords.{IsCaused, IsClockRecord}}
-use Rattle.{run_law.specs.{records.{Order.{IsBefore, IsIn}, Ranks.{place_of, rank}}, scenario.Scenarios.Scenario}, tte_audit.specs.reports.Reports.IsReportOf}
 use Rattle.std.proofs.Common.{◌*◌, ◌++◌, ◌/◌, ◌<◌, ◌∙◌, ◌∷◌, ◌≡◌, ◌≤◌, ◌⊎◌, Bool, List, None, Option, Some, [], ap, append_assoc, arith, false, filter, fold}
 use Rattle.std.proofs.{Common.{inl, inr, map, pos, refl, subst, sym, true, ℕ, ℤ}, Math.Nat.{div-le_of_le-mul, mul-div_cancel, mul-le-mul_left, mul_comm}}
+use Rattle.{std.specs.List.{cons_option, list_any}, tte_audit.proofs.OnlyEnd.only_end, tte_reports.{proofs.Safely.report_well, specs.Reports.IsReportOf}}
 use Rattle.{std.specs.Prelude.{◌+ℤ◌, ◌==◌, ◌||◌, if◌then◌else◌, int_lt, nat_le, nat_lt}, tte_audit.specs.Report.{event_by, events_of, scenario_of}}
 use Rattle.net_plan.specs.declared.event.What.TheVariants as events
 use Rattle.run_law.specs.declared.note.NoteBody.TheVariants as notes
@@ -62,8 +61,7 @@ told_from span (note ∷ ns) clocks t i = by (told_from span ns (clocks_with spa
 
 broken_kept : (span : Span) (ns : List Note) (clocks : Clocks) (d : DeviceId) → IsIn d clocks.broken → IsIn d (fold (clocks_with span) clocks ns).broken
 broken_kept span [] clocks d i = i
-broken_kept span (note ∷ ns) clocks d i =
-    broken_kept span ns (clocks_with span clocks note) d (with_more clocks.broken (broken_by note.body) d i)
+broken_kept span (note ∷ ns) clocks d i = broken_kept span ns (clocks_with span clocks note) d (with_more clocks.broken (broken_by note.body) d i)
 
 or_left : (a b : Bool) → (a || b) ≡ false → a ≡ false
 or_left true b e = absurd cc
@@ -75,8 +73,7 @@ or_right false b e = e
 
 among_false : (ds : List DeviceId) (d device : DeviceId) → IsIn d ds → is_among ds device ≡ false → (d.0 == device.0) ≡ false
 among_false [] d device i none = absurd i
-among_false (x ∷ ds) d device (inl e) none =
-    ap (λ (y : DeviceId). y.0 == device.0) e ∙ or_left (x.0 == device.0) (is_among ds device) none
+among_false (x ∷ ds) d device (inl e) none = ap (λ (y : DeviceId). y.0 == device.0) e ∙ or_left (x.0 == device.0) (is_among ds device) none
 among_false (x ∷ ds) d device (inr i) none = among_false ds d device i (or_right (x.0 == device.0) (is_among ds device) none)
 
 not_breaking : (what : What) (device : DeviceId) (ds : List DeviceId) → ((d : DeviceId) → what ≡ events.Break d → IsIn d ds) → is_among ds device ≡ false
@@ -187,8 +184,7 @@ module _ (s : Scenario) (d : DeviceId) (t : ℕ) where
     where
       by : ((w : State) → fold next_state w (up_to t ys) ≡ w) → (b : Bool) → nat_le (time_of y) t ≡ b
           → fold next_state z (if b then y ∷ up_to t ys else up_to t ys) ≡ z
-      by rest true e =
-          rest (next_state z y) ∙ (still s d (cycle_in y) z (record { 0 = pos 0 }) y.note.body (last y (inl refl) (le_from (time_of y) t e))).0
+      by rest true e = rest (next_state z y) ∙ (still s d (cycle_in y) z (record { 0 = pos 0 }) y.note.body (last y (inl refl) (le_from (time_of y) t e))).0
       by rest false e = rest z
 
   adjustment_still : (ys : List Happening) (z : Units) → AreLast t ys → fold next_adjustment z (up_to t ys) ≡ z
@@ -277,8 +273,7 @@ module _ (network : Network) (octets : List ℕ) (ns : List Note) (end : Units) 
       after_clock h x own before most
 
   shows_by : (t : Told) (h : Happening) (ps qs : List Happening) → hs ≡ ps ++ h ∷ qs
-      → h.note.body ≡ notes.Clock t.device t.reading t.adjustment Synchronised → is_among told_here.broken t.device ≡ false
-      → ShowsClock scene hs (amount end) t
+      → h.note.body ≡ notes.Clock t.device t.reading t.adjustment Synchronised → is_among told_here.broken t.device ≡ false → ShowsClock scene hs (amount end) t
   shows_by t h ps qs whole body correct =
       let due = (of.run.founded ps qs h whole).1 in
       let clock : IsClockRecord scene ps t.device h.note.time t.reading t.adjustment Synchronised =
@@ -292,8 +287,7 @@ module _ (network : Network) (octets : List ℕ) (ns : List Note) (end : Units) 
       let adjustment : adjustment_after scene (up_to (time_of h) hs) t.device ≡ t.adjustment =
       ap (λ (xs : List Happening). adjustment_after scene (up_to (time_of h) xs) t.device) whole
       ∙ same_adjustment scene t.device (time_of h) ps (h ∷ qs) last ∙ sym clock.adjusted in
-      let shown : local_of t ≡ local scene hs t.device (time_of h) =
-      ap (λ (u : Units). u.0 +ℤ t.adjustment.0) clock.reads
+      let shown : local_of t ≡ local scene hs t.device (time_of h) = ap (λ (u : Units). u.0 +ℤ t.adjustment.0) clock.reads
       ∙ ap (λ (u : Units). pos (scene.reading t.device (time_of h)) +ℤ u.0) (sym adjustment) in record {
         in_step = record {
           correct = correct_all span ns no_clocks t.device (amount end) correct;

@@ -1,22 +1,21 @@
 -- The frames that a picture shows as taken came in their windows.
-use Rattle.{lens.proofs.draw_lemmas.{Asking.{in_shown, struck_other}, Runs.pictures_show_runs}, lens_svg.specs.declared.mark.Look.TheVariants.Taken}
+use Rattle.{lens.proofs.draw_lemmas.{Asking.{in_shown, struck_other}, Falls.no_later}, run_law.specs.timed.Receptions.{ArrivesAs, arrival_of, last_taken}}
 use Rattle.{lens.proofs.draw_lemmas.Clocks.{has_happening, share_is}, lens_svg.specs.Windows.{came_at, came_by, came_of, row_of, tick_in, window_at, window_by}}
-use Rattle.{lens.proofs.draw_lemmas.Falls.no_later, lens_svg.specs.declared.mark.Mark.Mark, run_law.specs.{declared.note.Note.Note, runs.DueRecords.IsCaused}}
-use Rattle.{lens.specs.draw.Picture.clocks_of, lens_svg.proofs.Windows.window_is, schedule_tables.specs.Entries.IsEntry, tte_audit.specs.Report.scenario_of}
+use Rattle.{lens.proofs.draw_lemmas.Runs.pictures_show_runs, std.specs.Prelude.{◌+ℤ◌, ◌-ℤ◌, if◌then◌else◌, nat_lt, option_and_then, option_map, unsigned_abs}}
+use Rattle.{lens.specs.draw.Picture.clocks_of, schedule_tables.specs.Entries.IsEntry, tte_audit.specs.Report.scenario_of, tte_reports.specs.Reports.IsReportOf}
 use Rattle.{lens.specs.draw.WindowLaws.{PicturesShowWindows, ShowsWindow}, schedule_tables.specs.Windows.{arrival_of as arrival_place, tolerance, window_of}}
-use Rattle.{lens_svg.specs.{Bodies.{look_of, scene_of}, declared.layout.Span.Span}, std.proofs.{Common.{refl, subst, sym, ℕ, ℤ}, lemmas.Bool.Decides.nat_tests}}
-use Rattle.{lens_svg.specs.Clocks.share, lens_why.proofs.Rows.row_is_one, net_plan.specs.Ranges.IsInRange, run_law.specs.records.Order.IsIn}
-use Rattle.{lens_svg.specs.Laws.{AreMarksOf, IsMarkOf, shown}, run_law.specs.declared.steps.Arrival.Arrival, tte_units.proofs.general_lemmas.Integers.not_below}
-use Rattle.{lens_svg.specs.Sketching.{moment, plan_of}, net_plan.specs.declared.ids.{LinkId.LinkId, VlId.VlId}, run_law.specs.scenario.Scenarios.Scenario}
-use Rattle.{net_plan.specs.declared.ids.DeviceId.DeviceId, run_law.specs.declared.note.NoteBody.NoteBody, traffic_law.proofs.delivery.Taken.never_control}
-use Rattle.{net_plan.specs.declared.network.Network.Network, std.specs.Prelude.{◌+ℤ◌, ◌-ℤ◌, if◌then◌else◌, nat_lt, option_and_then, option_map, unsigned_abs}}
-use Rattle.{run_law.proofs.runs.NetworkRuns.same_notes, tte_audit.specs.reports.Reports.IsReportOf, tte_units.specs.{Amount.amount, declared.units.Units.Units}}
-use Rattle.{run_law.{proofs.runs.Places.{in_right, parted}, specs.device.States.adjustment_after}, std.proofs.lemmas.List.{Elements.filter-append, append-nil}}
-use Rattle.{run_law.specs.control.Wires.{Signal, control, timed}, schedule_tables.specs.{Rules.KeepsRules, declared.{entry.Entry.Entry, window.Window.Window}}}
+use Rattle.{lens_svg.proofs.Windows.window_is, lens_why.proofs.Rows.row_is_one, run_law.specs.records.Order.IsIn, std.proofs.lemmas.{Int.ints, List.append-nil}}
+use Rattle.{lens_svg.specs.{Bodies.{look_of, scene_of}, declared.mark.Mark.Mark}, std.proofs.{Common.{refl, subst, sym, ℕ, ℤ}, lemmas.Bool.Decides.nat_tests}}
+use Rattle.{lens_svg.specs.Clocks.share, net_plan.specs.Ranges.IsInRange}
+use Rattle.{lens_svg.specs.Laws.{AreMarksOf, IsMarkOf, shown}, net_plan.specs.declared.{ids.{DeviceId.DeviceId, LinkId.LinkId}, network.Network.Network}}
+use Rattle.{lens_svg.specs.Sketching.{moment, plan_of}, run_law.specs.scenario.Scenarios.Scenario, tte_units.specs.{Amount.amount, declared.units.Units.Units}}
+use Rattle.{lens_svg.specs.declared.{layout.Span.Span, mark.Look.TheVariants.Taken}, schedule_tables.specs.declared.{entry.Entry.Entry, window.Window.Window}}
+use Rattle.{net_plan.specs.declared.ids.VlId.VlId, run_law.specs.{declared.note.Note.Note, runs.DueRecords.IsCaused}, schedule_tables.specs.Rules.KeepsRules}
+use Rattle.{precision_law.proofs.traffic_lemmas.delivery.{Faultless.{TakesIn, finds_none}, Taken.never_control}, std.proofs.lemmas.List.Elements.filter-append}
+use Rattle.run_law.{proofs.runs.{NetworkRuns.same_notes, Places.{in_right, parted}}, specs.{declared.steps.Arrival.Arrival, device.States.adjustment_after}}
+use Rattle.{run_law.specs.{control.Wires.{Signal, control, timed}, declared.note.NoteBody.NoteBody}, tte_units.proofs.general_lemmas.Integers.not_below}
 use Rattle.run_law.specs.{device.Standpoints.{clock_of, offset_in_cycle, standpoint}, records.Happenings.{Happening, earlier, happenings, time_of}}
-use Rattle.{run_law.specs.timed.Receptions.{ArrivesAs, arrival_of, last_taken}, traffic_law.proofs.delivery.Faultless.{TakesIn, finds_none}}
 use Rattle.std.proofs.Common.{◌*◌, ◌++◌, ◌+◌, ◌/◌, ◌<◌, ◌∙◌, ◌∷◌, ◌≡◌, ◌≤ℤ◌, ◌≤◌, ◌⊎◌, Bool, List, Some, [], ap, append_assoc, arith, false, inl, inr, pos}
-use Rattle.std.proofs.lemmas.Int.{ints}
 use Rattle.run_law.specs.declared.note.NoteBody.TheVariants as notes
 use Rattle.run_law.specs.declared.steps.Arrival.TheVariants as arrivals
 
@@ -30,11 +29,7 @@ record IsShownBy (network : Network) (ns : List Note) (mark : Mark) : Type 0 whe
 shown_by : (network : Network) (marks : List Mark) (ns : List Note) (mark : Mark) → AreMarksOf network marks ns → IsIn mark marks → IsShownBy network ns mark
 shown_by network [] ns mark are i = absurd i
 shown_by network (m ∷ ms) [] mark are i = absurd are
-shown_by network (m ∷ ms) (n ∷ ns) mark are (inl same) = record {
-  note = n;
-  there = inl refl;
-  is = subst (λ (x : Mark). IsMarkOf network x n) (sym same) are.0;
-}
+shown_by network (m ∷ ms) (n ∷ ns) mark are (inl same) = record { note = n; there = inl refl; is = subst (λ (x : Mark). IsMarkOf network x n) (sym same) are.0 }
 shown_by network (m ∷ ms) (n ∷ ns) mark are (inr i) =
     let h = shown_by network ms ns mark are.1 i in record { note = h.note; there = inr h.there; is = h.is }
 
@@ -77,8 +72,7 @@ record HasCome (network : Network) (link : LinkId) (vl : VlId) (clock : ℤ) : T
 
 found : (s : Scenario) (ps : List Happening) (device : DeviceId) (t : ℕ) (link : LinkId) (cause : ℕ) (vl : VlId) (cycle : ℕ) (signal : Signal)
     → TakesIn (arrival_of s ps device t link cause signal) vl cycle → HasCome s.network link vl (clock_of (standpoint s ps device t))
-found s ps device t link cause vl cycle (control frame) takes =
-    absurd (never_control s.network device link (standpoint s ps device t) frame vl cycle takes)
+found s ps device t link cause vl cycle (control frame) takes = absurd (never_control s.network device link (standpoint s ps device t) frame vl cycle takes)
 found s ps device t link cause vl cycle (timed octets) takes =
     let finds = finds_none s.network device link (standpoint s ps device t) octets (last_taken ps device t link cause) vl cycle takes in record {
       place = finds.enters.place;
@@ -101,10 +95,8 @@ come_by s ps time body device link vl h caused = by h.says
   where
     by : (body ≡ notes.Accepted device link h.cause vl h.cycle) ⊎ (body ≡ notes.Delivered device link h.cause vl h.cycle)
         → HasCome s.network link vl (clock_of (standpoint s ps device (amount time)))
-    by (inl e) =
-        come_as s ps device (amount time) link h.cause vl h.cycle (arrivals.Accepted vl h.cycle) (inl refl) (subst (IsCaused s ps time) e caused)
-    by (inr e) =
-        come_as s ps device (amount time) link h.cause vl h.cycle (arrivals.Delivered vl h.cycle) (inr refl) (subst (IsCaused s ps time) e caused)
+    by (inl e) = come_as s ps device (amount time) link h.cause vl h.cycle (arrivals.Accepted vl h.cycle) (inl refl) (subst (IsCaused s ps time) e caused)
+    by (inr e) = come_as s ps device (amount time) link h.cause vl h.cycle (arrivals.Delivered vl h.cycle) (inr refl) (subst (IsCaused s ps time) e caused)
 
 -- ---- the records before a time
 
@@ -129,8 +121,7 @@ tick_is window at some least most =
     let part = unsigned_abs (at -ℤ window.from.0) in
     let whole = unsigned_abs (window.to.0 -ℤ window.from.0) in
     let is = share_is 24 part whole some (within window.from.0 window.to.0 at least most) in
-    let test : tick_in window at ≡ share 24 part whole =
-    ap (λ (b : Bool). if b then 0 else share 24 part whole) (not_below at window.from.0 least) in
+    let test : tick_in window at ≡ share 24 part whole = ap (λ (b : Bool). if b then 0 else share 24 part whole) (not_below at window.from.0 least) in
     (test ∙ is.0, subst (λ (n : ℕ). n ≤ 24) (sym test) is.1)
   where
     within : (from to x : ℤ) → from ≤ℤ x → x ≤ℤ to → unsigned_abs (x -ℤ from) ≤ unsigned_abs (to -ℤ from)

@@ -1,8 +1,8 @@
 -- The times of the records of a report never fall.
-use Rattle.{lens_svg.specs.Laws.NeverFall, run_law.specs.runs.Runs.IsFounded, std.specs.Prelude.map}
+use Rattle.{lens_svg.specs.Laws.NeverFall, std.specs.Prelude.map}
 use Rattle.{net_plan.specs.declared.network.Network.Network, run_law.specs.records.{Happenings.{Happening, happenings, time_of}, Order.{IsBefore, IsIn}}}
-use Rattle.{run_law.proofs.runs.NetworkRuns.same_notes, tte_audit.specs.reports.Reports.IsReportOf, tte_units.specs.declared.units.Units.Units}
-use Rattle.run_law.{proofs.runs.Places.in_right, specs.{declared.note.Note.Note, records.Ranks.place_of, runs.DueRecords.IsDue, scenario.Scenarios.Scenario}}
+use Rattle.{run_law.{proofs.runs.{NetworkRuns.same_notes, Places.in_right}, specs.scenario.Scenarios.Scenario}, tte_units.specs.declared.units.Units.Units}
+use Rattle.{run_law.specs.{declared.note.Note.Note, records.Ranks.place_of, runs.{DueRecords.IsDue, Runs.IsFounded}}, tte_reports.specs.Reports.IsReportOf}
 use Rattle.{std.proofs.Common.{◌++◌, ◌∙◌, ◌∷◌, ◌≡◌, ◌≤◌, ◌⊎◌, List, [], append_assoc, arith, inl, inr, refl, subst, sym, ℕ}, tte_audit.specs.Report.scenario_of}
 
 -- of two records the first of which stands before the other

@@ -1,15 +1,15 @@
 -- The marks of records put one after another.
-use Rattle.{lens.proofs.draw_lemmas.Parts.{fails_before, fails_between}, tte_audit.specs.{declared.reports.records.Records.Records, reports.Reports.AreLeft}}
+use Rattle.{lens.proofs.draw_lemmas.Parts.{fails_before, fails_between}, lens_svg.specs.{Clocks.{Clocks, clocks_in, clocks_with}, declared.layout.Span.Span}}
 use Rattle.{lens.specs.draw.Answer.{back_answer, draw_answer, fitting_answer}, lens_svg.specs.{Plan.Plan, Sketching.{begun, fits, plan_behind, plan_of, took}}}
 use Rattle.lens.specs.draw.{Picture.{back_lines, front_lines, mark_lines, marks_of, pen_behind, picture_lines, windows_of}, Signs.close_line}
-use Rattle.{lens_svg.{proofs.Painting.span_behind, specs.Layout.pen_at}, std.{proofs.{Common.{true, ℕ}, lemmas.List.append-nil}, specs.List.concat}}
-use Rattle.{lens_svg.specs.Clocks.{Clocks, clocks_in, clocks_with}, tte_forms.specs.{Putting.{PutFails, PutsLines, Shown}, networks.Accepting.too_long_answer}}
-use Rattle.{lens_svg.specs.declared.{layout.Pen.Pen, window.Came.Came}, run_law.specs.declared.note.Note.Note, std.proofs.lemmas.List.Elements.All-head}
-use Rattle.{lens_svg.specs.declared.layout.Span.Span, report_text.specs.Ranges.{IsNoteInRange, IsNoteOf}, std.specs.Prelude.{All, codes, fold, if◌then◌else◌}}
+use Rattle.{lens_svg.{proofs.Painting.span_behind, specs.Layout.pen_at}, std.{proofs.Common.{true, ℕ}, specs.List.concat}, tte_reports.specs.Reports.AreLeft}
+use Rattle.{lens_svg.specs.declared.layout.Pen.Pen, run_law.specs.declared.note.Note.Note, std.proofs.lemmas.List.{Elements.All-head, append-nil}}
+use Rattle.{lens_svg.specs.declared.window.Came.Came, report_text.specs.Ranges.{IsNoteInRange, IsNoteOf}, std.specs.Prelude.{All, codes, fold, if◌then◌else◌}}
 use Rattle.{net_plan.specs.declared.network.Network.Network, tte_forms.{proofs.frames.Frames.Gives-behind, specs.declared.status.Status.Status}}
 use Rattle.{report_text.specs.NoteLine.{note_line, note_text, report_of}, tte_forms.specs.Answering.{Answer, Ends, Gives, line_answer}}
 use Rattle.std.proofs.Common.{◌++◌, ◌+◌, ◌<◌, ◌∙◌, ◌∷◌, ◌≡◌, Bool, List, [], ap, append_assoc, arith, false, inl, inr, length, length-append, refl, subst, sym}
 use Rattle.tte_forms.{proofs.Puts.{Ends-gives, PutsLines-append, PutsLines-none}, specs.declared.status.Status.TheVariants.{Done, TooLong, WriteFault}}
+use Rattle.{tte_forms.specs.{Putting.{PutFails, PutsLines, Shown}, networks.Accepting.too_long_answer}, tte_reports.specs.declared.records.Records.Records}
 
 -- ---- what is left grows less
 
@@ -122,8 +122,7 @@ module _ (network : Network) (span : Span) (notes : List Note) (records : Record
   pub marked_all : (status : Status) (new : Shown) → h.rest ≡ [] → Gives (line_answer Done close_line) status now new
       → Gives (back_answer network span (pen_at span.from) notes) status old new
   marked_all status new none gives =
-      let lines : back_lines network span (pen_at span.from) notes ≡ h.done ++ close_line ∷ [] =
-      ap (λ (ls : List (List ℕ)). ls ++ close_line ∷ [])
+      let lines : back_lines network span (pen_at span.from) notes ≡ h.done ++ close_line ∷ [] = ap (λ (ls : List (List ℕ)). ls ++ close_line ∷ [])
       (h.whole ∙ ap (λ (ns : List Note). h.done ++ mark_lines network span pen ns) none ∙ append-nil h.done) in
       subst (λ (ls : List (List ℕ)). Gives (record { status = Done; lines = ls }) status old new) (sym lines)
       (Gives-behind h.done (line_answer Done close_line) status old now new h.puts gives)

@@ -60,8 +60,7 @@ module _ {X : Type 0} (f : X → List (List ℕ)) (all : List X) (n : ℕ) where
   flat_fails d a b c within p q =
       let x = get_or all n d in
       let rest = drop (n + 1) all in
-      let split : all ≡ take n all ++ x ∷ rest =
-      sym (take-append-drop n all) ∙ ap (λ (xs : List X). take n all ++ xs) (drop_next all n d within) in
+      let split : all ≡ take n all ++ x ∷ rest = sym (take-append-drop n all) ∙ ap (λ (xs : List X). take n all ++ xs) (drop_next all n d within) in
       let lines : flat_map f all ≡ flat_map f (take n all) ++ (f x ++ flat_map f rest) =
       ap (λ (xs : List X). flat_map f xs) split ∙ flat_map-append f (take n all) (x ∷ rest) in
       subst (λ (ls : List (List ℕ)). PutFails ls a c) (sym lines) (fails_between (flat_map f (take n all)) (f x) (flat_map f rest) a b c p q)

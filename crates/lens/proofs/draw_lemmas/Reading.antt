@@ -1,14 +1,14 @@
 -- Two reports with one picture have the same lines.
-use Rattle.{lens.proofs.draw_lemmas.Titles.titles_are, tte_audit.specs.reports.Reports.IsReportOf, tte_units.specs.declared.units.Units.Units}
+use Rattle.{lens.proofs.draw_lemmas.Titles.titles_are, lens_svg.specs.{Sketching.{moment, plan_of}, Windows.box_of}, tte_units.specs.declared.units.Units.Units}
 use Rattle.lens.specs.declared.draw.{putting.TheConstants.LAYERS, signs.Sign.{Sign, TheVariants.{Arrows, Backdrop, Heading, MarkKey, Shapes, Style, WayKey}}}
 use Rattle.{lens.specs.declared.draw.putting.Layer.Layer, std.proofs.{Common.{suc, sym, take, true, zero, ℕ}, lemmas.Fmt.decimal_is_IsNumeral}}
 use Rattle.lens.specs.draw.{Laws.HaveTitles, Picture.{back_lines, front_lines, layer_lines, lines_from, mark_lines, picture_lines, some_line, windows_of}}
 use Rattle.{lens.specs.draw.{ReadingLaws.{PicturesAreOne, TitlesArePlain}, Signs.{close_line, sign_line}}, lens_svg.specs.Layers.{on_lane, on_mark, opening_of}}
-use Rattle.{lens_svg.proofs.Plain.note_plain, net_plan.specs.Ranges.IsInRange, report_text.specs.NoteLine.note_text, run_law.specs.declared.note.Note.Note}
+use Rattle.{lens_svg.proofs.Plain.note_plain, net_plan.specs.Ranges.IsInRange, report_text.specs.NoteLine.note_text, tte_reports.specs.Reports.IsReportOf}
 use Rattle.{lens_svg.specs.Clocks.{Clocks, clocks_in, gauge_of, spread_of}, std.proofs.lemmas.List.Elements.{All-cons, All-head, All-nil, All-tail, All-weaker}}
 use Rattle.lens_svg.specs.Elements.{bar_line, caption_line, element_line, gauge_line, opening_line, rail_line, spread_bar, tick_line, way_line, window_line}
-use Rattle.{lens_svg.specs.{Laws.shown, Plan.Plan, Windows.box_of}, std.specs.{Char.digit_value, Str.Parse.AllDigits}}
-use Rattle.{lens_svg.specs.{Layout.{holds, pen_at}, Sketching.{moment, plan_of}, declared.window.Came.Came}, std.proofs.lemmas.Bool.Decides.nat_tests}
+use Rattle.{lens_svg.specs.{Laws.shown, Plan.Plan}, std.specs.{Char.digit_value, Str.Parse.AllDigits}}
+use Rattle.{lens_svg.specs.{Layout.{holds, pen_at}, declared.window.Came.Came}, run_law.specs.declared.note.Note.Note, std.proofs.lemmas.Bool.Decides.nat_tests}
 use Rattle.{lens_svg.specs.Marking.{IsPlain, head_text, is_plain}, std.specs.Prelude.{◌==◌, All, bytes_eq, codes, decimal, flat_map, if◌then◌else◌, length}}
 use Rattle.lens_svg.specs.declared.{element.Element.{Element, TheVariants.{Bar, Caption, Gauge, Opening, Rail, Spread, Tick, Way, Window}}, layout.Span.Span}
 use Rattle.{net_plan.specs.declared.network.Network.Network, report_text.{proofs.Splits.{NonePasses, split_once}, specs.Ranges.{IsNoteInRange, IsNoteOf}}}
@@ -74,8 +74,7 @@ none_layer network plan windows clocks (layers.Lanes layer) =
     (length network.device)
 none_layer network plan windows clocks (layers.Marks layer) =
     none_flat (λ mark. some_line network (on_mark layer network plan mark)) (λ mark. none_some network (on_mark layer network plan mark)) plan.marks
-none_layer network plan windows clocks layers.Windows =
-    none_flat (λ came. some_line network (box_of came)) (λ came. none_some network (box_of came)) windows
+none_layer network plan windows clocks layers.Windows = none_flat (λ came. some_line network (box_of came)) (λ came. none_some network (box_of came)) windows
 none_layer network plan windows clocks layers.Gauges =
     none_flat (λ told. some_line network (gauge_of network plan.pen clocks told)) (λ told. none_some network (gauge_of network plan.pen clocks told))
     clocks.told
@@ -89,8 +88,7 @@ none_front network plan windows clocks = none_flat (λ layer. layer_lines networ
 
 without : (xs ys : List (List ℕ)) → NoneMarks xs → filter is_mark (xs ++ ys) ≡ filter is_mark ys
 without [] ys none = refl
-without (x ∷ xs) ys none =
-    ap (λ (b : Bool). if b then x ∷ filter is_mark (xs ++ ys) else filter is_mark (xs ++ ys)) none.0 ∙ without xs ys none.1
+without (x ∷ xs) ys none = ap (λ (b : Bool). if b then x ∷ filter is_mark (xs ++ ys) else filter is_mark (xs ++ ys)) none.0 ∙ without xs ys none.1
 
 is_titled : (network : Network) (note : Note) (rest : List ℕ) → is_mark (head_text network note ++ rest) ≡ true
 unfolding head_text
@@ -156,8 +154,7 @@ AreWritten network (note ∷ notes) = (NonePasses (λ c. c == 34) (decimal note.
 
 written : (network : Network) (note : Note) → IsInRange network → IsNoteOf network note → IsNoteInRange note
     → NonePasses (λ c. c == 34) (decimal note.number) × IsPlain (note_text network note)
-written network note range of h =
-    (no_quote (decimal note.number) ((decimal_is_IsNumeral note.number h.number).0).1, note_plain network note range of h)
+written network note range of h = (no_quote (decimal note.number) ((decimal_is_IsNumeral note.number h.number).0).1, note_plain network note range of h)
 
 all_written : (network : Network) (span : Span) (notes : List Note) → IsInRange network → All (IsNoteOf network) notes → All IsNoteInRange notes
     → AreWritten network (shown span notes)

@@ -1,9 +1,9 @@
 -- The picture of a part of the run of a report shows it.
-use Rattle.{lens.proofs.draw_lemmas.{Falls.never_fall, Titles.titles_are}, lens_svg.proofs.{Arrows.arrows_are_causes, Painting.lanes_are_states}}
+use Rattle.{lens.proofs.draw_lemmas.Falls.never_fall, lens_svg.proofs.{Arrows.arrows_are_causes, Painting.lanes_are_states}, tte_audit.specs.Report.AreNumbered}
+use Rattle.{lens.proofs.draw_lemmas.Titles.titles_are, net_plan.specs.declared.network.Network.Network, tte_units.specs.declared.units.Units.Units}
 use Rattle.{lens.specs.draw.Laws.{PicturesShowRuns, ShowsRun}, lens_svg.specs.Laws.{NeverFall, NumbersFollow, grounds_after, painted_with, shown}}
-use Rattle.{lens_svg.proofs.Order.keeps_order, tte_audit.specs.Report.AreNumbered}
+use Rattle.{lens_svg.proofs.Order.keeps_order, tte_reports.specs.Reports.IsReportOf}
 use Rattle.{lens_svg.specs.{Layout.{holds, pen_at}, Sketching.{moment, plan_of}, declared.layout.Span.Span}, run_law.specs.declared.note.Note.Note}
-use Rattle.{net_plan.specs.declared.network.Network.Network, tte_audit.specs.reports.Reports.IsReportOf, tte_units.specs.declared.units.Units.Units}
 use Rattle.std.{proofs.Common.{◌++◌, ◌+◌, ◌∙◌, ◌∷◌, ◌≡◌, List, [], append_assoc, length, length-append, refl, subst, sym, true, ℕ}, specs.Prelude.{fold, take}}
 
 -- ---- the numbers follow each other

@@ -40,10 +40,7 @@ module _ (network : Network) (range : IsInRange network) (rules : KeepsRules net
       let more : draw.size % (amount l.jitter + 1) < amount l.jitter + 1 = mod-lt draw.size (omega arith) in
       let wire = of_link.wire in
       let jitter = of_link.jitter in
-      record {
-        least = omega (arith, ints, more, wire.least);
-        most = omega (arith, ints, more, wire.most, jitter.least, jitter.most);
-      }
+      record { least = omega (arith, ints, more, wire.least); most = omega (arith, ints, more, wire.most, jitter.least, jitter.most) }
 
   hold_ranged : (l : Link) → IsLinkInRange network l → IsTime (hold_of l draw)
   hold_ranged l of_link =
@@ -95,8 +92,7 @@ module _ (network : Network) (range : IsInRange network) (rules : KeepsRules net
       rw same refl
 
   chosen : (before : List Event) (time : Units) (what : What) → IsDrawn network before time draw what → IsRanged network what
-  chosen before time what is =
-      chosen_by before time (draw.kind % 8) what (omega arith) (rw same_choice is)
+  chosen before time what is = chosen_by before time (draw.kind % 8) what (omega arith) (rw same_choice is)
 
 -- ---- an event of a storm
 
@@ -118,8 +114,7 @@ module _ (network : Network) (range : IsInRange network) (rules : KeepsRules net
       → IsStormEvent network seed cycles before n event → IsOfNetwork network event.what × IsEventInRange event
   storm_ranged seed cycles before n event few is =
       let number = storm_number network seed cycles before n event is in
-      let time : IsTime event.time =
-      subst IsTime (sym (storm_time network seed cycles before n event is)) (time_ranged n (omega (arith, few, number))) in
+      let time : IsTime event.time = subst IsTime (sym (storm_time network seed cycles before n event is)) (time_ranged n (omega (arith, few, number))) in
       let what : IsRanged network event.what = elim is [
         | inl step ↦ elim step.1.becomes [
           | inl drawn ↦

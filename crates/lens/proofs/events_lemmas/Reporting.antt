@@ -68,11 +68,9 @@ module _ (network : Network) (range : IsInRange network) (rules : KeepsRules net
       let number = storm_number network seed cycles before (length before) event is in
       let own = storm_ranged network range rules seed cycles before (length before) event few is in
       let front : AreStormEvents network seed cycles before = front_of_storm network seed cycles before (event ∷ behind) whole in
-      let with_it : AreStormEvents network seed cycles (before ++ event ∷ []) =
-      front_of_storm network seed cycles (before ++ event ∷ []) behind
+      let with_it : AreStormEvents network seed cycles (before ++ event ∷ []) = front_of_storm network seed cycles (before ++ event ∷ []) behind
       (subst (AreStormEvents network seed cycles) (sym (append_assoc before (event ∷ []) behind)) whole) in
-      let first : first_line octets ≡ event_text network event =
-      ap first_line rest ∙ (first_text event (text_of network behind) before with_it).0 in
+      let first : first_line octets ≡ event_text network event = ap first_line rest ∙ (first_text event (text_of network behind) before with_it).0 in
       let short = event_short network event range own.0 own.1 in
       record {
         has = record {
@@ -105,8 +103,7 @@ module _ (network : Network) (range : IsInRange network) (rules : KeepsRules net
 pub storm_report : StormReport
 storm_report seed cycles network trace report summary few range rules e r s =
     let events : s.events ≡ e.events = one_storm network seed cycles s.events e.events rules few s.storm e.storm in
-    let text : concat trace.lines ≡ text_of network s.events =
-    ap (λ (a : Answer). concat a.lines) e.answer ∙ ap (text_of network) (sym events) in
+    let text : concat trace.lines ≡ text_of network s.events = ap (λ (a : Answer). concat a.lines) e.answer ∙ ap (text_of network) (sym events) in
     let run = run_of_text network range rules seed cycles few s.events s.notes s.storm s.records in
     let asked : IsRunAnswer (text_of network s.events) network report = subst (λ (octets : List ℕ). IsRunAnswer octets network report) text r in
     record {

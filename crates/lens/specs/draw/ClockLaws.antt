@@ -1,12 +1,11 @@
 -- What holds of the clocks in the picture of a report.
 use Rattle.std.specs.Prelude.{◌≡◌, ℕ, ◌*◌, ◌/◌, ◌≤◌, false, List, Some}
-use Rattle.lens_svg.specs.declared.{clock.{Ends.Ends, Told.Told}, layout.Span.Span}
 use Rattle.lens_svg.specs.Clocks.{Clocks, apart_of, clocks_in, ends_of, is_among, local_of, share}
+use Rattle.{lens_svg.specs.declared.{clock.{Ends.Ends, Told.Told}, layout.Span.Span}, tte_units.specs.Amount.amount}
 use Rattle.{net_plan.specs.declared.network.Network.Network, run_law.specs.records.Happenings.{Happening, happenings}}
-use Rattle.run_law.specs.{declared.note.Note.Note, device.LocalClocks.local, scenario.Scenarios.Scenario}
-use Rattle.run_law.specs.{law.Safety.IsInStep, records.Order.IsIn}
-use Rattle.{schedule_tables.specs.Rules.KeepsRules, tte_audit.specs.Report.scenario_of}
-use Rattle.{tte_audit.specs.reports.Reports.IsReportOf, tte_units.specs.{Amount.amount, declared.units.Units.Units}}
+use Rattle.{run_law.specs.{declared.note.Note.Note, device.LocalClocks.local}, schedule_tables.specs.Rules.KeepsRules}
+use Rattle.{run_law.specs.law.Safety.IsInStep, tte_audit.specs.Report.scenario_of, tte_reports.specs.Reports.IsReportOf}
+use Rattle.{run_law.specs.{records.Order.IsIn, scenario.Scenarios.Scenario}, tte_units.specs.declared.units.Units.Units}
 
 -- the clock is told, and its device did not break
 abbrev pub IsShown : Clocks → Told → Type 0

@@ -1,10 +1,10 @@
 -- What holds of the picture of a report.
 use Rattle.std.specs.Prelude.{◌≡◌, ℕ, true, List, [], ◌∷◌, ◌++◌, fold, length, take}
-use Rattle.{lens.specs.draw.Picture.mark_lines, lens_svg.specs.Marking.head_text}
+use Rattle.{lens.specs.draw.Picture.mark_lines, lens_svg.specs.Layout.{holds, pen_at}}
 use Rattle.lens_svg.specs.Laws.{AreApart, AreMarksOf, HasArrows, grounds_after, painted_with, shown}
-use Rattle.{lens_svg.specs.{Layout.{holds, pen_at}, declared.layout.Span.Span}, run_law.specs.declared.note.Note.Note}
+use Rattle.{lens_svg.specs.{Marking.head_text, declared.layout.Span.Span}, tte_units.specs.declared.units.Units.Units}
 use Rattle.{lens_svg.specs.Sketching.{fits, moment, plan_of}, net_plan.specs.declared.network.Network.Network}
-use Rattle.{tte_audit.specs.reports.Reports.IsReportOf, tte_units.specs.declared.units.Units.Units}
+use Rattle.{run_law.specs.declared.note.Note.Note, tte_reports.specs.Reports.IsReportOf}
 
 -- there is a line for each record, which begins with its number and its own line as the title
 abbrev pub HaveTitles : Network → List (List ℕ) → List Note → Type 0

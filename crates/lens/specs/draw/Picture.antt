@@ -34,8 +34,7 @@ marks_lines network plan layer = flat_map (λ mark. some_line network (on_mark l
 
 -- each clock that is told
 abbrev pub gauges_lines : Network → Pen → Clocks → List (List ℕ)
-gauges_lines network pen clocks =
-    flat_map (λ told. some_line network (gauge_of network pen clocks told)) clocks.told
+gauges_lines network pen clocks = flat_map (λ told. some_line network (gauge_of network pen clocks told)) clocks.told
 
 -- each window of a frame that was taken
 abbrev pub windows_lines : Network → List Came → List (List ℕ)

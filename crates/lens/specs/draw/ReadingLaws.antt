@@ -1,9 +1,9 @@
 -- What can be read from the picture of a report.
 use Rattle.std.specs.Prelude.{◌≡◌, ℕ, All, List, map}
-use Rattle.{lens.specs.draw.Picture.picture_lines, lens_svg.specs.Laws.shown, run_law.specs.declared.note.Note.Note}
-use Rattle.{lens_svg.specs.{Marking.IsPlain, declared.layout.Span.Span}, tte_units.specs.declared.units.Units.Units}
-use Rattle.{net_plan.specs.declared.network.Network.Network, tte_audit.specs.reports.Reports.IsReportOf}
-use Rattle.report_text.specs.NoteLine.{note_text}
+use Rattle.{lens.specs.draw.Picture.picture_lines, lens_svg.specs.{Marking.IsPlain, declared.layout.Span.Span}}
+use Rattle.{lens_svg.specs.Laws.shown, report_text.specs.NoteLine.note_text, run_law.specs.declared.note.Note.Note}
+use Rattle.{net_plan.specs.declared.network.Network.Network, tte_units.specs.declared.units.Units.Units}
+use Rattle.tte_reports.specs.Reports.{IsReportOf}
 
 -- the line of each record in the span of a report holds neither `<` nor `&`, so as a title it is read as it is
 abbrev pub TitlesArePlain : Type 0

@@ -1,18 +1,17 @@
 -- What holds of the windows in the picture of a report.
 use Rattle.std.specs.Prelude.{ℕ, ℤ, ◌≡◌, ◌*◌, ◌/◌, ◌-ℤ◌, ◌≤ℤ◌, ◌≤◌, List, Option, Some, unsigned_abs}
-use Rattle.lens.specs.draw.Picture.{clocks_of}
-use Rattle.lens_svg.specs.{Sketching.plan_of, declared.{layout.Span.Span, mark.Mark.Mark, window.Came.Came}}
-use Rattle.{lens_svg.specs.Windows.{came_of, window_by}, net_plan.specs.declared.ids.{LinkId.LinkId, VlId.VlId}}
+use Rattle.{lens.specs.draw.Picture.clocks_of, tte_reports.specs.Reports.IsReportOf}
+use Rattle.{lens_svg.specs.{Sketching.plan_of, declared.mark.Mark.Mark}, schedule_tables.specs.Rules.KeepsRules}
+use Rattle.{lens_svg.specs.Windows.{came_of, window_by}, tte_units.specs.declared.units.Units.Units}
+use Rattle.{lens_svg.specs.declared.{layout.Span.Span, window.Came.Came}, net_plan.specs.declared.ids.LinkId.LinkId}
 use Rattle.{lens_svg.specs.declared.mark.Look.TheVariants.Taken, schedule_tables.specs.declared.window.Window.Window}
+use Rattle.{net_plan.specs.declared.ids.VlId.VlId, run_law.specs.{declared.note.Note.Note, records.Order.IsIn}}
 use Rattle.{net_plan.specs.declared.network.Network.Network, run_law.specs.device.Standpoints.offset_in_cycle}
-use Rattle.{run_law.specs.{declared.note.Note.Note, records.Order.IsIn}, schedule_tables.specs.Rules.KeepsRules}
-use Rattle.{tte_audit.specs.reports.Reports.IsReportOf, tte_units.specs.declared.units.Units.Units}
 
 -- so far into a box of 24 pixels the tick of a place of the window stands: 24 times how far the place lies behind the
 -- window's beginning, by its length, rounded down
 abbrev pub true_tick : Window → ℤ → ℕ
-true_tick window at =
-    24 * unsigned_abs (at -ℤ window.from.0) / unsigned_abs (window.to.0 -ℤ window.from.0)
+true_tick window at = 24 * unsigned_abs (at -ℤ window.from.0) / unsigned_abs (window.to.0 -ℤ window.from.0)
 
 -- a frame of the virtual link that came by the link when the receiver's local clock showed this came in its window, and
 -- so it is drawn

@@ -5,7 +5,7 @@ ghost use Rattle.lens_why.specs.past.Pasts.{IsSomeReport, ShowsAll};
 ghost use Rattle.{net_plan.specs.Ranges.IsInRange, tte_forms.specs.{Putting.Over, networks.Accepting.IsNetworkAnswer}};
 ghost use Rattle.run_law.specs.declared.note.Note.{Note as NoteValue};
 ghost use Rattle.{tte_audit.specs.Named.IsNamed, tte_units.specs.declared.units.Units.{Units as UnitsValue}};
-ghost use Rattle.tte_audit.specs.reports.{Answer.IsAuditStatus, Reports.{AreLeft, IsReportAnswer, IsReportOf}};
+ghost use Rattle.tte_reports.specs.{Answer.IsAuditStatus, Reports.{AreLeft, IsReportAnswer, IsReportOf}};
 ghost use Rattle.tte_forms.specs.{Answering.{ForOctets, Gives, GivesAnswer}, Faults.{HasCause, PutFailed, ReadFailed}};
 
 use crate::draw::marks::put_back;
@@ -17,9 +17,9 @@ use net_plan::Network;
 use schedule_tables::Accepted;
 use std::alloc::Global;
 use tte_audit::keep_names_apart;
-use tte_audit::reports::{Records, put_no_report};
 use tte_forms::{Status, accept, end_with, put_no_network};
 use tte_io::{LineText, OutOfMemory, Sink, Source};
+use tte_reports::{Records, put_no_report};
 
 /// Draws a part of the run of a finished report: the records whose times lie in the span, as a picture in SVG. The
 /// report is the second file, over the network of the first, and is audited before anything is put.

@@ -1,19 +1,18 @@
 //! The marks of the records, one after another.
 ghost use Rattle.std.specs.Prelude.{◌≡◌, ◌≤◌, List, MatchResult};
-ghost use Rattle.{lens.specs.draw.{Answer.back_answer, Putting.Draws}, lens_svg.specs.Layout.{pen_at, widest}};
+ghost use Rattle.{lens.specs.draw.Answer.back_answer, net_plan.specs.Ranges.IsInRange, tte_forms.specs.Answering.Gives};
 ghost use Rattle.{lens.specs.draw.Picture.{marks_of, pen_behind}, run_law.specs.declared.note.Note.{Note as NoteValue}};
-ghost use Rattle.{net_plan.specs.Ranges.IsInRange, tte_audit.specs.Named.IsNamed, tte_forms.specs.Answering.Gives};
-ghost use Rattle.{report_text.specs.Ranges.{IsNoteInRange, IsNoteOf}, tte_audit.specs.reports.Answer.IsAuditStatus};
-ghost use Rattle.{tte_audit.specs.reports.Reports.AreLeft, tte_forms.specs.Faults.{HasCause, PutFailed}};
-ghost use Rattle.tte_forms.specs.Putting.{Over};
+ghost use Rattle.{lens.specs.draw.Putting.Draws, tte_audit.specs.Named.IsNamed, tte_forms.specs.Putting.Over};
+ghost use Rattle.{lens_svg.specs.Layout.{pen_at, widest}, tte_reports.specs.{Answer.IsAuditStatus, Reports.AreLeft}};
+ghost use Rattle.{report_text.specs.Ranges.{IsNoteInRange, IsNoteOf}, tte_forms.specs.Faults.{HasCause, PutFailed}};
 
 use crate::draw::signs::CLOSE;
 use lens_svg::{Pen, Span, make_mark_line};
 use net_plan::Network;
 use run_law::Note;
-use tte_audit::reports::Records;
 use tte_forms::{Status, put_last};
 use tte_io::{LineText, Sink, SinkFailed};
+use tte_reports::Records;
 
 /// The pen at a record of the span, and else where it was.
 fn pen_behind(span: Span, pen: Pen, note: &Note) -> Pen

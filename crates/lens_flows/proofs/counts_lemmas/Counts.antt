@@ -26,8 +26,7 @@ none_above after counts le few =
 pub few_next : (course : Course) (flow : Flow) (begun : Begun) (after : ℕ) (old new : FateCounts) → AreUpTo after old → after < begun.time
     → IsCycleCounted course flow begun old new → AreUpTo begun.time new
 few_next course flow begun after old new few lt (inl out) = subst (AreUpTo begun.time) (sym out.1) (few_still old after begun.time few lt)
-few_next course flow begun after old new few lt (inr is) =
-    subst (AreUpTo begun.time) (sym is.2) (few_more old after begun.time is.0 few lt)
+few_next course flow begun after old new few lt (inr is) = subst (AreUpTo begun.time) (sym is.2) (few_more old after begun.time is.0 few lt)
 
 pub next_counted : (course : Course) (befallen : List Event) (hs : List Happening) (flow : Flow) (after : ℕ) (old new : FateCounts) (begun : Begun)
     → IsCourse befallen hs course → IsInRange course.network.now → IsFlow course.network.now flow

@@ -6,8 +6,7 @@ use Rattle.{run_law.specs.law.Safety.IsWindowEnd, std.{proofs.lemmas.{Bool.cases
 -- of the numbers of either kind
 greatest_both : (P Q R : ℕ → Type 0) (a b : Option ℕ) → ((n : ℕ) → P n → R n) → ((n : ℕ) → Q n → R n) → ((n : ℕ) → R n → P n ⊎ Q n)
     → TellsGreatest P a → TellsGreatest Q b → TellsGreatest R (later_of a b)
-greatest_both P Q R None None from_p from_q split none never =
-    λ n has. elim (split n has) [ inl p ↦ none n p | inr q ↦ never n q ]
+greatest_both P Q R None None from_p from_q split none never = λ n has. elim (split n has) [ inl p ↦ none n p | inr q ↦ never n q ]
 greatest_both P Q R None (Some m) from_p from_q split none great = (
   from_q m great.0,
   λ n has. elim (split n has) [ inl p ↦ absurd (none n p) | inr q ↦ great.1 n q ],

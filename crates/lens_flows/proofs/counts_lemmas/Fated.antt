@@ -47,8 +47,7 @@ never_less s hs device (suc t) c d on wide first second lt =
     let early = changed_early hs device (suc t) in
     let step = on.step t in
     let same : t + 1 ≡ suc t = omega arith in
-    let now : s.reading device (suc t) < s.reading device t + 2 ^ 32 =
-    subst (λ (x : ℕ). s.reading device x < s.reading device t + 2 ^ 32) same step in
+    let now : s.reading device (suc t) < s.reading device t + 2 ^ 32 = subst (λ (x : ℕ). s.reading device x < s.reading device t + 2 ^ 32) same step in
     let before = first.reach.not_before t (omega (arith, ints, early)) (omega (arith, ints)) in
     let reached = second.reach.reached in
     omega (arith, ints, more, now, before, reached, wide)
@@ -90,8 +89,7 @@ on_count P counts fates.End fates.Sender more same = same (λ e. cc)
 on_count P counts fates.End fates.End more same = more refl
 
 begun_later : (s : Scenario) (hs : List Happening) (until : ℕ) (flow : Flow) (fate : Fate) (t : ℕ) → HasFateAt s hs until flow fate t → 0 < t
-begun_later s hs until flow fate t (cycle, begun, has) =
-    not_at_first s hs flow.device (pos (cycle * amount s.network.cycle + 0)) t begun.begins
+begun_later s hs until flow fate t (cycle, begun, has) = not_at_first s hs flow.device (pos (cycle * amount s.network.cycle + 0)) t begun.begins
 
 pub none_counted : (s : Scenario) (hs : List Happening) (until : ℕ) (flow : Flow) (counts : FateCounts) → ((fate : Fate) → count_of counts fate ≡ 0)
     → AreCountsUpTo s hs until flow 0 counts

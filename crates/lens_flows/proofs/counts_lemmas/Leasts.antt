@@ -7,8 +7,7 @@ use Rattle.std.proofs.{Common.{◌+◌, ◌-ℤ◌, ◌<◌, ◌^◌, ◌≡◌,
 -- what comes after the first of the two
 pub least_both : (P Q R : ℕ → ℕ → Type 0) (a b : Option Nearest) → ((x y : ℕ) → P x y → R x y) → ((x y : ℕ) → Q x y → R x y)
     → ((x y : ℕ) → R x y → P x y ⊎ Q x y) → TellsLeast P a → TellsLeast Q b → TellsLeast R (nearer a b)
-least_both P Q R None None from_p from_q split none never =
-    λ x y is. elim (split x y is) [ inl p ↦ none x y p | inr q ↦ never x y q ]
+least_both P Q R None None from_p from_q split none never = λ x y is. elim (split x y is) [ inl p ↦ none x y p | inr q ↦ never x y q ]
 least_both P Q R None (Some n) from_p from_q split none least = record {
   early_there = (least.early_there.0, from_q n.early least.early_there.0 least.early_there.1);
   late_there = (least.late_there.0, from_q least.late_there.0 n.late least.late_there.1);

@@ -41,8 +41,7 @@ lists_one {X} Before way (x ∷ xs) (y ∷ ys) first second to back =
 
 pub all_one : {X : Type 0} (IsSo : X → Type 0) (Before : X → X → Type 0) (xs ys : List X) → IsOneWay Before → AreAll IsSo Before xs
     → AreAll IsSo Before ys → xs ≡ ys
-all_one {X} IsSo Before xs ys way a b =
-    lists_one Before way xs ys a.in_order b.in_order (λ z i. b.all z (a.each z i)) (λ z i. a.all z (b.each z i))
+all_one {X} IsSo Before xs ys way a b = lists_one Before way xs ys a.in_order b.in_order (λ z i. b.all z (a.each z i)) (λ z i. a.all z (b.each z i))
 
 pub count_one : (IsSo : ℕ → Type 0) (n m : ℕ) → IsCountOf IsSo n → IsCountOf IsSo m → n ≡ m
 count_one IsSo n m (ts, are, is) (us, those, same) =

@@ -5,7 +5,7 @@ use Rattle.lens_flows.specs.counts.Deliveries.{AreDeliveries, IsDeliveredWithin,
 use Rattle.lens_flows.specs.{counts.Nearest.{IsInsideSome, TellsLeast, place_at}, declared.counts.deliveries.{Deliveries.Deliveries, Delivery.Delivery}}
 use Rattle.{lens_flows.specs.{declared.judge.flow.Flow.Flow, judge.Courses.{IsCourse, scenario_of}}, run_law.specs.records.Happenings.Happening}
 use Rattle.{net_plan.specs.declared.event.Event.Event, run_law.specs.scenario.Scenarios.Scenario, std.proofs.lemmas.{Bool.false≢true, List.length-append}}
-use Rattle.{pcf_values.specs.declared.channel.Channel.TheVariants.{A, B}, tte_units.proofs.general_lemmas.Lists.{filter_off, filter_on}}
+use Rattle.tte_units.{proofs.general_lemmas.Lists.{filter_off, filter_on}, specs.declared.frames.channel.Channel.TheVariants.{A, B}}
 use Rattle.run_law.proofs.runs.Places.{in_left}
 use Rattle.std.proofs.Common.{◌++◌, ◌+◌, ◌∙◌, ◌∷◌, ◌≡◌, ◌≤◌, ◌⊎◌, Bool, List, [], ap, arith, false, inl, inr, length, refl, subst, suc, sym, take, true, zero}
 
@@ -54,12 +54,7 @@ none_delivered s hs flow = record { total = refl; by_a = refl; by_b = refl; near
 
 wider : (s : Scenario) (hs : List Happening) (ds : List Delivery) (d : Delivery) (flow : Flow) (x y : ℕ) → IsDeliveredWithin s hs ds flow x y
     → IsDeliveredWithin s hs (ds ++ d ∷ []) flow x y
-wider s hs ds d flow x y is = record {
-  delivery = is.delivery;
-  there = in_left is.delivery ds (d ∷ []) is.there;
-  of_flow = is.of_flow;
-  inside = is.inside;
-}
+wider s hs ds d flow x y is = record { delivery = is.delivery; there = in_left is.delivery ds (d ∷ []) is.there; of_flow = is.of_flow; inside = is.inside }
 
 -- the distances of one delivery
 abbrev IsHere : Scenario → List Happening → Flow → Delivery → ℕ → ℕ → Type 0

@@ -5,8 +5,7 @@ use Rattle.lens_flows.specs.counts.Told.{AreToldOf, IsTold}
 use Rattle.run_law.specs.{records.Happenings.Happening, scenario.Scenarios.Scenario}
 
 pub none_told : (s : Scenario) (hs : List Happening) (until : ℕ) (ds : List Delivery) (told : List FlowTold) → told ≡ [] → AreToldOf s hs until ds [] told
-none_told s hs until ds told none =
-    subst (AreToldOf s hs until ds []) (sym none) (record { flows = refl; each = All-nil (IsTold s hs until ds) })
+none_told s hs until ds told none = subst (AreToldOf s hs until ds []) (sym none) (record { flows = refl; each = All-nil (IsTold s hs until ds) })
 
 pub told_more : (s : Scenario) (hs : List Happening) (until : ℕ) (ds : List Delivery) (flows : List Flow) (told : List FlowTold) (one : FlowTold)
     (new : List FlowTold) → new ≡ told ++ one ∷ [] → AreToldOf s hs until ds flows told → IsTold s hs until ds one

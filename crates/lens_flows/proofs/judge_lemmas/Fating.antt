@@ -69,8 +69,7 @@ made_owed s hs until flow cycle from to is begun ends stays sent = record {
 
 -- at no end up to this time the frame was sent
 abbrev pub NoneSentUpTo : Scenario → List Happening → ℕ → Flow → ℕ → ℕ → ℕ → Type 0
-NoneSentUpTo s hs until flow cycle from after =
-    (to : ℕ) → Ends s hs until flow cycle from to → to ≤ after → IsSent s hs flow cycle to → ⊥
+NoneSentUpTo s hs until flow cycle from after = (to : ℕ) → Ends s hs until flow cycle from to → to ≤ after → IsSent s hs flow cycle to → ⊥
 
 -- the local value of the end of the last window
 abbrev pub IsEndOf : Scenario → List Happening → Flow → ℕ → ℕ → Type 0

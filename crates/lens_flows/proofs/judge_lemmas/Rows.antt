@@ -13,8 +13,7 @@ found_there xs k None P at some = absurd some
 found_there xs k (Some d) P at some = slice_get_within xs k d at
 
 pub receiver_there : (network : Network) (flow : Flow) → IsFlow network flow → HasDevice network flow.device
-receiver_there network flow is =
-    found_there network.device flow.device.0 (device_at network flow.device) (λ d. is_end_system d.role ≡ true) refl is.end_system
+receiver_there network flow is = found_there network.device flow.device.0 (device_at network flow.device) (λ d. is_end_system d.role ≡ true) refl is.end_system
 
 pub one_more : (P : ℕ → Type 0) (n : ℕ) → ((k : ℕ) → k < n → P k) → P n → (k : ℕ) → k < n + 1 → P k
 one_more P n before here k lt =

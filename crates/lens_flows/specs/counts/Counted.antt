@@ -10,8 +10,7 @@ use Rattle.lens_flows.specs.declared.judge.fate.Fate.TheVariants as fates
 
 -- at the time the receiver's clock begins a cycle of the flow that has this fate
 abbrev pub HasFateAt : Scenario → List Happening → ℕ → Flow → Fate → ℕ → Type 0
-HasFateAt s hs until flow fate t =
-    (cycle : ℕ) × IsBegun s hs until flow cycle t × HasFate s hs until flow cycle t fate
+HasFateAt s hs until flow fate t = (cycle : ℕ) × IsBegun s hs until flow cycle t × HasFate s hs until flow cycle t fate
 
 -- how many of them have the fate
 abbrev pub count_of : FateCounts → Fate → ℕ
@@ -43,5 +42,4 @@ IsCycleCounted course flow begun old new =
 
 -- so many cycles of the flow have each fate
 abbrev pub AreFateCounts : Scenario → List Happening → ℕ → Flow → FateCounts → Type 0
-AreFateCounts s hs until flow counts =
-    (fate : Fate) → IsCountOf (HasFateAt s hs until flow fate) (count_of counts fate)
+AreFateCounts s hs until flow counts = (fate : Fate) → IsCountOf (HasFateAt s hs until flow fate) (count_of counts fate)

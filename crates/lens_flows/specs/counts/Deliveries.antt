@@ -6,7 +6,7 @@ use Rattle.lens_flows.specs.declared.counts.deliveries.{Deliveries.Deliveries, D
 use Rattle.lens_flows.specs.declared.{counts.nearest.Nearest.Nearest, judge.{course.Course.Course, flow.Flow.Flow}}
 use Rattle.{lens_flows.specs.judge.Courses.{IsCourse, scenario_of}, net_plan.specs.declared.network.Network.Network}
 use Rattle.{net_plan.specs.declared.event.Event.Event, run_law.specs.records.{Happenings.Happening, Order.IsIn}}
-use Rattle.pcf_values.specs.declared.channel.Channel.{Channel, TheVariants.{A, B}}
+use Rattle.tte_units.specs.declared.frames.channel.Channel.{Channel, TheVariants.{A, B}}
 use Rattle.{run_law.specs.declared.note.Note.Note, tte_units.specs.Amount.amount}
 use Rattle.run_law.specs.{declared.note.NoteBody.NoteBody, scenario.{Devices.channel_of_link, Scenarios.Scenario}}
 use Rattle.run_law.specs.declared.note.NoteBody.TheVariants as notes

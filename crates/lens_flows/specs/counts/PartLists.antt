@@ -25,5 +25,4 @@ pub record IsTo (network : Network) (vl : VlId) (device : DeviceId) (flow : Flow
 
 -- this is it, or there is none
 abbrev pub IsFlowTo : Network → VlId → DeviceId → Option Flow → Type 0
-IsFlowTo network vl device r =
-    MatchOption r ((flow : Flow) → IsTo network vl device flow → ⊥) (IsTo network vl device)
+IsFlowTo network vl device r = MatchOption r ((flow : Flow) → IsTo network vl device flow → ⊥) (IsTo network vl device)

@@ -10,8 +10,8 @@ use crate::counts::Nearest;
 use crate::counts::nearest::{nearer, nearest_by, place_at};
 use crate::judge::{Course, Flow};
 use net_plan::{DeviceId, LinkId, Network, VlId};
-use pcf_values::Channel;
 use run_law::NoteBody;
+use tte_units::frames::Channel;
 
 /// A delivery that a record tells.
 #[derive(Clone, Copy, PartialEq, Eq)]

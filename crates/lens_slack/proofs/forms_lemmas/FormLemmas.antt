@@ -37,8 +37,7 @@ unfolding form_of
 three_words [] command third n e f = absurd (omega arith)
 three_words (a ∷ []) command third n e f = absurd (omega arith)
 three_words (a ∷ b ∷ []) command third n e f = absurd (omega arith)
-three_words (a ∷ b ∷ c ∷ []) command third n e f =
-    grind arith
+three_words (a ∷ b ∷ c ∷ []) command third n e f = grind arith
 three_words (a ∷ b ∷ c ∷ d ∷ rest) command third n e f = absurd (omega arith)
 
 pub four_words : (words : List (List ℕ)) (command third last : List ℕ) → length words ≡ 4 → slice_get words 0 ≡ Some command
@@ -48,8 +47,7 @@ four_words [] command third last n e f g = absurd (omega arith)
 four_words (a ∷ []) command third last n e f g = absurd (omega arith)
 four_words (a ∷ b ∷ []) command third last n e f g = absurd (omega arith)
 four_words (a ∷ b ∷ c ∷ []) command third last n e f g = absurd (omega arith)
-four_words (a ∷ b ∷ c ∷ d ∷ []) command third last n e f g =
-    grind arith
+four_words (a ∷ b ∷ c ∷ d ∷ []) command third last n e f g = grind arith
 four_words (a ∷ b ∷ c ∷ d ∷ x ∷ rest) command third last n e f g = absurd (omega arith)
 
 pub five_words : (words : List (List ℕ)) (command fourth last : List ℕ) → length words ≡ 5 → slice_get words 0 ≡ Some command
@@ -60,8 +58,7 @@ five_words (a ∷ []) command fourth last n e f g = absurd (omega arith)
 five_words (a ∷ b ∷ []) command fourth last n e f g = absurd (omega arith)
 five_words (a ∷ b ∷ c ∷ []) command fourth last n e f g = absurd (omega arith)
 five_words (a ∷ b ∷ c ∷ d ∷ []) command fourth last n e f g = absurd (omega arith)
-five_words (a ∷ b ∷ c ∷ d ∷ e' ∷ []) command fourth last n e f g =
-    grind arith
+five_words (a ∷ b ∷ c ∷ d ∷ e' ∷ []) command fourth last n e f g = grind arith
 five_words (a ∷ b ∷ c ∷ d ∷ e' ∷ x ∷ rest) command fourth last n e f g = absurd (omega arith)
 
 -- ---- the numbers of forms
@@ -99,8 +96,7 @@ spelled_by true rule o is others = is
 spelled_by false rule o is others = others
 
 inequality_by : (text : List ℕ) → IfSome (inequality_spelled text) IsInequality
-inequality_by text =
-    grind (arith, spelled_by)
+inequality_by text = grind (arith, spelled_by)
 
 network_by : (slack least : Bool) → IfSome (if slack then Some Slack else if least then Some Least else None) IsFormInRange
 network_by true least = tt

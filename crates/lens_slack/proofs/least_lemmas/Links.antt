@@ -2,9 +2,9 @@
 use Rattle.net_plan.specs.{Bounds.IsOfPath, declared.{ids.{DeviceId.DeviceId, LinkId.LinkId}, tables.{Device.Device, Link.Link, Role.Role}}}
 use Rattle.net_plan.specs.{Places.{IsSwitchOf, device_at, is_end_system, is_master, link_at}, declared.tables.Role.TheVariants.{Client, Cm, Master, Relay}}
 use Rattle.{net_plan.specs.declared.network.Network.Network, schedule_tables.specs.declared.rule.Rule.TheVariants.{CompressionMasters, Connections, Masters}}
-use Rattle.{pcf_values.specs.declared.channel.Channel.TheVariants.A, std.specs.Prelude.slice_get, tte_units.proofs.general_lemmas.Options.{closed, opened}}
-use Rattle.schedule_tables.specs.Rules.{KeepsBelow}
+use Rattle.{schedule_tables.specs.Rules.KeepsBelow, std.specs.Prelude.slice_get}
 use Rattle.std.proofs.{Common.{◌∷◌, ◌≡◌, ◌≤◌, ◌⊎◌, Bool, List, Some, [], ap, arith, filter, inl, inr, length, refl, suc, true, ℕ}, lemmas.Bool.cases_Bool}
+use Rattle.tte_units.{proofs.general_lemmas.Options.{closed, opened}, specs.declared.frames.channel.Channel.TheVariants.A}
 
 -- one that passes a test, where some do
 some_passes : {X : Type 0} (p : X → Bool) (xs : List X) → 1 ≤ length (filter p xs) → (k : ℕ) × (x : X) × (slice_get xs k ≡ Some x) × (p x ≡ true)

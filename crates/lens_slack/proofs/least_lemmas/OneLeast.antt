@@ -10,8 +10,7 @@ both_at_most : (d e : ℕ) → d ≤ e → e ≤ d → d ≡ e
 both_at_most d e most least = omega (arith, most, least)
 
 same_times : (t u : Times) → AreAtMost t u → AreAtMost u t → t ≡ u
-same_times t u a b =
-    grind (arith, both_at_most)
+same_times t u a b = grind (arith, both_at_most)
 
 times_once : (n : Network) (t u : Times) → AreLeast n t → AreLeast n u → t ≡ u
 times_once n t u a b = same_times t u (a.least u b.suffice) (b.least t a.suffice)

@@ -15,8 +15,7 @@ some_round : (b jitter drift round : ℕ) → b ≡ jitter + drift + round → 1
 some_round b jitter drift round value some = omega (arith, value, some)
 
 beta_some : (m : Network) → 1 ≤ amount m.grain → (b : ℕ) → IsBeta m (pos b) → 1 ≤ b
-beta_some m fine b is =
-    grind (arith, ints, mul-le-mul_right, some_round)
+beta_some m fine b is = grind (arith, ints, mul-le-mul_right, some_round)
 
 -- the beta of a network of trees, as a whole number
 abbrev HasBeta : Network → Type 0

@@ -75,7 +75,6 @@ module _ (n : Network) (steady path errors start port : ℕ) (t : Times) (made :
 
   pub suffices : IsInRange n → KeepsBelow 8 n → Suffices m
   suffices range shape = record {
-    rules =
-        rules_below m (shape_with n t range start_most shape) delays (λ place. settling) (λ place. precision) (λ place. correction);
+    rules = rules_below m (shape_with n t range start_most shape) delays (λ place. settling) (λ place. precision) (λ place. correction);
     begins = begins;
   }

@@ -8,8 +8,7 @@ first_text times = codes "least dmax " ++ decimal times.dmax ++ codes " settled 
 
 -- the next two
 unfoldable pub next_text : Times → List ℕ
-next_text times =
-    codes " precision " ++ decimal times.precision ++ codes " correction " ++ decimal times.correction
+next_text times = codes " precision " ++ decimal times.precision ++ codes " correction " ++ decimal times.correction
 
 -- the last one, and the end of the line
 unfoldable pub last_text : Times → List ℕ

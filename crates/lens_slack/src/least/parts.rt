@@ -5,8 +5,8 @@ ghost use Rattle.net_plan.specs.{Bounds.{IsGreatest, IsOfPathFrom, IsOfPathOn}, 
 ghost use Rattle.{net_plan.specs.Paths.IsTree, schedule_tables.specs.Delays.delay_on, tte_units.specs.Amount.units_of};
 
 use net_plan::{Device, DeviceId, Network};
-use pcf_values::Channel;
 use schedule_checker::{delay_on, pcf_port_time};
+use tte_units::frames::Channel;
 
 /// What is the same in beta for all dmax: the jitters of a path and the roundings of readings.
 pub(crate) fn steady_beta(network: &Network) -> u64

@@ -2,9 +2,9 @@
 use Rattle.lens_why.proofs.past_lemmas.Words.{◌++◌, ◌+◌, ◌<◌, ◌∙◌, ◌∷◌, ◌≡◌, ◌≤◌, AllBefore, AreLeft, Happening, IsNamed, IsPast, IsPastOf, IsReportOf}
 use Rattle.lens_why.proofs.past_lemmas.Words.{IsTimely, List, Network, Note, Past, Records, Some, Units, [], amount, ap, append_assoc, arith, events_of}
 use Rattle.{lens_why.proofs.past_lemmas.Words.{happening, happenings, length, length-append, place_of, refl, subst, sym, ℕ}, run_law.specs.records.Order.IsIn}
-use Rattle.{report_text.specs.NoteLine.{note_line, note_text, report_of}, tte_audit.proofs.{UnderWay.happening_there, reports_lemmas.Reports.one_notes}}
-use Rattle.{report_text.specs.Ranges.IsNoteOf, run_law.proofs.records.Happenings.soon, std.proofs.lemmas.List.append-nil, tte_audit.proofs.OnlyEnd.ends_soon}
-use Rattle.{run_law.proofs.{law.FirstPlaces.at_length, runs.{NetworkRuns.one_more, Places.{in_right, parted}}}, tte_units.proofs.general_lemmas.Lists.in_all}
+use Rattle.{report_text.specs.NoteLine.{note_line, note_text, report_of}, run_law.proofs.records.Happenings.soon, tte_units.proofs.general_lemmas.Lists.in_all}
+use Rattle.{report_text.specs.Ranges.IsNoteOf, std.proofs.lemmas.List.append-nil, tte_audit.proofs.OnlyEnd.ends_soon, tte_reports.proofs.Reports.one_notes}
+use Rattle.{run_law.proofs.{law.FirstPlaces.at_length, runs.{NetworkRuns.one_more, Places.{in_right, parted}}}, tte_audit.proofs.UnderWay.happening_there}
 use Rattle.std.{proofs.Common.{◌^◌, inl}, specs.{List.concat, Prelude.slice_get}}
 
 -- each record of a report is of a time that clocks have

@@ -1,15 +1,15 @@
 -- What is known of the records of a report.
 use Rattle.std.specs.Prelude.{◌^◌, ◌∷◌, ◌≡◌, ◌≤ℤ◌, ◌≤◌, List, [], length, pos, ℕ, ℤ}
-use Rattle.{audit_devices.specs.Keeping.{Stands, device_count, records_before}, report_text.specs.Ranges.IsBodyOf}
+use Rattle.{audit_devices.specs.Keeping.{Stands, device_count, records_before}, run_law.specs.declared.note.Note.Note}
 use Rattle.{audit_law.specs.events.Readings.scenario_under, net_plan.specs.declared.network.Network.Network}
 use Rattle.{audit_law.specs.events.Remembering.Remembers, net_plan.specs.declared.ids.DeviceId.DeviceId}
-use Rattle.{audit_sweep.specs.records.Keeping.records_of, tte_audit.specs.reports.Reports.IsReportOf}
+use Rattle.{audit_sweep.specs.records.Keeping.records_of, tte_units.specs.{Amount.amount, declared.units.Units.Units}}
 use Rattle.lens_why.specs.declared.past.{past.{Past.Past, Permanence.Permanence}, reading.KnownReport.KnownReport}
-use Rattle.{net_plan.specs.declared.event.Event.Event, tte_units.specs.{Amount.amount, declared.units.Units.Units}}
+use Rattle.{net_plan.specs.declared.event.Event.Event, run_law.specs.scenario.Scenarios.Scenario}
+use Rattle.{report_text.specs.Ranges.IsBodyOf, tte_audit.specs.Report.events_of}
 use Rattle.run_law.specs.declared.{judgement.Judgement.TheVariants.Ignored, note.NoteBody.TheVariants.Permanent}
-use Rattle.run_law.specs.{declared.note.Note.Note, records.Ranks.place_at, scenario.Scenarios.Scenario}
 use Rattle.run_law.specs.{device.Standpoints.{clock_of, standpoint}, records.Happenings.{Happening, happenings}}
-use Rattle.tte_audit.specs.Report.{events_of}
+use Rattle.{run_law.specs.records.Ranks.place_at, tte_reports.specs.Reports.IsReportOf}
 
 -- the octets are the report of some records
 abbrev pub IsSomeReport : Network → List ℕ → Type 0

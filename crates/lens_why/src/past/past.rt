@@ -1,16 +1,16 @@
 ghost use Rattle.std.specs.Prelude.{◌++◌, ◌+ℤ◌, ◌^◌, ◌∷◌, ◌≡◌, ◌≤◌, IfOk, List, OnOk, Some, [], option_map, pos};
 ghost use Rattle.{audit_devices.specs.Effects.carried_by, tte_units.specs.declared.units.Units.{Units as UnitsValue}};
-ghost use Rattle.{audit_devices.specs.Keeping.records_before, tte_audit.specs.reports.Reports.IsReportOf};
+ghost use Rattle.{audit_devices.specs.Keeping.records_before, device_rules.specs.Widths.{IsLocal, IsWide}};
 ghost use Rattle.{audit_devices.specs.Showing.IsAfter, net_plan.specs.{Belonging.HasDevice, Ranges.IsInRange}};
 ghost use Rattle.audit_law.specs.{events.Readings.scenario_under, law.CorrectionNumbers.heard_since_point};
 ghost use Rattle.{audit_law.specs.events.Remembering.Remembers, lens_why.specs.past.Pasts.{clock_at, permanence_place}};
-ghost use Rattle.{device_rules.specs.{Headings.heading_of, Widths.{IsLocal, IsWide}}, tte_audit.specs.Report.events_of};
+ghost use Rattle.{device_rules.specs.Headings.heading_of, tte_reports.specs.Reports.IsReportOf};
 ghost use Rattle.lens_why.specs.past.Pasts.{IsPast, IsPastOf, IsSomePast, IsSomeReport, IsTimely, before_corrections};
 ghost use Rattle.net_plan.specs.declared.{event.Event.Event, network.Network.{Network as NetworkValue}};
 ghost use Rattle.{run_law.specs.declared.note.Note.{Note as NoteValue}, sync_state.specs.membership.Summary.Summarizes};
 ghost use Rattle.run_law.specs.device.States.{adjustment_at_hearing, adjustment_before, state_before};
 ghost use Rattle.run_law.specs.records.{Happenings.{Happening, happening, numbered}, Order.AllBefore, Ranks.place_of};
-ghost use Rattle.tte_audit.specs.Named.{IsNamed};
+ghost use Rattle.tte_audit.specs.{Named.IsNamed, Report.events_of};
 
 use audit_devices::clocks::Moment;
 use audit_devices::{Carried, Standings};
@@ -19,16 +19,16 @@ use audit_sweep::records::{KeptRecords, OutOfMemory};
 use audit_sweep::{carried_by, readings};
 use device_rules::Heading;
 use net_plan::{DeviceId, LinkId, Network};
-use pcf_values::Members;
 use run_law::Note;
 use run_law::plain::Rank;
 use schedule_tables::Accepted;
 use std::alloc::Global;
 use sync_state::State;
 use sync_state::membership::Heard;
-use tte_audit::reports::AuditedReport;
 use tte_audit::{keep_names_apart, read_events};
+use tte_reports::AuditedReport;
 use tte_units::Units;
+use tte_units::frames::Members;
 
 /// What the events of a report set, and what its records show of its devices, at any of its times.
 #[derive(Drop)]

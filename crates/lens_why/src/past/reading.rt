@@ -1,14 +1,14 @@
 ghost use Rattle.std.specs.Prelude.{◌≡◌, Err, IfErr, IfOk, List, MatchResult};
-ghost use Rattle.{lens_why.specs.past.Pasts.{IsSomeReport, ShowsAll}, tte_audit.specs.reports.Reports.IsReportOf};
-ghost use Rattle.{run_law.specs.declared.note.Note.{Note as NoteValue}, tte_audit.specs.reports.NoReports.IsNoReport};
-ghost use Rattle.{tte_forms.specs.Answering.ForOctets, tte_units.specs.declared.units.Units.{Units as UnitsValue}};
+ghost use Rattle.{lens_why.specs.past.Pasts.{IsSomeReport, ShowsAll}, tte_forms.specs.Answering.ForOctets};
+ghost use Rattle.{run_law.specs.declared.note.Note.{Note as NoteValue}, tte_reports.specs.Reports.IsReportOf};
 ghost use Rattle.tte_forms.specs.Faults.{ReadFailed};
+ghost use Rattle.{tte_reports.specs.NoReports.IsNoReport, tte_units.specs.declared.units.Units.{Units as UnitsValue}};
 
 use crate::past::Past;
 use schedule_tables::Accepted;
 use std::alloc::Global;
-use tte_audit::reports::{AuditedReport, NoReport, read_report};
 use tte_io::Source;
+use tte_reports::{AuditedReport, NoReport, read_report};
 
 /// A report that was audited, and what its records show.
 #[derive(Drop)]

@@ -187,8 +187,7 @@ record IsEnd (v : View) (n : ℕ) (before : Stands v n) (h : Happening) : Type 0
 
 end_is : (v : View) (n : ℕ) (before : Stands v n) (h : Happening) → IsIn h (filter (λ g. is_dispatch v before.hull (suc n) g g.note.body) v.records)
     → IsEnd v n before h
-end_is v n before h i =
-    grind (arith, is_dispatch, tested, passes, in_filter)
+end_is v n before h i = grind (arith, is_dispatch, tested, passes, in_filter)
 
 -- its master's clock was set before the block
 end_old : BlocksGoSo → (v : View) (n : ℕ) (before : Stands v n) (h : Happening) → IsView v → (e : IsEnd v n before h)

@@ -154,5 +154,4 @@ expected_is v device cycle point is =
 
 -- a device expects frames well behind the beginning of their cycle
 pub expected_late : (v : View) (device : DeviceId) → IsView v → v.sizes.dmax + v.sizes.compression ≤ expected_by v.scenario.network device
-expected_late v device is =
-    grind (arith, is_cm, amount, compression_time, sizes_are)
+expected_late v device is = grind (arith, is_cm, amount, compression_time, sizes_are)

@@ -133,8 +133,7 @@ no_change : (p : State → Bool) → p Integrating ≡ false → (s : Scenario) 
 no_change p out s ps t device state cause whys.Frame none c e =
     let h = c.1.0 in
     both_ways (changes_adjustment device h.note.body) (none h (numbered_in ps cause h c.1.1.there) c.1.1.same_time) (joined_changes device h.note.body c.1.2)
-no_change p out s ps t device state cause whys.Correction none c e =
-    grind (arith, numbered_in, both_ways, changes_adjustment, eq-eqb)
+no_change p out s ps t device state cause whys.Correction none c e = grind (arith, numbered_in, both_ways, changes_adjustment, eq-eqb)
 no_change p out s ps t device state cause why none c e = both_ways (p state) (ap p c.0 ∙ out) e
 
 -- nor does any other record

@@ -39,8 +39,7 @@ short_by_reading n reading s t steady le less =
 -- one unit before, a reading is little less
 step_back : (n : Sizes) (reading : ℕ → ℕ) (t : ℕ) → IsSteady n reading → 0 < t → reading t ≤ reading (t - 1) + 2 * n.grain + 1
 step_back n reading zero steady after = absurd (omega arith)
-step_back n reading (suc t) steady after =
-    grind arith
+step_back n reading (suc t) steady after = grind arith
 
 pub reach_is_sharp : ReachIsSharp
 reach_is_sharp n reading from v t steady below reach =
@@ -54,8 +53,7 @@ reach_is_sharp n reading from v t steady below reach =
 -- among the units behind x there is a first at which the value is read
 first_of_all : (n : Sizes) (reading : ℕ → ℕ) (from x : ℕ) (v : ℤ) (more : ℕ) → IsSteady n reading → from ≤ x → pos (reading x) <ℤ v
     → v ≤ℤ pos (reading (x + more)) → (u : ℕ) × (x < u) × (u ≤ x + more) × IsReach reading (pos from) v (pos u)
-first_of_all n reading from x v zero steady le below above =
-    grind (arith, ints)
+first_of_all n reading from x v zero steady le below above = grind (arith, ints)
 first_of_all n reading from x v (suc more) steady le below above =
     by_lt_z {P = (u : ℕ) × (x < u) × (u ≤ x + suc more) × IsReach reading (pos from) v (pos u)} (pos (reading (x + more))) v (λ less. (
       x + suc more,

@@ -71,8 +71,7 @@ firsts_ordered xs up = fold_ordered [] xs tt up (λ a x i j. absurd i)
 
 pub ordered_filter : (test : Point → Bool) (ps : List Point) → Ordered ps → Ordered (filter test ps)
 ordered_filter test [] up = tt
-ordered_filter test (p ∷ ps) up =
-    grind (arith, cases_Bool, all-filter, (ordered_filter test ps up.1))
+ordered_filter test (p ∷ ps) up = grind (arith, cases_Bool, all-filter, (ordered_filter test ps up.1))
 
 pub firsts_in : (xs : List Point) (q : Point) → IsIn q (firsts xs) → Contains xs q
 firsts_in xs q i =
@@ -221,8 +220,7 @@ or_zero n = omega (arith, or_disjoint n 0 (omega (arith, and_le_r n 0)))
 -- one more bit makes at most one more
 ones_or : (k n : ℕ) → count_ones (bit_or n (2 ^ k)) ≤ count_ones n + 1
 ones_or zero n = omega (arith, ones_step (bit_or n 1), ones_step n, ap count_ones (or_half n 1 ∙ or_zero (n / 2)), or_parity n 1)
-ones_or (suc k) n =
-    grind (arith, pow-suc, bit_or, or_half, ones_step, count_ones, or_parity, (ones_or k (n / 2)))
+ones_or (suc k) n = grind (arith, pow-suc, bit_or, or_half, ones_step, count_ones, or_parity, (ones_or k (n / 2)))
 
 ones_fold : (a : ℕ) (qs : List Point) → count_ones (fold (λ members q. bit_or members (2 ^ q.master)) a qs) ≤ count_ones a + length qs
 ones_fold a [] = omega arith

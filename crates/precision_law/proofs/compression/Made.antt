@@ -43,8 +43,7 @@ point_not_both v cm by p q is good bad same =
 
 -- bad points are of one master
 pub bad_is_one : (v : View) (p q : Point) → IsView v → IsBadPoint v p → IsBadPoint v q → p.master ≡ q.master
-bad_is_one v p q is a b =
-    grind (arith, one_bad, member_of, same_some)
+bad_is_one v p q is a b = grind (arith, one_bad, member_of, same_some)
 
 -- a dispatch has no delay so far
 pub dispatch_clock : (v : View) (first : Happening) (master : DeviceId) (cycle : ℕ) → IsView v → IsDispatch v first master cycle → clock_in first ≡ 0

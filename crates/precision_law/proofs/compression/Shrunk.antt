@@ -21,8 +21,7 @@ opens_behind ow end qs cs c some are at =
 -- the first cluster is the same with a point more, where either ends before it
 first_same : (ow : ℤ) (o : Point) (ps : List Point) (p : Point) (k e : Cluster) → pos 0 ≤ℤ ow → k ≡ cluster_of ow o (o ∷ ps)
     → e ≡ cluster_of ow o ((o ∷ ps) ++ p ∷ []) → (k.end <ℤ p.reading) ⊎ (e.end <ℤ p.reading) → k ≡ e
-first_same ow o ps p k e some is_k is_e past =
-    grind (arith, end_of, ints, end_of-least, end_of-same, firsts, held-push_beyond, cluster_of-beyond)
+first_same ow o ps p k e some is_k is_e past = grind (arith, end_of, ints, end_of-least, end_of-same, firsts, held-push_beyond, cluster_of-beyond)
 
 -- a cluster that ends before a point is one with the point where it is one without
 same_by : (ow : ℤ) (ps : List Point) (p : Point) (cs ds : List Cluster) (c : Cluster) → pos 0 ≤ℤ ow → AreClusters ow ps cs → AreClusters ow (ps ++ p ∷ []) ds

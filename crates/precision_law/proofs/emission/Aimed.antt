@@ -37,8 +37,7 @@ of_one_cycle n a b x y space of_a of_b le near = grind (arith, cases_lt, never_l
 -- a natural number in its cycle
 in_cycle : (n : Network) (c r m : ℕ) (z : ℤ) → pos 0 ≤ℤ n.cycle.0 → r < amount n.cycle → m ≡ c * amount n.cycle + r → z ≡ pos m → (offset_in_cycle n z ≡ pos r)
     × (int_div_euclid z n.cycle.0 ≡ pos c)
-in_cycle n c r m z begun small is same =
-    grind (arith, amount, natural, int_rem_euclid_is, ints, mod-mul-add, int_div_euclid, div-mul-add)
+in_cycle n c r m z begun small is same = grind (arith, amount, natural, int_rem_euclid_is, ints, mod-mul-add, int_div_euclid, div-mul-add)
 
 no_reason : (s a b : Bool) (p q : Reason) → a ≡ false → b ≡ true → first_reason ((s && a, p) ∷ (s && not b, q) ∷ []) ≡ None
 no_reason true false true p q x y = refl

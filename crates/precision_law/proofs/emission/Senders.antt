@@ -26,8 +26,7 @@ pub record IsSoundCm (v : View) (cm : DeviceId) : Type 0 where
 
 -- a compression master of the sound channel is such
 pub cm_is : (v : View) (cm : DeviceId) → IsCmOf v.scenario.network v.channel cm → IsSoundCm v cm
-cm_is v cm of_channel =
-    grind (arith, opened, device_at, has_role, option_map_or, is_cm_role, closed, not, is_parent_of, is_relay_role)
+cm_is v cm of_channel = grind (arith, opened, device_at, has_role, option_map_or, is_cm_role, closed, not, is_parent_of, is_relay_role)
 
 -- ---- a first master
 
@@ -38,8 +37,7 @@ begins_or_not (Some d) = grind arith
 
 -- a device is a good master that began on, or is not
 first_or_not : (v : View) (device : DeviceId) → IsFirstMaster v device ⊎ (IsFirstMaster v device → ⊥)
-first_or_not v device =
-    grind (arith, cases_Bool, has_role, is_master, both_ways, is_broken, begins_or_not, device_at)
+first_or_not v device = grind (arith, cases_Bool, has_role, is_master, both_ways, is_broken, begins_or_not, device_at)
 
 -- of what may be found at a place, it is at one below this, or at none
 some_below : (P : ℕ → Type 0) → ((i : ℕ) → P i ⊎ (P i → ⊥)) → (n : ℕ) → ((i : ℕ) × P i) ⊎ ((i : ℕ) → i < n → P i → ⊥)

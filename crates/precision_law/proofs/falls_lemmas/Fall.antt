@@ -7,7 +7,7 @@ use Rattle.precision_law.proofs.words.Blocks.{block_ends, corrections_go_on, fol
 use Rattle.precision_law.proofs.words.{Clocks.{one_channel_is_sound, one_more, room}, Std.{mul-le-mul_right, pos, refl, subst, suc, sym, zero, ℕ, ℤ}}
 use Rattle.precision_law.proofs.words.Plans.{Channel, DeviceId, IsBeta, Synchronised, beta_at, beta_exists, rules_give_trees, shape_rules}
 use Rattle.precision_law.proofs.words.Runs.{Happening, Scenario, adjustment_after, earlier, happenings, is_broken, is_turned_on_at, same_some, state_after}
-use Rattle.precision_law.proofs.words.Std.{◌*◌, ◌+ℤ◌, ◌+◌, ◌-◌, ◌<◌, ◌≡◌, ◌≤ℤ◌, ◌≤◌, ◌⊎◌, List, Some, ap, arith, cases_lt, false, inl, inr, ints}
+use Rattle.precision_law.proofs.words.Std.{◌*◌, ◌+ℤ◌, ◌+◌, ◌-◌, ◌<◌, ◌∙◌, ◌≡◌, ◌≤ℤ◌, ◌≤◌, ◌⊎◌, List, Some, ap, arith, cases_lt, false, inl, inr, ints}
 
 -- the hull of an earlier cycle is not behind itself either
 ordered_before : (v : View) (k : ℕ) (stands : Stands v k) (j : ℕ) (hull : Hull) → IsView v → j ≤ k → hull_of v j ≡ Some hull → hull.least ≤ℤ hull.greatest
@@ -137,9 +137,15 @@ left_in s hs t u channel path device at from to correct synchronised =
 shown_in : (s : Scenario) (hs : List Happening) (t : ℕ) (channel : Channel) (path : ℕ) (device : DeviceId) (shown : ℤ) → (at : IsViewWith s hs t channel path)
     → ShowsInStep s hs device t shown → IsBlockOf (view_of s t channel path at.cut.front) t shown
 shown_in s hs t channel path device shown at (inl after) =
-    grind (arith, up_to_is, view_of, state_after, adjustment_after, left_in)
+    let same = up_to_is t hs in
+    let state = subst (λ (gs : List Happening). state_after s gs device ≡ Synchronised) same after.0.synchronised in
+    let shows = after.1 ∙ ap (λ (gs : List Happening). pos (s.reading device t) +ℤ (adjustment_after s gs device).0) same in
+    subst (IsBlockOf (view_of s t channel path at.cut.front) t) (sym shows)
+    (left_in s hs t (t + 1) channel path device at (omega arith) (omega arith) after.0.correct state)
 shown_in s hs t channel path device shown at (inr before) =
-    grind (arith, view_of, left_in, not_integrating, is_turned_on_at, state_after, earlier)
+    let state = not_integrating (is_turned_on_at s device t) (state_after s (earlier t hs) device) before.0.synchronised in
+    subst (IsBlockOf (view_of s t channel path at.cut.front) t) (sym before.1)
+    (left_in s hs t t channel path device at (omega arith) (omega arith) before.0.correct state)
 
 pub never_fall : ClocksDoNotFallBack
 never_fall s mark ns until up x y d e shown later le most one other =

@@ -85,8 +85,7 @@ enough_by v befallen members is all good =
     omega (arith, r.1, sets_within r.0 members (λ i m. is_first i (r.2 i m)), empty)
   where
     is_first : (i : ℕ) → IsSoundAt v befallen i → IsMember i members
-    is_first i s =
-        grind (arith, and_parts, is_master, is_some, not, list_any, breaks_at, option_map_or, closed, device_at, not-true)
+    is_first i s = grind (arith, and_parts, is_master, is_some, not, list_any, breaks_at, option_map_or, closed, device_at, not-true)
 
 -- ---- the masters that begin on
 

@@ -73,8 +73,7 @@ first_cut_is_one (x ∷ before) (y ∷ before') behind behind' cut cut' link lin
 
 -- a link is of one channel
 pub link_of_one : (n : Network) (c d : Channel) (link : LinkId) → IsLinkOf n c link → IsLinkOf n d link → c ≡ d
-link_of_one n c d link one other =
-    grind (arith, opened, link_at, device_at, same_some)
+link_of_one n c d link one other = grind (arith, opened, link_at, device_at, same_some)
 
 -- no two channels are faulty
 pub one_is_faulty : (n : Network) (es : List Event) (c d : Channel) → ((x y : Channel) → HasOffSwitch n x → HasOffSwitch n y → x ≡ y) → IsFaulty n es c

@@ -33,8 +33,7 @@ pub record IsTurnedAt (s : Scenario) (device : DeviceId) (t : ℕ) : Type 0 wher
   pub at : amount event.time ≡ t
 
 pub turned_at : (s : Scenario) (device : DeviceId) (t : ℕ) → is_turned_on_at s device t ≡ true → IsTurnedAt s device t
-turned_at s device t e =
-    grind (arith, any_in, turns_on, amount, and_parts, on_by, eqb-true)
+turned_at s device t e = grind (arith, any_in, turns_on, amount, and_parts, on_by, eqb-true)
 
 -- ---- a device that begins off stays so
 

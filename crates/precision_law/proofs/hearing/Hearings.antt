@@ -68,8 +68,7 @@ hearer_down v device link is cm waits =
 
 expected_is : (v : View) (device : DeviceId) (b : Bool) → IsView v → is_cm v.scenario.network device ≡ b
     → expected_by v.scenario.network device ≡ (if b then v.sizes.dmax + v.sizes.compression else expectation v.sizes)
-expected_is v device b is cm =
-    grind (arith, amount, compression_time, expectation)
+expected_is v device b is cm = grind (arith, amount, compression_time, expectation)
 
 pub hearings_are_of_frames : HearingsAreOfFrames
 hearings_are_of_frames v device channel point judgement h is hearer hears = elim hears.how [

@@ -1,6 +1,6 @@
 -- The frame that the compression master of the sound channel sends in a block is heard by each old device that is to keep
 -- the time.
-use Rattle.{net_plan.proofs.SameIds.same_device, precision_law.proofs.block.Onward.firm_good}
+use Rattle.{net_plan.proofs.SameIds.same_device, precision_law.proofs.block.Onward.firm_good, tte_units.specs.declared.units.Units.Units}
 use Rattle.precision_law.proofs.{hearing.{GoodFrames.{IsAtPoint, sooner}, Timely.of_channel_is}, words.Plans.{Synchronised, device_at, is_end_system, opened}}
 use Rattle.precision_law.proofs.{trips.Gates.are_open_from, words.Blocks.{next_first, not_turned_on_then, one_cm, sound_frames_go_down, up_to_then}}
 use Rattle.precision_law.proofs.words.Blocks.{AreUpTo, EndsSo, before_narrow, cm_of, earlier_in_block, ends_so, follows_before, hears_as_at, judged_at}
@@ -86,6 +86,15 @@ cm_of_channel v cm one =
 
 -- ---- what it hears
 
+-- one record of an arrival is of one device and link
+same_arrival : (d e : DeviceId) (k l : LinkId) (c n x y : ℕ) → notes.Arrived d k c x ≡ notes.Arrived e l n y → (d ≡ e) × (k ≡ l)
+same_arrival d e k l c n x y same = (cc, cc)
+
+-- no record is of a collection and of an arrival
+never_both : (d e : DeviceId) (opened at : Units) (n : ℕ) (members : Members) (j : Judgement) (k : LinkId) (c x : ℕ)
+    → notes.Compressed d opened at n members j ≡ notes.Arrived e k c x → ⊥
+never_both d e opened at n members j k c x same = cc
+
 -- a record by which the device hears the frame of the sound channel
 pub record Receives (v : View) (n : ℕ) (before : Stands v n) (device : DeviceId) (members : Members) : Type 0 where
   pub h : Happening
@@ -145,7 +154,7 @@ module _ (v : View) (n t : ℕ) (block : IsInBlock v n t) (is : IsView v) (devic
       by : (legs : List Leg) → IsTrip v Down first legs b.last → EndsSo v v.channel first b.last
       by [] trip =
           let wrong : notes.Compressed cm e.opened e.at (suc n) members e.verdict ≡ notes.Arrived device b.permanent.link b.permanent.from b.permanent.clock =
-          sym e.is ∙ ap (λ (h : Happening). h.note.body) trip ∙ b.permanent.is in absurd cc
+          sym e.is ∙ ap (λ (h : Happening). h.note.body) trip ∙ b.permanent.is in absurd (never_both _ _ _ _ _ _ _ _ _ _ wrong)
       by (leg ∷ legs) trip =
           ends_so v v.channel first b.last leg legs is (λ d k gives.
           (let g = subst (λ (x : NoteBody). Gives v.scenario.network x d k) e.is gives in ap (channel_of v.scenario.network) g.0 ∙ cm_of_channel v cm one)) trip
@@ -173,8 +182,9 @@ module _ (v : View) (n t : ℕ) (block : IsInBlock v n t) (is : IsView v) (devic
       let q = b.q in
       let ends = brought_by_leg b in
       let same = sym ends.is.arrives ∙ ap (λ (h : Happening). h.note.body) ends.ends ∙ p.is in
-      let receiver : ends.is.receiver ≡ device = cc in
-      let link : ends.leg.link ≡ p.link = cc in
+      let arrival = same_arrival _ _ _ _ _ _ _ _ same in
+      let receiver : ends.is.receiver ≡ device = arrival.0 in
+      let link : ends.leg.link ≡ p.link = arrival.1 in
       let child = receiver_down network p.link device (ap (λ (k : LinkId). receiver_of network k Down) (sym link) ∙ ends.is.comes_to
       ∙ ap (λ (d : DeviceId). Some d) receiver) in
       let parent = false_from_ne_true (is_parent_of network device p.link) (λ yes_parent. child_not_parent v device p.link is child yes_parent) in

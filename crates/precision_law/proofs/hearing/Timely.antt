@@ -59,8 +59,7 @@ path_member v channel device (link ∷ links) is path =
 
 pub cm_of : (v : View) (cm : DeviceId) (channel : Channel) → is_cm v.scenario.network cm ≡ true → channel_of v.scenario.network cm ≡ Some channel
     → IsCmOf v.scenario.network channel cm
-cm_of v cm channel is_one of =
-    grind (arith, device_of, is_cm_role, device_at, option_and_then, closed, cm_role)
+cm_of v cm channel is_one of = grind (arith, device_of, is_cm_role, device_at, option_and_then, closed, cm_role)
 
 -- ---- frames from afar
 

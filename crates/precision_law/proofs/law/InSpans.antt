@@ -13,8 +13,7 @@ use Rattle.precision_law.proofs.words.Std.{◌*◌, ◌+ℤ◌, ◌+◌, ◌-◌
 one_span : (s : Scenario) (hs : List Happening) (t cycle : ℕ) (first last least greatest : ℤ) → AreFromTo s hs t cycle first last
     → AreFromTo s hs t cycle least greatest → (first ≡ least) × (last ≡ greatest)
 one_span s hs t zero first last least greatest a b = (a.0 ∙ sym b.0, a.1 ∙ sym b.1)
-one_span s hs t (suc c) first last least greatest a b =
-    grind (arith, ints)
+one_span s hs t (suc c) first last least greatest a b = grind (arith, ints)
 
 -- ---- the block of the span
 

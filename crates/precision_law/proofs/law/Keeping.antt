@@ -89,10 +89,7 @@ keeps_by cover goes s hs t channel path cut cycle shown is c = record {
   dispatches =
       from_to_of_run s hs t cycle c.hull.least c.hull.greatest cut (hull_is_from_to cover goes (view_of s t channel path cut.front) is cycle c.hull c.is_hull);
   narrow = c.narrow;
-  between = record {
-    least = omega (arith, ints, c.shows.least);
-    most = omega (arith, ints, c.shows.most);
-  };
+  between = record { least = omega (arith, ints, c.shows.least); most = omega (arith, ints, c.shows.most) };
 }
 
 pub clocks_keep_their_cycles : OneChannelIsSound → BlocksCover → BlocksGoSo → ClocksKeepTheirCycles

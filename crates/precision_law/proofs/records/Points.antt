@@ -78,8 +78,7 @@ same_adjustment v device t front split = ap (λ (hs : List Happening). adjustmen
 -- the last of a list is in it
 pub last_in : {X : Type 0} (o : Option X) (xs : List X) (x : X) → last_or o xs ≡ Some x → (o ≡ Some x) ⊎ IsIn x xs
 last_in o [] x e = inl e
-last_in {X} o (y ∷ xs) x e =
-    grind (arith, (last_in (Some y) xs x e))
+last_in {X} o (y ∷ xs) x e = grind (arith, (last_in (Some y) xs x e))
 
 -- the record that set a device's clock last
 pub record IsSetting (v : View) (device : DeviceId) (t : ℕ) (h : Happening) : Type 0 where

@@ -94,13 +94,11 @@ from_to_by s hs gs t (suc c) first last there back at = grind arith
 
 pub from_to_of_run : (s : Scenario) (hs : List Happening) (t cycle : ℕ) (first last : ℤ) (cut : IsCutAt s hs t) → AreFromTo s cut.front t cycle first last
     → AreFromTo s hs t cycle first last
-from_to_of_run s hs t cycle first last cut =
-    from_to_by s cut.front hs t cycle first last (λ c h. of_run s hs t c cut h) (λ c h. of_cut s hs t c cut h)
+from_to_of_run s hs t cycle first last cut = from_to_by s cut.front hs t cycle first last (λ c h. of_run s hs t c cut h) (λ c h. of_cut s hs t c cut h)
 
 pub from_to_of_cut : (s : Scenario) (hs : List Happening) (t cycle : ℕ) (first last : ℤ) (cut : IsCutAt s hs t) → AreFromTo s hs t cycle first last
     → AreFromTo s cut.front t cycle first last
-from_to_of_cut s hs t cycle first last cut =
-    from_to_by s hs cut.front t cycle first last (λ c h. of_cut s hs t c cut h) (λ c h. of_run s hs t c cut h)
+from_to_of_cut s hs t cycle first last cut = from_to_by s hs cut.front t cycle first last (λ c h. of_cut s hs t c cut h) (λ c h. of_run s hs t c cut h)
 
 -- ---- blocks of dispatches
 

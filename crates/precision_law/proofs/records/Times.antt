@@ -29,8 +29,7 @@ sorted s hs founded = sorted_behind s [] hs founded
 
 -- records that are not before t add no earlier ones
 pub earlier_front : (t : ℕ) (front rest : List Happening) → ((h : Happening) → IsIn h rest → t ≤ time_of h) → earlier t front ≡ earlier t (front ++ rest)
-earlier_front t front rest late =
-    grind (arith, nat_lt, time_of, earlier, none_kept, le-ltb, append-nil, filter-append)
+earlier_front t front rest late = grind (arith, nat_lt, time_of, earlier, none_kept, le-ltb, append-nil, filter-append)
 
 -- the records from u on and before t
 abbrev pub between : ℕ → ℕ → List Happening → List Happening

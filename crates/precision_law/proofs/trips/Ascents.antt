@@ -99,8 +99,7 @@ never_fault n device at entry None taken c = never_taken (is_end n device) _ _ t
 
 pub never_timed : (v : View) (ps : List Happening) (t : ℕ) (device : DeviceId) (link : LinkId) (cause : ℕ) (octets : List ℕ) (taken : Pcf)
     → TakesWith (arrival_of v.scenario ps device t link cause (timed octets)) taken → ⊥
-never_timed v ps t device link cause octets taken takes =
-    grind (arith, standpoint, last_taken, field, length, never_fault)
+never_timed v ps t device link cause octets taken takes = grind (arith, standpoint, last_taken, field, length, never_fault)
 
 -- the members are those of one whose frame is its own
 mine_is : (relay end : Bool) (o : Option ℕ) (members : Members) → (relay && end && are_others o members) ≡ false → relay ≡ true → end ≡ true → (m : ℕ)

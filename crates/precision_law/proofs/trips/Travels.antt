@@ -30,8 +30,7 @@ leg_link v way leg is l =
     arrival_link v _ _ _ _ _ _ (subst (IsCaused v.scenario at.front leg.arriving.note.time) l.arrives at.due.cause)
 
 pub adds_up : (v : View) (way : Way) (first last : Happening) (legs : List Leg) → IsView v → IsTrip v way first legs last → AddsUp v first last legs
-adds_up v way first last [] is trip =
-    grind (arith, All-nil, amount, time_of, clock_in)
+adds_up v way first last [] is trip = grind (arith, All-nil, amount, time_of, clock_in)
 adds_up v way first last (leg ∷ legs) is trip =
     let more = adds_up v way leg.arriving last legs is trip.2 in
     let link = leg_link v way leg is trip.1 in
@@ -85,8 +84,7 @@ switch_of n channel device e =
 -- the link of a leg down leads from its receiver to its sender
 pub leg_down : (v : View) (leg : Leg) → IsView v → (l : IsLeg v Down leg) → (link : Link) × (link_at v.scenario.network leg.link ≡ Some link)
     × (link.child ≡ l.receiver) × (link.parent ≡ l.sender)
-leg_down v leg is l =
-    grind (arith, leg_link, option_map, target_by, opened, link_at, gives_down, same_some)
+leg_down v leg is l = grind (arith, leg_link, option_map, target_by, opened, link_at, gives_down, same_some)
 
 -- what gives a frame down is of the channel, and has this path
 pub record GivesDown (v : View) (channel : Channel) (first : Happening) (giver : DeviceId) (links : List LinkId) : Type 0 where

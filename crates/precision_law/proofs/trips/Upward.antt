@@ -29,17 +29,14 @@ channel_is n channel device switch =
 
 -- one leg more
 leg_up : (v : View) (channel : Channel) (leg : Leg) (links : List LinkId) → IsView v → (l : IsLeg v Up leg)
-    → IsChildOf v.scenario.network l.sender leg.link → LeadsUp v channel l.receiver links
-    → IsPath v.scenario.network channel l.sender (leg.link ∷ links)
-leg_up v channel leg links is l child up =
-    grind (arith, leg_link, option_map, target_by, opened, link_at, same_some, closed)
+    → IsChildOf v.scenario.network l.sender leg.link → LeadsUp v channel l.receiver links → IsPath v.scenario.network channel l.sender (leg.link ∷ links)
+leg_up v channel leg links is l child up = grind (arith, leg_link, option_map, target_by, opened, link_at, same_some, closed)
 
 -- from what arrived at a switch
 path_from : (v : View) (channel : Channel) (g last : Happening) (legs : List Leg) (cm relay : DeviceId) (by to : LinkId) (c d t u : ℕ) → IsView v
     → IsCmOf v.scenario.network channel cm → IsTrip v Up g legs last → last.note.body ≡ notes.Arrived cm to d u
     → g.note.body ≡ notes.Arrived relay by c t → LeadsUp v channel relay (links_of legs)
-path_from v channel g last [] cm relay by to c d t u is one trip ends body =
-    grind (arith, opened, device_at, closed)
+path_from v channel g last [] cm relay by to c d t u is one trip ends body = grind (arith, opened, device_at, closed)
 path_from v channel g last (leg ∷ legs) cm relay by to c d t u is one trip ends body =
     let n = v.scenario.network in
     let l = trip.1 in

@@ -22,7 +22,7 @@ pub use Rattle.net_plan.specs.{Ranges.{IsDeviceInRange, IsLinkInRange, IsWithin}
 pub use Rattle.net_plan.specs.declared.{event.{Event.Event, What.{What, TheVariants.Send}}, ids.{DeviceId.DeviceId, LinkId.LinkId}, network.Network.Network}
 pub use Rattle.net_plan.specs.declared.tables.{Device.Device, Link.Link, Role.{Role, TheVariants.{Cm, Master, Relay}}, Way.{Way, TheVariants.{Down, Up}}}
 pub use Rattle.pcf_codec.specs.Fields.{field}
-pub use Rattle.pcf_values.specs.declared.{channel.Channel.{Channel, TheVariants.{A, B}}, members.Members.Members, pcf.Pcf.Pcf}
+pub use Rattle.tte_units.specs.declared.frames.{channel.Channel.{Channel, TheVariants.{A, B}}, members.Members.Members, pcf.Pcf.Pcf}
 pub use Rattle.schedule_tables.proofs.Margins.{margins, shape_rules}
 pub use Rattle.schedule_tables.specs.{Delays.{delay_by, delay_of, delay_on, pcf_port_time}, Entries.target_by}
 pub use Rattle.schedule_tables.specs.Margins.{HasMargins, clock_error, compression_time, drift_of}

@@ -1,15 +1,15 @@
 -- What a device has found of a control frame that it does not drop at its arrival.
 use Rattle.{net_plan.specs.declared.ids.DeviceId.DeviceId, run_law.specs.declared.judgement.Reason.Reason, std.specs.Prelude.{Err, Ok, Result, if◌then◌else◌}}
-use Rattle.{net_plan.specs.declared.{ids.{LinkId.LinkId, VlId.VlId}, tables.Way.Way}, pcf_values.specs.declared.pcf.Pcf.Pcf, std.proofs.lemmas.Bool.ltb-false}
+use Rattle.{net_plan.specs.declared.{ids.{LinkId.LinkId, VlId.VlId}, tables.Way.Way}, pcf_codec.specs.Fields.field, tte_units.specs.declared.units.Units.Units}
 use Rattle.{net_plan.specs.declared.{network.Network.Network, tables.Way.TheVariants.{Down, Up}}, run_law.specs.device.Standpoints.{Standpoint, standpoint}}
-use Rattle.pcf_codec.specs.Fields.{field}
 use Rattle.{pcf_codec.specs.declared.refusal.PcfRefusal.PcfRefusal, run_law.specs.{records.Happenings.{Happening, with_clock}, runs.DueRecords.IsArrivedRecord}}
-use Rattle.{run_law.{proofs.control.Verdicts.none_first, specs.declared.steps.Arrival.Arrival}, tte_units.specs.{Amount.amount, declared.units.Units.Units}}
+use Rattle.{run_law.{proofs.control.Verdicts.none_first, specs.declared.steps.Arrival.Arrival}, tte_units.specs.{Amount.amount, declared.frames.pcf.Pcf.Pcf}}
 use Rattle.run_law.specs.control.Arrivals.{clock_on_arrival, control_arrival, frame_fault, frame_or_fault, is_cold_start, is_gate_shut, is_of_other_domain}
 use Rattle.run_law.specs.{control.Arrivals.{is_of_other_member, point_on_arrival}, scenario.{Devices.{is_end, is_parent_of, is_relay}, Scenarios.Scenario}}
 use Rattle.{run_law.specs.{control.Wires.{Signal, control, timed}, timed.Receptions.{arrival_of, last_taken}}, schedule_tables.specs.declared.entry.Entry.Entry}
 use Rattle.run_law.specs.timed.Arrivals.{entry_arrival, entry_entering, octets_fault, octets_or_fault, row_fault, taken_or_fault, timed_arrival}
 use Rattle.std.proofs.Common.{◌∙◌, ◌≡◌, ◌≤◌, ◌⊎◌, Bool, List, None, Option, Some, ap, arith, false, inl, inr, length, nat_lt, not, refl, sym, true, ℕ}
+use Rattle.std.proofs.lemmas.Bool.{ltb-false}
 use Rattle.run_law.specs.declared.steps.Arrival.TheVariants as arrivals
 
 -- the frame, with this clock, waits or is passed on

@@ -14,8 +14,7 @@ use Rattle.run_law.specs.declared.steps.Ripe.TheVariants as ripe
 pub earlier_kept : (t : ℕ) (q : Happening → Bool) (hs : List Happening) → ((h : Happening) → nat_lt (time_of h) t ≡ true → q h ≡ true)
     → earlier t (filter q hs) ≡ earlier t hs
 earlier_kept t q [] all = refl
-earlier_kept t q (h ∷ hs) all =
-    grind (arith, cases_Bool, earlier, filter, nat_lt, time_of, false_from_ne_true, both_ways, (earlier_kept t q hs all))
+earlier_kept t q (h ∷ hs) all = grind (arith, cases_Bool, earlier, filter, nat_lt, time_of, false_from_ne_true, both_ways, (earlier_kept t q hs all))
 
 -- a place of the time is behind what is earlier
 pub earlier_before : (hs : List Happening) (t : ℕ) (more : List ℕ) → earlier t (filter (λ h. is_before (place_of h) (t ∷ more)) hs) ≡ earlier t hs

@@ -38,8 +38,7 @@ off_arrival s ps t device link cause (timed octets) off =
 -- so what comes to a broken device is dropped
 dropped_off : (s : Scenario) (ps : List Happening) (t : ℕ) (device : DeviceId) (link : LinkId) (cause : ℕ) (a : Arrival) → is_broken s device t ≡ true
     → ArrivesAs s ps device t link cause a → a ≡ arrivals.Dropped Off
-dropped_off s ps t device link cause a broken comes =
-    grind (arith, standpoint, and_right, not, is_off, is_broken, not_from_true, off_arrival)
+dropped_off s ps t device link cause a broken comes = grind (arith, standpoint, and_right, not, is_off, is_broken, not_from_true, off_arrival)
 
 -- ---- what is correct is not broken
 

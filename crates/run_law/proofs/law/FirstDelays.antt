@@ -79,11 +79,7 @@ given s e lawful i =
     let at = parted e s.events i in
     let there : slice_get s.events (length at.0) ≡ Some e = subst (λ (es : List Event). slice_get es (length at.0) ≡ Some e) (sym at.2) (at_length at.0 at.1 e)
     in
-    record {
-      range = in_all IsEventInRange s.events (length at.0) e lawful.events there;
-      before = at.0;
-      within = lawful.within at.0 at.1 e at.2;
-    }
+    record { range = in_all IsEventInRange s.events (length at.0) e lawful.events there; before = at.0; within = lawful.within at.0 at.1 e at.2 }
 
 -- a hold that an event sets is at most the link's
 set_hold_most : (s : Scenario) (link : LinkId) (l : Link) (way : Way) → IsLawful s → link_at s.network link ≡ Some l → pos 0 ≤ℤ l.hold.0 → (e : Event)
@@ -137,5 +133,4 @@ delay_least s link l way t lawful there least =
 -- what a clock grows over a hold is at most dmax, where that has room for beta and the delays of the link
 pub grows_little : (n : Network) (jitter links hold wire spread held seen : ℕ) → 1 ≤ amount n.grain → Measures n.rho (amount n.grain) held seen → held ≤ hold
     → beta_at n jitter links + (wire + spread + hold) ≤ amount n.dmax → seen ≤ amount n.dmax
-grows_little n jitter links hold wire spread held seen grain measures short room =
-    grind (arith, amount, mul-le-mul_left)
+grows_little n jitter links hold wire spread held seen grain measures short room = grind (arith, amount, mul-le-mul_left)

@@ -103,14 +103,12 @@ here hs h begins = (h, record { causes = []; chain = tt; begins = refl }, begins
 
 -- a record goes back to where its cause does
 further : (hs : List Happening) (h g : Happening) → numbered hs (cause_of h.note.body) ≡ Some g → Begins hs g → Begins hs h
-further hs h g there back =
-    (back.0, record { causes = g ∷ back.1.causes; chain = (there, back.1.chain); begins = back.1.begins }, back.2)
+further hs h g there back = (back.0, record { causes = g ∷ back.1.causes; chain = (there, back.1.chain); begins = back.1.begins }, back.2)
 
 -- the last of a list is in it, or is what was given for an empty one
 pub last_in : (o : Option Happening) (hs : List Happening) (h : Happening) → last_or o hs ≡ Some h → (o ≡ Some h) ⊎ IsIn h hs
 last_in o [] h e = inl e
-last_in o (g ∷ hs) h e =
-    grind (arith, same_some, (last_in (Some g) hs h e))
+last_in o (g ∷ hs) h e = grind (arith, same_some, (last_in (Some g) hs h e))
 
 -- where nothing was given, the last of a list is in it
 last_there : (hs : List Happening) (h : Happening) → last_or None hs ≡ Some h → IsIn h hs
@@ -169,5 +167,4 @@ begins_from s hs founded (suc n) h i small taken =
 
 -- the law: the frames that are delivered go back to where they begin
 pub deliveries_begin : DeliveriesBegin
-deliveries_begin s mark ns h device link cause vl cycle run i is =
-    begins_from s _ run.founded (suc h.note.number) h i (omega arith) (subst IsTaken (sym is) tt)
+deliveries_begin s mark ns h device link cause vl cycle run i is = begins_from s _ run.founded (suc h.note.number) h i (omega arith) (subst IsTaken (sym is) tt)

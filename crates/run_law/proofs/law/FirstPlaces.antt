@@ -38,16 +38,14 @@ in_filter p (y ∷ xs) x i = kept_by (p y) y x (filter p xs) xs (in_filter p xs 
 -- a filter drops what fails its test
 pub none_kept : {X : Type 0} (p : X → Bool) (xs : List X) → ((x : X) → IsIn x xs → p x ≡ false) → filter p xs ≡ []
 none_kept p [] fails = refl
-none_kept {X} p (x ∷ xs) fails =
-    ap (λ (b : Bool). if b then x ∷ filter p xs else filter p xs) (fails x (inl refl)) ∙ none_kept p xs (λ y i. fails y (inr i))
+none_kept {X} p (x ∷ xs) fails = ap (λ (b : Bool). if b then x ∷ filter p xs else filter p xs) (fails x (inl refl)) ∙ none_kept p xs (λ y i. fails y (inr i))
 
 -- ---- founded lists
 
 -- a front of a founded list is founded
 pub front_founded : {N : Type 0} (place : N → List ℕ) (IsDue : List N → N → Type 0) (ps qs : List N) → IsFounded place IsDue (ps ++ qs)
     → IsFounded place IsDue ps
-front_founded place IsDue ps qs founded rs ts x e =
-    founded rs (ts ++ qs) x (ap (λ (t : List _). t ++ qs) e ∙ append_assoc rs (x ∷ ts) qs)
+front_founded place IsDue ps qs founded rs ts x e = founded rs (ts ++ qs) x (ap (λ (t : List _). t ++ qs) e ∙ append_assoc rs (x ∷ ts) qs)
 
 -- a list in two parts: all before the place, and none before it
 pub record IsSplit {N : Type 0} (place : N → List ℕ) (ns : List N) (p : List ℕ) : Type 0 where
@@ -170,5 +168,4 @@ due_is_there s mark hs x at run due here =
 
 -- where the records part at a place of a time, the front has all those of earlier times
 pub same_earlier : (t : ℕ) (more : List ℕ) (hs : List Happening) (at : IsSplit place_of hs (t ∷ more)) → earlier t at.front ≡ earlier t hs
-same_earlier t more hs at =
-    grind (arith, earlier, none_kept, nat_lt, time_of, cases_lt, le-ltb, append-nil, filter-append)
+same_earlier t more hs at = grind (arith, earlier, none_kept, nat_lt, time_of, cases_lt, le-ltb, append-nil, filter-append)

@@ -3,8 +3,7 @@ use Rattle.{net_plan.proofs.{Amounts.amount_within, Shape.rules_give_trees}, run
 use Rattle.{net_plan.{proofs.Beta.beta_exists, specs.Places.is_end_system}, run_law.specs.control.Wires.Arrives, schedule_tables.specs.Delays.delay_by}
 use Rattle.{net_plan.specs.Bounds.IsBeta, std.specs.Prelude.is_some}
 use Rattle.{net_plan.specs.Ranges.{IsDeviceInRange, IsInRange, IsLinkInRange}, schedule_tables.specs.{Rules.KeepsRules, declared.rule.Rule.TheVariants.Joints}}
-use Rattle.{net_plan.specs.Rules.IsChildOf, std.proofs.lemmas.Bool.{both_ways, ne_eqb, not_from_true}, tte_units.proofs.general_lemmas.Options.{closed, opened}}
-use Rattle.{pcf_values.specs.declared.channel.Channel.Channel, run_law.specs.scenario.{Scenarios.is_turned_on_at, Ways.{hold_at, is_cut, way_from}}}
+use Rattle.{net_plan.specs.Rules.IsChildOf, std.proofs.lemmas.Bool.{both_ways, ne_eqb, not_from_true}, tte_units.specs.declared.frames.channel.Channel.Channel}
 use Rattle.run_law.proofs.Words.{◌&&◌, ◌+◌, ◌-◌, ◌<◌, ◌==◌, ◌∙◌, ◌∷◌, ◌≡◌, ◌≤◌, ◌⊎◌, Arrival, ArrivesAs, Bool, Departs, Device, DeviceId, Down, Gives}
 use Rattle.run_law.proofs.Words.{Happening, Integrating, IsArrivedRecord, IsBefore, IsCaused, IsDue, IsFounded, IsIn, IsRun, Link, LinkId, List, Network, None}
 use Rattle.run_law.proofs.Words.{Note, NoteBody, Ok, Option, Pcf, Reason, Scenario, Some, Standpoint, Units, Up, Way, [], adjustment_after, amount, ap, arith}
@@ -15,6 +14,7 @@ use Rattle.run_law.{proofs.Words.{state_after, subst, sym, time_of, true, units_
 use Rattle.{run_law.proofs.law.FirstDelays.{delay_least, grows_little, hold_most}, schedule_tables.proofs.Margins.{margins, master_ends, shape_rules}}
 use Rattle.run_law.proofs.{law.FirstPlaces.{IsSplit, by_number, due_is_there, founded_at, front_founded, in_front_of, same_earlier, split}, runs.Places.chain}
 use Rattle.run_law.specs.{law.FirstLaws.{ComesTo, IsLawful, SentFramesCome, arrival_time, leaving_time}, records.Happenings.{frame_by, frame_from, with_clock}}
+use Rattle.{run_law.specs.scenario.{Scenarios.is_turned_on_at, Ways.{hold_at, is_cut, way_from}}, tte_units.proofs.general_lemmas.Options.{closed, opened}}
 use Rattle.run_law.specs.declared.note.NoteBody.TheVariants as notes
 use Rattle.run_law.specs.declared.steps.Arrival.TheVariants as arrivals
 
@@ -133,8 +133,7 @@ has_left : (s : Scenario) (mark : List ℕ) (hs : List Happening) (h : Happening
     → IsRun place_of (IsDue s) mark hs → IsIn h hs → h.note.body ≡ notes.Sent master cycle
     → link_at s.network link ≡ Some l → l.child ≡ master → way_from s.network master link ≡ Up
     → is_broken s master (leaving_time s link (time_of h)) ≡ false → is_cut s link Up (leaving_time s link (time_of h)) ≡ false
-    → ((more : List ℕ) → IsBefore (leaving_time s link (time_of h) ∷ more) mark)
-    → HasLeft s hs (time_of h) h.note.number master link
+    → ((more : List ℕ) → IsBefore (leaving_time s link (time_of h) ∷ more) mark) → HasLeft s hs (time_of h) h.note.number master link
 has_left s mark hs h master cycle link l lawful run i is there child up correct whole in_time =
     let t : ℕ = leaving_time s link (time_of h) in
     let frame : Pcf = dispatched_frame s.network master cycle in
@@ -202,8 +201,7 @@ standpoint_by s device t es = record {
 -- among all records of earlier times it stands in one place
 same_standpoint : (s : Scenario) (device : DeviceId) (t : ℕ) (more rest : List ℕ) (hs : List Happening) (at : IsSplit place_of hs (t ∷ more))
     (by : IsSplit place_of hs (t ∷ rest)) → standpoint s by.front device t ≡ standpoint s at.front device t
-same_standpoint s device t more rest hs at by =
-    ap (standpoint_by s device t) (same_earlier t rest hs by ∙ sym (same_earlier t more hs at))
+same_standpoint s device t more rest hs at by = ap (standpoint_by s device t) (same_earlier t rest hs by ∙ sym (same_earlier t more hs at))
 
 -- a frame that is on its way arrives, given any records with that of its leaving
 arrives_as : (s : Scenario) (ps : List Happening) (leaving : Happening) (device : DeviceId) (link : LinkId) (t : ℕ) (frame : Pcf) (a : Arrival)
@@ -287,8 +285,7 @@ has_arrived s mark hs leaving device link t frame run i sooner arrives in_time =
 goes_up : (s : Scenario) (hs : List Happening) (given number : ℕ) (master : DeviceId) (link : LinkId) (l : Link) (switch : DeviceId)
     (left : HasLeft s hs given number master link) → link_at s.network link ≡ Some l → l.parent ≡ switch → way_from s.network master link ≡ Up
     → Arrives s left.leaving switch link (arrival_time s link given) (control (Ok left.frame))
-goes_up s hs given number master link l switch left there parent up =
-    grind (arith, time_of, launched, option_map, control)
+goes_up s hs given number master link l switch left there parent up = grind (arith, time_of, launched, option_map, control)
 
 -- the law: the frames of masters come to the first switches of their ways
 pub sent_frames_come : SentFramesCome

@@ -7,17 +7,14 @@ use Rattle.run_law.specs.{plain.Places.{AreZero, before_then}, records.Order.is_
 zeros_first : (xs ys : List ℕ) → length xs ≡ length ys → AreZero xs → before_then xs ys true ≡ true
 zeros_first [] ys e z = refl
 zeros_first (x ∷ xs) [] e z = absurd (omega (arith, e))
-zeros_first (x ∷ xs) (zero ∷ ys) e z =
-    ap (λ (n : ℕ). nat_lt n 0 || (n == 0 && before_then xs ys true)) z.0 ∙ zeros_first xs ys (omega (arith, e)) z.1
-zeros_first (x ∷ xs) (suc y ∷ ys) e z =
-    ap (λ (b : Bool). b || (x == suc y && before_then xs ys true)) (lt-ltb x (suc y) (omega (arith, z.0)))
+zeros_first (x ∷ xs) (zero ∷ ys) e z = ap (λ (n : ℕ). nat_lt n 0 || (n == 0 && before_then xs ys true)) z.0 ∙ zeros_first xs ys (omega (arith, e)) z.1
+zeros_first (x ∷ xs) (suc y ∷ ys) e z = ap (λ (b : Bool). b || (x == suc y && before_then xs ys true)) (lt-ltb x (suc y) (omega (arith, z.0)))
 
 -- nothing is before zeros
 zeros_last : (xs ys : List ℕ) → length xs ≡ length ys → AreZero ys → before_then xs ys false ≡ false
 zeros_last [] ys e z = refl
 zeros_last (x ∷ xs) [] e z = absurd (omega (arith, e))
-zeros_last (zero ∷ xs) (y ∷ ys) e z =
-    ap (λ (n : ℕ). nat_lt 0 n || (0 == n && before_then xs ys false)) z.0 ∙ zeros_last xs ys (omega (arith, e)) z.1
+zeros_last (zero ∷ xs) (y ∷ ys) e z = ap (λ (n : ℕ). nat_lt 0 n || (0 == n && before_then xs ys false)) z.0 ∙ zeros_last xs ys (omega (arith, e)) z.1
 zeros_last (suc x ∷ xs) (y ∷ ys) e z =
     ap (λ (b : Bool). b || (suc x == y && before_then xs ys false)) (le-ltb (suc x) y (omega (arith, z.0)))
     ∙ ap (λ (b : Bool). b && before_then xs ys false) (ne_eqb (suc x) y (λ same. absurd (omega (arith, same, z.0))))
@@ -29,11 +26,9 @@ pub padded : (n m : ℕ) (xs ys : List ℕ) → length xs ≡ length ys → n �
     → is_before (take n xs) (take m ys) ≡ before_then xs ys (nat_lt n m)
 padded zero zero xs ys e nl ml zx zy = sym (zeros_last xs ys e zy)
 padded zero (suc m) xs [] e nl ml zx zy = absurd (omega (arith, ml))
-padded zero (suc m) xs (y ∷ ys) e nl ml zx zy =
-    sym (zeros_first xs (y ∷ ys) e zx) ∙ ap (before_then xs (y ∷ ys)) (sym (lt-ltb 0 (suc m) (omega arith)))
+padded zero (suc m) xs (y ∷ ys) e nl ml zx zy = sym (zeros_first xs (y ∷ ys) e zx) ∙ ap (before_then xs (y ∷ ys)) (sym (lt-ltb 0 (suc m) (omega arith)))
 padded (suc n) zero [] ys e nl ml zx zy = absurd (omega (arith, nl))
-padded (suc n) zero (x ∷ xs) ys e nl ml zx zy =
-    sym (zeros_last (x ∷ xs) ys e zy) ∙ ap (before_then (x ∷ xs) ys) (sym (le-ltb (suc n) 0 (omega arith)))
+padded (suc n) zero (x ∷ xs) ys e nl ml zx zy = sym (zeros_last (x ∷ xs) ys e zy) ∙ ap (before_then (x ∷ xs) ys) (sym (le-ltb (suc n) 0 (omega arith)))
 padded (suc n) (suc m) [] ys e nl ml zx zy = absurd (omega (arith, nl))
 padded (suc n) (suc m) (x ∷ xs) [] e nl ml zx zy = absurd (omega (arith, ml))
 padded (suc n) (suc m) (x ∷ xs) (y ∷ ys) e nl ml zx zy =

@@ -36,8 +36,7 @@ as_many network ns = sym (length-map (happenings network ns) (λ h. h.note)) ∙
 
 pub happenings_on : (network : Network) (notes rest : List Note) → (hs : List Happening) × (happenings network (notes ++ rest) ≡ happenings network notes ++ hs)
 happenings_on network notes [] = ([], ap (happenings network) (append-nil notes) ∙ sym (append-nil (happenings network notes)))
-happenings_on network notes (m ∷ rest) =
-    grind (arith, happening, happenings, append_assoc, one_more, (happenings_on network (notes ++ m ∷ []) rest))
+happenings_on network notes (m ∷ rest) = grind (arith, happening, happenings, append_assoc, one_more, (happenings_on network (notes ++ m ∷ []) rest))
 
 -- and what is before the time is of an earlier one
 pub soon : (y : Happening) (u : ℕ) → IsBefore (place_of y) (u ∷ []) → time_of y < u

@@ -41,8 +41,7 @@ same_three a b c x y z us vs e = (cc, cc, cc, cc)
 -- two records of one line are of one event
 same_what : (events : List Event) (time : Units) (line : ℕ) (what other : What) → IsEventRecord events time line what → IsEventRecord events time line other
     → what ≡ other
-same_what events time line what other a b =
-    grind (arith, slice_get, same_some)
+same_what events time line what other a b = grind (arith, slice_get, same_some)
 
 -- the transparent clock of what is taken
 abbrev clock_in : Arrival → ℕ
@@ -67,8 +66,7 @@ shown s hs t device link cause clock a =
 
 same_clock_on_arrival : (s : Scenario) (hs : List Happening) (t : ℕ) (device : DeviceId) (link : LinkId) (cause clock other : ℕ)
     → IsArrivedRecord s hs device t link cause clock → IsArrivedRecord s hs device t link cause other → clock ≡ other
-same_clock_on_arrival s hs t device link cause clock other a b =
-    grind (arith, shown, same_arrival)
+same_clock_on_arrival s hs t device link cause clock other a b = grind (arith, shown, same_arrival)
 
 -- a correction point is of one cycle, and comes to one thing
 same_cycle : (s : Scenario) (hs : List Happening) (t : ℕ) (device : DeviceId) (cycle other : ℕ) (v w : Verdict) → ComesToCorrection s hs device t cycle v
@@ -216,8 +214,7 @@ same_clock : (s : Scenario) (hs : List Happening) (time : Units) (device : Devic
     (other_shown other_adjustment : Units) (other_state : State) → IsClockRecord s hs device time shown adjustment state
     → IsClockRecord s hs device time other_shown other_adjustment other_state → notes.Clock device shown adjustment state ≡ notes.Clock device other_shown
     other_adjustment other_state
-same_clock s hs time device shown adjustment state other_shown other_adjustment other_state a b =
-    grind arith
+same_clock s hs time device shown adjustment state other_shown other_adjustment other_state a b = grind arith
 
 pub same_members : (a b : Members) → a.0 ≡ b.0 → a ≡ b
 same_members a b same = ap (λ (n : ℕ). let m : Members = record { 0 = n } in m) same
@@ -225,8 +222,7 @@ same_members a b same = ap (λ (n : ℕ). let m : Members = record { 0 = n } in 
 -- the key of a permanence
 same_ripe_route : (device other : DeviceId) (point second : Units) (m n : ℕ) (link by : LinkId) (cause from : ℕ) → device.0 ∷ amount point ∷ m ∷ link.0 ∷ cause
     ∷ [] ≡ other.0 ∷ amount second ∷ n ∷ by.0 ∷ from ∷ [] → IsSameRoute device other link by cause from
-same_ripe_route device other point second m n link by cause from e =
-    grind (arith, same_device, same_link)
+same_ripe_route device other point second m n link by cause from e = grind (arith, same_device, same_link)
 
 same_compressed : (s : Scenario) (hs : List Happening) (t : ℕ) (device other : DeviceId) (opened begun at emitted : Units) (cycle number : ℕ)
     (members masters : Members) (verdict judged : Judgement) → device ≡ other → opened ≡ begun → at ≡ emitted → cycle ≡ number → members ≡ masters
@@ -337,8 +333,7 @@ same_body s hs time m n rest other a b kinds keys = absurd (omega (arith, kinds)
 
 -- two notes are one where their parts are
 pub same_note : (a b : Note) → a.number ≡ b.number → a.time ≡ b.time → a.body ≡ b.body → a ≡ b
-same_note a b numbers times bodies =
-    grind arith
+same_note a b numbers times bodies = grind arith
 
 -- given the same records before, two that are due at one place are one
 pub due_is_determined : (s : Scenario) → IsDetermined place_of (IsDue s)

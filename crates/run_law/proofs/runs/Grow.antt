@@ -44,8 +44,7 @@ no_cons y qs e = cc
 
 founded_by : {N : Type 0} (place : N → List ℕ) (IsDue : List N → N → Type 0) (ns : List N) (x : N) → IsFounded place IsDue ns → AllBefore place ns (place x)
     → IsDue ns x → (ps qs : List N) (y : N) (others : List N) → y ∷ qs ≡ others ++ x ∷ [] → ns ≡ ps ++ others → AllBefore place ps (place y) × IsDue ps y
-founded_by {N} place IsDue ns x founded before due ps qs y [] last whole =
-    grind (arith, append-nil)
+founded_by {N} place IsDue ns x founded before due ps qs y [] last whole = grind (arith, append-nil)
 founded_by {N} place IsDue ns x founded before due ps qs y (o ∷ others) last whole =
     let same : y ≡ o = cc in
     founded ps others y (whole ∙ ap (λ (t : N). ps ++ t ∷ others) (sym same))

@@ -17,8 +17,7 @@ notes_of_parts (h ∷ hs) gs = ap (λ (ns : List Note). h.note ∷ ns) (notes_of
 
 notes_from : (network : Network) (before : List Happening) (ns : List Note) → notes_of (fold (with_next network) before ns) ≡ notes_of before ++ ns
 notes_from network before [] = sym (append-nil (notes_of before))
-notes_from network before (n ∷ ns) =
-    grind (arith, notes_of_parts, happening, append_assoc, (notes_from network (with_next network before n) ns))
+notes_from network before (n ∷ ns) = grind (arith, notes_of_parts, happening, append_assoc, (notes_from network (with_next network before n) ns))
 
 -- the records of the happenings of records are these
 pub same_notes : (network : Network) (ns : List Note) → notes_of (happenings network ns) ≡ ns

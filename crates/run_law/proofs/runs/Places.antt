@@ -24,17 +24,14 @@ pub either_way : (p q : List ℕ) → IsBefore p q ⊎ ((p ≡ q) ⊎ IsBefore q
 either_way [] [] = inr (inl refl)
 either_way [] (y ∷ ys) = inl tt
 either_way (x ∷ xs) [] = inr (inr tt)
-either_way (x ∷ xs) (y ∷ ys) =
-    grind (arith, cases_order, (either_way xs ys))
+either_way (x ∷ xs) (y ∷ ys) = grind (arith, cases_order, (either_way xs ys))
 
 pub before_or_not : (p q : List ℕ) → IsBefore p q ⊎ (IsBefore p q → ⊥)
-before_or_not p q =
-    grind (arith, either_way, never_self, chain)
+before_or_not p q = grind (arith, either_way, never_self, chain)
 
 -- what is before the mark is before what is not
 pub before_later : (p q mark : List ℕ) → IsBefore p mark → (IsBefore q mark → ⊥) → IsBefore p q
-before_later p q mark b not =
-    grind (arith, either_way, chain)
+before_later p q mark b not = grind (arith, either_way, chain)
 
 -- ---- times as marks
 

@@ -23,8 +23,7 @@ same_signal s h device link t a b x y =
 -- and one thing becomes of it
 pub same_arrival : (s : Scenario) (hs : List Happening) (t : ℕ) (device : DeviceId) (link : LinkId) (cause : ℕ) (a b : Arrival)
     → ArrivesAs s hs device t link cause a → ArrivesAs s hs device t link cause b → a ≡ b
-same_arrival s hs t device link cause a b x y =
-    grind (arith, same_some, numbered, same_signal, arrival_of)
+same_arrival s hs t device link cause a b x y = grind (arith, same_some, numbered, same_signal, arrival_of)
 
 -- ---- permanence
 
@@ -50,8 +49,7 @@ same_by_kind false heard x y one a b = a ∙ sym b
 same_ripe : (network : Network) (device : DeviceId) (state : State) (adjustment : _) (points : List Point) (frame : Pcf) (point : _) (a b : Ripe)
     → IsPermanenceOutcome network device state adjustment points frame point a → IsPermanenceOutcome network device state adjustment points frame point b
     → a ≡ b
-same_ripe network device state adjustment points frame point a b x y =
-    same_by_kind (is_cm network device) _ a b (same_collected network points _ _) x y
+same_ripe network device state adjustment points frame point a b x y = same_by_kind (is_cm network device) _ a b (same_collected network points _ _) x y
 
 -- two frames that are permanent from one record have one arrival
 same_permanent_arrival : (s : Scenario) (hs : List Happening) (t : ℕ) (device : DeviceId) (link : LinkId) (cause : ℕ) (f g : Pcf) (p q : Units)
@@ -71,8 +69,7 @@ same_frame s hs t device link cause f g p q a b =
 
 pub same_point : (s : Scenario) (hs : List Happening) (t : ℕ) (device : DeviceId) (link : LinkId) (cause : ℕ) (f g : Pcf) (p q : Units)
     → IsPermanent s hs device t link cause f p → IsPermanent s hs device t link cause g q → p ≡ q
-same_point s hs t device link cause f g p q a b =
-    grind (arith, same_permanent_arrival, time_of)
+same_point s hs t device link cause f g p q a b = grind (arith, same_permanent_arrival, time_of)
 
 -- and one thing becomes of it
 pub same_ripening : (s : Scenario) (hs : List Happening) (t : ℕ) (device : DeviceId) (link : LinkId) (cause : ℕ) (p q : Units) (a b : Ripe)
@@ -116,8 +113,7 @@ dropped_at_cm s hs t device link cause point reason r = by_kind_is (is_cm s.netw
 
 pub same_departure : (s : Scenario) (hs : List Happening) (t : ℕ) (device : DeviceId) (link : LinkId) (cause : ℕ) (a b : Departure)
     → Departs s hs device t link cause a → Departs s hs device t link cause b → a ≡ b
-same_departure s hs t device link cause a b x y =
-    grind (arith, same_some, numbered, time_of)
+same_departure s hs t device link cause a b x y = grind (arith, same_some, numbered, time_of)
 
 -- ---- what comes from a record is of one kind
 
@@ -138,14 +134,12 @@ no_launch s h t body device link from clock l is put =
 -- no frame arrives and leaves from one record
 pub arrives_or_departs : (s : Scenario) (hs : List Happening) (t : ℕ) (device : DeviceId) (link : LinkId) (cause : ℕ) (a : Arrival) (d : Departure)
     → ArrivesAs s hs device t link cause a → Departs s hs device t link cause d → ⊥
-arrives_or_departs s hs t device link cause a d x y =
-    grind (arith, same_some, numbered, puts_or_gives, time_of)
+arrives_or_departs s hs t device link cause a d x y = grind (arith, same_some, numbered, puts_or_gives, time_of)
 
 -- no frame arrives and is permanent from one record
 pub arrives_or_ripens : (s : Scenario) (hs : List Happening) (t : ℕ) (device : DeviceId) (link : LinkId) (cause : ℕ) (a : Arrival) (point : Units) (b : Ripe)
     → ArrivesAs s hs device t link cause a → BecomesPermanent s hs device t link cause point b → ⊥
-arrives_or_ripens s hs t device link cause a point b x y =
-    grind (arith, same_some, numbered, no_launch, time_of)
+arrives_or_ripens s hs t device link cause a point b x y = grind (arith, same_some, numbered, no_launch, time_of)
 
 -- a relay is no compression master
 roles_differ : (role : Role) → is_cm_role role ≡ true → is_relay_role role ≡ true → ⊥

@@ -1,13 +1,13 @@
 -- Each condition of the fault hypothesis is decided.
-use Rattle.{net_plan.specs.Places.IsSwitchOf, tte_units.{proofs.general_lemmas.Lists.{any_behind, any_first, any_none, any_of}, specs.declared.rates.Ppb.Ppb}}
-use Rattle.{net_plan.specs.Rules.HasOffSwitch, run_law.proofs.scenario.Decisions.{decided_not, decided_or, decided_same, decided_some, decided_true}}
-use Rattle.{net_plan.specs.declared.event.What.TheVariants.{Break, Cut, Hold, On, Rate, Wire}, std.proofs.Common.{◌≢◌, Any, IsNone, is_some}}
-use Rattle.{pcf_values.specs.declared.channel.Channel.Channel, run_law.specs.scenario.Hypothesis.{SetsLongHold, SetsOtherWire, TurnsOnAgain, sound_masters}}
+use Rattle.net_plan.specs.{Places.IsSwitchOf, Rules.HasOffSwitch, declared.event.What.TheVariants.{Break, Cut, Hold, On, Rate, Wire}}
 use Rattle.run_law.proofs.Words.{◌++◌, ◌+ℤ◌, ◌<ℤ◌, ◌<◌, ◌∙◌, ◌∷◌, ◌≡◌, ◌⊎◌, A, B, DeviceId, Event, IsSomeAnd, LinkId, List, Network, None, Option, Send, Some}
 use Rattle.run_law.proofs.Words.{Units, What, [], ap, device_at, inl, inr, is_master, link_at, refl, subst, sym, true, unsigned_abs, ℕ}
 use Rattle.run_law.proofs.scenario.Decisions.{IsDecided, decided_and, decided_any, decided_at, decided_by, decided_false, decided_less, decided_less_int}
+use Rattle.run_law.proofs.scenario.Decisions.{decided_not, decided_or, decided_same, decided_some, decided_true}
 use Rattle.run_law.specs.scenario.Faults.{BeginsOn, Breaks, Cuts, CutsOn, IsBroken, IsFaulty, IsFirstCutOn, IsLinkOf, IsTurnedOn, TurnsOn}
 use Rattle.run_law.specs.scenario.Hypothesis.{BreaksNoMaster, BreaksSecond, ComesTooEarly, CutsOtherChannel, LeavesTooFew, SendsUnbroken, SetsFastRate}
+use Rattle.{run_law.specs.scenario.Hypothesis.{SetsLongHold, SetsOtherWire, TurnsOnAgain, sound_masters}, std.proofs.Common.{◌≢◌, Any, IsNone, is_some}}
+use Rattle.tte_units.{proofs.general_lemmas.Lists.{any_behind, any_first, any_none, any_of}, specs.declared.{frames.channel.Channel.Channel, rates.Ppb.Ppb}}
 
 -- ---- the time of an event
 

@@ -33,8 +33,7 @@ same_condition c d same = sym (numbered c) ∙ ap condition_of same ∙ numbered
 -- an event is outside by one condition
 one_condition : (network : Network) (before : List Event) (event : Event) (c d : Outside) → IsOutsideBy network before event c
     → IsOutsideBy network before event d → c ≡ d
-one_condition network before event c d a b =
-    grind (arith, cases_order, same_condition)
+one_condition network before event c d a b = grind (arith, cases_order, same_condition)
 
 -- each condition is broken or not
 violates : (network : Network) (before : List Event) (event : Event) (condition : Outside) → IsDecided (Violates network before event condition)

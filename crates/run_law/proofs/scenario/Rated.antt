@@ -31,8 +31,7 @@ Holds (Some x) P = P x
 
 -- the step is of its event's time
 pub step_at : (device : DeviceId) (time : ℕ) (what : What) → Holds (step_by device time what) (λ s. s.at ≡ time)
-step_at device time (events.Rate other rate) =
-    grind arith
+step_at device time (events.Rate other rate) = grind arith
 step_at device time other = tt
 
 -- the step is of this time, and its rate of at most rho
@@ -41,6 +40,5 @@ pub record IsStepAt (rho time : ℕ) (step : RateStep) : Type 0 where
   pub slow : unsigned_abs step.rate ≤ rho
 
 pub step_is : (rho : ℕ) (device : DeviceId) (time : ℕ) (what : What) → IsSlow rho what → Holds (step_by device time what) (IsStepAt rho time)
-step_is rho device time (events.Rate other rate) slow =
-    grind arith
+step_is rho device time (events.Rate other rate) slow = grind arith
 step_is rho device time other slow = tt

@@ -1,11 +1,17 @@
 -- Rows of the schedule.
-use Rattle.{net_plan.specs.Ranges.IsRowInRange, run_law.specs.timed.Arrivals.entry_of, schedule_tables.specs.Entries.IsEntry, std.proofs.Common.{arith, filter}}
+use Rattle.net_plan.specs.Ranges.{IsRowInRange}
+use Rattle.{run_law.specs.timed.Arrivals.entry_of, schedule_tables.specs.Entries.IsEntry, std.proofs.Common.{◌∙◌, ap, arith, filter}}
 use Rattle.{net_plan.specs.declared.tables.Row.Row, schedule_tables.specs.declared.entry.Entry.Entry, tte_units.proofs.general_lemmas.Lists.some_at}
 use Rattle.run_law.{proofs.Words.{◌≡◌, DeviceId, Happening, List, Network, Some, earlier, inl, inr, last_or, refl, ℕ}, specs.timed.Dispatching.HasAtHand}
-use Rattle.std.specs.Prelude.{IsSome}
+use Rattle.std.specs.Prelude.{IsSome, option_and_then, slice_get}
 
 pub entry_at : (network : Network) (place : ℕ) (entry : Entry) → IsEntry network place entry → entry_of network entry.row ≡ Some entry
 entry_at network place entry is = rw is.vl (rw is.link refl)
+
+-- the entry of the row at a place
+pub entry_is : (network : Network) (place : ℕ) (entry : Entry) → IsEntry network place entry
+    → option_and_then (entry_of network) (slice_get network.row place) ≡ Some entry
+entry_is network place entry is = ap (option_and_then (entry_of network)) is.row ∙ entry_at network place entry is
 
 pub has_entry : (network : Network) (row : Row) → IsRowInRange network row → IsSome (entry_of network row)
 has_entry network row r =
@@ -16,5 +22,4 @@ has_entry network row r =
 pub at_hand_by : (network : Network) (js hs : List Happening) (device : DeviceId) (entry : Entry) (t cause cycle : ℕ) → earlier t js ≡ earlier t hs
     → HasAtHand network js device entry t cause cycle → HasAtHand network hs device entry t cause cycle
 at_hand_by network js hs device entry t cause cycle same (inl sender) = inl sender
-at_hand_by network js hs device entry t cause cycle same (inr took) =
-    grind (arith, last_or, filter)
+at_hand_by network js hs device entry t cause cycle same (inr took) = grind (arith, last_or, filter)

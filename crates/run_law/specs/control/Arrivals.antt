@@ -2,16 +2,16 @@
 use Rattle.std.specs.{Option.option_map_or, Prelude.{false, if◌then◌else◌, int_lt, nat_lt, not, pos, true, ℕ}}
 use Rattle.std.specs.Prelude.{◌&&◌, ◌*◌, ◌+ℤ◌, ◌+◌, ◌==◌, ◌^◌, ◌∷◌, Bool, Err, None, Ok, Option, Result, Some, []}
 use Rattle.{drift_clock.specs.transparent.Points.point_of, pcf_codec.specs.declared.refusal.PcfRefusal.PcfRefusal}
-use Rattle.{net_plan.specs.{Places.link_at, declared.ids.LinkId.LinkId}, pcf_values.specs.declared.pcf.Pcf.Pcf}
+use Rattle.{net_plan.specs.{Places.link_at, declared.ids.LinkId.LinkId}, tte_units.specs.declared.units.Units.Units}
 use Rattle.net_plan.specs.declared.{ids.DeviceId.DeviceId, network.Network.Network, tables.Way.TheVariants.{Down, Up}}
-use Rattle.pcf_values.specs.declared.{members.Members.Members, pcf.PcfKind.{PcfKind, TheVariants.Integration}}
 use Rattle.run_law.specs.declared.judgement.Reason.TheVariants.{ColdStart, Domain, Gate, Member, Off, Old}
 use Rattle.run_law.specs.declared.judgement.Reason.TheVariants.{RefusedEtherType, RefusedKind, RefusedLength}
 use Rattle.run_law.specs.{declared.judgement.Reason.{Reason, TheVariants.RefusedReserved}, scenario.Ways.wire_of}
 use Rattle.run_law.specs.declared.steps.Arrival.{Arrival, TheVariants.{Dropped, Passes, PassesAndWaits, Waits}}
 use Rattle.run_law.specs.device.Standpoints.{Standpoint, clock_of, first_reason, offset_in_cycle}
 use Rattle.run_law.specs.{device.States.is_synchronised, scenario.Devices.{is_end, is_parent_of, is_relay, member_of}}
-use Rattle.{run_law.specs.records.Happenings.with_clock, tte_units.specs.{Amount.amount, declared.units.Units.Units}}
+use Rattle.{run_law.specs.records.Happenings.with_clock, tte_units.specs.{Amount.amount, declared.frames.pcf.Pcf.Pcf}}
+use Rattle.tte_units.specs.declared.frames.{members.Members.Members, pcf.PcfKind.{PcfKind, TheVariants.Integration}}
 use Rattle.pcf_codec.specs.declared.refusal.PcfRefusal.TheVariants as refusals
 
 -- why octets that the decoder refuses are dropped

@@ -3,7 +3,7 @@ use Rattle.std.specs.{List.after_last, Option.option_map_or}
 use Rattle.std.specs.Prelude.{if◌then◌else◌, ◌&&◌, ◌*◌, ◌+◌, ◌==◌, ◌||◌, ◌≡◌, Bool, List, None, Option, Some, false}
 use Rattle.std.specs.Prelude.{filter, filter_map, fold, nat_lt, not, option_map, pos, true, ℕ, ℤ}
 use Rattle.{net_plan.specs.declared.ids.DeviceId.DeviceId, sync_state.specs.Standing.{Standing, next_point}}
-use Rattle.{net_plan.specs.declared.network.Network.Network, pcf_values.specs.declared.channel.Channel.Channel}
+use Rattle.{net_plan.specs.declared.network.Network.Network, tte_units.specs.declared.frames.channel.Channel.Channel}
 use Rattle.run_law.specs.declared.{judgement.Judgement.TheVariants.{Outside, Within}, note.NoteBody.NoteBody}
 use Rattle.run_law.specs.{device.LocalClocks.{Reaches, changes_adjustment, had_come}, records.Ranks.members_in}
 use Rattle.run_law.specs.device.States.{adjustment_before, cycle_in, is_joined_by, state_before}

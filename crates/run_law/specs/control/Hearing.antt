@@ -1,8 +1,8 @@
 -- How a device hears a compressed frame.
 use Rattle.std.specs.Prelude.{if◌then◌else◌, ◌&&◌, ◌+ℤ◌, ◌+◌, ◌-ℤ◌, ◌^◌, Bool, int_le, nat_le, ℕ, ℤ}
-use Rattle.sync_state.specs.{Plan.expected_at, membership.Members.count_of}
-use Rattle.{pcf_values.specs.declared.members.Members.Members, sync_state.specs.declared.plan.SyncPlan.SyncPlan}
 use Rattle.run_law.specs.declared.judgement.Judgement.{Judgement, TheVariants.{Ignored, Integrates, Outside, Within}}
+use Rattle.sync_state.specs.{Plan.expected_at, membership.Members.count_of}
+use Rattle.{sync_state.specs.declared.plan.SyncPlan.SyncPlan, tte_units.specs.declared.frames.members.Members.Members}
 use Rattle.sync_state.specs.declared.state.State.{State, TheVariants.{Integrating, Joining, Off, Synchronised}}
 
 -- the last cycle of a frame that is used

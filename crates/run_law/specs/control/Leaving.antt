@@ -1,10 +1,9 @@
 -- How protocol control frames are given to links, and how they leave.
 use Rattle.std.specs.Prelude.{if◌then◌else◌, ◌+◌, ◌-◌, ◌≡◌, ◌⊎◌, List, Some, false, nat_lt, true, ℕ}
 use Rattle.net_plan.specs.{Rules.IsChildOf, declared.{ids.{DeviceId.DeviceId, LinkId.LinkId}, network.Network.Network}}
-use Rattle.{pcf_values.specs.declared.pcf.Pcf.Pcf, run_law.specs.declared.note.NoteBody.NoteBody}
+use Rattle.{run_law.specs.declared.note.NoteBody.NoteBody, tte_units.specs.{Amount.amount, declared.frames.pcf.Pcf.Pcf}}
 use Rattle.run_law.specs.{records.Happenings.{Happening, numbered, time_of}, scenario.Ways.{hold_at, is_cut, way_from}}
 use Rattle.run_law.specs.scenario.{Devices.{IsParentOf, is_relay}, Scenarios.{Scenario, is_broken}}
-use Rattle.tte_units.specs.Amount.{amount}
 use Rattle.run_law.specs.declared.note.NoteBody.TheVariants as notes
 
 -- a relay passes a frame from a child link up by its parent link, and one from its parent link down by all its

@@ -1,16 +1,16 @@
 -- How a protocol control frame becomes permanent.
 use Rattle.std.specs.Prelude.{◌||◌, ◌≡◌, Bool, List, MatchBool, None, Option, Some, false, filter, not, pos, true, ℕ, ℤ}
-use Rattle.{compression.specs.Clusters.{Point, point_at}, sync_state.specs.declared.state.State.State}
+use Rattle.{compression.specs.Clusters.{Point, point_at}, tte_units.specs.declared.units.Units.Units}
 use Rattle.{compression.specs.declared.taken.Taken.Taken, net_plan.specs.declared.ids.DeviceId.DeviceId}
-use Rattle.{drift_clock.specs.Reach.IsReach, run_law.specs.records.Order.is_before}
+use Rattle.{drift_clock.specs.Reach.IsReach, run_law.specs.{declared.steps.Ripe.Ripe, records.Order.is_before}}
 use Rattle.{drift_clock.specs.transparent.Points.point_of, run_law.specs.records.Ranks.{place_at, place_of}}
-use Rattle.{net_plan.specs.declared.ids.LinkId.LinkId, tte_units.specs.declared.units.Units.Units}
+use Rattle.{net_plan.specs.declared.ids.LinkId.LinkId, run_law.specs.control.Hearing.heard_as}
 use Rattle.{net_plan.specs.declared.network.Network.Network, run_law.specs.declared.judgement.Reason.Reason}
-use Rattle.{pcf_values.specs.declared.pcf.Pcf.Pcf, run_law.specs.{control.Hearing.heard_as, declared.steps.Ripe.Ripe}}
 use Rattle.run_law.specs.control.Collections.{IsCollectedAs, master_of, observation_window, point_fault, points_of}
 use Rattle.run_law.specs.{control.Collections.ripe_by_role, device.States.{adjustment_at_hearing, state_at_hearing}}
 use Rattle.run_law.specs.{declared.judgement.Judgement.Judgement, records.Happenings.{Happening, numbered, time_of}}
 use Rattle.run_law.specs.scenario.{Devices.{is_cm, is_parent_of, is_relay, plan_of}, Scenarios.{Scenario, is_broken}}
+use Rattle.{sync_state.specs.declared.state.State.State, tte_units.specs.declared.frames.pcf.Pcf.Pcf}
 use Rattle.run_law.specs.declared.judgement.Judgement.TheVariants as judgements
 use Rattle.run_law.specs.declared.note.NoteBody.TheVariants as notes
 use Rattle.run_law.specs.declared.steps.Ripe.TheVariants as ripe

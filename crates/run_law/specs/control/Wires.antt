@@ -4,7 +4,7 @@ use Rattle.std.specs.Prelude.{◌*◌, ◌+◌, ◌==◌, ◌≡◌, List, None,
 use Rattle.net_plan.specs.{Places.link_at, declared.{event.What.TheVariants.Send, ids.DeviceId.DeviceId}}
 use Rattle.net_plan.specs.declared.{ids.LinkId.LinkId, network.Network.Network, tables.Way.{Way, TheVariants.Up}}
 use Rattle.pcf_codec.specs.{Decoding.decoded, EtherType.pcf_type, Fields.field, declared.refusal.PcfRefusal.PcfRefusal}
-use Rattle.pcf_values.specs.declared.pcf.Pcf.{Pcf}
+use Rattle.tte_units.specs.declared.frames.pcf.Pcf.{Pcf}
 use Rattle.tte_units.specs.OctetTime.{octet_time}
 use Rattle.run_law.specs.{declared.note.NoteBody.NoteBody, records.Happenings.{Happening, time_of}}
 use Rattle.run_law.specs.scenario.{Scenarios.Scenario, Ways.{delay_at, is_cut, receiver_of, way_from}}

@@ -5,7 +5,7 @@ use Rattle.{compression.specs.Clusters.{Point, point_at}, sync_state.specs.membe
 use Rattle.{compression.specs.declared.compressed.Compressed.Compressed, net_plan.specs.declared.ids.DeviceId.DeviceId}
 use Rattle.{net_plan.specs.declared.ids.{LinkId.LinkId, VlId.VlId}, sync_state.specs.Integration.joined_by}
 use Rattle.{net_plan.specs.declared.network.Network.Network, sync_state.specs.membership.Summary.{Summarizes, Summary}}
-use Rattle.pcf_values.specs.declared.{channel.Channel.Channel, members.Members.Members, pcf.Pcf.Pcf}
+use Rattle.tte_units.specs.declared.frames.{channel.Channel.Channel, members.Members.Members, pcf.Pcf.Pcf}
 use Rattle.run_law.specs.control.{Arrivals.control_arrival, Hearing.heard_as, Permanence.{IsPermanenceOutcome, ripe_as}}
 use Rattle.run_law.specs.control.{Collections.{master_of, observation_window}, Wires.{Signal, control, timed}}
 use Rattle.{run_law.specs.declared.steps.Act.Act, sync_state.specs.Verdicts.HasVerdict}

@@ -3,7 +3,7 @@ use Rattle.std.specs.Prelude.{◌+ℤ◌, ◌+◌, ◌<ℤ◌, ◌^◌, ◌≡�
 use Rattle.std.specs.Prelude.{true, ℕ, ℤ}
 use Rattle.net_plan.specs.Places.{link_at}
 use Rattle.net_plan.specs.{Rules.IsChildOf, declared.{ids.{DeviceId.DeviceId, LinkId.LinkId}, network.Network.Network}}
-use Rattle.pcf_values.specs.declared.{members.Members.Members, pcf.{Pcf.Pcf, PcfKind.TheVariants.Integration}}
+use Rattle.tte_units.specs.declared.frames.{members.Members.Members, pcf.{Pcf.Pcf, PcfKind.TheVariants.Integration}}
 use Rattle.run_law.specs.{control.Permanence.waits_for, machines.Tasks.{IsPending, Task, reading_for}}
 use Rattle.run_law.specs.{control.Wires.{control, signal_of}, scenario.Devices.{IsParentOf, is_end, member_of}}
 use Rattle.{run_law.specs.declared.steps.Moment.Moment, tte_units.specs.{Amount.amount, declared.units.Units.Units}}

@@ -22,8 +22,7 @@ number_of ranks.Clock = 14
 
 -- all of them, and the zeros behind them
 abbrev pub numbers_of : Numbers → List ℕ
-numbers_of n =
-    n.time ∷ n.rank ∷ n.first ∷ n.second ∷ n.third ∷ n.fourth ∷ n.fifth ∷ n.sixth ∷ n.seventh ∷ []
+numbers_of n = n.time ∷ n.rank ∷ n.first ∷ n.second ∷ n.third ∷ n.fourth ∷ n.fifth ∷ n.sixth ∷ n.seventh ∷ []
 
 -- so many, of which the first three are these
 abbrev pub numbers_with : ℕ → ℕ → ℕ → ℕ → Numbers

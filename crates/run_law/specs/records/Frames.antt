@@ -3,7 +3,7 @@ use Rattle.std.specs.{Option.option_map_or, Prelude.{◌++◌, ◌^◌, List, []
 use Rattle.{byteorder.specs.Endian.big_bytes, net_plan.specs.Padding.padded}
 use Rattle.{net_plan.specs.{Places.device_at, declared.ids.VlId.VlId}, run_law.specs.scenario.Devices.member_of}
 use Rattle.net_plan.specs.declared.{ids.DeviceId.DeviceId, network.Network.Network, tables.VirtualLink.VirtualLink}
-use Rattle.pcf_values.specs.declared.{members.Members.Members, pcf.{Pcf.Pcf, PcfKind.TheVariants.Integration}}
+use Rattle.tte_units.specs.declared.frames.{members.Members.Members, pcf.{Pcf.Pcf, PcfKind.TheVariants.Integration}}
 
 -- the address of the device
 abbrev pub mac_of : Network → DeviceId → ℕ

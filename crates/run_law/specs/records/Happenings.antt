@@ -5,7 +5,7 @@ use Rattle.std.specs.Prelude.{if◌then◌else◌, ◌++◌, ◌==◌, ◌∷◌
 use Rattle.std.specs.Prelude.{fold, nat_le, nat_lt, option_and_then, option_map, slice_get, suc, zero, ℕ}
 use Rattle.{net_plan.specs.declared.event.What.TheVariants.Send, pcf_codec.specs.declared.refusal.PcfRefusal.PcfRefusal}
 use Rattle.{net_plan.specs.declared.network.Network.Network, run_law.specs.declared.note.{Note.Note, NoteBody.NoteBody}}
-use Rattle.{pcf_codec.specs.Decoding.decoded, pcf_values.specs.declared.pcf.Pcf.Pcf, tte_units.specs.Amount.amount}
+use Rattle.{pcf_codec.specs.Decoding.decoded, tte_units.specs.{Amount.amount, declared.frames.pcf.Pcf.Pcf}}
 use Rattle.run_law.specs.records.Frames.{dispatched_frame, integration_frame, tt_frame}
 use Rattle.run_law.specs.declared.note.NoteBody.TheVariants as notes
 

@@ -1,17 +1,16 @@
 -- When a record of a run is due, given those before it.
 use Rattle.std.specs.{List.Contains, Prelude.{◌+ℤ◌, ◌+◌, ◌≡◌, ◌≤ℤ◌, ◌⊎◌, List, Some, length, pos, slice_get, ℕ}}
-use Rattle.net_plan.specs.{Places.device_at, declared.event.{Event.Event, What.{What, TheVariants.End}}}
-use Rattle.net_plan.specs.declared.{ids.{DeviceId.DeviceId, LinkId.LinkId}, network.Network.Network}
-use Rattle.net_plan.specs.declared.tables.{Device.Device, Way.Way}
-use Rattle.pcf_values.specs.declared.pcf.Pcf.{Pcf}
-use Rattle.sync_state.specs.declared.{answers.Verdict.TheVariants.Corrected, state.State.State}
-use Rattle.tte_units.specs.{Amount.{amount, units_of}, declared.units.Units.Units}
-use Rattle.run_law.specs.control.{Corrections.ComesToCorrection, Emissions.Emits, Leaving.{Departs, leaves}}
+use Rattle.{net_plan.specs.{Places.device_at, declared.event.What.What}, tte_units.specs.Amount.{amount, units_of}}
+use Rattle.{net_plan.specs.declared.{event.Event.Event, ids.LinkId.LinkId}, tte_units.specs.declared.units.Units.Units}
+use Rattle.{net_plan.specs.declared.event.What.TheVariants.End, run_law.specs.control.Corrections.ComesToCorrection}
+use Rattle.net_plan.specs.declared.{ids.DeviceId.DeviceId, network.Network.Network, tables.{Device.Device, Way.Way}}
+use Rattle.run_law.specs.{control.Emissions.Emits, scenario.Scenarios.Scenario, timed.Receptions.ArrivesAs}
+use Rattle.{run_law.specs.control.Leaving.{Departs, leaves}, tte_units.specs.declared.frames.pcf.Pcf.Pcf}
 use Rattle.run_law.specs.control.{Losses.{IsDispatchedOn, IsDropped, IsLost}, Permanence.{BecomesPermanent, ripe_as}}
-use Rattle.run_law.specs.{declared.note.{Note.Note, NoteBody.NoteBody}, device.StateChanges.ChangesState}
-use Rattle.run_law.specs.device.States.{adjustment_after, adjustment_before, state_after}
-use Rattle.run_law.specs.records.{Happenings.{Happening, happening, happenings, up_to}, Ranks.place_of}
-use Rattle.run_law.specs.{runs.Runs.IsRun, scenario.Scenarios.Scenario, timed.{Dispatching.Sends, Receptions.ArrivesAs}}
+use Rattle.run_law.specs.{declared.note.Note.Note, records.Ranks.place_of, runs.Runs.IsRun, timed.Dispatching.Sends}
+use Rattle.run_law.specs.{declared.note.NoteBody.NoteBody, records.Happenings.{Happening, happening, happenings, up_to}}
+use Rattle.run_law.specs.device.{StateChanges.ChangesState, States.{adjustment_after, adjustment_before, state_after}}
+use Rattle.sync_state.specs.declared.{answers.Verdict.TheVariants.Corrected, state.State.State}
 use Rattle.run_law.specs.declared.note.NoteBody.TheVariants as notes
 use Rattle.run_law.specs.declared.steps.Arrival.TheVariants as arrivals
 

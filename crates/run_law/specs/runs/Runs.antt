@@ -5,8 +5,7 @@ use Rattle.run_law.specs.records.Order.{AllBefore, IsBefore, IsIn, NoneBefore}
 
 -- each record stands behind those before it, and is due given them
 abbrev pub IsFounded : {N : Type 0} → (N → List ℕ) → (List N → N → Type 0) → List N → Type 0
-IsFounded {N} place IsDue ns =
-    (ps qs : List N) (x : N) → ns ≡ ps ++ x ∷ qs → AllBefore place ps (place x) × IsDue ps x
+IsFounded {N} place IsDue ns = (ps qs : List N) (x : N) → ns ≡ ps ++ x ∷ qs → AllBefore place ps (place x) × IsDue ps x
 
 -- each record that is due before the mark, given those of the list before it, has one at its place
 abbrev pub IsFull : {N : Type 0} → (N → List ℕ) → (List N → N → Type 0) → List ℕ → List N → Type 0

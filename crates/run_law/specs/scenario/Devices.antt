@@ -3,8 +3,8 @@ use Rattle.std.specs.Option.{option_map_or}
 use Rattle.std.specs.Prelude.{if◌then◌else◌, ◌+◌, ◌==◌, ◌≡◌, Bool, IsSomeAnd, Option, false, option_and_then, true, ℕ}
 use Rattle.net_plan.specs.{Places.{device_at, is_end_system, link_at}, declared.tables.Role.TheVariants.{Cm, Relay}}
 use Rattle.net_plan.specs.declared.{ids.{DeviceId.DeviceId, LinkId.LinkId}, network.Network.Network, tables.Role.Role}
-use Rattle.{pcf_values.specs.declared.channel.Channel.Channel, sync_state.specs.declared.plan.SyncPlan.SyncPlan}
 use Rattle.schedule_tables.specs.Margins.{compression_time, expected_offset}
+use Rattle.{sync_state.specs.declared.plan.SyncPlan.SyncPlan, tte_units.specs.declared.frames.channel.Channel.Channel}
 use Rattle.tte_units.specs.{Amount.{amount, units_of}, declared.units.Units.Units}
 
 -- has the device a role of this kind?

@@ -3,7 +3,7 @@ use Rattle.std.specs.Prelude.{◌++◌, ◌∷◌, ◌≡◌, ◌⊎◌, Any, Is
 use Rattle.net_plan.specs.{Places.{IsSwitchOf, device_at, link_at}, Rules.HasOffSwitch, declared.event.Event.Event}
 use Rattle.net_plan.specs.declared.{event.What.TheVariants.{Break, Cut, On}, ids.{DeviceId.DeviceId, LinkId.LinkId}}
 use Rattle.net_plan.specs.declared.{network.Network.Network, tables.Way.Way}
-use Rattle.pcf_values.specs.declared.channel.Channel.{Channel}
+use Rattle.tte_units.specs.declared.frames.channel.Channel.{Channel}
 
 -- the event breaks the device
 abbrev pub Breaks : DeviceId → Event → Type 0

@@ -2,7 +2,8 @@
 use Rattle.std.specs.List.{count_by, enumerate_from, list_any}
 use Rattle.std.specs.Prelude.{◌&&◌, ◌*◌, ◌++◌, ◌+ℤ◌, ◌<ℤ◌, ◌<◌, ◌==◌, ◌^◌, ◌∷◌, ◌≡◌, ◌≢◌, ◌⊎◌, Bool, IsSomeAnd, List}
 use Rattle.std.specs.Prelude.{[], false, is_some, not, pos, true, unsigned_abs, ℕ}
-use Rattle.{net_plan.specs.Places.{device_at, is_master, link_at}, pcf_values.specs.declared.channel.Channel.Channel}
+use Rattle.net_plan.specs.Places.{device_at, is_master, link_at}
+use Rattle.tte_units.specs.declared.frames.channel.Channel.{Channel}
 use Rattle.{net_plan.specs.declared.{event.Event.Event, ids.LinkId.LinkId}, tte_units.specs.declared.units.Units.Units}
 use Rattle.{net_plan.specs.declared.event.What.What, tte_units.specs.{Amount.amount, declared.rates.Ppb.Ppb}}
 use Rattle.net_plan.specs.declared.{ids.DeviceId.DeviceId, network.Network.Network, tables.{Device.Device, Way.Way}}

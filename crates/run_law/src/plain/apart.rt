@@ -23,32 +23,32 @@ impl<'b> EventOrPlain<'b> {
     pub fn of(body: &'b NoteBody) -> EventOrPlain<'b>
         ensures { said_body result ≡ body.now }
     {
-        match body {
-            NoteBody::Event { line, what } => EventOrPlain::Event { line: *line, what },
+        let kind = match *body {
+            NoteBody::Event { line, ref what } => return EventOrPlain::Event { line, what },
             NoteBody::Arrived {
                 device,
                 link,
                 cause,
                 clock,
-            } => EventOrPlain::Plain(PlainKind::Arrived {
-                device: *device,
-                link: *link,
-                cause: *cause,
-                clock: *clock,
-            }),
+            } => PlainKind::Arrived {
+                device,
+                link,
+                cause,
+                clock,
+            },
             NoteBody::Permanent {
                 device,
                 link,
                 cause,
                 point,
                 verdict,
-            } => EventOrPlain::Plain(PlainKind::Permanent {
-                device: *device,
-                link: *link,
-                cause: *cause,
-                point: *point,
-                verdict: *verdict,
-            }),
+            } => PlainKind::Permanent {
+                device,
+                link,
+                cause,
+                point,
+                verdict,
+            },
             NoteBody::Compressed {
                 device,
                 opened,
@@ -56,121 +56,119 @@ impl<'b> EventOrPlain<'b> {
                 cycle,
                 members,
                 verdict,
-            } => EventOrPlain::Plain(PlainKind::Compressed {
-                device: *device,
-                opened: *opened,
-                at: *at,
-                cycle: *cycle,
-                members: *members,
-                verdict: *verdict,
-            }),
-            NoteBody::Sent { device, cycle } => EventOrPlain::Plain(PlainKind::Sent {
-                device: *device,
-                cycle: *cycle,
-            }),
+            } => PlainKind::Compressed {
+                device,
+                opened,
+                at,
+                cycle,
+                members,
+                verdict,
+            },
+            NoteBody::Sent { device, cycle } => PlainKind::Sent { device, cycle },
             NoteBody::Corrected {
                 device,
                 cycle,
                 by,
                 adjustment,
-            } => EventOrPlain::Plain(PlainKind::Corrected {
-                device: *device,
-                cycle: *cycle,
-                by: *by,
-                adjustment: *adjustment,
-            }),
+            } => PlainKind::Corrected {
+                device,
+                cycle,
+                by,
+                adjustment,
+            },
             NoteBody::State {
                 device,
                 state,
                 cause,
                 why,
-            } => EventOrPlain::Plain(PlainKind::State {
-                device: *device,
-                state: *state,
-                cause: *cause,
-                why: *why,
-            }),
+            } => PlainKind::State {
+                device,
+                state,
+                cause,
+                why,
+            },
             NoteBody::Left {
                 device,
                 link,
                 cause,
                 clock,
-            } => EventOrPlain::Plain(PlainKind::Left {
-                device: *device,
-                link: *link,
-                cause: *cause,
-                clock: *clock,
-            }),
+            } => PlainKind::Left {
+                device,
+                link,
+                cause,
+                clock,
+            },
             NoteBody::Lost {
                 device,
                 link,
                 cause,
-            } => EventOrPlain::Plain(PlainKind::Lost {
-                device: *device,
-                link: *link,
-                cause: *cause,
-            }),
+            } => PlainKind::Lost {
+                device,
+                link,
+                cause,
+            },
             NoteBody::TtSent {
                 device,
                 link,
                 cause,
                 vl,
                 cycle,
-            } => EventOrPlain::Plain(PlainKind::TtSent {
-                device: *device,
-                link: *link,
-                cause: *cause,
-                vl: *vl,
-                cycle: *cycle,
-            }),
+            } => PlainKind::TtSent {
+                device,
+                link,
+                cause,
+                vl,
+                cycle,
+            },
             NoteBody::Accepted {
                 device,
                 link,
                 cause,
                 vl,
                 cycle,
-            } => EventOrPlain::Plain(PlainKind::Accepted {
-                device: *device,
-                link: *link,
-                cause: *cause,
-                vl: *vl,
-                cycle: *cycle,
-            }),
+            } => PlainKind::Accepted {
+                device,
+                link,
+                cause,
+                vl,
+                cycle,
+            },
             NoteBody::Delivered {
                 device,
                 link,
                 cause,
                 vl,
                 cycle,
-            } => EventOrPlain::Plain(PlainKind::Delivered {
-                device: *device,
-                link: *link,
-                cause: *cause,
-                vl: *vl,
-                cycle: *cycle,
-            }),
+            } => PlainKind::Delivered {
+                device,
+                link,
+                cause,
+                vl,
+                cycle,
+            },
             NoteBody::Dropped {
                 device,
                 link,
                 cause,
                 reason,
-            } => EventOrPlain::Plain(PlainKind::Dropped {
-                device: *device,
-                link: *link,
-                cause: *cause,
-                reason: *reason,
-            }),
+            } => PlainKind::Dropped {
+                device,
+                link,
+                cause,
+                reason,
+            },
             NoteBody::Clock {
                 device,
                 reading,
                 adjustment,
                 state,
-            } => EventOrPlain::Plain(PlainKind::Clock {
-                device: *device,
-                reading: *reading,
-                adjustment: *adjustment,
-                state: *state,
-            }),
-        }
+            } => PlainKind::Clock {
+                device,
+                reading,
+                adjustment,
+                state,
+            },
+        };
+        EventOrPlain::Plain(kind)
     }
 }

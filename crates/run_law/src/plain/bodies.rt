@@ -3,10 +3,10 @@ ghost use Rattle.run_law.specs.plain.Bodies.{body_of};
 
 use crate::{Judgement, NoteBody, Reason, Why};
 use net_plan::{DeviceId, LinkId, VlId};
-use pcf_values::Members;
 use std::marker::Model;
 use sync_state::State;
 use tte_units::Units;
+use tte_units::frames::Members;
 
 /// What a record says of no event. It is small, so that it is moved at no cost. The fields are those of `NoteBody`.
 #[derive(Clone, Copy)]

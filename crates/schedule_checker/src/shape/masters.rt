@@ -2,10 +2,10 @@ ghost use Rattle.std.specs.Prelude.{◌≡◌, ◌≢◌, ◌≤◌, ◌↔◌, 
 ghost use Rattle.std.specs.List.{All, count_by};
 ghost use Rattle.{net_plan.specs.Places.is_master, schedule_checker.specs.Parts.part_of_demand};
 ghost use Rattle.net_plan.specs.Rules.{HasOffSwitch, MastersSuffice, MembersDiffer, masters, most_masters};
-ghost use Rattle.pcf_values.specs.declared.channel.Channel.{Channel as ChannelValue};
+ghost use Rattle.tte_units.specs.declared.frames.channel.Channel.{Channel as ChannelValue};
 
 use net_plan::{Device, Network, Role};
-use pcf_values::Channel;
+use tte_units::frames::Channel;
 
 /// The least count of masters.
 const LEAST_MASTERS: usize = 4;

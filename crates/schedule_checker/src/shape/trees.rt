@@ -5,7 +5,7 @@ ghost use Rattle.schedule_checker.specs.{Parts.part_of_channel, Shape.{IsConnect
 
 use crate::roles::is_end_system;
 use net_plan::{Device, DeviceId, Link, Network, Role};
-use pcf_values::Channel;
+use tte_units::frames::Channel;
 
 /// The most links from a device to its compression master.
 const LONGEST_PATH: u32 = 8;

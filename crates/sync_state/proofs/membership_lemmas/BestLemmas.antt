@@ -1,7 +1,7 @@
 -- The best frame of a channel after one more frame.
-use Rattle.{pcf_values.specs.declared.channel.Channel.Channel, sync_state.specs.declared.membership.frame.HeardFrame.HeardFrame}
 use Rattle.std.proofs.Common.{◌++◌, ◌<ℤ◌, ◌<◌, ◌∙◌, ◌∷◌, ◌≡◌, ◌⊎◌, All, List, None, Option, Some, [], ap, append_assoc, arith, inl, inr, subst, sym, ℕ, ℤ}
 use Rattle.std.proofs.lemmas.{Bool.cases_order, Int.{by_lt_z, ints}, List.Elements.{All-append, All-cons, All-nil, All-push, All-weaker}}
+use Rattle.{sync_state.specs.declared.membership.frame.HeardFrame.HeardFrame, tte_units.specs.declared.frames.channel.Channel.Channel}
 use Rattle.sync_state.specs.membership.{BestFrame.{IsBehind, IsBest, IsBestOf, IsBetterOf, IsLevel}, Hearing.{Hearing, IsWithinOn, within_on}, Members.count_of}
 
 -- behind it or level with it
@@ -10,8 +10,7 @@ IsNoBetter x y = IsBehind x y ⊎ IsLevel x y
 
 -- by the counts and the points alone
 behind_or_not : (m n : ℕ) (p q : ℤ) → (((n < m) ⊎ ((n ≡ m) × (q <ℤ p))) → ⊥) → ((m < n) ⊎ ((m ≡ n) × (p <ℤ q))) ⊎ ((m ≡ n) × (p ≡ q))
-behind_or_not m n p q not =
-    grind (arith, cases_order, by_lt_z, ints)
+behind_or_not m n p q not = grind (arith, cases_order, by_lt_z, ints)
 
 pub no_better : (x y : HeardFrame) → (IsBehind y x → ⊥) → IsNoBetter x y
 no_better x y not = behind_or_not (count_of x.members) (count_of y.members) x.point.0 y.point.0 not
@@ -29,8 +28,7 @@ no_better_chain m n k p q r (inr a) (inl (inr b)) = inl (inr (a.0 ∙ b.0, omega
 no_better_chain m n k p q r (inr a) (inr b) = inr (a.0 ∙ b.0, a.1 ∙ b.1)
 
 pub no_better_trans : (x y z : HeardFrame) → IsNoBetter x y → IsNoBetter y z → IsNoBetter x z
-no_better_trans x y z a b =
-    no_better_chain (count_of x.members) (count_of y.members) (count_of z.members) x.point.0 y.point.0 z.point.0 a b
+no_better_trans x y z a b = no_better_chain (count_of x.members) (count_of y.members) (count_of z.members) x.point.0 y.point.0 z.point.0 a b
 
 -- a frame that did not come within on the channel leaves its best
 pub best_stays : (heard : List Hearing) (channel : Channel) (best : Option HeardFrame) (h : Hearing) → (IsWithinOn channel h → ⊥) → IsBestOf heard channel best
@@ -61,8 +59,7 @@ all_no_better heard channel best later is step =
 -- a frame within on the channel: the better of both is the best
 pub best_after : (heard : List Hearing) (channel : Channel) (best : Option HeardFrame) (later frame : HeardFrame) → IsBetterOf best later frame
     → IsBestOf heard channel best → IsBest (heard ++ within_on channel later ∷ []) channel frame
-best_after heard channel None later frame same is =
-    grind (arith, All-weaker, All-nil)
+best_after heard channel None later frame same is = grind (arith, All-weaker, All-nil)
 best_after heard channel (Some best) later frame (inl (behind, same)) is =
     let h : Hearing = within_on channel later in
     let it : Hearing = within_on channel best in
@@ -73,5 +70,4 @@ best_after heard channel (Some best) later frame (inl (behind, same)) is =
       earlier = is.earlier;
       later = All-push (λ x. IsWithinOn channel x → IsBehind x.frame best) is.after h is.later (λ w. behind);
     })
-best_after heard channel (Some best) later frame (inr (not_behind, same)) is =
-    grind (arith, all_no_better, no_better, All-nil)
+best_after heard channel (Some best) later frame (inr (not_behind, same)) is = grind (arith, all_no_better, no_better, All-nil)

@@ -1,6 +1,6 @@
 -- The ones of a number are its bits that are set.
-use Rattle.{pcf_values.specs.declared.members.Members.Members, std.proofs.{Common.{suc, sym, zero, ℕ}, Math.Nat.pow-suc, lemmas.Bool.Decides.nat_tests}}
 use Rattle.std.proofs.Common.{◌%◌, ◌*◌, ◌+◌, ◌/◌, ◌<◌, ◌==◌, ◌^◌, ◌∙◌, ◌∷◌, ◌≡◌, Bool, List, [], add-one, ap, arith, bit_or, cond, count_by, count_ones, refl}
+use Rattle.{std.proofs.{Common.{suc, sym, zero, ℕ}, Math.Nat.pow-suc, lemmas.Bool.Decides.nat_tests}, tte_units.specs.declared.frames.members.Members.Members}
 use Rattle.{std.proofs.lemmas.{List.Sums.sum_by-cons, Nat.{and_le_l, ones_le_self, or_disjoint}}, tte_units.proofs.general_lemmas.Naturals.{or_half, or_parity}}
 use Rattle.{std.proofs.lemmas.Nat.Bits.{bit_at-lt, bit_at-suc, bit_at_lowest}, sync_state.specs.membership.Members.{IsMember, count_of, single, union}}
 use Rattle.std.specs.{Int.{Count.ones_step, bit_at}, List.range_with_len}

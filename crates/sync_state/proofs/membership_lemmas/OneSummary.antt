@@ -1,11 +1,11 @@
 -- What is kept of a list of frames is one.
-use Rattle.{pcf_values.specs.declared.channel.Channel.{Channel, TheVariants.{A, B}}, sync_state.specs.membership.Summary.{Summarizes, Summary}}
-use Rattle.{pcf_values.specs.declared.members.Members.Members, sync_state.specs.membership.Members.{IsMember, count_of}}
 use Rattle.std.proofs.Common.{◌++◌, ◌+◌, ◌-◌, ◌<ℤ◌, ◌<◌, ◌↔◌, ◌∙◌, ◌∷◌, ◌≡◌, ◌⊎◌, List, None, Option, Some, ap, arith, get_or, inl, inr, length, refl, subst}
 use Rattle.std.proofs.{Common.{suc, sym, ℕ, ℤ}, lemmas.{Bool.{cases_order, true≢false}, Int.ints}}
-use Rattle.{std.proofs.lemmas.List.{get_or-append-add, get_or_append_left, get_or_at, length-append}, sync_state.proofs.membership_lemmas.BestLemmas.IsNoBetter}
-use Rattle.sync_state.{proofs.membership_lemmas.{SetLemmas.same_members, SummaryLemmas.none_exactly}, specs.membership.BestFrame.{IsBehind, IsBest, IsBestOf}}
+use Rattle.{std.proofs.lemmas.List.{get_or-append-add, get_or_append_left, get_or_at, length-append}, sync_state.specs.membership.Summary.{Summarizes, Summary}}
+use Rattle.sync_state.proofs.membership_lemmas.{BestLemmas.IsNoBetter, SetLemmas.same_members, SummaryLemmas.none_exactly}
 use Rattle.sync_state.specs.{declared.membership.frame.HeardFrame.HeardFrame, membership.Hearing.{Hearing, IsWithinOn, within_on}}
+use Rattle.{sync_state.specs.membership.BestFrame.{IsBehind, IsBest, IsBestOf}, tte_units.specs.declared.frames.channel.Channel.{Channel, TheVariants.{A, B}}}
+use Rattle.{sync_state.specs.membership.Members.{IsMember, count_of}, tte_units.specs.declared.frames.members.Members.Members}
 
 never_both : (m n : ℕ) (p q : ℤ) → ((m < n) ⊎ ((m ≡ n) × (p <ℤ q))) → (((n < m) ⊎ ((n ≡ m) × (q <ℤ p))) ⊎ ((n ≡ m) × (q ≡ p))) → ⊥
 never_both m n p q (inl a) (inl (inl b)) = absurd (omega (arith, a, b))
@@ -24,13 +24,11 @@ before_other heard channel x y a b lt =
     let same : a.before ++ hx ∷ a.after ≡ b.before ++ hy ∷ b.after = sym a.is_heard ∙ b.is_heard in
     let lengths : length a.before + length (hx ∷ a.after) ≡ length b.before + length (hy ∷ b.after) =
     sym (length-append a.before (hx ∷ a.after)) ∙ ap length same ∙ length-append b.before (hy ∷ b.after) in
-    let at_x : get_or b.before (length a.before) hx ≡ hx =
-    sym (get_or_append_left b.before (hy ∷ b.after) hx (length a.before) lt)
+    let at_x : get_or b.before (length a.before) hx ≡ hx = sym (get_or_append_left b.before (hy ∷ b.after) hx (length a.before) lt)
     ∙ ap (λ (t : List Hearing). get_or t (length a.before) hx) (sym same)
     ∙ get_or_at a.before hx a.after hx (length a.before) refl in
     let j : ℕ = length b.before - length a.before - 1 in
-    let at_y : get_or a.after j hy ≡ hy =
-    sym (get_or-append-add a.before (hx ∷ a.after) (suc j) hy)
+    let at_y : get_or a.after j hy ≡ hy = sym (get_or-append-add a.before (hx ∷ a.after) (suc j) hy)
     ∙ ap (λ (t : List Hearing). get_or t (length a.before + suc j) hy) same
     ∙ get_or_at b.before hy b.after hy (length a.before + suc j) (omega arith) in
     let on : (ch : Channel) (f : HeardFrame) → IsWithinOn ch (within_on ch f) = λ ch f. record { channel_is = refl; within_is = refl } in

@@ -1,12 +1,11 @@
 -- The members of the frames outside after one more frame.
-use Rattle.{pcf_values.specs.declared.members.Members.Members, sync_state.specs.membership.Summary.AreOutside, tte_units.proofs.general_lemmas.Lists.any_parts}
 use Rattle.{std.proofs.Common.{◌++◌, ◌∷◌, ◌≡◌, Any, List, [], arith, false, inl, inr, true, ℕ}, sync_state.proofs.membership_lemmas.SetLemmas.union-members}
-use Rattle.std.proofs.lemmas.{Bool.both_ways, List.Quantifiers.Any-push}
-use Rattle.{std.proofs.lemmas.List.{get_or_append_left, length-append}, sync_state.specs.membership.{Hearing.{Hearing, IsOutside}, Members.{IsMember, union}}}
+use Rattle.{std.proofs.lemmas.Bool.both_ways, sync_state.specs.membership.Summary.AreOutside}
+use Rattle.{std.proofs.lemmas.List.{Quantifiers.Any-push, get_or_append_left, length-append}, tte_units.specs.declared.frames.members.Members.Members}
+use Rattle.{sync_state.specs.membership.{Hearing.{Hearing, IsOutside}, Members.{IsMember, union}}, tte_units.proofs.general_lemmas.Lists.any_parts}
 
 pub Any-append_left : {X : Type 0} (P : X → Type 0) (xs ys : List X) → Any P xs → Any P (xs ++ ys)
-Any-append_left P xs ys any =
-    grind (arith, length-append, get_or_append_left)
+Any-append_left P xs ys any = grind (arith, length-append, get_or_append_left)
 
 -- it came outside its time, and the master is a member of it
 abbrev pub HasOutside : ℕ → Hearing → Type 0

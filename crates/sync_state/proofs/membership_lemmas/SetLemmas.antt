@@ -1,7 +1,7 @@
 -- Sets of masters by their bits.
-use Rattle.{pcf_values.specs.declared.members.Members.Members, std.specs.Int.bit_at}
 use Rattle.{std.proofs.Common.{◌↔◌, ◌∙◌, ◌≡◌, ◌⊎◌, ap, arith, inl, inr, sym, ℕ}, sync_state.specs.membership.Members.{IsMember, none, single, union}}
 use Rattle.std.proofs.lemmas.{Bool.cases_eq, Nat.Bits.{bit_at-lt, bit_at-pow_other, bit_at-pow_same, bit_at-zero, bit_at_or, same_from_bits}}
+use Rattle.{std.specs.Int.bit_at, tte_units.specs.declared.frames.members.Members.Members}
 
 pub single-members : (k i : ℕ) → IsMember i (single k) ↔ (i ≡ k)
 single-members k i = grind (arith, bit_at-pow_same, cases_eq, bit_at-pow_other)

@@ -1,9 +1,9 @@
 -- What is kept after one more frame.
-use Rattle.{pcf_values.specs.declared.channel.Channel.{Channel, TheVariants.{A, B}}, sync_state.proofs.membership_lemmas.SetLemmas.none-members}
 use Rattle.std.proofs.Common.{◌++◌, ◌↔◌, ◌∙◌, ◌∷◌, ◌≡◌, All, Bool, IsNone, List, None, Option, Some, [], ap, arith, false, length, refl, subst, sym, true}
 use Rattle.std.proofs.lemmas.{Bool.both_ways, List.{Elements.All-nil, get_or_at, length-append}}
 use Rattle.sync_state.{proofs.membership_lemmas.BestLemmas.{best_after, best_stays}, specs.membership.BestFrame.{IsBestOf, IsBetterOf, NoneWithin}}
 use Rattle.sync_state.{proofs.membership_lemmas.OutsideLemmas.{outside_after, outside_stays}, specs.membership.Summary.{Summarizes, Summary, best_on, silence}}
+use Rattle.{sync_state.proofs.membership_lemmas.SetLemmas.none-members, tte_units.specs.declared.frames.channel.Channel.{Channel, TheVariants.{A, B}}}
 use Rattle.sync_state.specs.{declared.membership.frame.HeardFrame.HeardFrame, membership.{Hearing.{Hearing, IsWithinOn, within_on}, Members.{none, union}}}
 
 pub silence_summarizes : Summarizes silence []

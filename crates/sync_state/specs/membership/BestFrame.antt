@@ -1,7 +1,7 @@
 use Rattle.std.specs.Prelude.{◌++◌, ◌<ℤ◌, ◌<◌, ◌∷◌, ◌≡◌, ◌≤◌, ◌⊎◌, All, IsSomeAnd, List, None, Option, Some, ℕ}
 use Rattle.sync_state.specs.declared.membership.frame.HeardFrame.{HeardFrame}
 use Rattle.sync_state.specs.membership.{Hearing.{Hearing, IsWithinOn, within_on}, Members.count_of}
-use Rattle.pcf_values.specs.declared.channel.Channel.{Channel}
+use Rattle.tte_units.specs.declared.frames.channel.Channel.{Channel}
 
 -- the frame has fewer members than the other, or as many and an earlier point
 abbrev pub IsBehind : HeardFrame → HeardFrame → Type 0
@@ -11,8 +11,7 @@ IsBehind frame other =
 
 -- the frame has as many members as the other, and the same point
 abbrev pub IsLevel : HeardFrame → HeardFrame → Type 0
-IsLevel frame other =
-    (count_of frame.members ≡ count_of other.members) × (frame.point.0 ≡ other.point.0)
+IsLevel frame other = (count_of frame.members ≡ count_of other.members) × (frame.point.0 ≡ other.point.0)
 
 -- the frame was heard within on the channel; each other that was is behind it, or is level with it and was heard
 -- earlier
@@ -39,5 +38,4 @@ Qualifies threshold best = IsSomeAnd best (λ frame. threshold ≤ count_of fram
 -- the better of the best frame so far, if there is one, and a later one
 abbrev pub IsBetterOf : Option HeardFrame → HeardFrame → HeardFrame → Type 0
 IsBetterOf None later frame = frame ≡ later
-IsBetterOf (Some best) later frame =
-    (IsBehind later best × (frame ≡ best)) ⊎ (¬ IsBehind later best × (frame ≡ later))
+IsBetterOf (Some best) later frame = (IsBehind later best × (frame ≡ best)) ⊎ (¬ IsBehind later best × (frame ≡ later))

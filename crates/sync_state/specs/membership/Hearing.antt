@@ -1,6 +1,6 @@
 use Rattle.std.specs.Prelude.{◌≡◌, Bool, false, true}
 use Rattle.sync_state.specs.declared.membership.frame.HeardFrame.{HeardFrame}
-use Rattle.pcf_values.specs.declared.channel.Channel.{Channel}
+use Rattle.tte_units.specs.declared.frames.channel.Channel.{Channel}
 
 -- a frame that was heard, the channel that brought it, and whether it came within its time
 pub record Hearing : Type 0 where

@@ -1,5 +1,5 @@
 use Rattle.std.specs.{Int.bit_at, List.range_with_len, Prelude.{◌+◌, ◌<◌, ◌==◌, ◌^◌, ◌≡◌, List, count_by, ℕ}}
-use Rattle.{pcf_values.specs.declared.members.Members.Members, sync_state.specs.membership.Hearing.Hearing}
+use Rattle.{sync_state.specs.membership.Hearing.Hearing, tte_units.specs.declared.frames.members.Members.Members}
 use Rattle.sync_state.specs.membership.{Members.{IsMember, count_of, single, union}, Summary.{Summarizes, Summary}}
 
 -- a set of masters with numbers below the width has as many as there are bits set below it

@@ -1,5 +1,5 @@
 use Rattle.std.specs.{Int.bit_at, Prelude.{◌^◌, ◌≡◌, bit_or, count_ones, ℕ}}
-use Rattle.pcf_values.specs.declared.members.Members.{Members}
+use Rattle.tte_units.specs.declared.frames.members.Members.{Members}
 
 -- the master with member number i is in the set
 abbrev pub IsMember : ℕ → Members → Type 0

@@ -1,5 +1,5 @@
 use Rattle.std.specs.Prelude.{◌↔◌, ◌≡◌, Any, List, MatchBool, None, Option, Some, ℕ}
-use Rattle.pcf_values.specs.declared.{channel.Channel.{Channel, TheVariants.{A, B}}, members.Members.Members}
+use Rattle.tte_units.specs.declared.frames.{channel.Channel.{Channel, TheVariants.{A, B}}, members.Members.Members}
 use Rattle.sync_state.specs.{declared.membership.frame.HeardFrame.HeardFrame, membership.Hearing.{Hearing, IsOutside}}
 use Rattle.sync_state.specs.membership.{BestFrame.{IsBestOf, IsBetterOf}, Members.{IsMember, none, union}}
 

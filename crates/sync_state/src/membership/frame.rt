@@ -1,8 +1,8 @@
 ghost use Rattle.std.specs.Prelude.{◌≡◌, ◌<◌, ◌↔◌, IsTrue};
 
 use crate::membership::count;
-use pcf_values::Members;
 use tte_units::Units;
+use tte_units::frames::Members;
 
 /// What a device keeps of a protocol control frame that it has heard.
 #[derive(Clone, Copy, PartialEq, Eq)]

@@ -3,8 +3,8 @@ ghost use Rattle.sync_state.specs.membership.{BestFrame.{IsBestOf, IsBetterOf, N
 ghost use Rattle.sync_state.specs.membership.Summary.{AreOutside, Hears, Summarizes, best_on, silence};
 
 use crate::membership::{HeardFrame, count, join};
-use pcf_values::{Channel, Members};
 use std::marker::Model;
+use tte_units::frames::{Channel, Members};
 
 /// What a device keeps of the frames that it has heard since its last correction: the best frame
 /// of each channel among those that came within their time, and the members of those that did

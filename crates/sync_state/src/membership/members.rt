@@ -1,7 +1,7 @@
 ghost use Rattle.std.specs.Prelude.{◌≡◌, ◌<◌, ◌⊎◌, ◌↔◌, ℕ};
 ghost use Rattle.sync_state.specs.membership.Members.{IsMember, count_of, single, union};
 
-use pcf_values::Members;
+use tte_units::frames::Members;
 
 /// The set of the one master with this member number. `member` is below 32.
 pub fn one(member: u32) -> Members

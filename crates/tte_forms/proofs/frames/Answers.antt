@@ -1,5 +1,5 @@
 -- The answer of `show` for a source, and for a file that spells a sequence of frames.
-use Rattle.{pcf_codec.{proofs.Outcomes.spelt_read, specs.{Decoding.decoded, Spelling.pcf_length}}, pcf_values.specs.declared.pcf.Pcf.Pcf}
+use Rattle.{pcf_codec.{proofs.Outcomes.spelt_read, specs.{Decoding.decoded, Spelling.pcf_length}}, tte_units.specs.declared.frames.pcf.Pcf.Pcf}
 use Rattle.{pcf_codec.{proofs.Sequences.length-spelling, specs.Sequence.{IsLongestFront, SpellsAll}}, std.proofs.Common.{refl, subst, suc, sym, take, ℕ}}
 use Rattle.{pcf_codec.specs.declared.refusal.PcfRefusal.PcfRefusal, std.proofs.lemmas.{Bool.{le-ltb, lt-ltb}, List.{append-nil, drop-drop, nil_from_length}}}
 use Rattle.std.proofs.Common.{◌*◌, ◌++◌, ◌+◌, ◌-◌, ◌<◌, ◌∙◌, ◌∷◌, ◌≡◌, ◌≢◌, ◌≤◌, Err, List, Result, [], ap, append_assoc, arith, drop, length, length-append}
@@ -17,8 +17,7 @@ unfolding show_answer
 show_answer-long octets long = rw (lt-ltb file_limit (length octets) long) refl
 
 pub answers-read : (left : Option (List ℕ)) (octets : List ℕ) (status : Status) (old new : Shown) → IfSome left (λ all. octets ≡ all)
-    → length octets ≤ file_limit
-    → Gives (frames_answer 0 (frame_count octets) octets) status old new → Answers show_answer left status old new
+    → length octets ≤ file_limit → Gives (frames_answer 0 (frame_count octets) octets) status old new → Answers show_answer left status old new
 answers-read left octets status old new all short g =
     for_read left octets (λ xs. Gives (show_answer xs) status old new) all
     (subst (λ (a : Answer). Gives a status old new) (sym (show_answer-fits octets short)) g)

@@ -1,6 +1,6 @@
 -- The answer for the frames of a file, frame by frame.
 use Rattle.{pcf_codec.specs.Decoding.decoded, std.{proofs.lemmas.List.append-nil, specs.Io.KnownBytes.Appends}, tte_io.specs.Faults.next_count}
-use Rattle.{pcf_codec.specs.declared.refusal.PcfRefusal.PcfRefusal, pcf_values.specs.declared.pcf.Pcf.Pcf, tte_forms.specs.Putting.{PutsLines, Shown}}
+use Rattle.{pcf_codec.specs.declared.refusal.PcfRefusal.PcfRefusal, tte_forms.specs.Putting.{PutsLines, Shown}, tte_units.specs.declared.frames.pcf.Pcf.Pcf}
 use Rattle.std.proofs.Common.{◌++◌, ◌+◌, ◌-◌, ◌<◌, ◌∙◌, ◌∷◌, ◌≡◌, ◌≤◌, Err, List, Ok, Result, [], ap, append_assoc, arith, inl, inr, refl, subst, suc, sym}
 use Rattle.{std.proofs.Common.{zero, ℕ}, tte_io.specs.Told.AppendsFront}
 use Rattle.tte_forms.proofs.Puts.{Ends-gives, PutsLines-append, PutsLines-fails, PutsLines-more, PutsSome-behind, WriteFails-behind}

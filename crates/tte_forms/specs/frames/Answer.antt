@@ -2,7 +2,7 @@
 use Rattle.std.specs.{Fork.slice_chunk, Int.div_ceil}
 use Rattle.std.specs.Prelude.{if◌then◌else◌, ◌+◌, ◌∷◌, Err, List, Ok, Result, [], length, nat_lt, suc, zero, ℕ}
 use Rattle.{pcf_codec.specs.{Decoding.decoded, Spelling.pcf_length}, tte_forms.specs.Statuses.IsFileStatus}
-use Rattle.{pcf_codec.specs.declared.refusal.PcfRefusal.PcfRefusal, pcf_values.specs.declared.pcf.Pcf.Pcf}
+use Rattle.{pcf_codec.specs.declared.refusal.PcfRefusal.PcfRefusal, tte_units.specs.declared.frames.pcf.Pcf.Pcf}
 use Rattle.tte_forms.specs.{Answering.{Answer, with_line}, frames.FrameLine.{frame_line, refusal_line}}
 use Rattle.tte_forms.specs.declared.status.Status.{Status, TheVariants.{Done, FrameRefused, TooLong}}
 

@@ -1,8 +1,8 @@
 -- The lines that `show` writes.
 use Rattle.std.specs.{Fmt.decimal, Prelude.{◌++◌, List, codes, ℕ}}
 use Rattle.{byteorder.specs.Endian.big_bytes, hex.specs.Hex.encode_lower}
-use Rattle.{pcf_codec.specs.declared.refusal.PcfRefusal.PcfRefusal, pcf_values.specs.declared.pcf.Pcf.Pcf}
-use Rattle.pcf_values.specs.declared.pcf.PcfKind.{PcfKind, TheVariants.{ColdStart, ColdStartAck, Integration}}
+use Rattle.{pcf_codec.specs.declared.refusal.PcfRefusal.PcfRefusal, tte_units.specs.declared.frames.pcf.Pcf.Pcf}
+use Rattle.tte_units.specs.declared.frames.pcf.PcfKind.{PcfKind, TheVariants.{ColdStart, ColdStartAck, Integration}}
 use Rattle.pcf_codec.specs.declared.refusal.PcfRefusal.TheVariants as refusals
 
 -- the name of a frame's type

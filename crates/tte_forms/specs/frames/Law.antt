@@ -1,6 +1,6 @@
 -- What the answer of `show` has to do with the sequence of frames that a file spells.
 use Rattle.std.specs.Prelude.{◌++◌, ◌+◌, ◌∷◌, ◌≡◌, ◌≤◌, Err, List, [], length, take, ℕ}
-use Rattle.{pcf_codec.specs.{Decoding.decoded, Spelling.pcf_length}, pcf_values.specs.declared.pcf.Pcf.Pcf}
+use Rattle.{pcf_codec.specs.{Decoding.decoded, Spelling.pcf_length}, tte_units.specs.declared.frames.pcf.Pcf.Pcf}
 use Rattle.pcf_codec.specs.{Sequence.{IsLongestFront, SpellsAll}, declared.refusal.PcfRefusal.PcfRefusal}
 use Rattle.tte_forms.specs.{Answering.Answer, declared.status.Status.TheVariants.{Done, FrameRefused}}
 use Rattle.tte_forms.specs.frames.{Answer.{file_limit, show_answer}, FrameLine.{frame_line, refusal_line}}

@@ -4,8 +4,8 @@ ghost use Rattle.tte_forms.specs.frames.FrameLine.{refusal_text};
 
 use byteorder::{BigEndian, ByteOrder};
 use pcf_codec::PcfRefusal;
-use pcf_values::{Mac, Members, Pcf, PcfKind};
 use tte_io::LineText;
+use tte_units::frames::{Mac, Members, Pcf, PcfKind};
 
 fn kind_word(kind: PcfKind) -> &'static str
     ensures text { result.now ≡ kind_text kind }

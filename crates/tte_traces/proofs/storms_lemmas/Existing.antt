@@ -3,22 +3,22 @@ use Rattle.fault_hypothesis.proofs.storm_lemmas.{Belongings.{some_link, some_mas
 use Rattle.fault_hypothesis.proofs.storm_lemmas.Masters.{IsLastBelow, last_of_all, master_found, master_uplink, next_master, next_other}
 use Rattle.fault_hypothesis.{proofs.storm_lemmas.Within.broken_is_master, specs.storm.Striking.{IsLastMaster, IsMaster, SendsForged, Strikes, forged}}
 use Rattle.fault_hypothesis.specs.storm.{Choosing.{channel_of, choice_of, device_of, hold_of, link_of, rate_of, way_of, wire_of}, Words.draw_at}
-use Rattle.{fault_hypothesis.specs.storm.Events.{AreStormEvents, IsChosen, IsDrawn, IsEventOf, IsStorm, substitute, time_of}, pcf_codec.specs.Encoded.encoded}
-use Rattle.{hex.specs.Hex.IsBytes, std.proofs.lemmas.Int.ints}
-use Rattle.{net_plan.specs.{Places.{is_master, link_at}, declared.{event.What.What, tables.Link.Link}}, std.specs.Int.{byte_at, bytes_high_first}}
-use Rattle.{net_plan.specs.Ranges.{IsDeviceInRange, IsInRange}, tte_traces.specs.storms.summary.{Counting.counts_of, Lines.summary_lines}}
-use Rattle.{net_plan.specs.declared.{event.Event.Event, ids.DeviceId.DeviceId, network.Network.Network}, pcf_codec.proofs.Encoding.{Fits, padding, spells}}
-use Rattle.{pcf_codec.specs.{EtherType.pcf_type, Spelling.code_of}, schedule_tables.specs.Rules.KeepsRules, tte_traces.proofs.Existing.all_records}
-use Rattle.{pcf_values.specs.declared.pcf.{Pcf.Pcf, PcfKind.PcfKind}, std.proofs.{Math.Nat.{div-lt_iff_lt-mul, mod-lt}, lemmas.List.{append-nil, get_or_past}}}
-use Rattle.{pcf_values.specs.declared.pcf.PcfKind.TheVariants.{ColdStart, ColdStartAck, Integration}, tte_forms.specs.declared.status.Status.TheVariants.Done}
+use Rattle.{fault_hypothesis.specs.storm.Events.{AreStormEvents, IsChosen, IsDrawn, IsEventOf, IsStorm, substitute, time_of}, tte_units.specs.Amount.amount}
+use Rattle.{hex.specs.Hex.IsBytes, net_plan.specs.declared.event.What.What, schedule_tables.specs.Rules.KeepsRules, std.specs.Int.{byte_at, bytes_high_first}}
+use Rattle.{net_plan.specs.{Places.{is_master, link_at}, declared.{event.Event.Event, tables.Link.Link}}, world_drive.specs.exact.Records.HaveEnded}
+use Rattle.{net_plan.specs.{Ranges.{IsDeviceInRange, IsInRange}, declared.network.Network.Network}, tte_units.specs.declared.frames.pcf.PcfKind.PcfKind}
+use Rattle.{net_plan.specs.declared.ids.DeviceId.DeviceId, pcf_codec.proofs.Encoding.{Fits, padding, spells}, std.proofs.lemmas.List.{append-nil, get_or_past}}
+use Rattle.{pcf_codec.specs.{Encoded.encoded, EtherType.pcf_type, Spelling.code_of}, std.proofs.lemmas.Int.ints}
 use Rattle.run_law.{proofs.scenario.Decided.hypothesis_is_decided, specs.scenario.{Faults.{Breaks, IsBroken}, Hypothesis.AreWithinHypothesis}}
 use Rattle.{run_law.proofs.scenario.Decisions.{IsDecided, decided_any}, std.specs.{List.All, Prelude.{IfSome, IsSomeAnd, MatchOption, is_some, slice_index}}}
-use Rattle.{run_law.specs.records.Happenings.happenings, std.proofs.lemmas.Bool.{cases_Bool, cases_lt}, tte_traces.specs.storms.Answer.exact_scenario}
+use Rattle.{run_law.specs.records.Happenings.happenings, std.proofs.Math.Nat.{div-lt_iff_lt-mul, mod-lt}, tte_traces.specs.storms.Answer.exact_scenario}
 use Rattle.std.proofs.Common.{◌%◌, ◌*◌, ◌++◌, ◌+◌, ◌-◌, ◌<◌, ◌==◌, ◌^◌, ◌||◌, ◌∙◌, ◌∷◌, ◌≡◌, ◌≤◌, Any, Bool, List, None, Option, Some, [], append_assoc, arith}
 use Rattle.std.proofs.{Common.{false, if◌then◌else◌, inl, inr, length, length-append, refl, replicate, subst, suc, sym, true, zero, ℕ}, Math.Pow.pow-lt}
+use Rattle.{std.proofs.lemmas.{Bool.{cases_Bool, cases_lt}, List.Quantifiers.Any-push}, tte_units.specs.declared.{frames.pcf.Pcf.Pcf, units.Units.Units}}
 use Rattle.{std.proofs.lemmas.List.Elements.{All-append, All-cons, All-nil, All-replicate}, tte_traces.specs.storms.Laws.{FitsFrames, StormAnswersExist}}
-use Rattle.{std.proofs.lemmas.List.Quantifiers.Any-push, tte_units.specs.{Amount.amount, declared.units.Units.Units}, world_drive.specs.exact.Records.HaveEnded}
-use Rattle.{tte_traces.proofs.storms_lemmas.Widest.greatest_spread, tte_units.proofs.general_lemmas.{Lists.{in_all, some_at}, Naturals.byte_at_small}}
+use Rattle.{tte_forms.specs.declared.status.Status.TheVariants.Done, tte_traces.proofs.{Existing.all_records, storms_lemmas.Widest.greatest_spread}}
+use Rattle.{tte_traces.specs.storms.summary.{Counting.counts_of, Lines.summary_lines}, tte_units.proofs.general_lemmas.Lists.{in_all, some_at}}
+use Rattle.tte_units.{proofs.general_lemmas.Naturals.byte_at_small, specs.declared.frames.pcf.PcfKind.TheVariants.{ColdStart, ColdStartAck, Integration}}
 use Rattle.net_plan.specs.declared.event.What.TheVariants as kinds
 
 -- what is known of the network and of the time of a step
@@ -63,8 +63,7 @@ unfolding encoded
 encoded_bytes p priority domain =
     let kind = fronted (code_of p.kind) (kind_small p.kind) (joined (zeros 5) (joined (number 8 p.clock) (zeros 18))) in
     let rest = joined (zeros 4) (fronted p.priority priority (fronted p.domain domain kind)) in
-    let all =
-    joined (number 6 p.destination) (joined (number 6 p.source) (joined (number 2 pcf_type)
+    let all = joined (number 6 p.destination) (joined (number 6 p.source) (joined (number 2 pcf_type)
     (joined (number 4 p.cycle) (joined (number 4 p.members.0) rest)))) in
     all.1
 
@@ -184,8 +183,7 @@ strike network before time seed n ready within =
 
 -- the link that is drawn is one of the network
 link_there : (network : Network) (seed n : ℕ) → KeepsRules network → (link : Link) × (link_at network (link_of network (draw_at seed n)) ≡ Some link)
-link_there network seed n rules =
-    some_at network.link ((draw_at seed n).place % length network.link) (mod-lt (draw_at seed n).place (some_link network rules))
+link_there network seed n rules = some_at network.link ((draw_at seed n).place % length network.link) (mod-lt (draw_at seed n).place (some_link network rules))
 
 chosen_link : (o : Option Link) (link : Link) (f : Link → What) → o ≡ Some link → IsSomeAnd o (λ l. f link ≡ f l)
 chosen_link o link f at = subst (λ (x : Option Link). IsSomeAnd x (λ l. f link ≡ f l)) (sym at) refl

@@ -101,8 +101,7 @@ module _ (s other : Scenario) (hs tail : List Happening) (c : ℕ) (past : (h : 
     seen_at = a.seen_at;
     there = in_left a.seen_at hs tail a.there;
     correction = a.correction;
-    apart_then =
-        apart_on s hs other (hs ++ tail) (time_of a.seen_at) apart (alike (time_of a.seen_at) (past a.seen_at a.there a.correction)) a.apart_then;
+    apart_then = apart_on s hs other (hs ++ tail) (time_of a.seen_at) apart (alike (time_of a.seen_at) (past a.seen_at a.there a.correction)) a.apart_then;
   }
 
   seen_back : (apart : ℤ) (a : AreSeenApart other (hs ++ tail) apart) → IsIn a.seen_at hs → AreSeenApart s hs apart

@@ -36,8 +36,7 @@ next_one : (s : Scenario) (hs : List Happening) (t n : ℕ) (value : ℤ) → n 
 next_one s hs t n value lt step is = record { device = record { 0 = n }; there = lt; in_step = step; is = is }
 
 next_bounds : (s : Scenario) (hs : List Happening) (t n : ℕ) (value : ℤ) (ends : Option Ends) (new : Ends) (w : Widens ends value new)
-    → value ≡ local s hs (record { 0 = n }) t → (d : DeviceId) → d ≡ record { 0 = n }
-    → (new.least ≤ℤ local s hs d t) × (local s hs d t ≤ℤ new.greatest)
+    → value ≡ local s hs (record { 0 = n }) t → (d : DeviceId) → d ≡ record { 0 = n } → (new.least ≤ℤ local s hs d t) × (local s hs d t ≤ℤ new.greatest)
 next_bounds s hs t n value ends new w is d same =
     let at : local s hs d t ≡ value = ap (λ (e : DeviceId). local s hs e t) same ∙ sym is in
     let least = w.least in

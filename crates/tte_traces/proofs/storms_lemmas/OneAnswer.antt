@@ -24,14 +24,10 @@ storm_answer_one seed cycles network few rules a b p q =
     let notes : q.notes ≡ p.notes =
     same_records network seed cycles p.events q.notes p.notes p.storm (subst (λ (es : List Event). AreAllRecords network es q.notes) events q.records)
     p.records in
-    let widest : IsWidest network p.events p.notes q.spread =
-    subst (λ (ns : List Note). IsWidest network p.events ns q.spread) notes
+    let widest : IsWidest network p.events p.notes q.spread = subst (λ (ns : List Note). IsWidest network p.events ns q.spread) notes
     (subst (λ (es : List Event). IsWidest network es q.notes q.spread) events q.widest) in
     let spread : q.spread ≡ p.spread = spread_is_one (exact_scenario network p.events) (happenings network p.notes) q.spread p.spread widest p.widest in
-    let answer : List Note → Units → Answer = λ ns apart. record {
-      status = Done;
-      lines = summary_lines seed cycles (counts_of ns) apart network.precision;
-    } in
+    let answer : List Note → Units → Answer = λ ns apart. record { status = Done; lines = summary_lines seed cycles (counts_of ns) apart network.precision } in
     p.answer ∙ ap (λ (ns : List Note). answer ns p.spread) (sym notes) ∙ ap (answer q.notes) (sym spread) ∙ sym q.answer
 
 -- the octets of a network file have one answer under the storm

@@ -146,8 +146,7 @@ seen_record network events notes note world instant asks old put seen new given 
         → a ≡ corrects note.body → IsSpreadSoFar network events (notes ++ note ∷ []) (instant_of i a note.time) (record { 0 = seen.spread })
     on None false g before e = plain_on network events notes note world g.stands (ap amount g.at) (record { 0 = seen.spread }) (sym e) before
     on None true g before e = opens_on network events notes note world g.stands (ap amount g.at) (record { 0 = seen.spread }) (sym e) before
-    on (Some t) a g before e =
-        open_on network events notes note world g.stands (ap amount g.at) (record { 0 = seen.spread }) t (ap amount g.at ∙ g.here) before
+    on (Some t) a g before e = open_on network events notes note world g.stands (ap amount g.at) (record { 0 = seen.spread }) t (ap amount g.at ∙ g.here) before
 
 -- ---- an event
 

@@ -1,5 +1,5 @@
 -- The summary of a storm's run, and its lines.
-use Rattle.{drift_clock.proofs.ExactSegments.exact_laws, net_plan.specs.declared.network.Network.Network, world_drive.proofs.exact_lemmas.Clocks.exact_begins}
+use Rattle.{drift_clock.proofs.ExactSegments.{exact_begins, exact_laws}, net_plan.specs.declared.network.Network.Network}
 use Rattle.{drift_clock.specs.Segment.{fresh_segment, segment_reading, stepped_segment}, tte_forms.proofs.Puts.{Ends-gives, PutsLines-fails, PutsLines-more}}
 use Rattle.{fault_hypothesis.proofs.storm_lemmas.Storms.storms_within, net_plan.specs.Ranges.IsInRange, tte_forms.specs.Putting.{PutsLines, Shown, WriteFails}}
 use Rattle.{run_law.specs.{device.LocalClocks.local, scenario.Scenarios.Scenario}, tte_io.specs.Faults.next_count, tte_units.specs.declared.units.Units.Units}
@@ -8,7 +8,8 @@ use Rattle.{schedule_tables.specs.Rules.KeepsRules, std.{proofs.lemmas.List.appe
 use Rattle.std.proofs.Common.{◌++◌, ◌+◌, ◌^◌, ◌∙◌, ◌∷◌, ◌≡◌, ◌≤ℤ◌, ◌≤◌, FitsSigned, List, Option, Some, [], ap, append_assoc, arith, inl, inr, length}
 use Rattle.{std.proofs.Common.{length-append, pos, refl, rules, subst, sym, ℕ, ℤ}, tte_traces.proofs.storms_lemmas.summary_lemmas.Spreads.within_precision}
 use Rattle.{std.{proofs.lemmas.Int.ints, specs.{Int.{w128, w64}, Prelude.slice_get}}, tte_units.specs.Amount.amount}
-use Rattle.{traffic_law.{proofs.safety_lemmas.Clocked.ended, specs.safety.{Headline.IsWholeRun, Under.IsUnder}}, tte_traces.specs.storms.summary.Lines.lines_of}
+use Rattle.precision_law.{proofs.traffic_lemmas.safety_lemmas.Clocked.ended, specs.traffic.safety.{Headline.IsWholeRun, Under.IsUnder}}
+use Rattle.tte_traces.specs.storms.summary.Lines.{lines_of}
 use Rattle.{tte_forms.proofs.networks.Answers.answered_accepted, tte_traces.specs.{declared.storms.counting.Seen.Seen, storms.summary.Counting.counts_of}}
 use Rattle.tte_forms.specs.{Answering.{AnswersOne, Ends, ForOctets, Gives, GivesAnswer}, declared.status.Status.{Status, TheVariants.{Done, WriteFault}}}
 use Rattle.{tte_forms.specs.networks.Accepting.{IsNetworkAnswer, MeansAccepted}, tte_traces.specs.declared.storms.summary.summary.Summary.Summary}
@@ -31,8 +32,7 @@ next_line (d ∷ done) left line is = next_line done left line is
 next_of : (lines : List (List ℕ)) (count : ℕ) (old new : Shown) (line : List ℕ) (h : HasPutLines lines count old new) → slice_get lines count ≡ Some line
     → (rest : List (List ℕ)) × (lines ≡ h.done ++ line ∷ rest)
 next_of lines count old new line h is =
-    let next =
-    next_line h.done h.left line
+    let next = next_line h.done h.left line
     (ap (λ (l : List (List ℕ)). slice_get l (length h.done)) (sym h.order) ∙ ap (λ (n : ℕ). slice_get lines n) h.counted ∙ is) in
     (next.0, h.order ∙ ap (λ (l : List (List ℕ)). h.done ++ l) next.1)
 
@@ -51,8 +51,7 @@ lines_more lines count old now new line h is written puts =
     }
 
 pub lines_fail : (lines : List (List ℕ)) (count : ℕ) (old now new : Shown) (line : List ℕ) → HasPutLines lines count old now → slice_get lines count ≡ Some line
-    → AppendsFront now.written new.written line → new.puts ≡ next_count now.puts
-    → Gives (record { status = Done; lines = lines }) WriteFault old new
+    → AppendsFront now.written new.written line → new.puts ≡ next_count now.puts → Gives (record { status = Done; lines = lines }) WriteFault old new
 lines_fail lines count old now new line h is front puts =
     let next = next_of lines count old now line h is in
     inr (inl (
@@ -114,8 +113,7 @@ is_fine network seed cycles seen h few range rules =
       times = h.range;
       within = storms_within network seed cycles h.events few h.storm.each;
     } in
-    let run =
-    ended fresh_segment stepped_segment segment_reading exact_laws exact_begins network h.events h.records.0 h.notes under h.records.1 h.records.2 in
+    let run = ended fresh_segment stepped_segment segment_reading exact_laws exact_begins network h.events h.records.0 h.notes under h.records.1 h.records.2 in
     let s = exact_scenario network h.events in
     let hs = happenings network h.notes in
     let precision = range.precision.least in

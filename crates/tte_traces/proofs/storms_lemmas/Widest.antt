@@ -1,9 +1,9 @@
 -- Records have a greatest spread.
 use Rattle.{net_plan.specs.declared.ids.DeviceId.DeviceId, tte_traces.specs.storms.summary.Spread.{AreApart, AreSeenApart, IsCorrection, IsGreatestSpread}}
+use Rattle.{precision_law.proofs.traffic_lemmas.existence_lemmas.decisions.Values.is_synchronised, run_law.specs.scenario.Scenarios.{Scenario, is_broken}}
 use Rattle.run_law.{proofs.scenario.Decisions.{IsDecided, decided_and, decided_by, decided_false}, specs.records.Happenings.{Happening, time_of, up_to}}
-use Rattle.{run_law.specs.{declared.note.NoteBody.NoteBody, scenario.Scenarios.{Scenario, is_broken}}, tte_units.specs.declared.units.Units.Units}
-use Rattle.run_law.specs.{device.{LocalClocks.local, States.state_after}, law.Safety.IsInStep, records.Order.IsIn}
-use Rattle.{std.proofs.Common.{◌-ℤ◌, ◌<◌, ◌≡◌, List, inl, inr, length, refl, ℕ, ℤ}, traffic_law.proofs.existence_lemmas.decisions.Values.is_synchronised}
+use Rattle.{run_law.specs.{declared.note.NoteBody.NoteBody, device.States.state_after}, std.proofs.Common.{◌-ℤ◌, ◌<◌, ◌≡◌, List, inl, inr, length, refl, ℕ, ℤ}}
+use Rattle.{run_law.specs.{device.LocalClocks.local, law.Safety.IsInStep, records.Order.IsIn}, tte_units.specs.declared.units.Units.Units}
 use Rattle.tte_traces.proofs.storms_lemmas.Most.{HasMost, most_among, most_below, most_of_none, most_of_one, most_of_same}
 use Rattle.run_law.specs.declared.note.NoteBody.TheVariants as notes
 
@@ -18,8 +18,7 @@ correction : (h : Happening) → IsDecided (IsCorrection h)
 correction h = by h.note.body refl
   where
     by : (body : NoteBody) → h.note.body ≡ body → IsDecided (IsCorrection h)
-    by (notes.Corrected device cycle amount adjustment) e =
-        inl (record { device = device; cycle = cycle; by = amount; adjustment = adjustment; is = e })
+    by (notes.Corrected device cycle amount adjustment) e = inl (record { device = device; cycle = cycle; by = amount; adjustment = adjustment; is = e })
     by other e = inr (λ c. let is = c.is in cc)
 
 -- ---- two devices
@@ -43,8 +42,7 @@ most_of_pair s hs t d e =
 
 -- some two are so far apart
 abbrev SomeApart : Scenario → List Happening → ℕ → ℤ → Type 0
-SomeApart s hs t x =
-    (d : ℕ) × (d < length s.network.device) × ((e : ℕ) × (e < length s.network.device) × Apart s hs t d e x)
+SomeApart s hs t x = (d : ℕ) × (d < length s.network.device) × ((e : ℕ) × (e < length s.network.device) × Apart s hs t d e x)
 
 most_apart : (s : Scenario) (hs : List Happening) (t : ℕ) → HasMost (AreApart s hs t)
 most_apart s hs t =

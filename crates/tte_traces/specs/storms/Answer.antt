@@ -1,11 +1,11 @@
 -- What `storm` answers for the octets of a network file.
 use Rattle.std.specs.Prelude.{◌≡◌, List, ℕ}
 use Rattle.drift_clock.specs.Segment.{fresh_segment, segment_reading, stepped_segment}
-use Rattle.{fault_hypothesis.specs.storm.Events.IsStorm, world_drive.specs.exact.Records.AreAllRecords}
+use Rattle.{fault_hypothesis.specs.storm.Events.IsStorm, run_law.specs.records.Happenings.happenings}
 use Rattle.{net_plan.specs.declared.event.Event.Event, tte_units.specs.declared.units.Units.Units}
 use Rattle.{net_plan.specs.declared.network.Network.Network, tte_forms.specs.declared.status.Status.TheVariants.Done}
+use Rattle.{precision_law.specs.traffic.safety.Under.scenario_of, world_drive.specs.exact.Records.AreAllRecords}
 use Rattle.{run_law.specs.{declared.note.Note.Note, scenario.Scenarios.Scenario}, tte_forms.specs.Answering.Answer}
-use Rattle.{run_law.specs.records.Happenings.happenings, traffic_law.specs.safety.Under.scenario_of}
 use Rattle.tte_traces.specs.storms.summary.{Counting.counts_of, Lines.summary_lines, Spread.IsGreatestSpread}
 
 -- the network under the events, with exact clocks

@@ -2,12 +2,12 @@
 use Rattle.std.specs.Prelude.{◌≡◌, ◌≤ℤ◌, ◌⊎◌, List, Option, ℕ}
 use Rattle.drift_clock.specs.Segment.{fresh_segment, segment_reading, stepped_segment}
 use Rattle.{fault_hypothesis.specs.storm.Events.IsStorm, tte_units.specs.declared.units.Units.Units}
-use Rattle.{net_plan.specs.declared.event.Event.Event, run_law.specs.declared.note.Note.Note}
-use Rattle.{net_plan.specs.declared.network.Network.Network, traffic_law.specs.safety.Headline.IsWholeRun}
-use Rattle.tte_forms.specs.{Answering.ForOctets, Putting.{PutsLines, PutsSo, Shown}, networks.Accepting.MeansAccepted}
-use Rattle.tte_forms.specs.Safely.{PutsSafely}
+use Rattle.{net_plan.specs.declared.event.Event.Event, tte_traces.specs.storms.Answer.IsWidest}
+use Rattle.{net_plan.specs.declared.network.Network.Network, tte_forms.specs.networks.Accepting.MeansAccepted}
+use Rattle.{precision_law.specs.traffic.safety.Headline.IsWholeRun, tte_traces.specs.storms.summary.Lines.summary_lines}
+use Rattle.{run_law.specs.declared.note.Note.Note, tte_forms.specs.{Answering.ForOctets, Safely.PutsSafely}}
+use Rattle.{tte_forms.specs.Putting.{PutsLines, PutsSo, Shown}, tte_traces.specs.storms.summary.Counting.counts_of}
 use Rattle.tte_forms.specs.{declared.status.Status.{Status, TheVariants.Done}, networks.NetworkLine.IsRefusalText}
-use Rattle.tte_traces.specs.storms.{Answer.IsWidest, summary.{Counting.counts_of, Lines.summary_lines}}
 
 -- the lines are the summary of the run of the accepted network under the storm's events, up to their end; it goes well
 -- up to there, and local clocks are seen at most the precision apart
@@ -25,8 +25,7 @@ pub record IsSafeSummary (seed cycles : ℕ) (octets : List ℕ) (lines : List (
 
 -- the lines are such a summary, or the line of a network that is refused
 abbrev pub IsSafeText : ℕ → ℕ → List ℕ → List (List ℕ) → Type 0
-IsSafeText seed cycles octets lines =
-    IsSafeSummary seed cycles octets lines ⊎ IsRefusalText lines
+IsSafeText seed cycles octets lines = IsSafeSummary seed cycles octets lines ⊎ IsRefusalText lines
 
 -- what is done puts the whole summary
 abbrev pub PutsSummary : ℕ → ℕ → List ℕ → Status → Shown → Shown → Type 0

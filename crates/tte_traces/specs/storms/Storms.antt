@@ -3,7 +3,8 @@ use Rattle.std.specs.Prelude.{◌*◌, ◌++◌, ◌+◌, ◌-◌, ◌<◌, ◌�
 use Rattle.std.specs.Prelude.{length, ℕ}
 use Rattle.drift_clock.specs.Segment.{fresh_segment, segment_reading, stepped_segment}
 use Rattle.{fault_hypothesis.specs.Watching.Watches, net_plan.specs.{Belonging.IsOfNetwork, declared.event.Event.Event}}
-use Rattle.{fault_hypothesis.specs.storm.Events.{AreStormEvents, IsStorm}, traffic_law.specs.safety.Headline.IsWholeRun}
+use Rattle.fault_hypothesis.specs.storm.Events.{AreStormEvents, IsStorm}
+use Rattle.precision_law.specs.traffic.safety.Headline.{IsWholeRun}
 use Rattle.{net_plan.specs.declared.network.Network.Network, world_drive.specs.exact.Records.{AreAllRecords, HaveEnded}}
 use Rattle.{run_law.specs.declared.note.Note.Note, tte_traces.specs.storms.Answer.IsWidest}
 use Rattle.{run_law.specs.law.FirstLaws.IsEventInRange, tte_units.specs.declared.units.Units.Units}

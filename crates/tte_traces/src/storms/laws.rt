@@ -2,7 +2,7 @@ ghost use Rattle.std.specs.Prelude.{◌<◌, ◌^◌, All};
 ghost use Rattle.tte_traces.specs.storms.Laws.{FitsFrames, StormAnswersExist};
 
 use net_plan::{Device, Network};
-use pcf_values::Mac;
+use tte_units::frames::Mac;
 
 /// For each accepted network, each seed and up to 100,000 cycles there is an answer of `storm`.
 pub fn storm_answers_exist()

@@ -1,11 +1,12 @@
 -- Facts on lists.
 use Rattle.std.proofs.Common.{◌%◌, ◌++◌, ◌+◌, ◌<◌, ◌^◌, ◌∙◌, ◌∷◌, ◌≡◌, ◌≤◌, ◌⊎◌, Bool, List, None, Option, Some, [], ap, arith, cond, drop, false, filter}
 use Rattle.std.proofs.Common.{get_or, if◌then◌else◌, inl, inr, length, length-append, not, refl, reverse, set, subst, suc, sym, take, true, zero, ℕ, ⊎_elim}
-use Rattle.std.proofs.{Math.ListN.drop_of_length-le, lemmas.{Cmp.nat_list_eq_equiv, Option.{get_or_from_slice_get, slice_get-get_or, slice_get_within}}}
+use Rattle.std.proofs.{Math.ListN.drop_of_length-le, lemmas.List.{Sums.position_or_len_is, append-nil, get_or-set_same, length-set, reverse-append}}
 use Rattle.std.proofs.lemmas.{Bool.{both_ways, cases_Bool}, List.Elements.{All-append, All-cons, All-head, All-nil, All-tail, filter-append}}
-use Rattle.std.{proofs.lemmas.List.{append-nil, get_or-set_same, length-set, reverse-append}, specs.{Option.unwrap_or, Str.bytes_eq}}
-use Rattle.std.specs.{List.{All, AllByRecursion, Any, Contains, after_last, last_or, prefix_len, suffix_len}, Prelude.{find, slice_get, slice_set}}
-use Rattle.tte_units.proofs.general_lemmas.Options.{more_by, of_by, same_by, some_or_none}
+use Rattle.{std.proofs.lemmas.{Cmp.nat_list_eq_equiv, Grind.common_steps}, tte_units.proofs.general_lemmas.Options.{more_by, of_by, same_by, some_or_none}}
+use Rattle.std.{proofs.lemmas.Option.{get_or_from_slice_get, slice_get-get_or, slice_get_within}, specs.{Prelude.{find, slice_get, slice_set}, Str.bytes_eq}}
+use Rattle.std.specs.List.{All, AllByRecursion, AllWithin, Any, Contains, HoldsAt, after_last, last_or, position, position_or_len, prefix_len, suffix_len}
+use Rattle.std.specs.Option.{MatchOption, unwrap_or}
 
 -- something stands at each place below the length
 pub some_at : {X : Type 0} (xs : List X) (i : ℕ) → i < length xs → (x : X) × (slice_get xs i ≡ Some x)
@@ -206,8 +207,7 @@ after_one {X} p xs x is =
 
 -- what a filter makes of one more that passes, or not
 pub filter_on : {X : Type 0} (p : X → Bool) (xs : List X) (x : X) → p x ≡ true → filter p (xs ++ x ∷ []) ≡ filter p xs ++ x ∷ []
-filter_on {X} p xs x is =
-    filter-append p xs (x ∷ []) ∙ ap (λ (b : Bool). filter p xs ++ (if b then x ∷ [] else [])) is
+filter_on {X} p xs x is = filter-append p xs (x ∷ []) ∙ ap (λ (b : Bool). filter p xs ++ (if b then x ∷ [] else [])) is
 
 -- it is found where none was
 pub find_new : {X : Type 0} (f : X → Bool) (xs : List X) (x : X) → f x ≡ true → find f xs ≡ None → find f (xs ++ x ∷ []) ≡ Some x
@@ -247,3 +247,17 @@ all_turned P [] h = h
 all_turned P (x ∷ xs) h =
     subst (All P) (sym (reverse-append (x ∷ []) xs))
     (All-append P (reverse xs) (x ∷ []) (all_turned P xs (All-tail P x xs h)) (All-cons P x [] (All-head P x xs h) (All-nil P)))
+
+-- what a search tells is the place of the first that passes
+pub searched : {X : Type 0} (p : X → Bool) (xs : List X) (r : Option ℕ) → MatchOption r (AllWithin (λ x. p x ≡ false) xs 0 (length xs))
+    (λ i. (i < length xs) × HoldsAt (λ x. p x ≡ true) xs i × AllWithin (λ x. p x ≡ false) xs 0 i) → r ≡ position p xs
+searched {X} p [] None h = refl
+searched {X} p [] (Some i) h = absurd (omega (arith, h.0))
+searched {X} p (x ∷ xs) None h =
+    let at : position_or_len p (x ∷ xs) ≡ length (x ∷ xs) =
+    position_or_len_is p (x ∷ xs) (length (x ∷ xs)) x (omega arith) (λ k lt. h k x (omega arith) lt) (λ lt. absurd (omega (arith, lt))) in
+    grind (arith, common_steps)
+searched {X} p (x ∷ xs) (Some i) h =
+    let at : position_or_len p (x ∷ xs) ≡ i = position_or_len_is p (x ∷ xs) i x (omega (arith, h.0)) (λ k lt. h.2 k x (omega arith) lt) (λ lt. h.1 x) in
+    let inside = h.0 in
+    grind (arith, common_steps)

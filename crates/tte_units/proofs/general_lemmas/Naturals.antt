@@ -57,8 +57,7 @@ pub goes_on : (a b : ℕ) → b < a → (a == b) ≡ false
 goes_on a b more = elim (eqb_tells a b) [ inl e ↦ absurd (omega (arith, e.1)) | inr e ↦ e.0 ]
 
 pub cmp_same : (o q : Ordering) (a b c d : ℕ) → MatchOrdering o (a < b) (a ≡ b) (b < a) → MatchOrdering q (c < d) (c ≡ d) (d < c)
-    → is_eq (ordering_then o q) ≡ true
-    → (a ≡ b) × (c ≡ d)
+    → is_eq (ordering_then o q) ≡ true → (a ≡ b) × (c ≡ d)
 cmp_same Less q a b c d m k e = absurd cc
 cmp_same Equal Less a b c d m k e = absurd cc
 cmp_same Equal Equal a b c d m k e = (m, k)

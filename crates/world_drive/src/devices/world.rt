@@ -5,9 +5,9 @@ ghost use Rattle.drift_world.specs.Locals.{IsComplete, IsLocalClock, IsLocalCloc
 ghost use Rattle.drift_world.specs.Running.{ComesUpTo, HoldsATime, StandsUnder, behind_events, event_note, given_by};
 ghost use Rattle.{drift_world.specs.Running.{left_of, reading_of}, world_drive.specs.machines.Standing.StandsAsDevice};
 ghost use Rattle.net_plan.specs.declared.{event.Event.{Event as EventValue}, network.Network.Network};
+ghost use Rattle.{precision_law.specs.traffic.safety.Headline.IsSafeFront, world_drive.specs.devices.Locals.local_of};
 ghost use Rattle.run_law.specs.{declared.note.Note.{Note as NoteValue}, records.Happenings.happenings};
 ghost use Rattle.run_law.specs.runs.DueRecords.{IsRunOf};
-ghost use Rattle.{traffic_law.specs.safety.Headline.IsSafeFront, world_drive.specs.devices.Locals.local_of};
 ghost use Rattle.{tte_units.specs.Amount.{amount, units_of}, world_law.specs.source.Agreeing.scenario};
 
 use crate::machines::{DeviceMachine, machines_of};

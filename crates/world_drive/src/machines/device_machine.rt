@@ -1,10 +1,10 @@
 use end_system::EndSystem;
 use net_plan::LinkId;
-use pcf_values::Pcf;
 use run_law::{Act, Arrival, Machine, Moment, Ripe};
 use switch_ports::Switch;
 use sync_state::State;
 use tte_units::Units;
+use tte_units::frames::Pcf;
 
 /// The machine of a device, which is an end system or a switch.
 #[derive(Drop)]

@@ -1,10 +1,10 @@
 -- After an act a device has the tasks that it had before, and such as are for later readings.
-use Rattle.{compression.specs.Emission.compressed, run_law.specs.scenario.Devices.is_cm, std.proofs.Common.Contains, world_law.specs.device.Acted.IsCarried}
-use Rattle.sync_state.specs.{Calls.state_by, membership.Members.count_of}
-use Rattle.{pcf_values.specs.declared.members.Members.Members, world_law.proofs.Words.{point_in, pos, refl, sending, subst, sym, true, value_of, ℕ, ℤ}}
+use Rattle.{compression.specs.Emission.compressed, run_law.specs.{control.Permanence.ripe_as, scenario.Devices.is_cm}, world_law.specs.device.Acted.IsCarried}
 use Rattle.{run_law.specs.control.Hearing.{heard_by_schedule, heard_enough, is_in_schedule, last_cycle}, std.proofs.lemmas.List.Elements.Contains-append_left}
-use Rattle.{run_law.specs.control.Permanence.ripe_as, sync_state.{proofs.StateFacts.{no_longer, no_point}, specs.declared.plan.SyncPlan.SyncPlan}}
 use Rattle.run_law.specs.{device.States.is_synchronised, machines.{Answers.{with_clique, with_corrected, with_done}, Tasks.{IsDeedOf, IsUndone, IsWaiting}}}
+use Rattle.std.proofs.Common.{Contains}
+use Rattle.sync_state.{proofs.StateFacts.{no_longer, no_point}, specs.{Calls.state_by, declared.plan.SyncPlan.SyncPlan, membership.Members.count_of}}
+use Rattle.{tte_units.specs.declared.frames.members.Members.Members, world_law.proofs.Words.{point_in, pos, refl, sending, subst, sym, true, value_of, ℕ, ℤ}}
 use Rattle.world_law.proofs.Words.{◌&&◌, ◌*◌, ◌++◌, ◌+ℤ◌, ◌+◌, ◌-ℤ◌, ◌<ℤ◌, ◌∙◌, ◌∷◌, ◌≡◌, ◌≤ℤ◌, Act, AreClusters, AsyncClique, Bool, Cleared, ClockTask}
 use Rattle.world_law.proofs.Words.{Cluster, Compressed, Corrected, DeviceId, Integrating, IsActOf, IsPending, Joining, List, MayCall, Moment, Network, Node}
 use Rattle.world_law.proofs.Words.{Off, Ripe, Some, Standing, State, Summary, SyncClique, Synchronised, Task, Units, Verdict, [], acting, after_correction}
@@ -38,8 +38,7 @@ pub waiting_alike : (network : Network) (device : DeviceId) (node new : Node) (s
 waiting_alike network device node new sent points emitted w = grind (arith, observation_window)
 
 pending_alike : (network : Network) (device : DeviceId) (node new : Node) (moment : Moment) (task : Task) → IsAlike node new → new.points ≡ node.points
-    → ((c : Compressed) → Contains node.emitted c → Contains new.emitted c)
-    → IsPending network device new task → IsCarried network device node new moment task
+    → ((c : Compressed) → Contains node.emitted c → Contains new.emitted c) → IsPending network device new task → IsCarried network device node new moment task
 pending_alike network device node new moment (emitting sent) a points emitted p =
     inl ((sym a.broken ∙ p.0, waiting_alike network device node new sent points emitted p.1), refl)
 pending_alike network device node new moment (doing deed) a points emitted p =
@@ -72,8 +71,7 @@ after_deed network device node new moment deed task is p =
 
 -- a device hears a frame as one of four things
 pub heard_so : (plan : SyncPlan) (precision : ℤ) (state : State) (adjustment point : ℤ) (cycle : ℕ) (members : Members) (P : Ripe → Type 0) → P ripe.Within
-    → P ripe.Outside → P ripe.Integrates → P ripe.Ignored
-    → P (ripe_as (heard_as plan precision state adjustment point cycle members))
+    → P ripe.Outside → P ripe.Integrates → P ripe.Ignored → P (ripe_as (heard_as plan precision state adjustment point cycle members))
 heard_so plan precision Off adjustment point cycle members P within outside integrates ignored = ignored
 heard_so plan precision Integrating adjustment point cycle members P within outside integrates ignored =
     elim (nat_le plan.threshold (count_of members) && nat_le cycle last_cycle) as (λ b. P (ripe_as (heard_enough b))) [ true ↦ integrates | false ↦ ignored ]
@@ -137,8 +135,7 @@ corrected_by network device node moment heard by (emitting sent) p =
     )
 
 clique_by : (network : Network) (device : DeviceId) (node : Node) (moment : Moment) (heard : Summary) (verdict : Verdict) (task : Task)
-    → state_by node.standing.state verdict ≡ Integrating
-    → IsPending network device (called moment acting (with_clique node heard verdict)) task
+    → state_by node.standing.state verdict ≡ Integrating → IsPending network device (called moment acting (with_clique node heard verdict)) task
     → IsCarried network device node (called moment acting (with_clique node heard verdict)) moment task
 clique_by network device node moment heard verdict (emitting sent) lost p =
     absurd (no_cluster (observation_window network) p.1.clusters p.1.cluster p.1.are p.1.there)
@@ -147,8 +144,7 @@ clique_by network device node moment heard verdict (doing (dispatching row cycle
 clique_by network device node moment heard verdict (doing (correcting cycle)) lost p = absurd (no_point _ _ _ lost p.1.own)
 
 cleared_by : (network : Network) (device : DeviceId) (node : Node) (moment : Moment) (heard : Summary) (cycle : ℕ) (task : Task)
-    → next_point node.standing ≡ Some cycle
-    → moment.reading.0 <ℤ ((correction_value network cycle -ℤ node.standing.adjustment.0) +ℤ network.precision.0)
+    → next_point node.standing ≡ Some cycle → moment.reading.0 <ℤ ((correction_value network cycle -ℤ node.standing.adjustment.0) +ℤ network.precision.0)
     → network.precision.0 ≤ℤ pos (amount network.cycle)
     → IsPending network device (called moment acting (after_correction node moment heard cycle Cleared)) task
     → IsCarried network device node (called moment acting (after_correction node moment heard cycle Cleared)) moment task
@@ -161,11 +157,7 @@ cleared_by network device node moment heard cycle (doing (sending n)) next in_ti
     inl (
       (
         p.0,
-        record {
-          own = p.1.own;
-          ahead = p.1.ahead;
-          not_yet = λ there. p.1.not_yet (Contains-append_left node.done (correcting cycle ∷ []) (sending n) there);
-        },
+        record { own = p.1.own; ahead = p.1.ahead; not_yet = λ there. p.1.not_yet (Contains-append_left node.done (correcting cycle ∷ []) (sending n) there) },
       ),
       refl,
     )
@@ -195,8 +187,7 @@ cleared_by network device node moment heard cycle (doing (correcting n)) next in
     (one_more node.standing.state node.standing.number cycle n next p.1.own) in_time wide)
 
 after_point : (network : Network) (device : DeviceId) (node : Node) (moment : Moment) (heard : Summary) (cycle : ℕ) (verdict : Verdict) (task : Task)
-    → next_point node.standing ≡ Some cycle
-    → moment.reading.0 <ℤ ((correction_value network cycle -ℤ node.standing.adjustment.0) +ℤ network.precision.0)
+    → next_point node.standing ≡ Some cycle → moment.reading.0 <ℤ ((correction_value network cycle -ℤ node.standing.adjustment.0) +ℤ network.precision.0)
     → network.precision.0 ≤ℤ pos (amount network.cycle)
     → IsPending network device (called moment acting (after_correction node moment heard cycle verdict)) task
     → IsCarried network device node (called moment acting (after_correction node moment heard cycle verdict)) moment task

@@ -56,8 +56,7 @@ pub sending_task : (s : Scenario) (hs : List Happening) (device : DeviceId) (t l
     → IsLeft s hs device t node → HasDone s hs device t node → Sends s hs device later cycle → HasTaskBy s device node later
 sending_task s hs device t later node cycle u left has sent =
     let c = comes_so s hs device t later node (value_of s.network (sending cycle)) u left sent.reached in
-    let state : node.standing.state ≡ Synchronised =
-    left.state ∙ not_turned_on s hs device t u.not_on ∙ sym (state_still s hs device t later u.le u.still)
+    let state : node.standing.state ≡ Synchronised = left.state ∙ not_turned_on s hs device t u.not_on ∙ sym (state_still s hs device t later u.le u.still)
     ∙ sym (not_turned_on s hs device later u.not_on_later) ∙ sent.up.synchronised in (
       doing (sending cycle),
       (
@@ -119,8 +118,7 @@ onward v a r m le fell = omega (arith, ints, le, fell)
 
 -- what a clock had come to at an earlier time, it had come to before this one
 cleared_by_then : (s : Scenario) (hs : List Happening) (device : DeviceId) (t : ℕ) (node : Node) (x : ℕ) → IsLeft s hs device t node
-    → is_timed node.standing.state ≡ true → node.standing.number ≡ recorded_cycle (earlier t hs) device
-    → is_integration_cycle (earlier t hs) device ≡ true
+    → is_timed node.standing.state ≡ true → node.standing.number ≡ recorded_cycle (earlier t hs) device → is_integration_cycle (earlier t hs) device ≡ true
     → int_lt (local_at_change s hs device t) (correction_value s.network (recorded_cycle (earlier t hs) device)) ≡ true
     → ((a b : ℕ) → a ≤ b → s.reading device a ≤ s.reading device b) → x < t
     → (correction_value s.network node.standing.number -ℤ node.standing.adjustment.0) ≤ℤ pos (s.reading device x) → has_cleared s hs device t t ≡ true
@@ -147,8 +145,7 @@ cleared_on s hs device t later u did =
 
 -- a device with a next correction point, whose clock had come to it before a time, has a task that was due before it
 pub had_come_by : (s : Scenario) (hs : List Happening) (device : DeviceId) (t later : ℕ) (node : Node) → IsUnmoved s hs device t later
-    → IsLeft s hs device t node
-    → ((cycle : ℕ) → IsDeedOf s.network device node (correcting cycle) → node.changed <ℤ correction_value s.network cycle
+    → IsLeft s hs device t node → ((cycle : ℕ) → IsDeedOf s.network device node (correcting cycle) → node.changed <ℤ correction_value s.network cycle
     → Contains node.done (correcting cycle) → (x : ℕ) × (changed_at hs device t ≤ x) × (x < t)
     × ((correction_value s.network cycle -ℤ node.standing.adjustment.0) ≤ℤ pos (s.reading device x))) → is_timed node.standing.state ≡ true
     → has_cleared s hs device t t ≡ false → has_cleared s hs device later later ≡ true → node.broken ≡ false → HasTaskBy s device node (later - 1)
@@ -171,11 +168,7 @@ had_come_by s hs device t later node u left has timed not_yet cleared sound =
       doing (correcting node.standing.number),
       (
         sound,
-        record {
-          own = own;
-          ahead = before;
-          not_yet = grind (arith, own, before, both_ways, cleared_by_then, number, joining.0, came.0);
-        },
+        record { own = own; ahead = before; not_yet = grind (arith, own, before, both_ways, cleared_by_then, number, joining.0, came.0) },
       ),
       come_back v node.standing.adjustment.0 (s.reading device (later - 1)) (s.reading device (later - 1)) reached (omega arith),
     )
@@ -199,8 +192,7 @@ had_come_task s hs device t later node u left has timed not_yet cleared sound =
 
 -- a device that comes to its correction point has a task that is due
 pub correcting_task : (s : Scenario) (hs : List Happening) (device : DeviceId) (t later : ℕ) (node : Node) (cycle : ℕ) → IsUnmoved s hs device t later
-    → IsLeft s hs device t node → HasDone s hs device t node
-    → IsAtCorrection s hs later device cycle → HasTaskBy s device node later
+    → IsLeft s hs device t node → HasDone s hs device t node → IsAtCorrection s hs later device cycle → HasTaskBy s device node later
 correcting_task s hs device t later node cycle u left has c =
     let point = point_number (state_before s hs device later) (next_cycle s hs device later) cycle c.next in
     let state : node.standing.state ≡ state_before s hs device later =

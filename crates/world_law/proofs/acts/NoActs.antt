@@ -72,8 +72,7 @@ never_moved device old (h ∷ hs) still =
 
 state_of_none : (s : Scenario) (hs : List Happening) (device : DeviceId) (t : ℕ) → length s.network.device ≤ device.0 → AreOfNetwork s hs
     → state_before s hs device t ≡ Off
-state_of_none s hs device t le known =
-    grind (arith, state_after, earlier, never_moved, in_filter, nat_lt, time_of, off_of_none)
+state_of_none s hs device t le known = grind (arith, state_after, earlier, never_moved, in_filter, nat_lt, time_of, off_of_none)
 
 pub none_acts : (s : Scenario) (hs : List Happening) (device : DeviceId) (t : ℕ) → length s.network.device ≤ device.0 → AreOfNetwork s hs
     → IsActing s hs t device → ⊥
@@ -216,8 +215,7 @@ act_now stands s hs coming cursor p now device machine k law behind_it past up h
 pub kept_no_act : {M : Type 0} (stands : M → Network → DeviceId → Node → Type 0) (s : Scenario) (hs coming : List Happening) (mark cursor p : List ℕ)
     (now t : ℕ) (device : DeviceId) (machine : M) (k : IsKept stands s hs coming cursor now device machine)
     → IsLawful s (hs ++ coming) device → IsBehind coming now p → IsPast hs now → (IsBefore (now ∷ 2 ∷ []) p → IsWorked hs cursor now) → HaveBefallen s mark now
-    → now ≤ t → IsIdleBefore s device now k.node p → IsActing s hs t device
-    → (IsBefore (act_place t device) cursor → ⊥) → IsBefore (act_place t device) p → ⊥
+    → now ≤ t → IsIdleBefore s device now k.node p → IsActing s hs t device → (IsBefore (act_place t device) cursor → ⊥) → IsBefore (act_place t device) p → ⊥
 kept_no_act {M} stands s hs coming mark cursor p now t device machine k law behind_it past worked befallen le idle a not b =
     elim (cases_lt now t) [
       | inr ge ↦ let same : t ≡ now =

@@ -13,11 +13,9 @@ pub first_recorded : (s : Scenario) (js coming : List Happening) (now : ℕ) (de
     → HasDoneFrom s.network (s.reading device) device node (changed_at js device now) now now → HasSentFrom s device node now now
     → ((z : Happening) → IsIn z coming → (cycle : ℕ) → plain_body z.note.body ≡ kinds.Sent device cycle → ⊥)
     → ((z : Happening) → IsIn z coming → (c : Compressed) (verdict : Judgement)
-    → plain_body z.note.body ≡ kinds.Compressed device c.opened c.at c.cycle c.members verdict → ⊥)
-    → ((z : Happening) → IsIn z coming → time_of z ≡ now)
+    → plain_body z.note.body ≡ kinds.Compressed device c.opened c.at c.cycle c.members verdict → ⊥) → ((z : Happening) → IsIn z coming → time_of z ≡ now)
     → ((z : Happening) → IsIn z coming → (link : LinkId) (cause : ℕ) (vl : VlId) (cycle : ℕ) → Dispatches s js device now link cause vl cycle
-    → plain_body z.note.body ≡ dispatch_body s device now link cause vl cycle → ⊥)
-    → AreRecorded s js coming now device node
+    → plain_body z.note.body ≡ dispatch_body s device now link cause vl cycle → ⊥) → AreRecorded s js coming now device node
 first_recorded s js coming now device node left done sent none_sent none_emitted of none_dispatched = record {
   sent = λ cycle there d.
       let x = done.done (sending cycle) there in
@@ -80,13 +78,11 @@ is_sending device other = false
 
 -- the device dispatches no row at the instant
 abbrev pub DispatchesNone : Scenario → List Happening → ℕ → DeviceId → Type 0
-DispatchesNone s js now device =
-    (link : LinkId) (cause : ℕ) (vl : VlId) (cycle : ℕ) → Dispatches s js device now link cause vl cycle → ⊥
+DispatchesNone s js now device = (link : LinkId) (cause : ℕ) (vl : VlId) (cycle : ℕ) → Dispatches s js device now link cause vl cycle → ⊥
 
 -- a record that is none of the device's acts
 abbrev pub IsNoAct : Scenario → List Happening → ℕ → DeviceId → NoteBody → Type 0
-IsNoAct s js now device body =
-    (bears_on device body ≡ false) × ((is_sending device body ≡ false) ⊎ ((8 ≤ rank body) × DispatchesNone s js now device))
+IsNoAct s js now device body = (bears_on device body ≡ false) × ((is_sending device body ≡ false) ⊎ ((8 ≤ rank body) × DispatchesNone s js now device))
 
 pub rank_plain : (body : NoteBody) → rank (plain_body body) ≡ rank body
 rank_plain (kinds.State other state cause why) = refl
@@ -203,8 +199,7 @@ recorded_put s hs front back new now device node w alike at none r =
           )
       | inr (inr b) ↦ (inl (x.0, in_right x.0 front back b, ap (λ (g : Happening). g.note.body) x.2), times ∙ r.of_now x.0 (in_right x.0 front back b))
     ] in
-    let same : earlier now (hs ++ new) ≡ earlier now js =
-    earlier_still now hs new (λ z i. let t = (each z i).1 in omega (arith, t))
+    let same : earlier now (hs ++ new) ≡ earlier now js = earlier_still now hs new (λ z i. let t = (each z i).1 in omega (arith, t))
     ∙ sym (earlier_still now hs (front ++ back) (λ z i. let t = r.of_now z i in omega (arith, t))) in
     recorded_on s js (hs ++ new) (front ++ back) new now device node same
     (λ h i. elim (in_parts h hs (front ++ back) i) [

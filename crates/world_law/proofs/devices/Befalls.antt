@@ -41,7 +41,5 @@ stands_still n f g events more hs device t node reads all sound same left = reco
 pub is_turned_on : (n : Network) (f g : DeviceId → ℕ → ℕ) (events more : List Event) (hs : List Happening) (device : DeviceId) (t : ℕ) (node : Node)
     → ReadAlike f g t → ((h : Happening) → IsIn h hs → time_of h ≤ t)
     → is_broken (scenario n f events) device t ≡ is_broken (scenario n g more) device t → is_turned_on_at (scenario n g more) device t ≡ true
-    → is_timed node.standing.state ≡ false
-    → IsLeft (scenario n f events) hs device t node → IsLeft (scenario n g more) hs device t (node_turned_on node)
-is_turned_on n f g events more hs device t node reads all sound on off left =
-    grind (arith, counts_still, state_after, scenario, earlier)
+    → is_timed node.standing.state ≡ false → IsLeft (scenario n f events) hs device t node → IsLeft (scenario n g more) hs device t (node_turned_on node)
+is_turned_on n f g events more hs device t node reads all sound on off left = grind (arith, counts_still, state_after, scenario, earlier)

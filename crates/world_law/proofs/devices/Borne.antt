@@ -77,19 +77,16 @@ behind_kept {X} p q fails xs = by_last (λ (l : List X). after_last p (filter q 
 map_kept : {X Y : Type 0} (f : X → Option Y) (q : X → Bool) → ((x : X) → q x ≡ false → f x ≡ None) → (xs : List X)
     → filter_map f xs ≡ filter_map f (filter q xs)
 map_kept f q nothing [] = refl
-map_kept {X} {Y} f q nothing (x ∷ xs) =
-    grind (arith, cases_Bool, cons_option, filter_map, filter, (map_kept f q nothing xs))
+map_kept {X} {Y} f q nothing (x ∷ xs) = grind (arith, cases_Bool, cons_option, filter_map, filter, (map_kept f q nothing xs))
 
 -- two filters may change places
 filters_swap : {X : Type 0} (p q : X → Bool) (xs : List X) → filter p (filter q xs) ≡ filter q (filter p xs)
 filters_swap p q [] = refl
-filters_swap {X} p q (x ∷ xs) =
-    grind (arith, cases_Bool, filter, (filters_swap p q xs))
+filters_swap {X} p q (x ∷ xs) = grind (arith, cases_Bool, filter, (filters_swap p q xs))
 
 own_of_borne : (device : DeviceId) (hs : List Happening) → own device hs ≡ own device (borne device hs)
 own_of_borne device [] = refl
-own_of_borne device (h ∷ hs) =
-    grind (arith, cases_Bool, bears_on, moves, borne, own_no, moves_no_other, (own_of_borne device hs))
+own_of_borne device (h ∷ hs) = grind (arith, cases_Bool, bears_on, moves, borne, own_no, moves_no_other, (own_of_borne device hs))
 
 -- what moves the device before a time, of the records that bear on it
 own_before : (device : DeviceId) (t : ℕ) (hs : List Happening) → own device (earlier t hs) ≡ own device (earlier t (borne device hs))
@@ -132,8 +129,7 @@ tell_alike s hs gs device t same =
 
 pub cleared_alike : (s : Scenario) (hs gs : List Happening) (device : DeviceId) (t by : ℕ) → TellAlike s hs gs device t
     → has_cleared s hs device t by ≡ has_cleared s gs device t by
-cleared_alike s hs gs device t by a =
-    grind (arith, recorded_cycle, earlier, changed_at, adjustment_before, integration_cycle)
+cleared_alike s hs gs device t by a = grind (arith, recorded_cycle, earlier, changed_at, adjustment_before, integration_cycle)
 
 -- what was heard, by the flags of what is kept
 abbrev heard_of : Scenario → DeviceId → ℕ → (ℕ → Bool) → List Happening → List Hearing

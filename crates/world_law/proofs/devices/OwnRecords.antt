@@ -57,8 +57,7 @@ fold_own {B} device f stays z (h ∷ hs) =
 pub filter_own : (device : DeviceId) (p : Happening → Bool) → ((h : Happening) → moves device h.note.body ≡ false → p h ≡ false) → (hs : List Happening)
     → filter p hs ≡ filter p (own device hs)
 filter_own device p fails [] = refl
-filter_own device p fails (h ∷ hs) =
-    grind (arith, cases_Bool, moves, filter, own_yes, own_no, (filter_own device p fails hs))
+filter_own device p fails (h ∷ hs) = grind (arith, cases_Bool, moves, filter, own_yes, own_no, (filter_own device p fails hs))
 
 -- ---- times
 

@@ -1,12 +1,11 @@
 -- Where a device stands does not rest on the numbers of the records, nor on the causes of changes of state.
-use Rattle.std.proofs.{Common.arith, lemmas.List.map_push}
-use Rattle.world_law.proofs.Words.{◌&&◌, ◌++◌, ◌+◌, ◌||◌, ◌∙◌, ◌∷◌, ◌≡◌, Bool, DeviceId, Happening, Integrating, IsLeft, List, Network, Node, None, NoteBody}
-use Rattle.world_law.proofs.Words.{Option, Scenario, Some, State, Units, [], adjustment_after, adjustment_before, adjustment_with, after_last, ap, cases_Bool}
-use Rattle.world_law.proofs.Words.{changed_at, changes_adjustment, cons_option, cycle_after, cycle_in, earlier, ends_stretch, filter, filter_map, fold}
-use Rattle.world_law.proofs.Words.{has_cleared, heard_since, hearing_by, if◌then◌else◌, inl, inr, integration_cycle, is_joined_by, is_turned_on_at, last_or}
-use Rattle.world_law.proofs.Words.{nat_lt, not, option_map_or, plain, plain_body, plains, point_by, points_of, recorded_cycle, refl, state_after, state_with}
-use Rattle.world_law.proofs.{Words.{subst, sym, time_of, ℕ}, devices.{Borne.by_last, Passes.cleared_as}, lists.Lists.{behind_no, behind_yes}}
-use Rattle.world_law.proofs.Words.{◌+ℤ◌, ◌==◌, ◌≤◌, IfSome, false, is_integration_cycle, pos}
+use Rattle.{std.proofs.{Common.arith, lemmas.List.map_push}, world_law.proofs.{devices.Borne.by_last, lists.Lists.{behind_no, behind_yes}}}
+use Rattle.world_law.proofs.Words.{◌&&◌, ◌++◌, ◌+ℤ◌, ◌+◌, ◌==◌, ◌||◌, ◌∙◌, ◌∷◌, ◌≡◌, ◌≤◌, Bool, DeviceId, Happening, IfSome, Integrating, IsLeft, List, Network}
+use Rattle.world_law.proofs.Words.{Node, None, NoteBody, Option, Scenario, Some, State, Units, [], adjustment_after, adjustment_before, adjustment_with}
+use Rattle.world_law.proofs.Words.{after_last, ap, cases_Bool, changed_at, changes_adjustment, cons_option, cycle_after, cycle_in, earlier, ends_stretch, false}
+use Rattle.world_law.proofs.Words.{filter, filter_map, fold, has_cleared, heard_since, hearing_by, if◌then◌else◌, inl, inr, integration_cycle}
+use Rattle.world_law.proofs.Words.{is_integration_cycle, is_joined_by, is_turned_on_at, last_or, nat_lt, not, option_map_or, plain, plain_body, plains}
+use Rattle.world_law.proofs.{Words.{point_by, points_of, pos, recorded_cycle, refl, state_after, state_with, subst, sym, time_of, ℕ}, devices.Passes.cleared_as}
 use Rattle.run_law.specs.declared.judgement.Why.TheVariants as whys
 use Rattle.run_law.specs.declared.note.NoteBody.TheVariants as notes
 
@@ -57,8 +56,7 @@ fold_plain {B} f same z (h ∷ hs) = ap (λ (b : B). fold f b (plains hs)) (same
 
 pub filter_plain : (p q : Happening → Bool) → ((h : Happening) → p (plain h) ≡ q h) → (hs : List Happening) → filter p (plains hs) ≡ plains (filter q hs)
 filter_plain p q same [] = refl
-filter_plain p q same (h ∷ hs) =
-    grind (arith, plain, filter, plains, (filter_plain p q same hs))
+filter_plain p q same (h ∷ hs) = grind (arith, plain, filter, plains, (filter_plain p q same hs))
 
 map_plain : {Y : Type 0} (f : Happening → Option Y) → ((h : Happening) → f (plain h) ≡ f h) → (hs : List Happening) → filter_map f (plains hs) ≡ filter_map f hs
 map_plain f same [] = refl

@@ -46,8 +46,7 @@ are_past reading stands s world notes old = record {
 
 rests_now : {M : Type 0} (stands : M → Network → DeviceId → Node → Type 0) (s : Scenario) (hs : List Happening) (cursor : List ℕ) (now from : ℕ)
     (device : DeviceId) (machine : M) (k : IsKept stands s hs [] cursor now device machine) → k.up ≡ from → k.high ≡ from → now ≤ from → from ≤ now + 1
-    → is_turned_on_at s device from ≡ false
-    → ((h : Happening) → IsIn h hs → from ≤ time_of h → moves device h.note.body ≡ false) → Rests s hs device now k.node
+    → is_turned_on_at s device from ≡ false → ((h : Happening) → IsIn h hs → from ≤ time_of h → moves device h.note.body ≡ false) → Rests s hs device now k.node
 rests_now stands s hs cursor now from device machine k up high le soon off still =
     let whole : hs ++ [] ≡ hs = append-nil hs in
     let left : IsLeft s hs device from k.node = subst (λ (l : List Happening). IsLeft s l device from k.node) whole

@@ -44,8 +44,7 @@ pub record ShowsAll (s : Scenario) (hs : List Happening) (device : DeviceId) (no
 -- where it has not acted, its state is that before the time, but for what is that it was turned on
 shown_before : {M : Type 0} (stands : M → Network → DeviceId → Node → Type 0) (s : Scenario) (hs coming : List Happening) (mark cursor : List ℕ) (now : ℕ)
     (device : DeviceId) (machine : M) (k : IsKept stands s hs coming cursor now device machine) → k.up ≡ now → IsWorked hs cursor now
-    → IsPast (hs ++ coming) now → HaveBefallen s mark now
-    → ShowsAll s (hs ++ coming) device now k.node
+    → IsPast (hs ++ coming) now → HaveBefallen s mark now → ShowsAll s (hs ++ coming) device now k.node
 shown_before stands s hs coming mark cursor now device machine k up worked past befallen =
     let js = hs ++ coming in
     let q : IsQuietInstant s js device now = record {
@@ -74,8 +73,7 @@ shown_before stands s hs coming mark cursor now device machine k up worked past 
 
 kept_shows : {M : Type 0} (stands : M → Network → DeviceId → Node → Type 0) (s : Scenario) (hs coming : List Happening) (mark cursor : List ℕ) (now : ℕ)
     (device : DeviceId) (machine : M) (k : IsKept stands s hs coming cursor now device machine) → IsWorked hs cursor now → IsPast (hs ++ coming) now
-    → HaveBefallen s mark now
-    → ShowsAll s (hs ++ coming) device now k.node
+    → HaveBefallen s mark now → ShowsAll s (hs ++ coming) device now k.node
 kept_shows stands s hs coming mark cursor now device machine k worked past befallen =
     let js = hs ++ coming in
     elim k.acted [
@@ -94,8 +92,7 @@ kept_shows stands s hs coming mark cursor now device machine k worked past befal
 -- so the machine of each device does
 pub held_shows : {M : Type 0} (stands : M → Network → DeviceId → Node → Type 0) (s : Scenario) (hs coming : List Happening) (mark cursor : List ℕ) (now : ℕ)
     (device : DeviceId) (machine : M) → IsHeld stands s hs coming cursor now device machine → IsWorked hs cursor now → IsPast (hs ++ coming) now
-    → HaveBefallen s mark now
-    → (node : Node) × stands machine s.network device node × ShowsAll s (hs ++ coming) device now node
+    → HaveBefallen s mark now → (node : Node) × stands machine s.network device node × ShowsAll s (hs ++ coming) device now node
 held_shows stands s hs coming mark cursor now device machine (inl k) worked past befallen =
     (k.node, k.is, kept_shows stands s hs coming mark cursor now device machine k worked past befallen)
 held_shows stands s hs coming mark cursor now device machine (inr k) worked past befallen =

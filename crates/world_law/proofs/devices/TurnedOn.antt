@@ -79,8 +79,7 @@ filter_still p t later le (h ∷ hs) still =
 -- what is before the next unit of time is what is up to this one
 pub next_is_up_to : (now : ℕ) (hs : List Happening) → earlier (now + 1) hs ≡ up_to now hs
 next_is_up_to now [] = refl
-next_is_up_to now (h ∷ hs) =
-    grind (arith, nat_lt, time_of, up_to, nat_le, cases_lt, (next_is_up_to now hs))
+next_is_up_to now (h ∷ hs) = grind (arith, nat_lt, time_of, up_to, nat_le, cases_lt, (next_is_up_to now hs))
 
 pub all_up_to : (now : ℕ) (hs : List Happening) → ((h : Happening) → IsIn h hs → time_of h ≤ now) → up_to now hs ≡ hs
 all_up_to now [] past = refl
@@ -93,8 +92,7 @@ all_up_to now (h ∷ hs) past =
 pub looking_on : (device : DeviceId) (hs : List Happening) → ((h : Happening) → IsIn h hs → IsQuiet device h.note.body)
     → fold (λ state h. state_with device state h.note.body) Integrating hs ≡ Integrating
 looking_on device [] quiet = refl
-looking_on device (h ∷ hs) quiet =
-    grind (arith, fold, state_with, keeps_state, turning_state, (looking_on device hs (λ g i. quiet g (inr i))))
+looking_on device (h ∷ hs) quiet = grind (arith, fold, state_with, keeps_state, turning_state, (looking_on device hs (λ g i. quiet g (inr i))))
 
 -- what an instant's records are, at which the device was turned on and did nothing
 pub record IsQuietInstant (s : Scenario) (hs : List Happening) (device : DeviceId) (now : ℕ) : Type 0 where
@@ -129,8 +127,7 @@ adjustment_quiet s hs device now q =
 
 integration_quiet : (s : Scenario) (hs : List Happening) (device : DeviceId) (now : ℕ) → IsQuietInstant s hs device now
     → integration_cycle (earlier (now + 1) hs) device ≡ integration_cycle (earlier now hs) device
-integration_quiet s hs device now q =
-    grind (arith, fold_still, is_joined_by, cycle_in, quiet_joins)
+integration_quiet s hs device now q = grind (arith, fold_still, is_joined_by, cycle_in, quiet_joins)
 
 cycle_quiet : (s : Scenario) (hs : List Happening) (device : DeviceId) (now : ℕ) → IsQuietInstant s hs device now
     → recorded_cycle (earlier (now + 1) hs) device ≡ recorded_cycle (earlier now hs) device
@@ -140,8 +137,7 @@ cycle_quiet s hs device now q =
 
 pub change_quiet : (s : Scenario) (hs : List Happening) (device : DeviceId) (now : ℕ) → IsQuietInstant s hs device now
     → changed_at hs device (now + 1) ≡ changed_at hs device now
-change_quiet s hs device now q =
-    grind (arith, option_map_or, time_of, last_or, filter_still, changes_adjustment, quiet_changes)
+change_quiet s hs device now q = grind (arith, option_map_or, time_of, last_or, filter_still, changes_adjustment, quiet_changes)
 
 local_quiet : (s : Scenario) (hs : List Happening) (device : DeviceId) (now : ℕ) → IsQuietInstant s hs device now
     → local_at_change s hs device (now + 1) ≡ local_at_change s hs device now

@@ -2,10 +2,10 @@
 use Rattle.{net_plan.{proofs.Shape.rules_give_trees, specs.Ranges.IsDeviceInRange}, world_law.{proofs.giving.Given.some_same, specs.world.World.IsFromEnd}}
 use Rattle.{net_plan.{proofs.TableFacts.no_path, specs.Paths.IsUplink}, std.{proofs.Common.IsSomeAnd, specs.Prelude.{is_some, unwrap_or}}}
 use Rattle.{net_plan.specs.Places.{IsDeviceOf, IsSwitchOf, is_end_system, is_master}, run_law.specs.control.Arrivals.{are_others, is_of_other_member}}
-use Rattle.{pcf_values.specs.declared.members.Members.Members, schedule_tables.proofs.Margins.shape_rules, tte_units.proofs.general_lemmas.Lists.in_all}
 use Rattle.{run_law.proofs.law.FirstPlaces.{front_founded, numbered_in}, schedule_tables.specs.declared.rule.Rule.TheVariants.Joints}
-use Rattle.{run_law.specs.machines.Calls.{IsOfMaster, IsOneMaster}, world_law.proofs.frames.Proper.{has_come, is_sound, launch_signal, not_control, received}}
+use Rattle.{run_law.specs.machines.Calls.{IsOfMaster, IsOneMaster}, schedule_tables.proofs.Margins.shape_rules, tte_units.proofs.general_lemmas.Lists.in_all}
 use Rattle.{run_law.specs.scenario.Devices.{IsParentOf, has_role, is_parent_of, member_of}, tte_units.proofs.general_lemmas.Options.{at_known, closed, opened}}
+use Rattle.{tte_units.specs.declared.frames.members.Members.Members, world_law.proofs.frames.Proper.{has_come, is_sound, launch_signal, not_control, received}}
 use Rattle.world_law.proofs.Words.{◌++◌, ◌==◌, ◌^◌, ◌∙◌, ◌∷◌, ◌≡◌, ◌≤◌, ◌⊎◌, Bool, Device, DeviceId, Down, Event, Gives, Happening, IsCaused, IsDue, IsFounded}
 use Rattle.world_law.proofs.Words.{IsIn, IsInRange, KeepsRules, Launch, Link, LinkId, List, Network, None, NoteBody, Ok, Option, Pcf, Scenario, Send, Some, Up}
 use Rattle.world_law.proofs.Words.{Way, [], ap, arith, both_ways, cases_Bool, control, device_at, eq-eqb, eqb-true, false, founded_at, frame_by, if◌then◌else◌}
@@ -60,11 +60,9 @@ not_others (Some m) members e = grind (arith, not, eqb-true)
 
 -- from an end system the frame's members are its bit
 end_member : (network : Network) (device : DeviceId) (link : LinkId) (members : Members) (joint : Link) → link_at network link ≡ Some joint
-    → joint.parent ≡ device
-    → is_end network joint.child ≡ true → is_of_other_member network device link members ≡ false
+    → joint.parent ≡ device → is_end network joint.child ≡ true → is_of_other_member network device link members ≡ false
     → (m : ℕ) × (member_of network joint.child ≡ Some m) × (members.0 ≡ 2 ^ m)
-end_member network device link members joint at parent end_is sound =
-    grind (arith, is_end, option_map_or, eq-eqb, not_others)
+end_member network device link members joint at parent end_is sound = grind (arith, is_end, option_map_or, eq-eqb, not_others)
 
 -- ---- a frame that a switch sends up
 
@@ -109,11 +107,9 @@ parent_true device (Some l) h = eq-eqb l.parent.0 device.0 (ap (λ (d : DeviceId
 
 given_by : (s : Scenario) (g : Happening) (front : List Happening) (device : DeviceId) (link : LinkId) (frame : Pcf) (body : NoteBody) → IsInRange s.network
     → IsCaused s front g.note.time body → g.frame ≡ frame_by s.network front body → g.frame ≡ Some frame → Gives s.network body device link
-    → is_parent_of s.network device link ≡ false
-    → g.note.body ≡ body
+    → is_parent_of s.network device link ≡ false → g.note.body ≡ body
     → ((by : DeviceId × LinkId) (of_cause of_clock : ℕ) (f : Pcf) → g.note.body ≡ kinds.Arrived by.0 by.1 of_cause of_clock → g.frame ≡ Some f
-    → IsParentOf s.network by.0 by.1 → IsOneMaster s.network f.members)
-    → IsOneMaster s.network frame.members
+    → IsParentOf s.network by.0 by.1 → IsOneMaster s.network f.members) → IsOneMaster s.network frame.members
 given_by s g front device link frame (kinds.Sent master cycle) range c made of gives below is rest =
     let m = master_member s.network master range c.master in
     let dispatched = Rattle.run_law.specs.records.Frames.dispatched_frame s.network master cycle in
@@ -133,9 +129,7 @@ from_put : (s : Scenario) (link : LinkId) (way : Way) (came : Pcf) (body : NoteB
     → IsCaused s front h.note.time body → h.frame ≡ frame_by s.network front body → h.frame ≡ Some came → IsFounded place_of (IsDue s) front
     → IsPutBy s h link way body → way ≡ Up → ((line : ℕ) (octets : List ℕ) → body ≡ kinds.Event line (Send link octets) → ⊥)
     → ((g : Happening) (by : DeviceId × LinkId) (of_cause of_clock : ℕ) (f : Pcf) → IsIn g front → g.note.body ≡ kinds.Arrived by.0 by.1 of_cause of_clock
-    → g.frame ≡ Some f
-    → IsParentOf s.network by.0 by.1 → IsOneMaster s.network f.members)
-    → IsOneMaster s.network came.members
+    → g.frame ≡ Some f → IsParentOf s.network by.0 by.1 → IsOneMaster s.network f.members) → IsOneMaster s.network came.members
 from_put s link way came body h front range c made of founded (IsPutBy.leaving device cause clock w) upward never rest =
     let g = c.giving in
     let inside = numbered_in front cause g c.there in
@@ -152,8 +146,7 @@ from_put s link way came body h front range c made of founded (IsPutBy.sending l
 
 -- of the records up to so many: what comes up is of one master
 pub one_master : (n : ℕ) (s : Scenario) (hs : List Happening) (arrival : Happening) (device : DeviceId) (link : LinkId) (cause clock : ℕ) (frame : Pcf)
-    → length hs ≤ n
-    → IsInRange s.network → KeepsRules s.network → AreSentByEnds s → IsFounded place_of (IsDue s) hs → IsIn arrival hs
+    → length hs ≤ n → IsInRange s.network → KeepsRules s.network → AreSentByEnds s → IsFounded place_of (IsDue s) hs → IsIn arrival hs
     → arrival.note.body ≡ kinds.Arrived device link cause clock → arrival.frame ≡ Some frame → IsParentOf s.network device link
     → IsOneMaster s.network frame.members
 one_master zero s [] arrival device link cause clock frame le range keeps ends founded i body of parent = absurd i
@@ -201,8 +194,7 @@ one_master (suc n) s hs arrival device link cause clock frame le range keeps end
     by_way joint device parent differ Down is = absurd (differ (is ∙ sym parent))
 
     sent_end : (h : Happening) (front : List Happening) → IsCaused s front h.note.time h.note.body → (line : ℕ) (octets : List ℕ)
-        → h.note.body ≡ kinds.Event line (Send link octets)
-        → IsFromEnd s.network link
+        → h.note.body ≡ kinds.Event line (Send link octets) → IsFromEnd s.network link
     sent_end h front c line octets is =
         let e = subst (λ (b : NoteBody). IsCaused s front h.note.time b) is c in
         ends e.before e.event link octets e.is (sym e.same)

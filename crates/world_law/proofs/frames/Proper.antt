@@ -1,8 +1,8 @@
 -- A frame that waits is one that the network has: its `arrived` record was due.
 use Rattle.{pcf_codec.specs.Decoding.decoded, std.proofs.{Common.{Err, IsSomeAnd, arith}, lemmas.Bool.not-false}, world_law.proofs.Words.{with_clock, ℕ}}
-use Rattle.{pcf_values.specs.declared.pcf.PcfKind.{PcfKind, TheVariants.Integration}, run_law.specs.control.Arrivals.is_of_other_member}
 use Rattle.run_law.{proofs.law.FirstPlaces.numbered_in, specs.{device.Standpoints.first_reason, machines.Calls.IsLinkAt, scenario.Ways.receiver_of}}
 use Rattle.run_law.specs.control.Arrivals.{clock_on_arrival, frame_fault, frame_or_fault, frame_taken, is_cold_start, is_gate_shut, is_of_other_domain}
+use Rattle.{run_law.specs.control.Arrivals.is_of_other_member, tte_units.specs.declared.frames.pcf.PcfKind.{PcfKind, TheVariants.Integration}}
 use Rattle.world_law.proofs.Words.{◌&&◌, ◌++◌, ◌==◌, ◌∙◌, ◌∷◌, ◌≡◌, ◌≤◌, Arrival, Arrives, ArrivesAs, Bool, DeviceId, Down, Happening, IsArrivedRecord}
 use Rattle.world_law.proofs.Words.{IsCaused, IsDue, IsFounded, IsIn, Launch, Link, LinkId, List, Network, None, NoteBody, Ok, Option, Pcf, Reason, Scenario}
 use Rattle.world_law.proofs.Words.{Send, Signal, Some, Standpoint, Units, Up, Way, [], amount, ap, arrival_of, cases_lt, control, eqb-true, false, founded_at}
@@ -23,8 +23,7 @@ frame_of other = None
 
 frame_of_taken : (network : Network) (device : DeviceId) (link : LinkId) (frame : Pcf) (point : Units)
     → frame_of (frame_taken network device link frame point) ≡ Some frame
-frame_of_taken network device link frame point =
-    grind arith
+frame_of_taken network device link frame point = grind arith
 
 -- no fault was found in the frame that came, and it is taken so
 pub record IsTakenAs (network : Network) (device : DeviceId) (link : LinkId) (at : Standpoint) (came frame : Pcf) : Type 0 where
@@ -35,8 +34,7 @@ taken_by_fault : (network : Network) (device : DeviceId) (link : LinkId) (at : S
     → frame_of is ≡ Some frame
     → is ≡ frame_or_fault network device link at came fault → (fault ≡ None) × (frame ≡ with_clock (clock_on_arrival network link came) came)
 taken_by_fault network device link at came frame (Some reason) is of e = absurd (let bad : None ≡ Some frame = sym (ap frame_of e) ∙ of in cc)
-taken_by_fault network device link at came frame None is of e =
-    grind (arith, with_clock, frame_of_taken)
+taken_by_fault network device link at came frame None is of e = grind (arith, with_clock, frame_of_taken)
 
 not_timed : (network : Network) (device : DeviceId) (link : LinkId) (at : Standpoint) (octets : List ℕ) (last : _)
     → frame_of (timed_arrival network device link at octets last) ≡ None
@@ -85,8 +83,7 @@ pub not_control : (octets : List ℕ) (came : Pcf) → timed octets ≡ control 
 not_control octets came e = cc
 
 pub launched_frame : (s : Scenario) (front : List Happening) (h : Happening) (t : ℕ) (link : LinkId) (way : Way) (came : Pcf) (body : NoteBody)
-    → h.frame ≡ frame_by s.network front body
-    → launched s h t body ≡ Some (record { link = link; way = way; signal = control (Ok came) }) → h.frame ≡ Some came
+    → h.frame ≡ frame_by s.network front body → launched s h t body ≡ Some (record { link = link; way = way; signal = control (Ok came) }) → h.frame ≡ Some came
 launched_frame s front h t link way came (kinds.Left device by cause clock) of e = grind (arith, option_map, way_from, control, launch_signal)
 launched_frame s front h t link way came (kinds.TtSent device by cause vl cycle) of e = absurd (not_control h.octets came (launch_signal _ _ e))
 launched_frame s front h t link way came (kinds.Event line (Send by octets)) of e = grind (arith, is_cut, signal_of, control, by_octets, launch_signal)
@@ -104,8 +101,7 @@ pub record HasCome (s : Scenario) (hs : List Happening) (arrival : Happening) (d
   pub shows : clock ≡ frame.clock
 
 pub has_come : (s : Scenario) (hs : List Happening) (arrival : Happening) (device : DeviceId) (link : LinkId) (cause clock : ℕ) (frame : Pcf)
-    → IsFounded place_of (IsDue s) hs
-    → IsIn arrival hs → arrival.note.body ≡ kinds.Arrived device link cause clock → arrival.frame ≡ Some frame
+    → IsFounded place_of (IsDue s) hs → IsIn arrival hs → arrival.note.body ≡ kinds.Arrived device link cause clock → arrival.frame ≡ Some frame
     → HasCome s hs arrival device link cause clock frame
 has_come s hs arrival device link cause clock frame founded i body of =
     let at = founded_at s hs arrival founded i in
@@ -119,8 +115,7 @@ has_come s hs arrival device link cause clock frame founded i body of =
     let put_frame : so.putting.frame ≡ Some so.came =
     launched_frame s put.front so.putting (time_of so.putting) link so.arrives.way so.came so.putting.note.body (ap (λ (h : Happening). h.frame) put.due.same)
     so.arrives.put in
-    let own : arrival.frame ≡ Some (with_clock clock so.came) =
-    ap (λ (h : Happening). h.frame) due.same
+    let own : arrival.frame ≡ Some (with_clock clock so.came) = ap (λ (h : Happening). h.frame) due.same
     ∙ ap (frame_by s.network at.front) body
     ∙ ap (λ (o : Option Happening). option_map (with_clock clock) (option_and_then (λ h. h.frame) o)) so.there
     ∙ ap (option_map (with_clock clock)) put_frame in

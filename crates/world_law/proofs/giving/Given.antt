@@ -166,8 +166,7 @@ waiting_then s hs z rest mark cursor now number waiting new g is befallen are pu
 -- ---- devices
 
 acted_then : (s : Scenario) (hs : List Happening) (z : Happening) (rest : List Happening) (mark cursor : List ℕ) (now up : ℕ) (device : DeviceId)
-    → IsGiving s hs z rest mark cursor now
-    → IsActedUpTo s hs now device cursor up → IsActedUpTo s (hs ++ z ∷ []) now device (behind (place_of z)) up
+    → IsGiving s hs z rest mark cursor now → IsActedUpTo s hs now device cursor up → IsActedUpTo s (hs ++ z ∷ []) now device (behind (place_of z)) up
 acted_then s hs z rest mark cursor now up device g (inr over) = inr (over.0, λ p b. g.are.not_past z (inl refl) p (over.1 p b))
 acted_then s hs z rest mark cursor now up device g (inl still) =
     let at = g.are.of_now z (inl refl) in
@@ -233,8 +232,7 @@ pub held_then : {M : Type 0} (stands : M → Network → DeviceId → Node → T
     (mark cursor : List ℕ) (now : ℕ) (device : DeviceId) (machine : M) → IsGiving s hs z rest mark cursor now
     → IsHeld stands s hs (z ∷ rest) cursor now device machine → IsHeld stands s (hs ++ z ∷ []) rest (behind (place_of z)) now device machine
 held_then stands s hs z rest mark cursor now device machine g (inl k) = inl (kept_then stands s hs z rest mark cursor now device machine g k)
-held_then stands s hs z rest mark cursor now device machine g (inr k) =
-    grind (arith, append_assoc, state_after, up_to, adjustment_after)
+held_then stands s hs z rest mark cursor now device machine g (inr k) = grind (arith, append_assoc, state_after, up_to, adjustment_after)
 
 -- ---- no record of an event is to come
 

@@ -43,8 +43,7 @@ pub at_its_place : (s : Scenario) (hs : List Happening) (z : Happening) (w : Lis
 at_its_place s hs z w (IsSource.arriving t device link cause a) e = elim (source_kinds z.note.body) [ inl is ↦ is | inr other ↦ absurd (other.0 (ap second e)) ]
 at_its_place s hs z w (IsSource.ripening t device link cause point r) e =
     elim (source_kinds z.note.body) [ inl is ↦ is | inr other ↦ absurd (other.1 (ap second e)) ]
-at_its_place s hs z w (IsSource.acting t device a) e =
-    grind (arith, rank, length, key, members_in, act_key)
+at_its_place s hs z w (IsSource.acting t device a) e = grind (arith, rank, length, key, members_in, act_key)
 at_its_place s hs z w (IsSource.departing t device link cause d) e =
     elim (source_kinds z.note.body) [ inl is ↦ is | inr other ↦ absurd (other.2 (ap second e)) ]
 at_its_place s hs z w (IsSource.following t cause h it) e =

@@ -86,8 +86,7 @@ numbered_split hs front z h zero e = absurd cc
 numbered_split [] front z h (suc zero) e = inr (inl (omega arith, cc))
 numbered_split [] front z h (suc (suc i)) e = inr (inr (omega arith, Rattle.run_law.proofs.law.FirstPlaces.in_at front i h e))
 numbered_split (g ∷ hs) front z h (suc zero) e = inl (omega arith)
-numbered_split (g ∷ hs) front z h (suc (suc i)) e =
-    grind (arith, (numbered_split hs front z h (suc i) e))
+numbered_split (g ∷ hs) front z h (suc (suc i)) e = grind (arith, (numbered_split hs front z h (suc i) e))
 
 -- how the cause of a change of state stands to the record that is given
 abbrev IsNamedSo : NoteBody → DeviceId → ℕ → Why → ℕ → Type 0
@@ -97,12 +96,9 @@ IsNamedSo first device cause why given =
 named_so : (first : NoteBody) (device : DeviceId) (state : State) (cause : ℕ) (why : Why) (given : ℕ) → given + 1 < none_yet
     → IsNamedSo first device cause why given
     → named_body (given + 1) first (hidden_body given (notes.State device state cause why)) ≡ hidden_body (given + 1) (notes.State device state cause why)
-named_so first device state cause why given room (inl low) =
-    grind (arith, none_yet, nat_lt, le-ltb, false_from_ne_true, eqb-true, and_right)
-named_so first device state cause why given room (inr (inl (at, by))) =
-    grind (arith, none_yet, nat_lt, lt-ltb, le-ltb, eq-eqb)
-named_so first device state cause why given room (inr (inr (far, by))) =
-    grind (arith, none_yet, nat_lt, lt-ltb)
+named_so first device state cause why given room (inl low) = grind (arith, none_yet, nat_lt, le-ltb, false_from_ne_true, eqb-true, and_right)
+named_so first device state cause why given room (inr (inl (at, by))) = grind (arith, none_yet, nat_lt, lt-ltb, le-ltb, eq-eqb)
+named_so first device state cause why given room (inr (inr (far, by))) = grind (arith, none_yet, nat_lt, lt-ltb)
 
 corrected_at : (device : DeviceId) (members : ℕ) (body : NoteBody) → is_corrected device body ≡ true → rank body ∷ key members body ≡ 6 ∷ device.0 ∷ []
 corrected_at device members (notes.Corrected other cycle by adjustment) e = ap (λ (n : ℕ). 6 ∷ n ∷ []) (sym (eqb-true device.0 other.0 e))

@@ -10,8 +10,7 @@ last_one false o x = refl
 -- one more record is the last taking, where it is one
 pub last_then : (hs : List Happening) (h : Happening) (device : DeviceId) (vl : VlId) (b : Bool) → is_accepted device vl h.note.body ≡ b
     → last_taking (hs ++ h ∷ []) device vl ≡ (if b then Some h else last_taking hs device vl)
-last_then hs h device vl b is =
-    grind (arith, is_accepted, last_or, filter-append, last_more, filter, last_one)
+last_then hs h device vl b is = grind (arith, is_accepted, last_or, filter-append, last_more, filter, last_one)
 
 -- a record by which no frame is taken
 pub stored_still : (hs : List Happening) (h : Happening) (stored : List Stored)

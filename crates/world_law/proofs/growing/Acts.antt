@@ -52,20 +52,16 @@ so_called network device moment node (act ∷ done) new range rules may (mid, is
 
 -- after all of them it may act again
 pub may_act_then : (network : Network) (device : DeviceId) (moment : Moment) (node : Node) (done : List Act) (new : Node) → IsInRange network
-    → KeepsRules network → MayCall network device node moment acting → AreActs network device moment node done new
-    → MayCall network device new moment acting
+    → KeepsRules network → MayCall network device node moment acting → AreActs network device moment node done new → MayCall network device new moment acting
 may_act_then network device moment node [] new range rules may are = subst (λ (n : Node). MayCall network device n moment acting) (sym are) may
 may_act_then network device moment node (act ∷ done) new range rules may (mid, is, rest) =
     may_act_then network device moment mid done new range rules (may_act_again network device node moment act mid range rules may is) rest
 
 -- one more act
 pub one_more_act : (network : Network) (device : DeviceId) (moment : Moment) (node mid : Node) (done : List Act) (act : Act) (new : Node)
-    → AreActs network device moment node done mid → IsActOf network device mid moment act new
-    → AreActs network device moment node (done ++ act ∷ []) new
-one_more_act network device moment node mid [] act new are is =
-    (new, subst (λ (n : Node). IsActOf network device n moment act new) are is, refl)
-one_more_act network device moment node mid (a ∷ done) act new are is =
-    (are.0, are.1, one_more_act network device moment are.0 mid done act new are.2 is)
+    → AreActs network device moment node done mid → IsActOf network device mid moment act new → AreActs network device moment node (done ++ act ∷ []) new
+one_more_act network device moment node mid [] act new are is = (new, subst (λ (n : Node). IsActOf network device n moment act new) are is, refl)
+one_more_act network device moment node mid (a ∷ done) act new are is = (are.0, are.1, one_more_act network device moment are.0 mid done act new are.2 is)
 
 -- ---- the points after an act: those before, or none
 
@@ -74,8 +70,7 @@ HasPointsOf node new = (new.points ≡ node.points) ⊎ (new.points ≡ [])
 
 points_emitted : (network : Network) (device : DeviceId) (node : Node) (moment : Moment) (sent : Compressed)
     → HasPointsOf node (called moment acting (after_emission network device node moment sent (own_hearing network device node sent)))
-points_emitted network device node moment sent =
-    grind (arith, heard_so, plan_of, observation_window, called, acting, after_emission)
+points_emitted network device node moment sent = grind (arith, heard_so, plan_of, observation_window, called, acting, after_emission)
 
 points_corrected : (node : Node) (moment : Moment) (heard : Summary) (cycle : ℕ) (verdict : Verdict)
     → HasPointsOf node (called moment acting (after_correction node moment heard cycle verdict))
@@ -111,8 +106,7 @@ kind_of (doing (dispatching row n)) = 3
 
 -- what is due is of this kind or of one behind it
 abbrev AreFrom : Network → DeviceId → Moment → ℕ → Node → Type 0
-AreFrom network device moment k node =
-    (task : Task) → IsPending network device node task → reading_for network node task ≤ℤ moment.reading.0 → k ≤ kind_of task
+AreFrom network device moment k node = (task : Task) → IsPending network device node task → reading_for network node task ≤ℤ moment.reading.0 → k ≤ kind_of task
 
 by_kind : (network : Network) (a b : Task) → kind_of a < kind_of b → IsBefore (order_of network a) (order_of network b)
 by_kind network (emitting a) (emitting b) lt = absurd (omega (arith, lt))
@@ -135,8 +129,7 @@ by_kind network (doing (dispatching of m)) (doing (dispatching row n)) lt = absu
 -- none is of a kind before that of the first
 from_first : (network : Network) (device : DeviceId) (node : Node) (moment : Moment) (task : Task) → IsFirstTask network device node moment.reading.0 task
     → AreFrom network device moment (kind_of task) node
-from_first network device node moment task first other q due =
-    grind (arith, cases_lt, by_kind)
+from_first network device node moment task first other q due = grind (arith, cases_lt, by_kind)
 
 -- ---- the dispatches
 

@@ -18,15 +18,12 @@ places p k (r ∷ rs) = if p r then k ∷ places p (suc k) rs else places p (suc
 
 places_many : (p : Row → Bool) (k : ℕ) (rs : List Row) → length (places p k rs) ≡ length (filter p rs)
 places_many p k [] = refl
-places_many p k (r ∷ rs) =
-    grind (arith, cases_Bool, (places_many p (suc k) rs))
+places_many p k (r ∷ rs) = grind (arith, cases_Bool, (places_many p (suc k) rs))
 
 passing : (p : Row → Bool) (k i : ℕ) (rs : List Row) (r : Row) → slice_get rs i ≡ Some r → p r ≡ true → list_any (eqn (k + i)) (places p k rs) ≡ true
 passing p k i [] r there pass = absurd cc
-passing p k zero (x ∷ rs) r there pass =
-    grind (arith, list_any, or_left, eq-eqb)
-passing p k (suc i) (x ∷ rs) r there pass =
-    grind (arith, list_any, cases_Bool, or_right, (passing p (suc k) i rs r there pass))
+passing p k zero (x ∷ rs) r there pass = grind (arith, list_any, or_left, eq-eqb)
+passing p k (suc i) (x ∷ rs) r there pass = grind (arith, list_any, cases_Bool, or_right, (passing p (suc k) i rs r there pass))
 
 member_has : (P : ℕ → Type 0) (xs : List ℕ) (q : ℕ) → AllByRecursion P xs → list_any (eqn q) xs ≡ true → P q
 member_has P [] q all at = absurd cc

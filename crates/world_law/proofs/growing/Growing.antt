@@ -26,10 +26,7 @@ wide network range rules =
 
 -- what is due and has not waited for as long as the precision
 due_shows : (v a reading p : ℤ) (precision : ℕ) → p ≡ pos precision → (v -ℤ a) ≤ℤ reading → reading <ℤ ((v -ℤ a) +ℤ p) → ShowsAt (reading +ℤ a) v precision
-due_shows v a reading p precision whole reached late = record {
-  least = omega (arith, ints, reached);
-  most = omega (arith, ints, late, whole);
-}
+due_shows v a reading p precision whole reached late = record { least = omega (arith, ints, reached); most = omega (arith, ints, late, whole) }
 
 -- ---- places
 
@@ -47,8 +44,7 @@ third_of a b c d e f same = cc
 rows_apart : (network : Network) (row other : RowId) (entry with : Entry) → IsEntry network row.0 entry → IsEntry network other.0 with → (row.0 ≡ other.0 → ⊥)
     → (IsBefore (3 ∷ dispatch_order network other) (3 ∷ dispatch_order network row) → ⊥)
     → IsBefore (3 ∷ dispatch_order network row) (3 ∷ dispatch_order network other)
-rows_apart network row other entry with is at apart none =
-    grind (arith, either_way, third_of, row_order)
+rows_apart network row other entry with is at apart none = grind (arith, either_way, third_of, row_order)
 
 -- ---- what was done is not pending
 
@@ -238,18 +234,15 @@ nothing_sent_behind_sending network device node moment frame new n range rules m
         → (n ≡ cycle) ⊎ ((n < cycle) ⊎ (cycle < n)) → ⊥
     was q here (inl same) =
         gone_deed network device node new moment (sending cycle) is (subst (λ (k : ℕ). IsPending network device new (doing (sending k))) same p)
-    was q here (inr (inl lt)) =
-        two_sendings network node moment.reading.0 n cycle range rules lt (may.in_time (doing (sending n)) q) first.due
-    was q here (inr (inr gt)) =
-        two_sendings network node moment.reading.0 cycle n range rules gt (may.in_time (doing (sending cycle)) first.pending) here
+    was q here (inr (inl lt)) = two_sendings network node moment.reading.0 n cycle range rules lt (may.in_time (doing (sending n)) q) first.due
+    was q here (inr (inr gt)) = two_sendings network node moment.reading.0 cycle n range rules gt (may.in_time (doing (sending cycle)) first.pending) here
 
 -- ---- all acts
 
 grown : (network : Network) (device : DeviceId) (node : Node) (moment : Moment) (act : Act) (new : Node) (task : Task) → IsInRange network → KeepsRules network
     → IsFromZero network device node → MayCall network device node moment acting → IsActOf network device node moment act new
     → IsPending network device new task → reading_for network new task ≤ℤ moment.reading.0
-    → IsPending network device node task → reading_for network node task ≤ℤ moment.reading.0
-    → IsBefore (order_of_act network act) (order_of network task)
+    → IsPending network device node task → reading_for network node task ≤ℤ moment.reading.0 → IsBefore (order_of_act network act) (order_of network task)
 grown network device node moment (acts.Emit sent heard) new task range rules zero_on may (first, so, is) p due q was =
     behind_emission network device node new moment.reading.0 sent task zero_on first (gone_emission network device node new moment sent heard so is) p q was
 grown network device node moment (acts.Send frame) new task range rules zero_on may (cycle, first, of_frame, is) p due q was =

@@ -24,8 +24,7 @@ middle_up_to k (a ∷ b ∷ []) some all = mean_up_to k a b all.0 all.1.0
 middle_up_to k (a ∷ b ∷ c ∷ []) some all = all.1.0
 middle_up_to k (a ∷ b ∷ c ∷ d ∷ []) some all = mean_up_to k b c all.1.0 all.1.1.0
 middle_up_to k (a ∷ b ∷ c ∷ d ∷ e ∷ []) some all = mean_up_to k b d all.1.0 all.1.1.1.0
-middle_up_to k (a ∷ b ∷ c ∷ d ∷ e ∷ f ∷ more) some all =
-    mean_up_to k b (last_but_one e f more) all.1.0 (last_up_to k e f more all.1.1.1.1.0 all.1.1.1.1.1)
+middle_up_to k (a ∷ b ∷ c ∷ d ∷ e ∷ f ∷ more) some all = mean_up_to k b (last_but_one e f more) all.1.0 (last_up_to k e f more all.1.1.1.1.0 all.1.1.1.1.1)
 
 -- ---- the points of a cluster
 
@@ -33,13 +32,11 @@ abbrev LiesFrom : ℤ → ℤ → Point → Type 0
 LiesFrom from to q = (from ≤ℤ q.reading) × (q.reading ≤ℤ to)
 
 in_window : (q : Point) (cycle : ℕ) (from to : ℤ) → (q.cycle == cycle && (int_le from q.reading && int_le q.reading to)) ≡ true → LiesFrom from to q
-in_window q cycle from to pass =
-    grind (arith, and_parts, int_le, ints)
+in_window q cycle from to pass = grind (arith, and_parts, int_le, ints)
 
 held_from : (cycle : ℕ) (from to : ℤ) (ps : List Point) → AllByRecursion (LiesFrom from to) (of_cycle_within cycle from to ps)
 held_from cycle from to [] = tt
-held_from cycle from to (p ∷ ps) =
-    grind (arith, cases_Bool, int_le, in_window, (held_from cycle from to ps))
+held_from cycle from to (p ∷ ps) = grind (arith, cases_Bool, int_le, in_window, (held_from cycle from to ps))
 
 all_of : (P : Point → Type 0) (xs acc qs : List Point) → AllByRecursion P xs → AllByRecursion (λ q. Contains xs q × (has_master acc q.master ≡ false)) qs
     → AllByRecursion P qs

@@ -38,8 +38,7 @@ arrival_is : (s : Scenario) (t known : ℕ) (js gs : List Happening) (device : D
     → arrival_of s js device t link cause signal ≡ arrival_of s gs device t link cause signal
 arrival_is s t known js gs device link cause (control frame) a =
     ap (λ (w : List Happening). control_arrival s.network device link (standpoint_in s device t w) frame) a.before
-arrival_is s t known js gs device link cause (timed octets) a =
-    grind (arith, timed_arrival, last_taken, timed_by, earlier)
+arrival_is s t known js gs device link cause (timed octets) a = grind (arith, timed_arrival, last_taken, timed_by, earlier)
 
 pub arrives_alike : (s : Scenario) (t known : ℕ) (js gs : List Happening) (device : DeviceId) (link : LinkId) (cause : ℕ) (is : Arrival)
     → AreAlike s t known js gs → cause ≤ known → ArrivesAs s js device t link cause is → ArrivesAs s gs device t link cause is
@@ -65,8 +64,7 @@ ripens_alike s t known js gs device link cause point is a le r = (
 
 send_alike : (s : Scenario) (t known : ℕ) (js gs : List Happening) (device : DeviceId) (link : LinkId) (cause : ℕ) → AreAlike s t known js gs → cause ≤ known
     → IsSendLost s js device t link cause → IsSendLost s gs device t link cause
-send_alike s t known js gs device link cause a le l =
-    grind arith
+send_alike s t known js gs device link cause a le l = grind arith
 
 lost_alike : (s : Scenario) (t known : ℕ) (js gs : List Happening) (device : DeviceId) (link : LinkId) (cause : ℕ) → AreAlike s t known js gs → cause ≤ known
     → IsLost s js device t link cause → IsLost s gs device t link cause
@@ -142,5 +140,4 @@ octets_alike network known js gs other given le = refl
 
 pub happening_alike : (network : Network) (known : ℕ) (js gs : List Happening) (note : Note) → ((n : ℕ) → n ≤ known → numbered js n ≡ numbered gs n)
     → cause_of note.body ≤ known → happening network js note ≡ happening network gs note
-happening_alike network known js gs note given le =
-    grind (arith, frame_alike, frame_by, octets_alike)
+happening_alike network known js gs note given le = grind (arith, frame_alike, frame_by, octets_alike)

@@ -186,12 +186,7 @@ turned_aside s n hs front back cursor now device w it same = record {
   turned = λ b.
       let was = it.turned b in
       let on = placed_on n hs front back w was.by was.there in
-      record {
-        by = on.0;
-        there = on.1;
-        at = on.3 ∙ was.at;
-        turning = same_turning n device on.0.note.body was.by.note.body on.2 ∙ was.turning;
-      };
+      record { by = on.0; there = on.1; at = on.3 ∙ was.at; turning = same_turning n device on.0.note.body was.by.note.body on.2 ∙ was.turning };
 }
 
 -- what the device took is told alike, where it takes nothing by the record

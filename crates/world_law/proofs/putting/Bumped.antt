@@ -111,8 +111,7 @@ raised_hidden given n other le = refl
 
 pub placed_hidden : (given n : ℕ) (b : List Happening) → given ≤ n → map (hidden given) (map (bump_behind n) b) ≡ map (hidden given) b
 placed_hidden given n [] le = refl
-placed_hidden given n (y ∷ b) le =
-    grind (arith, map, hidden, raised_hidden, (placed_hidden given n b le))
+placed_hidden given n (y ∷ b) le = grind (arith, map, hidden, raised_hidden, (placed_hidden given n b le))
 
 -- ---- places
 
@@ -135,8 +134,7 @@ keys_of_states n d c e k (inr (same, inr b)) = absurd b.1
 
 keys_up : (n m k : ℕ) (body other : NoteBody) → rank body ≡ rank other → IsBefore (key m body) (key k other)
     → IsBefore (key m (raised n body)) (key k (raised n other))
-keys_up n m k body other e b =
-    grind (arith, seven, key, keys_of_states, rank, raised_same)
+keys_up n m k body other e b = grind (arith, seven, key, keys_of_states, rank, raised_same)
 
 pub places_up : (t u r q : ℕ) (k l m o : List ℕ) → (r ≡ q → IsBefore k l → IsBefore m o) → IsBefore (t ∷ r ∷ k) (u ∷ q ∷ l) → IsBefore (t ∷ r ∷ m) (u ∷ q ∷ o)
 places_up t u r q k l m o up (inl lt) = inl lt
@@ -145,17 +143,14 @@ places_up t u r q k l m o up (inr (e, inr (f, b))) = inr (e, inr (f, up f b))
 
 -- the order is kept
 pub bump_mono : (n : ℕ) (y z : Happening) → IsBefore (place_of y) (place_of z) → IsBefore (place_of (bump_behind n y)) (place_of (bump_behind n z))
-bump_mono n y z b =
-    grind (arith, time_of, key, members_in, place_of, raised_rank, rank, places_up, keys_up)
+bump_mono n y z b = grind (arith, time_of, key, members_in, place_of, raised_rank, rank, places_up, keys_up)
 
 keys_equal : (n m k : ℕ) (body other : NoteBody) → rank body ≡ rank other → key m body ≡ key k other → key m (raised n body) ≡ key k (raised n other)
-keys_equal n m k body other e same =
-    grind (arith, seven, key, rank, raised_same)
+keys_equal n m k body other e same = grind (arith, seven, key, rank, raised_same)
 
 -- records at one place stay at one
 pub bump_equal : (n : ℕ) (y z : Happening) → place_of y ≡ place_of z → place_of (bump_behind n y) ≡ place_of (bump_behind n z)
-bump_equal n y z same =
-    grind (arith, time_of, rank, key, members_in, raised_rank, keys_equal)
+bump_equal n y z same = grind (arith, time_of, rank, key, members_in, raised_rank, keys_equal)
 
 pub bump_back : (n : ℕ) (y z : Happening) → IsBefore (place_of (bump_behind n y)) (place_of (bump_behind n z)) → IsBefore (place_of y) (place_of z)
 bump_back n y z b =
@@ -205,8 +200,7 @@ first_placed n [] rest y e = absurd cc
 first_placed n (x ∷ d2) rest y e = let a : y ≡ bump_behind n x = cc in (x, d2, refl, a)
 
 pub placed_length : (n : ℕ) (front back : List Happening) (w : Happening) → length (placed n front w back) ≡ length (front ++ back) + 1
-placed_length n front back w =
-    grind (arith, length-append, map, length, length-map)
+placed_length n front back w = grind (arith, length-append, map, length, length-map)
 
 get_beyond : (n : ℕ) (ps c : List Happening) (w : Happening) (j : ℕ) → length ps ≤ j
     → slice_get (ps ++ w ∷ map (bump_behind n) c) (suc j) ≡ option_map (bump_behind n) (slice_get (ps ++ c) j)
@@ -240,5 +234,4 @@ caused_within s js device t state cause whys.AsyncClique c = let e = c.1 in omeg
 
 -- so one that is due given no more than n keeps its cause
 pub due_low : (s : Scenario) (js : List Happening) (n : ℕ) (z : Happening) → IsDue s js z → length js ≤ n → raised n z.note.body ≡ z.note.body
-due_low s js n z due le =
-    grind (arith, seven, raised_same, caused_within, amount, raised_low)
+due_low s js n z due le = grind (arith, seven, raised_same, caused_within, amount, raised_low)

@@ -105,8 +105,7 @@ kept_comes stands s hs coming mark cursor now r more device machine m k = record
 pub held_comes : {M : Type 0} (stands : M → Network → DeviceId → Node → Type 0) (s : Scenario) (hs coming : List Happening) (mark cursor : List ℕ) (now r : ℕ)
     (more : List ℕ) (device : DeviceId) (machine : M) → IsMoving s hs coming mark cursor now r more
     → IsHeld stands s hs coming cursor now device machine → IsHeld stands s hs coming (now ∷ r ∷ more) now device machine
-held_comes stands s hs coming mark cursor now r more device machine m (inl k) =
-    inl (kept_comes stands s hs coming mark cursor now r more device machine m k)
+held_comes stands s hs coming mark cursor now r more device machine m (inl k) = inl (kept_comes stands s hs coming mark cursor now r more device machine m k)
 held_comes stands s hs coming mark cursor now r more device machine m (inr k) =
     inr (out_moves stands s hs coming cursor (now ∷ r ∷ more) now device machine (comes s hs coming mark cursor now r more m) k)
 
@@ -118,8 +117,7 @@ pub stands_at : {C M : Type 0} (reading : C → ℕ → ℕ) (stands : M → Net
     (old : Stands reading stands s world notes) (device : DeviceId) (machines : List M) (settled coming : List Happening)
     → IsMoving s (happenings s.network notes) old.coming old.mark old.cursor world.now 4 (device.0 ∷ [])
     → settled ≡ map (hidden (length notes)) coming → length notes + length coming < none_yet
-    → AreSettled s (happenings s.network notes) coming old.mark (act_place world.now device) world.now
-    → AreOfNetwork s (happenings s.network notes ++ coming)
+    → AreSettled s (happenings s.network notes) coming old.mark (act_place world.now device) world.now → AreOfNetwork s (happenings s.network notes ++ coming)
     → ((other : DeviceId) → other.0 < length s.network.device → (machine : M) × (slice_get machines other.0 ≡ Some machine)
     × IsHeld stands s (happenings s.network notes) coming (act_place world.now device) world.now other machine)
     → StandsBehind reading stands s (record world { machines = machines; early = false; settled = settled }) notes (act_place world.now device)

@@ -35,5 +35,4 @@ bumped_hidden given [] = refl
 bumped_hidden given (y ∷ b) = ap (λ (l : List Happening). hidden given y ∷ l) (bumped_hidden given b)
 
 pub put_length : (front back : List Happening) (w : Happening) → length (put_list front w back) ≡ length (front ++ back) + 1
-put_length front back w =
-    grind (arith, length-append, map, bump, length, length-map)
+put_length front back w = grind (arith, length-append, map, bump, length, length-map)

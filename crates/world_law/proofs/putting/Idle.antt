@@ -74,16 +74,14 @@ plains_put ps b w = plains_parts ps (w ∷ map bump b) ∙ ap (λ (l : List Happ
 
 filter_bumped : (q : Happening → Bool) → ((h : Happening) → q (bump h) ≡ q h) → (b : List Happening) → plains (filter q (map bump b)) ≡ plains (filter q b)
 filter_bumped q same [] = refl
-filter_bumped q same (y ∷ b) =
-    grind (arith, plains, filter, map, plain, (filter_bumped q same b))
+filter_bumped q same (y ∷ b) = grind (arith, plains, filter, map, plain, (filter_bumped q same b))
 
 pub fold_skip : {B : Type 0} (f : B → Happening → B) (u : Happening → Bool) (as_ bs : List Happening) (w : Happening) → ((b : B) → f b w ≡ b) → (z : B)
     → fold f z (filter u (as_ ++ w ∷ bs)) ≡ fold f z (filter u (as_ ++ bs))
 fold_skip {B} f u [] bs w same z =
     elim (u w) as (λ c. fold f z (if c then w ∷ filter u bs else filter u bs) ≡ fold f z (filter u bs))
     [ true ↦ ap (λ (b : B). fold f b (filter u bs)) (same z) | false ↦ refl ]
-fold_skip {B} f u (a ∷ as_) bs w same z =
-    grind (arith, fold, filter, (fold_skip f u as_ bs w same (f z a)), (fold_skip f u as_ bs w same z))
+fold_skip {B} f u (a ∷ as_) bs w same z = grind (arith, fold, filter, (fold_skip f u as_ bs w same (f z a)), (fold_skip f u as_ bs w same z))
 
 get_prefix : (hs xs : List Happening) (i : ℕ) → i < length hs → slice_get (hs ++ xs) i ≡ slice_get hs i
 get_prefix [] xs i lt = absurd (omega (arith, lt))
@@ -107,8 +105,7 @@ bumped_in (y ∷ b) x (inr i) = inr (bumped_in b x i)
 -- ---- the judgement of what is permanent
 
 late_not : (a r t : ℕ) (xs ys : List ℕ) → a ≡ t → 4 ≤ r → is_before (a ∷ r ∷ xs) (t ∷ 3 ∷ ys) ≡ false
-late_not a r t xs ys e high =
-    grind (arith, nat_lt, is_before, le-ltb, and_right, false_from_ne_true, eqb-true)
+late_not a r t xs ys e high = grind (arith, nat_lt, is_before, le-ltb, and_right, false_from_ne_true, eqb-true)
 
 -- ---- so the records agree
 
@@ -184,8 +181,7 @@ judged_put t ps b w put device link cause frame point =
     ∙ sym (ap plains (drop_one q ps (map bump b) w gone))
 
 earlier_put : (t : ℕ) (ps b : List Happening) (w : Happening) → IsPut t ps b w → earlier t (ps ++ b) ≡ earlier t (ps ++ w ∷ map bump b)
-earlier_put t ps b w put =
-    grind (arith, earlier_still, map, time_of, in_bumped)
+earlier_put t ps b w put = grind (arith, earlier_still, map, time_of, in_bumped)
 
 pub alike_put : (s : Scenario) (t known : ℕ) (ps b : List Happening) (w : Happening) → IsPut t ps b w → known ≤ length ps
     → AreAlike s t known (ps ++ b) (ps ++ w ∷ map bump b)

@@ -56,8 +56,7 @@ IsAllOfIt s hs coming p =
     × (place_of z ≡ place_of y)
 
 pub settled_moves : (s : Scenario) (hs coming : List Happening) (mark cursor : List ℕ) (now r : ℕ) (more : List ℕ) → IsMoving s hs coming mark cursor now r more
-    → IsAllOfIt s hs coming (now ∷ r ∷ more)
-    → AreSettled s hs coming mark (behind (now ∷ r ∷ more)) now
+    → IsAllOfIt s hs coming (now ∷ r ∷ more) → AreSettled s hs coming mark (behind (now ∷ r ∷ more)) now
 settled_moves s hs coming mark cursor now r more m all = record {
   of_now = m.are.of_now;
   behind_mark = m.are.behind_mark;
@@ -150,8 +149,7 @@ all_without place p xs never e = (λ i. (i, never e), λ both. both.0)
 
 -- the frames that wait, where the source is of a higher rank
 pub waiting_moves : (s : Scenario) (hs coming : List Happening) (mark cursor : List ℕ) (now r : ℕ) (more : List ℕ) (waiting : List Waiting)
-    → IsMoving s hs coming mark cursor now r more → (3 ≡ r → ⊥) → AreWaiting s hs cursor now waiting
-    → AreWaiting s hs (behind (now ∷ r ∷ more)) now waiting
+    → IsMoving s hs coming mark cursor now r more → (3 ≡ r → ⊥) → AreWaiting s hs cursor now waiting → AreWaiting s hs (behind (now ∷ r ∷ more)) now waiting
 waiting_moves s hs coming mark cursor now r more waiting m other are = record {
   real = are.real;
   later = λ e i t x b.

@@ -145,8 +145,7 @@ send_near s js gs t device link cause same l = grind arith
 lost_near : (s : Scenario) (js gs : List Happening) (t : ℕ) (device : DeviceId) (link : LinkId) (cause : ℕ) → earlier t js ≡ earlier t gs
     → numbered js cause ≡ numbered gs cause → IsLost s js device t link cause → IsLost s gs device t link cause
 lost_near s js gs t device link cause before same (inl d) = inl (departs_near s js gs t device link cause _ same d)
-lost_near s js gs t device link cause before same (inr (inl d)) =
-    inr (inl (d.0, d.1, dispatches_back s js gs t device link cause d.0 d.1 before d.2, d.3))
+lost_near s js gs t device link cause before same (inr (inl d)) = inr (inl (d.0, d.1, dispatches_back s js gs t device link cause d.0 d.1 before d.2, d.3))
 lost_near s js gs t device link cause before same (inr (inr l)) = inr (inr (send_near s js gs t device link cause same l))
 
 -- a place of a lower rank is not behind the source either
@@ -160,10 +159,8 @@ dropped_near s t n m at put js gs device link cause reason p a le (inl o) under 
     inl (arrives_near s t n at put js gs device link cause _ a le (subst (λ (q : List ℕ). IsBefore at q → ⊥) o.0 under) o.1)
 dropped_near s t n m at put js gs device link cause reason p a le (inr (inl o)) under c =
     inr (inl (o.0, (ripens_near s t n at put js gs device link cause o.0 _ a le o.1 (subst (λ (q : List ℕ). IsBefore at q → ⊥) o.2 under)).0))
-dropped_near s t n m at put js gs device link cause reason p a le (inr (inr o)) under (inl c) =
-    grind (arith, arrives_near, lower_rank)
-dropped_near s t n m at put js gs device link cause reason p a le (inr (inr o)) under (inr (inl c)) =
-    grind (arith, ripens_near, lower_rank, amount)
+dropped_near s t n m at put js gs device link cause reason p a le (inr (inr o)) under (inl c) = grind (arith, arrives_near, lower_rank)
+dropped_near s t n m at put js gs device link cause reason p a le (inr (inr o)) under (inr (inl c)) = grind (arith, ripens_near, lower_rank, amount)
 dropped_near s t n m at put js gs device link cause reason p a le (inr (inr o)) under (inr (inr c)) =
     inr (inr (departs_near s js gs t device link cause _ (a.first cause le) c.0, c.1))
 
@@ -206,8 +203,7 @@ caused_near s n m at put js gs time (notes.Dropped device link cause reason) p a
 -- and its own source
 pub own_near : (s : Scenario) (t n m : ℕ) (at : List ℕ) (put : NoteBody) (js gs : List Happening) (body : NoteBody) (p : List ℕ)
     → AreNear s t n at put js gs → cause_of body ≤ n → (IsBefore at p → ⊥) → IsOwnSource s js t m body p → IsOwnSource s gs t m body p
-own_near s t n m at put js gs (notes.Lost device link cause) p a le under (inl d) =
-    inl (d.0, departs_near s js gs t device link cause _ (a.first cause le) d.1)
+own_near s t n m at put js gs (notes.Lost device link cause) p a le under (inl d) = inl (d.0, departs_near s js gs t device link cause _ (a.first cause le) d.1)
 own_near s t n m at put js gs (notes.Lost device link cause) p a le under (inr (inl d)) =
     inr (inl (d.0, (d.1.0, d.1.1, dispatches_back s js gs t device link cause d.1.0 d.1.1 a.before d.1.2, d.1.3)))
 own_near s t n m at put js gs (notes.Lost device link cause) p a le under (inr (inr l)) =
@@ -228,8 +224,7 @@ own_near s t n m at put js gs other p a le under o = o
 
 -- the own source of a record that is caused is a source
 pub own_source : (s : Scenario) (js : List Happening) (time : Units) (m : ℕ) (body : NoteBody) (p : List ℕ) → is_at_source body ≡ false
-    → IsCaused s js time body
-    → IsOwnSource s js (amount time) m body p → IsSource s js p
+    → IsCaused s js time body → IsOwnSource s js (amount time) m body p → IsSource s js p
 own_source s js time m (notes.Event line what) p there c o = at_place s js p _ o (IsSource.befalling time line what c)
 own_source s js time m (notes.Arrived device link cause clock) p there c o = absurd cc
 own_source s js time m (notes.Permanent device link cause point verdict) p there c o = absurd cc
@@ -243,8 +238,7 @@ own_source s js time m (notes.Corrected device cycle by adjustment) p there c o 
     (IsActing.correcting cycle (record { next = c.corrected.next; reached = c.corrected.reached; correct = c.corrected.correct })))
 own_source s js time m (notes.State device state cause whys.On) p there c o = at_place s js p _ o (IsSource.following (amount time) cause c.2.1 c.2.2)
 own_source s js time m (notes.State device state cause whys.Frame) p there c o = at_place s js p _ o (IsSource.following (amount time) cause c.1.0 c.1.1)
-own_source s js time m (notes.State device state cause whys.Correction) p there c o =
-    at_place s js p _ o (IsSource.following (amount time) cause c.2.3 c.2.4)
+own_source s js time m (notes.State device state cause whys.Correction) p there c o = at_place s js p _ o (IsSource.following (amount time) cause c.2.3 c.2.4)
 own_source s js time m (notes.State device state cause whys.SyncClique) p there c o =
     at_place s js p _ o (IsSource.acting (amount time) device
     (IsActing.correcting c.2.0 (record { next = c.2.1.next; reached = c.2.1.reached; correct = c.2.1.correct })))
@@ -271,8 +265,7 @@ rank_up_to : (t r k : ℕ) (more ws : List ℕ) → (IsBefore (t ∷ r ∷ more)
 rank_up_to t r k more ws not = elim (cases_lt r k) [ inl lt ↦ absurd (not (inr (refl, inl lt))) | inr le ↦ le ]
 
 departs_given : (s : Scenario) (hs zs : List Happening) (now r t : ℕ) (device : DeviceId) (link : LinkId) (cause : ℕ) (is : Departure) → AreFrom now r zs
-    → 8 ≤ r
-    → Departs s (hs ++ zs) device t link cause is → cause ≤ length hs
+    → 8 ≤ r → Departs s (hs ++ zs) device t link cause is → cause ≤ length hs
 departs_given s hs zs now r t device link cause is from high d =
     elim (numbered_parts hs zs d.giving cause d.there) [
       | inl old ↦ let lt = numbered_within hs cause d.giving old in omega (arith, lt)
@@ -280,8 +273,7 @@ departs_given s hs zs now r t device link cause is from high d =
     ]
 
 arrives_given : (s : Scenario) (hs zs : List Happening) (now r : ℕ) (device : DeviceId) (link : LinkId) (cause : ℕ) (is : Arrival) → IsForward s
-    → AreFrom now r zs
-    → ArrivesAs s (hs ++ zs) device now link cause is → cause ≤ length hs
+    → AreFrom now r zs → ArrivesAs s (hs ++ zs) device now link cause is → cause ≤ length hs
 arrives_given s hs zs now r device link cause is forward from a =
     elim (numbered_parts hs zs a.putting cause a.there) [
       | inl old ↦ let lt = numbered_within hs cause a.putting old in omega (arith, lt)
@@ -328,8 +320,7 @@ dispatches_given s hs zs now r device link cause vl cycle founded from d =
 -- the cause of a record whose source is not behind the place is given, if it does not follow a record of the instant
 pub known_near : (s : Scenario) (hs zs : List Happening) (time : Units) (m r : ℕ) (more : List ℕ) (body : NoteBody) (p : List ℕ) → IsForward s
     → IsFounded place_of (IsDue s) hs → AreFrom (amount time) r zs → 2 ≤ r → is_at_source body ≡ false → is_follower body ≡ false
-    → IsOwnSource s (hs ++ zs) (amount time) m body p → (IsBefore (amount time ∷ r ∷ more) p → ⊥) → IsCaused s (hs ++ zs) time body
-    → cause_of body ≤ length hs
+    → IsOwnSource s (hs ++ zs) (amount time) m body p → (IsBefore (amount time ∷ r ∷ more) p → ⊥) → IsCaused s (hs ++ zs) time body → cause_of body ≤ length hs
 known_near s hs zs time m r more (notes.Event line what) p forward founded from late there follows o under c = omega arith
 known_near s hs zs time m r more (notes.Arrived device link cause clock) p forward founded from late there follows o under c = absurd cc
 known_near s hs zs time m r more (notes.Permanent device link cause point verdict) p forward founded from late there follows o under c = absurd cc
@@ -388,10 +379,7 @@ this_up n js gs t cause h a it = elim (cases_lt n cause) [
   )
   | inl high ↦ (
     bump_behind n h,
-    record {
-      there = ap (numbered gs) (up_high n cause high) ∙ a.beyond cause high ∙ ap (option_map (bump_behind n)) it.there;
-      same_time = it.same_time;
-    },
+    record { there = ap (numbered gs) (up_high n cause high) ∙ a.beyond cause high ∙ ap (option_map (bump_behind n)) it.there; same_time = it.same_time },
     inr refl,
   )
 ]
@@ -417,10 +405,7 @@ this_down n js gs t cause g a other it = elim (cases_lt n cause) [
       ] in
       let found = mapped_back (bump_behind n) (numbered js (cause - 1)) g (sym (a.beyond (cause - 1) over) ∙ ap (numbered gs) back ∙ it.there) in (
         found.0,
-        record {
-          there = ap (numbered js) (down_high n cause high) ∙ found.1;
-          same_time = ap time_of (sym found.2) ∙ it.same_time;
-        },
+        record { there = ap (numbered js) (down_high n cause high) ∙ found.1; same_time = ap time_of (sym found.2) ∙ it.same_time },
         inr (ap (λ (h : Happening). h.note.body) found.2),
       )
 ]

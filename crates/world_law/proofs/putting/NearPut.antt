@@ -27,8 +27,7 @@ not_is (x ∷ xs) (y ∷ ys) not =
 
 pub filter_none : (q : Happening → Bool) (xs : List Happening) → ((h : Happening) → IsIn h xs → q h ≡ false) → filter q xs ≡ []
 filter_none q [] none = refl
-filter_none q (x ∷ xs) none =
-    ap (λ (b : Bool). if b then x ∷ filter q xs else filter q xs) (none x (inl refl)) ∙ filter_none q xs (λ h i. none h (inr i))
+filter_none q (x ∷ xs) none = ap (λ (b : Bool). if b then x ∷ filter q xs else filter q xs) (none x (inl refl)) ∙ filter_none q xs (λ h i. none h (inr i))
 
 any_skip : (p : Happening → Bool) (xs bs : List Happening) (w : Happening) → p w ≡ false → list_any p (xs ++ bs) ≡ list_any p (xs ++ w ∷ bs)
 any_skip p [] bs w e = sym (ap (λ (b : Bool). b || list_any p bs) e)
@@ -81,8 +80,7 @@ none_judged at p w xs least under over =
     ]))
 
 pub hearing_placed : (s : Scenario) (t n : ℕ) (ps c : List Happening) (w : Happening) (device : DeviceId)
-    → earlier t (ps ++ c) ≡ earlier t (ps ++ w ∷ c) → bears_on device w.note.body ≡ false
-    → HearsAlike s (ps ++ c) (ps ++ w ∷ map (bump_behind n) c) device t
+    → earlier t (ps ++ c) ≡ earlier t (ps ++ w ∷ c) → bears_on device w.note.body ≡ false → HearsAlike s (ps ++ c) (ps ++ w ∷ map (bump_behind n) c) device t
 hearing_placed s t n ps c w device before misses =
     let js = ps ++ c in
     let ms = ps ++ w ∷ c in
@@ -96,8 +94,7 @@ hearing_placed s t n ps c w device before misses =
       heard =
           heard_alike s js ms device t bear ∙ sym (heard_plain s ms device t) ∙ ap (λ (l : List Happening). heard_since s l device t) same
           ∙ heard_plain s gs device t;
-      points =
-          points_alike js ms device bear ∙ sym (points_plain ms device) ∙ ap (λ (l : List Happening). points_of l device) same ∙ points_plain gs device;
+      points = points_alike js ms device bear ∙ sym (points_plain ms device) ∙ ap (λ (l : List Happening). points_of l device) same ∙ points_plain gs device;
       state =
           ap (λ (b : Bool). if b then Joining else state_before s js device t) joined
           ∙ ap (λ (l : List Happening). if has_joined_at ms device t then Joining else (if is_turned_on_at s device t then Integrating
@@ -115,8 +112,7 @@ hearing_placed s t n ps c w device before misses =
 
 -- with it and without it they tell the same
 pub two_placed : (s : Scenario) (t : ℕ) (at : List ℕ) (ps c : List Happening) (w : Happening) → IsPlaced t at c w
-    → place_of (bump_behind (length ps) w) ≡ place_of w
-    → AreTwo s t (length ps) at w.note.body (ps ++ c) (ps ++ w ∷ map (bump_behind (length ps)) c)
+    → place_of (bump_behind (length ps) w) ≡ place_of w → AreTwo s t (length ps) at w.note.body (ps ++ c) (ps ++ w ∷ map (bump_behind (length ps)) c)
 two_placed s t at ps c w p keeps =
     let n = length ps in
     let b = map (bump_behind n) c in

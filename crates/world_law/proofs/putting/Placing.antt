@@ -39,8 +39,7 @@ at_or_behind at q not = elim (either_way at q) [ inl lt ↦ inr lt | inr (inl e)
 
 -- the record comes from a source that is not behind this place
 abbrev pub ComesUpTo : Scenario → List Happening → List ℕ → Happening → Type 0
-ComesUpTo s js at y =
-    (q : List ℕ) × IsOwnSource s js (time_of y) (members_in y) y.note.body q × IsSource s js q × (IsBefore q at ⊎ (q ≡ at))
+ComesUpTo s js at y = (q : List ℕ) × IsOwnSource s js (time_of y) (members_in y) y.note.body q × IsSource s js q × (IsBefore q at ⊎ (q ≡ at))
 
 abbrev pub IsFound : List Happening → Happening → Type 0
 IsFound new y = (z : Happening) × IsIn z new × (place_of z ≡ place_of y)
@@ -55,8 +54,7 @@ pub record IsWell (s : Scenario) (hs coming : List Happening) (mark : List ℕ) 
   pub by : (f rest : List Happening) (z : Happening) → coming ≡ f ++ z ∷ rest → ComesUpTo s (hs ++ f) (now ∷ r ∷ more) z
   pub full : (f rest : List Happening) (y : Happening) → coming ≡ f ++ rest → AllBefore place_of f (place_of y) → NoneBefore place_of rest (place_of y)
       → (IsBefore (place_of y) mark → ⊥) → IsDue s (hs ++ f) y → time_of y ≡ now → (p : List ℕ)
-      → IsOwnSource s (hs ++ f) (time_of y) (members_in y) y.note.body p → IsSource s (hs ++ f) p → IsBefore p (now ∷ r ∷ more)
-      → IsFound coming y ⊎ Yet y
+      → IsOwnSource s (hs ++ f) (time_of y) (members_in y) y.note.body p → IsSource s (hs ++ f) p → IsBefore p (now ∷ r ∷ more) → IsFound coming y ⊎ Yet y
 
 -- where the source comes first, what is to come is so
 pub well_of : (s : Scenario) (hs coming : List Happening) (mark cursor : List ℕ) (now r : ℕ) (more : List ℕ) → IsMoving s hs coming mark cursor now r more
@@ -108,8 +106,7 @@ put_at hs front w back = placed (before_it hs front) front w back
 -- the record keeps its place, and so do those before it
 low_place : (s : Scenario) (hs front f rest : List Happening) (z : Happening) → front ≡ f ++ rest → IsDue s (hs ++ f) z
     → place_of (bump_behind (before_it hs front) z) ≡ place_of z
-low_place s hs front f rest z e due =
-    grind (arith, length-append, length, time_of, rank, key, members_in, due_low)
+low_place s hs front f rest z e due = grind (arith, length-append, length, time_of, rank, key, members_in, due_low)
 
 front_place : (s : Scenario) (hs front back : List Happening) (mark : List ℕ) (now r : ℕ) (more : List ℕ) (Yet : Happening → Type 0)
     → IsWell s hs (front ++ back) mark now r more Yet → (z : Happening) → IsIn z front → place_of (bump_behind (before_it hs front) z) ≡ place_of z
@@ -167,8 +164,7 @@ few_at : (s : Scenario) (hs front zs : List Happening) (now r : ℕ) (more : Lis
     → IsFounded place_of (IsDue s) hs → AreFrom now r zs → time_of y ≡ now → is_at_source y.note.body ≡ false
     → (IsBefore (now ∷ r ∷ more) q → ⊥) → IsOwnSource s (hs ++ zs) (time_of y) (members_in y) y.note.body q → IsDue s (hs ++ zs) y
     → is_follower y.note.body ≡ false → cause_of y.note.body ≤ before_it hs front
-few_at s hs front zs now r more y q forward late given from now_is not_there under own due plain =
-    grind (arith, known_near, members_in, length-append)
+few_at s hs front zs now r more y q forward late given from now_is not_there under own due plain = grind (arith, known_near, members_in, length-append)
 
 all_from : (s : Scenario) (hs coming : List Happening) (mark : List ℕ) (now r : ℕ) (more : List ℕ) (Yet : Happening → Type 0)
     → IsWell s hs coming mark now r more Yet → AreFrom now r coming
@@ -438,8 +434,7 @@ placed_well s hs front back mark now r more w Yet Then well p carry = record {
 of_the_instant : (s : Scenario) (js : List Happening) (mark : List ℕ) (now r : ℕ) (more : List ℕ) (y : Happening) (q : List ℕ)
     → ((p : List ℕ) → IsBefore p (now ∷ []) → IsBefore p mark) → IsOwnSource s js (time_of y) (members_in y) y.note.body q
     → IsBefore q (now ∷ r ∷ more) → (IsBefore (place_of y) mark → ⊥) → time_of y ≡ now
-of_the_instant s js mark now r more y q marked own under not =
-    grind (arith, own_time, time_of, members_in, no_higher, place_of)
+of_the_instant s js mark now r more y q marked own under not = grind (arith, own_time, time_of, members_in, no_higher, place_of)
 
 -- the cursor is at the source: a device that acts there has more to do
 pub settled_at : (s : Scenario) (hs coming : List Happening) (mark : List ℕ) (now r : ℕ) (more : List ℕ) (device : DeviceId)

@@ -21,8 +21,7 @@ higher t k r ks rs lt (inr (e, inl b)) = omega (arith, lt, b)
 higher t k r ks rs lt (inr (e, inr b)) = let f = b.0 in omega (arith, lt, f)
 
 same_end : (t k d e : ℕ) (more q : List ℕ) → q ≡ t ∷ k ∷ d ∷ [] → IsBefore (t ∷ k ∷ d ∷ more) q → ⊥
-same_end t k d e more q o b =
-    grind (arith, before_end)
+same_end t k d e more q o b = grind (arith, before_end)
 
 above : (t k r : ℕ) (ks rs q : List ℕ) → r < k → q ≡ t ∷ r ∷ rs → IsBefore (t ∷ k ∷ ks) q → ⊥
 above t k r ks rs q lt o b = higher t k r ks rs lt (subst (λ (p : List ℕ). IsBefore (t ∷ k ∷ ks) p) o b)
@@ -31,8 +30,7 @@ same_place : (p q : List ℕ) → q ≡ p → IsBefore p q → ⊥
 same_place p q o b = never_self p (subst (λ (u : List ℕ). IsBefore p u) o b)
 
 none_below : (t k : ℕ) (ks q : List ℕ) → q ≡ t ∷ k ∷ [] → IsBefore (t ∷ k ∷ ks) q → ⊥
-none_below t k ks q o b =
-    grind arith
+none_below t k ks q o b = grind arith
 
 -- the premise `least` of `IsOne`, for all kinds
 pub least_of_own : (s : Scenario) (js : List Happening) (t m : ℕ) (body : NoteBody) (q : List ℕ) → IsOwnSource s js t m body q
@@ -44,14 +42,11 @@ least_of_own s js t m (notes.Corrected device cycle by adjustment) q o b = above
 least_of_own s js t m (notes.State device state cause whys.On) q o b = above t 7 2 (device.0 ∷ cause ∷ []) [] q (omega arith) o b
 least_of_own s js t m (notes.State device state cause whys.Frame) q o b = above t 7 2 (device.0 ∷ cause ∷ []) [] q (omega arith) o b
 least_of_own s js t m (notes.State device state cause whys.Correction) q o b = above t 7 2 (device.0 ∷ cause ∷ []) [] q (omega arith) o b
-least_of_own s js t m (notes.State device state cause whys.SyncClique) q o b =
-    above t 7 4 (device.0 ∷ cause ∷ []) (device.0 ∷ []) q (omega arith) o b
-least_of_own s js t m (notes.State device state cause whys.AsyncClique) q o b =
-    above t 7 4 (device.0 ∷ cause ∷ []) (device.0 ∷ []) q (omega arith) o b
+least_of_own s js t m (notes.State device state cause whys.SyncClique) q o b = above t 7 4 (device.0 ∷ cause ∷ []) (device.0 ∷ []) q (omega arith) o b
+least_of_own s js t m (notes.State device state cause whys.AsyncClique) q o b = above t 7 4 (device.0 ∷ cause ∷ []) (device.0 ∷ []) q (omega arith) o b
 least_of_own s js t m (notes.Lost device link cause) q (inl o) b =
     above t 9 8 (device.0 ∷ link.0 ∷ cause ∷ []) (device.0 ∷ link.0 ∷ cause ∷ []) q (omega arith) o.0 b
-least_of_own s js t m (notes.Lost device link cause) q (inr (inl o)) b =
-    above t 9 4 (device.0 ∷ link.0 ∷ cause ∷ []) (device.0 ∷ []) q (omega arith) o.0 b
+least_of_own s js t m (notes.Lost device link cause) q (inr (inl o)) b = above t 9 4 (device.0 ∷ link.0 ∷ cause ∷ []) (device.0 ∷ []) q (omega arith) o.0 b
 least_of_own s js t m (notes.Lost device link cause) q (inr (inr o)) b = above t 9 2 (device.0 ∷ link.0 ∷ cause ∷ []) [] q (omega arith) o.0 b
 least_of_own s js t m (notes.TtSent device link cause vl cycle) q o b =
     above t 10 4 (device.0 ∷ link.0 ∷ cause ∷ vl.0 ∷ cycle ∷ []) (device.0 ∷ []) q (omega arith) o b
@@ -109,8 +104,7 @@ same_acts now device other e =
     let n : other.0 ≡ device.0 = cc in ap (λ (k : ℕ). let d : DeviceId = record { 0 = k } in d) n
 
 pub act_one : (s : Scenario) (hs front back : List Happening) (mark cursor : List ℕ) (now : ℕ) (device : DeviceId) (body : NoteBody)
-    → IsActSo s hs front back mark cursor now device body
-    → IsOne s hs front back mark cursor now 4 (device.0 ∷ []) (record_of s.network hs front now body)
+    → IsActSo s hs front back mark cursor now device body → IsOne s hs front back mark cursor now 4 (device.0 ∷ []) (record_of s.network hs front now body)
 act_one s hs front back mark cursor now device body a =
     let w = record_of s.network hs front now body in
     let due = due_of s hs front now body a.cause in
@@ -157,8 +151,7 @@ change_of s hs zs device t state cause whys.AsyncClique joins corrects late c = 
 -- no frame that the device sent and no correction of it is to come: so the causes of its changes of state are given. The
 -- premise of `two_shown` where a device acts
 pub causes_of_device : (s : Scenario) (hs coming : List Happening) (mark cursor : List ℕ) (now r : ℕ) (more : List ℕ) (device : DeviceId)
-    → IsMoving s hs coming mark cursor now r more → 2 ≤ r
-    → ((h : Happening) → IsIn h coming → is_joined_by device h.note.body ≡ true → ⊥)
+    → IsMoving s hs coming mark cursor now r more → 2 ≤ r → ((h : Happening) → IsIn h coming → is_joined_by device h.note.body ≡ true → ⊥)
     → ((h : Happening) → IsIn h coming → (cycle : ℕ) (by adjustment : Units) → h.note.body ≡ notes.Corrected device cycle by adjustment → ⊥)
     → (z : Happening) → IsIn z coming → (it : AsState z.note.body) → it.device.0 ≡ device.0 → it.cause ≤ length hs
 causes_of_device s hs coming mark cursor now r more device m some joins corrects z i it same =

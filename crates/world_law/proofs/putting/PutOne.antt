@@ -21,8 +21,7 @@ order_not link by cause from not = grind (arith, cases_order, nat_lt, le-ltb, un
 none_before : (now : ℕ) (device other : DeviceId) (vl of_vl : VlId) (link by : LinkId) (cause from : ℕ)
     → (IsBefore (now ∷ 2 ∷ other.0 ∷ by.0 ∷ from ∷ []) (now ∷ 2 ∷ device.0 ∷ link.0 ∷ cause ∷ []) → ⊥)
     → (device.0 == other.0 && vl.0 == of_vl.0 && (nat_lt now now || (now == now && comes_before by from link cause))) ≡ false
-none_before now device other vl of_vl link by cause from not =
-    grind (arith, nat_lt, cases_Bool, and_left, eqb-true, and_right, le-ltb, order_not)
+none_before now device other vl of_vl link by cause from not = grind (arith, nat_lt, cases_Bool, and_left, eqb-true, and_right, le-ltb, order_not)
 
 -- no arrival up to its source comes after it
 takes_not : (s : Scenario) (js : List Happening) (now m : ℕ) (body : NoteBody) (at : List ℕ) → IsOwnSource s js now m body at
@@ -41,8 +40,7 @@ apart_of s js now m r more (notes.Permanent other link cause point verdict) o lo
     (let three : r ≡ 3 = cc in elim b [ inl lt ↦ omega (arith, lt) | inr (e, inl lt) ↦ omega (arith, lt, three) | inr (e, inr f) ↦ omega (arith, f.0, three) ])
 apart_of s js now m r more (notes.Compressed other opened at cycle members verdict) o longer device b =
     grind (arith, false_from_ne_true, never_self, act_place, eqb-true)
-apart_of s js now m r more (notes.Corrected other cycle by adjustment) o longer device b =
-    grind (arith, false_from_ne_true, never_self, act_place, eqb-true)
+apart_of s js now m r more (notes.Corrected other cycle by adjustment) o longer device b = grind (arith, false_from_ne_true, never_self, act_place, eqb-true)
 apart_of s js now m r more (notes.State other state cause whys.SyncClique) o longer device b =
     grind (arith, false_from_ne_true, never_self, act_place, eqb-true)
 apart_of s js now m r more (notes.State other state cause whys.AsyncClique) o longer device b =
@@ -233,8 +231,7 @@ none_follows s hs front back mark cursor now r more w p last = record {
 }
 
 pub one_well : (s : Scenario) (hs front back : List Happening) (mark cursor : List ℕ) (now r : ℕ) (more : List ℕ) (w : Happening)
-    → IsOne s hs front back mark cursor now r more w → IsUnfollowed s hs now w.note.body
-    → IsWell s hs (put_at hs front w back) mark now r more (λ y. ⊥)
+    → IsOne s hs front back mark cursor now r more w → IsUnfollowed s hs now w.note.body → IsWell s hs (put_at hs front w back) mark now r more (λ y. ⊥)
 one_well s hs front back mark cursor now r more w p last =
     placed_well s hs front back mark now r more w (λ y. ⊥) (λ y. ⊥) (well_of s hs (front ++ back) mark cursor now r more p.moving)
     (placing_one s hs front back mark cursor now r more w p) (none_follows s hs front back mark cursor now r more w p last)
@@ -266,10 +263,8 @@ worked_then s hs front back mark cursor then_ now r more w p on at z i is =
 -- THE RECORD IS PUT IN, AND THE CURSOR GOES BEHIND ITS SOURCE (all sources but events and their outcomes). All that is
 -- due from the source is at the record's place, whatever else is to come
 pub one_by : (s : Scenario) (hs front back : List Happening) (mark cursor : List ℕ) (now r : ℕ) (more : List ℕ) (w : Happening)
-    → IsOne s hs front back mark cursor now r more w → IsUnfollowed s hs now w.note.body
-    → (is_at_source w.note.body ≡ true → place_of w ≡ now ∷ r ∷ more)
-    → IsAllOfIt s hs (put_at hs front w back) (now ∷ r ∷ more)
-    → AreSettled s hs (put_at hs front w back) mark (behind (now ∷ r ∷ more)) now
+    → IsOne s hs front back mark cursor now r more w → IsUnfollowed s hs now w.note.body → (is_at_source w.note.body ≡ true → place_of w ≡ now ∷ r ∷ more)
+    → IsAllOfIt s hs (put_at hs front w back) (now ∷ r ∷ more) → AreSettled s hs (put_at hs front w back) mark (behind (now ∷ r ∷ more)) now
 one_by s hs front back mark cursor now r more w p last stands all =
     let at = now ∷ r ∷ more in
     settled_by s hs (put_at hs front w back) mark now r more (one_well s hs front back mark cursor now r more w p last) p.marked

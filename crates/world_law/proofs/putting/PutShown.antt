@@ -59,14 +59,12 @@ keys_shown given m k body other e le room b = grind (arith, seven, key, hidden_s
 -- what is before a record whose cause is given is shown before it
 pub hidden_before : (given : ℕ) (z w : Happening) → cause_of w.note.body ≤ given → IsBefore (place_of z) (place_of w)
     → IsBefore (place_of (hidden given z)) (place_of w)
-hidden_before given z w le b =
-    grind (arith, time_of, key, members_in, hidden_body, place_of, hidden_rank, places_up, rank, keys_hidden)
+hidden_before given z w le b = grind (arith, time_of, key, members_in, hidden_body, place_of, hidden_rank, places_up, rank, keys_hidden)
 
 -- and what is shown before it is so
 pub shown_before : (given : ℕ) (z w : Happening) → cause_of w.note.body ≤ given → given < none_yet → IsBefore (place_of (hidden given z)) (place_of w)
     → IsBefore (place_of z) (place_of w)
-shown_before given z w le room b =
-    grind (arith, places_up, time_of, rank, key, members_in, hidden_body, keys_shown, place_of, hidden_rank)
+shown_before given z w le room b = grind (arith, places_up, time_of, rank, key, members_in, hidden_body, keys_shown, place_of, hidden_rank)
 
 -- ---- one body
 
@@ -199,10 +197,8 @@ sole_put hs front back w d other sole y i it same =
 
 pub two_shown : (network : Network) (hs : List Happening) (now : ℕ) (body : NoteBody) (device : DeviceId) (state : State) (why : Why)
     (coming old settled : List Happening) → length hs < none_yet → cause_of body ≤ length hs → rank body < 7
-    → ((z : Happening) → IsIn z coming → (it : AsState z.note.body) → it.device.0 ≡ device.0 → it.cause ≤ length hs)
-    → old ≡ map (hidden (length hs)) coming
-    → ArePutIn network hs now (body ∷ notes.State device state none_yet why ∷ []) old settled
-    → IsShownPair network hs now body device state why coming settled
+    → ((z : Happening) → IsIn z coming → (it : AsState z.note.body) → it.device.0 ≡ device.0 → it.cause ≤ length hs) → old ≡ map (hidden (length hs)) coming
+    → ArePutIn network hs now (body ∷ notes.State device state none_yet why ∷ []) old settled → IsShownPair network hs now body device state why coming settled
 two_shown network hs now body device state why coming old settled room few under sole shown (mid, put, (mid2, put2, last)) =
     let given = length hs in
     let first = one_shown network hs now body coming old mid room few shown put in

@@ -25,8 +25,7 @@ follows_device s js now w device f = grind (arith, joins_device)
 
 -- the record of the cause of a change of state
 cause_there : (s : Scenario) (js : List Happening) (device : DeviceId) (t : ℕ) (state : State) (k : ℕ) (why : Why)
-    → ChangesState s js device t state (suc k) why
-    → (h : Happening) × (numbered js (suc k) ≡ Some h)
+    → ChangesState s js device t state (suc k) why → (h : Happening) × (numbered js (suc k) ≡ Some h)
 cause_there s js device t state k whys.On c = (c.2.1, c.2.2.there)
 cause_there s js device t state k whys.Frame c = (c.1.0, c.1.1.there)
 cause_there s js device t state k whys.Correction c = (c.2.3, c.2.4.there)
@@ -156,10 +155,8 @@ second_carried s hs front back front2 back2 mark cursor now r more w v device st
 
 own_of_change : (s : Scenario) (js : List Happening) (t m : ℕ) (device : DeviceId) (state : State) (cause : ℕ) (why : Why)
     → (why ≡ whys.Frame) ⊎ (why ≡ whys.Correction) → IsOwnSource s js t m (notes.State device state cause why) (t ∷ 2 ∷ [])
-own_of_change s js t m device state cause why (inl e) =
-    subst (λ (y : Why). IsOwnSource s js t m (notes.State device state cause y) (t ∷ 2 ∷ [])) (sym e) refl
-own_of_change s js t m device state cause why (inr e) =
-    subst (λ (y : Why). IsOwnSource s js t m (notes.State device state cause y) (t ∷ 2 ∷ [])) (sym e) refl
+own_of_change s js t m device state cause why (inl e) = subst (λ (y : Why). IsOwnSource s js t m (notes.State device state cause y) (t ∷ 2 ∷ [])) (sym e) refl
+own_of_change s js t m device state cause why (inr e) = subst (λ (y : Why). IsOwnSource s js t m (notes.State device state cause y) (t ∷ 2 ∷ [])) (sym e) refl
 
 change_takes : (device other : DeviceId) (vl : _) (t : ℕ) (link : _) (cause at : ℕ) (body : NoteBody) (state : State) (from : ℕ) (why : Why)
     → body ≡ notes.State other state from why → is_taken_before device vl t link cause at body ≡ false

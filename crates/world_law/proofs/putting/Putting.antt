@@ -38,8 +38,7 @@ put_list front w back = front ++ w ∷ map bump back
 -- all that is to come is late
 all_late : (s : Scenario) (hs front back : List Happening) (mark cursor : List ℕ) (now r : ℕ) (more : List ℕ) (w : Happening)
     → IsPutting s hs front back mark cursor now r more w → (y : Happening) → IsIn y (front ++ back) → (time_of y ≡ now) × (8 ≤ rank y.note.body)
-all_late s hs front back mark cursor now r more w p y i =
-    grind (arith, at_least)
+all_late s hs front back mark cursor now r more w p y i = grind (arith, at_least)
 
 -- and so is what is put in
 put_late : (s : Scenario) (hs front back : List Happening) (mark cursor : List ℕ) (now r : ℕ) (more : List ℕ) (w : Happening)
@@ -62,8 +61,7 @@ behind_it s hs front back mark cursor now r more w p y i =
 
 -- the records with and without it, up to some of those behind it, agree
 agree_put : (s : Scenario) (hs front back c d : List Happening) (mark cursor : List ℕ) (now r : ℕ) (more : List ℕ) (w : Happening)
-    → IsPutting s hs front back mark cursor now r more w → back ≡ c ++ d
-    → AreAlike s now (length hs) (hs ++ (front ++ c)) (hs ++ put_list front w c)
+    → IsPutting s hs front back mark cursor now r more w → back ≡ c ++ d → AreAlike s now (length hs) (hs ++ (front ++ c)) (hs ++ put_list front w c)
 agree_put s hs front back c d mark cursor now r more w p e =
     let put : IsPut now (hs ++ front) c w = record {
       idle = p.idle;
@@ -78,8 +76,7 @@ agree_put s hs front back c d mark cursor now r more w p e =
     (subst (λ (l : List Happening). AreAlike s now (length hs) ((hs ++ front) ++ c) l) (append_assoc hs front (w ∷ map bump c)) alike)
 
 one_longer : (hs front c : List Happening) (w : Happening) → length (hs ++ put_list front w c) ≡ length (hs ++ (front ++ c)) + 1
-one_longer hs front c w =
-    grind (arith, length-append, map, bump, length-map, length)
+one_longer hs front c w = grind (arith, length-append, map, bump, length-map, length)
 
 -- what stands behind it is due still, with the next number
 due_over : (s : Scenario) (hs front back c d : List Happening) (mark cursor : List ℕ) (now r : ℕ) (more : List ℕ) (w x : Happening)

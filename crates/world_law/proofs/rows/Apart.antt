@@ -23,22 +23,19 @@ row_apart network place entry rules is =
 
 -- the precision is not 0
 pub precise : (network : Network) → IsInRange network → 1 ≤ amount network.precision
-precise network range =
-    grind (arith, not_negative, ints)
+precise network range = grind (arith, not_negative, ints)
 
 -- so a clock that shows the one does not show the other; `point` is a place from the beginning of a cycle up to the correction
 pub apart_so : (network : Network) (offset point a b : ℕ) (z : ℤ) → IsApart network offset → point ≤ amount network.correction → 1 ≤ amount network.precision
     → ShowsAt z (pos (a * amount network.cycle + point)) (amount network.precision)
     → ShowsAt z (pos (b * amount network.cycle + offset)) (amount network.precision) → ⊥
-apart_so network offset point a b z apart early some one two =
-    grind (arith, amount, cases_lt, cycles_apart, ints)
+apart_so network offset point a b z apart early some one two = grind (arith, amount, cases_lt, cycles_apart, ints)
 
 -- ---- by the records
 
 -- a clock does not reach a row's value where it reaches a value from the beginning of a cycle up to its correction point
 pub no_row_with : (s : Scenario) (hs : List Happening) (device : DeviceId) (t point of_point place cycle : ℕ) (entry : Entry) → IsInRange s.network
-    → KeepsRules s.network
-    → IsSteady (s.reading device) (amount s.network.precision) → IsEntry s.network place entry → point ≤ amount s.network.correction
+    → KeepsRules s.network → IsSteady (s.reading device) (amount s.network.precision) → IsEntry s.network place entry → point ≤ amount s.network.correction
     → Reaches s hs device (pos (of_point * amount s.network.cycle + point)) t
     → Reaches s hs device (pos (cycle * amount s.network.cycle + amount entry.row.offset)) t → ⊥
 no_row_with s hs device t point of_point place cycle entry range rules steady is early one two =

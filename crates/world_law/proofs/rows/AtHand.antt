@@ -15,8 +15,7 @@ use Rattle.run_law.specs.declared.note.NoteBody.TheVariants as notes
 -- the frame is that of the record, by which the switch accepted it
 abbrev pub IsLastBy : DeviceId → VlId → (ℕ → ℤ) → Option TakenFrame → Option Happening → Type 0
 IsLastBy device vl at None None = Unit {0}
-IsLastBy device vl at (Some f) (Some h) =
-    (link : _) × (from : ℕ) × (h.note.body ≡ notes.Accepted device link from vl f.cycle) × (f.at ≡ at (time_of h))
+IsLastBy device vl at (Some f) (Some h) = (link : _) × (from : ℕ) × (h.note.body ≡ notes.Accepted device link from vl f.cycle) × (f.at ≡ at (time_of h))
 IsLastBy device vl at f h = ⊥
 
 abbrev is_of : VlId → TakenFrame → Bool
@@ -88,8 +87,7 @@ last_by device vl at (h ∷ hs) o p last none =
 pub filter_earlier : (q : Happening → Bool) (t : ℕ) (hs : List Happening) → ((h : Happening) → IsIn h hs → q h ≡ true → time_of h < t)
     → filter q (earlier t hs) ≡ filter q hs
 filter_earlier q t [] sooner = refl
-filter_earlier q t (h ∷ hs) sooner =
-    grind (arith, cases_Bool, filter, earlier, lt-ltb, time_of, nat_lt, (filter_earlier q t hs (λ g i. sooner g (inr i))))
+filter_earlier q t (h ∷ hs) sooner = grind (arith, cases_Bool, filter, earlier, lt-ltb, time_of, nat_lt, (filter_earlier q t hs (λ g i. sooner g (inr i))))
 
 -- what passes the test is such a record
 accepts : (device : DeviceId) (vl : VlId) (body : NoteBody) → is_accepted device vl body ≡ true → (link : _) × (from : ℕ) × (cycle : ℕ)
@@ -122,8 +120,7 @@ pub record IsReaching (s : Scenario) (hs : List Happening) (device : DeviceId) (
 -- the row's value
 pub value_is : (network : Network) (row : RowId) (entry : Entry) (cycle : ℕ) → IsEntry network row.0 entry
     → value_of network (dispatching row cycle) ≡ pos (cycle * amount network.cycle + amount entry.row.offset)
-value_is network row entry cycle is =
-    ap (λ (o : Option Row). pos (cycle * amount network.cycle + option_map_or (λ (r : Row). amount r.offset) o 0)) is.row
+value_is network row entry cycle is = ap (λ (o : Option Row). pos (cycle * amount network.cycle + option_map_or (λ (r : Row). amount r.offset) o 0)) is.row
 
 -- at a device that does not send the frame, each record of a taking is of an earlier time
 pub taken_sooner : (s : Scenario) (hs : List Happening) (device : DeviceId) (node : Node) (row : RowId) (entry : Entry) (cycle t : ℕ)

@@ -59,8 +59,7 @@ dispatching_task s hs device t later node link cause vl cycle u left has law pas
     let reached : Reaches s hs device (value_of s.network (dispatching row cycle)) later =
     subst (λ (z : ℤ). Reaches s hs device z later) (sym value) d.reached in
     let c = comes_so s hs device t later node (value_of s.network (dispatching row cycle)) u left reached in
-    let state : node.standing.state ≡ Synchronised =
-    left.state ∙ not_turned_on s hs device t u.not_on ∙ sym (state_still s hs device t later u.le u.still)
+    let state : node.standing.state ≡ Synchronised = left.state ∙ not_turned_on s hs device t u.not_on ∙ sym (state_still s hs device t later u.le u.still)
     ∙ sym (not_turned_on s hs device later u.not_on_later) ∙ d.up.synchronised in
     let r : IsReaching s hs device node row d.entry cycle later = record {
       range = law.range;

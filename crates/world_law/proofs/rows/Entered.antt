@@ -29,8 +29,7 @@ pub record IsTakenAt (network : Network) (device : DeviceId) (vl : VlId) (cycle 
 
 in_window : (network : Network) (at : Standpoint) (entry : Entry) (size : ℕ) (last : Option ℕ) → row_fault network at entry size last ≡ None
     → (1 ≤ cycle_at network (clock_of at)) × (offset_in_cycle network (clock_of at) ≤ℤ pos (window_end network entry))
-in_window network at entry size last e =
-    grind (arith, none_first, not, int_lt, not-false, or_parts, and_parts, nat_le, leb-true, not_less)
+in_window network at entry size last e = grind (arith, none_first, not, int_lt, not-false, or_parts, and_parts, nat_le, leb-true, not_less)
 
 -- ---- the row by which it came
 
@@ -38,8 +37,7 @@ in_window network at entry size last e =
 leads_to : (o : Option Link) (l : Link) (way : Way) (device : DeviceId) → o ≡ Some l → option_map (target_by way) o ≡ Some device
     → target_by (if option_map_or (λ x. x.parent.0 == device.0) o false then Up else Down) l ≡ device
 leads_to None l way device e r = absurd cc
-leads_to (Some x) l way device e r =
-    grind (arith, target_by, cases_Bool, eqb-true, eq-eqb)
+leads_to (Some x) l way device e r = grind (arith, target_by, cases_Bool, eqb-true, eq-eqb)
 
 -- a row by which a frame enters a device where it is received is of the schedule, and enters the device
 pub record IsEntering (network : Network) (device : DeviceId) (entry : Entry) : Type 0 where
@@ -185,8 +183,7 @@ delivered_end s front device t link cause vl cycle a = by a.signal a.becomes
   where
     by : (signal : Signal) → arrivals.Delivered vl cycle ≡ arrival_of s front device t link cause signal → is_end s.network device ≡ true
     by (control frame) e = absurd ((none_control s.network device link (standpoint s front device t) frame).1 vl cycle (sym e))
-    by (timed octets) e =
-        delivered_so s.network device link (standpoint s front device t) octets (last_taken front device t link cause) vl cycle (sym e)
+    by (timed octets) e = delivered_so s.network device link (standpoint s front device t) octets (last_taken front device t link cause) vl cycle (sym e)
 
 -- ---- the value that the clock showed
 

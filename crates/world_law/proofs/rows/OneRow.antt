@@ -42,12 +42,10 @@ fine reading precision steady =
 
 -- values that a clock shows at once, in two cycles, are not those of rows
 one_cycle : (size a b x y p : ℕ) (z : ℤ) → x + 4 * p ≤ size → 1 ≤ p → ShowsAt z (pos (a * size + x)) p → ShowsAt z (pos (b * size + y)) p → a < b → ⊥
-one_cycle size a b x y p z ends some first second lt =
-    grind (arith, cycles_apart, ints)
+one_cycle size a b x y p z ends some first second lt = grind (arith, cycles_apart, ints)
 
 close : (size a x y : ℕ) (z : ℤ) → ShowsAt z (pos (a * size + x)) (2 ^ 22) → ShowsAt z (pos (a * size + y)) (2 ^ 22) → y < x + 2 ^ 22
-close size a x y z first second =
-    grind (arith, ints)
+close size a x y z first second = grind (arith, ints)
 
 pub one_row : (s : Scenario) (js : List Happening) (device : DeviceId) (t : ℕ) (link other : LinkId) (cause from : ℕ) (vl with : VlId) (cycle number : ℕ)
     → IsLawful s js device → link ≡ other → (d : Dispatches s js device t link cause vl cycle) → (e : Dispatches s js device t other from with number)
@@ -76,8 +74,7 @@ one_row s js device t link other cause from vl with cycle number law same d e =
     let less = close size cycle x y z one two in
     let more = close size cycle y x z two one in
     let links : d.entry.row.link ≡ e.entry.row.link = d.by ∙ same ∙ sym e.by in
-    let ways : d.entry.row.way ≡ e.entry.row.way =
-    same_way n e.entry.row.link d.entry.link e.entry.link d.entry.row.way e.entry.row.way device law.rules
+    let ways : d.entry.row.way ≡ e.entry.row.way = same_way n e.entry.row.link d.entry.link e.entry.link d.entry.row.way e.entry.row.way device law.rules
     (subst (λ (l : LinkId). link_at n l ≡ Some d.entry.link) links d.row.link) e.row.link d.leaves e.leaves in
     let occurs = subst (λ (k : ℕ). Rattle.schedule_tables.specs.Windows.OccursIn e.entry.vl k) (sym cycles) e.occurs in
     let a = (law.rules Periods d.entry.row.vl.0 d.entry.vl d.row.vl).0 in
@@ -138,8 +135,7 @@ one_hand network js device place entry t cause from cycle rules is (inl a) (inr 
 one_hand network js device place entry t cause from cycle rules is (inr a) (inl b) =
     absurd (both_ways (is_end network device) a.0 (subst (λ (d : DeviceId). is_end network d ≡ true) b.0
     (some_end (device_at network entry.vl.sender) (rules Senders entry.row.vl.0 entry.vl is.vl))))
-one_hand network js device place entry t cause from cycle rules is (inr a) (inr b) =
-    grind arith
+one_hand network js device place entry t cause from cycle rules is (inr a) (inr b) = grind arith
 
 -- one row of one cycle is told alike
 pub told_alike : (s : Scenario) (js : List Happening) (device : DeviceId) (t : ℕ) (link other : LinkId) (cause from : ℕ) (vl with : VlId) (cycle number : ℕ)
@@ -149,8 +145,7 @@ told_alike s js device t link other cause from vl with cycle number rules d e pl
     let entries : d.entry ≡ e.entry = one_entry s.network e.place d.entry e.entry (subst (λ (k : ℕ). IsEntry s.network k d.entry) place d.row) e.row in
     let links : link ≡ other = sym d.by ∙ ap (λ (x : Entry). x.row.link) entries ∙ e.by in
     let vls : vl ≡ with = sym d.of_vl ∙ ap (λ (x : Entry). x.row.vl) entries ∙ e.of_vl in
-    let hand : HasAtHand s.network js device e.entry t cause number =
-    subst (λ (x : Entry). HasAtHand s.network js device x t cause number) entries
+    let hand : HasAtHand s.network js device e.entry t cause number = subst (λ (x : Entry). HasAtHand s.network js device x t cause number) entries
     (subst (λ (k : ℕ). HasAtHand s.network js device d.entry t cause k) cycles d.at_hand) in
     let causes : cause ≡ from = one_hand s.network js device e.place e.entry t cause from number rules e.row hand e.at_hand in
     ap (λ (l : LinkId). dispatch_body s device t l cause vl cycle) links

@@ -17,10 +17,7 @@ pub record ShowsAt (z v : ℤ) (precision : ℕ) : Type 0 where
   pub most : z <ℤ (v +ℤ pos precision)
 
 shown_so : (v a : ℤ) (r q precision : ℕ) → (v -ℤ a) ≤ℤ pos r → pos q <ℤ (v -ℤ a) → r < q + precision → ShowsAt (pos r +ℤ a) v precision
-shown_so v a r q precision reached before jump = record {
-  least = omega (arith, ints, reached);
-  most = omega (arith, ints, before, jump);
-}
+shown_so v a r q precision reached before jump = record { least = omega (arith, ints, reached); most = omega (arith, ints, before, jump) }
 
 -- so it does where its clock reaches the value
 pub shows_at : (s : Scenario) (hs : List Happening) (device : DeviceId) (v : ℤ) (t precision : ℕ) → IsSteady (s.reading device) precision
@@ -77,8 +74,7 @@ delivered_at s hs h device link cause vl cycle founded i body =
 
 -- a cycle of a network is not empty
 pub cycle_is : (network : Network) → IsInRange network → (network.cycle.0 ≡ pos (amount network.cycle)) × (1 ≤ amount network.cycle)
-cycle_is network range =
-    grind (arith, amount, not_negative, ints)
+cycle_is network range = grind (arith, amount, not_negative, ints)
 
 -- what a taking says of the clock
 pub record IsShownAt (network : Network) (entry : Entry) (cycle : ℕ) (z : ℤ) : Type 0 where
@@ -92,22 +88,15 @@ pub shown_at : (network : Network) (device : DeviceId) (vl : VlId) (cycle : ℕ)
     → IsShownAt network it.entry cycle z
 shown_at network device vl cycle z range it =
     let sized = cycle_is network range in
-    let number : natural (int_div_euclid z (pos (amount network.cycle))) ≡ cycle =
-    ap (λ (y : ℤ). natural (int_div_euclid z y)) (sym sized.0) ∙ it.in_cycle in
+    let number : natural (int_div_euclid z (pos (amount network.cycle))) ≡ cycle = ap (λ (y : ℤ). natural (int_div_euclid z y)) (sym sized.0) ∙ it.in_cycle in
     let v = value_in z (amount network.cycle) cycle sized.1 it.begun number in
     let place : offset_in_cycle network z ≡ pos v.0 = ap (int_rem_euclid z) sized.0 ∙ v.3 in
     let close = it.in_time in
-    record {
-      place = v.0;
-      shows = v.2;
-      less = v.1;
-      in_time = omega (arith, ints, close, place);
-    }
+    record { place = v.0; shows = v.2; less = v.1; in_time = omega (arith, ints, close, place) }
 
 -- of two cycles the later begins where the earlier has ended
 pub cycles_apart : (a b size : ℕ) → a < b → a * size + size ≤ b * size
-cycles_apart a b size lt =
-    grind (arith, mul-le-mul_right)
+cycles_apart a b size lt = grind (arith, mul-le-mul_right)
 
 -- ---- a row that leaves a switch
 
@@ -119,8 +108,7 @@ pub record IsForwarded (network : Network) (device : DeviceId) (place : ℕ) (en
 
 -- what was taken in the cycle was taken below the row's value in the cycle
 pub below_value : (network : Network) (device : DeviceId) (place cycle : ℕ) (entry : Entry) (z : ℤ) → IsInRange network → KeepsRules network
-    → IsForwarded network device place entry → IsTakenAt network device entry.row.vl cycle z
-    → z <ℤ pos (cycle * amount network.cycle + amount entry.row.offset)
+    → IsForwarded network device place entry → IsTakenAt network device entry.row.vl cycle z → z <ℤ pos (cycle * amount network.cycle + amount entry.row.offset)
 below_value network device place cycle entry z range rules f it =
     let shown = shown_at network device entry.row.vl cycle z range it in
     let behind = (rules Forwarding place).from_switch it.place it.entry entry it.is f.is (sym it.of_vl) (λ e. f.other (sym e ∙ f.leaves))

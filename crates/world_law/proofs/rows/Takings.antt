@@ -56,8 +56,7 @@ frames_plain s hs device =
 
 -- so records that differ in these alone say the same
 pub frames_by_others : (s : Scenario) (hs gs : List Happening) (device : DeviceId) → plains hs ≡ plains gs → frames_taken s hs device ≡ frames_taken s gs device
-frames_by_others s hs gs device same =
-    sym (frames_plain s hs device) ∙ ap (λ (l : List Happening). frames_taken s l device) same ∙ frames_plain s gs device
+frames_by_others s hs gs device same = sym (frames_plain s hs device) ∙ ap (λ (l : List Happening). frames_taken s l device) same ∙ frames_plain s gs device
 
 -- ---- one more record
 
@@ -97,8 +96,7 @@ frames_among s ps bs w device same sooner =
 -- a record by which the device takes none, put in at its place among others that are no later, leaves what it took
 pub frames_put : (s : Scenario) (ps bs : List Happening) (w : Happening) (device : DeviceId) → IsNoTaking device w.note.body
     → ((h : Happening) → IsIn h (ps ++ bs) → time_of h ≤ time_of w) → frames_taken s (ps ++ w ∷ bs) device ≡ frames_taken s (ps ++ bs) device
-frames_put s ps bs w device none sooner =
-    grind (arith, local_before, frames_among, before_put, taken_by, time_of, taken_parts)
+frames_put s ps bs w device none sooner = grind (arith, local_before, frames_among, before_put, taken_by, time_of, taken_parts)
 
 -- and one by which it takes one, behind all others of its takings, adds what it took by it
 pub frames_with : (s : Scenario) (ps bs : List Happening) (w : Happening) (device : DeviceId)
@@ -152,7 +150,6 @@ frames_idle s ps b w idle device =
 pub frames_alike : (s r : Scenario) (hs : List Happening) (device : DeviceId) (now : ℕ)
     → ((t : ℕ) → adjustment_before s hs device t ≡ adjustment_before r hs device t) → ((x : ℕ) → x ≤ now → s.reading device x ≡ r.reading device x)
     → ((h : Happening) → IsIn h hs → time_of h ≤ now) → frames_taken s hs device ≡ frames_taken r hs device
-frames_alike s r hs device now adjusted reads sooner =
-    grind (arith, taken_same, local_before, adjustment_before, time_of)
+frames_alike s r hs device now adjusted reads sooner = grind (arith, taken_same, local_before, adjustment_before, time_of)
 
 -- ---- any record put in, with those behind it renumbered

@@ -13,8 +13,7 @@ use Rattle.world_law.proofs.Words.{option_map_or, pos, recorded_cycle, refl, sam
 -- ---- the events
 
 pub setting_same : {V : Type 0} (n : Network) (f g : DeviceId → ℕ → ℕ) (events more : List Event) (t u : ℕ) (setting : What → Option V) (initial : V)
-    → Agree n f g events more t → u ≤ t
-    → last_set (scenario n f events) setting initial u ≡ last_set (scenario n g more) setting initial u
+    → Agree n f g events more t → u ≤ t → last_set (scenario n f events) setting initial u ≡ last_set (scenario n g more) setting initial u
 setting_same n f g events more t u setting initial a le =
     ap (λ (l : List Event). unwrap_or (last_or None (filter_map (λ e. setting e.what) l)) initial) (a.befell u le)
 
@@ -24,8 +23,7 @@ broken_same n f g events more t u device a le = ap (λ (l : List Event). list_an
 
 any_kept : {X : Type 0} (p q : X → Bool) (xs : List X) → ((x : X) → p x ≡ true → q x ≡ true) → list_any p xs ≡ list_any p (filter q xs)
 any_kept p q [] keeps = refl
-any_kept {X} p q (x ∷ xs) keeps =
-    grind (arith, cases_Bool, list_any, filter, false_from_ne_true, both_ways, (any_kept p q xs keeps))
+any_kept {X} p q (x ∷ xs) keeps = grind (arith, cases_Bool, list_any, filter, false_from_ne_true, both_ways, (any_kept p q xs keeps))
 
 at_time : (b : Bool) (a t : ℕ) → (b && a == t) ≡ true → nat_le a t ≡ true
 at_time b a t e = let same = eqb-true a t (and_parts b (a == t) e).1 in le-leb a t (omega (arith, same))
@@ -118,8 +116,7 @@ reaches_same n f g events more hs t u device v a le r = record {
 
 pub standing_same : (n : Network) (f g : DeviceId → ℕ → ℕ) (events more : List Event) (hs : List Happening) (t u : ℕ) (device : DeviceId)
     → Agree n f g events more t → u ≤ t → standing_before (scenario n f events) hs device u ≡ standing_before (scenario n g more) hs device u
-standing_same n f g events more hs t u device a le =
-    grind (arith, scenario, state_same, state_before, next_same)
+standing_same n f g events more hs t u device a le = grind (arith, scenario, state_same, state_before, next_same)
 
 -- ---- what is due
 

@@ -31,8 +31,7 @@ arriving_more s hs x t device link cause a =
 
 -- what leaves was given before, or is the frame that the new record gives
 pub departing_more : (s : Scenario) (hs : List Happening) (x : Happening) (t : ℕ) (device : DeviceId) (link : LinkId) (cause : ℕ)
-    → IsDeparting s (hs ++ x ∷ []) t device link cause
-    → IsDeparting s hs t device link cause
+    → IsDeparting s (hs ++ x ∷ []) t device link cause → IsDeparting s hs t device link cause
     ⊎ ((cause ≡ length hs + 1) × Gives s.network x.note.body device link × (t ≡ time_of x + hold_at s link (way_from s.network device link) (time_of x)))
 departing_more s hs x t device link cause d =
     elim (numbered_more hs x d.giving cause d.there) [

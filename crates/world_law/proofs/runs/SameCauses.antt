@@ -51,8 +51,7 @@ arrives_same n f g events more t h device link at signal a le x = grind (arith, 
 
 standpoint_same : (n : Network) (f g : DeviceId → ℕ → ℕ) (events more : List Event) (hs : List Happening) (t u : ℕ) (device : DeviceId)
     → Agree n f g events more t → u ≤ t → standpoint (scenario n f events) hs device u ≡ standpoint (scenario n g more) hs device u
-standpoint_same n f g events more hs t u device a le =
-    grind (arith, not, adjustment_before, scenario, is_broken, state_same, state_before, broken_same)
+standpoint_same n f g events more hs t u device a le = grind (arith, not, adjustment_before, scenario, is_broken, state_same, state_before, broken_same)
 
 judged_same : (n : Network) (f g : DeviceId → ℕ → ℕ) (events more : List Event) (hs : List Happening) (t u : ℕ) (device : DeviceId) (link : LinkId) (cause : ℕ)
     (signal : Signal) → Agree n f g events more t → u ≤ t
@@ -112,14 +111,12 @@ emits_same n f g events more hs t u device sent verdict a le x =
 departure_same : (n : Network) (f g : DeviceId → ℕ → ℕ) (events more : List Event) (t given u : ℕ) (device : DeviceId) (link : LinkId) (frame : Pcf)
     → Agree n f g events more t → given ≤ t → u ≤ t
     → departure (scenario n f events) device link frame given u ≡ departure (scenario n g more) device link frame given u
-departure_same n f g events more t given u device link frame a from le =
-    grind (arith, nat_lt, amount, is_cut, scenario, way_from, cut_same)
+departure_same n f g events more t given u device link frame a from le = grind (arith, nat_lt, amount, is_cut, scenario, way_from, cut_same)
 
 departs_same : (n : Network) (f g : DeviceId → ℕ → ℕ) (events more : List Event) (hs : List Happening) (t u : ℕ) (device : DeviceId) (link : LinkId) (cause : ℕ)
     (is : Departure) → Agree n f g events more t → u ≤ t → AreUpTo t hs
     → Departs (scenario n f events) hs device u link cause is → Departs (scenario n g more) hs device u link cause is
-departs_same n f g events more hs t u device link cause is a le all x =
-    grind (arith, sooner, time_of, hold_same, way_from, broken_same, departure_same)
+departs_same n f g events more hs t u device link cause is a le all x = grind (arith, sooner, time_of, hold_same, way_from, broken_same, departure_same)
 
 dispatches_same : (n : Network) (f g : DeviceId → ℕ → ℕ) (events more : List Event) (hs : List Happening) (t u : ℕ) (device : DeviceId) (link : LinkId)
     (cause : ℕ) (vl : VlId) (cycle : ℕ) → Agree n f g events more t → u ≤ t
@@ -138,13 +135,11 @@ changes_same n f g events more hs t u device state cause whys.AsyncClique a le a
     (c.0, c.1, (c.2.0, comes_same n f g events more hs t u device c.2.0 _ a le all c.2.1))
 
 lost_same : (n : Network) (f g : DeviceId → ℕ → ℕ) (events more : List Event) (hs : List Happening) (t u : ℕ) (device : DeviceId) (link : LinkId) (cause : ℕ)
-    → Agree n f g events more t → u ≤ t → AreUpTo t hs
-    → IsLost (scenario n f events) hs device u link cause → IsLost (scenario n g more) hs device u link cause
+    → Agree n f g events more t → u ≤ t → AreUpTo t hs → IsLost (scenario n f events) hs device u link cause → IsLost (scenario n g more) hs device u link cause
 lost_same n f g events more hs t u device link cause a le all (inl d) = inl (departs_same n f g events more hs t u device link cause on_cut_way a le all d)
 lost_same n f g events more hs t u device link cause a le all (inr (inl d)) =
     inr (inl (d.0, d.1, dispatches_same n f g events more hs t u device link cause d.0 d.1 a le d.2, sym (cut_same n f g events more t u link _ a le) ∙ d.3))
-lost_same n f g events more hs t u device link cause a le all (inr (inr l)) =
-    grind (arith, cut_same)
+lost_same n f g events more hs t u device link cause a le all (inr (inr l)) = grind (arith, cut_same)
 
 dropped_same : (n : Network) (f g : DeviceId → ℕ → ℕ) (events more : List Event) (hs : List Happening) (t u : ℕ) (device : DeviceId) (link : LinkId) (cause : ℕ)
     (reason : Reason) → Agree n f g events more t → u ≤ t → AreUpTo t hs
@@ -196,8 +191,7 @@ caused_same n f g events more hs t time (notes.State device state cause why) a l
 caused_same n f g events more hs t time (notes.Left device link cause clock) a le all it c =
     departs_same n f g events more hs t _ device link cause _ a le all c
 caused_same n f g events more hs t time (notes.Lost device link cause) a le all it c = lost_same n f g events more hs t _ device link cause a le all c
-caused_same n f g events more hs t time (notes.TtSent device link cause vl cycle) a le all it c =
-    grind (arith, dispatches_same, cut_same)
+caused_same n f g events more hs t time (notes.TtSent device link cause vl cycle) a le all it c = grind (arith, dispatches_same, cut_same)
 caused_same n f g events more hs t time (notes.Accepted device link cause vl cycle) a le all it c =
     arrival_same n f g events more hs t _ device link cause _ a le all c
 caused_same n f g events more hs t time (notes.Delivered device link cause vl cycle) a le all it c =

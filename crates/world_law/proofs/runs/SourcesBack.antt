@@ -29,8 +29,7 @@ none_earlier t (z ∷ zs) of = earlier_no t z zs (of z (inl refl)) ∙ none_earl
 
 -- records of a time do not change those before it
 pub earlier_still : (t : ℕ) (hs zs : List Happening) → ((z : Happening) → IsIn z zs → t ≤ time_of z) → earlier t (hs ++ zs) ≡ earlier t hs
-earlier_still t hs zs of =
-    grind (arith, filter-append, nat_lt, time_of, earlier, none_earlier, append-nil)
+earlier_still t hs zs of = grind (arith, filter-append, nat_lt, time_of, earlier, none_earlier, append-nil)
 
 -- ---- places of one time
 
@@ -59,14 +58,12 @@ of_high_rank device z other high = refl
 
 points_one : (hs : List Happening) (z : Happening) (device : DeviceId) → 4 ≤ rank z.note.body → (points_of (hs ++ z ∷ []) device ≡ points_of hs device)
     ⊎ (points_of (hs ++ z ∷ []) device ≡ [])
-points_one hs z device high =
-    grind (arith, ends_stretch, point_by, cases_Bool, behind_yes, behind_no, map_none, after_last, of_high_rank)
+points_one hs z device high = grind (arith, ends_stretch, point_by, cases_Bool, behind_yes, behind_no, map_none, after_last, of_high_rank)
 
 pub points_back : (zs hs : List Happening) (device : DeviceId) → ((z : Happening) → IsIn z zs → 4 ≤ rank z.note.body)
     → (points_of (hs ++ zs) device ≡ points_of hs device) ⊎ (points_of (hs ++ zs) device ≡ [])
 points_back [] hs device high = inl (ap (λ (l : List Happening). points_of l device) (append-nil hs))
-points_back (z ∷ zs) hs device high =
-    grind (arith, points_of, append_assoc, points_one, (points_back zs (hs ++ z ∷ []) device (λ y i. high y (inr i))))
+points_back (z ∷ zs) hs device high = grind (arith, points_of, append_assoc, points_one, (points_back zs (hs ++ z ∷ []) device (λ y i. high y (inr i))))
 
 abbrev pub standing_in : Scenario → DeviceId → ℕ → List Happening → Standing
 standing_in s device t w = record {
@@ -153,8 +150,7 @@ pub arrives_later : (s : Scenario) (g : Happening) (device : DeviceId) (link : L
 arrives_later s g device link t signal forward a = let one = forward link a.way device (time_of g) a.receiver in omega (arith, one, a.at)
 
 pub source_back : (s : Scenario) (hs zs : List Happening) (now r : ℕ) (more : List ℕ) → IsForward s → ((z : Happening) → IsIn z zs → time_of z ≡ now)
-    → NoneBefore place_of zs (now ∷ r ∷ more)
-    → (w : List ℕ) → IsSource s (hs ++ zs) w → (w ≡ now ∷ r ∷ more) ⊎ IsBefore w (now ∷ r ∷ more) → IsBack s hs now w
+    → NoneBefore place_of zs (now ∷ r ∷ more) → (w : List ℕ) → IsSource s (hs ++ zs) w → (w ≡ now ∷ r ∷ more) ⊎ IsBefore w (now ∷ r ∷ more) → IsBack s hs now w
 source_back s hs zs now r more forward of none w (IsSource.arriving t device link cause a) le =
     elim (numbered_parts hs zs a.putting cause a.there) [
       | inl old ↦ inl (IsSource.arriving t device link cause (record { putting = a.putting; there = old; signal = a.signal; arrives = a.arrives }))

@@ -19,8 +19,7 @@ old_event : (events others : List Event) (event : Event) (y : Happening) (line :
     → ((i : ℕ) (e : Event) → slice_get (event ∷ others) i ≡ Some e → amount event.time ≤ amount e.time)
     → IsEventRecord (events ++ event ∷ others) y.note.time line what → IsBefore (time_of y ∷ 1 ∷ line ∷ []) (place_of_event events event)
     → IsEventRecord events y.note.time line what
-old_event events others event y line what order r b =
-    grind (arith, get_parts, length, time_of, amount)
+old_event events others event y line what order r b = grind (arith, get_parts, length, time_of, amount)
 
 contains_get : {X : Type 0} (xs : List X) (x : X) → Contains xs x → (i : ℕ) × (slice_get xs i ≡ Some x)
 contains_get [] x there = absurd (omega (arith, there.1))

@@ -16,8 +16,7 @@ worked_now s hs cursor y worked = subst (λ (l : List Happening). IsWorkedOff s 
 
 -- what stands first is before all others
 pub first_before : (s : Scenario) (hs : List Happening) (z : Happening) (rest : List Happening) (mark cursor : List ℕ) (now : ℕ)
-    → AreSettled s hs (z ∷ rest) mark cursor now
-    → (other : Happening) → IsIn other rest → IsBefore (place_of z) (place_of other)
+    → AreSettled s hs (z ∷ rest) mark cursor now → (other : Happening) → IsIn other rest → IsBefore (place_of z) (place_of other)
 first_before s hs z rest mark cursor now settled other i =
     let at = parted other rest i in
     (settled.founded (z ∷ at.0) at.1 other (ap (λ (l : List Happening). z ∷ l) at.2)).0 z (inl refl)
@@ -32,8 +31,7 @@ none_under s hs z rest mark cursor now settled other (inr i) p here under =
     never_self (place_of z) (chain (place_of z) (place_of other) (place_of z) order (chain (place_of other) p (place_of z) under here))
 
 not_at : (s : Scenario) (hs : List Happening) (z : Happening) (rest : List Happening) (mark cursor : List ℕ) (now : ℕ)
-    → AreSettled s hs (z ∷ rest) mark cursor now
-    → (other : Happening) → IsIn other (z ∷ rest) → (p : List ℕ) → p ≡ place_of other → IsBefore p (place_of z) → ⊥
+    → AreSettled s hs (z ∷ rest) mark cursor now → (other : Happening) → IsIn other (z ∷ rest) → (p : List ℕ) → p ≡ place_of other → IsBefore p (place_of z) → ⊥
 not_at s hs z rest mark cursor now settled other (inl e) p at here =
     never_self (place_of z) (subst (λ (q : List ℕ). IsBefore q (place_of z)) (at ∙ ap place_of e) here)
 not_at s hs z rest mark cursor now settled other (inr i) p at here =
@@ -41,8 +39,7 @@ not_at s hs z rest mark cursor now settled other (inr i) p at here =
     never_self (place_of z) (chain (place_of z) (place_of other) (place_of z) order (subst (λ (q : List ℕ). IsBefore q (place_of z)) at here))
 
 none_before : (s : Scenario) (hs : List Happening) (z : Happening) (rest : List Happening) (mark cursor : List ℕ) (now : ℕ)
-    → AreSettled s hs (z ∷ rest) mark cursor now → NoSourceBefore s hs cursor (place_of z)
-    → NoneDueBefore place_of (IsDue s) mark hs (place_of z)
+    → AreSettled s hs (z ∷ rest) mark cursor now → NoSourceBefore s hs cursor (place_of z) → NoneDueBefore place_of (IsDue s) mark hs (place_of z)
 none_before s hs z rest mark cursor now settled none y due not here =
     let from = sourced s hs y due in
     elim (before_or_not from.place cursor) [

@@ -16,7 +16,7 @@ pub use Rattle.net_plan.specs.declared.{event.{Event.Event, What.What}, ids.{Dev
 pub use Rattle.net_plan.specs.declared.tables.{Link.Link, Way.{Way, TheVariants.{Down, Up}}}
 pub use Rattle.pcf_codec.specs.Fields.{field}
 pub use Rattle.pcf_codec.specs.declared.refusal.PcfRefusal.{PcfRefusal}
-pub use Rattle.pcf_values.specs.declared.{channel.Channel.Channel, members.Members.Members, pcf.Pcf.Pcf}
+pub use Rattle.tte_units.specs.declared.frames.{channel.Channel.Channel, members.Members.Members, pcf.Pcf.Pcf}
 pub use Rattle.run_law.proofs.law.{FirstDeliveries.last_in, FirstPlaces.{by_number, founded_at, none_kept, numbered_front, numbered_in, numbered_within}}
 pub use Rattle.run_law.proofs.records.Order.{after_more, any_in, same_kept}
 pub use Rattle.run_law.proofs.runs.Places.{before_behind, before_later, chain, either_way, in_left, in_parts, in_right, never_self, parted}

@@ -1,12 +1,12 @@
 -- Where a record of a run comes from: each that is due has a source, which stands in the order too, and no later.
 use Rattle.std.specs.Prelude.{◌+◌, ◌∷◌, ◌≡◌, ◌⊎◌, List, Some, [], false, true, ℕ}
 use Rattle.{compression.specs.declared.compressed.Compressed.Compressed, net_plan.specs.declared.ids.DeviceId.DeviceId}
-use Rattle.{net_plan.specs.Places.device_at, sync_state.specs.Standing.next_point}
-use Rattle.{net_plan.specs.declared.{event.What.What, ids.LinkId.LinkId}, tte_units.specs.declared.units.Units.Units}
-use Rattle.{net_plan.specs.declared.ids.VlId.VlId, run_law.specs.control.{Emissions.Emits, Losses.IsSendLost}}
+use Rattle.{net_plan.specs.Places.device_at, tte_units.specs.Amount.amount}
+use Rattle.{net_plan.specs.declared.{event.What.What, ids.VlId.VlId}, run_law.specs.control.Losses.IsSendLost}
+use Rattle.{net_plan.specs.declared.ids.LinkId.LinkId, tte_units.specs.declared.{frames.pcf.Pcf.Pcf, units.Units.Units}}
 use Rattle.{net_plan.specs.declared.tables.Device.Device, run_law.specs.control.Wires.{Arrives, Signal}}
-use Rattle.{pcf_values.specs.declared.pcf.Pcf.Pcf, run_law.specs.records.Order.IsBefore, tte_units.specs.Amount.amount}
 use Rattle.run_law.specs.{control.Corrections.{correction_value, standing_before}, records.Ranks.{members_in, place_of}}
+use Rattle.{run_law.specs.{control.Emissions.Emits, records.Order.IsBefore}, sync_state.specs.Standing.next_point}
 use Rattle.run_law.specs.{control.Leaving.{Departs, Gives, on_cut_way, too_old}, timed.Dispatching.{Dispatches, Sends}}
 use Rattle.run_law.specs.{control.Permanence.{BecomesPermanent, IsPermanent}, scenario.Ways.{hold_at, is_cut, way_from}}
 use Rattle.run_law.specs.declared.judgement.{Judgement.Judgement, Why.TheVariants.{AsyncClique, SyncClique}}

@@ -3,7 +3,7 @@ use Rattle.std.specs.Prelude.{◌∷◌, ◌≡◌, ◌≤ℤ◌, List, Some, []
 use Rattle.{net_plan.specs.declared.ids.DeviceId.DeviceId, run_law.specs.scenario.Devices.channel_of_link}
 use Rattle.{net_plan.specs.declared.ids.LinkId.LinkId, tte_units.specs.declared.units.Units.Units}
 use Rattle.{net_plan.specs.declared.network.Network.Network, sync_state.specs.declared.state.State.TheVariants.Joining}
-use Rattle.pcf_values.specs.declared.pcf.Pcf.{Pcf}
+use Rattle.tte_units.specs.declared.frames.pcf.Pcf.{Pcf}
 use Rattle.run_law.specs.{declared.{note.Note.Note, steps.Ripe.Ripe}, records.Order.{IsIn, behind}}
 use Rattle.run_law.specs.{declared.{note.NoteBody.NoteBody, steps.Moment.Moment}, scenario.Scenarios.Scenario}
 use Rattle.run_law.specs.machines.{Answers.{IsPermanenceOutcomeAt, after_permanence, called}, Nodes.{Node, ripening}}

@@ -2,24 +2,24 @@
 use Rattle.std.specs.{List.last_or, Prelude.{true, ℕ}}
 use Rattle.std.specs.Prelude.{◌++◌, ◌+◌, ◌-◌, ◌<◌, ◌==◌, ◌^◌, ◌↔◌, ◌∷◌, ◌≡◌, ◌≤ℤ◌, ◌≤◌, ◌⊎◌, Bool, IsSomeAnd, List}
 use Rattle.std.specs.Prelude.{None, Option, Some, [], false, filter, if◌then◌else◌, length, map, nat_lt, pos, slice_get}
-use Rattle.{net_plan.specs.Places.link_at, run_law.specs.control.Leaving.Gives}
-use Rattle.{net_plan.specs.{Ranges.IsInRange, declared.ids.VlId.VlId}, schedule_tables.specs.Rules.KeepsRules}
+use Rattle.{drift_clock.specs.transparent.Points.point_of, world_law.specs.device.Ready.{IsReadyAt, IsSteady}}
+use Rattle.net_plan.specs.Places.{link_at}
+use Rattle.{net_plan.specs.Ranges.IsInRange, world_law.specs.{device.Takings.frames_taken, source.First.NoSourceBefore}}
 use Rattle.{net_plan.specs.declared.{event.Event.Event, ids.LinkId.LinkId}, run_law.specs.records.Causes.IsOfThisTime}
-use Rattle.net_plan.specs.declared.{event.What.What, tables.Way.Way}
-use Rattle.drift_clock.specs.transparent.Points.{point_of}
+use Rattle.{net_plan.specs.declared.{event.What.What, tables.Way.Way}, schedule_tables.specs.Rules.KeepsRules}
 use Rattle.net_plan.specs.declared.{ids.DeviceId.DeviceId, network.Network.Network, tables.Way.TheVariants.{Down, Up}}
-use Rattle.{pcf_values.specs.declared.pcf.Pcf.Pcf, sync_state.specs.declared.state.State.TheVariants.{Integrating, Off}}
-use Rattle.run_law.specs.{control.Permanence.waits_for, device.LocalClocks.changed_at, timed.Dispatching.is_accepted}
+use Rattle.{net_plan.specs.declared.ids.VlId.VlId, sync_state.specs.declared.state.State.TheVariants.{Integrating, Off}}
+use Rattle.{run_law.specs.control.{Leaving.Gives, Permanence.waits_for}, tte_units.specs.declared.units.Units.Units}
 use Rattle.run_law.specs.{control.Wires.{Arrives, Signal}, scenario.Scenarios.{Scenario, is_broken, is_turned_on_at}}
 use Rattle.run_law.specs.{declared.judgement.Why.TheVariants.On, runs.DueRecords.{EndsAt, IsDue, IsScenarioRun}}
 use Rattle.run_law.specs.{declared.note.Note.Note, machines.Nodes.{Node, Phase, acting, arriving, ripening, turning_on}}
 use Rattle.run_law.specs.{declared.note.NoteBody.NoteBody, device.States.{adjustment_after, state_after, state_before}}
+use Rattle.{run_law.specs.device.LocalClocks.changed_at, world_law.specs.device.Left.{HasTaskBy, IsLeft}}
 use Rattle.run_law.specs.records.Happenings.{Happening, earlier, happenings, numbered, time_of, up_to}
 use Rattle.run_law.specs.records.{Order.{AllBefore, IsBefore, IsIn, NoneBefore, behind}, Ranks.{members_in, place_of}}
 use Rattle.run_law.specs.scenario.{Devices.{is_cm, is_end}, Ways.{delay_at, hold_at, is_cut, receiver_of, way_from}}
-use Rattle.{tte_units.specs.{Amount.amount, declared.units.Units.Units}, world_law.specs.source.First.NoSourceBefore}
+use Rattle.{run_law.specs.timed.Dispatching.is_accepted, tte_units.specs.{Amount.amount, declared.frames.pcf.Pcf.Pcf}}
 use Rattle.world_law.specs.device.{Deeds.{HasDoneFrom, HasSentFrom}, Own.moves, Recorded.{AreRecorded, HasCleared}}
-use Rattle.world_law.specs.device.{Left.{HasTaskBy, IsLeft}, Ready.{IsReadyAt, IsSteady}, Takings.frames_taken}
 use Rattle.world_law.specs.source.Sources.{IsActing, IsArriving, IsDeparting, IsOwnSource, IsRipening, IsSource}
 use Rattle.net_plan.specs.declared.event.What.TheVariants as events
 use Rattle.run_law.specs.declared.note.NoteBody.TheVariants as notes

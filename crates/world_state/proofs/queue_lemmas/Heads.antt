@@ -13,8 +13,7 @@ module _ {T : Type 0} where
   pub head_is : (s : Slab T) (items : List (Reverse Slotted)) (top : Reverse Slotted) → IsSound s items → 0 < length items → top ≡ get_or items 0 top
       → first_entry (entries_in s items) ≡ entry_of s top
   head_is s [] top sound lt is = absurd (omega (arith, lt))
-  head_is s (x ∷ items) top sound lt is =
-      head_of (entry_of s x) (entries_in s items) (some_entry s x (sound.filled x (inl refl))) ∙ ap (entry_of s) (sym is)
+  head_is s (x ∷ items) top sound lt is = head_of (entry_of s x) (entries_in s items) (some_entry s x (sound.filled x (inl refl))) ∙ ap (entry_of s) (sym is)
 
   if_head : (entries : List (Entry T)) (o : Option (Entry T)) (place : DueAt) → first_entry entries ≡ o → IsFirst entries place
       → option_map (λ (e : Entry T). e.place) o ≡ Some place → IfSome (first_entry entries) (λ e. IsFirst entries e.place)

@@ -99,7 +99,5 @@ held_so network hs device sender vl t cause cycle accepted so is =
 pub so_held : (network : Network) (hs : List Happening) (device sender : DeviceId) (vl : VlId) (t cause cycle : ℕ) (accepted : Option Taking)
     → IsAcceptedLast network hs device vl t accepted → IsAtHand network hs device sender vl t cause cycle
     → holds (sender.0 == device.0) cause (is_end network device) (is_last accepted cause cycle) ≡ true
-so_held network hs device sender vl t cause cycle accepted so (inl (same, none)) =
-    grind (arith, eq-eqb)
-so_held network hs device sender vl t cause cycle accepted so (inr (switch, has)) =
-    grind (arith, or_right, eq-eqb)
+so_held network hs device sender vl t cause cycle accepted so (inl (same, none)) = grind (arith, eq-eqb)
+so_held network hs device sender vl t cause cycle accepted so (inr (switch, has)) = grind (arith, or_right, eq-eqb)

@@ -33,8 +33,7 @@ all_by period phase cycle q false e begun parts = (q, omega (arith, parts))
 
 value_by : (first step period offset c f n : ℕ) (z : ℤ) → z ≡ pos (f * c + offset) → step ≡ period * c
     → z +ℤ pos (n * step) ≡ pos ((f + n * period) * c + offset)
-value_by first step period offset c f n z at by =
-    grind (arith, ints)
+value_by first step period offset c f n z at by = grind (arith, ints)
 
 pub are_leavings : (network : Network) (row : LeavingRow) (series : Series) → IsRowFit row → row.phase < row.period
     → series.first ≡ pos (leaving_value network row (first_cycle row)) → series.step ≡ row.period * amount network.cycle → AreLeavings network row series

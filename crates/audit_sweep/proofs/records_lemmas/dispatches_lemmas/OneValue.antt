@@ -17,8 +17,7 @@ once reading shown value t u on at_t at_u lt =
 
 pub same_time : (reading : ℕ → ℕ) (shown : Shown) (value : ℤ) (t u : ℕ) → ReadsOn reading → CrossesAt reading shown value t → CrossesAt reading shown value u
     → u ≡ t
-same_time reading shown value t u on at_t at_u =
-    grind (arith, cases_lt, once)
+same_time reading shown value t u on at_t at_u = grind (arith, cases_lt, once)
 
 -- where it crosses a value far behind the first, it crosses the first neither then nor later
 not_first : (reading : ℕ → ℕ) (shown : Shown) (series : Series) (n t u : ℕ) → 1 ≤ n → ReadsOn reading → 2 ^ 62 ≤ series.step → t ≤ 2 ^ 60
@@ -38,8 +37,7 @@ not_first reading shown series n t u some on far limit crosses le first =
     ]
 
 pub crossed_alone : (reading : ℕ → ℕ) (shown : Shown) (series : Series) (after until : ℕ) (o : Option Crossed) → ReadsOn reading → 2 ^ 62 ≤ series.step
-    → until ≤ 2 ^ 60 → IsNextOrNone reading shown series after until o
-    → IsCrossingOrNone reading shown series.first after until (first_time o)
+    → until ≤ 2 ^ 60 → IsNextOrNone reading shown series after until o → IsCrossingOrNone reading shown series.first after until (first_time o)
 crossed_alone reading shown series after until None on far limit none = λ t later timely crosses.
     none t 0 later (omega (arith, timely)) (subst (λ (v : ℤ). CrossesAt reading shown v t) (sym (first_value series)) crosses)
 crossed_alone reading shown series after until (Some crossed) on far limit next = by (crossed.number == 0) refl

@@ -16,11 +16,9 @@ accepted_kept hs device vl t cause cycle kept found is has =
     is ∙ ap (option_map (λ (x : Happening). kept_of x.note.body)) there ∙ ap (λ b. Some (kept_of b)) has.is
 
 by_hand : (network : Network) (hs : List Happening) (device : DeviceId) (entry : Entry) (t cause cycle : ℕ) (kept : Option Kept) → AreFoundByNumber hs
-    → IsKeptOf hs cause kept → (cause ≡ 0 → ⊥) → HasAtHand network hs device entry t cause cycle
-    → kept ≡ Some (kepts.Accepted device entry.row.vl cycle)
+    → IsKeptOf hs cause kept → (cause ≡ 0 → ⊥) → HasAtHand network hs device entry t cause cycle → kept ≡ Some (kepts.Accepted device entry.row.vl cycle)
 by_hand network hs device entry t cause cycle kept found is some (inl (sends, none)) = absurd (some none)
-by_hand network hs device entry t cause cycle kept found is some (inr (switch, has)) =
-    accepted_kept hs device entry.row.vl t cause cycle kept found is has
+by_hand network hs device entry t cause cycle kept found is some (inr (switch, has)) = accepted_kept hs device entry.row.vl t cause cycle kept found is has
 
 -- what is dispatched by a record is what it took
 pub passed_is : (s : Scenario) (hs : List Happening) (device : DeviceId) (t : ℕ) (link : LinkId) (cause : ℕ) (vl : VlId) (cycle : ℕ) (kept : Option Kept)

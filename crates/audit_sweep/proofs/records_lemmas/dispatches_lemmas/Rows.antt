@@ -34,8 +34,7 @@ have_periods network link rows range are row there =
 some_dispatches : (s : Scenario) (hs : List Happening) (device : DeviceId) (t : ℕ) (dispatch : Dispatch) (rows : List LeavingRow)
     → AreRowsOn s.network dispatch.link rows → IsUp s hs device t → SomeDispatched s s.network hs device t dispatch rows
     → Dispatches s hs device t dispatch.link dispatch.cause dispatch.vl dispatch.cycle
-some_dispatches s hs device t dispatch rows are up some =
-    grind arith
+some_dispatches s hs device t dispatch rows are up some = grind arith
 
 -- and what it dispatches is by one of them
 dispatches_some : (s : Scenario) (hs : List Happening) (device : DeviceId) (t : ℕ) (dispatch : Dispatch) (rows : List LeavingRow)
@@ -54,11 +53,9 @@ dispatches_some s hs device t dispatch rows are does = record {
 }
 
 pub by_some : (s : Scenario) (network : Network) (hs : List Happening) (device : DeviceId) (t : ℕ) (dispatch : Dispatch) (rows : List LeavingRow)
-    → s.network ≡ network → AreRowsOn network dispatch.link rows → IsUp s hs device t
-    → SomeDispatched s network hs device t dispatch rows
+    → s.network ≡ network → AreRowsOn network dispatch.link rows → IsUp s hs device t → SomeDispatched s network hs device t dispatch rows
     ↔ Dispatches s hs device t dispatch.link dispatch.cause dispatch.vl dispatch.cycle
-by_some s network hs device t dispatch rows same =
-    grind (arith, some_dispatches, dispatches_some)
+by_some s network hs device t dispatch rows same = grind (arith, some_dispatches, dispatches_some)
 
 -- ---- one row after another
 
@@ -71,8 +68,7 @@ NoneOf P xs d count = (i : ℕ) → i < count → i < length xs → P (slice_ind
 
 pub none_more : {X : Type 0} (P : X → Type 0) (xs : List X) (d : X) (n : ℕ) (answer : Bool) → NoneOf P xs d n
     → IsTrue answer ↔ P (slice_index_or xs n d) → answer ≡ false → NoneOf P xs d (n + 1)
-none_more P xs d n answer none is no_answer i lt within holds =
-    grind (arith, below_next, false≢true, slice_index_or)
+none_more P xs d n answer none is no_answer i lt within holds = grind (arith, below_next, false≢true, slice_index_or)
 
 pub none_in_all : {X : Type 0} (P : X → Type 0) (xs : List X) (d : X) (n : ℕ) → length xs ≤ n → NoneOf P xs d n → (x : X) → IsIn x xs → P x → ⊥
 none_in_all P xs d n all none x there holds =

@@ -76,8 +76,7 @@ more_exits network n entry old new are at rows links = record {
 }
   where
     by_test : (link : LinkId) (b : Bool) → (link.0 == entry.row.link.0) ≡ b
-        → rows_on new link ≡ (if b then rows_on old link ++ leaving_by entry ∷ [] else rows_on old link)
-        → AreFirstOn network (n + 1) link (rows_on new link)
+        → rows_on new link ≡ (if b then rows_on old link ++ leaving_by entry ∷ [] else rows_on old link) → AreFirstOn network (n + 1) link (rows_on new link)
     by_test link true is row =
         let link_of : ℕ → LinkId = λ k. record { 0 = k } in
         subst (AreFirstOn network (n + 1) link) (sym row)
@@ -88,5 +87,4 @@ more_exits network n entry old new are at rows links = record {
         (λ e. false≢true (sym is ∙ eq-eqb link.0 entry.row.link.0 (sym (ap (λ (l : LinkId). l.0) e)))) (are.each link))
 
 pub all_exits : (network : Network) (n : ℕ) (exits : Exits) → length network.row ≤ n → AreFirstExits network n exits → AreExits network exits
-all_exits network n exits all are link =
-    grind (arith, slice_get_within)
+all_exits network n exits all are link = grind (arith, slice_get_within)

@@ -14,15 +14,13 @@ use Rattle.std.{proofs.lemmas.Int.ints, specs.Prelude.is_some}
 
 crossed_then : (reading : ℕ → ℕ) (shown : Shown) (series : Series) (t : ℕ) → NoneCrossed reading shown series (t - 1) (t + 1)
     → CrossesSome reading shown series t → ⊥
-crossed_then reading shown series zero none (n, crosses) =
-    grind (arith, ints)
+crossed_then reading shown series zero none (n, crosses) = grind (arith, ints)
 crossed_then reading shown series (suc t) none (n, crosses) = none (suc t) n (omega arith) (omega arith) crosses
 
 pub crossed_at : (reading : ℕ → ℕ) (shown : Shown) (series : Series) (t : ℕ) (o : Option Crossed) → IsNextOrNone reading shown series (t - 1) t o
     → IsTrue (is_some o) ↔ CrossesSome reading shown series t
 crossed_at reading shown series t None none = (λ told. absurd cc, λ some. absurd (crossed_then reading shown series t none some))
-crossed_at reading shown series t (Some crossed) next =
-    grind arith
+crossed_at reading shown series t (Some crossed) next = grind arith
 
 pub reached_some : (s : Scenario) (hs : List Happening) (device : DeviceId) (t : ℕ) (shown : Shown) (row : LeavingRow) (series : Series)
     → AreLeavings s.network row series → IsSteady s device → Shows s (earlier t hs) device shown
@@ -75,8 +73,7 @@ sender_of network hs device entry t cycle found (inr (switch, has)) =
     absurd cc
 
 pub some_sent : (s : Scenario) (hs : List Happening) (device : DeviceId) (t : ℕ) (link : LinkId) (rows : List LeavingRow)
-    → AreRowsOn s.network link rows → IsUp s hs device t → AreFoundByNumber hs
-    → SendsBySome s s.network hs device t rows ↔ SendsSome s hs device t link
+    → AreRowsOn s.network link rows → IsUp s hs device t → AreFoundByNumber hs → SendsBySome s s.network hs device t rows ↔ SendsSome s hs device t link
 some_sent s hs device t link rows are up found = (to, from)
   where
     to : SendsBySome s s.network hs device t rows → SendsSome s hs device t link

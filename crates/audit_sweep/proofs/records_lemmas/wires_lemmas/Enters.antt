@@ -59,5 +59,4 @@ pub row_becomes : (s : Scenario) (hs : List Happening) (device : DeviceId) (t : 
     → last ≡ last_taken hs device t link cause row.vl → IsEnteredAs s hs device t link cause signal (entered.ByRow row length)
     → ((entry : Entry) → row ≡ entering_by network entry → is ≡ taken_or_fault network device at entry (row_fault network at entry length last))
     → is ≡ arrival_of s hs device t link cause signal
-row_becomes s hs device t link cause signal network at row length last is n a l x f =
-    grind arith
+row_becomes s hs device t link cause signal network at row length last is n a l x f = grind arith

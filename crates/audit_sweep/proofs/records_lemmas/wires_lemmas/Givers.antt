@@ -26,8 +26,7 @@ child_test : (network : Network) (device : DeviceId) (link : LinkId) → IsChild
 child_test network device link e = end_test (λ (l : Link). l.child) (link_at network link) device e
 
 passes_is : (network : Network) (device : DeviceId) (by link : LinkId) → passes network device by link ≡ true → Passes network device by link
-passes_is network device by link e =
-    grind (arith, and_parts, or_cases, parent_shown, child_is)
+passes_is network device by link e = grind (arith, and_parts, or_cases, parent_shown, child_is)
 
 on_test : (network : Network) (device : DeviceId) (by link : LinkId)
     → (IsParentOf network device by × IsChildOf network device link) ⊎ (IsChildOf network device by × IsParentOf network device link)

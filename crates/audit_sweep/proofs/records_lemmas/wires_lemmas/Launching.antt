@@ -2,9 +2,9 @@
 use Rattle.audit_sweep.specs.{declared.records.kept.KeptRecord.KeptRecord, records.Keeping.{control_sending, kept_of, record_of, sending_of}}
 use Rattle.{audit_sweep.specs.declared.records.wires.putting.Put.Put, pcf_codec.specs.{EtherType.pcf_type, declared.refusal.PcfRefusal.PcfRefusal}}
 use Rattle.audit_sweep.specs.records.wires.Signals.{ShowsByCause, control_on_wire, on_wire_of, put_by, put_of, put_on, sent_on_wire, stops}
-use Rattle.{device_rules.specs.Headings.heading_of, net_plan.specs.declared.ids.LinkId.LinkId, run_law.specs.scenario.Scenarios.Scenario}
+use Rattle.{device_rules.specs.Headings.heading_of, pcf_codec.specs.{Decoding.decoded, Fields.field}}
 use Rattle.{device_rules.specs.declared.heading.Heading.Heading, net_plan.specs.declared.{network.Network.Network, tables.Way.{TheVariants.Up, Way}}}
-use Rattle.{pcf_codec.specs.{Decoding.decoded, Fields.field}, pcf_values.specs.declared.pcf.Pcf.Pcf}
+use Rattle.{net_plan.specs.declared.ids.LinkId.LinkId, run_law.specs.scenario.Scenarios.Scenario, tte_units.specs.declared.frames.pcf.Pcf.Pcf}
 use Rattle.run_law.specs.{control.Wires.{Launch, Signal, control, launched, signal_of, timed}, records.Happenings.{Happening, frame_by, frame_in, octets_by}}
 use Rattle.{run_law.specs.{declared.note.NoteBody.NoteBody, scenario.Ways.{is_cut, way_from}}, std.specs.Prelude.{if◌then◌else◌, option_map, ⊤}}
 use Rattle.std.proofs.{Common.{◌==◌, ◌∙◌, ◌≡◌, Bool, Err, List, None, Ok, Option, Result, Some, ap, false, refl, subst, sym, true, ℕ}, lemmas.Option.same_Some}
@@ -24,8 +24,7 @@ shows network before h (notes.Event line (events.Send link octets)) e o = (e, o)
 shows network before h other e o = tt
 
 pub by_cause : (network : Network) (h : Happening) → ShowsByCause network h → SendShows h h.note.body
-by_cause network h c =
-    shows network c.0 h h.note.body (ap (λ (x : Happening). x.frame) c.1) (ap (λ (x : Happening). x.octets) c.1)
+by_cause network h c = shows network c.0 h h.note.body (ap (λ (x : Happening). x.frame) c.1) (ap (λ (x : Happening). x.octets) c.1)
 
 sent_by : (b : Bool) (d : Result Pcf PcfRefusal) (octets : List ℕ) (r : KeptRecord) → r.frame ≡ frame_in d → r.heading ≡ heading_of octets
     → sent_on_wire r (if b then control_sending d else sendings.Timed) ≡ Some (on_wire_of (if b then control d else timed octets))
@@ -49,8 +48,7 @@ control_put link way (Some f) put e = (launch link way (control (Ok f)), refl, s
 pub put_launched : (s : Scenario) (h : Happening) (t : ℕ) (body : NoteBody) (put : Put) → SendShows h body
     → put_by s.network (record_of h) (kept_of body) ≡ Some put → stops s t put.link (kept_of body) ≡ false
     → (l : Launch) × (launched s h t body ≡ Some l) × (put ≡ put_of l)
-put_launched s h t (notes.Left device link cause clock) put shown e whole =
-    control_put link (way_from s.network device link) h.frame put e
+put_launched s h t (notes.Left device link cause clock) put shown e whole = control_put link (way_from s.network device link) h.frame put e
 put_launched s h t (notes.TtSent device link cause vl cycle) put shown e whole =
     (launch link (way_from s.network device link) (timed h.octets), refl, sym (same_Some _ _ e))
 put_launched s h t (notes.Event line (events.Send link octets)) put shown e whole =
@@ -72,8 +70,7 @@ not_cut false x y e = (refl, same_Some _ _ e)
 -- what is put on the way is told, and no cut stops it
 pub launched_put : (s : Scenario) (h : Happening) (t : ℕ) (body : NoteBody) (l : Launch) → SendShows h body → launched s h t body ≡ Some l
     → (put_by s.network (record_of h) (kept_of body) ≡ Some (put_of l)) × (stops s t l.link (kept_of body) ≡ false)
-launched_put s h t (notes.Left device link cause clock) l shown e =
-    (control_launched link (way_from s.network device link) h.frame l e, refl)
+launched_put s h t (notes.Left device link cause clock) l shown e = (control_launched link (way_from s.network device link) h.frame l e, refl)
 launched_put s h t (notes.TtSent device link cause vl cycle) l shown e = (ap (λ (x : Launch). Some (put_of x)) (same_Some _ _ e), refl)
 launched_put s h t (notes.Event line (events.Send link octets)) l shown e =
     let n = not_cut (is_cut s link Up t) (launch link Up (signal_of octets)) l e in (

@@ -3,20 +3,18 @@ use Rattle.{audit_law.specs.law.Departures.{OwesDeparture, leaves_at}, run_law.s
 use Rattle.{audit_sweep.proofs.records_lemmas.wires_lemmas.Givers.{given, gives}, run_law.specs.control.Leaving.{Departs, Departure, Gives, departure}}
 use Rattle.audit_sweep.specs.{declared.records.kept.KeptRecord.KeptRecord, records.{Keeping.record_of, wires.Departings.{IsLeaving, giver}}}
 use Rattle.{net_plan.specs.declared.ids.DeviceId.DeviceId, std.proofs.Common.{◌+◌, ◌<◌, ◌∙◌, ◌≡◌, ◌≤◌, List, Some, ap, arith, false, refl, subst, sym, true, ℕ}}
-use Rattle.{net_plan.specs.declared.ids.LinkId.LinkId, pcf_values.specs.declared.pcf.Pcf.Pcf}
+use Rattle.{net_plan.specs.declared.ids.LinkId.LinkId, tte_units.specs.declared.frames.pcf.Pcf.Pcf}
 use Rattle.{run_law.specs.scenario.{Scenarios.{Scenario, is_broken}, Ways.{hold_at, way_from}}, tte_units.proofs.general_lemmas.Options.one}
 
 -- ---- what is kept tells it
 
 pub giver_is : (s : Scenario) (h : Happening) (r : KeptRecord) (device : DeviceId) (link : LinkId) → r ≡ record_of h
     → giver s.network link r.kept ≡ Some device → Gives s.network h.note.body device link
-giver_is s h r device link k e =
-    gives s.network h.note.body device link (sym (ap (λ (q : KeptRecord). giver s.network link q.kept) k) ∙ e)
+giver_is s h r device link k e = gives s.network h.note.body device link (sym (ap (λ (q : KeptRecord). giver s.network link q.kept) k) ∙ e)
 
 giver_by : (s : Scenario) (h : Happening) (r : KeptRecord) (device : DeviceId) (link : LinkId) → r ≡ record_of h
     → Gives s.network h.note.body device link → giver s.network link r.kept ≡ Some device
-giver_by s h r device link k g =
-    ap (λ (q : KeptRecord). giver s.network link q.kept) k ∙ given s.network h.note.body device link g
+giver_by s h r device link k g = ap (λ (q : KeptRecord). giver s.network link q.kept) k ∙ given s.network h.note.body device link g
 
 -- when it leaves, by what is kept
 abbrev pub kept_leaves : Scenario → DeviceId → LinkId → KeptRecord → ℕ
@@ -100,14 +98,10 @@ pub not_given_departs : (s : Scenario) (hs : List Happening) (h : Happening) (r 
 not_given_departs s hs h r device t link cause there k none is x = none (departs_giver s hs h r device t link cause is there k x)
 
 pub other_time_departs : (s : Scenario) (hs : List Happening) (h : Happening) (r : KeptRecord) (device : DeviceId) (t : ℕ) (link : LinkId) (cause : ℕ)
-    → numbered hs cause ≡ Some h → r ≡ record_of h → (t ≡ kept_leaves s device link r → ⊥) → (is : Departure)
-    → Departs s hs device t link cause is → ⊥
-other_time_departs s hs h r device t link cause there k none is x =
-    grind (arith, one, leaves_is)
+    → numbered hs cause ≡ Some h → r ≡ record_of h → (t ≡ kept_leaves s device link r → ⊥) → (is : Departure) → Departs s hs device t link cause is → ⊥
+other_time_departs s hs h r device t link cause there k none is x = grind (arith, one, leaves_is)
 
 pub departs : (s : Scenario) (hs : List Happening) (h : Happening) (r : KeptRecord) (frame : Pcf) (device : DeviceId) (t : ℕ) (link : LinkId) (cause : ℕ)
     (is : Departure) → numbered hs cause ≡ Some h → r ≡ record_of h → r.frame ≡ Some frame → giver s.network link r.kept ≡ Some device
-    → t ≡ kept_leaves s device link r → is_broken s device t ≡ false → is ≡ departure s device link frame r.time t
-    → Departs s hs device t link cause is
-departs s hs h r frame device t link cause is there k framed by at correct becomes =
-    grind (arith, gives, giver_is, leaves_is)
+    → t ≡ kept_leaves s device link r → is_broken s device t ≡ false → is ≡ departure s device link frame r.time t → Departs s hs device t link cause is
+departs s hs h r frame device t link cause is there k framed by at correct becomes = grind (arith, gives, giver_is, leaves_is)

@@ -54,8 +54,7 @@ arrives_when s h found put = time_of h + port_time found.speed put.what + delay_
 
 launch_when : (s : Scenario) (h : Happening) (found : Link) (l : Launch) → link_at s.network l.link ≡ Some found
     → time_of h + time_on_port s.network l.link l.signal + delay_at s l.link l.way (time_of h) ≡ arrives_when s h found (put_of l)
-launch_when s h found l there =
-    ap (λ (n : ℕ). time_of h + n + delay_at s l.link l.way (time_of h)) (port_is s.network l.link l.signal found there)
+launch_when s h found l there = ap (λ (n : ℕ). time_of h + n + delay_at s l.link l.way (time_of h)) (port_is s.network l.link l.signal found there)
 
 abbrev reception_of : Scenario → Happening → Link → Put → Reception
 reception_of s h found put =
@@ -93,8 +92,7 @@ pub received : (s : Scenario) (h : Happening) (r : KeptRecord) (found : Link) (p
     → stops s r.time put.link r.kept ≡ false → device ≡ target_by put.way found
     → time ≡ r.time + port_time found.speed put.what + delay_at s put.link put.way r.time
     → IsReception s h (record { device = device; link = put.link; time = time; what = put.what })
-received s h r found put device time shown k is there whole by at =
-    grind (arith, put_received)
+received s h r found put device time shown k is there whole by at = grind (arith, put_received)
 
 -- but not by a time before
 pub too_late : (s : Scenario) (h : Happening) (r : Reception) (until : ℕ) → IsReception s h r → until < r.time

@@ -26,8 +26,7 @@ lost_at u m n t k d l (notes.Sent device cycle) e = absurd cc
 lost_at u m n t k d l (notes.Corrected device cycle by adjustment) e = absurd cc
 lost_at u m n t k d l (notes.State device state cause why) e = absurd cc
 lost_at u m n t k d l (notes.Left device link cause clock) e = absurd cc
-lost_at u m n t k d l (notes.Lost device link cause) e =
-    grind arith
+lost_at u m n t k d l (notes.Lost device link cause) e = grind arith
 lost_at u m n t k d l other e = absurd cc
 
 -- what stands at the place of a dispatch is it
@@ -42,8 +41,7 @@ sent_at u m n t k c d l v (notes.Corrected device cycle by adjustment) e = absur
 sent_at u m n t k c d l v (notes.State device state cause why) e = absurd cc
 sent_at u m n t k c d l v (notes.Left device link cause clock) e = absurd cc
 sent_at u m n t k c d l v (notes.Lost device link cause) e = absurd cc
-sent_at u m n t k c d l v (notes.TtSent device link cause vl cycle) e =
-    grind arith
+sent_at u m n t k c d l v (notes.TtSent device link cause vl cycle) e = grind arith
 sent_at u m n t k c d l v other e = absurd cc
 
 -- what stands at the place of either is that one

@@ -15,8 +15,7 @@ use Rattle.audit_law.specs.law.Owed as debts
 -- what is owed by a row of the link is dispatched
 owes_dispatches : (s : Scenario) (hs : List Happening) (link : LinkId) (row : LeavingRow) (t : ℕ) (frame : Frame) → IsRowOn s.network link row
     → OwesFrame s hs row t frame → Dispatches s hs row.device t link frame.cause row.vl frame.cycle
-owes_dispatches s hs link row t frame on owes =
-    grind arith
+owes_dispatches s hs link row t frame on owes = grind arith
 
 -- what is dispatched is owed by the row by which it is
 dispatched_by : (s : Scenario) (hs : List Happening) (o : Dispatch) (does : Dispatches s hs o.device o.time o.link o.cause o.vl o.cycle)
@@ -125,17 +124,14 @@ abbrev link_at : ℕ → LinkId
 link_at n = record { 0 = n }
 
 link_part : (o : Dispatch) (n : ℕ) → o.link.0 < n + 1 → (o.link.0 < n) ⊎ (o.link ≡ link_at n)
-link_part o n lt =
-    grind (arith, below_next)
+link_part o n lt = grind (arith, below_next)
 
 pub next_link : (s : Scenario) (hs : List Happening) (until n : ℕ) (first one : Option ℕ)
     → TellsFirstAmong s hs until (λ (o : Dispatch). debts.dispatch o) (λ o. o.link.0 < n) first
     → TellsFirstAmong s hs until (λ (o : Dispatch). debts.dispatch o) (λ o. o.link ≡ record { 0 = n }) one
     → TellsFirstAmong s hs until (λ (o : Dispatch). debts.dispatch o) (λ o. o.link.0 < n + 1) (earlier_of first one)
-next_link s hs until n first one =
-    grind (arith, first_of_both, link_part)
+next_link s hs until n first one = grind (arith, first_of_both, link_part)
 
 -- a dispatch is on a link of the network
 pub link_within : (s : Scenario) (hs : List Happening) (until : ℕ) (o : Dispatch) → OwesDispatch s hs until o → o.link.0 < length s.network.link
-link_within s hs until o owed =
-    grind (arith, length, slice_get_within)
+link_within s hs until o owed = grind (arith, length, slice_get_within)

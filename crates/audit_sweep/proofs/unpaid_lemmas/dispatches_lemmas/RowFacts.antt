@@ -48,8 +48,7 @@ cycle_least network range =
 
 wide_by : (first : ℤ) (step f p c offset : ℕ) → (first +ℤ pos (0 * step)) ≡ pos ((f + 0 * p) * c + offset)
     → (first +ℤ pos (1 * step)) ≡ pos ((f + 1 * p) * c + offset) → 1 ≤ p → 2 ^ 32 ≤ c → 2 ^ 32 ≤ step
-wide_by first step f p c offset at next some least =
-    grind (arith, mul-le-mul_right, ints)
+wide_by first step f p c offset at next some least = grind (arith, mul-le-mul_right, ints)
 
 -- the values lie far apart
 pub wide_step : (network : Network) (row : LeavingRow) (series : Series) → IsInRange network → IsRowFit row → AreLeavings network row series
@@ -59,13 +58,11 @@ wide_step network row series range fit are =
     (cycle_least network range)
 
 few_by : (v : ℤ) (f n p c offset : ℕ) → v ≡ pos ((f + n * p) * c + offset) → v ≤ℤ pos (2 ^ 83) → 1 ≤ p → 2 ^ 32 ≤ c → n ≤ 2 ^ 52
-few_by v f n p c offset at near some least =
-    grind (arith, mul-le-mul_left, mul-le-mul_right, ints)
+few_by v f n p c offset at near some least = grind (arith, mul-le-mul_left, mul-le-mul_right, ints)
 
 -- the number of what is crossed is not great
 pub few_left : (network : Network) (row : LeavingRow) (series : Series) (reading : ℕ → ℕ) (shown : Shown) (after until : ℕ) (crossed : Crossed)
-    → IsInRange network → IsRowFit row → AreLeavings network row series → IsNextCrossing reading shown series after until crossed
-    → crossed.number ≤ 2 ^ 52
+    → IsInRange network → IsRowFit row → AreLeavings network row series → IsNextCrossing reading shown series after until crossed → crossed.number ≤ 2 ^ 52
 few_left network row series reading shown after until crossed range fit are next =
     few_by (value_in series crossed.number) (first_cycle row) crossed.number row.period (amount network.cycle) row.offset (are.values crossed.number)
     next.near fit.period_least (cycle_least network range)
@@ -74,6 +71,5 @@ few_left network row series reading shown after until crossed range fit are next
 
 -- no value is reached at time 0
 pub reached_later : (s : Scenario) (hs : List Happening) (device : DeviceId) (v : ℤ) (t : ℕ) → Reaches s hs device v t → 0 < t
-reached_later s hs device v zero reaches =
-    grind (arith, changed_early, ints)
+reached_later s hs device v zero reaches = grind (arith, changed_early, ints)
 reached_later s hs device v (suc t) reaches = omega arith

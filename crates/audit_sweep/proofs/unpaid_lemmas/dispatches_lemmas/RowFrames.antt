@@ -16,8 +16,7 @@ pub record IsCrossed (s : Scenario) (shown : Shown) (row : LeavingRow) (series :
   pub crosses : CrossesAt (s.reading row.device) shown (value_in series number) t
 
 pub owed_crossed : (s : Scenario) (hs : List Happening) (shown : Shown) (row : LeavingRow) (series : Series) (t : ℕ) (frame : Frame)
-    → AreLeavings s.network row series → Shows s (earlier t hs) row.device shown → OwesFrame s hs row t frame
-    → IsCrossed s shown row series t frame.cycle
+    → AreLeavings s.network row series → Shows s (earlier t hs) row.device shown → OwesFrame s hs row t frame → IsCrossed s shown row series t frame.cycle
 owed_crossed s hs shown row series t frame are shows owes =
     let k = are.all frame.cycle owes.occurs in
     let value : pos (leaving_value s.network row frame.cycle) ≡ value_in series k.0 =
@@ -32,8 +31,7 @@ owed_crossed s hs shown row series t frame are shows owes =
 
 pub crossed_owes : (s : Scenario) (hs : List Happening) (shown : Shown) (row : LeavingRow) (series : Series) (t n cause : ℕ)
     → IsUp s hs row.device t → ReadsOn (s.reading row.device) → AreLeavings s.network row series → Shows s (earlier t hs) row.device shown
-    → CrossesAt (s.reading row.device) shown (value_in series n) t
-    → IsAtHand s.network hs row.device row.sender row.vl t cause (cycle_of row n)
+    → CrossesAt (s.reading row.device) shown (value_in series n) t → IsAtHand s.network hs row.device row.sender row.vl t cause (cycle_of row n)
     → OwesFrame s hs row t (record { cause = cause; cycle = cycle_of row n })
 crossed_owes s hs shown row series t n cause up on are shows crosses hand = record {
   occurs = are.occur n;
@@ -48,8 +46,7 @@ crossed_owes s hs shown row series t n cause up on are shows crosses hand = reco
 -- at a crossing nothing is dispatched but a frame of its cycle
 crossed_cycle : (s : Scenario) (hs : List Happening) (shown : Shown) (row : LeavingRow) (series : Series) (after until : ℕ) (crossed : Crossed) (frame : Frame)
     → ReadsOn (s.reading row.device) → 2 ^ 32 ≤ series.step → AreLeavings s.network row series → Shows s (earlier crossed.time hs) row.device shown
-    → IsNextCrossing (s.reading row.device) shown series after until crossed → OwesFrame s hs row crossed.time frame
-    → frame.cycle ≡ cycle_of row crossed.number
+    → IsNextCrossing (s.reading row.device) shown series after until crossed → OwesFrame s hs row crossed.time frame → frame.cycle ≡ cycle_of row crossed.number
 crossed_cycle s hs shown row series after until crossed frame on wide are shows next owes =
     let is = owed_crossed s hs shown row series crossed.time frame are shows owes in
     let later = next.later in
@@ -98,16 +95,14 @@ told_without s hs link shown row series after until before are shows last none t
 
 -- a device that is not synchronised dispatches nothing
 pub told_silent : (s : Scenario) (hs : List Happening) (link : LinkId) (shown : Shown) (row : LeavingRow) (after until : ℕ)
-    → ShowsWithin s hs row.device after until shown → (shown.state ≡ Synchronised → ⊥)
-    → ArePaid (OwesFrame s hs row) (IsTold s hs link row) after (until + 1)
+    → ShowsWithin s hs row.device after until shown → (shown.state ≡ Synchronised → ⊥) → ArePaid (OwesFrame s hs row) (IsTold s hs link row) after (until + 1)
 told_silent s hs link shown row after until shows other t frame lt early owes =
     absurd (other (shown_up s hs row.device t shown (shows t lt (omega (arith, early))) owes.up))
 
 pub first_at : (s : Scenario) (hs : List Happening) (link : LinkId) (shown : Shown) (row : LeavingRow) (series : Series) (after until : ℕ) (crossed : Crossed)
     → ReadsOn (s.reading row.device) → AreLeavings s.network row series → ShowsWithin s hs row.device after until shown
     → IsNextCrossing (s.reading row.device) shown series after until crossed → IsUp s hs row.device crossed.time
-    → LacksOne s hs link row crossed.time (cycle_of row crossed.number)
-    → IsFirstUnpaid (OwesFrame s hs row) (IsTold s hs link row) after until crossed.time
+    → LacksOne s hs link row crossed.time (cycle_of row crossed.number) → IsFirstUnpaid (OwesFrame s hs row) (IsTold s hs link row) after until crossed.time
 first_at s hs link shown row series after until crossed on are shows next up lacks =
     let timely = next.timely in
     record {

@@ -52,8 +52,7 @@ middle_in p high ps all =
 
 from_test : (cycle : ℕ) (low high : ℤ) (q : Point) → (q.cycle == cycle && (int_le low q.reading && int_le q.reading high)) ≡ true
     → (low ≤ℤ q.reading) × (q.reading ≤ℤ high)
-from_test cycle low high q e =
-    grind (arith, and_parts, ints)
+from_test cycle low high q e = grind (arith, and_parts, ints)
 
 readings_in : (o : Point) (high : ℤ) (ps more : List Point)
     → AllByRecursion (λ q. Contains (of_cycle_within o.cycle o.reading high ps) q × (has_master (o ∷ []) q.master ≡ false)) more

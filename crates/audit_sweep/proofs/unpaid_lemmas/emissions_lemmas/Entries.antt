@@ -39,15 +39,13 @@ pub emission_behind : (network : Network) (points : List Point) (kept : Stretche
     (place : ℕ) (r : Option Emitted) → IsBehind kept e time collections g → HasPoints network points collections g
     → ((clusters : List Cluster) → AreClusters (observation_window network) points clusters → r ≡ slice_get (emissions_for network clusters) place)
     → slice_get (emissions_in kept.collections e.gathering) place ≡ r
-emission_behind network points kept e time collections g place r behind has is =
-    grind (arith, are_in, slice_get, emissions_behind, emissions_same)
+emission_behind network points kept e time collections g place r behind has is = grind (arith, are_in, slice_get, emissions_behind, emissions_same)
 
 pub length_behind : (network : Network) (points : List Point) (kept : Stretches) (e : Entry) (time : ℕ) (collections : History) (g : Gathering)
     (n : ℕ) → IsBehind kept e time collections g → HasPoints network points collections g
     → ((clusters : List Cluster) → AreClusters (observation_window network) points clusters → n ≡ length clusters)
     → length (emissions_in kept.collections e.gathering) ≡ n
-length_behind network points kept e time collections g n behind has is =
-    grind (arith, length, emissions_behind, length-map, are_in)
+length_behind network points kept e time collections g n behind has is = grind (arith, length, emissions_behind, length-map, are_in)
 
 -- ---- one change more
 
@@ -78,13 +76,11 @@ entries_more s hs until d kept e n r q is told more =
 
 pub entries_none : (s : Scenario) (hs : List Happening) (until : ℕ) (d : DeviceId) (kept : Stretches)
     → TellsFirstOf (Until s hs until d kept 0) (IsTold s hs d) None
-entries_none s hs until d kept =
-    first_of_none (Until s hs until d kept 0) (IsTold s hs d) (λ sent t o. let below = o.below in omega (arith, below))
+entries_none s hs until d kept = first_of_none (Until s hs until d kept 0) (IsTold s hs d) (λ sent t o. let below = o.below in omega (arith, below))
 
 pub entries_all : (s : Scenario) (hs : List Happening) (until : ℕ) (d : DeviceId) (kept : Stretches) (n : ℕ) (r : Option ℕ) → Keeps s.network hs d kept
     → n ≡ length kept.entries → TellsFirstOf (Until s hs until d kept n) (IsTold s hs d) r → TellsFirstOf (OwesAt s hs until d) (IsTold s hs d) r
-entries_all s hs until d kept n r keeps all told =
-    grind (arith, first_as, owed_within)
+entries_all s hs until d kept n r keeps all told = grind (arith, first_as, owed_within)
 
 -- ---- one device more
 
@@ -117,19 +113,16 @@ devices_more s hs until n d r q is told more =
     (of_device s hs until d q more)
 
 pub devices_none : (s : Scenario) (hs : List Happening) (until : ℕ) → TellsFirstOf (OwesAmong s hs until 0) (IsToldOf s hs) None
-devices_none s hs until =
-    first_of_none (OwesAmong s hs until 0) (IsToldOf s hs) (λ o t owed. let one = owed.one in omega (arith, one))
+devices_none s hs until = first_of_none (OwesAmong s hs until 0) (IsToldOf s hs) (λ o t owed. let one = owed.one in omega (arith, one))
 
 -- a compression master is a device of the network
 master_there : (network : Network) (d : DeviceId) → is_cm network d ≡ true → d.0 < length network.device
-master_there network d master =
-    grind (arith, cases_lt, length, slice_get_past)
+master_there network d master = grind (arith, cases_lt, length, slice_get_past)
 
 -- only compression masters owe
 pub none_of_others : (s : Scenario) (hs : List Happening) (until : ℕ) (d : DeviceId) → is_cm s.network d ≡ false
     → TellsFirstOf (OwesAt s hs until d) (IsTold s hs d) None
-none_of_others s hs until d not =
-    first_of_none (OwesAt s hs until d) (IsTold s hs d) (λ sent t o. let master = o.owes.emits.cm in absurd cc)
+none_of_others s hs until d not = first_of_none (OwesAt s hs until d) (IsTold s hs d) (λ sent t o. let master = o.owes.emits.cm in absurd cc)
 
 pub first_emission : (s : Scenario) (hs : List Happening) (until n : ℕ) (r : Option ℕ) → n ≡ length s.network.device
     → TellsFirstOf (OwesAmong s hs until n) (IsToldOf s hs) r → TellsFirst s hs until (λ (o : DeviceId × Compressed). debts.emission o.0 o.1) r
@@ -159,8 +152,7 @@ first_emission s hs until n (Some t) all h = record {
 pub emission_there : (network : Network) (hs : List Happening) (d : DeviceId) (kept : Stretches) (e : Entry) (place time : ℕ) (collections : History)
     (g : Gathering) (k : ℕ) (r : Option Emitted) → Keeps network hs d kept → slice_get kept.entries place ≡ Some e → IsBehind kept e time collections g
     → ((n : Network) (points : List Point) (clusters : List Cluster) → HasPoints n points collections g → AreClusters (observation_window n) points clusters
-    → r ≡ slice_get (emissions_for n clusters) k)
-    → slice_get (emissions_in kept.collections e.gathering) k ≡ r
+    → r ≡ slice_get (emissions_for n clusters) k) → slice_get (emissions_in kept.collections e.gathering) k ≡ r
 emission_there network hs d kept e place time collections g k r keeps at behind told =
     let points = entry_points network hs d kept e place keeps at in
     let has = stretch_points network points.0 kept e time collections g behind points.1 in
@@ -169,8 +161,7 @@ emission_there network hs d kept e place time collections g k r keeps at behind 
 pub length_there : (network : Network) (hs : List Happening) (d : DeviceId) (kept : Stretches) (e : Entry) (place time : ℕ) (collections : History)
     (g : Gathering) (r : ℕ) → Keeps network hs d kept → slice_get kept.entries place ≡ Some e → IsBehind kept e time collections g
     → ((n : Network) (points : List Point) (clusters : List Cluster) → HasPoints n points collections g → AreClusters (observation_window n) points clusters
-    → r ≡ length clusters)
-    → length (emissions_in kept.collections e.gathering) ≡ r
+    → r ≡ length clusters) → length (emissions_in kept.collections e.gathering) ≡ r
 length_there network hs d kept e place time collections g r keeps at behind told =
     let points = entry_points network hs d kept e place keeps at in
     let has = stretch_points network points.0 kept e time collections g behind points.1 in

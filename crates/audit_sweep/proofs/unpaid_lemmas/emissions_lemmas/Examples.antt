@@ -1,5 +1,5 @@
 -- One record, for the tests.
-use Rattle.{pcf_values.specs.declared.{mac.Mac.Mac, pcf.PcfKind.TheVariants.Integration}, run_law.specs.declared.judgement.Judgement.TheVariants.Opened}
+use Rattle.{run_law.specs.declared.judgement.Judgement.TheVariants.Opened, tte_units.specs.declared.frames.{mac.Mac.Mac, pcf.PcfKind.TheVariants.Integration}}
 use Rattle.{run_law.specs.{declared.note.NoteBody.TheVariants.Permanent, records.Happenings.Happening}, std.proofs.Common.{Some, [], pos}}
 
 -- a frame of the first master is permanent at the second device, at the time that is its point

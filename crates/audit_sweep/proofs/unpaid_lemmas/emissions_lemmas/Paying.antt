@@ -18,13 +18,11 @@ told_at : (u m t : ℕ) (d : DeviceId) (sent : Compressed) (body : NoteBody) →
 told_at u m t d sent (notes.Event line what) e = absurd cc
 told_at u m t d sent (notes.Arrived device link cause clock) e = absurd cc
 told_at u m t d sent (notes.Permanent device link cause point verdict) e = absurd cc
-told_at u m t d sent (notes.Compressed other opened at cycle members verdict) e =
-    grind (arith, same_device, same_units, same_members)
+told_at u m t d sent (notes.Compressed other opened at cycle members verdict) e = grind (arith, same_device, same_units, same_members)
 told_at u m t d sent other e = absurd cc
 
 pub told_there : (s : Scenario) (hs : List Happening) (d : DeviceId) (t : ℕ) (sent : Compressed) → HasRecordAt hs (emission_place t d sent) → IsTold s hs d sent
-told_there s hs d t sent there =
-    (there.0, there.1, told_at (time_of there.0) (members_in there.0) t d sent there.0.note.body there.2)
+told_there s hs d t sent there = (there.0, there.1, told_at (time_of there.0) (members_in there.0) t d sent there.0.note.body there.2)
 
 -- ---- the place of the record
 

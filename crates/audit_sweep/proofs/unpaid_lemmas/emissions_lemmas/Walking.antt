@@ -70,8 +70,7 @@ walk_paid s hs until d collections e k a time r is reach paid told =
 -- its reading is not reached
 pub walk_unreached : (s : Scenario) (hs : List Happening) (until : ℕ) (d : DeviceId) (collections : History) (e : Entry) (k : ℕ) (a : Emitted) (r : Option ℕ)
     → slice_get (emissions_in collections e.gathering) k ≡ Some a → ((x : ℕ) → 0 ≤ x → x ≤ until → pos (s.reading d x) <ℤ a.at)
-    → TellsFirstOf (OwesBehind s hs until d collections e (k + 1)) (IsTold s hs d) r
-    → TellsFirstOf (OwesBehind s hs until d collections e k) (IsTold s hs d) r
+    → TellsFirstOf (OwesBehind s hs until d collections e (k + 1)) (IsTold s hs d) r → TellsFirstOf (OwesBehind s hs until d collections e k) (IsTold s hs d) r
 walk_unreached s hs until d collections e k a r is low told =
     subst (TellsFirstOf (OwesBehind s hs until d collections e k) (IsTold s hs d)) (none_more r)
     (first_of_both (OwesBehind s hs until d collections e k) (OwesBehind s hs until d collections e (k + 1)) (OwesHere s hs until d collections e k a)
@@ -87,8 +86,7 @@ walk_unreached s hs until d collections e k a r is low told =
 pub walk_begun : (s : Scenario) (hs : List Happening) (until : ℕ) (d : DeviceId) (collections : History) (e : Entry) (points : List Point) (k : ℕ)
     (a : Emitted) (time : ℕ) (r : Option ℕ) → pos 0 ≤ℤ collections.ow → Gathers collections e.gathering points
     → slice_get (emissions_in collections e.gathering) k ≡ Some a → IsReach (s.reading d) (pos 0) a.at (pos time) → time < time_at e.place
-    → TellsFirstOf (OwesBehind s hs until d collections e (k + 1)) (IsTold s hs d) r
-    → TellsFirstOf (OwesBehind s hs until d collections e 0) (IsTold s hs d) r
+    → TellsFirstOf (OwesBehind s hs until d collections e (k + 1)) (IsTold s hs d) r → TellsFirstOf (OwesBehind s hs until d collections e 0) (IsTold s hs d) r
 walk_begun s hs until d collections e points k a time r some gathers is reach early told =
     first_as (OwesBehind s hs until d collections e 0) (OwesBehind s hs until d collections e (k + 1)) (IsTold s hs d) r
     (λ sent t o.

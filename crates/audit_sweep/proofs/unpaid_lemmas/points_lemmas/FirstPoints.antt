@@ -50,8 +50,7 @@ point_there s hs device t cycle verdict of comes =
       | inl lt ↦ lt
       | inr le ↦
           let gs = earlier t (up_to t hs) in
-          let here : (h : Happening) → IsIn h gs → IsIn h hs =
-          λ h there. in_filter _ hs h (in_filter _ (up_to t hs) h there) in
+          let here : (h : Happening) → IsIn h gs → IsIn h hs = λ h there. in_filter _ hs h (in_filter _ (up_to t hs) h there) in
           let none : (h : Happening) → IsIn h gs → IsOfOther device h.note.body =
           λ h there named. let has = of h device (here h there) named in omega (arith, le, has) in
           let start : state_at_start (start_of s.network device) ≡ Off =
@@ -62,8 +61,7 @@ point_there s hs device t cycle verdict of comes =
 
 -- at time 0 no clock comes to anything
 later_than_start : (s : Scenario) (hs : List Happening) (device : DeviceId) (t : ℕ) (v : ℤ) → Reaches s hs device v t → 0 < t
-later_than_start s hs device zero v reaches =
-    grind (arith, changed_early, ints)
+later_than_start s hs device zero v reaches = grind (arith, changed_early, ints)
 later_than_start s hs device (suc t) v reaches = omega arith
 
 -- ---- the first of all

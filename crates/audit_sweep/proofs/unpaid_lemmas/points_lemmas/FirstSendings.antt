@@ -8,8 +8,7 @@ use Rattle.audit_law.specs.law.Owed as debts
 
 -- a master is a device of the network
 master_there : (network : Network) (device : DeviceId) → has_role network is_master device ≡ true → device.0 < length network.device
-master_there network device master =
-    grind (arith, cases_lt, length, slice_get_past)
+master_there network device master = grind (arith, cases_lt, length, slice_get_past)
 
 paid_as : (s : Scenario) (hs : List Happening) (o : Sending) → IsSent s hs o.device o.time o.cycle → IsPaid hs (Pays s) (debts.sending o)
 paid_as s hs o sent = (sent.0, sent.1, record { at = sent.2.at; says = sent.2.says })

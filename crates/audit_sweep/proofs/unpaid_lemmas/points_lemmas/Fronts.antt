@@ -91,8 +91,7 @@ front_after s hs device t cycle at founded next = record {
 -- so what has been heard by then is told by the front
 pub heard_front : (s : Scenario) (hs : List Happening) (device : DeviceId) (t : ℕ) (at : IsSplit place_of hs (t ∷ 6 ∷ [])) (heard : Summary) (shown : Shown)
     → IsFounded place_of (IsDue s) hs → Shows s (records_before (t ∷ 6 ∷ []) hs) device shown
-    → (IsAfter at.front device t → Shows s at.front device shown → Summarizes heard (heard_since_point s at.front device t))
-    → IsHeard s at.front device t heard
+    → (IsAfter at.front device t → Shows s at.front device shown → Summarizes heard (heard_since_point s at.front device t)) → IsHeard s at.front device t heard
 heard_front s hs device t at heard shown founded shows told cycle next =
     told (front_after s hs device t cycle at founded next)
     (subst (λ (gs : List Happening). Shows s gs device shown) (front_is hs (t ∷ 6 ∷ []) at) shows)

@@ -7,8 +7,7 @@ use Rattle.audit_sweep.{proofs.unpaid_lemmas.points_lemmas.Words.{sym, true, ℕ
 
 pub paid_both : {C : Type 0} (Owes Paid : ℕ → C → Type 0) (after mid before : ℕ) → ArePaid Owes Paid after (mid + 1) → ArePaid Owes Paid mid before
     → ArePaid Owes Paid after before
-paid_both Owes Paid after mid before first second t o lt early owes =
-    grind (arith, cases_lt)
+paid_both Owes Paid after mid before first second t o lt early owes = grind (arith, cases_lt)
 
 pub paid_less : {C : Type 0} (Owes Paid : ℕ → C → Type 0) (after less before : ℕ) → less ≤ before → ArePaid Owes Paid after before
     → ArePaid Owes Paid after less
@@ -17,8 +16,7 @@ paid_less Owes Paid after less before le paid t o lt early owes = paid t o lt (o
 -- the first of what is unpaid behind a time, before which all is paid
 pub first_behind : {C : Type 0} (Owes Paid : ℕ → C → Type 0) (after mid until last time : ℕ) → after ≤ mid → until ≤ last → ArePaid Owes Paid after (mid + 1)
     → IsFirstUnpaid Owes Paid mid until time → IsFirstUnpaid Owes Paid after last time
-first_behind Owes Paid after mid until last time le most paid first =
-    grind (arith, paid_both)
+first_behind Owes Paid after mid until last time le most paid first = grind (arith, paid_both)
 
 pub end_near : (next : Option ℕ) (until : ℕ) → end_of next until ≤ until
 end_near None until = omega arith
@@ -49,18 +47,15 @@ tells_behind Owes Paid after mid until last (Some t) le most some paid told = fi
 -- ---- one device more
 
 numbered_device : (P : DeviceId → Type 0) (n : ℕ) (d : DeviceId) → d.0 ≡ n → P (record { 0 = n }) → P d
-numbered_device P n d same p =
-    subst P (ap (λ (k : ℕ). let x : DeviceId = record { 0 = k } in x) (sym same)) p
+numbered_device P n d same p = subst P (ap (λ (k : ℕ). let x : DeviceId = record { 0 = k } in x) (sym same)) p
 
 -- what holds of the devices before, and of the next one
 of_both : (P : DeviceId → Type 0) (n : ℕ) → ((d : DeviceId) → d.0 < n → P d) → P (record { 0 = n }) → (d : DeviceId) → d.0 < n + 1 → P d
-of_both P n before here d lt =
-    grind (arith, cases_lt, numbered_device)
+of_both P n before here d lt = grind (arith, cases_lt, numbered_device)
 
 keep_first : {C : Type 0} (Owes Paid : DeviceId → ℕ → C → Type 0) (until n t : ℕ) → IsFirstAmong Owes Paid until n t
     → ArePaid (Owes (record { 0 = n })) (Paid (record { 0 = n })) 0 t → IsFirstAmong Owes Paid until (n + 1) t
-keep_first {C} Owes Paid until n t first here =
-    grind (arith, of_both)
+keep_first {C} Owes Paid until n t first here = grind (arith, of_both)
 
 take_first : {C : Type 0} (Owes Paid : DeviceId → ℕ → C → Type 0) (until n t : ℕ) → IsFirstUnpaid (Owes (record { 0 = n })) (Paid (record { 0 = n })) 0 until t
     → ((d : DeviceId) → d.0 < n → ArePaid (Owes d) (Paid d) 0 t) → IsFirstAmong Owes Paid until (n + 1) t
@@ -68,8 +63,7 @@ take_first {C} Owes Paid until n t first before = grind (arith, of_both)
 
 pub among_more : {C : Type 0} (Owes Paid : DeviceId → ℕ → C → Type 0) (until n : ℕ) (old new : Option ℕ) → TellsFirstAmong Owes Paid until n old
     → TellsFirstUnpaid (Owes (record { 0 = n })) (Paid (record { 0 = n })) 0 until new → TellsFirstAmong Owes Paid until (n + 1) (earlier_of old new)
-among_more {C} Owes Paid until n None None before here =
-    of_both (λ (d : DeviceId). ArePaid (Owes d) (Paid d) 0 (until + 1)) n before here
+among_more {C} Owes Paid until n None None before here = of_both (λ (d : DeviceId). ArePaid (Owes d) (Paid d) 0 (until + 1)) n before here
 among_more {C} Owes Paid until n None (Some u) before first =
     let timely = first.timely in
     take_first Owes Paid until n u first (λ d lt. paid_less (Owes d) (Paid d) 0 u (until + 1) (omega (arith, timely)) (before d lt))

@@ -10,8 +10,7 @@ sent_at u m n t c d (notes.Event line what) e = absurd cc
 sent_at u m n t c d (notes.Arrived device link cause clock) e = absurd cc
 sent_at u m n t c d (notes.Permanent device link cause point verdict) e = absurd cc
 sent_at u m n t c d (notes.Compressed device opened at cycle of_masters verdict) e = absurd cc
-sent_at u m n t c d (notes.Sent other cycle) e =
-    grind (arith, same_device)
+sent_at u m n t c d (notes.Sent other cycle) e = grind (arith, same_device)
 sent_at u m n t c d other e = absurd cc
 
 pub sent_there : (s : Scenario) (hs : List Happening) (d : DeviceId) (t c : ℕ) (place : List ℕ) → place ≡ place_at t 0 (notes.Sent d c)

@@ -15,8 +15,7 @@ AreBeginnings s series = (n : ℕ) → value_in series n ≡ pos ((n + 1) * amou
 -- a device that is up is shown to be synchronised
 pub shown_up : (s : Scenario) (hs : List Happening) (device : DeviceId) (t : ℕ) (shown : Shown) → Shows s (earlier t hs) device shown
     → IsUp s hs device t → shown.state ≡ Synchronised
-shown_up s hs device t shown shows up =
-    shows.state ∙ up_state (is_turned_on_at s device t) (state_after s (earlier t hs) device) up.synchronised
+shown_up s hs device t shown shows up = shows.state ∙ up_state (is_turned_on_at s device t) (state_after s (earlier t hs) device) up.synchronised
 
 pub sending_crosses : (s : Scenario) (hs : List Happening) (device : DeviceId) (shown : Shown) (series : Series) (t cycle : ℕ)
     → AreBeginnings s series → Shows s (earlier t hs) device shown → Sends s hs device t cycle
@@ -116,11 +115,9 @@ first_at s hs device shown series after until crossed Paid master on are shows n
 -- the number of what is crossed is not great
 pub few_crossed : (s : Scenario) (device : DeviceId) (shown : Shown) (series : Series) (after until : ℕ) (crossed : Crossed)
     → 2 ^ 32 ≤ series.step → pos 0 ≤ℤ value_in series 0 → IsNextCrossing (s.reading device) shown series after until crossed → crossed.number < 2 ^ 60
-few_crossed s device shown series after until crossed wide begins next =
-    grind (arith, mul-le-mul_left, ints)
+few_crossed s device shown series after until crossed wide begins next = grind (arith, mul-le-mul_left, ints)
 
 -- nothing is sent at time 0
 pub none_at_first : (s : Scenario) (hs : List Happening) (device : DeviceId) (t cycle : ℕ) → Sends s hs device t cycle → 0 < t
-none_at_first s hs device zero cycle sends =
-    grind (arith, changed_early, ints)
+none_at_first s hs device zero cycle sends = grind (arith, changed_early, ints)
 none_at_first s hs device (suc t) cycle sends = omega arith

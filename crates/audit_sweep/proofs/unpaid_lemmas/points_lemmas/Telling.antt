@@ -28,8 +28,7 @@ correction_at u m t d (notes.Arrived device link cause clock) e = absurd cc
 correction_at u m t d (notes.Permanent device link cause point verdict) e = absurd cc
 correction_at u m t d (notes.Compressed device opened at cycle of_masters verdict) e = absurd cc
 correction_at u m t d (notes.Sent device cycle) e = absurd cc
-correction_at u m t d (notes.Corrected other cycle by adjustment) e =
-    grind (arith, same_device)
+correction_at u m t d (notes.Corrected other cycle by adjustment) e = grind (arith, same_device)
 correction_at u m t d other e = absurd cc
 
 by_why : (d other : DeviceId) (state : State) (cause : ℕ) (why : Why) → other ≡ d → (why ≡ whys.SyncClique) ⊎ (why ≡ whys.AsyncClique)
@@ -46,8 +45,7 @@ clique_at s ps time u m t d (notes.Permanent device link cause point verdict) c 
 clique_at s ps time u m t d (notes.Compressed device opened at cycle of_masters verdict) c e = absurd cc
 clique_at s ps time u m t d (notes.Sent device cycle) c e = absurd cc
 clique_at s ps time u m t d (notes.Corrected other cycle by adjustment) c e = absurd cc
-clique_at s ps time u m t d (notes.State other state cause why) c e =
-    grind (arith, by_why, same_device, without_cause)
+clique_at s ps time u m t d (notes.State other state cause why) c e = grind (arith, by_why, same_device, without_cause)
 clique_at s ps time u m t d other c e = absurd cc
 
 pub corrected_there : (s : Scenario) (hs : List Happening) (d : DeviceId) (t c : ℕ) (place : List ℕ) → place ≡ t ∷ 6 ∷ d.0 ∷ []
@@ -77,8 +75,7 @@ pub told_at : (s : Scenario) (hs : List Happening) (d : DeviceId) (t c : ℕ) �
     → HasRecordAt hs (t ∷ 6 ∷ d.0 ∷ []) ⊎ HasRecordAt hs (t ∷ 7 ∷ d.0 ∷ 0 ∷ [])
 told_at s hs d t c founded told =
     let by = founded_at s hs told.0 founded told.1 in
-    let times : place_of told.0 ≡ place_at t (members_in told.0) told.0.note.body =
-    ap (λ (u : ℕ). place_at u (members_in told.0) told.0.note.body) told.2.at in
+    let times : place_of told.0 ≡ place_at t (members_in told.0) told.0.note.body = ap (λ (u : ℕ). place_at u (members_in told.0) told.0.note.body) told.2.at in
     elim (tells_at s by.front told.0.note.time t (members_in told.0) d told.0.note.body by.due.cause told.2.of_point) [
       | inl e ↦ inl (told.0, told.1, times ∙ e)
       | inr e ↦ inr (told.0, told.1, times ∙ e)

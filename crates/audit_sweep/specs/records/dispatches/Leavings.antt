@@ -36,5 +36,4 @@ pub record AreLeavings (network : Network) (row : LeavingRow) (series : Series) 
 
 -- the same, or there are none
 abbrev pub AreLeavingsOrNone : Network → LeavingRow → Option Series → Type 0
-AreLeavingsOrNone network row result =
-    MatchOption result ((cycle : ℕ) → Occurs row cycle → ⊥) (AreLeavings network row)
+AreLeavingsOrNone network row result = MatchOption result ((cycle : ℕ) → Occurs row cycle → ⊥) (AreLeavings network row)

@@ -1,12 +1,12 @@
 -- What is kept of the frames on wires.
 use Rattle.std.specs.Prelude.{◌*◌, ◌+◌, ◌≡◌, Bool, Err, List, None, Ok, Option, Some, false, option_map, ℕ}
 use Rattle.audit_sweep.specs.declared.records.{kept.KeptRecord.KeptRecord, wires.putting.{OnWire.OnWire, Put.Put}}
-use Rattle.{audit_sweep.specs.declared.records.kept.{Kept.Kept, Sending.Sending}, pcf_values.specs.declared.pcf.Pcf.Pcf}
-use Rattle.{device_rules.specs.Headings.heading_of, run_law.specs.scenario.Scenarios.Scenario}
+use Rattle.audit_sweep.specs.declared.records.kept.{Kept.Kept, Sending.Sending}
+use Rattle.{device_rules.specs.Headings.heading_of, tte_units.specs.OctetTime.octet_time}
 use Rattle.net_plan.specs.declared.{ids.LinkId.LinkId, network.Network.Network, tables.Way.{TheVariants.Up, Way}}
 use Rattle.run_law.specs.{control.Wires.{Launch, Signal, control, timed}, records.Happenings.{Happening, happening}}
-use Rattle.{run_law.specs.scenario.Ways.{is_cut, way_from}, tte_units.specs.declared.speed.Speed.Speed}
-use Rattle.tte_units.specs.OctetTime.{octet_time}
+use Rattle.{run_law.specs.scenario.Scenarios.Scenario, tte_units.specs.declared.speed.Speed.Speed}
+use Rattle.{run_law.specs.scenario.Ways.{is_cut, way_from}, tte_units.specs.declared.frames.pcf.Pcf.Pcf}
 use Rattle.audit_sweep.specs.declared.records.kept.Kept.TheVariants as kepts
 use Rattle.audit_sweep.specs.declared.records.kept.Sending.TheVariants as sendings
 use Rattle.audit_sweep.specs.declared.records.wires.putting.OnWire.TheVariants as on_wire

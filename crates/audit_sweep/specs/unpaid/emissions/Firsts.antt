@@ -10,5 +10,4 @@ pub record IsFirstOf {O : Type 0} (Owes : O → ℕ → Type 0) (IsPaid : O → 
 
 -- this is the first such time; none where all that is owed is paid
 abbrev pub TellsFirstOf : {O : Type 0} → (O → ℕ → Type 0) → (O → Type 0) → Option ℕ → Type 0
-TellsFirstOf {O} Owes IsPaid first =
-    MatchOption first ((o : O) (t : ℕ) → Owes o t → IsPaid o) (IsFirstOf Owes IsPaid)
+TellsFirstOf {O} Owes IsPaid first = MatchOption first ((o : O) (t : ℕ) → Owes o t → IsPaid o) (IsFirstOf Owes IsPaid)

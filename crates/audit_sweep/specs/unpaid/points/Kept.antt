@@ -25,5 +25,4 @@ RemembersSomeOf network history = (befallen : List Event) × Remembers network b
 
 -- at each time later than `after`, up to `until`, the records of earlier times show this of the device
 abbrev pub ShowsWithin : Scenario → List Happening → DeviceId → ℕ → ℕ → Shown → Type 0
-ShowsWithin s hs device after until shown =
-    (t : ℕ) → after < t → t ≤ until → Shows s (earlier t hs) device shown
+ShowsWithin s hs device after until shown = (t : ℕ) → after < t → t ≤ until → Shows s (earlier t hs) device shown

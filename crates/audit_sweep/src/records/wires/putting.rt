@@ -11,7 +11,7 @@ use audit_law::events::EventHistory;
 use device_rules::{Heading, is_parent_of};
 use net_plan::{DeviceId, LinkId, Network, Way};
 use pcf_codec::PcfRefusal;
-use pcf_values::Pcf;
+use tte_units::frames::Pcf;
 
 /// What is on a wire.
 #[derive(Clone, Copy)]

@@ -16,5 +16,4 @@ returns-else-found-device c =
     c.if-found-device.false
 
 pub returns-in-None : goal.returns-in-None
-returns-in-None c =
-    no_link c.args.network.now c.args.device c.args.link c.args.members c.as_slice.result.now c.as_slice.ensures c.in-None.ensures.lookup.3
+returns-in-None c = no_link c.args.network.now c.args.device c.args.link c.args.members c.as_slice.result.now c.as_slice.ensures c.in-None.ensures.lookup.3

@@ -3,8 +3,7 @@ use Rattle.device_rules.{proofs.Verdicts.{corrects, none_qualifies, some_qualifi
 use Rattle.device_rules.proofs.correcting.verdict.Goals as goal
 
 pub returns-then-is_at_integration : goal.returns-then-is_at_integration
-returns-then-is_at_integration c =
-    (c.is_at_integration.ensures c.args.network.now c.args.device).0 c.if-is_at_integration.true
+returns-then-is_at_integration c = (c.is_at_integration.ensures c.args.network.now c.args.device).0 c.if-is_at_integration.true
 
 pub returns-in-None : goal.returns-in-None
 returns-in-None c =

@@ -8,16 +8,13 @@ use Rattle.std.{proofs.Common.{◌++◌, ◌∙◌, ◌∷◌, ◌≡◌, List, 
 
 -- all are held where one more is
 pub one_more_held : (pool : List ℕ) (ks : List Kept) (k : Kept) → All (IsHeld pool) ks → IsHeld pool k → All (IsHeld pool) (ks ++ k ∷ [])
-one_more_held pool ks k all one =
-    All-append (IsHeld pool) ks (k ∷ []) all (All-cons (IsHeld pool) k [] one (All-nil (IsHeld pool)))
+one_more_held pool ks k all one = All-append (IsHeld pool) ks (k ∷ []) all (All-cons (IsHeld pool) k [] one (All-nil (IsHeld pool)))
 
 -- the records of a trace and one more
 pub one_more_kept : (network : Network) (pool : List ℕ) (ks : List Kept) (k : Kept) (notes : List Note) (note : Note)
-    → views_of network pool ks ≡ map traced (happenings network notes)
-    → view_of network pool k ≡ traced_by network (happenings network notes) note.body
+    → views_of network pool ks ≡ map traced (happenings network notes) → view_of network pool k ≡ traced_by network (happenings network notes) note.body
     → views_of network pool (ks ++ k ∷ []) ≡ map traced (happenings network (notes ++ note ∷ []))
-one_more_kept network pool ks k notes note before one =
-    grind (arith, map-append, one_more)
+one_more_kept network pool ks k notes note before one = grind (arith, map-append, one_more)
 
 -- a trace with what it keeps of its records
 abbrev pub the_trace : Network → List Traced → TraceView
@@ -26,8 +23,7 @@ the_trace network ts = record { network = network; records = ts }
 -- with more octets the trace is as it was
 pub trace_grows : (network : Network) (old : TraceView) (pool new : List ℕ) (ks : List Kept) → the_trace network (views_of network pool ks) ≡ old
     → All (IsHeld pool) ks → Grows pool new → the_trace network (views_of network new ks) ≡ old
-trace_grows network old pool new ks is all (more, e) =
-    grind (arith, views_grow)
+trace_grows network old pool new ks is all (more, e) = grind (arith, views_grow)
 
 -- the records of a trace, for the network that it has
 own_records : (network own : Network) (old : TraceView) (ts : List Traced) (notes : List Note) → the_trace own ts ≡ old → Keeps network notes old
@@ -41,8 +37,7 @@ pub trace_more : (network own : Network) (old : TraceView) (pool new : List ℕ)
     → the_trace own (views_of own pool ks) ≡ old → All (IsHeld pool) ks → Grows pool new
     → ((hs : List Happening) → views_of own pool ks ≡ map traced hs → view_of own new k ≡ traced_by own hs note.body)
     → Keeps network notes old → Keeps network (notes ++ note ∷ []) (the_trace own (views_of own new (ks ++ k ∷ [])))
-trace_more network own old pool new ks k notes note is all grows one keeps =
-    grind (arith, own_records, trace_grows, one_more_kept)
+trace_more network own old pool new ks k notes note is all grows one keeps = grind (arith, own_records, trace_grows, one_more_kept)
 
 -- what a trace shows of a number are the octets of its record
 pub trace_shows : (network own : Network) (old : TraceView) (pool : List ℕ) (ks : List Kept) (notes : List Note) (number : ℕ)

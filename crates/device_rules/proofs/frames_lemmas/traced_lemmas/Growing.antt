@@ -10,8 +10,7 @@ pub grows_same : (xs : List ℕ) → Grows xs xs
 grows_same xs = ([], sym (append-nil xs))
 
 piece_grows : (pool more : List ℕ) (piece : Piece) → IsPieceOf pool piece → piece_in (pool ++ more) piece ≡ piece_in pool piece
-piece_grows pool more piece h =
-    grind (arith, take, drop-append-le, take-append-le, drop, length-drop)
+piece_grows pool more piece h = grind (arith, take, drop-append-le, take-append-le, drop, length-drop)
 
 pub piece_stays : (pool more : List ℕ) (piece : Piece) → IsPieceOf pool piece → IsPieceOf (pool ++ more) piece
 piece_stays pool more piece h =
@@ -27,10 +26,8 @@ abbrev the_send : List ℕ → Traced
 the_send o = record { frame = frame_in (decoded o); octets = o; shown = Some o }
 
 view_grows : (network : Network) (pool more : List ℕ) (k : Kept) → IsHeld pool k → view_of network (pool ++ more) k ≡ view_of network pool k
-view_grows network pool more (kept.Send piece) h =
-    ap the_send (piece_grows pool more piece h)
-view_grows network pool more (kept.Came piece) h =
-    ap came (piece_grows pool more piece h)
+view_grows network pool more (kept.Send piece) h = ap the_send (piece_grows pool more piece h)
+view_grows network pool more (kept.Came piece) h = ap came (piece_grows pool more piece h)
 view_grows network pool more other h = refl
 
 -- all are held where more octets stand

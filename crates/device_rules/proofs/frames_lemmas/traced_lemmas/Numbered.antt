@@ -22,8 +22,7 @@ or_map g f (Some a) d = refl
 seen_at : (f : Kept → Traced) (ks : List Kept) (hs : List Happening) (n : ℕ) → map f ks ≡ map traced hs
     → option_map f (at_number ks n) ≡ option_map traced (numbered hs n)
 seen_at f ks hs zero e = refl
-seen_at f ks hs (suc n) e =
-    sym (slice_get-map f ks n) ∙ ap (λ (ts : List Traced). slice_get ts n) e ∙ slice_get-map traced hs n
+seen_at f ks hs (suc n) e = sym (slice_get-map f ks n) ∙ ap (λ (ts : List Traced). slice_get ts n) e ∙ slice_get-map traced hs n
 
 pub frame_at : (network : Network) (pool : List ℕ) (ks : List Kept) (hs : List Happening) (n : ℕ) → views_of network pool ks ≡ map traced hs
     → option_and_then (kept_frame pool) (at_number ks n) ≡ frame_from hs n

@@ -1,10 +1,10 @@
 -- What a trace keeps of records.
 use Rattle.std.specs.Prelude.{◌++◌, ◌+◌, ◌≡◌, ◌≤◌, List, None, Option, Some, [], drop, length, map, option_map}
 use Rattle.std.specs.Prelude.{slice_get, suc, take, zero, ℕ}
-use Rattle.{device_rules.specs.declared.frames.traced.kept.{Kept.Kept, Piece.Piece}, pcf_codec.specs.Decoding.decoded}
-use Rattle.{device_rules.specs.frames.traced.RecordOctets.{record_octets, shown}, pcf_values.specs.declared.pcf.Pcf.Pcf}
+use Rattle.device_rules.specs.declared.frames.traced.kept.{Kept.Kept, Piece.Piece}
+use Rattle.device_rules.specs.frames.traced.RecordOctets.{record_octets, shown}
 use Rattle.{net_plan.specs.declared.network.Network.Network, run_law.specs.declared.note.{Note.Note, NoteBody.NoteBody}}
-use Rattle.pcf_codec.specs.Encoded.{encoded}
+use Rattle.{pcf_codec.specs.{Decoding.decoded, Encoded.encoded}, tte_units.specs.declared.frames.pcf.Pcf.Pcf}
 use Rattle.run_law.specs.records.{Frames.tt_frame, Happenings.{Happening, frame_by, frame_in, happenings, octets_by}}
 use Rattle.device_rules.specs.declared.frames.traced.kept.Kept.TheVariants as kept
 

@@ -2,7 +2,7 @@
 use Rattle.std.specs.Prelude.{List, None, Option, Some, option_and_then, option_map, ℕ}
 use Rattle.net_plan.specs.declared.{event.What.TheVariants.Send, network.Network.Network}
 use Rattle.pcf_codec.specs.Encoded.{encoded}
-use Rattle.{pcf_values.specs.declared.pcf.Pcf.Pcf, run_law.specs.declared.note.Note.Note}
+use Rattle.{run_law.specs.declared.note.Note.Note, tte_units.specs.declared.frames.pcf.Pcf.Pcf}
 use Rattle.run_law.specs.{declared.note.NoteBody.NoteBody, records.Happenings.{Happening, happenings, numbered}}
 use Rattle.run_law.specs.declared.note.NoteBody.TheVariants as notes
 

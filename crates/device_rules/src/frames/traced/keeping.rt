@@ -14,8 +14,8 @@ use crate::frames::traced::kept::{Kept, Piece};
 use crate::frames::{dispatched_frame, integration_frame};
 use net_plan::{Network, VlId, What};
 use pcf_codec::decode;
-use pcf_values::Pcf;
 use run_law::NoteBody;
+use tte_units::frames::Pcf;
 
 /// No octets.
 const NO_OCTETS: Piece = Piece { from: 0, len: 0 };

@@ -1,5 +1,5 @@
 use net_plan::VlId;
-use pcf_values::Pcf;
+use tte_units::frames::Pcf;
 
 /// Octets of a `send` event, by where they stand among those of all `send` events.
 #[derive(Clone, Copy)]

@@ -10,7 +10,7 @@ use crate::frames::traced::keeping::piece_in;
 use crate::frames::traced::kept::Kept;
 use net_plan::{Network, VlId};
 use pcf_codec::{PCF_LENGTH, encode};
-use pcf_values::Pcf;
+use tte_units::frames::Pcf;
 
 /// The spelling of a control frame, with zero padding.
 fn spelling(frame: &Pcf) -> Octets

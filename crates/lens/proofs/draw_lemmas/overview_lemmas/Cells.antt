@@ -43,8 +43,7 @@ module _ (grid : Grid) (row : Row) where
   -- the cells before the first record
   early : (shade : Shade) (k m : ℕ) (notes : List Note) → ArePlaced grid notes → Rises grid m notes → (j : ℕ) → k + j < m
       → cells_from shade k notes j ≡ cleared_by j shade
-  early shade k m notes placed rises zero less =
-      ap (shaded row shade) (none_in grid k m notes placed rises (omega (arith, less)))
+  early shade k m notes placed rises zero less = ap (shaded row shade) (none_in grid k m notes placed rises (omega (arith, less)))
   early shade k m notes placed rises (suc j) less =
       ap (shaded row (cleared (cells_from shade k notes j))) (none_in grid (k + suc j) m notes placed rises less)
       ∙ ap cleared (early shade k m notes placed rises j (omega (arith, less)))

@@ -64,8 +64,7 @@ module _ (vl : VlId) (link : LinkId) where
 
   pub shaded_fades : (ns : List Note) (shade : Shade) → Fades shade → Fades (shaded (Flow vl link) shade ns)
   shaded_fades [] shade fades = fades
-  shaded_fades (note ∷ ns) shade fades =
-      shaded_fades ns (delivered vl link (change_of note.body) shade) (change_fades (change_of note.body) shade fades)
+  shaded_fades (note ∷ ns) shade fades = shaded_fades ns (delivered vl link (change_of note.body) shade) (change_fades (change_of note.body) shade fades)
 
   -- what a record makes of a shade is the shade, or the record delivers
   one_by : (b : Bool) (other : VlId) (by : LinkId) (shade : Shade) → is_of other by ≡ b → ((if b then more shade else shade) ≡ shade) ⊎ IsOf (Delivers other by)
@@ -114,8 +113,7 @@ module _ (vl : VlId) (link : LinkId) where
 
   stays_seen : (ns : List Note) (shade : Shade) → is_blank shade ≡ false → is_blank (shaded (Flow vl link) shade ns) ≡ false
   stays_seen [] shade seen = seen
-  stays_seen (note ∷ ns) shade seen =
-      stays_seen ns (delivered vl link (change_of note.body) shade) (change_seen (change_of note.body) shade seen)
+  stays_seen (note ∷ ns) shade seen = stays_seen ns (delivered vl link (change_of note.body) shade) (change_seen (change_of note.body) shade seen)
 
   of_seen : (change : Change) (shade : Shade) → IsOf change → is_blank (delivered vl link change shade) ≡ false
   of_seen change shade of =

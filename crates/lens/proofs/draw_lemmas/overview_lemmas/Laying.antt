@@ -11,8 +11,7 @@ bottom_more (x ∷ rows) y row = bottom_more rows (y + height_of x) row
 laid_more : (network : Network) (rows : List Row) (y : ℕ) (row : Row)
     → laid network y (rows ++ row ∷ []) ≡ laid network y rows ++ fresh network row (bottom_of y rows + height_of row) ∷ []
 laid_more network [] y row = refl
-laid_more network (x ∷ rows) y row =
-    ap (λ (ss : List Strip). fresh network x (y + height_of x) ∷ ss) (laid_more network rows (y + height_of x) row)
+laid_more network (x ∷ rows) y row = ap (λ (ss : List Strip). fresh network x (y + height_of x) ∷ ss) (laid_more network rows (y + height_of x) row)
 
 -- one row more
 pub laid_row : (network : Network) (row : Row) (rows : List Row) (old new : Board) (y : ℕ) → IsLaid network rows old → y ≡ old.bottom + height_of row

@@ -6,8 +6,7 @@ use Rattle.{lens.specs.draw.overview.Pieces.ribbon_line, std.{proofs.lemmas.List
 -- the lines of the ribbons of each strip, and those of all ribbons
 map_flat : {X Y Z : Type 0} (f : Y → Z) (g : X → List Y) (xs : List X) → map f (flat_map g xs) ≡ flat_map (λ x. map f (g x)) xs
 map_flat f g [] = refl
-map_flat {Z = Z} f g (x ∷ xs) =
-    map-append f (g x) (flat_map g xs) ∙ ap (λ (zs : List Z). map f (g x) ++ zs) (map_flat f g xs)
+map_flat {Z = Z} f g (x ∷ xs) = map-append f (g x) (flat_map g xs) ∙ ap (λ (zs : List Z). map f (g x) ++ zs) (map_flat f g xs)
 
 pub ribbons_flat : (network : Network) (end : Ends) (pen : Pen) (strips : List Strip)
     → ribbon_lines network (ribbons_of end pen strips) ≡ flat_map (λ s. ribbon_lines network (ribbon_of end pen s)) strips

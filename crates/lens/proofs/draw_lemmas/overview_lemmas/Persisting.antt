@@ -45,8 +45,7 @@ module _ (grid : Grid) where
   next_column c m (note ∷ ns) placed rises = by (next_column c (col grid note) ns placed.1 rises.1) (nat_le (lies_in grid note) c) refl
     where
       by_next : up_to_column grid (suc c) ns ≡ up_to_column grid c ns ++ in_column grid (suc c) ns → nat_le (lies_in grid note) c ≡ false → (b : Bool)
-          → (lies_in grid note == suc c) ≡ b
-          → up_to_column grid (suc c) (note ∷ ns) ≡ up_to_column grid c (note ∷ ns) ++ in_column grid (suc c) (note ∷ ns)
+          → (lies_in grid note == suc c) ≡ b → up_to_column grid (suc c) (note ∷ ns) ≡ up_to_column grid c (note ∷ ns) ++ in_column grid (suc c) (note ∷ ns)
       by_next rest past true e =
           let at = placed.0 in
           let up : nat_le (lies_in grid note) (suc c) ≡ true = grind (arith, nat_tests, e) in
@@ -154,10 +153,7 @@ lane_lasts network device = record {
 }
 
 pub passage_lasts : (network : Network) (link : LinkId) (way : Way) → IsLasting network (Passage link way)
-passage_lasts network link way = record {
-  start = refl;
-  after = λ body shade stays. passed_stays link way (change_of body) shade (change_stays body) stays;
-}
+passage_lasts network link way = record { start = refl; after = λ body shade stays. passed_stays link way (change_of body) shade (change_stays body) stays }
 
 module _ (network : Network) (row : Row) (lasts : IsLasting network row) where
   pub shaded_stays : (ns : List Note) (shade : Shade) → Stays shade → Stays (shaded row shade ns)

@@ -96,10 +96,7 @@ module _ (grid : Grid) (V : Row → ℕ → Shade) where
     step_agrees true h here =
         let same = same_shade s.shade s.drawn h in
         let from = agrees.from in
-        subst (Agrees (k + 1)) (sym (ended_by true h)) (record {
-          from = omega (arith, from);
-          drawn = λ c low high. by c low (below_or c k high);
-        })
+        subst (Agrees (k + 1)) (sym (ended_by true h)) (record { from = omega (arith, from); drawn = λ c low high. by c low (below_or c k high) })
       where
         by : (c : ℕ) → s.from.column ≤ c → (c < k) ⊎ (c ≡ k) → V s.row c ≡ s.drawn
         by c low (inl less) = agrees.drawn c low less
@@ -189,8 +186,7 @@ module _ (grid : Grid) (V : Row → ℕ → Shade) where
 
   -- the cell is filled by one of these ribbons, or one of these strips has it
   abbrev IsHeld : List Ribbon → List Strip → Row → ℕ → Type 0
-  IsHeld rs strips row c =
-      ((r : Ribbon) × IsIn r rs × Fits row c r) ⊎ ((x : Strip) × IsIn x strips × (x.row ≡ row) × (x.from.column ≤ c))
+  IsHeld rs strips row c = ((r : Ribbon) × IsIn r rs × Fits row c r) ⊎ ((x : Strip) × IsIn x strips × (x.row ≡ row) × (x.from.column ≤ c))
 
   move_each : (n : ℕ) (w : Sweep) → MoveOk n w → (s : Strip) → IsIn s w.strips → (c : ℕ) → s.from.column ≤ c → is_blank (V s.row c) ≡ false
       → IsHeld (moved_ribbons grid n w) (moved grid n w).strips s.row c
@@ -305,8 +301,7 @@ module _ (grid : Grid) (V : Row → ℕ → Shade) where
     at_note = let at = move_column steps w in omega (arith, at, rises)
 
     abbrev IsGood : Strip → Type 0
-    IsGood x =
-        Agrees (col grid note) x × ((c : ℕ) → col grid note ≤ c → c < grid.columns → V x.row c ≡ future grid x.row x.shade (col grid note) notes c)
+    IsGood x = Agrees (col grid note) x × ((c : ℕ) → col grid note ≤ c → c < grid.columns → V x.row c ≡ future grid x.row x.shade (col grid note) notes c)
 
     good_behind : (x : Strip) → IsIn x (moved grid steps w).strips → IsGood (taken (news_of note.body) x)
     good_behind x among =
@@ -330,8 +325,7 @@ module _ (grid : Grid) (V : Row → ℕ → Shade) where
     -- the strip of a row stands behind the record as well, where its ribbon begins no later
     held_next : (row : Row) (c : ℕ) (x : Strip) → IsIn x (moved grid steps w).strips → x.row ≡ row → x.from.column ≤ c
         → (y : Strip) × IsIn y (behind grid w note).strips × (y.row ≡ row) × (y.from.column ≤ c)
-    held_next row c x among is from =
-        (taken (news_of note.body) x, in_map (taken (news_of note.body)) (moved grid steps w).strips x among, is, from)
+    held_next row c x among is from = (taken (news_of note.body) x, in_map (taken (news_of note.body)) (moved grid steps w).strips x among, is, from)
 
   -- ---- the last columns
 

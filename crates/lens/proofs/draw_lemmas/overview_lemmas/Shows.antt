@@ -25,8 +25,7 @@ laid_fresh network (row ∷ rows) y s (inr among) =
 -- and each row has one
 laid_in : (network : Network) (rows : List Row) (y : ℕ) (row : Row) → IsIn row rows → (down : ℕ) × IsIn (fresh network row down) (laid network y rows)
 laid_in network [] y row among = absurd among
-laid_in network (x ∷ rows) y row (inl same) =
-    (y + height_of x, inl (ap (λ (r : Row). fresh network r (y + height_of x)) same))
+laid_in network (x ∷ rows) y row (inl same) = (y + height_of x, inl (ap (λ (r : Row). fresh network r (y + height_of x)) same))
 laid_in network (x ∷ rows) y row (inr among) = let h = laid_in network rows (y + height_of x) row among in (h.0, inr h.1)
 
 module _ (network : Network) (notes : List Note) (falls : NeverFall 0 notes) (some : 1 ≤ (grid_for network notes).step) where

@@ -1,15 +1,15 @@
 -- The records of a report swept one after another.
 use Rattle.lens.{proofs.draw_lemmas.Parts.{fails_before, fails_between}, specs.draw.overview.{Grids.{column_of, greatest, pen_at}, Signs.close_line}}
 use Rattle.lens.specs.{declared.draw.overview.strip.{Ends.TheVariants.{Column, Picture}, Ribbon.Ribbon}, draw.overview.Boards.{IsLaid, bottom_of, rows_of, top}}
-use Rattle.{lens.specs.declared.draw.overview.{board.Board.Board, grid.Grid.Grid, strip.Strip.Strip}, tte_forms.specs.Answering.{Answer, Gives, line_answer}}
-use Rattle.{lens.specs.declared.draw.overview.grid.Pen.Pen, std.proofs.lemmas.List.{append-nil, map-append}, tte_forms.proofs.frames.Frames.Gives-behind}
+use Rattle.{lens.specs.declared.draw.overview.{board.Board.Board, grid.Grid.Grid, strip.Strip.Strip}, tte_forms.specs.Putting.{PutFails, PutsLines, Shown}}
+use Rattle.{lens.specs.declared.draw.overview.grid.Pen.Pen, net_plan.specs.declared.network.Network.Network, tte_reports.specs.declared.records.Records.Records}
 use Rattle.lens.specs.draw.overview.{Answer.{overview_answer, ribbons_answer}, Overview.{front_lines, grid_for, overview_lines, ribbon_lines, ribbons_for}}
-use Rattle.{lens.specs.draw.overview.{Changes.news_of, Strips.{ended, ribbons_of, taken}}, tte_audit.specs.declared.reports.records.Records.Records}
+use Rattle.{lens.specs.draw.overview.Changes.news_of, std.proofs.lemmas.List.{append-nil, map-append}, tte_forms.proofs.frames.Frames.Gives-behind}
 use Rattle.lens.specs.draw.overview.{Pieces.ribbon_line, Sweeps.{Sweep, begun, behind, last_ribbons, moved, moved_ribbons, stepped, steps_to, sweep_ribbons}}
-use Rattle.{lens_svg.specs.Sketching.moment, run_law.specs.declared.note.Note.Note, std.proofs.Math.Nat.sub-add-eq-max, tte_audit.specs.reports.Reports.AreLeft}
-use Rattle.{net_plan.specs.declared.network.Network.Network, tte_forms.specs.{Putting.{PutFails, PutsLines, Shown}, declared.status.Status.Status}}
+use Rattle.{lens.specs.draw.overview.Strips.{ended, ribbons_of, taken}, tte_forms.specs.{Answering.{Answer, Gives, line_answer}, declared.status.Status.Status}}
+use Rattle.lens_svg.specs.Sketching.{moment}
+use Rattle.{run_law.specs.declared.note.Note.Note, std.{proofs.Math.Nat.sub-add-eq-max, specs.Prelude.{fold, map, max}}, tte_reports.specs.Reports.AreLeft}
 use Rattle.std.proofs.Common.{◌++◌, ◌+◌, ◌-◌, ◌<◌, ◌∙◌, ◌∷◌, ◌≡◌, ◌≤◌, List, [], ap, append_assoc, arith, inl, inr, refl, subst, suc, sym, zero, ℕ}
-use Rattle.std.specs.Prelude.{fold, map, max}
 use Rattle.tte_forms.{proofs.Puts.{PutFails-behind, PutsLines-append, PutsLines-none}, specs.declared.status.Status.TheVariants.{Done, OutOfMemory, WriteFault}}
 
 -- ---- the greatest time

@@ -1,6 +1,6 @@
 use Rattle.{lens.proofs.TopAnswers.words_as, lens_why.specs.Answer.IsWhyStatus, tte_forms.{proofs.Facts.no_usage, specs.Putting.shown_by}}
 use Rattle.lens_slack.specs.{declared.forms.form.Form.TheVariants.{Draw, DrawWhole, Events, Flows, Least, Slack, SlackOf, Why}, forms.Forms.form_of}
-use Rattle.{std.proofs.Common.{◌≡◌, None, Some, rules}, tte_audit.specs.reports.Answer.IsAuditStatus, tte_forms.specs.networks.Checking.IsCheckStatus}
+use Rattle.{std.proofs.Common.{◌≡◌, None, Some, rules}, tte_forms.specs.networks.Checking.IsCheckStatus, tte_reports.specs.Answer.IsAuditStatus}
 use Rattle.lens.proofs.top.lens.Goals as goal
 
 pub returns-in-Some-Slack-clause-general : goal.returns-in-Some-Slack-clause-general

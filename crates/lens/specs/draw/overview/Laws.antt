@@ -7,7 +7,8 @@ use Rattle.lens.specs.draw.overview.{Changes.{after, change_of, news_of}, Overvi
 use Rattle.{lens.specs.draw.overview.Grids.pen_at, net_plan.specs.declared.{ids.VlId.VlId, tables.Way.Way}}
 use Rattle.{lens.specs.draw.overview.Shades.{cleared, is_blank}, net_plan.specs.declared.network.Network.Network}
 use Rattle.{lens_svg.specs.Sketching.moment, run_law.specs.{declared.note.Note.Note, records.Order.IsIn}}
-use Rattle.{net_plan.specs.declared.ids.{DeviceId.DeviceId, LinkId.LinkId}, tte_audit.specs.reports.Reports.IsReportOf}
+use Rattle.net_plan.specs.declared.ids.{DeviceId.DeviceId, LinkId.LinkId}
+use Rattle.tte_reports.specs.Reports.{IsReportOf}
 
 -- which column a record lies in, from the beginning of the run on
 abbrev pub lies_in : Grid → Note → ℕ

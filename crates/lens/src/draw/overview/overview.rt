@@ -4,7 +4,7 @@ ghost use Rattle.{net_plan.specs.Ranges.IsInRange, tte_forms.specs.{Putting.Over
 ghost use Rattle.run_law.specs.declared.note.Note.{Note as NoteValue};
 ghost use Rattle.{tte_audit.specs.Named.IsNamed, tte_units.specs.declared.units.Units.{Units as UnitsValue}};
 ghost use Rattle.tte_forms.specs.{Answering.{ForOctets, Gives, GivesAnswer}, Faults.{HasCause, PutFailed, ReadFailed}};
-ghost use Rattle.tte_audit.specs.reports.{Answer.IsAuditStatus, Reports.{AreLeft, IsReportAnswer, IsReportOf}};
+ghost use Rattle.tte_reports.specs.{Answer.IsAuditStatus, Reports.{AreLeft, IsReportAnswer, IsReportOf}};
 
 use crate::draw::overview::board::{Board, board_of};
 use crate::draw::overview::grid::grid_of;
@@ -14,9 +14,9 @@ use net_plan::Network;
 use schedule_tables::Accepted;
 use std::alloc::Global;
 use tte_audit::keep_names_apart;
-use tte_audit::reports::{AuditedReport, Records, put_no_report, read_report};
 use tte_forms::{Status, accept, put_no_network};
 use tte_io::{LineText, Sink, Source};
+use tte_reports::{AuditedReport, Records, put_no_report, read_report};
 
 /// Draws the whole run of a finished report: a column for each cycle, as a picture in SVG. The report is the second
 /// file, over the network of the first, and is audited before anything is put.

@@ -1,11 +1,11 @@
 //! The sweep over the records of a report, column by column.
 ghost use Rattle.std.specs.Prelude.{◌≡◌, ◌≤◌, ◌<◌, ◌-◌, List, MatchResult, OnOk};
-ghost use Rattle.{lens.specs.draw.Putting.Draws, net_plan.specs.Ranges.IsInRange, tte_forms.specs.Answering.Gives};
+ghost use Rattle.{lens.specs.draw.Putting.Draws, tte_audit.specs.Named.IsNamed, tte_forms.specs.Answering.Gives};
 ghost use Rattle.lens.specs.draw.overview.{Answer.ribbons_answer, Grids.{IsNarrow, greatest}, Overview.ribbon_lines};
 ghost use Rattle.lens.specs.draw.overview.Sweeps.{last_ribbons, moved, moved_ribbons, sweep_at, sweep_ribbons};
-ghost use Rattle.{run_law.specs.declared.note.Note.{Note as NoteValue}, tte_audit.specs.reports.Answer.IsAuditStatus};
-ghost use Rattle.{tte_audit.specs.Named.IsNamed, tte_forms.specs.Putting.Over};
-ghost use Rattle.{tte_audit.specs.reports.Reports.AreLeft, tte_forms.specs.Faults.{HasCause, PutFailed}};
+ghost use Rattle.{net_plan.specs.Ranges.IsInRange, tte_reports.specs.{Answer.IsAuditStatus, Reports.AreLeft}};
+ghost use Rattle.{run_law.specs.declared.note.Note.{Note as NoteValue}, tte_forms.specs.Faults.{HasCause, PutFailed}};
+ghost use Rattle.tte_forms.specs.Putting.{Over};
 
 use crate::draw::overview::change::news_of;
 use crate::draw::overview::putting::put_ribbons;
@@ -13,9 +13,9 @@ use crate::draw::overview::signs::CLOSE;
 use crate::draw::overview::strip::{Ends, end_all, take_all};
 use crate::draw::overview::{Grid, Strip};
 use net_plan::Network;
-use tte_audit::reports::Records;
 use tte_forms::{Status, put_last};
 use tte_io::{LineText, Sink, SinkFailed};
+use tte_reports::Records;
 
 /// The greatest time of the records.
 pub(crate) fn greatest_of(network: &Network, first: Records<'_>) -> u64

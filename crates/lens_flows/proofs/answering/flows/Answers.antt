@@ -1,5 +1,5 @@
 use Rattle.{lens_flows.specs.Answer.IsFlowsAnswer, tte_forms.specs.Putting.shown_by}
-use Rattle.tte_audit.{proofs.reports_lemmas.Sources.{files_accepted, files_refused}, specs.reports.Reports.IsReportAnswer}
+use Rattle.tte_reports.{proofs.Sources.{files_accepted, files_refused}, specs.Reports.IsReportAnswer}
 use Rattle.lens_flows.proofs.answering.flows.Goals as goal
 
 pub returns-in-Ok-clause-general : goal.returns-in-Ok-clause-general

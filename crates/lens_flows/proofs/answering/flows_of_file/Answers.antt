@@ -1,10 +1,9 @@
-use Rattle.{lens_flows.specs.Answer.IsFlowsAnswer, tte_audit.proofs.reports_lemmas.Reports.{no_report_answered, report_given, report_there}}
+use Rattle.{lens_flows.specs.Answer.IsFlowsAnswer, tte_reports.proofs.Reports.{no_report_answered, report_given, report_there}}
 use Rattle.tte_forms.specs.Putting.{shown_by}
 use Rattle.lens_flows.proofs.answering.flows_of_file.Goals as goal
 
 pub put_flows-requires : goal.put_flows-requires
-put_flows-requires g c =
-    report_there c.args.accepted.now (g.B.Source.left c.args.second.now) c.in-Ok.report.octets c.in-Ok.ensures.judged
+put_flows-requires g c = report_there c.args.accepted.now (g.B.Source.left c.args.second.now) c.in-Ok.report.octets c.in-Ok.ensures.judged
 
 pub returns-in-Ok-clause-gives : goal.returns-in-Ok-clause-gives
 returns-in-Ok-clause-gives g c =

@@ -13,8 +13,7 @@ flows-preserved g c =
     let next = next_line c.args.network.now all _ n c.as_slice.result.now c.flows-test.true (c.as_slice.ensures ∙ c.make_flow_line.ensures
     ∙ ap line_of c.one-item.is) in
     let lines = ap (λ (ts : List FlowTold). map line_of ts) next.front ∙ map-append line_of (take n all) (next.one ∷ []) in
-    let whole =
-    subst (λ (bytes : List ℕ). Appends (g.K.Sink.written c.flows.out) (g.K.Sink.written c.put.new.self) bytes) next.line c.in-Ok.ensures.all in
+    let whole = subst (λ (bytes : List ℕ). Appends (g.K.Sink.written c.flows.out) (g.K.Sink.written c.put.new.self) bytes) next.line c.in-Ok.ensures.all in
     record {
       puts =
           subst (λ (ls : List (List ℕ)). PutsLines ls (shown c.args.out.now) (shown c.put.new.self)) (sym lines)
@@ -29,8 +28,7 @@ returns-clause-gives g c =
     let all = c.args.told.now in
     let line_of = λ (one : FlowTold). flow_line c.args.network.now one 0 in
     let whole = ap (λ (i : ℕ). take i all) (omega (arith, c.flows-test.false, c.flows.auto.one-index-end)) ∙ take-length all in
-    let puts =
-    subst (λ (ts : List FlowTold). PutsLines (map line_of ts) (shown c.args.out.now) (shown c.flows.out)) whole c.flows.invariant.puts in
+    let puts = subst (λ (ts : List FlowTold). PutsLines (map line_of ts) (shown c.args.out.now) (shown c.flows.out)) whole c.flows.invariant.puts in
     Ends-gives (map line_of all) Done c.end_with.result (shown c.args.out.now) (shown c.flows.out) (shown c.end_with.new.out) puts c.end_with.ensures.ends
 
 pub returns-in-Err-clause-gives : goal.returns-in-Err-clause-gives

@@ -1,6 +1,6 @@
-use Rattle.{lens_flows.{proofs.Reading.read_by, specs.Answer.AreAllTold}, run_law.specs.declared.note.Note.Note, tte_audit.specs.Telling.IsReadOf}
+use Rattle.{lens_flows.{proofs.Reading.read_by, specs.Answer.AreAllTold}, tte_audit.specs.Telling.IsReadOf, tte_reports.specs.Reports.IsReportOf}
 use Rattle.{lens_flows.specs.Seeing.{IsSomeReport, TellsEvents}, std.proofs.Common.{◌<◌, ◌^◌, ◌∙◌, ◌≡◌, List, ap, arith, length, rules, subst, sym, ℕ}}
-use Rattle.{net_plan.specs.declared.network.Network.Network, tte_audit.specs.reports.Reports.IsReportOf, tte_units.specs.declared.units.Units.Units}
+use Rattle.{net_plan.specs.declared.network.Network.Network, run_law.specs.declared.note.Note.Note, tte_units.specs.declared.units.Units.Units}
 use Rattle.{std.specs.Prelude.IfOk, tte_audit.specs.Named.IsNamed}
 use Rattle.lens_flows.proofs.seeing.flows_told.Goals as goal
 

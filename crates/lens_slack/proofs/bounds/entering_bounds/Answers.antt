@@ -11,8 +11,7 @@ rows-preserved c =
     let network = c.args.network.now in
     let row = c.args.row in
     let n = c.rows.number in
-    let at =
-    entering_at network row n c.entry_of.result c.args.entry.now c.entry_of.ensures.is c.requires.entry c.entering_with.result c.requires.no_sender
+    let at = entering_at network row n c.entry_of.result c.args.entry.now c.entry_of.ensures.is c.requires.entry c.entering_with.result c.requires.no_sender
     c.entering_with.ensures.is in
     record {
       so_far = subst (λ (o : Option Finding). IsFirstTightest (Below (IsEnteringBound network row) (n + 1)) o) (sym c.tighter_of-best.ensures.value)

@@ -10,8 +10,7 @@ earlier-preserved c =
     let network = c.args.network.now in
     let row = c.args.row in
     let n = c.earlier.number in
-    let at =
-    gap_at network row n c.entry_of.result c.entry_of-entry.result c.entry_of.ensures.is c.entry_of-entry.ensures.is c.gap_with.result
+    let at = gap_at network row n c.entry_of.result c.entry_of-entry.result c.entry_of.ensures.is c.entry_of-entry.ensures.is c.gap_with.result
     c.earlier-test.true c.gap_with.ensures.is in
     record {
       so_far = subst (λ (o : Option Finding). IsFirstTightest (Below (IsGapBound network row) (n + 1)) o) (sym c.tighter_of-best.ensures.value)

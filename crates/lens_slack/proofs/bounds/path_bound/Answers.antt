@@ -2,8 +2,7 @@ use Rattle.{lens_slack.proofs.Singles.{no_path, path_first}, net_plan.specs.Boun
 use Rattle.lens_slack.proofs.bounds.path_bound.Goals as goal
 
 pub returns-then-not-is_device_of-clause-tightest : goal.returns-then-not-is_device_of-clause-tightest
-returns-then-not-is_device_of-clause-tightest c =
-    no_path c.args.plan.now.network.now c.args.device c.args.channel (λ member. absurd (search rules))
+returns-then-not-is_device_of-clause-tightest c = no_path c.args.plan.now.network.now c.args.device c.args.channel (λ member. absurd (search rules))
 
 pub returns-clause-tightest : goal.returns-clause-tightest
 returns-clause-tightest c =

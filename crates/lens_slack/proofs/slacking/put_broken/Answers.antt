@@ -15,8 +15,7 @@ returns-clause-gives g c =
     let now = shown c.put.new.self in
     let new = shown c.put_last.new.out in
     let line : c.as_slice.result.now ≡ first = c.as_slice.ensures ∙ c.make_broken_line.ensures in
-    let whole =
-    subst (λ (bytes : List ℕ). Appends (g.K.Sink.written c.args.out.now) (g.K.Sink.written c.put.new.self) bytes) line c.in-Ok.ensures.all in
+    let whole = subst (λ (bytes : List ℕ). Appends (g.K.Sink.written c.args.out.now) (g.K.Sink.written c.put.new.self) bytes) line c.in-Ok.ensures.all in
     let puts = PutsLines-more [] first old old now (PutsLines-none old) whole c.put.ensures.counted in
     let last : c.as_slice-2.result.now ≡ place_line network rule place = c.as_slice-2.ensures ∙ c.make_place_line.ensures in
     let gives = subst (λ (bytes : List ℕ). Gives (line_answer NetworkRefused bytes) c.put_last.result now new) last c.put_last.ensures.gives in

@@ -16,8 +16,7 @@ findings-preserved g c =
     let f = next.finding in
     let lines = ap (λ (fs : List Finding). map (finding_line network) fs) next.front ∙ map-append (finding_line network) (take n all) (f ∷ []) in
     let line = next.line in
-    let whole =
-    subst (λ (bytes : List ℕ). Appends (g.K.Sink.written c.findings.out) (g.K.Sink.written c.put.new.self) bytes) line c.in-Ok.ensures.all in
+    let whole = subst (λ (bytes : List ℕ). Appends (g.K.Sink.written c.findings.out) (g.K.Sink.written c.put.new.self) bytes) line c.in-Ok.ensures.all in
     record {
       puts =
           subst (λ (ls : List (List ℕ)). PutsLines ls (shown c.args.out.now) (shown c.put.new.self)) (sym lines)
@@ -37,8 +36,7 @@ returns-clause-gives g c =
       c.findings.auto.finding-index-end,
       ap length c.as_slice-findings.ensures.value,
     )) ∙ take-length all in
-    let puts =
-    subst (λ (fs : List Finding). PutsLines (map (finding_line network) fs) (shown c.args.out.now) (shown c.findings.out)) whole
+    let puts = subst (λ (fs : List Finding). PutsLines (map (finding_line network) fs) (shown c.args.out.now) (shown c.findings.out)) whole
     c.findings.invariant.puts in
     Gives-behind (map (finding_line network) all) (ending_answer network all c.args.slack.now.ending) c.put_ending.result (shown c.args.out.now)
     (shown c.findings.out) (shown c.put_ending.new.out) puts

@@ -1,4 +1,4 @@
-use Rattle.{lens_why.proofs.Rows.searched, net_plan.specs.declared.tables.Row.Row}
+use Rattle.{tte_units.proofs.general_lemmas.Lists.searched, net_plan.specs.declared.tables.Row.Row}
 use Rattle.std.proofs.{Common.{◌&&◌, ◌==◌, ◌≡◌, false, rules, tests, true}, lemmas.Iterator.{IsFirst-from_position, YieldsList-from_slice}}
 use Rattle.lens_svg.proofs.window.row_of.Goals as goal
 

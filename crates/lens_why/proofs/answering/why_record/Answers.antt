@@ -1,4 +1,4 @@
-use Rattle.{lens_why.specs.Answer.IsWhyAnswer, tte_audit.{proofs.reports_lemmas.Sources.{files_accepted, files_refused}, specs.reports.Reports.IsReportAnswer}}
+use Rattle.{lens_why.specs.Answer.IsWhyAnswer, tte_reports.{proofs.Sources.{files_accepted, files_refused}, specs.Reports.IsReportAnswer}}
 use Rattle.tte_forms.specs.Putting.{shown_by}
 use Rattle.lens_why.proofs.answering.why_record.Goals as goal
 

@@ -1,8 +1,8 @@
-use Rattle.{audit_devices.specs.Showing.IsAfter, lens_why.{proofs.LastRecords.parted_there, specs.Corrections.said_by}, std.specs.Prelude.option_and_then}
+use Rattle.{audit_devices.specs.Showing.IsAfter, lens_why.specs.Corrections.said_by, std.{proofs.lemmas.Int.to_z-of_z, specs.Prelude.option_and_then}}
 use Rattle.{lens_why.proofs.BestFrames.{after_change, corrected_is, summary_is}, std.proofs.Common.{◌∙◌, ◌≡◌, ap, of_z, rules, subst, sym, to_z, ℕ, ℤ}}
-use Rattle.{lens_why.specs.past.Pasts.before_corrections, tte_audit.specs.Report.{events_of, scenario_of}, tte_units.specs.declared.units.Units.Units}
-use Rattle.{pcf_values.specs.declared.channel.Channel.TheVariants.{A, B}, run_law.specs.records.Happenings.{happenings, time_of}, tte_units.specs.Amount.amount}
-use Rattle.std.{proofs.lemmas.Int.to_z-of_z, specs.Int.w128}
+use Rattle.{lens_why.{proofs.LastRecords.parted_there, specs.past.Pasts.before_corrections}, tte_audit.specs.Report.{events_of, scenario_of}}
+use Rattle.{run_law.specs.records.Happenings.{happenings, time_of}, tte_units.specs.declared.{frames.channel.Channel.TheVariants.{A, B}, units.Units.Units}}
+use Rattle.{std.specs.Int.w128, tte_units.specs.Amount.amount}
 use Rattle.lens_why.proofs.correcting.corrected.Goals as goal
 
 pub heard-heard-requires-clause-past : goal.heard-heard-requires-clause-past

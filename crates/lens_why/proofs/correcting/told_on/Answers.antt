@@ -1,6 +1,6 @@
-use Rattle.lens_why.specs.Corrections.{told_by}
+use Rattle.{lens_why.specs.Corrections.told_by, std.specs.Prelude.option_map}
 use Rattle.{lens_why.specs.declared.ground.Told.Told, run_law.specs.records.Happenings.happenings, std.proofs.Common.{◌∙◌, Option, Some, ap, sym, ℕ}}
-use Rattle.{pcf_values.specs.declared.members.Members.Members, std.specs.Prelude.option_map, sync_state.specs.declared.membership.frame.HeardFrame.HeardFrame}
+use Rattle.{sync_state.specs.declared.membership.frame.HeardFrame.HeardFrame, tte_units.specs.declared.frames.members.Members.Members}
 use Rattle.lens_why.proofs.correcting.told_on.Goals as goal
 
 abbrev told : ℕ → Members → Told

@@ -3,8 +3,7 @@ use Rattle.{lens_why.specs.Grounds.beside_ground, schedule_tables.specs.Entries.
 use Rattle.lens_why.proofs.dropping.beside.Goals as goal
 
 pub missed-requires-clause-entry : goal.missed-requires-clause-entry
-missed-requires-clause-entry c =
-    subst (λ (o : Option Entry). IfSome o (IsEntryInRange c.args.network.now)) c.in-Some.is c.entry_given.ensures.range
+missed-requires-clause-entry c = subst (λ (o : Option Entry). IfSome o (IsEntryInRange c.args.network.now)) c.in-Some.is c.entry_given.ensures.range
 
 pub returns-in-Some : goal.returns-in-Some
 returns-in-Some c befallen hs k =

@@ -1,4 +1,5 @@
-use Rattle.{lens_why.proofs.Rows.searched, net_plan.specs.declared.tables.Row.Row, run_law.specs.{scenario.Ways.is_way_of, timed.Arrivals.is_row_with}}
+use Rattle.{net_plan.specs.declared.tables.Row.Row, run_law.specs.timed.Arrivals.is_row_with, tte_units.proofs.general_lemmas.Lists.searched}
+use Rattle.run_law.specs.scenario.Ways.{is_way_of}
 use Rattle.std.proofs.{Common.{◌&&◌, ◌≡◌, false, rules, tests, true}, lemmas.Iterator.{IsFirst-from_position, YieldsList-from_slice}}
 use Rattle.lens_why.proofs.dropping.place_entering.Goals as goal
 

@@ -17,15 +17,13 @@ pub taken-requires-in-Delivered-clause-past : goal.taken-requires-in-Delivered-c
 taken-requires-in-Delivered-clause-past c = past_there c.args.network.now c.args.known.now c.requires.report c.requires.past
 
 pub taken-requires-in-Delivered-clause-there : goal.taken-requires-in-Delivered-clause-there
-taken-requires-in-Delivered-clause-there c =
-    (subst (λ (b : NoteBody). IsBodyOf c.args.network.now b) c.in-Delivered.is c.requires.timely.of_network).0
+taken-requires-in-Delivered-clause-there c = (subst (λ (b : NoteBody). IsBodyOf c.args.network.now b) c.in-Delivered.is c.requires.timely.of_network).0
 
 pub dropped-requires-clause-there : goal.dropped-requires-clause-there
 dropped-requires-clause-there c = (subst (λ (b : NoteBody). IsBodyOf c.args.network.now b) c.in-Dropped.is c.requires.timely.of_network).0
 
 pub permanent-requires-clause-there : goal.permanent-requires-clause-there
-permanent-requires-clause-there c =
-    (subst (λ (b : NoteBody). IsBodyOf c.args.network.now b) c.in-Permanent.is c.requires.timely.of_network).0
+permanent-requires-clause-there c = (subst (λ (b : NoteBody). IsBodyOf c.args.network.now b) c.in-Permanent.is c.requires.timely.of_network).0
 
 pub corrected-requires-clause-there : goal.corrected-requires-clause-there
 corrected-requires-clause-there c = subst (λ (b : NoteBody). IsBodyOf c.args.network.now b) c.in-Corrected.is c.requires.timely.of_network

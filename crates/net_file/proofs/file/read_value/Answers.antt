@@ -1,29 +1,12 @@
-use Rattle.std.proofs.Common.{rules}
+use Rattle.{net_file.proofs.Documents.{network_behind}, std.proofs.Common.rules}
 use Rattle.net_file.proofs.file.read_value.Goals as goal
 
-pub returns-clause-in_range : goal.returns-clause-in_range
-returns-clause-in_range c =
-    let top = c.in_ok-network.ensures.in_range in
-    record {
-      version = top.version;
-      cycle = top.cycle;
-      rho = top.rho;
-      grain = top.grain;
-      dmax = top.dmax;
-      calc = top.calc;
-      settled = top.settled;
-      precision = top.precision;
-      correction = top.correction;
-      tt_start = top.tt_start;
-      marker = top.marker;
-      threshold_least = top.threshold_least;
-      threshold_most = top.threshold_most;
-      few_devices = c.in_ok-devices-2.ensures.few;
-      few_links = c.in_ok-links-2.ensures.few;
-      few_vls = c.in_ok-vls-2.ensures.few;
-      few_rows = c.in_ok-rows-2.ensures.few;
-      devices = c.in_ok-devices-2.ensures.in_range;
-      links = c.in_ok-links-2.ensures.in_range _ (search rules);
-      vls = c.in_ok-vls-2.ensures.in_range _ (search rules);
-      rows = c.in_ok-rows-2.ensures.in_range _ (search rules) (search rules);
-    }
+pub returns-in_err-network-clause-value : goal.returns-in_err-network-clause-value
+returns-in_err-network-clause-value c = rw (network_behind _, ← c.read_document.ensures.value, c.in_err-network.was) (search rules)
+
+pub returns-in_err-read_arrays-clause-value : goal.returns-in_err-read_arrays-clause-value
+returns-in_err-read_arrays-clause-value c =
+    rw (network_behind _, ← c.read_document.ensures.value, c.in_ok-network.was) (search (rules, c.in_err-read_arrays.ensures.value))
+
+pub returns-clause-value : goal.returns-clause-value
+returns-clause-value c = rw (network_behind _, ← c.read_document.ensures.value, c.in_ok-network.was) c.in_ok-read_arrays.ensures.value

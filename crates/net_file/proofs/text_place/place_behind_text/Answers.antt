@@ -13,8 +13,7 @@ octets-preserved c =
     let moves = moves_by_one octet place in
     let line = ap (λ (p : TextPlace). p.line) c.after-place.ensures in
     let column = ap (λ (p : TextPlace). p.column) c.after-place.ensures in
-    let same =
-    ap (λ (p : TextPlace). place_behind rest p) c.after-place.ensures
+    let same = ap (λ (p : TextPlace). place_behind rest p) c.after-place.ensures
     ∙ ap (λ (octets : List ℕ). place_behind octets place) (sym split)
     ∙ c.octets.invariant.0 in
     (same, omega (arith, moves.0, line, fewer, c.octets.invariant.1), omega (arith, moves.1, column, fewer, c.octets.invariant.2))

@@ -1,5 +1,5 @@
 ghost use Rattle.std.specs.Prelude.{◌↔◌, ◌∷◌, ◌≡◌, IsTrue, [], get_or, ℕ};
-ghost use Rattle.pcf_values.specs.declared.members.Members.{Members as MembersValue};
+ghost use Rattle.tte_units.specs.declared.frames.members.Members.{Members as MembersValue};
 ghost use Rattle.run_law.specs.{declared.judgement.{Judgement.Judgement, Why.Why}, records.Ranks.{place_at, sign}};
 ghost use Rattle.run_law.specs.{plain.{Bodies.body_of, Places.number_of}, records.Order.is_before};
 ghost use Rattle.sync_state.specs.declared.state.State.{State};

@@ -13,5 +13,4 @@ loop-place-preserved c =
     )
 
 pub returns : goal.returns
-returns c =
-    grouped c.args.entries.now c.loop-place.place _ (omega (arith, c.loop-place-test.false)) c.loop-place.invariant.0 c.loop-place.invariant.1
+returns c = grouped c.args.entries.now c.loop-place.place _ (omega (arith, c.loop-place-test.false)) c.loop-place.invariant.0 c.loop-place.invariant.1

@@ -21,3 +21,21 @@ returns-in-VlIdsDiffer c = same_test _ _ _ _ _ c.in-VlIdsDiffer.is c.vl_id_is_ne
 
 pub returns-in-LinksOnce : goal.returns-in-LinksOnce
 returns-in-LinksOnce c = same_test _ _ _ _ _ c.in-LinksOnce.is c.goes_once_by_link.ensures
+
+pub returns-in-WindowEnds : goal.returns-in-WindowEnds
+returns-in-WindowEnds c = same_test _ _ _ _ _ c.in-WindowEnds.is c.ends_in_cycle.ensures
+
+pub returns-in-Sources : goal.returns-in-Sources
+returns-in-Sources c = same_test _ _ _ _ _ c.in-Sources.is c.has_source.ensures
+
+pub returns-in-Targets : goal.returns-in-Targets
+returns-in-Targets c = same_test _ _ _ _ _ c.in-Targets.is c.enters_anew.ensures
+
+pub returns-in-Spacing : goal.returns-in-Spacing
+returns-in-Spacing c = same_test _ _ _ _ _ c.in-Spacing.is c.stands_apart.ensures
+
+pub returns-in-BothChannels : goal.returns-in-BothChannels
+returns-in-BothChannels c = same_test _ _ _ _ _ c.in-BothChannels.is c.goes_by_both_channels.ensures
+
+pub returns-in-Forwarding : goal.returns-in-Forwarding
+returns-in-Forwarding c = same_test _ _ _ _ _ c.in-Forwarding.is c.comes_in_time.ensures

@@ -1,5 +1,5 @@
 use Rattle.{schedule_checker.proofs.EntryPlaces.entry_read, schedule_tables.specs.Entries.target_of}
-use Rattle.{schedule_checker.proofs.RouteLemmas.{enters_anew, enters_anew_back}, std.proofs.Common.{◌≡◌, ◌≢◌, arith, refl, rules, take}}
+use Rattle.{schedule_checker.proofs.RouteLemmas.{enters_anew, enters_anew_back}, std.proofs.Common.{◌≡◌, ◌≢◌, refl, rules, take}}
 use Rattle.schedule_checker.proofs.routes.enters_anew.Goals as goal
 
 pub returns-then-ne : goal.returns-then-ne
@@ -21,4 +21,4 @@ returns-else-ne c =
     let e = c.index-entries-place.result in
     let at = entry_read n es c.args.place e c.requires.entries c.requires.place c.index-entries-place.is in
     let sender : target_of e ≡ e.vl.sender = search rules in
-    (λ yes. absurd (grind (arith, yes, c.if-ne.false)), λ kept. absurd (kept.no_sender e at sender))
+    (λ yes. absurd (cc (yes, c.if-ne.false)), λ kept. absurd (kept.no_sender e at sender))

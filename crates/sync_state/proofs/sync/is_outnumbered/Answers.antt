@@ -1,5 +1,5 @@
-use Rattle.{pcf_values.specs.declared.members.Members.Members, sync_state.{proofs.VerdictLemmas.outnumbered, specs.membership.Members.count_of}}
 use Rattle.std.proofs.Common.{◌∙◌, ap}
+use Rattle.{sync_state.{proofs.VerdictLemmas.outnumbered, specs.membership.Members.count_of}, tte_units.specs.declared.frames.members.Members.Members}
 use Rattle.sync_state.proofs.sync.is_outnumbered.Goals as goal
 
 pub returns : goal.returns

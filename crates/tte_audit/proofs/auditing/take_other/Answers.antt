@@ -2,8 +2,7 @@ use Rattle.tte_audit.proofs.Words.{IsBodyOf, Network, refl, subst, sym}
 use Rattle.tte_audit.proofs.auditing.take_other.Goals as goal
 
 pub judge-requires-clause-named : goal.judge-requires-clause-named
-judge-requires-clause-named c =
-    subst (λ (n : Network). IsBodyOf n c.in-Some.taken.note.body) (sym c.requires.same) c.in-Some.ensures.0.of_network
+judge-requires-clause-named c = subst (λ (n : Network). IsBodyOf n c.in-Some.taken.note.body) (sym c.requires.same) c.in-Some.ensures.0.of_network
 
 pub returns-in-Some : goal.returns-in-Some
 returns-in-Some c =

@@ -12,8 +12,7 @@ pub returns-in-3-clause-form : goal.returns-in-3-clause-form
 returns-in-3-clause-form c = c.two_files_form.ensures.form ∙ sym (two_files c.args.words.now c.in_ok-command.command.now (omega arith) (search rules))
 
 pub returns-in_default-clause-form : goal.returns-in_default-clause-form
-returns-in_default-clause-form c =
-    other_count c.args.words.now (λ few. omega (arith, few.0, few.1, c.len.ensures))
+returns-in_default-clause-form c = other_count c.args.words.now (λ few. omega (arith, few.0, few.1, c.len.ensures))
 
 pub returns-in_ok-get-in-4-2-clause-form : goal.returns-in_ok-get-in-4-2-clause-form
 returns-in_ok-get-in-4-2-clause-form c =

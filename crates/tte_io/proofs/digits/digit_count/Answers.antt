@@ -21,8 +21,7 @@ overflow_add-result c =
 
 pub overflow_add-result-else-n-lt10000000000000000 : goal.overflow_add-result-else-n-lt10000000000000000
 overflow_add-result-else-n-lt10000000000000000 c =
-    let all : 16 + c.count_below_eight-else-n-lt10000000000000000.result ≡ length (decimal c.args.n) =
-    omega (
+    let all : 16 + c.count_below_eight-else-n-lt10000000000000000.result ≡ length (decimal c.args.n) = omega (
       arith,
       c.count_below_eight-else-n-lt10000000000000000.ensures,
       size_sixteen c.args.n (omega (arith, c.if-n-lt10000000000000000.false)) c.ranges.n.fits,

@@ -1,6 +1,5 @@
-use Rattle.std.proofs.{Common.{◌∙◌, arith, refl, subst, ℕ}, lemmas.Result.err_from_is_err_and}
+use Rattle.{std.proofs.{Common.{◌∙◌, arith, refl, subst, ℕ}, lemmas.Result.err_from_is_err_and}, tte_io.specs.Faults.Rose}
 use Rattle.tte_io.proofs.{Coming.outcome_told, Making.{found_too_long, kept_after_failure, making_advanced, making_filled, taken_at_end, taken_at_lf}}
-use Rattle.tte_io.specs.Faults.{Rose}
 use Rattle.tte_io.proofs.taking.take_line.Goals as goal
 
 pub returns-in_err-fill-clause-next : goal.returns-in_err-fill-clause-next

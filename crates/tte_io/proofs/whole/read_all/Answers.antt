@@ -12,8 +12,7 @@ returns-then-count-limit-clause-too_long g c _ =
     )
 
 pub returns-then-count-limit-clause-too_long_left : goal.returns-then-count-limit-clause-too_long_left
-returns-then-count-limit-clause-too_long_left g c is =
-    too_many-left _ _ c.args.limit (returns-then-count-limit-clause-too_long g c is)
+returns-then-count-limit-clause-too_long_left g c is = too_many-left _ _ c.args.limit (returns-then-count-limit-clause-too_long g c is)
 
 pub returns-then-count-limit-clause-taken : goal.returns-then-count-limit-clause-taken
 returns-then-count-limit-clause-taken g c =

@@ -149,16 +149,13 @@ the_counts all compressed corrected lost tt_sent accepted delivered dropped = re
 
 -- the counts with one more that this line counts
 abbrev pub counts_and : Counted → Counts → Counts
-counts_and lines.Compressed c =
-    the_counts (c.records + 1) (c.compressed + 1) c.corrected c.lost c.tt_sent c.accepted c.delivered c.dropped
-counts_and lines.Corrected c =
-    the_counts (c.records + 1) c.compressed (c.corrected + 1) c.lost c.tt_sent c.accepted c.delivered c.dropped
+counts_and lines.Compressed c = the_counts (c.records + 1) (c.compressed + 1) c.corrected c.lost c.tt_sent c.accepted c.delivered c.dropped
+counts_and lines.Corrected c = the_counts (c.records + 1) c.compressed (c.corrected + 1) c.lost c.tt_sent c.accepted c.delivered c.dropped
 counts_and lines.Lost c = the_counts (c.records + 1) c.compressed c.corrected (c.lost + 1) c.tt_sent c.accepted c.delivered c.dropped
 counts_and lines.TtSent c = the_counts (c.records + 1) c.compressed c.corrected c.lost (c.tt_sent + 1) c.accepted c.delivered c.dropped
 counts_and lines.Accepted c = the_counts (c.records + 1) c.compressed c.corrected c.lost c.tt_sent (c.accepted + 1) c.delivered c.dropped
 counts_and lines.Delivered c = the_counts (c.records + 1) c.compressed c.corrected c.lost c.tt_sent c.accepted (c.delivered + 1) c.dropped
-counts_and (lines.Dropped reason) c =
-    the_counts (c.records + 1) c.compressed c.corrected c.lost c.tt_sent c.accepted c.delivered (with_drop reason c.dropped)
+counts_and (lines.Dropped reason) c = the_counts (c.records + 1) c.compressed c.corrected c.lost c.tt_sent c.accepted c.delivered (with_drop reason c.dropped)
 counts_and lines.Unlisted c = the_counts (c.records + 1) c.compressed c.corrected c.lost c.tt_sent c.accepted c.delivered c.dropped
 
 -- they are those with the record that it counts

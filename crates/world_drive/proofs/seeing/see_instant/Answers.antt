@@ -51,8 +51,7 @@ record-requires-clause-may g c =
     }
 
 pub notes-smaller : goal.notes-smaller
-notes-smaller g c =
-    c.in-Ok-true.ensures.fewer c.in-Ok-true.field-0-test
+notes-smaller g c = c.in-Ok-true.ensures.fewer c.in-Ok-true.field-0-test
 
 pub notes-preserved : goal.notes-preserved
 notes-preserved g c =

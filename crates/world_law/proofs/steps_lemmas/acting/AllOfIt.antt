@@ -23,8 +23,7 @@ NoneDispatched s hs now device =
 abbrev pub DispatchesTold : Scenario → List Happening → List Happening → ℕ → DeviceId → Node → Type 0
 DispatchesTold s hs new now device node =
     (other : List Happening) → ((z : Happening) → IsIn z other → time_of z ≡ now) → (link : LinkId) (cause : ℕ) (vl : VlId) (cycle : ℕ)
-    → Dispatches s (hs ++ other) device now link cause vl cycle
-    → ((row : RowId) × (n : ℕ) × IsPending s.network device node (doing (dispatching row n))
+    → Dispatches s (hs ++ other) device now link cause vl cycle → ((row : RowId) × (n : ℕ) × IsPending s.network device node (doing (dispatching row n))
     × (reading_for s.network node (doing (dispatching row n)) ≤ℤ pos (s.reading device now)))
     ⊎ IsShown (hs ++ new) now (dispatch_body s device now link cause vl cycle)
 
@@ -147,10 +146,8 @@ one_point s hs coming front now device node cycle heard verdict other number w p
 point_cause : (s : Scenario) (hs coming new front back : List Happening) (now : ℕ) (device : DeviceId) (node : Node) (cycle : ℕ) (heard : Summary)
     (verdict : Verdict) (y : Happening)
     → IsAtWork s hs coming now device node → AreRecorded s (hs ++ coming) coming now device node → IsAtPoint s device now node cycle heard verdict
-    → ((body : NoteBody) → IsShown (hs ++ coming) now body → IsShown (hs ++ new) now body) → HasOutcome new now device verdict
-    → NoneDispatched s hs now device
-    → ((z : Happening) → IsIn z front → time_of z ≡ now)
-    → (rank y.note.body ≡ 4 → points_of (hs ++ front) device ≡ points_of (hs ++ coming) device)
+    → ((body : NoteBody) → IsShown (hs ++ coming) now body → IsShown (hs ++ new) now body) → HasOutcome new now device verdict → NoneDispatched s hs now device
+    → ((z : Happening) → IsIn z front → time_of z ≡ now) → (rank y.note.body ≡ 4 → points_of (hs ++ front) device ≡ points_of (hs ++ coming) device)
     → (6 ≤ rank y.note.body → heard_since s (hs ++ coming) device now ≡ heard_since s (hs ++ front) device now)
     → AllBefore place_of hs (act_place now device) → time_of y ≡ now → (body : NoteBody) → y.note.body ≡ body
     → IsActCause s (hs ++ front) now device body → (z : Happening) × IsIn z new × (place_of z ≡ place_of y)

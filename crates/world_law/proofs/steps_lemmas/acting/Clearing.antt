@@ -36,8 +36,7 @@ number_is false number recorded e le = e
 
 pub is_clearing : (s : Scenario) (js : List Happening) (now : ℕ) (device : DeviceId) (node : Node) → IsLeft s js device now node → IsAtIntegration node.standing
     → IsClearing s js now device node
-is_clearing s js now device node left at =
-    grind (arith, is_timed, integration_cycle, earlier, recorded_cycle, number_is, has_cleared, option_map_or, eq-eqb)
+is_clearing s js now device node left at = grind (arith, is_timed, integration_cycle, earlier, recorded_cycle, number_is, has_cleared, option_map_or, eq-eqb)
 
 back_there : (v a : ℤ) (r : ℕ) → (v -ℤ a) ≤ℤ pos r → v ≤ℤ (pos r +ℤ a)
 back_there v a r le = omega (arith, ints, le)
@@ -54,8 +53,7 @@ pub cleared_over : (s : Scenario) (hs zs : List Happening) (now : ℕ) (device :
     → HasCleared node → IsAtIntegration node.standing → IsUndone s.network device node (correcting cycle)
     → reading_for s.network node (doing (correcting cycle)) ≤ℤ pos (s.reading device now)
     → pos (s.reading device now) <ℤ (reading_for s.network node (doing (correcting cycle)) +ℤ s.network.precision.0)
-    → s.network.precision.0 ≤ℤ pos (amount s.network.cycle)
-    → ((c : Compressed) → IsWaiting s.network device node c → pos (s.reading device now) <ℤ c.at.0)
+    → s.network.precision.0 ≤ℤ pos (amount s.network.cycle) → ((c : Compressed) → IsWaiting s.network device node c → pos (s.reading device now) <ℤ c.at.0)
     → IsOver s (hs ++ zs) now device (called moment acting (after_correction node moment heard cycle Cleared))
 cleared_over s hs zs now device node cycle moment heard w off later same falls has at u due in_time wide quiet =
     let js = hs ++ zs in

@@ -75,8 +75,7 @@ pub act_cause : (s : Scenario) (js : List Happening) (now : ℕ) (device : Devic
     → IsOwnSource s js (amount time) m body (act_place now device) → IsCaused s js time body → (amount time ≡ now) × IsActCause s js now device body
 act_cause s js now device time m (kinds.Compressed other opened at cycle members verdict) own c =
     at_it now (amount time) device other (λ d n. Emits s js d n (record { opened = opened; at = at; cycle = cycle; members = members }) verdict) own c
-act_cause s js now device time m (kinds.Sent other cycle) own c =
-    at_it now (amount time) device other (λ d n. Sends s js d n cycle) own c
+act_cause s js now device time m (kinds.Sent other cycle) own c = at_it now (amount time) device other (λ d n. Sends s js d n cycle) own c
 act_cause s js now device time m (kinds.Corrected other cycle by adjustment) own c =
     at_it now (amount time) device other (λ d n. IsCorrectedRecord s js d n cycle by adjustment) own c
 act_cause s js now device time m (kinds.State other state cause whys.SyncClique) own c =

@@ -1,19 +1,18 @@
 -- The steps by which a device comes to its correction point.
-use Rattle.{run_law.specs.machines.Answers.after_correction, world_law.{proofs.putting.PutOne.corrected_unfollowed, specs.steps.Acting.correction_bodies}}
-use Rattle.world_law.{proofs.putting.{Moving.settled_moves, StandsOn.shown_still}, specs.world.Calls.IsStateOf}
+use Rattle.{run_law.specs.machines.Answers.after_correction, world_law.proofs.steps_lemmas.acting.Sending.{as_put, room_for, taken_then, turned_then}}
+use Rattle.world_law.{proofs.putting.{Moving.settled_moves, StandsOn.shown_still}, specs.{steps.Acting.correction_bodies, world.Calls.IsStateOf}}
+use Rattle.world_law.proofs.{putting.PutOne.corrected_unfollowed, steps_lemmas.Words.{waiting_moves, wire_place, wires_move, with_clique, ℕ}}
 use Rattle.world_law.proofs.steps_lemmas.Words.{◌++◌, ◌+ℤ◌, ◌+◌, ◌<◌, ◌∙◌, ◌∷◌, ◌≡◌, ◌≤◌, ArePutIn, AsyncClique, Cleared, ComesFirst, Corrected, DeviceId}
 use Rattle.world_law.proofs.steps_lemmas.Words.{Happening, HasActed, HasCleared, Integrating, IsBefore, IsDueNow, IsHeld, IsIn, IsNoTaking, IsReadyAt, IsSet}
 use Rattle.world_law.proofs.steps_lemmas.Words.{IsShownPut, IsUnfollowed, Joining, List, Network, Node, Note, NoteBody, Scenario, Some, Stands, StandsBehind}
 use Rattle.world_law.proofs.steps_lemmas.Words.{State, Summary, SyncClique, Synchronised, Units, Verdict, Why, World, [], act_place, acting, adjustment_by}
 use Rattle.world_law.proofs.steps_lemmas.Words.{all_without, ap, arith, before_it, behind, called, cases_eq, correcting, doing, earlier_still, ends_stretch}
-use Rattle.world_law.proofs.steps_lemmas.Words.{false, happenings, held_moves, hidden, if◌then◌else◌, in_right, inl, inr}
-use Rattle.world_law.proofs.steps_lemmas.Words.{is_turned_on_at, length, length_is, map, moment_of}
-use Rattle.world_law.proofs.steps_lemmas.Words.{none_in, none_yet, one_shown, place_of, point_number, port_place, ports_move, put_at, rank, record_of, refl}
-use Rattle.world_law.proofs.steps_lemmas.Words.{slice_get, stands_on, state_after, state_by, subst, sym, told_wires, true, turned_moves, waiting_moves}
-use Rattle.world_law.proofs.steps_lemmas.{Words.{wire_place, wires_move, with_clique, ℕ}, acting.Kept.{IsBare, bare_act, kept_over, may_act_now, ready_after}}
+use Rattle.world_law.proofs.steps_lemmas.Words.{false, happenings, held_moves, hidden, if◌then◌else◌, in_right, inl, inr, is_turned_on_at, length, length_is}
+use Rattle.world_law.proofs.steps_lemmas.Words.{map, moment_of, none_in, none_yet, one_shown, place_of, point_number, port_place, ports_move, put_at, rank}
+use Rattle.world_law.proofs.steps_lemmas.Words.{record_of, refl, slice_get, stands_on, state_after, state_by, subst, sym, told_wires, true, turned_moves}
 use Rattle.world_law.proofs.steps_lemmas.acting.{AllOfIt.{HasOutcome, IsAtPoint, all_point, grown_none, grown_one}, Correcting.{clique_over, corrected_over}}
-use Rattle.world_law.proofs.steps_lemmas.acting.{Clearing.{cleared_more, cleared_over}, Stage.{IsActRecord, Stage, one_goes_by, others_so, stage_of}}
-use Rattle.world_law.proofs.steps_lemmas.acting.{Moves.IsCorrectedSo, Over.IsOver, Sending.{as_put, room_for, taken_then, turned_then}}
+use Rattle.world_law.proofs.steps_lemmas.acting.{Clearing.{cleared_more, cleared_over}, Kept.{IsBare, bare_act, kept_over, may_act_now, ready_after}}
+use Rattle.world_law.proofs.steps_lemmas.acting.{Moves.IsCorrectedSo, Over.IsOver, Stage.{IsActRecord, Stage, one_goes_by, others_so, stage_of}}
 use Rattle.world_law.proofs.steps_lemmas.acting.Points.{IsClique, at_point, clique_record, corrected_record, no_frames, none_at_point, not_on}
 use Rattle.run_law.specs.declared.judgement.Why.TheVariants as whys
 use Rattle.run_law.specs.declared.note.NoteBody.TheVariants as kinds

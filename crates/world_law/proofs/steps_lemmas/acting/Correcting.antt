@@ -56,21 +56,18 @@ bears_none device other late still = refl
 pub none_bear : (s : Scenario) (hs front back : List Happening) (now : ℕ) (device : DeviceId) (node : Node) (w : Happening)
     → IsAtWork s hs (front ++ back) now device node → is_turned_on_at s device now ≡ false → time_of w ≡ now → 5 ≤ rank w.note.body
     → NoneBefore place_of back (place_of w) → (z : Happening) → IsIn z back → bears_on device z.note.body ≡ false
-none_bear s hs front back now device node w work off at late none z i =
-    grind (arith, in_right, bears_none, cases_lt, rank, unmoved_by)
+none_bear s hs front back now device node w work off at late none z i = grind (arith, in_right, bears_none, cases_lt, rank, unmoved_by)
 
 pub one_in : (q : Happening → Bool) (w : Happening) (back : List Happening) → filter q back ≡ [] → filter q (w ∷ back) ≡ filter q (w ∷ [])
 one_in q w back none = filter-append q (w ∷ []) back ∙ ap (λ (l : List Happening). filter q (w ∷ []) ++ l) none ∙ append-nil (filter q (w ∷ []))
 
 two_in : (q : Happening → Bool) (hs front back : List Happening) → filter q back ≡ [] → filter q (hs ++ (front ++ back)) ≡ filter q hs ++ filter q front
-two_in q hs front back none =
-    grind (arith, filter-append, filter, append-nil)
+two_in q hs front back none = grind (arith, filter-append, filter, append-nil)
 
 -- behind it nothing bears on the device, so it might stand at the end
 pub borne_in : (hs front back : List Happening) (device : DeviceId) (w : Happening) → ((z : Happening) → IsIn z back → bears_on device z.note.body ≡ false)
     → borne device ((hs ++ (front ++ back)) ++ w ∷ []) ≡ borne device (hs ++ (front ++ w ∷ back))
-borne_in hs front back device w none =
-    grind (arith, bears_on, none_kept, filter-append, filter, two_in, append_assoc, one_in)
+borne_in hs front back device w none = grind (arith, bears_on, none_kept, filter-append, filter, two_in, append_assoc, one_in)
 
 -- the same of two records
 pub borne_two : (hs front mid rest : List Happening) (device : DeviceId) (w f : Happening)
@@ -116,8 +113,7 @@ left_called s js device u node moment left = grind arith
 
 -- it corrects its clock at the time: all counts from then on
 pub corrects_it : (network : Network) (reading : ℕ → ℕ) (device : DeviceId) (node : Node) (t : ℕ) (moment : Moment) (heard : Summary) (by : Units)
-    → moment.reading.0 ≡ pos (reading t)
-    → HasDoneFrom network reading device (called moment acting (with_corrected node moment heard by)) t (t + 1) (t + 1)
+    → moment.reading.0 ≡ pos (reading t) → HasDoneFrom network reading device (called moment acting (with_corrected node moment heard by)) t (t + 1) (t + 1)
 corrects_it network reading device node t moment heard by reads = record {
   undone = λ deed u x from lt.
       let same : t ≡ x = omega (arith, from, lt) in
@@ -128,8 +124,7 @@ corrects_it network reading device node t moment heard by reads = record {
 }
 
 kept_so : (s : Scenario) (device : DeviceId) (node : Node) (b : Bool) (now : ℕ) (sent : Compressed) (clusters : List _) (cluster : _)
-    → is_cm s.network device ≡ true
-    → AreClusters (observation_window s.network) (if b then node.points else []) clusters → Contains clusters cluster
+    → is_cm s.network device ≡ true → AreClusters (observation_window s.network) (if b then node.points else []) clusters → Contains clusters cluster
     → sent ≡ Rattle.compression.specs.Emission.compressed (observation_window s.network) (pos (Rattle.tte_units.specs.Amount.amount s.network.calc)) cluster
     → (Contains (if b then node.emitted else []) sent → ⊥)
     → ((c : Compressed) → IsWaiting s.network device node c → pos (s.reading device now) <ℤ c.at.0) → HasSentFrom s device node now (now + 1)
@@ -204,8 +199,7 @@ pub joiner_over : (s : Scenario) (hs front mid rest new : List Happening) (now :
     (by adjustment : Units) (moment : Moment) (heard : Summary)
     → IsAtWork s hs (front ++ (mid ++ rest)) now device node → is_turned_on_at s device now ≡ false → is_turned_on_at s device (now + 1) ≡ false
     → is_broken s device (now + 1) ≡ is_broken s device now → plains new ≡ plains (front ++ w ∷ (mid ++ f ∷ rest)) → time_of w ≡ now
-    → NoneBefore place_of (mid ++ rest) (place_of w)
-    → IsCorrectedSo s device (now + 1) node w cycle by adjustment moment → node.standing.state ≡ Joining
+    → NoneBefore place_of (mid ++ rest) (place_of w) → IsCorrectedSo s device (now + 1) node w cycle by adjustment moment → node.standing.state ≡ Joining
     → f.note.body ≡ kinds.State device Synchronised cause whys.Correction → time_of f < now + 1
     → ((c : Compressed) → IsWaiting s.network device node c → pos (s.reading device now) <ℤ c.at.0)
     → IsOver s (hs ++ new) now device (called moment acting (with_corrected node moment heard by))

@@ -82,16 +82,14 @@ second other = 0
 lost_at : (t u m d l c : ℕ) (body : NoteBody) → t ∷ 9 ∷ d ∷ l ∷ c ∷ [] ≡ u ∷ rank body ∷ key m body → (other : DeviceId) × (link : LinkId) × (other.0 ≡ d)
     × (link.0 ≡ l) × (body ≡ kinds.Lost other link c)
 unfolding second
-lost_at t u m d l c (kinds.Lost other link from) e =
-    grind arith
+lost_at t u m d l c (kinds.Lost other link from) e = grind arith
 lost_at t u m d l c other e = absurd (let bad = ap second e in omega (arith, bad))
 
 -- and where that of a dispatch does
 tt_at : (t u m d l c v n : ℕ) (body : NoteBody) → t ∷ 10 ∷ d ∷ l ∷ c ∷ v ∷ n ∷ [] ≡ u ∷ rank body ∷ key m body → (other : DeviceId) × (link : LinkId)
     × (vl : VlId) × (other.0 ≡ d) × (link.0 ≡ l) × (vl.0 ≡ v) × (body ≡ kinds.TtSent other link c vl n)
 unfolding second
-tt_at t u m d l c v n (kinds.TtSent other link from vl number) e =
-    grind arith
+tt_at t u m d l c v n (kinds.TtSent other link from vl number) e = grind arith
 tt_at t u m d l c v n other e = absurd (let bad = ap second e in omega (arith, bad))
 
 -- the body of a dispatch on a way that is cut, or not
@@ -105,14 +103,12 @@ body_at : (cut : Bool) (device : DeviceId) (link : LinkId) (cause : ℕ) (vl : V
 body_at true device link cause vl cycle t u m body e =
     let x = lost_at t u m device.0 link.0 cause body e in
     x.4 ∙ ap (λ (d : DeviceId). kinds.Lost d x.1 cause) (same_device x.0 device x.2) ∙ ap (λ (l : LinkId). kinds.Lost device l cause) (same_link x.1 link x.3)
-body_at false device link cause vl cycle t u m body e =
-    grind (arith, tt_at, same_device, same_link, same_vl)
+body_at false device link cause vl cycle t u m body e = grind (arith, tt_at, same_device, same_link, same_vl)
 
 -- it names no cause of a change of state
 pub plain_dispatch : (s : Scenario) (device : DeviceId) (now : ℕ) (link : LinkId) (cause : ℕ) (vl : VlId) (cycle : ℕ)
     → plain_body (dispatch_body s device now link cause vl cycle) ≡ dispatch_body s device now link cause vl cycle
-plain_dispatch s device now link cause vl cycle =
-    grind (arith, is_cut, way_from, plain_body)
+plain_dispatch s device now link cause vl cycle = grind (arith, is_cut, way_from, plain_body)
 
 -- what is asked of the record but for its body
 record IsRowRecord (s : Scenario) (hs front back : List Happening) (now : ℕ) (device : DeviceId) (link : LinkId) (cause : ℕ) (vl : VlId) (cycle : ℕ)
@@ -151,8 +147,7 @@ row_record s hs front back now device link cause vl cycle false is r = record {
 
 pub dispatching_record : {M : Type 0} (stands : M → Network → DeviceId → Node → Type 0) (s : Scenario) (hs front back : List Happening) (mark cursor : List ℕ)
     (now : ℕ) (device : DeviceId) (machine : M) (node : Node) (row : RowId) (entry : Entry) (cause cycle : ℕ)
-    → Stage stands s hs (front ++ back) mark cursor now device machine node
-    → IsPending s.network device node (doing (dispatching row cycle))
+    → Stage stands s hs (front ++ back) mark cursor now device machine node → IsPending s.network device node (doing (dispatching row cycle))
     → reading_for s.network node (doing (dispatching row cycle)) ≤ℤ pos (s.reading device now) → IsEntry s.network row.0 entry
     → HasAtHand s.network hs device entry now cause cycle
     → NoneBefore place_of back (place_of (record_of s.network hs front now (dispatch_body s device now entry.row.link cause entry.row.vl cycle)))
@@ -199,8 +194,7 @@ none_taken s device of now link cause vl cycle = grind (arith, is_cut, way_from)
 
 dispatches_on : (s : Scenario) (hs front back new : List Happening) (now : ℕ) (device : DeviceId) (node : Node) (w : Happening) (row : RowId) (cycle : ℕ)
     (moment : Moment) → IsAtWork s hs (front ++ back) now device node → IsPutAs now front back new w → hearing_by s.network device w w.note.body ≡ None
-    → moves device w.note.body ≡ false
-    → reading_for s.network node (doing (dispatching row cycle)) ≤ℤ pos (s.reading device now)
+    → moves device w.note.body ≡ false → reading_for s.network node (doing (dispatching row cycle)) ≤ℤ pos (s.reading device now)
     → IsReadyAt (s.reading device) s.network device (called moment acting (with_done node (dispatching row cycle))) now
     → IsAtWork s hs new now device (called moment acting (with_done node (dispatching row cycle)))
 dispatches_on s hs front back new now device node w row cycle moment work p none still due ready =

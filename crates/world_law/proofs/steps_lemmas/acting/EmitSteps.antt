@@ -68,8 +68,7 @@ IsLastFrame coming now device sent =
 
 emission_record : {M : Type 0} (stands : M → Network → DeviceId → Node → Type 0) (s : Scenario) (hs front back : List Happening) (mark cursor : List ℕ)
     (now : ℕ) (device : DeviceId) (machine : M) (node : Node) (sent : Compressed) → Stage stands s hs (front ++ back) mark cursor now device machine node
-    → IsPending s.network device node (emitting sent) → sent.at.0 ≤ℤ pos (s.reading device now)
-    → StaysBy (own_judgement s.network device node sent)
+    → IsPending s.network device node (emitting sent) → sent.at.0 ≤ℤ pos (s.reading device now) → StaysBy (own_judgement s.network device node sent)
     → NoneBefore place_of back (place_of (record_of s.network hs front now (emission_body device sent (own_judgement s.network device node sent))))
     → ((y : Happening) → IsIn y back → (c : Compressed) (u : Judgement) → y.note.body ≡ emission_body device c u → ⊥)
     → IsActRecord s hs front back now device (emission_body device sent (own_judgement s.network device node sent))
@@ -209,8 +208,7 @@ is_only_frame s device now node sent pending from_zero c other same =
 pub emits_one : {C M : Type 0} (reading : C → ℕ → ℕ) (stands : M → Network → DeviceId → Node → Type 0) (s : Scenario) (world : World C M) (notes : List Note)
     (old : Stands reading stands s world notes) (device : DeviceId) (after : M) (bodies : List NoteBody) (machines : List M) (settled : List Happening)
     (sent : Compressed) (heard : Ripe) → KeepsBy heard → (a : Acts reading stands s world notes old device after bodies)
-    → HasActed stands s.network device (moment_of s device world.now) (acts.Emit sent heard) a.machine after
-    → IsSet device.0 after world.machines machines
+    → HasActed stands s.network device (moment_of s device world.now) (acts.Emit sent heard) a.machine after → IsSet device.0 after world.machines machines
     → ArePutIn s.network (happenings s.network notes) world.now (kinds.Compressed device sent.opened sent.at sent.cycle sent.members (judged_as heard)
     ∷ joining_bodies device heard) world.settled settled → IsOneAct reading stands s world notes old device a.machine after machines settled
 emits_one reading stands s world notes old device after bodies machines settled sent heard keeps a acted set put =

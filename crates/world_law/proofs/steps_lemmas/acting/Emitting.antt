@@ -120,21 +120,18 @@ emits_on s hs front back new now device node after w sent work p x none due read
     }) ready
 
 one_compressed : (a b : Compressed) → a.opened ≡ b.opened → a.at ≡ b.at → a.cycle ≡ b.cycle → a.members ≡ b.members → a ≡ b
-one_compressed a b o t c m =
-    grind arith
+one_compressed a b o t c m = grind arith
 
 pub same_compressed : (device : DeviceId) (a b : Compressed) (v u : Judgement)
     → kinds.Compressed device a.opened a.at a.cycle a.members v ≡ kinds.Compressed device b.opened b.at b.cycle b.members u → a ≡ b
-same_compressed device a b v u e =
-    grind (arith, one_compressed)
+same_compressed device a b v u e = grind (arith, one_compressed)
 
 -- and the records tell what it has emitted
 pub emitted_recorded : (s : Scenario) (hs front back new : List Happening) (now : ℕ) (device : DeviceId) (node after : Node) (w : Happening) (sent : Compressed)
     (v : Judgement)
     → IsAtWork s hs (front ++ back) now device node → AreRecorded s (hs ++ (front ++ back)) (front ++ back) now device node → IsPutAs now front back new w
     → IsEmitted s.network device node after w sent → w.note.body ≡ kinds.Compressed device sent.opened sent.at sent.cycle sent.members v
-    → IsFirstTask s.network device node (pos (s.reading device now)) (emitting sent)
-    → AreRecorded s (hs ++ new) new now device after
+    → IsFirstTask s.network device node (pos (s.reading device now)) (emitting sent) → AreRecorded s (hs ++ new) new now device after
 emitted_recorded s hs front back new now device node after w sent v work r p x e first =
     let old = hs ++ (front ++ back) in
     let same = earlier_put s hs front back new now device node w work p in

@@ -97,8 +97,7 @@ pub two_go_by : {C M : Type 0} (reading : C → ℕ → ℕ) (stands : M → Net
     (old : Stands reading stands s world notes) (device : DeviceId) (machine after : M) (node : Node) (machines : List M) (settled : List Happening)
     (body : NoteBody) (state : State) (why : _) → Stage stands s (happenings s.network notes) old.coming old.mark old.cursor world.now device machine node
     → (q : IsShownPair s.network (happenings s.network notes) world.now body device state why old.coming settled)
-    → length notes + length old.coming + 2 < none_yet
-    → IsActPair s (happenings s.network notes) q.front q.back q.front2 q.back2 world.now device body state why
+    → length notes + length old.coming + 2 < none_yet → IsActPair s (happenings s.network notes) q.front q.back q.front2 q.back2 world.now device body state why
     → IsAllOfIt s (happenings s.network notes)
     (put_at (happenings s.network notes) q.front2 (record_of s.network (happenings s.network notes) q.front2 world.now
     (kinds.State device state (before_it (happenings s.network notes) q.front + 1) why)) q.back2) (act_place world.now device)

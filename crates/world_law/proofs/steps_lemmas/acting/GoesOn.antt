@@ -23,8 +23,7 @@ turning_plain device other = refl
 pub rest_alike : (s : Scenario) (device : DeviceId) (now : ℕ) (body other : NoteBody) → plain_body body ≡ plain_body other → IsAtRest s device now other
     → IsAtRest s device now body
 rest_alike s device now body other same (inl e) = inl (sym (moves_plain device body) ∙ ap (moves device) same ∙ moves_plain device other ∙ e)
-rest_alike s device now body other same (inr on) =
-    inr (sym (turning_plain device body) ∙ ap (is_turning device) same ∙ turning_plain device other ∙ on.0, on.1)
+rest_alike s device now body other same (inr on) = inr (sym (turning_plain device body) ∙ ap (is_turning device) same ∙ turning_plain device other ∙ on.0, on.1)
 
 -- ---- the record is put in
 
@@ -146,8 +145,7 @@ goes_on s hs front back new now device node after w work p left still done sent 
 -- ---- a deed is done
 
 pub does : (network : Network) (reading : ℕ → ℕ) (device : DeviceId) (node : Node) (changed t : ℕ) (moment : Moment) (deed : ClockTask)
-    → HasDoneFrom network reading device node changed t (t + 1) → changed ≤ t
-    → reading_for network node (doing deed) ≤ℤ pos (reading t)
+    → HasDoneFrom network reading device node changed t (t + 1) → changed ≤ t → reading_for network node (doing deed) ≤ℤ pos (reading t)
     → HasDoneFrom network reading device (called moment acting (with_done node deed)) changed t (t + 1)
 does network reading device node changed t moment deed has le due = record {
   undone = λ other u x from lt. has.undone other

@@ -21,16 +21,13 @@ numbered_some hs (suc n) h e = omega arith
 
 -- what is stored of it is of the last taking
 stored_of : (hs : List Happening) (stored : List Stored) (device : DeviceId) (vl : VlId) (taking : Happening) (e : Stored) → AreStored hs stored
-    → last_taking hs device vl ≡ Some taking → IsIn e stored → e.device ≡ device → e.vl ≡ vl
-    → (e.number ≡ taking.note.number) × (e.octets ≡ taking.octets)
-stored_of hs stored device vl taking e are last there of_device of_vl =
-    grind arith
+    → last_taking hs device vl ≡ Some taking → IsIn e stored → e.device ≡ device → e.vl ≡ vl → (e.number ≡ taking.note.number) × (e.octets ≡ taking.octets)
+stored_of hs stored device vl taking e are last there of_device of_vl = grind arith
 
 -- a switch that has to dispatch a row of which it is not the sender holds its frame
 pub held_frame : {M : Type 0} (stands : M → Network → DeviceId → Node → Type 0) (s : Scenario) (hs coming : List Happening) (mark cursor : List ℕ) (now : ℕ)
     (device : DeviceId) (machine : M) (node : Node) (row : RowId) (cycle : ℕ) (stored : List Stored)
-    → Stage stands s hs coming mark cursor now device machine node → AreStored hs stored
-    → (p : IsPending s.network device node (doing (dispatching row cycle)))
+    → Stage stands s hs coming mark cursor now device machine node → AreStored hs stored → (p : IsPending s.network device node (doing (dispatching row cycle)))
     → reading_for s.network node (doing (dispatching row cycle)) ≤ℤ pos (s.reading device now)
     → (p.1.own.1.entry.vl.sender ≡ device → ⊥) → IsHeldFrame s hs stored now device p.1.own.1.entry cycle
 held_frame stands s hs coming mark cursor now device machine node row cycle stored st are p due other =
@@ -51,8 +48,7 @@ held_frame stands s hs coming mark cursor now device machine node row cycle stor
         let entry = p.1.own.1.entry in
         let vl = entry.row.vl in
         let accepted : Happening → Bool = λ h. is_accepted device vl h.note.body in
-        let same : earlier now (hs ++ coming) ≡ earlier now hs =
-        earlier_still now hs coming (λ z i. let at = (st.work.of_now z i).0 in omega (arith, at)) in
+        let same : earlier now (hs ++ coming) ≡ earlier now hs = earlier_still now hs coming (λ z i. let at = (st.work.of_now z i).0 in omega (arith, at)) in
         let taken = took.1.taken in
         let last : last_accepted hs device vl now ≡ Some taken =
         subst (λ (w : List Happening). last_or None (filter accepted w) ≡ Some taken) same took.1.last in

@@ -122,8 +122,7 @@ joined_frame s hs coming new front back now device node sent w y c v work r j be
             | inr b ↦ absurd (none w b above)
           ] in
           let split = parted w front inside in
-          let gone : points_of (hs ++ front) device ≡ [] =
-          ap (λ (l : List Happening). points_of (hs ++ l) device) split.2
+          let gone : points_of (hs ++ front) device ≡ [] = ap (λ (l : List Happening). points_of (hs ++ l) device) split.2
           ∙ ap (λ (l : List Happening). points_of l device) (sym (append_assoc hs split.0 (w ∷ split.1)) ∙ sym (append_assoc (hs ++ split.0) (w ∷ []) split.1))
           ∙ points_gone device (hs ++ split.0) split.1 w j.ends (λ z i.
           (j.of_now z (subst (λ (l : List Happening). IsIn z l) (sym parts) (in_left z front back

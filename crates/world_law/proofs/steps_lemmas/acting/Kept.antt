@@ -14,8 +14,7 @@ use Rattle.run_law.specs.declared.steps.Act.TheVariants as acts
 
 pub may_act_now : (s : Scenario) (device : DeviceId) (node : Node) (now : ℕ) → IsReadyAt (s.reading device) s.network device node now
     → IsSteady (s.reading device) (amount s.network.precision) → now ≤ 2 ^ 60 → MayCall s.network device node (moment_of s device now) acting
-may_act_now s device node now ready steady limit =
-    grind (arith, whole, amount, ints, acting_last, reading_for)
+may_act_now s device node now ready steady limit = grind (arith, whole, amount, ints, acting_last, reading_for)
 
 pub ready_after : (s : Scenario) (device : DeviceId) (node new : Node) (now : ℕ) (act : Act) → IsReadyAt (s.reading device) s.network device node now
     → IsSteady (s.reading device) (amount s.network.precision) → pos 0 ≤ℤ s.network.precision.0 → s.network.precision.0 ≤ℤ pos (amount s.network.cycle)
@@ -79,11 +78,9 @@ none_kept false xs e = refl
 -- it is so after an act too
 pub bare_act : (network : Network) (device : DeviceId) (node : Node) (moment : Moment) (act : Act) (new : Node) → IsActOf network device node moment act new
     → IsBare network device node → IsBare network device new
-bare_act network device node moment (acts.Send frame) new is bare =
-    subst (IsBare network device) (sym is.3) bare
+bare_act network device node moment (acts.Send frame) new is bare = subst (IsBare network device) (sym is.3) bare
 bare_act network device node moment (acts.Emit sent heard) new is bare = λ other. absurd (both_ways (is_cm network device) other is.0.pending.1.cm)
-bare_act network device node moment (acts.Correct cycle (Corrected by)) new is bare =
-    grind (arith, none_kept, is_synchronised)
+bare_act network device node moment (acts.Correct cycle (Corrected by)) new is bare = grind (arith, none_kept, is_synchronised)
 bare_act network device node moment (acts.Correct cycle SyncClique) new is bare = subst (IsBare network device) (sym is.1.2) (λ other. (refl, refl))
 bare_act network device node moment (acts.Correct cycle AsyncClique) new is bare = subst (IsBare network device) (sym is.1.2) (λ other. (refl, refl))
 bare_act network device node moment (acts.Correct cycle Cleared) new is bare = subst (IsBare network device) (sym is.1.2) bare
@@ -130,7 +127,6 @@ pub kept_over : {M : Type 0} (stands : M → Network → DeviceId → Node → T
     (machine : M) (after : Node) → stands machine s.network device after → is_broken s device now ≡ false → IsOver s (hs ++ new) now device after
     → IsReadyAt (s.reading device) s.network device after now → HasCleared after → after.taken ≡ frames_taken s (hs ++ new) device
     → IsBare s.network device after → (is_turned_on_at s device now ≡ true → HasTurnedOn s hs new (behind (act_place now device)) device now)
-    → after.phase ≡ acting
-    → IsKept stands s hs new (behind (act_place now device)) now device machine
+    → after.phase ≡ acting → IsKept stands s hs new (behind (act_place now device)) now device machine
 kept_over stands s hs new now device machine after is sound over ready cleared taken bare turned phase =
     grind (arith, acted, chain, act_place, behind, before_behind, no_step)

@@ -50,8 +50,7 @@ changed_by device w h it =
 -- and nothing has been heard since
 pub heard_anew : (s : Scenario) (hs : List Happening) (device : DeviceId) (u : ℕ) (h : Happening) → time_of h < u → changes_adjustment device h.note.body ≡ true
     → heard_since s (hs ++ h ∷ []) device u ≡ []
-heard_anew s hs device u h lt it =
-    grind (arith, nat_lt, time_of, changes_adjustment, lt-ltb, earlier, behind_yes)
+heard_anew s hs device u h lt it = grind (arith, nat_lt, time_of, changes_adjustment, lt-ltb, earlier, behind_yes)
 
 -- ---- a correction
 
@@ -70,8 +69,7 @@ state_corrected s device w h cycle by adjustment e =
 
 adjustment_corrected : (s : Scenario) (device : DeviceId) (w : List Happening) (h : Happening) (cycle : ℕ) (by adjustment : Units)
     → h.note.body ≡ notes.Corrected device cycle by adjustment → adjustment_after s (w ++ h ∷ []) device ≡ adjustment
-adjustment_corrected s device w h cycle by adjustment e =
-    grind (arith, fold_more, adjustment_with, cycle_in, adjustment_after, self)
+adjustment_corrected s device w h cycle by adjustment e = grind (arith, fold_more, adjustment_with, cycle_in, adjustment_after, self)
 
 integration_corrected : (device : DeviceId) (w : List Happening) (h : Happening) (cycle : ℕ) (by adjustment : Units)
     → h.note.body ≡ notes.Corrected device cycle by adjustment → integration_cycle (w ++ h ∷ []) device ≡ integration_cycle w device
@@ -81,8 +79,7 @@ integration_corrected device w h cycle by adjustment e =
 
 cycle_corrected : (device : DeviceId) (w : List Happening) (h : Happening) (cycle : ℕ) (by adjustment : Units)
     → h.note.body ≡ notes.Corrected device cycle by adjustment → recorded_cycle (w ++ h ∷ []) device ≡ cycle + 1
-cycle_corrected device w h cycle by adjustment e =
-    grind (arith, fold_more, cycle_after, recorded_cycle, self)
+cycle_corrected device w h cycle by adjustment e = grind (arith, fold_more, cycle_after, recorded_cycle, self)
 
 change_corrected : (device : DeviceId) (h : Happening) (cycle : ℕ) (by adjustment : Units) → h.note.body ≡ notes.Corrected device cycle by adjustment
     → changes_adjustment device h.note.body ≡ true
@@ -124,11 +121,9 @@ corrected_counts s hs device u node h cycle by adjustment moment heard so left =
       adjustment = same_units _ adjustment so.sum ∙ sym adjusted ∙ ap (λ (l : List Happening). adjustment_after s l device) (sym more);
       integrated = left.integrated ∙ sym integration ∙ ap (λ (l : List Happening). integration_cycle l device) (sym more);
       number = λ timed. ap (λ (n : ℕ). n + 1) so.number ∙ sym next ∙ ap (λ (l : List Happening). next_in s device l u) (sym more);
-      changed =
-          grind (arith, time_of, local, local_in, more);
+      changed = grind (arith, time_of, local, local_in, more);
       heard = λ timed. sym (heard_anew s hs device u h so.before changes);
-      started =
-          grind (arith, integration_cycle, recorded_cycle, more, w, recorded, integration, started_on, least);
+      started = grind (arith, integration_cycle, recorded_cycle, more, w, recorded, integration, started_on, least);
       broken = left.broken;
     }
 
@@ -157,8 +152,7 @@ corrects s hs device u node h cycle by adjustment moment heard so synchronised o
 
 state_changed : (s : Scenario) (device : DeviceId) (w : List Happening) (h : Happening) (state : State) (cause : ℕ) (why : Why)
     → h.note.body ≡ notes.State device state cause why → state_after s (w ++ h ∷ []) device ≡ state
-state_changed s device w h state cause why e =
-    grind (arith, fold_more, state_with, state_after, self)
+state_changed s device w h state cause why e = grind (arith, fold_more, state_with, state_after, self)
 
 -- a record that changes none of what the others tell
 record TellsNoMore (s : Scenario) (device : DeviceId) (w : List Happening) (h : Happening) : Type 0 where
@@ -181,8 +175,7 @@ heard_none_by s device kept h false none = ap (filter_map (λ g. hearing_by s.ne
 -- a record by which the device hears nothing
 heard_none : (s : Scenario) (device : DeviceId) (w since : List Happening) (u : ℕ) (h : Happening) → hearing_by s.network device h h.note.body ≡ None
     → heard_in s device w u (since ++ h ∷ []) ≡ heard_in s device w u since
-heard_none s device w since u h none =
-    grind (arith, filter_map, hearing_by, filter-append, not, cleared_in, time_of, heard_none_by, filter)
+heard_none s device w since u h none = grind (arith, filter_map, hearing_by, filter-append, not, cleared_in, time_of, heard_none_by, filter)
 
 -- all but its state and its points is told by the other records
 pub change_counts : (s : Scenario) (hs : List Happening) (device : DeviceId) (u : ℕ) (node : Node) (h : Happening) (state : State) (cause : ℕ) (why : Why)
@@ -198,8 +191,7 @@ change_counts s hs device u node h state cause why e lt left =
     ∙ ap (λ (b : NoteBody). if is_joined_by device b then Some (cycle_in h) else integration_cycle w device) e in
     let recorded : recorded_cycle (w ++ h ∷ []) device ≡ recorded_cycle w device =
     fold_more (λ next g. cycle_after device next g g.note.body) 1 w h ∙ ap (cycle_after device (recorded_cycle w device) h) e in
-    let changed : change_in device (w ++ h ∷ []) ≡ change_in device w =
-    ap (λ (l : List Happening). option_map_or time_of (last_or None l) 0)
+    let changed : change_in device (w ++ h ∷ []) ≡ change_in device w = ap (λ (l : List Happening). option_map_or time_of (last_or None l) 0)
     (filter_no (λ g. changes_adjustment device g.note.body) w h (ap (changes_adjustment device) e)) in
     let told = told_by s device w h integration recorded changed adjusted in
     let late : (nat_lt (time_of h) u && changes_adjustment device h.note.body) ≡ false = and_right _ _ (ap (changes_adjustment device) e) in
@@ -216,8 +208,7 @@ change_counts s hs device u node h state cause why e lt left =
           ∙ sym (heard_none s device (earlier u (hs ++ h ∷ [])) (since_at device u hs) u h (ap (hearing_by s.network device h) e))
           ∙ sym (ap (heard_in s device (earlier u (hs ++ h ∷ [])) u) (behind_no (λ g. nat_lt (time_of g) u && changes_adjustment device g.note.body) hs h
           late));
-      started =
-          grind (arith, integration_cycle, recorded_cycle, more, w, recorded, integration);
+      started = grind (arith, integration_cycle, recorded_cycle, more, w, recorded, integration);
       broken = left.broken;
     }
 
@@ -244,11 +235,9 @@ joiner_corrects s hs device u node h g cycle cause by adjustment moment heard so
 
 -- a clique verdict changes no part that counts in the state that it leads to
 clique_counts : (s : Scenario) (hs : List Happening) (device : DeviceId) (u : ℕ) (node : Node) (heard : Summary) (verdict : Verdict)
-    → state_by node.standing.state verdict ≡ Integrating
-    → adjustment_by node.standing.adjustment verdict ≡ node.standing.adjustment → IsBase s hs device u node
+    → state_by node.standing.state verdict ≡ Integrating → adjustment_by node.standing.adjustment verdict ≡ node.standing.adjustment → IsBase s hs device u node
     → IsCounted s hs device u (with_clique node heard verdict)
-clique_counts s hs device u node heard verdict lost same left =
-    grind (arith, is_timed, state_by, both_ways)
+clique_counts s hs device u node heard verdict lost same left = grind (arith, is_timed, state_by, both_ways)
 
 -- a device that found itself outside the others stands as the record of its state leaves it
 pub cliques : (s : Scenario) (hs : List Happening) (device : DeviceId) (u : ℕ) (node : Node) (h : Happening) (cause : ℕ) (why : Why) (heard : Summary)
@@ -287,14 +276,12 @@ joins s hs device u node h opened cycle members point frame moment so off plan s
     let integration : integration_cycle (w ++ h ∷ []) device ≡ Some (cycle_in h) =
     fold_more (λ last g. if is_joined_by device g.note.body then Some (cycle_in g) else last) None w h
     ∙ ap (λ (b : Bool). if b then Some (cycle_in h) else integration_cycle w device) joined in
-    let recorded : recorded_cycle (w ++ h ∷ []) device ≡ cycle_in h =
-    grind (arith, fold_more, cycle_after, w, recorded_cycle, e, cycle_in, self) in
+    let recorded : recorded_cycle (w ++ h ∷ []) device ≡ cycle_in h = grind (arith, fold_more, cycle_after, w, recorded_cycle, e, cycle_in, self) in
     let at : u - 1 ≡ time_of h = omega (arith, so.before) in
     let local : local_in s device (w ++ h ∷ []) ≡ (pos (s.reading device (time_of h)) +ℤ (adjustment_after s (w ++ h ∷ []) device).0) =
     ap (λ (n : ℕ). pos (s.reading device n) +ℤ (adjustment_after s (w ++ h ∷ []) device).0) (changed_by device w h changes) in
     let v = correction_value s.network (recorded_cycle (w ++ h ∷ []) device) in
-    let none : cleared_in s device (w ++ h ∷ []) u ≡ false =
-    and_right (is_integration_cycle (w ++ h ∷ []) device) _
+    let none : cleared_in s device (w ++ h ∷ []) u ≡ false = and_right (is_integration_cycle (w ++ h ∷ []) device) _
     (ap (λ (z : ℤ). int_lt z v && int_le v (pos (s.reading device (u - 1)) +ℤ (adjustment_after s (w ++ h ∷ []) device).0)) local
     ∙ ap (λ (n : ℕ). int_lt (pos (s.reading device (time_of h)) +ℤ (adjustment_after s (w ++ h ∷ []) device).0) v
     && int_le v (pos (s.reading device n) +ℤ (adjustment_after s (w ++ h ∷ []) device).0)) at
@@ -308,15 +295,12 @@ joins s hs device u node h opened cycle members point frame moment so off plan s
         adjustment = sym own ∙ sym adjusted ∙ ap (λ (l : List Happening). adjustment_after s l device) (sym more);
         integrated = sym (ap (λ (n : ℕ). Some n) of_cycle) ∙ sym integration ∙ ap (λ (l : List Happening). integration_cycle l device) (sym more);
         number = grind (arith, of_cycle, recorded, recorded_cycle, w, none, next_in, more);
-        changed =
-            grind (arith, time_of, own, adjusted, local, local_in, more);
+        changed = grind (arith, time_of, own, adjusted, local, local_in, more);
         heard = λ timed. sym (heard_anew s hs device u h lt changes);
-        started =
-            grind (arith, integration_cycle, recorded_cycle, more, w, recorded, cycle_in, integration);
+        started = grind (arith, integration_cycle, recorded_cycle, more, w, recorded, cycle_in, integration);
         broken = sound;
       };
-      state =
-          grind (arith, fold_more, state_with, w, state_after, e, self, more, not_turned_on);
+      state = grind (arith, fold_more, state_with, w, state_after, e, self, more, not_turned_on);
       points =
           λ cm. sym (ap (filter_map (λ g. point_by device g g.note.body))
           (behind_yes (λ g. ends_stretch device g.note.body) hs h (ap (ends_stretch device) e ∙ self device)));

@@ -52,8 +52,7 @@ shown_act reading stands s world notes old device machine after machines settled
 -- it acts, and the cursor stays
 pub act_stays : {C M : Type 0} (reading : C → ℕ → ℕ) (stands : M → Network → DeviceId → Node → Type 0) (s : Scenario) (world : World C M) (notes : List Note)
     (old : Stands reading stands s world notes) (device : DeviceId) (machine after : M) (machines : List M) (settled : List Happening)
-    → IsOneAct reading stands s world notes old device machine after machines settled
-    → IsDueNow stands s.network device (moment_of s device world.now) after
+    → IsOneAct reading stands s world notes old device machine after machines settled → IsDueNow stands s.network device (moment_of s device world.now) after
     → StandsBehind reading stands s (record world { early = false; machines = machines; settled = settled }) notes (act_place world.now device)
 act_stays reading stands s world notes old device machine after machines settled x due =
     let hs = happenings s.network notes in

@@ -43,8 +43,7 @@ not_on s hs coming now device node w timed = grind (arith, cases_Bool, is_turned
 
 -- no row is dispatched at the instant
 pub none_at_point : (s : Scenario) (hs coming : List Happening) (now : ℕ) (device : DeviceId) (node : Node) (cycle : ℕ) → IsInRange s.network
-    → KeepsRules s.network
-    → IsSteady (s.reading device) (amount s.network.precision) → IsAtWork s hs coming now device node
+    → KeepsRules s.network → IsSteady (s.reading device) (amount s.network.precision) → IsAtWork s hs coming now device node
     → IsPending s.network device node (doing (correcting cycle)) → reading_for s.network node (doing (correcting cycle)) ≤ℤ pos (s.reading device now)
     → NoneDispatched s hs now device
 none_at_point s hs coming now device node cycle range rules steady w pending due other also link cause vl n d =
@@ -72,8 +71,7 @@ heard_before s hs front back now device node w work at late none =
 
 corrected_at : (t u m d : ℕ) (body : NoteBody) → t ∷ 6 ∷ d ∷ [] ≡ u ∷ rank body ∷ key m body → (device : DeviceId) → d ≡ device.0
     → (moves device body ≡ true) × (is_turning device body ≡ false)
-corrected_at t u m d (kinds.Corrected other n by adjustment) e device is =
-    (let a : d ≡ other.0 = cc in eq-eqb device.0 other.0 (sym is ∙ a), refl)
+corrected_at t u m d (kinds.Corrected other n by adjustment) e device is = (let a : d ≡ other.0 = cc in eq-eqb device.0 other.0 (sym is ∙ a), refl)
 corrected_at t u m d (kinds.Event line what) e device is = absurd (let bad : ◌≡◌ {A = ℕ} 6 1 = cc in omega (arith, bad))
 corrected_at t u m d (kinds.Arrived other link cause clock) e device is = absurd (let bad : ◌≡◌ {A = ℕ} 6 2 = cc in omega (arith, bad))
 corrected_at t u m d (kinds.Permanent other link cause point verdict) e device is = absurd (let bad : ◌≡◌ {A = ℕ} 6 3 = cc in omega (arith, bad))
@@ -114,8 +112,7 @@ not_moved s device now body off (inr on) e = let bad : false ≡ true = sym off 
 pub aside_of : (s : Scenario) (hs front back : List Happening) (now : ℕ) (device : DeviceId) (node : Node) (w : Happening)
     → IsAtWork s hs (front ++ back) now device node → time_of w ≡ now → 5 ≤ rank w.note.body → NoneBefore place_of back (place_of w)
     → (y : Happening) → IsIn y back → Rattle.world_law.proofs.putting.Near.hears device y.note.body ≡ true → ⊥
-aside_of s hs front back now device node w work at late none y i e =
-    grind (arith, in_right, no_less, time_of, rank, key, members_in, nothing_aside)
+aside_of s hs front back now device node w work at late none y i e = grind (arith, in_right, no_less, time_of, rank, key, members_in, nothing_aside)
 
 -- ---- the records
 

@@ -29,8 +29,7 @@ nothing_aside s device now other late rest e = let bad : false ≡ true = e in c
 -- what stands where the record of a sending does, is one
 sent_at : (t u m d cycle : ℕ) (body : NoteBody) → t ∷ 5 ∷ d ∷ cycle ∷ [] ≡ u ∷ rank body ∷ key m body → (other : DeviceId) × (other.0 ≡ d)
     × (body ≡ kinds.Sent other cycle)
-sent_at t u m d cycle (kinds.Sent other n) e =
-    grind arith
+sent_at t u m d cycle (kinds.Sent other n) e = grind arith
 sent_at t u m d cycle (kinds.Event line what) e = absurd (let bad : ◌≡◌ {A = ℕ} 5 1 = cc in omega (arith, bad))
 sent_at t u m d cycle (kinds.Arrived other link cause clock) e = absurd (let bad : ◌≡◌ {A = ℕ} 5 2 = cc in omega (arith, bad))
 sent_at t u m d cycle (kinds.Permanent other link cause point verdict) e = absurd (let bad : ◌≡◌ {A = ℕ} 5 3 = cc in omega (arith, bad))
@@ -143,8 +142,7 @@ has_sent_it stands s hs front back mark cursor now device machine then_ node aft
 -- the room for the record
 pub room_for : {C M : Type 0} (reading : C → ℕ → ℕ) (stands : M → Network → DeviceId → Node → Type 0) (s : Scenario) (world : World C M) (notes : List Note)
     (old : Stands reading stands s world notes) (w : List ℕ) → ComesFirst reading stands s world notes old w → length notes + length old.coming + 2 < none_yet
-room_for reading stands s world notes old w first =
-    grind (arith, length, length-map, hidden)
+room_for reading stands s world notes old w first = grind (arith, length, length-map, hidden)
 
 pub calm_then : {M : Type 0} (stands : M → Network → DeviceId → Node → Type 0) (s : Scenario) (hs front back : List Happening) (mark cursor then_ : List ℕ)
     (now : ℕ) (device : DeviceId) (machine : M) (node : Node) (new : List Happening) → Stage stands s hs (front ++ back) mark cursor now device machine node

@@ -178,10 +178,8 @@ pub one_stays : {C M : Type 0} (reading : C → ℕ → ℕ) (stands : M → Net
     (body : NoteBody) → Stage stands s (happenings s.network notes) old.coming old.mark old.cursor world.now device machine node
     → (p : IsShownPut s.network (happenings s.network notes) world.now body old.coming settled) → settled ≡ map (hidden (length notes)) (put_at
     (happenings s.network notes) p.front (record_of s.network (happenings s.network notes) p.front world.now body) p.back)
-    → length notes + length old.coming + 1 < none_yet
-    → IsActRecord s (happenings s.network notes) p.front p.back world.now device body
-    → IsSet device.0 after world.machines machines
-    → IsKept stands s (happenings s.network notes) (put_at (happenings s.network notes) p.front
+    → length notes + length old.coming + 1 < none_yet → IsActRecord s (happenings s.network notes) p.front p.back world.now device body
+    → IsSet device.0 after world.machines machines → IsKept stands s (happenings s.network notes) (put_at (happenings s.network notes) p.front
     (record_of s.network (happenings s.network notes) p.front world.now body) p.back) (act_place world.now device) world.now device after
     → StandsBehind reading stands s (record world { early = false; machines = machines; settled = settled }) notes (act_place world.now device)
 one_stays {C} {M} reading stands s world notes old device machine after node machines settled body st p shows room a set kept =
@@ -222,12 +220,10 @@ pub one_goes_by : {C M : Type 0} (reading : C → ℕ → ℕ) (stands : M → N
     (body : NoteBody) → Stage stands s (happenings s.network notes) old.coming old.mark old.cursor world.now device machine node
     → (p : IsShownPut s.network (happenings s.network notes) world.now body old.coming settled) → settled ≡ map (hidden (length notes)) (put_at
     (happenings s.network notes) p.front (record_of s.network (happenings s.network notes) p.front world.now body) p.back)
-    → length notes + length old.coming + 1 < none_yet
-    → IsActRecord s (happenings s.network notes) p.front p.back world.now device body
+    → length notes + length old.coming + 1 < none_yet → IsActRecord s (happenings s.network notes) p.front p.back world.now device body
     → IsAllOfIt s (happenings s.network notes) (put_at (happenings s.network notes) p.front
     (record_of s.network (happenings s.network notes) p.front world.now body) p.back) (act_place world.now device)
-    → IsSet device.0 after world.machines machines
-    → IsKept stands s (happenings s.network notes) (put_at (happenings s.network notes) p.front
+    → IsSet device.0 after world.machines machines → IsKept stands s (happenings s.network notes) (put_at (happenings s.network notes) p.front
     (record_of s.network (happenings s.network notes) p.front world.now body) p.back) (behind (act_place world.now device)) world.now device after
     → StandsBehind reading stands s (record world { early = false; machines = machines; settled = settled }) notes (behind (act_place world.now device))
 one_goes_by {C} {M} reading stands s world notes old device machine after node machines settled body st p shows room a all set kept =

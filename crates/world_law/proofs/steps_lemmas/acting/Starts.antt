@@ -42,8 +42,7 @@ plain_compressed device c verdict body e = e
 pub none_of_it : (s : Scenario) (hs coming : List Happening) (mark cursor : List ℕ) (now : ℕ) (device : DeviceId) → AreSettled s hs coming mark cursor now
     → (IsBefore (act_place now device) cursor → ⊥) → (act_place now device ≡ cursor → ⊥) → (z : Happening) → IsIn z coming → (body : NoteBody)
     → z.note.body ≡ body → ((hs : List Happening) (t members : ℕ) (w : List ℕ) → IsOwnSource s hs t members body w → w ≡ t ∷ 4 ∷ device.0 ∷ []) → ⊥
-none_of_it s hs coming mark cursor now device are waits not_at z i body e source =
-    grind (arith, parted, time_of, members_in, act_place)
+none_of_it s hs coming mark cursor now device are waits not_at z i body e source = grind (arith, parted, time_of, members_in, act_place)
 
 -- ---- it is at work
 
@@ -59,10 +58,7 @@ at_work stands s hs coming cursor now device machine k of past late up =
     subst (λ (n : ℕ). HasDoneFrom s.network (s.reading device) device k.node (changed_at js device n) n k.high) up k.done in
     record {
       left = subst (λ (n : ℕ). IsLeft s js device n k.node) up k.left;
-      done = record {
-        undone = done.undone;
-        done = λ deed there. let x = done.done deed there in (x.0, x.1, omega (arith, x.2, few), x.3);
-      };
+      done = record { undone = done.undone; done = λ deed there. let x = done.done deed there in (x.0, x.1, omega (arith, x.2, few), x.3) };
       sent = record {
         unsent = λ c w x lt. k.sent.unsent c w x (omega (arith, lt, up));
         sent = λ c there. let x = k.sent.sent c there in (x.0, omega (arith, x.1, few), x.2);

@@ -109,8 +109,7 @@ left_now s hs gs device now node new same but heard points left =
 -- the points are the same with one more record between those of the instant
 pub points_put : (s : Scenario) (hs front back : List Happening) (now : ℕ) (device : DeviceId) (w : Happening)
     → ((z : Happening) → IsIn z (front ++ back) → IsAtRest s device now z.note.body × (4 ≤ rank z.note.body)) → IsQuiet device w.note.body
-    → 4 ≤ rank w.note.body
-    → points_of (hs ++ (front ++ back)) device ≡ points_of (hs ++ (front ++ w ∷ back)) device
+    → 4 ≤ rank w.note.body → points_of (hs ++ (front ++ back)) device ≡ points_of (hs ++ (front ++ w ∷ back)) device
 points_put s hs front back now device w rest quiet late =
     points_same (front ++ back) hs device (λ z i. let x = rest z i in (quiet_rest s device now z.note.body x.0, x.1))
     ∙ sym (points_same (front ++ w ∷ back) hs device (λ z i. elim (in_parts z front (w ∷ back) i) [

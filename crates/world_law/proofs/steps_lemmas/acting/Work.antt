@@ -75,13 +75,11 @@ sends s hs coming other now device node cycle w also pending due =
 
 pub same_standing : (s : Scenario) (hs : List Happening) (device : DeviceId) (t : ℕ) (node : Node) → IsLeft s hs device t node
     → is_timed node.standing.state ≡ true → node.standing ≡ standing_before s hs device t
-same_standing s hs device t node left is =
-    grind (arith, plan_of, state_before, adjustment_before)
+same_standing s hs device t node left is = grind (arith, plan_of, state_before, adjustment_before)
 
 -- a device that has its correction point before it is at it
 pub at_correction : (s : Scenario) (hs coming other : List Happening) (now : ℕ) (device : DeviceId) (node : Node) (cycle : ℕ)
-    → IsAtWork s hs coming now device node
-    → ((z : Happening) → IsIn z other → time_of z ≡ now) → IsPending s.network device node (doing (correcting cycle))
+    → IsAtWork s hs coming now device node → ((z : Happening) → IsIn z other → time_of z ≡ now) → IsPending s.network device node (doing (correcting cycle))
     → reading_for s.network node (doing (correcting cycle)) ≤ℤ pos (s.reading device now) → IsAtCorrection s (hs ++ other) now device cycle
 at_correction s hs coming other now device node cycle w also pending due =
     let same = all_earlier s hs coming other now (λ z i. (w.of_now z i).0) also in
@@ -123,10 +121,8 @@ none_any p (h ∷ js) all = ap (λ (b : Bool). b || list_any p js) (all h (inl r
 
 -- no frame tells the device the time at the instant
 pub none_joined : (js : List Happening) (device : DeviceId) (now : ℕ)
-    → ((h : Happening) → IsIn h js → time_of h ≡ now → is_joined_by device h.note.body ≡ false)
-    → has_joined_at js device now ≡ false
-none_joined js device now all =
-    grind (arith, none_any, time_of, is_joined_by, cases_lt, and_right)
+    → ((h : Happening) → IsIn h js → time_of h ≡ now → is_joined_by device h.note.body ≡ false) → has_joined_at js device now ≡ false
+none_joined js device now all = grind (arith, none_any, time_of, is_joined_by, cases_lt, and_right)
 
 -- then the device hears as it stands before the instant
 pub hears_state : (s : Scenario) (js : List Happening) (device : DeviceId) (now : ℕ)
@@ -137,8 +133,7 @@ hears_state s js device now all = ap (λ (b : Bool). if b then Joining else stat
 pub hears_adjustment : (s : Scenario) (js : List Happening) (device : DeviceId) (now : ℕ) → ((h : Happening) → IsIn h js → time_of h ≤ now)
     → ((h : Happening) → IsIn h js → time_of h ≡ now → is_joined_by device h.note.body ≡ false)
     → adjustment_at_hearing s js device now ≡ adjustment_before s js device now
-hears_adjustment s js device now past all =
-    grind (arith, adjustment_after, same_kept, nat_lt, time_of, is_joined_by, cases_lt, or_left, lt-ltb, or_none)
+hears_adjustment s js device now past all = grind (arith, adjustment_after, same_kept, nat_lt, time_of, is_joined_by, cases_lt, or_left, lt-ltb, or_none)
 
 -- how it hears a frame of its own
 abbrev pub own_judgement : Network → DeviceId → Node → Compressed → Judgement
@@ -169,16 +164,10 @@ emits s hs coming front back now device node sent w e pending due =
       cm = pending.1.cm;
       correct = w.sound;
       clusters = pending.1.clusters;
-      are =
-          subst (λ (ps : List Point). AreClusters (observation_window s.network) ps pending.1.clusters) (w.left.points pending.1.cm ∙ points) pending.1.are;
+      are = subst (λ (ps : List Point). AreClusters (observation_window s.network) ps pending.1.clusters) (w.left.points pending.1.cm ∙ points) pending.1.are;
       cluster = pending.1.cluster;
       there = pending.1.there;
       is = pending.1.is;
-      reached = record {
-        from_on = omega (arith, ints);
-        reached = due;
-        not_before = λ x from lt. w.sent.unsent sent pending.1 x (omega (arith, ints, lt));
-      };
-      heard =
-          grind (arith, heard_as, plan_of, observation_window, state, state_at_hearing, adjustment);
+      reached = record { from_on = omega (arith, ints); reached = due; not_before = λ x from lt. w.sent.unsent sent pending.1 x (omega (arith, ints, lt)) };
+      heard = grind (arith, heard_as, plan_of, observation_window, state, state_at_hearing, adjustment);
     }

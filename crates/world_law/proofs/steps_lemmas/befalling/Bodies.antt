@@ -89,8 +89,7 @@ all_bodies s hs now befell real b i =
 
 pub few_all : (s : Scenario) (now : ℕ) (befell : List Befell) → length (befell_bodies s now befell) ≤ length befell
 few_all s now [] = omega arith
-few_all s now (e ∷ befell) =
-    grind (arith, few_bodies, length-append, bodies_of, (few_all s now befell))
+few_all s now (e ∷ befell) = grind (arith, few_bodies, length-append, bodies_of, (few_all s now befell))
 
 -- the causes of the bodies rise
 abbrev pub AreRising : List NoteBody → Type 0

@@ -43,8 +43,7 @@ calm_joins device other e = absurd cc
 
 filtered_none : {X Y : Type 0} (f : X → Option Y) (k : X → Bool) (xs : List X) (x : X) → f x ≡ None
     → filter_map f (filter k (xs ++ x ∷ [])) ≡ filter_map f (filter k xs)
-filtered_none f k xs x e =
-    grind (arith, cases_Bool, filter_map, filter_yes, map_none, filter, filter_no)
+filtered_none f k xs x e = grind (arith, cases_Bool, filter_map, filter_yes, map_none, filter, filter_no)
 
 heard_calm : (s : Scenario) (hs : List Happening) (z : Happening) (device : DeviceId) (t : ℕ) → t ≤ time_of z → is_calm z.note.body ≡ true
     → heard_since s (hs ++ z ∷ []) device t ≡ heard_since s hs device t
@@ -62,8 +61,7 @@ heard_calm s hs z device t late calm =
     both_no false b e = refl
 
 points_calm : (hs : List Happening) (z : Happening) (device : DeviceId) → is_calm z.note.body ≡ true → points_of (hs ++ z ∷ []) device ≡ points_of hs device
-points_calm hs z device calm =
-    grind (arith, point_by, ends_stretch, filter_map, behind_no, calm_ends, map_none, after_last, calm_point)
+points_calm hs z device calm = grind (arith, point_by, ends_stretch, filter_map, behind_no, calm_ends, map_none, after_last, calm_point)
 
 -- what stood for the records before does so with such a record of the time, or of a later one
 left_calm : (s : Scenario) (hs : List Happening) (z : Happening) (device : DeviceId) (t : ℕ) (node : Node) → t ≤ time_of z → is_calm z.note.body ≡ true

@@ -44,8 +44,7 @@ rest_outcome s hs now device body founded (IsOutcome.turning d n line h sound it
 out_unmoved : (s : Scenario) (hs : List Happening) (now : ℕ) (device : DeviceId) (body : NoteBody) → is_broken s device now ≡ true → IsOutcome s hs now body
     → moves device body ≡ false
 out_unmoved s hs now device body broken (IsOutcome.losing d link n it) = refl
-out_unmoved s hs now device body broken (IsOutcome.turning d n line h sound it is) =
-    grind (arith, cases_Bool, is_broken, alike)
+out_unmoved s hs now device body broken (IsOutcome.turning d n line h sound it is) = grind (arith, cases_Bool, is_broken, alike)
 
 -- nor one that no event turns on
 off_unmoved : (s : Scenario) (hs : List Happening) (now : ℕ) (device : DeviceId) (body : NoteBody) → IsFounded place_of (IsDue s) hs

@@ -96,8 +96,7 @@ put_back w old new put z i =
     ]
 
 put_long : (w : Happening) (old new : List Happening) → IsPutIn w old new → length new ≡ length old + 1
-put_long w old new put =
-    grind (arith, length, length-append)
+put_long w old new put = grind (arith, length, length-append)
 
 -- ---- all are put in
 
@@ -116,8 +115,7 @@ filled_all s hs now (b ∷ bodies) old new filled out rising less (mid, put, lat
 pub all_old : (s : Scenario) (hs : List Happening) (now : ℕ) (bodies : List NoteBody) (old new : List Happening) → ArePutIn s.network hs now bodies old new
     → (z : Happening) → IsIn z old → IsIn z new
 all_old s hs now [] old new put z i = subst (λ (l : List Happening). IsIn z l) (sym put) i
-all_old s hs now (b ∷ bodies) old new (mid, put, later) z i =
-    all_old s hs now bodies mid new later z (put_old (settled_as s.network hs now b) old mid put z i)
+all_old s hs now (b ∷ bodies) old new (mid, put, later) z i = all_old s hs now bodies mid new later z (put_old (settled_as s.network hs now b) old mid put z i)
 
 pub all_new : (s : Scenario) (hs : List Happening) (now : ℕ) (bodies : List NoteBody) (old new : List Happening) → ArePutIn s.network hs now bodies old new
     → (b : NoteBody) → IsIn b bodies → IsIn (settled_as s.network hs now b) new
@@ -189,8 +187,7 @@ shown_body s hs now given body (IsOutcome.turning d n line h sound it is) long =
 shown_body s hs now given body (IsOutcome.losing d link n it) long = refl
 
 shown_one : (s : Scenario) (hs : List Happening) (now given k : ℕ) (z : Happening) → given ≡ length hs → IsOne s hs now z → hidden given (renumbered k z) ≡ z
-shown_one s hs now given k z long it =
-    grind (arith, hidden, settled_as, shown_body)
+shown_one s hs now given k z long it = grind (arith, hidden, settled_as, shown_body)
 
 pub shown_all : (s : Scenario) (hs : List Happening) (now given k : ℕ) (zs : List Happening) → given ≡ length hs
     → ((z : Happening) → IsIn z zs → IsOne s hs now z) → zs ≡ map (hidden given) (number_on k zs)

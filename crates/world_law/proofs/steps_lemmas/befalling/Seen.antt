@@ -46,24 +46,20 @@ abbrev launch_on : Scenario → LinkId → List ℕ → ℕ → Option Launch
 launch_on s link octets t = if is_cut s link Up t then None else Some (record { link = link; way = Up; signal = signal_of octets })
 
 sent_real : (s : Scenario) (now number : ℕ) (link : LinkId) (octets : List ℕ) (h : Happening) (e : OnWire) (cut : Bool) (o : Option Link) → time_of h ≡ now
-    → is_cut s link Up now ≡ cut → link_at s.network link ≡ o
-    → launched s h (time_of h) h.note.body ≡ launch_on s link octets (time_of h)
+    → is_cut s link Up now ≡ cut → link_at s.network link ≡ o → launched s h (time_of h) h.note.body ≡ launch_on s link octets (time_of h)
     → IsIn e (if cut then [] else option_map_or (λ (l : Link). sent_on s now number link octets l ∷ []) o [])
     → (e.cause ≡ number) × Arrives s h e.device e.link e.at e.signal
 sent_real s now number link octets h e true o at cut there put i = absurd i
 sent_real s now number link octets h e false None at cut there put i = absurd i
 sent_real s now number link octets h e false (Some l) at cut there put (inr none) = absurd none
-sent_real s now number link octets h e false (Some l) at cut there put (inl same) =
-    grind (arith, signal_of, is_cut, option_map, target_by)
+sent_real s now number link octets h e false (Some l) at cut there put (inl same) = grind (arith, signal_of, is_cut, option_map, target_by)
 
 sent_all : (s : Scenario) (now number : ℕ) (link : LinkId) (octets : List ℕ) (h : Happening) (cut : Bool) (o : Option Link) → time_of h ≡ now
-    → is_cut s link Up now ≡ cut → link_at s.network link ≡ o
-    → launched s h (time_of h) h.note.body ≡ launch_on s link octets (time_of h)
+    → is_cut s link Up now ≡ cut → link_at s.network link ≡ o → launched s h (time_of h) h.note.body ≡ launch_on s link octets (time_of h)
     → (device : DeviceId) (by : LinkId) (t : ℕ) (signal : Signal) → Arrives s h device by t signal
     → (e : OnWire) × IsIn e (if cut then [] else option_map_or (λ (l : Link). sent_on s now number link octets l ∷ []) o [])
     × (wire_place e ≡ t ∷ 2 ∷ device.0 ∷ by.0 ∷ number ∷ [])
-sent_all s now number link octets h true o at cut there put device by t signal a =
-    grind (arith, signal_of, is_cut)
+sent_all s now number link octets h true o at cut there put device by t signal a = grind (arith, signal_of, is_cut)
 sent_all s now number link octets h false o at cut there put device by t signal a =
     let here : Launch = record { link = link; way = Up; signal = signal_of octets } in
     let is : Some here ≡ Some (let y : Launch = record { link = by; way = a.way; signal = signal } in y) =
@@ -125,5 +121,4 @@ put_event s hs now number line what h old new it is with_it = record {
 pub put_in_more : (network : Network) (hs : List Happening) (now : ℕ) (bodies more : List NoteBody) (old mid new : List Happening)
     → ArePutIn network hs now bodies old mid → ArePutIn network hs now more mid new → ArePutIn network hs now (bodies ++ more) old new
 put_in_more network hs now [] more old mid new put then_ = subst (λ (l : List Happening). ArePutIn network hs now more l new) put then_
-put_in_more network hs now (b ∷ bodies) more old mid new (next, one, later) then_ =
-    (next, one, put_in_more network hs now bodies more next mid new later then_)
+put_in_more network hs now (b ∷ bodies) more old mid new (next, one, later) then_ = (next, one, put_in_more network hs now bodies more next mid new later then_)

@@ -73,8 +73,7 @@ pub record IsNumbered (s : Scenario) (hs : List Happening) (now : ℕ) (z : Happ
 
 pub in_coming : (s : Scenario) (hs : List Happening) (now k : ℕ) (settled : List Happening) → IsFilled s hs now settled → (z : Happening)
     → IsIn z (number_on k settled) → IsNumbered s hs now z
-in_coming s hs now k settled filled z i =
-    grind (arith, on_in)
+in_coming s hs now k settled filled z i = grind (arith, on_in)
 
 late_place : (s : Scenario) (hs : List Happening) (now : ℕ) (z : Happening) → IsNumbered s hs now z → (r : ℕ) × (more : List ℕ)
     × (place_of z ≡ now ∷ r ∷ more) × (7 ≤ r)
@@ -102,8 +101,7 @@ bodies_out s now number what b x sound i = subst (λ (y : Bool). IsIn b (if y th
 lost_out : (s : Scenario) (now n : ℕ) (device : DeviceId) (link : LinkId) (way : Link) (o : Option Link) → o ≡ Some way → device ≡ way.child
     → is_cut s link Up now ≡ true
     → IsIn (notes.Lost device link n) (option_map_or (λ (l : Link). if is_cut s link Up now then notes.Lost l.child link n ∷ [] else []) o [])
-lost_out s now n device link way o there by cut =
-    grind (arith, option_map_or, is_cut)
+lost_out s now n device link way o there by cut = grind (arith, option_map_or, is_cut)
 
 event_joins : (device : DeviceId) (body : NoteBody) → IsEventBody body → is_joined_by device body ≡ false
 event_joins device (notes.Event line what) is = refl
@@ -113,8 +111,7 @@ event_joins device other is = absurd is
 of_instant : (hs front : List Happening) (cursor : List ℕ) (now n : ℕ) (befell : List Befell) (h : Happening) → IsTelling hs cursor now befell
     → ((z : Happening) → IsIn z front → is_calm z.note.body ≡ true) → IsOfThisTime (hs ++ front) now n h
     → (IsOfThisTime hs now n h × IsEventBody h.note.body) ⊎ (is_calm h.note.body ≡ true)
-of_instant hs front cursor now n befell h m calm it =
-    grind (arith, numbered_parts, numbered_in)
+of_instant hs front cursor now n befell h m calm it = grind (arith, numbered_parts, numbered_in)
 
 -- one of the list stands there
 abbrev pub StandsThere : Scenario → List Happening → ℕ → List Happening → List ℕ → Type 0
@@ -179,8 +176,7 @@ came s hs front mark cursor now befell settled time ms other m calm at o c = abs
 
 event_past : (s : Scenario) (js : List Happening) (mark : List ℕ) (now : ℕ) (y : Happening) → HaveBefallen s mark now → IsEventBody y.note.body
     → IsCaused s js y.note.time y.note.body → IsBefore (place_of y) mark
-event_past s js mark now y befallen is caused =
-    grind (arith, event_cause, event_place, amount)
+event_past s js mark now y befallen is caused = grind (arith, event_cause, event_place, amount)
 
 only_none : (ws : List ℕ) → IsBefore ws (0 ∷ []) → ws ≡ []
 only_none [] b = refl
@@ -196,8 +192,7 @@ due_there s hs front mark cursor now befell settled y k ws m calm not due own (i
 due_there s hs front mark cursor now befell settled y k ws m calm not due own (inr (at, inl few)) =
     absurd (not (event_past s (hs ++ front) mark now y m.befallen
     (own_event s (hs ++ front) (time_of y) (members_in y) y.note.body k ws own few) due.cause))
-due_there s hs front mark cursor now befell settled y k ws m calm not due own (inr (at, inr (two, b))) =
-    grind (arith, came, members_in, time_of, only_none)
+due_there s hs front mark cursor now befell settled y k ws m calm not due own (inr (at, inr (two, b))) = grind (arith, came, members_in, time_of, only_none)
 
 -- ---- so they are settled
 

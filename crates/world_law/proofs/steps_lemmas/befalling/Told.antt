@@ -40,8 +40,7 @@ on_by_record s time line now device r at =
 -- where a device is turned on at the time, an event does so
 pub on_by_event : (s : Scenario) (device : DeviceId) (now : ℕ) → is_turned_on_at s device now ≡ true → (i : ℕ) × (e : Event) × (slice_get s.events i ≡ Some e)
     × (e.what ≡ events.On device) × (amount e.time ≡ now)
-on_by_event s device now on =
-    grind (arith, any_from, turns_on, amount, and_parts, on_by, eqb-true)
+on_by_event s device now on = grind (arith, any_from, turns_on, amount, and_parts, on_by, eqb-true)
 
 -- an event before the mark has its record
 pub recorded : (s : Scenario) (mark : List ℕ) (hs : List Happening) (i : ℕ) (e : Event) → IsRun place_of (IsDue s) mark hs → slice_get s.events i ≡ Some e

@@ -16,8 +16,7 @@ pub record IsTelling (hs : List Happening) (cursor : List ℕ) (now : ℕ) (befe
 -- the cursor goes on
 pub goes_on : (hs : List Happening) (cursor : List ℕ) (now : ℕ) (befell : List Befell) → IsTelling hs cursor now befell → (p : List ℕ) → IsBefore p cursor
     → IsBefore p (behind (now ∷ 2 ∷ []))
-goes_on hs cursor now befell m p b =
-    chain p (now ∷ 2 ∷ []) (behind (now ∷ 2 ∷ [])) (m.untold.early refl p b) (before_behind (now ∷ 2 ∷ []))
+goes_on hs cursor now befell m p b = chain p (now ∷ 2 ∷ []) (behind (now ∷ 2 ∷ [])) (m.untold.early refl p b) (before_behind (now ∷ 2 ∷ []))
 
 -- what is of rank 2 or more, and no such place, it goes by only where it is of an earlier time
 pub earlier_only : (t k w now : ℕ) (ws : List ℕ) → 2 ≤ k → IsBefore (t ∷ k ∷ w ∷ ws) (behind (now ∷ 2 ∷ [])) → t < now

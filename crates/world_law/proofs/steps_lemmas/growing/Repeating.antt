@@ -42,8 +42,7 @@ not_behind now more (inr (e, inr (f, b))) = b
 -- a device that is ready may act
 pub may_act_now : (s : Scenario) (now : ℕ) (device : DeviceId) (node : Node) → IsReadyAt (s.reading device) s.network device node now
     → IsSteady (s.reading device) (amount s.network.precision) → now ≤ 2 ^ 60 → MayCall s.network device node (moment_of s device now) acting
-may_act_now s now device node ready steady limit =
-    grind (arith, may_call, acting, cases_lt, rank_of_call, chain, up_to_acting, not_behind)
+may_act_now s now device node ready steady limit = grind (arith, may_call, acting, cases_lt, rank_of_call, chain, up_to_acting, not_behind)
 
 pub acts_are_bounded : {C M : Type 0} (reading : C → ℕ → ℕ) (stands : M → Network → DeviceId → Node → Type 0) → ActsAreBounded reading stands
 acts_are_bounded {C} {M} reading stands s world notes device machine new times old of_it there due so =

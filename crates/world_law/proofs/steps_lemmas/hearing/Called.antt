@@ -43,8 +43,7 @@ has_task_called s device node moment phase t (task, p, due) = (
 -- a called device is ready at the instant of the call
 pub ready_called : (s : Scenario) (now : ℕ) (device : DeviceId) (node : Node) (phase : Phase) → IsReadyAt (s.reading device) s.network device node now
     → IsReadyAt (s.reading device) s.network device (called (moment_of s device now) phase node) now
-ready_called s now device node phase ready =
-    grind (arith, moment_of, ints, was_pending)
+ready_called s now device node phase ready = grind (arith, moment_of, ints, was_pending)
 
 -- what is said of a device's machine after a call, as a relation of the device before it
 abbrev pub After : {M : Type 0} → (M → Network → DeviceId → Node → Type 0) → M → (Node → Node) → M → Network → DeviceId → Node → Type 0
@@ -103,5 +102,4 @@ out_called stands s hs coming cursor then_ now device machine after phase k is c
 pub not_yet_acted : {M : Type 0} (stands : M → Network → DeviceId → Node → Type 0) (s : Scenario) (hs coming : List Happening) (cursor : List ℕ) (now : ℕ)
     (device : DeviceId) (machine : M) (more : List ℕ) → (k : IsKept stands s hs coming cursor now device machine)
     → (IsBefore (now ∷ 2 ∷ more) cursor → ⊥) → k.up ≡ now
-not_yet_acted stands s hs coming cursor now device machine more k waits =
-    grind arith
+not_yet_acted stands s hs coming cursor now device machine more k waits = grind arith

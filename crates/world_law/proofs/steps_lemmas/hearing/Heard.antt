@@ -32,8 +32,7 @@ pub record IsHearingIt {M : Type 0} (stands : M → Network → DeviceId → Nod
 -- a broken device drops it, as the records say, and is kept
 pub out_heard : {M : Type 0} (stands : M → Network → DeviceId → Node → Type 0) (s : Scenario) (hs coming : List Happening) (mark cursor : List ℕ) (now : ℕ)
     (e : OnWire) (machine heard : M) (octets : List ℕ) (result : Arrival) → IsHearingIt stands s hs coming mark cursor now e machine heard octets result
-    → IsOut stands s hs coming cursor now e.device machine
-    → (result ≡ arrival_of s (hs ++ coming) e.device now e.link e.cause e.signal)
+    → IsOut stands s hs coming cursor now e.device machine → (result ≡ arrival_of s (hs ++ coming) e.device now e.link e.cause e.signal)
     × IsOut stands s hs coming (behind (now ∷ 2 ∷ e.device.0 ∷ e.link.0 ∷ e.cause ∷ [])) now e.device heard
 out_heard stands s hs coming mark cursor now e machine heard octets result h k =
     let more = e.device.0 ∷ e.link.0 ∷ e.cause ∷ [] in
@@ -50,8 +49,7 @@ out_heard stands s hs coming mark cursor now e machine heard octets result h k =
 -- a sound device judges it as the records say
 pub kept_answers : {M : Type 0} (stands : M → Network → DeviceId → Node → Type 0) (s : Scenario) (hs coming : List Happening) (mark cursor : List ℕ) (now : ℕ)
     (e : OnWire) (machine heard : M) (octets : List ℕ) (result : Arrival) → IsHearingIt stands s hs coming mark cursor now e machine heard octets result
-    → (k : IsKept stands s hs coming cursor now e.device machine)
-    → (result ≡ arrival_of s (hs ++ coming) e.device now e.link e.cause e.signal)
+    → (k : IsKept stands s hs coming cursor now e.device machine) → (result ≡ arrival_of s (hs ++ coming) e.device now e.link e.cause e.signal)
     × stands heard s.network e.device (called (moment_of s e.device now) arriving (after_arrival k.node (moment_of s e.device now) result))
 kept_answers stands s hs coming mark cursor now e machine heard octets result h k =
     let m = moment_of s e.device now in
@@ -114,8 +112,7 @@ plain_there : {M : Type 0} (stands : M → Network → DeviceId → Node → Typ
     (now : ℕ)
     (e : OnWire) (machine heard : M) (w : Happening) → IsMoving s hs (front ++ back) mark cursor now 2 (e.device.0 ∷ e.link.0 ∷ e.cause ∷ [])
     → IsQuiet hs front back w e.device → time_of w ≡ now → IsNoTaking e.device w.note.body
-    → (k : IsKept stands s hs (front ++ back) cursor now e.device machine)
-    → stands heard s.network e.device (called (moment_of s e.device now) arriving k.node)
+    → (k : IsKept stands s hs (front ++ back) cursor now e.device machine) → stands heard s.network e.device (called (moment_of s e.device now) arriving k.node)
     → IsHeld stands s hs (placed n front w back) (behind (now ∷ 2 ∷ e.device.0 ∷ e.link.0 ∷ e.cause ∷ [])) now e.device heard
 plain_there stands s n hs front back mark cursor now e machine heard w moving quiet at none k is =
     let more = e.device.0 ∷ e.link.0 ∷ e.cause ∷ [] in
@@ -139,8 +136,7 @@ taken_there : {M : Type 0} (stands : M → Network → DeviceId → Node → Typ
     (e : OnWire) (machine heard : M) (w : Happening) (vl : VlId) (cycle : ℕ)
     → IsMoving s hs (front ++ back) mark cursor now 2 (e.device.0 ∷ e.link.0 ∷ e.cause ∷ [])
     → IsTakingBy s hs front back now w e.device vl cycle → IsSteady (s.reading e.device) (amount s.network.precision) → pos 0 ≤ℤ s.network.precision.0
-    → (k : IsKept stands s hs (front ++ back) cursor now e.device machine)
-    → stands heard s.network e.device (took (moment_of s e.device now) vl cycle k.node)
+    → (k : IsKept stands s hs (front ++ back) cursor now e.device machine) → stands heard s.network e.device (took (moment_of s e.device now) vl cycle k.node)
     → IsHeld stands s hs (placed n front w back) (behind (now ∷ 2 ∷ e.device.0 ∷ e.link.0 ∷ e.cause ∷ [])) now e.device heard
 taken_there stands s n hs front back mark cursor now e machine heard w vl cycle moving taking steady precise k is =
     let more = e.device.0 ∷ e.link.0 ∷ e.cause ∷ [] in

@@ -25,8 +25,7 @@ arriving_first reading stands s world notes e old i at first =
 -- the world stands behind it, where what is settled then and its devices do
 pub heard_behind : {C M : Type 0} (reading : C → ℕ → ℕ) (stands : M → Network → DeviceId → Node → Type 0) (s : Scenario) (world : World C M) (notes : List Note)
     (e : OnWire) (machines : List M) (wires : List OnWire) (settled coming : List Happening) (old : Stands reading stands s world notes)
-    → IsIn e world.wires → e.at ≡ world.now → ComesFirst reading stands s world notes old (wire_place e)
-    → IsWithout wire_place (wire_place e) world.wires wires
+    → IsIn e world.wires → e.at ≡ world.now → ComesFirst reading stands s world notes old (wire_place e) → IsWithout wire_place (wire_place e) world.wires wires
     → settled ≡ map (hidden (length notes)) coming → length coming ≡ length old.coming + 1
     → AreSettled s (happenings s.network notes) coming old.mark (behind (world.now ∷ 2 ∷ e.device.0 ∷ e.link.0 ∷ e.cause ∷ [])) world.now
     → AreOfNetwork s (happenings s.network notes ++ coming)

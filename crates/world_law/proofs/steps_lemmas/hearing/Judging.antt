@@ -20,8 +20,7 @@ amount_is u n e = ap unsigned_abs e
 -- the node stands where the records say
 pub same_standpoint : (s : Scenario) (hs : List Happening) (device : DeviceId) (t : ℕ) (node : Node) (moment : Moment) → IsLeft s hs device t node
     → IsMomentOf s device t moment → standpoint_at node moment ≡ standpoint s hs device t
-same_standpoint s hs device t node moment left at =
-    grind (arith, not, is_off, amount, state_before, is_broken, amount_is)
+same_standpoint s hs device t node moment left at = grind (arith, not, is_off, amount, state_before, is_broken, amount_is)
 
 -- what becomes of a control frame is what the records say
 pub control_judged : (s : Scenario) (hs : List Happening) (device : DeviceId) (t : ℕ) (node : Node) (moment : Moment) (link : LinkId) (cause : ℕ)
@@ -38,8 +37,7 @@ first_off false more e = refl
 
 timed_off : (network : Network) (device : DeviceId) (link : LinkId) (p : Standpoint) (octets : List ℕ) (last : VlId → Option ℕ) → p.takes_part ≡ false
     → timed_arrival network device link p octets last ≡ arrivals.Dropped reasons.Off
-timed_off network device link p octets last e =
-    grind (arith, octets_or_fault, octets_fault, first_off, nat_lt, field, not, is_synchronised)
+timed_off network device link p octets last e = grind (arith, octets_or_fault, octets_fault, first_off, nat_lt, field, not, is_synchronised)
 
 no_part : (a b : Bool) → b ≡ true → (a && not b) ≡ false
 no_part true b e = ap not e

@@ -13,8 +13,7 @@ use Rattle.run_law.specs.declared.note.NoteBody.TheVariants as kinds
 pub never_from : (s : Scenario) (hs coming : List Happening) (mark cursor : List ℕ) (now : ℕ) (more : List ℕ) → IsMoving s hs coming mark cursor now 2 more
     → (z : Happening) → IsIn z coming
     → ((js : List Happening) (w : List ℕ) → IsOwnSource s js (time_of z) (members_in z) z.note.body w → (w ≡ now ∷ 2 ∷ more) ⊎ IsBefore (now ∷ 2 ∷ more) w) → ⊥
-never_from s hs coming mark cursor now more m z i from =
-    grind (arith, parted, second, chain)
+never_from s hs coming mark cursor now more m z i from = grind (arith, parted, second, chain)
 
 -- ---- the causes of changes of state are given
 
@@ -77,5 +76,4 @@ body_known s hs coming mark cursor now more m front rest e time other c = refl
 -- what is to come stands where it is shown
 pub shown_place : (s : Scenario) (hs coming : List Happening) (mark cursor : List ℕ) (now : ℕ) (more : List ℕ) → IsMoving s hs coming mark cursor now 2 more
     → (given : ℕ) → given ≡ length hs → (z : Happening) → IsIn z coming → place_of (hidden given z) ≡ place_of z
-shown_place s hs coming mark cursor now more m given same z i =
-    grind (arith, parted, time_of, rank, key, members_in, hidden_body, body_known)
+shown_place s hs coming mark cursor now more m given same z i = grind (arith, parted, time_of, rank, key, members_in, hidden_body, body_known)

@@ -26,8 +26,7 @@ of_link network link l P e h = subst (λ (o : Option Link). IsSomeAnd o P) e h
 -- ---- no link leads from a switch to itself
 
 relay_no_cm : (network : Network) (channel : Channel) (device : DeviceId) → IsRoleOf network Relay channel device → IsCmOf network channel device → ⊥
-relay_no_cm network channel device relay cm =
-    grind (arith, at_some)
+relay_no_cm network channel device relay cm = grind (arith, at_some)
 
 no_way_up : (network : Network) → IsTree network → (channel : Channel) (device : DeviceId) (link : LinkId) (l : Link) → link_at network link ≡ Some l
     → l.child ≡ device → l.parent ≡ device → IsUplink network channel device link → IsRoleOf network Relay channel device → (links : List LinkId)
@@ -67,8 +66,7 @@ no_loop network rules link l e switch loop =
 -- by the record a control frame leaves, or octets of an event go up that are one
 pub data Puts (s : Scenario) (h : Happening) (link : LinkId) (way : Way) (frame : Pcf) : Type 0 where
   leaving : (device : DeviceId) (cause clock : ℕ) → h.note.body ≡ kinds.Left device link cause clock → h.frame ≡ Some frame
-      → way ≡ way_from s.network device link
-      → Puts s h link way frame
+      → way ≡ way_from s.network device link → Puts s h link way frame
   sending : (line : ℕ) (octets : List ℕ) → h.note.body ≡ kinds.Event line (events.Send link octets) → signal_of octets ≡ control (Ok frame) → way ≡ Up
       → Puts s h link way frame
 
@@ -76,8 +74,7 @@ left_of : (o : Option Pcf) (own link : LinkId) (from way : Way) (frame : Pcf)
     → option_map (λ (f : Pcf). (let x : Launch = record { link = own; way = from; signal = control (Ok f) } in x)) o
     ≡ Some (record { link = link; way = way; signal = control (Ok frame) }) → (o ≡ Some frame) × (own ≡ link) × (from ≡ way)
 left_of None own link from way frame e = absurd cc
-left_of (Some f) own link from way frame e =
-    grind (arith, control, option_map_or)
+left_of (Some f) own link from way frame e = grind (arith, control, option_map_or)
 
 sent_of : (b : Bool) (own link : LinkId) (way : Way) (signal : Signal) (frame : Pcf)
     → (if b then None else Some (let x : Launch = record { link = own; way = Up; signal = signal } in x))
@@ -127,8 +124,7 @@ pub record IsTakenSo (s : Scenario) (device : DeviceId) (link : LinkId) (signal 
 taken_so : (s : Scenario) (js : List Happening) (device : DeviceId) (t : ℕ) (link : LinkId) (cause : ℕ) (signal : Signal)
     → rank (arrival_body device link cause (arrival_of s js device t link cause signal)) ≡ 2 → IsTakenSo s device link signal
 taken_so s js device t link cause (control (Err refusal)) e = absurd (let bad : ◌≡◌ {A = ℕ} 13 2 = e in omega (arith, bad))
-taken_so s js device t link cause (control (Ok frame)) e =
-    grind (arith, standpoint, nat_lt, amount, fault_of, frame_fault, no_reason, not)
+taken_so s js device t link cause (control (Ok frame)) e = grind (arith, standpoint, nat_lt, amount, fault_of, frame_fault, no_reason, not)
 taken_so s js device t link cause (timed octets) e =
     absurd (low (is_end s.network device)
     (subst (λ (n : ℕ). (if is_end s.network device then 12 else 11) ≤ n) e (rank_is s device t link cause (timed octets) js)))
@@ -138,8 +134,7 @@ taken_so s js device t link cause (timed octets) e =
     low false le = omega (arith, le)
 
 arrived_so : (s : Scenario) (js : List Happening) (device : DeviceId) (t : ℕ) (link : LinkId) (cause : ℕ) (is : Arrival)
-    → rank (arrival_body device link cause is) ≡ 2
-    → (a : ArrivesAs s js device t link cause is) → IsTakenSo s device link a.signal
+    → rank (arrival_body device link cause is) ≡ 2 → (a : ArrivesAs s js device t link cause is) → IsTakenSo s device link a.signal
 arrived_so s js device t link cause is two a =
     taken_so s js device t link cause a.signal (ap (λ (x : Arrival). rank (arrival_body device link cause x)) (sym a.becomes) ∙ two)
 
@@ -152,8 +147,7 @@ pub record IsArrivalOf (s : Scenario) (js : List Happening) (device : DeviceId) 
   pub own : is_of_other_member s.network device link frame.members ≡ false
 
 arrival_is : (s : Scenario) (js : List Happening) (device : DeviceId) (t : ℕ) (link : LinkId) (cause : ℕ) (is : Arrival)
-    → rank (arrival_body device link cause is) ≡ 2
-    → ArrivesAs s js device t link cause is → IsArrivalOf s js device t link cause
+    → rank (arrival_body device link cause is) ≡ 2 → ArrivesAs s js device t link cause is → IsArrivalOf s js device t link cause
 arrival_is s js device t link cause is two a =
     let it = arrived_so s js device t link cause is two a in
     record {
@@ -187,8 +181,7 @@ and_last false b c x y e = absurd cc
 own_master : (network : Network) (device : DeviceId) (link : LinkId) (l : Link) (members : Members) → link_at network link ≡ Some l → l.parent ≡ device
     → is_end network l.child ≡ true → is_of_other_member network device link members ≡ false
     → IsSomeAnd (member_of network l.child) (λ member. members.0 ≡ 2 ^ member)
-own_master network device link l members e parent end own =
-    grind (arith, is_end, option_map_or, others_not, and_last, eq-eqb)
+own_master network device link l members e parent end own = grind (arith, is_end, option_map_or, others_not, and_last, eq-eqb)
 
 -- ---- going up from a switch
 
@@ -232,8 +225,7 @@ parent_is network device link l e parent =
 upward : (network : Network) → KeepsRules network → (sender device : DeviceId) (link : LinkId) (l : Link) → link_at network link ≡ Some l
     → is_end network l.child ≡ false → l.parent ≡ device → (way : Way) → way ≡ way_from network sender link → receiver_of network link way ≡ Some device
     → is_parent_of network sender link ≡ false
-upward network rules sender device link l e switch parent way is receives =
-    grind (arith, cases_Bool, is_parent_of, option_map, target_by, no_loop)
+upward network rules sender device link l e switch parent way is receives = grind (arith, cases_Bool, is_parent_of, option_map, target_by, no_loop)
 
 -- what a switch gives to its link up, it took from below
 given_up : (s : Scenario) (hs : List Happening) (n : ℕ) → IsFounded place_of (IsDue s) hs → IsUpTo s hs n → (giving : Happening) → IsIn giving hs

@@ -56,8 +56,7 @@ pub record IsReceived (s : Scenario) (hs coming : List Happening) (mark cursor :
 
 pub received : (s : Scenario) (hs coming : List Happening) (mark cursor : List ℕ) (now given : ℕ) (e : OnWire) (is : Arrival) (old settled : List Happening)
     → IsMoving s hs coming mark cursor now 2 (e.device.0 ∷ e.link.0 ∷ e.cause ∷ []) → ((p : List ℕ) → IsBefore p (now ∷ []) → IsBefore p mark)
-    → IsFounded place_of (IsDue s) hs → given ≡ length hs → IsOnWire s hs e → e.at ≡ now → IsHeardAs s hs coming now e is
-    → ((js : List Happening)
+    → IsFounded place_of (IsDue s) hs → given ≡ length hs → IsOnWire s hs e → e.at ≡ now → IsHeardAs s hs coming now e is → ((js : List Happening)
     → least_rank s.network e.device e.signal ≤ rank (arrival_body e.device e.link e.cause (arrival_of s js e.device now e.link e.cause e.signal)))
     → old ≡ map (hidden given) coming → IsPutIn (settled_as s.network hs now (arrival_body e.device e.link e.cause is)) old settled
     → IsReceived s hs coming mark cursor now given e is settled

@@ -41,8 +41,7 @@ pub record IsTakingBy (s : Scenario) (hs front back : List Happening) (now : ℕ
 pub kept_taking : {M : Type 0} (stands : M → Network → DeviceId → Node → Type 0) (s : Scenario) (n : ℕ) (hs front back : List Happening) (w : Happening)
     (cursor : List ℕ)
     (now : ℕ) (device : DeviceId) (machine after : M) (vl : VlId) (cycle : ℕ) → IsTakingBy s hs front back now w device vl cycle
-    → IsSteady (s.reading device) (amount s.network.precision) → pos 0 ≤ℤ s.network.precision.0
-    → ((p : List ℕ) → IsBefore p (now ∷ 2 ∷ []) → IsBefore p cursor)
+    → IsSteady (s.reading device) (amount s.network.precision) → pos 0 ≤ℤ s.network.precision.0 → ((p : List ℕ) → IsBefore p (now ∷ 2 ∷ []) → IsBefore p cursor)
     → (k : IsKept (After stands after (took (moment_of s device now) vl cycle)) s hs (front ++ back) cursor now device machine) → k.up ≡ now → k.high ≡ k.up
     → IsKept stands s hs (placed n front w back) cursor now device after
 kept_taking stands s n hs front back w cursor now device machine after vl cycle t steady precise come k up doing =

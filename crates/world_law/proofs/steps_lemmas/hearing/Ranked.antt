@@ -26,14 +26,12 @@ taking_rank device link cause vl cycle false = omega arith
 row_rank : (network : Network) (device : DeviceId) (link : LinkId) (cause : ℕ) (p : Standpoint) (entry : Entry) (fault : Option Reason)
     → (if is_end network device then 12 else 11) ≤ rank (arrival_body device link cause (taken_or_fault network device p entry fault))
 row_rank network device link cause p entry (Some reason) = low_rank (is_end network device)
-row_rank network device link cause p entry None =
-    taking_rank device link cause entry.row.vl (cycle_at network (clock_of p)) (is_end network device)
+row_rank network device link cause p entry None = taking_rank device link cause entry.row.vl (cycle_at network (clock_of p)) (is_end network device)
 
 entry_rank : (network : Network) (device : DeviceId) (link : LinkId) (cause : ℕ) (p : Standpoint) (size : ℕ) (last : VlId → Option ℕ) (entry : Option Entry)
     → (if is_end network device then 12 else 11) ≤ rank (arrival_body device link cause (entry_arrival network device p size last entry))
 entry_rank network device link cause p size last None = low_rank (is_end network device)
-entry_rank network device link cause p size last (Some entry) =
-    row_rank network device link cause p entry (row_fault network p entry size (last entry.row.vl))
+entry_rank network device link cause p size last (Some entry) = row_rank network device link cause p entry (row_fault network p entry size (last entry.row.vl))
 
 octets_rank : (network : Network) (device : DeviceId) (link : LinkId) (cause : ℕ) (p : Standpoint) (octets : List ℕ) (last : VlId → Option ℕ)
     (fault : Option Reason) → (if is_end network device then 12 else 11) ≤ rank
@@ -73,8 +71,7 @@ none_control network device link p (Rattle.std.specs.Prelude.Ok frame) vl cycle 
 -- what is accepted is so at a switch
 pub accepted_high : (s : Scenario) (device : DeviceId) (t : ℕ) (link : LinkId) (cause : ℕ) (signal : Signal) (js : List Happening) (vl : VlId) (cycle : ℕ)
     → arrival_of s js device t link cause signal ≡ arrivals.Accepted vl cycle → (if is_end s.network device then 12 else 11) ≤ 11
-accepted_high s device t link cause (control frame) js vl cycle e =
-    absurd (none_control s.network device link (standpoint s js device t) frame vl cycle e)
+accepted_high s device t link cause (control frame) js vl cycle e = absurd (none_control s.network device link (standpoint s js device t) frame vl cycle e)
 accepted_high s device t link cause (timed octets) js vl cycle e =
     subst (λ (a : Arrival). (if is_end s.network device then 12 else 11) ≤ rank (arrival_body device link cause a)) e
     (rank_is s device t link cause (timed octets) js)

@@ -46,16 +46,14 @@ body_caused s js time device link cause (arrivals.Accepted vl cycle) a = a
 body_caused s js time device link cause (arrivals.Delivered vl cycle) a = a
 
 pub body_own : (s : Scenario) (js : List Happening) (t members : ℕ) (device : DeviceId) (link : LinkId) (cause : ℕ) (is : Arrival)
-    → ArrivesAs s js device t link cause is
-    → IsOwnSource s js t members (arrival_body device link cause is) (t ∷ 2 ∷ device.0 ∷ link.0 ∷ cause ∷ [])
+    → ArrivesAs s js device t link cause is → IsOwnSource s js t members (arrival_body device link cause is) (t ∷ 2 ∷ device.0 ∷ link.0 ∷ cause ∷ [])
 body_own s js t m device link cause (arrivals.Dropped reason) a = inl (refl, a)
 body_own s js t m device link cause other a = refl
 
 -- where it stands
 pub placed_at : (now : ℕ) (e : OnWire) (is : Arrival) (w : Happening) → time_of w ≡ now → w.note.body ≡ arrival_body e.device e.link e.cause is
     → place_of w ≡ now ∷ rank (arrival_body e.device e.link e.cause is) ∷ e.device.0 ∷ e.link.0 ∷ e.cause ∷ []
-placed_at now e is w at body =
-    grind (arith, time_of, rank, key, members_in, arrival_body, body_key)
+placed_at now e is w at body = grind (arith, time_of, rank, key, members_in, arrival_body, body_key)
 
 -- ---- it arrives so
 
@@ -99,13 +97,11 @@ record IsSameWire (e : OnWire) (now t : ℕ) (device : DeviceId) (link : LinkId)
 
 same_wire : (e : OnWire) (now t : ℕ) (device : DeviceId) (link : LinkId) (cause : ℕ)
     → now ∷ 2 ∷ e.device.0 ∷ e.link.0 ∷ e.cause ∷ [] ≡ t ∷ 2 ∷ device.0 ∷ link.0 ∷ cause ∷ [] → IsSameWire e now t device link cause
-same_wire e now t device link cause same =
-    grind arith
+same_wire e now t device link cause same = grind arith
 
 moved : (s : Scenario) (js : List Happening) (e : OnWire) (now t : ℕ) (device : DeviceId) (link : LinkId) (cause : ℕ) (is : Arrival)
     → IsSameWire e now t device link cause → ArrivesAs s js device t link cause is → ArrivesAs s js e.device now e.link e.cause is
-moved s js e now t device link cause is p d =
-    grind arith
+moved s js e now t device link cause is p d = grind arith
 
 abbrev ranked : ℕ → List ℕ → List ℕ
 ranked r (a ∷ b ∷ more) = a ∷ r ∷ more
@@ -119,8 +115,7 @@ pub record ComesAs (s : Scenario) (js : List Happening) (now : ℕ) (e : OnWire)
 
 comes : (s : Scenario) (js : List Happening) (now : ℕ) (e : OnWire) (t members : ℕ) (device : DeviceId) (link : LinkId) (cause : ℕ) (body : NoteBody)
     (is : Arrival) → now ∷ 2 ∷ e.device.0 ∷ e.link.0 ∷ e.cause ∷ [] ≡ t ∷ 2 ∷ device.0 ∷ link.0 ∷ cause ∷ [] → ArrivesAs s js device t link cause is
-    → rank (arrival_body e.device e.link e.cause is) ≡ rank body → device.0 ∷ link.0 ∷ cause ∷ [] ≡ key members body
-    → ComesAs s js now e t members body
+    → rank (arrival_body e.device e.link e.cause is) ≡ rank body → device.0 ∷ link.0 ∷ cause ∷ [] ≡ key members body → ComesAs s js now e t members body
 comes s js now e t members device link cause body is at a ranks keys = record {
   is = is;
   so = moved s js e now t device link cause is (same_wire e now t device link cause at) a;
@@ -170,8 +165,7 @@ comes_as s js now e t m other o time is c = absurd (wrong 4 (ap second o) (inr (
 
 -- what is judged so by the same records is at the same place
 pub outcome_at : (s : Scenario) (hs zs : List Happening) (now : ℕ) (e : OnWire) (is : Arrival) → IsOnWire s hs e → e.at ≡ now
-    → (t members : ℕ) (body : NoteBody)
-    → is ≡ arrival_of s (hs ++ zs) e.device now e.link e.cause e.signal → ComesAs s (hs ++ zs) now e t members body
+    → (t members : ℕ) (body : NoteBody) → is ≡ arrival_of s (hs ++ zs) e.device now e.link e.cause e.signal → ComesAs s (hs ++ zs) now e t members body
     → now ∷ rank (arrival_body e.device e.link e.cause is) ∷ e.device.0 ∷ e.link.0 ∷ e.cause ∷ [] ≡ t ∷ rank body ∷ key members body
 outcome_at s hs zs now e is it at t m body so c =
     ap (λ (x : Arrival). now ∷ rank (arrival_body e.device e.link e.cause x) ∷ e.device.0 ∷ e.link.0 ∷ e.cause ∷ [])
@@ -197,31 +191,20 @@ first_of (a ∷ more) = a
 
 pub own_there : (s : Scenario) (js : List Happening) (now : ℕ) (e : OnWire) (is : Arrival) (t members : ℕ) (body : NoteBody) (w : List ℕ)
     → now ∷ rank (arrival_body e.device e.link e.cause is) ∷ e.device.0 ∷ e.link.0 ∷ e.cause ∷ [] ≡ t ∷ rank body ∷ key members body
-    → IsOwnSource s js t members body w
-    → (w ≡ now ∷ 2 ∷ e.device.0 ∷ e.link.0 ∷ e.cause ∷ []) ⊎ IsBefore (now ∷ 2 ∷ e.device.0 ∷ e.link.0 ∷ e.cause ∷ []) w
+    → IsOwnSource s js t members body w → (w ≡ now ∷ 2 ∷ e.device.0 ∷ e.link.0 ∷ e.cause ∷ []) ⊎ IsBefore (now ∷ 2 ∷ e.device.0 ∷ e.link.0 ∷ e.cause ∷ []) w
 own_there s js now e is t m (kinds.Dropped device link cause reason) w place (inl o) = inl (o.0 ∙ sym (ap (ranked 2) place))
 own_there s js now e is t m (kinds.Dropped device link cause reason) w place (inr (inl o)) =
     inr (behind_here now t 3 _ _ w (ap first_of place) (omega arith) o.2)
 own_there s js now e is t m (kinds.Dropped device link cause reason) w place (inr (inr o)) =
     inr (behind_here now t 8 _ _ w (ap first_of place) (omega arith) o.0)
-own_there s js now e is t m (kinds.Event line what) w place o =
-    grind (arith, other_kind, second)
-own_there s js now e is t m (kinds.Permanent device link cause point verdict) w place o =
-    grind (arith, other_kind, second)
-own_there s js now e is t m (kinds.Compressed device opened read cycle of_masters verdict) w place o =
-    grind (arith, other_kind, second)
-own_there s js now e is t m (kinds.Sent device cycle) w place o =
-    grind (arith, other_kind, second)
-own_there s js now e is t m (kinds.Corrected device cycle by adjustment) w place o =
-    grind (arith, other_kind, second)
-own_there s js now e is t m (kinds.State device state cause why) w place o =
-    grind (arith, other_kind, second)
-own_there s js now e is t m (kinds.Left device link cause clock) w place o =
-    grind (arith, other_kind, second)
-own_there s js now e is t m (kinds.Lost device link cause) w place o =
-    grind (arith, other_kind, second)
-own_there s js now e is t m (kinds.TtSent device link cause vl cycle) w place o =
-    grind (arith, other_kind, second)
-own_there s js now e is t m (kinds.Clock device reading adjustment state) w place o =
-    grind (arith, other_kind, second)
+own_there s js now e is t m (kinds.Event line what) w place o = grind (arith, other_kind, second)
+own_there s js now e is t m (kinds.Permanent device link cause point verdict) w place o = grind (arith, other_kind, second)
+own_there s js now e is t m (kinds.Compressed device opened read cycle of_masters verdict) w place o = grind (arith, other_kind, second)
+own_there s js now e is t m (kinds.Sent device cycle) w place o = grind (arith, other_kind, second)
+own_there s js now e is t m (kinds.Corrected device cycle by adjustment) w place o = grind (arith, other_kind, second)
+own_there s js now e is t m (kinds.State device state cause why) w place o = grind (arith, other_kind, second)
+own_there s js now e is t m (kinds.Left device link cause clock) w place o = grind (arith, other_kind, second)
+own_there s js now e is t m (kinds.Lost device link cause) w place o = grind (arith, other_kind, second)
+own_there s js now e is t m (kinds.TtSent device link cause vl cycle) w place o = grind (arith, other_kind, second)
+own_there s js now e is t m (kinds.Clock device reading adjustment state) w place o = grind (arith, other_kind, second)
 own_there s js now e is t m other w place o = inl (o ∙ sym (ap (ranked 2) place))

@@ -15,8 +15,7 @@ use Rattle.run_law.specs.declared.steps.Arrival.TheVariants as arrivals
 -- ---- the record itself does not count for its own arrival
 
 itself : (link : LinkId) (cause now : ℕ) → (nat_lt now now || (now == now && comes_before link cause link cause)) ≡ false
-itself link cause now =
-    grind (arith, or_from, nat_lt, comes_before, le-ltb, and_right)
+itself link cause now = grind (arith, or_from, nat_lt, comes_before, le-ltb, and_right)
 
 not_itself : (device : DeviceId) (vl : VlId) (now : ℕ) (link : LinkId) (cause : ℕ) (is : Arrival)
     → is_taken_before device vl now link cause now (arrival_body device link cause is) ≡ false
@@ -64,8 +63,7 @@ judged_put s hs front back c d mark cursor now e is w p whole = by e.signal
     ]
 
     none : (vl : VlId) → is_taken_before e.device vl now e.link e.cause (time_of w) w.note.body ≡ false
-    none vl =
-        grind (arith, is_taken_before, not_itself)
+    none vl = grind (arith, is_taken_before, not_itself)
 
     by : (signal : Signal) → arrival_of s (hs ++ (front ++ c)) e.device now e.link e.cause signal
         ≡ arrival_of s (hs ++ put_list front w c) e.device now e.link e.cause signal
@@ -84,8 +82,7 @@ judged_put s hs front back c d mark cursor now e is w p whole = by e.signal
 -- ---- all that comes of the arrival is at the record's place
 
 pub all_of_arrival : (s : Scenario) (hs front back : List Happening) (mark cursor : List ℕ) (now : ℕ) (e : OnWire) (is : Arrival) (w : Happening)
-    → IsReceiving s hs front back mark cursor now e is w
-    → IsAllOfIt s hs (put_list front w back) (now ∷ 2 ∷ e.device.0 ∷ e.link.0 ∷ e.cause ∷ [])
+    → IsReceiving s hs front back mark cursor now e is w → IsAllOfIt s hs (put_list front w back) (now ∷ 2 ∷ e.device.0 ∷ e.link.0 ∷ e.cause ∷ [])
 all_of_arrival s hs front back mark cursor now e is w p f rest y whole before none due own =
     let c = comes_as s (hs ++ f) now e (time_of y) (members_in y) y.note.body own y.note.time refl due.cause in
     let c_is : c.is ≡ arrival_of s (hs ++ f) e.device now e.link e.cause e.signal =
@@ -129,10 +126,8 @@ raised_known s hs coming mark cursor now more m front rest e n le time other c =
 
 bump_known : (n : ℕ) (back : List Happening) → ((z : Happening) → IsIn z back → raised n z.note.body ≡ z.note.body) → map (bump_behind n) back ≡ map bump back
 bump_known n [] same = refl
-bump_known n (z ∷ back) same =
-    grind (arith, map, bump_behind, bump, (bump_known n back (λ y i. same y (inr i))))
+bump_known n (z ∷ back) same = grind (arith, map, bump_behind, bump, (bump_known n back (λ y i. same y (inr i))))
 
 pub put_known : (s : Scenario) (hs front back : List Happening) (mark cursor : List ℕ) (now : ℕ) (e : OnWire) (is : Arrival) (w : Happening)
     → IsReceiving s hs front back mark cursor now e is w → front ++ w ∷ map (bump_behind (length (hs ++ front))) back ≡ put_list front w back
-put_known s hs front back mark cursor now e is w p =
-    grind (arith, length, length-append, bump_known, parted, in_right, raised_known)
+put_known s hs front back mark cursor now e is w p = grind (arith, length, length-append, bump_known, parted, in_right, raised_known)

@@ -79,8 +79,7 @@ IsBefore2 by from link cause = (by.0 < link.0) ⊎ ((by.0 ≡ link.0) × (from <
 
 before_so : (by : LinkId) (from : ℕ) (link : LinkId) (cause : ℕ) → IsBefore2 by from link cause → comes_before by from link cause ≡ true
 before_so by from link cause (inl lt) = ap (λ (b : Bool). b || (by.0 == link.0 && nat_lt from cause)) (lt-ltb by.0 link.0 lt)
-before_so by from link cause (inr e) =
-    grind (arith, nat_lt, eq-eqb, lt-ltb)
+before_so by from link cause (inr e) = grind (arith, nat_lt, eq-eqb, lt-ltb)
 
 three : (a b c : Bool) → (a ≡ true → c ≡ true) → (a && b) ≡ (a && b && c)
 three true true c so = sym (so refl)
@@ -89,17 +88,14 @@ three false b c so = refl
 
 -- it is earlier, or of the time and by an arrival before this one
 abbrev pub IsSooner : DeviceId → ℕ → LinkId → ℕ → Happening → NoteBody → Type 0
-IsSooner device t link cause h (notes.Accepted other by from of_vl cycle) =
-    device ≡ other → (time_of h < t) ⊎ ((time_of h ≡ t) × IsBefore2 by from link cause)
-IsSooner device t link cause h (notes.Delivered other by from of_vl cycle) =
-    device ≡ other → (time_of h < t) ⊎ ((time_of h ≡ t) × IsBefore2 by from link cause)
+IsSooner device t link cause h (notes.Accepted other by from of_vl cycle) = device ≡ other → (time_of h < t) ⊎ ((time_of h ≡ t) × IsBefore2 by from link cause)
+IsSooner device t link cause h (notes.Delivered other by from of_vl cycle) = device ≡ other → (time_of h < t) ⊎ ((time_of h ≡ t) × IsBefore2 by from link cause)
 IsSooner device t link cause h other = Unit {0}
 
 sooner_test : (device other : DeviceId) (t : ℕ) (link : LinkId) (cause : ℕ) (at : ℕ) (by : LinkId) (from : ℕ)
     → (device ≡ other → (at < t) ⊎ ((at ≡ t) × IsBefore2 by from link cause)) → (device.0 == other.0) ≡ true
     → (nat_lt at t || (at == t && comes_before by from link cause)) ≡ true
-sooner_test device other t link cause at by from so e =
-    grind (arith, eqb-true, or_left, nat_lt, comes_before, lt-ltb, or_right, eq-eqb, before_so)
+sooner_test device other t link cause at by from so e = grind (arith, eqb-true, or_left, nat_lt, comes_before, lt-ltb, or_right, eq-eqb, before_so)
 
 pub taking_is : (device : DeviceId) (vl : VlId) (t : ℕ) (link : LinkId) (cause : ℕ) (h : Happening) (body : NoteBody) → IsSooner device t link cause h body
     → is_taking device vl body ≡ is_taken_before device vl t link cause (time_of h) body

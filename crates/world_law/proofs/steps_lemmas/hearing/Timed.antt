@@ -35,8 +35,7 @@ given_time s hs coming mark cursor now e a h i high =
 -- no record that is given is later
 pub given_by_now : (s : Scenario) (hs coming : List Happening) (mark cursor : List ℕ) (now : ℕ) (e : OnWire) → IsAfterGiven s hs coming mark cursor now e
     → (h : Happening) → IsIn h hs → time_of h ≤ now
-given_by_now s hs coming mark cursor now e a h i =
-    grind (arith, place_of, earlier_time, time_of, rank, key, members_in)
+given_by_now s hs coming mark cursor now e a h i = grind (arith, place_of, earlier_time, time_of, rank, key, members_in)
 
 given_sooner : (s : Scenario) (hs coming : List Happening) (mark cursor : List ℕ) (now : ℕ) (e : OnWire) → IsAfterGiven s hs coming mark cursor now e
     → (h : Happening) → IsIn h hs → (body : NoteBody) → h.note.body ≡ body → IsSooner e.device now e.link e.cause h body
@@ -120,8 +119,7 @@ kept_judges stands s hs coming mark cursor now e machine signal a k =
 
 place_sooner : (now t r k : ℕ) (device other link by cause from : ℕ) → t ≡ now → device ≡ other → k ≤ r → (by < link) ⊎ ((by ≡ link) × (from < cause))
     → IsBefore (t ∷ k ∷ other ∷ by ∷ from ∷ []) (now ∷ r ∷ device ∷ link ∷ cause ∷ [])
-place_sooner now t r k device other link by cause from at same le before =
-    grind (arith, cases_lt)
+place_sooner now t r k device other link by cause from at same le before = grind (arith, cases_lt)
 
 -- a taking of the device by what is left would stand before it
 at_least_low : (b : Bool) (r : ℕ) → (if b then 12 else 11) ≤ r → 11 ≤ r

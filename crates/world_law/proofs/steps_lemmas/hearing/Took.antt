@@ -14,13 +14,11 @@ took moment vl cycle node = called moment arriving (with_taken node moment vl cy
 -- the frame that it took last of a virtual link is that one, or the one before
 last_took : (node : Node) (moment : Moment) (vl own : VlId) (cycle : ℕ) (b : Bool) → (vl.0 == own.0) ≡ b → last_taken_frame (took moment vl cycle node) own
     ≡ (if b then Some (record { vl = vl; cycle = cycle; at = local_at node moment }) else last_taken_frame node own)
-last_took node moment vl own cycle b e =
-    grind (arith, last_or, filter-append, filter, last_pushed, last_kept)
+last_took node moment vl own cycle b e = grind (arith, last_or, filter-append, filter, last_pushed, last_kept)
 
 -- a deed of it was one before, or is for a later reading
 was_deed : (network : Network) (device : DeviceId) (node : Node) (moment : Moment) (vl : VlId) (cycle : ℕ) (deed : ClockTask)
-    → IsDeedOf network device (took moment vl cycle node) deed
-    → IsDeedOf network device node deed ⊎ (moment.reading.0 <ℤ reading_for network node (doing deed))
+    → IsDeedOf network device (took moment vl cycle node) deed → IsDeedOf network device node deed ⊎ (moment.reading.0 <ℤ reading_for network node (doing deed))
 was_deed network device node moment vl cycle (sending number) own = inl own
 was_deed network device node moment vl cycle (correcting number) own = inl own
 was_deed network device node moment vl cycle (dispatching row number) own =
@@ -48,10 +46,8 @@ was_deed network device node moment vl cycle (dispatching row number) own =
     ]
 
 was_undone : (network : Network) (device : DeviceId) (node : Node) (moment : Moment) (vl : VlId) (cycle : ℕ) (deed : ClockTask)
-    → IsUndone network device (took moment vl cycle node) deed
-    → IsUndone network device node deed ⊎ (moment.reading.0 <ℤ reading_for network node (doing deed))
-was_undone network device node moment vl cycle deed u =
-    grind (arith, was_deed)
+    → IsUndone network device (took moment vl cycle node) deed → IsUndone network device node deed ⊎ (moment.reading.0 <ℤ reading_for network node (doing deed))
+was_undone network device node moment vl cycle deed u = grind (arith, was_deed)
 
 was_waiting : (network : Network) (device : DeviceId) (node : Node) (moment : Moment) (vl : VlId) (cycle : ℕ) (sent : _)
     → IsWaiting network device (took moment vl cycle node) sent → IsWaiting network device node sent
@@ -59,8 +55,7 @@ was_waiting network device node moment vl cycle sent w =
     record { cm = w.cm; clusters = w.clusters; are = w.are; cluster = w.cluster; there = w.there; is = w.is; not_yet = w.not_yet }
 
 was_pending : (network : Network) (device : DeviceId) (node : Node) (moment : Moment) (vl : VlId) (cycle : ℕ) (task : Task)
-    → IsPending network device (took moment vl cycle node) task
-    → IsPending network device node task ⊎ (moment.reading.0 <ℤ reading_for network node task)
+    → IsPending network device (took moment vl cycle node) task → IsPending network device node task ⊎ (moment.reading.0 <ℤ reading_for network node task)
 was_pending network device node moment vl cycle (emitting sent) p = inl (p.0, was_waiting network device node moment vl cycle sent p.1)
 was_pending network device node moment vl cycle (doing deed) p =
     elim (was_undone network device node moment vl cycle deed p.1) [ inl old ↦ inl (p.0, old) | inr later ↦ inr later ]

@@ -110,8 +110,7 @@ answered stands s hs coming mark cursor now e machine after result r k master ha
 -- ---- places of what is to come
 
 pub not_before_high : (now : ℕ) (more : List ℕ) (z : Happening) → time_of z ≡ now → 4 ≤ rank z.note.body → IsBefore (place_of z) (now ∷ 3 ∷ more) → ⊥
-not_before_high now more z at high b =
-    grind (arith, no_higher, time_of, rank, key, members_in)
+not_before_high now more z at high b = grind (arith, no_higher, time_of, rank, key, members_in)
 
 -- each of those to come, with one more put in, stands so
 pub placed_high : (n now : ℕ) (front back : List Happening) (w : Happening)
@@ -203,10 +202,8 @@ pub joined_kept : {M : Type 0} (stands : M → Network → DeviceId → Node →
     (machine after : M) (w v : Happening) (r : IsRipe s hs back mark cursor now e) (k : IsKept stands s hs back cursor now e.device machine)
     → IsAnswered stands s hs now e k.node after ripe.Integrates → pos 0 ≤ℤ s.network.precision.0
     → w.note.body ≡ kinds.Permanent e.device e.link e.cause e.point judgements.Integrates → w.frame ≡ Some e.frame → time_of w ≡ now
-    → map (bump_behind (before_it hs [])) back ≡ f2 ++ back2
-    → v.note.body ≡ kinds.State e.device Joining (before_it hs [] + 1) whys.Frame → time_of v ≡ now
-    → NoneBefore place_of back2 (place_of v)
-    → IsKept stands s hs (put_at hs (w ∷ f2) v back2) (behind (now ∷ 3 ∷ ripe_more e)) now e.device after
+    → map (bump_behind (before_it hs [])) back ≡ f2 ++ back2 → v.note.body ≡ kinds.State e.device Joining (before_it hs [] + 1) whys.Frame → time_of v ≡ now
+    → NoneBefore place_of back2 (place_of v) → IsKept stands s hs (put_at hs (w ∷ f2) v back2) (behind (now ∷ 3 ∷ ripe_more e)) now e.device after
 joined_kept stands s hs back f2 back2 mark cursor now e machine after w v r k a precise body of_frame at parts v_body v_at none =
     let device = e.device in
     let n = before_it hs [] in
@@ -262,8 +259,7 @@ joined_kept stands s hs back f2 back2 mark cursor now e machine after w v r k a 
           let few = sole s hs back mark cursor now e r x.0 x.1 st.0 in
           let low = Rattle.std.proofs.lemmas.List.length-append hs [] in
           let none_len : length {A = Happening} [] ≡ 0 = refl in
-          let y_body : y.0.note.body ≡ kinds.State st.0.device st.0.state st.0.cause st.0.why =
-          ap (λ (g : Happening). g.note.body) x.2 ∙ ap (raised n) st.0.is
+          let y_body : y.0.note.body ≡ kinds.State st.0.device st.0.state st.0.cause st.0.why = ap (λ (g : Happening). g.note.body) x.2 ∙ ap (raised n) st.0.is
           ∙ raised_low n (kinds.State st.0.device st.0.state st.0.cause st.0.why) (omega (arith, few, low, none_len)) in
           let u : time_of y.0 ≡ time_of x.0 = ap time_of x.2 in
           let y_now : time_of y.0 ≡ now = u ∙ r.moving.are.of_now x.0 x.1 in
@@ -299,8 +295,7 @@ joined_kept stands s hs back f2 back2 mark cursor now e machine after w v r k a 
       | inr more ↦ (let x = bumped z more in let t : time_of z ≡ time_of x.0 = ap time_of x.2 in t ∙ r.moving.are.of_now x.0 x.1)
     ] in
     let times_two : (z : Happening) → IsIn z (w ∷ zs) → time_of z ≡ now = λ z i. elim i [ inl same ↦ ap time_of same ∙ at | inr more ↦ (of z more).0 ] in
-    let first : HasTurnedOn s hs (placed n [] w back) cursor2 device now =
-    turned_aside s n hs [] back cursor2 now device w it
+    let first : HasTurnedOn s hs (placed n [] w back) cursor2 device now = turned_aside s n hs [] back cursor2 now device w it
     (ap (λ (l : List Happening). state_after s l device) (early back times_back
     ∙ sym (early (placed n [] w back) (λ z i. times_one z (subst (λ (l : List Happening). IsIn z l) whole i))))) in
     turned_aside s n2 hs (w ∷ f2) back2 cursor2 now device v (subst (λ (l : List Happening). HasTurnedOn s hs l cursor2 device now) whole first)

@@ -31,10 +31,8 @@ due_on s js time other c = tt
 
 stays_on : (device : DeviceId) (old : State) (body : NoteBody) → IsNeverOff body → (is_off old ≡ false) ⊎ (stirs device body ≡ true)
     → is_off (state_with device old body) ≡ false
-stays_on device old (kinds.State other state cause why) never so =
-    grind (arith, cases_Bool, is_off, both_ways)
-stays_on device old other never so =
-    grind (arith, cases_Bool, is_joined_by, is_off, both_ways)
+stays_on device old (kinds.State other state cause why) never so = grind (arith, cases_Bool, is_off, both_ways)
+stays_on device old other never so = grind (arith, cases_Bool, is_joined_by, is_off, both_ways)
 
 pub was_on : (device : DeviceId) (old : State) (body : NoteBody) → stirs device body ≡ false → state_with device old body ≡ old
 was_on device old (kinds.State other state cause why) e = ap (λ (b : Bool). if b then state else old) e
@@ -58,8 +56,7 @@ awake device z (x ∷ l) never (inr (h, inr i, st)) = awake device (state_with d
 pub woken : (device : DeviceId) (z : State) (l : List Happening) → is_off (fold (λ state h. state_with device state h.note.body) z l) ≡ false
     → (is_off z ≡ false) ⊎ Stirs device l
 woken device z [] e = inl e
-woken device z (x ∷ l) e =
-    grind (arith, state_with, cases_Bool, is_off, was_on, (woken device (state_with device z x.note.body) l e))
+woken device z (x ∷ l) e = grind (arith, state_with, cases_Bool, is_off, was_on, (woken device (state_with device z x.note.body) l e))
 
 -- ---- an event that turned the device on has its record, and so has what came of it
 
@@ -113,8 +110,7 @@ on_recorded s mark hs now t device run past befallen lt on sound =
 
 pub still_on : (s : Scenario) (mark : List ℕ) (hs front : List Happening) (now t : ℕ) (device : DeviceId) → IsRun place_of (IsDue s) mark hs
     → ((p : List ℕ) → IsBefore p (now ∷ []) → IsBefore p mark) → HaveBefallen s mark now → t ≤ now → ((h : Happening) → IsIn h front → IsIn h hs)
-    → is_off (state_before s front device t) ≡ false → is_broken s device t ≡ false
-    → is_off (state_before s hs device now) ≡ false
+    → is_off (state_before s front device t) ≡ false → is_broken s device t ≡ false → is_off (state_before s hs device now) ≡ false
 still_on s mark hs front now t device run past befallen le inside on sound =
     let start = Rattle.sync_state.specs.Standing.state_at_start (Rattle.run_law.specs.scenario.Devices.start_of s.network device) in
     let never : (h : Happening) → IsIn h (earlier now hs) → IsNeverOff h.note.body = λ h i.

@@ -6,8 +6,7 @@ use Rattle.world_law.proofs.steps_lemmas.Words.{Phase, Scenario, amount, ap, ari
 pub may_call : {M : Type 0} (stands : M → Network → DeviceId → Node → Type 0) (s : Scenario) (hs coming : List Happening) (cursor : List ℕ) (now : ℕ)
     (device : DeviceId) (machine : M) (phase : Phase) (more : List ℕ)
     → (k : IsKept stands s hs coming cursor now device machine) → IsSteady (s.reading device) (amount s.network.precision) → now ≤ 2 ^ 60
-    → (IsBefore (now ∷ rank_of_call phase ∷ more) cursor → ⊥)
-    → MayCall s.network device k.node (moment_of s device now) phase
+    → (IsBefore (now ∷ rank_of_call phase ∷ more) cursor → ⊥) → MayCall s.network device k.node (moment_of s device now) phase
 may_call stands s hs coming cursor now device machine phase more k steady limit waits =
     let last = whole k.node.last.time.0 k.ready.begun in
     let time = k.ready.time in

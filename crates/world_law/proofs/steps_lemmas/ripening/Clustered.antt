@@ -104,8 +104,7 @@ pub old_or_open : (n : ℕ) (ow : ℤ) (ps : List Point) (cs news : List Cluster
     → AllByRecursion (λ q. q.reading ≤ℤ p.reading) ps → AreClusters ow ps cs → AreClusters ow (ps ++ p ∷ []) news → Contains news c → Contains cs c
     ⊎ IsOpen ow p c
 old_or_open n ow [] cs [] p c few some up are also there = absurd also
-old_or_open n ow [] cs (d ∷ ds) p c few some up are also there =
-    grind (arith, in_cases, ints, in_none, no_more)
+old_or_open n ow [] cs (d ∷ ds) p c few some up are also there = grind (arith, in_cases, ints, in_none, no_more)
 old_or_open zero ow (o ∷ ps) cs news p c few some up are also there = absurd (omega (arith, few))
 old_or_open (suc n) ow (o ∷ ps) [] news p c few some up are also there = absurd are
 old_or_open (suc n) ow (o ∷ ps) (k ∷ ks) [] p c few some up are also there = absurd also

@@ -28,8 +28,7 @@ given_low s hs coming mark cursor now more m within h i at =
     ]
 
 not_late : (t now : ℕ) (ws more w0 : List ℕ) → w0 ≡ t ∷ 4 ∷ ws → t ≡ now → IsBefore w0 (now ∷ 3 ∷ more) → ⊥
-not_late t now ws more w0 e at b =
-    grind (arith, no_higher)
+not_late t now ws more w0 e at b = grind (arith, no_higher)
 
 -- of records before it, those to come are of the same kinds
 corrected_none : (s : Scenario) (hs front : List Happening) (t now cause cycle : ℕ) (device : DeviceId) (by adjustment : _) (h : Happening)
@@ -129,8 +128,7 @@ rest_ends s device now body late (inr on) = turning_stretch device body on.0
 
 -- the causes of states to come are given
 pub state_cause : (s : Scenario) (hs front : List Happening) (device : DeviceId) (t : ℕ) (state : State) (cause : ℕ) (why : Why)
-    → ((y : Happening) → IsIn y front → IsLateKind y.note.body)
-    → ((y : Happening) → IsIn y front → 4 ≤ rank y.note.body)
+    → ((y : Happening) → IsIn y front → IsLateKind y.note.body) → ((y : Happening) → IsIn y front → 4 ≤ rank y.note.body)
     → IsLateKind (kinds.State device state cause why) → ChangesState s (hs ++ front) device t state cause why → cause ≤ Rattle.std.specs.Prelude.length hs
 state_cause s hs front device t state cause whys.On late high kind c =
     let it = c.2.2 in

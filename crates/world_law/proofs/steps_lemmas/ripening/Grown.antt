@@ -57,8 +57,7 @@ heard_grown s hs zs device t w first kept =
     let silent : (h : Happening) → IsIn h (filter without zs) → f h ≡ None = λ h i.
     mere_hears s.network device h h.note.body (first.mere h (Rattle.run_law.proofs.law.FirstPlaces.in_filter without zs h i)) in
     let base = after_last p hs in
-    let since : since_at device t (hs ++ w ∷ zs) ≡ (base ++ w ∷ []) ++ zs =
-    grind (arith, after_last, p, append_assoc, after_more, none, changes_at) in
+    let since : since_at device t (hs ++ w ∷ zs) ≡ (base ++ w ∷ []) ++ zs = grind (arith, after_last, p, append_assoc, after_more, none, changes_at) in
     let was : since_at device t (hs ++ zs) ≡ base ++ zs = after_more p hs zs none in
     ap (filter_map f) (same_kept with_it without (since_at device t (hs ++ w ∷ zs)) (λ h i. same h))
     ∙ ap (λ (l : List Happening). filter_map f (filter without l)) since
@@ -94,11 +93,9 @@ left_grown s hs zs device t w node new first kept grown left =
         adjustment = ap (λ (x : _). x.adjustment) grown.standing ∙ left.counted.adjustment ∙ a.adjustment;
         integrated = ap (λ (x : _). x.integrated) grown.standing ∙ left.counted.integrated ∙ a.integration;
         number = grind (arith, timed_too, recorded_cycle, earlier, cleared_alike, a, has_cleared, a.cycle);
-        changed =
-            grind (arith, adjustment_before, a.change, changed_at, a.adjustment);
+        changed = grind (arith, adjustment_before, a.change, changed_at, a.adjustment);
         heard = grind (arith, option_to_list, hearing_by, timed_too, heard_grown);
-        started =
-            grind (arith, recorded_cycle, earlier, a.integration, a.cycle);
+        started = grind (arith, recorded_cycle, earlier, a.integration, a.cycle);
         broken = grown.broken ∙ left.counted.broken;
       };
       state = ap (λ (x : _). x.state) grown.standing ∙ left.state ∙ ap (λ x. if is_turned_on_at s device t then Integrating else x) a.state;
@@ -120,8 +117,7 @@ IsByRole false judgements.Ignored = Unit {0}
 IsByRole cm other = ⊥
 
 heard_so : (network : Network) (device : DeviceId) (link : LinkId) (cause : ℕ) (point : Units) (w : Happening) (frame : Pcf) (within : Bool)
-    → w.frame ≡ Some frame
-    → hearings (channel_of_link network link) frame.cycle frame.members point within
+    → w.frame ≡ Some frame → hearings (channel_of_link network link) frame.cycle frame.members point within
     ≡ option_to_list (if device.0 == device.0 then option_map (λ channel. heard_by channel w point within) (channel_of_link network link) else None)
 heard_so network device link cause point w frame within of_frame =
     grind (arith, cycle_in, option_map_or, members_in, option_to_list, option_map, channel_of_link, self)
@@ -129,8 +125,7 @@ heard_so network device link cause point w frame within of_frame =
 point_so : (device : DeviceId) (link : LinkId) (cause : ℕ) (point : Units) (w : Happening) (frame : Pcf) → w.frame ≡ Some frame
     → point_at point.0 (master_of frame.members.0) frame.cycle ∷ []
     ≡ option_to_list (if device.0 == device.0 then Some (point_at point.0 (master_of (members_in w)) (cycle_in w)) else None)
-point_so device link cause point w frame of_frame =
-    grind (arith, cycle_in, option_map_or, members_in, point_at, master_of, option_to_list, self)
+point_so device link cause point w frame of_frame = grind (arith, cycle_in, option_map_or, members_in, point_at, master_of, option_to_list, self)
 
 -- what the call leaves as it was
 pub record IsSame (node new : Node) : Type 0 where

@@ -29,5 +29,4 @@ role_for b P Q R e m = subst (λ (c : Bool). MatchBool c Q R) (sym e) (MatchBool
 pub by_role : (n : Network) (device : DeviceId) (state : State) (adjustment : _) (points others : List Point) (frame : Pcf) (point : _) (is : Ripe)
     → (is_cm n device ≡ true → points ≡ others) → IsPermanenceOutcome n device state adjustment points frame point is
     → IsPermanenceOutcome n device state adjustment others frame point is
-by_role n device state adjustment points others frame point is same so =
-    grind (arith, cases_Bool, is_cm, role_for)
+by_role n device state adjustment points others frame point is same so = grind (arith, cases_Bool, is_cm, role_for)

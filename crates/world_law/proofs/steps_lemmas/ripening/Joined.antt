@@ -31,8 +31,7 @@ pub record IsJoin (s : Scenario) (hs zs : List Happening) (device : DeviceId) (n
 -- what a fold makes of the lists
 at_join : {B : Type 0} (f : B → Happening → B) (z : B) (hs zs : List Happening) (w : Happening) → ((h : Happening) → IsIn h zs → (b : B) → f b h ≡ b)
     → fold f z (hs ++ w ∷ zs) ≡ f (fold f z hs) w
-at_join f z hs zs w same =
-    ap (fold f z) (sym (append_assoc hs (w ∷ []) zs)) ∙ fold_rest f z (hs ++ w ∷ []) zs same ∙ fold-append f z hs (w ∷ [])
+at_join f z hs zs w same = ap (fold f z) (sym (append_assoc hs (w ∷ []) zs)) ∙ fold_rest f z (hs ++ w ∷ []) zs same ∙ fold-append f z hs (w ∷ [])
 
 pub joined_changes : (s : Scenario) (hs zs : List Happening) (device : DeviceId) (now : ℕ) (w : Happening) (link : LinkId) (cause : ℕ) (point : Units)
     (frame : Pcf) → IsJoin s hs zs device now w link cause point frame → changed_at (hs ++ w ∷ zs) device (now + 1) ≡ now
@@ -60,18 +59,15 @@ left_joined s hs zs device now w link cause point frame node moment phase j read
     let of_cycle : cycle_in w ≡ frame.cycle = ap (λ (o : Option Pcf). option_map_or (λ f. f.cycle) o 0) j.of_frame in
     let adjusted : adjustment_after s js device ≡ joined_adjustment s device (cycle_in w) point =
     grind (arith, at_join, adjustment_with, cycle_in, mere_adjustment, adjustment_after, e, self) in
-    let integration : integration_cycle js device ≡ Some (cycle_in w) =
-    grind (arith, at_join, is_joined_by, cycle_in, mere_joins, integration_cycle, joined) in
-    let recorded : recorded_cycle js device ≡ cycle_in w =
-    grind (arith, at_join, cycle_after, mere_cycle, recorded_cycle, e, cycle_in, self) in
+    let integration : integration_cycle js device ≡ Some (cycle_in w) = grind (arith, at_join, is_joined_by, cycle_in, mere_joins, integration_cycle, joined) in
+    let recorded : recorded_cycle js device ≡ cycle_in w = grind (arith, at_join, cycle_after, mere_cycle, recorded_cycle, e, cycle_in, self) in
     let changed = joined_changes s hs zs device now w link cause point frame j in
     let change : change_in device js ≡ now = ap (λ (l : List Happening). change_in device l) (sym j.whole) ∙ changed in
     let at : u - 1 ≡ now = omega arith in
     let local : local_in s device js ≡ (pos (s.reading device now) +ℤ (adjustment_after s js device).0) =
     ap (λ (n : ℕ). pos (s.reading device n) +ℤ (adjustment_after s js device).0) change in
     let v = correction_value s.network (recorded_cycle js device) in
-    let none : cleared_in s device js u ≡ false =
-    and_right (is_integration_cycle js device) _
+    let none : cleared_in s device js u ≡ false = and_right (is_integration_cycle js device) _
     (ap (λ (z : ℤ). int_lt z v && int_le v (pos (s.reading device (u - 1)) +ℤ (adjustment_after s js device).0)) local
     ∙ ap (λ (n : ℕ). int_lt (pos (s.reading device now) +ℤ (adjustment_after s js device).0) v
     && int_le v (pos (s.reading device n) +ℤ (adjustment_after s js device).0)) at
@@ -84,8 +80,7 @@ left_joined s hs zs device now w link cause point frame node moment phase j read
     let since : after_last p js ≡ zs = behind_it p hs zs w here (λ h i. and_right (nat_lt (time_of h) u) _ (mere_changes device h.note.body (j.mere h i))) in
     let k = λ (h : Happening). not (has_cleared s js device u u) || has_cleared s js device u (time_of h) in
     let hear = λ (h : Happening). hearing_by s.network device h h.note.body in
-    let anew : heard_since s js device u ≡ [] =
-    ap (λ (l : List Happening). filter_map hear (filter k l)) since
+    let anew : heard_since s js device u ≡ [] = ap (λ (l : List Happening). filter_map hear (filter k l)) since
     ∙ maps_rest hear [] (filter k zs) (λ h i. mere_hears s.network device h h.note.body (j.mere h (Rattle.run_law.proofs.law.FirstPlaces.in_filter k zs h i)))
     in
     record {
@@ -94,11 +89,9 @@ left_joined s hs zs device now w link cause point frame node moment phase j read
         adjustment = sym own ∙ sym adjusted ∙ ap (λ (l : List Happening). adjustment_after s l device) (sym j.whole);
         integrated = sym (ap (λ (n : ℕ). Some n) of_cycle) ∙ sym integration ∙ ap (λ (l : List Happening). integration_cycle l device) (sym j.whole);
         number = grind (arith, of_cycle, recorded, recorded_cycle, js, none, next_in, u);
-        changed =
-            grind (arith, own, adjusted, local, local_in);
+        changed = grind (arith, own, adjusted, local, local_in);
         heard = λ timed. sym anew;
-        started =
-            grind (arith, integration_cycle, recorded_cycle, js, recorded, cycle_in, integration);
+        started = grind (arith, integration_cycle, recorded_cycle, js, recorded, cycle_in, integration);
         broken = broken;
       };
       state = sym j.joining ∙ ap (λ (l : List Happening). state_after s l device) (sym j.whole) ∙ sym (not_turned_on s js device u off);
@@ -114,8 +107,7 @@ looking_of false state e = sym e
 pub was_looking : (s : Scenario) (hs : List Happening) (now : ℕ) (e : Waiting) (node : Node) → Hears s hs e.device now node → is_cm s.network e.device ≡ false
     → Rattle.run_law.specs.machines.Answers.IsPermanenceOutcomeAt s.network e.device node e.frame e.point ripe.Integrates
     → state_before s hs e.device now ≡ Integrating
-was_looking s hs now e node hears other so =
-    grind (arith, looking_ripe, plan_of, observation_window, is_cm, looking_of, has_joined_at, state_before)
+was_looking s hs now e node hears other so = grind (arith, looking_ripe, plan_of, observation_window, is_cm, looking_of, has_joined_at, state_before)
 
 -- ---- it is kept
 
@@ -123,10 +115,8 @@ pub kept_joined : {M : Type 0} (stands : M → Network → DeviceId → Node →
     (e : Waiting)
     (machine after : M) (w : Happening) (r : IsRipe s hs coming mark cursor now e) (k : IsKept stands s hs coming cursor now e.device machine)
     → stands after s.network e.device (called (moment_of s e.device now) ripening (with_joined k.node (moment_of s e.device now) e.frame e.point))
-    → is_cm s.network e.device ≡ false → pos 0 ≤ℤ s.network.precision.0
-    → state_before s hs e.device now ≡ Integrating
-    → IsJoin s hs zs e.device now w e.link e.cause e.point e.frame
-    → ((z : Happening) → IsIn z zs → time_of z ≡ now)
+    → is_cm s.network e.device ≡ false → pos 0 ≤ℤ s.network.precision.0 → state_before s hs e.device now ≡ Integrating
+    → IsJoin s hs zs e.device now w e.link e.cause e.point e.frame → ((z : Happening) → IsIn z zs → time_of z ≡ now)
     → ((cursor2 : List ℕ) → HasTurnedOn s hs coming cursor2 e.device now → HasTurnedOn s hs (w ∷ zs) cursor2 e.device now)
     → frames_taken s (hs ++ coming) e.device ≡ frames_taken s (hs ++ w ∷ zs) e.device
     → IsKept stands s hs (w ∷ zs) (behind (now ∷ 3 ∷ ripe_more e)) now e.device after
@@ -184,8 +174,7 @@ kept_joined stands s hs coming zs mark cursor now e machine after w r k is other
 
     later_task : (task : Task)
         → IsPending s.network e.device (called (moment_of s e.device now) ripening (with_joined k.node (moment_of s e.device now) e.frame e.point)) task
-        → (x : ℕ) → x ≤ now
-        → pos (s.reading e.device x) <ℤ reading_for s.network
+        → (x : ℕ) → x ≤ now → pos (s.reading e.device x) <ℤ reading_for s.network
         (called (moment_of s e.device now) ripening (with_joined k.node (moment_of s e.device now) e.frame e.point)) task
     later_task (emitting sent) p x le = absurd (both_ways (is_cm s.network e.device) other p.1.cm)
     later_task (doing deed) p x le =

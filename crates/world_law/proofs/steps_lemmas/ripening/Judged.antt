@@ -41,21 +41,17 @@ pub record Hears (s : Scenario) (hs : List Happening) (device : DeviceId) (now :
   pub points : is_cm s.network device ≡ true → node.points ≡ points_of hs device
 
 pub judges_so : (s : Scenario) (hs : List Happening) (device : DeviceId) (now : ℕ) (node : Node) (frame : Pcf) (point : Units) (is : Ripe)
-    → Hears s hs device now node
-    → IsPermanenceOutcomeAt s.network device node frame point is → IsJudgedBy s hs device now frame point is
-judges_so s hs device now node frame point is hears so =
-    grind (arith, by_role, points_of, state_at_hearing)
+    → Hears s hs device now node → IsPermanenceOutcomeAt s.network device node frame point is → IsJudgedBy s hs device now frame point is
+judges_so s hs device now node frame point is hears so = grind (arith, by_role, points_of, state_at_hearing)
 
 -- the points are those of the records given
 pub points_given : (s : Scenario) (hs coming : List Happening) (device : DeviceId) → ((z : Happening) → IsIn z coming → IsLateKind z.note.body)
     → ((z : Happening) → IsIn z coming → ends_stretch device z.note.body ≡ false) → points_of (hs ++ coming) device ≡ points_of hs device
-points_given s hs coming device late open_ =
-    grind (arith, filter_map, point_by, after_more, ends_stretch, maps_rest, after_last, mere_point, late_mere)
+points_given s hs coming device late open_ = grind (arith, filter_map, point_by, after_more, ends_stretch, maps_rest, after_last, mere_point, late_mere)
 
 -- where no frame has told it the time
 pub hears_before : (s : Scenario) (hs coming : List Happening) (mark cursor : List ℕ) (now : ℕ) (e : Waiting) (node : Node)
-    → IsRipe s hs coming mark cursor now e
-    → IsLeft s (hs ++ coming) e.device now node
+    → IsRipe s hs coming mark cursor now e → IsLeft s (hs ++ coming) e.device now node
     → ((h : Happening) → IsIn h (hs ++ coming) → time_of h ≡ now → IsAtRest s e.device now h.note.body) → Hears s hs e.device now node
 hears_before s hs coming mark cursor now e node r left still =
     let device = e.device in
@@ -73,8 +69,7 @@ hears_before s hs coming mark cursor now e node r left still =
       state =
           left.state ∙ ap (λ (l : List Happening). if is_turned_on_at s device now then Integrating else state_after s l device) same
           ∙ sym (not_joined s hs device now none);
-      adjustment =
-          left.counted.adjustment ∙ ap (λ (l : List Happening). adjustment_after s l device) same ∙ sym (not_joined_yet s hs device now none r.past);
+      adjustment = left.counted.adjustment ∙ ap (λ (l : List Happening). adjustment_after s l device) same ∙ sym (not_joined_yet s hs device now none r.past);
       points = λ cm.
           left.points cm
           ∙ points_given s hs coming device late
@@ -188,8 +183,7 @@ changed_now s hs coming mark cursor now e r joined =
     let from = in_time_of s hs r.run.founded at.0 at.1 j at.2 y inside in
     let to = r.past y (subst (λ (l : List Happening). IsIn y l) (sym at.2) (in_right y at.0 (j ∷ at.1) (inr inside))) in
     omega (arith, from, to, j_now) in
-    let lists : filter p (earlier (now + 1) (hs ++ coming)) ≡ filter p at.0 ++ j ∷ filter p at.1 =
-    ap (filter p) (all_earlier s hs coming mark cursor now e r)
+    let lists : filter p (earlier (now + 1) (hs ++ coming)) ≡ filter p at.0 ++ j ∷ filter p at.1 = ap (filter p) (all_earlier s hs coming mark cursor now e r)
     ∙ filter_rest p hs coming (λ h i. mere_changes device h.note.body (late_mere device h.note.body (late h i)))
     ∙ ap (filter p) at.2 ∙ filter-append p at.0 (j ∷ at.1)
     ∙ ap (λ (b : Bool). filter p at.0 ++ (if b then j ∷ filter p at.1 else filter p at.1)) (joined_changes device j.note.body flags.1) in
@@ -213,8 +207,7 @@ none_cleared s hs device now at =
 -- a device that has a next correction point then was told the time
 pub timed_joined : (s : Scenario) (hs : List Happening) (device : DeviceId) (now : ℕ) (state : State) → state ≡ state_at_hearing s hs device now
     → state_before s hs device now ≡ Integrating → is_timed state ≡ true → has_joined_at hs device now ≡ true
-timed_joined s hs device now state is looking timed =
-    grind (arith, cases_Bool, has_joined_at, both_ways, is_timed, state_before)
+timed_joined s hs device now state is looking timed = grind (arith, cases_Bool, has_joined_at, both_ways, is_timed, state_before)
 
 pub cleared_told : (s : Scenario) (hs coming : List Happening) (mark cursor : List ℕ) (now : ℕ) (e : Waiting) (node : Node)
     → IsTold s hs coming mark cursor now e

@@ -64,8 +64,7 @@ in_time_rest : (x : Happening) (hs : List Happening) → IsInTime (x ∷ hs) →
 in_time_rest x hs sorted front rest y e h i = sorted (x ∷ front) rest y (ap (λ (l : List Happening). x ∷ l) e) h i
 
 given_states : (device : DeviceId) (now : ℕ) (z : State) (hs : List Happening) → IsInTime hs → ((h : Happening) → IsIn h hs → time_of h ≤ now)
-    → ((h : Happening) → IsIn h hs → time_of h ≡ now → rank h.note.body ≤ 3)
-    → fold (λ state h. state_with device state h.note.body) z hs
+    → ((h : Happening) → IsIn h hs → time_of h ≡ now → rank h.note.body ≤ 3) → fold (λ state h. state_with device state h.note.body) z hs
     ≡ (if has_joined_at hs device now then Joining else fold (λ state h. state_with device state h.note.body) z (earlier now hs))
 given_states device now z [] sorted past low = refl
 given_states device now z (h ∷ hs) sorted past low =
@@ -96,8 +95,7 @@ low_adjustment : (s : Scenario) (device : DeviceId) (cycle : ℕ) (old : Units) 
 low_adjustment s device cycle old body low e = keeps_adjustment s device cycle old body (low_moves device body low e)
 
 fold_filter : {B : Type 0} (f : B → Happening → B) (q : Happening → Bool) (z : B) (hs : List Happening)
-    → ((h : Happening) → IsIn h hs → q h ≡ false → (b : B) → f b h ≡ b)
-    → fold f z hs ≡ fold f z (filter q hs)
+    → ((h : Happening) → IsIn h hs → q h ≡ false → (b : B) → f b h ≡ b) → fold f z hs ≡ fold f z (filter q hs)
 fold_filter f q z [] same = refl
 fold_filter {B} f q z (h ∷ hs) same =
     elim (cases_Bool (q h)) [
@@ -278,8 +276,7 @@ place_state t m now d n (kinds.Clock device reading adjustment state) e = absurd
 
 -- of two records of the time, the event has the lower number
 event_first : (s : Scenario) (hs : List Happening) (now n c : ℕ) (j h : Happening) → IsFounded place_of (IsDue s) hs → numbered hs n ≡ Some j
-    → numbered hs c ≡ Some h
-    → time_of j ≡ now → time_of h ≡ now → rank h.note.body ≡ 1 → 2 ≤ rank j.note.body → c < n
+    → numbered hs c ≡ Some h → time_of j ≡ now → time_of h ≡ now → rank h.note.body ≡ 1 → 2 ≤ rank j.note.body → c < n
 event_first s hs now n c j h founded at_n at_c j_now h_now one two =
     let split = founded_at s hs j founded (numbered_in hs n j at_n) in
     let number = number_is s hs n j founded at_n in

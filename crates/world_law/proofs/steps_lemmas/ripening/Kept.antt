@@ -31,8 +31,7 @@ under_act now d more = inr (refl, inl (omega arith))
 pub is_yet : {M : Type 0} (stands : M → Network → DeviceId → Node → Type 0) (s : Scenario) (hs coming : List Happening) (mark cursor : List ℕ) (now : ℕ)
     (e : Waiting) (machine : M)
     → IsRipe s hs coming mark cursor now e → (k : IsKept stands s hs coming cursor now e.device machine) → IsYet s hs coming mark cursor now k.up k.high e
-is_yet stands s hs coming mark cursor now e machine r k =
-    grind (arith, ripe_more, act_place, chain, under_act)
+is_yet stands s hs coming mark cursor now e machine r k = grind (arith, ripe_more, act_place, chain, under_act)
 
 -- ---- its tasks
 
@@ -50,8 +49,7 @@ task_carried : (s : Scenario) (e : Waiting) (node new : Node) (task : Task) → 
     ⊎ ((e.point.0 +ℤ pos 1) ≤ℤ reading_for s.network new task)
 task_carried s e node new (emitting sent) c p =
     elim (c.waiting sent p.1) [ inl old ↦ inl ((sym c.same.broken ∙ p.0, old), refl) | inr later ↦ inr later ]
-task_carried s e node new (doing deed) c p =
-    grind (arith, undone_alike, alike_of, value_of)
+task_carried s e node new (doing deed) c p = grind (arith, undone_alike, alike_of, value_of)
 
 pub before_place : (p : List ℕ) (now : ℕ) (more : List ℕ) → IsBefore p (now ∷ 3 ∷ []) → IsBefore p (now ∷ 3 ∷ more)
 before_place [] now more b = tt
@@ -123,8 +121,7 @@ turned_on s hs coming mark cursor now more device m it = record {
 pub kept_next : {M : Type 0} (stands : M → Network → DeviceId → Node → Type 0) (s : Scenario) (hs coming coming2 : List Happening) (mark cursor : List ℕ)
     (now : ℕ) (e : Waiting)
     (machine after : M) (new : Node) (r : IsRipe s hs coming mark cursor now e) (k : IsKept stands s hs coming cursor now e.device machine)
-    → stands after s.network e.device (called (moment_of s e.device now) ripening new)
-    → IsCarriedOn s e k.node (called (moment_of s e.device now) ripening new)
+    → stands after s.network e.device (called (moment_of s e.device now) ripening new) → IsCarriedOn s e k.node (called (moment_of s e.device now) ripening new)
     → IsNext s hs coming coming2 now k.up e.device (called (moment_of s e.device now) ripening new)
     → IsKept stands s hs coming2 (behind (now ∷ 3 ∷ ripe_more e)) now e.device after
 kept_next stands s hs coming coming2 mark cursor now e machine after base r k is c n =
@@ -299,8 +296,7 @@ with_point_waiting s e node new p sent at points emitted some no_later w =
 
 calc_some : (s : Scenario) (hs coming : List Happening) (mark cursor : List ℕ) (now : ℕ) (e : Waiting) → IsRipe s hs coming mark cursor now e
     → pos 1 ≤ℤ pos (amount s.network.calc)
-calc_some s hs coming mark cursor now e r =
-    grind (arith, natural, ints)
+calc_some s hs coming mark cursor now e r = grind (arith, natural, ints)
 
 pub carried_by_role : (s : Scenario) (hs coming : List Happening) (mark cursor : List ℕ) (now : ℕ) (e : Waiting) (node : Node) (verdict : Judgement)
     → IsRipe s hs coming mark cursor now e → IsByRole (is_cm s.network e.device) verdict
@@ -330,15 +326,13 @@ role_still : (cm : Bool) (device : DeviceId) (body : NoteBody) (link : _) (cause
     → body ≡ kinds.Permanent device link cause point verdict
     → IsByRole cm verdict → (is_joined_by device body ≡ false) × (moves device body ≡ false) × (changes_adjustment device body ≡ false)
     × (Rattle.run_law.specs.control.Collections.ends_stretch device body ≡ false)
-role_still cm device body link cause point verdict e role =
-    grind (arith, is_joined_by, moves, changes_adjustment)
+role_still cm device body link cause point verdict e role = grind (arith, is_joined_by, moves, changes_adjustment)
 
 pub next_by_role : {M : Type 0} (stands : M → Network → DeviceId → Node → Type 0) (s : Scenario) (n : ℕ) (hs coming : List Happening) (mark cursor : List ℕ)
     (now : ℕ) (e : Waiting)
     (machine : M) (w : Happening) (verdict : Judgement) (r : IsRipe s hs coming mark cursor now e) (k : IsKept stands s hs coming cursor now e.device machine)
     → Hears s hs e.device now k.node → IsByRole (is_cm s.network e.device) verdict → w.note.body ≡ kinds.Permanent e.device e.link e.cause e.point verdict
-    → w.frame ≡ Rattle.std.proofs.Common.Some e.frame → time_of w ≡ now
-    → IsNext s hs coming (placed n [] w coming) now k.up e.device
+    → w.frame ≡ Rattle.std.proofs.Common.Some e.frame → time_of w ≡ now → IsNext s hs coming (placed n [] w coming) now k.up e.device
     (called (moment_of s e.device now) ripening (after_permanence k.node (moment_of s e.device now) (channel_of_link s.network e.link) e.frame e.point
     (ripe_as verdict)))
 next_by_role stands s n hs coming mark cursor now e machine w verdict r k hears role body of_frame at =

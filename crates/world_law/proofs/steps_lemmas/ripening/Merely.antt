@@ -74,7 +74,5 @@ maps_one {X} {Y} f xs x = grind (arith, filter_map-append, filter_map, cons_opti
 -- of records before a time, one that does not move the device is none of its own
 pub own_skip : (device : DeviceId) (t : ℕ) (hs zs : List Happening) (w : Happening) → moves device w.note.body ≡ false
     → own device (earlier t (hs ++ w ∷ zs)) ≡ own device (earlier t (hs ++ zs))
-own_skip device t [] zs w still =
-    grind (arith, cases_lt, time_of, earlier_yes, own_no, earlier, earlier_no)
-own_skip device t (h ∷ hs) zs w still =
-    grind (arith, nat_lt, time_of, earlier, moves, (own_skip device t hs zs w still))
+own_skip device t [] zs w still = grind (arith, cases_lt, time_of, earlier_yes, own_no, earlier, earlier_no)
+own_skip device t (h ∷ hs) zs w still = grind (arith, nat_lt, time_of, earlier, moves, (own_skip device t hs zs w still))

@@ -69,13 +69,11 @@ pub record IsHere (now t : ℕ) (e : Waiting) (device : DeviceId) (link : LinkId
 
 is_here : (now t d a m l c : ℕ) (e : Waiting) (device : DeviceId) (link : LinkId) → device.0 ≡ d → link.0 ≡ l → now ∷ 3 ∷ ripe_more e ≡ t ∷ 3 ∷ d ∷ a ∷ m ∷ l
     ∷ c ∷ [] → IsHere now t e device link c
-is_here now t d a m l c e device link dev of_link at =
-    grind arith
+is_here now t d a m l c e device link dev of_link at = grind arith
 
 moved_here : (s : Scenario) (js : List Happening) (now t : ℕ) (e : Waiting) (device : DeviceId) (link : LinkId) (cause : ℕ) (point : Units) (is : Ripe)
     → IsHere now t e device link cause → BecomesPermanent s js device t link cause point is → BecomesPermanent s js e.device now e.link e.cause point is
-moved_here s js now t e device link cause point is h b =
-    grind arith
+moved_here s js now t e device link cause point is h b = grind arith
 
 pub one_outcome : (s : Scenario) (hs coming f : List Happening) (mark cursor : List ℕ) (now t : ℕ) (e : Waiting) (node : Node) (device : DeviceId)
     (link : LinkId) (cause : ℕ) (point : Units)
@@ -139,10 +137,8 @@ place_drop t m now d l c (kinds.Delivered device link cause vl cycle) e = absurd
 place_drop t m now d l c (kinds.Clock device reading adjustment state) e = absurd (let r : ◌≡◌ {A = ℕ} 13 14 = cc in omega (arith, r))
 
 same_place : (s : Scenario) (js : List Happening) (t : ℕ) (device : DeviceId) (link : LinkId) (cause : ℕ) (a b : Pcf) (p q : Units)
-    → IsPermanent s js device t link cause a p
-    → IsPermanent s js device t link cause b q → (a ≡ b) × (p ≡ q)
-same_place s js t device link cause a b p q x y =
-    grind (arith, some_same)
+    → IsPermanent s js device t link cause a p → IsPermanent s js device t link cause b q → (a ≡ b) × (p ≡ q)
+same_place s js t device link cause a b p q x y = grind (arith, some_same)
 
 -- a drop at the place of this frame's would come from this very source, which is not worked off
 pub drop_fresh : (s : Scenario) (hs coming : List Happening) (mark cursor : List ℕ) (now : ℕ) (e : Waiting) (r : IsRipe s hs coming mark cursor now e)
@@ -172,8 +168,7 @@ drop_fresh s hs coming mark cursor now e r permanent y i at =
           (ap (λ (h : Happening). h.note.body) same ∙ r.it.awaited.arrived) a.1.arrives.put
       | inr (inl p) ↦
           let both = same_place s (hs ++ part.0) now e.device e.link e.cause p.1.frame e.frame p.0 e.point p.1.permanent (permanent part.0) in
-          let is_here : by.0 ≡ here =
-          p.2 ∙ ap (λ (u : Units). now ∷ 3 ∷ e.device.0 ∷ amount u ∷ p.1.frame.members.0 ∷ e.link.0 ∷ e.cause ∷ []) both.1
+          let is_here : by.0 ≡ here = p.2 ∙ ap (λ (u : Units). now ∷ 3 ∷ e.device.0 ∷ amount u ∷ p.1.frame.members.0 ∷ e.link.0 ∷ e.cause ∷ []) both.1
           ∙ ap (λ (f : Pcf). now ∷ 3 ∷ e.device.0 ∷ amount e.point ∷ f.members.0 ∷ e.link.0 ∷ e.cause ∷ []) both.0 in
           elim by.3 [
             | inl b ↦ r.moving.waits (subst (λ (q : List ℕ). IsBefore q cursor) is_here b)

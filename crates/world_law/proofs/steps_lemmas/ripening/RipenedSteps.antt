@@ -68,8 +68,7 @@ ripens_too s hs now e f p it at =
     let c : e.cause ≡ f.cause = sym same.3 in
     let device : e.device ≡ f.device = ap (λ (n : ℕ). let x : DeviceId = record { 0 = n } in x) d in
     let link : e.link ≡ f.link = ap (λ (n : ℕ). let x : LinkId = record { 0 = n } in x) l in
-    let q : IsPermanent s hs f.device now f.link f.cause e.frame e.point =
-    subst (λ (n : ℕ). IsPermanent s hs f.device now f.link n e.frame e.point) c
+    let q : IsPermanent s hs f.device now f.link f.cause e.frame e.point = subst (λ (n : ℕ). IsPermanent s hs f.device now f.link n e.frame e.point) c
     (subst (λ (x : LinkId). IsPermanent s hs f.device now x e.cause e.frame e.point) link
     (subst (λ (x : DeviceId). IsPermanent s hs x now e.link e.cause e.frame e.point) device p)) in
     let arrival : it.arrival ≡ q.arrival = some_same it.arrival q.arrival _ it.there q.there in
@@ -214,15 +213,13 @@ permanent_in s hs coming mark cursor now e r f = record {
 }
 
 here_place : (t now : ℕ) (m : ℕ) (e : Waiting) (verdict : Judgement) (body : NoteBody) → body ≡ kinds.Permanent e.device e.link e.cause e.point verdict
-    → m ≡ e.frame.members.0 → t ≡ now
-    → t ∷ rank body ∷ key m body ≡ now ∷ 3 ∷ ripe_more e
+    → m ≡ e.frame.members.0 → t ≡ now → t ∷ rank body ∷ key m body ≡ now ∷ 3 ∷ ripe_more e
 here_place t now m e verdict body is members at =
     ap (λ (u : ℕ). u ∷ rank body ∷ key m body) at ∙ ap (λ (b : NoteBody). now ∷ rank b ∷ key m b) is
     ∙ ap (λ (n : ℕ). now ∷ 3 ∷ e.device.0 ∷ amount e.point ∷ n ∷ e.link.0 ∷ e.cause ∷ []) members
 
 role_by : (cm : Bool) (verdict : Judgement) → IsKindOf cm (ripe_as verdict)
-    → is_last (kinds.Permanent (record { 0 = 0 }) (record { 0 = 0 }) 0 (record { 0 = pos 0 }) verdict) ≡ true
-    → IsByRole cm verdict
+    → is_last (kinds.Permanent (record { 0 = 0 }) (record { 0 = 0 }) 0 (record { 0 = pos 0 }) verdict) ≡ true → IsByRole cm verdict
 role_by true judgements.Opened kind last = tt
 role_by true judgements.Joined kind last = tt
 role_by true judgements.Repeat kind last = tt
@@ -245,13 +242,11 @@ last_by device link cause point judgements.Integrates e = absurd cc
 last_by device link cause point other e = refl
 
 bears_not : (device : DeviceId) (e : Waiting) (verdict : Judgement) (body : NoteBody) → (device.0 ≡ e.device.0 → ⊥)
-    → body ≡ kinds.Permanent e.device e.link e.cause e.point verdict
-    → bears_on device body ≡ false
+    → body ≡ kinds.Permanent e.device e.link e.cause e.point verdict → bears_on device body ≡ false
 bears_not device e verdict body ne is = ap (bears_on device) is ∙ ne_eqb device.0 e.device.0 ne
 
 rank_not : (a b : Happening) (now : ℕ) (more : List ℕ) → place_of a ≡ now ∷ 3 ∷ more → 4 ≤ rank b.note.body → place_of a ≡ place_of b → ⊥
-rank_not a b now more at high same =
-    grind (arith, time_of, rank, key, members_in)
+rank_not a b now more at high same = grind (arith, time_of, rank, key, members_in)
 
 -- ---- what is common to all outcomes
 
@@ -428,8 +423,7 @@ dropped_step reading stands s world notes e machine after reason machines waitin
 joined_parts : (n : ℕ) (w : Happening) (back front2 back2 : List Happening) → w ∷ map (bump_behind n) back ≡ front2 ++ back2 → 0 < length front2
     → (f2 : List Happening) × (front2 ≡ w ∷ f2) × (map (bump_behind n) back ≡ f2 ++ back2)
 joined_parts n w back [] back2 e some = absurd (omega (arith, some))
-joined_parts n w back (g ∷ f2) back2 e some =
-    grind (arith, map, bump_behind)
+joined_parts n w back (g ∷ f2) back2 e some = grind (arith, map, bump_behind)
 
 joined_step : {C M : Type 0} (reading : C → ℕ → ℕ) (stands : M → Network → DeviceId → Node → Type 0) (s : Scenario) (world : World C M) (notes : List Note)
     (e : Waiting)
@@ -459,8 +453,7 @@ joined_step reading stands s world notes e machine after machines waiting settle
         (machine after : M) (machines : List M) (waiting : List Waiting) (settled : List Happening)
         (x : IsStep reading stands s world notes e machine after ripe.Integrates machines waiting)
         → length notes ≡ length (happenings s.network notes) → length world.settled ≡ length x.old.coming
-        → (front back front2 back2 : List Happening) → x.old.coming ≡ front ++ back
-        → AllBefore place_of front
+        → (front back front2 back2 : List Happening) → x.old.coming ≡ front ++ back → AllBefore place_of front
         (place_of (record_of s.network (happenings s.network notes) front world.now
         (kinds.Permanent e.device e.link e.cause e.point judgements.Integrates))) → NoneBefore place_of back
         (place_of (record_of s.network (happenings s.network notes) front world.now

@@ -60,8 +60,7 @@ point_late reading clock dmax point at le some =
     omega (arith, ints, at, le, whole)
 
 pub arrived_before : (s : Scenario) (hs : List Happening) (e : Waiting) (it : IsWaitingFor s hs e) → IsInRange s.network
-    → Rattle.run_law.specs.runs.Runs.IsFounded place_of (IsDue s) hs
-    → pos (s.reading e.device (time_of it.arrival)) ≤ℤ e.point.0
+    → Rattle.run_law.specs.runs.Runs.IsFounded place_of (IsDue s) hs → pos (s.reading e.device (time_of it.arrival)) ≤ℤ e.point.0
 arrived_before s hs e it range founded =
     let c = come_of s hs e it founded in
     let clock = (sound_of s hs e it c).clock in
@@ -160,8 +159,7 @@ reach_now s hs coming mark cursor now e r =
 
 -- before now its reading had not gone beyond its point
 pub not_beyond : (s : Scenario) (hs coming : List Happening) (mark cursor : List ℕ) (now : ℕ) (e : Waiting) (r : IsRipe s hs coming mark cursor now e) (x : ℕ)
-    → x < now
-    → pos (s.reading e.device x) ≤ℤ e.point.0
+    → x < now → pos (s.reading e.device x) ≤ℤ e.point.0
 not_beyond s hs coming mark cursor now e r x lt =
     let t0 = time_of r.it.arrival in
     elim (cases_lt x t0) [

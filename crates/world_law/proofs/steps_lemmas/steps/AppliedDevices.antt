@@ -105,8 +105,7 @@ same_earlier hs now ev m = ap (earlier now) (append-nil (hs ++ ev ∷ [])) ∙ s
 -- what is up to the time is what is before it, for what events do not change
 up_to_before : {B : Type 0} (step : B → Happening → B) (z : B) (hs : List Happening) (now : ℕ)
     → ((h : Happening) → IsIn h hs → (time_of h < now) ⊎ ((time_of h ≡ now) × IsEventBody h.note.body))
-    → ((b : B) (h : Happening) → IsEventBody h.note.body → step b h ≡ b)
-    → fold step z (up_to now hs) ≡ fold step z (earlier now hs)
+    → ((b : B) (h : Happening) → IsEventBody h.note.body → step b h ≡ b) → fold step z (up_to now hs) ≡ fold step z (earlier now hs)
 up_to_before step z hs now sooner same =
     ap (fold step z) (sym (next_is_up_to now hs))
     ∙ fold_still step now (now + 1) (omega arith) hs
@@ -153,8 +152,7 @@ pub turned_on_less : (network : Network) (device : DeviceId) (node : Node) → H
 turned_on_less network device node = grind (arith, no_deed)
 
 undone_less : (network : Network) (device : DeviceId) (node new : Node) (deed : ClockTask) → HasNoMore network device node new
-    → IsUndone network device new deed
-    → IsUndone network device node deed
+    → IsUndone network device new deed → IsUndone network device node deed
 undone_less network device node new deed a u = grind (arith, value_of)
 
 waiting_less : (network : Network) (device : DeviceId) (node new : Node) (sent : Compressed) → HasNoMore network device node new
@@ -187,8 +185,7 @@ ready_less : (network : Network) (f g : DeviceId → ℕ → ℕ) (device : Devi
     → IsReadyAt (f device) network device node now → new.last ≡ node.last
     → ((task : Task) → IsPending network device new task → IsPending network device node task × (reading_for network node task ≡ reading_for network new task))
     → IsReadyAt (g device) network device new now
-ready_less network f g device now node new reads ready last pending =
-    grind (arith, whole, amount, ints, reading_for)
+ready_less network f g device now node new reads ready last pending = grind (arith, whole, amount, ints, reading_for)
 
 pub kept_less : {M : Type 0} (stands : M → Network → DeviceId → Node → Type 0) (network : Network) (f g : DeviceId → ℕ → ℕ) (past : List Event) (event : Event)
     (hs : List Happening) (cursor : List ℕ) (now number : ℕ) (ev : Happening) (device : DeviceId) (machine after : M) (new : Node)

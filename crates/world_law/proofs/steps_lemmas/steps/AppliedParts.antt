@@ -185,8 +185,7 @@ turned_more network f g past event now device = any_more (λ e. turns_on device 
 
 pub broken_more : (network : Network) (f g : DeviceId → ℕ → ℕ) (past : List Event) (event : Event) (now : ℕ) (device : DeviceId) → amount event.time ≡ now
     → is_broken (scenario network g (past ++ event ∷ [])) device now ≡ (is_broken (scenario network f past) device now || breaks_at device.0 event.what)
-broken_more network f g past event now device at =
-    grind (arith, list_any, filter_yes, nat_le, amount, le-leb, any_more, scenario)
+broken_more network f g past event now device at = grind (arith, list_any, filter_yes, nat_le, amount, le-leb, any_more, scenario)
 
 first_false : (a b : Bool) → (a || b) ≡ false → a ≡ false
 first_false true b e = e
@@ -285,8 +284,7 @@ not_so k r e few high = let same : k ≡ r = cc in omega (arith, same, few, high
 
 -- a record that comes from a source of that rank is that of an event
 pub own_event : (s : Scenario) (js : List Happening) (t members : ℕ) (body : NoteBody) (k : ℕ) (ws : List ℕ) → IsOwnSource s js t members body (t ∷ k ∷ ws)
-    → k < 2
-    → IsEventBody body
+    → k < 2 → IsEventBody body
 own_event s js t m (notes.Event line what) k ws o few = tt
 own_event s js t m (notes.Permanent d link cause point verdict) k ws o few = absurd (not_so k 3 o few (omega arith))
 own_event s js t m (notes.Compressed d opened at cycle of_masters verdict) k ws o few = absurd (not_so k 4 o few (omega arith))

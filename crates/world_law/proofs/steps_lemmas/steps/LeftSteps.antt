@@ -32,8 +32,7 @@ left_behind : {C M : Type 0} (reading : C → ℕ → ℕ) (stands : M → Netwo
     → ComesFirst reading stands s world notes old (port_place e) → IsWithout port_place (port_place e) world.ports ports
     → settled ≡ map (hidden (length notes)) coming → length notes + length coming < none_yet
     → AreSettled s (happenings s.network notes) coming old.mark (behind (world.now ∷ 8 ∷ e.device.0 ∷ e.link.0 ∷ e.cause ∷ [])) world.now
-    → AreOfNetwork s (happenings s.network notes ++ coming)
-    → ((device : DeviceId) (machine : M) → IsHeld stands s (happenings s.network notes) old.coming
+    → AreOfNetwork s (happenings s.network notes ++ coming) → ((device : DeviceId) (machine : M) → IsHeld stands s (happenings s.network notes) old.coming
     (behind (world.now ∷ 8 ∷ e.device.0 ∷ e.link.0 ∷ e.cause ∷ [])) world.now device machine
     → IsHeld stands s (happenings s.network notes) coming (behind (world.now ∷ 8 ∷ e.device.0 ∷ e.link.0 ∷ e.cause ∷ [])) world.now device machine)
     → StandsBehind reading stands s (record world { ports = ports; early = false; settled = settled }) notes (behind (port_place e))
@@ -65,8 +64,7 @@ left_behind reading stands s world notes e ports settled coming old i at first w
 cut_off : {C M : Type 0} (reading : C → ℕ → ℕ) (stands : M → Network → DeviceId → Node → Type 0) (s : Scenario) (world : World C M) (notes : List Note)
     (e : AtPort) (ports : List AtPort) (settled : List Happening) (old : Stands reading stands s world notes) → IsIn e world.ports → e.at ≡ world.now
     → ComesFirst reading stands s world notes old (port_place e) → IsWithout port_place (port_place e) world.ports ports → is_broken s e.device world.now ≡ true
-    → settled ≡ world.settled
-    → StandsBehind reading stands s (record world { ports = ports; early = false; settled = settled }) notes (behind (port_place e))
+    → settled ≡ world.settled → StandsBehind reading stands s (record world { ports = ports; early = false; settled = settled }) notes (behind (port_place e))
 cut_off reading stands s world notes e ports settled old i at first without broken same =
     let m = leaving reading stands s world notes e old i at first in
     left_behind reading stands s world notes e ports settled old.coming old i at first without (same ∙ old.settled) old.room
@@ -171,8 +169,7 @@ gone_out reading stands s world notes e ports settled old i at first without sou
       own = λ zs y y_due y_few y_now own.
           outcome_at s hs zs now e (members_in w) it at sound (time_of y) (members_in y) y.note.body here refl own y.note.time refl y_due.cause;
     } in
-    let shown_all : settled ≡ map (hidden given) (put_list front w back) =
-    last ∙ put.is
+    let shown_all : settled ≡ map (hidden given) (put_list front w back) = last ∙ put.is
     ∙ ap (λ (l : List Happening). l ++ settled_as s.network hs now body ∷ put.back) parts.3
     ∙ ap (λ (l : List Happening). map (hidden given) front ++ settled_as s.network hs now body ∷ l) (parts.4 ∙ sym (bumped_hidden given back))
     ∙ ap (λ (h : Happening). map (hidden given) front ++ h ∷ map (hidden given) (map bump back)) (sym shows)

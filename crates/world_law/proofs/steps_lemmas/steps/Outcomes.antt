@@ -54,8 +54,7 @@ body_own s js t m e on_cut_way d = inl (refl, d)
 
 pub departs_now : (s : Scenario) (hs zs : List Happening) (now : ℕ) (e : AtPort) → IsAtPort s hs e → e.at ≡ now → is_broken s e.device now ≡ false
     → Departs s (hs ++ zs) e.device now e.link e.cause (departure_now s e now)
-departs_now s hs zs now e it at sound =
-    grind (arith, numbered_within, numbered_prefix, nat_lt, amount, is_cut, way_from)
+departs_now s hs zs now e it at sound = grind (arith, numbered_within, numbered_prefix, nat_lt, amount, is_cut, way_from)
 
 pub few_cause : (s : Scenario) (hs : List Happening) (e : AtPort) → IsAtPort s hs e → e.cause ≤ length hs
 few_cause s hs e it = let lt = numbered_within hs e.cause it.giving it.there in omega (arith, lt)
@@ -63,8 +62,7 @@ few_cause s hs e it = let lt = numbered_within hs e.cause it.giving it.there in 
 -- what departs by that record at that place departs so
 pub departs_so : (s : Scenario) (hs zs : List Happening) (now : ℕ) (e : AtPort) (is other : Departure) → IsAtPort s hs e
     → Departs s (hs ++ zs) e.device now e.link e.cause is → Departs s (hs ++ zs) e.device now e.link e.cause other → is ≡ other
-departs_so s hs zs now e is other it a b =
-    grind (arith, some_same, time_of)
+departs_so s hs zs now e is other it a b = grind (arith, some_same, time_of)
 
 -- the numbers of a place
 record IsSamePort (e : AtPort) (now t : ℕ) (device : DeviceId) (link : LinkId) (cause : ℕ) : Type 0 where
@@ -75,13 +73,11 @@ record IsSamePort (e : AtPort) (now t : ℕ) (device : DeviceId) (link : LinkId)
 
 same_port : (e : AtPort) (now t : ℕ) (device : DeviceId) (link : LinkId) (cause : ℕ) → now ∷ 8 ∷ e.device.0 ∷ e.link.0 ∷ e.cause ∷ [] ≡ t ∷ 8 ∷ device.0
     ∷ link.0 ∷ cause ∷ [] → IsSamePort e now t device link cause
-same_port e now t device link cause same =
-    grind arith
+same_port e now t device link cause same = grind arith
 
 moved : (s : Scenario) (js : List Happening) (e : AtPort) (now t : ℕ) (device : DeviceId) (link : LinkId) (cause : ℕ) (is : Departure)
     → IsSamePort e now t device link cause → Departs s js device t link cause is → Departs s js e.device now e.link e.cause is
-moved s js e now t device link cause is p d =
-    grind arith
+moved s js e now t device link cause is p d = grind arith
 
 -- ---- whatever comes from its leaving is at that place
 
@@ -148,12 +144,9 @@ outcome_at s hs zs now e m it at sound t members (kinds.Clock device reading adj
 
 -- where the device is broken, nothing comes from it
 pub nothing_of_broken : (s : Scenario) (js : List Happening) (now t members : ℕ) (e : AtPort) (body : NoteBody) (w : List ℕ) → is_broken s e.device now ≡ true
-    → w ≡ now ∷ 8 ∷ e.device.0 ∷ e.link.0 ∷ e.cause ∷ [] → IsOwnSource s js t members body w
-    → (time : Units) → amount time ≡ t → IsCaused s js time body → ⊥
-nothing_of_broken s js now t members e (kinds.Left device link cause clock) w broken here o time is c =
-    grind (arith, same_port, moved)
-nothing_of_broken s js now t members e (kinds.Lost device link cause) w broken here (inl o) time is c =
-    grind (arith, same_port, moved)
+    → w ≡ now ∷ 8 ∷ e.device.0 ∷ e.link.0 ∷ e.cause ∷ [] → IsOwnSource s js t members body w → (time : Units) → amount time ≡ t → IsCaused s js time body → ⊥
+nothing_of_broken s js now t members e (kinds.Left device link cause clock) w broken here o time is c = grind (arith, same_port, moved)
+nothing_of_broken s js now t members e (kinds.Lost device link cause) w broken here (inl o) time is c = grind (arith, same_port, moved)
 nothing_of_broken s js now t members e (kinds.Lost device link cause) w broken here (inr (inl o)) time is c =
     wrong 4 (ap second (sym here ∙ o.0)) (inl (omega arith))
 nothing_of_broken s js now t members e (kinds.Lost device link cause) w broken here (inr (inr o)) time is c =
@@ -210,8 +203,7 @@ not_awaited a b x y e = let bad : false ≡ true = sym (ap (λ (c : Bool). not c
 -- what a relay waits for it does not give to the link by which that came
 not_both_ways : (s : Scenario) (device : DeviceId) (link : LinkId) (body : NoteBody) (from clock : ℕ) → body ≡ kinds.Arrived device link from clock
     → Gives s.network body device link → waits_for s.network device link ≡ true → ⊥
-not_both_ways s device link body from clock e g waits =
-    grind (arith, not_awaited, is_relay, is_parent_of, parent_true, link_at)
+not_both_ways s device link body from clock e g waits = grind (arith, not_awaited, is_relay, is_parent_of, parent_true, link_at)
 
 -- the record by its number is the giving one
 is_giving : (s : Scenario) (hs zs : List Happening) (e : AtPort) (it : IsAtPort s hs e) (cause : ℕ) (g : Happening) → e.cause ≡ cause
@@ -222,8 +214,7 @@ is_giving s hs zs e it cause g same there =
 
 gives_it : (s : Scenario) (hs : List Happening) (e : AtPort) (it : IsAtPort s hs e) (g : Happening) (device : DeviceId) (link : LinkId) → it.giving ≡ g
     → e.device ≡ device → e.link ≡ link → Gives s.network g.note.body device link
-gives_it s hs e it g device link same by on =
-    grind arith
+gives_it s hs e it g device link same by on = grind arith
 
 not_dispatched : (s : Scenario) (hs zs : List Happening) (e : AtPort) (it : IsAtPort s hs e) (t : ℕ) (device : DeviceId) (link : LinkId) (cause : ℕ) (vl : _)
     (cycle : ℕ) → IsFounded place_of (IsDue s) hs → ((z : Happening) → Rattle.run_law.specs.records.Order.IsIn z zs → t ≤ time_of z)

@@ -14,8 +14,7 @@ use Rattle.run_law.proofs.runs.Places.{before_later_time, before_of_time, earlie
 -- no way changes without an event
 ways_stay : (s : Scenario) (mark : List ℕ) (now t : ℕ) (link : LinkId) (way : Way) → HaveBefallen s mark now → now ≤ t
     → way_now s now link way ≡ way_now s t link way
-ways_stay s mark now t link way b le =
-    grind (arith, last_or, filter_map, no_later_events)
+ways_stay s mark now t link way b le = grind (arith, last_or, filter_map, no_later_events)
 
 pub none_hidden : (given : ℕ) (coming : List Happening) → [] ≡ map (hidden given) coming → coming ≡ []
 none_hidden given [] e = refl
@@ -266,8 +265,7 @@ held_passes : {M : Type 0} (stands : M → Network → DeviceId → Node → Typ
     → now < t → IsSteady (s.reading device) (amount s.network.precision) → pos 0 ≤ℤ s.network.precision.0 → HaveBefallen s mark now → IsPast hs now
     → IsWorked hs cursor now
     → ((node : Node) → stands machine s.network device node → (task : Task) → IsPending s.network device node task → (x : ℕ) → now ≤ x → x < t
-    → pos (s.reading device x) <ℤ reading_for s.network node task)
-    → IsHeld stands s hs [] (t ∷ []) t device machine
+    → pos (s.reading device x) <ℤ reading_for s.network node task) → IsHeld stands s hs [] (t ∷ []) t device machine
 held_passes stands s hs mark cursor now t device machine (inl k) lt steady precise befallen past worked idle =
     inl (device_passes stands s hs mark cursor now t device machine k lt steady precise befallen past worked (idle k.node k.is))
 held_passes stands s hs mark cursor now t device machine (inr k) lt steady precise befallen past worked idle =

@@ -10,5 +10,4 @@ port_of-requires c =
     sym (c.requires.sound.1.kinds first there) ∙ ap (λ (p : DueAt). p.rank) same ∙ c.requires.port
 
 pub returns : goal.returns
-returns c =
-    in_words _ _ c.in-Some.first c.args.place _ (one_first _ _ _ c.in-Some.ensures.first c.requires.first) c.port_of.ensures c.in-Some.ensures.entries
+returns c = in_words _ _ c.in-Some.first c.args.place _ (one_first _ _ _ c.in-Some.ensures.first c.requires.first) c.port_of.ensures c.in-Some.ensures.entries

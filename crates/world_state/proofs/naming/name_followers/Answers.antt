@@ -17,5 +17,4 @@ loop-index-preserved c =
     )
 
 pub returns-then-not-may_lead : goal.returns-then-not-may_lead
-returns-then-not-may_lead c =
-    none_named c.args.number c.args.first.now (c.may_lead.ensures c.if-not-may_lead.true) c.args.settled.now.items
+returns-then-not-may_lead c = none_named c.args.number c.args.first.now (c.may_lead.ensures c.if-not-may_lead.true) c.args.settled.now.items

@@ -32,8 +32,7 @@ returns-in-Some-clause-is c network befallen remembers has =
     ∙ ap (λ (n : ℕ). pos n +ℤ c.args.shown.now.adjustment) (c.reading.ensures network befallen remembers has) in
     omega (arith, ints, most, here) in
     let sought = c.reading_for-sought.result in
-    let same : sought ≡ (value_in c.args.series number -ℤ c.args.shown.now.adjustment) =
-    c.reading_for-sought.ensures
+    let same : sought ≡ (value_in c.args.series number -ℤ c.args.shown.now.adjustment) = c.reading_for-sought.ensures
     ∙ ap (λ (z : ℤ). z -ℤ c.args.shown.now.adjustment) (to_z-of_z w128 c.value_in.result (search rules) ∙ c.value_in.ensures) in
     let found : IsFirstReach reading c.args.after sought c.args.until (Some c.in-Some.time) =
     subst (λ (o : Option ℕ). IsFirstReach reading c.args.after sought c.args.until o) c.in-Some.is
@@ -66,8 +65,7 @@ returns-in-None-clause-is c network befallen remembers has =
       least = λ n lt. c.number_behind-number.ensures.least n (subst (λ (z : ℤ). z <ℤ value_in c.args.series n) (sym same) lt);
     } in
     let sought = c.reading_for-sought.result in
-    let same : sought ≡ (value_in c.args.series number -ℤ c.args.shown.now.adjustment) =
-    c.reading_for-sought.ensures
+    let same : sought ≡ (value_in c.args.series number -ℤ c.args.shown.now.adjustment) = c.reading_for-sought.ensures
     ∙ ap (λ (z : ℤ). z -ℤ c.args.shown.now.adjustment) (to_z-of_z w128 c.value_in.result (search rules) ∙ c.value_in.ensures) in
     let found : IsFirstReach reading c.args.after sought c.args.until None =
     subst (λ (o : Option ℕ). IsFirstReach reading c.args.after sought c.args.until o) c.in-None.is

@@ -23,8 +23,7 @@ returns-then-shows_nothing c s hs h is met all keeps =
     let device = c.args.device in
     let network = c.args.network.now in
     let carried = c.args.carried in
-    let nothing : effect_of s.network device h ≡ Nothing =
-    ap (λ (n : Network). effect_by n device (carried_by h) h.note.body) is
+    let nothing : effect_of s.network device h ≡ Nothing = ap (λ (n : Network). effect_by n device (carried_by h) h.note.body) is
     ∙ ap (λ (x : Carried). effect_by network device x h.note.body) (sym met.frame)
     ∙ ap (effect_by network device carried) met.body_is
     ∙ c.shows_nothing.ensures.0 c.if-shows_nothing.true in

@@ -10,8 +10,7 @@ returns-in_err-taking c network hs has =
     let kept : taken_of c.index.result.now vl ≡ takings_of hs device vl =
     sym (ap (λ (o : Option DeviceTakings). option_map_or (λ (d : DeviceTakings). taken_of d vl) o []) there) ∙ has.kept device vl c.requires in
     let test : Taking → Bool = is_taking_before c.args.time c.args.link c.args.cause in
-    let last : None ≡ last_or None (filter test (takings_of hs device vl)) =
-    sym c.in_err-taking.was
+    let last : None ≡ last_or None (filter test (takings_of hs device vl)) = sym c.in_err-taking.was
     ∙ c.last_before.ensures (subst AscendAll (sym kept) (has.ascend device vl))
     ∙ ap (λ (xs : List Taking). last_or None (filter test xs)) kept in
     c.from_residual.ensures
@@ -26,8 +25,7 @@ returns c network hs has =
     let kept : taken_of c.index.result.now vl ≡ takings_of hs device vl =
     sym (ap (λ (o : Option DeviceTakings). option_map_or (λ (d : DeviceTakings). taken_of d vl) o []) there) ∙ has.kept device vl c.requires in
     let test : Taking → Bool = is_taking_before c.args.time c.args.link c.args.cause in
-    let last : Some c.in_ok-taking.taking ≡ last_or None (filter test (takings_of hs device vl)) =
-    sym c.in_ok-taking.was
+    let last : Some c.in_ok-taking.taking ≡ last_or None (filter test (takings_of hs device vl)) = sym c.in_ok-taking.was
     ∙ c.last_before.ensures (subst AscendAll (sym kept) (has.ascend device vl))
     ∙ ap (λ (xs : List Taking). last_or None (filter test xs)) kept in
     ap (λ (o : Option Taking). option_map (λ (e : Taking). e.cycle) o) last

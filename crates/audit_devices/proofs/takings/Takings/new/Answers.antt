@@ -3,8 +3,7 @@ use Rattle.audit_devices.proofs.Takes.{items_by, more_devices, no_devices, none_
 use Rattle.audit_devices.proofs.takings.Takings.new.Goals as goal
 
 pub loop-init : goal.loop-init
-loop-init c =
-    (λ i vl. ap (λ (xs : List DeviceTakings). items_by xs i vl) c.new-devices.ensures.items ∙ no_devices i vl, ap length c.new-devices.ensures.items)
+loop-init c = (λ i vl. ap (λ (xs : List DeviceTakings). items_by xs i vl) c.new-devices.ensures.items ∙ no_devices i vl, ap length c.new-devices.ensures.items)
 
 pub loop-preserved : goal.loop-preserved
 loop-preserved c =

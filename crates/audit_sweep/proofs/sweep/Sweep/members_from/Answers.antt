@@ -1,5 +1,5 @@
 use Rattle.{audit_sweep.proofs.Words.{◌∙◌, ◌≡◌, KeptRecord, Option, ap, sym}, run_law.specs.records.Happenings.{Happening, numbered}}
-use Rattle.{pcf_values.specs.declared.pcf.Pcf.Pcf, std.specs.{Option.option_map_or, Prelude.option_and_then}}
+use Rattle.{std.specs.{Option.option_map_or, Prelude.option_and_then}, tte_units.specs.declared.frames.pcf.Pcf.Pcf}
 use Rattle.audit_sweep.proofs.sweep.Sweep.members_from.Goals as goal
 
 pub returns-in-Some : goal.returns-in-Some

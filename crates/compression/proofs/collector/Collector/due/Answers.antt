@@ -2,8 +2,7 @@ use Rattle.{compression.{proofs.Emitting.IsLeast-first, specs.Collecting.Collect
 use Rattle.compression.proofs.collector.Collector.due.Goals as goal
 
 pub emission-requires-clause-time : goal.emission-requires-clause-time
-emission-requires-clause-time c =
-    (omega (arith, ints, c.self.invariant.some), omega (arith, ints, c.self.invariant.short, c.self.invariant.small))
+emission-requires-clause-time c = (omega (arith, ints, c.self.invariant.some), omega (arith, ints, c.self.invariant.short, c.self.invariant.small))
 
 pub returns-clause-least : goal.returns-clause-least
 returns-clause-least c =

@@ -20,8 +20,7 @@ act_first-requires-clause-due g c = λ s notes machine old at.
     let of_network : c.args.network.now ≡ s.network = old.same in
     let own = old.clocks d (subst (λ (n : Network). d.0 < length n.device) of_network there.of) in
     let clocks : there.clock ≡ own.0 = some_same _ _ _ there.own own.1 in
-    let reads : g.C.Clock.reading there.clock w.time ≡ s.reading d w.time =
-    ap (λ k. g.C.Clock.reading k w.time) clocks ∙ sym (own.2 w.time (omega arith)) in
+    let reads : g.C.Clock.reading there.clock w.time ≡ s.reading d w.time = ap (λ k. g.C.Clock.reading k w.time) clocks ∙ sym (own.2 w.time (omega arith)) in
     λ node is.
     subst (λ (n : Network). HasDue n d node (pos (s.reading d w.time))) of_network
     (subst (λ (x : ℕ). HasDue c.args.network.now d node (pos x)) reads

@@ -4,7 +4,7 @@ use Rattle.drift_world.proofs.{Elsewhere.{clock_elsewhere, waits_elsewhere}, Fit
 use Rattle.drift_world.proofs.Words.{◌++◌, ◌+◌, ◌<◌, ◌↔◌, ◌∙◌, ◌∷◌, ◌≡◌, AreApart, Bool, Down, FitsWorld, IsIn, List, Note, Some, Stands, Up, Waits, What}
 use Rattle.drift_world.proofs.Words.{World, [], amount, ap, arith, befell_as, breaks_at, false, ints, is_broken, is_turned_on_at, keeps, length, list_any, map}
 use Rattle.world_law.{proofs.steps_lemmas.steps.Applied.applied_step, specs.{source.Applying.note_of_event, world.Outcomes.{also_befell, ends_world}}}
-use Rattle.world_law.specs.world.World.{Befell}
+use Rattle.{net_plan.specs.{Belonging.IsOfNetwork, declared.ids.DeviceId.DeviceId}, world_law.specs.world.World.Befell}
 use Rattle.run_law.specs.declared.note.NoteBody.TheVariants as kinds
 use Rattle.drift_world.proofs.state.State.apply.Goals as goal
 
@@ -110,3 +110,31 @@ returns-clause-others g c = λ device there away.
       c.befall_machines.ensures.others device away,
       waits_elsewhere c.args.self.now.waiting.items c.drop_waiting.new.waiting.items device c.args.event.now.what c.drop_waiting.ensures away,
     )
+
+pub befall_machines-requires : goal.befall_machines-requires
+befall_machines-requires g c =
+    let machines = c.requires.sound.sized.machines in
+    let mine : (device : DeviceId) → device.0 < length c.args.network.now.device → device.0 < length c.args.self.now.machines.items =
+    λ device of. omega (arith, of, machines) in
+    record {
+      turned_on = λ device is. mine device (subst (IsOfNetwork c.args.network.now) is c.requires.of_network);
+      broken = λ device is. mine device (subst (IsOfNetwork c.args.network.now) is c.requires.of_network);
+    }
+
+pub set_rate-requires : goal.set_rate-requires
+set_rate-requires g c =
+    let z = c.requires.sound.sized in
+    let clocks = z.clocks in
+    let limit = z.limit in
+    let time = c.requires.time in
+    let mine : (device : DeviceId) → device.0 < length c.args.network.now.device → device.0 < length c.args.self.now.clocks.items =
+    λ device of. omega (arith, of, clocks) in
+    record {
+      there = λ device rate is. mine device (subst (IsOfNetwork c.args.network.now) is c.requires.of_network);
+      slow = c.requires.slow;
+      stepped = λ k d lt. let stepped = z.stepped k d lt in omega (arith, ints, stepped, time);
+      limit = omega (arith, ints, limit, time);
+    }
+
+pub returns-clause-clocks : goal.returns-clause-clocks
+returns-clause-clocks g c = c.set_rate.ensures.each

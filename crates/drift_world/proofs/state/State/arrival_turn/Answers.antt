@@ -67,8 +67,7 @@ returns-then-rank_of-number-clause-kept g c =
     let may = c.requires.may in
     let hear = c.hear_wire-record.ensures in
     let give = c.give_alone-turn.ensures in
-    let changes : ChangesOnly device.0 c.args.self.now gave =
-    changes_both device.0 c.args.self.now mid gave hear.others
+    let changes : ChangesOnly device.0 c.args.self.now gave = changes_both device.0 c.args.self.now mid gave hear.others
     (subst (λ (d : ℕ). ChangesOnly d mid gave) (hear.device (arriving g (goal.at.returns-then-rank_of-number-clause-kept g c).After-give_alone-turn))
     give.others) in
     let time = changes.time in

@@ -8,11 +8,7 @@ returns-in_err-hand g c = λ s entry of is.
     let w = c.args.self.now in
     subst (λ (e : Entry). IsDispatched s w.stored.items w.time c.args.device e c.args.cycle c.from_residual.result)
     (one_entry c.args.network.now c.args.row.0 c.entry_of-entry.result entry c.entry_of-entry.ensures.is is)
-    (record {
-      hand = None;
-      of_hand = c.in_err-hand.ensures;
-      is = c.from_residual.ensures;
-    })
+    (record { hand = None; of_hand = c.in_err-hand.ensures; is = c.from_residual.ensures })
 
 pub returns : goal.returns
 returns g c = λ s entry of is.

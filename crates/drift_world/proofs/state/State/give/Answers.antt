@@ -12,8 +12,7 @@ heads x y xs ys e = cc
 
 -- the first of what is settled was taken out
 whole_is : (g : given.Over) (c : After-unwrap-first g) → c.args.self.now.settled.items ≡ c.unwrap-first.result ∷ c.pop_front.new.self.items
-whole_is g c =
-    c.pop_front.ensures.items ∙ ap (λ o. option_to_list o ++ c.pop_front.new.self.items) c.unwrap-first.ensures
+whole_is g c = c.pop_front.ensures.items ∙ ap (λ o. option_to_list o ++ c.pop_front.new.self.items) c.unwrap-first.ensures
 
 pub returns-in-Err-clause-sound : goal.returns-in-Err-clause-sound
 returns-in-Err-clause-sound g c =
@@ -87,8 +86,7 @@ returns-clause-stands g c = λ s notes other rest is.
     let step : Steps (world_of network w) = subst Steps (popped_world network w popped first room.entries room.waiting room.stored whole refl)
     (c.give_first.ensures.stands s notes) in
     let Gives = λ (f : Settled). (o : Stands K.reading stands s (world_of network w) notes)
-    → NoSourceBefore s (happenings s.network notes) o.cursor (place_of (settled_at network w.time f))
-    → (note ≡ note_of notes (settled_at network w.time f))
+    → NoSourceBefore s (happenings s.network notes) o.cursor (place_of (settled_at network w.time f)) → (note ≡ note_of notes (settled_at network w.time f))
     × StandsBehind K.reading stands s (world_of network new) (notes ++ note ∷ []) (behind (place_of (settled_at network w.time f))) in
     let given : Gives first = λ o none.
     let same : note ≡ note_of notes z = c.give_first.ensures.note

@@ -1,9 +1,10 @@
-use Rattle.{drift_world.proofs.Fits.sized_so, std.specs.{List.filter_map, Prelude.All}}
+use Rattle.drift_world.proofs.{Fits.sized_so, Givings.{given_on, named_all}, Words.{with_first, world_of, ℕ}, state.State.give_first.Goals.After-launch_octets}
 use Rattle.drift_world.proofs.Gave.{from_ports, from_wire, settled_has, waits_apart, waits_below, waits_elsewhere, waits_more, wire_is, wire_sound}
-use Rattle.drift_world.{proofs.{Givings.{given_on, named_all}, state.State.give_first.Goals.After-launch_octets}, specs.declared.state.State.State}
-use Rattle.drift_world.proofs.Words.{◌++◌, ◌+◌, ◌∙◌, ◌∷◌, ◌≡◌, ChangesOnly, Happening, HasItsOctets, IsGivenOut, IsPutOn, IsSound, IsStoredBy, List, Settled}
-use Rattle.drift_world.proofs.Words.{StandsBehind, [], ap, arith, at_port, behind, changed_device, inl, inr, keeps, length, map, named_settled, note_of}
-use Rattle.drift_world.proofs.Words.{on_wire, place_of, refl, settled_at, stored_as, subst, sym, waiting_as, wire_entry, with_first, world_of, ℕ}
+use Rattle.drift_world.proofs.Words.{◌++◌, ◌+◌, ◌∙◌, ◌∷◌, ◌≡◌, ChangesOnly, Happening, HasItsOctets, IfSome, IsGivenOut, IsPutOn, IsSound, IsStoredBy, List}
+use Rattle.drift_world.proofs.Words.{Note, Settled, StandsBehind, Units, [], ap, arith, at_port, behind, changed_device, inl, inr, keeps, length, map}
+use Rattle.drift_world.proofs.Words.{named_settled, note_of, on_wire, place_of, refl, settled_at, stored_as, subst, sym, units_of, waiting_as, wire_entry}
+use Rattle.{drift_world.specs.declared.state.State.State, std.specs.List.filter_map, world_state.specs.{Shelves.{HasPlace, spot_of}, Sound.IsShort}}
+use Rattle.std.specs.Prelude.{All}
 use Rattle.drift_world.proofs.state.State.give_first.Given as given
 use Rattle.drift_world.proofs.state.State.give_first.Goals as goal
 
@@ -140,3 +141,62 @@ returns-clause-others g c =
       waiting = waits_elsewhere first.body number w.waiting.items two.waiting.items more;
     } in
     subst (ChangesOnly (changed_device first.body) w) (sym last) whole
+
+pub launch_frame-requires : goal.launch_frame-requires
+launch_frame-requires g c =
+    let w = c.args.self.now in
+    let fit = c.requires.sound.fit in
+    let room = c.requires.room in
+    record {
+      sized = sized_so g.C.Clock.last_step c.args.network.now w (record w { settled = c.name_followers.new.settled }) c.requires.sound.sized refl refl refl refl
+          refl refl refl;
+      range = c.requires.range;
+      by = c.requires.may.by;
+      young = c.requires.may.young;
+      room = omega (arith, room);
+      capacity = c.requires.capacity;
+      ups = fit.ups;
+      downs = fit.downs;
+      low = c.requires.low;
+    }
+
+pub launch_octets-requires : goal.launch_octets-requires
+launch_octets-requires g c =
+    let w = c.args.self.now in
+    let fit = c.requires.sound.fit in
+    let same = c.launch_frame.ensures.same in
+    let room = c.requires.room in
+    let left = c.launch_frame.ensures.room in
+    record {
+      sized = sized_so g.C.Clock.last_step c.args.network.now w c.launch_frame.new.self c.requires.sound.sized (ap (λ (q : State _ _). q.clocks) same)
+          (ap (λ (q : State _ _). length q.machines.items) same) (ap (λ (q : State _ _). q.broken) same) (ap (λ (q : State _ _). q.ups) same)
+          (ap (λ (q : State _ _). q.downs) same) (ap (λ (q : State _ _). q.time) same) (ap (λ (q : State _ _). q.shown) same);
+      range = c.requires.range;
+      room = omega (arith, room, left);
+      place = subst (λ (q : State _ _). IfSome (spot_of c.args.first.body) (HasPlace q.stored)) (sym same) c.requires.place;
+      ups = subst (λ (q : State _ _). All IsShort q.ups.items) (sym same) fit.ups;
+      downs = subst (λ (q : State _ _). All IsShort q.downs.items) (sym same) fit.downs;
+    }
+
+pub returns-clause-note : goal.returns-clause-note
+returns-clause-note g c =
+    let now = ap (λ (q : State _ _). q.time) c.launch_octets.ensures.same ∙ ap (λ (q : State _ _). q.time) c.launch_frame.ensures.same in
+    ap (λ (t : Units). let n : Note = record { number = c.args.self.now.given + 1; time = t; body = c.args.first.body } in n)
+    (c.from_amount-note-inside.ensures.value ∙ ap units_of now)
+
+pub returns-clause-same : goal.returns-clause-same
+returns-clause-same g c =
+    let w = c.args.self.now in
+    let three = c.launch_octets.new.self in
+    let rebuilt : State _ _ → State _ _ = λ q. record w {
+      under_way = three.under_way;
+      waiting = q.waiting;
+      stored = three.stored;
+      settled = q.settled;
+      given = w.given + 1;
+    } in
+    gave_all g (goal.at.returns-clause-same g c).After-launch_octets ∙ sym (ap rebuilt (c.launch_octets.ensures.same
+    ∙ ap (λ (q : State _ _). let r : State _ _ = record q { under_way = three.under_way; stored = three.stored } in r) c.launch_frame.ensures.same))
+
+pub returns-clause-arrived : goal.returns-clause-arrived
+returns-clause-arrived g c = c.requires.may.arrived

@@ -12,8 +12,7 @@ returns-clause-yes g c = λ yes_it s machine of there node is.
     (slice_get_read w.machines.items w.machines.len c.args.device.0 c.index.result.now w.machines.ok.0 (omega (arith, many, lt, held)) c.index.ensures) there in
     let due = c.due-due.ensures s.network c.args.device node
     (subst (λ (m : Kept _). keeps g.M.Machine.stands m s.network c.args.device node) (sym same) is) in
-    let read : c.args.moment.reading.0 ≡ pos (s.reading c.args.device w.time) =
-    ap (λ (m : Moment). m.reading.0) (c.requires.moment s of) in
+    let read : c.args.moment.reading.0 ≡ pos (s.reading c.args.device w.time) = ap (λ (m : Moment). m.reading.0) (c.requires.moment s of) in
     subst (HasDue s.network c.args.device node) read
     (some_due s.network c.args.device node c.due-due.result c.args.moment.reading.0 due (c.is_reached.ensures.reached yes_it))
 
@@ -27,8 +26,7 @@ returns-clause-no g c = λ no_it s machine of there node task is pending.
     (slice_get_read w.machines.items w.machines.len c.args.device.0 c.index.result.now w.machines.ok.0 (omega (arith, many, lt, held)) c.index.ensures) there in
     let due = c.due-due.ensures s.network c.args.device node
     (subst (λ (m : Kept _). keeps g.M.Machine.stands m s.network c.args.device node) (sym same) is) in
-    let read : c.args.moment.reading.0 ≡ pos (s.reading c.args.device w.time) =
-    ap (λ (m : Moment). m.reading.0) (c.requires.moment s of) in
+    let read : c.args.moment.reading.0 ≡ pos (s.reading c.args.device w.time) = ap (λ (m : Moment). m.reading.0) (c.requires.moment s of) in
     subst (λ (z : ℤ). z <ℤ reading_for s.network node task) read
     (none_due s.network c.args.device node c.due-due.result c.args.moment.reading.0 due (c.is_reached.ensures.later no_it) task pending)
 

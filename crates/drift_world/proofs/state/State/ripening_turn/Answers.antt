@@ -34,8 +34,7 @@ ripen_waits-ripened-requires-clause-comes g c = λ w at.
 
 changed : {C M : Type 0} (reading : C → ℕ → ℕ) (network : Network) (old new : State C M) (one w : Waits) → IsRipe reading network old one
     → first_of old.waiting one.device.0 ≡ Some w → ChangesOnly w.device.0 old new → ChangesOnly one.device.0 old new
-changed reading network old new one w ripe at others =
-    subst (λ (v : Waits). ChangesOnly v.device.0 old new) (sym (some_same _ _ _ ripe.is at)) others
+changed reading network old new one w ripe at others = subst (λ (v : Waits). ChangesOnly v.device.0 old new) (sym (some_same _ _ _ ripe.is at)) others
 
 -- ---- its record is given alone
 

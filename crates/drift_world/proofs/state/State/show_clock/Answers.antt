@@ -49,8 +49,7 @@ returns-clause-stands g c = λ s notes old ended first.
     let own = old.clocks device there in
     let same : own.0 ≡ c.index.result.now = some_same _ _ _ own.1
     (slice_get_read w.clocks.items w.clocks.len w.shown c.index.result.now w.clocks.ok.0 (omega (arith, clocks, more, held)) c.index.ensures) in
-    let read : c.read-reading.result ≡ units_of (s.reading device w.time) =
-    same_units _ _
+    let read : c.read-reading.result ≡ units_of (s.reading device w.time) = same_units _ _
     (c.read-reading.ensures ∙ ap (λ (t : Units). pos (K.reading c.index.result.now (amount t))) c.from_amount.ensures.value
     ∙ ap (λ k. pos (K.reading k w.time)) (sym same) ∙ ap pos (sym (own.2 w.time (omega arith)))) in
     let put = c.put_in.ensures.is in

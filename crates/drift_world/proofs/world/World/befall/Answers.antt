@@ -1,5 +1,5 @@
-use Rattle.{drift_world.{proofs.Elsewhere.timed_by_event, specs.declared.state.State.State}, traffic_law.proofs.safety_lemmas.Histories.slow_rate}
-use Rattle.{drift_world.proofs.{Fits.sound_timers, Onwards.befalls, Shortness.sets_short, Timings.unmoved}, net_plan.specs.declared.event.Event.Event}
+use Rattle.{drift_world.proofs.{Elsewhere.timed_by_event, Fits.sound_timers, Onwards.befalls, Shortness.sets_short}, net_plan.specs.declared.event.Event.Event}
+use Rattle.{drift_world.{proofs.Timings.unmoved, specs.declared.state.State.State}, precision_law.proofs.traffic_lemmas.safety_lemmas.Histories.slow_rate}
 use Rattle.drift_world.proofs.Words.{◌++◌, ◌∙◌, ◌∷◌, ◌≡◌, AreTimed, IsLawful, IsRunOf, IsSound, IsWithinHypothesis, Kept, List, Network, Note, Stands}
 use Rattle.drift_world.proofs.Words.{StandsUnder, World, [], ap, arith, behind_events, keeps, length, reading_of, refl, scenario, subst, sym, world_of}
 use Rattle.drift_world.proofs.world.World.befall.Given as given
@@ -73,8 +73,7 @@ rekey_by-requires-clause-running g c =
 
 befallen : (g : given.Over) (c : goal.After-rekey_by g) (network : Network) (events : List Event) (notes : List Note)
     → StandsUnder g.C.Clock.fresh g.C.Clock.after_step g.C.Clock.reading g.M.Machine.stands network c.args.self.now events notes
-    → IsWithinHypothesis network events c.args.event.now
-    → StandsUnder g.C.Clock.fresh g.C.Clock.after_step g.C.Clock.reading g.M.Machine.stands network
+    → IsWithinHypothesis network events c.args.event.now → StandsUnder g.C.Clock.fresh g.C.Clock.after_step g.C.Clock.reading g.M.Machine.stands network
     (world_of c.self.inside.accepted.now c.rekey_by.new.self) (events ++ c.args.event.now ∷ []) (notes ++ c.in-Ok.note ∷ [])
     × IsRunOf network (reading_of g.C.Clock.fresh g.C.Clock.after_step g.C.Clock.reading network (events ++ c.args.event.now ∷ []))
     (events ++ c.args.event.now ∷ []) (behind_events c.args.self.now.now) (notes ++ c.in-Ok.note ∷ [])

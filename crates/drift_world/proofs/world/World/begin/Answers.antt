@@ -30,11 +30,7 @@ rekey_all-requires-clause-running g c =
     (subst (λ (n : Network). AreFresh g.M.Machine.stands n c.args.machines.items) (sym c.network-network.ensures.value) c.requires)
     (subst IsInRange (sym c.network-network.ensures.value) c.network-network.ensures.range)
     (subst KeepsRules (sym c.network-network.ensures.value) c.network-network.ensures.rules) in
-    record {
-      s = scenario network (reading_of K.fresh K.after_step K.reading network []) [];
-      notes = [];
-      is = under.is;
-    }
+    record { s = scenario network (reading_of K.fresh K.after_step K.reading network []) []; notes = []; is = under.is }
 
 -- the state is the first of the network, but for its timers
 first : (g : given.Over) (c : goal.After-rekey_all g)
@@ -61,11 +57,7 @@ invariant_of-result g c =
     record {
       sound = sound_timers K.last_step network c.in_ok-state.state c.rekey_all.new.self c.rekey_all.ensures.same
           (first_sound K.fresh K.last_step network c.args.machines.items c.in_ok-state.state (first g c) c.network-network.ensures.range c.requires.each);
-      running = record {
-        s = scenario network (reading_of K.fresh K.after_step K.reading network []) [];
-        notes = [];
-        is = (stands g c).is;
-      };
+      running = record { s = scenario network (reading_of K.fresh K.after_step K.reading network []) []; notes = []; is = (stands g c).is };
       timed = subst (λ (n : Network). AreTimed K.reading g.M.Machine.stands n c.rekey_all.new.self) c.network-network.ensures.value c.rekey_all.ensures.timed;
     }
 

@@ -1,5 +1,5 @@
 use Rattle.drift_world.proofs.Words.{◌++◌, ◌<ℤ◌, ◌∷◌, ◌≡◌, Bool, ComesUpTo, Err, None, Note, Ok, OutOfMemory, StandsUnder, Units, [], amount, arith, given_by}
-use Rattle.{drift_world.{proofs.Words.{ints, subst, sym, units_of}, specs.Running.next_of}, traffic_law.specs.safety.Headline.IsSafeFront}
+use Rattle.{drift_world.{proofs.Words.{ints, subst, sym, units_of}, specs.Running.next_of}, precision_law.specs.traffic.safety.Headline.IsSafeFront}
 use Rattle.drift_world.proofs.world.World.next.Goals as goal
 
 pub returns-in-Ok-true-clause-stands : goal.returns-in-Ok-true-clause-stands

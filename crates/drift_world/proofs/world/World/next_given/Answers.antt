@@ -2,7 +2,7 @@ use Rattle.drift_world.{proofs.{Retries.comes_up_to, Words.{keeps_clock_laws, re
 use Rattle.drift_world.proofs.Words.{◌++◌, ◌∙◌, ◌∷◌, ◌≡◌, Bool, ComesUpTo, Err, IfOk, IsLawful, IsRunOf, IsScenarioRun, Kept, List, Network, Note, Ok, Result}
 use Rattle.drift_world.proofs.Words.{Scenario, Stands, StandsUnder, World, [], amount, ap, arith, begins_at_zero, false, given_by, ints, keeps}
 use Rattle.std.proofs.Common.{slice_get}
-use Rattle.traffic_law.{proofs.safety_lemmas.Clocked.before, specs.safety.{Headline.IsSafeFront, Under.IsUnder}}
+use Rattle.precision_law.{proofs.traffic_lemmas.safety_lemmas.Clocked.before, specs.traffic.safety.{Headline.IsSafeFront, Under.IsUnder}}
 use Rattle.drift_world.proofs.world.World.next_given.Given as given
 use Rattle.drift_world.proofs.world.World.next_given.Goals as goal
 

@@ -8,11 +8,7 @@ at_correction-verdict-requires c =
     let stands = c.requires.0.3 in
     let here = subst (IsCorrection c.requires.0.0 node.standing node.changed node.done) c.requires.1.1 stands.agenda.correction in
     let at = at_point _ _ node _ c.args.correction stands here in
-    record {
-      number = number_fits _ _ _ _ _ at;
-      near_a = near_a _ _ _ _ _ _ _ stands.own at;
-      near_b = near_b _ _ _ _ _ _ _ stands.own at;
-    }
+    record { number = number_fits _ _ _ _ _ at; near_a = near_a _ _ _ _ _ _ _ stands.own at; near_b = near_b _ _ _ _ _ _ _ stands.own at }
 
 pub agenda_after-self-requires : goal.agenda_after-self-requires
 agenda_after-self-requires c =

@@ -21,8 +21,7 @@ pub dispatch_of-requires-in-None-clause-offset : goal.dispatch_of-requires-in-No
 dispatch_of-requires-in-None-clause-offset c =
     let slot = c.in_ok-slot-in-None.slot.now in
     let found = c.in_ok-slot-in-None.ensures.lookup in
-    let at : slice_get c.args.self.now.slots.items 0 ≡ Some slot =
-    subst (λ (xs : List Slot). slice_get xs 0 ≡ Some slot) c.deref-in-None.ensures.value
+    let at : slice_get c.args.self.now.slots.items 0 ≡ Some slot = subst (λ (xs : List Slot). slice_get xs 0 ≡ Some slot) c.deref-in-None.ensures.value
     (slice_get_read c.deref-in-None.result.now (length c.deref-in-None.result.now) 0 slot refl found.3.0 found.1) in
     slot_offset c.requires.rows.0 c.requires.rows.1 slot c.requires.rows.2
     (slot_at c.requires.rows.0 c.requires.rows.1 c.args.self.now 0 slot c.requires.rows.3 at)
@@ -48,8 +47,7 @@ returns-in_ok-slot-in-None c =
     let none : AreBelow rows.slots.items c.args.bound = rw (← c.deref.ensures.value) (c.in-None.ensures.none order) in
     let slot = c.in_ok-slot-in-None.slot.now in
     let found = c.in_ok-slot-in-None.ensures.lookup in
-    let at : slice_get rows.slots.items 0 ≡ Some slot =
-    subst (λ (xs : List Slot). slice_get xs 0 ≡ Some slot) c.deref-in-None.ensures.value
+    let at : slice_get rows.slots.items 0 ≡ Some slot = subst (λ (xs : List Slot). slice_get xs 0 ≡ Some slot) c.deref-in-None.ensures.value
     (slice_get_read c.deref-in-None.result.now (length c.deref-in-None.result.now) 0 slot refl found.3.0 found.1) in
     let there : slice_get rows.slots.items 0 ≡ Some next.slot = at ∙ ap (λ (s : Slot). Some s) (sym c.dispatch_of-in-None.ensures.slot) in
     first_later c.requires.rows.0 c.requires.rows.1 c.args.own.now rows c.args.adjustment.0 c.args.first c.args.bound next are c.requires.same none

@@ -2,8 +2,7 @@ use Rattle.end_system.proofs.{RowNext.next_next, RowSearch.device_is, Words.refl
 use Rattle.end_system.proofs.rows.Rows.next_behind.Goals as goal
 
 pub first_from-requires-clause-same : goal.first_from-requires-clause-same
-first_from-requires-clause-same c =
-    device_is c.requires.rows.0 c.requires.rows.1 c.args.self.now c.args.last.slot c.requires.rows.3 c.requires.slot.there
+first_from-requires-clause-same c = device_is c.requires.rows.0 c.requires.rows.1 c.args.self.now c.args.last.slot c.requires.rows.3 c.requires.slot.there
 
 pub returns-clause-next : goal.returns-clause-next
 returns-clause-next c = λ network device s changed done is are same was.

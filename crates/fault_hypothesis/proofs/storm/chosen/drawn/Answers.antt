@@ -1,7 +1,7 @@
-use Rattle.std.proofs.Common.{inl, inr, refl}
-use Rattle.fault_hypothesis.proofs.storm_lemmas.{Belongings.{some_device, some_link, some_master}, Drawing.{drawn_by, hold_drawn, match_some, wire_drawn}}
-use Rattle.fault_hypothesis.proofs.storm_lemmas.{Masters.master_within}
-use Rattle.fault_hypothesis.specs.{declared.storm.draw.Choice.TheVariants.{Hold, Strike, Wire}, storm.{Events.IsDrawn, Striking.SendsForged}}
+use Rattle.fault_hypothesis.{proofs.storm_lemmas.{Belongings.{some_device, some_link, some_master}, Masters.master_within}, specs.storm.Events.IsDrawn}
+use Rattle.fault_hypothesis.proofs.storm_lemmas.Drawing.{cut_drawn, drawn_by, heal_drawn, hold_drawn, match_some, rate_drawn, wire_drawn}
+use Rattle.fault_hypothesis.specs.{declared.storm.draw.Choice.TheVariants.{Cut, Heal, Hold, On, Rate, Strike, Wire}, storm.Striking.SendsForged}
+use Rattle.std.proofs.Common.{ap, inl, inr, refl}
 use Rattle.net_plan.specs.declared.event.What.TheVariants as kinds
 use Rattle.fault_hypothesis.proofs.storm.chosen.drawn.Goals as goal
 
@@ -10,6 +10,25 @@ device-device-requires-clause-some c = some_device c.args.network.now c.requires
 
 pub link-link-requires-clause-some : goal.link-link-requires-clause-some
 link-link-requires-clause-some c = some_link c.args.network.now c.requires.rules
+
+pub returns-in-Rate-clause-value : goal.returns-in-Rate-clause-value
+returns-in-Rate-clause-value c = λ before knows.
+    drawn_by c.args.network.now before c.args.time c.args.draw Rate (kinds.Rate c.device-device.result c.rate.result) c.in-Rate.ensures
+    (rate_drawn c.args.network.now before c.args.time c.args.draw _ _ c.device-device.ensures.value c.rate.ensures.value)
+
+pub returns-in-Cut-clause-value : goal.returns-in-Cut-clause-value
+returns-in-Cut-clause-value c = λ before knows.
+    drawn_by c.args.network.now before c.args.time c.args.draw Cut (kinds.Cut c.link-link.result c.way-in-Cut.result) c.in-Cut.ensures
+    (cut_drawn c.args.network.now before c.args.time c.args.draw _ _ c.link-link.ensures.value c.way-in-Cut.ensures)
+
+pub returns-in-Heal-clause-value : goal.returns-in-Heal-clause-value
+returns-in-Heal-clause-value c = λ before knows.
+    drawn_by c.args.network.now before c.args.time c.args.draw Heal (kinds.Heal c.link-link.result c.way-in-Heal.result) c.in-Heal.ensures
+    (heal_drawn c.args.network.now before c.args.time c.args.draw _ _ c.link-link.ensures.value c.way-in-Heal.ensures)
+
+pub returns-in-On-clause-value : goal.returns-in-On-clause-value
+returns-in-On-clause-value c = λ before knows.
+    drawn_by c.args.network.now before c.args.time c.args.draw On (kinds.On c.device-device.result) c.in-On.ensures (ap kinds.On c.device-device.ensures.value)
 
 pub returns-in-Wire-clause-value : goal.returns-in-Wire-clause-value
 returns-in-Wire-clause-value c = λ before knows.

@@ -1,6 +1,6 @@
 use Rattle.{fault_hypothesis.proofs.storm_lemmas.{Belongings.uplink_within, Masters.master_uplink}, std.proofs.Common.{◌∙◌, List, ap, refl, rules, subst, sym}}
-use Rattle.{net_plan.specs.Paths.IsUplink, pcf_codec.specs.Spelling.Spells, pcf_values.specs.declared.pcf.Pcf.Pcf, std.specs.Prelude.slice_get}
-use Rattle.{net_plan.specs.declared.tables.Device.Device, pcf_values.specs.declared.channel.Channel.Channel, std.proofs.lemmas.Option.slice_get_read}
+use Rattle.{net_plan.specs.{Paths.IsUplink, declared.tables.Device.Device}, tte_units.specs.declared.frames.{channel.Channel.Channel, pcf.Pcf.Pcf}}
+use Rattle.{pcf_codec.specs.Spelling.Spells, std.{proofs.lemmas.Option.slice_get_read, specs.Prelude.slice_get}}
 use Rattle.fault_hypothesis.proofs.storm.strike.forged_send.Goals as goal
 
 pub returns-in_err-link-clause-value : goal.returns-in_err-link-clause-value
@@ -26,5 +26,7 @@ returns-clause-value c = λ keeps is. record {
 }
 
 pub returns-clause-of_network : goal.returns-clause-of_network
-returns-clause-of_network c =
-    uplink_within c.args.network.now c.args.device c.in_ok-link.link c.channel.result c.in_ok-link.ensures.first.leads
+returns-clause-of_network c = uplink_within c.args.network.now c.args.device c.in_ok-link.link c.channel.result c.in_ok-link.ensures.first.leads
+
+pub returns-clause-range : goal.returns-clause-range
+returns-clause-range c = c.spelled.ensures.frame

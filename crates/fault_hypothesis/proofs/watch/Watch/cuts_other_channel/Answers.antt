@@ -1,5 +1,5 @@
-use Rattle.{fault_hypothesis.proofs.Judging.cut_by, run_law.specs.scenario.Faults.IsLinkOf}
-use Rattle.{net_plan.specs.declared.network.Network.Network, pcf_values.specs.declared.channel.Channel.Channel, std.proofs.Common.{◌↔◌, ◌∙◌, ◌≡◌, Some, subst}}
+use Rattle.{fault_hypothesis.proofs.Judging.cut_by, net_plan.specs.declared.network.Network.Network, tte_units.specs.declared.frames.channel.Channel.Channel}
+use Rattle.{run_law.specs.scenario.Faults.IsLinkOf, std.proofs.Common.{◌↔◌, ◌∙◌, ◌≡◌, Some, subst}}
 use Rattle.fault_hypothesis.proofs.watch.Watch.cuts_other_channel.Goals as goal
 
 pub returns-in-Cut : goal.returns-in-Cut

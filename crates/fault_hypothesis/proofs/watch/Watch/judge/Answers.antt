@@ -1,4 +1,4 @@
-use Rattle.std.{proofs.Common.{◌<◌, arith, inl, inr, subst, sym}, specs.List.slice_index_or}
+use Rattle.std.{proofs.{Common.{◌<◌, ◌∙◌, arith, inl, inr, subst, sym}, lemmas.Bool.false≢true}, specs.List.slice_index_or}
 use Rattle.run_law.specs.{declared.outside.Outside.{Outside, TheVariants.Order}, scenario.Hypothesis.{Violates, condition_number}}
 use Rattle.fault_hypothesis.proofs.Ordering.{conditions, first_two, none_before, none_behind, number_of_place, up_to_place}
 use Rattle.fault_hypothesis.proofs.watch.Watch.judge.Goals as goal
@@ -8,7 +8,7 @@ returns-then-violates-2 c = λ network admitted w of_network. record {
   violates = (c.violates-2.ensures network admitted w of_network).0 c.if-violates-2.true;
   first = λ earlier below v.
       first_two (λ (e : Outside). condition_number e < 2 → Violates network admitted c.args.event.now e → ⊥)
-      (λ low early. let yes = (c.violates.ensures network admitted w of_network).1 early in let no = c.if-violates.false in absurd cc)
+      (λ low early. false≢true (sym c.if-violates.false ∙ (c.violates.ensures network admitted w of_network).1 early))
       (λ low late. absurd (omega (arith, low)))
       earlier (omega (arith, below)) below v;
 }
@@ -20,8 +20,8 @@ conditions-init c = record {
   most = c.own_of-first.ensures.most;
   none = λ network admitted w of_network earlier low v.
       none_before network admitted c.args.event.now
-      (λ early. let yes = (c.violates.ensures network admitted w of_network).1 early in let no = c.if-violates.false in absurd cc)
-      (λ late. let yes = (c.violates-2.ensures network admitted w of_network).1 late in let no = c.if-violates-2.false in absurd cc)
+      (λ early. false≢true (sym c.if-violates.false ∙ (c.violates.ensures network admitted w of_network).1 early))
+      (λ late. false≢true (sym c.if-violates-2.false ∙ (c.violates-2.ensures network admitted w of_network).1 late))
       earlier (omega (arith, low, c.own_of-first.ensures.first)) v;
 }
 
@@ -43,9 +43,8 @@ conditions-preserved c = record {
       elim (up_to_place c.conditions.place Order earlier low) [
         | inl lower ↦ c.conditions.invariant.none network admitted w of_network earlier lower v
         | inr here ↦
-            let yes = (c.violates-in-conditions.ensures network admitted w of_network).1 (subst (Violates network admitted c.args.event.now) (sym here) v) in
-            let no = c.if-violates-3.false in
-            absurd cc
+            false≢true (sym c.if-violates-3.false ∙ (c.violates-in-conditions.ensures network admitted w of_network).1
+            (subst (Violates network admitted c.args.event.now) (sym here) v))
       ];
 }
 

@@ -1,13 +1,9 @@
 use Rattle.{lens.proofs.draw_lemmas.Marking.{AreHeard, heard_all, heard_more, left_less}, lens_svg.specs.Clocks.{Clocks, clocks_with}}
-use Rattle.{run_law.specs.declared.note.Note.Note, std.{proofs.Common.{List, ap, subst, sym}, specs.Prelude.fold}, tte_audit.specs.reports.Reports.AreLeft}
+use Rattle.{run_law.specs.declared.note.Note.Note, std.{proofs.Common.{List, ap, subst, sym}, specs.Prelude.fold}, tte_reports.specs.Reports.AreLeft}
 use Rattle.lens.proofs.draw.drawing.clocks_of.Goals as goal
 
 pub records-init : goal.records-init
-records-init c notes left = record {
-  rest = notes;
-  left = left;
-  whole = ap (λ (k : Clocks). fold (clocks_with c.args.span) k notes) (sym c.new-clocks.ensures);
-}
+records-init c notes left = record { rest = notes; left = left; whole = ap (λ (k : Clocks). fold (clocks_with c.args.span) k notes) (sym c.new-clocks.ensures) }
 
 pub next-requires-clause-left : goal.next-requires-clause-left
 next-requires-clause-left c = let h = c.records.invariant c.requires.left.0 c.requires.left.1 in (h.rest, h.left)

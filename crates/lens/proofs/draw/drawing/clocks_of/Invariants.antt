@@ -1,4 +1,4 @@
-use Rattle.{lens.proofs.draw_lemmas.Marking.AreHeard, run_law.specs.declared.note.Note.Note, tte_audit.specs.reports.Reports.AreLeft}
+use Rattle.{lens.proofs.draw_lemmas.Marking.AreHeard, run_law.specs.declared.note.Note.Note, tte_reports.specs.Reports.AreLeft}
 use Rattle.std.proofs.Common.{List, length}
 use Rattle.lens.proofs.draw.drawing.clocks_of.Given as goal
 

@@ -1,8 +1,7 @@
-use Rattle.{lens.specs.draw.Answer.IsDrawAnswer, tte_audit.specs.Named.IsNamed}
-use Rattle.{lens_svg.specs.declared.layout.Span.Span, tte_forms.specs.Putting.{Shown, shown_by}, tte_units.specs.declared.units.Units.Units}
-use Rattle.{lens_why.specs.past.Pasts.{IsSomeReport, ShowsAll}, tte_audit.proofs.reports_lemmas.Reports.{no_report_answered, report_given, report_there}}
-use Rattle.{net_plan.specs.declared.network.Network.Network, tte_audit.specs.reports.Reports.IsReportOf, tte_forms.specs.declared.status.Status.Status}
-use Rattle.{run_law.specs.declared.note.Note.Note, std.proofs.Common.{List, subst, sym, ℕ}, tte_forms.specs.Answering.GivesAnswer}
+use Rattle.{lens.specs.draw.Answer.IsDrawAnswer, std.proofs.Common.{List, subst, sym, ℕ}, tte_audit.specs.Named.IsNamed, tte_reports.specs.Reports.IsReportOf}
+use Rattle.{lens_svg.specs.declared.layout.Span.Span, run_law.specs.declared.note.Note.Note, tte_forms.specs.{Answering.GivesAnswer, Putting.{Shown, shown_by}}}
+use Rattle.{lens_why.specs.past.Pasts.{IsSomeReport, ShowsAll}, tte_reports.proofs.Reports.{no_report_answered, report_given, report_there}}
+use Rattle.{net_plan.specs.declared.network.Network.Network, tte_forms.specs.declared.status.Status.Status, tte_units.specs.declared.units.Units.Units}
 use Rattle.lens.proofs.draw.drawing.draw_file.Goals as goal
 
 -- for any records that the octets are the report of, an answer was given
@@ -25,8 +24,7 @@ draw_known-requires-clause-report g c =
     (report_there c.args.accepted.now (g.B.Source.left c.args.second.now) c.in-Ok.known.report.octets c.in-Ok.ensures.judged)
 
 pub draw_known-requires-clause-past : goal.draw_known-requires-clause-past
-draw_known-requires-clause-past g c =
-    subst (λ (n : Network). ShowsAll n c.in-Ok.known) (sym c.network.ensures.value) c.in-Ok.ensures.past
+draw_known-requires-clause-past g c = subst (λ (n : Network). ShowsAll n c.in-Ok.known) (sym c.network.ensures.value) c.in-Ok.ensures.past
 
 pub returns-in-Ok-clause-gives : goal.returns-in-Ok-clause-gives
 returns-in-Ok-clause-gives g c =

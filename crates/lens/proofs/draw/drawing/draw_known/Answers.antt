@@ -27,8 +27,7 @@ pub returns-in-Ok-clocks_of-clause-gives : goal.returns-in-Ok-clocks_of-clause-g
 returns-in-Ok-clocks_of-clause-gives g c notes end of =
     let network = c.args.network.now in
     let sketch = c.in-Ok.ensures notes (c.records.ensures network notes end of) in
-    let windows =
-    c.deref.ensures.value ∙ c.in-Ok-windows_of.ensures (events_of notes) (happenings network notes) (c.requires.past notes end of)
+    let windows = c.deref.ensures.value ∙ c.in-Ok-windows_of.ensures (events_of notes) (happenings network notes) (c.requires.past notes end of)
     ∙ ap (λ (p : Plan). windows_in network (clocks_of network notes) p.marks) sketch in
     let clocks = c.in-Ok-clocks_of.ensures notes (c.records-2.ensures network notes end of) in
     inl (

@@ -1,5 +1,5 @@
 use Rattle.{lens.specs.draw.Answer.IsDrawAnswer, tte_forms.specs.Putting.shown_by}
-use Rattle.tte_audit.{proofs.reports_lemmas.Sources.{files_accepted, files_refused}, specs.reports.Reports.IsReportAnswer}
+use Rattle.tte_reports.{proofs.Sources.{files_accepted, files_refused}, specs.Reports.IsReportAnswer}
 use Rattle.lens.proofs.draw.drawing.draw_report.Goals as goal
 
 pub returns-in-Ok-clause-general : goal.returns-in-Ok-clause-general

@@ -1,13 +1,9 @@
 use Rattle.{lens.proofs.draw_lemmas.Marking.{IsSketched, left_less, sketched_all, sketched_more}, lens_svg.specs.{Plan.Plan, Sketching.{begun, plan_behind}}}
-use Rattle.{run_law.specs.declared.note.Note.Note, std.proofs.Common.{List, ap, subst, sym}, tte_audit.specs.reports.Reports.AreLeft}
+use Rattle.{run_law.specs.declared.note.Note.Note, std.proofs.Common.{List, ap, subst, sym}, tte_reports.specs.Reports.AreLeft}
 use Rattle.lens.proofs.draw.drawing.sketch_of.Goals as goal
 
 pub records-init : goal.records-init
-records-init c notes left = record {
-  rest = notes;
-  left = left;
-  whole = ap (λ (p : Plan). plan_behind c.args.network.now p notes) (sym c.in-Ok.ensures);
-}
+records-init c notes left = record { rest = notes; left = left; whole = ap (λ (p : Plan). plan_behind c.args.network.now p notes) (sym c.in-Ok.ensures) }
 
 pub next-requires-clause-left : goal.next-requires-clause-left
 next-requires-clause-left c = let h = c.records.invariant c.requires.left.0 c.requires.left.1 in (h.rest, h.left)

@@ -1,4 +1,4 @@
-use Rattle.{lens.proofs.draw_lemmas.Marking.IsSketched, run_law.specs.declared.note.Note.Note, tte_audit.specs.reports.Reports.AreLeft}
+use Rattle.{lens.proofs.draw_lemmas.Marking.IsSketched, run_law.specs.declared.note.Note.Note, tte_reports.specs.Reports.AreLeft}
 use Rattle.{lens_svg.specs.Sketching.begun, std.proofs.Common.{List, length}}
 use Rattle.lens.proofs.draw.drawing.sketch_of.Given as goal
 

@@ -1,5 +1,5 @@
 use Rattle.lens.proofs.draw_lemmas.Marking.{left_less, marked_all, marked_fails, marked_first, marked_more, next_in_range, next_of}
-use Rattle.{lens.specs.draw.Signs.close_line, run_law.specs.declared.note.Note.Note, tte_audit.specs.reports.Reports.AreLeft, tte_forms.specs.Putting.shown_by}
+use Rattle.{lens.specs.draw.Signs.close_line, run_law.specs.declared.note.Note.Note, tte_forms.specs.Putting.shown_by, tte_reports.specs.Reports.AreLeft}
 use Rattle.{std.proofs.Common.{◌∙◌, ◌≡◌, List, refl, subst, ℕ}, tte_forms.specs.{Answering.{Gives, line_answer}, declared.status.Status.TheVariants.Done}}
 use Rattle.lens.proofs.draw.marks.put_back.Goals as goal
 

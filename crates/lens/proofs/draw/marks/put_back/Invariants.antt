@@ -1,5 +1,5 @@
-use Rattle.{lens.proofs.draw_lemmas.Marking.IsMarked, std.proofs.Common.{◌≡◌, ◌≤◌, List, length}, tte_audit.specs.reports.Reports.AreLeft}
-use Rattle.{lens_svg.specs.Layout.widest, run_law.specs.declared.note.Note.Note, tte_forms.specs.Putting.shown_by}
+use Rattle.{lens.proofs.draw_lemmas.Marking.IsMarked, run_law.specs.declared.note.Note.Note, std.proofs.Common.{◌≡◌, ◌≤◌, List, length}}
+use Rattle.{lens_svg.specs.Layout.widest, tte_forms.specs.Putting.shown_by, tte_reports.specs.Reports.AreLeft}
 use Rattle.lens.proofs.draw.marks.put_back.Given as goal
 
 abbrev pub decreases-records : goal.decreases-records

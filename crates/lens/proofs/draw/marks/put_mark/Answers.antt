@@ -10,10 +10,8 @@ returns-then-holds-clause-draws g c =
     let own = mark_line c.args.network.now c.args.pen c.args.note.now in
     let time : c.unsigned_abs.result ≡ moment c.args.note.now =
     c.unsigned_abs.ensures.value ∙ ap unsigned_abs (to_z-of_z w64 c.args.note.now.time.0 (search rules)) in
-    let held : holds c.args.span (moment c.args.note.now) ≡ true =
-    ap (λ (t : ℕ). holds c.args.span t) (sym time) ∙ sym c.if-holds.ensures in
-    let marks : marks_of c.args.network.now c.args.span c.args.pen c.args.note.now ≡ own ∷ [] =
-    ap (λ (b : Bool). if b then own ∷ [] else []) held in
+    let held : holds c.args.span (moment c.args.note.now) ≡ true = ap (λ (t : ℕ). holds c.args.span t) (sym time) ∙ sym c.if-holds.ensures in
+    let marks : marks_of c.args.network.now c.args.span c.args.pen c.args.note.now ≡ own ∷ [] = ap (λ (b : Bool). if b then own ∷ [] else []) held in
     let line : c.as_slice.result.now ≡ own = c.as_slice.ensures ∙ c.make_mark_line.ensures in
     subst (λ (ls : List (List ℕ)). Draws ls c.put.result old new) (sym marks)
     (subst (λ (bytes : List ℕ). Draws (bytes ∷ []) c.put.result old new) line

@@ -29,8 +29,7 @@ events-preserved g c =
     let h = c.events.invariant.puts in
     let event = c.in-Some.event in
     let gives = c.in-Some.ensures network c.args.seed c.args.cycles h.events h.given in
-    let whole =
-    subst (λ (n : Network). Appends (g.K.Sink.written c.events.out) (g.K.Sink.written c.print.new.out) (event_line n event))
+    let whole = subst (λ (n : Network). Appends (g.K.Sink.written c.events.out) (g.K.Sink.written c.print.new.out) (event_line n event))
     c.network-network.ensures.value c.in-Ok.ensures.all in
     record {
       puts = puts_more network c.args.seed c.args.cycles c.events.storm (shown c.args.out.now) (shown c.events.out) h event c.next.new.self
@@ -45,8 +44,7 @@ returns-in-Err-clause-gives g c =
     let h = c.events.invariant.puts in
     let event = c.in-Some.event in
     let gives = c.in-Some.ensures network c.args.seed c.args.cycles h.events h.given in
-    let front =
-    subst (λ (n : Network). AppendsFront (g.K.Sink.written c.events.out) (g.K.Sink.written c.print.new.out) (event_line n event))
+    let front = subst (λ (n : Network). AppendsFront (g.K.Sink.written c.events.out) (g.K.Sink.written c.print.new.out) (event_line n event))
     c.network-network.ensures.value c.in-Err.ensures.front in
     let stormy : IsStormy network c.args.cycles = record {
       few = c.requires.most;

@@ -4,8 +4,7 @@ use Rattle.lens_flows.specs.counts.Told.{AreToldOf}
 use Rattle.lens_flows.proofs.counts.told.tell_all.Goals as goal
 
 pub flows-init : goal.flows-init
-flows-init c befallen hs known =
-    none_told (scenario_of c.args.course.now befallen) hs c.args.course.now.until c.args.deliveries.now _ c.new-told.ensures.items
+flows-init c befallen hs known = none_told (scenario_of c.args.course.now befallen) hs c.args.course.now.until c.args.deliveries.now _ c.new-told.ensures.items
 
 pub flows-preserved : goal.flows-preserved
 flows-preserved c befallen hs known =

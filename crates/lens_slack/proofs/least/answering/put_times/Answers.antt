@@ -26,8 +26,7 @@ returns-clause-gives g c =
     let now = shown c.put.new.self in
     let new = shown c.put_last-2.new.out in
     let line : c.as_slice-2.result.now ≡ least_line t = c.as_slice-2.ensures ∙ c.make_least_line.ensures in
-    let whole =
-    subst (λ (bytes : List ℕ). Appends (g.K.Sink.written c.args.out.now) (g.K.Sink.written c.put.new.self) bytes) line c.in-Ok.ensures.all in
+    let whole = subst (λ (bytes : List ℕ). Appends (g.K.Sink.written c.args.out.now) (g.K.Sink.written c.put.new.self) bytes) line c.in-Ok.ensures.all in
     let puts = PutsLines-more [] (least_line t) old old now (PutsLines-none old) whole c.put.ensures.counted in
     let last : c.as_slice-3.result.now ≡ finding_line n (room_of n t) =
     c.as_slice-3.ensures ∙ c.make_finding_line.ensures ∙ subst (λ (f : Finding). finding_line n f
@@ -47,7 +46,6 @@ returns-in-Err-clause-gives g c =
     let line : c.as_slice-2.result.now ≡ least_line t = c.as_slice-2.ensures ∙ c.make_least_line.ensures in
     let front =
     subst (λ (bytes : List ℕ). AppendsFront (g.K.Sink.written c.args.out.now) (g.K.Sink.written c.put.new.self) bytes) line c.in-Err.ensures.front in
-    let fails =
-    PutsLines-fails [] (least_line t) (finding_line n (room_of n t) ∷ []) old old now (PutsLines-none old) front c.put.ensures.counted in
+    let fails = PutsLines-fails [] (least_line t) (finding_line n (room_of n t) ∷ []) old old now (PutsLines-none old) front c.put.ensures.counted in
     let answer = short n t c.room_of-room.result c.room_of-room.ensures (omega (arith, c.if-room.false)) in
     subst (λ (a : Answer). Gives a WriteFault old now) (sym answer) (inr (inl (refl, inl fails)))

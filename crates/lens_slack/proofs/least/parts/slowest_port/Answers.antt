@@ -16,8 +16,7 @@ links-preserved c =
     let k = c.links.link-index in
     let link = c.link-item.result in
     let links = c.as_slice-link-items.result.now in
-    let there : slice_get n.link k ≡ Some link =
-    ap (λ xs. slice_get xs k) (sym c.as_slice-link-items.ensures) ∙ slice_get-get_or links k link c.links-test.true
+    let there : slice_get n.link k ≡ Some link = ap (λ xs. slice_get xs k) (sym c.as_slice-link-items.ensures) ∙ slice_get-get_or links k link c.links-test.true
     ∙ ap (λ (l : Link). Some l) (sym c.link-item.is) in
     let so_far = c.links.invariant in
     let this = c.pcf_port_time.ensures in

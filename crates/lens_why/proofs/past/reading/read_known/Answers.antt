@@ -1,11 +1,10 @@
-use Rattle.{lens_why.proofs.past_lemmas.Beginning.{known_judged, no_fault}, std.specs.Prelude.MatchResult, tte_audit.proofs.reports_lemmas.Reports.report_there}
-use Rattle.{run_law.specs.declared.note.Note.Note, std.proofs.Common.{◌≡◌, List}}
-use Rattle.{tte_audit.specs.reports.{NoReports.IsNoReport, Reports.IsReportOf}, tte_forms.proofs.Octets.for_more, tte_units.specs.declared.units.Units.Units}
+use Rattle.{lens_why.proofs.past_lemmas.Beginning.{known_judged, no_fault}, tte_reports.proofs.Reports.report_there, tte_units.specs.declared.units.Units.Units}
+use Rattle.{run_law.specs.declared.note.Note.Note, tte_forms.proofs.Octets.for_more, tte_reports.specs.{NoReports.IsNoReport, Reports.IsReportOf}}
+use Rattle.std.{proofs.Common.{◌≡◌, List}, specs.Prelude.MatchResult}
 use Rattle.lens_why.proofs.past.reading.read_known.Goals as goal
 
 pub known_of-requires : goal.known_of-requires
-known_of-requires g c =
-    report_there c.args.accepted.now (g.B.Source.left c.args.second.now) c.in-Ok.report.octets c.in-Ok.ensures.judged
+known_of-requires g c = report_there c.args.accepted.now (g.B.Source.left c.args.second.now) c.in-Ok.report.octets c.in-Ok.ensures.judged
 
 pub returns-in-Ok-clause-judged : goal.returns-in-Ok-clause-judged
 returns-in-Ok-clause-judged g c =

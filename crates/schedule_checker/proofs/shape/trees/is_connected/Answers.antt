@@ -1,4 +1,4 @@
-use Rattle.{pcf_values.specs.declared.channel.Channel.TheVariants.B, schedule_checker.proofs.ShapePaths.{connected, connected_on}}
+use Rattle.{schedule_checker.proofs.ShapePaths.{connected, connected_on}, tte_units.specs.declared.frames.channel.Channel.TheVariants.B}
 use Rattle.schedule_checker.proofs.shape.trees.is_connected.Goals as goal
 
 pub returns-then-is_connected_on : goal.returns-then-is_connected_on

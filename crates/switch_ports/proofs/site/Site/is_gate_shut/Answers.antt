@@ -5,12 +5,10 @@ use Rattle.switch_ports.proofs.site.Site.is_gate_shut.Goals as goal
 pub returns : goal.returns
 returns c network device range site =
     let at = standpoint_of c.args.at.now in
-    let limit : c.gate_end.result.0 ≡ pos (amount network.correction + 2 * amount network.precision) =
-    ap (λ (u : Units). u.0) c.gate_end.ensures
+    let limit : c.gate_end.result.0 ≡ pos (amount network.correction + 2 * amount network.precision) = ap (λ (u : Units). u.0) c.gate_end.ensures
     ∙ ap (λ (u : Units). pos (amount u + 2 * amount c.args.self.now.precision)) site.correction
     ∙ ap (λ (u : Units). pos (amount network.correction + 2 * amount u)) site.precision in
-    let shown : c.place_in_cycle.result.0 ≡ int_rem_euclid (clock_of at +ℤ pos (2 * amount network.precision)) network.cycle.0 =
-    c.place_in_cycle.ensures
+    let shown : c.place_in_cycle.result.0 ≡ int_rem_euclid (clock_of at +ℤ pos (2 * amount network.precision)) network.cycle.0 = c.place_in_cycle.ensures
     ∙ ap (λ (z : ℤ). int_rem_euclid z c.args.self.now.plan.cycle_length.0) c.gate_value.ensures
     ∙ ap (λ (u : Units). int_rem_euclid (clock_of at +ℤ pos (2 * amount u)) c.args.self.now.plan.cycle_length.0) site.precision
     ∙ ap (λ (p : SyncPlan). int_rem_euclid (clock_of at +ℤ pos (2 * amount network.precision)) p.cycle_length.0) site.plan in

@@ -1,5 +1,4 @@
-use Rattle.std.proofs.Common.{◌+◌, ◌^◌, ◌≤◌, arith}
-use Rattle.sync_state.proofs.PlanFacts.{adjustment_fits}
+use Rattle.{std.proofs.Common.{◌+◌, ◌^◌, ◌≤◌, arith}, sync_state.proofs.PlanFacts.adjustment_fits}
 use Rattle.sync_state.proofs.sync.Sync.joined_by.Goals as goal
 
 pub overflow_sub-result : goal.overflow_sub-result

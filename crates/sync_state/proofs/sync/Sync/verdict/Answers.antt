@@ -1,5 +1,5 @@
-use Rattle.{pcf_values.specs.declared.channel.Channel.TheVariants.{A, B}, sync_state.specs.{Verdicts.deviation_on, correction.Correction.correction_of}}
 use Rattle.{std.proofs.Common.{◌≡◌, Some}, sync_state.proofs.VerdictLemmas.corrected_small}
+use Rattle.{sync_state.specs.{Verdicts.deviation_on, correction.Correction.correction_of}, tte_units.specs.declared.frames.channel.Channel.TheVariants.{A, B}}
 use Rattle.sync_state.proofs.sync.Sync.verdict.Goals as goal
 
 pub returns-in-Some-2-clause-small : goal.returns-in-Some-2-clause-small

@@ -21,15 +21,13 @@ pub returns-in-Ended-clause-found : goal.returns-in-Ended-clause-found
 returns-in-Ended-clause-found c left =
     let r = c.self.inside in
     let at = c.match-self.self-inside in
-    let making : Making (pending c.args.self.now) left at.line at.ahead left =
-    elim c.match-self.branch [
+    let making : Making (pending c.args.self.now) left at.line at.ahead left = elim c.match-self.branch [
       | in-Taken w ↦
           rw w.self-inside-is (making_next r.progress r.line r.ahead r.ended w.clear.new.self c.args.self.now left c.self.view_is w.in-Taken.is w.clear.ensures)
       | in-Unfinished w ↦ rw w.self-inside-is (making_on r.progress r.line r.ahead r.ended c.args.self.now left c.self.view_is w.in-Unfinished.is
           c.self.invariant.0)
     ] in
-    let made : MadeOf c.args.self.now at.line at.ahead at.ended =
-    elim c.match-self.branch [
+    let made : MadeOf c.args.self.now at.line at.ahead at.ended = elim c.match-self.branch [
       | in-Taken w ↦
           rw w.self-inside-is (made_next r.progress r.line r.ahead r.ended w.clear.new.self c.args.self.now c.self.view_is w.in-Taken.is w.clear.ensures
           c.self.invariant.3)
@@ -41,15 +39,13 @@ pub returns-in-TooLong-advance-clause-found : goal.returns-in-TooLong-advance-cl
 returns-in-TooLong-advance-clause-found c left =
     let r = c.self.inside in
     let at = c.match-self.self-inside in
-    let making : Making (pending c.args.self.now) left at.line at.ahead left =
-    elim c.match-self.branch [
+    let making : Making (pending c.args.self.now) left at.line at.ahead left = elim c.match-self.branch [
       | in-Taken w ↦
           rw w.self-inside-is (making_next r.progress r.line r.ahead r.ended w.clear.new.self c.args.self.now left c.self.view_is w.in-Taken.is w.clear.ensures)
       | in-Unfinished w ↦ rw w.self-inside-is (making_on r.progress r.line r.ahead r.ended c.args.self.now left c.self.view_is w.in-Unfinished.is
           c.self.invariant.0)
     ] in
-    let made : MadeOf c.args.self.now at.line at.ahead at.ended =
-    elim c.match-self.branch [
+    let made : MadeOf c.args.self.now at.line at.ahead at.ended = elim c.match-self.branch [
       | in-Taken w ↦
           rw w.self-inside-is (made_next r.progress r.line r.ahead r.ended w.clear.new.self c.args.self.now c.self.view_is w.in-Taken.is w.clear.ensures
           c.self.invariant.3)
@@ -61,8 +57,7 @@ pub returns-then-self-clause-found : goal.returns-then-self-clause-found
 returns-then-self-clause-found c left =
     let r = c.self.inside in
     let at = c.match-self.self-inside in
-    let made : MadeOf c.args.self.now at.line at.ahead at.ended =
-    elim c.match-self.branch [
+    let made : MadeOf c.args.self.now at.line at.ahead at.ended = elim c.match-self.branch [
       | in-Taken w ↦
           rw w.self-inside-is (made_next r.progress r.line r.ahead r.ended w.clear.new.self c.args.self.now c.self.view_is w.in-Taken.is w.clear.ensures
           c.self.invariant.3)

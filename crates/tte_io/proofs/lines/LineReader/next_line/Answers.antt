@@ -1,8 +1,7 @@
-use Rattle.{std.proofs.{Common.{◌∙◌, ◌≡◌, Ok, ap, refl, subst, sym}, lemmas.Result.err_from_is_err_and}}
-use Rattle.tte_io.specs.declared.{ends.SourceFailed.SourceFailed, lines.LineTaken.TheVariants.Long}
-use Rattle.tte_io.{proofs.Coming.outcome_told, specs.{NextLine.NextLine, Progress.reader_state, declared.lines.Progress.Progress}}
-use Rattle.tte_io.proofs.Making.{MadeOf, found_ended, long_unended, made_next, made_on, still_too_long, taken_of_made}
-use Rattle.tte_io.{specs.declared.lines.Progress.TheVariants.TooLong}
+use Rattle.{std.proofs.Common.{◌∙◌, ◌≡◌, Ok, ap, refl, subst, sym}, tte_io.specs.declared.lines.{LineTaken.TheVariants.Long, Progress.TheVariants.TooLong}}
+use Rattle.{std.proofs.lemmas.Result.err_from_is_err_and, tte_io.specs.{NextLine.NextLine, declared.{ends.SourceFailed.SourceFailed, lines.Progress.Progress}}}
+use Rattle.tte_io.proofs.Coming.{outcome_told}
+use Rattle.tte_io.{proofs.Making.{MadeOf, found_ended, long_unended, made_next, made_on, still_too_long, taken_of_made}, specs.Progress.reader_state}
 use Rattle.tte_io.{proofs.lines.LineReader.next_line.Goals.{in-Taken, in-Unfinished}, specs.ReaderState.{KeepsEnd, KeepsLongLine, LineReaderState, pending}}
 use Rattle.tte_io.proofs.lines.LineReader.next_line.Goals as goal
 
@@ -26,8 +25,7 @@ pub returns-then-self-clause-next : goal.returns-then-self-clause-next
 returns-then-self-clause-next g c =
     let r = c.self.inside in
     let at = c.match-self.self-inside in
-    let made : MadeOf c.args.self.now at.line at.ahead at.ended =
-    elim c.match-self.branch [
+    let made : MadeOf c.args.self.now at.line at.ahead at.ended = elim c.match-self.branch [
       | in-Taken w ↦
           rw w.self-inside-is (made_next r.progress r.line r.ahead r.ended w.clear.new.self c.args.self.now c.self.view_is w.in-Taken.is w.clear.ensures
           c.self.invariant.3)
@@ -42,8 +40,7 @@ pub returns-in_err-taken-clause-next : goal.returns-in_err-taken-clause-next
 returns-in_err-taken-clause-next g c =
     let r = c.self.inside in
     let at = c.match-self.self-inside in
-    let made : MadeOf c.args.self.now at.line at.ahead at.ended =
-    elim c.match-self.branch [
+    let made : MadeOf c.args.self.now at.line at.ahead at.ended = elim c.match-self.branch [
       | in-Taken w ↦
           rw w.self-inside-is (made_next r.progress r.line r.ahead r.ended w.clear.new.self c.args.self.now c.self.view_is w.in-Taken.is w.clear.ensures
           c.self.invariant.3)

@@ -1,6 +1,5 @@
-use Rattle.std.proofs.{Common.{◌+◌, ◌∙◌, ◌≡◌, ◌≤◌, List, ap, arith, drop, drop-drop, length, length-append, length-drop, refl, sym, take, ℕ}}
-use Rattle.std.proofs.lemmas.List.{drop_all, length-take}
-use Rattle.tte_io.{proofs.Taken.given_front, specs.InMemory.SourceState}
+use Rattle.std.proofs.Common.{◌+◌, ◌∙◌, ◌≡◌, ◌≤◌, List, ap, arith, drop, drop-drop, length, length-append, length-drop, refl, sym, take, ℕ}
+use Rattle.{std.proofs.lemmas.List.{drop_all, length-take}, tte_io.{proofs.Taken.given_front, specs.InMemory.SourceState}}
 use Rattle.tte_io.proofs.sources.MemorySourceSource.read.Goals as goal
 
 pub returns-clause-octets : goal.returns-clause-octets
@@ -8,8 +7,7 @@ returns-clause-octets c =
     let s = c.self.inside in
     let n = c.min-count.result in
     let state = ap (λ (s : SourceState). s.left) c.self.view_is in
-    let left : c.split_at.result.1.now ≡ c.args.self.now.left =
-    c.split_at.ensures.back ∙ ap (λ (l : List ℕ). drop s.taken l) c.deref.ensures.value ∙ state in
+    let left : c.split_at.result.1.now ≡ c.args.self.now.left = c.split_at.ensures.back ∙ ap (λ (l : List ℕ). drop s.taken l) c.deref.ensures.value ∙ state in
     let copy : c.copy_from_slice.new.self ≡ take n c.args.self.now.left =
     c.copy_from_slice.ensures.after ∙ c.split_at-2.ensures.front ∙ ap (λ (l : List ℕ). take n l) left in
     let size = ap (λ (l : List ℕ). length l) left in

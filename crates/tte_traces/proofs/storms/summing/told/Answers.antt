@@ -6,8 +6,7 @@ pub overflow_cast-result : goal.overflow_cast-result
 overflow_cast-result c =
     let network = c.args.accepted.now in
     let seen = c.args.seen.now in
-    let fine =
-    is_fine network c.args.seed c.args.cycles seen c.requires.stormed c.requires.most c.network.ensures.range c.network.ensures.rules in
+    let fine = is_fine network c.args.seed c.args.cycles seen c.requires.stormed c.requires.most c.network.ensures.range c.network.ensures.rules in
     let z = seen.spread in
     let least = fine.least in
     let within = fine.within in
@@ -19,8 +18,7 @@ pub returns : goal.returns
 returns c =
     let network = c.args.accepted.now in
     let seen = c.args.seen.now in
-    let fine =
-    is_fine network c.args.seed c.args.cycles seen c.requires.stormed c.requires.most c.network.ensures.range c.network.ensures.rules in
+    let fine = is_fine network c.args.seed c.args.cycles seen c.requires.stormed c.requires.most c.network.ensures.range c.network.ensures.rules in
     let z = seen.spread in
     let least = fine.least in
     let within = fine.within in

@@ -7,8 +7,7 @@ pub returns-in-Some-clause-first : goal.returns-in-Some-clause-first
 returns-in-Some-clause-first c =
     let qs = c.self.inside.queues.items in
     let d = c.args.device.0 in
-    let at : slice_get qs d ≡ Some c.in-Some.queue.now =
-    subst (λ (l : List (Queue Waits)). slice_get l d ≡ Some c.in-Some.queue.now) c.deref.ensures.value
+    let at : slice_get qs d ≡ Some c.in-Some.queue.now = subst (λ (l : List (Queue Waits)). slice_get l d ≡ Some c.in-Some.queue.now) c.deref.ensures.value
     (slice_get_read c.deref.result.now (length c.deref.result.now) d c.in-Some.queue.now refl c.in-Some.ensures.lookup.3.0 c.in-Some.ensures.lookup.1) in
     subst (λ (w : Waiting). MatchOption (first_of w d) (NoneAt w.items d) (IsFirstAt w.items d)) c.self.view_is
     (subst (λ (o : Option (Queue Waits)). MatchOption (option_and_then first_frame o) (NoneAt (frames_in qs) d) (IsFirstAt (frames_in qs) d)) (sym at)
@@ -18,8 +17,7 @@ pub returns-in-None-clause-is : goal.returns-in-None-clause-is
 returns-in-None-clause-is c =
     let qs = c.self.inside.queues.items in
     let d = c.args.device.0 in
-    let at : slice_get qs d ≡ None =
-    subst (λ (l : List (Queue Waits)). slice_get l d ≡ None) c.deref.ensures.value
+    let at : slice_get qs d ≡ None = subst (λ (l : List (Queue Waits)). slice_get l d ≡ None) c.deref.ensures.value
     (slice_get_past c.deref.result.now d c.in-None.ensures.lookup.3) in
     subst (λ (w : Waiting). None ≡ first_of w d) c.self.view_is (sym (ap (option_and_then first_frame) at))
 
@@ -27,8 +25,7 @@ pub returns-in-None-clause-first : goal.returns-in-None-clause-first
 returns-in-None-clause-first c =
     let qs = c.self.inside.queues.items in
     let d = c.args.device.0 in
-    let at : slice_get qs d ≡ None =
-    subst (λ (l : List (Queue Waits)). slice_get l d ≡ None) c.deref.ensures.value
+    let at : slice_get qs d ≡ None = subst (λ (l : List (Queue Waits)). slice_get l d ≡ None) c.deref.ensures.value
     (slice_get_past c.deref.result.now d c.in-None.ensures.lookup.3) in
     subst (λ (w : Waiting). MatchOption (first_of w d) (NoneAt w.items d) (IsFirstAt w.items d)) c.self.view_is
     (subst (λ (o : Option (Queue Waits)). MatchOption (option_and_then first_frame o) (NoneAt (frames_in qs) d) (IsFirstAt (frames_in qs) d)) (sym at)

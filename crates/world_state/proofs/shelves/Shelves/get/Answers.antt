@@ -22,8 +22,7 @@ returns-in-Some-clause-held c =
 pub returns-in-None-clause-is : goal.returns-in-None-clause-is
 returns-in-None-clause-is c =
     let spot = c.args.spot in
-    let at : slice_get c.self.inside.shelves.items spot.device.0 ≡ None =
-    subst (λ (l : List Places). slice_get l spot.device.0 ≡ None) c.deref.ensures.value
+    let at : slice_get c.self.inside.shelves.items spot.device.0 ≡ None = subst (λ (l : List Places). slice_get l spot.device.0 ≡ None) c.deref.ensures.value
     (slice_get_past c.deref.result.now spot.device.0 c.in-None.ensures.lookup.3) in
     subst (λ (w : Shelved). None ≡ frame_at w spot) c.self.view_is (sym (ap (option_and_then (at_place spot.vl.0)) at))
 

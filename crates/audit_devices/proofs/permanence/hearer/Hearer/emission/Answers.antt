@@ -15,8 +15,7 @@ returns-then-not-sends c s hs hearer collects moment verdict = (λ e. absurd cc,
         let sent = c.args.sent.now in
         let points = points_of hs device in
         let cm : is_cm network device ≡ true = sym c.if-not-is_cm.ensures in
-        let for_s : IsSentFor s.network points sent =
-        record { clusters = em.clusters; are = em.are; cluster = em.cluster; there = em.there; is = em.is } in
+        let for_s : IsSentFor s.network points sent = record { clusters = em.clusters; are = em.are; cluster = em.cluster; there = em.there; is = em.is } in
         let for_network : IsSentFor network points sent = subst (λ (n : Network). IsSentFor n points sent) (sym hearer.network) for_s in
         elim c.then-not-sends.branch [
           | then-not-sends-via-then-not-sends w ↦

@@ -47,8 +47,4 @@ returns-in-None c network hs device keeps =
     c.in-None.ensures.value ∙ slice_get-last c.split_at.result.0.now ∙ ap (λ (xs : List Entry). last_or None xs) front in
     let none : points_of (records_before place hs) device ≡ [] =
     subst (λ (o : Option Entry). StandsFor now.collections o (points_of (records_before place hs) device)) (sym found) (keeps.before place) in
-    record {
-      ow = keeps.ow;
-      calc = keeps.calc;
-      gathers = subst (Gathers now.collections c.none.result) (sym none) (c.none.ensures.gathers now.collections);
-    }
+    record { ow = keeps.ow; calc = keeps.calc; gathers = subst (Gathers now.collections c.none.result) (sym none) (c.none.ensures.gathers now.collections) }

@@ -39,8 +39,7 @@ returns-clause-joined c =
     let last : KeptCluster = kept_with (to_z w64 (of_z w64 k.opened)) (to_z w128 (of_z w128 c.end_with.result)) k.cycle
     (bit_or k.members (1 * 2 ^ c.args.master % 18446744073709551616)) k.from (c.len.result - k.from) in
     let more_row : Row = record { from = row.from; count = row.count; last = last } in
-    let new : History =
-    record { ow = c.self.inside.ow.0; calc = c.self.inside.calc.0; counted = c.push.new.self.items; closed = c.self.inside.closed.items } in
+    let new : History = record { ow = c.self.inside.ow.0; calc = c.self.inside.calc.0; counted = c.push.new.self.items; closed = c.self.inside.closed.items } in
     let result : Gathering = record { row = Some more_row } in
     let joins : Joins h new row c.args.reading c.args.master result = record {
       row = more_row;

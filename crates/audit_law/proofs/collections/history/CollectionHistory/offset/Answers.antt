@@ -7,8 +7,7 @@ returns-clause-value c =
     let counted = c.args.self.now.counted in
     let k = c.args.kept.now in
     let items : c.self.inside.counted.items ≡ counted = ap (λ v. v.counted) c.self.view_is in
-    let inside : (k.from + c.args.place) < length c.self.inside.counted.items =
-    rw items (omega (arith, c.requires.counted.within, c.requires.inside)) in
+    let inside : (k.from + c.args.place) < length c.self.inside.counted.items = rw items (omega (arith, c.requires.counted.within, c.requires.inside)) in
     let start : k.from < length c.self.inside.counted.items = omega (arith, inside) in
     let point : c.index-point.result.now ≡ get_or counted (k.from + c.args.place) (pos 0) = c.index-point.ensures
     ∙ get_or_default c.self.inside.counted.items (k.from + c.args.place) c.index-point.result.now (pos 0) inside

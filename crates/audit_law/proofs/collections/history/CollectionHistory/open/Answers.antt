@@ -20,11 +20,7 @@ returns-clause-opened c =
     record {
       row = _;
       is = refl;
-      ends = record {
-        closed = closes.ends ∙ ap length (sym closed);
-        some = omega arith;
-        counted = omega (arith, len, start);
-      };
+      ends = record { closed = closes.ends ∙ ap length (sym closed); some = omega arith; counted = omega (arith, len, start) };
       kept = push-same (ap (λ (ks : List KeptCluster). take c.in_ok-from.count (drop c.in_ok-from.from ks)) closed ∙ closes.kept) _;
       cluster =
           opened-by h.counted c.push.new.self.items h.ow c.args.reading c.args.master c.args.cycle _ _ _ _ push start (to_z-of_z w64 c.args.reading fits)

@@ -1,6 +1,5 @@
 use Rattle.{audit_law.{proofs.collections_lemmas.Wide.fits_wide, specs.collections.Kept.cluster_kept}, compression.proofs.Collections.joined_end-first}
-use Rattle.{std.proofs.Common.{◌+ℤ◌, ◌∙◌, ◌≤ℤ◌, arith, sym}}
-use Rattle.std.proofs.lemmas.Int.{ints}
+use Rattle.std.proofs.{Common.{◌+ℤ◌, ◌∙◌, ◌≤ℤ◌, arith, sym}, lemmas.Int.ints}
 use Rattle.audit_law.proofs.collections.kept.KeptCluster.end_with.Goals as goal
 
 pub overflow_add-result : goal.overflow_add-result

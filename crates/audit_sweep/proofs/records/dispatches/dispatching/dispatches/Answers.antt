@@ -2,8 +2,7 @@ use Rattle.{audit_sweep.proofs.records_lemmas.dispatches_lemmas.Rows.{by_some, h
 use Rattle.audit_sweep.proofs.records.dispatches.dispatching.dispatches.Goals as goal
 
 pub is_some_dispatched-requires-clause-periods : goal.is_some_dispatched-requires-clause-periods
-is_some_dispatched-requires-clause-periods c =
-    have_periods c.args.network.now c.args.dispatch.now.link c.args.rows.now c.requires.range c.requires.rows
+is_some_dispatched-requires-clause-periods c = have_periods c.args.network.now c.args.dispatch.now.link c.args.rows.now c.requires.range c.requires.rows
 
 pub returns-then-is_up : goal.returns-then-is_up
 returns-then-is_up c s hs t stands last =

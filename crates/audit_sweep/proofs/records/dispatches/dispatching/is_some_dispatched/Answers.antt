@@ -6,8 +6,7 @@ pub loop-row-init : goal.loop-row-init
 loop-row-init c s hs t stands last i lt = absurd (omega (arith, lt))
 
 pub is_dispatched-requires-clause-period : goal.is_dispatched-requires-clause-period
-is_dispatched-requires-clause-period c =
-    c.requires.periods _ (in_index c.args.rows.now c.loop-row.row-index no_row c.loop-row-test.true)
+is_dispatched-requires-clause-period c = c.requires.periods _ (in_index c.args.rows.now c.loop-row.row-index no_row c.loop-row-test.true)
 
 pub returns-then-is_dispatched : goal.returns-then-is_dispatched
 returns-then-is_dispatched c s hs t stands last = (

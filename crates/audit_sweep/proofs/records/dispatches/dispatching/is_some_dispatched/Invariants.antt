@@ -5,5 +5,4 @@ use Rattle.audit_sweep.proofs.records.dispatches.dispatching.is_some_dispatched.
 abbrev pub invariant-loop-row : goal.invariant-loop-row
 invariant-loop-row l =
     (s : Scenario) (hs : List Happening) (t : ℕ) → StandsAt s hs l.network l.device t l.moment l.shown
-    → IsAcceptedLast l.network hs l.device l.dispatch.vl t l.accepted
-    → NoneOf (IsRowDispatched s l.network hs l.device t l.dispatch) l.rows no_row l.row-index
+    → IsAcceptedLast l.network hs l.device l.dispatch.vl t l.accepted → NoneOf (IsRowDispatched s l.network hs l.device t l.dispatch) l.rows no_row l.row-index

@@ -10,8 +10,7 @@ returns-in-Some c = λ hs are.
     let p = c.args.place.now in
     let found = c.in-Some.found.now in
     let same = c.deref.ensures.value ∙ c.self.view_is in
-    let got : slice_get items k ≡ Some found =
-    ap (λ (xs : List (List ℕ)). slice_get xs k) (sym same)
+    let got : slice_get items k ≡ Some found = ap (λ (xs : List (List ℕ)). slice_get xs k) (sym same)
     ∙ got_at c.deref.result.now k found (ltb-true k (length c.deref.result.now) (sym c.in-Some.ensures.lookup.0)) c.in-Some.ensures.lookup.1 in (
       λ is.
           of_map p hs (subst (λ (xs : List (List ℕ)). IsIn p xs) are.same

@@ -1,6 +1,23 @@
-use Rattle.{audit_law.specs.law.Changes.OwesChange, audit_sweep.proofs.unpaid_lemmas.PaidChanges.{change_marked, change_time, owed_change}}
-use Rattle.audit_sweep.proofs.unpaid_lemmas.Words.{◌∙◌, ◌≡◌, ◌≤◌, KeptRecord, ap, both_ways, scenario_of, subst, time_of, ℕ}
+use Rattle.audit_law.specs.law.Changes.{OwesChange}
+use Rattle.audit_sweep.proofs.unpaid_lemmas.PaidChanges.{change_marked, change_of_record, change_paid, change_time, owed_change}
+use Rattle.audit_sweep.proofs.unpaid_lemmas.Words.{◌∙◌, ◌≡◌, ◌≤◌, KeptRecord, ap, arith, both_ways, scenario_of, subst, time_of, ℕ}
 use Rattle.audit_sweep.proofs.unpaid.debtor.Debtor.unpaid_change.Goals as goal
+
+pub returns-in-None : goal.returns-in-None
+returns-in-None c befallen hs known owed =
+    absurd (change_of_record (scenario_of c.args.self.now befallen) hs c.args.self.now.until c.args.number owed (c.in-None.ensures hs known.kept))
+
+pub returns-then-of : goal.returns-then-of
+returns-then-of c befallen hs known owed =
+    let got = c.in-Some.ensures hs known.kept in
+    let so = c.of.ensures hs got.0 known.paid got.1 in
+    change_paid (scenario_of c.args.self.now befallen) hs c.args.number (so.change.0 c.if-of.true)
+
+pub returns-then-self-kept : goal.returns-then-self-kept
+returns-then-self-kept c befallen hs known owed =
+    let got = c.in-Some.ensures hs known.kept in
+    let late = (owed_change (scenario_of c.args.self.now befallen) hs c.args.self.now.until c.args.number got.0 got.1 owed).1 in
+    absurd (omega (arith, late, ap (λ (r : KeptRecord). r.time) got.2, c.if-self-kept.true))
 
 pub returns-then-not-changes_state : goal.returns-then-not-changes_state
 returns-then-not-changes_state c befallen hs known owed =

@@ -8,6 +8,5 @@ use Rattle.audit_sweep.proofs.unpaid.emissions.first.first_unemitted.Given as go
 abbrev pub invariant-devices : goal.invariant-devices
 invariant-devices l =
     (befallen : List Event) (hs : List Happening) → IsKept l.network befallen hs l.events l.stretches l.places
-    → IsFounded place_of (IsDue (scenario_under l.network befallen)) hs
-    → TellsFirstOf (OwesAmong (scenario_under l.network befallen) hs l.until l.place)
+    → IsFounded place_of (IsDue (scenario_under l.network befallen)) hs → TellsFirstOf (OwesAmong (scenario_under l.network befallen) hs l.until l.place)
     (λ (o : DeviceId × Compressed). IsTold (scenario_under l.network befallen) hs o.0 o.1) l.first

@@ -10,8 +10,7 @@ abbrev pub invariant-clusters : goal.invariant-clusters
 invariant-clusters l =
     (befallen : List Event) (hs : List Happening) (kept : Stretches) (e : Entry)
     → IsKept l.network befallen hs l.events l.stretches l.places → IsFounded place_of (IsDue (scenario_under l.network befallen)) hs
-    → kept_of l.stretches l.device ≡ Some kept → slice_get kept.entries l.place ≡ Some e
-    → (l.left ≤ length (emissions_in kept.collections e.gathering))
+    → kept_of l.stretches l.device ≡ Some kept → slice_get kept.entries l.place ≡ Some e → (l.left ≤ length (emissions_in kept.collections e.gathering))
     × TellsFirstOf (OwesBehind (scenario_under l.network befallen) hs l.until l.device kept.collections e l.left)
     (IsTold (scenario_under l.network befallen) hs l.device) l.first
 

@@ -6,14 +6,12 @@ use Rattle.audit_sweep.proofs.unpaid.payments.Payments.push.Goals as goal
 
 pub returns-then-cause-eq0 : goal.returns-then-cause-eq0
 returns-then-cause-eq0 c hs h are body number =
-    let items : c.push.new.self.items ≡ c.args.self.now ++ nothing ∷ [] =
-    c.in-Ok.ensures.items
+    let items : c.push.new.self.items ≡ c.args.self.now ++ nothing ∷ [] = c.in-Ok.ensures.items
     ∙ ap (λ (xs : List Paid). xs ++ c.nothing.result ∷ []) c.self.view_is
     ∙ ap (λ (p : Paid). c.args.self.now ++ p ∷ []) c.nothing.ensures in
     let count : c.len-count.result ≡ length hs = omega (arith, c.len-count.ensures, ap length c.self.view_is, are.count) in
     let cause : c.cause_of-cause.result ≡ cause_of h.note.body = c.cause_of-cause.ensures ∙ ap cause_of (sym body) in
-    let none : (cause_of h.note.body ≡ 0) ⊎ (length hs < cause_of h.note.body) =
-    elim c.then-cause-eq0.branch [
+    let none : (cause_of h.note.body ≡ 0) ⊎ (length hs < cause_of h.note.body) = elim c.then-cause-eq0.branch [
       | then-cause-eq0-via-then-cause-eq0 w ↦ let zero = w.if-cause-eq0 in inl (omega (arith, zero, cause))
       | then-cause-eq0-via-else-cause-eq0+then-count-cause w ↦ let high = w.if-count-cause in inr (omega (arith, high, cause, count))
     ] in
@@ -21,8 +19,7 @@ returns-then-cause-eq0 c hs h are body number =
 
 pub returns : goal.returns
 returns c hs h are body number =
-    let items : c.push.new.self.items ≡ c.args.self.now ++ nothing ∷ [] =
-    c.in-Ok.ensures.items
+    let items : c.push.new.self.items ≡ c.args.self.now ++ nothing ∷ [] = c.in-Ok.ensures.items
     ∙ ap (λ (xs : List Paid). xs ++ c.nothing.result ∷ []) c.self.view_is
     ∙ ap (λ (p : Paid). c.args.self.now ++ p ∷ []) c.nothing.ensures in
     let place = c.cause_of-cause.result - 1 in
@@ -31,8 +28,7 @@ returns c hs h are body number =
     let own : cause_of h.note.body ≡ place + 1 = omega (arith, cause, c.if-cause-eq0.false) in
     let low : place < length hs = omega (arith, count, c.if-cause-eq0.false, c.if-count-cause.false) in
     let old = c.index.result.now in
-    let was : slice_get (c.args.self.now ++ nothing ∷ []) place ≡ Some old =
-    ap (λ (xs : List Paid). slice_get xs place) (sym items)
+    let was : slice_get (c.args.self.now ++ nothing ∷ []) place ≡ Some old = ap (λ (xs : List Paid). slice_get xs place) (sym items)
     ∙ got_at c.push.new.self.items place old (omega (arith, low, ap length items, length-append c.args.self.now (nothing ∷ []), are.count)) c.index.ensures in
     let after : both old (paid_by h.note.body) ≡ c.and.result =
     ap (λ (b : NoteBody). both old (paid_by b)) body ∙ ap (λ (p : Paid). both old p) (sym c.by.ensures) ∙ sym c.and.ensures in

@@ -21,11 +21,7 @@ returns-then-is_owed-clause-untold c befallen hs kept founded shows untold =
     (λ after shown. c.heard_since-heard.ensures s at.front device t (record { of_network = refl; reads = befalls.reading.before }) after shown) in
     let owed = c.is_owed.ensures.0 c.if-is_owed.true in
     let comes = (c.coming_point.ensures s at.front t owed.0 owed.1 stands hears).0 owed.2 in
-    let owes : OwesAt s hs device t owed.0 = record {
-      verdict = owed.1;
-      comes = (by_front s hs device t owed.0 owed.1 at).0 comes;
-      more = owed.3;
-    } in (
+    let owes : OwesAt s hs device t owed.0 = record { verdict = owed.1; comes = (by_front s hs device t owed.0 owed.1 at).0 comes; more = owed.3 } in (
       owed.0,
       owes,
       λ told. false≢true (sym (not-true c.is_told.result untold) ∙ (c.is_told.ensures s hs owed.0 kept.places_are founded).1 told),

@@ -1,14 +1,44 @@
 use Rattle.fault_hypothesis.proofs.{storm.storm.Storm.next_event.Goals.{else-self-steps-2, then-self-steps-2}, storm_lemmas.Within.{end_within, step_within}}
 use Rattle.{fault_hypothesis.specs.{Watching.Watches, storm.Events.{AreNoLater, time_of}}, run_law.specs.scenario.Hypothesis.IsWithinHypothesis}
-use Rattle.{net_plan.specs.declared.network.Network.Network, std.proofs.Common.{◌∙◌, ◌≡◌, ap, refl, subst, sym, ℕ}}
+use Rattle.fault_hypothesis.specs.{declared.storm.draw.Draw.Draw, storm.{Events.IsEventOf, Progress.Progress, Words.{draw_at, draw_from}}}
+use Rattle.net_plan.specs.declared.{event.{Event.Event, What.TheVariants.End}, network.Network.Network}
+use Rattle.{std.proofs.Common.{◌∙◌, ◌≡◌, List, ap, arith, inl, inr, refl, subst, sym, ℕ}, tte_units.specs.declared.units.Units.Units}
 use Rattle.fault_hypothesis.proofs.storm.storm.Storm.next_event.Goals as goal
+
+-- an event of a step, said of equal values
+is_of : (m n : Network) (es : List Event) (t u : Units) (d f : Draw) (x y : Event) → m ≡ n → t ≡ u → d ≡ f → y ≡ x → IsEventOf m es t d x → IsEventOf n es u f y
+is_of m n es t u d f x y over at draw is h =
+    subst (λ (k : Network). IsEventOf k es u f y) over
+    (subst (λ (k : Units). IsEventOf m es k f y) at (subst (λ (k : Draw). IsEventOf m es t k y) draw (subst (IsEventOf m es t d) (sym is) h)))
+
+pub returns-clause-event : goal.returns-clause-event
+returns-clause-event c = λ admitted w.
+    let over = c.network-network.ensures.value in
+    let few = c.if-self-steps.false in
+    let at : c.step_time-time.result ≡ time_of c.args.accepted.now c.args.self.now.given = c.step_time-time.ensures.value
+    ∙ ap (λ (n : Network). time_of n c.self.inside.given) over
+    ∙ ap (λ (s : Progress). time_of c.args.accepted.now s.given) c.self.view_is in
+    let known = subst (λ (n : Network). Watches n c.args.watch.now admitted) (sym over) w in
+    elim c.if-self-steps-2.branch [
+      | then-self-steps-2 b ↦
+          inr (
+            omega (arith, b.if-self-steps-2.true, ap (λ (s : Progress). s.given) c.self.view_is, ap (λ (s : Progress). s.cycles) c.self.view_is),
+            b.event-is ∙ ap (λ (t : Units). record { time = t; what = End }) at,
+          )
+      | else-self-steps-2 b ↦
+          let draw = b.draw.ensures.words ∙ ap (draw_from c.self.inside.words.seed) (c.self.invariant.2 few)
+          ∙ ap (λ (s : Progress). draw_at s.seed s.given) c.self.view_is in
+          inl (
+            omega (arith, few, b.if-self-steps-2.false, ap (λ (s : Progress). s.given) c.self.view_is, ap (λ (s : Progress). s.cycles) c.self.view_is),
+            is_of _ _ admitted _ _ _ _ _ _ over at draw b.event-is (b.chosen_event-event.ensures.value admitted known),
+          )
+    ]
 
 pub returns-clause-within : goal.returns-clause-within
 returns-clause-within c = λ admitted w no_later.
     let over = c.network-network.ensures.value in
-    let same : c.args.self.now.given ≡ c.self.inside.given = let view = c.self.view_is in cc in
-    let at : time_of c.args.accepted.now c.args.self.now.given ≡ c.step_time-time.result =
-    sym
+    let same : c.args.self.now.given ≡ c.self.inside.given = sym (ap (λ (s : Progress). s.given) c.self.view_is) in
+    let at : time_of c.args.accepted.now c.args.self.now.given ≡ c.step_time-time.result = sym
     (c.step_time-time.ensures.value
     ∙ ap (λ (n : Network). time_of n c.self.inside.given) over
     ∙ ap (λ (k : ℕ). time_of c.args.accepted.now k) (sym same))

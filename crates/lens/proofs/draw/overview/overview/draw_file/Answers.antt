@@ -1,7 +1,7 @@
-use Rattle.{lens.specs.draw.overview.Answer.IsOverviewAnswer, tte_audit.proofs.reports_lemmas.Reports.{no_report_answered, report_given, report_there}}
-use Rattle.{net_plan.specs.declared.network.Network.Network, tte_audit.specs.reports.Reports.IsReportOf, tte_forms.specs.declared.status.Status.Status}
-use Rattle.{run_law.specs.declared.note.Note.Note, tte_forms.specs.Putting.{Shown, shown_by}, tte_units.specs.declared.units.Units.Units}
-use Rattle.{std.proofs.Common.{List, subst, sym, ℕ}, tte_audit.specs.Named.IsNamed, tte_forms.specs.Answering.GivesAnswer}
+use Rattle.{lens.specs.draw.overview.Answer.IsOverviewAnswer, tte_reports.proofs.Reports.{no_report_answered, report_given, report_there}}
+use Rattle.{net_plan.specs.declared.network.Network.Network, tte_forms.specs.declared.status.Status.Status, tte_units.specs.declared.units.Units.Units}
+use Rattle.{run_law.specs.declared.note.Note.Note, std.proofs.Common.{List, subst, sym, ℕ}, tte_forms.specs.{Answering.GivesAnswer, Putting.{Shown, shown_by}}}
+use Rattle.{tte_audit.specs.Named.IsNamed, tte_reports.specs.Reports.IsReportOf}
 use Rattle.lens.proofs.draw.overview.overview.draw_file.Goals as goal
 
 -- for any records that the octets are the report of, an answer was given

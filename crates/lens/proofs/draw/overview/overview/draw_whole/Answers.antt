@@ -1,5 +1,5 @@
-use Rattle.{lens.specs.draw.overview.Answer.IsOverviewAnswer, tte_audit.proofs.reports_lemmas.Sources.{files_accepted, files_refused}}
-use Rattle.{tte_audit.specs.reports.Reports.IsReportAnswer, tte_forms.specs.Putting.shown_by}
+use Rattle.{lens.specs.draw.overview.Answer.IsOverviewAnswer, tte_reports.{proofs.Sources.{files_accepted, files_refused}, specs.Reports.IsReportAnswer}}
+use Rattle.tte_forms.specs.Putting.{shown_by}
 use Rattle.lens.proofs.draw.overview.overview.draw_whole.Goals as goal
 
 pub returns-in-Ok-clause-general : goal.returns-in-Ok-clause-general

@@ -1,6 +1,6 @@
 use Rattle.{lens.proofs.draw_lemmas.{Marking.left_less, overview_lemmas.Swept.{IsMeasured, measured_all, measured_more}}, run_law.specs.declared.note.Note.Note}
 use Rattle.{lens_svg.specs.Sketching.moment, std.proofs.lemmas.Int.to_z-of_z}
-use Rattle.{std.{proofs.Common.{◌∙◌, ◌≡◌, List, ap, refl, rules, subst, sym, w64}, specs.Prelude.{max, unsigned_abs}}, tte_audit.specs.reports.Reports.AreLeft}
+use Rattle.{std.{proofs.Common.{◌∙◌, ◌≡◌, List, ap, refl, rules, subst, sym, w64}, specs.Prelude.{max, unsigned_abs}}, tte_reports.specs.Reports.AreLeft}
 use Rattle.lens.proofs.draw.overview.sweeping.greatest_of.Goals as goal
 
 pub records-init : goal.records-init

@@ -1,4 +1,4 @@
-use Rattle.{lens.proofs.draw_lemmas.overview_lemmas.Swept.IsMeasured, run_law.specs.declared.note.Note.Note, tte_audit.specs.reports.Reports.AreLeft}
+use Rattle.{lens.proofs.draw_lemmas.overview_lemmas.Swept.IsMeasured, run_law.specs.declared.note.Note.Note, tte_reports.specs.Reports.AreLeft}
 use Rattle.std.proofs.Common.{List, length}
 use Rattle.lens.proofs.draw.overview.sweeping.greatest_of.Given as goal
 

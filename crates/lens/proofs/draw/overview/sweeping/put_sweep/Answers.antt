@@ -1,13 +1,12 @@
 use Rattle.lens.proofs.draw_lemmas.{Marking.left_less, overview_lemmas.Swept.{IsSwept, swept_all, swept_fails, swept_first, swept_more}}
 use Rattle.{lens.specs.declared.draw.overview.change.News.News, std.proofs.{Common.{◌∙◌, ◌≡◌, List, ap, refl, rules, subst, sym, w64, ℕ}, lemmas.Int.to_z-of_z}}
-use Rattle.{lens.specs.draw.overview.{Grids.column_of, Strips.taken}, std.specs.Prelude.{map, max, unsigned_abs}, tte_audit.specs.reports.Reports.AreLeft}
-use Rattle.{lens_svg.specs.Sketching.moment, run_law.specs.declared.note.Note.Note, tte_forms.specs.Putting.shown_by}
+use Rattle.{lens.specs.draw.overview.{Grids.column_of, Strips.taken}, run_law.specs.declared.note.Note.Note, std.specs.Prelude.{map, max, unsigned_abs}}
+use Rattle.{lens_svg.specs.Sketching.moment, tte_forms.specs.Putting.shown_by, tte_reports.specs.Reports.AreLeft}
 use Rattle.lens.proofs.draw.overview.sweeping.put_sweep.Goals as goal
 
 pub records-init : goal.records-init
 records-init g c = record {
-  swept =
-      λ notes left. swept_first c.args.network.now c.args.grid c.args.strips.now notes c.args.first (shown_by g.K.Sink c.args.out.now) left;
+  swept = λ notes left. swept_first c.args.network.now c.args.grid c.args.strips.now notes c.args.first (shown_by g.K.Sink c.args.out.now) left;
   quiet = refl;
 }
 
@@ -28,8 +27,7 @@ records-preserved g c =
     let network = c.args.network.now in
     let time : c.unsigned_abs.result ≡ moment c.in-Some.note =
     c.unsigned_abs.ensures.value ∙ ap unsigned_abs (to_z-of_z w64 c.in-Some.note.time.0 (search rules)) in
-    let here : c.column_of-here.result ≡ column_of c.args.grid (moment c.in-Some.note) =
-    c.column_of-here.ensures.value ∙ ap (column_of c.args.grid) time in
+    let here : c.column_of-here.result ≡ column_of c.args.grid (moment c.in-Some.note) = c.column_of-here.ensures.value ∙ ap (column_of c.args.grid) time in
     let most : c.max-column.result ≡ max c.records.column c.column_of-here.result = search rules in
     record {
       swept =
@@ -51,8 +49,7 @@ returns-in-Err-clause-gives g c notes left =
     let next = c.in-Some.ensures h.rest h.left in
     let time : c.unsigned_abs.result ≡ moment c.in-Some.note =
     c.unsigned_abs.ensures.value ∙ ap unsigned_abs (to_z-of_z w64 c.in-Some.note.time.0 (search rules)) in
-    let here : c.column_of-here.result ≡ column_of c.args.grid (moment c.in-Some.note) =
-    c.column_of-here.ensures.value ∙ ap (column_of c.args.grid) time in
+    let here : c.column_of-here.result ≡ column_of c.args.grid (moment c.in-Some.note) = c.column_of-here.ensures.value ∙ ap (column_of c.args.grid) time in
     swept_fails c.args.network.now c.args.grid c.args.strips.now notes c.records.records c.records.column c.records.strips (shown c.args.out.now)
     (shown c.records.out) h c.in-Some.note next.0 c.column_of-here.result (shown c.end_columns.new.out) next.1 here c.in-Err.ensures.draws
 

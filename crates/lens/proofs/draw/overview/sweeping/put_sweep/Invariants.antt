@@ -1,5 +1,5 @@
-use Rattle.{lens.proofs.draw_lemmas.overview_lemmas.Swept.IsSwept, run_law.specs.declared.note.Note.Note, tte_audit.specs.reports.Reports.AreLeft}
-use Rattle.{std.proofs.Common.{◌≡◌, List, length}, tte_forms.specs.Putting.shown_by}
+use Rattle.{lens.proofs.draw_lemmas.overview_lemmas.Swept.IsSwept, run_law.specs.declared.note.Note.Note, std.proofs.Common.{◌≡◌, List, length}}
+use Rattle.{tte_forms.specs.Putting.shown_by, tte_reports.specs.Reports.AreLeft}
 use Rattle.lens.proofs.draw.overview.sweeping.put_sweep.Given as goal
 
 abbrev pub decreases-records : goal.decreases-records

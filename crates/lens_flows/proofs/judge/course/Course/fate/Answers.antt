@@ -33,8 +33,7 @@ returns-then-not-stays_in_step c befallen hs known begun ready =
     let s = scenario_of c.args.self.now befallen in
     let flow = c.args.flow.now in
     let until = c.args.self.now.until in
-    let first : IsFirstTime (IsEndOf s hs flow c.args.cycle) c.args.from until c.in-Some.to =
-    c.in-Some.ensures befallen hs known in
+    let first : IsFirstTime (IsEndOf s hs flow c.args.cycle) c.args.from until c.in-Some.to = c.in-Some.ensures befallen hs known in
     false≢true (sym c.if-not-stays_in_step.true
     ∙ (c.stays_in_step.ensures befallen hs known).1 (ready_stays s hs until flow c.args.cycle c.args.from c.in-Some.to first ready))
 
@@ -46,8 +45,7 @@ returns-else-is_owed c befallen hs known begun =
     let s = scenario_of c.args.self.now befallen in
     let flow = c.args.flow.now in
     let until = c.args.self.now.until in
-    let first : IsFirstTime (IsEndOf s hs flow c.args.cycle) c.args.from until c.in-Some.to =
-    c.in-Some.ensures befallen hs known in
+    let first : IsFirstTime (IsEndOf s hs flow c.args.cycle) c.args.from until c.in-Some.to = c.in-Some.ensures befallen hs known in
     let ends = end_there s hs until flow c.args.cycle c.args.from c.args.from c.in-Some.to (omega arith) first in (
       stays_ready s hs until flow c.args.cycle c.args.from c.in-Some.to ends
           ((c.stays_in_step.ensures befallen hs known).0 c.if-not-stays_in_step.false),
@@ -60,8 +58,7 @@ returns-then-stays_in_step c befallen hs known begun =
     let s = scenario_of c.args.self.now befallen in
     let flow = c.args.flow.now in
     let until = c.args.self.now.until in
-    let none : NoneWithin (IsEndOf s hs flow c.args.cycle) c.args.from (until + 1) =
-    c.in-None.ensures befallen hs known in (
+    let none : NoneWithin (IsEndOf s hs flow c.args.cycle) c.args.from (until + 1) = c.in-None.ensures befallen hs known in (
       λ t ge le no. (c.stays_in_step-in-None.ensures befallen hs known).0 c.if-stays_in_step.true t ge le,
       no_end s hs until flow c.args.cycle c.args.from none,
     )
@@ -71,7 +68,6 @@ returns-else-stays_in_step c befallen hs known begun ready =
     let s = scenario_of c.args.self.now befallen in
     let flow = c.args.flow.now in
     let until = c.args.self.now.until in
-    let none : NoneWithin (IsEndOf s hs flow c.args.cycle) c.args.from (until + 1) =
-    c.in-None.ensures befallen hs known in
+    let none : NoneWithin (IsEndOf s hs flow c.args.cycle) c.args.from (until + 1) = c.in-None.ensures befallen hs known in
     false≢true (sym c.if-stays_in_step.false
     ∙ (c.stays_in_step-in-None.ensures befallen hs known).1 (ready_to_end s hs until flow c.args.cycle c.args.from none ready))

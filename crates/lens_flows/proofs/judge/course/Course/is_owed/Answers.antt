@@ -43,8 +43,7 @@ pub returns-then-not-stays_in_step : goal.returns-then-not-stays_in_step
 returns-then-not-stays_in_step c befallen hs known begun =
     let s = scenario_of c.args.self.now befallen in
     let flow = c.args.flow.now in
-    let first : IsFirstTime (IsEndOf s hs flow c.args.cycle) c.ends.after c.args.self.now.until c.in-Some.to =
-    c.in-Some.ensures befallen hs known in (
+    let first : IsFirstTime (IsEndOf s hs flow c.args.cycle) c.ends.after c.args.self.now.until c.in-Some.to = c.in-Some.ensures befallen hs known in (
       λ e. absurd (false≢true e),
       λ owed. absurd (not_in_step s hs c.args.self.now.until flow c.args.cycle c.args.from c.ends.after c.in-Some.to c.requires.flow
           (c.ends.invariant.1 befallen hs known) first
@@ -55,8 +54,7 @@ pub returns-then-is_sent : goal.returns-then-is_sent
 returns-then-is_sent c befallen hs known begun =
     let s = scenario_of c.args.self.now befallen in
     let flow = c.args.flow.now in
-    let first : IsFirstTime (IsEndOf s hs flow c.args.cycle) c.ends.after c.args.self.now.until c.in-Some.to =
-    c.in-Some.ensures befallen hs known in (
+    let first : IsFirstTime (IsEndOf s hs flow c.args.cycle) c.ends.after c.args.self.now.until c.in-Some.to = c.in-Some.ensures befallen hs known in (
       λ e. made_owed s hs c.args.self.now.until flow c.args.cycle c.args.from c.in-Some.to c.requires.flow begun
           (end_there s hs c.args.self.now.until flow c.args.cycle c.args.from c.ends.after c.in-Some.to c.ends.invariant.0 first)
           ((c.stays_in_step.ensures befallen hs known).0 c.if-not-stays_in_step.false) ((c.is_sent.ensures befallen hs known).0 c.if-is_sent.true),
@@ -84,8 +82,7 @@ ends-preserved c =
       λ befallen hs known.
           let s = scenario_of c.args.self.now befallen in
           let flow = c.args.flow.now in
-          let first : IsFirstTime (IsEndOf s hs flow c.args.cycle) c.ends.after c.args.self.now.until c.in-Some.to =
-          c.in-Some.ensures befallen hs known in
+          let first : IsFirstTime (IsEndOf s hs flow c.args.cycle) c.ends.after c.args.self.now.until c.in-Some.to = c.in-Some.ensures befallen hs known in
           none_on s hs c.args.self.now.until flow c.args.cycle c.args.from c.ends.after c.in-Some.to (c.ends.invariant.1 befallen hs known) first
           (λ sent. false≢true (sym c.if-is_sent.false ∙ (c.is_sent.ensures befallen hs known).1 sent)),
     )
@@ -94,8 +91,7 @@ pub returns : goal.returns
 returns c befallen hs known begun =
     let s = scenario_of c.args.self.now befallen in
     let flow = c.args.flow.now in
-    let none : NoneWithin (IsEndOf s hs flow c.args.cycle) c.ends.after (c.args.self.now.until + 1) =
-    c.in_default.ensures befallen hs known in (
+    let none : NoneWithin (IsEndOf s hs flow c.args.cycle) c.ends.after (c.args.self.now.until + 1) = c.in_default.ensures befallen hs known in (
       λ e. absurd (false≢true e),
       λ owed. absurd (no_end_left s hs c.args.self.now.until flow c.args.cycle c.args.from c.ends.after c.requires.flow
           (c.ends.invariant.1 befallen hs known) none owed),

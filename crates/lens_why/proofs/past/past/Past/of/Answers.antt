@@ -6,8 +6,7 @@ pub with_all-requires-clause-named : goal.with_all-requires-clause-named
 with_all-requires-clause-named c = subst IsNamed (sym c.network.ensures.value) c.keep_names_apart.ensures
 
 pub with_all-requires-clause-report : goal.with_all-requires-clause-report
-with_all-requires-clause-report c =
-    subst (λ (n : Network). IsSomeReport n c.args.report.now.octets) (sym c.network.ensures.value) c.requires
+with_all-requires-clause-report c = subst (λ (n : Network). IsSomeReport n c.args.report.now.octets) (sym c.network.ensures.value) c.requires
 
 pub with_all-requires-clause-none : goal.with_all-requires-clause-none
 with_all-requires-clause-none c =

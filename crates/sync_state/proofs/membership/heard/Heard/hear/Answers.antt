@@ -1,7 +1,6 @@
-use Rattle.std.proofs.Common.{◌++◌, ◌∷◌, Some, [], subst, sym}
-use Rattle.pcf_values.specs.declared.{channel.Channel.TheVariants.{A, B}, members.Members.Members}
+use Rattle.{std.proofs.Common.{◌++◌, ◌∷◌, Some, [], subst, sym}, tte_units.specs.declared.frames.members.Members.Members}
 use Rattle.sync_state.proofs.membership_lemmas.SummaryLemmas.{hears_on_a, hears_on_b, hears_outside, same_hearing}
-use Rattle.sync_state.specs.membership.{Hearing.Hearing, Summary.{Summarizes, Summary}}
+use Rattle.{sync_state.specs.membership.{Hearing.Hearing, Summary.{Summarizes, Summary}}, tte_units.specs.declared.frames.channel.Channel.TheVariants.{A, B}}
 use Rattle.sync_state.proofs.membership.heard.Heard.hear.Goals as goal
 
 pub returns-then-not-within-clause-heard : goal.returns-then-not-within-clause-heard

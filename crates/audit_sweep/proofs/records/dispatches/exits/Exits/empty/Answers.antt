@@ -4,8 +4,7 @@ use Rattle.audit_sweep.{specs.declared.records.dispatches.leaving.LeavingRow.Lea
 use Rattle.audit_sweep.proofs.records.dispatches.exits.Exits.empty.Goals as goal
 
 pub loop-init : goal.loop-init
-loop-init c =
-    (λ i. ap (λ (xs : List (Vec LeavingRow Global)). items_at xs i) c.new-links.ensures.items ∙ none_at i, ap length c.new-links.ensures.items)
+loop-init c = (λ i. ap (λ (xs : List (Vec LeavingRow Global)). items_at xs i) c.new-links.ensures.items ∙ none_at i, ap length c.new-links.ensures.items)
 
 pub loop-preserved : goal.loop-preserved
 loop-preserved c =

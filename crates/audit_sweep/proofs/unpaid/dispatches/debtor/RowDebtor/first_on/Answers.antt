@@ -5,8 +5,7 @@ use Rattle.audit_law.specs.law.Owed as debts
 use Rattle.audit_sweep.proofs.unpaid.dispatches.debtor.RowDebtor.first_on.Goals as goal
 
 pub rows-init : goal.rows-init
-rows-init c befallen hs known =
-    no_rows (scenario_of c.args.self.now befallen) hs c.args.self.now.until c.args.link c.on-rows.result.now
+rows-init c befallen hs known = no_rows (scenario_of c.args.self.now befallen) hs c.args.self.now.until c.args.link c.on-rows.result.now
 
 pub first_by-requires-clause-row : goal.first_by-requires-clause-row
 first_by-requires-clause-row c =

@@ -11,8 +11,7 @@ returns-in-Some c network notes keeps =
     let kept = c.in-Some.kept in
     let at : Some kept ≡ at_number ks c.args.number =
     subst (λ (xs : List Kept). Some kept ≡ at_number xs c.args.number) c.deref.ensures.value c.in-Some.ensures in
-    let shown : c.shown.result ≡ kept_shown own pool kept =
-    subst (λ (n : Network). c.shown.result ≡ kept_shown n pool kept) c.network.ensures.value
+    let shown : c.shown.result ≡ kept_shown own pool kept = subst (λ (n : Network). c.shown.result ≡ kept_shown n pool kept) c.network.ensures.value
     (subst (λ (xs : List ℕ). c.shown.result ≡ kept_shown c.network.result.now xs kept) c.deref-in-Some.ensures.value c.shown.ensures) in
     shown ∙ ap (option_and_then (kept_shown own pool)) at
     ∙ trace_shows network own c.args.self.now pool ks notes c.args.number c.self.view_is keeps
@@ -22,7 +21,6 @@ returns-in-None c network notes keeps =
     let own = c.self.inside.accepted.now in
     let pool = c.self.inside.pool.items in
     let ks = c.self.inside.records.items in
-    let at : None ≡ at_number ks c.args.number =
-    subst (λ (xs : List Kept). None ≡ at_number xs c.args.number) c.deref.ensures.value c.in-None.ensures in
+    let at : None ≡ at_number ks c.args.number = subst (λ (xs : List Kept). None ≡ at_number xs c.args.number) c.deref.ensures.value c.in-None.ensures in
     ap (option_and_then (kept_shown own pool)) at
     ∙ trace_shows network own c.args.self.now pool ks notes c.args.number c.self.view_is keeps

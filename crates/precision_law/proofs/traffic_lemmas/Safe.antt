@@ -1,0 +1,43 @@
+-- Each run is safe, by what the precision says of blocks.
+use Rattle.precision_law.proofs.{faults.Masters.{good_is_correct, one_channel_is_sound, switches_are_good}, traffic_lemmas.Words.{BringsBlocks, BringsChannels}}
+use Rattle.precision_law.{proofs.faults.Ways.{sound_switches_begin_on, sound_ways_are_whole}, specs.traffic.Ports.{OwedFramesCome, PortsStayApart, RunsAreSafe}}
+use Rattle.precision_law.proofs.{law.Whole.{blocks_known, clocks_agree}, traffic_lemmas.delivery.Sent.Brings}
+use Rattle.precision_law.proofs.traffic_lemmas.{delivery.Delivering.owed_frames_come, faults.{Firm.sound_switches_keep_time, TurnedOn.timed_are_not_turned_on}}
+use Rattle.precision_law.proofs.traffic_lemmas.{faults.Senders.senders_are_broken, ports.{Apart.ports_stay_apart, Givings.givings_keep_away}}
+
+-- what the fault hypothesis leaves
+channels : BringsChannels
+channels = record {
+  correct = good_is_correct;
+  sound = one_channel_is_sound;
+  whole = sound_ways_are_whole;
+  switches = switches_are_good;
+  begin = sound_switches_begin_on;
+}
+
+-- what is known of blocks
+blocks : BringsBlocks
+blocks = record { cover = blocks_known.cover; goes = blocks_known.goes; come = blocks_known.come }
+
+-- all that the traffic stands on
+brings : Brings
+brings = record {
+  blocks = blocks;
+  channels = channels;
+  senders = senders_are_broken;
+  not_on = timed_are_not_turned_on;
+  switches = sound_switches_keep_time channels timed_are_not_turned_on;
+}
+
+pub ports_are_apart : PortsStayApart
+ports_are_apart = ports_stay_apart blocks channels (givings_keep_away blocks timed_are_not_turned_on)
+
+pub frames_are_delivered : OwedFramesCome
+frames_are_delivered = owed_frames_come brings
+
+pub all_are_safe : RunsAreSafe
+all_are_safe s mark ns until run = record {
+  precision = clocks_agree s mark ns until run.up;
+  ports = ports_are_apart s mark ns until run;
+  delivery = frames_are_delivered s mark ns until run;
+}

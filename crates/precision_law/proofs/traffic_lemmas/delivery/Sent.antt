@@ -1,0 +1,356 @@
+-- On the sound channel each row of a virtual link dispatches its frame.
+use Rattle.{precision_law.proofs.records.Times.last_some, run_law.proofs.law.{FirstPlaces.{due_is_there, same_earlier}, FirstSent.{next_due, next_note}}}
+use Rattle.precision_law.proofs.traffic_lemmas.Words.{◌*◌, ◌+◌, ◌<◌, ◌==◌, ◌∙◌, ◌∷◌, ◌≡◌, ◌≢◌, ◌≤◌, ◌⊎◌, Bool, BringsBlocks, BringsChannels, DeviceId, Entry}
+use Rattle.precision_law.proofs.traffic_lemmas.Words.{FieldsFit, Happening, HasGoodSources, Hull, Integrating, IsBefore, IsDue, IsEntry, IsGood, IsIn, IsInSpan}
+use Rattle.precision_law.proofs.traffic_lemmas.Words.{IsOnChannel, IsRowDispatch, IsSwitchOf, IsTimedAt, IsView, Link, LinkId, List, None, NoteBody, OccursIn}
+use Rattle.precision_law.proofs.traffic_lemmas.Words.{Option, Reaches, SendersAreBroken, Some, Synchronised, TimedAreNotTurnedOn, View, VirtualLink, VlId, []}
+use Rattle.precision_law.proofs.traffic_lemmas.Words.{amount, and_parts, ap, arith, arrives_at, before_narrow, cases_lt, clocks_reach_sharply, closed, earlier}
+use Rattle.precision_law.proofs.traffic_lemmas.Words.{eq-eqb, filter, if◌then◌else◌, in_filter, in_range, inl, inr, ints, is_accepted, is_turned_on_at}
+use Rattle.precision_law.proofs.traffic_lemmas.Words.{last_accepted, last_in, last_or, last_setting, link_at, one_device, place_of, pos, reaches_by, refl, room}
+use Rattle.precision_law.proofs.traffic_lemmas.Words.{same_some, slice_get, source_of, split, state_after, state_before, state_left, steady, subst, suc, sym}
+use Rattle.precision_law.proofs.traffic_lemmas.{Words.{target_of, time_of, true, tt_frame_by, way_from, zero, ℕ}, delivery.Taken.takings_are_so}
+use Rattle.precision_law.proofs.traffic_lemmas.delivery.{Arriving.{delay_lies, frames_arrive_in_spans}, Receiving.{arrivals_are_taken, one_vl, state_is}}
+use Rattle.precision_law.proofs.traffic_lemmas.{delivery.Coming.{dispatches_begin, spans_are_apart, takings_come_by_rows}, spans.Forward.synchronised_stay_so}
+use Rattle.precision_law.proofs.traffic_lemmas.{delivery.Takers.switch_accepts, faults.Channels.{source_on, switch_channel, switch_no_end, target_on}}
+use Rattle.precision_law.proofs.traffic_lemmas.{ports.Cycles.same_hull, schedule.Rows.{rows_are_in_time, rows_go_once}, spans.Spans.has_time_at}
+use Rattle.precision_law.proofs.traffic_lemmas.ports.Dispatched.{cycle_is, dispatches_are_in_spans, dispatches_are_of_rows, offset_in_schedule, one_clock}
+use Rattle.precision_law.proofs.traffic_lemmas.spans.{Corrected.{earlier_founded, in_places, last_of}, Reaching.{set_before, values_are_reached}}
+use Rattle.precision_law.specs.{Views.IsSoundSwitch, traffic.{Delivered.{IsRowSent, IsSentIn, RowsAreSent, SoundSwitchesKeepTime}, Spans.ReachesInSpan}}
+use Rattle.{run_law.proofs.records.Happenings.{from_earlier, is_earlier}, schedule_tables.specs.declared.rule.Rule.TheVariants.{Forwarding, Sources}}
+use Rattle.{run_law.{proofs.records.{Members.in_kept, Order.has_passed}, specs.timed.Dispatching.HasAtHand}, schedule_tables.specs.Windows.window_end}
+use Rattle.{run_law.specs.{control.Losses.IsDispatchedOn, records.Happenings.happening, scenario.Faults.IsLinkOf}, schedule_tables.proofs.Entries.same_or_other}
+use Rattle.run_law.specs.declared.note.NoteBody.TheVariants as notes
+
+-- all of these at once
+pub record Brings : Type 0 where
+  pub blocks : BringsBlocks
+  pub channels : BringsChannels
+  pub senders : SendersAreBroken
+  pub not_on : TimedAreNotTurnedOn
+  pub switches : SoundSwitchesKeepTime
+
+-- ---- a dispatch that is due
+
+-- what a row's dispatch needs at a time
+record CanDispatch (v : View) (place : ℕ) (entry : Entry) (cause cycle t : ℕ) : Type 0 where
+  pub row : IsEntry v.scenario.network place entry
+  pub occurs : OccursIn entry.vl cycle
+  pub in_run : t ≤ v.until
+  pub good : IsGood v (source_of entry)
+  pub whole : IsOnChannel v.scenario.network v.channel entry
+  pub state : state_before v.scenario v.records (source_of entry) t ≡ Synchronised
+  pub reached : Reaches v.scenario v.records (source_of entry) (pos (cycle * v.sizes.cycle + amount entry.row.offset)) t
+  pub at_hand : (front : List Happening) → earlier t front ≡ earlier t v.records → HasAtHand v.scenario.network front (source_of entry) entry t cause cycle
+
+-- then there is one
+dispatched : BringsChannels → (v : View) (place : ℕ) (entry : Entry) (cause cycle t : ℕ) → IsView v → CanDispatch v place entry cause cycle t
+    → IsRowSent v entry.row.vl cycle entry
+dispatched channels v place entry cause cycle t is can =
+    let s = v.scenario in
+    let n = s.network in
+    let device = source_of entry in
+    let link = entry.row.link in
+    let vl = entry.row.vl in
+    let at = split place_of (IsDue s) v.records (t ∷ 10 ∷ device.0 ∷ link.0 ∷ cause ∷ vl.0 ∷ cycle ∷ []) is.run.founded in
+    let same = same_earlier t _ v.records at in
+    let body = notes.TtSent device link cause vl cycle in
+    let sent = happening n at.front (next_note at.front t body) in
+    let reached = subst (λ (m : ℕ). Reaches s v.records device (pos (cycle * m + amount entry.row.offset)) t) (cycle_is v is) can.reached in
+    let on_link : IsLinkOf n v.channel link = closed (λ (l : Link). IsSwitchOf n v.channel l.parent) (link_at n link) entry.link can.row.link can.whole in
+    let caused : IsDispatchedOn s at.front device t link cause vl cycle = record {
+      dispatches = record {
+        place = place;
+        entry = entry;
+        row = can.row;
+        by = refl;
+        of_vl = refl;
+        leaves = refl;
+        occurs = can.occurs;
+        up = record {
+          synchronised = ap (λ (xs : List Happening). if is_turned_on_at s device t then Integrating else state_after s xs device) same
+              ∙ can.state;
+          correct = channels.correct v device t can.good can.in_run;
+        };
+        reached = reaches_by s v.records at.front device (pos (cycle * amount n.cycle + amount entry.row.offset)) t (sym same) reached;
+        at_hand = can.at_hand at.front same;
+      };
+      whole = channels.whole v link (way_from n device link) t is on_link can.in_run;
+    } in
+    let there = due_is_there s ((v.until + 1) ∷ []) v.records sent at is.run (next_due s at.front t body caused) (inl (omega (arith, can.in_run))) in
+    let d = dispatches_are_of_rows v sent device link cause vl cycle is there refl in
+    record { record_of = sent; cause = cause; dispatch = d; same = (rows_go_once n d.place place d.entry entry is.lawful.rules d.row can.row d.of_vl d.by).1 }
+
+-- ---- from the sender
+
+-- the sender dispatches
+sender_sends : Brings → (v : View) (vl : VlId) (of_vl : VirtualLink) (cycle last : ℕ) → IsView v → IsSentIn v vl of_vl cycle last → (place : ℕ) (entry : Entry)
+    → IsEntry v.scenario.network place entry → entry.row.vl ≡ vl
+    → IsOnChannel v.scenario.network v.channel entry → source_of entry ≡ entry.vl.sender → IsRowSent v vl cycle entry
+sender_sends brings v vl of_vl cycle last is sent place entry row own on source =
+    let n = v.scenario.network in
+    let vls : entry.vl ≡ of_vl = same_some (slice_get n.vl vl.0) entry.vl of_vl (subst (λ (x : VlId). slice_get n.vl x.0 ≡ Some entry.vl) own row.vl) sent.there
+    in
+    let sender : of_vl.sender ≡ source_of entry = sym (source ∙ ap (λ (x : VirtualLink). x.sender) vls) in
+    let at = sent.rows place entry row own (sym sender) in
+    let can : CanDispatch v place entry 0 cycle at.0 = record {
+      row = row;
+      occurs = subst (λ (x : VirtualLink). OccursIn x cycle) (sym vls) sent.occurs;
+      in_run = at.1;
+      good = subst (IsGood v) sender sent.sender;
+      whole = on;
+      state = subst (λ (d : DeviceId). state_before v.scenario v.records d at.0 ≡ Synchronised) sender at.3;
+      reached = subst (λ (d : DeviceId). Reaches v.scenario v.records d (pos (cycle * v.sizes.cycle + amount entry.row.offset)) at.0) sender at.2;
+      at_hand = λ front same. inl (sym source, refl);
+    } in
+    subst (λ (x : VlId). IsRowSent v x cycle entry) own (dispatched brings.channels v place entry 0 cycle at.0 is can)
+
+-- ---- from switch to switch
+
+-- the frame arrives within the run
+pub arrives_in_time : Brings → (v : View) (vl : VlId) (of_vl : VirtualLink) (cycle last : ℕ) → IsView v → IsSentIn v vl of_vl cycle last
+    → (h : Happening) (device : DeviceId) (link : LinkId) (cause : ℕ) → IsGood v device
+    → (d : IsRowDispatch v h device link cause vl cycle) → window_end v.scenario.network d.entry ≤ last → arrives_at v h link d.entry.row.way d.entry ≤ v.until
+arrives_in_time brings v vl of_vl cycle last is sent h device link cause good d ends =
+    let n = v.scenario.network in
+    let here = dispatches_are_in_spans brings.blocks v h device link cause vl cycle is good d in
+    let hull = same_hull v cycle here.span.block.before sent.before in
+    let least = ap (λ (w : Hull). w.least) hull in
+    let narrow = before_narrow v cycle here.span.block.before in
+    let range = in_range n d.place d.entry is.lawful.range d.row in
+    let at : link_at n link ≡ Some d.entry.link = subst (λ (x : LinkId). link_at n x ≡ Some d.entry.link) d.by d.row.link in
+    let delay = delay_lies v.scenario link d.entry.link d.entry.row.way (time_of h) is.lawful at range.link.wire.least range.link.jitter.least in
+    let times = rows_are_in_time v d.place d.entry is d.row in
+    let space = room v is in
+    omega (arith, ints, least, narrow, here.not_late, delay.1, times.tolerates, ends, sent.in_run, space.eight_errors)
+
+-- a switch of the sound channel that stays so up to a time of the span
+firm_at : Brings → (v : View) (n t : ℕ) (span : IsInSpan v n t) (device : DeviceId) → IsView v → IsSoundSwitch v device → IsTimedAt v device t
+firm_at brings v n t span device is switch =
+    let before = span.block.before in
+    let begin = brings.switches v n before device is switch in
+    (synchronised_stay_so brings.blocks brings.not_on v n before.next t span device is (omega arith) span.block.from begin
+    (set_before v device before.next (last_setting (earlier before.next v.records) device) refl)).0
+
+-- the frame of a row is taken by the switch that it enters
+record IsTakenBy (v : View) (device : DeviceId) (vl : VlId) (cycle : ℕ) : Type 0 where
+  pub taking : Happening
+  pub there : IsIn taking v.records
+  pub link : LinkId
+  pub from : ℕ
+  pub is : taking.note.body ≡ notes.Accepted device link from vl cycle
+
+-- so is the frame of each row into a switch of the sound channel
+taken_there : Brings → (v : View) (vl : VlId) (of_vl : VirtualLink) (cycle last : ℕ) → IsView v → FieldsFit v.scenario.network → HasGoodSources v vl
+    → IsSentIn v vl of_vl cycle last
+    → (k : ℕ) (entry : Entry) → IsEntry v.scenario.network k entry → entry.row.vl ≡ vl → window_end v.scenario.network entry ≤ last
+    → IsSwitchOf v.scenario.network v.channel (target_of entry) → IsRowSent v vl cycle entry → IsTakenBy v (target_of entry) vl cycle
+taken_there brings v vl of_vl cycle last is fit sources sent k entry row own ends switch went =
+    let n = v.scenario.network in
+    let h = went.record_of in
+    let device = source_of entry in
+    let link = entry.row.link in
+    let receiver = target_of entry in
+    let d = went.dispatch in
+    let good = sources k entry row own in
+    let fine = brings.channels.switches v v.channel receiver is switch in
+    let begun = dispatches_begin brings.blocks brings.senders v h device link went.cause vl of_vl cycle is fit good sources sent.there d in
+    let vls : d.entry.vl ≡ of_vl = same_some (slice_get n.vl vl.0) d.entry.vl of_vl
+    (subst (λ (x : VlId). slice_get n.vl x.0 ≡ Some d.entry.vl) d.of_vl d.row.vl) sent.there in
+    let whole : h.octets ≡ tt_frame_by n d.entry.vl cycle = begun.whole ∙ ap (λ (x : VirtualLink). tt_frame_by n x cycle) (sym vls) in
+    let window : window_end n d.entry ≤ last = subst (λ (e : Entry). window_end n e ≤ last) (sym went.same) ends in
+    let in_time = arrives_in_time brings v vl of_vl cycle last is sent h device link went.cause good d window in
+    let arrives = frames_arrive_in_spans brings.blocks v h device link went.cause vl cycle d.entry.row.way is good d in_time in
+    let timed = firm_at brings v cycle (arrives_at v h link d.entry.row.way d.entry) arrives.span receiver is switch in
+    let off = brings.not_on v receiver (arrives_at v h link d.entry.row.way d.entry) is
+    (has_time_at v receiver (arrives_at v h link d.entry.row.way d.entry) timed).timed in
+    let taken = arrivals_are_taken brings.blocks brings.channels v h device receiver link went.cause vl cycle is fit good fine d whole (ap target_of went.same)
+    in_time timed off in
+    let no_end = switch_no_end n v.channel receiver is.lawful.range switch in
+    record {
+      taking = taken.taking;
+      there = taken.there;
+      link = taken.link;
+      from = taken.cause;
+      is = switch_accepts v taken.taking receiver taken.link taken.cause vl cycle is taken.there no_end taken.says;
+    }
+
+-- the last frame that a switch took before it dispatches a row in a cycle is one of the cycle
+record IsAtHand (v : View) (device : DeviceId) (vl : VlId) (cycle t : ℕ) : Type 0 where
+  pub taken : Happening
+  pub last : last_accepted v.records device vl t ≡ Some taken
+  pub link : LinkId
+  pub from : ℕ
+  pub is : taken.note.body ≡ notes.Accepted device link from vl cycle
+
+-- what the test of accepted frames says
+accepted_so : (device : DeviceId) (vl : VlId) (body : NoteBody) → is_accepted device vl body ≡ true → (link : LinkId) × (from : ℕ) × (cycle : ℕ)
+    × (body ≡ notes.Accepted device link from vl cycle)
+accepted_so device vl (notes.Accepted other link from of_vl cycle) e =
+    let parts = and_parts (device.0 == other.0) (vl.0 == of_vl.0) e in (
+      link,
+      from,
+      cycle,
+      ap (λ (d : DeviceId). notes.Accepted d link from of_vl cycle) (one_device device other parts.0)
+          ∙ ap (λ (x : VlId). notes.Accepted device link from x cycle) (one_vl vl of_vl parts.1),
+    )
+accepted_so device vl body e = absurd cc
+
+-- a record that is not behind another is of no later time
+pub no_later : (g h : Happening) → (g ≡ h) ⊎ IsBefore (place_of g) (place_of h) → time_of g ≤ time_of h
+no_later g h (inl same) = omega (arith, ap time_of same)
+no_later g h (inr (inl lt)) = omega (arith, lt)
+no_later g h (inr (inr both)) = omega (arith, both.0)
+
+-- the last of what passes a test passes it
+pub last_passes : (p : Happening → Bool) (hs : List Happening) (r : Happening) → last_or None (filter p hs) ≡ Some r → IsIn r hs × (p r ≡ true)
+last_passes p hs r e = elim (last_in None (filter p hs) r e) [ inl none ↦ absurd cc | inr i ↦ (in_filter p hs r i, has_passed p hs r i) ]
+
+-- where some pass it there is a last
+pub none_last : (p : Happening → Bool) (hs : List Happening) (g : Happening) → last_or None (filter p hs) ≡ None → IsIn g hs → p g ≡ true → ⊥
+none_last p hs g e i hit = by (filter p hs) (in_kept p hs g i hit) e
+  where
+    by : (xs : List Happening) → IsIn g xs → last_or None xs ≡ None → ⊥
+    by [] i e = i
+    by (x ∷ xs) i e = (let some = last_some None x xs in let wrong = some.1 in cc)
+
+-- a switch that took a frame of the cycle has one at hand in the cycle's span
+at_hand_then : Brings → (v : View) (device : DeviceId) (vl : VlId) (cycle t : ℕ) → IsView v → FieldsFit v.scenario.network → IsGood v device
+    → HasGoodSources v vl → IsInSpan v cycle t → (g : IsTakenBy v device vl cycle) → time_of g.taking < t → IsAtHand v device vl cycle t
+at_hand_then brings v device vl cycle t is fit good sources span g early =
+    by (last_accepted v.records device vl t) refl
+  where
+    hit : is_accepted device vl g.taking.note.body ≡ true
+    hit = grind (arith, is_accepted, eq-eqb)
+
+    among : IsIn g.taking (earlier t v.records)
+    among = is_earlier t v.records g.taking g.there early
+
+    by : (o : Option Happening) → last_accepted v.records device vl t ≡ o → IsAtHand v device vl cycle t
+    by None e = absurd (none_last (λ h. is_accepted device vl h.note.body) (earlier t v.records) g.taking e among hit)
+    by (Some r) e =
+        let test = last_passes (λ h. is_accepted device vl h.note.body) (earlier t v.records) r e in
+        let says = accepted_so device vl r.note.body test.1 in
+        let there = from_earlier t v.records r test.0 in
+        let order = no_later g.taking r (last_of (λ h. is_accepted device vl h.note.body) None (earlier t v.records) r g.taking
+        (in_places v.scenario [] (earlier t v.records) (earlier_founded v t is)) e among hit) in
+        let one = takings_are_so v g.taking device g.link g.from vl cycle is g.there (inl g.is) in
+        let two = takings_are_so v r device says.0 says.1 vl says.2 is there.0 (inl says.3) in
+        let first = takings_come_by_rows brings.blocks brings.senders v g.taking device g.link g.from vl cycle is fit good one
+        (sources one.by_row.place one.by_row.entry one.by_row.row one.by_row.of_vl) in
+        let second = takings_come_by_rows brings.blocks brings.senders v r device says.0 says.1 vl says.2 is fit good two
+        (sources two.by_row.place two.by_row.entry two.by_row.row two.by_row.of_vl) in
+        let cycles : says.2 ≡ cycle = elim (cases_lt says.2 cycle) [
+          | inl lt ↦ (let wrong = spans_are_apart v says.2 cycle (time_of r) (time_of g.taking) is lt second.in_span.span
+              first.in_span.span in absurd (omega (arith, wrong, order)))
+          | inr ge ↦ elim (cases_lt cycle says.2) [
+            | inl lt ↦ (let wrong = spans_are_apart v cycle says.2 t (time_of r) is lt span second.in_span.span in absurd (omega (arith, wrong, there.1)))
+            | inr le ↦ omega (arith, ge, le)
+          ]
+        ] in
+        record {
+          taken = r;
+          last = e;
+          link = says.0;
+          from = says.1;
+          is = says.3 ∙ ap (λ (c : ℕ). notes.Accepted device says.0 says.1 vl c) cycles;
+        }
+
+-- the frame was taken before the clock reaches the row's offset
+taken_before_offset : Brings → (v : View) (vl : VlId) (cycle : ℕ) (place : ℕ) (entry : Entry) → IsView v → FieldsFit v.scenario.network → HasGoodSources v vl
+    → IsEntry v.scenario.network place entry → entry.row.vl ≡ vl → source_of entry ≢ entry.vl.sender
+    → IsGood v (source_of entry) → (g : IsTakenBy v (source_of entry) vl cycle) → (r : ReachesInSpan v cycle (amount entry.row.offset) (source_of entry))
+    → time_of g.taking < r.at
+taken_before_offset brings v vl cycle place entry is fit sources row own other good g r =
+    let n = v.scenario.network in
+    let device = source_of entry in
+    let taking = takings_are_so v g.taking device g.link g.from vl cycle is g.there (inl g.is) in
+    let comes = takings_come_by_rows brings.blocks brings.senders v g.taking device g.link g.from vl cycle is fit good taking
+    (sources taking.by_row.place taking.by_row.entry taking.by_row.row taking.by_row.of_vl) in
+    let behind = (is.lawful.rules Forwarding place).from_switch taking.by_row.place taking.by_row.entry entry taking.by_row.row row
+    (own ∙ sym taking.by_row.of_vl) other taking.by_row.enters in
+    let timed : IsTimedAt v device (time_of g.taking) = record { good = good; synchronised = taking.synchronised } in
+    let shows = (comes.in_span.shows device timed).1 in
+    let times = rows_are_in_time v taking.by_row.place taking.by_row.entry is taking.by_row.row in
+    let space = room v is in
+    elim (cases_lt (time_of g.taking) r.at) [
+      | inl lt ↦ lt
+      | inr ge ↦
+          let clock = one_clock brings.blocks v cycle r.at (time_of g.taking) r.in_span.span comes.in_span.span device is timed ge in
+          let sharp = clocks_reach_sharply v device (pos (cycle * v.sizes.cycle + amount entry.row.offset)) r.at is r.reached in
+          let up = (steady v is device).never_falls r.at (time_of g.taking) ge in
+          absurd (omega (arith, ints, clock.adjustment, sharp.least, up, shows, times.tolerates, behind, space.eight_errors))
+    ]
+
+-- by the offset
+sent_below : Brings → (bound : ℕ) (v : View) (vl : VlId) (of_vl : VirtualLink) (cycle last : ℕ) → IsView v → FieldsFit v.scenario.network → HasGoodSources v vl
+    → IsSentIn v vl of_vl cycle last
+    → (place : ℕ) (entry : Entry) → IsEntry v.scenario.network place entry → entry.row.vl ≡ vl → IsOnChannel v.scenario.network v.channel entry
+    → window_end v.scenario.network entry ≤ last → amount entry.row.offset < bound → IsRowSent v vl cycle entry
+sent_below brings zero v vl of_vl cycle last is fit sources sent place entry row own on ends below = absurd (omega (arith, below))
+sent_below brings (suc bound) v vl of_vl cycle last is fit sources sent place entry row own on ends below =
+    let n = v.scenario.network in
+    let device = source_of entry in
+    elim (same_or_other device entry.vl.sender) [
+      | inl sender ↦ sender_sends brings v vl of_vl cycle last is sent place entry row own on sender
+      | inr other ↦ elim (is.lawful.rules Sources place entry row) [
+        | inl sender ↦ absurd (other sender)
+        | inr switch ↦
+            let k = switch.1.0 in
+            let enters = switch.1.2 in
+            let entering = enters.entry in
+            let channel = switch_channel n device is.lawful.range switch.0 in
+            let no_end = switch_no_end n channel.0 device is.lawful.range channel.1 in
+            let firm = source_on n place entry v.channel is.lawful.range is.lawful.rules row no_end on in
+            let there : IsSwitchOf n v.channel (target_of entering) = subst (IsSwitchOf n v.channel) (sym enters.target) firm in
+            let on_channel = target_on n k entering v.channel is.lawful.range is.lawful.rules enters.is there in
+            let entering_own : entering.row.vl ≡ vl = enters.same_vl ∙ own in
+            let behind = (is.lawful.rules Forwarding place).from_switch k entering entry enters.is row (sym enters.same_vl) other enters.target in
+            let times = rows_are_in_time v place entry is row in
+            let entering_times = rows_are_in_time v k entering is enters.is in
+            let first = sent_below brings bound v vl of_vl cycle last is fit sources sent k entering enters.is entering_own on_channel
+            (omega (arith, behind, times.tolerates, ends)) (omega (arith, behind, entering_times.tolerates, below)) in
+            let taken : IsTakenBy v device vl cycle = subst (λ (d : DeviceId). IsTakenBy v d vl cycle) enters.target
+            (taken_there brings v vl of_vl cycle last is fit sources sent k entering enters.is entering_own (omega (arith, behind, times.tolerates, ends)) there
+            first) in
+            let good = sources place entry row own in
+            let before = sent.before in
+            let narrow = before_narrow v cycle before in
+            let space = room v is in
+            let timed = brings.switches v cycle before device is firm in
+            let r = values_are_reached brings.blocks brings.not_on v cycle (amount entry.row.offset) before device is timed sent.occurs.begun
+            (offset_in_schedule v place entry is row)
+            (omega (arith, ints, narrow, times.tolerates, ends, sent.in_run, space.eight_errors)) in
+            let early = taken_before_offset brings v vl cycle place entry is fit sources row own other good taken r in
+            let hand = at_hand_then brings v device vl cycle r.at is fit good sources r.in_span.span taken early in
+            let off = brings.not_on v device r.at is (has_time_at v device r.at r.timed).timed in
+            let vls : entry.vl ≡ of_vl = same_some (slice_get n.vl vl.0) entry.vl of_vl (subst (λ (x : VlId). slice_get n.vl x.0 ≡ Some entry.vl) own row.vl)
+            sent.there in
+            let can : CanDispatch v place entry hand.taken.note.number cycle r.at = record {
+              row = row;
+              occurs = subst (λ (x : VirtualLink). OccursIn x cycle) (sym vls) sent.occurs;
+              in_run = r.in_span.span.block.in_run;
+              good = good;
+              whole = on;
+              state = state_is (is_turned_on_at v.scenario device r.at) (state_left v device r.at) off r.timed.synchronised;
+              reached = r.reached;
+              at_hand = λ front same. inr (
+                no_end,
+                record {
+                  taken = hand.taken;
+                  last =
+                      ap (λ (xs : List Happening). last_or None (filter (λ h. is_accepted device entry.row.vl h.note.body) xs)) same
+                      ∙ ap (λ (x : VlId). last_accepted v.records device x r.at) own ∙ hand.last;
+                  number = refl;
+                  link = hand.link;
+                  from = hand.from;
+                  is = hand.is ∙ ap (λ (x : VlId). notes.Accepted device hand.link hand.from x cycle) (sym own);
+                },
+              );
+            } in
+            subst (λ (x : VlId). IsRowSent v x cycle entry) own (dispatched brings.channels v place entry hand.taken.note.number cycle r.at is can)
+      ]
+    ]
+
+pub rows_are_sent : Brings → RowsAreSent
+rows_are_sent brings v vl of_vl cycle last is fit sources sent place entry row own on ends =
+    sent_below brings (amount entry.row.offset + 1) v vl of_vl cycle last is fit sources sent place entry row own on ends (omega arith)

@@ -1,7 +1,0 @@
-use Rattle.{std.proofs.Common.◌∙◌, tte_audit.proofs.reports_lemmas.RecordLines.begun_lines}
-use Rattle.tte_audit.proofs.reports.reading.AuditedReport.records.Goals as goal
-
-pub returns : goal.returns
-returns c network notes end h =
-    let lines = begun_lines network c.args.self.now.octets notes h.events.text in
-    record { of_network = lines.of_network; text = c.as_slice.ensures ∙ lines.text }

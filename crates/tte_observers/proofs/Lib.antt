@@ -1,0 +1,3 @@
+pub mod captures_lemmas
+pub mod stamps_lemmas
+pub mod votes_lemmas

@@ -1,0 +1,86 @@
+-- The answer for the packets of a capture, packet by packet.
+use Rattle.std.proofs.Common.{◌++◌, ◌+◌, ◌-◌, ◌<◌, ◌∙◌, ◌∷◌, ◌≡◌, ◌≤◌, Err, List, Ok, Result, [], ap, append_assoc, arith, inl, inr, length, refl, subst, suc}
+use Rattle.{std.{proofs.{Common.{sym, ℕ}, lemmas.List.append-nil}, specs.{Io.KnownBytes.Appends, Prelude.{None, Option, Some}}}, tte_io.specs.Told.AppendsFront}
+use Rattle.tte_forms.proofs.{Puts.{Ends-gives, PutsLines-fails, PutsLines-more, PutsLines-none}, frames.Frames.{Gives-behind, behind}}
+use Rattle.tte_forms.specs.{Answering.{Answer, Ends, Gives, line_answer}, declared.status.Status.{Status, TheVariants.{CaptureRefused, Done, WriteFault}}}
+use Rattle.{tte_forms.specs.Putting.{PutsLines, Shown}, tte_io.specs.Faults.next_count, tte_observers.specs.captures.Answer.{found_answer, packets_answer}}
+use Rattle.tte_observers.specs.captures.{CaptureLine.{packet_line, packet_refusal_line}, pcap.{Layout.{head_length, stamp_length}, Reading.packet_at}}
+use Rattle.tte_observers.specs.declared.captures.pcap.{capture.{CaptureHead.CaptureHead, Packet.Packet}, refusal.CaptureRefusal.CaptureRefusal}
+
+-- the answer behind a packet, from a place on
+abbrev pub answer_behind : ℕ → ℕ → CaptureHead → List ℕ → ℕ → Answer
+answer_behind n k head file to = packets_answer n (k + 1) head file to
+
+pub packets_next : (n k : ℕ) (head : CaptureHead) (file : List ℕ) (at : ℕ)
+    → packets_answer (suc n) k head file at ≡ found_answer k file (packet_at head file at)
+    (answer_behind n k head file)
+unfolding packets_answer
+packets_next n k head file at = refl
+
+-- the lines of the packets before a place were put, and the answer from it on is still to come
+pub record IsShown (k : ℕ) (head : CaptureHead) (file : List ℕ) (at : ℕ) (old now : Shown) : Type 0 where
+  pub done : List (List ℕ)
+  pub puts : PutsLines done old now
+  pub turns : ℕ
+  pub enough : length file < at + turns
+  pub rest : packets_answer (length file) 1 head file head_length ≡ behind done (packets_answer turns k head file at)
+
+pub IsShown-none : (head : CaptureHead) (file : List ℕ) (s : Shown) → IsShown 1 head file head_length s s
+IsShown-none head file s =
+    record { done = []; puts = PutsLines-none s; turns = length file; enough = omega arith; rest = refl }
+
+-- what stands at a place decides the answer from it on
+decided : (k : ℕ) (head : CaptureHead) (file : List ℕ) (at : ℕ) (old now : Shown)
+    (r : Result (Option Packet) CaptureRefusal) → (s : IsShown k head file at old now) → at ≤ length file → packet_at head file at ≡ r
+    → packets_answer (length file) 1 head file head_length ≡ behind s.done
+    (found_answer k file r (answer_behind (s.turns - 1) k head file))
+decided k head file at old now r s within is =
+    let more : s.turns ≡ suc (s.turns - 1) = omega (arith, s.enough, within) in
+    s.rest
+    ∙ ap (behind s.done) (ap (λ (n : ℕ). packets_answer n k head file at) more
+    ∙ packets_next (s.turns - 1) k head file at
+    ∙ ap (λ (x : Result (Option Packet) CaptureRefusal). found_answer k file x
+    (answer_behind (s.turns - 1) k head file)) is)
+
+pub IsShown-more : (k : ℕ) (head : CaptureHead) (file : List ℕ) (at : ℕ) (p : Packet) (old now new : Shown) → IsShown k head file at old now
+    → at ≤ length file → at + stamp_length ≤ p.to → packet_at head file at ≡ Ok (Some p)
+    → Appends now.written new.written (packet_line k file p) → new.puts ≡ next_count now.puts → IsShown (k + 1) head file p.to old new
+IsShown-more k head file at p old now new s within further is w c =
+    let others = packets_answer (s.turns - 1) (k + 1) head file p.to in record {
+      done = s.done ++ packet_line k file p ∷ [];
+      puts = PutsLines-more s.done (packet_line k file p) old now new s.puts w c;
+      turns = s.turns - 1;
+      enough = omega (arith, s.enough, within, further);
+      rest =
+          decided k head file at old now (Ok (Some p)) s within is
+          ∙ sym (ap (λ (ls : List (List ℕ)). record { status = others.status; lines = ls })
+          (append_assoc s.done (packet_line k file p ∷ []) others.lines));
+    }
+
+-- all packets were shown
+pub IsShown-all : (k : ℕ) (head : CaptureHead) (file : List ℕ) (at : ℕ) (status : Status) (old now new : Shown) → IsShown k head file at old now
+    → at ≤ length file → packet_at head file at ≡ Ok None → Ends Done status now new
+    → Gives (packets_answer (length file) 1 head file head_length) status old new
+IsShown-all k head file at status old now new s within is ends =
+    let whole : packets_answer (length file) 1 head file head_length ≡ record { status = Done; lines = s.done } =
+    decided k head file at old now (Ok None) s within is
+    ∙ ap (λ (ls : List (List ℕ)). record { status = Done; lines = ls }) (append-nil s.done) in
+    subst (λ (a : Answer). Gives a status old new) (sym whole) (Ends-gives s.done Done status old now new s.puts ends)
+
+-- the put of a packet's line failed
+pub IsShown-fails : (k : ℕ) (head : CaptureHead) (file : List ℕ) (at : ℕ) (p : Packet) (old now new : Shown) → IsShown k head file at old now
+    → at ≤ length file → packet_at head file at ≡ Ok (Some p) → AppendsFront now.written new.written (packet_line k file p)
+    → new.puts ≡ next_count now.puts → Gives (packets_answer (length file) 1 head file head_length) WriteFault old new
+IsShown-fails k head file at p old now new s within is w c =
+    let others = packets_answer (s.turns - 1) (k + 1) head file p.to in
+    let fails = PutsLines-fails s.done (packet_line k file p) others.lines old now new s.puts w c in
+    subst (λ (a : Answer). Gives a WriteFault old new)
+    (sym (decided k head file at old now (Ok (Some p)) s within is)) (inr (inl (refl, inl fails)))
+
+-- a packet is refused
+pub IsShown-refused : (k : ℕ) (head : CaptureHead) (file : List ℕ) (at : ℕ) (e : CaptureRefusal) (status : Status)
+    (old now new : Shown) → IsShown k head file at old now → at ≤ length file → packet_at head file at ≡ Err e
+    → Gives (line_answer CaptureRefused (packet_refusal_line k e)) status now new → Gives (packets_answer (length file) 1 head file head_length) status old new
+IsShown-refused k head file at e status old now new s within is g =
+    subst (λ (a : Answer). Gives a status old new) (sym (decided k head file at old now (Err e) s within is))
+    (Gives-behind s.done (line_answer CaptureRefused (packet_refusal_line k e)) status old now new s.puts g)

@@ -1,0 +1,3 @@
+pub mod captures
+pub mod stamps
+pub mod votes

@@ -1,0 +1,69 @@
+ghost use Rattle.std.specs.Prelude.{◌≡◌, ◌⊎◌};
+ghost use Rattle.tte_forms.specs.{Answering.{ForOctets, Gives, GivesAnswer}, networks.Accepting.IsNetworkAnswer};
+ghost use Rattle.tte_forms.specs.{Faults.{HasCause, IsWanted, PutFailed, ReadFailed}, Putting.Over};
+ghost use Rattle.tte_reports.specs.Answer.{IsAuditAnswer, IsAuditStatus, audited_answer};
+ghost use Rattle.tte_reports.specs.{Reading.{ReadsReport, TakesReport}, Safely.AuditsSafely};
+
+use crate::audit_line::make_audited_line;
+use crate::{put_no_report, read_report};
+use schedule_tables::Accepted;
+use std::alloc::Global;
+use tte_forms::{Status, accept, put_last, put_no_network};
+use tte_io::{LineText, Sink, Source};
+
+/// Judges the finished report of the second file over the network of the first, record by record. It is the report of
+/// the run under the events that its own records tell, or it is refused at its first fault.
+///
+/// The second file is read only where the network is accepted, and whole before anything is put.
+pub fn audit_report<A: Source, B: Source, K: Sink>(
+    alloc: Global,
+    first: &mut A,
+    second: &mut B,
+    out: &mut K,
+) -> Status
+    ensures general { Over K.Sink out.old out.new (λ old new.
+        ForOctets (A.left first.old) (λ octets. ForOctets (B.left second.old) (λ report.
+        GivesAnswer (IsNetworkAnswer (IsAuditAnswer report) octets) result old new))) }
+    ensures safe { AuditsSafely (A.left first.old) (B.left second.old) result }
+    ensures statuses { IsAuditStatus result }
+    // Where a source failed, nothing was written.
+    ensures faults { HasCause result
+        ((ReadFailed A.Source first.old first.new × (out.new ≡ out.old) × (second.new ≡ second.old))
+        ⊎ (ReadFailed B.Source second.old second.new × (out.new ≡ out.old)))
+        (PutFailed K.Sink out.old out.new) }
+    ensures taken { (second.new ≡ second.old)
+        ⊎ ReadsReport (A.left first.old) (B.left second.old) (B.left second.new) result }
+{
+    match accept(alloc, first) {
+        Ok(accepted) => audit_file(alloc, &accepted, second, out),
+        Err(cause) => put_no_network(cause, out),
+    }
+}
+
+fn audit_file<B: Source, K: Sink>(
+    alloc: Global,
+    accepted: &Accepted,
+    second: &mut B,
+    out: &mut K,
+) -> Status
+    ensures gives { Over K.Sink out.old out.new (λ old new.
+        ForOctets (B.left second.old) (λ report. GivesAnswer (IsAuditAnswer report accepted.now) result old new)) }
+    ensures statuses { IsAuditStatus result }
+    ensures cause { HasCause result (ReadFailed B.Source second.old second.new × (out.new ≡ out.old))
+        (PutFailed K.Sink out.old out.new) }
+    ensures taken { TakesReport (B.left second.old) (B.left second.new) result }
+{
+    match read_report(alloc, accepted, second) {
+        Ok(report) => put_audited(report.count(), out),
+        Err(cause) => put_no_report(cause, out),
+    }
+}
+
+fn put_audited<K: Sink>(count: u64, out: &mut K) -> Status
+    ensures gives { Over K.Sink out.old out.new (Gives (audited_answer count) result) }
+    ensures status { IsWanted Status.Done result (PutFailed K.Sink out.old out.new) }
+{
+    let mut line = LineText::new();
+    make_audited_line(&mut line, count);
+    put_last(line.as_slice(), Status::Done, out)
+}

@@ -1,0 +1,41 @@
+ghost use Rattle.std.specs.Prelude.{◌<◌, ◌∷◌, ◌≡◌, IfSome, List, MatchOption, [], length, position};
+ghost use Rattle.{run_law.specs.declared.note.Note.{Note as NoteValue}, tte_audit.specs.Report.is_line_end};
+ghost use Rattle.{tte_audit.specs.Named.IsNamed, tte_reports.specs.Reports.AreLeft};
+
+use net_plan::Network;
+use run_law::Note;
+use tte_audit::note_line;
+
+/// The records of a report, one after another. It keeps none of them; for a second reading ask the report anew.
+#[derive(Drop)]
+pub struct Records<'a> {
+    pub(crate) rest: &'a [u8],
+}
+
+impl<'a> Records<'a> {
+    /// Takes the next record.
+    pub fn next(&mut self, network: &Network) -> Option<Note>
+        requires named { IsNamed network.now }
+        requires left { (notes : List NoteValue) × AreLeft network.now self.old notes }
+        ensures { (notes : List NoteValue) → AreLeft network.now self.old notes → MatchOption result (notes ≡ [])
+            (λ note. (rest : List NoteValue) × (notes ≡ note ∷ rest) × AreLeft network.now self.new rest) }
+    {
+        match first_lf(self.rest) {
+            Some(place) => match note_line(network, &self.rest[..place]) {
+                Some(note) => {
+                    self.rest = &self.rest[place + 1..];
+                    Some(note)
+                }
+                None => None,
+            },
+            None => None,
+        }
+    }
+}
+
+fn first_lf(octets: &[u8]) -> Option<usize>
+    ensures place { result ≡ position is_line_end octets.now }
+    ensures within { IfSome result (λ place. place < length octets.now) }
+{
+    octets.iter().position(|octet| *octet == b'\n')
+}

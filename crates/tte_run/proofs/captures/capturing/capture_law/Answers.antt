@@ -1,8 +1,0 @@
-use Rattle.tte_run.proofs.captures_lemmas.Laws.{shows_octets, shows_packets}
-use Rattle.tte_run.proofs.captures.capturing.capture_law.Goals as goal
-
-pub returns-clause-octets : goal.returns-clause-octets
-returns-clause-octets c = shows_octets
-
-pub returns-clause-packets : goal.returns-clause-packets
-returns-clause-packets c = shows_packets

@@ -1,5 +1,0 @@
-use Rattle.tte_run.proofs.stamps_lemmas.granules_lemmas.Order.{agree}
-use Rattle.tte_run.proofs.stamps.granules.laws.stamps_agree.Goals as goal
-
-pub returns : goal.returns
-returns c = agree

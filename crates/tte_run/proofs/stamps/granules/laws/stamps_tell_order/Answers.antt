@@ -1,5 +1,0 @@
-use Rattle.tte_run.proofs.stamps_lemmas.granules_lemmas.Order.{tell_order}
-use Rattle.tte_run.proofs.stamps.granules.laws.stamps_tell_order.Goals as goal
-
-pub returns : goal.returns
-returns c = tell_order

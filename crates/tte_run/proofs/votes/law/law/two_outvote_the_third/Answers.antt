@@ -1,5 +1,0 @@
-use Rattle.tte_run.proofs.votes_lemmas.law_lemmas.Outvoted.{two_outvote_the_third}
-use Rattle.tte_run.proofs.votes.law.law.two_outvote_the_third.Goals as goal
-
-pub returns : goal.returns
-returns c = two_outvote_the_third

@@ -1,6 +1,0 @@
-use Rattle.{tte_run.proofs.votes_lemmas.{Along.IsOwn, Words.{no_lines, refl}}, tte_traces.proofs.Sources.no_memory}
-use Rattle.tte_run.proofs.votes.voting.vote_world.Goals as goal
-
-pub returns-in-Err-clause-ends : goal.returns-in-Err-clause-ends
-returns-in-Err-clause-ends g c =
-    no_memory (λ trace. IsOwn c.args.voter.now trace c.args.accepted.now) no_lines c.args.accepted.now (g.B.Source.left c.args.second.now) _ refl
