@@ -1,10 +1,10 @@
 //! The bodies of records by what they hold, in the order of their lines.
 
 use net_plan::{DeviceId, LinkId, VlId, What};
-use pcf_values::Members;
 use run_law::{Judgement, NoteBody, Reason, Why};
 use sync_state::State;
 use tte_units::Units;
+use tte_units::frames::Members;
 
 pub(super) fn event(line: u64, what: What) -> NoteBody {
     NoteBody::Event { line, what }

@@ -9,3 +9,5 @@ mod captures;
 mod checks;
 #[cfg(test)]
 mod forms;
+#[cfg(test)]
+mod frames;

@@ -6,17 +6,38 @@ use tte_io::{MemorySink, OutOfMemory, SteadySource};
 use tte_traces::run_trace;
 use worked_network::{Call, Edit, WORKED, call_of_one, edited, ends_of};
 
-pub(super) fn try_call(rt: &impl Abort, alloc: Global, call: &Call<'_>) -> Result<(), Fail> {
+// How a call ended, and what it wrote.
+fn answered(alloc: Global, call: &Call<'_>) -> Result<(Status, MemorySink), OutOfMemory> {
     let (words, mut first, mut second, mut out) = ends_of(alloc, call)?;
     let status = lens(alloc, &words, &mut first, &mut second, &mut out);
-    // Where memory is wanting a front of the text was written. It is not where there is enough.
+    Ok((status, out))
+}
+
+// A call ended and wrote as it should. Where memory is wanting a front of that was written. It is not where there is
+// enough.
+fn try_told(rt: &impl Abort, call: &Call<'_>, status: Status, written: &[u8]) -> Result<(), Fail> {
     if status == Status::OutOfMemory {
-        assert!(rt; call.text.as_bytes().starts_with(out.written()));
+        assert!(rt; call.text.as_bytes().starts_with(written));
         return Err(Fail::from(OutOfMemory));
     }
-    assert_eq!(rt; status, call.status, "for {}", call.text);
-    assert!(rt; out.written() == call.text.as_bytes(), "for {}", call.text);
+    assert!(rt; status == call.status, "for {}", call.text);
+    is_written(rt, written, call.text);
+    Ok(())
+}
+
+fn is_written(rt: &impl Abort, written: &[u8], text: &str) {
+    assert!(rt; written == text.as_bytes(), "for {text}");
+}
+
+// All that was written was passed on, but where that failed.
+fn is_passed_on(rt: &impl Abort, status: Status, out: &MemorySink) {
     assert!(rt; status == Status::WriteFault || out.passed() == out.written());
+}
+
+pub(super) fn try_call(rt: &impl Abort, alloc: Global, call: &Call<'_>) -> Result<(), Fail> {
+    let (status, out) = answered(alloc, call)?;
+    try_told(rt, call, status, out.written())?;
+    is_passed_on(rt, status, &out);
     Ok(())
 }
 
@@ -33,6 +54,19 @@ pub(super) fn try_edited<'x>(
     try_call(rt, alloc, &call)
 }
 
+// How a call of `run` ended, and its report.
+fn reported(
+    alloc: Global,
+    network: &str,
+    trace: &str,
+) -> Result<(Status, MemorySink), OutOfMemory> {
+    let mut first = SteadySource::new(alloc, network.as_bytes())?;
+    let mut second = SteadySource::new(alloc, trace.as_bytes())?;
+    let mut report = MemorySink::new(alloc, 65536, &[])?;
+    let status = run_trace(alloc, &mut first, &mut second, &mut report);
+    Ok((status, report))
+}
+
 // The report of the run of the network under the lines of a trace.
 pub(super) fn report_of(
     rt: &impl Abort,
@@ -40,13 +74,16 @@ pub(super) fn report_of(
     network: &str,
     trace: &str,
 ) -> Result<MemorySink, Fail> {
-    let mut first = SteadySource::new(alloc, network.as_bytes())?;
-    let mut second = SteadySource::new(alloc, trace.as_bytes())?;
-    let mut report = MemorySink::new(alloc, 65536, &[])?;
-    let status = run_trace(alloc, &mut first, &mut second, &mut report);
+    let (status, report) = reported(alloc, network, trace)?;
+    try_ended(rt, status, Status::Done)?;
+    Ok(report)
+}
+
+/// A call ended as it should, if there was memory.
+pub(super) fn try_ended(rt: &impl Abort, status: Status, wanted: Status) -> Result<(), Fail> {
     if status == Status::OutOfMemory {
         return Err(Fail::from(OutOfMemory));
     }
-    assert_eq!(rt; status, Status::Done);
-    Ok(report)
+    assert!(rt; status == wanted);
+    Ok(())
 }

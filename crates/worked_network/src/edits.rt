@@ -1,3 +1,4 @@
+use crate::networks::joined;
 use std::alloc::{AllocError, Global};
 
 /// An old text, which stands in a text once, and a new one in its place.
@@ -38,7 +39,7 @@ pub fn edited_by(alloc: Global, text: &str, row: &str) -> Result<String, Misfit>
 
 fn with_edit(alloc: Global, text: &str, old: &str, new: &str) -> Result<String, Misfit> {
     match text.split_once(old) {
-        Some((front, back)) if !back.contains(old) => Ok(format!(in alloc; "{front}{new}{back}")?),
+        Some((front, back)) if !back.contains(old) => Ok(joined(alloc, &[front, new, back])?),
         _ => Err(Misfit::NotOnce),
     }
 }

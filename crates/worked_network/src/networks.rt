@@ -72,16 +72,38 @@ fn before(text: &str) -> &'static str {
 
 /// A network of the same numbers and of these devices, those of these names below one switch of each channel.
 pub fn star(alloc: Global, devices: &str, names: &[&str]) -> Result<String, AllocError> {
-    let mut text = format!(in alloc; "{}device = [\n{devices}]\nlink = [\n", numbers())?;
+    let mut text = String::from_str(alloc, numbers())?;
+    push_all(&mut text, &["device = [\n", devices, "]\nlink = [\n"])?;
     for channel in ["a", "b"] {
         for name in names {
-            let link = format!(in alloc;
-                " {{name=\"{name}_{channel}\", child=\"{name}\", parent=\"c{channel}\", wire=32768000, \
-                    jitter=1310720, hold=1310720000, speed=100}},\n"
-            )?;
-            text.push_str(link.as_str())?;
+            push_link(&mut text, name, channel)?;
         }
     }
     text.push_str("]\n")?;
     Ok(text)
+}
+
+// The line of a device's link below the switch of a channel.
+fn push_link(text: &mut String, name: &str, channel: &str) -> Result<(), AllocError> {
+    push_all(
+        text,
+        &[" {name=\"", name, "_", channel, "\", child=\"", name],
+    )?;
+    push_all(text, &["\", parent=\"c", channel, WIRE])
+}
+
+const WIRE: &str = "\", wire=32768000, jitter=1310720, hold=1310720000, speed=100},\n";
+
+// These texts, one after another.
+pub(crate) fn joined(alloc: Global, parts: &[&str]) -> Result<String, AllocError> {
+    let mut text = String::new(alloc);
+    push_all(&mut text, parts)?;
+    Ok(text)
+}
+
+fn push_all(text: &mut String, parts: &[&str]) -> Result<(), AllocError> {
+    for part in parts {
+        text.push_str(part)?;
+    }
+    Ok(())
 }

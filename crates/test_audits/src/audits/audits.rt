@@ -10,21 +10,19 @@ use worked_network::worked;
 /// A report, and how many records it has and when it ends, or how it is refused.
 type Case = (&'static str, Result<(u64, Units), AuditRefusal>);
 
-fn try_cases(
+fn try_case(
     rt: &impl Abort,
     alloc: Global,
     accepted: &Accepted,
-    cases: &[Case],
-) -> Result<(), Fail> {
-    for (report, wanted) in cases {
-        assert!(rt; report.len() <= 4096);
-        let told = match read_events(alloc, accepted, report.as_bytes()) {
-            Ok(read) => Ok((read.records, read.end)),
-            Err(refusal) => Err(refusal),
-        };
-        assert_eq!(rt; told, *wanted, "at {report}");
-    }
-    Ok(())
+    report: &str,
+    wanted: &Result<(u64, Units), AuditRefusal>,
+) {
+    assert!(rt; report.len() <= 4096);
+    let told = match read_events(alloc, accepted, report.as_bytes()) {
+        Ok(read) => Ok((read.records, read.end)),
+        Err(refusal) => Err(refusal),
+    };
+    assert!(rt; told == *wanted, "at {report}");
 }
 
 /// The report of the run that ends as it begins.
@@ -56,12 +54,14 @@ const NOT_REFUSED: &[Case] = &[
 
 #[test]
 fn what_the_events_have_set(rt: HostRuntime) -> Result<(), Fail> {
-    let network = worked(rt.alloc())?;
     let report = b"1 3 event 1 cut m1_a up\n2 7 event 2 end\n";
-    match read_events(rt.alloc(), &network, report) {
+    match read_events(rt.alloc(), &worked(rt.alloc())?, report) {
         Ok(read) => {
-            assert!(rt; !read.history.is_cut(LinkId(0), Way::Up, 2));
-            assert!(rt; read.history.is_cut(LinkId(0), Way::Up, 3));
+            let cut = [
+                read.history.is_cut(LinkId(0), Way::Up, 2),
+                read.history.is_cut(LinkId(0), Way::Up, 3),
+            ];
+            assert!(rt; cut == [false, true]);
         }
         Err(refusal) => assert!(rt; refusal == AuditRefusal::OutOfMemory),
     }
@@ -124,11 +124,20 @@ const EVENTS: &[Case] = &[
     ),
 ];
 
+fn try_cases(rt: &impl Abort, alloc: Global, accepted: &Accepted, cases: &[Case]) {
+    for (report, wanted) in cases {
+        try_case(rt, alloc, accepted, report, wanted);
+    }
+}
+
+fn try_all(rt: &impl Abort, alloc: Global, accepted: &Accepted) {
+    for cases in [NOT_REFUSED, FORMS, EVENTS] {
+        try_cases(rt, alloc, accepted, cases);
+    }
+}
+
 #[test]
 fn events_are_read_up_to_an_end_or_refused(rt: HostRuntime) -> Result<(), Fail> {
-    let network = worked(rt.alloc())?;
-    for cases in [NOT_REFUSED, FORMS, EVENTS] {
-        try_cases(&rt, rt.alloc(), &network, cases)?;
-    }
+    try_all(&rt, rt.alloc(), &worked(rt.alloc())?);
     Ok(())
 }

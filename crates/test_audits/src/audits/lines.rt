@@ -1,5 +1,7 @@
 //! The line of each record of a report: the record is read from it, and is written so again.
 
+ghost use Rattle.report_text.specs.Ranges.{IsNoteOf};
+
 use crate::bodies::{
     accepted, arrived, changed, clock, compressed, corrected, delivered, dropped, event, left,
     lost, permanent, sent, tt_sent,
@@ -7,9 +9,9 @@ use crate::bodies::{
 use net_plan::{DeviceId, LinkId, Octets, VlId, Way, What};
 use report_text::{write, write_in};
 use run_law::Why::{AsyncClique, Correction, Frame, On, SyncClique};
-use run_law::{Judgement, NoteBody, Reason, Why};
+use run_law::{Judgement, Note, NoteBody, Reason, Why};
 use schedule_tables::Accepted;
-use std::alloc::Global;
+use std::alloc::{AllocError, Global};
 use std::process::Abort;
 use std::test::Fail;
 use sync_state::State;
@@ -17,7 +19,7 @@ use sync_state::State::{Integrating, Joining, Off, Synchronised};
 use tte_audit::{keep_names_apart, note_line};
 use tte_io::{LineText, MemorySink, SinkFailed};
 use tte_units::{Ppb, Units};
-use worked_network::{Edit, WORKED, accepted_of, edited};
+use worked_network::{accepted_of, silent};
 
 const M1: DeviceId = DeviceId(0);
 
@@ -53,31 +55,66 @@ const V1: VlId = VlId(0);
 
 const V2: VlId = VlId(1);
 
-// A second virtual link, and its rows.
-const SECOND: [Edit<'static>; 2] = [
-    (
-        "]\nrow = [\n",
-        " {name=\"v2\", id=2, length=60, ethertype=2048, sender=\"m2\", period=1, phase=0},\n]\nrow = [\n",
-    ),
-    (
-        "offset=28180480000},\n]",
-        "offset=28180480000},
+// The schedule of the worked network, and with it that of a second virtual link.
+const SCHEDULE: &str = "vl = [
+ {name=\"v1\", id=1, length=60, ethertype=2048, sender=\"m1\", period=1, phase=0},
+ {name=\"v2\", id=2, length=60, ethertype=2048, sender=\"m2\", period=1, phase=0},
+]
+row = [
+ {vl=\"v1\", link=\"m1_a\", way=\"up\", offset=26542080000},
+ {vl=\"v1\", link=\"m1_b\", way=\"up\", offset=26542080000},
+ {vl=\"v1\", link=\"c1_a\", way=\"down\", offset=28180480000},
+ {vl=\"v1\", link=\"c1_b\", way=\"down\", offset=28180480000},
  {vl=\"v2\", link=\"m2_a\", way=\"up\", offset=26542080000},
  {vl=\"v2\", link=\"m2_b\", way=\"up\", offset=26542080000},
  {vl=\"v2\", link=\"c1_a\", way=\"down\", offset=28835840000},
  {vl=\"v2\", link=\"c1_b\", way=\"down\", offset=28835840000},
-]",
-    ),
-];
+]
+";
 
-// The worked network with it.
 fn with_second(alloc: Global) -> Result<Accepted, Fail> {
-    let text = edited(alloc, WORKED, &SECOND)?;
+    let text = format!(in alloc; "{}{SCHEDULE}", silent())?;
     Ok(accepted_of(alloc, text.as_str())?)
 }
 
-// Tries that the text is the line of a record of this body, whose number and time stand before it: that it is read so,
-// and that what is read is written so, in one put.
+// Do the number and the time of the record stand first in the text?
+fn begins(alloc: Global, text: &str, note: &Note) -> Result<bool, AllocError> {
+    let front = format!(in alloc; "{} {} ", note.number, note.time.0)?;
+    Ok(text.starts_with(front.as_str()))
+}
+
+// Is the text what is written for the record, in one put?
+fn is_written(alloc: Global, network: &Accepted, text: &str, note: &Note) -> Result<bool, Fail>
+    requires { IsNoteOf network.now note.now }
+{
+    let mut sink = MemorySink::new(alloc, 4096, &[2])?;
+    let put = write(network.network(), note, &mut sink);
+    Ok(put == Ok(()) && sink.written().strip_suffix(b"\n") == Some(text.as_bytes()))
+}
+
+// Has the record this body? Does the text begin as the record does, and is it what is written for it?
+fn is_line_of(
+    alloc: Global,
+    network: &Accepted,
+    text: &str,
+    note: &Note,
+    body: &NoteBody,
+) -> Result<bool, Fail>
+    requires { IsNoteOf network.now note.now }
+{
+    Ok(note.body == *body && begins(alloc, text, note)? && is_written(alloc, network, text, note)?)
+}
+
+// Is the text the line of a record of this body, whose number and time stand before it? It is read so, and what is read
+// is written so, in one put.
+fn is_line(alloc: Global, network: &Accepted, text: &str, body: &NoteBody) -> Result<bool, Fail> {
+    keep_names_apart(network);
+    match note_line(network.network(), text.as_bytes()) {
+        Some(read) => is_line_of(alloc, network, text, &read, body),
+        None => Ok(false),
+    }
+}
+
 fn try_line(
     rt: &impl Abort,
     alloc: Global,
@@ -85,23 +122,21 @@ fn try_line(
     text: &str,
     body: &NoteBody,
 ) -> Result<(), Fail> {
-    keep_names_apart(network);
-    let Some(read) = note_line(network.network(), text.as_bytes()) else {
-        return Err(Fail::from(format!(in alloc; "no record: {text}")?));
-    };
-    assert!(rt; read.body == *body, "at {text}");
-    let front = format!(in alloc; "{} {} ", read.number, read.time.0)?;
-    assert!(rt; text.starts_with(front.as_str()), "at {text}");
-    let mut sink = MemorySink::new(alloc, 4096, &[2])?;
-    assert!(rt;
-        write(network.network(), &read, &mut sink) == Ok(()),
-        "at {text}"
-    );
-    assert!(rt;
-        sink.written().strip_suffix(b"\n") == Some(text.as_bytes()),
-        "at {text}"
-    );
+    let told = is_line(alloc, network, text, body)?;
+    assert!(rt; told, "at {text}");
     Ok(())
+}
+
+// Tries the line of these two parts.
+fn try_parts(
+    rt: &impl Abort,
+    alloc: Global,
+    network: &Accepted,
+    (front, words): (&str, &str),
+    body: &NoteBody,
+) -> Result<(), Fail> {
+    let text = format!(in alloc; "{front} {words}")?;
+    try_line(rt, alloc, network, text.as_str(), body)
 }
 
 fn events() -> [(&'static str, NoteBody); 11] {
@@ -275,7 +310,7 @@ fn timed() -> [(&'static str, NoteBody); 9] {
     ]
 }
 
-fn try_lines(
+fn try_cases(
     rt: &impl Abort,
     alloc: Global,
     network: &Accepted,
@@ -287,15 +322,33 @@ fn try_lines(
     Ok(())
 }
 
+fn try_lines(rt: &impl Abort, alloc: Global, cases: &[(&str, NoteBody)]) -> Result<(), Fail> {
+    try_cases(rt, alloc, &with_second(alloc)?, cases)
+}
+
 #[test]
-fn records_have_their_lines(rt: HostRuntime) -> Result<(), Fail> {
-    let alloc = rt.alloc();
-    let network = with_second(alloc)?;
-    try_lines(&rt, alloc, &network, &events())?;
-    try_lines(&rt, alloc, &network, &ways())?;
-    try_lines(&rt, alloc, &network, &collections())?;
-    try_lines(&rt, alloc, &network, &clocks())?;
-    try_lines(&rt, alloc, &network, &timed())
+fn events_have_their_lines(rt: HostRuntime) -> Result<(), Fail> {
+    try_lines(&rt, rt.alloc(), &events())
+}
+
+#[test]
+fn control_frames_on_their_ways_have_their_lines(rt: HostRuntime) -> Result<(), Fail> {
+    try_lines(&rt, rt.alloc(), &ways())
+}
+
+#[test]
+fn collections_have_their_lines(rt: HostRuntime) -> Result<(), Fail> {
+    try_lines(&rt, rt.alloc(), &collections())
+}
+
+#[test]
+fn clocks_have_their_lines(rt: HostRuntime) -> Result<(), Fail> {
+    try_lines(&rt, rt.alloc(), &clocks())
+}
+
+#[test]
+fn timed_frames_have_their_lines(rt: HostRuntime) -> Result<(), Fail> {
+    try_lines(&rt, rt.alloc(), &timed())
 }
 
 #[test]
@@ -346,18 +399,31 @@ const CHANGES: &[(&str, DeviceId, &[(&str, State, u64, Why)])] = &[
     ),
 ];
 
-#[test]
-fn changes_of_state_have_their_lines(rt: HostRuntime) -> Result<(), Fail> {
-    let alloc = rt.alloc();
-    let network = with_second(alloc)?;
-    for (front, device, changes) in CHANGES {
-        for (words, state, cause, why) in *changes {
-            let text = format!(in alloc; "{front} {words}")?;
-            let body = changed(*device, *state, *cause, *why);
-            try_line(&rt, alloc, &network, text.as_str(), &body)?;
-        }
+fn try_changes(
+    rt: &impl Abort,
+    alloc: Global,
+    network: &Accepted,
+    front: &str,
+    device: DeviceId,
+    changes: &[(&str, State, u64, Why)],
+) -> Result<(), Fail> {
+    for (words, state, cause, why) in changes {
+        let body = changed(device, *state, *cause, *why);
+        try_parts(rt, alloc, network, (front, words), &body)?;
     }
     Ok(())
+}
+
+fn try_all_changes(rt: &impl Abort, alloc: Global, network: &Accepted) -> Result<(), Fail> {
+    for (front, device, changes) in CHANGES {
+        try_changes(rt, alloc, network, front, *device, changes)?;
+    }
+    Ok(())
+}
+
+#[test]
+fn changes_of_state_have_their_lines(rt: HostRuntime) -> Result<(), Fail> {
+    try_all_changes(&rt, rt.alloc(), &with_second(rt.alloc())?)
 }
 
 const VERDICTS: &[(&str, Judgement)] = &[
@@ -388,18 +454,30 @@ const JUDGED: &[(&str, DeviceId, LinkId, u64, i64)] = &[
     ),
 ];
 
-#[test]
-fn each_verdict_has_its_word(rt: HostRuntime) -> Result<(), Fail> {
-    let alloc = rt.alloc();
-    let network = with_second(alloc)?;
+fn try_judged(
+    rt: &impl Abort,
+    alloc: Global,
+    network: &Accepted,
+    word: &str,
+    verdict: Judgement,
+) -> Result<(), Fail> {
     for (front, device, link, cause, point) in JUDGED {
-        for (word, verdict) in VERDICTS {
-            let text = format!(in alloc; "{front} {word}")?;
-            let body = permanent(*device, *link, *cause, *point, *verdict);
-            try_line(&rt, alloc, &network, text.as_str(), &body)?;
-        }
+        let body = permanent(*device, *link, *cause, *point, verdict);
+        try_parts(rt, alloc, network, (front, word), &body)?;
     }
     Ok(())
+}
+
+fn try_verdicts(rt: &impl Abort, alloc: Global, network: &Accepted) -> Result<(), Fail> {
+    for (word, verdict) in VERDICTS {
+        try_judged(rt, alloc, network, word, *verdict)?;
+    }
+    Ok(())
+}
+
+#[test]
+fn each_verdict_has_its_word(rt: HostRuntime) -> Result<(), Fail> {
+    try_verdicts(&rt, rt.alloc(), &with_second(rt.alloc())?)
 }
 
 const REASONS: &[(&str, Reason)] = &[
@@ -430,18 +508,30 @@ const DROPPED: &[(&str, DeviceId, LinkId, u64)] = &[
     ("191 157614080000 dropped c1 c1_b 184", C1, C1_B, 184),
 ];
 
-#[test]
-fn each_reason_has_its_word(rt: HostRuntime) -> Result<(), Fail> {
-    let alloc = rt.alloc();
-    let network = with_second(alloc)?;
+fn try_dropped(
+    rt: &impl Abort,
+    alloc: Global,
+    network: &Accepted,
+    word: &str,
+    reason: Reason,
+) -> Result<(), Fail> {
     for (front, device, link, cause) in DROPPED {
-        for (word, reason) in REASONS {
-            let text = format!(in alloc; "{front} {word}")?;
-            let body = dropped(*device, *link, *cause, *reason);
-            try_line(&rt, alloc, &network, text.as_str(), &body)?;
-        }
+        let body = dropped(*device, *link, *cause, reason);
+        try_parts(rt, alloc, network, (front, word), &body)?;
     }
     Ok(())
+}
+
+fn try_reasons(rt: &impl Abort, alloc: Global, network: &Accepted) -> Result<(), Fail> {
+    for (word, reason) in REASONS {
+        try_dropped(rt, alloc, network, word, *reason)?;
+    }
+    Ok(())
+}
+
+#[test]
+fn each_reason_has_its_word(rt: HostRuntime) -> Result<(), Fail> {
+    try_reasons(&rt, rt.alloc(), &with_second(rt.alloc())?)
 }
 
 #[test]
@@ -453,8 +543,11 @@ fn a_failed_put_is_told(rt: HostRuntime) -> Result<(), Fail> {
     let lost = note_line(network.network(), &line[..37]).ok_or("no record")?;
     let mut sink = MemorySink::new(alloc, 4096, &[2])?;
     let mut text = LineText::new();
-    assert!(rt; write_in(&mut text, network.network(), &lost, &mut sink) == Ok(()));
-    assert!(rt; write_in(&mut text, network.network(), &lost, &mut sink) == Err(SinkFailed));
+    let put = [
+        write_in(&mut text, network.network(), &lost, &mut sink),
+        write_in(&mut text, network.network(), &lost, &mut sink),
+    ];
+    assert!(rt; put == [Ok(()), Err(SinkFailed)]);
     assert!(rt; sink.written() == line);
     Ok(())
 }

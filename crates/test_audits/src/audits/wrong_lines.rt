@@ -4,14 +4,16 @@ use std::test::Fail;
 use tte_audit::{keep_names_apart, note_line};
 use worked_network::worked;
 
+/// Is the text no line of a record?
+fn is_no_line(accepted: &Accepted, text: &[u8]) -> bool {
+    keep_names_apart(accepted);
+    note_line(accepted.network(), text).is_none()
+}
+
 /// Tries that none of these is the line of a record.
 fn try_none(rt: &impl Abort, accepted: &Accepted, texts: &[&str]) {
-    keep_names_apart(accepted);
     for text in texts {
-        assert!(rt;
-            note_line(accepted.network(), text.as_bytes()).is_none(),
-            "at {text}"
-        );
+        assert!(rt; is_no_line(accepted, text.as_bytes()), "at {text}");
     }
 }
 
@@ -86,14 +88,15 @@ const UPPER_CASE: &str = "1 0 event 1 send m4_b \
         0A0A0A0A0A0A0A0A0A0A0A0A0A0A0A0A0A0A0A0A0A0A0A0A0A0A0A0A0A0A\
         0A0A0A0A0A0A0A0A0A0A0A0A0A0A0A0A0A0A0A0A0A0A0A0A0A0A0A0A0A0A";
 
+fn try_all(rt: &impl Abort, accepted: &Accepted) {
+    for texts in [SPACES, COUNTS, NUMBERS, WORDS, &[UPPER_CASE]] {
+        try_none(rt, accepted, texts);
+    }
+    assert!(rt; is_no_line(accepted, b"1 0 sent m1\xff cycle 1"));
+}
+
 #[test]
 fn what_is_no_line_of_a_record(rt: HostRuntime) -> Result<(), Fail> {
-    let network = worked(rt.alloc())?;
-    for texts in [SPACES, COUNTS, NUMBERS, WORDS, &[UPPER_CASE]] {
-        try_none(&rt, &network, texts);
-    }
-    keep_names_apart(&network);
-    let no_text = note_line(network.network(), b"1 0 sent m1\xff cycle 1");
-    assert!(rt; no_text.is_none());
+    try_all(&rt, &worked(rt.alloc())?);
     Ok(())
 }

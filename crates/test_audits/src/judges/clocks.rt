@@ -21,12 +21,18 @@ fn a_lone_master_sends_and_then_loses_the_time(rt: HostRuntime) -> Result<(), Fa
     };
     assert!(rt; next_sending(&network, &events, device, &shown, 0, 1 << 40) == Some(sending));
     let moment = Moment::of(&events, device, sending.time);
-    assert!(rt; reaches(&shown, moment.readings, 131_072_000_000));
-    assert!(rt; sends(&network, device, &shown, moment, 1));
-    assert!(rt; !sends(&network, device, &shown, moment, 2));
-    assert!(rt; coming_cycle(&network, &shown, moment) == None);
+    let told = [
+        reaches(&shown, moment.readings, 131_072_000_000),
+        sends(&network, device, &shown, moment, 1),
+        sends(&network, device, &shown, moment, 2),
+    ];
+    assert!(rt; told == [true, true, false]);
     let later = Moment::of(&events, device, 149_422_080_000);
-    assert!(rt; coming_cycle(&network, &shown, later) == Some(1));
+    let cycles = [
+        coming_cycle(&network, &shown, moment),
+        coming_cycle(&network, &shown, later),
+    ];
+    assert!(rt; cycles == [None, Some(1)]);
     let alone = Point {
         cycle: 1,
         verdict: PointVerdict::SyncClique,

@@ -24,11 +24,11 @@ fn where_no_record_stands_the_first_frame_is_owed(rt: HostRuntime) -> Result<(),
         places: &places,
         until: 157_614_080_000,
     };
-    assert!(rt; debtor.first_undispatched() == Some(157_614_080_000));
     let before = RowDebtor {
         until: 157_614_079_999,
         ..debtor
     };
-    assert!(rt; before.first_undispatched().is_none());
+    let owed = [debtor.first_undispatched(), before.first_undispatched()];
+    assert!(rt; owed == [Some(157_614_080_000), None]);
     Ok(())
 }

@@ -5,11 +5,11 @@ use audit_law::events::EventHistory;
 use audit_sweep::records::places::Places;
 use audit_sweep::unpaid::emissions::first_unemitted;
 use net_plan::{DeviceId, LinkId};
-use pcf_values::Members;
 use run_law::plain::Place;
 use run_law::{Judgement, NoteBody};
 use std::test::Fail;
 use tte_units::Units;
+use tte_units::frames::Members;
 
 #[test]
 fn where_no_frame_came_none_is_owed(rt: HostRuntime) -> Result<(), Fail> {
@@ -40,9 +40,10 @@ fn a_frame_is_owed_for_a_cluster(rt: HostRuntime) -> Result<(), Fail> {
     };
     stretches.push(&network, 5_000_000_000, &body, carried)?;
     places.push(Place::of(5_000_000_000, 1, &body))?;
-    assert!(rt; first_unemitted(&network, &events, &stretches, &places, 7_162_687_999).is_none());
-    assert!(rt;
-        first_unemitted(&network, &events, &stretches, &places, 1 << 40) == Some(7_162_688_000)
-    );
+    let owed = [
+        first_unemitted(&network, &events, &stretches, &places, 7_162_687_999),
+        first_unemitted(&network, &events, &stretches, &places, 1 << 40),
+    ];
+    assert!(rt; owed == [None, Some(7_162_688_000)]);
     Ok(())
 }

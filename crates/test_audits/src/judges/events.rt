@@ -14,10 +14,8 @@ fn a_setting_changes_at_its_times(rt: HostRuntime) -> Result<(), Fail> {
     speed.set(10, 5)?;
     speed.set(10, 7)?;
     speed.set(20, 9)?;
-    assert!(rt; speed.at(9) == 3);
-    assert!(rt; speed.at(10) == 7);
-    assert!(rt; speed.at(19) == 7);
-    assert!(rt; speed.at(20) == 9);
+    let told = [speed.at(9), speed.at(10), speed.at(19), speed.at(20)];
+    assert!(rt; told == [3, 7, 7, 9]);
     assert!(rt; speed.after(10).len() == 1);
     Ok(())
 }
@@ -39,22 +37,40 @@ fn set_rate(network: &Network, history: &mut EventHistory, rate: Ppb) -> Result<
 }
 
 #[test]
+fn where_no_event_came_nothing_is_changed(rt: HostRuntime) -> Result<(), Fail> {
+    reading_law();
+    let network = master(rt.alloc())?;
+    let history = EventHistory::new(rt.alloc(), &network)?;
+    let (device, link) = (DeviceId(0), LinkId(0));
+    let told = [
+        history.reading(device, 1_500_000_000),
+        history.delay(link, Way::Down, 7),
+        history.hold(link, Way::Up, 7),
+    ];
+    assert!(rt; told == [1_500_000_000, 32_768_000, 0]);
+    let befallen = [
+        history.is_cut(link, Way::Up, 7),
+        history.is_broken(device, 7),
+        history.is_turned_on_at(device, 7),
+    ];
+    assert!(rt; befallen == [false, false, false]);
+    Ok(())
+}
+
+#[test]
 fn a_rate_that_is_set_drifts_the_clock(rt: HostRuntime) -> Result<(), Fail> {
     reading_law();
     let network = master(rt.alloc())?;
     let mut history = EventHistory::new(rt.alloc(), &network)?;
     let device = DeviceId(0);
-    assert!(rt; history.reading(device, 1_500_000_000) == 1_500_000_000);
-    assert!(rt; history.delay(LinkId(0), Way::Down, 7) == 32_768_000);
-    assert!(rt; history.hold(LinkId(0), Way::Up, 7) == 0);
-    assert!(rt; !history.is_cut(LinkId(0), Way::Up, 7));
-    assert!(rt; !history.is_broken(device, 7) && !history.is_turned_on_at(device, 7));
     assert!(rt; network.rho == 50_000 && network.device.as_slice().len() == 2);
     set_rate(&network, &mut history, Ppb(50_000))?;
     assert!(rt; history.reading(device, 1_500_000_000) == 1_500_075_000);
-    let reached = history.reach(device, 0, 131_072_000_000, 1 << 60);
-    assert!(rt; reached == Some(131_065_446_728));
-    assert!(rt; history.reach(device, 0, 131_072_000_000, 131_065_446_727) == None);
-    assert!(rt; history.reach(device, 5, -1, 5) == Some(5));
+    let reached = [
+        history.reach(device, 0, 131_072_000_000, 1 << 60),
+        history.reach(device, 0, 131_072_000_000, 131_065_446_727),
+        history.reach(device, 5, -1, 5),
+    ];
+    assert!(rt; reached == [Some(131_065_446_728), None, Some(5)]);
     Ok(())
 }

@@ -26,28 +26,22 @@ fn a_sender_dispatches_its_frame(rt: HostRuntime) -> Result<(), Fail> {
         vl: VlId(0),
         cycle: 1,
     };
-    assert!(rt; sends_timed(&network, &events, &exits, &takings, &shown, at, &dispatch));
     let other = Dispatch {
         cycle: 2,
         ..dispatch
     };
-    assert!(rt; !sends_timed(&network, &events, &exits, &takings, &shown, at, &other));
-    assert!(rt;
-        sends_some(
-            &network,
-            &events,
-            &exits,
-            device,
-            &shown,
-            LinkId(0),
-            at.time
-        )
-    );
     let loss = Loss {
         link: LinkId(0),
         cause: 0,
         kept: None,
     };
-    assert!(rt; !loses_dispatch(&network, &events, &exits, &takings, &shown, at, &loss));
+    let (link, time) = (LinkId(0), at.time);
+    let told = [
+        sends_timed(&network, &events, &exits, &takings, &shown, at, &dispatch),
+        sends_timed(&network, &events, &exits, &takings, &shown, at, &other),
+        sends_some(&network, &events, &exits, device, &shown, link, time),
+        loses_dispatch(&network, &events, &exits, &takings, &shown, at, &loss),
+    ];
+    assert!(rt; told == [true, false, true, false]);
     Ok(())
 }

@@ -1,3 +1,4 @@
+use crate::bodies::{lost, sent};
 use crate::judges::networks::master;
 use audit_devices::Standings;
 use audit_law::events::EventHistory;
@@ -5,30 +6,20 @@ use audit_sweep::records::KeptRecords;
 use audit_sweep::records::places::Places;
 use audit_sweep::unpaid::{Debtor, Paid, Payments};
 use net_plan::{DeviceId, LinkId};
-use run_law::NoteBody;
 use std::test::Fail;
 
 #[test]
 fn a_record_pays_what_its_cause_brings(rt: HostRuntime) -> Result<(), Fail> {
     let mut payments = Payments::new(rt.alloc());
     let (device, link) = (DeviceId(0), LinkId(0));
-    payments.push(&NoteBody::Sent { device, cycle: 0 })?;
-    payments.push(&NoteBody::Lost {
-        device,
-        link,
-        cause: 1,
-    })?;
-    payments.push(&NoteBody::Lost {
-        device,
-        link,
-        cause: 3,
-    })?;
-    let lost = Paid {
+    payments.push(&sent(device, 0))?;
+    payments.push(&lost(device, link, 1))?;
+    payments.push(&lost(device, link, 3))?;
+    let loss = Paid {
         loss: true,
         ..Paid::nothing()
     };
-    assert!(rt; payments.of(1) == lost);
-    assert!(rt; payments.of(3) == Paid::nothing());
+    assert!(rt; [payments.of(1), payments.of(3)] == [loss, Paid::nothing()]);
     Ok(())
 }
 
@@ -49,11 +40,15 @@ fn where_no_record_stands_the_clocks_are_owed(rt: HostRuntime) -> Result<(), Fai
         payments: &payments,
         until: 7,
     };
-    assert!(rt; debtor.first_unpaid_clock(7) == Some(7));
-    assert!(rt; debtor.first_unpaid_clock(8).is_none());
-    assert!(rt; debtor.first_unpaid_arrival().is_none() && debtor.first_unpaid_loss().is_none());
-    assert!(rt; debtor.first_unpaid_change().is_none());
-    assert!(rt; debtor.first_unpaid_permanence().is_none());
-    assert!(rt; debtor.first_unpaid_departure().is_none());
+    let clocks = [debtor.first_unpaid_clock(7), debtor.first_unpaid_clock(8)];
+    assert!(rt; clocks == [Some(7), None]);
+    let others = [
+        debtor.first_unpaid_arrival(),
+        debtor.first_unpaid_loss(),
+        debtor.first_unpaid_change(),
+        debtor.first_unpaid_permanence(),
+        debtor.first_unpaid_departure(),
+    ];
+    assert!(rt; others == [None, None, None, None, None]);
     Ok(())
 }

@@ -1,5 +1,6 @@
 use run_law::Machine;
 use std::alloc::Global;
+use std::process::Abort;
 use std::test::Fail;
 use sync_state::State;
 use tte_units::Units;
@@ -24,26 +25,37 @@ fn machines(alloc: Global) -> Result<Vec<DeviceMachine>, Fail> {
     Ok(machines_of(alloc, &accepted)?)
 }
 
-/// A master first sends as cycle 1 begins; a client and a switch first come to its correction point.
+/// When a master sends in cycle 1.
+const SENDS: i64 = 131_072_000_000;
+
+/// The correction point of that cycle.
+const CORRECTS: i64 = 149_422_080_000;
+
+/// The adjustments of the devices that begin synchronised, and when these are due. A master first sends as cycle 1
+/// begins; a client and a switch first come to its correction point.
+const BEGINNINGS: [(Units, Units); 7] = [
+    (Units(0), Units(CORRECTS)),
+    (Units(0), Units(SENDS)),
+    (Units(0), Units(SENDS)),
+    (Units(1000), Units(CORRECTS - 1000)),
+    (Units(7), Units(CORRECTS - 7)),
+    (Units(0), Units(SENDS)),
+    (Units(0), Units(SENDS)),
+];
+
+/// Tries that the machine is synchronised, and has the adjustment, and is due then.
+fn try_synchronised(rt: &impl Abort, machine: &DeviceMachine, adjustment: Units, due: Units) {
+    assert!(rt; machine.state() == State::Synchronised);
+    assert!(rt; machine.adjustment() == adjustment);
+    assert!(rt; machine.due() == Some(due));
+}
+
 #[test]
 fn each_device_has_its_machine(rt: HostRuntime) -> Result<(), Fail> {
-    let sends = 131_072_000_000;
-    let corrects = sends + 18_350_080_000;
     let machines = machines(rt.alloc())?;
-    assert_eq!(rt; machines.len(), 8);
-    for (place, adjustment, due) in [
-        (0, 0, corrects),
-        (1, 0, sends),
-        (2, 0, sends),
-        (3, 1000, corrects - 1000),
-        (4, 7, corrects - 7),
-        (5, 0, sends),
-        (6, 0, sends),
-    ] {
-        let machine = &machines[place];
-        assert_eq!(rt; machine.state(), State::Synchronised, "at {place}");
-        assert_eq!(rt; machine.adjustment(), Units(adjustment), "at {place}");
-        assert_eq!(rt; machine.due(), Some(Units(due)), "at {place}");
+    assert!(rt; machines.len() == 8);
+    for (machine, (adjustment, due)) in machines.as_slice().iter().zip(&BEGINNINGS) {
+        try_synchronised(&rt, machine, *adjustment, *due);
     }
     Ok(())
 }
@@ -52,9 +64,9 @@ fn each_device_has_its_machine(rt: HostRuntime) -> Result<(), Fail> {
 fn a_device_that_begins_off_is_turned_on(rt: HostRuntime) -> Result<(), Fail> {
     let mut machines = machines(rt.alloc())?;
     assert!(rt; machines.len() == 8);
-    assert_eq!(rt; machines[7].state(), State::Off);
+    let begun = machines[7].state();
     machines[7].turn_on();
-    assert_eq!(rt; machines[7].state(), State::Integrating);
-    assert_eq!(rt; machines[7].due(), None);
+    assert!(rt; [begun, machines[7].state()] == [State::Off, State::Integrating]);
+    assert!(rt; machines[7].due() == None);
     Ok(())
 }

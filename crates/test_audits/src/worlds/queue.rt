@@ -11,6 +11,11 @@ fn place(at: u64, rank: u8, device: u32, link: u32, cause: u64) -> DueAt {
     }
 }
 
+/// Takes what is first, and tells its content.
+fn takes(under_way: &mut UnderWay<u8>) -> Option<u8> {
+    Some(under_way.take_first()?.content)
+}
+
 #[test]
 fn what_is_first_in_place_comes_out_first(rt: HostRuntime) -> Result<(), Fail> {
     let mut under_way = UnderWay::new(rt.alloc());
@@ -24,15 +29,11 @@ fn what_is_first_in_place_comes_out_first(rt: HostRuntime) -> Result<(), Fail> {
         assert!(rt; under_way.room() > 0);
         under_way.put(place, content);
     }
-    assert_eq!(rt; under_way.len(), 4);
-    assert_eq!(rt; under_way.first(), Some(place(10, 2, 1, 0, 8)));
-    for content in [1, 2, 3, 4] {
-        assert_eq!(rt;
-            under_way.take_first().map(|entry| entry.content),
-            Some(content)
-        );
+    assert!(rt; under_way.len() == 4);
+    assert!(rt; under_way.first() == Some(place(10, 2, 1, 0, 8)));
+    for content in [Some(1), Some(2), Some(3), Some(4), None] {
+        assert!(rt; takes(&mut under_way) == content);
     }
-    assert!(rt; under_way.take_first().is_none());
     Ok(())
 }
 
@@ -43,11 +44,11 @@ fn room_is_kept_and_comes_back(rt: HostRuntime) -> Result<(), Fail> {
     let room = under_way.room();
     assert!(rt; room >= 2);
     under_way.put(place(5, 2, 0, 0, 1), "frame");
-    assert_eq!(rt; under_way.room(), room - 1);
+    let left = under_way.room();
     let entry = under_way.take_first().ok_or("none is first")?;
-    assert_eq!(rt; entry.place, place(5, 2, 0, 0, 1));
-    assert_eq!(rt; entry.content, "frame");
-    assert_eq!(rt; under_way.room(), room);
+    assert!(rt; [left, under_way.room()] == [room - 1, room]);
+    assert!(rt; entry.place == place(5, 2, 0, 0, 1));
+    assert!(rt; entry.content == "frame");
     Ok(())
 }
 

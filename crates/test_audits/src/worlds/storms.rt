@@ -1,5 +1,5 @@
 use fault_hypothesis::Watch;
-use fault_hypothesis::storm::{Storm, Words};
+use fault_hypothesis::storm::{Draw, Storm, Words};
 use net_plan::Event;
 use schedule_tables::Accepted;
 use std::process::Abort;
@@ -9,6 +9,21 @@ use worked_network::{accepted_of, edited, silent};
 
 fn event(accepted: &Accepted, text: &str) -> Result<Event, LineRefusal> {
     line(accepted.network(), text.as_bytes())
+}
+
+/// Tries that the storm gives the event of this line next, and that it is admitted.
+fn try_event(
+    rt: &impl Abort,
+    accepted: &Accepted,
+    watch: &mut Watch<'_>,
+    storm: &mut Storm,
+    text: &str,
+) -> Result<(), LineRefusal> {
+    let wanted = event(accepted, text)?;
+    let given = storm.next_event(accepted, watch);
+    assert!(rt; given.as_ref() == Some(&wanted), "at {text}");
+    assert!(rt; watch.admit(&wanted) == Ok(()), "at {text}");
+    Ok(())
 }
 
 /// Tries that the storm gives the events of these lines, each of which is admitted, and then none.
@@ -22,13 +37,11 @@ fn try_storm(
     let mut watch = Watch::new(accepted);
     let mut storm = Storm::new(seed, cycles);
     for text in lines {
-        let wanted = event(accepted, text)?;
-        let given = storm.next_event(accepted, &watch);
-        assert!(rt; given.as_ref() == Some(&wanted), "at {text}");
-        assert!(rt; watch.admit(&wanted) == Ok(()), "at {text}");
+        try_event(rt, accepted, &mut watch, &mut storm, text)?;
     }
-    assert!(rt; storm.next_event(accepted, &watch).is_none());
-    assert!(rt; storm.next_event(accepted, &watch).is_none());
+    for _ in 0..2 {
+        assert!(rt; storm.next_event(accepted, &watch).is_none());
+    }
     Ok(())
 }
 
@@ -89,19 +102,25 @@ fn a_master_is_turned_on_and_breaks(rt: HostRuntime) -> Result<(), Fail> {
     try_storm(&rt, &network, (77, 1), &LATE_MASTER)
 }
 
+// The first nine words of seed 42.
+const DRAWN: [[u32; 3]; 3] = [
+    [565_663_470, 3_244_226_384, 2_504_567_229],
+    [903_561_869, 4_026_996_297, 2_722_332_799],
+    [3_032_858_066, 272_411_090, 1_181_909_318],
+];
+
+/// The words of a step as they were drawn.
+fn in_turn(draw: Draw) -> [u32; 3] {
+    [draw.kind, draw.place, draw.size]
+}
+
 #[test]
 fn words_are_those_of_the_generator(rt: HostRuntime) {
     let mut words = Words::new(42);
-    let first = words.draw();
-    assert!(rt;
-        (first.kind, first.place, first.size) == (565_663_470, 3_244_226_384, 2_504_567_229)
-    );
-    let second = words.draw();
-    assert!(rt;
-        (second.kind, second.place, second.size) == (903_561_869, 4_026_996_297, 2_722_332_799)
-    );
-    let third = words.draw();
-    assert!(rt;
-        (third.kind, third.place, third.size) == (3_032_858_066, 272_411_090, 1_181_909_318)
-    );
+    let drawn = [
+        in_turn(words.draw()),
+        in_turn(words.draw()),
+        in_turn(words.draw()),
+    ];
+    assert!(rt; drawn == DRAWN);
 }

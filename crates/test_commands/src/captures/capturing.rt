@@ -1,10 +1,12 @@
+use crate::calls::answered;
 use crate::captures::reading::{BIG, LITTLE};
+use crate::frames::{frame_with, longer_frame};
 use std::alloc::Global;
 use std::process::Abort;
 use std::test::Fail;
 use tte_forms::Status;
-use tte_io::{MemorySink, MemorySource, OutOfMemory};
-use tte_run::captures::capture_file;
+use tte_io::{MemorySink, MemorySource};
+use tte_observers::captures::capture_file;
 use worked_network::{Call, FRAME, Fails, HEAD, call_of_one, ends_of};
 
 // The header of a capture with the greatest octet first.
@@ -36,17 +38,6 @@ fn stamp(length: u32) -> [u8; 16] {
     stamp
 }
 
-/// The frame with these octets at offsets.
-fn frame_with(changes: &[(usize, u8)]) -> [u8; 60] {
-    let mut frame = FRAME;
-    for &(offset, octet) in changes {
-        if offset < frame.len() {
-            frame[offset] = octet;
-        }
-    }
-    frame
-}
-
 /// The header with this octet at an offset.
 fn head_with(offset: usize, octet: u8) -> [u8; 24] {
     let mut head = HEAD;
@@ -54,6 +45,15 @@ fn head_with(offset: usize, octet: u8) -> [u8; 24] {
         head[offset] = octet;
     }
     head
+}
+
+/// The parts, one behind another.
+pub(super) fn joined(alloc: Global, parts: &[&[u8]]) -> Result<Vec<u8>, Fail> {
+    let mut file = Vec::new(alloc);
+    for part in parts {
+        file.extend_from_slice(part)?;
+    }
+    Ok(file)
 }
 
 // A capture in parts, what fails, and what is answered.
@@ -64,22 +64,13 @@ fn try_capture<'x>(
     fails: Fails,
     (text, wanted): (&'x str, Status),
 ) -> Result<(), Fail> {
-    let mut file = Vec::new(alloc);
-    for part in parts {
-        file.extend_from_slice(part)?;
-    }
+    let file = joined(alloc, parts)?;
     let call = call_of_one(&[], &file, text, wanted);
     let (_, mut source, _, mut out) = ends_of(alloc, &Call { fails, ..call })?;
     let status = capture_file(alloc, &mut source, &mut out);
-    // Where memory is wanting nothing was written. It is not where there is enough.
-    if status == Status::OutOfMemory {
-        assert!(rt; out.written().is_empty());
-        return Err(Fail::from(OutOfMemory));
-    }
-    assert_eq!(rt; status, wanted, "for {text}");
-    assert!(rt; out.written() == text.as_bytes(), "for {text}");
-    assert!(rt; status == Status::WriteFault || out.passed() == out.written());
-    Ok(())
+    // Where memory is wanting nothing was written.
+    assert!(rt; status != Status::OutOfMemory || out.written().is_empty());
+    answered(rt, status, &out, text, wanted)
 }
 
 // A capture in parts is shown by this text.
@@ -97,9 +88,13 @@ fn refused(rt: &impl Abort, alloc: Global, parts: &[&[u8]], text: &str) -> Resul
 fn a_control_frame_has_its_line(rt: HostRuntime) -> Result<(), Fail> {
     let alloc = rt.alloc();
     captured(&rt, alloc, &[&HEAD, &STAMP, &FRAME], LINE)?;
-    captured(&rt, alloc, &[&BIG_HEAD, &BIG_STAMP, &FRAME], BIG_LINE)?;
-    captured(&rt, alloc, &[&HEAD], "")?;
-    captured(&rt, alloc, &[&BIG_HEAD], "")
+    captured(&rt, alloc, &[&BIG_HEAD, &BIG_STAMP, &FRAME], BIG_LINE)
+}
+
+#[test]
+fn a_capture_of_no_packet_has_no_line(rt: HostRuntime) -> Result<(), Fail> {
+    captured(&rt, rt.alloc(), &[&HEAD], "")?;
+    captured(&rt, rt.alloc(), &[&BIG_HEAD], "")
 }
 
 #[test]
@@ -112,40 +107,53 @@ fn a_stamp_has_any_numbers(rt: HostRuntime) -> Result<(), Fail> {
 }
 
 #[test]
-fn a_header_is_refused(rt: HostRuntime) -> Result<(), Fail> {
+fn a_short_header_is_refused(rt: HostRuntime) -> Result<(), Fail> {
     let alloc = rt.alloc();
-    for (length, text) in [
-        (0, "refused capture header 0\n"),
-        (1, "refused capture header 1\n"),
-        (23, "refused capture header 23\n"),
-    ] {
-        refused(&rt, alloc, &[&HEAD[..length]], text)?;
+    refused(&rt, alloc, &[&HEAD[..0]], "refused capture header 0\n")?;
+    refused(&rt, alloc, &[&HEAD[..1]], "refused capture header 1\n")?;
+    refused(&rt, alloc, &[&HEAD[..23]], "refused capture header 23\n")
+}
+
+// Octets of the header by their offsets, and what is written of a capture with each of them.
+const HEADS: &[(usize, u8, &str)] = &[
+    (0, 0x4d, "refused capture magic\n"),
+    (4, 1, "refused capture version\n"),
+    (6, 3, "refused capture version\n"),
+    (20, 2, "refused capture linktype\n"),
+    (20, 101, "refused capture linktype\n"),
+];
+
+#[test]
+fn a_header_of_another_form_is_refused(rt: HostRuntime) -> Result<(), Fail> {
+    for (offset, octet, text) in HEADS {
+        let head = head_with(*offset, *octet);
+        refused(&rt, rt.alloc(), &[&head], text)?;
     }
-    for (offset, octet, text) in [
-        (0, 0x4d, "refused capture magic\n"),
-        (4, 1, "refused capture version\n"),
-        (6, 3, "refused capture version\n"),
-        (20, 2, "refused capture linktype\n"),
-        (20, 101, "refused capture linktype\n"),
-    ] {
-        let head = head_with(offset, octet);
-        refused(&rt, alloc, &[&head], text)?;
-    }
-    // Only the low 16 bits of the link type count.
-    let counted = head_with(23, 0xf0);
-    let text = "packet 1 time 0 0 other 0\n";
-    captured(&rt, alloc, &[&counted, &stamp(0)], text)
+    Ok(())
 }
 
 #[test]
+fn only_the_low_16_bits_of_the_link_type_count(rt: HostRuntime) -> Result<(), Fail> {
+    let counted = head_with(23, 0xf0);
+    let text = "packet 1 time 0 0 other 0\n";
+    captured(&rt, rt.alloc(), &[&counted, &stamp(0)], text)
+}
+
+// The form with nanoseconds, and the front of a pcapng file.
+#[test]
+fn another_magic_is_refused(rt: HostRuntime) -> Result<(), Fail> {
+    let alloc = rt.alloc();
+    let nanoseconds = [0x4d, 0x3c, 0xb2, 0xa1];
+    let text = "refused capture magic\n";
+    refused(&rt, alloc, &[&nanoseconds, &HEAD[4..]], text)?;
+    let pcapng = [0x0a, 0x0d, 0x0d, 0x0a];
+    refused(&rt, alloc, &[&pcapng, &HEAD[4..]], text)
+}
+
+// The magic has one order, and all behind it the other; the version comes before the link type.
+#[test]
 fn the_first_fault_of_a_header_is_refused(rt: HostRuntime) -> Result<(), Fail> {
     let alloc = rt.alloc();
-    // The form with nanoseconds, and the front of a pcapng file.
-    for magic in [[0x4d, 0x3c, 0xb2, 0xa1], [0x0a, 0x0d, 0x0d, 0x0a]] {
-        let text = "refused capture magic\n";
-        refused(&rt, alloc, &[&magic, &HEAD[4..]], text)?;
-    }
-    // The magic has one order, and all behind it the other; the version comes before the link type.
     let text = "refused capture version\n";
     refused(&rt, alloc, &[&HEAD[..4], &BIG_HEAD[4..]], text)?;
     refused(&rt, alloc, &[&HEAD[..4], &[0; 20]], text)
@@ -159,32 +167,45 @@ fn worded(rt: &impl Abort, alloc: Global, octets: &[u8], words: &str) -> Result<
     captured(rt, alloc, &parts, text.as_str())
 }
 
+// Octets of the frame by their offsets, and the words of the frame with them.
+const CHANGES: &[(&[(usize, u8)], &str)] = &[
+    (&[(12, 0x08), (13, 0x00)], "other 60"),
+    (&[(12, 0x89), (13, 0x1c)], "other 60"),
+    (&[(12, 0x08), (30, 1)], "other 60"),
+    (&[(30, 1), (33, 1)], "refused reserved 30"),
+    (&[(28, 0x12), (29, 0)], "refused type 12"),
+    (&[(28, 0x12), (30, 1)], "refused type 12"),
+];
+
 #[test]
 fn octets_that_spell_no_control_frame_have_their_words(rt: HostRuntime) -> Result<(), Fail> {
+    for (changes, words) in CHANGES {
+        worded(&rt, rt.alloc(), &frame_with(changes), words)?;
+    }
+    Ok(())
+}
+
+#[test]
+fn fronts_of_a_control_frame_have_their_words(rt: HostRuntime) -> Result<(), Fail> {
     let alloc = rt.alloc();
-    for (changes, words) in [
-        ([(12, 0x08), (13, 0x00)], "other 60"),
-        ([(12, 0x89), (13, 0x1c)], "other 60"),
-        ([(12, 0x08), (30, 1)], "other 60"),
-        ([(30, 1), (33, 1)], "refused reserved 30"),
-        ([(28, 0x12), (29, 0)], "refused type 12"),
-        ([(28, 0x12), (30, 1)], "refused type 12"),
-    ] {
-        worded(&rt, alloc, &frame_with(&changes), words)?;
-    }
-    for (length, words) in [
-        (0, "other 0"),
-        (13, "other 13"),
-        (14, "refused length 14"),
-        (59, "refused length 59"),
-    ] {
-        worded(&rt, alloc, &FRAME[..length], words)?;
-    }
+    worded(&rt, alloc, &FRAME[..0], "other 0")?;
+    worded(&rt, alloc, &FRAME[..13], "other 13")?;
+    worded(&rt, alloc, &FRAME[..14], "refused length 14")?;
+    worded(&rt, alloc, &FRAME[..59], "refused length 59")
+}
+
+#[test]
+fn frames_of_another_type_or_length_have_their_words(rt: HostRuntime) -> Result<(), Fail> {
     let other = frame_with(&[(12, 0x08)]);
-    worded(&rt, alloc, &other[..14], "other 14")?;
-    let mut longer = [0; 61];
-    longer[..60].copy_from_slice(&FRAME);
-    worded(&rt, alloc, &longer, "refused length 61")
+    worded(&rt, rt.alloc(), &other[..14], "other 14")?;
+    worded(&rt, rt.alloc(), &longer_frame(), "refused length 61")
+}
+
+/// Behind a packet that is shown, these octets are refused for this reason.
+fn second_refused(rt: &impl Abort, alloc: Global, rest: &[u8], reason: &str) -> Result<(), Fail> {
+    let text = format!(in alloc; "{LINE}refused capture packet 2 {reason}\n")?;
+    let parts = [&HEAD[..], &STAMP, &FRAME, rest];
+    refused(rt, alloc, &parts, text.as_str())
 }
 
 #[test]
@@ -192,71 +213,96 @@ fn the_first_packet_that_is_refused_is_the_last(rt: HostRuntime) -> Result<(), F
     let alloc = rt.alloc();
     let text = "refused capture packet 1 cut\n";
     refused(&rt, alloc, &[&HEAD, &STAMP, &FRAME[..59]], text)?;
-    let cut = format!(in alloc; "{LINE}refused capture packet 2 cut\n")?;
-    for length in [1, 15, 16] {
-        let parts = [&HEAD[..], &STAMP[..], &FRAME[..], &STAMP[..length]];
-        refused(&rt, alloc, &parts, cut.as_str())?;
-    }
-    // The length comes first, although none of the octets is there.
-    for (length, reason) in [
-        (262_144, "cut"),
-        (262_145, "length 262145"),
-        (4_294_967_295, "length 4294967295"),
-    ] {
-        let text = format!(in alloc; "{LINE}refused capture packet 2 {reason}\n")?;
-        let rest = stamp(length);
-        let parts = [&HEAD[..], &STAMP[..], &FRAME[..], &rest[..]];
-        refused(&rt, alloc, &parts, text.as_str())?;
+    second_refused(&rt, alloc, &STAMP[..1], "cut")?;
+    second_refused(&rt, alloc, &STAMP[..15], "cut")?;
+    second_refused(&rt, alloc, &STAMP, "cut")
+}
+
+// It does so although none of the octets is there.
+#[test]
+fn the_length_of_a_packet_comes_first(rt: HostRuntime) -> Result<(), Fail> {
+    let alloc = rt.alloc();
+    second_refused(&rt, alloc, &stamp(262_144), "cut")?;
+    second_refused(&rt, alloc, &stamp(262_145), "length 262145")?;
+    let most = stamp(4_294_967_295);
+    second_refused(&rt, alloc, &most, "length 4294967295")
+}
+
+// What fails in a capture of two packets, what is written of it, and the status.
+const FAULTS: &[(Fails, &str, Status)] = &[
+    (Fails::First(1), "", Status::ReadFault),
+    (Fails::First(2), "", Status::ReadFault),
+    (Fails::Put(1), "", Status::WriteFault),
+    (Fails::Put(2), LINE, Status::WriteFault),
+];
+
+#[test]
+fn faults_end_a_capture(rt: HostRuntime) -> Result<(), Fail> {
+    let parts: [&[u8]; 5] = [&HEAD, &STAMP, &FRAME, &STAMP, &FRAME];
+    for (fails, text, status) in FAULTS {
+        try_capture(&rt, rt.alloc(), &parts, *fails, (*text, *status))?;
     }
     Ok(())
 }
 
 #[test]
-fn faults_end_a_capture(rt: HostRuntime) -> Result<(), Fail> {
-    let alloc = rt.alloc();
-    let parts: [&[u8]; 5] = [&HEAD, &STAMP, &FRAME, &STAMP, &FRAME];
-    for (fails, text, status) in [
-        (Fails::First(1), "", Status::ReadFault),
-        (Fails::First(2), "", Status::ReadFault),
-        (Fails::Put(1), "", Status::WriteFault),
-        (Fails::Put(2), LINE, Status::WriteFault),
-    ] {
-        try_capture(&rt, alloc, &parts, fails, (text, status))?;
-    }
+fn a_fault_in_passing_on_ends_a_capture(rt: HostRuntime) -> Result<(), Fail> {
     let told = (LINE, Status::WriteFault);
-    try_capture(&rt, alloc, &parts[..3], Fails::Pass(1), told)
+    let parts: [&[u8]; 3] = [&HEAD, &STAMP, &FRAME];
+    try_capture(&rt, rt.alloc(), &parts, Fails::Pass(1), told)
+}
+
+/// Puts a packet of so many octets behind the file.
+fn push_packet(alloc: Global, file: &mut Vec<u8>, count: u32) -> Result<(), Fail> {
+    let octets = vec![in alloc; 0; count as usize]?;
+    file.extend_from_slice(&stamp(count))?;
+    file.extend_from_slice(&octets)?;
+    Ok(())
 }
 
 /// A capture of 16,777,216 octets: 63 packets of 262,144 octets, and one of 261,096.
-fn longest(alloc: Global) -> Result<Vec<u8>, Fail> {
-    let octets = vec![in alloc; 0; 262_144]?;
-    let last = vec![in alloc; 0; 261_096]?;
+fn longest(rt: &impl Abort, alloc: Global) -> Result<Vec<u8>, Fail> {
     let mut file = Vec::new(alloc);
     file.extend_from_slice(&HEAD)?;
     for _ in 0..63 {
-        file.extend_from_slice(&stamp(262_144))?;
-        file.extend_from_slice(&octets)?;
+        push_packet(alloc, &mut file, 262_144)?;
     }
-    file.extend_from_slice(&stamp(261_096))?;
-    file.extend_from_slice(&last)?;
+    push_packet(alloc, &mut file, 261_096)?;
+    assert!(rt; file.len() == 16_777_216);
     Ok(file)
+}
+
+/// What is written of a capture, which ends so.
+fn written_of(
+    rt: &impl Abort,
+    alloc: Global,
+    file: &[u8],
+    wanted: Status,
+) -> Result<MemorySink, Fail> {
+    let mut source = MemorySource::new(alloc, file, 4096, &[])?;
+    let mut out = MemorySink::new(alloc, 4096, &[])?;
+    let status = capture_file(alloc, &mut source, &mut out);
+    assert!(rt; status == wanted);
+    Ok(out)
 }
 
 #[test]
 fn a_file_at_the_limit_is_shown(rt: HostRuntime) -> Result<(), Fail> {
     let alloc = rt.alloc();
-    let mut file = longest(alloc)?;
-    assert!(rt; file.len() == 16_777_216);
-    let mut source = MemorySource::new(alloc, &file, 4096, &[])?;
-    let mut out = MemorySink::new(alloc, 4096, &[])?;
-    assert!(rt; capture_file(alloc, &mut source, &mut out) == Status::Done);
+    let file = longest(&rt, alloc)?;
+    let out = written_of(&rt, alloc, &file, Status::Done)?;
     let lines = out.written();
     assert!(rt; lines.starts_with(b"packet 1 time 0 0 other 262144\n"));
     assert!(rt; lines.ends_with(b"\npacket 64 time 0 0 other 261096\n"));
+    Ok(())
+}
+
+#[test]
+fn a_file_beyond_the_limit_is_not_shown(rt: HostRuntime) -> Result<(), Fail> {
+    let alloc = rt.alloc();
+    let mut file = longest(&rt, alloc)?;
     file.push(0)?;
-    let mut longer = MemorySource::new(alloc, &file, 4096, &[])?;
-    let mut nothing = MemorySink::new(alloc, 4096, &[])?;
-    assert!(rt; capture_file(alloc, &mut longer, &mut nothing) == Status::TooLong);
-    assert!(rt; nothing.written().is_empty());
+    let out = written_of(&rt, alloc, &file, Status::TooLong)?;
+    assert!(rt; out.written().is_empty());
     Ok(())
 }

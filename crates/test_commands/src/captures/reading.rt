@@ -1,5 +1,9 @@
-use std::test::Fail;
-use tte_run::captures::pcap::{CaptureHead, CaptureRefusal, Packet, next_packet, open_capture};
+ghost use Rattle.std.specs.Prelude.{◌<◌, ◌^◌, ◌≤◌, length};
+
+use std::process::Abort;
+use tte_observers::captures::pcap::{
+    CaptureHead, CaptureRefusal, Packet, next_packet, open_capture,
+};
 
 // A capture of one frame: what a master with member number 0 sends in cycle 7.
 const ONE: [u8; 100] = [
@@ -29,7 +33,70 @@ pub(super) const LITTLE: [u8; 61] = [
     0xff, 0xfe, 0xff, 0xff, 0xff, 0x00, 0x00, 0x00, 0x00, 0xfd, 0xff, 0xff, 0xff,
 ];
 
-/// The same with this octet at an offset.
+// Both of their packets.
+const FIRST: Packet = Packet {
+    seconds: 1_600_000_000,
+    micros: 999_999,
+    from: 40,
+    to: 45,
+    original: 1514,
+};
+
+const SECOND: Packet = Packet {
+    seconds: 4_294_967_295,
+    micros: 4_294_967_294,
+    from: 61,
+    to: 61,
+    original: 4_294_967_293,
+};
+
+// Octets of the header of LITTLE by their offsets, and what it is refused for with each of them.
+const REFUSED: &[(usize, u8, CaptureRefusal)] = &[
+    (0, 0x4d, CaptureRefusal::Magic),
+    (1, 0x3c, CaptureRefusal::Magic),
+    (2, 0xb3, CaptureRefusal::Magic),
+    (3, 0xa0, CaptureRefusal::Magic),
+    (4, 3, CaptureRefusal::Version),
+    (5, 2, CaptureRefusal::Version),
+    (6, 2, CaptureRefusal::Version),
+    (7, 4, CaptureRefusal::Version),
+    (20, 0, CaptureRefusal::LinkType),
+    (20, 101, CaptureRefusal::LinkType),
+    (21, 1, CaptureRefusal::LinkType),
+];
+
+// Offsets of octets that do not count.
+const UNREAD: &[usize] = &[8, 12, 16, 19, 22, 23];
+
+/// The header of the file is judged so.
+pub(super) fn opens(rt: &impl Abort, file: &[u8], wanted: Result<CaptureHead, CaptureRefusal>) {
+    assert!(rt; open_capture(file) == wanted);
+}
+
+/// The next packet at this place of the file is found so.
+pub(super) fn comes(
+    rt: &impl Abort,
+    head: CaptureHead,
+    file: &[u8],
+    at: u32,
+    wanted: Result<Option<Packet>, CaptureRefusal>,
+)
+    requires small { length file.now < 2 ^ 32 }
+    requires within { at ≤ length file.now }
+{
+    assert!(rt; next_packet(head, file, at) == wanted);
+}
+
+/// The file has the header of this byte order, and both packets behind it.
+fn has_both_packets(rt: &impl Abort, file: &[u8; 61], big: bool) {
+    let head = CaptureHead { big };
+    opens(rt, file, Ok(head));
+    comes(rt, head, file, 24, Ok(Some(FIRST)));
+    comes(rt, head, file, 45, Ok(Some(SECOND)));
+    comes(rt, head, file, 61, Ok(None));
+}
+
+/// LITTLE with this octet at an offset.
 fn little_with(offset: usize, octet: u8) -> [u8; 61] {
     let mut file = LITTLE;
     if offset < file.len() {
@@ -38,10 +105,30 @@ fn little_with(offset: usize, octet: u8) -> [u8; 61] {
     file
 }
 
+/// Its header is judged so.
+fn opens_with(
+    rt: &impl Abort,
+    offset: usize,
+    octet: u8,
+    wanted: Result<CaptureHead, CaptureRefusal>,
+) {
+    let opened = open_capture(&little_with(offset, octet));
+    assert!(rt; opened == wanted, "at {offset}");
+}
+
+/// The front of BIG, of so many octets, is cut within the packet at this place.
+fn is_cut(rt: &impl Abort, octets: usize, at: u32)
+    requires front { octets ≤ 61 }
+    requires within { at ≤ octets }
+{
+    let head = CaptureHead { big: true };
+    comes(rt, head, &BIG[..octets], at, Err(CaptureRefusal::Cut));
+}
+
 #[test]
-fn a_frame_is_captured(rt: HostRuntime) -> Result<(), Fail> {
-    let head = open_capture(&ONE)?;
-    assert!(rt; !head.big);
+fn a_frame_is_captured(rt: HostRuntime) {
+    let head = CaptureHead { big: false };
+    opens(&rt, &ONE, Ok(head));
     let packet = Packet {
         seconds: 0,
         micros: 2000,
@@ -49,99 +136,62 @@ fn a_frame_is_captured(rt: HostRuntime) -> Result<(), Fail> {
         to: 100,
         original: 60,
     };
-    assert!(rt; next_packet(head, &ONE, 24) == Ok(Some(packet)));
-    assert!(rt; next_packet(head, &ONE, 100) == Ok(None));
-    assert!(rt; next_packet(head, &ONE[..24], 24) == Ok(None));
-    assert!(rt; next_packet(head, &ONE[..99], 24) == Err(CaptureRefusal::Cut));
-    Ok(())
+    comes(&rt, head, &ONE, 24, Ok(Some(packet)));
+    comes(&rt, head, &ONE, 100, Ok(None));
+    comes(&rt, head, &ONE[..24], 24, Ok(None));
+    comes(&rt, head, &ONE[..99], 24, Err(CaptureRefusal::Cut));
 }
 
 #[test]
 fn a_capture_has_either_byte_order(rt: HostRuntime) {
-    let first = Packet {
-        seconds: 1_600_000_000,
-        micros: 999_999,
-        from: 40,
-        to: 45,
-        original: 1514,
-    };
-    let second = Packet {
-        seconds: 4_294_967_295,
-        micros: 4_294_967_294,
-        from: 61,
-        to: 61,
-        original: 4_294_967_293,
-    };
-    for (file, big) in [(&BIG, true), (&LITTLE, false)] {
-        let head = CaptureHead { big };
-        assert!(rt; open_capture(file) == Ok(head));
-        assert!(rt; next_packet(head, file, 24) == Ok(Some(first)));
-        assert!(rt; next_packet(head, file, 45) == Ok(Some(second)));
-        assert!(rt; next_packet(head, file, 61) == Ok(None));
-    }
+    has_both_packets(&rt, &BIG, true);
+    has_both_packets(&rt, &LITTLE, false);
 }
 
 #[test]
+fn a_header_that_is_short_or_zero_is_refused(rt: HostRuntime) {
+    opens(&rt, &[], Err(CaptureRefusal::Header(0)));
+    opens(&rt, &[0; 23], Err(CaptureRefusal::Header(23)));
+    opens(&rt, &ONE[..23], Err(CaptureRefusal::Header(23)));
+    opens(&rt, &[0; 24], Err(CaptureRefusal::Magic));
+}
+
+// From the last fault to the first, each put into a file that has the later ones.
+#[test]
 fn the_first_fault_of_a_header_is_refused(rt: HostRuntime) {
-    assert!(rt; open_capture(&[]) == Err(CaptureRefusal::Header(0)));
-    assert!(rt; open_capture(&[0; 23]) == Err(CaptureRefusal::Header(23)));
-    assert!(rt; open_capture(&ONE[..23]) == Err(CaptureRefusal::Header(23)));
-    assert!(rt; open_capture(&[0; 24]) == Err(CaptureRefusal::Magic));
-    // From the last fault to the first, each put into a file that has the later ones.
     let mut file = BIG;
-    for (offset, octet, refusal) in [
-        (22, 1, CaptureRefusal::LinkType),
-        (7, 3, CaptureRefusal::Version),
-        (3, 0xd5, CaptureRefusal::Magic),
-    ] {
-        file[offset] = octet;
-        assert!(rt; open_capture(&file) == Err(refusal), "at {offset}");
-    }
-    assert!(rt; open_capture(&file[..23]) == Err(CaptureRefusal::Header(23)));
+    file[22] = 1;
+    opens(&rt, &file, Err(CaptureRefusal::LinkType));
+    file[7] = 3;
+    opens(&rt, &file, Err(CaptureRefusal::Version));
+    file[3] = 0xd5;
+    opens(&rt, &file, Err(CaptureRefusal::Magic));
+    opens(&rt, &file[..23], Err(CaptureRefusal::Header(23)));
 }
 
 #[test]
 fn each_octet_of_a_version_and_a_link_type_counts(rt: HostRuntime) {
-    for (offset, octet, refusal) in [
-        (0, 0x4d, CaptureRefusal::Magic),
-        (1, 0x3c, CaptureRefusal::Magic),
-        (2, 0xb3, CaptureRefusal::Magic),
-        (3, 0xa0, CaptureRefusal::Magic),
-        (4, 3, CaptureRefusal::Version),
-        (5, 2, CaptureRefusal::Version),
-        (6, 2, CaptureRefusal::Version),
-        (7, 4, CaptureRefusal::Version),
-        (20, 0, CaptureRefusal::LinkType),
-        (20, 101, CaptureRefusal::LinkType),
-        (21, 1, CaptureRefusal::LinkType),
-    ] {
-        assert!(rt;
-            open_capture(&little_with(offset, octet)) == Err(refusal),
-            "at {offset}"
-        );
+    for (offset, octet, refusal) in REFUSED {
+        opens_with(&rt, *offset, *octet, Err(*refusal));
     }
-    for offset in [8, 12, 16, 19, 22, 23] {
-        let opened = open_capture(&little_with(offset, 0x55));
-        assert!(rt; opened == Ok(CaptureHead { big: false }), "at {offset}");
+}
+
+#[test]
+fn other_octets_of_a_header_do_not_count(rt: HostRuntime) {
+    for offset in UNREAD {
+        opens_with(&rt, *offset, 0x55, Ok(CaptureHead { big: false }));
     }
 }
 
 #[test]
 fn a_packet_is_cut_behind_its_stamp_or_before_its_end(rt: HostRuntime) {
-    let head = CaptureHead { big: true };
-    for length in [25, 39, 40, 44] {
-        assert!(rt;
-            next_packet(head, &BIG[..length], 24) == Err(CaptureRefusal::Cut),
-            "at {length}"
-        );
-    }
-    assert!(rt; next_packet(head, &BIG[..45], 45) == Ok(None));
-    for length in [46, 60] {
-        assert!(rt;
-            next_packet(head, &BIG[..length], 45) == Err(CaptureRefusal::Cut),
-            "at {length}"
-        );
-    }
+    is_cut(&rt, 25, 24);
+    is_cut(&rt, 39, 24);
+    is_cut(&rt, 40, 24);
+    is_cut(&rt, 44, 24);
+    is_cut(&rt, 46, 45);
+    is_cut(&rt, 60, 45);
+    comes(&rt, CaptureHead { big: true }, &BIG[..45], 45, Ok(None));
 }
 
 #[test]
@@ -151,8 +201,9 @@ fn a_packet_has_at_most_262144_octets(rt: HostRuntime) {
     // 262,145 is 0x00040001. The length is refused, although none of the octets is there.
     stamp[8] = 1;
     stamp[10] = 4;
-    assert!(rt; next_packet(head, &stamp, 0) == Err(CaptureRefusal::PacketLength(262_145)));
-    assert!(rt; next_packet(head, &stamp[..15], 0) == Err(CaptureRefusal::Cut));
+    let refusal = CaptureRefusal::PacketLength(262_145);
+    comes(&rt, head, &stamp, 0, Err(refusal));
+    comes(&rt, head, &stamp[..15], 0, Err(CaptureRefusal::Cut));
     stamp[8] = 0;
-    assert!(rt; next_packet(head, &stamp, 0) == Err(CaptureRefusal::Cut));
+    comes(&rt, head, &stamp, 0, Err(CaptureRefusal::Cut));
 }

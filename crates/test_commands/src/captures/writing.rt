@@ -1,8 +1,13 @@
+ghost use Rattle.std.specs.Prelude.{◌≤◌, length};
+ghost use Rattle.tte_observers.specs.captures.pcap.Layout.{most_written};
+
+use crate::captures::capturing::joined;
+use crate::captures::reading::{comes, opens};
+use std::alloc::Global;
+use std::process::Abort;
 use std::test::Fail;
 use tte_io::{MemorySink, SinkFailed};
-use tte_run::captures::pcap::{
-    CaptureHead, Packet, next_packet, open_capture, put_head, put_packet,
-};
+use tte_observers::captures::pcap::{CaptureHead, Packet, put_head, put_packet};
 use worked_network::{HEAD, SENT, TIMED};
 
 // What Python's struct packs with '<IIII' of (0, 2000, 60, 60), and of (0, 2405, 60, 60).
@@ -19,55 +24,78 @@ const LONGEST: [u8; 16] = [
     0x04, 0x03, 0x02, 0x01, 0x08, 0x07, 0x06, 0x05, 0xea, 0x05, 0x00, 0x00, 0xea, 0x05, 0x00, 0x00,
 ];
 
-#[test]
-fn a_way_with_two_frames_is_written(rt: HostRuntime) -> Result<(), Fail> {
-    let mut wanted = [0; 176];
-    wanted[..24].copy_from_slice(&HEAD);
-    wanted[24..40].copy_from_slice(&FIRST);
-    wanted[40..100].copy_from_slice(&SENT);
-    wanted[100..116].copy_from_slice(&SECOND);
-    wanted[116..].copy_from_slice(&TIMED);
-    let mut sink = MemorySink::new(rt.alloc(), 176, &[])?;
-    assert!(rt; put_head(&mut sink) == Ok(()));
-    assert!(rt; put_packet(0, 2000, &SENT, &mut sink) == Ok(()));
-    assert!(rt; put_packet(0, 2405, &TIMED, &mut sink) == Ok(()));
+/// The header is put, and answered so.
+fn heads(rt: &impl Abort, sink: &mut MemorySink, wanted: Result<(), SinkFailed>) {
+    assert!(rt; put_head(sink) == wanted);
+}
+
+/// A packet with this stamp is put, and answered so.
+fn packs(
+    rt: &impl Abort,
+    sink: &mut MemorySink,
+    seconds: u32,
+    micros: u32,
+    octets: &[u8],
+    wanted: Result<(), SinkFailed>,
+)
+    requires { length octets.now ≤ most_written }
+{
+    assert!(rt; put_packet(seconds, micros, octets, sink) == wanted);
+}
+
+/// These parts, one behind another, are all that was written.
+fn holds(rt: &impl Abort, alloc: Global, sink: &MemorySink, parts: &[&[u8]]) -> Result<(), Fail> {
+    let wanted = joined(alloc, parts)?;
     assert!(rt; sink.written() == wanted.as_slice());
     Ok(())
 }
 
 #[test]
+fn a_way_with_two_frames_is_written(rt: HostRuntime) -> Result<(), Fail> {
+    let alloc = rt.alloc();
+    let mut sink = MemorySink::new(alloc, 176, &[])?;
+    heads(&rt, &mut sink, Ok(()));
+    packs(&rt, &mut sink, 0, 2000, &SENT, Ok(()));
+    packs(&rt, &mut sink, 0, 2405, &TIMED, Ok(()));
+    holds(&rt, alloc, &sink, &[&HEAD, &FIRST, &SENT, &SECOND, &TIMED])
+}
+
+#[test]
 fn a_packet_has_at_most_1514_octets(rt: HostRuntime) -> Result<(), Fail> {
+    let alloc = rt.alloc();
     let octets = [0xa5; 1514];
-    let mut sink = MemorySink::new(rt.alloc(), 1546, &[])?;
-    assert!(rt; put_packet(0x0102_0304, 0x0506_0708, &octets, &mut sink) == Ok(()));
-    assert!(rt; put_packet(0, 0, &[], &mut sink) == Ok(()));
-    let mut wanted = [0xa5; 1546];
-    wanted[..16].copy_from_slice(&LONGEST);
-    wanted[1530..].copy_from_slice(&[0; 16]);
-    assert!(rt; sink.written() == wanted.as_slice());
-    Ok(())
+    let mut sink = MemorySink::new(alloc, 1546, &[])?;
+    packs(&rt, &mut sink, 0x0102_0304, 0x0506_0708, &octets, Ok(()));
+    packs(&rt, &mut sink, 0, 0, &[], Ok(()));
+    holds(&rt, alloc, &sink, &[&LONGEST, &octets, &[0; 16]])
 }
 
 #[test]
 fn a_put_that_fails_is_answered(rt: HostRuntime) -> Result<(), Fail> {
     let mut sink = MemorySink::new(rt.alloc(), 200, &[1, 3])?;
-    assert!(rt; put_head(&mut sink) == Err(SinkFailed));
-    assert!(rt; put_head(&mut sink) == Ok(()));
-    assert!(rt; put_packet(0, 2000, &SENT, &mut sink) == Err(SinkFailed));
-    assert!(rt; put_packet(0, 2000, &SENT, &mut sink) == Ok(()));
+    heads(&rt, &mut sink, Err(SinkFailed));
+    heads(&rt, &mut sink, Ok(()));
+    packs(&rt, &mut sink, 0, 2000, &SENT, Err(SinkFailed));
+    packs(&rt, &mut sink, 0, 2000, &SENT, Ok(()));
     assert!(rt; sink.written().len() == 100);
     Ok(())
 }
 
+/// A capture of one packet.
+fn capture_of_one(rt: &impl Abort, alloc: Global) -> Result<MemorySink, Fail> {
+    let mut sink = MemorySink::new(alloc, 200, &[])?;
+    heads(rt, &mut sink, Ok(()));
+    packs(rt, &mut sink, 7, 999_999, &SENT, Ok(()));
+    Ok(sink)
+}
+
 #[test]
 fn what_was_written_is_read(rt: HostRuntime) -> Result<(), Fail> {
-    let mut sink = MemorySink::new(rt.alloc(), 200, &[])?;
-    assert!(rt; put_head(&mut sink) == Ok(()));
-    assert!(rt; put_packet(7, 999_999, &SENT, &mut sink) == Ok(()));
+    let sink = capture_of_one(&rt, rt.alloc())?;
     let file = sink.written();
     assert!(rt; file.len() == 100);
     let head = CaptureHead { big: false };
-    assert!(rt; open_capture(file) == Ok(head));
+    opens(&rt, file, Ok(head));
     let packet = Packet {
         seconds: 7,
         micros: 999_999,
@@ -75,7 +103,7 @@ fn what_was_written_is_read(rt: HostRuntime) -> Result<(), Fail> {
         to: 100,
         original: 60,
     };
-    assert!(rt; next_packet(head, file, 24) == Ok(Some(packet)));
+    comes(&rt, head, file, 24, Ok(Some(packet)));
     assert!(rt; &file[40..100] == SENT.as_slice());
     Ok(())
 }

@@ -16,6 +16,14 @@ fn texts_that_are_no_documents(rt: HostRuntime) -> Result<(), Fail> {
     try_call(&rt, alloc, &check)
 }
 
+// The worked network with another key in the place of this one in a table, which stands in this text.
+fn without_key(alloc: Global, table: &str, equals: &str, key: &str) -> Result<String, Fail> {
+    let old = format!(in alloc; "{key}{equals}")?;
+    let new = format!(in alloc; "other{equals}")?;
+    let without = edited(alloc, table, &[(old.as_str(), new.as_str())])?;
+    Ok(edited(alloc, WORKED, &[(table, without.as_str())])?)
+}
+
 // The keys of the table at this place, which stands in this text: each is missing where another stands
 // for it.
 fn each_missing(
@@ -27,11 +35,8 @@ fn each_missing(
     keys: &str,
 ) -> Result<(), Fail> {
     for key in keys.split(' ') {
-        let old = format!(in alloc; "{key}{equals}")?;
-        let new = format!(in alloc; "other{equals}")?;
-        let without = edited(alloc, table, &[(old.as_str(), new.as_str())])?;
+        let network = without_key(alloc, table, equals, key)?;
         let reason = format!(in alloc; "missing {place} {key}")?;
-        let network = edited(alloc, WORKED, &[(table, without.as_str())])?;
         refused(rt, alloc, network.as_str(), reason.as_str())?;
     }
     Ok(())

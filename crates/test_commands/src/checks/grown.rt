@@ -106,12 +106,22 @@ pub(super) fn behind(alloc: Global, text: &str, mark: &str, lines: &str) -> Resu
     Ok(edited(alloc, text, &[(mark, marked.as_str())])?)
 }
 
+// The text with such lines behind a mark, numbered from 10 on.
+fn with_numbered(
+    alloc: Global,
+    text: &str,
+    mark: &str,
+    lines: &str,
+    count: u32,
+) -> Result<String, Fail> {
+    let lines = numbered(alloc, lines, 10, count)?;
+    behind(alloc, text, mark, lines.as_str())
+}
+
 /// The worked network with at most 90 clients more, each with a link to both relays.
 pub(super) fn with_clients(alloc: Global, count: u32) -> Result<String, Fail> {
-    let clients = numbered(alloc, CLIENT, 10, count)?;
-    let text = behind(alloc, WORKED, "device = [\n", clients.as_str())?;
-    let links = numbered(alloc, CLIENT_LINKS, 10, count)?;
-    behind(alloc, text.as_str(), "link = [\n", links.as_str())
+    let text = with_numbered(alloc, WORKED, "device = [\n", CLIENT, count)?;
+    with_numbered(alloc, text.as_str(), "link = [\n", CLIENT_LINKS, count)
 }
 
 /// The worked network with 64 virtual links from m1 to all other end systems in the place of its own,

@@ -99,17 +99,28 @@ const VL: &str =
 
 const ROW: &str = " {vl=\"v1\", link=\"m1_a\", way=\"up\", offset=26542080000},\n";
 
-// Rule 1, and rule 24: at most 256 rows leave a device.
+// Rule 1.
 #[test]
-fn limits(rt: HostRuntime) -> Result<(), Fail> {
-    let alloc = rt.alloc();
+fn crowds_are_refused(rt: HostRuntime) -> Result<(), Fail> {
     for (mark, line, count, reason) in CROWDS {
-        refused_with_many(&rt, alloc, mark, line, *count, reason)?;
+        refused_with_many(&rt, rt.alloc(), mark, line, *count, reason)?;
     }
+    Ok(())
+}
+
+#[test]
+fn a_network_has_at_most_64_devices(rt: HostRuntime) -> Result<(), Fail> {
+    let alloc = rt.alloc();
     let most = with_clients(alloc, 55)?;
     accepted(&rt, alloc, most.as_str())?;
     let more = with_clients(alloc, 56)?;
-    refused(&rt, alloc, more.as_str(), "rule 1 index 0")?;
+    refused(&rt, alloc, more.as_str(), "rule 1 index 0")
+}
+
+// Rule 24.
+#[test]
+fn at_most_256_rows_leave_a_device(rt: HostRuntime) -> Result<(), Fail> {
+    let alloc = rt.alloc();
     let full = full_schedule(&rt, alloc)?;
     accepted(&rt, alloc, full.as_str())?;
     let row = " {vl=\"w0\", link=\"ra_ca\", way=\"up\", offset=28180480000},\n";
@@ -238,10 +249,18 @@ const SCHEDULES_BY_MORE: &[(&[Edit<'_>], &str)] = &[
 ];
 
 #[test]
-fn rules_are_broken(rt: HostRuntime) -> Result<(), Fail> {
+fn rules_on_names_trees_and_masters_are_broken(rt: HostRuntime) -> Result<(), Fail> {
     refused_with_rows(&rt, rt.alloc(), SHAPES)?;
-    refused_with_each(&rt, rt.alloc(), SHAPES_BY_MORE)?;
-    refused_with_rows(&rt, rt.alloc(), TIMES)?;
+    refused_with_each(&rt, rt.alloc(), SHAPES_BY_MORE)
+}
+
+#[test]
+fn rules_on_times_are_broken(rt: HostRuntime) -> Result<(), Fail> {
+    refused_with_rows(&rt, rt.alloc(), TIMES)
+}
+
+#[test]
+fn rules_on_virtual_links_and_rows_are_broken(rt: HostRuntime) -> Result<(), Fail> {
     refused_with_rows(&rt, rt.alloc(), SCHEDULES)?;
     refused_with_each(&rt, rt.alloc(), SCHEDULES_BY_MORE)
 }

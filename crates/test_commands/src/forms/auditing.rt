@@ -1,4 +1,4 @@
-use crate::calls::try_call;
+use crate::calls::{ended, try_call};
 use std::alloc::Global;
 use std::process::Abort;
 use std::test::Fail;
@@ -18,7 +18,7 @@ fn calm_report(rt: &impl Abort, alloc: Global) -> Result<MemorySink, Fail> {
     let mut second = SteadySource::new(alloc, b"524287999999 end\n")?;
     let mut report = MemorySink::new(alloc, 1 << 16, &[])?;
     let status = run_trace(alloc, &mut first, &mut second, &mut report);
-    assert_eq!(rt; status, Status::Done);
+    ended(rt, status, Status::Done, "a report");
     Ok(report)
 }
 
@@ -51,55 +51,83 @@ const SHORT: &[(&str, &str)] = &[
     ),
 ];
 
+/// The report is refused, and this text is written.
+fn refused<'x>(
+    rt: &impl Abort,
+    alloc: Global,
+    report: &'x [u8],
+    text: &'x str,
+) -> Result<(), Fail> {
+    try_call(rt, alloc, &judged(report, text, Status::AuditRefused))
+}
+
+/// The report is refused with the edit of a row, for the reason that stands before it.
+fn refused_with(rt: &impl Abort, alloc: Global, report: &str, row: &str) -> Result<(), Fail> {
+    let (reason, edit) = row.split_once(" | ").ok_or("no reason")?;
+    let edited = edited_by(alloc, report, edit)?;
+    let text = format!(in alloc; "refused {reason}\n")?;
+    refused(rt, alloc, edited.as_bytes(), text.as_str())
+}
+
 #[test]
 fn a_report_is_refused_at_its_first_fault(rt: HostRuntime) -> Result<(), Fail> {
     let alloc = rt.alloc();
     let calm = calm_report(&rt, alloc)?;
     let calm = str::from_utf8(calm.written()).expect(&rt, "a report is text");
     for row in EDITS {
-        let (reason, edit) = row.split_once(" | ").ok_or("no reason")?;
-        let report = edited_by(alloc, calm, edit)?;
-        let text = format!(in alloc; "refused {reason}\n")?;
-        let refused = Status::AuditRefused;
-        try_call(
-            &rt,
-            alloc,
-            &judged(report.as_bytes(), text.as_str(), refused),
-        )?;
-    }
-    for (report, text) in SHORT {
-        let audit = judged(report.as_bytes(), text, Status::AuditRefused);
-        try_call(&rt, alloc, &audit)?;
+        refused_with(&rt, alloc, calm, row)?;
     }
     Ok(())
 }
 
 #[test]
+fn short_reports_are_refused(rt: HostRuntime) -> Result<(), Fail> {
+    for (report, text) in SHORT {
+        refused(&rt, rt.alloc(), report.as_bytes(), text)?;
+    }
+    Ok(())
+}
+
+/// A report of so many letters is answered by this text and this status.
+fn of_letters<'x>(
+    rt: &impl Abort,
+    alloc: Global,
+    count: usize,
+    (text, status): (&'x str, Status),
+) -> Result<(), Fail> {
+    let report = "x".repeat(alloc, count)?;
+    try_call(rt, alloc, &judged(report.as_bytes(), text, status))
+}
+
+#[test]
 fn a_report_has_at_most_16_777_216_octets(rt: HostRuntime) -> Result<(), Fail> {
-    let alloc = rt.alloc();
-    let most = "x".repeat(alloc, 16_777_216)?;
-    let text = "refused record 1 form\n";
-    let audit = judged(most.as_bytes(), text, Status::AuditRefused);
-    try_call(&rt, alloc, &audit)?;
-    let more = "x".repeat(alloc, 16_777_217)?;
-    try_call(&rt, alloc, &judged(more.as_bytes(), "", Status::TooLong))
+    let told = ("refused record 1 form\n", Status::AuditRefused);
+    of_letters(&rt, rt.alloc(), 16_777_216, told)?;
+    of_letters(&rt, rt.alloc(), 16_777_217, ("", Status::TooLong))
+}
+
+#[test]
+fn an_audit_stops_at_a_network_that_is_refused(rt: HostRuntime) -> Result<(), Fail> {
+    let text = "refused network toml\n";
+    let audit = judged(b"x\n", text, Status::NetworkRefused);
+    try_call(
+        &rt,
+        rt.alloc(),
+        &Call {
+            first: b"=",
+            ..audit
+        },
+    )
+}
+
+/// An audit in which this fails ends so.
+fn stopped(rt: &impl Abort, alloc: Global, fails: Fails, status: Status) -> Result<(), Fail> {
+    let audit = judged(b"x\n", "", status);
+    try_call(rt, alloc, &Call { fails, ..audit })
 }
 
 #[test]
 fn an_audit_stops_at_a_fault(rt: HostRuntime) -> Result<(), Fail> {
-    let alloc = rt.alloc();
-    let refused = judged(b"x\n", "refused record 1 form\n", Status::AuditRefused);
-    let unread = judged(b"x\n", "", Status::ReadFault);
-    let unput = judged(b"x\n", "", Status::WriteFault);
-    let none = Call {
-        first: b"=",
-        text: "refused network toml\n",
-        status: Status::NetworkRefused,
-        ..refused
-    };
-    let fails = Fails::Second(2);
-    try_call(&rt, alloc, &none)?;
-    try_call(&rt, alloc, &Call { fails, ..unread })?;
-    let fails = Fails::Put(1);
-    try_call(&rt, alloc, &Call { fails, ..unput })
+    stopped(&rt, rt.alloc(), Fails::Second(2), Status::ReadFault)?;
+    stopped(&rt, rt.alloc(), Fails::Put(1), Status::WriteFault)
 }

@@ -1,3 +1,4 @@
+use crate::calls::ended;
 use fault_hypothesis::Watch;
 use fault_hypothesis::storm::Storm;
 use std::alloc::Global;
@@ -12,7 +13,7 @@ use worked_network::{WORKED, words_of};
 const ROOM: u64 = 1 << 22;
 
 // The kinds of records that are counted, in their order.
-const KINDS: [&str; 6] = [
+const KINDS: &[&str] = &[
     "compressed",
     "corrected",
     "lost",
@@ -22,7 +23,7 @@ const KINDS: [&str; 6] = [
 ];
 
 // The reasons of drops, in their order.
-const REASONS: [&str; 14] = [
+const REASONS: &[&str] = &[
     "off",
     "refused",
     "coldstart",
@@ -40,15 +41,13 @@ const REASONS: [&str; 14] = [
 ];
 
 // The lines of the trace of a storm.
-fn trace_of(alloc: Global, seed: u64, cycles: u32) -> Result<MemorySink, Fail> {
+fn trace_of(rt: &impl Abort, alloc: Global, seed: u64, cycles: u32) -> Result<MemorySink, Fail> {
+    assert!(rt; cycles != 0 && cycles <= 100_000);
     let mut source = SteadySource::new(alloc, WORKED.as_bytes())?;
     let mut trace = MemorySink::new(alloc, ROOM, &[])?;
     let Ok(accepted) = accept(alloc, &mut source) else {
         return Ok(trace);
     };
-    if cycles == 0 || cycles > 100_000 {
-        return Ok(trace);
-    }
     let mut storm = Storm::new(seed, cycles);
     let mut watch = Watch::new(&accepted);
     for _ in 0..8 * cycles + 1 {
@@ -72,44 +71,76 @@ fn count_of(text: &str, place: usize, word: &str) -> usize {
     count
 }
 
-// The summary of a storm counts the records of the run under the trace of its events.
+// What a call writes of the worked network and this second file, where it is done.
+fn told(rt: &impl Abort, alloc: Global, words: &[&str], second: &[u8]) -> Result<MemorySink, Fail> {
+    let words = words_of(alloc, words)?;
+    let mut first = SteadySource::new(alloc, WORKED.as_bytes())?;
+    let mut second = MemorySource::new(alloc, second, 4096, &[])?;
+    let mut out = MemorySink::new(alloc, ROOM, &[])?;
+    let status = tte(alloc, &words, &mut first, &mut second, &mut out);
+    ended(rt, status, Status::Done, "the worked network");
+    Ok(out)
+}
+
+// The report of the run under the trace of a storm.
+fn report_of(rt: &impl Abort, alloc: Global, seed: u64, cycles: u32) -> Result<MemorySink, Fail> {
+    let trace = trace_of(rt, alloc, seed, cycles)?;
+    let words = &["run", "net.toml", "net.trace"];
+    told(rt, alloc, words, trace.written())
+}
+
+// How many records of a report have each of the kinds, in lines.
+fn counts_of_kinds(alloc: Global, report: &str) -> Result<String, Fail> {
+    let mut counts = String::new(alloc);
+    for kind in KINDS {
+        let line = format!(in alloc; "{kind} {}\n", count_of(report, 2, kind))?;
+        counts.push_str(line.as_str())?;
+    }
+    Ok(counts)
+}
+
+// How many have each of the reasons.
+fn counts_of_reasons(alloc: Global, report: &str) -> Result<String, Fail> {
+    let mut counts = String::new(alloc);
+    for reason in REASONS {
+        let line = format!(in alloc; "dropped {reason} {}\n", count_of(report, 6, reason))?;
+        counts.push_str(line.as_str())?;
+    }
+    Ok(counts)
+}
+
+// The lines of a summary that count the records of a report.
+fn counts_of(alloc: Global, report: &str) -> Result<String, Fail> {
+    let kinds = counts_of_kinds(alloc, report)?;
+    let reasons = counts_of_reasons(alloc, report)?;
+    let records = report.lines().count();
+    Ok(format!(in alloc; "records {records}\n{kinds}{reasons}")?)
+}
+
+// With what the summary of a storm begins: it counts the records of the run under the trace of its events.
+fn front_of_summary(
+    rt: &impl Abort,
+    alloc: Global,
+    seed: u64,
+    cycles: u32,
+) -> Result<String, Fail> {
+    let report = report_of(rt, alloc, seed, cycles)?;
+    let report = str::from_utf8(report.written()).expect(rt, "a report is text");
+    let counts = counts_of(alloc, report)?;
+    Ok(format!(in alloc; "storm seed {seed} cycles {cycles}\n{counts}")?)
+}
+
+// The summary of a storm has this front, and the end of each.
 fn try_storm(
     rt: &impl Abort,
     alloc: Global,
     seed: u64,
     cycles: u32,
-    seed_word: &str,
-    cycles_word: &str,
+    words: &[&str],
 ) -> Result<(), Fail> {
-    let trace = trace_of(alloc, seed, cycles)?;
-    let mut first = SteadySource::new(alloc, WORKED.as_bytes())?;
-    let mut second = MemorySource::new(alloc, trace.written(), 4096, &[])?;
-    let mut report = MemorySink::new(alloc, ROOM, &[])?;
-    let words = words_of(alloc, &["run", "net.toml", "net.trace"])?;
-    let status = tte(alloc, &words, &mut first, &mut second, &mut report);
-    assert_eq!(rt; status, Status::Done);
-    let report = str::from_utf8(report.written()).expect(rt, "a report is text");
-
-    let words = words_of(alloc, &["storm", "net.toml", seed_word, cycles_word])?;
-    let mut first = SteadySource::new(alloc, WORKED.as_bytes())?;
-    let mut second = MemorySource::new(alloc, &[], 4096, &[])?;
-    let mut out = MemorySink::new(alloc, ROOM, &[])?;
-    let status = tte(alloc, &words, &mut first, &mut second, &mut out);
-    assert_eq!(rt; status, Status::Done);
-    let summary = str::from_utf8(out.written()).expect(rt, "a summary is text");
-
-    let mut wanted = format!(in alloc;
-        "storm seed {seed} cycles {cycles}\nrecords {}\n",
-        report.lines().count()
-    )?;
-    for kind in KINDS {
-        let line = format!(in alloc; "{kind} {}\n", count_of(report, 2, kind))?;
-        wanted.push_str(line.as_str())?;
-    }
-    for reason in REASONS {
-        let line = format!(in alloc; "dropped {reason} {}\n", count_of(report, 6, reason))?;
-        wanted.push_str(line.as_str())?;
-    }
+    let wanted = front_of_summary(rt, alloc, seed, cycles)?;
+    let summary = told(rt, alloc, words, &[])?;
+    let summary = str::from_utf8(summary.written()).expect(rt, "a summary is text");
     assert!(rt; summary.starts_with(wanted.as_str()), "{summary}{wanted}");
     assert!(rt; summary.ends_with(" precision 1048576000\n"), "{summary}");
     Ok(())
@@ -117,6 +148,8 @@ fn try_storm(
 
 #[test]
 fn counts_the_records_of_its_run(rt: HostRuntime) -> Result<(), Fail> {
-    try_storm(&rt, rt.alloc(), 7, 3, "7", "3")?;
-    try_storm(&rt, rt.alloc(), 20, 12, "20", "12")
+    let words = &["storm", "net.toml", "7", "3"];
+    try_storm(&rt, rt.alloc(), 7, 3, words)?;
+    let words = &["storm", "net.toml", "20", "12"];
+    try_storm(&rt, rt.alloc(), 20, 12, words)
 }

@@ -1,5 +1,7 @@
 use crate::calls::try_call;
 use net_plan::Way;
+use std::alloc::Global;
+use std::process::Abort;
 use std::test::Fail;
 use tte_forms::{Form, read_form};
 use tte_run::Status;
@@ -121,36 +123,60 @@ fn words_of_no_form_are_answered_by_the_usage(rt: HostRuntime) -> Result<(), Fai
     Ok(())
 }
 
+/// The words are those of a storm of this seed and so many cycles.
+fn reads_storm(
+    rt: &impl Abort,
+    alloc: Global,
+    texts: &[&str],
+    seed: u64,
+    cycles: u32,
+) -> Result<(), Fail> {
+    let words = words_of(alloc, texts)?;
+    let form = read_form(&words);
+    assert!(rt;
+        matches!(form, Some(Form::Storm { seed: s, cycles: c }) if s == seed && c == cycles)
+    );
+    Ok(())
+}
+
 #[test]
 fn words_of_storms_are_read(rt: HostRuntime) -> Result<(), Fail> {
     for (texts, seed, cycles) in STORMS {
-        let words = words_of(rt.alloc(), texts)?;
-        let form = read_form(&words);
-        assert!(rt;
-            matches!(form, Some(Form::Storm { seed: s, cycles: c }) if s == *seed && c == *cycles)
-        );
+        reads_storm(&rt, rt.alloc(), texts, *seed, *cycles)?;
     }
+    Ok(())
+}
+
+/// The text is that of a granule of so many units.
+fn reads_granule(rt: &impl Abort, alloc: Global, text: &str, units: i64) -> Result<(), Fail> {
+    let words = words_of(alloc, &["stamp", "a", "b", text])?;
+    let form = read_form(&words);
+    assert!(rt; matches!(form, Some(Form::Stamp { granule }) if granule == Units(units)));
     Ok(())
 }
 
 #[test]
 fn granules_are_read(rt: HostRuntime) -> Result<(), Fail> {
     for (text, units) in GRANULES {
-        let words = words_of(rt.alloc(), &["stamp", "a", "b", text])?;
-        let form = read_form(&words);
-        assert!(rt; matches!(form, Some(Form::Stamp { granule }) if granule == Units(*units)));
+        reads_granule(&rt, rt.alloc(), text, *units)?;
     }
+    Ok(())
+}
+
+/// The words name this link and this way.
+fn reads_way(rt: &impl Abort, alloc: Global, name: &str, text: &str, of: Way) -> Result<(), Fail> {
+    let words = words_of(alloc, &["wire", "a", "b", name, text])?;
+    let form = read_form(&words);
+    assert!(rt;
+        matches!(&form, Some(Form::Wire { link, way }) if link.text() == name && *way == of)
+    );
     Ok(())
 }
 
 #[test]
 fn ways_of_links_are_read(rt: HostRuntime) -> Result<(), Fail> {
     for (name, text, of) in WAYS {
-        let words = words_of(rt.alloc(), &["wire", "a", "b", name, text])?;
-        let form = read_form(&words);
-        assert!(rt;
-            matches!(&form, Some(Form::Wire { link, way }) if link.text() == *name && *way == *of)
-        );
+        reads_way(&rt, rt.alloc(), name, text, *of)?;
     }
     Ok(())
 }
@@ -166,27 +192,29 @@ fn names_of_votes_are_read(rt: HostRuntime) -> Result<(), Fail> {
     Ok(())
 }
 
+// The statuses, from number 0 on.
+const STATUSES: &[Status] = &[
+    Status::Done,
+    Status::Usage,
+    Status::FrameRefused,
+    Status::NetworkRefused,
+    Status::TraceRefused,
+    Status::OutsideHypothesis,
+    Status::ReadFault,
+    Status::WriteFault,
+    Status::OutOfMemory,
+    Status::TooLong,
+    Status::GranuleRefused,
+    Status::AuditRefused,
+    Status::CaptureRefused,
+    Status::NameRefused,
+    Status::VoteRefused,
+    Status::NumberRefused,
+];
+
 #[test]
 fn statuses_have_their_numbers(rt: HostRuntime) {
-    let statuses = [
-        Status::Done,
-        Status::Usage,
-        Status::FrameRefused,
-        Status::NetworkRefused,
-        Status::TraceRefused,
-        Status::OutsideHypothesis,
-        Status::ReadFault,
-        Status::WriteFault,
-        Status::OutOfMemory,
-        Status::TooLong,
-        Status::GranuleRefused,
-        Status::AuditRefused,
-        Status::CaptureRefused,
-        Status::NameRefused,
-        Status::VoteRefused,
-        Status::NumberRefused,
-    ];
-    for (number, status) in statuses.iter().enumerate() {
+    for (number, status) in STATUSES.iter().enumerate() {
         assert!(rt; usize::from(status.number()) == number);
     }
 }

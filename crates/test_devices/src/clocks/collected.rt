@@ -3,10 +3,10 @@ ghost use Rattle.audit_law.specs.collections.Gathered.{IsGathered, IsHeld, IsLat
 
 use audit_law::collections::{CollectionHistory, Emitted, Gathering};
 use compression::{Compressed, Taken};
-use pcf_values::Members;
 use std::alloc::{AllocError, Global};
 use std::test::Fail;
 use tte_units::Units;
+use tte_units::frames::Members;
 
 // A window of 100 and a time to calculate of 10. The second point joins the first, the third repeats and the fourth
 // lies beyond both windows.

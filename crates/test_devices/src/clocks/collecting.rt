@@ -1,11 +1,11 @@
-ghost use Rattle.std.specs.Prelude.{◌-ℤ◌, ◌<ℤ◌, ◌<◌, ◌≡◌, ◌≤ℤ◌, ◌⊎◌, All, IfSome, None, length};
+ghost use Rattle.std.specs.Prelude.{◌-ℤ◌, ◌<ℤ◌, ◌<◌, ◌≡◌, ◌≤ℤ◌, ◌⊎◌, ◌++◌, ◌∷◌, [], All, IfSome, None, length, pos};
 ghost use Rattle.compression.specs.{Clusters.point_at, Collecting.{emissions, with_joined, with_opened}, Role.open_at};
 ghost use Rattle.tte_units.specs.Reading.{greatest_reading};
 
 use compression::{Collector, Compressed, Points, Taken, middle};
-use pcf_values::Members;
 use std::process::Abort;
 use tte_units::Units;
+use tte_units::frames::Members;
 
 #[test]
 fn points_rise_and_are_at_most_eight(rt: HostRuntime) {
@@ -19,48 +19,57 @@ fn points_rise_and_are_at_most_eight(rt: HostRuntime) {
     assert!(rt; !points.push(Units(5)));
 }
 
+fn append(rt: &impl Abort, points: &mut Points, number: i64)
+    ensures { points.new ≡ points.old ++ number ∷ [] }
+{
+    assert!(rt; points.push(Units(number)));
+}
+
 #[test]
 fn middles_of_one_and_of_four_points(rt: HostRuntime) {
     let mut points = Points::new();
-    assert!(rt; points.push(Units(0)));
+    append(&rt, &mut points, 0);
     assert!(rt; middle(&points) == Units(0));
-    assert!(rt; points.push(Units(10)));
-    assert!(rt; points.push(Units(100)));
-    assert!(rt; points.push(Units(1_000)));
+    append(&rt, &mut points, 10);
+    append(&rt, &mut points, 100);
+    append(&rt, &mut points, 1_000);
     assert!(rt; middle(&points) == Units(55));
 }
 
 #[test]
-fn middles_of_five_and_of_six_points(rt: HostRuntime) {
+fn middle_of_five_points(rt: HostRuntime) {
     let mut points = Points::new();
-    assert!(rt; points.push(Units(0)));
-    assert!(rt; points.push(Units(3)));
-    assert!(rt; points.push(Units(4)));
-    assert!(rt; points.push(Units(9)));
-    assert!(rt; points.push(Units(500)));
+    append(&rt, &mut points, 0);
+    append(&rt, &mut points, 3);
+    append(&rt, &mut points, 4);
+    append(&rt, &mut points, 9);
+    append(&rt, &mut points, 500);
     assert!(rt; middle(&points) == Units(6));
+}
 
+#[test]
+fn middle_of_six_points(rt: HostRuntime) {
     let mut points = Points::new();
-    assert!(rt; points.push(Units(0)));
-    assert!(rt; points.push(Units(3)));
-    assert!(rt; points.push(Units(4)));
-    assert!(rt; points.push(Units(9)));
-    assert!(rt; points.push(Units(20)));
-    assert!(rt; points.push(Units(500)));
+    append(&rt, &mut points, 0);
+    append(&rt, &mut points, 3);
+    append(&rt, &mut points, 4);
+    append(&rt, &mut points, 9);
+    append(&rt, &mut points, 20);
+    append(&rt, &mut points, 500);
     assert!(rt; middle(&points) == Units(11));
 }
 
 #[test]
 fn middle_of_eight_points(rt: HostRuntime) {
     let mut points = Points::new();
-    assert!(rt; points.push(Units(0)));
-    assert!(rt; points.push(Units(1)));
-    assert!(rt; points.push(Units(2)));
-    assert!(rt; points.push(Units(3)));
-    assert!(rt; points.push(Units(4)));
-    assert!(rt; points.push(Units(5)));
-    assert!(rt; points.push(Units(6)));
-    assert!(rt; points.push(Units(100)));
+    append(&rt, &mut points, 0);
+    append(&rt, &mut points, 1);
+    append(&rt, &mut points, 2);
+    append(&rt, &mut points, 3);
+    append(&rt, &mut points, 4);
+    append(&rt, &mut points, 5);
+    append(&rt, &mut points, 6);
+    append(&rt, &mut points, 100);
     assert!(rt; middle(&points) == Units(3));
 }
 
@@ -108,17 +117,40 @@ fn ignores(
     assert!(rt; collector.point(Units(reading), master, cycle) == wanted);
 }
 
+fn is_due(rt: &impl Abort, collector: &Collector, due: Option<Units>) {
+    assert!(rt; collector.due() == due);
+}
+
+// The points of three masters are one collection, whose end lies two windows behind the first.
+fn one_of_three(rt: &impl Abort) -> Collector
+    ensures { result ≡ record {
+      ow = pos 10;
+      calc = pos 1;
+      earliest = pos 120;
+      waiting = record {
+        opened = pos 100;
+        end = pos 120;
+        cycle = 1;
+        points = pos 100 ∷ pos 110 ∷ pos 120 ∷ [];
+        members = 7;
+      } ∷ [];
+    } }
+{
+    let mut collector = Collector::new(Units(10), Units(1));
+    is_due(rt, &collector, None);
+    opens(rt, &mut collector, 100, 0, 1);
+    ignores(rt, &mut collector, 105, 0, 1, Taken::Repeat);
+    ignores(rt, &mut collector, 106, 1, 2, Taken::OtherCycle);
+    joins(rt, &mut collector, 110, 1, 1);
+    joins(rt, &mut collector, 120, 2, 1);
+    collector
+}
+
 #[test]
 fn a_collection_takes_points_over_two_windows(rt: HostRuntime) {
-    let mut collector = Collector::new(Units(10), Units(1));
-    assert!(rt; collector.due() == None);
-    opens(&rt, &mut collector, 100, 0, 1);
-    ignores(&rt, &mut collector, 105, 0, 1, Taken::Repeat);
-    ignores(&rt, &mut collector, 106, 1, 2, Taken::OtherCycle);
-    joins(&rt, &mut collector, 110, 1, 1);
-    joins(&rt, &mut collector, 120, 2, 1);
+    let mut collector = one_of_three(&rt);
     opens(&rt, &mut collector, 121, 3, 1);
-    assert!(rt; collector.due() == Some(Units(131)));
+    is_due(&rt, &collector, Some(Units(131)));
     let first = Compressed {
         opened: Units(100),
         at: Units(131),
@@ -126,9 +158,9 @@ fn a_collection_takes_points_over_two_windows(rt: HostRuntime) {
         members: Members(7),
     };
     assert!(rt; collector.emit() == first);
-    assert!(rt; collector.due() == Some(Units(142)));
+    is_due(&rt, &collector, Some(Units(142)));
     collector.clear();
-    assert!(rt; collector.due() == None);
+    is_due(&rt, &collector, None);
 }
 
 #[test]
@@ -161,18 +193,37 @@ fn an_early_broken_master_does_not_split_the_others(rt: HostRuntime) {
     assert!(rt; collector.emit() == all);
 }
 
+// The points of four masters are one collection.
+fn one_of_four(rt: &impl Abort) -> Collector
+    ensures { result ≡ record {
+      ow = pos 10;
+      calc = pos 10;
+      earliest = pos 20;
+      waiting = record {
+        opened = pos 0;
+        end = pos 20;
+        cycle = 1;
+        points = pos 0 ∷ pos 10 ∷ pos 20 ∷ pos 20 ∷ [];
+        members = 15;
+      } ∷ [];
+    } }
+{
+    let mut collector = Collector::new(Units(10), Units(10));
+    opens(rt, &mut collector, 0, 0, 1);
+    joins(rt, &mut collector, 10, 1, 1);
+    joins(rt, &mut collector, 20, 2, 1);
+    joins(rt, &mut collector, 20, 3, 1);
+    collector
+}
+
 #[test]
 fn five_collections_wait_at_once(rt: HostRuntime) {
-    let mut collector = Collector::new(Units(10), Units(10));
-    opens(&rt, &mut collector, 0, 0, 1);
-    joins(&rt, &mut collector, 10, 1, 1);
-    joins(&rt, &mut collector, 20, 2, 1);
-    joins(&rt, &mut collector, 20, 3, 1);
+    let mut collector = one_of_four(&rt);
     opens(&rt, &mut collector, 21, 0, 1);
     opens(&rt, &mut collector, 32, 0, 1);
     opens(&rt, &mut collector, 43, 0, 1);
     opens(&rt, &mut collector, 54, 0, 1);
-    assert!(rt; collector.due() == Some(Units(45)));
+    is_due(&rt, &collector, Some(Units(45)));
     assert!(rt; collector.emit().at == Units(45));
     assert!(rt; collector.emit().at == Units(51));
 }

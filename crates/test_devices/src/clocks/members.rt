@@ -1,6 +1,6 @@
-use pcf_values::{Channel, Members};
 use sync_state::membership::{Heard, HeardFrame, count, join, one};
 use tte_units::Units;
+use tte_units::frames::{Channel, Members};
 
 fn frame(members: u32, point: i64) -> HeardFrame {
     HeardFrame {

@@ -1,10 +1,10 @@
 ghost use Rattle.std.specs.Prelude.{◌≡◌, ◌^◌, ◌≤ℤ◌, pos, neg_ℤ, IfSome};
 
-use pcf_values::{Channel, Mac, Members, Pcf, PcfKind};
 use std::process::Abort;
 use sync_state::membership::{Heard, HeardFrame};
 use sync_state::{Joined, State, Sync, SyncPlan, Verdict};
 use tte_units::Units;
+use tte_units::frames::{Channel, Mac, Members, Pcf, PcfKind};
 
 const PLAN: SyncPlan = SyncPlan {
     cycle_length: Units(131_072_000_000),

@@ -6,7 +6,6 @@ use device_rules::{
     joined_adjustment, point_fault, verdict,
 };
 use net_plan::{DeviceId, LinkId, Network};
-use pcf_values::{Channel, Members};
 use run_law::{Judgement, Reason};
 use std::alloc::Global;
 use std::process::Abort;
@@ -14,6 +13,7 @@ use std::test::Fail;
 use sync_state::State;
 use sync_state::membership::{Heard, HeardFrame};
 use tte_units::Units;
+use tte_units::frames::{Channel, Members};
 use worked_network::{network_of, numbers};
 
 /// The numbers of the worked network, with no device.

@@ -5,7 +5,6 @@ ghost use Rattle.switch_ports.specs.{Leaving.{IsFit, IsHeldFit}, Standpoints.IsS
 use device_rules::EnteringRow;
 use device_rules::least_key::{Keys, NO_KEY};
 use net_plan::{LinkId, RowId, VlId, Way};
-use pcf_values::{Channel, Mac, Members, Pcf, PcfKind};
 use run_law::{Arrival, Reason};
 use schedule_tables::Window;
 use std::alloc::{AllocError, Global};
@@ -13,6 +12,7 @@ use std::test::Fail;
 use switch_ports::{Departure, Held, LeavingRow, Peer, Port, Site, Standpoint, Taking};
 use sync_state::{State, SyncPlan};
 use tte_units::Units;
+use tte_units::frames::{Channel, Mac, Members, Pcf, PcfKind};
 
 const DMAX: i64 = 3_276_800_000;
 

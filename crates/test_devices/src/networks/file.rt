@@ -5,10 +5,10 @@ use net_file::KeyName::{
 use net_file::TableName::{Device, Link, Row, Top, Vl};
 use net_file::{FileRefusal, KeyName, Spot, TableName, read_network};
 use net_plan::{DeviceId, LinkId, Network, VlId};
-use pcf_values::{Channel, Mac};
 use std::alloc::Global;
 use std::process::Abort;
 use tte_units::Units;
+use tte_units::frames::{Channel, Mac};
 use worked_network::numbers;
 
 const LISTS: &str = "device = [

@@ -1,7 +1,7 @@
 use net_plan::{DeviceId, Event, LinkId, Name, Octets, What};
-use pcf_values::Channel;
 use std::test::Fail;
 use tte_units::Units;
+use tte_units::frames::Channel;
 use worked_network::{Edit, WORKED, accepted_of, edited, network_of, numbers, worked};
 
 #[test]

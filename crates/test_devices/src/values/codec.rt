@@ -1,5 +1,5 @@
 use pcf_codec::{PcfReader, PcfRefusal, TtRefusal, decode, decode_tt, encode, is_pcf};
-use pcf_values::{Mac, Members, Pcf, PcfKind, TtHead};
+use tte_units::frames::{Mac, Members, Pcf, PcfKind, TtHead};
 
 // What a master with member number 0 sends in cycle 7.
 const FRAME: [u8; 60] = [

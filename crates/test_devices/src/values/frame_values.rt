@@ -1,4 +1,4 @@
-use pcf_values::Mac;
+use tte_units::frames::Mac;
 
 #[test]
 fn an_address_has_six_octets(rt: HostRuntime) {

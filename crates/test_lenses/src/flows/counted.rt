@@ -6,7 +6,8 @@
 use crate::calls::report_of;
 use crate::flows::refused::try_flows;
 use lens::Status;
-use std::alloc::Global;
+use std::alloc::{AllocError, Global};
+use std::process::Abort;
 use std::test::Fail;
 use worked_network::{Edit, Fails, WORKED, edited};
 
@@ -101,13 +102,30 @@ const COUNTED: &[(&[Edit<'_>], &str, [u32; 8], &str)] = &[
     ),
 ];
 
-fn text_of(alloc: Global, counts: &[u32; 8], nearest: &str) -> Result<String, Fail> {
+fn push_count(alloc: Global, text: &mut String, name: &str, count: u32) -> Result<(), AllocError> {
+    let one = format!(in alloc; " {name} {count}")?;
+    text.push_str(one.as_str())
+}
+
+fn text_of(alloc: Global, counts: &[u32; 8], nearest: &str) -> Result<String, AllocError> {
     let mut text = String::from_str(alloc, "flow v1 to c1")?;
     for (name, count) in NAMES.iter().zip(counts) {
-        let one = format!(in alloc; " {name} {count}")?;
-        text.push_str(one.as_str())?;
+        push_count(alloc, &mut text, name, *count)?;
     }
-    Ok(format!(in alloc; "{text} nearest {nearest}\n")?)
+    format!(in alloc; "{text} nearest {nearest}\n")
+}
+
+// The flow of a network under a trace is told so.
+fn try_counted(
+    rt: &impl Abort,
+    alloc: Global,
+    network: &str,
+    trace: &str,
+    text: &str,
+) -> Result<(), Fail> {
+    let report = report_of(rt, alloc, network, trace)?;
+    let files = (network, report.written());
+    try_flows(rt, alloc, files, Fails::Nothing, (text, Status::Done))
 }
 
 #[test]
@@ -115,11 +133,8 @@ fn flows_are_counted(rt: HostRuntime) -> Result<(), Fail> {
     let alloc = rt.alloc();
     for (edits, trace, counts, nearest) in COUNTED {
         let network = edited(alloc, WORKED, edits)?;
-        let report = report_of(&rt, alloc, network.as_str(), trace)?;
         let text = text_of(alloc, counts, nearest)?;
-        let files = (network.as_str(), report.written());
-        let told = (text.as_str(), Status::Done);
-        try_flows(&rt, alloc, files, Fails::Nothing, told)?;
+        try_counted(&rt, alloc, network.as_str(), trace, text.as_str())?;
     }
     Ok(())
 }

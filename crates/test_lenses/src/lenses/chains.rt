@@ -3,7 +3,7 @@ use lens::Status;
 use std::alloc::Global;
 use std::process::Abort;
 use std::test::Fail;
-use worked_network::{Call, Fails, WORKED, call_of_two, edited};
+use worked_network::{Call, Edit, Fails, WORKED, call_of_two, edited};
 
 // One call of `why` over a network and a report, and what it answers.
 fn try_why<'x>(
@@ -278,69 +278,81 @@ ground from 37 middle 0\n",
     ),
 ];
 
-#[test]
-fn chains_go_back_by_causes(rt: HostRuntime) -> Result<(), Fail> {
-    let alloc = rt.alloc();
-    let cases: [(&str, &[(&str, &str)]); 7] = [
-        (CALM, CALM_CHAINS),
-        (HELD, HELD_CHAINS),
-        (CUT, CUT_CHAINS),
-        (APART, APART_CHAINS),
-        (FORGED, FORGED_CHAINS),
-        (SHUT, SHUT_CHAINS),
-        (AHEAD, AHEAD_CHAINS),
-    ];
-    for (trace, chains) in cases.iter() {
-        let report = report_of(&rt, alloc, WORKED, trace)?;
-        for (number, text) in chains.iter() {
-            let told = (*text, Status::Done);
-            let files = (WORKED, report.written());
-            try_why(&rt, alloc, files, number, Fails::Nothing, told)?;
-        }
+// Numbers of records of a report, and their chains.
+type Chains = &'static [(&'static str, &'static str)];
+
+// Traces, and the chains of their reports.
+const CHAINS: &[(&str, Chains)] = &[
+    (CALM, CALM_CHAINS),
+    (HELD, HELD_CHAINS),
+    (CUT, CUT_CHAINS),
+    (APART, APART_CHAINS),
+    (FORGED, FORGED_CHAINS),
+    (SHUT, SHUT_CHAINS),
+    (AHEAD, AHEAD_CHAINS),
+];
+
+// The chains of the worked network's report under a trace.
+fn try_chains(rt: &impl Abort, alloc: Global, trace: &str, chains: Chains) -> Result<(), Fail> {
+    let report = report_of(rt, alloc, WORKED, trace)?;
+    for (number, text) in chains {
+        let told = (*text, Status::Done);
+        let files = (WORKED, report.written());
+        try_why(rt, alloc, files, number, Fails::Nothing, told)?;
     }
     Ok(())
 }
 
 #[test]
-fn what_is_not_there_is_refused(rt: HostRuntime) -> Result<(), Fail> {
+fn chains_go_back_by_causes(rt: HostRuntime) -> Result<(), Fail> {
+    for (trace, chains) in CHAINS {
+        try_chains(&rt, rt.alloc(), trace, chains)?;
+    }
+    Ok(())
+}
+
+// The report of the frame that was held has no record of this number.
+fn try_no_number(rt: &impl Abort, alloc: Global, number: &str, text: &str) -> Result<(), Fail> {
+    let held = report_of(rt, alloc, WORKED, HELD)?;
+    let files = (WORKED, held.written());
+    let told = (text, Status::NumberRefused);
+    try_why(rt, alloc, files, number, Fails::Nothing, told)
+}
+
+#[test]
+fn a_record_that_is_not_there_is_refused(rt: HostRuntime) -> Result<(), Fail> {
+    let alloc = rt.alloc();
+    try_no_number(&rt, alloc, "40", "refused number 40 of 39\n")?;
+    let most = "refused number 18446744073709551615 of 39\n";
+    try_no_number(&rt, alloc, "18446744073709551615", most)
+}
+
+// The audit comes first, whether the record is there or not.
+const UNSOUND: &[(&str, &str, &str)] = &[
+    ("x\n", "40", "refused record 1 form\n"),
+    ("1 0 event 1 end\n", "1", "refused lacking 0\n"),
+];
+
+#[test]
+fn an_unsound_report_is_refused(rt: HostRuntime) -> Result<(), Fail> {
+    for (report, number, text) in UNSOUND {
+        let files = (WORKED, report.as_bytes());
+        let told = (*text, Status::AuditRefused);
+        try_why(&rt, rt.alloc(), files, number, Fails::Nothing, told)?;
+    }
+    Ok(())
+}
+
+const HASTY: Edit<'_> = ("settled = 345000000", "settled = 340787543");
+
+// The report of a network that is refused is not read.
+#[test]
+fn a_network_that_is_refused_has_no_chains(rt: HostRuntime) -> Result<(), Fail> {
     let alloc = rt.alloc();
     let held = report_of(&rt, alloc, WORKED, HELD)?;
-    for (report, number, text, status) in [
-        (
-            held.written(),
-            "40",
-            "refused number 40 of 39\n",
-            Status::NumberRefused,
-        ),
-        (
-            held.written(),
-            "18446744073709551615",
-            "refused number 18446744073709551615 of 39\n",
-            Status::NumberRefused,
-        ),
-        // The audit comes first, whether the record is there or not.
-        (
-            b"x\n",
-            "40",
-            "refused record 1 form\n",
-            Status::AuditRefused,
-        ),
-        (
-            b"1 0 event 1 end\n",
-            "1",
-            "refused lacking 0\n",
-            Status::AuditRefused,
-        ),
-    ] {
-        let files = (WORKED, report);
-        try_why(&rt, alloc, files, number, Fails::Nothing, (text, status))?;
-    }
-    let hasty = ("settled = 345000000", "settled = 340787543");
-    let hasty = edited(alloc, WORKED, &[hasty])?;
+    let hasty = edited(alloc, WORKED, &[HASTY])?;
     let files = (hasty.as_str(), held.written());
-    let text = "refused network rule 9 index 0\n";
-    // The report of a network that is refused is not read.
-    let told = (text, Status::NetworkRefused);
+    let told = ("refused network rule 9 index 0\n", Status::NetworkRefused);
     try_why(&rt, alloc, files, "1", Fails::Second(1), told)
 }
 
@@ -348,18 +360,19 @@ fn what_is_not_there_is_refused(rt: HostRuntime) -> Result<(), Fail> {
 const TWO_LINES: &str =
     "29 131114768000 left ra ra_ca 28 clock 42768000\nground held 0 measured 0\n";
 
+// The report fails at its first read, and the sink at its first put and at its third.
+const FAULTS: &[(Fails, &str, Status)] = &[
+    (Fails::Second(1), "", Status::ReadFault),
+    (Fails::Put(1), "", Status::WriteFault),
+    (Fails::Put(3), TWO_LINES, Status::WriteFault),
+];
+
 #[test]
 fn faults_end_a_chain(rt: HostRuntime) -> Result<(), Fail> {
-    let alloc = rt.alloc();
-    let held = report_of(&rt, alloc, WORKED, HELD)?;
-    for (fails, text, status) in [
-        // The report fails at its first read, and the sink at its first put and at its third.
-        (Fails::Second(1), "", Status::ReadFault),
-        (Fails::Put(1), "", Status::WriteFault),
-        (Fails::Put(3), TWO_LINES, Status::WriteFault),
-    ] {
+    let held = report_of(&rt, rt.alloc(), WORKED, HELD)?;
+    for (fails, text, status) in FAULTS {
         let files = (WORKED, held.written());
-        try_why(&rt, alloc, files, "29", fails, (text, status))?;
+        try_why(&rt, rt.alloc(), files, "29", *fails, (text, *status))?;
     }
     Ok(())
 }

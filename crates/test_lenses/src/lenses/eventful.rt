@@ -29,48 +29,65 @@ fn answered<'x>(
     try_call(rt, alloc, &Call { fails, ..call })
 }
 
+// Words for events of the worked network, and these.
+const ON_WORKED: &[(&[&str], &str)] = &[
+    (EVENTS, ONE_CYCLE),
+    (&["events", "n.toml", "7", "2"], TWO_CYCLES),
+];
+
 #[test]
 fn events_are_those_of_the_rules(rt: HostRuntime) -> Result<(), Fail> {
-    let alloc = rt.alloc();
-    let late = edited(alloc, WORKED, &[LATE_CLIENT])?;
-    let late_words: &[&str] = &["events", "late.toml", "10", "2"];
-    for (network, words, text) in [
-        (WORKED, EVENTS, ONE_CYCLE),
-        (WORKED, &["events", "n.toml", "7", "2"], TWO_CYCLES),
-        (late.as_str(), late_words, WITH_A_LATE_CLIENT),
-    ] {
-        let told = (text, Status::Done);
-        answered(&rt, alloc, network, words, Fails::Nothing, told)?;
+    for (words, text) in ON_WORKED {
+        let told = (*text, Status::Done);
+        answered(&rt, rt.alloc(), WORKED, words, Fails::Nothing, told)?;
     }
     Ok(())
+}
+
+const LATE_WORDS: &[&str] = &["events", "late.toml", "10", "2"];
+
+#[test]
+fn events_turn_a_late_client_on(rt: HostRuntime) -> Result<(), Fail> {
+    let alloc = rt.alloc();
+    let late = edited(alloc, WORKED, &[LATE_CLIENT])?;
+    let told = (WITH_A_LATE_CLIENT, Status::Done);
+    answered(&rt, alloc, late.as_str(), LATE_WORDS, Fails::Nothing, told)
+}
+
+// A network is refused so.
+fn try_refused(rt: &impl Abort, alloc: Global, network: &str, text: &str) -> Result<(), Fail> {
+    let told = (text, Status::NetworkRefused);
+    answered(rt, alloc, network, EVENTS, Fails::Nothing, told)
 }
 
 #[test]
 fn networks_are_refused(rt: HostRuntime) -> Result<(), Fail> {
     let alloc = rt.alloc();
+    try_refused(&rt, alloc, "version", "refused network toml\n")?;
+    try_refused(&rt, alloc, "", "refused network missing top 0 version\n")?;
     let hasty = edited(alloc, WORKED, &[HASTY])?;
-    for (network, text) in [
-        (hasty.as_str(), "refused network rule 9 index 0\n"),
-        ("version", "refused network toml\n"),
-        ("", "refused network missing top 0 version\n"),
-    ] {
-        let told = (text, Status::NetworkRefused);
-        answered(&rt, alloc, network, EVENTS, Fails::Nothing, told)?;
-    }
-    Ok(())
+    try_refused(
+        &rt,
+        alloc,
+        hasty.as_str(),
+        "refused network rule 9 index 0\n",
+    )
 }
+
+// What fails, and what is told.
+const FAULTS: &[(Fails, &str, Status)] = &[
+    // A source that fails at its first read, and in the middle of the file.
+    (Fails::First(1), "", Status::ReadFault),
+    (Fails::First(5), "", Status::ReadFault),
+    // A sink that fails at its first put, and at its third.
+    (Fails::Put(1), "", Status::WriteFault),
+    (Fails::Put(3), TWO_LINES, Status::WriteFault),
+];
 
 #[test]
 fn faults_end_it(rt: HostRuntime) -> Result<(), Fail> {
-    for (fails, text, status) in [
-        // A source that fails at its first read, and in the middle of the file.
-        (Fails::First(1), "", Status::ReadFault),
-        (Fails::First(5), "", Status::ReadFault),
-        // A sink that fails at its first put, and at its third.
-        (Fails::Put(1), "", Status::WriteFault),
-        (Fails::Put(3), TWO_LINES, Status::WriteFault),
-    ] {
-        answered(&rt, rt.alloc(), WORKED, EVENTS, fails, (text, status))?;
+    for (fails, text, status) in FAULTS {
+        answered(&rt, rt.alloc(), WORKED, EVENTS, *fails, (text, *status))?;
     }
     Ok(())
 }

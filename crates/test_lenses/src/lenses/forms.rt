@@ -2,6 +2,8 @@ use crate::calls::try_call;
 use lens::Status;
 use lens_slack::forms::{Form, read_form};
 use schedule_tables::Rule;
+use std::alloc::Global;
+use std::process::Abort;
 use std::test::Fail;
 use worked_network::{call_of_one, words_of};
 
@@ -95,22 +97,26 @@ const INEQUALITIES: &[(&str, Rule)] = &[
     ("23", Rule::Forwarding),
 ];
 
+// Words are read as this form.
+fn try_form(rt: &impl Abort, alloc: Global, texts: &[&str], form: Form) -> Result<(), Fail> {
+    let words = words_of(alloc, texts)?;
+    assert!(rt; read_form(&words) == Some(form));
+    Ok(())
+}
+
 #[test]
 fn words_of_slack_are_read(rt: HostRuntime) -> Result<(), Fail> {
-    let words = words_of(rt.alloc(), &["slack", "a"])?;
-    assert!(rt; read_form(&words) == Some(Form::Slack));
+    let alloc = rt.alloc();
+    try_form(&rt, alloc, &["slack", "a"], Form::Slack)?;
     for (number, rule) in INEQUALITIES {
-        let words = words_of(rt.alloc(), &["slack", "a", number])?;
-        assert!(rt; read_form(&words) == Some(Form::SlackOf(*rule)));
+        try_form(&rt, alloc, &["slack", "a", number], Form::SlackOf(*rule))?;
     }
     Ok(())
 }
 
 #[test]
 fn words_of_least_are_read(rt: HostRuntime) -> Result<(), Fail> {
-    let words = words_of(rt.alloc(), &["least", "a"])?;
-    assert!(rt; read_form(&words) == Some(Form::Least));
-    Ok(())
+    try_form(&rt, rt.alloc(), &["least", "a"], Form::Least)
 }
 
 // Numbers of records.
@@ -119,8 +125,8 @@ const NUMBERS: &[(&str, u64)] = &[("1", 1), ("98", 98), ("18446744073709551615",
 #[test]
 fn words_of_why_are_read(rt: HostRuntime) -> Result<(), Fail> {
     for (text, number) in NUMBERS {
-        let words = words_of(rt.alloc(), &["why", "a", "b", text])?;
-        assert!(rt; read_form(&words) == Some(Form::Why { number: *number }));
+        let why = Form::Why { number: *number };
+        try_form(&rt, rt.alloc(), &["why", "a", "b", text], why)?;
     }
     Ok(())
 }
@@ -128,26 +134,24 @@ fn words_of_why_are_read(rt: HostRuntime) -> Result<(), Fail> {
 // Without times the whole run is drawn, and with two the part between them.
 #[test]
 fn words_of_draw_are_read(rt: HostRuntime) -> Result<(), Fail> {
-    let words = words_of(rt.alloc(), &["draw", "a", "b"])?;
-    assert!(rt; read_form(&words) == Some(Form::DrawWhole));
-    let words = words_of(rt.alloc(), &["draw", "a", "b", "0", "18446744073709551615"])?;
+    let alloc = rt.alloc();
+    try_form(&rt, alloc, &["draw", "a", "b"], Form::DrawWhole)?;
     let part = Form::Draw {
         from: 0,
         to: u64::MAX,
     };
-    assert!(rt; read_form(&words) == Some(part));
-    Ok(())
+    let words = ["draw", "a", "b", "0", "18446744073709551615"];
+    try_form(&rt, alloc, &words, part)
 }
 
 #[test]
 fn words_of_events_are_read(rt: HostRuntime) -> Result<(), Fail> {
     for (texts, seed, cycles) in EVENTS {
-        let words = words_of(rt.alloc(), texts)?;
-        let wanted = Form::Events {
+        let events = Form::Events {
             seed: *seed,
             cycles: *cycles,
         };
-        assert!(rt; read_form(&words) == Some(wanted));
+        try_form(&rt, rt.alloc(), texts, events)?;
     }
     Ok(())
 }

@@ -151,20 +151,25 @@ fn the_least_numbers_have_no_room(rt: HostRuntime) -> Result<(), Fail> {
     Ok(())
 }
 
+const MISSING: &str = "refused network missing top 0 cycle\n";
+
+// Networks, what fails, and what is told.
+const FAULTS: &[(&str, Fails, &str, Status)] = &[
+    (WORKED, Fails::First(1), "", Status::ReadFault),
+    (WORKED, Fails::Put(1), "", Status::WriteFault),
+    (
+        "version = 1\n",
+        Fails::Nothing,
+        MISSING,
+        Status::NetworkRefused,
+    ),
+];
+
 #[test]
 fn no_network_and_faults(rt: HostRuntime) -> Result<(), Fail> {
-    let missing = "refused network missing top 0 cycle\n";
-    for (network, fails, text, status) in [
-        (WORKED, Fails::First(1), "", Status::ReadFault),
-        (WORKED, Fails::Put(1), "", Status::WriteFault),
-        (
-            "version = 1\n",
-            Fails::Nothing,
-            missing,
-            Status::NetworkRefused,
-        ),
-    ] {
-        let call = call_of_one(WORDS, network.as_bytes(), text, status);
+    for (network, fails, text, status) in FAULTS {
+        let call = call_of_one(WORDS, network.as_bytes(), text, *status);
+        let fails = *fails;
         try_call(&rt, rt.alloc(), &Call { fails, ..call })?;
     }
     Ok(())

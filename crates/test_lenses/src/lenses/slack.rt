@@ -1,5 +1,7 @@
 use crate::calls::{try_call, try_edited};
 use lens::Status;
+use std::alloc::Global;
+use std::process::Abort;
 use std::test::Fail;
 use worked_network::{Call, Edit, Fails, WORKED, call_of_one};
 
@@ -202,21 +204,31 @@ fn what_is_left_and_what_is_short(rt: HostRuntime) -> Result<(), Fail> {
     Ok(())
 }
 
+// What is told of a text where this fails.
+fn try_failing(
+    rt: &impl Abort,
+    alloc: Global,
+    network: &str,
+    fails: Fails,
+    (text, status): (&str, Status),
+) -> Result<(), Fail> {
+    let call = call_of_one(WORDS, network.as_bytes(), text, status);
+    try_call(rt, alloc, &Call { fails, ..call })
+}
+
 #[test]
 fn texts_that_are_no_networks(rt: HostRuntime) -> Result<(), Fail> {
-    let text = "refused network toml\n";
-    let refused = call_of_one(WORDS, b"=", text, Status::NetworkRefused);
-    try_call(&rt, rt.alloc(), &refused)?;
-    let unread = call_of_one(WORDS, WORKED.as_bytes(), "", Status::ReadFault);
-    let fails = Fails::First(1);
-    try_call(&rt, rt.alloc(), &Call { fails, ..unread })
+    let alloc = rt.alloc();
+    let refused = ("refused network toml\n", Status::NetworkRefused);
+    try_failing(&rt, alloc, "=", Fails::Nothing, refused)?;
+    let unread = ("", Status::ReadFault);
+    try_failing(&rt, alloc, WORKED, Fails::First(1), unread)
 }
 
 // The third line is the first that is not written.
 #[test]
 fn a_put_that_fails_ends_it(rt: HostRuntime) -> Result<(), Fail> {
     let (lines, _) = OF_WORKED.split_once("rule 10").ok_or("no third line")?;
-    let unput = call_of_one(WORDS, WORKED.as_bytes(), lines, Status::WriteFault);
-    let fails = Fails::Put(3);
-    try_call(&rt, rt.alloc(), &Call { fails, ..unput })
+    let unput = (lines, Status::WriteFault);
+    try_failing(&rt, rt.alloc(), WORKED, Fails::Put(3), unput)
 }

@@ -1,4 +1,4 @@
-use crate::pictures::drawn::{count_lines, drawn, has_lines, text_of};
+use crate::pictures::drawn::{count_is, drawn, has_lines, text_of};
 use lens_svg::Span;
 use std::test::Fail;
 use worked_network::CALM;
@@ -45,19 +45,19 @@ fn clocks_are_drawn(rt: HostRuntime) -> Result<(), Fail> {
     has_lines(&rt, text, BARS);
     // The clock of m4, which is broken, is not among them.
     let front = "<g transform=\"translate(248 352)\">";
-    assert!(rt; count_lines(text, front) == 0);
+    count_is(&rt, text, front, 0);
     Ok(())
 }
+
+const PART: Span = Span {
+    from: 131_072_000_000,
+    to: 159_999_999_999,
+};
 
 // A part that ends before the run does has no clocks.
 #[test]
 fn a_part_has_no_clocks(rt: HostRuntime) -> Result<(), Fail> {
-    let alloc = rt.alloc();
-    let span = Span {
-        from: 131_072_000_000,
-        to: 159_999_999_999,
-    };
-    let out = drawn(&rt, alloc, CALM, span)?;
+    let out = drawn(&rt, rt.alloc(), CALM, PART)?;
     assert!(rt; !text_of(&rt, &out).contains("<path class=\"clock\""));
     Ok(())
 }

@@ -1,3 +1,4 @@
+use crate::calls::try_ended;
 use lens::draw::draw_report;
 use lens_svg::Span;
 use std::alloc::Global;
@@ -9,6 +10,15 @@ use worked_network::{CALM, WORKED};
 
 const ROOM: u64 = 1 << 17;
 
+// How a call that draws a part of a report of the worked network ended, and its picture.
+fn drew(alloc: Global, report: &str, span: Span) -> Result<(Status, MemorySink), OutOfMemory> {
+    let mut first = SteadySource::new(alloc, WORKED.as_bytes())?;
+    let mut second = SteadySource::new(alloc, report.as_bytes())?;
+    let mut out = MemorySink::new(alloc, ROOM, &[])?;
+    let status = draw_report(alloc, &mut first, &mut second, span, &mut out);
+    Ok((status, out))
+}
+
 // The picture of a part of a report of the worked network.
 pub(super) fn drawn(
     rt: &impl Abort,
@@ -16,16 +26,14 @@ pub(super) fn drawn(
     report: &str,
     span: Span,
 ) -> Result<MemorySink, Fail> {
-    let mut first = SteadySource::new(alloc, WORKED.as_bytes())?;
-    let mut second = SteadySource::new(alloc, report.as_bytes())?;
-    let mut out = MemorySink::new(alloc, ROOM, &[])?;
-    let status = draw_report(alloc, &mut first, &mut second, span, &mut out);
-    if status == Status::OutOfMemory {
-        return Err(Fail::from(OutOfMemory));
-    }
-    assert_eq!(rt; status, Status::Done);
-    assert!(rt; out.passed() == out.written());
+    let (status, out) = drew(alloc, report, span)?;
+    try_ended(rt, status, Status::Done)?;
+    is_passed_on(rt, &out);
     Ok(out)
+}
+
+pub(super) fn is_passed_on(rt: &impl Abort, out: &MemorySink) {
+    assert!(rt; out.passed() == out.written());
 }
 
 /// The first cycle of a calm run, up to its end.
@@ -46,18 +54,21 @@ pub(super) fn text_of<'a>(rt: &impl Abort, out: &'a MemorySink) -> &'a str {
 
 pub(super) fn has_lines(rt: &impl Abort, text: &str, lines: &[&str]) {
     for wanted in lines {
-        let mut found = false;
-        for line in text.lines() {
-            if line == *wanted {
-                found = true;
-            }
-        }
-        assert!(rt; found, "no line {}", *wanted);
+        assert!(rt; has_line(text, wanted), "no line {}", *wanted);
     }
 }
 
+fn has_line(text: &str, wanted: &str) -> bool {
+    for line in text.lines() {
+        if line == wanted {
+            return true;
+        }
+    }
+    false
+}
+
 // How many lines of a text begin so.
-pub(super) fn count_lines(text: &str, front: &str) -> u32 {
+fn count_lines(text: &str, front: &str) -> u32 {
     let mut count = 0u32;
     for line in text.lines() {
         if line.starts_with(front) {
@@ -65,6 +76,10 @@ pub(super) fn count_lines(text: &str, front: &str) -> u32 {
         }
     }
     count
+}
+
+pub(super) fn count_is(rt: &impl Abort, text: &str, front: &str, wanted: u32) {
+    assert!(rt; count_lines(text, front) == wanted);
 }
 
 // Lines of the picture of the first cycle up to its end, worked out by hand: nine lanes of 40 pixels, and an instant
@@ -114,34 +129,42 @@ const PART: &[&str] = &[
     "<path class=\"wait summary\" d=\"M196 192 H300\"/>",
 ];
 
+const SUMMARIES: Span = Span {
+    from: 136_511_488_000,
+    to: 18_446_744_073_709_551_615,
+};
+
 #[test]
 fn a_part_is_drawn(rt: HostRuntime) -> Result<(), Fail> {
     let alloc = rt.alloc();
-    let span = Span {
-        from: 136_511_488_000,
-        to: 18_446_744_073_709_551_615,
-    };
-    let out = drawn(&rt, alloc, CALM, span)?;
+    let out = drawn(&rt, alloc, CALM, SUMMARIES)?;
     let text = text_of(&rt, &out);
     has_lines(&rt, text, PART);
-    assert!(rt; count_lines(text, "<path class=\"way control\"") == 0);
+    count_is(&rt, text, "<path class=\"way control\"", 0);
     Ok(())
 }
 
-// The titles of the marks are the lines of the report.
-#[test]
-fn a_picture_reads_back(rt: HostRuntime) -> Result<(), Fail> {
-    let alloc = rt.alloc();
-    let out = drawn(&rt, alloc, CALM, Span::whole())?;
-    let text = text_of(&rt, &out);
-    let mut records = CALM.lines();
+// The title that a line of a picture has.
+fn title_of(line: &str) -> Option<&str> {
+    let (_, titled) = line.split_once("<title>")?;
+    let (title, _) = titled.split_once("</title>")?;
+    Some(title)
+}
+
+// The titles of a picture are the lines of the report.
+fn reads_back(rt: &impl Abort, text: &str, report: &str) {
+    let mut records = report.lines();
     for line in text.lines() {
-        if let Some((_, titled)) = line.split_once("<title>") {
-            if let Some((title, _)) = titled.split_once("</title>") {
-                assert!(rt; records.next() == Some(title), "of {}", title);
-            }
+        if let Some(title) = title_of(line) {
+            assert!(rt; records.next() == Some(title), "of {}", title);
         }
     }
     assert!(rt; records.next().is_none());
+}
+
+#[test]
+fn a_picture_reads_back(rt: HostRuntime) -> Result<(), Fail> {
+    let out = drawn(&rt, rt.alloc(), CALM, Span::whole())?;
+    reads_back(&rt, text_of(&rt, &out), CALM);
     Ok(())
 }

@@ -12,18 +12,23 @@ const WORDS: &[&str] = &[
     "18446744073709551615",
 ];
 
-// No report is told as by `audit`, and no network as by `check`.
+// Networks and reports, what fails, and what is told. No report is told as by `audit`, and no network as by `check`.
+const NOT_DRAWN: &[(&str, &str, Fails, &str, Status)] = &[
+    (WORKED, "x\n", Fails::Nothing, FORM, Status::AuditRefused),
+    ("=", CALM, Fails::Nothing, TOML, Status::NetworkRefused),
+    (WORKED, CALM, Fails::Put(1), "", Status::WriteFault),
+];
+
+const FORM: &str = "refused record 1 form\n";
+
+const TOML: &str = "refused network toml\n";
+
 #[test]
 fn what_is_not_drawn_is_told(rt: HostRuntime) -> Result<(), Fail> {
-    let form = "refused record 1 form\n";
-    let toml = "refused network toml\n";
-    for (network, report, fails, text, status) in [
-        (WORKED, "x\n", Fails::Nothing, form, Status::AuditRefused),
-        ("=", CALM, Fails::Nothing, toml, Status::NetworkRefused),
-        (WORKED, CALM, Fails::Put(1), "", Status::WriteFault),
-    ] {
+    for (network, report, fails, text, status) in NOT_DRAWN {
         let files = (network.as_bytes(), report.as_bytes());
-        let call = call_of_two(WORDS, files, text, status);
+        let call = call_of_two(WORDS, files, text, *status);
+        let fails = *fails;
         try_call(&rt, rt.alloc(), &Call { fails, ..call })?;
     }
     Ok(())

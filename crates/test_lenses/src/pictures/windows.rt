@@ -1,4 +1,4 @@
-use crate::pictures::drawn::{CYCLE, count_lines, drawn, has_lines, text_of};
+use crate::pictures::drawn::{CYCLE, count_is, drawn, has_lines, text_of};
 use std::test::Fail;
 use worked_network::CALM;
 
@@ -22,6 +22,6 @@ fn windows_are_drawn(rt: HostRuntime) -> Result<(), Fail> {
     let out = drawn(&rt, alloc, CALM, CYCLE)?;
     let text = text_of(&rt, &out);
     has_lines(&rt, text, BOXES);
-    assert!(rt; count_lines(text, "<g class=\"window\">") == 3);
+    count_is(&rt, text, "<g class=\"window\">", 3);
     Ok(())
 }

@@ -14,6 +14,11 @@ fn first_lines(alloc: Global, text: &str, count: usize) -> Result<String, AllocE
     Ok(front)
 }
 
+// The run answers the same where this fails.
+fn try_where(rt: &impl Abort, alloc: Global, run: &Call<'_>, fails: Fails) -> Result<(), Fail> {
+    try_silent(rt, alloc, &Call { fails, ..*run })
+}
+
 // The run ends with this status behind so many lines of its text, where this fails.
 fn try_cut(
     rt: &impl Abort,
@@ -43,8 +48,14 @@ fn try_failing_puts(
         let cut = (put as usize - 1, Status::WriteFault);
         try_cut(rt, alloc, run, Fails::Put(put), cut)?;
     }
-    let fails = Fails::Put(lines.saturating_add(1));
-    try_silent(rt, alloc, &Call { fails, ..*run })
+    let behind = Fails::Put(lines.saturating_add(1));
+    try_where(rt, alloc, run, behind)
+}
+
+// How many lines of a trace are whole in so many of its octets.
+fn lines_in(trace: &str, octets: usize) -> usize {
+    let came = trace.bytes().take(octets);
+    came.filter(|octet| *octet == b'\n').count()
 }
 
 // Lets each of the reads that a run takes of its trace fail in turn: what was written are the
@@ -57,13 +68,12 @@ fn try_failing_reads(
     reads: u32,
 ) -> Result<(), Fail> {
     for read in 1..=reads {
-        let came = trace.bytes().take(17 * (read as usize - 1));
-        let lines = came.filter(|octet| *octet == b'\n').count();
+        let lines = lines_in(trace, 17 * (read as usize - 1));
         let cut = (lines, Status::ReadFault);
         try_cut(rt, alloc, run, Fails::Second(read), cut)?;
     }
-    let fails = Fails::Second(reads.saturating_add(1));
-    try_silent(rt, alloc, &Call { fails, ..*run })
+    let behind = Fails::Second(reads.saturating_add(1));
+    try_where(rt, alloc, run, behind)
 }
 
 // Lets each call to pass on fail in turn. There is one before the reads of each line that is not whole
@@ -80,14 +90,11 @@ fn try_failing_passes(
         try_cut(rt, alloc, run, Fails::Pass(pass), cut)?;
         pass = pass.saturating_add(1);
     }
-    let unpassed = Call {
-        fails: Fails::Pass(pass),
-        status: Status::WriteFault,
-        ..*run
-    };
-    try_silent(rt, alloc, &unpassed)?;
-    let fails = Fails::Pass(pass.saturating_add(1));
-    try_silent(rt, alloc, &Call { fails, ..*run })
+    let status = Status::WriteFault;
+    let unpassed = Call { status, ..*run };
+    try_where(rt, alloc, &unpassed, Fails::Pass(pass))?;
+    let behind = Fails::Pass(pass.saturating_add(1));
+    try_where(rt, alloc, run, behind)
 }
 
 // Each read of the rates ends behind the next line of theirs, and the fifth gives nothing. The second
@@ -128,7 +135,7 @@ fn try_unended<'x>(
     (text, status): (&'x str, Status),
 ) -> Result<(), Fail> {
     let run = whole(RATES.trim_end(), text, status);
-    try_silent(rt, alloc, &Call { fails, ..run })
+    try_where(rt, alloc, &run, fails)
 }
 
 // The fifth read gives nothing, so the end came whole, and no more is read. Where it fails instead,
@@ -143,25 +150,42 @@ fn a_last_line_without_its_lf_is_run(rt: HostRuntime) -> Result<(), Fail> {
     try_unended(&rt, alloc, Fails::Second(6), told)
 }
 
-const DEVICES: [&str; 9] = ["m1", "m2", "m3", "m4", "c1", "ra", "ca", "rb", "cb"];
+const DEVICES: &[&str] = &["m1", "m2", "m3", "m4", "c1", "ra", "ca", "rb", "cb"];
+
+fn push_heal(alloc: Global, report: &mut String, number: u32) -> Result<(), AllocError> {
+    let text = format!(in alloc; "{number} 0 event {number} heal m1_a up\n")?;
+    report.push_str(text.as_str())
+}
+
+fn push_clock(
+    alloc: Global,
+    report: &mut String,
+    number: u32,
+    device: &str,
+) -> Result<(), AllocError> {
+    let text = format!(in alloc; "{number} 0 clock {device} reading 0 adj 0 state synchronised\n")?;
+    report.push_str(text.as_str())
+}
+
+// The report of a run in which m1_a is healed twenty thousand times.
+fn report_of_heals(alloc: Global) -> Result<String, AllocError> {
+    let mut report = String::new(alloc);
+    for number in 1..20_001 {
+        push_heal(alloc, &mut report, number)?;
+    }
+    report.push_str("20001 0 event 20001 end\n")?;
+    for (number, device) in (20_002..20_011).zip(DEVICES) {
+        push_clock(alloc, &mut report, number, device)?;
+    }
+    Ok(report)
+}
 
 #[test]
 fn twenty_thousand_heals_are_run(rt: HostRuntime) -> Result<(), Fail> {
     let alloc = rt.alloc();
     let mut trace = "0 heal m1_a up\n".repeat(alloc, 20_000)?;
     trace.push_str("0 end\n")?;
-    let mut report = String::new(alloc);
-    for line in 1..20_001 {
-        let text = format!(in alloc; "{line} 0 event {line} heal m1_a up\n")?;
-        report.push_str(text.as_str())?;
-    }
-    report.push_str("20001 0 event 20001 end\n")?;
-    for (number, device) in (20_002..20_011).zip(DEVICES) {
-        let text = format!(in alloc;
-            "{number} 0 clock {device} reading 0 adj 0 state synchronised\n"
-        )?;
-        report.push_str(text.as_str())?;
-    }
+    let report = report_of_heals(alloc)?;
     let run = whole(trace.as_str(), report.as_str(), Status::Done);
     try_silent(&rt, alloc, &run)
 }

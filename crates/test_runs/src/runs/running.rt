@@ -85,34 +85,48 @@ fn clocks_run_at_their_rates(rt: HostRuntime) -> Result<(), Fail> {
     try_with(&rt, alloc, &[IN_GRAINS], &in_grains)
 }
 
+// A trace, and what is told of it.
+type Told = (&'static str, &'static str);
+
+const OUTSIDE: &[Told] = &[
+    (CUTS, CUTS_REPORT),
+    ("0 rate m1 50001\n", "outside line 1 condition 3\n"),
+    ("0 on m1\n", "outside line 1 condition 11\n"),
+];
+
 #[test]
 fn events_are_judged_by_the_hypothesis(rt: HostRuntime) -> Result<(), Fail> {
-    for (trace, text) in [
-        (CUTS, CUTS_REPORT),
-        ("0 rate m1 50001\n", "outside line 1 condition 3\n"),
-        ("0 on m1\n", "outside line 1 condition 11\n"),
-    ] {
+    for (trace, text) in OUTSIDE {
         let run = whole(trace, text, Status::OutsideHypothesis);
         try_silent(&rt, rt.alloc(), &run)?;
     }
     Ok(())
 }
 
+fn try_refused(rt: &impl Abort, alloc: Global, trace: &str, text: &str) -> Result<(), Fail> {
+    try_silent(rt, alloc, &whole(trace, text, Status::TraceRefused))
+}
+
+const REFUSED: &[Told] = &[
+    ("", "refused line 1 missing\n"),
+    ("0 end\n5 end\n", "1 0 event 1 end\nrefused line 2 after\n"),
+    ("0 rate m9 1\n", "refused line 1 name\n"),
+    ("0 rate m1 1 \n", "refused line 1 form\n"),
+];
+
 #[test]
 fn traces_are_refused(rt: HostRuntime) -> Result<(), Fail> {
-    let alloc = rt.alloc();
-    let letters = "a".repeat(alloc, 4096)?;
-    let more = "a".repeat(alloc, 4097)?;
-    for (trace, text) in [
-        ("", "refused line 1 missing\n"),
-        ("0 end\n5 end\n", "1 0 event 1 end\nrefused line 2 after\n"),
-        (letters.as_str(), "refused line 1 number\n"),
-        (more.as_str(), "refused line 1 long\n"),
-        ("0 rate m9 1\n", "refused line 1 name\n"),
-        ("0 rate m1 1 \n", "refused line 1 form\n"),
-    ] {
-        let run = whole(trace, text, Status::TraceRefused);
-        try_silent(&rt, alloc, &run)?;
+    for (trace, text) in REFUSED {
+        try_refused(&rt, rt.alloc(), trace, text)?;
     }
     Ok(())
+}
+
+#[test]
+fn a_line_of_more_than_4096_octets_is_refused_as_long(rt: HostRuntime) -> Result<(), Fail> {
+    let alloc = rt.alloc();
+    let letters = "a".repeat(alloc, 4096)?;
+    try_refused(&rt, alloc, letters.as_str(), "refused line 1 number\n")?;
+    let more = "a".repeat(alloc, 4097)?;
+    try_refused(&rt, alloc, more.as_str(), "refused line 1 long\n")
 }

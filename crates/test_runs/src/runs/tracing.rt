@@ -30,6 +30,16 @@ fn given(trace: &mut Trace, source: &mut MemorySource, out: &mut MemorySink) -> 
     (trace.lines(), None)
 }
 
+fn given_is(
+    rt: &impl Abort,
+    trace: &mut Trace,
+    source: &mut MemorySource,
+    out: &mut MemorySink,
+    wanted: Given,
+) {
+    assert!(rt; given(trace, source, out) == wanted);
+}
+
 fn try_trace(
     rt: &impl Abort,
     alloc: Global,
@@ -39,8 +49,8 @@ fn try_trace(
 ) -> Result<(), Fail> {
     let mut source = MemorySource::new(alloc, text, 17, &[])?;
     let mut out = MemorySink::new(alloc, 0, &[])?;
-    let found = given(&mut Trace::new(accepted), &mut source, &mut out);
-    assert_eq!(rt; found, wanted);
+    let mut trace = Trace::new(accepted);
+    given_is(rt, &mut trace, &mut source, &mut out, wanted);
     Ok(())
 }
 
@@ -54,32 +64,43 @@ const NAME: TraceFault = TraceFault::Line(LineRefusal::Name);
 
 const FORM: TraceFault = TraceFault::Line(LineRefusal::Form);
 
+// Traces that end, and their lines.
+const ENDED: &[(&str, u32)] = &[
+    (RATES, 4),
+    ("0 end", 1),
+    ("65535999999 end\n", 1),
+    ("65536000000 end\n", 1),
+];
+
 #[test]
-fn a_trace_ends_or_is_refused_at_a_line(rt: HostRuntime) -> Result<(), Fail> {
+fn a_trace_ends_at_a_line(rt: HostRuntime) -> Result<(), Fail> {
     let alloc = rt.alloc();
     let accepted = worked(alloc)?;
-    let cases = [
-        (RATES.as_bytes(), (4, None)),
-        (b"0 end", (1, None)),
-        (b"", refused(0, TraceFault::Missing)),
-        (b"0 end\n5 end\n", refused(1, TraceFault::After)),
-        (b"0 end\n\n", refused(1, TraceFault::After)),
-        (b"\n0 end\n", refused(0, NUMBER)),
-        (b"0 rate m9 1\n", refused(0, NAME)),
-        (b"0 rate m1 1 \n", refused(0, FORM)),
-        (
-            b"0 rate m1 50001\n",
-            refused(0, TraceFault::Event(Outside::Rate)),
-        ),
-        (
-            CUTS.as_bytes(),
-            refused(2, TraceFault::Event(Outside::Channel)),
-        ),
-        (b"65535999999 end\n", (1, None)),
-        (b"65536000000 end\n", (1, None)),
-    ];
-    for (text, wanted) in &cases {
-        try_trace(&rt, alloc, &accepted, text, *wanted)?;
+    for (text, lines) in ENDED {
+        try_trace(&rt, alloc, &accepted, text.as_bytes(), (*lines, None))?;
+    }
+    Ok(())
+}
+
+// Traces that are refused behind so many lines.
+const REFUSED: &[(&str, u32, TraceFault)] = &[
+    ("", 0, TraceFault::Missing),
+    ("0 end\n5 end\n", 1, TraceFault::After),
+    ("0 end\n\n", 1, TraceFault::After),
+    ("\n0 end\n", 0, NUMBER),
+    ("0 rate m9 1\n", 0, NAME),
+    ("0 rate m1 1 \n", 0, FORM),
+    ("0 rate m1 50001\n", 0, TraceFault::Event(Outside::Rate)),
+    (CUTS, 2, TraceFault::Event(Outside::Channel)),
+];
+
+#[test]
+fn a_trace_is_refused_at_a_line(rt: HostRuntime) -> Result<(), Fail> {
+    let alloc = rt.alloc();
+    let accepted = worked(alloc)?;
+    for (text, lines, fault) in REFUSED {
+        let wanted = refused(*lines, *fault);
+        try_trace(&rt, alloc, &accepted, text.as_bytes(), wanted)?;
     }
     Ok(())
 }
@@ -103,6 +124,13 @@ fn too_few_masters_would_be_left(rt: HostRuntime) -> Result<(), Fail> {
     try_trace(&rt, alloc, &accepted, b"0 break m1\n5 end\n", wanted)
 }
 
+// What is given up to the failed read, up to the failed pass, and to the end.
+const GOES_ON: &[Given] = &[
+    (0, Some(TraceStop::ReadFault)),
+    (1, Some(TraceStop::WriteFault)),
+    (2, None),
+];
+
 #[test]
 fn a_trace_goes_on_after_a_failed_read_or_pass(rt: HostRuntime) -> Result<(), Fail> {
     let alloc = rt.alloc();
@@ -110,12 +138,8 @@ fn a_trace_goes_on_after_a_failed_read_or_pass(rt: HostRuntime) -> Result<(), Fa
     let mut source = MemorySource::new(alloc, b"1000 cut m1_a up\n2000 end\n", 10, &[2])?;
     let mut out = MemorySink::with_failing_passes(alloc, 0, &[], &[3])?;
     let mut trace = Trace::new(&accepted);
-    for wanted in [
-        (0, Some(TraceStop::ReadFault)),
-        (1, Some(TraceStop::WriteFault)),
-        (2, None),
-    ] {
-        assert_eq!(rt; given(&mut trace, &mut source, &mut out), wanted);
+    for wanted in GOES_ON {
+        given_is(&rt, &mut trace, &mut source, &mut out, *wanted);
     }
     Ok(())
 }

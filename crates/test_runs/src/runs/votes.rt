@@ -3,7 +3,7 @@ use std::alloc::Global;
 use std::process::Abort;
 use std::test::Fail;
 use tte_run::Status;
-use worked_network::{Call, Edit, Fails, WORKED, call_of_two, edited};
+use worked_network::{Call, Edit, Fails, Misfit, WORKED, call_of_two, edited};
 
 // The virtual link of m1, and beside it one of m2 and one of m3.
 const THREE_LINKS: Edit<'_> = (
@@ -51,7 +51,13 @@ const FORGED: &str = "0 break m1
 // The words of a vote of the three.
 const VOTE: &[&str] = &["vote", "net.toml", "net.trace", "v1", "v2", "v3"];
 
-// A vote over the worked network with the three links, and with further edits.
+// The worked network with the three links, and with further edits.
+fn three_links(alloc: Global, further: &[Edit<'_>]) -> Result<String, Misfit> {
+    let three = edited(alloc, WORKED, &[THREE_LINKS, THREE_ROWS])?;
+    edited(alloc, three.as_str(), further)
+}
+
+// A vote over that network.
 fn try_vote<'x>(
     rt: &impl Abort,
     alloc: Global,
@@ -61,8 +67,7 @@ fn try_vote<'x>(
     fails: Fails,
     (text, status): (&'x str, Status),
 ) -> Result<(), Fail> {
-    let three = edited(alloc, WORKED, &[THREE_LINKS, THREE_ROWS])?;
-    let network = edited(alloc, three.as_str(), further)?;
+    let network = three_links(alloc, further)?;
     let files = (network.as_bytes(), trace.as_bytes());
     let vote = call_of_two(words, files, text, status);
     try_call(rt, alloc, &Call { fails, ..vote })
@@ -77,14 +82,15 @@ fn three_correct_senders_agree(rt: HostRuntime) -> Result<(), Fail> {
     try_vote(&rt, alloc, &[], VOTE, trace, Fails::Nothing, told)
 }
 
+// The three in another order.
+const OTHER_ORDER: &[&str] = &["vote", "net.toml", "net.trace", "v3", "v1", "v2"];
+
 #[test]
 fn a_forged_sender_is_outvoted(rt: HostRuntime) -> Result<(), Fail> {
+    let alloc = rt.alloc();
     let told = (FIRST_VOTE, Status::Done);
-    // The second in another order of the three.
-    for words in [VOTE, &["vote", "net.toml", "net.trace", "v3", "v1", "v2"]] {
-        try_vote(&rt, rt.alloc(), &[], words, FORGED, Fails::Nothing, told)?;
-    }
-    Ok(())
+    try_vote(&rt, alloc, &[], VOTE, FORGED, Fails::Nothing, told)?;
+    try_vote(&rt, alloc, &[], OTHER_ORDER, FORGED, Fails::Nothing, told)
 }
 
 // The words of votes that name no virtual link, and what they answer.
@@ -113,33 +119,33 @@ fn names_of_none_are_refused(rt: HostRuntime) -> Result<(), Fail> {
     Ok(())
 }
 
+const TWICE: &[&str] = &["vote", "net.toml", "net.trace", "v1", "v1", "v2"];
+
 #[test]
 fn one_sender_twice_and_another_length_may_not_vote(rt: HostRuntime) -> Result<(), Fail> {
     let alloc = rt.alloc();
     let told = ("refused vote\n", Status::VoteRefused);
     let unread = Fails::Second(1);
-    let twice = &["vote", "net.toml", "net.trace", "v1", "v1", "v2"];
-    try_vote(&rt, alloc, &[], twice, FORGED, unread, told)?;
+    try_vote(&rt, alloc, &[], TWICE, FORGED, unread, told)?;
     try_vote(&rt, alloc, &[LONGER], VOTE, FORGED, unread, told)
+}
+
+// A trace is refused at its second line, behind these votes.
+fn try_refused(rt: &impl Abort, alloc: Global, trace: &str, votes: &str) -> Result<(), Fail> {
+    let text = format!(in alloc; "{votes}refused line 2 number\n")?;
+    let told = (text.as_str(), Status::TraceRefused);
+    try_vote(rt, alloc, &[], VOTE, trace, Fails::Nothing, told)
 }
 
 // At 160,000,000,000 c1 has taken v1 alone; at 160,381,009,921 v2 too; at 1,000 none.
 #[test]
 fn a_refused_trace_has_the_votes_so_far(rt: HostRuntime) -> Result<(), Fail> {
     let alloc = rt.alloc();
-    let two = format!(in alloc; "{FIRST_VOTE}refused line 2 number\n")?;
-    for (trace, text) in [
-        (
-            "160000000000 heal m1_a up\nx\n",
-            "vote 1 c1 none\nrefused line 2 number\n",
-        ),
-        ("160381009921 heal m1_a up\nx\n", two.as_str()),
-        ("1000 heal m1_a up\nx\n", "refused line 2 number\n"),
-    ] {
-        let told = (text, Status::TraceRefused);
-        try_vote(&rt, alloc, &[], VOTE, trace, Fails::Nothing, told)?;
-    }
-    Ok(())
+    let one = "160000000000 heal m1_a up\nx\n";
+    try_refused(&rt, alloc, one, "vote 1 c1 none\n")?;
+    let two = "160381009921 heal m1_a up\nx\n";
+    try_refused(&rt, alloc, two, FIRST_VOTE)?;
+    try_refused(&rt, alloc, "1000 heal m1_a up\nx\n", "")
 }
 
 // The third read of the trace fails, which is behind its first line.

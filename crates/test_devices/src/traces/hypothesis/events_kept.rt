@@ -1,10 +1,10 @@
 use super::watching::{accepted, befallen, event};
 use fault_hypothesis::{Outside, Watch};
 use net_plan::DeviceId;
-use pcf_values::Channel;
 use schedule_tables::Accepted;
 use std::process::Abort;
 use std::test::Fail;
+use tte_units::frames::Channel;
 
 /// An event that is refused behind others, and how the next one is judged. That would be judged
 /// otherwise if the refused one had been kept.
