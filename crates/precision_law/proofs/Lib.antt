@@ -13,3 +13,4 @@ pub mod emission
 pub mod verdict
 pub mod law
 pub mod falls_lemmas
+pub mod progress_lemmas

@@ -7,6 +7,7 @@ pub mod Anchors
 pub mod Bases
 pub mod Blocks
 pub mod Precision
+pub mod Progress
 pub mod Readings
 pub mod Standings
 pub mod Instants

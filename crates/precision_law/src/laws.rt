@@ -1,6 +1,7 @@
 ghost use Rattle.precision_law.specs.Dispatches.{DispatchesHalve, DispatchesStayNear};
 ghost use Rattle.precision_law.specs.IdealClocks.{ClocksKeepTheSpan, ClocksKeepTheirCycles, ValuesAreReachedOnTime};
 ghost use Rattle.precision_law.specs.{Joined.JoinersComeIn, Precision.{ClocksStayTogether, TimeIsKept}};
+ghost use Rattle.precision_law.specs.Progress.{EndSystemsComeIn, EndSystemsComeInSoon};
 
 /// The clocks of any two correct synchronised devices stay within the precision.
 pub fn clocks_stay_together()
@@ -10,6 +11,13 @@ pub fn clocks_stay_together()
 /// No end system, and no switch of a channel that is not the faulty one then, loses the common time.
 pub fn time_is_kept()
     ensures { TimeIsKept }
+{}
+
+/// An end system that is on is synchronised from three cycles later on, and sooner by the network's numbers, while it is
+/// not broken.
+pub fn end_systems_come_in()
+    ensures soon { EndSystemsComeInSoon }
+    ensures in_three_cycles { EndSystemsComeIn }
 {}
 
 /// The clock of a correct synchronised device keeps between two ideal clocks, which began its cycle with the first and

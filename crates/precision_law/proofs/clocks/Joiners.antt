@@ -40,7 +40,7 @@ joining_rank device (notes.Compressed other opened own cycle members Integrates)
 joining_rank device body e = absurd cc
 
 -- a joining leaves the device joining
-joins_state : (device : DeviceId) (old : State) (body : NoteBody) → is_joined_by device body ≡ true → state_with device old body ≡ Joining
+pub joins_state : (device : DeviceId) (old : State) (body : NoteBody) → is_joined_by device body ≡ true → state_with device old body ≡ Joining
 joins_state device old (notes.Permanent other link cause point Integrates) e = rw e refl
 joins_state device old (notes.Compressed other opened own cycle members Integrates) e = rw e refl
 joins_state device old body e = absurd cc

@@ -18,10 +18,13 @@ use Rattle.run_law.specs.declared.note.NoteBody.TheVariants as notes
 abbrev is_on : State → Bool
 is_on state = not (is_off state)
 
+-- one that has the common time is
+pub timed_not_off : (state : State) → has_time state ≡ true → is_off state ≡ false
+timed_not_off Off e = absurd cc
+timed_not_off state e = refl
+
 timed_on : (state : State) → has_time state ≡ true → is_on state ≡ true
-timed_on Off e = absurd cc
-timed_on Integrating e = absurd cc
-timed_on state e = refl
+timed_on state e = ap not (timed_not_off state e)
 
 -- ---- events
 
@@ -101,9 +104,10 @@ begins_by : (o : Option Device) → is_on (state_at_start (option_and_then (λ d
 begins_by None e = absurd cc
 begins_by (Some d) e = elim d.start as (λ o. is_on (state_at_start o) ≡ true → IsNone o → ⊥) [ None ↦ λ on off. absurd cc | Some x ↦ λ on off. absurd cc ] e
 
-pub not_turned_on_then : (v : View) (device : DeviceId) (u : ℕ) → IsView v → has_time (state_left v device u) ≡ true
+-- a device that is on is not turned on
+pub on_not_turned_on : (v : View) (device : DeviceId) (u : ℕ) → IsView v → is_off (state_left v device u) ≡ false
     → is_turned_on_at v.scenario device u ≡ false
-not_turned_on_then v device u is timed =
+on_not_turned_on v device u is on_then =
     false_from_ne_true (is_turned_on_at v.scenario device u) (λ turned.
     let x = turned_at v.scenario device u turned in
     let parts = parted x.event v.scenario.events x.there in
@@ -123,7 +127,12 @@ not_turned_on_then v device u is timed =
                 (inl (any_of_in (TurnsOn device) x.event (parts.0 ++ x.event ∷ more.0) (in_right x.event parts.0 (x.event ∷ more.0) (inl refl)) x.turns));
           })
     ]) (λ on. is.lawful.within parts.0 parts.1 x.event parts.2 NotOff
-    (record { device = device; what = x.turns; known = inl (begins_by (device_at v.scenario.network device) on) })) (timed_on (state_left v device u) timed))
+    (record { device = device; what = x.turns; known = inl (begins_by (device_at v.scenario.network device) on) })) (ap not on_then))
+
+-- so one that has the common time is not
+pub not_turned_on_then : (v : View) (device : DeviceId) (u : ℕ) → IsView v → has_time (state_left v device u) ≡ true
+    → is_turned_on_at v.scenario device u ≡ false
+not_turned_on_then v device u is timed = on_not_turned_on v device u is (timed_not_off (state_left v device u) timed)
 
 -- so none that has the common time is
 pub none_turns_on : NoneTurnsOn

@@ -1,16 +1,17 @@
 -- The frame that the compression master of the sound channel sends in a block is heard by each old device that is to keep
 -- the time.
+use Rattle.precision_law.proofs.faults.Turned.{timed_not_off}
 use Rattle.{net_plan.proofs.SameIds.same_device, precision_law.proofs.block.Onward.firm_good, tte_units.specs.declared.units.Units.Units}
 use Rattle.precision_law.proofs.{hearing.{GoodFrames.{IsAtPoint, sooner}, Timely.of_channel_is}, words.Plans.{Synchronised, device_at, is_end_system, opened}}
 use Rattle.precision_law.proofs.{trips.Gates.are_open_from, words.Blocks.{next_first, not_turned_on_then, one_cm, sound_frames_go_down, up_to_then}}
 use Rattle.precision_law.proofs.words.Blocks.{AreUpTo, EndsSo, before_narrow, cm_of, earlier_in_block, ends_so, follows_before, hears_as_at, judged_at}
-use Rattle.precision_law.proofs.words.Clocks.{IsRipeArrival, before_of, before_place, child_not_parent, cm_is_no_end, device_of, emission_shows}
+use Rattle.precision_law.proofs.words.Clocks.{IsRipeArrival, IsRipeRecord, before_of, before_place, child_not_parent, cm_is_no_end, device_of, emission_shows}
 use Rattle.precision_law.proofs.words.Clocks.{frames_come_first, is_heard_of, place_of_ripe, receiver_down, room, switches_are_good, time_stays}
 use Rattle.precision_law.proofs.words.Laws.{BlocksGoSo, HearsBy, Hull, IsBrought, IsEmission, IsFirm, IsInBlock, IsNearHull, IsOfHearer, IsSoundSwitch, IsTrip}
 use Rattle.precision_law.proofs.words.Laws.{IsView, Leg, Stands, View, base_of, epoch_time, first_correction, first_dispatch, has_time, hull_of, state_left}
-use Rattle.precision_law.proofs.words.Plans.{Cm, Device, DeviceId, Down, Integrating, IsCmOf, IsDeviceOf, Joining, LinkId, Members, Off, Pcf, State, SyncPlan}
+use Rattle.precision_law.proofs.words.Plans.{Cm, Device, DeviceId, Down, Integrating, IsCmOf, IsDeviceOf, Joining, LinkId, Members, Pcf, State, SyncPlan}
 use Rattle.precision_law.proofs.words.Runs.{Gives, Happening, IsCaused, IsDue, IsIn, Judgement, NoteBody, adjustment_at_hearing, channel_of, channel_of_link}
-use Rattle.precision_law.proofs.words.Runs.{earlier, founded_at, heard_as, heard_by_schedule, is_cm, is_cm_role, is_off, is_parent_of, is_relay, members_in}
+use Rattle.precision_law.proofs.words.Runs.{IsSplit, cycle_in, earlier, founded_at, heard_as, heard_by_schedule, is_cm, is_cm_role, is_off, is_parent_of, is_relay, members_in}
 use Rattle.precision_law.proofs.words.{Runs.{observation_window, place_of, plan_of, receiver_of, split, state_before, time_of}, Std.{true, unsigned_abs, ℕ, ℤ}}
 use Rattle.precision_law.proofs.words.Std.{◌+◌, ◌<ℤ◌, ◌<◌, ◌||◌, ◌∙◌, ◌∷◌, ◌≡◌, ◌≤ℤ◌, ◌≤◌, Bool, List, None, Option, Some, [], ap, arith, cases_eq, false}
 use Rattle.precision_law.proofs.words.Std.{false_from_ne_true, if◌then◌else◌, inl, inr, ints, not, option_and_then, option_map_or, pos, refl, subst, suc, sym}
@@ -37,10 +38,6 @@ sent_in_time v n before hull first is at near =
 
 -- ---- who hears
 
-timed_on : (state : State) → has_time state ≡ true → is_off state ≡ false
-timed_on Off e = absurd cc
-timed_on state e = refl
-
 in_time_hearer : (b : Bool) → IsOfHearer (heard_by_schedule b)
 in_time_hearer true = tt
 in_time_hearer false = tt
@@ -52,7 +49,7 @@ hearer_of plan precision Joining adjustment point cycle members e = in_time_hear
 hearer_of plan precision Synchronised adjustment point cycle members e = in_time_hearer _
 hearer_of plan precision state adjustment point cycle members e = absurd cc
 
-no_end_cm : (o : Option Device) → option_map_or (λ d. is_cm_role d.role) o false ≡ true → option_map_or (λ d. is_end_system d.role) o false ≡ true → ⊥
+pub no_end_cm : (o : Option Device) → option_map_or (λ d. is_cm_role d.role) o false ≡ true → option_map_or (λ d. is_end_system d.role) o false ≡ true → ⊥
 no_end_cm None a b = absurd cc
 no_end_cm (Some d) a b = cm_is_no_end d.role a b
 
@@ -111,41 +108,26 @@ waits_by true false e = refl
 waits_by false false e = refl
 waits_by relay true e = absurd cc
 
-module _ (v : View) (n t : ℕ) (block : IsInBlock v n t) (is : IsView v) (device cm : DeviceId) (firm : IsFirm v device) (at : IsAtPoint v n t block device)
+-- the frame of the sound channel is permanent at the device, which judges it by the records before
+pub record ComesDown (v : View) (n : ℕ) (device : DeviceId) (first : Happening) (members : Members) : Type 0 where
+  pub arrival : Happening
+  pub link : LinkId
+  pub frame : Pcf
+  pub point : ℤ
+  pub q : ℕ
+  pub place : IsSplit place_of v.records (place_of_ripe device arrival link frame point q)
+  pub ripe : IsRipeRecord v device arrival link point q (judged_at v.scenario device place.front q point frame.cycle frame.members) frame
+  pub of_channel : channel_of_link v.scenario.network link ≡ Some v.channel
+  pub of_cycle : frame.cycle ≡ suc n
+  pub of_members : frame.members.0 ≡ members.0
+  pub from : time_of first ≤ q
+  pub soon : q ≤ time_of first + v.sizes.dmax + v.sizes.path
+
+module _ (v : View) (n t : ℕ) (block : IsInBlock v n t) (is : IsView v) (device cm : DeviceId) (firm : IsFirm v device)
     (one : IsCmOf v.scenario.network v.channel cm) (first : Happening) (members : Members) (e : IsEmission v first cm (suc n) members)
     (timed : IsSentInTime v n block.before first) where
-  -- what it hears in the block it hears with a common time
-  hears : (q : ℕ) (hs : List Happening) (point : ℤ) (cycle : ℕ) (others : Members) → AreUpTo v q hs → block.before.next ≤ q → q < t
-      → IsOfHearer (judged_at v.scenario device hs q point cycle others)
-  hears q hs point cycle others up from lt =
-      hearer_of (plan_of v.scenario.network device) (observation_window v.scenario.network) _ (adjustment_at_hearing v.scenario hs device q).0 point cycle
-      others (hears_as_at v device block.before.next q t hs is up from lt at.old at.has.timed).state
-
-  shows : members.0 ≡ members_in first
-  shows = (emission_shows v first cm e.opened e.at (suc n) members e.verdict is e.there e.is).1
-
-  -- the compression master's own frame
-  own_frame : cm ≡ device → Receives v n block.before device members
-  own_frame same =
-      let s = v.scenario in
-      let q = time_of first in
-      let body = e.is ∙ ap (λ (d : DeviceId). notes.Compressed d e.opened e.at (suc n) members e.verdict) same in
-      let found = founded_at s v.records first is.run.founded e.there in
-      let emits = subst (IsCaused s found.front first.note.time) body found.due.cause in
-      let late : pos q <ℤ first_correction v.sizes block.before.hull = (let soon = timed.soon in omega (arith, ints, soon)) in
-      let hearer = hears q found.front e.at.0 (suc n) members (up_to_then v q found.front (before_of v first is found)) timed.from
-      (sooner v n t block device q at late) in
-      let of_channel = subst (λ (d : DeviceId). channel_of s.network d ≡ Some v.channel) same (cm_of_channel v cm one) in
-      record {
-        h = first;
-        point = e.at.0;
-        judgement = e.verdict;
-        hearer = subst IsOfHearer (sym emits.heard) hearer;
-        hears = record { there = e.there; how = inr (e.opened, e.at, suc n, members, body, of_channel, refl) };
-        members_are = sym shows;
-        from = timed.from;
-        late = late;
-      }
+  shows : (suc n ≡ cycle_in first) × (members.0 ≡ members_in first)
+  shows = emission_shows v first cm e.opened e.at (suc n) members e.verdict is e.there e.is
 
   -- what was brought down to a device came by a last leg
   brought_by_leg : (b : IsBrought v Down first device) → EndsSo v v.channel first b.last
@@ -159,24 +141,20 @@ module _ (v : View) (n t : ℕ) (block : IsInBlock v n t) (is : IsView v) (devic
           ends_so v v.channel first b.last leg legs is (λ d k gives.
           (let g = subst (λ (x : NoteBody). Gives v.scenario.network x d k) e.is gives in ap (channel_of v.scenario.network) g.0 ∙ cm_of_channel v cm one)) trip
 
-  -- the frame that comes to another device
-  brought_frame : BlocksGoSo → (device ≡ cm → ⊥) → Receives v n block.before device members
-  brought_frame goes other =
+  -- the frame comes to each other device that is on
+  pub comes_down : BlocksGoSo → (device ≡ cm → ⊥) → time_of first + v.sizes.dmax + v.sizes.path ≤ t
+      → ((u : ℕ) → time_of first ≤ u → u + v.sizes.path ≤ time_of first + v.sizes.dmax
+      → is_off (state_before v.scenario v.records device u) ≡ false) → ComesDown v n device first members
+  comes_down goes other le on =
       let s = v.scenario in
       let network = s.network in
       let w = time_of first in
       let space = room v is in
       let soon = timed.soon in
-      let lt : w + v.sizes.dmax + v.sizes.path < t = sooner v n t block device (w + v.sizes.dmax + v.sizes.path) at soon in
-      let instant : IsInBlock v n w = earlier_in_block _ _ _ _ block timed.from (omega (arith, lt)) in
-      let opens = are_open_from goes v n w instant is timed.low (omega (arith, ints, soon)) (omega (arith, lt, block.in_run)) in
+      let instant : IsInBlock v n w = earlier_in_block _ _ _ _ block timed.from (omega (arith, le)) in
+      let opens = are_open_from goes v n w instant is timed.low (omega (arith, ints, soon)) (omega (arith, le, block.in_run)) in
       let good = firm_good switches_are_good v device is firm in
-      let on : (u : ℕ) → w ≤ u → u + v.sizes.path ≤ w + v.sizes.dmax → is_off (state_before s v.records device u) ≡ false = λ u ge le.
-      (let old_u : epoch_time (earlier t v.records) device <ℤ pos u = omega (arith, ints, at.old, timed.from, ge) in
-      let timed_u = time_stays v device u t is (omega (arith, le, lt)) old_u at.has.timed in
-      ap (λ (b : Bool). is_off (if b then Integrating else state_left v device u)) (not_turned_on_then v device u is timed_u)
-      ∙ timed_on (state_left v device u) timed_u) in
-      let b = sound_frames_go_down v first device cm (suc n) members is e one (firm_member v device firm) good other opens (omega (arith, lt, block.in_run))
+      let b = sound_frames_go_down v first device cm (suc n) members is e one (firm_member v device firm) good other opens (omega (arith, le, block.in_run))
       on in
       let p = b.permanent in
       let q = b.q in
@@ -197,26 +175,87 @@ module _ (v : View) (n t : ℕ) (block : IsInBlock v n t) (is : IsView v) (devic
         permanent = p;
         by_link = refl;
         later = omega (arith, ints, p.reached.from_on);
-        in_run = omega (arith, b.in_time.not_late, lt, block.in_run);
+        in_run = omega (arith, b.in_time.not_late, le, block.in_run);
       } in
       let place = split place_of (IsDue s) v.records (place_of_ripe device b.last p.link frame b.point q) is.run.founded in
-      let split_at = before_place v q (3 ∷ device.0 ∷ unsigned_abs b.point ∷ frame.members.0 ∷ p.link.0 ∷ b.last.note.number ∷ []) place in
-      let ripe = is_heard_of v device b.last p.link frame b.point q is (firm_other v device cm is firm one other) r place in
-      let from : block.before.next ≤ q = omega (arith, b.in_time.not_early, timed.from, space.paths) in
-      let hearer = hears q place.front b.point frame.cycle frame.members (up_to_then v q place.front split_at) from (omega (arith, b.in_time.not_late, lt)) in
-      let framed = ripe.of_frame ∙ sym ends.keeps.of_frame in
+      record {
+        arrival = b.last;
+        link = p.link;
+        frame = frame;
+        point = b.point;
+        q = q;
+        place = place;
+        ripe = is_heard_of v device b.last p.link frame b.point q is (firm_other v device cm is firm one other) r place;
+        of_channel = ap (channel_of_link network) (sym link) ∙ ends.of_channel;
+        of_cycle = ap (λ (o : Option Pcf). option_map_or (λ f. f.cycle) o 0) (sym ends.keeps.of_frame) ∙ sym ends.keeps.cycle ∙ sym shows.0;
+        of_members = ap (λ (o : Option Pcf). option_map_or (λ f. f.members.0) o 0) (sym ends.keeps.of_frame) ∙ sym ends.keeps.members ∙ sym shows.1;
+        from = omega (arith, b.in_time.not_early, space.paths);
+        soon = b.in_time.not_late;
+      }
+
+module _ (v : View) (n t : ℕ) (block : IsInBlock v n t) (is : IsView v) (device cm : DeviceId) (firm : IsFirm v device) (at : IsAtPoint v n t block device)
+    (one : IsCmOf v.scenario.network v.channel cm) (first : Happening) (members : Members) (e : IsEmission v first cm (suc n) members)
+    (timed : IsSentInTime v n block.before first) where
+  -- what it hears in the block it hears with a common time
+  hears : (q : ℕ) (hs : List Happening) (point : ℤ) (cycle : ℕ) (others : Members) → AreUpTo v q hs → block.before.next ≤ q → q < t
+      → IsOfHearer (judged_at v.scenario device hs q point cycle others)
+  hears q hs point cycle others up from lt =
+      hearer_of (plan_of v.scenario.network device) (observation_window v.scenario.network) _ (adjustment_at_hearing v.scenario hs device q).0 point cycle
+      others (hears_as_at v device block.before.next q t hs is up from lt at.old at.has.timed).state
+
+  -- the compression master's own frame
+  own_frame : cm ≡ device → Receives v n block.before device members
+  own_frame same =
+      let s = v.scenario in
+      let q = time_of first in
+      let body = e.is ∙ ap (λ (d : DeviceId). notes.Compressed d e.opened e.at (suc n) members e.verdict) same in
+      let found = founded_at s v.records first is.run.founded e.there in
+      let emits = subst (IsCaused s found.front first.note.time) body found.due.cause in
+      let late : pos q <ℤ first_correction v.sizes block.before.hull = (let soon = timed.soon in omega (arith, ints, soon)) in
+      let hearer = hears q found.front e.at.0 (suc n) members (up_to_then v q found.front (before_of v first is found)) timed.from
+      (sooner v n t block device q at late) in
+      let of_channel = subst (λ (d : DeviceId). channel_of s.network d ≡ Some v.channel) same (cm_of_channel v cm one) in
+      record {
+        h = first;
+        point = e.at.0;
+        judgement = e.verdict;
+        hearer = subst IsOfHearer (sym emits.heard) hearer;
+        hears = record { there = e.there; how = inr (e.opened, e.at, suc n, members, body, of_channel, refl) };
+        members_are = sym (shows v n t block is device cm firm one first members e timed).1;
+        from = timed.from;
+        late = late;
+      }
+
+  -- the frame that comes to another device
+  brought_frame : BlocksGoSo → (device ≡ cm → ⊥) → Receives v n block.before device members
+  brought_frame goes other =
+      let s = v.scenario in
+      let w = time_of first in
+      let soon = timed.soon in
+      let lt : w + v.sizes.dmax + v.sizes.path < t = sooner v n t block device (w + v.sizes.dmax + v.sizes.path) at soon in
+      let on : (u : ℕ) → w ≤ u → u + v.sizes.path ≤ w + v.sizes.dmax → is_off (state_before s v.records device u) ≡ false = λ u ge le.
+      (let old_u : epoch_time (earlier t v.records) device <ℤ pos u = omega (arith, ints, at.old, timed.from, ge) in
+      let timed_u = time_stays v device u t is (omega (arith, le, lt)) old_u at.has.timed in
+      ap (λ (b : Bool). is_off (if b then Integrating else state_left v device u)) (not_turned_on_then v device u is timed_u)
+      ∙ timed_not_off (state_left v device u) timed_u) in
+      let c = comes_down v n t block is device cm firm one first members e timed goes other (omega (arith, lt)) on in
+      let q = c.q in
+      let split_at = before_place v q (3 ∷ device.0 ∷ unsigned_abs c.point ∷ c.frame.members.0 ∷ c.link.0 ∷ c.arrival.note.number ∷ []) c.place in
+      let ripe = c.ripe in
+      let from : block.before.next ≤ q = omega (arith, c.from, timed.from) in
+      let hearer = hears q c.place.front c.point c.frame.cycle c.frame.members (up_to_then v q c.place.front split_at) from (omega (arith, c.soon, lt)) in
       record {
         h = ripe.h;
-        point = b.point;
-        judgement = judged_at s device place.front q b.point frame.cycle frame.members;
+        point = c.point;
+        judgement = judged_at s device c.place.front q c.point c.frame.cycle c.frame.members;
         hearer = hearer;
         hears = record {
           there = ripe.there;
-          how = inl (p.link, b.last.note.number, record { 0 = b.point }, ripe.is, ap (channel_of_link network) (sym link) ∙ ends.of_channel, refl);
+          how = inl (c.link, c.arrival.note.number, record { 0 = c.point }, ripe.is, c.of_channel, refl);
         };
-        members_are = ap (λ (o : Option Pcf). option_map_or (λ f. f.members.0) o 0) framed ∙ sym ends.keeps.members ∙ sym shows;
+        members_are = ap (λ (o : Option Pcf). option_map_or (λ f. f.members.0) o 0) ripe.of_frame ∙ c.of_members;
         from = omega (arith, ripe.time, from);
-        late = omega (arith, ints, ripe.time, b.in_time.not_late, soon);
+        late = omega (arith, ints, ripe.time, c.soon, soon);
       }
 
   -- each old device that is to keep the time hears the frame

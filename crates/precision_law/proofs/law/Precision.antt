@@ -1,7 +1,7 @@
 -- The precision, from what blocks bring.
-use Rattle.{precision_law.proofs.words.Clocks.{IsCutAt, before_of, cut_at, point_timed, same_kept}, sync_state.proofs.StateFacts.up_state}
+use Rattle.{precision_law.proofs.words.Clocks.{IsCutAt, before_of, cut_at, point_timed, same_kept, within_run}, sync_state.proofs.StateFacts.up_state}
 use Rattle.precision_law.proofs.words.Laws.{BlocksCover, BlocksGoSo, ClocksAgreeInBlocks, ClocksStayTogether, ComesTo, FirmDevicesCorrect, HasTimeAt, IsClique}
-use Rattle.precision_law.proofs.words.Laws.{IsFirm, IsRunUpTo, IsSound, IsView, OneChannelIsSound, TimeIsKept, View, has_time, sizes_of, state_left}
+use Rattle.precision_law.proofs.words.Laws.{IsFirm, IsGood, IsRunUpTo, IsSound, IsView, OneChannelIsSound, TimeIsKept, View, has_time, sizes_of, state_left}
 use Rattle.precision_law.proofs.words.Plans.{AsyncClique, Channel, Cleared, Corrected, DeviceId, IsBeta, IsSwitchOf, State, SyncClique, Synchronised, Units}
 use Rattle.precision_law.proofs.words.{Plans.{Verdict, beta_at, beta_exists, rules_give_trees, shape_rules}, Std.{refl, subst, sym, true, ℕ}}
 use Rattle.precision_law.proofs.words.Runs.{AreClose, ChangesState, ComesToCorrection, Happening, IsCaused, IsIn, IsInStep, IsInStepBefore, Note, Scenario, Why}
@@ -97,6 +97,29 @@ clique_point s ps t device state cause whys.AsyncClique clique c =
 clique_point s ps t device state cause why clique c = absurd clique
 
 -- no firm device comes to a clique
+pub no_clique : BlocksCover → BlocksGoSo → FirmDevicesCorrect → (v : View) (h : Happening) (device : DeviceId) (state : State) (cause : ℕ) (why : Why)
+    → IsView v → IsIn h v.records → h.note.body ≡ notes.State device state cause why → IsClique why
+    → (is_broken v.scenario device (time_of h) ≡ false → IsGood v device × IsFirm v device) → ⊥
+no_clique cover goes correct v h device state cause why is i body clique firm =
+    let s = v.scenario in
+    let t = time_of h in
+    let block = cover v t is (within_run v is h i) in
+    let found = founded_at s v.records h is.run.founded i in
+    let point = clique_point s found.front t device state cause why clique (subst (IsCaused s found.front h.note.time) body found.due.cause) in
+    let split = before_of v h is found in
+    let so = firm point.point.correct in
+    let has : HasTimeAt v device t = record {
+      good = so.0;
+      timed = point_timed v t device point.cycle point.verdict found.front split point.point;
+    } in
+    let comes : ComesTo v t device point.cycle point.verdict = record { front = found.front; split = split; point = point.point } in
+    let old = (goes v block.0 t block.1 is).old_alone device point.cycle point.verdict has comes point.not_cleared in
+    let in_time = (goes v block.0 t block.1 is).points device point.cycle point.verdict has old comes in
+    let share = correct v block.0 t block.1 is in_time.not_early in
+    let verdict = share.2.each t block.1 device point.cycle point.verdict so.1 has old comes in
+    point.not_corrected verdict.0 verdict.1
+
+-- so in each run none does
 never_lost : BlocksCover → BlocksGoSo → FirmDevicesCorrect → (s : Scenario) (mark : List ℕ) (ns : List Note) (until : ℕ) (h : Happening) (device : DeviceId)
     (state : State) (cause : ℕ) (why : Why) (channel : Channel) → IsRunUpTo s mark ns until → IsIn h (happenings s.network ns) → time_of h ≤ until
     → h.note.body ≡ notes.State device state cause why → IsClique why → IsSound s (time_of h) channel
@@ -105,20 +128,8 @@ never_lost cover goes correct s mark ns until h device state cause why channel u
     let t = time_of h in
     let at = view_at s mark ns until t channel up le sound in
     let v = view_of s (happenings s.network ns) t channel at in
-    let block = cover v t at.is (omega arith) in
-    let found = founded_at s at.cut.front h at.cut.run.founded (at.cut.has h i (omega arith)) in
-    let point = clique_point s found.front t device state cause why clique (subst (IsCaused s found.front h.note.time) body found.due.cause) in
-    let split = before_of v h at.is found in
-    let has : HasTimeAt v device t = record {
-      good = point.point.correct;
-      timed = point_timed v t device point.cycle point.verdict found.front split point.point;
-    } in
-    let comes : ComesTo v t device point.cycle point.verdict = record { front = found.front; split = split; point = point.point } in
-    let old = (goes v block.0 t block.1 at.is).old_alone device point.cycle point.verdict has comes point.not_cleared in
-    let in_time = (goes v block.0 t block.1 at.is).points device point.cycle point.verdict has old comes in
-    let share = correct v block.0 t block.1 at.is in_time.not_early in
-    let verdict = share.2.each t block.1 device point.cycle point.verdict (firm v refl refl refl point.point.correct) has old comes in
-    point.not_corrected verdict.0 verdict.1
+    no_clique cover goes correct v h device state cause why at.is (at.cut.has h i (omega arith)) body clique
+    (λ good. (good, firm v refl refl refl good))
 
 pub time_is_kept : OneChannelIsSound → BlocksCover → BlocksGoSo → FirmDevicesCorrect → TimeIsKept
 time_is_kept sound cover goes correct s mark ns until up h device state cause why i le body clique = (

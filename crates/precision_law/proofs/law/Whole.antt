@@ -3,11 +3,13 @@ use Rattle.precision_law.proofs.block.{Brings.blocks_go_so, Coming.points_have_c
 use Rattle.precision_law.proofs.{emission.SoundMaster.sound_master_sends, words.Blocks.{none_turns_on, stands_at_start, three_have_good, time_is_kept}}
 use Rattle.precision_law.proofs.{hearing.InBlocks.heard_in_their_blocks, law.{InSpans.clocks_keep_the_span, Spreading.{dispatches_halve, dispatches_stay_near}}}
 use Rattle.precision_law.proofs.{law.{Keeping.clocks_keep_their_cycles, OnTime.values_are_reached_on_time}, records.Recorded.points_are_recorded}
+use Rattle.precision_law.proofs.progress_lemmas.Arriving.{AreBlocksKnown, end_systems_come_in, end_systems_come_in_soon}
 use Rattle.precision_law.proofs.{verdict.FirmDevices.firm_devices_correct, words.Clocks.{hearings_are_of_frames, one_channel_is_sound, switches_are_good}}
 use Rattle.precision_law.proofs.words.Blocks.{FramesGoSo, bases_are_in_hulls, bases_are_near_hulls, blocks_cover, clocks_agree_in_blocks, clocks_stay_together}
 use Rattle.precision_law.proofs.words.Blocks.{emissions_are_of_dispatches, emissions_are_sharp, heard_frames_are_timely, hulls_are_narrow, joiners_come_in}
-use Rattle.precision_law.proofs.words.Laws.{BlocksCover, BlocksGoSo, ClocksKeepTheSpan, ClocksKeepTheirCycles, ClocksStayTogether, DispatchesHalve}
-use Rattle.precision_law.proofs.words.Laws.{DispatchesStayNear, FirmDevicesCorrect, JoinersComeIn, PointsHaveCome, TimeIsKept, ValuesAreReachedOnTime}
+use Rattle.precision_law.proofs.words.Laws.{BlocksGoSo, ClocksKeepTheSpan, ClocksKeepTheirCycles, ClocksStayTogether, DispatchesHalve}
+use Rattle.precision_law.proofs.words.Laws.{DispatchesStayNear, FirmDevicesCorrect, JoinersComeIn, PointsHaveCome, SoundMasterSends, StandsOn, TimeIsKept, ValuesAreReachedOnTime}
+use Rattle.precision_law.specs.Progress.{EndSystemsComeIn, EndSystemsComeInSoon}
 
 -- ---- what is known
 
@@ -26,27 +28,30 @@ frames_known = record {
 pub goes_known : BlocksGoSo
 goes_known = blocks_go_so frames_known
 
--- what is known of blocks
-pub record AreKnown : Type 0 where
-  pub goes : BlocksGoSo
-  pub come : PointsHaveCome
-  pub correct : FirmDevicesCorrect
-  pub cover : BlocksCover
+-- once the correction points of a block may come, the compression master of the sound channel has sent its frame
+sends_known : SoundMasterSends
+sends_known = sound_master_sends goes_known
 
--- once the correction points of a block may come, firm devices are corrected
+-- and firm devices are corrected
 correct_known : FirmDevicesCorrect
-correct_known = firm_devices_correct frames_known (sound_master_sends goes_known) goes_known
+correct_known = firm_devices_correct frames_known sends_known goes_known
 
 -- the correction points of a block come
 come_known : PointsHaveCome
 come_known = points_have_come (points_are_recorded none_turns_on)
 
-pub blocks_known : AreKnown
+-- and the network stands as it should when a block is over
+on_known : StandsOn
+on_known = stands_on goes_known come_known correct_known switches_are_good
+
+pub blocks_known : AreBlocksKnown
 blocks_known = record {
   goes = goes_known;
   come = come_known;
   correct = correct_known;
-  cover = blocks_cover stands_at_start (stands_on goes_known come_known correct_known switches_are_good);
+  cover = blocks_cover stands_at_start on_known;
+  sends = sends_known;
+  on = on_known;
 }
 
 -- ---- the laws
@@ -74,3 +79,9 @@ halve = dispatches_halve one_channel_is_sound blocks_known.cover blocks_known.go
 
 pub joiners : JoinersComeIn
 joiners = joiners_come_in clocks_agree near
+
+pub ends_come_in_soon : EndSystemsComeInSoon
+ends_come_in_soon = end_systems_come_in_soon one_channel_is_sound blocks_known
+
+pub ends_come_in : EndSystemsComeIn
+ends_come_in = end_systems_come_in ends_come_in_soon

@@ -1,0 +1,100 @@
+-- A device that has the common time when a block begins is synchronised when it is over.
+use Rattle.precision_law.proofs.law.{Cover.later_end, OnTime.corrects_by, Together.block_ends}
+use Rattle.precision_law.proofs.faults.Turned.{not_turned_on_then}
+use Rattle.precision_law.proofs.progress_lemmas.Staying.{IsSynchronised, KeepsAll, becomes_synchronised, not_told, stays_synchronised, time_stays_on}
+use Rattle.precision_law.proofs.words.Clocks.{before_of, before_place, due_there, earlier_before, next_note, point_timed, setting_is, within_run}
+use Rattle.precision_law.proofs.words.Laws.{BlockIsOver, HasTimeAt, IsView, PointsHaveCome, View, has_time, last_setting, state_left}
+use Rattle.precision_law.proofs.words.Plans.{Corrected, DeviceId, Integrating, Joining, Off, State, Synchronised, Units}
+use Rattle.precision_law.proofs.words.Runs.{ChangesState, Happening, IsBefore, IsCaused, IsDue, IsFounded, IsIn, NoteBody, by_number}
+use Rattle.precision_law.proofs.words.Runs.{earlier, founded_at, front_founded, happening, in_front_of, key, members_in}
+use Rattle.precision_law.proofs.words.Runs.{place_of, rank, split, state_after, state_before, state_with, time_of}
+use Rattle.precision_law.proofs.words.Std.{if◌then◌else◌, ◌<◌, ◌∙◌, ◌∷◌, ◌≡◌, ◌≤ℤ◌, ◌≤◌, ◌⊎◌, Bool, List, None, Option, Some, [], ap}
+use Rattle.precision_law.proofs.words.Std.{arith, eq-eqb, inl, inr, ints, negsuc, option_map_or, pos, refl, subst, sym, true, ℕ}
+use Rattle.run_law.proofs.records.Order.{ahead}
+use Rattle.run_law.specs.declared.judgement.Why.TheVariants as whys
+use Rattle.run_law.specs.declared.note.NoteBody.TheVariants as notes
+
+-- a device that has the common time is joining or synchronised
+timed_cases : (state : State) → has_time state ≡ true → (state ≡ Joining) ⊎ (state ≡ Synchronised)
+timed_cases Off e = absurd cc
+timed_cases Integrating e = absurd cc
+timed_cases Joining e = inl refl
+timed_cases Synchronised e = inr refl
+
+module _ (v : View) (device : DeviceId) (is : IsView v) (never : KeepsAll v device) where
+  -- a record that leaves the device synchronised
+  record MakesSynchronised (t : ℕ) : Type 0 where
+    pub g : Happening
+    pub there : IsIn g v.records
+    pub at : time_of g ≡ t
+    pub makes : (old : State) → IsSynchronised (state_with device old g.note.body)
+
+  -- the first correction of a joiner has one of its state beside it
+  first_corrected : (h : Happening) (cycle : ℕ) (by adjustment : Units) → IsIn h v.records
+      → h.note.body ≡ notes.Corrected device cycle by adjustment → state_left v device (time_of h) ≡ Joining
+      → MakesSynchronised (time_of h)
+  first_corrected h cycle by adjustment i body joining =
+      let s = v.scenario in
+      let t = time_of h in
+      let number : ℕ = h.note.number in
+      let rest : List ℕ = device.0 ∷ number ∷ [] in
+      let at = split place_of (IsDue s) v.records (t ∷ 7 ∷ rest) is.run.founded in
+      let six : rank h.note.body ≡ 6 = ap rank body in
+      let sooner : IsBefore (place_of h) (t ∷ 7 ∷ rest) =
+      ahead t t (rank h.note.body) 7 (key (members_in h) h.note.body) rest (omega arith) (omega (arith, six)) in
+      let founded = front_founded place_of (IsDue s) at.front at.rest (subst (IsFounded place_of (IsDue s)) at.whole is.run.founded) in
+      let found = by_number s at.front h founded (in_front_of _ _ _ at h i sooner) in
+      let off = not_turned_on_then v device t is (ap has_time joining) in
+      let before : state_before s at.front device t ≡ Joining =
+      ap (λ (b : Bool). if b then Integrating else state_after s (earlier t at.front) device) off
+      ∙ ap (λ (hs : List Happening). state_after s hs device) (earlier_before v t at.front (before_place v t (7 ∷ rest) at)) ∙ joining in
+      let state : NoteBody = notes.State device Synchronised number whys.Correction in
+      let changes : ChangesState s at.front device t Synchronised number whys.Correction =
+      (refl, before, (cycle, by, adjustment, h, record { there = found; same_time = refl }, body)) in
+      record {
+        g = happening s.network at.front (next_note at.front t state);
+        there = due_there v t state (t ∷ 7 ∷ rest) at is (within_run v is h i) refl changes;
+        at = refl;
+        makes = λ old. ap (λ (b : Bool). if b then Synchronised else old) (eq-eqb device.0 device.0 refl);
+      }
+
+  -- behind a correction it is synchronised
+  corrected_then : (h : Happening) (cycle : ℕ) (by adjustment : Units) (y : ℕ) → IsIn h v.records
+      → h.note.body ≡ notes.Corrected device cycle by adjustment → time_of h < y → IsSynchronised (state_left v device y)
+  corrected_then h cycle by adjustment y i body to =
+      let s = v.scenario in
+      let t = time_of h in
+      let found = founded_at s v.records h is.run.founded i in
+      let cause : IsCaused s found.front h.note.time (notes.Corrected device cycle by adjustment) =
+      subst (IsCaused s found.front h.note.time) body found.due.cause in
+      let timed = point_timed v t device cycle (Corrected by) found.front (before_of v h is found) cause.corrected in
+      elim (timed_cases (state_left v device t) timed) [
+        | inl joining ↦
+            let m = first_corrected h cycle by adjustment i body joining in
+            let timed_m = subst (λ (x : ℕ). has_time (state_left v device x) ≡ true) (sym m.at) timed in
+            becomes_synchronised v device is never m.g y m.there timed_m (omega (arith, m.at, to)) m.makes
+        | inr synchronised ↦ stays_synchronised v device is never t y (omega (arith, to)) synchronised
+      ]
+
+  -- what set the clock last in the block corrected it
+  set_then : (x y : ℕ) (o : Option Happening) → last_setting (earlier y v.records) device ≡ o
+      → pos x ≤ℤ option_map_or (λ h. pos (time_of h)) o (negsuc 0) → has_time (state_left v device x) ≡ true
+      → IsSynchronised (state_left v device y)
+  set_then x y None e late timed = absurd (omega (arith, ints, late))
+  set_then x y (Some h) e late timed =
+      let at = setting_is v device y h e in
+      let from : x ≤ time_of h = omega (arith, ints, late) in
+      let told = not_told v device is h at.there (time_stays_on v device is never x (time_of h) from timed) in
+      let c = corrects_by device h.note.body at.sets told in
+      corrected_then h c.cycle c.by c.adjustment y at.there c.is at.early
+
+  -- a device that has the common time when a block begins is synchronised when it is over
+  pub synchronised_by : PointsHaveCome → (n : ℕ) (over : BlockIsOver v n) → HasTimeAt v device over.before.next
+      → IsSynchronised (state_left v device over.next)
+  synchronised_by come n over has =
+      let x = over.before.next in
+      let y = over.next in
+      let ends = block_ends v n y over.before.hull over.before.is_hull over.is_over in
+      let le : x ≤ y = omega (arith, ints, ends, later_end v n over.before is) in
+      let new = come v n over device is (record { good = has.good; timed = time_stays_on v device is never x y le has.timed }) in
+      set_then x y (last_setting (earlier y v.records) device) refl new has.timed
