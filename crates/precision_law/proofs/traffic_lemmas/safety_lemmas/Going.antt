@@ -1,9 +1,9 @@
 -- A lawful run that goes just as far as a time goes well up to there, and up to each earlier time.
 use Rattle.{net_plan.specs.declared.{ids.DeviceId.DeviceId, tables.VirtualLink.VirtualLink}, run_law.specs.records.Happenings.{Happening, happenings}}
 use Rattle.{net_plan.specs.declared.ids.VlId.VlId, run_law.specs.law.FirstLaws.IsLawful, tte_units.specs.Amount.amount}
-use Rattle.{precision_law.proofs.law.Whole.time_kept, run_law.{proofs.records.Happenings.soon, specs.{declared.note.Note.Note, scenario.Scenarios.Scenario}}}
+use Rattle.{precision_law.proofs.law.Whole.{ends_come_in, time_kept}, run_law.{proofs.records.Happenings.soon, specs.{declared.note.Note.Note, scenario.Scenarios.Scenario}}}
 use Rattle.{precision_law.proofs.traffic_lemmas.Safe.all_are_safe, run_law.specs.{law.Safety.{ClocksAgree, IsOwed, IsSafe}, runs.DueRecords.IsScenarioRun}}
-use Rattle.{precision_law.specs.traffic.{Ports.IsRunTo, safety.Headline.{GoesWell, TimeStays}}, std.proofs.Common.{◌*◌, ◌+◌, ◌^◌, ◌∷◌, ◌≤◌, List, [], arith, ℕ}}
+use Rattle.{precision_law.specs.{Progress.ComesIn, traffic.{Ports.IsRunTo, safety.Headline.{GoesWell, TimeStays}}}, std.proofs.Common.{◌*◌, ◌+◌, ◌^◌, ◌∷◌, ◌≤◌, List, [], arith, ℕ}}
 
 run_to : (s : Scenario) (ns : List Note) (until : ℕ) → IsLawful s → until ≤ 2 ^ 20 * amount s.network.cycle → IsScenarioRun s ((until + 1) ∷ []) ns
     → IsRunTo s ((until + 1) ∷ []) ns until
@@ -14,7 +14,11 @@ pub goes_well : (s : Scenario) (ns : List Note) (until : ℕ) → IsLawful s →
     → GoesWell s (happenings s.network ns) until
 goes_well s ns until lawful short run =
     let it = run_to s ns until lawful short run in
-    record { safe = all_are_safe s ((until + 1) ∷ []) ns until it; time = time_kept s ((until + 1) ∷ []) ns until it.up }
+    record {
+      safe = all_are_safe s ((until + 1) ∷ []) ns until it;
+      time = time_kept s ((until + 1) ∷ []) ns until it.up;
+      comes = ends_come_in s ((until + 1) ∷ []) ns until it.up;
+    }
 
 -- ---- an earlier time
 
@@ -31,5 +35,9 @@ safe_earlier s hs u t le safe = grind (arith, agree_earlier, owed_later)
 stays_earlier : (s : Scenario) (hs : List Happening) (u t : ℕ) → u ≤ t → TimeStays s hs t → TimeStays s hs u
 stays_earlier s hs u t le stays h device state cause why there early is clique = stays h device state cause why there (omega (arith, early, le)) is clique
 
+comes_earlier : (s : Scenario) (hs : List Happening) (u t : ℕ) → u ≤ t → ComesIn s hs t → ComesIn s hs u
+comes_earlier s hs u t le comes device from x end on long early good = comes device from x end on long (omega (arith, early, le)) good
+
 pub well_earlier : (s : Scenario) (hs : List Happening) (u t : ℕ) → u ≤ t → GoesWell s hs t → GoesWell s hs u
-well_earlier s hs u t le well = record { safe = safe_earlier s hs u t le well.safe; time = stays_earlier s hs u t le well.time }
+well_earlier s hs u t le well =
+    record { safe = safe_earlier s hs u t le well.safe; time = stays_earlier s hs u t le well.time; comes = comes_earlier s hs u t le well.comes }
