@@ -8,4 +8,5 @@ pub mod OnTime
 pub mod Breaking
 pub mod Spreading
 pub mod ComingIn
+pub mod WorldTime
 pub mod Whole

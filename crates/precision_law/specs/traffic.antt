@@ -9,5 +9,7 @@ pub mod Coming
 pub mod Delivered
 pub mod Bringing
 pub mod Ports
+pub mod Owing
+pub mod Latency
 pub mod safety
 pub mod existence

@@ -1,7 +1,10 @@
 ghost use Rattle.precision_law.specs.Dispatches.{DispatchesHalve, DispatchesStayNear};
 ghost use Rattle.precision_law.specs.IdealClocks.{ClocksKeepTheSpan, ClocksKeepTheirCycles, ValuesAreReachedOnTime};
 ghost use Rattle.precision_law.specs.{Joined.JoinersComeIn, Precision.{ClocksStayTogether, TimeIsKept}};
-ghost use Rattle.precision_law.specs.Progress.{EndSystemsComeIn, EndSystemsComeInSoon};
+ghost use Rattle.precision_law.specs.{
+  Progress.{EndSystemsComeIn, EndSystemsComeInSoon},
+  WorldTime.ClocksKeepWorldTime,
+};
 
 /// The clocks of any two correct synchronised devices stay within the precision.
 pub fn clocks_stay_together()
@@ -24,6 +27,12 @@ pub fn end_systems_come_in()
 /// with the last dispatch of that cycle.
 pub fn clocks_keep_their_cycles()
     ensures { ClocksKeepTheirCycles }
+{}
+
+/// The clock of a correct synchronised device is off the world's time by at most an error a cycle, and ahead of it by how
+/// far apart clocks may start.
+pub fn clocks_keep_world_time()
+    ensures { ClocksKeepWorldTime }
 {}
 
 /// From behind the last correction of a cycle to the first of the next one, these are the ideal clocks of that cycle.

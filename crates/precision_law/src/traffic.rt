@@ -5,4 +5,6 @@ pub mod existence;
 mod laws;
 pub mod safety;
 
-pub use laws::{owed_frames_come, ports_stay_apart, runs_are_safe};
+pub use laws::{
+    deliveries_take_their_time, due_frames_come, owed_frames_come, ports_stay_apart, runs_are_safe,
+};

@@ -9,6 +9,7 @@ use Rattle.precision_law.proofs.words.Blocks.{FramesGoSo, bases_are_in_hulls, ba
 use Rattle.precision_law.proofs.words.Blocks.{emissions_are_of_dispatches, emissions_are_sharp, heard_frames_are_timely, hulls_are_narrow, joiners_come_in}
 use Rattle.precision_law.proofs.words.Laws.{BlocksGoSo, ClocksKeepTheSpan, ClocksKeepTheirCycles, ClocksStayTogether, DispatchesHalve}
 use Rattle.precision_law.proofs.words.Laws.{DispatchesStayNear, FirmDevicesCorrect, JoinersComeIn, PointsHaveCome, SoundMasterSends, StandsOn, TimeIsKept, ValuesAreReachedOnTime}
+use Rattle.precision_law.{proofs.law.WorldTime.clocks_keep_world_time, specs.WorldTime.ClocksKeepWorldTime}
 use Rattle.precision_law.specs.Progress.{EndSystemsComeIn, EndSystemsComeInSoon}
 
 -- ---- what is known
@@ -85,3 +86,6 @@ ends_come_in_soon = end_systems_come_in_soon one_channel_is_sound blocks_known
 
 pub ends_come_in : EndSystemsComeIn
 ends_come_in = end_systems_come_in ends_come_in_soon
+
+pub world_time_kept : ClocksKeepWorldTime
+world_time_kept = clocks_keep_world_time one_channel_is_sound blocks_known.cover blocks_known.goes

@@ -1,9 +1,11 @@
 -- Each run is safe, by what the precision says of blocks.
 use Rattle.precision_law.proofs.{faults.Masters.{good_is_correct, one_channel_is_sound, switches_are_good}, traffic_lemmas.Words.{BringsBlocks, BringsChannels}}
 use Rattle.precision_law.{proofs.faults.Ways.{sound_switches_begin_on, sound_ways_are_whole}, specs.traffic.Ports.{OwedFramesCome, PortsStayApart, RunsAreSafe}}
-use Rattle.precision_law.proofs.{law.Whole.{blocks_known, clocks_agree}, traffic_lemmas.delivery.Sent.Brings}
+use Rattle.precision_law.proofs.{law.Whole.{blocks_known, clocks_agree, ends_come_in}, traffic_lemmas.delivery.Sent.Brings}
 use Rattle.precision_law.proofs.traffic_lemmas.{delivery.Delivering.owed_frames_come, faults.{Firm.sound_switches_keep_time, TurnedOn.timed_are_not_turned_on}}
 use Rattle.precision_law.proofs.traffic_lemmas.{faults.Senders.senders_are_broken, ports.{Apart.ports_stay_apart, Givings.givings_keep_away}}
+use Rattle.precision_law.{proofs.traffic_lemmas.delivery.Owing.due_frames_are_owed, specs.traffic.Owing.{DueFramesAreOwed, DueFramesCome}}
+use Rattle.precision_law.{proofs.traffic_lemmas.delivery.Latency.deliveries_take_their_time, specs.traffic.Latency.DeliveriesTakeTheirTime}
 
 -- what the fault hypothesis leaves
 channels : BringsChannels
@@ -34,6 +36,16 @@ ports_are_apart = ports_stay_apart blocks channels (givings_keep_away blocks tim
 
 pub frames_are_delivered : OwedFramesCome
 frames_are_delivered = owed_frames_come brings
+
+pub due_are_owed : DueFramesAreOwed
+due_are_owed = due_frames_are_owed brings ends_come_in
+
+pub due_are_delivered : DueFramesCome
+due_are_delivered s mark ns until run vl of_vl cycle device due =
+    frames_are_delivered s mark ns until run vl of_vl cycle device (due_are_owed s mark ns until run.up vl of_vl cycle device due)
+
+pub times_are_taken : DeliveriesTakeTheirTime
+times_are_taken = deliveries_take_their_time brings
 
 pub all_are_safe : RunsAreSafe
 all_are_safe s mark ns until run = record {

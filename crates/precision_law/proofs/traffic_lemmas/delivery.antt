@@ -12,3 +12,5 @@ pub mod Sent
 pub mod Once
 pub mod Since
 pub mod Delivering
+pub mod Owing
+pub mod Latency

@@ -17,6 +17,7 @@ use Rattle.precision_law.proofs.traffic_lemmas.{delivery.Takers.end_delivers, sp
 use Rattle.{precision_law.proofs.traffic_lemmas.faults.Channels.good_sources, schedule_tables.specs.declared.rule.Rule.TheVariants.BothChannels}
 use Rattle.run_law.{proofs.law.FirstPlaces.{by_number, number_is}, specs.law.Safety.{IsDelivered, IsInStep, IsOwed, IsRowInto, IsWindowEnd, ReachesPlace}}
 use Rattle.{run_law.{proofs.scenario.Devices.end_test, specs.records.Happenings.happenings}, schedule_tables.specs.{Schedule.EntersOn, Windows.window_end}}
+use Rattle.tte_units.specs.declared.frames.channel.Channel.{Channel}
 use Rattle.run_law.specs.declared.note.NoteBody.TheVariants as notes
 
 -- ---- what is owed, in the view of the run up to the end of the last window
@@ -129,7 +130,7 @@ chain_more gs hs more h (g ∷ rest) chain = (more (cause_of h.note.body) g chai
 -- ---- the law
 
 -- where the last window into the device ends
-last_in_schedule : (v : View) (vl : VlId) (device : DeviceId) (last : ℕ) (into : Entry) → IsView v → IsRowInto v.scenario.network vl device into
+pub last_in_schedule : (v : View) (vl : VlId) (device : DeviceId) (last : ℕ) (into : Entry) → IsView v → IsRowInto v.scenario.network vl device into
     → IsGreatest (IsWindowEnd v.scenario.network vl device) last → IsInSchedule v.sizes last
 last_in_schedule v vl device last into is enters greatest =
     let times = rows_are_in_time v enters.place into is enters.is in
@@ -150,13 +151,13 @@ last_in_schedule v vl device last into is enters greatest =
           record { begins = omega (arith, most, times.begins, times.tolerates); ends = omega (arith, end.2, at.ends) }
     ]
 
--- the row into the device on the sound channel
-sound_row : (v : View) (vl : VlId) (device : DeviceId) (into : Entry) → IsView v → IsEndSystem v.scenario.network device
-    → IsRowInto v.scenario.network vl device into → EntersOn v.scenario.network vl v.channel device
-sound_row v vl device into is end enters =
+-- the row into the device on a channel
+pub row_on : (v : View) (vl : VlId) (channel : Channel) (device : DeviceId) (into : Entry) → IsView v → IsEndSystem v.scenario.network device
+    → IsRowInto v.scenario.network vl device into → EntersOn v.scenario.network vl channel device
+row_on v vl channel device into is end enters =
     let n = v.scenario.network in
     let joint = is.lawful.rules Joints into.row.link.0 into.link enters.is.link in
-    (is.lawful.rules BothChannels vl.0).same device joint.0 v.channel end (record {
+    (is.lawful.rules BothChannels vl.0).same device joint.0 channel end (record {
       place = enters.place;
       entry = into;
       is = enters.is;
@@ -166,13 +167,13 @@ sound_row v vl device into is end enters =
     })
 
 -- the records of a view are those of a list up to its end
-record IsFrontOf (v : View) (hs : List Happening) : Type 0 where
+pub record IsFrontOf (v : View) (hs : List Happening) : Type 0 where
   pub early : (t : ℕ) → t ≤ v.until + 1 → earlier t hs ≡ earlier t v.records
   pub inside : (h : Happening) → IsIn h v.records → IsIn h hs
   pub founded : IsFounded place_of (IsDue v.scenario) hs
 
 -- the device is synchronised behind the beginning of the cycle
-timed_behind : (v : View) (hs : List Happening) (device : DeviceId) (from t : ℕ) → IsFrontOf v hs → IsGood v device
+pub timed_behind : (v : View) (hs : List Happening) (device : DeviceId) (from t : ℕ) → IsFrontOf v hs → IsGood v device
     → ((x : ℕ) → from ≤ x → x ≤ v.until → IsInStep v.scenario hs device x) → from < t → t ≤ v.until → IsTimedAt v device t
 timed_behind v hs device from t front good receiver lt le =
     let next : t - 1 + 1 ≡ t = omega (arith, lt) in
@@ -187,7 +188,7 @@ timed_behind v hs device from t front good receiver lt le =
     }
 
 -- a clock that reaches a place of the cycle does so in the view
-reaches_in : (v : View) (hs : List Happening) (device : DeviceId) (cycle place t : ℕ) → IsView v → IsFrontOf v hs → t ≤ v.until
+pub reaches_in : (v : View) (hs : List Happening) (device : DeviceId) (cycle place t : ℕ) → IsView v → IsFrontOf v hs → t ≤ v.until
     → ReachesPlace v.scenario hs device cycle place t → Reaches v.scenario v.records device (pos (cycle * v.sizes.cycle + place)) t
 reaches_in v hs device cycle place t is front le reaches =
     subst (λ (n : ℕ). Reaches v.scenario v.records device (pos (cycle * n + place)) t) (sym (cycle_is v is))
@@ -223,7 +224,7 @@ sent_in brings v hs until vl of_vl cycle device is front owed end reached = reco
 }
 
 -- the cycle begins before its span
-from_before : Brings → (v : View) (cycle from : ℕ) (device : DeviceId) → IsView v → (span : IsInSpan v cycle v.until) → 1 ≤ cycle → from < v.until
+pub from_before : Brings → (v : View) (cycle from : ℕ) (device : DeviceId) → IsView v → (span : IsInSpan v cycle v.until) → 1 ≤ cycle → from < v.until
     → Reaches v.scenario v.records device (pos (cycle * v.sizes.cycle + 0)) from → IsTimedAt v device (from + 1) → from < span.block.before.next
 from_before brings v cycle from device is span begun lt reaches timed =
     elim (cases_lt from span.block.before.next) [
@@ -258,7 +259,7 @@ owed_in brings v hs until vl of_vl cycle device is front owed end =
     in
     let reached = values_are_reached_in_spans brings.blocks v cycle owed.last v.until device is (timed_at v.until lt (omega arith)) (omega arith)
     owed.occurs.begun within (reaches_in v hs device cycle owed.last v.until is front (omega arith) ends) in
-    let row = sound_row v vl device owed.into is owed.end_system owed.enters in
+    let row = row_on v vl v.channel device owed.into is owed.end_system owed.enters in
     let begins = reaches_in v hs device cycle 0 owed.from is front (omega (arith, lt)) owed.begins in
     let before_span = from_before brings v cycle owed.from device is reached.span owed.occurs.begun lt begins
     (timed_at (owed.from + 1) (omega arith) (omega (arith, lt))) in
@@ -346,7 +347,7 @@ delivered_once_in brings s mark ns until run fit h g device link other cause sec
     (at.cut.has g j (omega arith)) refl one two
 
 -- the numbers of a network in range fit into their fields
-fields_fit : (network : Network) → IsInRange network → FieldsFit network
+pub fields_fit : (network : Network) → IsInRange network → FieldsFit network
 fields_fit network range = record {
   marker = range.marker;
   ids = λ place vl there. (in_all (IsVlInRange network) network.vl place vl range.vls there).id;
