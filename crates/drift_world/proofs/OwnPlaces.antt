@@ -1,10 +1,11 @@
--- A record alone: it stands at the place of its source, and is given with nothing else settled.
+-- A record that stands at the place of its source is given before all that is settled.
 use Rattle.drift_world.{proofs.Turning.{comes_first, is_at, ranked_at}, specs.{Turns.{IsNow, MayWork, source_place}, declared.source.Source.Source}}
-use Rattle.drift_world.proofs.Words.{◌++◌, ◌^◌, ◌∙◌, ◌∷◌, ◌≡◌, AtPort, Bool, ChangesOnly, DeviceId, DueAt, Happening, IfSome, IsBefore}
+use Rattle.drift_world.proofs.Words.{◌++◌, ◌+◌, ◌<◌, ◌^◌, ◌∙◌, ◌∷◌, ◌≡◌, ◌≤◌, AtPort, Bool, ChangesOnly, DeviceId, DueAt, Happening, IfSome, IsBefore, IsIn}
 use Rattle.drift_world.proofs.Words.{IsPutAt, Kept, List, Network, NoSourceBefore, Node, None, Note, Option, Scenario, Settled, Some, Stands, Waits, World, []}
-use Rattle.drift_world.proofs.Words.{ap, arith, at_port, behind, chain, changed_device, departure_body, happenings, keeps, map, numbers_of, on_wire}
-use Rattle.drift_world.proofs.Words.{option_map_or, own_place, place_of, rank, refl, ripe_place, settled_at, stored_as, subst, sym, waiting_as, with_first}
+use Rattle.drift_world.proofs.Words.{ap, arith, at_port, behind, chain, changed_device, departure_body, happenings, inl, inr, is_mapped, keeps, length, map, numbers_of, on_wire}
+use Rattle.drift_world.proofs.Words.{option_map_or, own_place, place_of, rank, refl, ripe_place, settled_at, stored_as, subst, suc, sym, waiting_as, with_first, zero}
 use Rattle.drift_world.{proofs.Words.{world_of, ℕ}, specs.{Giving.IsRunningWith, Ripening.IsJudged, Stepping.StandsPast, declared.state.State.State}}
+use Rattle.std.{proofs.Common.slice_index_or, specs.Prelude.insert}
 use Rattle.world_state.specs.{Hearing.arrived, Leaving.departed, Ripening.{AreSettledSo, ripe_record}, declared.contents.Signal.{Signal as SignalSent}}
 use Rattle.run_law.{proofs.runs.Places.before_behind, specs.declared.steps.{Arrival.Arrival, Ripe.Ripe}}
 use Rattle.run_law.specs.declared.steps.Arrival.TheVariants as arrivals
@@ -55,36 +56,55 @@ judged_far w other = refl
 
 -- ---- it is given
 
--- a record alone is put in
-pub put_alone : (z : Settled) (settled : List Settled) → settled ≡ [] → IsPutAt z settled (z ∷ []) 0
-put_alone z settled none =
-    subst (λ (l : List Settled). IsPutAt z l (z ∷ []) 0) (sym none)
-    (record { within = omega arith; is = refl; behind = λ k d is. absurd (omega (arith, is)); none = λ k d le lt. absurd (omega (arith, lt)) })
+insert_first : (z : Settled) (settled : List Settled) → z ∷ settled ≡ insert settled 0 z
+insert_first z [] = refl
+insert_first z (x ∷ xs) = refl
 
--- it alone, where a frame is judged
-pub judged_alone : (w : Waits) (is : Ripe) (settled : List Settled) → IsJudged is → settled ≡ [] → AreSettledSo w is settled (ripe_record w is ∷ [])
-judged_alone w ripe.Integrates settled judged none = absurd judged
-judged_alone w (ripe.Dropped reason) settled judged none = absurd judged
-judged_alone w other settled judged none = record { mid = _; at = 0; first = put_alone _ settled none; more = refl }
+indexed : (xs : List Settled) (k : ℕ) (d : Settled) → k < length xs → IsIn (slice_index_or xs k d) xs
+indexed [] k d lt = absurd (omega (arith, lt))
+indexed (x ∷ xs) zero d lt = inl refl
+indexed (x ∷ xs) (suc k) d lt = inr (indexed xs k d (omega (arith, lt)))
 
-pub put_on_none : (z : Settled) (settled new : List Settled) (at : ℕ) → settled ≡ [] → IsPutAt z settled new at → new ≡ z ∷ []
-put_on_none z settled new at none put = grind arith
+-- a record that none of these is before is put in before them all
+pub put_ahead : (z : Settled) (settled : List Settled) → ((d : Settled) → IsIn d settled → IsBefore (own_place d) (own_place z) → ⊥)
+    → IsPutAt z settled (z ∷ settled) 0
+put_ahead z settled none = record {
+  within = omega arith;
+  is = insert_first z settled;
+  behind = λ k d is. absurd (omega (arith, is));
+  none = λ k d le lt. none (slice_index_or settled k d) (indexed settled k d lt);
+}
 
--- the world of a state in which it alone is settled, elsewhere in memory
-pub lone_world : {C M : Type 0} (network : Network) (old new : State C M) (first : Settled) (rest : List Settled)
-    → new.under_way.entries ≡ old.under_way.entries → new.waiting.items ≡ old.waiting.items → new.stored.items ≡ old.stored.items → rest ≡ []
+-- and nowhere else
+pub put_first : (z : Settled) (settled new : List Settled) (at : ℕ) → IsPutAt z settled (z ∷ settled) 0 → IsPutAt z settled new at → new ≡ z ∷ settled
+put_first z settled new zero front put = put.is ∙ sym front.is
+put_first z settled new (suc k) front put = let within = put.within in
+    absurd (front.none k z (omega arith) (omega (arith, within)) (put.behind k z (omega arith)))
+
+-- so is its record, where a frame is judged
+pub judged_first : (w : Waits) (is : Ripe) (settled : List Settled) → IsJudged is → IsPutAt (ripe_record w is) settled (ripe_record w is ∷ settled) 0
+    → AreSettledSo w is settled (ripe_record w is ∷ settled)
+judged_first w ripe.Integrates settled judged front = absurd judged
+judged_first w (ripe.Dropped reason) settled judged front = absurd judged
+judged_first w other settled judged front = record { mid = _; at = 0; first = front; more = refl }
+
+-- the world of a state in which it is settled first, elsewhere in memory
+pub first_world : {C M : Type 0} (network : Network) (old new : State C M) (first : Settled) (rest : List Settled)
+    → new.under_way.entries ≡ old.under_way.entries → new.waiting.items ≡ old.waiting.items → new.stored.items ≡ old.stored.items
+    → rest ≡ old.settled.items
     → new ≡ record old { under_way = new.under_way; waiting = new.waiting; stored = new.stored; settled = new.settled }
-    → with_first network new first rest ≡ with_first network old first []
-lone_world {C} {M} network old new first rest entries waiting stored none same =
+    → with_first network new first rest ≡ with_first network old first old.settled.items
+first_world {C} {M} network old new first rest entries waiting stored is same =
     grind (arith, world_of, on_wire, at_port, map, waiting_as, stored_as, settled_at, with_first)
 
-pub settled_alone : {C M : Type 0} (network : Network) (old new : State C M) (first : Settled)
+pub settled_first : {C M : Type 0} (network : Network) (old new : State C M) (first : Settled)
     → new.under_way.entries ≡ old.under_way.entries → new.waiting.items ≡ old.waiting.items → new.stored.items ≡ old.stored.items
-    → new.settled.items ≡ first ∷ [] → new ≡ record old { under_way = new.under_way; waiting = new.waiting; stored = new.stored; settled = new.settled }
-    → world_of network new ≡ with_first network old first []
-settled_alone {C} {M} network old new first entries waiting stored settled same =
+    → new.settled.items ≡ first ∷ old.settled.items
+    → new ≡ record old { under_way = new.under_way; waiting = new.waiting; stored = new.stored; settled = new.settled }
+    → world_of network new ≡ with_first network old first old.settled.items
+settled_first {C} {M} network old new first entries waiting stored settled same =
     ap (λ (zs : List Settled). let w : World C (Kept M) = record (world_of network new) { settled = map (settled_at network new.time) zs } in w) settled
-    ∙ lone_world network old new first [] entries waiting stored refl same
+    ∙ first_world network old new first old.settled.items entries waiting stored refl same
 
 -- no source that is not worked off stands before the place that was worked off last
 pub none_before_last : (s : Scenario) (hs : List Happening) (cursor p q : List ℕ) → cursor ≡ behind p → q ≡ p → NoSourceBefore s hs cursor q
@@ -101,22 +121,36 @@ changes_both device old mid new a b = record {
   waiting = λ w apart. (λ i. (a.waiting w apart).0 ((b.waiting w apart).0 i), λ i. (b.waiting w apart).1 ((a.waiting w apart).1 i));
 }
 
+-- nothing that is settled stands before a record that stands at the place of the source that comes first
+pub none_ahead : {C M : Type 0} (last_step : C → ℕ) (reading : C → ℕ → ℕ) (stands : M → Network → DeviceId → Node → Type 0) (network : Network)
+    (old : State C M) (source : Source) (one : Settled) → MayWork last_step reading stands network old source → IsNow source
+    → place_of (settled_at network old.time one) ≡ source_place old.time source → IsPutAt one old.settled.items (one ∷ old.settled.items) 0
+none_ahead last_step reading stands network old source one may now at =
+    let first = (is_at last_step reading stands network old source may now).first in
+    put_ahead one old.settled.items (λ d i before.
+    first.after (settled_at network old.time d) (is_mapped (settled_at network old.time) old.settled.items d i)
+    (subst (IsBefore (place_of (settled_at network old.time d))) at (inr (refl, before))))
+
 module _ {C M : Type 0} (last_step : C → ℕ) (reading : C → ℕ → ℕ) (stands : M → Network → DeviceId → Node → Type 0) (network : Network)
     (old mid : State C M) (source : Source) (one : Settled) (may : MayWork last_step reading stands network old source) (now : IsNow source)
-    (past : StandsPast reading stands network old mid (source_place old.time source) (one ∷ [])) where
-  -- where it alone is settled, some scenario leaves the state so
-  pub runs_alone : IsRunningWith reading stands network mid one
-  runs_alone = let at = is_at last_step reading stands network old source may now in
-      record { s = at.s; notes = at.notes; is = (past at.s at.notes at.is at.first).0 }
+    (rest : mid.settled.items ≡ old.settled.items)
+    (past : StandsPast reading stands network old mid (source_place old.time source) (one ∷ old.settled.items)) where
+  past_it : StandsPast reading stands network old mid (source_place old.time source) (one ∷ mid.settled.items)
+  past_it = subst (λ (l : List Settled). StandsPast reading stands network old mid (source_place old.time source) (one ∷ l)) (sym rest) past
+
+  -- where it is settled first, some scenario leaves the state so
+  pub runs_first : IsRunningWith reading stands network mid one
+  runs_first = let at = is_at last_step reading stands network old source may now in
+      record { s = at.s; notes = at.notes; is = (past_it at.s at.notes at.is at.first).0 }
 
   -- and it stands once the record is given
-  pub stands_alone : (new : State C M) (more : List Note) → place_of (settled_at network mid.time one) ≡ source_place old.time source
-      → ((s : Scenario) (notes : List Note) (is : Stands reading (keeps stands) s (with_first network mid one []) notes)
+  pub stands_first : (new : State C M) (more : List Note) → place_of (settled_at network mid.time one) ≡ source_place old.time source
+      → ((s : Scenario) (notes : List Note) (is : Stands reading (keeps stands) s (with_first network mid one mid.settled.items) notes)
       → NoSourceBefore s (happenings s.network notes) is.cursor (place_of (settled_at network mid.time one))
       → Stands reading (keeps stands) s (world_of network new) (notes ++ more))
       → (s : Scenario) (notes : List Note) → Stands reading (keeps stands) s (world_of network old) notes
       → Stands reading (keeps stands) s (world_of network new) (notes ++ more)
-  stands_alone new more at gives s notes is =
-      let h = past s notes is (comes_first last_step reading stands network old source s notes may now is) in
+  stands_first new more at gives s notes is =
+      let h = past_it s notes is (comes_first last_step reading stands network old source s notes may now is) in
       gives s notes h.0
       (none_before_last s (happenings s.network notes) h.0.cursor (source_place old.time source) (place_of (settled_at network mid.time one)) h.1 at)

@@ -42,10 +42,10 @@ abbrev pub AreLow : {C M : Type 0} → (C → ℕ → ℕ) → State C M → Typ
 AreLow {C} reading state =
     (k : ℕ) (clock : C) → slice_get state.clocks.items k ≡ Some clock → reading clock state.time ≤ 2 ^ 60 + 2 ^ 51
 
--- some scenario and records leave the state where it stands, if this record is settled, and it alone
+-- some scenario and records leave the state where it stands, if this record is settled, and first
 pub record IsRunningWith {C M : Type 0} (reading : C → ℕ → ℕ) (stands : M → Network → DeviceId → Node
     → Type 0) (network : Network) (state : State C M)
     (first : Settled) : Type 0 where
   pub s : Scenario
   pub notes : List Note
-  pub is : Stands reading (keeps stands) s (with_first network state first []) notes
+  pub is : Stands reading (keeps stands) s (with_first network state first state.settled.items) notes

@@ -1,4 +1,4 @@
-ghost use Rattle.std.specs.Prelude.{◌++◌, ◌+◌, ◌<◌, ◌↔◌, ◌≡◌, IfOk, IsTrue, List, OnErr, []};
+ghost use Rattle.std.specs.Prelude.{◌++◌, ◌+◌, ◌<◌, ◌↔◌, ◌∷◌, ◌≡◌, IfOk, IsTrue, List, OnErr, []};
 ghost use Rattle.{net_plan.specs.Ranges.IsInRange, world_law.specs.world.World.Stands};
 ghost use Rattle.run_law.specs.{declared.note.Note.{Note as NoteOf}, records.{Happenings.happenings, Ranks.place_of}};
 ghost use Rattle.{run_law.specs.scenario.Scenarios.Scenario, world_law.specs.source.First.NoSourceBefore};
@@ -20,7 +20,7 @@ use world_state::storing::taker;
 use world_state::waiting::waiter;
 
 impl<C: Clock, M: Machine + Drop> State<C, M> {
-    ghost use Rattle.world_state.specs.{Giving.{HasItsOctets, changed_device}, Keeping.keeps, Views.settled_at};
+    ghost use Rattle.world_state.specs.{Giving.{HasItsOctets, changed_device}, Keeping.keeps, Places.IsPutAt, Views.settled_at};
     ghost use Rattle.drift_world.specs.{Giving.IsRunningWith, Sound.IsSound, Stepping.ChangesOnly};
     ghost use Rattle.drift_world.specs.Turns.{GivesAt, HasRoom, IsKept, MayWork, WorkSays, given_in};
     ghost use Rattle.drift_world.specs.{Views.{with_first, world_of}, declared.source.Source.Source as SourceOf};
@@ -32,8 +32,8 @@ impl<C: Clock, M: Machine + Drop> State<C, M> {
         self.settled.is_empty()
     }
 
-    /// The record, which is put in nowhere, is given: nothing is settled, and nothing to come stands before it. On an
-    /// error it is put in among what is settled.
+    /// The record, which is put in nowhere, is given: nothing that is settled or to come stands before it. On an error
+    /// it is put in among what is settled.
     #[inline(always)]
     fn give_alone(
         &mut self,
@@ -44,7 +44,7 @@ impl<C: Clock, M: Machine + Drop> State<C, M> {
         requires sound { IsSound C.last_step network.now self.old }
         requires range { IsInRange network.now }
         requires room { HasRoom self.old }
-        requires empty { self.old.settled.items ≡ [] }
+        requires front { IsPutAt first self.old.settled.items (first ∷ self.old.settled.items) 0 }
         requires octets { HasItsOctets first.body first.octets }
         requires running { IsRunningWith C.reading M.stands network.now self.old first }
         ensures sound { IsSound C.last_step network.now self.new }
@@ -56,7 +56,7 @@ impl<C: Clock, M: Machine + Drop> State<C, M> {
           given = self.new.given;
         } }
         ensures stands { let z = settled_at network.now self.old.time first in (s : Scenario) (notes : List NoteOf)
-            → (old : Stands C.reading (keeps M.stands) s (with_first network.now self.old first []) notes)
+            → (old : Stands C.reading (keeps M.stands) s (with_first network.now self.old first self.old.settled.items) notes)
             → NoSourceBefore s (happenings s.network notes) old.cursor (place_of z)
             → Stands C.reading (keeps M.stands) s (world_of network.now self.new) (notes ++ given_in result note.new) }
         ensures says { IfOk result (GivesAt self.old self.new note.new) }
@@ -79,8 +79,8 @@ impl<C: Clock, M: Machine + Drop> State<C, M> {
         Ok(Turn::Gives)
     }
 
-    /// What is first on a wire arrives. Where nothing is settled, and it is a control frame that its device takes, its
-    /// record is given at once: it stands at the place of the source.
+    /// What is first on a wire arrives. Where it is a control frame that its device takes, its record is given at once:
+    /// it stands at the place of the source.
     #[inline(always)]
     pub fn arrival_turn(
         &mut self,
@@ -93,10 +93,9 @@ impl<C: Clock, M: Machine + Drop> State<C, M> {
         ensures says { IfOk result (WorkSays network.now self.old self.new note.new) }
         ensures err { OnErr result (self.new.time ≡ self.old.time) }
     {
-        let alone = self.has_none_settled();
         let before = self.due_of(network, place.device);
         let record = self.hear_wire(network, place);
-        if alone && rank_of(&record) == Rank::Arrived.number() {
+        if rank_of(&record) == Rank::Arrived.number() {
             let turn = self.give_alone(network, record, note);
             self.rekey_from(network, place.device, before);
             return turn;
@@ -106,8 +105,8 @@ impl<C: Clock, M: Machine + Drop> State<C, M> {
         Ok(Turn::GoesOn)
     }
 
-    /// The frame that is first at a port leaves. Where nothing is settled, and it goes on its wire, its record is given
-    /// at once: it stands at the place of the source.
+    /// The frame that is first at a port leaves. Where it goes on its wire, its record is given at once: it stands at
+    /// the place of the source.
     #[inline(always)]
     pub fn departure_turn(
         &mut self,
@@ -120,19 +119,18 @@ impl<C: Clock, M: Machine + Drop> State<C, M> {
         ensures says { IfOk result (WorkSays network.now self.old self.new note.new) }
         ensures err { OnErr result (self.new.time ≡ self.old.time) }
     {
-        let alone = self.has_none_settled();
         let Some(record) = self.leave_port(network, place) else {
             return Ok(Turn::GoesOn);
         };
-        if alone && rank_of(&record) == Rank::Left.number() {
+        if rank_of(&record) == Rank::Left.number() {
             return self.give_alone(network, record, note);
         }
         put_in(&mut self.settled, record);
         Ok(Turn::GoesOn)
     }
 
-    /// The frame that is the first that is permanent is judged. Where nothing is settled, and its only record is how it
-    /// is judged, this is given at once: it stands at the place of the source.
+    /// The frame that is the first that is permanent is judged. Where its only record is how it is judged, this is given
+    /// at once: it stands at the place of the source.
     #[inline(always)]
     pub fn ripening_turn(
         &mut self,
@@ -145,10 +143,9 @@ impl<C: Clock, M: Machine + Drop> State<C, M> {
         ensures says { IfOk result (WorkSays network.now self.old self.new note.new) }
         ensures err { OnErr result (self.new.time ≡ self.old.time) }
     {
-        let alone = self.has_none_settled();
         let before = self.due_of(network, one.device.0);
         let ripened = self.ripen_waits(network, one.device);
-        if alone && is_judged(ripened.ripe) {
+        if is_judged(ripened.ripe) {
             let record = record_of(&ripened.waits, ripened.ripe);
             let turn = self.give_alone(network, record, note);
             self.rekey_from(network, one.device.0, before);

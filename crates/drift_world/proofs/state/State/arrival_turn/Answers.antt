@@ -1,6 +1,6 @@
 use Rattle.drift_world.{proofs.{Dues.due_stays, state.State.arrival_turn.Goals.{After-give_alone-turn, After-put_in}}, specs.declared.state.State.State}
-use Rattle.drift_world.proofs.{Fits.{all_put, have_octets, sound_same}, Timings.rekeyed, Words.{length, place_of, rank, refl, settled_at, subst, world_of, ℕ}}
-use Rattle.drift_world.{proofs.{Halves.set_act, OwnPlaces.{changes_both, put_alone, runs_alone, stands_alone}}, specs.Turns.given_in}
+use Rattle.drift_world.proofs.{Fits.{all_put, have_octets, sound_same}, Timings.rekeyed, Words.{length, place_of, rank, refl, settled_at, subst, sym, world_of, ℕ}}
+use Rattle.drift_world.{proofs.{Halves.set_act, OwnPlaces.{changes_both, none_ahead, runs_first, stands_first}}, specs.Turns.given_in}
 use Rattle.drift_world.{proofs.Turning.{comes_first, is_at, kept_timers, rekeyed_step, runs_on, step_kept}, specs.declared.source.Source.TheVariants.Arrival}
 use Rattle.drift_world.proofs.Words.{◌++◌, ◌∙◌, ◌∷◌, ◌≡◌, ChangesOnly, DeviceId, IsPutAt, IsSound, List, Note, Scenario, Settled, Stands, [], ap, arith, keeps}
 use Rattle.drift_world.proofs.state.State.arrival_turn.Given as given
@@ -12,12 +12,23 @@ hear_wire-record-requires-clause-comes g c = is_at g.C.Clock.last_step g.C.Clock
 
 -- ---- it is given alone
 
+pub give_alone-turn-requires-clause-front : goal.give_alone-turn-requires-clause-front
+give_alone-turn-requires-clause-front g c =
+    subst (λ (l : List Settled). IsPutAt c.hear_wire-record.result l (c.hear_wire-record.result ∷ l) 0)
+    (sym (ap (λ (t : State _ _). t.settled.items) c.hear_wire-record.ensures.same))
+    (none_ahead g.C.Clock.last_step g.C.Clock.reading g.M.Machine.stands c.args.network.now c.args.self.now (Arrival c.args.place)
+    c.hear_wire-record.result c.requires.may tt
+    (c.hear_wire-record.ensures.own (omega (arith, c.rank_of.ensures, c.number.ensures, c.if-rank_of-number.true))))
+
 pub give_alone-turn-requires-clause-running : goal.give_alone-turn-requires-clause-running
 give_alone-turn-requires-clause-running g c =
     let one = c.hear_wire-record.result in
-    runs_alone g.C.Clock.last_step g.C.Clock.reading g.M.Machine.stands c.args.network.now c.args.self.now c.hear_wire-record.new.self (Arrival c.args.place)
-    one c.requires.may tt
-    (c.hear_wire-record.ensures.stands (one ∷ []) 0 (put_alone one c.args.self.now.settled.items (c.has_none_settled-alone.ensures.0 c.if-alone.true)))
+    runs_first g.C.Clock.last_step g.C.Clock.reading g.M.Machine.stands c.args.network.now c.args.self.now c.hear_wire-record.new.self (Arrival c.args.place)
+    one c.requires.may tt (ap (λ (t : State _ _). t.settled.items) c.hear_wire-record.ensures.same)
+    (c.hear_wire-record.ensures.stands (one ∷ c.args.self.now.settled.items) 0
+    (none_ahead g.C.Clock.last_step g.C.Clock.reading g.M.Machine.stands c.args.network.now c.args.self.now (Arrival c.args.place)
+    c.hear_wire-record.result c.requires.may tt
+    (c.hear_wire-record.ensures.own (omega (arith, c.rank_of.ensures, c.number.ensures, c.if-rank_of-number.true)))))
 
 arriving : (g : given.Over) (c : After-give_alone-turn g) → rank c.hear_wire-record.result.body ≡ 2
 arriving g c = omega (arith, c.rank_of.ensures, c.number.ensures, c.if-rank_of-number.true)
@@ -29,9 +40,11 @@ given_so : (g : given.Over) (c : After-give_alone-turn g) (s : Scenario) (notes 
 given_so g c =
     let one = c.hear_wire-record.result in
     let hear = c.hear_wire-record.ensures in
-    stands_alone g.C.Clock.last_step g.C.Clock.reading g.M.Machine.stands c.args.network.now c.args.self.now c.hear_wire-record.new.self (Arrival c.args.place)
-    one c.requires.may tt
-    (hear.stands (one ∷ []) 0 (put_alone one c.args.self.now.settled.items (c.has_none_settled-alone.ensures.0 c.if-alone.true)))
+    stands_first g.C.Clock.last_step g.C.Clock.reading g.M.Machine.stands c.args.network.now c.args.self.now c.hear_wire-record.new.self (Arrival c.args.place)
+    one c.requires.may tt (ap (λ (t : State _ _). t.settled.items) hear.same)
+    (hear.stands (one ∷ c.args.self.now.settled.items) 0
+    (none_ahead g.C.Clock.last_step g.C.Clock.reading g.M.Machine.stands c.args.network.now c.args.self.now (Arrival c.args.place) one c.requires.may tt
+    (hear.own (arriving g c))))
     c.give_alone-turn.new.self _
     (ap (λ (t : ℕ). place_of (settled_at c.args.network.now t one)) hear.others.time ∙ hear.own (arriving g c))
     c.give_alone-turn.ensures.stands

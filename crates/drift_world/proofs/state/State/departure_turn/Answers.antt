@@ -1,7 +1,7 @@
 use Rattle.drift_world.{proofs.Fits.{all_put, have_octets, sound_same}, specs.declared.{source.Source.TheVariants.Departure, state.State.State}}
-use Rattle.drift_world.proofs.{OwnPlaces.{changes_both, put_alone, runs_alone, stands_alone}, Turning.{comes_first, kept_timers, plain_step, step_kept}}
+use Rattle.drift_world.proofs.{OwnPlaces.{changes_both, none_ahead, runs_first, stands_first}, Turning.{comes_first, kept_timers, plain_step, step_kept}}
 use Rattle.drift_world.proofs.{Timings.aside, Words.ℕ}
-use Rattle.drift_world.proofs.Words.{◌∙◌, ◌∷◌, ◌≡◌, ChangesOnly, IsPutAt, List, Settled, [], ap, arith, changed_device, place_of, rank, refl, settled_at, subst}
+use Rattle.drift_world.proofs.Words.{◌∙◌, ◌∷◌, ◌≡◌, ChangesOnly, IsPutAt, List, Settled, [], ap, arith, changed_device, place_of, rank, refl, settled_at, subst, sym}
 use Rattle.drift_world.proofs.state.State.departure_turn.Goals as goal
 
 pub returns-in_default-clause-kept : goal.returns-in_default-clause-kept
@@ -16,12 +16,23 @@ returns-in_default-clause-kept g c =
     (comes_first g.C.Clock.last_step g.C.Clock.reading g.M.Machine.stands c.args.network.now c.args.self.now (Departure c.args.place) s notes c.requires.may tt
     old)).0))
 
+pub give_alone-requires-clause-front : goal.give_alone-requires-clause-front
+give_alone-requires-clause-front g c =
+    subst (λ (l : List Settled). IsPutAt c.in-Some.record l (c.in-Some.record ∷ l) 0)
+    (sym (ap (λ (t : State _ _). t.settled.items) c.in-Some.ensures.same)) (none_ahead g.C.Clock.last_step g.C.Clock.reading g.M.Machine.stands c.args.network.now
+    c.args.self.now (Departure c.args.place) c.in-Some.record c.requires.may tt
+    (c.in-Some.ensures.own (omega (arith, c.rank_of.ensures, c.number.ensures, c.if-rank_of-number.true))))
+
 pub give_alone-requires-clause-running : goal.give_alone-requires-clause-running
 give_alone-requires-clause-running g c =
-    let one = c.in-Some.record in
-    runs_alone g.C.Clock.last_step g.C.Clock.reading g.M.Machine.stands c.args.network.now c.args.self.now c.leave_port.new.self (Departure c.args.place) one
-    c.requires.may tt
-    (c.in-Some.ensures.stands (one ∷ []) (0, put_alone one c.args.self.now.settled.items (c.has_none_settled-alone.ensures.0 c.if-alone.true)))
+    runs_first g.C.Clock.last_step g.C.Clock.reading g.M.Machine.stands c.args.network.now c.args.self.now c.leave_port.new.self (Departure c.args.place)
+    c.in-Some.record c.requires.may tt (ap (λ (t : State _ _). t.settled.items) c.in-Some.ensures.same)
+    (c.in-Some.ensures.stands (c.in-Some.record ∷ c.args.self.now.settled.items) (
+      0,
+      none_ahead g.C.Clock.last_step g.C.Clock.reading g.M.Machine.stands
+          c.args.network.now c.args.self.now (Departure c.args.place) c.in-Some.record c.requires.may tt
+          (c.in-Some.ensures.own (omega (arith, c.rank_of.ensures, c.number.ensures, c.if-rank_of-number.true))),
+    ))
 
 pub returns-then-rank_of-number-clause-kept : goal.returns-then-rank_of-number-clause-kept
 returns-then-rank_of-number-clause-kept g c =
@@ -42,8 +53,13 @@ returns-then-rank_of-number-clause-kept g c =
     let time = changes.time in
     kept_timers g.C.Clock.last_step g.C.Clock.reading g.M.Machine.stands c.args.network.now c.args.self.now gave gave _ may.well.running give.sound
     (record { clocks = changes.clocks; ended = changes.ended; later = omega (arith, time) })
-    (stands_alone g.C.Clock.last_step g.C.Clock.reading g.M.Machine.stands c.args.network.now c.args.self.now mid (Departure c.args.place) one may tt
-    (left.stands (one ∷ []) (0, put_alone one c.args.self.now.settled.items (c.has_none_settled-alone.ensures.0 c.if-alone.true))) gave _
+    (stands_first g.C.Clock.last_step g.C.Clock.reading g.M.Machine.stands c.args.network.now c.args.self.now mid (Departure c.args.place) one may tt
+    (ap (λ (t : State _ _). t.settled.items) left.same)
+    (left.stands (one ∷ c.args.self.now.settled.items) (
+      0,
+      none_ahead g.C.Clock.last_step g.C.Clock.reading g.M.Machine.stands c.args.network.now c.args.self.now (Departure c.args.place) one may tt
+          (left.own eight),
+    )) gave _
     (ap (λ (t : ℕ). place_of (settled_at c.args.network.now t one)) (left.others 0).time ∙ left.own eight) give.stands)
     refl
     (aside g.C.Clock.reading g.M.Machine.stands c.args.network.now other c.args.self.now gave may.well.timed (omega (arith, far, few)) changes

@@ -1,7 +1,7 @@
-use Rattle.drift_world.proofs.{Fits.{all_put, have_octets, sound_same}, Gave.{changes_since, unchanged}, OwnPlaces.{lone_world, put_on_none, settled_alone}}
+use Rattle.drift_world.proofs.{Fits.{all_put, have_octets, sound_same}, Gave.{changes_since, unchanged}, OwnPlaces.{first_world, put_first, settled_first}}
 use Rattle.drift_world.{proofs.{MayGive.{low_now, may_be_given}, Words.ℕ}, specs.declared.state.State.State}
 use Rattle.drift_world.proofs.Words.{◌++◌, ◌+◌, ◌∙◌, ◌∷◌, ◌≡◌, List, NoSourceBefore, Note, Stands, StandsBehind, World, [], ap, append-nil, behind}
-use Rattle.drift_world.proofs.Words.{changed_device, happenings, keeps, length, note_of, place_of, refl, settled_at, subst, sym, units_of, with_first, world_of}
+use Rattle.drift_world.proofs.Words.{changed_device, happenings, keeps, length, map, note_of, place_of, refl, settled_at, subst, sym, units_of, with_first, world_of}
 use Rattle.drift_world.proofs.state.State.give_alone.Goals as goal
 
 pub returns-in-Err-clause-sound : goal.returns-in-Err-clause-sound
@@ -25,8 +25,8 @@ returns-in-Err-clause-stands g c = λ s notes old none.
     } in
     subst (λ (l : List Note). Stands g.C.Clock.reading (keeps g.M.Machine.stands) s (world_of network new) l) (sym (append-nil notes))
     (subst (λ (v : World _ _). Stands g.C.Clock.reading (keeps g.M.Machine.stands) s v notes)
-    (sym (settled_alone network w new c.args.first room.entries room.waiting room.stored
-    (put_on_none c.args.first _ _ put.0 c.requires.empty put.1) refl))
+    (sym (settled_first network w new c.args.first room.entries room.waiting room.stored
+    (put_first c.args.first _ _ put.0 c.requires.front put.1) refl))
     old)
 
 pub returns-in-Err-clause-others : goal.returns-in-Err-clause-others
@@ -43,7 +43,8 @@ give_first-requires-clause-may g c =
     let w = c.args.self.now in
     let network = c.args.network.now in
     let run = c.requires.running in
-    may_be_given g.C.Clock.reading (keeps g.M.Machine.stands) run.s (with_first network w c.args.first []) run.notes network w.time c.args.first [] run.is
+    may_be_given g.C.Clock.reading (keeps g.M.Machine.stands) run.s (with_first network w c.args.first w.settled.items) run.notes network w.time c.args.first
+    (map (settled_at network w.time) w.settled.items) run.is
     run.is.same refl c.requires.octets
 
 pub give_first-requires-clause-low : goal.give_first-requires-clause-low
@@ -51,7 +52,7 @@ give_first-requires-clause-low g c =
     let w = c.args.self.now in
     let network = c.args.network.now in
     let run = c.requires.running in
-    low_now g.C.Clock.reading (keeps g.M.Machine.stands) run.s (with_first network w c.args.first []) run.notes run.is _
+    low_now g.C.Clock.reading (keeps g.M.Machine.stands) run.s (with_first network w c.args.first w.settled.items) run.notes run.is _
     (ap (λ n. length n.device) run.is.same) c.requires.sound.sized.clocks
 
 pub returns-clause-stands : goal.returns-clause-stands
@@ -71,8 +72,8 @@ returns-clause-stands g c = λ s notes old none.
     let z = settled_at network w.time first in
     let Steps = λ (q : World _ _). (o : Stands K.reading stands s q notes) → NoSourceBefore s (happenings s.network notes) o.cursor (place_of z)
     → StandsBehind K.reading stands s (world_of network new) (notes ++ note_of notes z ∷ []) (behind (place_of z)) in
-    let step : Steps (with_first network w first []) =
-    subst Steps (lone_world network w mid first w.settled.items room.entries room.waiting room.stored c.requires.empty refl)
+    let step : Steps (with_first network w first w.settled.items) =
+    subst Steps (first_world network w mid first w.settled.items room.entries room.waiting room.stored refl refl)
     (c.give_first.ensures.stands s notes) in
     let same : c.give_first.new.note ≡ note_of notes z = c.give_first.ensures.note
     ∙ ap (λ (k : ℕ). let n : Note = record { number = k + 1; time = units_of w.time; body = first.body } in n) old.given in

@@ -1,8 +1,8 @@
-use Rattle.drift_world.proofs.{Dues.due_stays, OwnPlaces.{judged_alone, judged_far, judged_own, runs_alone, stands_alone}, Ripenings.{octets_fit, record_fits}}
+use Rattle.drift_world.proofs.{Dues.due_stays, OwnPlaces.{judged_far, judged_first, judged_own, none_ahead, runs_first, stands_first}, Ripenings.{octets_fit, record_fits}}
 use Rattle.{drift_world.{proofs.Fits.{have_octets, sound_same}, specs.declared.state.State.State}, world_state.specs.Ripening.{AreSettledSo, ripe_record}}
 use Rattle.{drift_world.{proofs.Timings.rekeyed_by, specs.Stepping.StandsPast}, run_law.specs.declared.steps.Ripe.Ripe, world_law.proofs.giving.Given.some_same}
 use Rattle.drift_world.{proofs.Turning.{comes_first, is_at, kept_timers, rekeyed_step, runs_on, step_kept}, specs.declared.source.Source.TheVariants.Ripening}
-use Rattle.drift_world.proofs.Words.{◌++◌, ◌∙◌, ◌∷◌, ◌≡◌, ◌≤ℤ◌, ChangesOnly, DeviceId, IsSound, List, Network, Node, Note, Scenario, Settled, Some, Stands}
+use Rattle.drift_world.proofs.Words.{◌++◌, ◌∙◌, ◌∷◌, ◌≡◌, ◌≤ℤ◌, ChangesOnly, DeviceId, IsPutAt, IsSound, List, Network, Node, Note, Scenario, Settled, Some, Stands}
 use Rattle.drift_world.proofs.Words.{Waits, [], ap, arith, changed_device, keeps, length, place_of, pos, refl, ripe_place, settled_at, subst, sym, waiting_as}
 use Rattle.{drift_world.{proofs.Words.{world_of, ℕ}, specs.Ripening.IsJudged}, std.proofs.Common.{is_some, slice_get}, world_state.specs.Frames.first_of}
 use Rattle.drift_world.{proofs.state.State.ripening_turn.Goals.{After-give_alone-turn, After-settle_ripe}, specs.Turns.{IsRipe, MayWork, given_in}}
@@ -43,23 +43,45 @@ give_alone-turn-requires-clause-octets g c =
     subst have_octets (sym c.record_of-record.ensures) (record_fits c.ripen_waits-ripened.result.waits c.ripen_waits-ripened.result.ripe)
 
 past : {C M : Type 0} (reading : C → ℕ → ℕ) (stands : M → Network → DeviceId → Node → Type 0) (network : Network) (old new : State C M)
-    (w : Waits) (is : Ripe) (one : Settled) → one ≡ ripe_record w is → IsJudged is → old.settled.items ≡ []
+    (w : Waits) (is : Ripe) (one : Settled) → one ≡ ripe_record w is → IsJudged is → IsPutAt one old.settled.items (one ∷ old.settled.items) 0
     → ((settled : List Settled) → AreSettledSo w is old.settled.items settled
     → StandsPast reading stands network old new (ripe_place old.time (waiting_as w)) settled)
-    → StandsPast reading stands network old new (ripe_place old.time (waiting_as w)) (one ∷ [])
-past reading stands network old new w is one same judged none stands_past =
-    stands_past (one ∷ [])
-    (subst (λ (x : Settled). AreSettledSo w is old.settled.items (x ∷ [])) (sym same) (judged_alone w is old.settled.items judged none))
+    → StandsPast reading stands network old new (ripe_place old.time (waiting_as w)) (one ∷ old.settled.items)
+past reading stands network old new w is one same judged front stands_past =
+    stands_past (one ∷ old.settled.items)
+    (subst (λ (x : Settled). AreSettledSo w is old.settled.items (x ∷ old.settled.items)) (sym same)
+    (judged_first w is old.settled.items judged (subst (λ (x : Settled). IsPutAt x old.settled.items (x ∷ old.settled.items) 0) same front)))
+
+-- nothing that is settled stands before its record
+ahead : {C M : Type 0} (last_step : C → ℕ) (reading : C → ℕ → ℕ) (stands : M → Network → DeviceId → Node → Type 0) (network : Network)
+    (state : State C M) (one : Waits) (w : Waits) (is : Ripe) (z : Settled) → MayWork last_step reading stands network state (Ripening one)
+    → first_of state.waiting one.device.0 ≡ Some w → z ≡ ripe_record w is → IsJudged is
+    → IsPutAt z state.settled.items (z ∷ state.settled.items) 0
+ahead last_step reading stands network state one w is z may at same judged =
+    none_ahead last_step reading stands network state (Ripening w) z (first_ripe last_step reading stands network state one w may at) tt
+    (ap (λ (x : Settled). place_of (settled_at network state.time x)) same ∙ judged_own network state.time w is judged)
+
+pub give_alone-turn-requires-clause-front : goal.give_alone-turn-requires-clause-front
+give_alone-turn-requires-clause-front g c =
+    subst (λ (l : List Settled). IsPutAt c.record_of-record.result l (c.record_of-record.result ∷ l) 0)
+    (sym (ap (λ (t : State _ _). t.settled.items) c.ripen_waits-ripened.ensures.same))
+    (ahead g.C.Clock.last_step g.C.Clock.reading g.M.Machine.stands c.args.network.now c.args.self.now c.args.one c.ripen_waits-ripened.result.waits
+    c.ripen_waits-ripened.result.ripe c.record_of-record.result c.requires.may c.ripen_waits-ripened.ensures.is c.record_of-record.ensures
+    (c.is_judged.ensures.0 c.if-is_judged.true))
 
 pub give_alone-turn-requires-clause-running : goal.give_alone-turn-requires-clause-running
 give_alone-turn-requires-clause-running g c =
-    runs_alone g.C.Clock.last_step g.C.Clock.reading g.M.Machine.stands c.args.network.now c.args.self.now c.ripen_waits-ripened.new.self
+    runs_first g.C.Clock.last_step g.C.Clock.reading g.M.Machine.stands c.args.network.now c.args.self.now c.ripen_waits-ripened.new.self
     (Ripening c.ripen_waits-ripened.result.waits) c.record_of-record.result
     (first_ripe g.C.Clock.last_step g.C.Clock.reading g.M.Machine.stands c.args.network.now c.args.self.now c.args.one c.ripen_waits-ripened.result.waits
     c.requires.may c.ripen_waits-ripened.ensures.is) tt
+    (ap (λ (t : State _ _). t.settled.items) c.ripen_waits-ripened.ensures.same)
     (past g.C.Clock.reading g.M.Machine.stands c.args.network.now c.args.self.now c.ripen_waits-ripened.new.self c.ripen_waits-ripened.result.waits
     c.ripen_waits-ripened.result.ripe c.record_of-record.result
-    c.record_of-record.ensures (c.is_judged.ensures.0 c.if-is_judged.true) (c.has_none_settled-alone.ensures.0 c.if-alone.true)
+    c.record_of-record.ensures (c.is_judged.ensures.0 c.if-is_judged.true)
+    (ahead g.C.Clock.last_step g.C.Clock.reading g.M.Machine.stands c.args.network.now c.args.self.now c.args.one c.ripen_waits-ripened.result.waits
+    c.ripen_waits-ripened.result.ripe c.record_of-record.result c.requires.may c.ripen_waits-ripened.ensures.is c.record_of-record.ensures
+    (c.is_judged.ensures.0 c.if-is_judged.true))
     c.ripen_waits-ripened.ensures.stands)
 
 given_so : (g : given.Over) (c : After-give_alone-turn g) (s : Scenario) (notes : List Note)
@@ -69,13 +91,17 @@ given_so : (g : given.Over) (c : After-give_alone-turn g) (s : Scenario) (notes 
 given_so g c =
     let got = c.ripen_waits-ripened.result in
     let one = c.record_of-record.result in
-    stands_alone g.C.Clock.last_step g.C.Clock.reading g.M.Machine.stands c.args.network.now c.args.self.now c.ripen_waits-ripened.new.self (Ripening got.waits)
+    stands_first g.C.Clock.last_step g.C.Clock.reading g.M.Machine.stands c.args.network.now c.args.self.now c.ripen_waits-ripened.new.self (Ripening got.waits)
     one
     (first_ripe g.C.Clock.last_step g.C.Clock.reading g.M.Machine.stands c.args.network.now c.args.self.now c.args.one c.ripen_waits-ripened.result.waits
     c.requires.may c.ripen_waits-ripened.ensures.is) tt
+    (ap (λ (t : State _ _). t.settled.items) c.ripen_waits-ripened.ensures.same)
     (past g.C.Clock.reading g.M.Machine.stands c.args.network.now c.args.self.now c.ripen_waits-ripened.new.self c.ripen_waits-ripened.result.waits
     c.ripen_waits-ripened.result.ripe c.record_of-record.result
-    c.record_of-record.ensures (c.is_judged.ensures.0 c.if-is_judged.true) (c.has_none_settled-alone.ensures.0 c.if-alone.true)
+    c.record_of-record.ensures (c.is_judged.ensures.0 c.if-is_judged.true)
+    (ahead g.C.Clock.last_step g.C.Clock.reading g.M.Machine.stands c.args.network.now c.args.self.now c.args.one c.ripen_waits-ripened.result.waits
+    c.ripen_waits-ripened.result.ripe c.record_of-record.result c.requires.may c.ripen_waits-ripened.ensures.is c.record_of-record.ensures
+    (c.is_judged.ensures.0 c.if-is_judged.true))
     c.ripen_waits-ripened.ensures.stands) c.give_alone-turn.new.self _
     (ap (λ (t : ℕ). place_of (settled_at c.args.network.now t one)) c.ripen_waits-ripened.ensures.others.time
     ∙ ap (λ (x : Settled). place_of (settled_at c.args.network.now c.args.self.now.time x)) c.record_of-record.ensures
