@@ -33,7 +33,7 @@ pub record IsFixedByPoints (s : Scenario) (front : List Happening) (t : ℕ) (de
 
 -- the first correction of a joiner is by what it heard alone; what it dispatches lies near what the other masters do;
 -- and from then on its clock is close to theirs while both are synchronised
-pub record ComesIn (s : Scenario) (hs : List Happening) (until : ℕ) (device : DeviceId) (h : Happening)
+pub record JoinerComesIn (s : Scenario) (hs : List Happening) (until : ℕ) (device : DeviceId) (h : Happening)
     (f : IsFirstCorrection s hs device h) : Type 0 where
   pub fixed : IsFixedByPoints s f.front (time_of h) device f.adjustment
   pub near : (cycle : ℕ) (g other : Happening) → (own : IsDispatchOf hs until cycle g) → own.master ≡ device
@@ -52,4 +52,4 @@ JoinersComeIn =
     (s : Scenario) (mark : List ℕ) (ns : List Note) (until : ℕ) → IsRunUpTo s mark ns until
     → (device : DeviceId) (h : Happening) → time_of h ≤ until
     → (f : IsFirstCorrection s (happenings s.network ns) device h)
-    → ComesIn s (happenings s.network ns) until device h f
+    → JoinerComesIn s (happenings s.network ns) until device h f

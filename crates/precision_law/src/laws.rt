@@ -16,8 +16,8 @@ pub fn time_is_kept()
     ensures { TimeIsKept }
 {}
 
-/// An end system that is on is synchronised from three cycles later on, and sooner by the network's numbers, while it is
-/// not broken.
+/// An end system that is on is synchronised from three cycles later on, while it is not broken; two cycles, the
+/// correction offset, the spread of the dispatches and three errors are enough.
 pub fn end_systems_come_in()
     ensures soon { EndSystemsComeInSoon }
     ensures in_three_cycles { EndSystemsComeIn }
@@ -29,8 +29,8 @@ pub fn clocks_keep_their_cycles()
     ensures { ClocksKeepTheirCycles }
 {}
 
-/// The clock of a correct synchronised device is off the world's time by at most an error a cycle, and ahead of it by how
-/// far apart clocks may start.
+/// The clock of a correct synchronised device that was last set for cycle n is behind world time by at most n + 1 errors,
+/// and ahead of it by at most as much and how far apart clocks may start.
 pub fn clocks_keep_world_time()
     ensures { ClocksKeepWorldTime }
 {}

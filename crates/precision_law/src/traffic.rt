@@ -6,5 +6,6 @@ mod laws;
 pub mod safety;
 
 pub use laws::{
-    deliveries_take_their_time, due_frames_come, owed_frames_come, ports_stay_apart, runs_are_safe,
+    deliveries_keep_pace, deliveries_take_their_time, due_frames_come, owed_frames_come,
+    ports_stay_apart, runs_are_safe,
 };

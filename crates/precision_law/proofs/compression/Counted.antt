@@ -4,7 +4,7 @@ use Rattle.precision_law.proofs.words.Plans.{AllButOne, AreClusters, Cluster, Is
 use Rattle.precision_law.proofs.words.Plans.{cluster_of, counts, end_of, end_of-least, firsts, firsts-start, from_beyond, has_master, held-start, in_cases}
 use Rattle.precision_law.proofs.words.Plans.{in_head, in_none, in_tail, mean_of-floor, members_of, members_of-clear, members_of-set, middle_among_others}
 use Rattle.precision_law.proofs.words.{Plans.{middle_of, of_cycle_within, relative, with_first, with_first-new, with_first-old}, Runs.{IsIn, in_parts}}
-use Rattle.precision_law.proofs.words.Std.{◌&&◌, ◌*ℤ◌, ◌*◌, ◌++◌, ◌+ℤ◌, ◌+◌, ◌-ℤ◌, ◌/◌, ◌==◌, ◌^◌, ◌∙◌, ◌∷◌, ◌≡◌, ◌≤ℤ◌, ◌≤◌, ◌⊎◌, All, All-cons, All-nil}
+use Rattle.precision_law.proofs.words.Std.{◌&&◌, ◌*ℤ◌, ◌++◌, ◌+ℤ◌, ◌+◌, ◌-ℤ◌, ◌/◌, ◌==◌, ◌^◌, ◌∙◌, ◌∷◌, ◌≡◌, ◌≤ℤ◌, ◌≤◌, ◌⊎◌, All, All-cons, All-nil}
 use Rattle.precision_law.proofs.words.Std.{AllByRecursion, Bool, Contains, List, [], and_le_r, and_parts, and_pow, ap, arith, bit_at, bit_or, cases_Bool}
 use Rattle.precision_law.proofs.words.Std.{count_ones, eqb-false, eqb-true, false, filter, fold, inl, inr, int_le, ints, length, map, ones_le_self, ones_step}
 use Rattle.precision_law.proofs.words.Std.{or_cases, or_disjoint, or_parts, pos, pow-suc, pow_pos, refl, subst, suc, sym, true, zero, ℕ, ℤ}

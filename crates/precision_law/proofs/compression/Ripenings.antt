@@ -2,7 +2,7 @@
 use Rattle.precision_law.proofs.{compression.Emitted.arrival_young, hearing.Timely.arrived_clock, words.Laws.{IsPermanentAt, IsRipe, IsView, View, clock_in}}
 use Rattle.precision_law.proofs.words.Clocks.{child_kind, cm_is_no_end, device_of, natural, permanence_is_sharp, receiver_down, receiver_way, sizes_are, steady}
 use Rattle.precision_law.proofs.words.Clocks.{taken_as}
-use Rattle.precision_law.proofs.words.Plans.{Device, DeviceId, Down, IsChildOf, LinkId, Master, Pcf, Relay, Role, Units, Up, Way, amount, device_at}
+use Rattle.precision_law.proofs.words.Plans.{DeviceId, Down, IsChildOf, LinkId, Master, Pcf, Relay, Role, Units, Up, Way, amount, device_at}
 use Rattle.precision_law.proofs.words.{Plans.{is_end_system, point_of}, Runs.{master_of, members_in, numbered_in, receiver_of, same_some, time_of, way_to}}
 use Rattle.precision_law.proofs.words.Runs.{Happening, IsArrivedRecord, IsCaused, IsIn, Judgement, cycle_in, founded_at, frame_by, in_left, is_cm, is_cm_role}
 use Rattle.precision_law.proofs.words.Std.{◌^◌, ◌∙◌, ◌∷◌, ◌≡◌, ◌≤ℤ◌, ◌≤◌, List, Option, Some, ap, arith, bit_at-pow_other, bit_at-trailing_zeros, cases_eq, inl}

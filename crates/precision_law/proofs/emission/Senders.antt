@@ -3,9 +3,9 @@ use Rattle.precision_law.proofs.{block.Dispatched.masters_dispatch, trips.Gates.
 use Rattle.precision_law.proofs.words.{Blocks.{before_narrow, earlier_in_block, follows_before, sound_frames_go_up}, Std.{slice_get, subst, suc, true, zero, ℕ}}
 use Rattle.precision_law.proofs.words.{Clocks.{enough_masters, frames_come_first, room}, Laws.last_dispatch, Plans.{count_of, device_at, is_master, opened}}
 use Rattle.precision_law.proofs.words.Laws.{BlocksGoSo, Hull, IsBrought, IsDispatch, IsFirstMaster, IsInBlock, IsView, View, first_correction, first_dispatch}
-use Rattle.precision_law.proofs.words.Plans.{A, B, Channel, Cm, CompressionMasters, Device, DeviceId, IsCmOf, IsSwitchOf, LinkId, Masters, Role, Up, closed}
+use Rattle.precision_law.proofs.words.Plans.{A, B, Channel, CompressionMasters, Device, DeviceId, IsCmOf, IsSwitchOf, LinkId, Masters, Role, Up, closed}
 use Rattle.precision_law.proofs.words.Runs.{Happening, has_role, is_broken, is_cm, is_cm_role, is_parent_of, is_relay_role, time_of, waits_for}
-use Rattle.precision_law.proofs.words.Std.{◌+ℤ◌, ◌+◌, ◌<◌, ◌∷◌, ◌≡◌, ◌≤ℤ◌, ◌≤◌, ◌⊎◌, Bool, IsNone, IsSomeAnd, List, None, Option, Some, [], ap, arith}
+use Rattle.precision_law.proofs.words.Std.{◌+ℤ◌, ◌+◌, ◌<◌, ◌∷◌, ◌≡◌, ◌≤ℤ◌, ◌≤◌, ◌⊎◌, Bool, IsNone, IsSomeAnd, List, None, Option, Some, [], arith}
 use Rattle.precision_law.proofs.words.Std.{both_ways, cases_Bool, cases_lt, false, inl, inr, ints, length, not, ones_le_self, option_map_or, pos, refl}
 
 -- ---- the compression master

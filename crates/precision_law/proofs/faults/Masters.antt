@@ -1,6 +1,6 @@
 -- What the fault hypothesis leaves.
 use Rattle.{net_plan.proofs.SameIds.same_device, precision_law.proofs.words.Laws.{GoodIsCorrect, IsBad, IsView, OneChannelIsSound, SwitchesAreGood, View}}
-use Rattle.precision_law.proofs.words.Plans.{A, B, Channel, Device, DeviceId, Event, HasOffSwitch, IsDeviceInRange, Link, LinkId, Masters, Network, What}
+use Rattle.precision_law.proofs.words.Plans.{A, B, Channel, Device, DeviceId, Event, HasOffSwitch, IsDeviceInRange, LinkId, Masters, Network, What}
 use Rattle.{precision_law.proofs.words.Plans.{all_at, amount, device_at, is_end_system, is_master, link_at, opened}, schedule_tables.proofs.Margins.master_ends}
 use Rattle.precision_law.proofs.words.Runs.{Cuts, IsFaulty, IsLinkOf, NotMaster, any_first, any_later, breaks_at, events_up_to, in_filter, is_broken, is_faulty}
 use Rattle.precision_law.proofs.words.{Runs.{parted, same_some}, Std.{inr, is_some, le-leb, leb-true, nat_le, not_from_true, refl, subst, sym, true, ℕ}}

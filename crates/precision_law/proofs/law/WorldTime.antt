@@ -3,10 +3,12 @@ use Rattle.precision_law.proofs.law.Keeping.{shows_cycle}
 use Rattle.precision_law.proofs.sizes.Few.{not_before}
 use Rattle.precision_law.proofs.words.Blocks.{timed_of, up_to_is, view_of, view_with}
 use Rattle.precision_law.proofs.words.Clocks.{has_before, one_more, room, within_run}
-use Rattle.precision_law.proofs.words.Laws.{BlocksCover, BlocksGoSo, HaveRoom, Hull, IsNotBefore, IsView, OneChannelIsSound, ShowsIn, Sizes, View, epoch_cycle, hull_of, start_hull}
+use Rattle.precision_law.proofs.words.Laws.{BlocksCover, BlocksGoSo, HaveRoom, Hull, IsNotBefore, IsView}
+use Rattle.precision_law.proofs.words.Laws.{OneChannelIsSound, ShowsIn, Sizes, View, epoch_cycle, hull_of, start_hull}
 use Rattle.precision_law.proofs.words.Plans.{Synchronised}
 use Rattle.precision_law.proofs.words.Runs.{Happening, adjustment_after, earlier, happenings, same_some, state_after}
-use Rattle.precision_law.proofs.words.Std.{◌*◌, ◌+ℤ◌, ◌+◌, ◌∙◌, ◌≡◌, ◌≤ℤ◌, List, Some, ap, arith, ints, pos, refl, subst, suc, sym, zero, ℕ, ℤ}
+use Rattle.precision_law.proofs.words.Std.{◌*◌, ◌+ℤ◌, ◌+◌, ◌∙◌, ◌≡◌, ◌≤ℤ◌, List, Some, ap, arith, ints, pos, refl}
+use Rattle.precision_law.proofs.words.Std.{subst, suc, sym, zero, ℕ, ℤ}
 use Rattle.precision_law.specs.WorldTime.{ClocksKeepWorldTime, IsNearTime}
 
 -- a hull is not behind its cycle's time, but for the errors of the cycles
@@ -20,12 +22,14 @@ not_behind v (suc c) hull is e =
     omega (arith, ints, low, has.follows.most, one_more c v.sizes.cycle, one_more c v.sizes.reach)
 
 -- a clock that was set in such a hull is not far behind the time
-behind_by : (s : Sizes) (cycle t : ℕ) (hull : Hull) (shown : ℤ) → HaveRoom s → hull.greatest ≤ℤ pos (cycle * s.cycle + cycle * s.reach)
+behind_by : (s : Sizes) (cycle t : ℕ) (hull : Hull) (shown : ℤ) → HaveRoom s
+    → hull.greatest ≤ℤ pos (cycle * s.cycle + cycle * s.reach)
     → ShowsIn s shown cycle hull t → pos t ≤ℤ (shown +ℤ pos ((cycle + 1) * s.reach))
 behind_by s cycle t hull shown space high shows = omega (arith, ints, high, shows.least, space.errors.reach_is)
 
 -- nor far ahead of it
-ahead_by : (s : Sizes) (cycle t : ℕ) (hull : Hull) (shown : ℤ) → HaveRoom s → IsNotBefore s cycle hull → ShowsIn s shown cycle hull t
+ahead_by : (s : Sizes) (cycle t : ℕ) (hull : Hull) (shown : ℤ) → HaveRoom s → IsNotBefore s cycle hull
+    → ShowsIn s shown cycle hull t
     → shown ≤ℤ (pos t +ℤ pos (s.settled + (cycle + 1) * s.reach))
 ahead_by s cycle t hull shown space low shows = omega (arith, ints, low, shows.most, space.errors.reach_is)
 
@@ -43,9 +47,11 @@ clocks_keep_world_time sound cover goes s mark ns until beta up is_beta t device
     (record { good = step.correct; timed = timed_of _ left }) in
     let cycle = epoch_cycle (earlier (t + 1) at.cut.front) device in
     let space = room v at.is in
-    let near : IsNearTime s.network beta cycle t (pos (s.reading device t) +ℤ (adjustment_after s (earlier (t + 1) at.cut.front) device).0) = record {
+    let near : IsNearTime s.network beta cycle t (pos (s.reading device t) +ℤ
+    (adjustment_after s (earlier (t + 1) at.cut.front) device).0) = record {
       least = behind_by v.sizes cycle t c.hull _ space (not_behind v cycle c.hull at.is c.is_hull) c.shows;
       most = ahead_by v.sizes cycle t c.hull _ space (not_before v cycle c.hull at.is c.is_hull) c.shows;
     } in
-    subst (λ (gs : List Happening). IsNearTime s.network beta (epoch_cycle gs device) t (pos (s.reading device t) +ℤ (adjustment_after s gs device).0))
+    subst (λ (gs : List Happening). IsNearTime s.network beta (epoch_cycle gs device) t
+    (pos (s.reading device t) +ℤ (adjustment_after s gs device).0))
     (sym same) near

@@ -5,13 +5,15 @@ use Rattle.precision_law.proofs.records.Views.{room_of}
 use Rattle.precision_law.proofs.progress_lemmas.Staying.{IsOn, IsSynchronised, KeepsAll, stays_synchronised}
 use Rattle.precision_law.proofs.words.Blocks.{before_narrow, block_ends, follows_before, up_to_is, view_of, view_with}
 use Rattle.precision_law.proofs.words.Clocks.{corrections_come_first, room}
-use Rattle.precision_law.proofs.words.Laws.{BlockIsOver, BlocksCover, BlocksGoSo, FirmDevicesCorrect, Follows, HasTimeAt, HaveRoom, Hull, IsGoodEnd, IsNarrow, IsView}
-use Rattle.precision_law.proofs.words.Laws.{OneChannelIsSound, PointsHaveCome, SoundMasterSends, Sizes, Stands, StandsOn, View}
-use Rattle.precision_law.proofs.words.Laws.{has_time, hull_of, last_correction, start_hull, state_left}
-use Rattle.precision_law.proofs.words.Plans.{DeviceId, IsBeta, amount, beta_at, beta_exists, margins, rules_give_trees, shape_rules}
+use Rattle.precision_law.proofs.words.Laws.{BlockIsOver, BlocksCover, BlocksGoSo, FirmDevicesCorrect, Follows}
+use Rattle.precision_law.proofs.words.Laws.{HasTimeAt, HaveRoom, Hull, IsGoodEnd, IsNarrow, IsView, OneChannelIsSound}
+use Rattle.precision_law.proofs.words.Laws.{PointsHaveCome, SoundMasterSends, Sizes, Stands, StandsOn, View, has_time}
+use Rattle.precision_law.proofs.words.Laws.{hull_of, last_correction, start_hull, state_left}
+use Rattle.precision_law.proofs.words.Plans.{DeviceId, IsBeta, amount, beta_at, beta_exists, margins, rules_give_trees}
+use Rattle.precision_law.proofs.words.Plans.{shape_rules}
 use Rattle.precision_law.proofs.words.Runs.{Happening, happenings, same_some, state_after, up_to}
-use Rattle.precision_law.proofs.words.Std.{◌*◌, ◌+ℤ◌, ◌+◌, ◌<ℤ◌, ◌<◌, ◌∙◌, ◌≡◌, ◌≤ℤ◌, ◌≤◌, List, ap, arith, by_lt_z, inl, ints}
-use Rattle.precision_law.proofs.words.Std.{pos, refl, subst, suc, sym, true, zero, ℕ}
+use Rattle.precision_law.proofs.words.Std.{◌*◌, ◌+ℤ◌, ◌+◌, ◌<ℤ◌, ◌<◌, ◌∙◌, ◌≡◌, ◌≤ℤ◌, ◌≤◌, List, ap, arith, by_lt_z}
+use Rattle.precision_law.proofs.words.Std.{inl, ints, pos, refl, subst, suc, sym, true, zero, ℕ}
 use Rattle.precision_law.specs.Progress.{EndSystemsComeIn, EndSystemsComeInSoon, coming_time}
 
 -- what is known of blocks
@@ -30,28 +32,33 @@ coming s = 2 * s.cycle + s.correction + s.spread + 3 * s.reach
 -- a hull lies before the end of its block
 hull_before : (v : View) (n : ℕ) (stands : Stands v n) → IsView v → stands.hull.greatest ≤ℤ pos stands.next
 hull_before v zero stands is =
-    let same : start_hull v.sizes ≡ stands.hull = same_some (hull_of v zero) (start_hull v.sizes) stands.hull refl stands.is_hull in
+    let same : start_hull v.sizes ≡ stands.hull = same_some (hull_of v zero)
+    (start_hull v.sizes) stands.hull refl stands.is_hull in
     omega (arith, ints, ap (λ (w : Hull). w.greatest) same)
 hull_before v (suc n) stands is = omega (arith, ints, begins_late v n stands is)
 
 -- a time in a block lies before the dispatches of the cycle after the block's
-later_hull : (s : Sizes) (t next : ℕ) (before hull later : Hull) → HaveRoom s → IsNarrow s before → Follows s before hull → Follows s hull later
+later_hull : (s : Sizes) (t next : ℕ) (before hull later : Hull) → HaveRoom s → IsNarrow s before
+    → Follows s before hull → Follows s hull later
     → pos next ≡ (last_correction s before +ℤ pos 1) → t < next → pos (t + 1) ≤ℤ (later.least +ℤ pos 1)
 later_hull s t next before hull later space narrow follows more ends to =
     omega (arith, ints, to, ends, corrections_come_first s before hull space narrow follows, more.least)
 
 -- where a cycle's dispatches begin before the time, the block of the next cycle is over in time
-later_soon : (s : Sizes) (t until : ℕ) (hull later : Hull) → IsNarrow s hull → Follows s hull later → hull.least <ℤ pos t → t + coming s ≤ until
+later_soon : (s : Sizes) (t until : ℕ) (hull later : Hull) → IsNarrow s hull → Follows s hull later
+    → hull.least <ℤ pos t → t + coming s ≤ until
     → last_correction s later ≤ℤ pos until
 later_soon s t until hull later narrow follows early long = omega (arith, ints, follows.most, narrow, early, long)
 
 module _ (known : AreBlocksKnown) (v : View) (device : DeviceId) (is : IsView v) (end : IsGoodEnd v device) where
   never : KeepsAll v device
   never h state cause why i body clique =
-      no_clique known.cover known.goes known.correct v h device state cause why is i body clique (λ good. (end.good, inl end))
+      no_clique known.cover known.goes known.correct v h device state cause why is i body clique
+      (λ good. (end.good, inl end))
 
   -- behind a block that is over the next one is, where its last correction lies in the run
-  abbrev next_over : (n : ℕ) (over : BlockIsOver v n) → last_correction v.sizes (known.on v n is over).hull ≤ℤ pos v.until → BlockIsOver v (suc n)
+  abbrev next_over : (n : ℕ) (over : BlockIsOver v n)
+      → last_correction v.sizes (known.on v n is over).hull ≤ℤ pos v.until → BlockIsOver v (suc n)
   next_over n over short =
       let stands = known.on v n is over in
       let next = behind_of (last_correction v.sizes stands.hull) stands.next (later_end v (suc n) stands is) in
@@ -68,16 +75,19 @@ module _ (known : AreBlocksKnown) (v : View) (device : DeviceId) (is : IsView v)
   in_two_blocks n x over next on early =
       let hull = over.before.hull in
       let timed = has_time_by v device is never known.sends known.goes n over x end on (λ w at.
-      subst (λ (z : Hull). pos x ≤ℤ (z.least +ℤ pos 1)) (same_some (hull_of v (suc n)) next.before.hull w next.before.is_hull at) early) in
+      subst (λ (z : Hull). pos x ≤ℤ (z.least +ℤ pos 1)) (same_some (hull_of v (suc n)) next.before.hull w
+      next.before.is_hull at) early) in
       let one = block_ends v n over.next hull over.before.is_hull over.is_over in
       let other = block_ends v n next.before.next hull over.before.is_hull next.before.is_over in
       let same : over.next ≡ next.before.next = omega (arith, ints, one, other) in
       let has : HasTimeAt v device next.before.next =
       record { good = end.good; timed = subst (λ (y : ℕ). has_time (state_left v device y) ≡ true) same timed } in
-      stays_synchronised v device is never next.next (v.until + 1) next.in_run (synchronised_by v device is never known.come (suc n) next has)
+      stays_synchronised v device is never next.next (v.until + 1) next.in_run
+      (synchronised_by v device is never known.come (suc n) next has)
 
   -- an end system that is on has come in so long behind it
-  arrives : (t : ℕ) → IsOn (state_left v device (t + 1)) → t + coming v.sizes ≤ v.until → IsSynchronised (state_left v device (v.until + 1))
+  arrives : (t : ℕ) → IsOn (state_left v device (t + 1)) → t + coming v.sizes ≤ v.until
+      → IsSynchronised (state_left v device (v.until + 1))
   arrives t on long =
       let found = known.cover v t is (omega (arith, long)) in
       let n = found.0 in
@@ -94,14 +104,17 @@ module _ (known : AreBlocksKnown) (v : View) (device : DeviceId) (is : IsView v)
       } in
       let stands = known.on v n is over in
       let follows = follows_before v n before.hull stands.hull is before.is_hull stands.is_hull in
-      let short : last_correction v.sizes stands.hull ≤ℤ pos v.until = omega (arith, ints, follows.most, begun, block.from, long) in
+      let short : last_correction v.sizes stands.hull ≤ℤ pos v.until =
+      omega (arith, ints, follows.most, begun, block.from, long) in
       let next = next_over n over short in
       by_lt_z {P = IsSynchronised (state_left v device (v.until + 1))} stands.hull.least (pos t)
       (λ late.
       let later = known.on v (suc n) is next in
       let follows_next = follows_before v (suc n) stands.hull later.hull is stands.is_hull later.is_hull in
-      let early = later_hull v.sizes t block.next before.hull stands.hull later.hull space (before_narrow v n before) follows follows_next ends block.to in
-      let low = later_soon v.sizes t v.until stands.hull later.hull (before_narrow v (suc n) stands) follows_next late long in
+      let early = later_hull v.sizes t block.next before.hull stands.hull later.hull space
+      (before_narrow v n before) follows follows_next ends block.to in
+      let low = later_soon v.sizes t v.until stands.hull later.hull
+      (before_narrow v (suc n) stands) follows_next late long in
       in_two_blocks (suc n) (t + 1) next (next_over (suc n) next low) on early)
       (λ soon. in_two_blocks n (t + 1) over next on (omega (arith, ints, soon)))
 
@@ -112,11 +125,13 @@ end_systems_come_in_soon sound known s mark ns until beta up is_beta device t u 
     let at = view_with s mark ns until u channel.0 beta up is_beta le channel.1 in
     let v = view_of s u channel.0 beta at.cut.front in
     let left : (x : ℕ) → x ≤ u → state_after s (up_to x hs) device ≡ state_left v device (x + 1) = λ x to.
-    ap (λ (gs : List Happening). state_after s gs device) (up_to_is x hs ∙ sym (at.cut.early (x + 1) (omega (arith, to)))) in
+    ap (λ (gs : List Happening). state_after s gs device)
+    (up_to_is x hs ∙ sym (at.cut.early (x + 1) (omega (arith, to)))) in
     let on_then = subst IsOn (left t (omega (arith, long))) on in
     record {
       correct = good;
-      synchronised = left u (omega arith) ∙ arrives known v device at.is (record { end = end; good = good }) t on_then long;
+      synchronised = left u (omega arith)
+          ∙ arrives known v device at.is (record { end = end; good = good }) t on_then long;
     }
 
 -- the time that it takes is within three cycles
@@ -126,6 +141,7 @@ end_systems_come_in come s mark ns until up device t u end on long le good =
     let beta = (beta_exists n (rules_give_trees n (shape_rules n up.lawful.rules))).1 in
     let path = beta_at n beta.jitter beta.links in
     let is_beta : IsBeta n (pos path) = subst (IsBeta n) beta.value beta in
-    let space = room_of n path up.lawful.rules (margins rules_give_trees n path up.lawful.range up.lawful.rules is_beta) in
+    let space = room_of n path up.lawful.rules (margins rules_give_trees n path up.lawful.range up.lawful.rules is_beta)
+    in
     let short : coming_time n path ≤ 3 * amount n.cycle = omega (arith, space.cycles, space.eight_errors) in
     come s mark ns until path up is_beta device t u end on (omega (arith, short, long)) le good

@@ -3,10 +3,12 @@ use Rattle.precision_law.proofs.records.Times.{AreSorted, between, earlier_parts
 use Rattle.precision_law.proofs.words.Clocks.{in_earlier, in_order, same_device, sorted_parts}
 use Rattle.precision_law.proofs.words.Laws.{IsView, View, state_left}
 use Rattle.precision_law.proofs.words.Plans.{DeviceId, Joining, State, state_at_start}
-use Rattle.precision_law.proofs.words.Runs.{ChangesState, Happening, Integrates, IsCaused, IsFoundedAt, IsIn, NoteBody, Why}
-use Rattle.precision_law.proofs.words.Runs.{earlier, founded_at, in_right, is_joined_by, start_of, state_after, state_with, time_of}
-use Rattle.precision_law.proofs.words.Std.{if◌then◌else◌, ◌++◌, ◌<◌, ◌==◌, ◌∙◌, ◌∷◌, ◌≡◌, ◌≤◌, Bool, List, [], ap, false}
-use Rattle.precision_law.proofs.words.Std.{filter-append, fold, fold-append, inl, inr, lt-ltb, nat_lt, refl, subst, sym, true, ℕ}
+use Rattle.precision_law.proofs.words.Runs.{ChangesState, Happening, Integrates, IsCaused, IsFoundedAt, IsIn, NoteBody}
+use Rattle.precision_law.proofs.words.Runs.{Why, earlier, founded_at, in_right, is_joined_by, start_of, state_after}
+use Rattle.precision_law.proofs.words.Runs.{state_with, time_of}
+use Rattle.precision_law.proofs.words.Std.{if◌then◌else◌, ◌++◌, ◌<◌, ◌==◌, ◌∙◌, ◌∷◌, ◌≡◌, ◌≤◌, Bool, List, [], ap}
+use Rattle.precision_law.proofs.words.Std.{false, filter-append, fold, fold-append, inl, inr, lt-ltb, nat_lt, refl}
+use Rattle.precision_law.proofs.words.Std.{subst, sym, true, ℕ}
 use Rattle.run_law.specs.declared.note.NoteBody.TheVariants as notes
 
 -- ---- over records
@@ -36,7 +38,8 @@ carried_between P v device x y is le each p =
     let hs = between x y v.records in
     let apart = fold-append step (state_at_start (start_of v.scenario.network device)) (earlier x v.records) hs in
     let same : state_left v device y ≡ fold step (state_left v device x) hs =
-    ap (λ (gs : List Happening). state_after v.scenario gs device) (earlier_parts x y v.records (in_order v is) le) ∙ apart in
+    ap (λ (gs : List Happening). state_after v.scenario gs device) (earlier_parts x y v.records (in_order v is) le)
+    ∙ apart in
     subst P (sym same) (fold_carries P device hs (λ h i.
     let there = in_between x y v.records h i in
     each h there.0 there.1 there.2) (state_left v device x) p)
@@ -54,19 +57,22 @@ carried_behind P v device g y is i lt each brings =
     (lt-ltb (time_of g) y lt) in
     let step = λ (state : State) (h : Happening). state_with device state h.note.body in
     let before : State = state_after s (earlier y found.front) device in
-    let apart = fold-append step (state_at_start (start_of s.network device)) (earlier y found.front) (g ∷ earlier y found.rest) in
+    let apart = fold-append step (state_at_start (start_of s.network device)) (earlier y found.front)
+    (g ∷ earlier y found.rest) in
     let same : state_left v device y ≡ fold step (step before g) (earlier y found.rest) =
     ap (λ (hs : List Happening). state_after s hs device) parts ∙ apart in
     let order = sorted_parts found.front found.rest g (subst AreSorted found.whole (in_order v is)) in
     subst P (sym same) (fold_carries P device (earlier y found.rest) (λ h j.
     let back = in_earlier y found.rest h j in
-    let there : IsIn h v.records = subst (IsIn h) (sym found.whole) (in_right h found.front (g ∷ found.rest) (inr back.0)) in
+    let there : IsIn h v.records = subst (IsIn h) (sym found.whole)
+    (in_right h found.front (g ∷ found.rest) (inr back.0)) in
     each h there (order.1 h back.0) back.1) (step before g) (brings before))
 
 -- ---- over one record
 
 -- by the record, which stands behind those of `found`, the device's state changes
-pub record IsChange (v : View) (device : DeviceId) (h : Happening) (state : State) (cause : ℕ) (why : Why) : Type 0 where
+pub record IsChange (v : View) (device : DeviceId) (h : Happening) (state : State) (cause : ℕ)
+    (why : Why) : Type 0 where
   pub is : h.note.body ≡ notes.State device state cause why
   pub found : IsFoundedAt v.scenario v.records h
   pub changes : ChangesState v.scenario found.front device (time_of h) state cause why
@@ -75,7 +81,8 @@ holds_if : (P : State → Type 0) (b : Bool) (new old : State) → (b ≡ true �
 holds_if P true new old now p = now refl
 holds_if P false new old now p = p
 
-carries_by : (P : State → Type 0) (v : View) (device : DeviceId) (h : Happening) (body : NoteBody) → IsView v → IsIn h v.records
+carries_by : (P : State → Type 0) (v : View) (device : DeviceId) (h : Happening) (body : NoteBody) → IsView v
+    → IsIn h v.records
     → h.note.body ≡ body → (is_joined_by device body ≡ true → P Joining)
     → ((state : State) (cause : ℕ) (why : Why) → IsChange v device h state cause why → P state) → Carries P device body
 carries_by P v device h (notes.State other state cause why) is i body told changed old p =

@@ -1,15 +1,20 @@
 -- A device that has the common time when a block begins is synchronised when it is over.
 use Rattle.precision_law.proofs.law.{Cover.later_end, OnTime.corrects_by, Together.block_ends}
 use Rattle.precision_law.proofs.faults.Turned.{not_turned_on_then}
-use Rattle.precision_law.proofs.progress_lemmas.Staying.{IsSynchronised, KeepsAll, becomes_synchronised, not_told, stays_synchronised, time_stays_on}
-use Rattle.precision_law.proofs.words.Clocks.{before_of, before_place, due_there, earlier_before, next_note, point_timed, setting_is, within_run}
-use Rattle.precision_law.proofs.words.Laws.{BlockIsOver, HasTimeAt, IsView, PointsHaveCome, View, has_time, last_setting, state_left}
+use Rattle.precision_law.proofs.progress_lemmas.Staying.{IsSynchronised, KeepsAll, becomes_synchronised, not_told}
+use Rattle.precision_law.proofs.progress_lemmas.Staying.{stays_synchronised, time_stays_on}
+use Rattle.precision_law.proofs.words.Clocks.{before_of, before_place, due_there, earlier_before, next_note}
+use Rattle.precision_law.proofs.words.Clocks.{point_timed, setting_is, within_run}
+use Rattle.precision_law.proofs.words.Laws.{BlockIsOver, HasTimeAt, IsView, PointsHaveCome, View, has_time}
+use Rattle.precision_law.proofs.words.Laws.{last_setting, state_left}
 use Rattle.precision_law.proofs.words.Plans.{Corrected, DeviceId, Integrating, Joining, Off, State, Synchronised, Units}
-use Rattle.precision_law.proofs.words.Runs.{ChangesState, Happening, IsBefore, IsCaused, IsDue, IsFounded, IsIn, NoteBody, by_number}
-use Rattle.precision_law.proofs.words.Runs.{earlier, founded_at, front_founded, happening, in_front_of, key, members_in}
-use Rattle.precision_law.proofs.words.Runs.{place_of, rank, split, state_after, state_before, state_with, time_of}
-use Rattle.precision_law.proofs.words.Std.{if◌then◌else◌, ◌<◌, ◌∙◌, ◌∷◌, ◌≡◌, ◌≤ℤ◌, ◌≤◌, ◌⊎◌, Bool, List, None, Option, Some, [], ap}
-use Rattle.precision_law.proofs.words.Std.{arith, eq-eqb, inl, inr, ints, negsuc, option_map_or, pos, refl, subst, sym, true, ℕ}
+use Rattle.precision_law.proofs.words.Runs.{ChangesState, Happening, IsBefore, IsCaused, IsDue, IsFounded, IsIn}
+use Rattle.precision_law.proofs.words.Runs.{NoteBody, by_number, earlier, founded_at, front_founded, happening}
+use Rattle.precision_law.proofs.words.Runs.{in_front_of, key, members_in, place_of, rank, split, state_after}
+use Rattle.precision_law.proofs.words.Runs.{state_before, state_with, time_of}
+use Rattle.precision_law.proofs.words.Std.{if◌then◌else◌, ◌<◌, ◌∙◌, ◌∷◌, ◌≡◌, ◌≤ℤ◌, ◌≤◌, ◌⊎◌, Bool, List, None, Option}
+use Rattle.precision_law.proofs.words.Std.{Some, [], ap, arith, eq-eqb, inl, inr, ints, negsuc, option_map_or, pos}
+use Rattle.precision_law.proofs.words.Std.{refl, subst, sym, true, ℕ}
 use Rattle.run_law.proofs.records.Order.{ahead}
 use Rattle.run_law.specs.declared.judgement.Why.TheVariants as whys
 use Rattle.run_law.specs.declared.note.NoteBody.TheVariants as notes
@@ -42,12 +47,14 @@ module _ (v : View) (device : DeviceId) (is : IsView v) (never : KeepsAll v devi
       let six : rank h.note.body ≡ 6 = ap rank body in
       let sooner : IsBefore (place_of h) (t ∷ 7 ∷ rest) =
       ahead t t (rank h.note.body) 7 (key (members_in h) h.note.body) rest (omega arith) (omega (arith, six)) in
-      let founded = front_founded place_of (IsDue s) at.front at.rest (subst (IsFounded place_of (IsDue s)) at.whole is.run.founded) in
+      let founded = front_founded place_of (IsDue s) at.front at.rest
+      (subst (IsFounded place_of (IsDue s)) at.whole is.run.founded) in
       let found = by_number s at.front h founded (in_front_of _ _ _ at h i sooner) in
       let off = not_turned_on_then v device t is (ap has_time joining) in
       let before : state_before s at.front device t ≡ Joining =
       ap (λ (b : Bool). if b then Integrating else state_after s (earlier t at.front) device) off
-      ∙ ap (λ (hs : List Happening). state_after s hs device) (earlier_before v t at.front (before_place v t (7 ∷ rest) at)) ∙ joining in
+      ∙ ap (λ (hs : List Happening). state_after s hs device) (earlier_before v t at.front
+      (before_place v t (7 ∷ rest) at)) ∙ joining in
       let state : NoteBody = notes.State device Synchronised number whys.Correction in
       let changes : ChangesState s at.front device t Synchronised number whys.Correction =
       (refl, before, (cycle, by, adjustment, h, record { there = found; same_time = refl }, body)) in
@@ -60,7 +67,8 @@ module _ (v : View) (device : DeviceId) (is : IsView v) (never : KeepsAll v devi
 
   -- behind a correction it is synchronised
   corrected_then : (h : Happening) (cycle : ℕ) (by adjustment : Units) (y : ℕ) → IsIn h v.records
-      → h.note.body ≡ notes.Corrected device cycle by adjustment → time_of h < y → IsSynchronised (state_left v device y)
+      → h.note.body ≡ notes.Corrected device cycle by adjustment → time_of h < y
+      → IsSynchronised (state_left v device y)
   corrected_then h cycle by adjustment y i body to =
       let s = v.scenario in
       let t = time_of h in
@@ -96,5 +104,9 @@ module _ (v : View) (device : DeviceId) (is : IsView v) (never : KeepsAll v devi
       let y = over.next in
       let ends = block_ends v n y over.before.hull over.before.is_hull over.is_over in
       let le : x ≤ y = omega (arith, ints, ends, later_end v n over.before is) in
-      let new = come v n over device is (record { good = has.good; timed = time_stays_on v device is never x y le has.timed }) in
+      let new = come v n over device is (record {
+        good = has.good;
+        timed = time_stays_on v device is never x y le
+            has.timed;
+      }) in
       set_then x y (last_setting (earlier y v.records) device) refl new has.timed

@@ -7,8 +7,9 @@ use Rattle.precision_law.proofs.words.Blocks.{looking_by}
 use Rattle.precision_law.proofs.words.Clocks.{before_of, earlier_before}
 use Rattle.precision_law.proofs.words.Laws.{IsClique, IsView, View, has_time, state_left}
 use Rattle.precision_law.proofs.words.Plans.{DeviceId, Integrating, State, Synchronised}
-use Rattle.precision_law.proofs.words.Runs.{ChangesState, Happening, IsCaused, IsIn, NoteBody, Why, earlier, founded_at, in_left, is_joined_by}
-use Rattle.precision_law.proofs.words.Runs.{is_off, is_turned_on_at, numbered_in, state_after, state_with, time_of}
+use Rattle.precision_law.proofs.words.Runs.{ChangesState, Happening, IsCaused, IsIn, NoteBody, Why, earlier, founded_at}
+use Rattle.precision_law.proofs.words.Runs.{in_left, is_joined_by, is_off, is_turned_on_at, numbered_in, state_after}
+use Rattle.precision_law.proofs.words.Runs.{state_with, time_of}
 use Rattle.precision_law.proofs.words.Std.{if◌then◌else◌, ◌<◌, ◌∙◌, ◌∷◌, ◌≡◌, ◌≤◌, Bool, List, ap, both_ways, false}
 use Rattle.precision_law.proofs.words.Std.{false_from_ne_true, refl, subst, sym, true, ℕ}
 use Rattle.net_plan.specs.declared.event.What.TheVariants as events
@@ -33,7 +34,8 @@ IsTimed state = has_time state ≡ true
 abbrev pub IsSynchronised : State → Type 0
 IsSynchronised state = state ≡ Synchronised
 
-joins_timed : (device : DeviceId) (old : State) (body : NoteBody) → is_joined_by device body ≡ true → IsTimed (state_with device old body)
+joins_timed : (device : DeviceId) (old : State) (body : NoteBody) → is_joined_by device body ≡ true
+    → IsTimed (state_with device old body)
 joins_timed device old body joined = ap has_time (joins_state device old body joined)
 
 module _ (v : View) (device : DeviceId) (is : IsView v) where
@@ -51,7 +53,8 @@ module _ (v : View) (device : DeviceId) (is : IsView v) where
   pub stays_on : (x y : ℕ) → x ≤ y → IsOn (state_left v device x) → IsOn (state_left v device y)
   stays_on x y le on =
       carried_between IsOn v device x y is le (λ h i from to.
-      carries IsOn v device h is i (λ told. refl) (λ state cause why c. changes_on c.found.front (time_of h) state cause why c.changes)) on
+      carries IsOn v device h is i (λ told. refl) (λ state cause why c. changes_on c.found.front
+      (time_of h) state cause why c.changes)) on
 
   -- ---- with the common time
 
@@ -61,10 +64,12 @@ module _ (v : View) (device : DeviceId) (is : IsView v) where
   turned_then h state cause change =
       let c = change.changes in
       let g = c.2.1 in
-      let at = founded_at v.scenario change.found.front g change.found.founded (numbered_in change.found.front cause g c.2.2.there) in
+      let at = founded_at v.scenario change.found.front g change.found.founded
+      (numbered_in change.found.front cause g c.2.2.there) in
       let caused : IsCaused v.scenario at.front g.note.time (notes.Event c.2.0 (events.On device)) =
       subst (IsCaused v.scenario at.front g.note.time) c.2.3 at.due.cause in
-      ap (is_turned_on_at v.scenario device) (sym c.2.2.same_time) ∙ turned_on_by v.scenario g.note.time c.2.0 device caused
+      ap (is_turned_on_at v.scenario device) (sym c.2.2.same_time) ∙ turned_on_by v.scenario g.note.time c.2.0 device
+      caused
 
   -- no frame tells the time a device that has it
   pub not_told : (h : Happening) → IsIn h v.records → IsTimed (state_left v device (time_of h))
@@ -80,12 +85,14 @@ module _ (v : View) (device : DeviceId) (is : IsView v) where
       apart (is_turned_on_at s device t) (state_after s (earlier t found.front) device) off left
       (looking_by s found.front h.note.time device h.note.body joined found.due.cause))
     where
-      apart : (b : Bool) (state : State) → b ≡ false → has_time state ≡ true → (if b then Integrating else state) ≡ Integrating → ⊥
+      apart : (b : Bool) (state : State) → b ≡ false → has_time state ≡ true
+          → (if b then Integrating else state) ≡ Integrating → ⊥
       apart true state off timed e = absurd cc
       apart false state off timed e = both_ways (has_time state) (ap has_time e) timed
 
   module _ (never : KeepsAll v device) where
-    changes_timed : (h : Happening) (state : State) (cause : ℕ) (why : Why) → IsIn h v.records → IsChange v device h state cause why
+    changes_timed : (h : Happening) (state : State) (cause : ℕ) (why : Why) → IsIn h v.records
+        → IsChange v device h state cause why
         → is_turned_on_at v.scenario device (time_of h) ≡ false → IsTimed state
     changes_timed h state cause whys.On i c off = absurd (both_ways _ off (turned_then h state cause c))
     changes_timed h state cause whys.Frame i c off = ap has_time c.changes.0
@@ -109,11 +116,13 @@ module _ (v : View) (device : DeviceId) (is : IsView v) where
         → IsOn (state_left v device x) → x ≤ time_of g → time_of g < y → IsTimed (state_left v device y)
     told_has_time g x y i joined on from to =
         let on_then = stays_on x (time_of g) from on in
-        carried_behind IsTimed v device g y is i to (timed_carry (time_of g) y on_then) (λ old. joins_timed device old g.note.body joined)
+        carried_behind IsTimed v device g y is i to (timed_carry (time_of g) y on_then)
+        (λ old. joins_timed device old g.note.body joined)
 
     -- ---- synchronised
 
-    changes_synchronised : (h : Happening) (state : State) (cause : ℕ) (why : Why) → IsIn h v.records → IsChange v device h state cause why
+    changes_synchronised : (h : Happening) (state : State) (cause : ℕ) (why : Why) → IsIn h v.records
+        → IsChange v device h state cause why
         → IsTimed (state_left v device (time_of h)) → IsSynchronised state
     changes_synchronised h state cause whys.On i c timed =
         let off = on_not_turned_on v device (time_of h) is (timed_not_off (state_left v device (time_of h)) timed) in
@@ -122,12 +131,15 @@ module _ (v : View) (device : DeviceId) (is : IsView v) where
         let told = c.changes.1 in
         let g = told.0 in
         let there : IsIn g v.records =
-        subst (IsIn g) (sym c.found.whole) (in_left g c.found.front (h ∷ c.found.rest) (numbered_in c.found.front cause g told.1.there)) in
+        subst (IsIn g) (sym c.found.whole) (in_left g c.found.front (h ∷ c.found.rest)
+        (numbered_in c.found.front cause g told.1.there)) in
         let same = subst (λ (t : ℕ). IsTimed (state_left v device t)) (sym told.1.same_time) timed in
         absurd (both_ways _ (not_told g there same) told.2)
     changes_synchronised h state cause whys.Correction i c timed = c.changes.0
-    changes_synchronised h state cause whys.SyncClique i c timed = absurd (never h state cause whys.SyncClique i c.is tt)
-    changes_synchronised h state cause whys.AsyncClique i c timed = absurd (never h state cause whys.AsyncClique i c.is tt)
+    changes_synchronised h state cause whys.SyncClique i c timed =
+        absurd (never h state cause whys.SyncClique i c.is tt)
+    changes_synchronised h state cause whys.AsyncClique i c timed =
+        absurd (never h state cause whys.AsyncClique i c.is tt)
 
     -- once it has the time, all records leave it synchronised
     synchronised_carry : (x y : ℕ) → IsTimed (state_left v device x) → AllCarry IsSynchronised v device x y
@@ -137,12 +149,15 @@ module _ (v : View) (device : DeviceId) (is : IsView v) where
         (λ state cause why c. changes_synchronised h state cause why i c then_timed)
 
     -- a synchronised device stays so
-    pub stays_synchronised : (x y : ℕ) → x ≤ y → IsSynchronised (state_left v device x) → IsSynchronised (state_left v device y)
+    pub stays_synchronised : (x y : ℕ) → x ≤ y → IsSynchronised (state_left v device x)
+        → IsSynchronised (state_left v device y)
     stays_synchronised x y le synchronised =
-        carried_between IsSynchronised v device x y is le (synchronised_carry x y (ap has_time synchronised)) synchronised
+        carried_between IsSynchronised v device x y is le (synchronised_carry x y (ap has_time synchronised))
+        synchronised
 
     -- and is so behind a record that makes it so
-    pub becomes_synchronised : (g : Happening) (y : ℕ) → IsIn g v.records → IsTimed (state_left v device (time_of g)) → time_of g < y
+    pub becomes_synchronised : (g : Happening) (y : ℕ) → IsIn g v.records → IsTimed (state_left v device (time_of g))
+        → time_of g < y
         → ((old : State) → IsSynchronised (state_with device old g.note.body)) → IsSynchronised (state_left v device y)
     becomes_synchronised g y i timed to brings =
         carried_behind IsSynchronised v device g y is i to (synchronised_carry (time_of g) y timed) brings

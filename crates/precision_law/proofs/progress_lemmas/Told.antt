@@ -3,18 +3,21 @@ use Rattle.precision_law.proofs.block.Onward.{hull_ordered, last_of}
 use Rattle.precision_law.proofs.emission.Senders.{cm_is}
 use Rattle.precision_law.proofs.faults.Turned.{on_not_turned_on}
 use Rattle.precision_law.proofs.hearing.Received.{ComesDown, comes_down, no_end_cm, sent_in_time}
-use Rattle.precision_law.proofs.progress_lemmas.Staying.{IsOn, IsTimed, KeepsAll, stays_on, time_stays_on, told_has_time}
+use Rattle.precision_law.proofs.progress_lemmas.Staying.{IsOn, IsTimed, KeepsAll, stays_on, time_stays_on}
+use Rattle.precision_law.proofs.progress_lemmas.Staying.{told_has_time}
 use Rattle.precision_law.proofs.words.Blocks.{few_cycles}
 use Rattle.precision_law.proofs.words.Clocks.{any_in, before_place, earlier_before, has_before, room, within_run}
-use Rattle.precision_law.proofs.words.Laws.{BlockIsOver, BlocksGoSo, Hull, IsGoodEnd, IsInBlock, IsView, SoundMasterSends, View}
-use Rattle.precision_law.proofs.words.Laws.{has_time, hull_of, state_left}
-use Rattle.precision_law.proofs.words.Plans.{DeviceId, Integrating, Joining, Members, Off, State, SyncPlan, count_of, device_at}
-use Rattle.precision_law.proofs.words.Runs.{Happening, Integrates, IsIn, IsSplit, Judgement, earlier, has_joined_at, heard_as, in_left}
-use Rattle.precision_law.proofs.words.Runs.{is_cm, is_joined_by, is_off, last_cycle, observation_window, place_of, plan_of}
-use Rattle.precision_law.proofs.words.Runs.{state_after, state_at_hearing, state_before, time_of}
-use Rattle.precision_law.proofs.words.Std.{if◌then◌else◌, ◌&&◌, ◌+ℤ◌, ◌+◌, ◌<◌, ◌==◌, ◌∙◌, ◌∷◌, ◌≡◌, ◌≤ℤ◌, ◌≤◌, Bool, List, Some}
-use Rattle.precision_law.proofs.words.Std.{and_parts, ap, arith, eq-eqb, eqb-true, false, inl, ints, le-leb, pos, refl, subst, suc, sym}
-use Rattle.precision_law.proofs.words.Std.{true, ℕ, ℤ}
+use Rattle.precision_law.proofs.words.Laws.{BlockIsOver, BlocksGoSo, Hull, IsGoodEnd, IsInBlock, IsView}
+use Rattle.precision_law.proofs.words.Laws.{SoundMasterSends, View, has_time, hull_of, state_left}
+use Rattle.precision_law.proofs.words.Plans.{DeviceId, Integrating, Joining, Members, Off, State, SyncPlan, count_of}
+use Rattle.precision_law.proofs.words.Plans.{device_at}
+use Rattle.precision_law.proofs.words.Runs.{Happening, Integrates, IsIn, IsSplit, Judgement, earlier, has_joined_at}
+use Rattle.precision_law.proofs.words.Runs.{heard_as, in_left, is_cm, is_joined_by, is_off, last_cycle}
+use Rattle.precision_law.proofs.words.Runs.{observation_window, place_of, plan_of, state_after, state_at_hearing}
+use Rattle.precision_law.proofs.words.Runs.{state_before, time_of}
+use Rattle.precision_law.proofs.words.Std.{if◌then◌else◌, ◌&&◌, ◌+ℤ◌, ◌+◌, ◌<◌, ◌==◌, ◌∙◌, ◌∷◌, ◌≡◌, ◌≤ℤ◌, ◌≤◌, Bool}
+use Rattle.precision_law.proofs.words.Std.{List, Some, and_parts, ap, arith, eq-eqb, eqb-true, false, inl, ints, le-leb}
+use Rattle.precision_law.proofs.words.Std.{pos, refl, subst, suc, sym, true, ℕ, ℤ}
 use Rattle.run_law.specs.declared.note.NoteBody.TheVariants as notes
 
 -- a device that is on and has not the common time looks for it
@@ -33,28 +36,35 @@ integrates_by plan precision state adjustment point cycle members looks enough f
 
 module _ (v : View) (device : DeviceId) (is : IsView v) (never : KeepsAll v device) where
   -- it looks for the time where it hears, if no frame has told it the time by then
-  looks_then : (q : ℕ) (more : List ℕ) (at : IsSplit place_of v.records (q ∷ more)) → has_joined_at at.front device q ≡ false
+  looks_then : (q : ℕ) (more : List ℕ) (at : IsSplit place_of v.records (q ∷ more))
+      → has_joined_at at.front device q ≡ false
       → IsOn (state_left v device q) → state_left v device q ≡ Integrating
       → state_at_hearing v.scenario at.front device q ≡ Integrating
   looks_then q more at none on looks =
       let s = v.scenario in
       ap (λ (b : Bool). if b then Joining else state_before s at.front device q) none
-      ∙ ap (λ (b : Bool). if b then Integrating else state_after s (earlier q at.front) device) (on_not_turned_on v device q is on)
-      ∙ ap (λ (hs : List Happening). state_after s hs device) (earlier_before v q at.front (before_place v q more at)) ∙ looks
+      ∙ ap (λ (b : Bool). if b then Integrating else state_after s (earlier q at.front) device)
+      (on_not_turned_on v device q is on)
+      ∙ ap (λ (hs : List Happening). state_after s hs device) (earlier_before v q at.front (before_place v q more at))
+      ∙ looks
 
-  module _ (n x y : ℕ) (first : Happening) (members : Members) (c : ComesDown v n device first members) (on : IsOn (state_left v device x))
-      (from : x ≤ time_of first) (to : c.q < y) (enough : v.scenario.network.sync_threshold ≤ count_of members) (few : suc n ≤ last_cycle) where
+  module _ (n x y : ℕ) (first : Happening) (members : Members) (c : ComesDown v n device first members)
+      (on : IsOn (state_left v device x)) (from : x ≤ time_of first) (to : c.q < y)
+      (enough : v.scenario.network.sync_threshold ≤ count_of members) (few : suc n ≤ last_cycle) where
     -- where a frame has told it the time by then, it has it from then on
     told_before : has_joined_at c.place.front device c.q ≡ true → IsTimed (state_left v device y)
     told_before joined =
         let g = any_in (λ (h : Happening). time_of h == c.q && is_joined_by device h.note.body) c.place.front joined in
         let both = and_parts (time_of g.0 == c.q) (is_joined_by device g.0.note.body) g.2 in
         let at = eqb-true (time_of g.0) c.q both.0 in
-        let there : IsIn g.0 v.records = subst (IsIn g.0) (sym c.place.whole) (in_left g.0 c.place.front c.place.rest g.1) in
-        told_has_time v device is never g.0 x y there both.1 on (omega (arith, at, from, c.from)) (omega (arith, at, to))
+        let there : IsIn g.0 v.records = subst (IsIn g.0) (sym c.place.whole)
+        (in_left g.0 c.place.front c.place.rest g.1) in
+        told_has_time v device is never g.0 x y there both.1 on (omega (arith, at, from, c.from))
+        (omega (arith, at, to))
 
     -- and else the frame does
-    told_now : has_joined_at c.place.front device c.q ≡ false → IsOn (state_left v device c.q) → state_left v device c.q ≡ Integrating
+    told_now : has_joined_at c.place.front device c.q ≡ false → IsOn (state_left v device c.q)
+        → state_left v device c.q ≡ Integrating
         → IsTimed (state_left v device y)
     told_now none on_then looks =
         let s = v.scenario in
@@ -62,10 +72,12 @@ module _ (v : View) (device : DeviceId) (is : IsView v) (never : KeepsAll v devi
         let enough_then : s.network.sync_threshold ≤ count_of c.frame.members =
         subst (λ (m : ℕ). s.network.sync_threshold ≤ count_of (record { 0 = m })) (sym c.of_members) enough in
         let few_then : c.frame.cycle ≤ last_cycle = subst (λ (k : ℕ). k ≤ last_cycle) (sym c.of_cycle) few in
-        let judged = integrates_by (plan_of s.network device) (observation_window s.network) (state_at_hearing s c.place.front device c.q) _
+        let judged = integrates_by (plan_of s.network device) (observation_window s.network)
+        (state_at_hearing s c.place.front device c.q) _
         c.point c.frame.cycle c.frame.members state enough_then few_then in
         let body = c.ripe.is
-        ∙ ap (λ (j : Judgement). notes.Permanent device c.link c.arrival.note.number (record { 0 = c.point }) j) judged in
+        ∙ ap (λ (j : Judgement). notes.Permanent device c.link c.arrival.note.number (record { 0 = c.point }) j) judged
+        in
         let joined = ap (is_joined_by device) body ∙ eq-eqb device.0 device.0 refl in
         told_has_time v device is never c.ripe.h x y c.ripe.there joined on (omega (arith, c.ripe.time, from, c.from))
         (omega (arith, c.ripe.time, to))
@@ -74,7 +86,8 @@ module _ (v : View) (device : DeviceId) (is : IsView v) (never : KeepsAll v devi
     pub told_by : IsTimed (state_left v device y)
     told_by =
         let on_then = stays_on v device is x c.q (omega (arith, from, c.from)) on in
-        elim (has_time (state_left v device c.q)) as (λ b. has_time (state_left v device c.q) ≡ b → IsTimed (state_left v device y)) [
+        elim (has_time (state_left v device c.q)) as (λ b. has_time (state_left v device c.q) ≡ b → IsTimed
+        (state_left v device y)) [
           | true ↦ λ timed. time_stays_on v device is never c.q y (omega (arith, to)) timed
           | false ↦ λ untimed.
               let looks = looks_by (state_left v device c.q) on_then untimed in
@@ -88,7 +101,8 @@ module _ (v : View) (device : DeviceId) (is : IsView v) (never : KeepsAll v devi
   -- what is on when the dispatches of the block's cycle begin has the time when the block is over
   pub has_time_by : SoundMasterSends → BlocksGoSo → (n : ℕ) (over : BlockIsOver v n) (x : ℕ) → IsGoodEnd v device
       → IsOn (state_left v device x)
-      → ((hull : Hull) → hull_of v (suc n) ≡ Some hull → pos x ≤ℤ (hull.least +ℤ pos 1)) → IsTimed (state_left v device over.next)
+      → ((hull : Hull) → hull_of v (suc n) ≡ Some hull → pos x ≤ℤ (hull.least +ℤ pos 1))
+      → IsTimed (state_left v device over.next)
   has_time_by sends goes n over x end on early =
       let s = v.scenario in
       let last = last_of v n over is in
@@ -110,11 +124,15 @@ module _ (v : View) (device : DeviceId) (is : IsView v) (never : KeepsAll v devi
       let soon = timed.soon in
       let le : w + v.sizes.dmax + v.sizes.path ≤ t = omega (arith, ints, soon, last.at, ordered) in
       let from : x ≤ w = omega (arith, ints, early sent.0 sent.1, so.near.least, space) in
-      let on_then : (u : ℕ) → w ≤ u → u + v.sizes.path ≤ w + v.sizes.dmax → is_off (state_before s v.records device u) ≡ false = λ u ge short.
+      let on_then : (u : ℕ) → w ≤ u → u + v.sizes.path ≤ w + v.sizes.dmax → is_off
+      (state_before s v.records device u) ≡ false = λ u ge short.
       (let on_u = stays_on v device is x u (omega (arith, from, ge)) on in
-      ap (λ (b : Bool). is_off (if b then Integrating else state_left v device u)) (on_not_turned_on v device u is on_u) ∙ on_u) in
+      ap (λ (b : Bool). is_off (if b then Integrating else state_left v device u)) (on_not_turned_on v device u is on_u)
+      ∙ on_u) in
       let other : device ≡ so.cm → ⊥ = λ same.
-      no_end_cm (device_at s.network device) (subst (λ (d : DeviceId). is_cm s.network d ≡ true) (sym same) (cm_is v so.cm so.is_cm).one) end.end in
+      no_end_cm (device_at s.network device) (subst (λ (d : DeviceId). is_cm s.network d ≡ true) (sym same)
+      (cm_is v so.cm so.is_cm).one) end.end in
       let few = few_cycles v (suc n) sent.0 is sent.1 (has_before v n sent.0 (within_run v is) sent.1).begun in
-      let c = comes_down v n t block is device so.cm (inl end) so.is_cm so.first so.members so.emission timed goes other le on_then in
+      let c = comes_down v n t block is device so.cm (inl end) so.is_cm so.first so.members so.emission timed goes other
+      le on_then in
       told_by n x over.next so.first so.members c on from (omega (arith, c.soon, le, last.is_last)) so.enough few

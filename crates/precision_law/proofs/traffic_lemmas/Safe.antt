@@ -5,7 +5,8 @@ use Rattle.precision_law.proofs.{law.Whole.{blocks_known, clocks_agree, ends_com
 use Rattle.precision_law.proofs.traffic_lemmas.{delivery.Delivering.owed_frames_come, faults.{Firm.sound_switches_keep_time, TurnedOn.timed_are_not_turned_on}}
 use Rattle.precision_law.proofs.traffic_lemmas.{faults.Senders.senders_are_broken, ports.{Apart.ports_stay_apart, Givings.givings_keep_away}}
 use Rattle.precision_law.{proofs.traffic_lemmas.delivery.Owing.due_frames_are_owed, specs.traffic.Owing.{DueFramesAreOwed, DueFramesCome}}
-use Rattle.precision_law.{proofs.traffic_lemmas.delivery.Latency.deliveries_take_their_time, specs.traffic.Latency.DeliveriesTakeTheirTime}
+use Rattle.precision_law.proofs.traffic_lemmas.delivery.Latency.{deliveries_keep_pace, deliveries_take_their_time}
+use Rattle.precision_law.specs.traffic.Latency.{DeliveriesKeepPace, DeliveriesTakeTheirTime}
 
 -- what the fault hypothesis leaves
 channels : BringsChannels
@@ -46,6 +47,9 @@ due_are_delivered s mark ns until run vl of_vl cycle device due =
 
 pub times_are_taken : DeliveriesTakeTheirTime
 times_are_taken = deliveries_take_their_time brings
+
+pub paces_are_kept : DeliveriesKeepPace
+paces_are_kept = deliveries_keep_pace brings
 
 pub all_are_safe : RunsAreSafe
 all_are_safe s mark ns until run = record {

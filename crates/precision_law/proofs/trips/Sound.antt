@@ -3,7 +3,7 @@ use Rattle.precision_law.proofs.{clocks.Readings.reach_is_there, words.Std.{inl,
 use Rattle.precision_law.proofs.{faults.Masters.good_is_correct, words.Runs.{start_of, state_after, state_before, state_with, time_of, wire_of, with_clock}}
 use Rattle.precision_law.proofs.{faults.Ways.sound_switches_begin_on, words.Laws.{IsGood, IsOpen, IsPermanentAt, IsSoundSwitch, IsView, View}}
 use Rattle.{precision_law.proofs.records.Views.{room, steady}, tte_units.specs.declared.frames.pcf.PcfKind.TheVariants.Integration}
-use Rattle.precision_law.proofs.words.Plans.{Device, DeviceId, Integrating, IsReach, LinkId, Network, Pcf, State, amount, device_at, point_of, state_at_start}
+use Rattle.precision_law.proofs.words.Plans.{DeviceId, Integrating, IsReach, LinkId, Network, Pcf, State, amount, device_at, point_of, state_at_start}
 use Rattle.precision_law.proofs.words.Runs.{BeginsOn, ChangesState, Happening, IsCaused, IsIn, NoteBody, Reason, Why, earlier, first_reason, founded_at}
 use Rattle.precision_law.proofs.words.Runs.{frame_fault, in_filter, is_cold_start, is_joined_by, is_of_other_member, is_off, is_turned_on_at, standpoint}
 use Rattle.precision_law.proofs.words.Std.{◌&&◌, ◌+◌, ◌==◌, ◌∙◌, ◌∷◌, ◌≡◌, ◌≤◌, Bool, List, None, [], ap, arith, by_lt_z, eq-eqb, false, fold, if◌then◌else◌}

@@ -2,10 +2,10 @@
 use Rattle.precision_law.proofs.{hearing.Timely.{emission_clock, emission_gives, path_member}, trips.SoundLinks.{HasGrown, comes_over, delay_more}}
 use Rattle.precision_law.proofs.trips.{Legs.relay_not_end, SoundUp.{child_relays, one_cm, path_fits}, Travels.path_down, Upward.trips_down_take_dmax}
 use Rattle.precision_law.proofs.words.Clocks.{IsClean, IsReady, child_not_parent, child_ways, parent_ways, sizes_are, sound_switch_on, switches_are_good}
-use Rattle.precision_law.proofs.words.{Clocks.{trip_more, will_be_permanent}, Std.{inl, inr, length, option_map, option_map_or, refl, subst, sym, true, ℕ}}
+use Rattle.precision_law.proofs.words.{Clocks.{trip_more, will_be_permanent}, Std.{inl, inr, length, option_map, option_map_or, refl, subst, sym, ℕ}}
 use Rattle.precision_law.proofs.words.Laws.{AreOpenFrom, IsEmission, IsGood, IsOpen, IsSoundSwitch, IsTrip, IsView, Leg, SoundFramesGoDown, View, clock_in}
 use Rattle.precision_law.proofs.words.{Laws.links_back, Runs.{is_parent_of, is_relay, is_relay_role, member_of, receiver_of, time_of, with_clock}}
-use Rattle.precision_law.proofs.words.Plans.{Device, DeviceId, Down, IsChildOf, IsCmOf, IsDeviceOf, IsPath, IsSwitchOf, Link, LinkId, Members, Pcf, amount}
+use Rattle.precision_law.proofs.words.Plans.{DeviceId, Down, IsChildOf, IsCmOf, IsDeviceOf, IsPath, IsSwitchOf, Link, LinkId, Members, Pcf, amount}
 use Rattle.precision_law.proofs.words.Plans.{closed, delay_by, delay_on, device_at, is_end_system, link_at, opened, rules_give_trees, shape_rules, target_by}
 use Rattle.precision_law.proofs.words.Runs.{Gives, Happening, IsIn, IsParentOf, NoteBody, are_others, founded_at, frame_by, integration_frame, is_end}
 use Rattle.precision_law.proofs.words.Std.{◌&&◌, ◌++◌, ◌+◌, ◌==◌, ◌∙◌, ◌∷◌, ◌≡◌, ◌≤◌, ◌⊎◌, Bool, List, Option, Some, [], ap, arith, false, false_from_ne_true}

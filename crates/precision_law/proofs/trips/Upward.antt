@@ -2,7 +2,7 @@
 use Rattle.precision_law.proofs.{hearing.Timely.trip_in_time, trips.Travels.{jitter_back, jitter_of_legs, last_young, leg_link, many_back, switch_of}}
 use Rattle.{precision_law.proofs.words.{Clocks.{child_channel, parent_ways, sizes_are}, Laws.links_of}, std.proofs.lemmas.List.length-map}
 use Rattle.precision_law.proofs.words.Laws.{IsInTime, IsLeg, IsPermanentAt, IsTrip, IsView, Leg, TripsDownTakeDmax, TripsUpTakeDmax, View, clock_in, links_back}
-use Rattle.precision_law.proofs.words.Plans.{Channel, Cm, Device, DeviceId, Down, IsChildOf, IsCmOf, IsPath, IsReach, IsSwitchOf, Link, LinkId, Network, Up}
+use Rattle.precision_law.proofs.words.Plans.{Channel, Device, DeviceId, Down, IsChildOf, IsCmOf, IsPath, IsReach, IsSwitchOf, Link, LinkId, Network, Up}
 use Rattle.precision_law.proofs.words.Plans.{Way, amount, closed, device_at, jitter_of, jitter_on, link_at, opened, point_of, target_by, waits_for_point}
 use Rattle.precision_law.proofs.words.{Runs.{Gives, Happening, NoteBody, channel_of, is_relay, same_some, time_of}, Std.{sum_by-cons, sym, true, ℕ, ℤ}}
 use Rattle.precision_law.proofs.words.Std.{◌∙◌, ◌∷◌, ◌≡◌, List, Option, Some, [], ap, arith, inl, inr, length, option_and_then, option_map, pos, refl, subst}

@@ -1,4 +1,4 @@
-ghost use Rattle.precision_law.specs.traffic.Latency.{DeliveriesTakeTheirTime};
+ghost use Rattle.precision_law.specs.traffic.Latency.{DeliveriesKeepPace, DeliveriesTakeTheirTime};
 ghost use Rattle.precision_law.specs.traffic.Owing.{DueFramesAreOwed, DueFramesCome};
 ghost use Rattle.precision_law.specs.traffic.Ports.{OwedFramesCome, PortsStayApart, RunsAreSafe};
 
@@ -12,17 +12,23 @@ pub fn owed_frames_come()
     ensures { OwedFramesCome }
 {}
 
-/// What the sender and the receiver are on for three cycles before is owed, and so delivered: nothing is asked of their
-/// states but that.
+/// A frame whose sender and receiver are on for three cycles, and are not broken at the end of its last window, is owed,
+/// and so delivered.
 pub fn due_frames_come()
     ensures owed { DueFramesAreOwed }
     ensures delivered { DueFramesCome }
 {}
 
-/// A frame comes by a row so long behind its dispatch on another as the schedule says, but for the jitter of the last
-/// wire and less than a precision.
+/// A frame is delivered by a row so long behind its dispatch on another as the schedule says, but for the jitter of the
+/// last wire and less than the precision.
 pub fn deliveries_take_their_time()
     ensures { DeliveriesTakeTheirTime }
+{}
+
+/// Two frames of a virtual link that are delivered by one row come as many cycles apart as they are of, but for the
+/// jitter of its wire, the spread of the dispatches, and an error for each cycle and two more.
+pub fn deliveries_keep_pace()
+    ensures { DeliveriesKeepPace }
 {}
 
 /// Each run of an accepted network under events within the fault hypothesis is safe: its clocks agree, its ports are

@@ -1,7 +1,7 @@
 -- Where the frames come from that devices take.
 use Rattle.{net_plan.specs.declared.event.What.TheVariants.Send, precision_law.proofs.traffic_lemmas.{ports.Cycles.hulls_grow, schedule.Rows.rows_go_once}}
 use Rattle.precision_law.proofs.traffic_lemmas.Words.{◌+◌, ◌<◌, ◌∙◌, ◌∷◌, ◌≡◌, Bool, BringsBlocks, DeviceId, Entry, FieldsFit, Happening, HasGoodSources}
-use Rattle.precision_law.proofs.traffic_lemmas.Words.{IsEntry, IsGood, IsRowDispatch, IsTaking, IsTimedAt, IsView, KeepsRules, Link, LinkId, List, Network}
+use Rattle.precision_law.proofs.traffic_lemmas.Words.{IsEntry, IsGood, IsRowDispatch, IsTaking, IsTimedAt, IsView, KeepsRules, LinkId, List, Network}
 use Rattle.precision_law.proofs.traffic_lemmas.Words.{None, NoteBody, SendersAreBroken, Signal, Some, Up, View, VirtualLink, VlId, Way, [], ap, arith}
 use Rattle.precision_law.proofs.traffic_lemmas.Words.{arrives_at, begins_late, both_ways, cases_lt, cause_of, false, field, if◌then◌else◌, inl, inr, ints}
 use Rattle.precision_law.proofs.traffic_lemmas.Words.{is_broken, launched, length, link_at, numbered, octet_time, option_map_or, port_time, refl, same_some}

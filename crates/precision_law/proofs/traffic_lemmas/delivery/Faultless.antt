@@ -1,7 +1,7 @@
 -- What a device has found of a frame of the schedule that it takes.
 use Rattle.{net_plan.proofs.SameIds.one_link, run_law.proofs.{device.States.is_in, scenario.Ways.one_way}, std.proofs.Common.{◌%◌, arith}}
 use Rattle.precision_law.proofs.traffic_lemmas.Words.{◌==◌, ◌≡◌, ◌≤ℤ◌, ◌⊎◌, Arrival, Bool, DeviceId, Entry, IsEntry, LinkId, List, Network, None, OccursIn}
-use Rattle.precision_law.proofs.traffic_lemmas.Words.{Option, Reason, Some, Standpoint, Synchronised, VirtualLink, VlId, and_parts, ap, clock_of, cycle_at}
+use Rattle.precision_law.proofs.traffic_lemmas.Words.{Option, Reason, Some, Standpoint, Synchronised, VirtualLink, VlId, and_parts, clock_of, cycle_at}
 use Rattle.precision_law.proofs.traffic_lemmas.Words.{entry_arrival, entry_entering, eqb-true, false, field, if◌then◌else◌, inl, inr, int_lt, is_end}
 use Rattle.precision_law.proofs.traffic_lemmas.Words.{is_synchronised, is_taken_in, length, link_at, nat_le, none_first, not, not_less, octets_fault}
 use Rattle.precision_law.proofs.traffic_lemmas.Words.{octets_or_fault, offset_in_cycle, option_and_then, option_map_or, refl, row_fault, slice_get}

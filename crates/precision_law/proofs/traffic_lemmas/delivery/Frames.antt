@@ -1,7 +1,7 @@
 -- What a frame of the schedule shows.
 use Rattle.{pcf_codec.proofs.Numbers.read_behind, precision_law.proofs.traffic_lemmas.delivery.{Taken.takings_are_so, Whole.{octets_come_so, same_vl}}}
-use Rattle.precision_law.proofs.traffic_lemmas.Words.{◌-◌, ◌<◌, ◌∙◌, ◌≡◌, DeviceId, FieldsFit, Happening, IsRowDispatch, IsView, LinkId, List, Network, View}
-use Rattle.precision_law.proofs.traffic_lemmas.Words.{VirtualLink, VlId, [], ap, append_assoc, arith, field, inl, inr, length, sym, tt_frame_by, ℕ}
+use Rattle.precision_law.proofs.traffic_lemmas.Words.{◌<◌, ◌∙◌, ◌≡◌, DeviceId, FieldsFit, Happening, IsRowDispatch, IsView, LinkId, List, Network, View}
+use Rattle.precision_law.proofs.traffic_lemmas.Words.{VirtualLink, VlId, ap, append_assoc, arith, field, inl, inr, length, sym, tt_frame_by, ℕ}
 use Rattle.std.proofs.Common.{◌^◌, length-append, replicate}
 
 -- what the frame shows

@@ -1,65 +1,185 @@
--- Each frame of the schedule takes its time.
+-- Each frame of the schedule takes its time, and from cycle to cycle a row keeps its pace.
 use Rattle.precision_law.proofs.records.RunViews.{view_of, view_with}
-use Rattle.precision_law.proofs.traffic_lemmas.delivery.{Arriving.delay_lies, Coming.{on_port, takings_come_by_rows}, Delivering.fields_fit, Sent.Brings}
-use Rattle.precision_law.proofs.traffic_lemmas.delivery.Taken.{takings_are_so}
-use Rattle.precision_law.proofs.traffic_lemmas.faults.Channels.{good_sources}
-use Rattle.precision_law.proofs.traffic_lemmas.ports.{Cycles.same_hull, Dispatched.{dispatches_are_in_spans, dispatches_are_of_rows}}
+use Rattle.precision_law.proofs.traffic_lemmas.delivery.{Arriving.delay_lies, Coming.{on_port, takings_come_by_rows}}
+use Rattle.precision_law.proofs.traffic_lemmas.delivery.{Delivering.fields_fit, Sent.Brings, Taken.takings_are_so}
+use Rattle.precision_law.proofs.traffic_lemmas.{faults.Channels.good_sources, ports.Cycles.same_hull}
+use Rattle.precision_law.proofs.traffic_lemmas.ports.Dispatched.{dispatches_are_in_spans, dispatches_are_of_rows}
 use Rattle.precision_law.proofs.traffic_lemmas.schedule.Rows.{rows_go_once}
-use Rattle.precision_law.proofs.traffic_lemmas.Words.{◌*◌, ◌+ℤ◌, ◌+◌, ◌∙◌, ◌≡◌, ◌≤ℤ◌, ◌≤◌, Entry, Hull, LinkId, Sizes, Some, amount, ap, arith}
-use Rattle.precision_law.proofs.traffic_lemmas.Words.{before_narrow, in_range, inr, ints, link_at, pos, port_time, source_of, subst, sym, time_of, ℕ}
-use Rattle.precision_law.specs.{Hulls.IsNarrow, traffic.Latency.{DeliveriesTakeTheirTime, TakesItsTime}}
-use Rattle.run_law.specs.{scenario.Ways.delay_at}
+use Rattle.precision_law.proofs.traffic_lemmas.Words.{◌*◌, ◌+ℤ◌, ◌+◌, ◌<◌, ◌∙◌, ◌≡◌, ◌≤ℤ◌, ◌≤◌, DeviceId, Entry}
+use Rattle.precision_law.proofs.traffic_lemmas.Words.{Happening, Hull, IsGood, IsIn, IsView, LinkId, Sizes, Some}
+use Rattle.precision_law.proofs.traffic_lemmas.Words.{Stands, View, VlId, amount, ap, arith, before_narrow, has_before}
+use Rattle.precision_law.proofs.traffic_lemmas.Words.{hull_of, in_range, inr, ints, link_at, pos, port_time, room}
+use Rattle.precision_law.proofs.traffic_lemmas.Words.{same_some, source_of, subst, suc, sym, time_of, within_run, zero}
+use Rattle.precision_law.proofs.traffic_lemmas.Words.{ℕ}
+use Rattle.precision_law.specs.{Sizes.HaveRoom}
+use Rattle.precision_law.specs.traffic.Latency.{DeliveriesKeepPace, DeliveriesTakeTheirTime, HasCorrectSender}
+use Rattle.precision_law.specs.traffic.Latency.{IsDeliveryBy, IsDispatchOn}
+use Rattle.run_law.specs.scenario.Ways.{delay_at}
+use Rattle.schedule_tables.specs.Windows.{arrival_of}
 
--- a frame that leaves at a time of its hull comes so long behind another that left in the hull
-record ComesBetween (s : Sizes) (offset other arrival jitter sent came : ℕ) : Type 0 where
-  pub least : sent + arrival ≤ came + offset + (s.spread + 2 * s.reach)
-  pub most : came + offset ≤ sent + arrival + jitter + (s.spread + 2 * s.reach)
+-- ---- by the hull of the frame's cycle
 
-comes_between : (s : Sizes) (hull own : Hull) (offset other port wire jitter delay sent put came : ℕ) → IsNarrow s hull → own ≡ hull
-    → (hull.least +ℤ pos offset) ≤ℤ (pos sent +ℤ pos s.reach) → pos sent ≤ℤ ((hull.greatest +ℤ pos offset) +ℤ pos s.reach)
-    → (own.least +ℤ pos other) ≤ℤ (pos put +ℤ pos s.reach) → pos put ≤ℤ ((own.greatest +ℤ pos other) +ℤ pos s.reach)
-    → came ≡ put + port + delay → wire ≤ delay → delay ≤ wire + jitter → ComesBetween s offset other (other + port + wire) jitter sent came
-comes_between s hull own offset other port wire jitter delay sent put came narrow same low high early late at short long =
+-- what goes at this place of the cycle goes within the hull, but for an error
+record GoesInHull (v : View) (cycle place late at : ℕ) : Type 0 where
+  pub before : Stands v cycle
+  pub least : (before.hull.least +ℤ pos place) ≤ℤ (pos at +ℤ pos v.sizes.reach)
+  pub most : pos at ≤ℤ ((before.hull.greatest +ℤ pos (place + late)) +ℤ pos v.sizes.reach)
+
+-- a dispatch does
+dispatched_in_hull : Brings → (v : View) (vl : VlId) (cycle : ℕ) (f : Happening) (device : DeviceId) (first : Entry)
+    → IsView v → IsIn f v.records → IsGood v device → IsDispatchOn v.scenario.network vl cycle f device first
+    → GoesInHull v cycle (amount first.row.offset) 0 (time_of f)
+dispatched_in_hull brings v vl cycle f device first is there good d =
+    let n = v.scenario.network in
+    let sent = dispatches_are_of_rows v f device d.link d.cause vl cycle is there d.is in
+    let span = dispatches_are_in_spans brings.blocks v f device d.link d.cause vl cycle is good sent in
+    let same = (rows_go_once n d.row.place sent.place first sent.entry is.lawful.rules d.row.is sent.row
+    (d.row.of_vl ∙ sym sent.of_vl) (d.row.by ∙ sym sent.by)).1 in
+    let offset : amount first.row.offset ≡ amount sent.entry.row.offset =
+    ap (λ (e : Entry). amount e.row.offset) same in
+    record {
+      before = span.span.block.before;
+      least = omega (arith, ints, span.not_early, offset);
+      most = omega (arith, ints, span.not_late, offset);
+    }
+
+-- what left by a row comes by the row's port time and its wire's delay later
+comes_in_hull : (s : Sizes) (hull : Hull) (offset port wire jitter delay sent came : ℕ)
+    → (hull.least +ℤ pos offset) ≤ℤ (pos sent +ℤ pos s.reach)
+    → pos sent ≤ℤ ((hull.greatest +ℤ pos offset) +ℤ pos s.reach)
+    → came ≡ sent + port + delay → wire ≤ delay → delay ≤ wire + jitter
+    → ((hull.least +ℤ pos (offset + port + wire)) ≤ℤ (pos came +ℤ pos s.reach))
+    × (pos came ≤ℤ ((hull.greatest +ℤ pos (offset + port + wire + jitter)) +ℤ pos s.reach))
+comes_in_hull s hull offset port wire jitter delay sent came least most at short long =
+    (omega (arith, ints, least, at, short), omega (arith, ints, most, at, long))
+
+-- a delivery goes so
+delivered_in_hull : Brings → (v : View) (vl : VlId) (cycle : ℕ) (z : Happening) (receiver : DeviceId) (last : Entry)
+    → IsView v → IsIn z v.records → IsGood v receiver → HasCorrectSender v.scenario vl v.until
+    → IsDeliveryBy v.scenario.network vl cycle z receiver last
+    → GoesInHull v cycle (arrival_of last) (amount last.link.jitter) (time_of z)
+delivered_in_hull brings v vl cycle z receiver last is there good sender d =
+    let s = v.scenario in
+    let n = s.network in
+    let taking = takings_are_so v z receiver d.link d.cause vl cycle is there (inr d.is) in
+    let row = taking.by_row in
+    let put = taking.putting in
+    let sources = good_sources brings.channels v vl sender.of_vl is sender.there sender.correct in
+    let fine = sources row.place row.entry row.row row.of_vl in
+    let fit = fields_fit n is.lawful.range in
+    let comes = takings_come_by_rows brings.blocks brings.senders v z receiver d.link d.cause vl cycle is fit good
+    taking fine in
+    let span = dispatches_are_in_spans brings.blocks v put (source_of row.entry) d.link comes.from vl cycle is fine
+    comes.dispatch in
+    let same = (rows_go_once n d.row.place row.place last row.entry is.lawful.rules d.row.is row.row
+    (d.row.of_vl ∙ sym row.of_vl) (d.row.by ∙ sym row.by)).1 in
+    let port = on_port v row.place row.entry d.link z.octets row.row row.by taking.whole in
+    let linked : link_at n d.link ≡ Some row.entry.link =
+    subst (λ (x : LinkId). link_at n x ≡ Some row.entry.link) row.by row.row.link in
+    let range = in_range n row.place row.entry is.lawful.range row.row in
+    let delay = delay_lies s d.link row.entry.link taking.way (time_of put) is.lawful linked range.link.wire.least
+    range.link.jitter.least in
+    let offsets : amount comes.dispatch.entry.row.offset ≡ amount row.entry.row.offset =
+    ap (λ (e : Entry). amount e.row.offset) comes.same in
+    let before = span.span.block.before in
+    let at : time_of z ≡ time_of put + port_time row.entry + delay_at s d.link taking.way (time_of put) =
+    omega (arith, taking.at, port) in
+    let c = comes_in_hull v.sizes before.hull (amount row.entry.row.offset) (port_time row.entry)
+    (amount row.entry.link.wire) (amount row.entry.link.jitter) _ (time_of put) (time_of z)
+    (omega (arith, ints, span.not_early, offsets)) (omega (arith, ints, span.not_late, offsets)) at delay.0 delay.1 in
+    let goes : GoesInHull v cycle (arrival_of row.entry) (amount row.entry.link.jitter) (time_of z) =
+    record { before = before; least = c.0; most = c.1 } in
+    subst (λ (e : Entry). GoesInHull v cycle (arrival_of e) (amount e.link.jitter) (time_of z)) (sym same) goes
+
+-- ---- latency
+
+-- two instants of one narrow hull
+record AreOneHullApart (s : Sizes) (place other late at came : ℕ) : Type 0 where
+  pub least : at + other ≤ came + place + (s.spread + 2 * s.reach)
+  pub most : came + place ≤ at + other + late + (s.spread + 2 * s.reach)
+
+one_hull_apart : (v : View) (cycle place other late at came : ℕ) → GoesInHull v cycle place 0 at
+    → GoesInHull v cycle other late came → AreOneHullApart v.sizes place other late at came
+one_hull_apart v cycle place other late at came one two =
+    let narrow = before_narrow v cycle one.before in
+    let same = same_hull v cycle two.before one.before in
     let bottom = ap (λ (w : Hull). w.least) same in
     let top = ap (λ (w : Hull). w.greatest) same in
     record {
-      least = omega (arith, ints, narrow, bottom, top, high, early, at, short);
-      most = omega (arith, ints, narrow, bottom, top, low, late, at, long);
+      least = omega (arith, ints, narrow, bottom, one.most, two.least);
+      most = omega (arith, ints, narrow, top, one.least, two.most);
     }
 
+-- the error is less than the precision
+small_error : (s : Sizes) → HaveRoom s → s.spread + 2 * s.reach < s.precision
+small_error s space = omega (arith, space.eight_errors, space.errors.reach_is, space.errors.clock_is)
+
 pub deliveries_take_their_time : Brings → DeliveriesTakeTheirTime
-deliveries_take_their_time brings s mark ns until beta up is_beta vl cycle f z first last le d =
+deliveries_take_their_time brings s mark ns to beta up path vl cycle f z device end first last i j lt le d e good has =
     let n = s.network in
     let w = time_of z in
-    let fit = fields_fit n up.lawful.range in
+    let channel = brings.channels.sound s w up.lawful in
+    let at = view_with s mark ns to w channel.0 beta up path le channel.1 in
+    let v = view_of s w channel.0 beta at.cut.front in
+    let there = at.cut.has z j (omega arith) in
+    let taking = takings_are_so v z end e.link e.cause vl cycle at.is there (inr e.is) in
+    let sent = dispatched_in_hull brings v vl cycle f device first at.is (at.cut.has f i lt) good d in
+    let came = delivered_in_hull brings v vl cycle z end last at.is there taking.correct has e in
+    let a = one_hull_apart v cycle (amount first.row.offset) (arrival_of last) (amount last.link.jitter) (time_of f) w
+    sent came in
+    record { least = a.least; most = a.most; small = small_error v.sizes (room v at.is) }
+
+-- ---- from cycle to cycle
+
+-- hulls keep apart by their cycles, but for an error a cycle
+record AreCyclesApart (s : Sizes) (cycles : ℕ) (hull later : Hull) : Type 0 where
+  pub least : (hull.least +ℤ pos (cycles * s.cycle)) ≤ℤ (later.least +ℤ pos (cycles * s.reach))
+  pub most : later.greatest ≤ℤ ((hull.greatest +ℤ pos (cycles * s.cycle)) +ℤ pos (cycles * s.reach))
+
+cycles_apart : (v : View) (cycle cycles : ℕ) (hull later : Hull) → IsView v → hull_of v cycle ≡ Some hull
+    → hull_of v (cycle + cycles) ≡ Some later → AreCyclesApart v.sizes cycles hull later
+cycles_apart v cycle zero hull later is one two =
+    let here : cycle + 0 ≡ cycle = omega arith in
+    let same = same_some (hull_of v cycle) hull later one (subst (λ (n : ℕ). hull_of v n ≡ Some later) here two) in
+    let bottom = ap (λ (w : Hull). w.least) same in
+    let top = ap (λ (w : Hull). w.greatest) same in
+    record { least = omega (arith, ints, bottom); most = omega (arith, ints, top) }
+cycles_apart v cycle (suc cycles) hull later is one two =
+    let next : cycle + suc cycles ≡ suc (cycle + cycles) = omega arith in
+    let has = has_before v (cycle + cycles) later (within_run v is)
+    (subst (λ (n : ℕ). hull_of v n ≡ Some later) next two) in
+    let apart = cycles_apart v cycle cycles hull has.before is one has.is_before in
+    record {
+      least = omega (arith, ints, apart.least, has.follows.least);
+      most = omega (arith, ints, apart.most, has.follows.most);
+    }
+
+-- two instants at one place of two cycles
+record AreInPace (s : Sizes) (cycles late at came : ℕ) : Type 0 where
+  pub least : at + cycles * s.cycle ≤ came + (late + s.spread + (cycles + 2) * s.reach)
+  pub most : came ≤ at + cycles * s.cycle + (late + s.spread + (cycles + 2) * s.reach)
+
+in_pace : (v : View) (cycle cycles place late at came : ℕ) → IsView v → GoesInHull v cycle place late at
+    → GoesInHull v (cycle + cycles) place late came → AreInPace v.sizes cycles late at came
+in_pace v cycle cycles place late at came is one two =
+    let narrow = before_narrow v cycle one.before in
+    let later = before_narrow v (cycle + cycles) two.before in
+    let apart = cycles_apart v cycle cycles one.before.hull two.before.hull is one.before.is_hull two.before.is_hull in
+    record {
+      least = omega (arith, ints, narrow, later, apart.least, one.most, two.least);
+      most = omega (arith, ints, narrow, later, apart.most, one.least, two.most);
+    }
+
+pub deliveries_keep_pace : Brings → DeliveriesKeepPace
+deliveries_keep_pace brings s mark ns until beta up is_beta vl cycle cycles z y receiver entry i j early le d e sender =
+    let w = time_of y in
     let channel = brings.channels.sound s w up.lawful in
     let at = view_with s mark ns until w channel.0 beta up is_beta le channel.1 in
-    let is = at.is in
     let v = view_of s w channel.0 beta at.cut.front in
-    let taking = takings_are_so v z d.receiver d.last_link d.from vl cycle is (at.cut.has z d.delivered (omega arith)) (inr d.says_delivered) in
-    let row = taking.by_row in
-    let sources = good_sources brings.channels v vl d.of_vl is d.there d.sender in
-    let fine = sources row.place row.entry row.row row.of_vl in
-    let comes = takings_come_by_rows brings.blocks brings.senders v z d.receiver d.last_link d.from vl cycle is fit taking.correct taking fine in
-    let put = dispatches_are_in_spans brings.blocks v taking.putting (source_of row.entry) d.last_link comes.from vl cycle is fine comes.dispatch in
-    let sent = dispatches_are_of_rows v f d.device d.link d.cause vl cycle is (at.cut.has f d.sent d.in_order) d.says_sent in
-    let begun = dispatches_are_in_spans brings.blocks v f d.device d.link d.cause vl cycle is d.dispatcher sent in
-    let port = on_port v row.place row.entry d.last_link z.octets row.row row.by taking.whole in
-    let range = in_range n row.place row.entry up.lawful.range row.row in
-    let linked : link_at n d.last_link ≡ Some row.entry.link = subst (λ (x : LinkId). link_at n x ≡ Some row.entry.link) row.by row.row.link in
-    let delay = delay_lies s d.last_link row.entry.link taking.way (time_of taking.putting) up.lawful linked range.link.wire.least range.link.jitter.least in
-    let one = (rows_go_once n d.place sent.place first sent.entry up.lawful.rules d.first_row sent.row (d.first_own ∙ sym sent.of_vl) (d.first_by ∙ sym sent.by)).1
-    in
-    let other = (rows_go_once n d.last_place row.place last row.entry up.lawful.rules d.last_row row.row (d.last_own ∙ sym row.of_vl) (d.last_by ∙ sym row.by)).1
-    in
-    let hull = begun.span.block.before.hull in
-    let offsets : amount comes.dispatch.entry.row.offset ≡ amount row.entry.row.offset = ap (λ (e : Entry). amount e.row.offset) comes.same in
-    let early = subst (λ (o : ℕ). (put.span.block.before.hull.least +ℤ pos o) ≤ℤ (pos (time_of taking.putting) +ℤ pos v.sizes.reach)) offsets put.not_early in
-    let late = subst (λ (o : ℕ). pos (time_of taking.putting) ≤ℤ ((put.span.block.before.hull.greatest +ℤ pos o) +ℤ pos v.sizes.reach)) offsets put.not_late in
-    let arrives : w ≡ time_of taking.putting + port_time row.entry + delay_at s d.last_link taking.way (time_of taking.putting) =
-    omega (arith, taking.at, port) in
-    let c = comes_between v.sizes hull put.span.block.before.hull (amount sent.entry.row.offset) (amount row.entry.row.offset) (port_time row.entry)
-    (amount row.entry.link.wire) (amount row.entry.link.jitter) _ (time_of f) (time_of taking.putting) w (before_narrow v cycle begun.span.block.before)
-    (same_hull v cycle put.span.block.before begun.span.block.before) begun.not_early begun.not_late early late arrives delay.0 delay.1 in
-    let between : TakesItsTime n beta sent.entry row.entry (time_of f) w = record { least = c.least; most = c.most } in
-    subst (λ (e : Entry). TakesItsTime n beta first e (time_of f) w) (sym other) (subst (λ (e : Entry). TakesItsTime n beta e row.entry (time_of f) w) (sym one) between)
+    let there = at.cut.has y j (omega arith) in
+    let taking = takings_are_so v y receiver e.link e.cause vl (cycle + cycles) at.is there (inr e.is) in
+    let one = delivered_in_hull brings v vl cycle z receiver entry at.is
+    (at.cut.has z i early) taking.correct sender d in
+    let two = delivered_in_hull brings v vl (cycle + cycles) y receiver entry at.is there taking.correct sender e in
+    let p = in_pace v cycle cycles (arrival_of entry) (amount entry.link.jitter) (time_of z) w at.is one two in
+    record { least = p.least; most = p.most }

@@ -1,9 +1,9 @@
 -- Where the octets of a dispatch come from, and how many they are.
 use Rattle.{byteorder.specs.Endian.big_bytes, net_plan.specs.Padding.padded, run_law.proofs.law.FirstPlaces.by_number, std.proofs.lemmas.List.length-replicate}
-use Rattle.precision_law.proofs.traffic_lemmas.Words.{◌++◌, ◌-◌, ◌<◌, ◌==◌, ◌∙◌, ◌≡◌, ◌≤◌, Bool, Entry, Happening, IsEntry, IsIn, List, Network, None, Some}
-use Rattle.precision_law.proofs.traffic_lemmas.Words.{VirtualLink, VlId, [], ap, arith, before_of, earlier, eq-eqb, eqb-true, false, false_from_ne_true, filter}
+use Rattle.precision_law.proofs.traffic_lemmas.Words.{◌++◌, ◌<◌, ◌==◌, ◌∙◌, ◌≡◌, ◌≤◌, Bool, Entry, Happening, IsEntry, IsIn, List, Network, None, Some}
+use Rattle.precision_law.proofs.traffic_lemmas.Words.{VirtualLink, VlId, ap, arith, before_of, earlier, eq-eqb, eqb-true, false, false_from_ne_true, filter}
 use Rattle.precision_law.proofs.traffic_lemmas.Words.{founded_at, if◌then◌else◌, in_filter, in_parts, in_range, inl, inr, is_accepted, last_accepted, last_in}
-use Rattle.precision_law.proofs.traffic_lemmas.Words.{last_or, length, numbered, option_map_or, same_some, slice_get, subst, suc, sym, time_of, true}
+use Rattle.precision_law.proofs.traffic_lemmas.Words.{last_or, length, numbered, option_map_or, same_some, slice_get, subst, suc, sym, time_of}
 use Rattle.precision_law.proofs.traffic_lemmas.{Words.{tt_frame_by, zero, ℕ}, delivery.Taken.{from_cause, takings_are_so}}
 use Rattle.{precision_law.specs.traffic.{Dispatched.DispatchesAreWhole, Passed.OctetsComeSo}, run_law.specs.records.Happenings.{octets_by, octets_from}}
 use Rattle.{run_law.{proofs.records.Happenings.from_earlier, specs.records.Frames.{mac_of, tt_frame}}, std.proofs.Common.{length-append, replicate}}

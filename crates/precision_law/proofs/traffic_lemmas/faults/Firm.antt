@@ -1,7 +1,7 @@
 -- The switches of the sound channel are synchronised when the span of a cycle begins.
 use Rattle.{net_plan.specs.declared.event.What.TheVariants.On, precision_law.specs.Views.IsFirm, run_law.specs.scenario.Faults.BeginsOn}
-use Rattle.precision_law.proofs.traffic_lemmas.Words.{◌<◌, ◌==◌, ◌∙◌, ◌∷◌, ◌≡◌, ◌≤◌, Bool, BringsChannels, ChangesState, Device, DeviceId, Happening}
-use Rattle.precision_law.proofs.traffic_lemmas.Words.{Integrates, IsCaused, IsFoundedAt, IsIn, IsView, List, Network, None, NoteBody, State, Synchronised}
+use Rattle.precision_law.proofs.traffic_lemmas.Words.{◌<◌, ◌==◌, ◌∙◌, ◌∷◌, ◌≡◌, ◌≤◌, Bool, BringsChannels, ChangesState, DeviceId, Happening}
+use Rattle.precision_law.proofs.traffic_lemmas.Words.{Integrates, IsCaused, IsFoundedAt, IsIn, IsView, List, Network, NoteBody, State, Synchronised}
 use Rattle.precision_law.proofs.traffic_lemmas.Words.{TimedAreNotTurnedOn, View, Why, [], ap, arith, between, both_ways, device_at, earlier, earlier_parts}
 use Rattle.precision_law.proofs.traffic_lemmas.Words.{false, fold, fold-append, founded_at, has_time, if◌then◌else◌, in_between, in_left, in_order, inl, inr}
 use Rattle.precision_law.proofs.traffic_lemmas.Words.{is_joined_by, is_turned_on_at, le-ltb, nat_lt, none_kept, numbered_in, one_device, option_and_then, refl}

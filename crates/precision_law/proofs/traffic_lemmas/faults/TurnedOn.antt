@@ -1,5 +1,5 @@
 -- A device that has the common time is not turned on.
-use Rattle.precision_law.proofs.traffic_lemmas.Words.{◌++◌, ◌<◌, ◌==◌, ◌∙◌, ◌∷◌, ◌≡◌, Bool, ChangesState, Device, DeviceId, Event, Happening, Integrates}
+use Rattle.precision_law.proofs.traffic_lemmas.Words.{◌++◌, ◌<◌, ◌==◌, ◌∙◌, ◌∷◌, ◌≡◌, Bool, ChangesState, DeviceId, Event, Happening, Integrates}
 use Rattle.precision_law.proofs.traffic_lemmas.Words.{Integrating, IsCaused, IsFoundedAt, IsIn, IsView, Joining, List, Network, NoteBody, Scenario, State}
 use Rattle.precision_law.proofs.traffic_lemmas.Words.{Synchronised, TimedAreNotTurnedOn, View, Why, [], amount, ap, append_assoc, arith, before_of, between}
 use Rattle.precision_law.proofs.traffic_lemmas.Words.{both_ways, device_at, earlier, earlier_before, earlier_parts, eqb-true, false, false_from_ne_true, fold}

@@ -3,7 +3,7 @@ use Rattle.{net_plan.proofs.Shape.rules_give_trees, run_law.specs.{law.Safety.ti
 use Rattle.{net_plan.specs.declared.tables.Role.Role, run_law.proofs.law.FirstDelays.hold_most, schedule_tables.specs.Delays.{delay_by, pcf_port_time}}
 use Rattle.{precision_law.{proofs.Plain.cm_is_no_end, specs.Hulls.{IsInHull, IsNarrow, start_hull}}, run_law.specs.control.Leaving.{Departs, Gives, leaves}}
 use Rattle.precision_law.{proofs.{sizes.Instants.instants_are_in_order, trips.Legs.relay_not_end}, specs.traffic.Ports.{GivesAt, LeavingsStandApart}}
-use Rattle.precision_law.proofs.traffic_lemmas.Words.{◌*◌, ◌+ℤ◌, ◌+◌, ◌<◌, ◌∙◌, ◌∷◌, ◌≡◌, ◌≤ℤ◌, ◌≤◌, ◌⊎◌, Bool, BringsBlocks, Device, DeviceId, Entry}
+use Rattle.precision_law.proofs.traffic_lemmas.Words.{◌*◌, ◌+ℤ◌, ◌+◌, ◌<◌, ◌∙◌, ◌∷◌, ◌≡◌, ◌≤ℤ◌, ◌≤◌, ◌⊎◌, Bool, BringsBlocks, DeviceId, Entry}
 use Rattle.precision_law.proofs.traffic_lemmas.Words.{GivingsKeepAway, Happening, Hull, IsCaused, IsEntry, IsFoundedAt, IsGood, IsIn, IsRowDispatch, IsView}
 use Rattle.precision_law.proofs.traffic_lemmas.Words.{Link, LinkId, Network, NoteBody, Option, Sizes, Some, Stands, View, VlId, Way, amount, ap, arith}
 use Rattle.precision_law.proofs.traffic_lemmas.Words.{before_narrow, cases_lt, device_at, false, founded_at, has_before, hull_of, in_all, in_left, in_range}

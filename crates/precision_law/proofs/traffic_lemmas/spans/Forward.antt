@@ -1,7 +1,7 @@
 -- A synchronised device stays so in the span of a cycle.
 use Rattle.{net_plan.specs.declared.event.What.TheVariants.On, precision_law.proofs.traffic_lemmas.Words.ℕ, sync_state.specs.declared.answers.Verdict.Verdict}
 use Rattle.precision_law.proofs.traffic_lemmas.Words.{◌++◌, ◌+◌, ◌-◌, ◌<ℤ◌, ◌==◌, ◌∙◌, ◌∷◌, ◌≡◌, ◌≤◌, Bool, BringsBlocks, ChangesState, ComesTo, Corrected}
-use Rattle.precision_law.proofs.traffic_lemmas.Words.{DeviceId, Event, Happening, Integrates, Integrating, IsCaused, IsFoundedAt, IsIn, IsInBlock, IsInSpan}
+use Rattle.precision_law.proofs.traffic_lemmas.Words.{DeviceId, Happening, Integrates, Integrating, IsCaused, IsFoundedAt, IsIn, IsInBlock, IsInSpan}
 use Rattle.precision_law.proofs.traffic_lemmas.Words.{IsOldAt, IsTimedAt, IsView, Judgement, List, None, NoteBody, Option, Scenario, State, Synchronised}
 use Rattle.precision_law.proofs.traffic_lemmas.Words.{TimedAreNotTurnedOn, Units, View, Why, [], amount, ap, arith, before_of, between, both_ways}
 use Rattle.precision_law.proofs.traffic_lemmas.Words.{changes_adjustment, earlier, earlier_before, earlier_parts, eq-eqb, false, false_from_ne_true, filter}

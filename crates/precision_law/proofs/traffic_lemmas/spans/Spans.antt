@@ -2,7 +2,7 @@
 use Rattle.precision_law.proofs.{law.Together.{new_shows, old_shows, set_shows}, records.Points.point_timed, traffic_lemmas.spans.Corrected.last_is_correction}
 use Rattle.precision_law.{proofs.{sizes.Instants.set_clocks_stay_at_correction, traffic_lemmas.Words.{time_of, zero, ℕ, ℤ}}, specs.Standings.ShowsIn}
 use Rattle.precision_law.proofs.traffic_lemmas.Words.{◌*◌, ◌+ℤ◌, ◌+◌, ◌<ℤ◌, ◌<◌, ◌≡◌, ◌≤ℤ◌, ◌≤◌, BringsBlocks, ComesTo, Corrected, DeviceId, Happening}
-use Rattle.precision_law.proofs.traffic_lemmas.Words.{IsCaused, IsInBlock, IsInSchedule, IsOldAt, IsTimedAt, IsView, None, Option, Some, Synchronised, View}
+use Rattle.precision_law.proofs.traffic_lemmas.Words.{IsCaused, IsInBlock, IsInSchedule, IsOldAt, IsTimedAt, IsView, None, Option, Some, View}
 use Rattle.precision_law.proofs.traffic_lemmas.Words.{adjustment_left, ap, arith, before_narrow, before_of, begins_late, block_ends, by_lt_z, cases_lt}
 use Rattle.precision_law.proofs.traffic_lemmas.Words.{clocks_reach_sharply, earlier, epoch_time, follows_before, founded_at, has_time, inl, inr, ints}
 use Rattle.precision_law.proofs.traffic_lemmas.Words.{last_setting, negsuc, option_map_or, pos, refl, room, setting_is, shown_at, state_left, subst, suc, sym}

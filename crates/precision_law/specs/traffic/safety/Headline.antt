@@ -4,7 +4,8 @@ use Rattle.{net_plan.specs.Places.IsSwitchOf, run_law.specs.{law.Safety.IsSafe, 
 use Rattle.net_plan.specs.declared.{event.{Event.Event, What.What}, ids.DeviceId.DeviceId, network.Network.Network}
 use Rattle.tte_units.specs.declared.frames.channel.Channel.{Channel}
 use Rattle.precision_law.specs.traffic.safety.Under.{reading_of, scenario_of}
-use Rattle.{precision_law.specs.{Blocks.IsClique, Progress.ComesIn, Views.IsSound}, tte_units.specs.Amount.{amount, units_of}}
+use Rattle.precision_law.specs.{Blocks.IsClique, Progress.ComesIn, Views.IsSound}
+use Rattle.tte_units.specs.Amount.{amount, units_of}
 use Rattle.run_law.specs.{declared.{judgement.Why.Why, note.Note.Note}, scenario.{Devices.is_end, Scenarios.Scenario}}
 use Rattle.run_law.specs.{records.Happenings.{Happening, happenings, time_of}, runs.DueRecords.{EndsAt, IsRunOf}}
 use Rattle.{sync_state.specs.declared.state.State.State, tte_units.specs.declared.units.Units.Units}
@@ -18,11 +19,12 @@ TimeStays s hs until =
     → (is_end s.network device ≡ true → ⊥)
     × ((channel : Channel) → IsSwitchOf s.network channel device → IsSound s (time_of h) channel → ⊥)
 
--- the run goes well up to the time: it is safe, the common time is not lost, and who is on comes in
+-- the run goes well up to the time: it is safe, the common time is not lost, and an end system that is on comes in
+-- within three cycles
 pub record GoesWell (s : Scenario) (hs : List Happening) (until : ℕ) : Type 0 where
   pub safe : IsSafe s hs until
   pub time : TimeStays s hs until
-  pub comes : ComesIn s hs until
+  pub comes : ComesIn (3 * amount s.network.cycle) s hs until
 
 -- the records are the run of the network under the events up to the time of their end, and it goes well up to there
 pub record IsWholeRun {C : Type 0} (fresh : ℕ → C) (after_step : C → ℕ → ℤ → C) (reading : C → ℕ → ℕ)

@@ -2,7 +2,7 @@
 use Rattle.std.proofs.Common.{if◌then◌else◌, ◌<◌, ◌∷◌, ◌≡◌, ◌≤◌, ◌⊎◌, Bool, List, None, Option, Some, [], ap, arith, eqb-true, false, fold, inl, inr}
 use Rattle.std.proofs.{Common.{length, negsuc, option_and_then, option_map, pos, refl, slice_get, sym, true, ℕ, ℤ}, lemmas.Option.slice_get_within}
 use Rattle.net_plan.{proofs.TableFacts.link_within, specs.{Places.link_at, declared.ids.{DeviceId.DeviceId, LinkId.LinkId}}}
-use Rattle.net_plan.specs.declared.{network.Network.Network, tables.{Device.Device, Link.Link, Role.Role, Way.{Way, TheVariants.{Down, Up}}}}
+use Rattle.net_plan.specs.declared.{network.Network.Network, tables.{Link.Link, Role.Role, Way.{Way, TheVariants.{Down, Up}}}}
 use Rattle.run_law.{proofs.law.FirstPlaces.in_at, specs.control.{Collections.point_by, Leaving.Gives, Wires.{Launch, launched}}}
 use Rattle.run_law.specs.{declared.note.NoteBody.NoteBody, device.States.{is_joined_by, state_with}, records.{Happenings.Happening, Order.IsIn}}
 use Rattle.run_law.specs.{records.Ranks.{rank, sign}, scenario.{Devices.{has_role, start_of}, Scenarios.Scenario, Ways.receiver_of}}

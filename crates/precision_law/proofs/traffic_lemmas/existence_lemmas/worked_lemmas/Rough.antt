@@ -1,7 +1,7 @@
 -- The rough day of the worked network is one of which the laws on runs speak.
 use Rattle.{drift_clock.proofs.ExactSegments.exact_steps, net_plan.specs.declared.ids.DeviceId.DeviceId, precision_law.specs.traffic.safety.Under.IsUnder}
 use Rattle.drift_clock.{proofs.Readings.{begins_at_zero, keeps_clock_laws}, specs.Segment.{fresh_segment, segment_count, segment_reading, stepped_segment}}
-use Rattle.{net_plan.proofs.TableFacts.none_told, std.proofs.Common.{◌*◌, ◌++◌, ◌+◌, ◌-◌, ◌<◌, ◌^◌, ◌∷◌, ◌≡◌, List, [], arith, inl, inr, pos, refl, true, ℕ}}
+use Rattle.{net_plan.proofs.TableFacts.none_told, std.proofs.Common.{◌*◌, ◌++◌, ◌-◌, ◌<◌, ◌^◌, ◌∷◌, ◌≡◌, List, [], arith, inl, inr, pos, refl, ℕ}}
 use Rattle.{net_plan.specs.Belonging.IsOfNetwork, std.{proofs.lemmas.{Bool.leb-true, Int.ints}, specs.Prelude.◌<ℤ◌}, tte_units.specs.Amount.units_of}
 use Rattle.{net_plan.specs.declared.{event.{Event.Event, What.What}, ids.LinkId.LinkId, tables.Way.Way}, tte_units.specs.declared.units.Units.Units}
 use Rattle.{net_plan.specs.declared.tables.Way.TheVariants.Up, run_law.specs.{law.FirstLaws.{IsEventInRange, IsLawful}, scenario.Faults.{IsBroken, IsFaulty}}}

@@ -5,9 +5,9 @@ use Rattle.{net_plan.specs.declared.ids.LinkId.LinkId, schedule_tables.specs.dec
 use Rattle.{net_plan.specs.declared.tables.{Link.Link, Way.TheVariants.{Down, Up}}, schedule_tables.specs.Entries.{IsEntry, IsOnChannel, source_of, target_of}}
 use Rattle.{precision_law.proofs.traffic_lemmas.existence_lemmas.worked_lemmas.Lists.{AllAt, at_place, numbered_apart}, std.specs.List.{Contains, count_by}}
 use Rattle.{precision_law.specs.traffic.existence.worked.Worked.{link_of, row_of, worked}, tte_units.specs.declared.frames.channel.Channel.TheVariants.{A, B}}
-use Rattle.schedule_tables.specs.Schedule.{ComesInTime, EndsInCycle, Enters, EntersAnew, EntersOn, GoesByBothChannels, GoesOnceByLink, HasEndSystemAsSender}
+use Rattle.schedule_tables.specs.Schedule.{ComesInTime, EndsInCycle, EntersAnew, EntersOn, GoesByBothChannels, GoesOnceByLink, HasEndSystemAsSender}
 use Rattle.schedule_tables.specs.Schedule.{HasFewRows, HasPeriod, HasSource, IsSwitch, LeavesOn, StandsApart, VlIdIsNew, VlNameIsNew, leaves}
-use Rattle.std.proofs.Common.{◌<◌, ◌==◌, ◌∙◌, ◌∷◌, ◌≡◌, ◌≢◌, ◌≤◌, List, Some, [], ap, arith, if◌then◌else◌, refl, slice_get, subst, suc, sym, true, zero, ℕ}
+use Rattle.std.proofs.Common.{◌<◌, ◌==◌, ◌∙◌, ◌∷◌, ◌≡◌, ◌≢◌, ◌≤◌, List, Some, [], ap, arith, if◌then◌else◌, refl, slice_get, subst, suc, sym, zero, ℕ}
 use Rattle.{std.{proofs.lemmas.Bool.leb-true, specs.Prelude.codes}, tte_units.specs.Amount.amount}
 
 -- ---- the virtual link

@@ -3,7 +3,7 @@ use Rattle.{net_plan.specs.{Bounds.{IsBeta, IsGreatest, IsOfPath, jitter_of, jit
 use Rattle.{net_plan.specs.{Places.{IsSwitchOf, link_at}, declared.ids.{DeviceId.DeviceId, LinkId.LinkId}}, schedule_tables.specs.Delays.{delay_of, delay_on}}
 use Rattle.{net_plan.specs.declared.tables.Link.Link, std.{proofs.{Common.{zero, ℕ}, lemmas.Bool.leb-true}, specs.{Option.option_map_or, Prelude.sum_by}}}
 use Rattle.precision_law.{proofs.traffic_lemmas.existence_lemmas.worked_lemmas.Lists.{AllEach, some_place}, specs.traffic.existence.worked.Worked.worked}
-use Rattle.std.proofs.Common.{◌*◌, ◌==◌, ◌||◌, ◌∷◌, ◌≡◌, ◌≤◌, IsSomeAnd, List, [], ap, arith, if◌then◌else◌, length, pos, slice_get, suc, true, unsigned_abs}
+use Rattle.std.proofs.Common.{◌*◌, ◌==◌, ◌||◌, ◌∷◌, ◌≡◌, ◌≤◌, IsSomeAnd, List, [], arith, if◌then◌else◌, length, pos, slice_get, suc, unsigned_abs}
 
 leb_zero : (n : ℕ) → 0 ≤ n
 leb_zero n = omega arith
