@@ -84,7 +84,9 @@ fn explain(rt: &HostRuntime, status: Status) {
         | Status::CaptureRefused
         | Status::NameRefused
         | Status::VoteRefused
-        | Status::NumberRefused => return,
+        | Status::NumberRefused
+        | Status::MessagesRefused
+        | Status::PlanRefused => return,
     };
     let _told = eprintln!(rt; "lens: {meaning}");
 }

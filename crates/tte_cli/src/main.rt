@@ -86,7 +86,9 @@ fn explain_wire(rt: &HostRuntime, status: Status) {
         | Status::AuditRefused
         | Status::CaptureRefused
         | Status::VoteRefused
-        | Status::NumberRefused => return,
+        | Status::NumberRefused
+        | Status::MessagesRefused
+        | Status::PlanRefused => return,
     };
     let _told = eprintln!(rt; "tte: {meaning}");
 }
@@ -111,7 +113,9 @@ fn explain(rt: &HostRuntime, status: Status) {
         | Status::CaptureRefused
         | Status::NameRefused
         | Status::VoteRefused
-        | Status::NumberRefused => return,
+        | Status::NumberRefused
+        | Status::MessagesRefused
+        | Status::PlanRefused => return,
     };
     let _told = eprintln!(rt; "tte: {meaning}");
 }

@@ -4,8 +4,8 @@ use Rattle.tte_forms.{proofs.OneAnswers.{fails_given, none_put, puts_nothing, so
 use Rattle.tte_forms.{proofs.Puts.{PutsLines-none, PutsLines-still}, specs.{Answering.{Answer, Gives, GivesAnswer}, declared.accepting.NoNetwork.NoNetwork}}
 use Rattle.tte_forms.specs.{Putting.{PutsLines, PutsNone, PutsSo, PutsSome, Shown, WriteFails}, declared.status.Status.TheVariants.{VoteRefused, WriteFault}}
 use Rattle.tte_forms.specs.{Safely.PutsSafely, declared.status.Status.Status, networks.NoNetworks.answer_by}
-use Rattle.tte_forms.specs.declared.status.Status.TheVariants.{AuditRefused, CaptureRefused, Done, FrameRefused, GranuleRefused, NameRefused, NetworkRefused}
-use Rattle.tte_forms.specs.declared.status.Status.TheVariants.{NumberRefused, OutOfMemory, OutsideHypothesis, ReadFault, TooLong, TraceRefused, Usage}
+use Rattle.tte_forms.specs.declared.status.Status.TheVariants.{AuditRefused, CaptureRefused, Done, FrameRefused, GranuleRefused, MessagesRefused, NameRefused}
+use Rattle.tte_forms.specs.declared.status.Status.TheVariants.{NetworkRefused, NumberRefused, OutOfMemory, OutsideHypothesis, PlanRefused, ReadFault, TooLong, TraceRefused, Usage}
 use Rattle.tte_forms.specs.declared.accepting.NoNetwork.TheVariants as causes
 
 module _ (Whole : Status → Shown → Shown → Type 0) (IsSafe : List (List ℕ) → Type 0) where
@@ -78,3 +78,5 @@ module _ (Whole : Status → Shown → Shown → Type 0) (IsSafe : List (List �
     puts_safely NameRefused g = all NameRefused tt g
     puts_safely VoteRefused g = all VoteRefused tt g
     puts_safely NumberRefused g = all NumberRefused tt g
+    puts_safely MessagesRefused g = all MessagesRefused tt g
+    puts_safely PlanRefused g = all PlanRefused tt g

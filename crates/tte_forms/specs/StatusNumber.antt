@@ -1,9 +1,10 @@
 use Rattle.std.specs.Prelude.{ℕ}
 use Rattle.tte_forms.specs.declared.status.Status.{Status}
 use Rattle.tte_forms.specs.declared.status.Status.TheVariants.{AuditRefused, CaptureRefused, Done, FrameRefused}
-use Rattle.tte_forms.specs.declared.status.Status.TheVariants.{GranuleRefused, NameRefused, NetworkRefused}
-use Rattle.tte_forms.specs.declared.status.Status.TheVariants.{NumberRefused, OutOfMemory, OutsideHypothesis, ReadFault}
-use Rattle.tte_forms.specs.declared.status.Status.TheVariants.{TooLong, TraceRefused, Usage, VoteRefused, WriteFault}
+use Rattle.tte_forms.specs.declared.status.Status.TheVariants.{GranuleRefused, MessagesRefused, NameRefused}
+use Rattle.tte_forms.specs.declared.status.Status.TheVariants.{NetworkRefused, NumberRefused, OutOfMemory}
+use Rattle.tte_forms.specs.declared.status.Status.TheVariants.{OutsideHypothesis, PlanRefused, ReadFault, TooLong}
+use Rattle.tte_forms.specs.declared.status.Status.TheVariants.{TraceRefused, Usage, VoteRefused, WriteFault}
 
 -- the exit status
 abbrev pub status_number : Status → ℕ
@@ -23,3 +24,5 @@ status_number CaptureRefused = 12
 status_number NameRefused = 13
 status_number VoteRefused = 14
 status_number NumberRefused = 15
+status_number MessagesRefused = 16
+status_number PlanRefused = 17

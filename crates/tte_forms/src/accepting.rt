@@ -52,7 +52,10 @@ pub fn accept<A: Source>(alloc: Global, source: &mut A) -> Result<Accepted, NoNe
     }
 }
 
-fn accept_text(alloc: Global, text: &[u8]) -> Result<Accepted, NoNetwork>
+/// Makes a network of a text of at most 262,144 octets, and accepts it if it keeps all rules.
+///
+/// The error says why there is none; it is no failed read.
+pub fn accept_text(alloc: Global, text: &[u8]) -> Result<Accepted, NoNetwork>
     requires { length text.now ≤ file_limit }
     ensures accepted { IfOk result (MeansAccepted text.now) }
     ensures range { IfOk result IsInRange }

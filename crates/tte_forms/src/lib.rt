@@ -13,7 +13,7 @@ mod words;
 
 pub use accepting::fault_place::find_fault_in;
 pub use accepting::network_line::make_rule_line;
-pub use accepting::{NoNetwork, accept, put_no_network, read_unjudged};
+pub use accepting::{NoNetwork, accept, accept_text, put_no_network, read_unjudged};
 pub use checking::check_network;
 pub use form::{Form, cycles_spelled, number_up_to, read_form};
 pub use put_line::{end_with, put_last};

@@ -36,10 +36,14 @@ pub enum Status {
     VoteRefused,
     /// The report has no record of the number.
     NumberRefused,
+    /// A line of the messages is refused.
+    MessagesRefused,
+    /// The messages have no schedule, or none was found.
+    PlanRefused,
 }
 
 impl Status {
-    /// The exit status of the program, from 0 to 15.
+    /// The exit status of the program, from 0 to 17.
     pub fn number(self) -> u8
         ensures { result ≡ status_number self }
     {
@@ -60,6 +64,8 @@ impl Status {
             Status::NameRefused => 13,
             Status::VoteRefused => 14,
             Status::NumberRefused => 15,
+            Status::MessagesRefused => 16,
+            Status::PlanRefused => 17,
         }
     }
 }

@@ -210,6 +210,8 @@ const STATUSES: &[Status] = &[
     Status::NameRefused,
     Status::VoteRefused,
     Status::NumberRefused,
+    Status::MessagesRefused,
+    Status::PlanRefused,
 ];
 
 #[test]
