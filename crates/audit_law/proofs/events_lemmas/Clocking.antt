@@ -3,7 +3,8 @@ use Rattle.std.proofs.Common.{if◌then◌else◌, ◌++◌, ◌<◌, ◌^◌, �
 use Rattle.std.{proofs.{Common.{zero, ℕ}, lemmas.Bool.{cases_lt, le-leb, lt-leb}}, specs.List.{All, AllWithin, Sorted.IsNonDecreasingBy}}
 use Rattle.drift_clock.specs.{RateSteps.{IsHistory, RateStep, up_to}, Readings.{reading_at, value_after}, Segment.{Segment, segment_reading, stepped_segment}}
 use Rattle.audit_law.{proofs.events_lemmas.Valuing.value_before, specs.events.Settings.{change_to, value_at}}
-use Rattle.audit_law.specs.{declared.events.settings.Change.Change, events.Clocks.{AreClocks, IsReadable, clocks_after, clocks_reading}}
+use Rattle.audit_law.specs.{declared.events.settings.Change.Change, events.Clocks.{AreClocks, GoOn, IsReadable, clocks_after, clocks_reading}}
+use Rattle.drift_clock.specs.{Counts.rounded, SegmentLaws.keeps_count}
 
 -- steps in the order of time, from a time on and up to 2^60, each to a slow rate
 abbrev pub StepsFrom : ℕ → ℕ → List RateStep → Type 0
@@ -36,10 +37,19 @@ clocks_readable rho least clock [] h k d lt = absurd (omega (arith, lt))
 clocks_readable rho least clock (s ∷ steps) h zero d lt = record { stepped = omega arith; limit = h.1 }
 clocks_readable rho least clock (s ∷ steps) h (suc k) d lt = clocks_readable rho s.at (stepped_segment clock s.at s.rate) steps h.3 k d (omega (arith, lt))
 
+clocks_go_on : (clock : Segment) (steps : List RateStep) → GoOn clock (clocks_after clock steps)
+clocks_go_on clock [] = tt
+clocks_go_on clock (s ∷ steps) =
+    (ap (rounded clock.grain) (keeps_count clock s.at s.rate), clocks_go_on (stepped_segment clock s.at s.rate) steps)
+
 pub are_clocks : (rho least : ℕ) (clock : Segment) (steps : List RateStep) → clock.at ≡ 0 → StepsFrom rho least steps
     → AreClocks clock (clocks_after clock steps)
-are_clocks rho least clock steps begins h =
-    record { begins = begins; in_order = clocks_sorted rho least clock steps h; each = clocks_readable rho least clock steps h }
+are_clocks rho least clock steps begins h = record {
+  begins = begins;
+  in_order = clocks_sorted rho least clock steps h;
+  each = clocks_readable rho least clock steps h;
+  go_on = clocks_go_on clock steps;
+}
 
 -- steps up to a time
 abbrev pub StepsUpTo : ℕ → List RateStep → Type 0

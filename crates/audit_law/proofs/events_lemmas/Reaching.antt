@@ -1,10 +1,11 @@
 -- When a clock first reaches a value, over the steps of its rate.
-use Rattle.audit_law.{proofs.events_lemmas.Clocking.value_ready, specs.{declared.events.settings.Change.Change, events.Settings.{later_than, value_at}}}
-use Rattle.audit_law.{proofs.events_lemmas.Valuing.{all_later, value_before}, specs.events.Clocks.{AreClocks, IsReadable, clocks_reading}}
-use Rattle.audit_law.specs.events.{Beginnings.IsSought, Reaches.IsFirstReach}
-use Rattle.drift_clock.specs.{Reach.IsReach, Segment.{Segment, segment_reading}}
-use Rattle.std.proofs.Common.{◌<ℤ◌, ◌<◌, ◌∙◌, ◌∷◌, ◌≡◌, ◌≤ℤ◌, ◌≤◌, List, None, Option, Some, [], ap, arith, if◌then◌else◌, inl, inr, length, pos, refl, subst}
-use Rattle.std.{proofs.{Common.{suc, sym, ℕ, ℤ}, lemmas.{Bool.{cases_lt, le-leb, lt-leb}, Int.ints}}, specs.List.{All, AllWithin, Sorted.IsNonDecreasingBy}}
+use Rattle.audit_law.{proofs.events_lemmas.Clocking.value_ready, specs.{declared.events.settings.Change.Change, events.Settings.{change_to, later_than, value_at}}}
+use Rattle.audit_law.{proofs.events_lemmas.Valuing.{all_later, value_before}, specs.events.{Beginnings.IsSought, Reaches.IsFirstReach}}
+use Rattle.audit_law.specs.events.Clocks.{AreClocks, GoOn, HasReached, IsReadable, IsShortOf, clocks_reading, reading_then}
+use Rattle.drift_clock.{proofs.Rounding.rounded-mono, specs.{Counts.{gain, rounded}, Segment.{Segment, segment_count, segment_reading}}}
+use Rattle.std.proofs.Common.{◌+◌, ◌-◌, ◌<ℤ◌, ◌<◌, ◌∙◌, ◌∷◌, ◌≡◌, ◌≤ℤ◌, ◌≤◌, ◌^◌, List, None, Option, Some, [], ap, arith, if◌then◌else◌, inl, inr, length}
+use Rattle.std.{proofs.{Common.{pos, refl, subst, suc, sym, zero, ℕ, ℤ}, Math.Nat.mul-le-mul_left, lemmas.{Bool.{cases_lt, le-leb, lt-leb}, Int.ints, List.get_or_default}}}
+use Rattle.std.specs.{List.{All, AllWithin, Sorted.{IsNonDecreasingBy, IsPartitionPoint}}, Prelude.slice_index_or}
 
 -- ---- what is left behind a time
 
@@ -34,125 +35,284 @@ value_split v (c ∷ cs) from t le order = elim (cases_lt from c.from) [
       ∙ sym (ap (λ b. value_at (value_at v (c ∷ cs) from) (if b then c ∷ later_than from cs else later_than from cs) t) gone)
 ]
 
--- what is later is in order, can be read, and is later
-pub record IsLeft (start : ℕ) (later : List (Change Segment)) : Type 0 where
+-- what is later is in order, can be read, is later, and goes on from the clock
+pub record IsLeft (clock : Segment) (start : ℕ) (later : List (Change Segment)) : Type 0 where
   pub order : IsNonDecreasingBy (λ c. c.from) later
   pub each : All IsReadable later
   pub after : All (λ c. start ≤ c.from) later
+  pub go_on : GoOn clock later
 
-pub left_behind : (changes : List (Change Segment)) (from : ℕ) → IsNonDecreasingBy (λ c. c.from) changes → All IsReadable changes
-    → IsLeft from (later_than from changes)
-left_behind [] from order each = record { order = order; each = each; after = λ k d lt. absurd (omega (arith, lt)) }
-left_behind (c ∷ cs) from order each = elim (cases_lt from c.from) [
+pub left_behind : (v : Segment) (changes : List (Change Segment)) (from : ℕ) → IsNonDecreasingBy (λ c. c.from) changes → All IsReadable changes
+    → GoOn v changes → IsLeft (value_at v changes from) from (later_than from changes)
+left_behind v [] from order each on = record { order = order; each = each; after = λ k d lt. absurd (omega (arith, lt)); go_on = tt }
+left_behind v (c ∷ cs) from order each on = elim (cases_lt from c.from) [
   | inl lt ↦
       let late = behind_late c cs from order lt in
-      subst (IsLeft from) (all_later (c ∷ cs) from late)
-      (record { order = order; each = each; after = λ k d within. let l = late k d (omega arith) within in omega (arith, l) })
+      subst (λ w. IsLeft w from (later_than from (c ∷ cs))) (sym (value_before v (c ∷ cs) from late))
+      (subst (IsLeft v from) (all_later (c ∷ cs) from late)
+      (record { order = order; each = each; after = λ k d within. let l = late k d (omega arith) within in omega (arith, l); go_on = on }))
   | inr ge ↦
+      let now = le-leb c.from from ge in
       let gone = lt-leb (suc from) c.from (omega (arith, ge)) in
-      subst (λ b. IsLeft from (if b then c ∷ later_than from cs else later_than from cs)) (sym gone)
-      (left_behind cs from (tail_order c cs order) (λ k d lt. each (suc k) d (omega (arith, lt))))
+      subst (λ b. IsLeft (value_at (if b then c.value else v) cs from) from (later_than from (c ∷ cs))) (sym now)
+      (subst (λ b. IsLeft (value_at c.value cs from) from (if b then c ∷ later_than from cs else later_than from cs)) (sym gone)
+      (left_behind c.value cs from (tail_order c cs order) (λ k d lt. each (suc k) d (omega (arith, lt))) on.1))
 ]
 
--- ---- the search
-
--- up to `start` the clocks read less than the goal, and from then on they are this clock with these later changes
-pub record IsSearched (initial : Segment) (changes : List (Change Segment)) (from : ℕ) (goal : ℤ) (until : ℕ) (clock : Segment) (start : ℕ)
-    (later : List (Change Segment)) : Type 0 where
-  pub same : (x : ℕ) → start ≤ x → value_at initial changes x ≡ value_at clock later x
-  pub short : (x : ℕ) → from ≤ x → x < start → pos (clocks_reading initial changes x) <ℤ goal
-  pub from_on : from ≤ start
-  pub up_to : start ≤ until
-  pub stepped : clock.at ≤ start
-  pub left : IsLeft start later
-
-pub search_begins : (initial : Segment) (changes : List (Change Segment)) (from : ℕ) (goal : ℤ) (until : ℕ) (clock : Segment)
-    (later : List (Change Segment)) → AreClocks initial changes → from ≤ until → clock ≡ value_at initial changes from
-    → later ≡ later_than from changes → IsSearched initial changes from goal until clock from later
-search_begins initial changes from goal until clock later are le is rest = record {
-  same = λ x after. value_split initial changes from x after are.in_order
-      ∙ ap (λ v. value_at v (later_than from changes) x) (sym is)
-      ∙ ap (λ (l : List (Change Segment)). value_at clock l x) (sym rest);
-  short = λ x after before. absurd (omega (arith, after, before));
-  from_on = omega arith;
-  up_to = le;
-  stepped = subst (λ v. v.at ≤ from) (sym is) (value_ready initial changes from (let b = are.begins in omega (arith, b)) are.each);
-  left = subst (IsLeft from) (sym rest) (left_behind changes from are.in_order are.each);
+left_tail : (clock : Segment) (start : ℕ) (c : Change Segment) (cs : List (Change Segment)) → IsLeft clock start (c ∷ cs) → IsLeft c.value c.from cs
+left_tail clock start c cs left = record {
+  order = tail_order c cs left.order;
+  each = λ k d lt. left.each (suc k) d (omega (arith, lt));
+  after = λ k d lt. left.order 0 (suc k) d (omega arith) (omega (arith, lt));
+  go_on = left.go_on.1;
 }
 
 -- the clock stays until the next change
-steady : (clock : Segment) (c : Change Segment) (cs : List (Change Segment)) (start x : ℕ) → IsLeft start (c ∷ cs) → x < c.from
+steady : (clock : Segment) (c : Change Segment) (cs : List (Change Segment)) (start x : ℕ) → IsLeft clock start (c ∷ cs) → x < c.from
     → value_at clock (c ∷ cs) x ≡ clock
 steady clock c cs start x left lt = value_before clock (c ∷ cs) x (behind_late c cs x left.order lt)
 
-pub search_goes_on : (initial : Segment) (changes : List (Change Segment)) (from : ℕ) (goal : ℤ) (until : ℕ) (clock : Segment) (start : ℕ)
-    (c : Change Segment) (cs : List (Change Segment)) (time : ℕ) → IsSearched initial changes from goal until clock start (c ∷ cs)
-    → c.from ≤ until → IsReach (segment_reading clock) (pos start) goal (pos time) → c.from ≤ time
-    → IsSearched initial changes from goal until c.value c.from cs
-search_goes_on initial changes from goal until clock start c cs time s soon reach late =
-    let first = s.left.after 0 c (omega arith) in
-    let readable = s.left.each 0 c (omega arith) in
-    let begun = s.from_on in
+-- ---- readings never fall
+
+rounded_rises : (grain a b : ℕ) → a ≤ b → rounded grain a ≤ rounded grain b
+rounded_rises zero a b le = omega arith
+rounded_rises (suc g) a b le = rounded-mono (suc g) a b (omega arith) le
+
+reads_on : (clock : Segment) (s t : ℕ) → s ≤ t → segment_reading clock s ≤ segment_reading clock t
+reads_on clock s t le =
+    let more : s - clock.at ≤ t - clock.at = omega (arith, le) in
+    let gained = mul-le-mul_left (gain clock.rate) more in
+    rounded_rises clock.grain (segment_count clock s) (segment_count clock t) (omega (arith, gained))
+
+-- from a clock on, over its later changes
+reads_more : (clock : Segment) (start : ℕ) (later : List (Change Segment)) (t : ℕ) → IsLeft clock start later → start ≤ t
+    → segment_reading clock start ≤ clocks_reading clock later t
+reads_more clock start [] t left le = reads_on clock start t le
+reads_more clock start (c ∷ cs) t left le = elim (cases_lt t c.from) [
+  | inl lt ↦ subst (λ v. segment_reading clock start ≤ segment_reading v t) (sym (steady clock c cs start t left lt)) (reads_on clock start t le)
+  | inr ge ↦
+      let first = reads_on clock start c.from (left.after 0 c (omega arith)) in
+      let same = left.go_on.0 in
+      let rest = reads_more c.value c.from cs t (left_tail clock start c cs left) ge in
+      subst (λ b. segment_reading clock start ≤ segment_reading (value_at (if b then c.value else clock) cs t) t) (sym (le-leb c.from t ge))
+      (omega (arith, first, same, rest))
+]
+
+reads_above : (clock : Segment) (start : ℕ) (later : List (Change Segment)) → IsLeft clock start later
+    → All (λ c. segment_reading clock start ≤ reading_then c) later
+reads_above clock start [] left k d lt = absurd (omega (arith, lt))
+reads_above clock start (c ∷ cs) left zero d lt =
+    let first = reads_on clock start c.from (left.after 0 c (omega arith)) in
+    let same = left.go_on.0 in
+    omega (arith, first, same)
+reads_above clock start (c ∷ cs) left (suc k) d lt =
+    let first = reads_on clock start c.from (left.after 0 c (omega arith)) in
+    let same = left.go_on.0 in
+    let rest = reads_above c.value c.from cs (left_tail clock start c cs left) k d (omega (arith, lt)) in
+    omega (arith, first, same, rest)
+
+pub rising : (clock : Segment) (start : ℕ) (later : List (Change Segment)) → IsLeft clock start later → IsNonDecreasingBy reading_then later
+rising clock start [] left i j d le lt = absurd (omega (arith, lt))
+rising clock start (c ∷ cs) left zero zero d le lt = omega arith
+rising clock start (c ∷ cs) left zero (suc j) d le lt = reads_above c.value c.from cs (left_tail clock start c cs left) j d (omega (arith, lt))
+rising clock start (c ∷ cs) left (suc i) zero d le lt = absurd (omega (arith, le))
+rising clock start (c ∷ cs) left (suc i) (suc j) d le lt =
+    rising c.value c.from cs (left_tail clock start c cs left) i j d (omega (arith, le)) (omega (arith, lt))
+
+-- ---- the search by halves
+
+-- the changes below `low` read less than the goal, those from `high` on at least the goal
+pub record IsHalved (goal : ℤ) (changes : List (Change Segment)) (low high : ℕ) : Type 0 where
+  pub within : low ≤ high
+  pub bound : high ≤ length changes
+  pub short : AllWithin (IsShortOf goal) changes 0 low
+  pub reached : AllWithin (HasReached goal) changes high (length changes)
+
+pub halves_begin : (goal : ℤ) (changes : List (Change Segment)) → IsHalved goal changes 0 (length changes)
+halves_begin goal changes = record {
+  within = omega arith;
+  bound = omega arith;
+  short = λ k d low high. absurd (omega (arith, high));
+  reached = λ k d low high. absurd (omega (arith, low, high));
+}
+
+pub halves_up : (goal : ℤ) (changes : List (Change Segment)) (low high middle : ℕ) (c d : Change Segment) → IsNonDecreasingBy reading_then changes
+    → IsHalved goal changes low high → middle < high → c ≡ slice_index_or changes middle d → IsShortOf goal c → IsHalved goal changes (middle + 1) high
+halves_up goal changes low high middle c d order h below is less =
+    let bound = h.bound in
+    let inside : middle < length changes = omega (arith, below, bound) in
     record {
-      same = λ x after. s.same x (omega (arith, first, after))
-          ∙ ap (λ b. value_at (if b then c.value else clock) cs x) (le-leb c.from x after);
-      short = λ x after before. elim (cases_lt x start) [
-        | inl lt ↦ s.short x after lt
-        | inr ge ↦
-            subst (λ v. pos (segment_reading v x) <ℤ goal) (sym (s.same x ge ∙ steady clock c cs start x s.left before))
-            (reach.not_before x (omega (arith, ints, ge)) (omega (arith, ints, before, late)))
-      ];
-      from_on = omega (arith, first, begun);
-      up_to = soon;
-      stepped = readable.stepped;
-      left = record {
-        order = tail_order c cs s.left.order;
-        each = λ k d lt. s.left.each (suc k) d (omega (arith, lt));
-        after = λ k d lt. s.left.order 0 (suc k) d (omega arith) (omega (arith, lt));
-      };
+      within = omega (arith, below);
+      bound = bound;
+      short = λ k e from upto.
+          let here : c ≡ slice_index_or changes middle e = is ∙ get_or_default changes middle d e inside in
+          let last = subst (IsShortOf goal) here less in
+          let up = order k middle e (omega (arith, upto)) inside in
+          omega (arith, ints, last, up);
+      reached = h.reached;
     }
 
--- a time that the clock reaches while it stays
-pub search_finds : (initial : Segment) (changes : List (Change Segment)) (from : ℕ) (goal : ℤ) (until : ℕ) (clock : Segment) (start : ℕ)
-    (later : List (Change Segment)) (time : ℕ) → IsSearched initial changes from goal until clock start later
-    → ((x : ℕ) → x ≤ time → value_at clock later x ≡ clock) → IsReach (segment_reading clock) (pos start) goal (pos time)
-    → IsReach (clocks_reading initial changes) (pos from) goal (pos time)
-search_finds initial changes from goal until clock start later time s stays reach =
-    let begun = s.from_on in
-    let from_start = reach.from_on in
-    let after : start ≤ time = omega (arith, ints, from_start) in
+pub halves_down : (goal : ℤ) (changes : List (Change Segment)) (low high middle : ℕ) (c d : Change Segment) → IsNonDecreasingBy reading_then changes
+    → IsHalved goal changes low high → low ≤ middle → middle < high → c ≡ slice_index_or changes middle d → HasReached goal c
+    → IsHalved goal changes low middle
+halves_down goal changes low high middle c d order h above below is more =
+    let bound = h.bound in
+    let inside : middle < length changes = omega (arith, below, bound) in
     record {
-      from_on = omega (arith, ints, begun, after);
-      reached = subst (λ v. goal ≤ℤ pos (segment_reading v time)) (sym (s.same time after ∙ stays time (omega arith))) reach.reached;
-      not_before = λ x from_x before. elim (cases_lt x start) [
-        | inl lt ↦ s.short x (omega (arith, ints, from_x)) lt
-        | inr ge ↦
-            subst (λ v. pos (segment_reading v x) <ℤ goal) (sym (s.same x ge ∙ stays x (omega (arith, ints, before))))
-            (reach.not_before x (omega (arith, ints, ge)) before)
-      ];
+      within = above;
+      bound = omega (arith, inside);
+      short = h.short;
+      reached = λ k e from upto.
+          let here : c ≡ slice_index_or changes middle e = is ∙ get_or_default changes middle d e inside in
+          let first = subst (HasReached goal) here more in
+          let up = order middle k e from upto in
+          omega (arith, ints, first, up);
     }
 
--- the first reach of the clock is that of the clocks, where the clock stays
-pub search_ends : (initial : Segment) (changes : List (Change Segment)) (from : ℕ) (goal : ℤ) (until : ℕ) (clock : Segment) (start : ℕ)
-    (later : List (Change Segment)) (result : Option ℕ) → IsSearched initial changes from goal until clock start later
-    → ((x : ℕ) → x ≤ until → value_at clock later x ≡ clock) → IsFirstReach (segment_reading clock) start goal until result
+pub halves_end : (goal : ℤ) (changes : List (Change Segment)) (low high : ℕ) → IsHalved goal changes low high → high ≤ low
+    → IsPartitionPoint (IsShortOf goal) (HasReached goal) changes low
+halves_end goal changes low high h done =
+    let within = h.within in
+    (h.short, λ k d from upto. h.reached k d (omega (arith, from, done)) upto)
+
+-- ---- the clock that reaches the goal
+
+-- the clock as the last of so many changes leaves it, or else as it is at first
+abbrev pub set_last : Change Segment → List (Change Segment) → ℕ → Change Segment
+set_last first later zero = first
+set_last first later (suc k) = slice_index_or later k first
+
+set_last_behind : (first c : Change Segment) (cs : List (Change Segment)) (k : ℕ) → k ≤ length cs → set_last first (c ∷ cs) (suc k) ≡ set_last c cs k
+set_last_behind first c cs zero le = refl
+set_last_behind first c cs (suc k) le = get_or_default cs k first c (omega (arith, le))
+
+-- readings below the goal up to a time leave the first reach from then on
+pub reached_later : (r s : ℕ → ℕ) (from later : ℕ) (goal : ℤ) (until : ℕ) (result : Option ℕ) → from ≤ later
+    → ((x : ℕ) → from ≤ x → x < later → pos (s x) <ℤ goal) → ((x : ℕ) → later ≤ x → r x ≡ s x) → IsFirstReach r later goal until result
+    → IsFirstReach s from goal until result
+reached_later r s from later goal until None le before same none = λ x after upto. elim (cases_lt x later) [
+  | inl lt ↦ before x after lt
+  | inr ge ↦ subst (λ n. pos n <ℤ goal) (same x ge) (none x ge upto)
+]
+reached_later r s from later goal until (Some time) le before same found =
+    let here = found.0.from_on in
+    let after : later ≤ time = omega (arith, ints, here) in (
+      record {
+        from_on = omega (arith, ints, le, after);
+        reached = subst (λ n. goal ≤ℤ pos n) (same time after) found.0.reached;
+        not_before = λ x from_x lt. elim (cases_lt x later) [
+          | inl less ↦ before x (omega (arith, ints, from_x)) less
+          | inr ge ↦ subst (λ n. pos n <ℤ goal) (same x ge) (found.0.not_before x (omega (arith, ints, ge)) lt)
+        ];
+      },
+      found.1,
+    )
+
+-- a goal that the next change has reached is first reached as the clock goes on up to it
+reached_first : (clock : Segment) (start : ℕ) (c : Change Segment) (cs : List (Change Segment)) (goal : ℤ) (until : ℕ) (result : Option ℕ)
+    → IsLeft clock start (c ∷ cs) → HasReached goal c → IsFirstReach (segment_reading clock) start goal until result
+    → IsFirstReach (clocks_reading clock (c ∷ cs)) start goal until result
+reached_first clock start c cs goal until None left more none = λ x after upto. elim (cases_lt x c.from) [
+  | inl lt ↦ subst (λ v. pos (segment_reading v x) <ℤ goal) (sym (steady clock c cs start x left lt)) (none x after upto)
+  | inr ge ↦
+      let less = none c.from (left.after 0 c (omega arith)) (omega (arith, ge, upto)) in
+      let same = left.go_on.0 in
+      absurd (omega (arith, ints, less, same, more))
+]
+reached_first clock start c cs goal until (Some time) left more found =
+    let same = left.go_on.0 in
+    let sooner : start ≤ c.from = left.after 0 c (omega arith) in
+    let upto : time ≤ c.from = elim (cases_lt c.from time) [
+      | inl lt ↦
+          let less = found.0.not_before c.from (omega (arith, ints, sooner)) (omega (arith, ints, lt)) in
+          absurd (omega (arith, ints, less, same, more))
+      | inr le ↦ le
+    ] in (
+      record {
+        from_on = found.0.from_on;
+        reached = elim (cases_lt time c.from) [
+          | inl lt ↦ subst (λ v. goal ≤ℤ pos (segment_reading v time)) (sym (steady clock c cs start time left lt)) found.0.reached
+          | inr ge ↦
+              let up = reads_more c.value c.from cs time (left_tail clock start c cs left) ge in
+              subst (λ b. goal ≤ℤ pos (segment_reading (value_at (if b then c.value else clock) cs time) time)) (sym (le-leb c.from time ge))
+              (omega (arith, ints, more, up))
+        ];
+        not_before = λ x from_x lt.
+            subst (λ v. pos (segment_reading v x) <ℤ goal) (sym (steady clock c cs start x left (omega (arith, ints, lt, upto))))
+            (found.0.not_before x from_x lt);
+      },
+      found.1,
+    )
+
+-- the one before that place
+pub set_last_at : (first c : Change Segment) (later : List (Change Segment)) (count : ℕ) → count ≤ length later → (count ≡ 0 → ⊥)
+    → c ≡ slice_index_or later (count - 1) c → c ≡ set_last first later count
+set_last_at first c later zero bound some is = absurd (some refl)
+set_last_at first c later (suc k) bound some is =
+    let place : suc k - 1 ≡ k = omega arith in
+    is ∙ ap (λ n. slice_index_or later n c) place ∙ get_or_default later k c first (omega (arith, bound))
+
+-- a goal that is not reached before the next change is first reached behind it
+reached_behind : (clock : Segment) (start : ℕ) (c : Change Segment) (cs : List (Change Segment)) (goal : ℤ) (until : ℕ) (result : Option ℕ)
+    → IsLeft clock start (c ∷ cs) → IsShortOf goal c → IsFirstReach (clocks_reading c.value cs) c.from goal until result
+    → IsFirstReach (clocks_reading clock (c ∷ cs)) start goal until result
+reached_behind clock start c cs goal until result left less found =
+    let reading = clocks_reading clock (c ∷ cs) in
+    let sooner : start ≤ c.from = left.after 0 c (omega arith) in
+    let before : (x : ℕ) → start ≤ x → x < c.from → pos (reading x) <ℤ goal =
+    λ x after lt.
+    let up = reads_on clock x c.from (omega (arith, lt)) in
+    let same = left.go_on.0 in
+    subst (λ v. pos (segment_reading v x) <ℤ goal) (sym (steady clock c cs start x left lt)) (omega (arith, ints, up, same, less))
+    in
+    let behind : (x : ℕ) → c.from ≤ x → clocks_reading c.value cs x ≡ reading x =
+    λ x ge. ap (λ b. segment_reading (value_at (if b then c.value else clock) cs x) x) (sym (le-leb c.from x ge)) in
+    reached_later (clocks_reading c.value cs) reading start c.from goal until result sooner before behind found
+
+pub reached_set_last : (first : Change Segment) (later : List (Change Segment)) (goal : ℤ) (count : ℕ) (until : ℕ) (result : Option ℕ)
+    → IsLeft first.value first.from later → count ≤ length later → IsPartitionPoint (IsShortOf goal) (HasReached goal) later count
+    → IsFirstReach (segment_reading (set_last first later count).value) (set_last first later count).from goal until result
+    → IsFirstReach (clocks_reading first.value later) first.from goal until result
+reached_set_last first [] goal zero until result left bound part found = found
+reached_set_last first [] goal (suc k) until result left bound part found = absurd (omega (arith, bound))
+reached_set_last first (c ∷ cs) goal zero until result left bound part found =
+    reached_first first.value first.from c cs goal until result left (part.1 0 c (omega arith) (omega arith)) found
+reached_set_last first (c ∷ cs) goal (suc k) until result left bound part found =
+    reached_behind first.value first.from c cs goal until result left (part.0 0 c (omega arith) (omega arith))
+    (reached_set_last c cs goal k until result (left_tail first.value first.from c cs left) (omega (arith, bound)) (
+      λ i e low high. part.0 (suc i) e (omega arith) (omega (arith, high)),
+      λ i e low high. part.1 (suc i) e (omega (arith, low)) (omega (arith, high)),
+    )
+    (subst (λ x. IsFirstReach (segment_reading x.value) x.from goal until result) (set_last_behind first c cs k (omega (arith, bound))) found))
+
+-- what is left of the clocks from a time on
+pub left_of : (initial : Segment) (changes : List (Change Segment)) (from : ℕ) → AreClocks initial changes
+    → IsLeft (value_at initial changes from) from (later_than from changes)
+left_of initial changes from are = left_behind initial changes from are.in_order are.each are.go_on
+
+-- the first reach is that of the clock which the changes that read less set last
+pub first_of_last : (initial : Segment) (changes : List (Change Segment)) (from : ℕ) (goal : ℤ) (count : ℕ) → AreClocks initial changes
+    → count ≤ length (later_than from changes) → IsPartitionPoint (IsShortOf goal) (HasReached goal) (later_than from changes) count
+    → (last : Change Segment) → last ≡ set_last (change_to from (value_at initial changes from)) (later_than from changes) count
+    → (until : ℕ) (result : Option ℕ) → IsFirstReach (segment_reading last.value) last.from goal until result
     → IsFirstReach (clocks_reading initial changes) from goal until result
-search_ends initial changes from goal until clock start later None s stays none = grind (arith, cases_lt)
-search_ends initial changes from goal until clock start later (Some time) s stays found = (
-  search_finds initial changes from goal until clock start later time s
-      (λ x le. stays x (let last = found.1 in omega (arith, le, last))) found.0,
-  found.1,
-)
+first_of_last initial changes from goal count are bound part last is until result found =
+    let first = change_to from (value_at initial changes from) in
+    let later = later_than from changes in
+    reached_later (clocks_reading first.value later) (clocks_reading initial changes) from from goal until result (omega arith)
+    (λ x after before. absurd (omega (arith, after, before)))
+    (λ x after. ap (λ v. segment_reading v x) (sym (value_split initial changes from x after are.in_order)))
+    (reached_set_last first later goal count until result (left_of initial changes from are) bound part
+    (subst (λ x. IsFirstReach (segment_reading x.value) x.from goal until result) is found))
 
-pub stays_until : (clock : Segment) (c : Change Segment) (cs : List (Change Segment)) (start until : ℕ) → IsLeft start (c ∷ cs) → until < c.from
-    → (x : ℕ) → x ≤ until → value_at clock (c ∷ cs) x ≡ clock
-stays_until clock c cs start until left late x le = steady clock c cs start x left (omega (arith, le, late))
-
--- ---- no change left
-
-pub empty_of : {X : Type 0} (xs : List X) → length xs ≡ 0 → xs ≡ []
-empty_of [] none = refl
-empty_of (x ∷ xs) none = absurd (omega (arith, none))
+-- it can be read
+pub last_readable : (initial : Segment) (changes : List (Change Segment)) (from : ℕ) (count : ℕ) → AreClocks initial changes → from ≤ 2 ^ 60
+    → count ≤ length (later_than from changes)
+    → IsReadable (set_last (change_to from (value_at initial changes from)) (later_than from changes) count)
+last_readable initial changes from zero are limit bound =
+    record { stepped = value_ready initial changes from (let b = are.begins in omega (arith, b)) are.each; limit = limit }
+last_readable initial changes from (suc k) are limit bound =
+    (left_of initial changes from are).each k (change_to from (value_at initial changes from)) (omega (arith, bound))
 
 -- ---- what was sought
 

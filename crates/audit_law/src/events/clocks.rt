@@ -1,8 +1,10 @@
-ghost use Rattle.std.specs.Prelude.{◌^◌, ◌≡◌, ◌≤ℤ◌, ◌≤◌, pos};
+ghost use Rattle.std.specs.List.{All, Sorted.{IsNonDecreasingBy, IsPartitionPoint}};
+ghost use Rattle.std.specs.Prelude.{◌^◌, ◌≡◌, ◌≤ℤ◌, ◌≤◌, Option, false, length, pos, true, ℕ};
 ghost use Rattle.drift_clock.specs.{Reach.IsReach, Segment.segment_reading};
-ghost use Rattle.audit_law.specs.events.{Clocks.{AreClocks, clocks_reading}, Reaches.IsFirstReach};
+ghost use Rattle.audit_law.specs.events.Clocks.{AreClocks, HasReached, IsReadable, IsShortOf, clocks_reading, reading_then};
+ghost use Rattle.audit_law.specs.events.Reaches.{IsFirstReach};
 
-use crate::events::settings::Settings;
+use crate::events::settings::{Change, Settings};
 use drift_clock::{Clock, SegmentClock};
 use tte_units::Units;
 
@@ -29,22 +31,59 @@ pub(crate) fn reach(
     requires goal { goal.0 ≤ℤ pos (2 ^ 61) }
     ensures { IsFirstReach (clocks_reading clocks.now.initial clocks.now.changes.items) from goal.0 until result }
 {
-    let mut clock = clocks.at(from);
-    let mut start = from;
-    let mut later = clocks.after(from);
-    'changes: while let Some((change, rest)) = later.split_first() {
-        if until < change.from {
-            return time_up_to(&clock, start, goal, until);
+    let last = last_short(clocks, from, goal);
+    time_up_to(&last.value, last.from, goal, until)
+}
+
+// The clock from which on the goal is sought: as the last change leaves it at which it still reads less, or else as it
+// is at `from`.
+fn last_short(clocks: &Settings<SegmentClock>, from: u64, goal: Units) -> Change<SegmentClock>
+    requires clocks { AreClocks clocks.now.initial clocks.now.changes.items }
+    requires limit { from ≤ 2 ^ 60 }
+    ensures readable { IsReadable result }
+    ensures same { (until : ℕ) (first : Option ℕ)
+        → IsFirstReach (segment_reading result.value) result.from goal.0 until first
+        → IsFirstReach (clocks_reading clocks.now.initial clocks.now.changes.items) from goal.0 until first }
+{
+    let later = clocks.after(from);
+    let count = count_short(later, goal);
+    if count == 0 {
+        Change {
+            from,
+            value: clocks.at(from),
         }
-        let time = time_of(&clock, start, goal);
-        if time < change.from {
-            return Some(time);
-        }
-        clock = change.value;
-        start = change.from;
-        later = rest;
+    } else {
+        later[count - 1]
     }
-    time_up_to(&clock, start, goal, until)
+}
+
+// At how many changes the clock reads less than the goal. Readings never fall, so these are the first ones.
+fn count_short(changes: &[Change<SegmentClock>], goal: Units) -> usize
+    requires each { All IsReadable changes.now }
+    requires rising { IsNonDecreasingBy reading_then changes.now }
+    ensures bound { result ≤ length changes.now }
+    ensures part { IsPartitionPoint (IsShortOf goal.0) (HasReached goal.0) changes.now result }
+{
+    let mut low = 0;
+    let mut high = changes.len();
+    'halves: while low < high {
+        let middle = low + (high - low) / 2;
+        if is_short(&changes[middle], goal) {
+            low = middle + 1;
+        } else {
+            high = middle;
+        }
+    }
+    low
+}
+
+// Does the clock read less than the goal when it changes?
+fn is_short(change: &Change<SegmentClock>, goal: Units) -> bool
+    requires readable { IsReadable change.now }
+    ensures short { result ≡ true → IsShortOf goal.0 change.now }
+    ensures reached { result ≡ false → HasReached goal.0 change.now }
+{
+    change.value.read(Units::from_amount(change.from)).0 < goal.0
 }
 
 // The least such time up to `until`.
