@@ -2,8 +2,9 @@
 use Rattle.drift_world.{proofs.Turning.{comes_first, is_at, ranked_at}, specs.{Turns.{IsNow, MayWork, source_place}, declared.source.Source.Source}}
 use Rattle.drift_world.proofs.Words.{◌++◌, ◌+◌, ◌<◌, ◌^◌, ◌∙◌, ◌∷◌, ◌≡◌, ◌≤◌, AtPort, Bool, ChangesOnly, DeviceId, DueAt, Happening, IfSome, IsBefore, IsIn}
 use Rattle.drift_world.proofs.Words.{IsPutAt, Kept, List, Network, NoSourceBefore, Node, None, Note, Option, Scenario, Settled, Some, Stands, Waits, World, []}
-use Rattle.drift_world.proofs.Words.{ap, arith, at_port, behind, chain, changed_device, departure_body, happenings, inl, inr, is_mapped, keeps, length, map, numbers_of, on_wire}
-use Rattle.drift_world.proofs.Words.{option_map_or, own_place, place_of, rank, refl, ripe_place, settled_at, stored_as, subst, suc, sym, waiting_as, with_first, zero}
+use Rattle.drift_world.proofs.Words.{ap, arith, at_port, behind, chain, changed_device, departure_body, happenings, inl, inr, is_mapped, keeps, length, map}
+use Rattle.drift_world.proofs.Words.{numbers_of, on_wire, option_map_or, own_place, place_of, rank, refl, ripe_place, settled_at, stored_as, subst, suc, sym}
+use Rattle.drift_world.proofs.Words.{waiting_as, with_first, zero}
 use Rattle.drift_world.{proofs.Words.{world_of, ℕ}, specs.{Giving.IsRunningWith, Ripening.IsJudged, Stepping.StandsPast, declared.state.State.State}}
 use Rattle.std.{proofs.Common.slice_index_or, specs.Prelude.insert}
 use Rattle.world_state.specs.{Hearing.arrived, Leaving.departed, Ripening.{AreSettledSo, ripe_record}, declared.contents.Signal.{Signal as SignalSent}}

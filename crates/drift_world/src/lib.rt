@@ -3,13 +3,13 @@
 
 mod act;
 mod ahead;
-mod alone;
 mod applying;
 mod at_once;
 mod befalling;
 mod begin;
 mod give;
 mod hear;
+mod in_turn;
 mod local;
 mod next;
 mod ripe;

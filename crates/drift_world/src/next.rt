@@ -116,7 +116,7 @@ impl<C: Clock, M: Machine + Drop> State<C, M> {
     fn is_calm(&self) -> bool
         ensures { IsTrue result → IsCalm self.now }
     {
-        !self.pending && !self.ended && self.has_none_settled()
+        !self.pending && !self.ended && self.settled.is_empty()
     }
 
     /// A turn, whatever is settled or to come.

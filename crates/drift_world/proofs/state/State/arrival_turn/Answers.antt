@@ -1,4 +1,4 @@
-use Rattle.drift_world.{proofs.{Dues.due_stays, state.State.arrival_turn.Goals.{After-give_alone-turn, After-put_in}}, specs.declared.state.State.State}
+use Rattle.drift_world.{proofs.{Dues.due_stays, state.State.arrival_turn.Goals.{After-give_in_turn-turn, After-put_in}}, specs.declared.state.State.State}
 use Rattle.drift_world.proofs.{Fits.{all_put, have_octets, sound_same}, Timings.rekeyed, Words.{length, place_of, rank, refl, settled_at, subst, sym, world_of, ℕ}}
 use Rattle.drift_world.{proofs.{Halves.set_act, OwnPlaces.{changes_both, none_ahead, runs_first, stands_first}}, specs.Turns.given_in}
 use Rattle.drift_world.{proofs.Turning.{comes_first, is_at, kept_timers, rekeyed_step, runs_on, step_kept}, specs.declared.source.Source.TheVariants.Arrival}
@@ -10,18 +10,18 @@ pub hear_wire-record-requires-clause-comes : goal.hear_wire-record-requires-clau
 hear_wire-record-requires-clause-comes g c = is_at g.C.Clock.last_step g.C.Clock.reading g.M.Machine.stands c.args.network.now c.args.self.now
     (Arrival c.args.place) c.requires.may tt
 
--- ---- it is given alone
+-- ---- its record is given
 
-pub give_alone-turn-requires-clause-front : goal.give_alone-turn-requires-clause-front
-give_alone-turn-requires-clause-front g c =
+pub give_in_turn-turn-requires-clause-front : goal.give_in_turn-turn-requires-clause-front
+give_in_turn-turn-requires-clause-front g c =
     subst (λ (l : List Settled). IsPutAt c.hear_wire-record.result l (c.hear_wire-record.result ∷ l) 0)
     (sym (ap (λ (t : State _ _). t.settled.items) c.hear_wire-record.ensures.same))
     (none_ahead g.C.Clock.last_step g.C.Clock.reading g.M.Machine.stands c.args.network.now c.args.self.now (Arrival c.args.place)
     c.hear_wire-record.result c.requires.may tt
     (c.hear_wire-record.ensures.own (omega (arith, c.rank_of.ensures, c.number.ensures, c.if-rank_of-number.true))))
 
-pub give_alone-turn-requires-clause-running : goal.give_alone-turn-requires-clause-running
-give_alone-turn-requires-clause-running g c =
+pub give_in_turn-turn-requires-clause-running : goal.give_in_turn-turn-requires-clause-running
+give_in_turn-turn-requires-clause-running g c =
     let one = c.hear_wire-record.result in
     runs_first g.C.Clock.last_step g.C.Clock.reading g.M.Machine.stands c.args.network.now c.args.self.now c.hear_wire-record.new.self (Arrival c.args.place)
     one c.requires.may tt (ap (λ (t : State _ _). t.settled.items) c.hear_wire-record.ensures.same)
@@ -30,13 +30,13 @@ give_alone-turn-requires-clause-running g c =
     c.hear_wire-record.result c.requires.may tt
     (c.hear_wire-record.ensures.own (omega (arith, c.rank_of.ensures, c.number.ensures, c.if-rank_of-number.true)))))
 
-arriving : (g : given.Over) (c : After-give_alone-turn g) → rank c.hear_wire-record.result.body ≡ 2
+arriving : (g : given.Over) (c : After-give_in_turn-turn g) → rank c.hear_wire-record.result.body ≡ 2
 arriving g c = omega (arith, c.rank_of.ensures, c.number.ensures, c.if-rank_of-number.true)
 
-given_so : (g : given.Over) (c : After-give_alone-turn g) (s : Scenario) (notes : List Note)
+given_so : (g : given.Over) (c : After-give_in_turn-turn g) (s : Scenario) (notes : List Note)
     → Stands g.C.Clock.reading (keeps g.M.Machine.stands) s (world_of c.args.network.now c.args.self.now) notes
-    → Stands g.C.Clock.reading (keeps g.M.Machine.stands) s (world_of c.args.network.now c.give_alone-turn.new.self) (notes
-    ++ given_in c.give_alone-turn.result c.give_alone-turn.new.note)
+    → Stands g.C.Clock.reading (keeps g.M.Machine.stands) s (world_of c.args.network.now c.give_in_turn-turn.new.self) (notes
+    ++ given_in c.give_in_turn-turn.result c.give_in_turn-turn.new.note)
 given_so g c =
     let one = c.hear_wire-record.result in
     let hear = c.hear_wire-record.ensures in
@@ -45,25 +45,25 @@ given_so g c =
     (hear.stands (one ∷ c.args.self.now.settled.items) 0
     (none_ahead g.C.Clock.last_step g.C.Clock.reading g.M.Machine.stands c.args.network.now c.args.self.now (Arrival c.args.place) one c.requires.may tt
     (hear.own (arriving g c))))
-    c.give_alone-turn.new.self _
+    c.give_in_turn-turn.new.self _
     (ap (λ (t : ℕ). place_of (settled_at c.args.network.now t one)) hear.others.time ∙ hear.own (arriving g c))
-    c.give_alone-turn.ensures.stands
+    c.give_in_turn-turn.ensures.stands
 
 pub rekey_from-requires : goal.rekey_from-requires
 rekey_from-requires g c =
     let may = c.requires.may in
     let run = may.well.running in
     let hear = c.hear_wire-record.ensures in
-    let give = c.give_alone-turn.ensures in
+    let give = c.give_in_turn-turn.ensures in
     let timers = ap (λ (t : State _ _). t.timers) give.same ∙ ap (λ (t : State _ _). t.timers) hear.same in
     record {
       may = record {
         sized = give.sound.sized;
         there = may.foremost.there.device;
         slots = ap length timers ∙ may.well.timed.sized;
-        running = record { s = run.s; notes = _; is = given_so g (goal.at.rekey_from-requires g c).After-give_alone-turn run.s run.notes run.is };
+        running = record { s = run.s; notes = _; is = given_so g (goal.at.rekey_from-requires g c).After-give_in_turn-turn run.s run.notes run.is };
       };
-      before = due_stays g.C.Clock.reading g.M.Machine.stands c.args.network.now g.C.Clock.last_step c.args.self.now c.give_alone-turn.new.self
+      before = due_stays g.C.Clock.reading g.M.Machine.stands c.args.network.now g.C.Clock.last_step c.args.self.now c.give_in_turn-turn.new.self
           (record { 0 = c.args.place.device }) c.due_of-before.result may.well
           may.foremost.there.device
           c.due_of-before.ensures
@@ -75,19 +75,19 @@ rekey_from-requires g c =
 pub returns-then-rank_of-number-clause-kept : goal.returns-then-rank_of-number-clause-kept
 returns-then-rank_of-number-clause-kept g c =
     let mid = c.hear_wire-record.new.self in
-    let gave = c.give_alone-turn.new.self in
+    let gave = c.give_in_turn-turn.new.self in
     let device : DeviceId = record { 0 = c.args.place.device } in
     let may = c.requires.may in
     let hear = c.hear_wire-record.ensures in
-    let give = c.give_alone-turn.ensures in
+    let give = c.give_in_turn-turn.ensures in
     let changes : ChangesOnly device.0 c.args.self.now gave = changes_both device.0 c.args.self.now mid gave hear.others
-    (subst (λ (d : ℕ). ChangesOnly d mid gave) (hear.device (arriving g (goal.at.returns-then-rank_of-number-clause-kept g c).After-give_alone-turn))
+    (subst (λ (d : ℕ). ChangesOnly d mid gave) (hear.device (arriving g (goal.at.returns-then-rank_of-number-clause-kept g c).After-give_in_turn-turn))
     give.others) in
     let time = changes.time in
     kept_timers g.C.Clock.last_step g.C.Clock.reading g.M.Machine.stands c.args.network.now c.args.self.now gave c.rekey_from.new.self _ may.well.running
     give.sound
     (record { clocks = changes.clocks; ended = changes.ended; later = omega (arith, time) })
-    (given_so g (goal.at.returns-then-rank_of-number-clause-kept g c).After-give_alone-turn) c.rekey_from.ensures.sets.same
+    (given_so g (goal.at.returns-then-rank_of-number-clause-kept g c).After-give_in_turn-turn) c.rekey_from.ensures.sets.same
     (rekeyed g.C.Clock.reading g.M.Machine.stands c.args.network.now device c.args.self.now gave c.rekey_from.new.self may.well.timed may.foremost.there.device
     changes
     (ap (λ (t : State _ _). t.timers) give.same ∙ ap (λ (t : State _ _). t.timers) hear.same) c.rekey_from.ensures)

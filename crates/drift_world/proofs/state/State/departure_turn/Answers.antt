@@ -16,15 +16,15 @@ returns-in_default-clause-kept g c =
     (comes_first g.C.Clock.last_step g.C.Clock.reading g.M.Machine.stands c.args.network.now c.args.self.now (Departure c.args.place) s notes c.requires.may tt
     old)).0))
 
-pub give_alone-requires-clause-front : goal.give_alone-requires-clause-front
-give_alone-requires-clause-front g c =
+pub give_in_turn-requires-clause-front : goal.give_in_turn-requires-clause-front
+give_in_turn-requires-clause-front g c =
     subst (λ (l : List Settled). IsPutAt c.in-Some.record l (c.in-Some.record ∷ l) 0)
     (sym (ap (λ (t : State _ _). t.settled.items) c.in-Some.ensures.same)) (none_ahead g.C.Clock.last_step g.C.Clock.reading g.M.Machine.stands c.args.network.now
     c.args.self.now (Departure c.args.place) c.in-Some.record c.requires.may tt
     (c.in-Some.ensures.own (omega (arith, c.rank_of.ensures, c.number.ensures, c.if-rank_of-number.true))))
 
-pub give_alone-requires-clause-running : goal.give_alone-requires-clause-running
-give_alone-requires-clause-running g c =
+pub give_in_turn-requires-clause-running : goal.give_in_turn-requires-clause-running
+give_in_turn-requires-clause-running g c =
     runs_first g.C.Clock.last_step g.C.Clock.reading g.M.Machine.stands c.args.network.now c.args.self.now c.leave_port.new.self (Departure c.args.place)
     c.in-Some.record c.requires.may tt (ap (λ (t : State _ _). t.settled.items) c.in-Some.ensures.same)
     (c.in-Some.ensures.stands (c.in-Some.record ∷ c.args.self.now.settled.items) (
@@ -37,12 +37,12 @@ give_alone-requires-clause-running g c =
 pub returns-then-rank_of-number-clause-kept : goal.returns-then-rank_of-number-clause-kept
 returns-then-rank_of-number-clause-kept g c =
     let mid = c.leave_port.new.self in
-    let gave = c.give_alone.new.self in
+    let gave = c.give_in_turn.new.self in
     let one = c.in-Some.record in
     let other = changed_device one.body in
     let may = c.requires.may in
     let left = c.in-Some.ensures in
-    let give = c.give_alone.ensures in
+    let give = c.give_in_turn.ensures in
     let is = c.rank_of.ensures in
     let leaving = c.number.ensures in
     let test = c.if-rank_of-number.true in

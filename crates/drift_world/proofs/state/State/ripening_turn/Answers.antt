@@ -5,7 +5,7 @@ use Rattle.drift_world.{proofs.Turning.{comes_first, is_at, kept_timers, rekeyed
 use Rattle.drift_world.proofs.Words.{◌++◌, ◌∙◌, ◌∷◌, ◌≡◌, ◌≤ℤ◌, ChangesOnly, DeviceId, IsPutAt, IsSound, List, Network, Node, Note, Scenario, Settled, Some, Stands}
 use Rattle.drift_world.proofs.Words.{Waits, [], ap, arith, changed_device, keeps, length, place_of, pos, refl, ripe_place, settled_at, subst, sym, waiting_as}
 use Rattle.{drift_world.{proofs.Words.{world_of, ℕ}, specs.Ripening.IsJudged}, std.proofs.Common.{is_some, slice_get}, world_state.specs.Frames.first_of}
-use Rattle.drift_world.{proofs.state.State.ripening_turn.Goals.{After-give_alone-turn, After-settle_ripe}, specs.Turns.{IsRipe, MayWork, given_in}}
+use Rattle.drift_world.{proofs.state.State.ripening_turn.Goals.{After-give_in_turn-turn, After-settle_ripe}, specs.Turns.{IsRipe, MayWork, given_in}}
 use Rattle.drift_world.proofs.state.State.ripening_turn.Given as given
 use Rattle.drift_world.proofs.state.State.ripening_turn.Goals as goal
 
@@ -36,10 +36,10 @@ changed : {C M : Type 0} (reading : C → ℕ → ℕ) (network : Network) (old 
     → first_of old.waiting one.device.0 ≡ Some w → ChangesOnly w.device.0 old new → ChangesOnly one.device.0 old new
 changed reading network old new one w ripe at others = subst (λ (v : Waits). ChangesOnly v.device.0 old new) (sym (some_same _ _ _ ripe.is at)) others
 
--- ---- its record is given alone
+-- ---- its record is given
 
-pub give_alone-turn-requires-clause-octets : goal.give_alone-turn-requires-clause-octets
-give_alone-turn-requires-clause-octets g c =
+pub give_in_turn-turn-requires-clause-octets : goal.give_in_turn-turn-requires-clause-octets
+give_in_turn-turn-requires-clause-octets g c =
     subst have_octets (sym c.record_of-record.ensures) (record_fits c.ripen_waits-ripened.result.waits c.ripen_waits-ripened.result.ripe)
 
 past : {C M : Type 0} (reading : C → ℕ → ℕ) (stands : M → Network → DeviceId → Node → Type 0) (network : Network) (old new : State C M)
@@ -61,16 +61,16 @@ ahead last_step reading stands network state one w is z may at same judged =
     none_ahead last_step reading stands network state (Ripening w) z (first_ripe last_step reading stands network state one w may at) tt
     (ap (λ (x : Settled). place_of (settled_at network state.time x)) same ∙ judged_own network state.time w is judged)
 
-pub give_alone-turn-requires-clause-front : goal.give_alone-turn-requires-clause-front
-give_alone-turn-requires-clause-front g c =
+pub give_in_turn-turn-requires-clause-front : goal.give_in_turn-turn-requires-clause-front
+give_in_turn-turn-requires-clause-front g c =
     subst (λ (l : List Settled). IsPutAt c.record_of-record.result l (c.record_of-record.result ∷ l) 0)
     (sym (ap (λ (t : State _ _). t.settled.items) c.ripen_waits-ripened.ensures.same))
     (ahead g.C.Clock.last_step g.C.Clock.reading g.M.Machine.stands c.args.network.now c.args.self.now c.args.one c.ripen_waits-ripened.result.waits
     c.ripen_waits-ripened.result.ripe c.record_of-record.result c.requires.may c.ripen_waits-ripened.ensures.is c.record_of-record.ensures
     (c.is_judged.ensures.0 c.if-is_judged.true))
 
-pub give_alone-turn-requires-clause-running : goal.give_alone-turn-requires-clause-running
-give_alone-turn-requires-clause-running g c =
+pub give_in_turn-turn-requires-clause-running : goal.give_in_turn-turn-requires-clause-running
+give_in_turn-turn-requires-clause-running g c =
     runs_first g.C.Clock.last_step g.C.Clock.reading g.M.Machine.stands c.args.network.now c.args.self.now c.ripen_waits-ripened.new.self
     (Ripening c.ripen_waits-ripened.result.waits) c.record_of-record.result
     (first_ripe g.C.Clock.last_step g.C.Clock.reading g.M.Machine.stands c.args.network.now c.args.self.now c.args.one c.ripen_waits-ripened.result.waits
@@ -84,10 +84,10 @@ give_alone-turn-requires-clause-running g c =
     (c.is_judged.ensures.0 c.if-is_judged.true))
     c.ripen_waits-ripened.ensures.stands)
 
-given_so : (g : given.Over) (c : After-give_alone-turn g) (s : Scenario) (notes : List Note)
+given_so : (g : given.Over) (c : After-give_in_turn-turn g) (s : Scenario) (notes : List Note)
     → Stands g.C.Clock.reading (keeps g.M.Machine.stands) s (world_of c.args.network.now c.args.self.now) notes
-    → Stands g.C.Clock.reading (keeps g.M.Machine.stands) s (world_of c.args.network.now c.give_alone-turn.new.self) (notes
-    ++ given_in c.give_alone-turn.result c.give_alone-turn.new.note)
+    → Stands g.C.Clock.reading (keeps g.M.Machine.stands) s (world_of c.args.network.now c.give_in_turn-turn.new.self) (notes
+    ++ given_in c.give_in_turn-turn.result c.give_in_turn-turn.new.note)
 given_so g c =
     let got = c.ripen_waits-ripened.result in
     let one = c.record_of-record.result in
@@ -102,27 +102,27 @@ given_so g c =
     (ahead g.C.Clock.last_step g.C.Clock.reading g.M.Machine.stands c.args.network.now c.args.self.now c.args.one c.ripen_waits-ripened.result.waits
     c.ripen_waits-ripened.result.ripe c.record_of-record.result c.requires.may c.ripen_waits-ripened.ensures.is c.record_of-record.ensures
     (c.is_judged.ensures.0 c.if-is_judged.true))
-    c.ripen_waits-ripened.ensures.stands) c.give_alone-turn.new.self _
+    c.ripen_waits-ripened.ensures.stands) c.give_in_turn-turn.new.self _
     (ap (λ (t : ℕ). place_of (settled_at c.args.network.now t one)) c.ripen_waits-ripened.ensures.others.time
     ∙ ap (λ (x : Settled). place_of (settled_at c.args.network.now c.args.self.now.time x)) c.record_of-record.ensures
     ∙ judged_own c.args.network.now c.args.self.now.time got.waits got.ripe (c.is_judged.ensures.0 c.if-is_judged.true))
-    c.give_alone-turn.ensures.stands
+    c.give_in_turn-turn.ensures.stands
 
 pub rekey_from-requires : goal.rekey_from-requires
 rekey_from-requires g c =
     let may = c.requires.may in
     let run = may.well.running in
     let rip = c.ripen_waits-ripened.ensures in
-    let give = c.give_alone-turn.ensures in
+    let give = c.give_in_turn-turn.ensures in
     let timers = ap (λ (t : State _ _). t.timers) give.same ∙ ap (λ (t : State _ _). t.timers) rip.same in
     record {
       may = record {
         sized = give.sound.sized;
         there = may.foremost.there.of;
         slots = ap length timers ∙ may.well.timed.sized;
-        running = record { s = run.s; notes = _; is = given_so g (goal.at.rekey_from-requires g c).After-give_alone-turn run.s run.notes run.is };
+        running = record { s = run.s; notes = _; is = given_so g (goal.at.rekey_from-requires g c).After-give_in_turn-turn run.s run.notes run.is };
       };
-      before = due_stays g.C.Clock.reading g.M.Machine.stands c.args.network.now g.C.Clock.last_step c.args.self.now c.give_alone-turn.new.self
+      before = due_stays g.C.Clock.reading g.M.Machine.stands c.args.network.now g.C.Clock.last_step c.args.self.now c.give_in_turn-turn.new.self
           (record { 0 = c.args.one.device.0 }) c.due_of-before.result may.well
           may.foremost.there.of
           c.due_of-before.ensures
@@ -133,12 +133,12 @@ rekey_from-requires g c =
 
 pub returns-then-is_judged-clause-kept : goal.returns-then-is_judged-clause-kept
 returns-then-is_judged-clause-kept g c =
-    let gave = c.give_alone-turn.new.self in
+    let gave = c.give_in_turn-turn.new.self in
     let device : DeviceId = record { 0 = c.args.one.device.0 } in
     let may = c.requires.may in
     let got = c.ripen_waits-ripened.result in
     let rip = c.ripen_waits-ripened.ensures in
-    let give = c.give_alone-turn.ensures in
+    let give = c.give_in_turn-turn.ensures in
     let o = changed g.C.Clock.reading c.args.network.now c.args.self.now c.ripen_waits-ripened.new.self c.args.one c.ripen_waits-ripened.result.waits
     c.requires.may.foremost.there c.ripen_waits-ripened.ensures.is c.ripen_waits-ripened.ensures.others in
     let far = ap (λ (x : Settled). changed_device x.body) c.record_of-record.ensures ∙ judged_far got.waits got.ripe in
@@ -151,7 +151,7 @@ returns-then-is_judged-clause-kept g c =
       ended = ap (λ (t : State _ _). t.ended) give.same ∙ o.ended;
       later = omega (arith, time);
     })
-    (given_so g (goal.at.returns-then-is_judged-clause-kept g c).After-give_alone-turn) c.rekey_from.ensures.sets.same
+    (given_so g (goal.at.returns-then-is_judged-clause-kept g c).After-give_in_turn-turn) c.rekey_from.ensures.sets.same
     (rekeyed_by g.C.Clock.reading g.M.Machine.stands c.args.network.now device c.args.self.now gave c.rekey_from.new.self may.well.timed may.foremost.there.of
     (λ i ne. ap (λ (t : State _ _). slice_get t.clocks.items i) give.same ∙ ap (λ (t : State _ _). slice_get t.clocks.items i) rip.same)
     (λ i ne. ap (λ (t : State _ _). slice_get t.machines.items i) give.same ∙ o.machines i ne)

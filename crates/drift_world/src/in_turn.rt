@@ -1,4 +1,4 @@
-ghost use Rattle.std.specs.Prelude.{◌++◌, ◌+◌, ◌<◌, ◌↔◌, ◌∷◌, ◌≡◌, IfOk, IsTrue, List, OnErr, []};
+ghost use Rattle.std.specs.Prelude.{◌++◌, ◌+◌, ◌<◌, ◌∷◌, ◌≡◌, IfOk, List, OnErr};
 ghost use Rattle.{net_plan.specs.Ranges.IsInRange, world_law.specs.world.World.Stands};
 ghost use Rattle.run_law.specs.{declared.note.Note.{Note as NoteOf}, records.{Happenings.happenings, Ranks.place_of}};
 ghost use Rattle.{run_law.specs.scenario.Scenarios.Scenario, world_law.specs.source.First.NoSourceBefore};
@@ -25,17 +25,10 @@ impl<C: Clock, M: Machine + Drop> State<C, M> {
     ghost use Rattle.drift_world.specs.Turns.{GivesAt, HasRoom, IsKept, MayWork, WorkSays, given_in};
     ghost use Rattle.drift_world.specs.{Views.{with_first, world_of}, declared.source.Source.Source as SourceOf};
 
-    /// Is nothing settled?
-    pub fn has_none_settled(&self) -> bool
-        ensures { IsTrue result ↔ (self.now.settled.items ≡ []) }
-    {
-        self.settled.is_empty()
-    }
-
-    /// The record, which is put in nowhere, is given: nothing that is settled or to come stands before it. On an error
-    /// it is put in among what is settled.
+    /// The record is given, which is not put in: nothing that is settled or to come stands before it. On an error it is
+    /// put in before all that is settled.
     #[inline(always)]
-    fn give_alone(
+    fn give_in_turn(
         &mut self,
         network: &Network,
         first: Settled,
@@ -96,7 +89,7 @@ impl<C: Clock, M: Machine + Drop> State<C, M> {
         let before = self.due_of(network, place.device);
         let record = self.hear_wire(network, place);
         if rank_of(&record) == Rank::Arrived.number() {
-            let turn = self.give_alone(network, record, note);
+            let turn = self.give_in_turn(network, record, note);
             self.rekey_from(network, place.device, before);
             return turn;
         }
@@ -123,14 +116,14 @@ impl<C: Clock, M: Machine + Drop> State<C, M> {
             return Ok(Turn::GoesOn);
         };
         if rank_of(&record) == Rank::Left.number() {
-            return self.give_alone(network, record, note);
+            return self.give_in_turn(network, record, note);
         }
         put_in(&mut self.settled, record);
         Ok(Turn::GoesOn)
     }
 
-    /// The frame that is the first that is permanent is judged. Where its only record is how it is judged, this is given
-    /// at once: it stands at the place of the source.
+    /// The first frame that is permanent is judged. Where its only record is how it is judged, this is given at once: it
+    /// stands at the place of the source.
     #[inline(always)]
     pub fn ripening_turn(
         &mut self,
@@ -147,7 +140,7 @@ impl<C: Clock, M: Machine + Drop> State<C, M> {
         let ripened = self.ripen_waits(network, one.device);
         if is_judged(ripened.ripe) {
             let record = record_of(&ripened.waits, ripened.ripe);
-            let turn = self.give_alone(network, record, note);
+            let turn = self.give_in_turn(network, record, note);
             self.rekey_from(network, one.device.0, before);
             return turn;
         }

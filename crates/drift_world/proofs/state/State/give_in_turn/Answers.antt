@@ -2,7 +2,7 @@ use Rattle.drift_world.proofs.{Fits.{all_put, have_octets, sound_same}, Gave.{ch
 use Rattle.drift_world.{proofs.{MayGive.{low_now, may_be_given}, Words.ℕ}, specs.declared.state.State.State}
 use Rattle.drift_world.proofs.Words.{◌++◌, ◌+◌, ◌∙◌, ◌∷◌, ◌≡◌, List, NoSourceBefore, Note, Stands, StandsBehind, World, [], ap, append-nil, behind}
 use Rattle.drift_world.proofs.Words.{changed_device, happenings, keeps, length, map, note_of, place_of, refl, settled_at, subst, sym, units_of, with_first, world_of}
-use Rattle.drift_world.proofs.state.State.give_alone.Goals as goal
+use Rattle.drift_world.proofs.state.State.give_in_turn.Goals as goal
 
 pub returns-in-Err-clause-sound : goal.returns-in-Err-clause-sound
 returns-in-Err-clause-sound g c =
