@@ -1,7 +1,7 @@
 -- Where only events of the present instant are worked off, the records given are the run behind them.
 use Rattle.drift_world.proofs.Words.{◌+◌, ◌<◌, ◌∷◌, ◌≡◌, ◌≤◌, AreSettled, DeviceId, Happening, IsBefore, IsDue, IsIn, IsScenarioRun, List, Network, Node, Note}
 use Rattle.drift_world.proofs.Words.{Scenario, Stands, World, [], amount, ap, append-nil, arith, chain, happenings, inl, inr, never_self, place_of, refl, subst}
-use Rattle.{drift_world.proofs.Words.{sym, true, ℕ}, world_law.{proofs.runs.{Next.none_due, Sourced.sourced}, specs.world.World.IsWorkedOff}}
+use Rattle.{drift_world.proofs.Words.{sym, true, ℕ}, world_law.{proofs.runs.{Next.none_due, Sourced.sourced, TaskPlaces.{acts_before, task_before}}, specs.world.World.IsWorkedOff}}
 use Rattle.{net_plan.specs.declared.event.Event.Event, world_law.{proofs.runs.Firsts.source_before, specs.source.{Next.NoneDueBefore, Sources.IsSource}}}
 use Rattle.run_law.proofs.runs.Grow.{move_mark}
 
@@ -36,7 +36,9 @@ module _ {C M : Type 0} (reading : C → ℕ → ℕ) (stands : M → Network �
   unfolding hs
   worked w (IsSource.arriving t device link cause a) b = by_time t 2 (device.0 ∷ link.0 ∷ cause ∷ []) (omega arith) b
   worked w (IsSource.ripening t device link cause point r) b = by_time t 3 (device.0 ∷ amount point ∷ r.frame.members.0 ∷ link.0 ∷ cause ∷ []) (omega arith) b
-  worked w (IsSource.acting t device a) b = by_time t 4 (device.0 ∷ []) (omega arith) b
+  worked w (IsSource.acting t device task a) b =
+      task_before s.network t device task old.cursor
+      (by_time t 4 (device.0 ∷ []) (omega arith) (acts_before s.network t device task (world.now ∷ 2 ∷ []) b))
   worked w (IsSource.departing t device link cause d) b = by_time t 8 (device.0 ∷ link.0 ∷ cause ∷ []) (omega arith) b
   worked w (IsSource.following t cause h it) b = by_time t 2 [] (omega arith) b
   worked w (IsSource.befalling time line what r) b = subst (λ (n : ℕ). IsBefore (n ∷ 1 ∷ []) old.cursor) (ap amount (sym r.at)) (told r.before r.event r.is)

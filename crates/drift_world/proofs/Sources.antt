@@ -1,4 +1,5 @@
 -- What comes first of what a state has under way.
+use Rattle.world_law.proofs.runs.TaskPlaces.{acts_before}
 use Rattle.drift_world.proofs.Words.{◌+◌, ◌-◌, ◌<◌, ◌^◌, ◌∙◌, ◌∷◌, ◌≡◌, ◌≤ℤ◌, ◌≤◌, ◌⊎◌, AreFirsts, AreNotBefore, AreTimed, AreUnderWay, Bool, Content, DeviceId}
 use Rattle.drift_world.proofs.Words.{Down, Due, DueAt, Happening, HasNothingBefore, IfNone, IfSome, IsBefore, IsDue, IsFirst, IsFounded, IsIn, IsInRange}
 use Rattle.drift_world.proofs.Words.{IsLinkInRange, IsSized, Kept, List, Network, Node, None, Note, Option, Scenario, Some, Stands, Up, Waiting, Waits, Way, []}
@@ -306,7 +307,7 @@ module _ {C M : Type 0} (last_step : C → ℕ) (reading : C → ℕ → ℕ) (s
         (subst (λ (k : Network). keeps stands machine k device node) (sym old.same) kept)
         (subst (λ (k : Network). IsPending k device node task) (sym old.same) pending) t from
         (subst (λ (k : Network). reading_for k node task ≤ℤ pos (reading own.0 t)) (sym old.same)
-        (subst (λ (n : ℕ). reading_for s.network node task ≤ℤ pos n) (own.2 t from) reached)) b;
+        (subst (λ (n : ℕ). reading_for s.network node task ≤ℤ pos n) (own.2 t from) reached)) (acts_before s.network t device task p b);
     befell = has.befell;
     clocks = λ device of_it ended shown b.
         has.clocks ended

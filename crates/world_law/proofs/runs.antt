@@ -1,5 +1,6 @@
 -- Each record of a run has a source, and the run goes on by what is settled, or by an event.
 pub mod Next
+pub mod TaskPlaces
 pub mod Sourced
 pub mod Firsts
 pub mod Worlds

@@ -1,15 +1,17 @@
 -- Where nothing that a world has under way is before a place, and nothing to come, no act of a device that is not worked off
 -- is before it.
+use Rattle.world_law.proofs.runs.TaskPlaces.{acts_before, task_before}
 use Rattle.{net_plan.specs.declared.tables.Role.Role, sync_state.specs.Standing.state_at_start, world_law.proofs.putting.StandsOn.in_mapped}
 use Rattle.{run_law.specs.declared.judgement.Why.TheVariants.On, world_law.proofs.{devices.TurnedOn.{IsQuiet, quiet_rest}, lists.Lists.{behind_no, map_none}}}
 use Rattle.{run_law.specs.scenario.Devices.{has_role, start_of}, world_law.proofs.{devices.{Deeds.rests, OwnRecords.keeps_state}, putting.PutShown.hidden_rank}}
 use Rattle.world_law.proofs.Words.{◌++◌, ◌<◌, ◌∙◌, ◌∷◌, ◌≡◌, ◌≤◌, AreClusters, AreOfNetwork, Bool, Compressed, Device, DeviceId, Emits, Happening, HasDone}
 use Rattle.world_law.proofs.Words.{HasDoneFrom, HasSent, HasTaskBy, HaveBefallen, Integrating, IsActing, IsBefore, IsHeld, IsIn, IsKept, IsLeft, Judgement}
-use Rattle.world_law.proofs.Words.{List, Network, Node, None, Note, NoteBody, Off, Point, Scenario, Some, Stands, State, Synchronised, World, [], act_place}
-use Rattle.world_law.proofs.Words.{after_last, ap, append-nil, append_assoc, arith, cases_Bool, cases_lt, chain, changed_at, device_at, earlier, emitting}
-use Rattle.world_law.proofs.Words.{ends_stretch, false, filter_map, frames_taken, happenings, hidden, if◌then◌else◌, in_filter, in_left, in_parts, in_right}
-use Rattle.world_law.proofs.Words.{inl, inr, ints, is_broken, is_turned_on_at, is_turning, length, map, moves, nat_lt, never_both, next_cycle, next_point}
-use Rattle.world_law.proofs.Words.{observation_window, option_map_or, place_of, point_by, point_in, points_of, pos, rank, reading_for, refl, slice_get_within}
+use Rattle.world_law.proofs.Words.{List, Network, Node, None, Note, NoteBody, Off, Point, Scenario, Some, Stands, State, Synchronised, Task, World, []}
+use Rattle.world_law.proofs.Words.{act_place, after_last, ap, append-nil, append_assoc, arith, cases_Bool, cases_lt, chain, changed_at, device_at, earlier}
+use Rattle.world_law.proofs.Words.{emitting, ends_stretch, false, filter_map, frames_taken, happenings, hidden, if◌then◌else◌, in_filter, in_left, in_parts}
+use Rattle.world_law.proofs.Words.{in_right, inl, inr, ints, is_broken, is_turned_on_at, is_turning, length, map, moves, nat_lt, never_both, next_cycle}
+use Rattle.world_law.proofs.Words.{next_point, observation_window, option_map_or, place_of, point_by, point_in, points_of, pos, rank, reading_for, refl}
+use Rattle.world_law.proofs.Words.{slice_get_within}
 use Rattle.world_law.proofs.{Words.{state_after, state_before, state_with, subst, sym, time_of, true, ℕ}, devices.Resting.{IsPast, IsWorked, are_past, at_rest}}
 use Rattle.world_law.proofs.{acts.Acting.{IsUnmoved, correcting_task, sending_task}, runs.Foremost.{NoActBefore, acting_task, none_but_acts, not_on_after}}
 use Rattle.world_law.proofs.{giving.Given.no_later_breaks, runs.SourcesBack.{dispatches_back, earlier_still, of_high_rank, reaches_back, standing_in, up_back}}
@@ -74,32 +76,34 @@ state_of_none : (s : Scenario) (hs : List Happening) (device : DeviceId) (t : �
     → state_before s hs device t ≡ Off
 state_of_none s hs device t le known = grind (arith, state_after, earlier, never_moved, in_filter, nat_lt, time_of, off_of_none)
 
-pub none_acts : (s : Scenario) (hs : List Happening) (device : DeviceId) (t : ℕ) → length s.network.device ≤ device.0 → AreOfNetwork s hs
-    → IsActing s hs t device → ⊥
-none_acts s hs device t le known (IsActing.sending cycle d) = no_role s.network _ device le d.master
-none_acts s hs device t le known (IsActing.emitting sent verdict e) = no_role s.network _ device le e.cm
-none_acts s hs device t le known (IsActing.correcting cycle c) =
+pub none_acts : (s : Scenario) (hs : List Happening) (device : DeviceId) (t : ℕ) (task : Task) → length s.network.device ≤ device.0 → AreOfNetwork s hs
+    → IsActing s hs t device task → ⊥
+none_acts s hs device t task le known (IsActing.sends cycle d) = no_role s.network _ device le d.master
+none_acts s hs device t task le known (IsActing.emits sent verdict e) = no_role s.network _ device le e.cm
+none_acts s hs device t task le known (IsActing.corrects cycle c) =
     let none : None ≡ Some cycle = sym (ap (λ (z : State). point_in z (next_cycle s hs device t)) (state_of_none s hs device t le known)) ∙ c.next in cc
-none_acts s hs device t le known (IsActing.dispatching link cause vl cycle d) =
+none_acts s hs device t task le known (IsActing.dispatches link cause vl cycle d) =
     let bad : Off ≡ Synchronised = sym (state_of_none s hs device t le known) ∙ d.up.synchronised in cc
 
 -- ---- nor does a broken one
 
-pub broken_acts : (s : Scenario) (hs : List Happening) (device : DeviceId) (t : ℕ) → is_broken s device t ≡ true → IsActing s hs t device → ⊥
-broken_acts s hs device t broken (IsActing.sending cycle d) = let bad : true ≡ false = sym broken ∙ d.up.correct in cc
-broken_acts s hs device t broken (IsActing.emitting sent verdict e) = let bad : true ≡ false = sym broken ∙ e.correct in cc
-broken_acts s hs device t broken (IsActing.correcting cycle c) = let bad : true ≡ false = sym broken ∙ c.correct in cc
-broken_acts s hs device t broken (IsActing.dispatching link cause vl cycle d) = let bad : true ≡ false = sym broken ∙ d.up.correct in cc
+pub broken_acts : (s : Scenario) (hs : List Happening) (device : DeviceId) (t : ℕ) (task : Task) → is_broken s device t ≡ true
+    → IsActing s hs t device task → ⊥
+broken_acts s hs device t task broken (IsActing.sends cycle d) = let bad : true ≡ false = sym broken ∙ d.up.correct in cc
+broken_acts s hs device t task broken (IsActing.emits sent verdict e) = let bad : true ≡ false = sym broken ∙ e.correct in cc
+broken_acts s hs device t task broken (IsActing.corrects cycle c) = let bad : true ≡ false = sym broken ∙ c.correct in cc
+broken_acts s hs device t task broken (IsActing.dispatches link cause vl cycle d) = let bad : true ≡ false = sym broken ∙ d.up.correct in cc
 
 -- ---- and one that looks for the common time acts only by emissions
 
-looking_acts : (s : Scenario) (hs : List Happening) (device : DeviceId) (t : ℕ) → state_before s hs device t ≡ Integrating → IsActing s hs t device
+looking_acts : (s : Scenario) (hs : List Happening) (device : DeviceId) (t : ℕ) (task : Task) → state_before s hs device t ≡ Integrating
+    → IsActing s hs t device task
     → (sent : Compressed) × (verdict : Judgement) × Emits s hs device t sent verdict
-looking_acts s hs device t looking (IsActing.emitting sent verdict e) = (sent, verdict, e)
-looking_acts s hs device t looking (IsActing.sending cycle d) = absurd (let bad : Integrating ≡ Synchronised = sym looking ∙ d.up.synchronised in cc)
-looking_acts s hs device t looking (IsActing.correcting cycle c) =
+looking_acts s hs device t task looking (IsActing.emits sent verdict e) = (sent, verdict, e)
+looking_acts s hs device t task looking (IsActing.sends cycle d) = absurd (let bad : Integrating ≡ Synchronised = sym looking ∙ d.up.synchronised in cc)
+looking_acts s hs device t task looking (IsActing.corrects cycle c) =
     absurd (let none : None ≡ Some cycle = sym (ap (λ (z : State). point_in z (next_cycle s hs device t)) looking) ∙ c.next in cc)
-looking_acts s hs device t looking (IsActing.dispatching link cause vl cycle d) =
+looking_acts s hs device t task looking (IsActing.dispatches link cause vl cycle d) =
     absurd (let bad : Integrating ≡ Synchronised = sym looking ∙ d.up.synchronised in cc)
 
 -- ---- at the present instant, what acts by the records given is a task, where what is to come leaves the device at rest
@@ -125,12 +129,12 @@ emission_now s hs zs device t node sent verdict same left has e = (
 )
 
 -- the device is not turned on at the time, so its state is that of the records before
-deeds_now : (s : Scenario) (hs zs : List Happening) (device : DeviceId) (t : ℕ) (node : Node) → IsLawful s (hs ++ zs) device
+deeds_now : (s : Scenario) (hs zs : List Happening) (device : DeviceId) (t : ℕ) (node : Node) (task : Task) → IsLawful s (hs ++ zs) device
     → ((h : Happening) → IsIn h (hs ++ zs) → time_of h ≤ t) → node.taken ≡ frames_taken s (hs ++ zs) device → earlier t (hs ++ zs) ≡ earlier t hs
     → points_of (hs ++ zs) device ≡ points_of hs device → ((x y : ℕ) → x ≤ y → s.reading device x ≤ s.reading device y)
     → is_turned_on_at s device t ≡ false → IsLeft s (hs ++ zs) device t node → HasDone s (hs ++ zs) device t node → HasSent s device t node
-    → IsActing s hs t device → HasTaskBy s device node t
-deeds_now s hs zs device t node law past taken same points falls off left done sent a =
+    → IsActing s hs t device task → HasTaskBy s device node t
+deeds_now s hs zs device t node task law past taken same points falls off left done sent a =
     let js = hs ++ zs in
     let u : IsUnmoved s js device t t = record {
       le = omega arith;
@@ -141,11 +145,11 @@ deeds_now s hs zs device t node law past taken same points falls off left done s
       never_falls = falls;
     } in
     let back = sym same in
-    from u back a
+    from task u back a
   where
-    from : IsUnmoved s (hs ++ zs) device t t → earlier t hs ≡ earlier t (hs ++ zs) → IsActing s hs t device → HasTaskBy s device node t
-    from u back (IsActing.emitting emission verdict e) = emission_now s hs zs device t node emission verdict points left sent e
-    from u back (IsActing.sending cycle d) =
+    from : (task : Task) → IsUnmoved s (hs ++ zs) device t t → earlier t hs ≡ earlier t (hs ++ zs) → IsActing s hs t device task → HasTaskBy s device node t
+    from task u back (IsActing.emits emission verdict e) = emission_now s hs zs device t node emission verdict points left sent e
+    from task u back (IsActing.sends cycle d) =
         sending_task s (hs ++ zs) device t t node cycle u left done
         (record {
           master = d.master;
@@ -154,7 +158,7 @@ deeds_now s hs zs device t node law past taken same points falls off left done s
           reached = reaches_back s hs (hs ++ zs) t device _
               back d.reached;
         })
-    from u back (IsActing.correcting cycle c) =
+    from task u back (IsActing.corrects cycle c) =
         correcting_task s (hs ++ zs) device t t node cycle u left done
         (record {
           next = subst (λ (w : List Happening). next_point (standing_in s device t w) ≡ Some cycle) back c.next;
@@ -162,7 +166,7 @@ deeds_now s hs zs device t node law past taken same points falls off left done s
               t device _ back c.reached;
           correct = c.correct;
         })
-    from u back (IsActing.dispatching link cause vl cycle d) =
+    from task u back (IsActing.dispatches link cause vl cycle d) =
         dispatching_task s (hs ++ zs) device t t node link cause vl cycle u left done law past taken
         (dispatches_back s hs (hs ++ zs) t device link cause vl cycle back d)
 
@@ -185,9 +189,9 @@ pub record IsBehind (coming : List Happening) (now : ℕ) (p : List ℕ) : Type 
   pub none : (t : ℕ) (device : DeviceId) → now < t → IsBefore (act_place t device) p → coming ≡ []
 
 act_now : {M : Type 0} (stands : M → Network → DeviceId → Node → Type 0) (s : Scenario) (hs coming : List Happening) (cursor p : List ℕ) (now : ℕ)
-    (device : DeviceId) (machine : M) (k : IsKept stands s hs coming cursor now device machine) → IsLawful s (hs ++ coming) device → IsBehind coming now p
-    → IsPast hs now → k.up ≡ now → k.high ≡ now → IsActing s hs now device → IsBefore (act_place now device) p → HasTaskBy s device k.node now
-act_now stands s hs coming cursor p now device machine k law behind_it past up high a b =
+    (device : DeviceId) (machine : M) (k : IsKept stands s hs coming cursor now device machine) (task : Task) → IsLawful s (hs ++ coming) device
+    → IsBehind coming now p → IsPast hs now → k.up ≡ now → k.high ≡ now → IsActing s hs now device task → IsBefore (act_place now device) p → HasTaskBy s device k.node now
+act_now stands s hs coming cursor p now device machine k task law behind_it past up high a b =
     let js = hs ++ coming in
     let past_all : (h : Happening) → IsIn h js → time_of h ≤ now = λ h i. elim (in_parts h hs coming i) [
       | inl given ↦ past.past h given
@@ -206,20 +210,20 @@ act_now stands s hs coming cursor p now device machine k law behind_it past up h
       sent = λ c there_is. let x = k.sent.sent c there_is in (x.0, omega (arith, x.1, high), x.2);
     } in
     elim (cases_Bool (is_turned_on_at s device now)) [
-      | inr off ↦ deeds_now s hs coming device now k.node law past_all k.taken same points law.steady.never_falls off left has sent a
+      | inr off ↦ deeds_now s hs coming device now k.node task law past_all k.taken same points law.steady.never_falls off left has sent a
       | inl on ↦
-          let e = looking_acts s hs device now (ap (λ (c : Bool). if c then Integrating else state_after s (earlier now hs) device) on) a in
+          let e = looking_acts s hs device now task (ap (λ (c : Bool). if c then Integrating else state_after s (earlier now hs) device) on) a in
           emission_now s hs coming device now k.node e.0 e.1 points left sent e.2
     ]
 
 pub kept_no_act : {M : Type 0} (stands : M → Network → DeviceId → Node → Type 0) (s : Scenario) (hs coming : List Happening) (mark cursor p : List ℕ)
-    (now t : ℕ) (device : DeviceId) (machine : M) (k : IsKept stands s hs coming cursor now device machine)
+    (now t : ℕ) (device : DeviceId) (machine : M) (k : IsKept stands s hs coming cursor now device machine) (task : Task)
     → IsLawful s (hs ++ coming) device → IsBehind coming now p → IsPast hs now → (IsBefore (now ∷ 2 ∷ []) p → IsWorked hs cursor now) → HaveBefallen s mark now
-    → now ≤ t → IsIdleBefore s device now k.node p → IsActing s hs t device → (IsBefore (act_place t device) cursor → ⊥) → IsBefore (act_place t device) p → ⊥
-kept_no_act {M} stands s hs coming mark cursor p now t device machine k law behind_it past worked befallen le idle a not b =
+    → now ≤ t → IsIdleBefore s device now k.node p → IsActing s hs t device task → (IsBefore (act_place t device) cursor → ⊥) → IsBefore (act_place t device) p → ⊥
+kept_no_act {M} stands s hs coming mark cursor p now t device machine k task law behind_it past worked befallen le idle a not b =
     elim (cases_lt now t) [
       | inr ge ↦ let same : t ≡ now =
-          omega (arith, ge, le) in at_once (subst (λ (n : ℕ). IsActing s hs n device) same a)
+          omega (arith, ge, le) in at_once (subst (λ (n : ℕ). IsActing s hs n device task) same a)
           (subst (λ (n : ℕ). IsBefore (act_place n device) cursor → ⊥) same not) (subst (λ (n : ℕ). IsBefore (act_place n device) p) same b)
       | inl lt ↦
           let empty = behind_it.none t device lt b in
@@ -232,11 +236,11 @@ kept_no_act {M} stands s hs coming mark cursor p now t device machine k law behi
           afterwards lt k0.0 idle0 law0
     ]
   where
-    at_once : IsActing s hs now device → (IsBefore (act_place now device) cursor → ⊥) → IsBefore (act_place now device) p → ⊥
+    at_once : IsActing s hs now device task → (IsBefore (act_place now device) cursor → ⊥) → IsBefore (act_place now device) p → ⊥
     at_once a not b = elim k.doing [
       | inr d ↦ idle now (omega arith) d.3 b
       | inl rested ↦ elim k.acted [
-        | inl yet ↦ idle now (omega arith) (act_now stands s hs coming cursor p now device machine k law behind_it past yet.0 (rested ∙ yet.0) a b) b
+        | inl yet ↦ idle now (omega arith) (act_now stands s hs coming cursor p now device machine k task law behind_it past yet.0 (rested ∙ yet.0) a b) b
         | inr done ↦ elim (k.told done.0) [
           | inl gone ↦ not gone
           | inr just ↦
@@ -244,7 +248,7 @@ kept_no_act {M} stands s hs coming mark cursor p now t device machine k law behi
               in
               let looking : state_before s hs device now ≡ Integrating = ap (λ (w : List Happening). if is_turned_on_at s device now then Integrating
               else state_after s w device) (sym same) ∙ just.looking in
-              let e = looking_acts s hs device now looking a in
+              let e = looking_acts s hs device now task looking a in
               let bad : true ≡ false = sym e.2.cm ∙ just.other in cc
         ]
       ]
@@ -267,7 +271,7 @@ kept_no_act {M} stands s hs coming mark cursor p now t device machine k law behi
           never_falls = law0.steady.never_falls;
         } in
         let taken = k0.taken ∙ ap (λ (l : List Happening). frames_taken s l device) (append-nil hs) in
-        idle0 t le (acting_task s hs device rest.from t k0.node u rest.left rest.done rest.sent
+        idle0 t le (acting_task s hs device rest.from t k0.node task u rest.left rest.done rest.sent
         (λ link cause vl cycle d. dispatching_task s hs device rest.from t k0.node link cause vl cycle u rest.left rest.done law0
         (λ h i. let early = past.past h i in omega (arith, early, le)) taken d) a) b
 
@@ -297,31 +301,33 @@ behind_of given coming settled now p shows of after =
         let at = of_l z (inl refl) in absurd (seen z (inl refl) (chain (place_of (hidden given z)) (act_place t device) p (inl (omega (arith, lt, at))) b))
 
 held_no_act : {M : Type 0} (stands : M → Network → DeviceId → Node → Type 0) (s : Scenario) (hs coming : List Happening) (mark cursor p : List ℕ) (now t : ℕ)
-    (device : DeviceId) (machine : M) → IsHeld stands s hs coming cursor now device machine
+    (device : DeviceId) (machine : M) (task : Task) → IsHeld stands s hs coming cursor now device machine
     → IsLawful s (hs ++ coming) device → IsBehind coming now p → IsPast hs now → (IsBefore (now ∷ 2 ∷ []) p → IsWorked hs cursor now) → HaveBefallen s mark now
     → now ≤ t → ((node : Node) → stands machine s.network device node → IsIdleBefore s device now node p)
-    → IsActing s hs t device → (IsBefore (act_place t device) cursor → ⊥) → IsBefore (act_place t device) p → ⊥
-held_no_act stands s hs coming mark cursor p now t device machine (inl k) law behind_it past worked befallen le idle a not b =
-    kept_no_act stands s hs coming mark cursor p now t device machine k law behind_it past worked befallen le (idle k.node k.is) a not b
-held_no_act stands s hs coming mark cursor p now t device machine (inr k) law behind_it past worked befallen le idle a not b =
-    broken_acts s hs device t (no_later_breaks s mark now t device befallen le ∙ k.broken) a
+    → IsActing s hs t device task → (IsBefore (act_place t device) cursor → ⊥) → IsBefore (act_place t device) p → ⊥
+held_no_act stands s hs coming mark cursor p now t device machine task (inl k) law behind_it past worked befallen le idle a not b =
+    kept_no_act stands s hs coming mark cursor p now t device machine k task law behind_it past worked befallen le (idle k.node k.is) a not b
+held_no_act stands s hs coming mark cursor p now t device machine task (inr k) law behind_it past worked befallen le idle a not b =
+    broken_acts s hs device t task (no_later_breaks s mark now t device befallen le ∙ k.broken) a
 
 no_acts : {C M : Type 0} (reading : C → ℕ → ℕ) (stands : M → Network → DeviceId → Node → Type 0) (s : Scenario) (world : World C M) (notes : List Note)
     (p : List ℕ) (old : Stands reading stands s world notes)
     → ((z : Happening) → IsIn z world.settled → IsBefore (place_of z) p → ⊥) → NothingBefore stands s world p
     → NoActBefore s (happenings s.network notes) old.cursor p
-no_acts reading stands s world notes p old after none t device a not b =
+no_acts reading stands s world notes p old after none t device task a not b =
     let hs = happenings s.network notes in
+    let waits : IsBefore (act_place t device) old.cursor → ⊥ = λ x. not (task_before s.network t device task old.cursor x) in
     let over : (q : List ℕ) → IsBefore q (world.now ∷ []) → IsBefore q old.cursor = λ q x. old.ahead q (old.of_now q x) in
-    let le : world.now ≤ t = elim (cases_lt t world.now) [ inl lt ↦ absurd (not (over (act_place t device) (inl lt))) | inr ge ↦ ge ] in
+    let le : world.now ≤ t = elim (cases_lt t world.now) [ inl lt ↦ absurd (waits (over (act_place t device) (inl lt))) | inr ge ↦ ge ] in
     elim (cases_lt device.0 (length s.network.device)) [
       | inl lt ↦
           let m = old.devices device lt in
-          held_no_act stands s hs old.coming old.mark old.cursor p world.now t device m.0 m.2 (lawful reading stands s world notes old device)
+          held_no_act stands s hs old.coming old.mark old.cursor p world.now t device m.0 task m.2 (lawful reading stands s world notes old device)
           (behind_of (length notes) old.coming world.settled world.now p old.settled old.are.of_now after) (are_past reading stands s world notes old)
           (λ two. elim (cases_Bool world.pending) [ inr told ↦ old.untold.done told | inl open_ ↦ absurd (none.befell open_ two) ]) old.befallen le
-          (λ node is u from task. none.acting device m.0 node task.0 m.1 is task.1 u from task.2) a not b
-      | inr ge ↦ none_acts s hs device t ge
+          (λ node is u from due before. none.acting device m.0 node due.0 m.1 is due.1 u from due.2 (task_before s.network u device due.0 p before)) a waits
+          (acts_before s.network t device task p b)
+      | inr ge ↦ none_acts s hs device t task ge
           (record { unmoved = λ d far h i. old.known.unmoved d far h (in_left h hs old.coming i); never_on = old.known.never_on }) a
     ]
 

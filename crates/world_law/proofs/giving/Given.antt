@@ -1,4 +1,5 @@
 -- The first of what is to come is given: the world stands again.
+use Rattle.world_law.proofs.runs.TaskPlaces.{acts_before}
 use Rattle.run_law.{proofs.{law.FirstPlaces.numbered_next, runs.NetworkRuns.one_more}, specs.{control.Permanence.IsPermanent, scenario.Hypothesis.breaks_at}}
 use Rattle.{run_law.specs.scenario.Scenarios.events_up_to, world_law.specs.world.World.{AreUntold, Befell, IsActedUpTo, IsAwaitedFor, IsJustTold, note_of}}
 use Rattle.std.proofs.lemmas.{Bool.le-leb, List.length_push, Option.slice_get_cases}
@@ -9,6 +10,7 @@ use Rattle.world_law.proofs.Words.{Option, Pcf, Scenario, Some, Units, Waiting, 
 use Rattle.world_law.proofs.Words.{before_next_time, behind, cases_Bool, changed_at, clock_place, device_at, earlier, false, frames_taken, happening}
 use Rattle.world_law.proofs.Words.{happenings, hidden, hidden_body, inl, inr, ints, is_broken, key, length, list_any, map, members_in, nat_le, never_self}
 use Rattle.world_law.proofs.Words.{none_yet, numbered, place_of, port_place, rank, refl, ripe_place, same_kept, slice_get, state_after, subst, suc, sym}
+use Rattle.world_law.proofs.Words.{task_place}
 use Rattle.world_law.proofs.{Words.{time_of, true, units_of, up_to, wire_place, ℕ}, runs.Firsts.{arriving_more, departing_more, numbered_more, numbered_still}}
 use Rattle.world_law.{proofs.{acts.Recorded.recorded_given, giving.Storing.stored_then}, specs.world.Moves.{AreAwaited, AreGiven, ArePut, GivenStep, named}}
 use Rattle.world_law.proofs.giving.{GivenParts.{IsGiving, settled_then, up_to_place, worked_by_then}, Naming.{IsFollowing, named_right, shown_as}}
@@ -172,13 +174,14 @@ acted_then s hs z rest mark cursor now up device g (inl still) =
     let at = g.are.of_now z (inl refl) in
     inl (
       still.0,
-      λ b a.
+      λ task b a.
           elim (no_higher now 4 (time_of z) (rank z.note.body) (device.0 ∷ []) (key (members_in z) z.note.body)
-          (up_to_place (act_place now device) (place_of z) b)) [
+          (up_to_place (act_place now device) (place_of z) (acts_before s.network now device task (behind (place_of z)) b))) [
             | inl lt ↦ omega (arith, at, lt)
             | inr same ↦
-                still.1 (worked_by_then s hs z rest [] rest mark cursor now g refl (act_place now device) (IsSource.acting now device a) b)
-                (acting_back s hs (z ∷ []) now device
+                still.1 task
+                (worked_by_then s hs z rest [] rest mark cursor now g refl (task_place s.network now device task) (IsSource.acting now device task a) b)
+                (acting_back s hs (z ∷ []) now device task
                 (λ y i. elim i [ inl e ↦ let same_time : time_of y ≡ time_of z = ap time_of e in omega (arith, same_time, at) | inr none ↦ absurd none ])
                 (λ y i. elim i [
                   | inl e ↦ let same_rank : rank y.note.body ≡ rank z.note.body = ap (λ (h : Happening). rank h.note.body) e in omega

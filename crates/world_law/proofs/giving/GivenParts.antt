@@ -1,5 +1,5 @@
 -- The first of what is to come is given: what is worked off, and what is settled then.
-use Rattle.{run_law.proofs.runs.Places.nothing_between, world_law.proofs.{Words.{rank, refl, subst, suc, sym, time_of, true, ℕ}, runs.SourcesBack.source_back}}
+use Rattle.{run_law.proofs.runs.Places.nothing_between, world_law.proofs.{Words.{rank, refl, subst, suc, sym, time_of, true, ℕ}, runs.{SourcesBack.source_back, TaskPlaces.at_acts}}}
 use Rattle.world_law.proofs.Words.{◌++◌, ◌∙◌, ◌∷◌, ◌≡◌, ◌≤◌, ◌⊎◌, AllBefore, AreSettled, DeviceId, Happening, IsBefore, IsDue, IsForward, IsIn, IsSource}
 use Rattle.world_law.proofs.Words.{IsWorkedOff, List, NoSourceBefore, NoteBody, Scenario, [], act_place, ap, append_assoc, arith, before_behind, before_later}
 use Rattle.world_law.proofs.Words.{before_or_not, behind, chain, either_way, in_left, inl, inr, is_at_source, key, length, members_in, never_self, place_of}
@@ -38,12 +38,15 @@ source_kinds (notes.Compressed device opened at cycle members verdict) =
     inr (λ e. omega (arith, e), λ e. omega (arith, e), λ e. omega (arith, e), λ e. omega (arith, e))
 source_kinds other = inr (λ e. omega (arith, e), λ e. omega (arith, e), λ e. omega (arith, e), λ e. omega (arith, e))
 
+no_act : (z : Happening) (t : ℕ) (device : DeviceId) → act_place t device ≡ place_of z → is_at_source z.note.body ≡ true
+no_act z t device e = grind (arith, rank, length, key, members_in, act_key)
+
 -- a source that stands at the place of a record stands so by the record's kind
 pub at_its_place : (s : Scenario) (hs : List Happening) (z : Happening) (w : List ℕ) → IsSource s hs w → w ≡ place_of z → is_at_source z.note.body ≡ true
 at_its_place s hs z w (IsSource.arriving t device link cause a) e = elim (source_kinds z.note.body) [ inl is ↦ is | inr other ↦ absurd (other.0 (ap second e)) ]
 at_its_place s hs z w (IsSource.ripening t device link cause point r) e =
     elim (source_kinds z.note.body) [ inl is ↦ is | inr other ↦ absurd (other.1 (ap second e)) ]
-at_its_place s hs z w (IsSource.acting t device a) e = grind (arith, rank, length, key, members_in, act_key)
+at_its_place s hs z w (IsSource.acting t device task a) e = no_act z t device (sym (at_acts s.network t device task) ∙ e)
 at_its_place s hs z w (IsSource.departing t device link cause d) e =
     elim (source_kinds z.note.body) [ inl is ↦ is | inr other ↦ absurd (other.2 (ap second e)) ]
 at_its_place s hs z w (IsSource.following t cause h it) e =

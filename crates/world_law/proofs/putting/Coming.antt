@@ -2,7 +2,8 @@
 use Rattle.world_law.proofs.Words.{◌++◌, ◌+◌, ◌<◌, ◌∙◌, ◌∷◌, ◌≡◌, AreAtPorts, AreOfNetwork, AreOnWires, AreSettled, AreWaiting, AtPort, Bool, DeviceId}
 use Rattle.world_law.proofs.Words.{Happening, HasTurnedOn, IsBefore, IsHeld, IsKept, IsSource, List, Network, Node, Note, OnWire, Pcf, Scenario, Some, Stands}
 use Rattle.world_law.proofs.Words.{Waiting, World, [], act_place, amount, ap, arith, before_later, before_next_time, before_or_not, clock_place, false}
-use Rattle.world_law.proofs.Words.{happenings, hidden, inl, inr, length, map, none_yet, port_place, refl, ripe_place, slice_get, subst, sym, true, wire_place}
+use Rattle.world_law.proofs.Words.{happenings, hidden, inl, inr, length, map, none_yet, port_place, refl, ripe_place, slice_get, subst, sym, task_place, true}
+use Rattle.world_law.proofs.Words.{wire_place}
 use Rattle.world_law.proofs.{Words.ℕ, giving.Given.some_same}
 use Rattle.world_law.{proofs.{putting.{Moving.{IsMoving, out_moves}, StandsOn.source_told}, runs.SourcesBack.no_higher}, specs.world.Moves.StandsBehind}
 
@@ -84,7 +85,11 @@ kept_comes stands s hs coming mark cursor now r more device machine m k = record
   up = k.up;
   acted = elim k.acted [
     | inr over ↦ inr (over.0, λ p b. comes s hs coming mark cursor now r more m p (over.1 p b))
-    | inl still ↦ inl (still.0, λ b a. still.1 (was_before s hs coming mark cursor now r more m (act_place now device) (IsSource.acting now device a) b) a)
+    | inl still ↦
+        inl (
+          still.0,
+          λ task b a. still.1 task (was_before s hs coming mark cursor now r more m (task_place s.network now device task) (IsSource.acting now device task a) b) a,
+        )
   ];
   high = k.high;
   doing = elim k.doing [ inl e ↦ inl e | inr d ↦ inr (d.0, d.1, λ p b. comes s hs coming mark cursor now r more m p (d.2 p b), d.3) ];

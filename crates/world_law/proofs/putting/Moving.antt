@@ -1,9 +1,11 @@
 -- The cursor goes by a source of the present instant.
+use Rattle.world_law.proofs.runs.TaskPlaces.{at_acts}
 use Rattle.{std.proofs.Common.arith, world_law.specs.world.{Moves.IsWithout, World.IsOut}}
 use Rattle.world_law.proofs.Words.{◌++◌, ◌∙◌, ◌∷◌, ◌≡◌, ◌⊎◌, AllBefore, AreAtPorts, AreOnWires, AreSettled, AreWaiting, AtPort, DeviceId, Happening}
 use Rattle.world_law.proofs.Words.{HasTurnedOn, IsBefore, IsDue, IsForward, IsHeld, IsIn, IsKept, IsOwnSource, IsSource, List, Network, NoSourceBefore, Node}
 use Rattle.world_law.proofs.Words.{NoneBefore, OnWire, Pcf, Scenario, Waiting, [], act_place, amount, ap, append-nil, before_behind, before_later}
 use Rattle.world_law.proofs.Words.{before_or_not, behind, chain, either_way, false, in_left, inl, inr, members_in, place_of, port_place, refl, ripe_place}
+use Rattle.world_law.proofs.Words.{task_place}
 use Rattle.world_law.proofs.{Words.{subst, sym, time_of, wire_place, ℕ}, giving.GivenParts.{taken_on, up_to_place}, runs.SourcesBack.source_back}
 
 -- what a step that works off the source at this place of the instant starts from
@@ -200,11 +202,11 @@ kept_moves stands s hs coming mark cursor now r more device machine m other k = 
     | inl still ↦
         inl (
           still.0,
-          λ b a.
-              elim (by_given s hs coming mark cursor now r more m (act_place now device) (IsSource.acting now device a)
-              (up_to_place (act_place now device) (now ∷ r ∷ more) b)) [
-                | inl yet ↦ still.1 yet a
-                | inr here ↦ other here
+          λ task b a.
+              elim (by_given s hs coming mark cursor now r more m (task_place s.network now device task) (IsSource.acting now device task a)
+              (up_to_place (task_place s.network now device task) (now ∷ r ∷ more) b)) [
+                | inl yet ↦ still.1 task yet a
+                | inr here ↦ other (sym (at_acts s.network now device task) ∙ here)
               ],
         )
   ];

@@ -6,10 +6,11 @@ use Rattle.world_law.proofs.Words.{ComesToCorrection, Compressed, Departs, Depar
 use Rattle.world_law.proofs.Words.{IsCaused, IsDropped, IsDue, IsForward, IsFounded, IsIn, IsLost, IsOfThisTime, IsOwnSource, IsSendLost, IsSource, Joining}
 use Rattle.world_law.proofs.Words.{Judgement, LinkId, List, Network, None, Note, NoteBody, Option, Pcf, Reason, Ripe, Scenario, Signal, Some, Standing, State}
 use Rattle.world_law.proofs.Words.{Units, Verdict, VlId, Why, [], adjustment_after, adjustment_at_hearing, amount, ap, arith, arrival_of, bears_on}
-use Rattle.world_law.proofs.Words.{before_permanence, by_number, cases_lt, cases_order, cause_of, chain, control, control_arrival, earlier, eq-eqb, false}
-use Rattle.world_law.proofs.Words.{filter, frame_by, heard_as, heard_since, if◌then◌else◌, in_filter, inl, inr, is_accepted, is_at_source, is_joined_by}
-use Rattle.world_law.proofs.Words.{is_turned_on_at, last_in, last_or, last_taken, length, members_in, next_point, not, numbered, numbered_within}
-use Rattle.world_law.proofs.Words.{observation_window, option_map, place_of, plan_of, points_of, rank, refl, state_after, state_at_hearing, subst, suc, sym}
+use Rattle.world_law.proofs.Words.{before_permanence, by_number, cases_lt, cases_order, cause_of, chain, control, control_arrival, correcting, doing, earlier}
+use Rattle.world_law.proofs.Words.{emitting, eq-eqb, false, filter, frame_by, heard_as, heard_since, if◌then◌else◌, in_filter, inl, inr, is_accepted}
+use Rattle.world_law.proofs.Words.{is_at_source, is_joined_by, is_turned_on_at, last_in, last_or, last_taken, length, members_in, next_point, not, numbered}
+use Rattle.world_law.proofs.Words.{numbered_within, observation_window, option_map, place_of, plan_of, points_of, rank, refl, sending, state_after}
+use Rattle.world_law.proofs.Words.{state_at_hearing, subst, suc, sym}
 use Rattle.world_law.proofs.{Words.{time_of, timed, timed_arrival, true, ℕ}, giving.Given.same_permanent, putting.PutIn.{at_place, late_source}}
 use Rattle.world_law.proofs.putting.{Alike.{frame_alike, octets_alike, standpoint_in}, Bumped.{raised_same, up_high, up_low, up_number}, Renumbers.timed_by}
 use Rattle.world_law.proofs.putting.Bumped.{bump_behind, down_high, down_low, down_number, lower_behind, lowered, raised, raised_joins, raised_low, raised_rank}
@@ -231,20 +232,20 @@ own_source s js time m (notes.Permanent device link cause point verdict) p there
 own_source s js time m (notes.Left device link cause clock) p there c o = absurd cc
 own_source s js time m (notes.Clock device reading adjustment state) p there c o = absurd cc
 own_source s js time m (notes.Compressed device opened at cycle members verdict) p there c o =
-    at_place s js p _ o (IsSource.acting (amount time) device (IsActing.emitting _ verdict c))
-own_source s js time m (notes.Sent device cycle) p there c o = at_place s js p _ o (IsSource.acting (amount time) device (IsActing.sending cycle c))
+    at_place s js p _ o (IsSource.acting (amount time) device (emitting _) (IsActing.emits _ verdict c))
+own_source s js time m (notes.Sent device cycle) p there c o = at_place s js p _ o (IsSource.acting (amount time) device (doing (sending cycle)) (IsActing.sends cycle c))
 own_source s js time m (notes.Corrected device cycle by adjustment) p there c o =
-    at_place s js p _ o (IsSource.acting (amount time) device
-    (IsActing.correcting cycle (record { next = c.corrected.next; reached = c.corrected.reached; correct = c.corrected.correct })))
+    at_place s js p _ o (IsSource.acting (amount time) device (doing (correcting _))
+    (IsActing.corrects cycle (record { next = c.corrected.next; reached = c.corrected.reached; correct = c.corrected.correct })))
 own_source s js time m (notes.State device state cause whys.On) p there c o = at_place s js p _ o (IsSource.following (amount time) cause c.2.1 c.2.2)
 own_source s js time m (notes.State device state cause whys.Frame) p there c o = at_place s js p _ o (IsSource.following (amount time) cause c.1.0 c.1.1)
 own_source s js time m (notes.State device state cause whys.Correction) p there c o = at_place s js p _ o (IsSource.following (amount time) cause c.2.3 c.2.4)
 own_source s js time m (notes.State device state cause whys.SyncClique) p there c o =
-    at_place s js p _ o (IsSource.acting (amount time) device
-    (IsActing.correcting c.2.0 (record { next = c.2.1.next; reached = c.2.1.reached; correct = c.2.1.correct })))
+    at_place s js p _ o (IsSource.acting (amount time) device (doing (correcting _))
+    (IsActing.corrects c.2.0 (record { next = c.2.1.next; reached = c.2.1.reached; correct = c.2.1.correct })))
 own_source s js time m (notes.State device state cause whys.AsyncClique) p there c o =
-    at_place s js p _ o (IsSource.acting (amount time) device
-    (IsActing.correcting c.2.0 (record { next = c.2.1.next; reached = c.2.1.reached; correct = c.2.1.correct })))
+    at_place s js p _ o (IsSource.acting (amount time) device (doing (correcting _))
+    (IsActing.corrects c.2.0 (record { next = c.2.1.next; reached = c.2.1.reached; correct = c.2.1.correct })))
 own_source s js time m (notes.Lost device link cause) p there c o = late_source s js time m (notes.Lost device link cause) p (omega arith) c o
 own_source s js time m (notes.TtSent device link cause vl cycle) p there c o =
     late_source s js time m (notes.TtSent device link cause vl cycle) p (omega arith) c o

@@ -1,8 +1,9 @@
 -- A device acts: what is to come with its records.
+use Rattle.world_law.proofs.runs.TaskPlaces.{at_acts}
 use Rattle.world_law.proofs.Words.{◌++◌, ◌+◌, ◌<◌, ◌∙◌, ◌∷◌, ◌≡◌, ◌≤◌, ◌⊎◌, AllBefore, ChangesState, DeviceId, Happening, IsActing, IsBefore, IsCaused, IsDue}
-use Rattle.world_law.proofs.Words.{IsFounded, IsIn, IsOfThisTime, IsOwnSource, IsSource, List, NoneBefore, NoteBody, Scenario, Some, State, Units, Why, []}
-use Rattle.world_law.proofs.Words.{act_place, amount, ap, append_assoc, arith, in_left, in_right, inl, inr, is_joined_by, key, length, members_in, never_self}
-use Rattle.world_law.proofs.Words.{numbered, numbered_within, parted, place_of, rank, refl, subst, suc, sym, true, units_of, ℕ}
+use Rattle.world_law.proofs.Words.{IsFounded, IsIn, IsOfThisTime, IsOwnSource, IsSource, List, NoneBefore, NoteBody, Scenario, Some, State, Task, Units, Why}
+use Rattle.world_law.proofs.Words.{[], act_place, amount, ap, append_assoc, arith, in_left, in_right, inl, inr, is_joined_by, key, length, members_in}
+use Rattle.world_law.proofs.Words.{never_self, numbered, numbered_within, parted, place_of, rank, refl, subst, suc, sym, true, units_of, ℕ}
 use Rattle.run_law.{proofs.runs.Determined.due_is_determined, specs.records.Causes.device_of}
 use Rattle.world_law.proofs.putting.{Bumped.AsState, Moving.IsMoving, Near.hears, Placing.before_it, PutOne.{IsOne, at_number}}
 use Rattle.world_law.proofs.{putting.{PutShown.{IsShownPair, due_of, record_of}, PutTwo.IsPair}, runs.SourcesBack.{at_least, numbered_parts}}
@@ -93,7 +94,8 @@ pub record IsActSo (s : Scenario) (hs front back : List Happening) (mark cursor 
   pub given : IsFounded place_of (IsDue s) hs
   pub cause : IsCaused s (hs ++ front) (units_of now) body
   pub own : (m : ℕ) → IsOwnSource s (hs ++ front) now m body (act_place now device)
-  pub acts : IsActing s (hs ++ front) now device
+  pub task : Task
+  pub acts : IsActing s (hs ++ front) now device task
   pub before : AllBefore place_of front (place_of (record_of s.network hs front now body))
   pub none : NoneBefore place_of back (place_of (record_of s.network hs front now body))
   pub new : IsIn (record_of s.network hs front now body) back → ⊥
@@ -122,7 +124,7 @@ act_one s hs front back mark cursor now device body a =
           (sym (there_already s hs front back mark cursor now 4 (device.0 ∷ []) w y a.moving due a.none i same)) i);
       least = least_of_own s (hs ++ front) now (members_in w) body (act_place now device) (a.own (members_in w));
       mine = a.own (members_in w);
-      here = IsSource.acting now device a.acts;
+      here = subst (λ (q : List ℕ). IsSource s (hs ++ front) q) (at_acts s.network now device a.task) (IsSource.acting now device a.task a.acts);
       aside = λ x i other e yes_it.
           a.aside x i (subst (λ (d : DeviceId). hears d x.note.body ≡ true) (same_acts now device other e) yes_it);
     }

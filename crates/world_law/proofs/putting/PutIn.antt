@@ -1,8 +1,8 @@
 -- A record that bears on nothing else is put in: what is settled then.
 use Rattle.world_law.proofs.Words.{◌++◌, ◌∙◌, ◌∷◌, ◌≡◌, ◌≤◌, ◌⊎◌, Arrival, ArrivesAs, Departs, Departure, DeviceId, Dispatches, Happening, IsActing, IsCaused}
 use Rattle.world_law.proofs.Words.{IsDropped, IsDue, IsForward, IsFounded, IsIn, IsLost, IsOwnSource, IsSource, LinkId, List, None, NoteBody, Reason, Scenario}
-use Rattle.world_law.proofs.Words.{Some, Units, VlId, [], amount, ap, arith, by_number, cause_of, earlier, filter, in_filter, inl, inr, is_accepted, last_in}
-use Rattle.world_law.proofs.Words.{last_or, length, map, numbered_within, place_of, rank, refl, subst, sym, time_of, ℕ}
+use Rattle.world_law.proofs.Words.{Some, Units, VlId, [], amount, ap, arith, by_number, cause_of, dispatching, doing, earlier, filter, in_filter, inl, inr}
+use Rattle.world_law.proofs.Words.{is_accepted, last_in, last_or, length, map, numbered_within, place_of, rank, refl, subst, sym, time_of, ℕ}
 use Rattle.world_law.proofs.{putting.Idle.bump, runs.SourcesBack.{arrives_later, earlier_still, gives_rank, numbered_parts}}
 use Rattle.run_law.specs.declared.judgement.Why.TheVariants as whys
 use Rattle.run_law.specs.declared.note.NoteBody.TheVariants as notes
@@ -173,10 +173,10 @@ late_source s js time m (notes.Lost device link cause) w high c (inl o) =
     at_place s js w _ o.0
     (IsSource.departing (amount time) device link cause (record { giving = o.1.giving; there = o.1.there; gives = o.1.gives; held = o.1.held }))
 late_source s js time m (notes.Lost device link cause) w high c (inr (inl o)) =
-    at_place s js w _ o.0 (IsSource.acting (amount time) device (IsActing.dispatching link cause o.1.0 o.1.1 o.1.2))
+    at_place s js w _ o.0 (IsSource.acting (amount time) device (doing (dispatching _ _)) (IsActing.dispatches link cause o.1.0 o.1.1 o.1.2))
 late_source s js time m (notes.Lost device link cause) w high c (inr (inr o)) = at_place s js w _ o.0 (IsSource.following (amount time) cause o.1.event o.1.is)
 late_source s js time m (notes.TtSent device link cause vl cycle) w high c o =
-    at_place s js w _ o (IsSource.acting (amount time) device (IsActing.dispatching link cause vl cycle c.dispatches))
+    at_place s js w _ o (IsSource.acting (amount time) device (doing (dispatching _ _)) (IsActing.dispatches link cause vl cycle c.dispatches))
 late_source s js time m (notes.Accepted device link cause vl cycle) w high c o =
     at_place s js w _ o
     (IsSource.arriving (amount time) device link cause (record { putting = c.putting; there = c.there; signal = c.signal; arrives = c.arrives }))

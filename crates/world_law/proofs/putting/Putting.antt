@@ -2,9 +2,10 @@
 use Rattle.world_law.proofs.Words.{◌++◌, ◌+◌, ◌∙◌, ◌∷◌, ◌≡◌, ◌≤◌, ◌⊎◌, AllBefore, AreOfNetwork, AreSettled, DeviceId, Happening, HasDoneFrom, HasTurnedOn}
 use Rattle.world_law.proofs.Words.{Integrating, IsActing, IsAtRest, IsBefore, IsDue, IsFounded, IsHeld, IsIn, IsKept, IsLeft, IsOwnSource, IsSource}
 use Rattle.world_law.proofs.Words.{IsWorkedOff, List, Network, Node, NoneBefore, NoteBody, Scenario, State, [], act_place, adjustment_after, ap, append_assoc}
-use Rattle.world_law.proofs.Words.{arith, bears_on, before_behind, behind, cause_of, chain, changed_at, earlier, either_way, frames_taken, if◌then◌else◌}
-use Rattle.world_law.proofs.Words.{in_left, in_parts, in_right, inl, inr, is_at_source, is_turned_on_at, is_turning, key, length, length-append, length-map}
-use Rattle.world_law.proofs.Words.{map, members_in, moves, never_self, place_of, rank, refl, state_after, state_before, subst, sym, time_of, true, up_to, ℕ}
+use Rattle.world_law.proofs.Words.{arith, bears_on, before_behind, behind, cause_of, chain, changed_at, dispatching, doing, earlier, either_way, frames_taken}
+use Rattle.world_law.proofs.Words.{if◌then◌else◌, in_left, in_parts, in_right, inl, inr, is_at_source, is_turned_on_at, is_turning, key, length, length-append}
+use Rattle.world_law.proofs.Words.{length-map, map, members_in, moves, never_self, place_of, rank, refl, state_after, state_before, subst, sym, time_of, true}
+use Rattle.world_law.proofs.Words.{up_to, ℕ}
 use Rattle.world_law.proofs.{acts.Recorded.{DispatchesNone, recorded_put}, devices.Borne.moves_no_other, giving.GivenParts.{taken_on, up_to_place}}
 use Rattle.world_law.proofs.putting.{Alike.{AreAlike, alike_back, caused_alike, happening_alike, own_alike}, Idle.{in_bumped, left_put, plains_put, stated_put}}
 use Rattle.world_law.proofs.putting.Idle.{IsIdle, IsPut, adjusted_put, alike_put, bump, bumped_in, changed_put, earlier_state_put, idle_bears, idle_rank}
@@ -457,10 +458,9 @@ kept_put stands s hs front back cursor now device machine w idle at past k =
     elim k.acted [
       | inr over ↦ (let bad = over.0 in omega (arith, bad, same))
       | inl yet ↦
-          yet.1 past
-          (IsActing.dispatching link cause vl cycle
-          (dispatches_back s (hs ++ (front ++ back)) hs now device link cause vl cycle
-          (earlier_still now hs (front ++ back) (λ z i. let t = (k.recorded same).of_now z i in omega (arith, t))) d))
+          let e = dispatches_back s (hs ++ (front ++ back)) hs now device link cause vl cycle
+          (earlier_still now hs (front ++ back) (λ z i. let t = (k.recorded same).of_now z i in omega (arith, t))) d in
+          yet.1 (doing (dispatching (record { 0 = e.place }) cycle)) past (IsActing.dispatches link cause vl cycle e)
     ] in
     record {
       node = k.node;

@@ -88,7 +88,7 @@ pub dispatches_so : (s : Scenario) (hs : List Happening) (device : DeviceId) (t 
     → ((h : Happening) → IsIn h hs → time_of h ≤ t) → node.taken ≡ frames_taken s hs device → IsUp s hs device t
     → (has : HasFrame s.network device node row cycle) → Reaches s hs device (value_of s.network (dispatching row cycle)) t
     → (cause : ℕ) × HasAtHand s.network hs device has.entry t cause cycle
-    × Dispatches s hs device t has.entry.row.link cause has.entry.row.vl cycle
+    × ((d : Dispatches s hs device t has.entry.row.link cause has.entry.row.vl cycle) × (d.place ≡ row.0))
 dispatches_so s hs device t node row cycle law past taken up has r =
     let reached : Reaches s hs device (pos (cycle * amount s.network.cycle + amount has.entry.row.offset)) t =
     subst (λ (z : ℤ). Reaches s hs device z t) (value_is s.network row has.entry cycle has.is) r in
@@ -105,16 +105,19 @@ dispatches_so s hs device t node row cycle law past taken up has r =
     }) in (
       it.0,
       it.1,
-      record {
-        place = row.0;
-        entry = has.entry;
-        row = has.is;
-        by = refl;
-        of_vl = refl;
-        leaves = has.leaves;
-        occurs = has.occurs;
-        up = up;
-        reached = reached;
-        at_hand = it.1;
-      },
+      (
+        record {
+          place = row.0;
+          entry = has.entry;
+          row = has.is;
+          by = refl;
+          of_vl = refl;
+          leaves = has.leaves;
+          occurs = has.occurs;
+          up = up;
+          reached = reached;
+          at_hand = it.1;
+        },
+        refl,
+      ),
     )

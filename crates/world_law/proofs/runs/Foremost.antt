@@ -4,14 +4,16 @@ use Rattle.{run_law.proofs.law.FirstPlaces.numbered_in, world_law.proofs.{giving
 use Rattle.{run_law.specs.scenario.Scenarios.turns_on, world_law.specs.{source.Sources.IsRipening, world.{Moves.NothingBefore, World.IsWaitingFor}}}
 use Rattle.world_law.proofs.Words.{◌&&◌, ◌+◌, ◌<◌, ◌==◌, ◌||◌, ◌∙◌, ◌∷◌, ◌≡◌, ◌≤◌, Bool, DeviceId, Dispatches, Happening, HasDone, HasSent, HasTaskBy}
 use Rattle.world_law.proofs.Words.{HaveBefallen, IsActing, IsAtRest, IsBefore, IsIn, IsLeft, IsReach, IsSource, LinkId, List, Network, Node, Note, NoteBody}
-use Rattle.world_law.proofs.Words.{Scenario, Stands, Units, VlId, Waiting, World, [], act_place, amount, ap, arith, cases_Bool, cases_lt, chain, clock_place}
+use Rattle.world_law.proofs.Words.{Scenario, Stands, Task, Units, VlId, Waiting, World, [], amount, ap, arith, cases_Bool, cases_lt, chain, clock_place}
 use Rattle.world_law.proofs.Words.{eqb-true, false, false_from_ne_true, happenings, inl, inr, is_turned_on_at, list_any, moves, place_of, pos, refl, ripe_place}
+use Rattle.world_law.proofs.Words.{task_place}
 use Rattle.world_law.proofs.{Words.{slice_get_within, subst, sym, time_of, true, ℕ}, acts.Acting.{IsUnmoved, correcting_task, emitting_task, sending_task}}
 
 -- no act that is not worked off is before the place
 abbrev pub NoActBefore : Scenario → List Happening → List ℕ → List ℕ → Type 0
 NoActBefore s hs cursor p =
-    (t : ℕ) (device : DeviceId) → IsActing s hs t device → (IsBefore (act_place t device) cursor → ⊥) → IsBefore (act_place t device) p → ⊥
+    (t : ℕ) (device : DeviceId) (task : Task) → IsActing s hs t device task → (IsBefore (task_place s.network t device task) cursor → ⊥)
+    → IsBefore (task_place s.network t device task) p → ⊥
 
 pub none_but_acts : {C M : Type 0} (reading : C → ℕ → ℕ) (stands : M → Network → DeviceId → Node → Type 0) (s : Scenario) (world : World C M)
     (notes : List Note) (p : List ℕ) (old : Stands reading stands s world notes)
@@ -45,7 +47,7 @@ none_but_acts reading stands s world notes p old none acts w (IsSource.ripening 
     not (subst (λ (n : ℕ). IsBefore (ripe_place n e) old.cursor) (one_reach (s.reading device) (pos (time_of p_is.arrival)) point.0 u t reached p_is.reached)
     under) in
     none.waiting e (old.waiting.all e it sound one) t le p_is.reached.reached b
-none_but_acts reading stands s world notes p old none acts w (IsSource.acting t device a) not b = acts t device a not b
+none_but_acts reading stands s world notes p old none acts w (IsSource.acting t device task a) not b = acts t device task a not b
 none_but_acts reading stands s world notes p old none acts w (IsSource.departing t device link cause d) not b =
     let found = old.ports.all t device link cause d not in none.ports found.0 found.1 (subst (λ (q : List ℕ). IsBefore q p) (sym found.2) b)
 none_but_acts reading stands s world notes p old none acts w (IsSource.following t cause h it) not b =
@@ -84,15 +86,15 @@ none_but_acts reading stands s world notes p old none acts w (IsSource.ending ti
 -- ---- acts, but for dispatches
 
 -- the source by which a device acts is a task of its node, where nothing has moved it since the time of that
-pub acting_task : (s : Scenario) (hs : List Happening) (device : DeviceId) (t later : ℕ) (node : Node) → IsUnmoved s hs device t later
+pub acting_task : (s : Scenario) (hs : List Happening) (device : DeviceId) (t later : ℕ) (node : Node) (task : Task) → IsUnmoved s hs device t later
     → IsLeft s hs device t node → HasDone s hs device t node → HasSent s device t node
     → ((link : LinkId) (cause : ℕ) (vl : VlId) (cycle : ℕ) → Dispatches s hs device later link cause vl cycle → HasTaskBy s device node later)
-    → IsActing s hs later device → HasTaskBy s device node later
-acting_task s hs device t later node u left has sent rows (IsActing.sending cycle d) = sending_task s hs device t later node cycle u left has d
-acting_task s hs device t later node u left has sent rows (IsActing.emitting emission verdict e) =
+    → IsActing s hs later device task → HasTaskBy s device node later
+acting_task s hs device t later node task u left has sent rows (IsActing.sends cycle d) = sending_task s hs device t later node cycle u left has d
+acting_task s hs device t later node task u left has sent rows (IsActing.emits emission verdict e) =
     emitting_task s hs device t later node emission verdict u left sent e
-acting_task s hs device t later node u left has sent rows (IsActing.correcting cycle c) = correcting_task s hs device t later node cycle u left has c
-acting_task s hs device t later node u left has sent rows (IsActing.dispatching link cause vl cycle d) = rows link cause vl cycle d
+acting_task s hs device t later node task u left has sent rows (IsActing.corrects cycle c) = correcting_task s hs device t later node cycle u left has c
+acting_task s hs device t later node task u left has sent rows (IsActing.dispatches link cause vl cycle d) = rows link cause vl cycle d
 
 -- an event of a later time than all turns no device on
 pub not_on_after : (s : Scenario) (mark : List ℕ) (now t : ℕ) (device : DeviceId) → HaveBefallen s mark now → now < t → is_turned_on_at s device t ≡ false

@@ -3,7 +3,8 @@ use Rattle.{run_law.specs.records.Happenings.frame_from, world_law.specs.source.
 use Rattle.world_law.proofs.Words.{◌∙◌, ◌∷◌, ◌≡◌, ◌⊎◌, Arrival, ArrivesAs, BecomesPermanent, ChangesState, ComesToCorrection, Departs, Departure, DeviceId}
 use Rattle.world_law.proofs.Words.{Happening, IsActing, IsArrivedRecord, IsAtCorrection, IsBefore, IsCaused, IsDropped, IsDue, IsLost, IsOwnSource, IsSource}
 use Rattle.world_law.proofs.Words.{LinkId, List, Network, NoteBody, Option, Pcf, Reason, Ripe, Scenario, Some, State, Units, Verdict, Why, [], amount, ap}
-use Rattle.world_law.proofs.Words.{arith, frame_by, inl, inr, key, members_in, option_and_then, option_map_or, rank, refl, sym, ℕ}
+use Rattle.world_law.proofs.Words.{arith, correcting, dispatching, doing, emitting, frame_by, inl, inr, key, members_in, option_and_then, option_map_or, rank}
+use Rattle.world_law.proofs.Words.{refl, sending, sym, ℕ}
 use Rattle.run_law.specs.declared.judgement.Why.TheVariants as whys
 use Rattle.run_law.specs.declared.note.NoteBody.TheVariants as notes
 
@@ -44,13 +45,13 @@ by_state s hs t device state cause whys.Correction m c more = (t ∷ 2 ∷ [], r
 by_state s hs t device state cause whys.SyncClique m c more = (
   t ∷ 4 ∷ device.0 ∷ [],
   refl,
-  IsSource.acting t device (IsActing.correcting c.2.0 (point_of_it s hs t device c.2.0 _ c.2.1)),
+  IsSource.acting t device (doing (correcting _)) (IsActing.corrects c.2.0 (point_of_it s hs t device c.2.0 _ c.2.1)),
   inr (inr (refl, inl (omega arith))),
 )
 by_state s hs t device state cause whys.AsyncClique m c more = (
   t ∷ 4 ∷ device.0 ∷ [],
   refl,
-  IsSource.acting t device (IsActing.correcting c.2.0 (point_of_it s hs t device c.2.0 _ c.2.1)),
+  IsSource.acting t device (doing (correcting _)) (IsActing.corrects c.2.0 (point_of_it s hs t device c.2.0 _ c.2.1)),
   inr (inr (refl, inl (omega arith))),
 )
 
@@ -59,7 +60,7 @@ by_loss : (s : Scenario) (hs : List Happening) (t : ℕ) (device : DeviceId) (li
 by_loss s hs t device link cause m (inl departs) more =
     (_, inl (refl, departs), IsSource.departing t device link cause (departure_of_it s hs t device link cause _ departs), inr (inr (refl, inl (omega arith))))
 by_loss s hs t device link cause m (inr (inl d)) more =
-    (_, inr (inl (refl, (d.0, d.1, d.2, d.3))), IsSource.acting t device (IsActing.dispatching link cause d.0 d.1 d.2), inr (inr (refl, inl (omega arith))))
+    (_, inr (inl (refl, (d.0, d.1, d.2, d.3))), IsSource.acting t device (doing (dispatching _ _)) (IsActing.dispatches link cause d.0 d.1 d.2), inr (inr (refl, inl (omega arith))))
 by_loss s hs t device link cause m (inr (inr send)) more =
     (_, inr (inr (refl, send)), IsSource.following t cause send.event send.is, inr (inr (refl, inl (omega arith))))
 
@@ -98,13 +99,13 @@ by_body s hs time members (notes.Permanent device link cause point verdict) m c 
       inl (ap (λ (k : ℕ). amount time ∷ 3 ∷ device.0 ∷ amount point ∷ k ∷ link.0 ∷ cause ∷ []) same),
     )
 by_body s hs time members (notes.Compressed device opened at cycle of_masters verdict) m c =
-    (_, refl, IsSource.acting (amount time) device (IsActing.emitting _ verdict c), inr (inr (refl, inr (refl, inr (refl, tt)))))
+    (_, refl, IsSource.acting (amount time) device (emitting _) (IsActing.emits _ verdict c), inr (inr (refl, inr (refl, inr (refl, tt)))))
 by_body s hs time members (notes.Sent device cycle) m c =
-    (_, refl, IsSource.acting (amount time) device (IsActing.sending cycle c), inr (inr (refl, inl (omega arith))))
+    (_, refl, IsSource.acting (amount time) device (doing (sending cycle)) (IsActing.sends cycle c), inr (inr (refl, inl (omega arith))))
 by_body s hs time members (notes.Corrected device cycle by adjustment) m c = (
   _,
   refl,
-  IsSource.acting (amount time) device (IsActing.correcting cycle (point_of_it s hs (amount time) device cycle _ c.corrected)),
+  IsSource.acting (amount time) device (doing (correcting cycle)) (IsActing.corrects cycle (point_of_it s hs (amount time) device cycle _ c.corrected)),
   inr (inr (refl, inl (omega arith))),
 )
 by_body s hs time members (notes.State device state cause why) m c = by_state s hs (amount time) device state cause why members c (device.0 ∷ cause ∷ [])
@@ -112,7 +113,7 @@ by_body s hs time members (notes.Left device link cause clock) m c =
     (_, refl, IsSource.departing (amount time) device link cause (departure_of_it s hs (amount time) device link cause _ c), inl refl)
 by_body s hs time members (notes.Lost device link cause) m c = by_loss s hs (amount time) device link cause members c (device.0 ∷ link.0 ∷ cause ∷ [])
 by_body s hs time members (notes.TtSent device link cause vl cycle) m c =
-    (_, refl, IsSource.acting (amount time) device (IsActing.dispatching link cause vl cycle c.dispatches), inr (inr (refl, inl (omega arith))))
+    (_, refl, IsSource.acting (amount time) device (doing (dispatching _ _)) (IsActing.dispatches link cause vl cycle c.dispatches), inr (inr (refl, inl (omega arith))))
 by_body s hs time members (notes.Accepted device link cause vl cycle) m c =
     (_, refl, IsSource.arriving (amount time) device link cause (arrival_of_it s hs (amount time) device link cause _ c), inr (inr (refl, inl (omega arith))))
 by_body s hs time members (notes.Delivered device link cause vl cycle) m c =

@@ -1,10 +1,12 @@
 -- What is to come brings no source that is not behind it.
+use Rattle.world_law.proofs.runs.TaskPlaces.{at_acts}
 use Rattle.world_law.proofs.Words.{◌++◌, ◌<◌, ◌∙◌, ◌∷◌, ◌≡◌, ◌≤◌, ◌⊎◌, AreClusters, Arrives, DeviceId, Dispatches, Emits, Gives, Happening, Integrating}
 use Rattle.world_law.proofs.Words.{IsActing, IsBefore, IsForward, IsIn, IsSource, LinkId, List, Network, None, NoneBefore, NoteBody, Point, Reaches, Scenario}
-use Rattle.world_law.proofs.Words.{Signal, Some, Standing, [], adjustment_after, adjustment_at_hearing, after_last, ap, append-nil, append_assoc, arith}
-use Rattle.world_law.proofs.Words.{cases_Bool, cases_lt, earlier, ends_stretch, filter, filter-append, heard_as, if◌then◌else◌, inl, inr, integration_cycle}
-use Rattle.world_law.proofs.Words.{ints, is_accepted, is_turned_on_at, last_or, nat_lt, next_point, no_cluster, numbered, observation_window, place_of, plan_of}
-use Rattle.world_law.proofs.Words.{point_by, points_of, rank, refl, slice_get, state_after, state_at_hearing, subst, suc, time_of, zero, ℕ, ℤ}
+use Rattle.world_law.proofs.Words.{Signal, Some, Standing, Task, [], adjustment_after, adjustment_at_hearing, after_last, ap, append-nil, append_assoc, arith}
+use Rattle.world_law.proofs.Words.{cases_Bool, cases_lt, dispatching, doing, earlier, emitting, ends_stretch, filter, filter-append, heard_as, if◌then◌else◌}
+use Rattle.world_law.proofs.Words.{inl, inr, integration_cycle, ints, is_accepted, is_turned_on_at, last_or, nat_lt, next_point, no_cluster, numbered}
+use Rattle.world_law.proofs.Words.{observation_window, place_of, plan_of, point_by, points_of, rank, refl, slice_get, state_after, state_at_hearing, subst, suc}
+use Rattle.world_law.proofs.Words.{time_of, zero, ℕ, ℤ}
 use Rattle.world_law.{proofs.{devices.OwnRecords.earlier_no, lists.Lists.{behind_no, behind_yes, map_none}}, specs.device.Told.next_in}
 use Rattle.run_law.specs.timed.Dispatching.{IsUp}
 use Rattle.run_law.specs.declared.note.NoteBody.TheVariants as notes
@@ -93,11 +95,11 @@ unfolding dispatches_back
 dispatches_same s js hs t device link cause vl cycle same d = (dispatches_back s js hs t device link cause vl cycle same d, refl)
 
 emits_back : (s : Scenario) (hs zs : List Happening) (t : ℕ) (device : DeviceId) (sent : _) (verdict : _) → ((z : Happening) → IsIn z zs → 4 ≤ rank z.note.body)
-    → Emits s (hs ++ zs) device t sent verdict → IsActing s hs t device
+    → Emits s (hs ++ zs) device t sent verdict → IsActing s hs t device (emitting sent)
 emits_back s hs zs t device sent verdict high e =
     elim (points_back zs hs device high) [
       | inl same ↦
-          IsActing.emitting sent (heard_as (plan_of s.network device) (observation_window s.network) (state_at_hearing s hs device t)
+          IsActing.emits sent (heard_as (plan_of s.network device) (observation_window s.network) (state_at_hearing s hs device t)
           (adjustment_at_hearing s hs device t).0 sent.at.0 sent.cycle sent.members) (record {
             cm = e.cm;
             correct = e.correct;
@@ -114,11 +116,11 @@ emits_back s hs zs t device sent verdict high e =
     ]
 
 -- what acts by the records with those to come, where these have the rank of acts or a higher one, acts by those given
-pub acting_back : (s : Scenario) (hs zs : List Happening) (t : ℕ) (device : DeviceId) → ((z : Happening) → IsIn z zs → t ≤ time_of z)
-    → ((z : Happening) → IsIn z zs → 4 ≤ rank z.note.body) → IsActing s (hs ++ zs) t device → IsActing s hs t device
-acting_back s hs zs t device of high (IsActing.sending cycle d) =
+pub acting_back : (s : Scenario) (hs zs : List Happening) (t : ℕ) (device : DeviceId) (task : Task) → ((z : Happening) → IsIn z zs → t ≤ time_of z)
+    → ((z : Happening) → IsIn z zs → 4 ≤ rank z.note.body) → IsActing s (hs ++ zs) t device task → IsActing s hs t device task
+acting_back s hs zs t device task of high (IsActing.sends cycle d) =
     let same = earlier_still t hs zs of in
-    IsActing.sending cycle
+    IsActing.sends cycle
     (record {
       master = d.master;
       up = up_back s (hs ++ zs) hs t device same d.up;
@@ -126,18 +128,19 @@ acting_back s hs zs t device of high (IsActing.sending cycle d) =
       reached = reaches_back s (hs ++ zs) hs t device _ same
           d.reached;
     })
-acting_back s hs zs t device of high (IsActing.emitting sent verdict e) = emits_back s hs zs t device sent verdict high e
-acting_back s hs zs t device of high (IsActing.correcting cycle d) =
+acting_back s hs zs t device task of high (IsActing.emits sent verdict e) = emits_back s hs zs t device sent verdict high e
+acting_back s hs zs t device task of high (IsActing.corrects cycle d) =
     let same = earlier_still t hs zs of in
-    IsActing.correcting cycle
+    IsActing.corrects cycle
     (record {
       next = subst (λ (w : List Happening). next_point (standing_in s device t w) ≡ Some cycle) same d.next;
       reached = reaches_back s (hs ++ zs) hs
           t device _ same d.reached;
       correct = d.correct;
     })
-acting_back s hs zs t device of high (IsActing.dispatching link cause vl cycle d) =
-    IsActing.dispatching link cause vl cycle (dispatches_back s (hs ++ zs) hs t device link cause vl cycle (earlier_still t hs zs of) d)
+acting_back s hs zs t device task of high (IsActing.dispatches link cause vl cycle d) =
+    let e = dispatches_same s (hs ++ zs) hs t device link cause vl cycle (earlier_still t hs zs of) d in
+    subst (λ (n : ℕ). IsActing s hs t device (doing (dispatching (record { 0 = n }) cycle))) e.1 (IsActing.dispatches link cause vl cycle e.0)
 
 -- ---- all sources
 
@@ -185,11 +188,12 @@ source_back s hs zs now r more forward of none w (IsSource.ripening t device lin
           let from = p.reached.from_on in
           elim (no_higher t 3 now r _ more le) [ inl lt ↦ absurd (omega (arith, ints, from, at, lt)) | inr same ↦ absurd (omega (arith, low, two, same.1)) ]
     ]
-source_back s hs zs now r more forward of none w (IsSource.acting t device a) le =
-    elim (no_higher t 4 now r _ more le) [
+source_back s hs zs now r more forward of none w (IsSource.acting t device task a) le =
+    let act = at_acts s.network t device task in
+    elim (no_higher t 4 now r (device.0 ∷ []) more (subst (λ (q : List ℕ). (q ≡ now ∷ r ∷ more) ⊎ IsBefore q (now ∷ r ∷ more)) act le)) [
       | inl lt ↦ inr (inl (inl lt))
       | inr same ↦
-          inl (IsSource.acting t device (acting_back s hs zs t device (λ z i. let at = of z i in omega (arith, at, same.0))
+          inl (IsSource.acting t device task (acting_back s hs zs t device task (λ z i. let at = of z i in omega (arith, at, same.0))
           (λ z i. let low = at_least z now r more (of z i) (none z i) in omega (arith, low, same.1)) a))
     ]
 source_back s hs zs now r more forward of none w (IsSource.departing t device link cause d) le =

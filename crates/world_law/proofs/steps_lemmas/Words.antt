@@ -69,12 +69,13 @@ pub use Rattle.world_law.proofs.putting.StandsOn.{comes_first, in_mapped, stands
 pub use Rattle.world_law.proofs.rows.{AtHand.value_is, Dispatching.IsLawful, Takings.IsNoTaking}
 pub use Rattle.world_law.proofs.runs.{Agreement.changed_before, Foremost.not_on_after}
 pub use Rattle.world_law.proofs.runs.SourcesBack.{at_least, dispatches_back, dispatches_same, earlier_still, no_higher, numbered_parts, reaches_back, up_back}
+pub use Rattle.world_law.proofs.runs.TaskPlaces.{acts_before, at_acts, task_before}
 pub use Rattle.world_law.proofs.runs.Worlds.{length_is}
 pub use Rattle.world_law.specs.device.{Deeds.{HasDoneFrom, HasSentFrom}, Left.{HasTaskBy, IsLeft, is_timed}, Own.{bears_on, moves}}
 pub use Rattle.world_law.specs.device.{Plain.{plain, plain_body, plains}, Ready.{IsReadyAt, IsSteady}}
 pub use Rattle.world_law.specs.device.{Recorded.{AreRecorded, HasCleared, IsFrameOf, IsShown, dispatch_body}, Takings.{frames_taken, taken_in}}
 pub use Rattle.world_law.specs.device.Told.{cleared_in, local_in, next_in, since_at}
-pub use Rattle.world_law.specs.source.{Agreeing.scenario, Applying.IsEventBody, Sources.{IsActing, IsOwnSource, IsSource}}
+pub use Rattle.world_law.specs.source.{Agreeing.scenario, Applying.IsEventBody, Sources.{IsActing, IsOwnSource, IsSource, task_place}}
 pub use Rattle.world_law.specs.world.{Calls.{HasActed, IsDueNow, IsSet, moment_of}, Moves.{ArePutIn, ComesFirst, IsPutIn, IsWithout, StandsBehind, settled_as}}
 pub use Rattle.world_law.specs.world.Outcomes.{arrival_body}
 pub use Rattle.world_law.specs.world.World.{AreAtPorts, AreOfNetwork, AreOnWires, AreSettled, AreUntold, AreWaiting, AtPort, Befell, HasTurnedOn, HaveBefallen}

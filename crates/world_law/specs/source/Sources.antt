@@ -2,6 +2,8 @@
 use Rattle.std.specs.Prelude.{◌+◌, ◌∷◌, ◌≡◌, ◌⊎◌, List, Some, [], false, true, ℕ}
 use Rattle.{compression.specs.declared.compressed.Compressed.Compressed, net_plan.specs.declared.ids.DeviceId.DeviceId}
 use Rattle.{net_plan.specs.Places.device_at, tte_units.specs.Amount.amount}
+use Rattle.net_plan.specs.declared.network.Network.{Network}
+use Rattle.run_law.specs.machines.{Nodes.{correcting, dispatching, sending}, Tasks.{Task, doing, emitting}}
 use Rattle.{net_plan.specs.declared.{event.What.What, ids.VlId.VlId}, run_law.specs.control.Losses.IsSendLost}
 use Rattle.{net_plan.specs.declared.ids.LinkId.LinkId, tte_units.specs.declared.{frames.pcf.Pcf.Pcf, units.Units.Units}}
 use Rattle.{net_plan.specs.declared.tables.Device.Device, run_law.specs.control.Wires.{Arrives, Signal}}
@@ -45,13 +47,23 @@ pub record IsAtCorrection (s : Scenario) (hs : List Happening) (t : ℕ) (device
   pub reached : Reaches s hs device (correction_value s.network cycle) t
   pub correct : is_broken s device t ≡ false
 
--- the device acts by itself at the time
-pub data IsActing (s : Scenario) (hs : List Happening) (t : ℕ) (device : DeviceId) : Type 0 where
-  sending : (cycle : ℕ) → Sends s hs device t cycle → IsActing s hs t device
-  emitting : (sent : Compressed) (verdict : Judgement) → Emits s hs device t sent verdict → IsActing s hs t device
-  correcting : (cycle : ℕ) → IsAtCorrection s hs t device cycle → IsActing s hs t device
-  dispatching : (link : LinkId) (cause : ℕ) (vl : VlId) (cycle : ℕ) → Dispatches s hs device t link cause vl cycle
-      → IsActing s hs t device
+-- where a task of the device stands among what is of its time
+abbrev pub task_numbers : Network → DeviceId → Task → List ℕ
+task_numbers network device (emitting sent) = 4 ∷ device.0 ∷ []
+task_numbers network device (doing deed) = 4 ∷ device.0 ∷ []
+
+-- where it stands, if it is done at this time
+abbrev pub task_place : Network → ℕ → DeviceId → Task → List ℕ
+task_place network t device task = t ∷ task_numbers network device task
+
+-- the device does the task by itself at the time; a correction point comes then, whatever it comes to
+pub data IsActing (s : Scenario) (hs : List Happening) (t : ℕ) (device : DeviceId) : Task → Type 0 where
+  emits : (sent : Compressed) (verdict : Judgement) → Emits s hs device t sent verdict
+      → IsActing s hs t device (emitting sent)
+  sends : (cycle : ℕ) → Sends s hs device t cycle → IsActing s hs t device (doing (sending cycle))
+  corrects : (cycle : ℕ) → IsAtCorrection s hs t device cycle → IsActing s hs t device (doing (correcting cycle))
+  dispatches : (link : LinkId) (cause : ℕ) (vl : VlId) (cycle : ℕ) → (d : Dispatches s hs device t link cause vl cycle)
+      → IsActing s hs t device (doing (dispatching (record { 0 = d.place }) cycle))
 
 -- a source with its place: what arrives, what ripens, what acts and what leaves; a record of this very time, what
 -- follows it standing behind all events of the time and before all else; an event; or, at the end, the clock of a
@@ -62,7 +74,8 @@ pub data IsSource (s : Scenario) (hs : List Happening) : List ℕ → Type 0 whe
   ripening : (t : ℕ) (device : DeviceId) (link : LinkId) (cause : ℕ) (point : Units)
       → (r : IsRipening s hs t device link cause point)
       → IsSource s hs (t ∷ 3 ∷ device.0 ∷ amount point ∷ r.frame.members.0 ∷ link.0 ∷ cause ∷ [])
-  acting : (t : ℕ) (device : DeviceId) → IsActing s hs t device → IsSource s hs (t ∷ 4 ∷ device.0 ∷ [])
+  acting : (t : ℕ) (device : DeviceId) (task : Task) → IsActing s hs t device task
+      → IsSource s hs (task_place s.network t device task)
   departing : (t : ℕ) (device : DeviceId) (link : LinkId) (cause : ℕ) → IsDeparting s hs t device link cause
       → IsSource s hs (t ∷ 8 ∷ device.0 ∷ link.0 ∷ cause ∷ [])
   following : (t cause : ℕ) (h : Happening) → IsOfThisTime hs t cause h → IsSource s hs (t ∷ 2 ∷ [])
@@ -77,9 +90,12 @@ IsOwnSource s hs t members (notes.Event line what) w = w ≡ t ∷ 1 ∷ []
 IsOwnSource s hs t members (notes.Arrived device link cause clock) w = w ≡ t ∷ 2 ∷ device.0 ∷ link.0 ∷ cause ∷ []
 IsOwnSource s hs t members (notes.Permanent device link cause point verdict) w =
     w ≡ t ∷ 3 ∷ device.0 ∷ amount point ∷ members ∷ link.0 ∷ cause ∷ []
-IsOwnSource s hs t members (notes.Compressed device opened at cycle of_masters verdict) w = w ≡ t ∷ 4 ∷ device.0 ∷ []
-IsOwnSource s hs t members (notes.Sent device cycle) w = w ≡ t ∷ 4 ∷ device.0 ∷ []
-IsOwnSource s hs t members (notes.Corrected device cycle by adjustment) w = w ≡ t ∷ 4 ∷ device.0 ∷ []
+IsOwnSource s hs t members (notes.Compressed device opened at cycle of_masters verdict) w =
+    w ≡ task_place s.network t device
+    (emitting (record { opened = opened; at = at; cycle = cycle; members = of_masters }))
+IsOwnSource s hs t members (notes.Sent device cycle) w = w ≡ task_place s.network t device (doing (sending cycle))
+IsOwnSource s hs t members (notes.Corrected device cycle by adjustment) w =
+    w ≡ task_place s.network t device (doing (correcting cycle))
 IsOwnSource s hs t members (notes.State device state cause SyncClique) w = w ≡ t ∷ 4 ∷ device.0 ∷ []
 IsOwnSource s hs t members (notes.State device state cause AsyncClique) w = w ≡ t ∷ 4 ∷ device.0 ∷ []
 IsOwnSource s hs t members (notes.State device state cause why) w = w ≡ t ∷ 2 ∷ []

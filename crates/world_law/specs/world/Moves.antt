@@ -5,12 +5,13 @@ use Rattle.net_plan.specs.declared.{ids.{DeviceId.DeviceId, LinkId.LinkId, VlId.
 use Rattle.{run_law.specs.control.{Leaving.Gives, Wires.{Arrives, Signal}}, world_law.specs.source.First.NoSourceBefore}
 use Rattle.run_law.specs.{declared.{judgement.Why.Why, note.NoteBody.NoteBody}, scenario.Ways.{hold_at, way_from}}
 use Rattle.run_law.specs.{declared.note.Note.Note, device.States.is_joined_by, records.Ranks.place_of}
-use Rattle.run_law.specs.{machines.Nodes.{Node, acting}, records.Order.{AllBefore, IsBefore, IsIn, NoneBefore, behind}}
+use Rattle.run_law.specs.{machines.Nodes.Node, records.Order.{AllBefore, IsBefore, IsIn, NoneBefore, behind}}
 use Rattle.run_law.specs.{machines.Tasks.{IsPending, Task, reading_for}, scenario.Scenarios.{Scenario, is_broken}}
 use Rattle.run_law.specs.{records.Happenings.{Happening, happening, happenings, time_of}, timed.Dispatching.is_accepted}
 use Rattle.tte_units.specs.Amount.{units_of}
+use Rattle.world_law.specs.source.Sources.{task_place}
 use Rattle.world_law.specs.world.World.{AtPort, IsAwaitedFor, IsGivenBy, OnWire, Stands, Stored, Waiting, World}
-use Rattle.world_law.specs.world.World.{act_place, clock_place, none_yet, note_of, port_place, ripe_place, wire_place}
+use Rattle.world_law.specs.world.World.{clock_place, none_yet, note_of, port_place, ripe_place, wire_place}
 use Rattle.run_law.specs.declared.judgement.Why.TheVariants as whys
 use Rattle.run_law.specs.declared.note.NoteBody.TheVariants as kinds
 
@@ -149,7 +150,7 @@ pub record NothingBefore {C M : Type 0} (stands : M → Network → DeviceId →
       → slice_get world.machines device.0 ≡ Some machine → stands machine s.network device node
       → IsPending s.network device node task
       → (t : ℕ) → world.now ≤ t → reading_for s.network node task ≤ℤ pos (s.reading device t)
-      → IsBefore (act_place t device) p → ⊥
+      → IsBefore (task_place s.network t device task) p → ⊥
   pub befell : world.pending ≡ true → IsBefore (world.now ∷ 2 ∷ []) p → ⊥
   pub clocks : (device : DeviceId) → device.0 < length s.network.device → world.ended ≡ true → world.shown ≤ device.0
       → IsBefore (clock_place world.now device) p → ⊥

@@ -20,7 +20,9 @@ use Rattle.run_law.specs.records.{Order.{AllBefore, IsBefore, IsIn, NoneBefore, 
 use Rattle.run_law.specs.scenario.{Devices.{is_cm, is_end}, Ways.{delay_at, hold_at, is_cut, receiver_of, way_from}}
 use Rattle.{run_law.specs.timed.Dispatching.is_accepted, tte_units.specs.{Amount.amount, declared.frames.pcf.Pcf.Pcf}}
 use Rattle.world_law.specs.device.{Deeds.{HasDoneFrom, HasSentFrom}, Own.moves, Recorded.{AreRecorded, HasCleared}}
+use Rattle.run_law.specs.machines.Tasks.{Task}
 use Rattle.world_law.specs.source.Sources.{IsActing, IsArriving, IsDeparting, IsOwnSource, IsRipening, IsSource}
+use Rattle.world_law.specs.source.Sources.{task_place}
 use Rattle.net_plan.specs.declared.event.What.TheVariants as events
 use Rattle.run_law.specs.declared.note.NoteBody.TheVariants as notes
 
@@ -233,7 +235,8 @@ pub record AreStored (hs : List Happening) (stored : List Stored) : Type 0 where
 -- arrives any more
 abbrev pub IsActedUpTo : Scenario → List Happening → ℕ → DeviceId → List ℕ → ℕ → Type 0
 IsActedUpTo s hs now device cursor up =
-    ((up ≡ now) × (IsBefore (act_place now device) cursor → IsActing s hs now device → ⊥))
+    ((up ≡ now) × ((task : Task) → IsBefore (task_place s.network now device task) cursor
+    → IsActing s hs now device task → ⊥))
     ⊎ ((up ≡ now + 1) × ((p : List ℕ) → IsBefore p (now ∷ 3 ∷ []) → IsBefore p cursor))
 
 -- the kind of call as the rank of its source

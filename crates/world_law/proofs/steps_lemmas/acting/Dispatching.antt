@@ -124,7 +124,8 @@ row_record : (s : Scenario) (hs front back : List Happening) (now : ℕ) (device
     → IsActRecord s hs front back now device (body_by cut device link cause vl cycle)
 row_record s hs front back now device link cause vl cycle true is r = record {
   own = λ m. inr (inl (refl, (vl, cycle, r.dispatches, is)));
-  acts = IsActing.dispatching link cause vl cycle r.dispatches;
+  task = doing (dispatching (record { 0 = r.dispatches.place }) cycle);
+  acts = IsActing.dispatches link cause vl cycle r.dispatches;
   caused = inr (inl (vl, cycle, r.dispatches, is));
   fresh = λ y i e. r.new y i (body_at true device link cause vl cycle now (time_of y) (members_in y) y.note.body e);
   aside = λ y i e. nothing_aside s device now y.note.body (r.late y i) (r.rests y i) e;
@@ -135,7 +136,8 @@ row_record s hs front back now device link cause vl cycle true is r = record {
 }
 row_record s hs front back now device link cause vl cycle false is r = record {
   own = λ m. refl;
-  acts = IsActing.dispatching link cause vl cycle r.dispatches;
+  task = doing (dispatching (record { 0 = r.dispatches.place }) cycle);
+  acts = IsActing.dispatches link cause vl cycle r.dispatches;
   caused = record { dispatches = r.dispatches; whole = is };
   fresh = λ y i e. r.new y i (body_at false device link cause vl cycle now (time_of y) (members_in y) y.note.body e);
   aside = λ y i e. nothing_aside s device now y.note.body (r.late y i) (r.rests y i) e;

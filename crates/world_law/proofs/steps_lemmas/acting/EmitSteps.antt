@@ -2,7 +2,7 @@
 -- permanent there at a point before 0 is a premise here.
 use Rattle.{run_law.specs.{machines.Answers.after_emission, records.Ranks.sign}, std.proofs.Common.Contains, world_law.specs.world.Outcomes.judged_as}
 use Rattle.world_law.{proofs.{putting.PutAct.{least_of_own, there_already}, steps_lemmas.acting.OneAct.IsOneAct}, specs.steps.Acting.{Acts, joining_bodies}}
-use Rattle.world_law.proofs.steps_lemmas.Words.{◌++◌, ◌+◌, ◌<◌, ◌==◌, ◌∙◌, ◌∷◌, ◌≡◌, ◌≤ℤ◌, ◌≤◌, ArePutIn, AreRecorded, Bool, Compressed, DeviceId, Happening}
+use Rattle.world_law.proofs.steps_lemmas.Words.{◌++◌, ◌<◌, ◌==◌, ◌∙◌, ◌∷◌, ◌≡◌, ◌≤ℤ◌, ◌≤◌, ArePutIn, AreRecorded, Bool, Compressed, DeviceId, Happening}
 use Rattle.world_law.proofs.steps_lemmas.Words.{HasActed, IsActOf, IsActing, IsBefore, IsFirstTask, IsFrameOf, IsIn, IsPending, IsSet, Judgement, List, Network}
 use Rattle.world_law.proofs.steps_lemmas.Words.{Node, None, NoneBefore, Note, NoteBody, Option, Point, Ripe, Scenario, Stands, World, [], act_place, acting}
 use Rattle.world_law.proofs.steps_lemmas.Words.{amount, ap, arith, called, cases_lt, correcting, due_of, emitting, false, happenings, hearing_by, hears}
@@ -79,7 +79,8 @@ emission_record stands s hs front back mark cursor now device machine node sent 
     let e = emits s hs (front ++ back) front back now device node sent st.work refl pending due in
     record {
       own = λ m. refl;
-      acts = IsActing.emitting sent v e;
+      task = emitting sent;
+      acts = IsActing.emits sent v e;
       caused = e;
       fresh = λ y i same.
           let is = there_already s hs front back mark cursor now 4 (device.0 ∷ []) w y st.moving (due_of s hs front now body e) none i same in

@@ -5,13 +5,14 @@ use Rattle.world_law.proofs.{putting.PutTwo.two_by, steps_lemmas.acting.{Correct
 use Rattle.world_law.proofs.steps_lemmas.Words.{◌++◌, ◌+ℤ◌, ◌+◌, ◌<◌, ◌∙◌, ◌∷◌, ◌≡◌, ◌≤◌, ◌⊎◌, AreOfNetwork, ChangesState, Corrected, DeviceId, Happening}
 use Rattle.world_law.proofs.steps_lemmas.Words.{HasCleared, Integrating, IsActing, IsAllOfIt, IsBefore, IsCaused, IsHeld, IsIn, IsKept, IsNoTaking}
 use Rattle.world_law.proofs.steps_lemmas.Words.{IsOfThisTime, IsOwnSource, IsSet, Joining, List, Network, Node, NoneBefore, Note, NoteBody, Scenario, Some}
-use Rattle.world_law.proofs.steps_lemmas.Words.{Stands, StandsBehind, State, Synchronised, Units, World, [], act_place, all_without, ap, append_assoc, arith}
-use Rattle.world_law.proofs.steps_lemmas.Words.{bears_on, before_it, behind, both_ways, bump_behind, cases_eq, correcting, false, frames_taken, happenings}
-use Rattle.world_law.proofs.steps_lemmas.Words.{hears, held_aside, held_moves, hidden, if◌then◌else◌, in_left, in_parts, in_right, inl, inr, is_at_source}
-use Rattle.world_law.proofs.steps_lemmas.Words.{is_joined_by, is_sending, is_turned_on_at, known_aside, length, length-append, length_is, map, moment_of, moves}
-use Rattle.world_law.proofs.steps_lemmas.Words.{moves_no_other, ne_eqb, none_in, none_yet, place_of, placed_length, plain, plains, plains_placed, point_number}
-use Rattle.world_law.proofs.steps_lemmas.Words.{port_place, ports_move, put_at, raised, rank, record_of, refl, slice_get, stands_on, state_after, subst, sym}
-use Rattle.world_law.proofs.steps_lemmas.Words.{time_of, told_wires, true, two_shown, units_of, waiting_moves, wire_place, wires_move, ℕ}
+use Rattle.world_law.proofs.steps_lemmas.Words.{Stands, StandsBehind, State, Synchronised, Task, Units, World, [], act_place, all_without, ap, append_assoc}
+use Rattle.world_law.proofs.steps_lemmas.Words.{arith, bears_on, before_it, behind, both_ways, bump_behind, cases_eq, correcting, doing, false, frames_taken}
+use Rattle.world_law.proofs.steps_lemmas.Words.{happenings, hears, held_aside, held_moves, hidden, if◌then◌else◌, in_left, in_parts, in_right, inl, inr}
+use Rattle.world_law.proofs.steps_lemmas.Words.{is_at_source, is_joined_by, is_sending, is_turned_on_at, known_aside, length, length-append, length_is, map}
+use Rattle.world_law.proofs.steps_lemmas.Words.{moment_of, moves, moves_no_other, ne_eqb, none_in, none_yet, place_of, placed_length, plain, plains}
+use Rattle.world_law.proofs.steps_lemmas.Words.{plains_placed, point_number, port_place, ports_move, put_at, raised, rank, record_of, refl, slice_get}
+use Rattle.world_law.proofs.steps_lemmas.Words.{stands_on, state_after, subst, sym, time_of, told_wires, true, two_shown, units_of, waiting_moves, wire_place}
+use Rattle.world_law.proofs.steps_lemmas.Words.{wires_move, ℕ}
 use Rattle.world_law.proofs.steps_lemmas.acting.{AllOfIt.{IsGrown, all_point, grown_more, grown_one}, Stage.{Stage, no_row_of, others_so, stage_of}}
 use Rattle.world_law.proofs.steps_lemmas.acting.{Kept.{bare_act, frames_put, kept_over, may_act_now, ready_after}, Sending.{as_put, room_for, taken_then}}
 use Rattle.world_law.proofs.steps_lemmas.acting.Points.{aside_of, at_point, corrected_cause, no_frames, none_at_point, not_moved, not_on}
@@ -81,7 +82,8 @@ raised_hears n device other = refl
 pub record IsActPair (s : Scenario) (hs front back front2 back2 : List Happening) (now : ℕ) (device : DeviceId) (body : NoteBody) (state : State)
     (why : _) : Type 0 where
   pub own : (m : ℕ) → IsOwnSource s (hs ++ front) now m body (act_place now device)
-  pub acts : IsActing s (hs ++ front) now device
+  pub task : Task
+  pub acts : IsActing s (hs ++ front) now device task
   pub caused : IsCaused s (hs ++ front) (units_of now) body
   pub new : IsIn (record_of s.network hs front now body) back → ⊥
   pub aside : (y : Happening) → IsIn y back → hears device y.note.body ≡ true → ⊥
@@ -124,6 +126,7 @@ two_go_by {C} {M} reading stands s world notes old device machine after node mac
       marked = st2.marked;
       given = st2.given;
       own = a.own;
+      task = a.task;
       acts = a.acts;
       cause = a.caused;
       before = q.before;
@@ -256,7 +259,8 @@ first_goes_by reading stands s world notes old device machine after cycle by adj
     two_go_by reading stands s world notes old device machine after node machines settled body Synchronised whys.Correction st q room
     (record {
       own = λ m. refl;
-      acts = IsActing.correcting cycle (at_correction s hs (q.front ++ q.back) q.front now device node cycle st2.work also point.pending point.due);
+      task = doing (correcting cycle);
+      acts = IsActing.corrects cycle (at_correction s hs (q.front ++ q.back) q.front now device node cycle st2.work also point.pending point.due);
       caused = c;
       new = λ i.
           let there = in_right w q.front q.back i in

@@ -190,7 +190,8 @@ join_goes_by reading stands s world notes old device machine after sent machines
     two_go_by reading stands s world notes old device machine after node machines settled body Joining whys.Frame st q room
     (record {
       own = λ m. refl;
-      acts = IsActing.emitting sent judgements.Integrates e;
+      task = emitting sent;
+      acts = IsActing.emits sent judgements.Integrates e;
       caused = e;
       new = λ i. first.pending.1.not_yet (st2.recorded.has_emitted w (come w i) sent judgements.Integrates refl);
       aside = λ y i h.

@@ -2,12 +2,13 @@
 use Rattle.world_law.proofs.acts.Acted.{acted}
 use Rattle.world_law.{proofs.{acts.Ready.acting_last, putting.Idle.drop_one, steps_lemmas.acting.{Over.IsOver, Work.IsAtWork}}, specs.device.Takings.taken_by}
 use Rattle.world_law.proofs.{rows.Takings.{frames_plain, taken_parts, taken_same}, steps_lemmas.Words.{time_of, true, unsigned_abs, whole, ℕ, ℤ}}
-use Rattle.world_law.proofs.steps_lemmas.Words.{◌++◌, ◌+ℤ◌, ◌+◌, ◌<ℤ◌, ◌<◌, ◌^◌, ◌∙◌, ◌∷◌, ◌≡◌, ◌≤ℤ◌, ◌≤◌, Act, AreRecorded, AsyncClique, Bool, Cleared}
-use Rattle.world_law.proofs.steps_lemmas.Words.{Corrected, DeviceId, Happening, HasCleared, HasTaskBy, HasTurnedOn, IsActOf, IsBefore, IsIn, IsKept, IsNoTaking}
-use Rattle.world_law.proofs.steps_lemmas.Words.{IsReadyAt, IsSteady, List, MayCall, Moment, Network, Node, Scenario, SyncClique, TakenFrame, [], act_place}
-use Rattle.world_law.proofs.steps_lemmas.Words.{acting, adjustment_after, amount, ap, append_assoc, arith, before_behind, behind, both_ways, bump_behind, chain}
-use Rattle.world_law.proofs.steps_lemmas.Words.{earlier, false, frames_taken, if◌then◌else◌, inl, inr, ints, is_broken, is_cm, is_synchronised, is_turned_on_at}
-use Rattle.world_law.proofs.steps_lemmas.Words.{le-ltb, local_before, map, moment_of, nat_lt, never_self, placed, plains, pos, reading_for, refl, subst, sym}
+use Rattle.world_law.proofs.steps_lemmas.Words.{◌++◌, ◌+ℤ◌, ◌+◌, ◌<ℤ◌, ◌^◌, ◌∙◌, ◌∷◌, ◌≡◌, ◌≤ℤ◌, ◌≤◌, Act, AreRecorded, AsyncClique, Bool, Cleared, Corrected}
+use Rattle.world_law.proofs.steps_lemmas.Words.{DeviceId, Happening, HasCleared, HasTaskBy, HasTurnedOn, IsActOf, IsBefore, IsIn, IsKept, IsNoTaking, IsReadyAt}
+use Rattle.world_law.proofs.steps_lemmas.Words.{IsSteady, List, MayCall, Moment, Network, Node, Scenario, SyncClique, TakenFrame, [], act_place, acting}
+use Rattle.world_law.proofs.steps_lemmas.Words.{acts_before, adjustment_after, amount, ap, append_assoc, arith, before_behind, behind, both_ways, bump_behind}
+use Rattle.world_law.proofs.steps_lemmas.Words.{chain, earlier, false, frames_taken, if◌then◌else◌, inl, inr, ints, is_broken, is_cm, is_synchronised}
+use Rattle.world_law.proofs.steps_lemmas.Words.{is_turned_on_at, le-ltb, local_before, map, moment_of, nat_lt, never_self, placed, plains, pos, reading_for}
+use Rattle.world_law.proofs.steps_lemmas.Words.{refl, subst, sym}
 use Rattle.run_law.specs.declared.steps.Act.TheVariants as acts
 
 -- ---- it may be called, and is ready again
@@ -103,7 +104,7 @@ kept_at_work stands s hs new now device machine after is work recorded cleared t
   is = is;
   sound = work.sound;
   up = now;
-  acted = inl (refl, λ b. absurd (never_self (act_place now device) b));
+  acted = inl (refl, λ t b. absurd (never_self (act_place now device) (acts_before s.network now device t (act_place now device) b)));
   high = now + 1;
   doing = inr (refl, refl, λ p b. b, task);
   told = λ over. absurd (no_step now over);

@@ -1,8 +1,8 @@
 -- A device comes to its correction point: what its record is.
 use Rattle.{run_law.specs.runs.DueRecords.IsCorrectedRecord, world_law.proofs.rows.Apart.no_row_at_correction}
-use Rattle.world_law.proofs.steps_lemmas.Words.{◌++◌, ◌+ℤ◌, ◌<ℤ◌, ◌∙◌, ◌∷◌, ◌≡◌, ◌≤ℤ◌, ◌≤◌, AsyncClique, Bool, Cleared, ComesTo, Compressed, Corrected}
+use Rattle.world_law.proofs.steps_lemmas.Words.{◌++◌, ◌+ℤ◌, ◌<ℤ◌, ◌∙◌, ◌∷◌, ◌≡◌, ◌≤ℤ◌, ◌≤◌, AsyncClique, Cleared, ComesTo, Compressed, Corrected}
 use Rattle.world_law.proofs.steps_lemmas.Words.{DeviceId, Happening, Hearing, Integrating, IsActing, IsAtRest, IsFirstTask, IsIn, IsInRange, IsPending}
-use Rattle.world_law.proofs.steps_lemmas.Words.{IsSteady, IsUnfollowed, IsWaiting, KeepsRules, List, Network, Node, NoneBefore, NoteBody, Scenario, State}
+use Rattle.world_law.proofs.steps_lemmas.Words.{IsSteady, IsUnfollowed, IsWaiting, KeepsRules, List, Network, Node, NoneBefore, NoteBody, Scenario}
 use Rattle.world_law.proofs.steps_lemmas.Words.{Summary, SyncClique, Units, Verdict, Why, [], adjustment_after, adjustment_before, amount, ap, append-nil}
 use Rattle.world_law.proofs.steps_lemmas.Words.{arith, both_ways, cases_Bool, cases_int, correcting, doing, earlier, emitting, eq-eqb, false, heard_since}
 use Rattle.world_law.proofs.steps_lemmas.Words.{in_left, in_right, inl, inr, is_timed, is_turned_on_at, is_turning, key, last_unfollowed, members_in, moves}
@@ -155,7 +155,8 @@ corrected_record stands s hs front back mark cursor now device machine node cycl
     ∙ ap (λ (l : List Happening). adjustment_after s l device) same in
     record {
       own = λ m. refl;
-      acts = IsActing.correcting cycle (at_correction s hs (front ++ back) front now device node cycle st.work also p.pending p.due);
+      task = doing (correcting cycle);
+      acts = IsActing.corrects cycle (at_correction s hs (front ++ back) front now device node cycle st.work also p.pending p.due);
       caused = record { corrected = c; sum = sum ∙ ap (λ (a : Units). a.0 +ℤ by.0) stood };
       fresh = λ y i e.
           let there = in_right y front back i in
@@ -189,7 +190,8 @@ clique_record stands s hs front back mark cursor now device machine node cycle h
     (heard_before s hs front back now device node w st.work refl six none) p.pending p.due p.to in
     record {
       own = λ m. refl;
-      acts = IsActing.correcting cycle (at_correction s hs (front ++ back) front now device node cycle st.work also p.pending p.due);
+      task = doing (correcting cycle);
+      acts = IsActing.corrects cycle (at_correction s hs (front ++ back) front now device node cycle st.work also p.pending p.due);
       caused = (refl, refl, (cycle, c));
       fresh = λ y i e.
           let there = in_right y front back i in
@@ -211,7 +213,8 @@ clique_record stands s hs front back mark cursor now device machine node cycle h
     (heard_before s hs front back now device node w st.work refl six none) p.pending p.due p.to in
     record {
       own = λ m. refl;
-      acts = IsActing.correcting cycle (at_correction s hs (front ++ back) front now device node cycle st.work also p.pending p.due);
+      task = doing (correcting cycle);
+      acts = IsActing.corrects cycle (at_correction s hs (front ++ back) front now device node cycle st.work also p.pending p.due);
       caused = (refl, refl, (cycle, c));
       fresh = λ y i e.
           let there = in_right y front back i in

@@ -78,7 +78,8 @@ sending_record stands s hs front back mark cursor now device machine node cycle 
     let d = sends s hs (front ++ back) front now device node cycle st.work (λ z i. (st.work.of_now z (in_left z front back i)).0) pending due in
     record {
       own = λ m. refl;
-      acts = IsActing.sending cycle d;
+      task = doing (sending cycle);
+      acts = IsActing.sends cycle d;
       caused = d;
       fresh = λ y i e.
           let x = sent_at now (time_of y) (members_in y) device.0 cycle y.note.body e in

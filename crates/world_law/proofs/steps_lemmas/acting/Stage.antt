@@ -1,18 +1,19 @@
 -- A device acts at the source that comes first: how all stands then, and how the world stands with its record put in.
-use Rattle.{schedule_tables.specs.declared.rule.Rule.TheVariants.ScheduleStart, world_law.proofs.steps_lemmas.acting.Starts.{acts_wait, at_work, up_now}}
-use Rattle.{std.proofs.lemmas.Option.same_Some, world_law.proofs.putting.{Bearing.frames_aside, PutOne.one_at, PutShown.hidden_rank}}
-use Rattle.world_law.proofs.{putting.{Coming.{held_comes, stands_at}, StandsOn.{shown_still, source_told}}, steps_lemmas.acting.Kept.{IsBare, may_act_now}}
-use Rattle.world_law.proofs.{rows.Dispatching.{lawful, whole_founded}, steps_lemmas.{acting.{Over.IsCalm, Work.IsAtWork}, steps.Passed.no_task}}
 use Rattle.world_law.proofs.steps_lemmas.Words.{◌++◌, ◌+◌, ◌<◌, ◌^◌, ◌∙◌, ◌∷◌, ◌≡◌, ◌≤ℤ◌, ◌≤◌, AllBefore, AreOfNetwork, AreRecorded, ComesFirst, DeviceId}
 use Rattle.world_law.proofs.steps_lemmas.Words.{Happening, HasCleared, HasTaskBy, HasTurnedOn, IsActing, IsAllOfIt, IsBefore, IsCaused, IsDue, IsDueNow}
 use Rattle.world_law.proofs.steps_lemmas.Words.{IsFounded, IsHeld, IsIn, IsKept, IsLawful, IsMoving, IsNoTaking, IsOne, IsOwnSource, IsSet, IsShownPut}
 use Rattle.world_law.proofs.steps_lemmas.Words.{IsSource, IsSteady, IsUnfollowed, List, Network, Node, NoneBefore, Note, NoteBody, Scenario, Some, Stands}
-use Rattle.world_law.proofs.steps_lemmas.Words.{StandsBehind, World, [], act_place, all_without, amount, ap, are_past, arith, bears_on, before_it, before_later}
-use Rattle.world_law.proofs.steps_lemmas.Words.{behind, cases_eq, cases_lt, comes_first, due_of, false, frames_taken, happenings, hears, held_aside, held_moves}
-use Rattle.world_law.proofs.steps_lemmas.Words.{hidden, in_mapped, in_parts, inl, inr, ints, is_at_source, is_sending, is_turned_on_at, known_aside, length}
-use Rattle.world_law.proofs.steps_lemmas.Words.{map, members_in, moment_of, moves, moves_no_other, natural, no_later_breaks, none_yet, not_on_after, one_by}
-use Rattle.world_law.proofs.steps_lemmas.Words.{place_of, placed_length, port_place, ports_move, pos, put_at, rank, record_of, refl, slice_get, stands_on}
-use Rattle.world_law.proofs.steps_lemmas.Words.{subst, sym, time_of, told_wires, true, units_of, waiting_moves, wire_place, wires_move, ℕ}
+use Rattle.world_law.proofs.steps_lemmas.Words.{StandsBehind, Task, World, [], act_place, all_without, amount, ap, are_past, arith, at_acts, bears_on}
+use Rattle.world_law.proofs.steps_lemmas.Words.{before_it, before_later, behind, cases_eq, cases_lt, comes_first, due_of, false, frames_taken, happenings}
+use Rattle.world_law.proofs.steps_lemmas.Words.{hears, held_aside, held_moves, hidden, in_mapped, in_parts, inl, inr, ints, is_at_source, is_sending}
+use Rattle.world_law.proofs.steps_lemmas.Words.{is_turned_on_at, known_aside, length, map, members_in, moment_of, moves, moves_no_other, natural}
+use Rattle.world_law.proofs.steps_lemmas.Words.{no_later_breaks, none_yet, not_on_after, one_by, place_of, placed_length, port_place, ports_move, pos, put_at}
+use Rattle.world_law.proofs.steps_lemmas.Words.{rank, record_of, refl, slice_get, stands_on, subst, sym, time_of, told_wires, true, units_of, waiting_moves}
+use Rattle.world_law.proofs.steps_lemmas.Words.{wire_place, wires_move, ℕ}
+use Rattle.{schedule_tables.specs.declared.rule.Rule.TheVariants.ScheduleStart, world_law.proofs.steps_lemmas.acting.Starts.{acts_wait, at_work, up_now}}
+use Rattle.{std.proofs.lemmas.Option.same_Some, world_law.proofs.putting.{Bearing.frames_aside, PutOne.one_at, PutShown.hidden_rank}}
+use Rattle.world_law.proofs.{putting.{Coming.{held_comes, stands_at}, StandsOn.{shown_still, source_told}}, steps_lemmas.acting.Kept.{IsBare, may_act_now}}
+use Rattle.world_law.proofs.{rows.Dispatching.{lawful, whole_founded}, steps_lemmas.{acting.{Over.IsCalm, Work.IsAtWork}, steps.Passed.no_task}}
 
 -- a device that has something due at the source that comes first
 pub record Stage {M : Type 0} (stands : M → Network → DeviceId → Node → Type 0) (s : Scenario) (hs coming : List Happening) (mark cursor : List ℕ) (now : ℕ)
@@ -114,7 +115,8 @@ stage_of {C} {M} reading stands s world notes old device machine lt first there 
 -- a record of this body comes from the device's act, is caused by it, and bears on no other device
 pub record IsActRecord (s : Scenario) (hs front back : List Happening) (now : ℕ) (device : DeviceId) (body : NoteBody) : Type 0 where
   pub own : (m : ℕ) → IsOwnSource s (hs ++ front) now m body (act_place now device)
-  pub acts : IsActing s (hs ++ front) now device
+  pub task : Task
+  pub acts : IsActing s (hs ++ front) now device task
   pub caused : IsCaused s (hs ++ front) (units_of now) body
   pub fresh : (y : Happening) → IsIn y back → place_of (record_of s.network hs front now body) ≡ place_of y → ⊥
   pub aside : (y : Happening) → IsIn y back → hears device y.note.body ≡ true → ⊥
@@ -139,7 +141,7 @@ one_act stands s hs front back mark cursor now device machine node body st befor
   fresh = a.fresh;
   least = a.least;
   mine = a.own (members_in (record_of s.network hs front now body));
-  here = IsSource.acting now device a.acts;
+  here = subst (λ (q : List ℕ). IsSource s (hs ++ front) q) (at_acts s.network now device a.task) (IsSource.acting now device a.task a.acts);
   aside = λ x i other same yes_it.
       let e : device ≡ other = (let f : device.0 ≡ other.0 = cc in ap (λ (n : ℕ). let d : DeviceId = record { 0 = n } in d) f) in
       a.aside x i (subst (λ (d : DeviceId). hears d x.note.body ≡ true) (sym e) yes_it);

@@ -1,11 +1,12 @@
 -- A device that is kept and has something due at the present instant is at work.
-use Rattle.{run_law.proofs.law.FirstPlaces.in_filter, world_law.proofs.runs.Agreement.{in_earlier, last_within}}
-use Rattle.world_law.proofs.{rows.Dispatching.dispatches_so, steps_lemmas.acting.Work.{IsAtWork, at_correction, emits, not_over, own_judgement, reaches, sends}}
 use Rattle.world_law.proofs.steps_lemmas.Words.{◌++◌, ◌+◌, ◌∙◌, ◌∷◌, ◌≡◌, ◌≤ℤ◌, ◌≤◌, ◌⊎◌, AreSettled, Compressed, DeviceId, Happening, HasDoneFrom, HasSentFrom}
 use Rattle.world_law.proofs.steps_lemmas.Words.{HasTaskBy, IsActing, IsBefore, IsIn, IsKept, IsLawful, IsLeft, IsOwnSource, IsPending, Judgement, List, Network}
-use Rattle.world_law.proofs.steps_lemmas.Words.{Node, None, NoteBody, Scenario, Task, [], act_place, ap, append-nil, arith, changed_at, changes_adjustment}
-use Rattle.world_law.proofs.steps_lemmas.Words.{correcting, dispatches_back, dispatching, doing, earlier, earlier_still, emitting, filter, frames_taken, inl}
-use Rattle.world_law.proofs.steps_lemmas.Words.{inr, members_in, parted, plain_body, pos, rank, reading_for, refl, sending, subst, sym, time_of, ℕ}
+use Rattle.world_law.proofs.steps_lemmas.Words.{Node, None, NoteBody, RowId, Scenario, Task, [], act_place, ap, append-nil, arith, changed_at}
+use Rattle.world_law.proofs.steps_lemmas.Words.{changes_adjustment, correcting, dispatches_same, dispatching, doing, earlier, earlier_still, emitting, filter}
+use Rattle.world_law.proofs.steps_lemmas.Words.{frames_taken, inl, inr, members_in, parted, plain_body, pos, rank, reading_for, refl, sending, subst, sym}
+use Rattle.world_law.proofs.steps_lemmas.Words.{task_before, task_place, time_of, ℕ}
+use Rattle.{run_law.proofs.law.FirstPlaces.in_filter, world_law.proofs.runs.Agreement.{in_earlier, last_within}}
+use Rattle.world_law.proofs.{rows.Dispatching.dispatches_so, steps_lemmas.acting.Work.{IsAtWork, at_correction, emits, not_over, own_judgement, reaches, sends}}
 use Rattle.run_law.specs.declared.note.NoteBody.TheVariants as kinds
 
 -- the last change before the next unit of time is not after this one
@@ -17,7 +18,7 @@ changed_soon hs device now =
 -- how a device stands that is kept, and has something due, is not that its instant is over
 pub up_now : {M : Type 0} (stands : M → Network → DeviceId → Node → Type 0) (s : Scenario) (hs coming : List Happening) (cursor : List ℕ) (now : ℕ)
     (device : DeviceId) (machine : M) (k : IsKept stands s hs coming cursor now device machine) → HasTaskBy s device k.node now
-    → (k.up ≡ now) × (IsBefore (act_place now device) cursor → IsActing s hs now device → ⊥)
+    → (k.up ≡ now) × ((task : Task) → IsBefore (task_place s.network now device task) cursor → IsActing s hs now device task → ⊥)
 up_now stands s hs coming cursor now device machine k due = elim k.acted [
   | inl yet ↦ yet
   | inr over ↦
@@ -76,24 +77,27 @@ at_work stands s hs coming cursor now device machine k of past late up =
 pub task_acts : (s : Scenario) (hs coming : List Happening) (now : ℕ) (device : DeviceId) (node : Node) (task : Task) → IsLawful s (hs ++ coming) device
     → node.taken ≡ frames_taken s (hs ++ coming) device
     → IsAtWork s hs coming now device node → IsPending s.network device node task → reading_for s.network node task ≤ℤ pos (s.reading device now)
-    → IsActing s hs now device
+    → IsActing s hs now device task
 task_acts s hs coming now device node (emitting c) law taken w p due =
-    subst (λ (l : List Happening). IsActing s l now device) (append-nil hs)
-    (IsActing.emitting c (own_judgement s.network device node c) (emits s hs coming [] coming now device node c w refl p due))
+    subst (λ (l : List Happening). IsActing s l now device (emitting c)) (append-nil hs)
+    (IsActing.emits c (own_judgement s.network device node c) (emits s hs coming [] coming now device node c w refl p due))
 task_acts s hs coming now device node (doing (sending cycle)) law taken w p due =
-    subst (λ (l : List Happening). IsActing s l now device) (append-nil hs)
-    (IsActing.sending cycle (sends s hs coming [] now device node cycle w (λ z i. absurd i) p due))
+    subst (λ (l : List Happening). IsActing s l now device (doing (sending cycle))) (append-nil hs)
+    (IsActing.sends cycle (sends s hs coming [] now device node cycle w (λ z i. absurd i) p due))
 task_acts s hs coming now device node (doing (correcting cycle)) law taken w p due =
-    subst (λ (l : List Happening). IsActing s l now device) (append-nil hs)
-    (IsActing.correcting cycle (at_correction s hs coming [] now device node cycle w (λ z i. absurd i) p due))
+    subst (λ (l : List Happening). IsActing s l now device (doing (correcting cycle))) (append-nil hs)
+    (IsActing.corrects cycle (at_correction s hs coming [] now device node cycle w (λ z i. absurd i) p due))
 task_acts s hs coming now device node (doing (dispatching row cycle)) law taken w p due =
     let frame = p.1.own.1 in
     let d = dispatches_so s (hs ++ coming) device now node row cycle law w.past taken
     (record { synchronised = sym w.left.state ∙ p.1.own.0; correct = w.sound })
     frame (reaches s hs coming now device node (dispatching row cycle) w p.1 due) in
-    IsActing.dispatching frame.entry.row.link d.0 frame.entry.row.vl cycle
-    (dispatches_back s (hs ++ coming) hs now device frame.entry.row.link d.0 frame.entry.row.vl cycle
-    (earlier_still now hs coming (λ z i. let at = (w.of_now z i).0 in omega (arith, at))) d.2)
+    let e = dispatches_same s (hs ++ coming) hs now device frame.entry.row.link d.0 frame.entry.row.vl cycle
+    (earlier_still now hs coming (λ z i. let at = (w.of_now z i).0 in omega (arith, at))) d.2.0 in
+    let of_row : RowId = record { 0 = e.0.place } in
+    subst (λ (r : RowId). IsActing s hs now device (doing (dispatching r cycle)))
+    (ap (λ (n : ℕ). let r : RowId = record { 0 = n } in r) (e.1 ∙ d.2.1))
+    (IsActing.dispatches frame.entry.row.link d.0 frame.entry.row.vl cycle e.0)
 
 -- so the acts of the device are not worked off
 pub acts_wait : {M : Type 0} (stands : M → Network → DeviceId → Node → Type 0) (s : Scenario) (hs coming : List Happening) (cursor : List ℕ) (now : ℕ)
@@ -103,4 +107,5 @@ pub acts_wait : {M : Type 0} (stands : M → Network → DeviceId → Node → T
     → IsPending s.network device k.node task → reading_for s.network k.node task ≤ℤ pos (s.reading device now) → IsBefore (act_place now device) cursor → ⊥
 acts_wait stands s hs coming cursor now device machine k task law of past late pending due b =
     let up = up_now stands s hs coming cursor now device machine k (task, pending, due) in
-    up.1 b (task_acts s hs coming now device k.node task law k.taken (at_work stands s hs coming cursor now device machine k of past late up.0) pending due)
+    up.1 task (task_before s.network now device task cursor b)
+    (task_acts s hs coming now device k.node task law k.taken (at_work stands s hs coming cursor now device machine k of past late up.0) pending due)

@@ -4,9 +4,10 @@ use Rattle.world_law.proofs.{acts.Dispatched.{dispatch_told, send_apart}, steps_
 use Rattle.world_law.proofs.steps_lemmas.Words.{◌++◌, ◌==◌, ◌∙◌, ◌∷◌, ◌≡◌, ◌≤◌, AreOfNetwork, Befell, Compressed, DeviceId, Dispatches, Happening, HasDoneFrom}
 use Rattle.world_law.proofs.steps_lemmas.Words.{HasSentFrom, IsAtRest, IsBefore, IsDue, IsFounded, IsHeld, IsIn, IsKept, IsLeft, IsOfThisTime, IsSendLost}
 use Rattle.world_law.proofs.steps_lemmas.Words.{IsTurnedOnBy, Judgement, LinkId, List, Network, Node, None, NoteBody, Scenario, VlId, [], act_place}
-use Rattle.world_law.proofs.steps_lemmas.Words.{adjustment_after, ap, append-nil, arith, behind, cases_Bool, cause_of, changed_at, changes_adjustment}
-use Rattle.world_law.proofs.steps_lemmas.Words.{dispatch_body, dispatches_back, earlier, earlier_still, false, filter, frames_taken, in_parts, in_right, inl}
-use Rattle.world_law.proofs.steps_lemmas.Words.{inr, is_broken, is_turned_on_at, last_or, moves, never_self, numbered_in, option_map_or, place_of, plain_body}
+use Rattle.world_law.proofs.steps_lemmas.Words.{acts_before, adjustment_after, ap, append-nil, arith, behind, cases_Bool, cause_of, changed_at}
+use Rattle.world_law.proofs.steps_lemmas.Words.{changes_adjustment, dispatch_body, dispatches_back, earlier, earlier_still, false, filter, frames_taken}
+use Rattle.world_law.proofs.steps_lemmas.Words.{in_parts, in_right, inl, inr, is_broken, is_turned_on_at, last_or, moves, never_self, numbered_in}
+use Rattle.world_law.proofs.steps_lemmas.Words.{option_map_or, place_of, plain_body}
 use Rattle.world_law.proofs.steps_lemmas.{Words.{refl, state_after, subst, sym, time_of, true, up_to, ℕ}, befalling.Told.{event_due, on_by_record}}
 use Rattle.world_law.proofs.steps_lemmas.befalling.{Bodies.{IsOutcome, calm_outcome}, Calm.{adjustment_unmoved, left_all_calm, state_unmoved}}
 use Rattle.net_plan.specs.declared.event.What.TheVariants as events
@@ -140,7 +141,7 @@ kept_told stands s hs coming cursor now befell device machine m k =
       is = k.is;
       sound = k.sound;
       up = k.up;
-      acted = inl (at_now, λ b a. not_past_acts now device b);
+      acted = inl (at_now, λ task b a. not_past_acts now device (acts_before s.network now device task (behind (now ∷ 2 ∷ [])) b));
       high = k.high;
       doing = elim k.doing [
         | inl e ↦ inl e

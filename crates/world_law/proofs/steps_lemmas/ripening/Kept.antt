@@ -1,17 +1,18 @@
 -- The device of a frame that is permanent, and tells it no time, is kept.
-use Rattle.{compression.proofs.Times.one_list_of_clusters, world_law.proofs.{devices.Plains.changes_at_plain, rows.Dispatching.whole_founded}}
-use Rattle.{std.proofs.Common.Contains, sync_state.specs.Standing.Standing, world_law.proofs.{acts.Recorded.first_recorded, devices.Borne.tell_owned}}
-use Rattle.world_law.proofs.{acts.Dispatched.{dispatch_told, no_dispatch_told}, steps_lemmas.{hearing.Quiet.frames_placed, ripening.Merely.own_skip}}
-use Rattle.world_law.proofs.putting.{Bearing.{before_aside, changed_aside, earlier_aside, left_aside, placed_back, still_aside}, Moving.{stays, worked_or_here}}
 use Rattle.world_law.proofs.steps_lemmas.Words.{◌++◌, ◌+ℤ◌, ◌+◌, ◌-ℤ◌, ◌<ℤ◌, ◌<◌, ◌||◌, ◌∙◌, ◌∷◌, ◌≡◌, ◌≤ℤ◌, ◌≤◌, ◌⊎◌, AllByRecursion, AreClusters, Bool}
 use Rattle.world_law.proofs.steps_lemmas.Words.{ClockTask, Compressed, DeviceId, Happening, HasDoneFrom, HasSentFrom, HasTurnedOn, IsAlike, IsAtRest, IsBefore}
 use Rattle.world_law.proofs.steps_lemmas.Words.{IsIn, IsKept, IsLeft, IsMoving, IsNoTaking, IsPending, IsSource, IsWaiting, Judgement, List, Network, Node}
-use Rattle.world_law.proofs.steps_lemmas.Words.{NoteBody, Point, Scenario, Task, Units, Waiting, [], act_place, after_permanence, amount, ap, arith}
+use Rattle.world_law.proofs.steps_lemmas.Words.{NoteBody, Point, Scenario, Task, Units, Waiting, [], act_place, after_permanence, amount, ap, arith, at_acts}
 use Rattle.world_law.proofs.steps_lemmas.Words.{before_behind, behind, both_ways, called, chain, changed_at, changes_adjustment, channel_of_link, correcting}
 use Rattle.world_law.proofs.steps_lemmas.Words.{dispatch_body, dispatches_back, doing, earlier, earlier_still, emitting, false, frames_taken, has_cleared}
 use Rattle.world_law.proofs.steps_lemmas.Words.{if◌then◌else◌, inl, inr, ints, is_cm, is_joined_by, is_timed, is_turned_on_at, length, master_of, moment_of}
 use Rattle.world_law.proofs.steps_lemmas.Words.{moves, natural, not, observation_window, placed, plain_body, plains_placed, point_at, pos, raised, rank}
-use Rattle.world_law.proofs.steps_lemmas.Words.{reading_for, refl, ripe_as, ripening, state_after, state_before, subst, sym, taken_in, time_of, told_by_others}
+use Rattle.world_law.proofs.steps_lemmas.Words.{reading_for, refl, ripe_as, ripening, state_after, state_before, subst, sym, taken_in, task_place, time_of}
+use Rattle.world_law.proofs.steps_lemmas.Words.{told_by_others}
+use Rattle.{compression.proofs.Times.one_list_of_clusters, world_law.proofs.{devices.Plains.changes_at_plain, rows.Dispatching.whole_founded}}
+use Rattle.{std.proofs.Common.Contains, sync_state.specs.Standing.Standing, world_law.proofs.{acts.Recorded.first_recorded, devices.Borne.tell_owned}}
+use Rattle.world_law.proofs.{acts.Dispatched.{dispatch_told, no_dispatch_told}, steps_lemmas.{hearing.Quiet.frames_placed, ripening.Merely.own_skip}}
+use Rattle.world_law.proofs.putting.{Bearing.{before_aside, changed_aside, earlier_aside, left_aside, placed_back, still_aside}, Moving.{stays, worked_or_here}}
 use Rattle.world_law.proofs.steps_lemmas.{Words.{true, turned_aside, undone_alike, value_of, waiting_alike, ℕ, ℤ}, ripening.Clustered.{old_or_open, open_later}}
 use Rattle.world_law.proofs.steps_lemmas.{acting.Starts.{none_of_it, plain_compressed, plain_sent}, ripening.{Judged.{Hears, cleared_told}, JustTold.IsTold}}
 use Rattle.world_law.proofs.steps_lemmas.ripening.{Coming.{all_late, late_mere, rest_ends}, Ripens.{IsRipe, in_time, not_beyond, ripe_more, sooner_of}}
@@ -172,12 +173,15 @@ kept_next stands s hs coming coming2 mark cursor now e machine after base r k is
         | inl still ↦
             inl (
               still.0,
-              λ b acts.
-                  elim (worked_or_here s hs coming [] coming mark cursor now 3 more m refl (act_place now e.device)
-                  (subst (λ (l : List Happening). IsSource s l (act_place now e.device)) (sym (Rattle.std.proofs.lemmas.List.append-nil hs))
-                  (IsSource.acting now e.device acts)) b) [
-                    | inl was ↦ still.1 was acts
-                    | inr at ↦ (let four : ◌≡◌ {A = ℕ} 4 3 = cc in omega (arith, four))
+              λ task b acts.
+                  elim (worked_or_here s hs coming [] coming mark cursor now 3 more m refl (task_place s.network now e.device task)
+                  (subst (λ (l : List Happening). IsSource s l (task_place s.network now e.device task)) (sym (Rattle.std.proofs.lemmas.List.append-nil hs))
+                  (IsSource.acting now e.device task acts)) b) [
+                    | inl was ↦ still.1 task was acts
+                    | inr at ↦ (
+                        let act : act_place now e.device ≡ now ∷ 3 ∷ more = sym (at_acts s.network now e.device task) ∙ at in
+                        let four : ◌≡◌ {A = ℕ} 4 3 = cc in omega (arith, four)
+                        )
                   ],
             )
       ];

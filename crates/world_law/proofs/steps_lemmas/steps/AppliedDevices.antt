@@ -4,13 +4,14 @@ use Rattle.world_law.{proofs.devices.{Borne.other_comes, TurnedOn.fold_still}, s
 use Rattle.world_law.proofs.steps_lemmas.Words.{◌&&◌, ◌++◌, ◌+◌, ◌-ℤ◌, ◌<ℤ◌, ◌<◌, ◌==◌, ◌||◌, ◌∙◌, ◌∷◌, ◌≡◌, ◌≤ℤ◌, ◌≤◌, ◌⊎◌, Bool, ClockTask, Compressed}
 use Rattle.world_law.proofs.steps_lemmas.Words.{DeviceId, Event, Happening, HasDoneFrom, HasSentFrom, Integrating, IsBefore, IsDeedOf, IsEventBody, IsHeld}
 use Rattle.world_law.proofs.steps_lemmas.Words.{IsIn, IsKept, IsLeft, IsNoTaking, IsOut, IsPending, IsReadyAt, IsUndone, IsWaiting, List, Network, Node, None}
-use Rattle.world_law.proofs.steps_lemmas.Words.{NoteBody, Off, Scenario, Some, State, Synchronised, Task, Units, What, World, [], act_place, adjustment_after}
-use Rattle.world_law.proofs.steps_lemmas.Words.{adjustment_with, amount, and_right, ap, append-nil, arith, bears_on, cases_Bool, changed_at, changes_adjustment}
-use Rattle.world_law.proofs.steps_lemmas.Words.{correcting, cycle_in, dispatching, doing, earlier, emitting, eq-eqb, eqb-true, false, filter, fold}
-use Rattle.world_law.proofs.steps_lemmas.Words.{frames_taken, if◌then◌else◌, in_parts, inl, inr, ints, is_broken, is_timed, is_turned_on_at, last_or, length}
-use Rattle.world_law.proofs.steps_lemmas.Words.{moves, never_self, next_is_up_to, not, not_turned_on, numbered, option_map_or, pos, rank_of_call, reading_for}
-use Rattle.world_law.proofs.steps_lemmas.Words.{refl, same_before, scenario, sending, slice_get, state_after, state_with, subst, sym, time_of, true, turns_on}
-use Rattle.world_law.proofs.steps_lemmas.{Words.{up_to, value_of, waiting_alike, whole, ℕ, ℤ}, steps.{AppliedParts.{broken_more, turned_more}, Passed.no_task}}
+use Rattle.world_law.proofs.steps_lemmas.Words.{NoteBody, Off, Scenario, Some, State, Synchronised, Task, Units, What, World, [], act_place, acts_before}
+use Rattle.world_law.proofs.steps_lemmas.Words.{adjustment_after, adjustment_with, amount, and_right, ap, append-nil, arith, bears_on, cases_Bool, changed_at}
+use Rattle.world_law.proofs.steps_lemmas.Words.{changes_adjustment, correcting, cycle_in, dispatching, doing, earlier, emitting, eq-eqb, eqb-true, false}
+use Rattle.world_law.proofs.steps_lemmas.Words.{filter, fold, frames_taken, if◌then◌else◌, in_parts, inl, inr, ints, is_broken, is_timed, is_turned_on_at}
+use Rattle.world_law.proofs.steps_lemmas.Words.{last_or, length, moves, never_self, next_is_up_to, not, not_turned_on, numbered, option_map_or, pos}
+use Rattle.world_law.proofs.steps_lemmas.Words.{rank_of_call, reading_for, refl, same_before, scenario, sending, slice_get, state_after, state_with, subst, sym}
+use Rattle.world_law.proofs.steps_lemmas.Words.{time_of, true, turns_on}
+use Rattle.world_law.proofs.steps_lemmas.{Words.{up_to, value_of, waiting_alike, whole, ℕ}, steps.{AppliedParts.{broken_more, turned_more}, Passed.no_task}}
 use Rattle.std.{proofs.lemmas.Bool.and_from, specs.List.Contains}
 use Rattle.run_law.specs.{machines.Answers.node_turned_on, scenario.Hypothesis.breaks_at}
 use Rattle.net_plan.specs.declared.event.What.TheVariants as events
@@ -234,7 +235,7 @@ kept_less stands network f g past event hs cursor now number ev device machine a
       is = is;
       sound = sound;
       up = now;
-      acted = inl (refl, λ b acts. late_act now device b);
+      acted = inl (refl, λ task b acts. late_act now device (acts_before network now device task (now ∷ 2 ∷ []) b));
       high = now;
       doing = inl refl;
       told = λ over. absurd (let bad : now ≡ now + 1 = over in omega (arith, bad));

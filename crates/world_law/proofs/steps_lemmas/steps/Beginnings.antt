@@ -1,8 +1,8 @@
 -- A fresh world stands for the run of no records under no events.
 use Rattle.{run_law.{proofs.{records.Happenings.none_numbered, runs.Grow.empty_run}, specs.machines.Nodes.begun_node}, world_law.specs.steps.Steps.Begun}
 use Rattle.world_law.proofs.steps_lemmas.Words.{◌++◌, ◌+ℤ◌, ◌+◌, ◌-ℤ◌, ◌<ℤ◌, ◌^◌, ◌∙◌, ◌∷◌, ◌≡◌, ◌≤ℤ◌, ◌≤◌, DeviceId, Happening, IsBefore, IsDue, IsIn, IsKept}
-use Rattle.world_law.proofs.steps_lemmas.Words.{IsLeft, IsPending, IsSource, List, Network, Node, Scenario, Task, Units, [], amount, ap, arith, chain}
-use Rattle.world_law.proofs.steps_lemmas.Words.{correcting, dispatching, doing, emitting, false, inl, inr, ints, no_cluster, none_in, observation_window}
+use Rattle.world_law.proofs.steps_lemmas.Words.{IsLeft, IsPending, IsSource, List, Network, Node, Scenario, Task, Units, [], acts_before, amount, ap, arith}
+use Rattle.world_law.proofs.steps_lemmas.Words.{chain, correcting, dispatching, doing, emitting, false, inl, inr, ints, no_cluster, none_in, observation_window}
 use Rattle.world_law.proofs.steps_lemmas.Words.{place_of, pos, reading_for, refl, scenario, sending, subst, sym, true, value_of, ℕ, ℤ}
 
 -- nothing of the run is before the first source
@@ -15,7 +15,8 @@ source_from : (s : Scenario) (hs : List Happening) (w : List ℕ) → IsSource s
 source_from s hs w (IsSource.arriving t device link cause a) b = low_rank t 2 (device.0 ∷ link.0 ∷ cause ∷ []) (omega arith) b
 source_from s hs w (IsSource.ripening t device link cause point r) b =
     low_rank t 3 (device.0 ∷ amount point ∷ r.frame.members.0 ∷ link.0 ∷ cause ∷ []) (omega arith) b
-source_from s hs w (IsSource.acting t device a) b = low_rank t 4 (device.0 ∷ []) (omega arith) b
+source_from s hs w (IsSource.acting t device task a) b =
+    low_rank t 4 (device.0 ∷ []) (omega arith) (acts_before s.network t device task (0 ∷ 1 ∷ []) b)
 source_from s hs w (IsSource.departing t device link cause d) b = low_rank t 8 (device.0 ∷ link.0 ∷ cause ∷ []) (omega arith) b
 source_from s hs w (IsSource.following t cause h it) b = low_rank t 2 [] (omega arith) b
 source_from s hs w (IsSource.befalling time line what it) b = low_rank (amount time) 1 [] (omega arith) b
@@ -48,7 +49,7 @@ kept_fresh stands network f device machine zero_first le is = record {
   is = is;
   sound = refl;
   up = 0;
-  acted = inl (refl, λ b a. low_rank 0 4 (device.0 ∷ []) (omega arith) b);
+  acted = inl (refl, λ task b a. low_rank 0 4 (device.0 ∷ []) (omega arith) (acts_before network 0 device task (0 ∷ 1 ∷ []) b));
   high = 0;
   doing = inl refl;
   told = λ over. absurd cc;

@@ -5,9 +5,9 @@ use Rattle.world_law.{proofs.devices.Passes.passes_if, specs.{device.Own.IsStill
 use Rattle.world_law.proofs.steps_lemmas.Words.{◌++◌, ◌+◌, ◌-◌, ◌<ℤ◌, ◌<◌, ◌^◌, ◌∙◌, ◌∷◌, ◌≡◌, ◌≤ℤ◌, ◌≤◌, AreOfNetwork, AreSettled, DeviceId, Down, Happening}
 use Rattle.world_law.proofs.steps_lemmas.Words.{HasDoneFrom, HaveBefallen, IsBefore, IsHeld, IsIn, IsKept, IsLeft, IsOut, IsPending, IsReadyAt, IsSteady}
 use Rattle.world_law.proofs.steps_lemmas.Words.{LinkId, List, Network, Node, Note, Scenario, Some, Stands, StandsBehind, Task, Up, Way, World, [], act_place}
-use Rattle.world_law.proofs.steps_lemmas.Words.{adjustment_after, all_up_to, amount, ap, append-nil, are_past, arith, cases_Bool, cases_int, cases_lt}
-use Rattle.world_law.proofs.steps_lemmas.Words.{change_still, changed_at, doing, emitting, false, filter_map, happenings, has_cleared, hidden, inl, inr, ints}
-use Rattle.world_law.proofs.steps_lemmas.Words.{last_or, length, map, members_in, natural, no_later_breaks, not_on_after, numbered_in, own_time, pos}
+use Rattle.world_law.proofs.steps_lemmas.Words.{acts_before, adjustment_after, all_up_to, amount, ap, append-nil, are_past, arith, cases_Bool, cases_int}
+use Rattle.world_law.proofs.steps_lemmas.Words.{cases_lt, change_still, changed_at, doing, emitting, false, filter_map, happenings, has_cleared, hidden, inl}
+use Rattle.world_law.proofs.steps_lemmas.Words.{inr, ints, last_or, length, map, members_in, natural, no_later_breaks, not_on_after, numbered_in, own_time, pos}
 use Rattle.world_law.proofs.steps_lemmas.Words.{reading_for, refl, ripe_place, slice_get, state_after, subst, sym, time_of, true, up_to, ℕ, ℤ}
 use Rattle.run_law.proofs.runs.Places.{before_later_time, before_of_time, earlier_time}
 
@@ -223,7 +223,7 @@ device_passes stands s hs mark cursor now t device machine k lt steady precise b
       is = k.is;
       sound = no_later_breaks s mark now t device befallen (omega (arith, lt)) ∙ k.sound;
       up = t;
-      acted = inl (refl, λ b a. not_now t device b);
+      acted = inl (refl, λ task b a. not_now t device (acts_before s.network t device task (t ∷ []) b));
       high = t;
       doing = inl refl;
       told = λ over. absurd (too_soon t over);
