@@ -1,7 +1,8 @@
 -- Where only events of the present instant are worked off, the records given are the run behind them.
 use Rattle.drift_world.proofs.Words.{◌+◌, ◌<◌, ◌∷◌, ◌≡◌, ◌≤◌, AreSettled, DeviceId, Happening, IsBefore, IsDue, IsIn, IsScenarioRun, List, Network, Node, Note}
 use Rattle.drift_world.proofs.Words.{Scenario, Stands, World, [], amount, ap, append-nil, arith, chain, happenings, inl, inr, never_self, place_of, refl, subst}
-use Rattle.{drift_world.proofs.Words.{sym, true, ℕ}, world_law.{proofs.runs.{Next.none_due, Sourced.sourced, TaskPlaces.{acts_before, task_before}}, specs.world.World.IsWorkedOff}}
+use Rattle.{drift_world.proofs.Words.{sym, true, ℕ}, world_law.specs.world.World.IsWorkedOff}
+use Rattle.world_law.proofs.runs.{Next.none_due, Sourced.sourced, TaskPlaces.{acts_before, task_before}}
 use Rattle.{net_plan.specs.declared.event.Event.Event, world_law.{proofs.runs.Firsts.source_before, specs.source.{Next.NoneDueBefore, Sources.IsSource}}}
 use Rattle.run_law.proofs.runs.Grow.{move_mark}
 

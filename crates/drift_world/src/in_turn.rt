@@ -20,7 +20,8 @@ use world_state::storing::taker;
 use world_state::waiting::waiter;
 
 impl<C: Clock, M: Machine + Drop> State<C, M> {
-    ghost use Rattle.world_state.specs.{Giving.{HasItsOctets, changed_device}, Keeping.keeps, Places.IsPutAt, Views.settled_at};
+    ghost use Rattle.world_state.specs.{Giving.{HasItsOctets, changed_device}, Keeping.keeps, Places.IsPutAt};
+    ghost use Rattle.world_state.specs.Views.{settled_at};
     ghost use Rattle.drift_world.specs.{Giving.IsRunningWith, Sound.IsSound, Stepping.ChangesOnly};
     ghost use Rattle.drift_world.specs.Turns.{GivesAt, HasRoom, IsKept, MayWork, WorkSays, given_in};
     ghost use Rattle.drift_world.specs.{Views.{with_first, world_of}, declared.source.Source.Source as SourceOf};
@@ -49,7 +50,8 @@ impl<C: Clock, M: Machine + Drop> State<C, M> {
           given = self.new.given;
         } }
         ensures stands { let z = settled_at network.now self.old.time first in (s : Scenario) (notes : List NoteOf)
-            → (old : Stands C.reading (keeps M.stands) s (with_first network.now self.old first self.old.settled.items) notes)
+            → (old : Stands C.reading (keeps M.stands) s
+            (with_first network.now self.old first self.old.settled.items) notes)
             → NoSourceBefore s (happenings s.network notes) old.cursor (place_of z)
             → Stands C.reading (keeps M.stands) s (world_of network.now self.new) (notes ++ given_in result note.new) }
         ensures says { IfOk result (GivesAt self.old self.new note.new) }
@@ -122,8 +124,8 @@ impl<C: Clock, M: Machine + Drop> State<C, M> {
         Ok(Turn::GoesOn)
     }
 
-    /// The first frame that is permanent is judged. Where its only record is how it is judged, this is given at once: it
-    /// stands at the place of the source.
+    /// The first frame that is permanent is judged. Where its only record is how it is judged, this is given at once:
+    /// it stands at the place of the source.
     #[inline(always)]
     pub fn ripening_turn(
         &mut self,

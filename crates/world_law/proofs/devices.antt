@@ -7,5 +7,6 @@ pub mod Plains
 pub mod TurnedOn
 pub mod Befalls
 pub mod Deeds
+pub mod Working
 pub mod Resting
 pub mod Shown

@@ -5,9 +5,9 @@ use Rattle.{net_plan.specs.declared.tables.Role.Role, sync_state.specs.Standing.
 use Rattle.{run_law.specs.declared.judgement.Why.TheVariants.On, world_law.proofs.{devices.TurnedOn.{IsQuiet, quiet_rest}, lists.Lists.{behind_no, map_none}}}
 use Rattle.{run_law.specs.scenario.Devices.{has_role, start_of}, world_law.proofs.{devices.{Deeds.rests, OwnRecords.keeps_state}, putting.PutShown.hidden_rank}}
 use Rattle.world_law.proofs.Words.{◌++◌, ◌<◌, ◌∙◌, ◌∷◌, ◌≡◌, ◌≤◌, AreClusters, AreOfNetwork, Bool, Compressed, Device, DeviceId, Emits, Happening, HasDone}
-use Rattle.world_law.proofs.Words.{HasDoneFrom, HasSent, HasTaskBy, HaveBefallen, Integrating, IsActing, IsBefore, IsHeld, IsIn, IsKept, IsLeft, Judgement}
-use Rattle.world_law.proofs.Words.{List, Network, Node, None, Note, NoteBody, Off, Point, Scenario, Some, Stands, State, Synchronised, Task, World, []}
-use Rattle.world_law.proofs.Words.{act_place, after_last, ap, append-nil, append_assoc, arith, cases_Bool, cases_lt, chain, changed_at, device_at, earlier}
+use Rattle.world_law.proofs.Words.{HasDoneFrom, HasSent, HasTaskBy, HasWorkedTo, HaveBefallen, Integrating, IsActing, IsBefore, IsHeld, IsIn, IsKept, IsLeft}
+use Rattle.world_law.proofs.Words.{Judgement, List, Network, Node, None, Note, NoteBody, Off, Point, Scenario, Some, Stands, State, Synchronised, Task, World}
+use Rattle.world_law.proofs.Words.{[], act_place, after_last, ap, append-nil, append_assoc, arith, cases_Bool, cases_lt, chain, changed_at, device_at, earlier}
 use Rattle.world_law.proofs.Words.{emitting, ends_stretch, false, filter_map, frames_taken, happenings, hidden, if◌then◌else◌, in_filter, in_left, in_parts}
 use Rattle.world_law.proofs.Words.{in_right, inl, inr, ints, is_broken, is_turned_on_at, is_turning, length, map, moves, nat_lt, never_both, next_cycle}
 use Rattle.world_law.proofs.Words.{next_point, observation_window, option_map_or, place_of, point_by, point_in, points_of, pos, rank, reading_for, refl}
@@ -190,8 +190,10 @@ pub record IsBehind (coming : List Happening) (now : ℕ) (p : List ℕ) : Type 
 
 act_now : {M : Type 0} (stands : M → Network → DeviceId → Node → Type 0) (s : Scenario) (hs coming : List Happening) (cursor p : List ℕ) (now : ℕ)
     (device : DeviceId) (machine : M) (k : IsKept stands s hs coming cursor now device machine) (task : Task) → IsLawful s (hs ++ coming) device
-    → IsBehind coming now p → IsPast hs now → k.up ≡ now → k.high ≡ now → IsActing s hs now device task → IsBefore (act_place now device) p → HasTaskBy s device k.node now
-act_now stands s hs coming cursor p now device machine k task law behind_it past up high a b =
+    → IsBehind coming now p → IsPast hs now → k.up ≡ now
+    → HasWorkedTo s device k.node (changed_at (hs ++ coming) device k.up) k.up → IsActing s hs now device task
+    → IsBefore (act_place now device) p → HasTaskBy s device k.node now
+act_now stands s hs coming cursor p now device machine k task law behind_it past up worked a b =
     let js = hs ++ coming in
     let past_all : (h : Happening) → IsIn h js → time_of h ≤ now = λ h i. elim (in_parts h hs coming i) [
       | inl given ↦ past.past h given
@@ -202,12 +204,11 @@ act_now stands s hs coming cursor p now device machine k task law behind_it past
     (λ z i. (quiet_rest s device now z.note.body (k.still up z (in_right z hs coming i) (behind_it.of_now z i)), behind_it.late z i device b)) in
     let left : IsLeft s js device now k.node = subst (λ (n : ℕ). IsLeft s js device n k.node) up k.left in
     let done : HasDoneFrom s.network (s.reading device) device k.node (changed_at js device now) now now =
-    subst (λ (n : ℕ). HasDoneFrom s.network (s.reading device) device k.node (changed_at js device now) now n) high
-    (subst (λ (n : ℕ). HasDoneFrom s.network (s.reading device) device k.node (changed_at js device n) n k.high) up k.done) in
+    subst (λ (n : ℕ). HasDoneFrom s.network (s.reading device) device k.node (changed_at js device n) n n) up worked.done in
     let has = rests s js device now (changed_at js device now) k.node done refl in
     let sent : HasSent s device now k.node = record {
-      unsent = λ c w x lt. k.sent.unsent c w x (omega (arith, lt, up));
-      sent = λ c there_is. let x = k.sent.sent c there_is in (x.0, omega (arith, x.1, high), x.2);
+      unsent = λ c w x lt. worked.sent.unsent c w x (omega (arith, lt, up));
+      sent = λ c there_is. let x = worked.sent.sent c there_is in (x.0, omega (arith, x.1, up), x.2);
     } in
     elim (cases_Bool (is_turned_on_at s device now)) [
       | inr off ↦ deeds_now s hs coming device now k.node task law past_all k.taken same points law.steady.never_falls off left has sent a
@@ -219,7 +220,8 @@ act_now stands s hs coming cursor p now device machine k task law behind_it past
 pub kept_no_act : {M : Type 0} (stands : M → Network → DeviceId → Node → Type 0) (s : Scenario) (hs coming : List Happening) (mark cursor p : List ℕ)
     (now t : ℕ) (device : DeviceId) (machine : M) (k : IsKept stands s hs coming cursor now device machine) (task : Task)
     → IsLawful s (hs ++ coming) device → IsBehind coming now p → IsPast hs now → (IsBefore (now ∷ 2 ∷ []) p → IsWorked hs cursor now) → HaveBefallen s mark now
-    → now ≤ t → IsIdleBefore s device now k.node p → IsActing s hs t device task → (IsBefore (act_place t device) cursor → ⊥) → IsBefore (act_place t device) p → ⊥
+    → now ≤ t → IsIdleBefore s device now k.node p → IsActing s hs t device task → (IsBefore (act_place t device) cursor → ⊥)
+    → IsBefore (act_place t device) p → ⊥
 kept_no_act {M} stands s hs coming mark cursor p now t device machine k task law behind_it past worked befallen le idle a not b =
     elim (cases_lt now t) [
       | inr ge ↦ let same : t ≡ now =
@@ -237,10 +239,10 @@ kept_no_act {M} stands s hs coming mark cursor p now t device machine k task law
     ]
   where
     at_once : IsActing s hs now device task → (IsBefore (act_place now device) cursor → ⊥) → IsBefore (act_place now device) p → ⊥
-    at_once a not b = elim k.doing [
-      | inr d ↦ idle now (omega arith) d.3 b
-      | inl rested ↦ elim k.acted [
-        | inl yet ↦ idle now (omega arith) (act_now stands s hs coming cursor p now device machine k task law behind_it past yet.0 (rested ∙ yet.0) a b) b
+    at_once a not b = elim k.worked [
+      | inr working ↦ idle now (omega arith) working.1.due b
+      | inl rests ↦ elim k.acted [
+        | inl yet ↦ idle now (omega arith) (act_now stands s hs coming cursor p now device machine k task law behind_it past yet.0 rests a b) b
         | inr done ↦ elim (k.told done.0) [
           | inl gone ↦ not gone
           | inr just ↦

@@ -1,10 +1,11 @@
 -- A device that has nothing due at the present instant, where nothing is to come: it rests from this instant on, or from the
 -- next.
 use Rattle.{run_law.proofs.records.Order.time_before, world_law.proofs.{devices.Deeds.rests, giving.Given.no_later_breaks}}
-use Rattle.world_law.proofs.Words.{◌++◌, ◌+◌, ◌<ℤ◌, ◌<◌, ◌∙◌, ◌∷◌, ◌≡◌, ◌≤ℤ◌, ◌≤◌, DeviceId, Happening, HasDone, HasDoneFrom, HasSent, HaveBefallen, IsBefore}
-use Rattle.world_law.proofs.Words.{IsDue, IsFounded, IsIn, IsKept, IsLeft, IsOfThisTime, IsPending, IsTurnedOnBy, List, Network, Node, Note, Scenario, Stands}
-use Rattle.world_law.proofs.Words.{Task, World, [], ap, append-nil, arith, cases_Bool, cases_lt, changed_at, doing, emitting, false, happenings, in_right, inl}
-use Rattle.world_law.proofs.Words.{inr, ints, is_turned_on_at, key, members_in, moves, place_of, pos, rank, reading_for, refl, subst, sym, time_of, true, ℕ}
+use Rattle.world_law.proofs.Words.{◌++◌, ◌+◌, ◌<ℤ◌, ◌∙◌, ◌∷◌, ◌≡◌, ◌≤ℤ◌, ◌≤◌, DeviceId, Happening, HasDone, HasDoneFrom, HasSent, HasWorkedTo}
+use Rattle.world_law.proofs.Words.{HaveBefallen, IsBefore, IsDue, IsFounded, IsIn, IsKept, IsLeft, IsOfThisTime, IsPending, IsTurnedOnBy, List, Network, Node}
+use Rattle.world_law.proofs.Words.{Note, Scenario, Stands, Task, World, [], ap, append-nil, arith, cases_Bool, cases_lt, changed_at, doing, emitting, false}
+use Rattle.world_law.proofs.Words.{happenings, in_right, inl, inr, ints, is_turned_on_at, key, members_in, moves, place_of, pos, rank, reading_for, refl, subst}
+use Rattle.world_law.proofs.Words.{sym, time_of, true, ℕ}
 use Rattle.world_law.proofs.{devices.TurnedOn.{IsInTime, IsQuietInstant, change_quiet, left_after_on, quiet_rest}, runs.Foremost.{not_on_after, unmoved_by}}
 
 -- it rests from this time on
@@ -45,15 +46,15 @@ are_past reading stands s world notes old = record {
 -- ---- from the instant on, or from the next
 
 rests_now : {M : Type 0} (stands : M → Network → DeviceId → Node → Type 0) (s : Scenario) (hs : List Happening) (cursor : List ℕ) (now from : ℕ)
-    (device : DeviceId) (machine : M) (k : IsKept stands s hs [] cursor now device machine) → k.up ≡ from → k.high ≡ from → now ≤ from → from ≤ now + 1
+    (device : DeviceId) (machine : M) (k : IsKept stands s hs [] cursor now device machine) → k.up ≡ from
+    → HasWorkedTo s device k.node (changed_at (hs ++ []) device k.up) k.up → now ≤ from → from ≤ now + 1
     → is_turned_on_at s device from ≡ false → ((h : Happening) → IsIn h hs → from ≤ time_of h → moves device h.note.body ≡ false) → Rests s hs device now k.node
-rests_now stands s hs cursor now from device machine k up high le soon off still =
+rests_now stands s hs cursor now from device machine k up worked le soon off still =
     let whole : hs ++ [] ≡ hs = append-nil hs in
     let left : IsLeft s hs device from k.node = subst (λ (l : List Happening). IsLeft s l device from k.node) whole
     (subst (λ (n : ℕ). IsLeft s (hs ++ []) device n k.node) up k.left) in
     let done : HasDoneFrom s.network (s.reading device) device k.node (changed_at (hs ++ []) device from) from from =
-    subst (λ (n : ℕ). HasDoneFrom s.network (s.reading device) device k.node (changed_at (hs ++ []) device from) from n) high
-    (subst (λ (n : ℕ). HasDoneFrom s.network (s.reading device) device k.node (changed_at (hs ++ []) device n) n k.high) up k.done) in
+    subst (λ (n : ℕ). HasDoneFrom s.network (s.reading device) device k.node (changed_at (hs ++ []) device n) n n) up worked.done in
     record {
       from = from;
       le = le;
@@ -61,8 +62,8 @@ rests_now stands s hs cursor now from device machine k up high le soon off still
       left = left;
       done = rests s hs device from (changed_at (hs ++ []) device from) k.node done (sym (ap (λ (l : List Happening). changed_at l device from) whole));
       sent = record {
-        unsent = λ c w x lt. k.sent.unsent c w x (omega (arith, lt, up));
-        sent = λ c there_is. let x = k.sent.sent c there_is in (x.0, omega (arith, x.1, high), x.2);
+        unsent = λ c w x lt. worked.sent.unsent c w x (omega (arith, lt, up));
+        sent = λ c there_is. let x = worked.sent.sent c there_is in (x.0, omega (arith, x.1, up), x.2);
       };
       off = off;
       still = still;
@@ -70,10 +71,11 @@ rests_now stands s hs cursor now from device machine k up high le soon off still
 
 -- it was turned on at the instant
 rests_on : {M : Type 0} (stands : M → Network → DeviceId → Node → Type 0) (s : Scenario) (hs : List Happening) (mark cursor : List ℕ) (now : ℕ)
-    (device : DeviceId) (machine : M) (k : IsKept stands s hs [] cursor now device machine) → k.up ≡ now → k.high ≡ now → is_turned_on_at s device now ≡ true
+    (device : DeviceId) (machine : M) (k : IsKept stands s hs [] cursor now device machine) → k.up ≡ now
+    → HasWorkedTo s device k.node (changed_at (hs ++ []) device k.up) k.up → is_turned_on_at s device now ≡ true
     → HaveBefallen s mark now → IsPast hs now → IsWorked hs cursor now
     → ((task : Task) → IsPending s.network device k.node task → pos (s.reading device now) <ℤ reading_for s.network k.node task) → Rests s hs device now k.node
-rests_on stands s hs mark cursor now device machine k up high on befallen past worked idle =
+rests_on stands s hs mark cursor now device machine k up rests on befallen past worked idle =
     let whole : hs ++ [] ≡ hs = append-nil hs in
     let was = k.turned on in
     let turned : IsTurnedOnBy hs device now = subst (λ (l : List Happening). IsTurnedOnBy l device now) whole
@@ -97,21 +99,21 @@ rests_on stands s hs mark cursor now device machine k up high on befallen past w
       left = left_after_on s hs device now k.node q on off same turned left;
       done = record {
         undone = λ deed u x from lt. elim (cases_lt x now) [
-          | inl before ↦ k.done.undone deed u x (omega (arith, from, change)) (omega (arith, before, up))
+          | inl before ↦ rests.done.undone deed u x (omega (arith, from, change)) (omega (arith, before, up))
           | inr ge ↦ let at : x ≡ now =
               omega (arith, ge, lt) in subst (λ (n : ℕ). pos (s.reading device n) <ℤ reading_for s.network k.node (doing deed)) (sym at)
               (idle (doing deed) (sound, u))
         ];
-        done = λ deed there. let x = k.done.done deed there in (x.0, omega (arith, x.1, change), omega (arith, x.2, high), x.3);
+        done = λ deed there. let x = rests.done.done deed there in (x.0, omega (arith, x.1, change), omega (arith, x.2, up), x.3);
       };
       sent = record {
         unsent = λ c w x lt. elim (cases_lt x now) [
-          | inl before ↦ k.sent.unsent c w x (omega (arith, before, up))
+          | inl before ↦ rests.sent.unsent c w x (omega (arith, before, up))
           | inr ge ↦ let at : x ≡ now =
               omega (arith, ge, lt) in subst (λ (n : ℕ). pos (s.reading device n) <ℤ reading_for s.network k.node (emitting c)) (sym at)
               (idle (emitting c) (sound, w))
         ];
-        sent = λ c there. let x = k.sent.sent c there in (x.0, omega (arith, x.1, high), x.2);
+        sent = λ c there. let x = rests.sent.sent c there in (x.0, omega (arith, x.1, up), x.2);
       };
       off = off;
       still = λ h i from. let early = past.past h i in absurd (omega (arith, early, from));
@@ -123,17 +125,17 @@ pub at_rest : {M : Type 0} (stands : M → Network → DeviceId → Node → Typ
     → ((task : Task) → IsPending s.network device k.node task → pos (s.reading device now) <ℤ reading_for s.network k.node task) → Rests s hs device now k.node
 at_rest stands s hs mark cursor now device machine k befallen past worked idle =
     let inside : (h : Happening) → IsIn h hs → IsIn h (hs ++ []) = λ h i. subst (λ (l : List Happening). IsIn h l) (sym (append-nil hs)) i in
-    elim k.doing [
-      | inr d ↦ absurd (never_both _ _ (idle d.3.0 d.3.1) d.3.2)
-      | inl rested ↦ elim k.acted [
+    elim k.worked [
+      | inr working ↦ (let task = working.1.due in absurd (never_both _ _ (idle task.0 task.1) task.2))
+      | inl rests ↦ elim k.acted [
         | inr over ↦
-            rests_now stands s hs cursor now (now + 1) device machine k over.0 (rested ∙ over.0) (omega arith) (omega arith)
+            rests_now stands s hs cursor now (now + 1) device machine k over.0 rests (omega arith) (omega arith)
             (not_on_after s mark now (now + 1) device befallen (omega arith))
             (λ h i from. let early = past.past h i in absurd (omega (arith, early, from)))
         | inl yet ↦ elim (cases_Bool (is_turned_on_at s device now)) [
-          | inl on ↦ rests_on stands s hs mark cursor now device machine k yet.0 (rested ∙ yet.0) on befallen past worked idle
+          | inl on ↦ rests_on stands s hs mark cursor now device machine k yet.0 rests on befallen past worked idle
           | inr off ↦
-              rests_now stands s hs cursor now now device machine k yet.0 (rested ∙ yet.0) (omega arith) (omega arith) off
+              rests_now stands s hs cursor now now device machine k yet.0 rests (omega arith) (omega arith) off
               (λ h i from. let early = past.past h i in unmoved_by s device now h.note.body off (k.still yet.0 h (inside h i) (omega (arith, early, from))))
         ]
       ]

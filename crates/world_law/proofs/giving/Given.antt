@@ -1,10 +1,11 @@
 -- The first of what is to come is given: the world stands again.
+use Rattle.world_law.proofs.devices.Working.{worked_on}
 use Rattle.world_law.proofs.runs.TaskPlaces.{acts_before}
 use Rattle.run_law.{proofs.{law.FirstPlaces.numbered_next, runs.NetworkRuns.one_more}, specs.{control.Permanence.IsPermanent, scenario.Hypothesis.breaks_at}}
 use Rattle.{run_law.specs.scenario.Scenarios.events_up_to, world_law.specs.world.World.{AreUntold, Befell, IsActedUpTo, IsAwaitedFor, IsJustTold, note_of}}
 use Rattle.std.proofs.lemmas.{Bool.le-leb, List.length_push, Option.slice_get_cases}
 use Rattle.world_law.proofs.Words.{◌++◌, ◌+◌, ◌<◌, ◌∙◌, ◌∷◌, ◌≡◌, ◌≤◌, AreAtPorts, AreOfNetwork, AreOnWires, AreSettled, AreWaiting, AtPort, Bool, Device}
-use Rattle.world_law.proofs.Words.{DeviceId, Event, Happening, HasDoneFrom, HaveBefallen, IsBefore, IsCaused, IsDue, IsEventRecord, IsHeld, IsIn, IsKept}
+use Rattle.world_law.proofs.Words.{DeviceId, Event, Happening, HaveBefallen, IsBefore, IsCaused, IsDue, IsEventRecord, IsHeld, IsIn, IsKept}
 use Rattle.world_law.proofs.Words.{IsLeft, IsScenarioRun, IsSource, IsTurnedOnBy, LinkId, List, Network, NoSourceBefore, Node, Note, NoteBody, Off, OnWire}
 use Rattle.world_law.proofs.Words.{Option, Pcf, Scenario, Some, Units, Waiting, [], act_place, adjustment_after, amount, ap, append-nil, append_assoc, arith}
 use Rattle.world_law.proofs.Words.{before_next_time, behind, cases_Bool, changed_at, clock_place, device_at, earlier, false, frames_taken, happening}
@@ -202,8 +203,6 @@ kept_then stands s hs z rest mark cursor now device machine g k =
       sound = k.sound;
       up = k.up;
       acted = acted_then s hs z rest mark cursor now k.up device g k.acted;
-      high = k.high;
-      doing = elim k.doing [ inl e ↦ inl e | inr d ↦ inr (d.0, d.1, λ p b. g.are.not_past z (inl refl) p (d.2 p b), d.3) ];
       told =
           λ over. elim (k.told over) [
             | inl past ↦ inl (g.are.not_past z (inl refl) (act_place now device) past)
@@ -212,8 +211,8 @@ kept_then stands s hs z rest mark cursor now device machine g k =
           ];
       left = subst (λ (l : List Happening). IsLeft s l device k.up k.node) parts k.left;
       taken = k.taken ∙ ap (λ (l : List Happening). frames_taken s l device) parts;
-      done = subst (λ (l : List Happening). HasDoneFrom s.network (s.reading device) device k.node (changed_at l device k.up) k.up k.high) parts k.done;
-      sent = k.sent;
+      worked = worked_on s device k.node _ _ k.up now cursor (behind (place_of z)) (ap (λ (l : List Happening). changed_at l device k.up) parts)
+          (g.are.not_past z (inl refl)) k.worked;
       bare = k.bare;
       ready = k.ready;
       still = λ same h i. k.still same h (subst (λ (l : List Happening). IsIn h l) (append_assoc hs (z ∷ []) rest) i);

@@ -1,5 +1,6 @@
 -- The first of what is to come is given: what is worked off, and what is settled then.
-use Rattle.{run_law.proofs.runs.Places.nothing_between, world_law.proofs.{Words.{rank, refl, subst, suc, sym, time_of, true, ℕ}, runs.{SourcesBack.source_back, TaskPlaces.at_acts}}}
+use Rattle.{run_law.proofs.runs.Places.nothing_between, world_law.proofs.Words.{rank, refl, subst, suc, sym, time_of, true, ℕ}}
+use Rattle.world_law.proofs.runs.{SourcesBack.source_back, TaskPlaces.at_acts}
 use Rattle.world_law.proofs.Words.{◌++◌, ◌∙◌, ◌∷◌, ◌≡◌, ◌≤◌, ◌⊎◌, AllBefore, AreSettled, DeviceId, Happening, IsBefore, IsDue, IsForward, IsIn, IsSource}
 use Rattle.world_law.proofs.Words.{IsWorkedOff, List, NoSourceBefore, NoteBody, Scenario, [], act_place, ap, append_assoc, arith, before_behind, before_later}
 use Rattle.world_law.proofs.Words.{before_or_not, behind, chain, either_way, in_left, inl, inr, is_at_source, key, length, members_in, never_self, place_of}

@@ -1,6 +1,7 @@
 -- A device on which a record does not bear stands with it as without it.
+use Rattle.world_law.proofs.devices.Working.{worked_on}
 use Rattle.{std.proofs.Common.arith, world_law.proofs.devices.Plains.{adjustments_plain, changes_at_plain, earlier_plain, states_plain, told_by_others}}
-use Rattle.world_law.proofs.Words.{◌++◌, ◌+ℤ◌, ◌∙◌, ◌∷◌, ◌≡◌, ◌≤◌, ◌⊎◌, AreOfNetwork, DeviceId, Happening, HasDoneFrom, HasTurnedOn, Integrating, IsAtRest}
+use Rattle.world_law.proofs.Words.{◌++◌, ◌+ℤ◌, ◌∙◌, ◌∷◌, ◌≡◌, ◌≤◌, ◌⊎◌, AreOfNetwork, DeviceId, Happening, HasTurnedOn, Integrating, IsAtRest}
 use Rattle.world_law.proofs.Words.{IsHeld, IsIn, IsKept, IsLeft, List, Network, Node, NoteBody, Scenario, State, TakenFrame, Units, adjustment_after}
 use Rattle.world_law.proofs.Words.{adjustment_with, ap, append_assoc, bears_on, borne, changed_at, cycle_in, earlier, false, frames_taken, if◌then◌else◌}
 use Rattle.world_law.proofs.Words.{in_left, in_parts, in_right, inl, inr, is_turned_on_at, is_turning, length, local_before, map, moves, nat_le, nat_lt, pos}
@@ -219,17 +220,13 @@ kept_aside stands s n hs front back cursor now device machine w misses sends at 
   sound = k.sound;
   up = k.up;
   acted = k.acted;
-  high = k.high;
-  doing = k.doing;
   told = λ over. elim (k.told over) [
     | inl past ↦ inl past
     | inr just ↦ inr (record { looking = sym (before_aside s n hs front back w device now misses) ∙ just.looking; other = just.other })
   ];
   left = left_aside s n hs front back w device k.up k.node misses k.left;
   taken = k.taken ∙ frames;
-  done = subst (λ (c : ℕ). HasDoneFrom s.network (s.reading device) device k.node c k.up k.high)
-      (changed_aside s n hs front back w device k.up misses) k.done;
-  sent = k.sent;
+  worked = worked_on s device k.node _ _ k.up now cursor cursor (changed_aside s n hs front back w device k.up misses) (λ p b. b) k.worked;
   bare = k.bare;
   ready = k.ready;
   still = λ same. still_aside s n hs front back now device w (moves_no_other device w.note.body misses) (k.still same);

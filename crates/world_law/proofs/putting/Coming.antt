@@ -1,4 +1,5 @@
 -- The cursor comes to the source that comes first, and stays there: a device acts at it, and has more to do.
+use Rattle.world_law.proofs.devices.Working.{worked_on}
 use Rattle.world_law.proofs.Words.{◌++◌, ◌+◌, ◌<◌, ◌∙◌, ◌∷◌, ◌≡◌, AreAtPorts, AreOfNetwork, AreOnWires, AreSettled, AreWaiting, AtPort, Bool, DeviceId}
 use Rattle.world_law.proofs.Words.{Happening, HasTurnedOn, IsBefore, IsHeld, IsKept, IsSource, List, Network, Node, Note, OnWire, Pcf, Scenario, Some, Stands}
 use Rattle.world_law.proofs.Words.{Waiting, World, [], act_place, amount, ap, arith, before_later, before_next_time, before_or_not, clock_place, false}
@@ -88,16 +89,15 @@ kept_comes stands s hs coming mark cursor now r more device machine m k = record
     | inl still ↦
         inl (
           still.0,
-          λ task b a. still.1 task (was_before s hs coming mark cursor now r more m (task_place s.network now device task) (IsSource.acting now device task a) b) a,
+          λ task b a.
+              still.1 task
+              (was_before s hs coming mark cursor now r more m (task_place s.network now device task) (IsSource.acting now device task a) b) a,
         )
   ];
-  high = k.high;
-  doing = elim k.doing [ inl e ↦ inl e | inr d ↦ inr (d.0, d.1, λ p b. comes s hs coming mark cursor now r more m p (d.2 p b), d.3) ];
   told = λ over. elim (k.told over) [ inl past ↦ inl (comes s hs coming mark cursor now r more m (act_place now device) past) | inr just ↦ inr just ];
   left = k.left;
   taken = k.taken;
-  done = k.done;
-  sent = k.sent;
+  worked = worked_on s device k.node _ _ k.up now cursor (now ∷ r ∷ more) refl (comes s hs coming mark cursor now r more m) k.worked;
   bare = k.bare;
   ready = k.ready;
   still = k.still;

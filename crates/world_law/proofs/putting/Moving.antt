@@ -1,4 +1,5 @@
 -- The cursor goes by a source of the present instant.
+use Rattle.world_law.proofs.devices.Working.{worked_on}
 use Rattle.world_law.proofs.runs.TaskPlaces.{at_acts}
 use Rattle.{std.proofs.Common.arith, world_law.specs.world.{Moves.IsWithout, World.IsOut}}
 use Rattle.world_law.proofs.Words.{◌++◌, ◌∙◌, ◌∷◌, ◌≡◌, ◌⊎◌, AllBefore, AreAtPorts, AreOnWires, AreSettled, AreWaiting, AtPort, DeviceId, Happening}
@@ -210,13 +211,10 @@ kept_moves stands s hs coming mark cursor now r more device machine m other k = 
               ],
         )
   ];
-  high = k.high;
-  doing = elim k.doing [ inl e ↦ inl e | inr d ↦ inr (d.0, d.1, λ p b. stays s hs coming mark cursor now r more m p (d.2 p b), d.3) ];
   told = λ over. elim (k.told over) [ inl past ↦ inl (stays s hs coming mark cursor now r more m (act_place now device) past) | inr just ↦ inr just ];
   left = k.left;
   taken = k.taken;
-  done = k.done;
-  sent = k.sent;
+  worked = worked_on s device k.node _ _ k.up now cursor (behind (now ∷ r ∷ more)) refl (stays s hs coming mark cursor now r more m) k.worked;
   bare = k.bare;
   ready = k.ready;
   still = k.still;

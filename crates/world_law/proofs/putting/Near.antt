@@ -233,7 +233,8 @@ own_source s js time m (notes.Left device link cause clock) p there c o = absurd
 own_source s js time m (notes.Clock device reading adjustment state) p there c o = absurd cc
 own_source s js time m (notes.Compressed device opened at cycle members verdict) p there c o =
     at_place s js p _ o (IsSource.acting (amount time) device (emitting _) (IsActing.emits _ verdict c))
-own_source s js time m (notes.Sent device cycle) p there c o = at_place s js p _ o (IsSource.acting (amount time) device (doing (sending cycle)) (IsActing.sends cycle c))
+own_source s js time m (notes.Sent device cycle) p there c o =
+    at_place s js p _ o (IsSource.acting (amount time) device (doing (sending cycle)) (IsActing.sends cycle c))
 own_source s js time m (notes.Corrected device cycle by adjustment) p there c o =
     at_place s js p _ o (IsSource.acting (amount time) device (doing (correcting _))
     (IsActing.corrects cycle (record { next = c.corrected.next; reached = c.corrected.reached; correct = c.corrected.correct })))

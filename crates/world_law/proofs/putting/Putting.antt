@@ -1,5 +1,6 @@
 -- What is settled once a record that bears on nothing else is put in, and the cursor goes by its source.
-use Rattle.world_law.proofs.Words.{◌++◌, ◌+◌, ◌∙◌, ◌∷◌, ◌≡◌, ◌≤◌, ◌⊎◌, AllBefore, AreOfNetwork, AreSettled, DeviceId, Happening, HasDoneFrom, HasTurnedOn}
+use Rattle.world_law.proofs.devices.Working.{worked_on}
+use Rattle.world_law.proofs.Words.{◌++◌, ◌+◌, ◌∙◌, ◌∷◌, ◌≡◌, ◌≤◌, ◌⊎◌, AllBefore, AreOfNetwork, AreSettled, DeviceId, Happening, HasTurnedOn}
 use Rattle.world_law.proofs.Words.{Integrating, IsActing, IsAtRest, IsBefore, IsDue, IsFounded, IsHeld, IsIn, IsKept, IsLeft, IsOwnSource, IsSource}
 use Rattle.world_law.proofs.Words.{IsWorkedOff, List, Network, Node, NoneBefore, NoteBody, Scenario, State, [], act_place, adjustment_after, ap, append_assoc}
 use Rattle.world_law.proofs.Words.{arith, bears_on, before_behind, behind, cause_of, chain, changed_at, dispatching, doing, earlier, either_way, frames_taken}
@@ -468,8 +469,6 @@ kept_put stands s hs front back cursor now device machine w idle at past k =
       sound = k.sound;
       up = k.up;
       acted = k.acted;
-      high = k.high;
-      doing = k.doing;
       told =
           λ over. elim (k.told over)
           [ inl past ↦ inl past | inr just ↦ inr (record { looking = sym (before_put s hs front back w idle device now) ∙ just.looking; other = just.other }) ];
@@ -478,10 +477,9 @@ kept_put stands s hs front back cursor now device machine w idle at past k =
       taken =
           k.taken ∙ ap (λ (l : List Happening). frames_taken s l device) (sym old) ∙ frames_idle s (hs ++ front) back w idle device
           ∙ ap (λ (l : List Happening). frames_taken s l device) new;
-      done = subst (λ (n : ℕ). HasDoneFrom s.network (s.reading device) device k.node n k.up k.high)
+      worked = worked_on s device k.node _ _ k.up now cursor cursor
           (ap (λ (l : List Happening). changed_at l device k.up) (sym old) ∙ changed_put s (hs ++ front) back w idle device k.up
-          ∙ ap (λ (l : List Happening). changed_at l device k.up) new) k.done;
-      sent = k.sent;
+          ∙ ap (λ (l : List Happening). changed_at l device k.up) new) (λ p b. b) k.worked;
       bare = k.bare;
       ready = k.ready;
       still = λ same. still_put s hs front back now device w idle (k.still same);

@@ -60,7 +60,8 @@ by_loss : (s : Scenario) (hs : List Happening) (t : ℕ) (device : DeviceId) (li
 by_loss s hs t device link cause m (inl departs) more =
     (_, inl (refl, departs), IsSource.departing t device link cause (departure_of_it s hs t device link cause _ departs), inr (inr (refl, inl (omega arith))))
 by_loss s hs t device link cause m (inr (inl d)) more =
-    (_, inr (inl (refl, (d.0, d.1, d.2, d.3))), IsSource.acting t device (doing (dispatching _ _)) (IsActing.dispatches link cause d.0 d.1 d.2), inr (inr (refl, inl (omega arith))))
+    let source = IsSource.acting t device (doing (dispatching (record { 0 = d.2.place }) d.1)) (IsActing.dispatches link cause d.0 d.1 d.2) in
+    (_, inr (inl (refl, (d.0, d.1, d.2, d.3))), source, inr (inr (refl, inl (omega arith))))
 by_loss s hs t device link cause m (inr (inr send)) more =
     (_, inr (inr (refl, send)), IsSource.following t cause send.event send.is, inr (inr (refl, inl (omega arith))))
 
@@ -113,7 +114,9 @@ by_body s hs time members (notes.Left device link cause clock) m c =
     (_, refl, IsSource.departing (amount time) device link cause (departure_of_it s hs (amount time) device link cause _ c), inl refl)
 by_body s hs time members (notes.Lost device link cause) m c = by_loss s hs (amount time) device link cause members c (device.0 ∷ link.0 ∷ cause ∷ [])
 by_body s hs time members (notes.TtSent device link cause vl cycle) m c =
-    (_, refl, IsSource.acting (amount time) device (doing (dispatching _ _)) (IsActing.dispatches link cause vl cycle c.dispatches), inr (inr (refl, inl (omega arith))))
+    let source = IsSource.acting (amount time) device (doing (dispatching (record { 0 = c.dispatches.place }) cycle))
+    (IsActing.dispatches link cause vl cycle c.dispatches) in
+    (_, refl, source, inr (inr (refl, inl (omega arith))))
 by_body s hs time members (notes.Accepted device link cause vl cycle) m c =
     (_, refl, IsSource.arriving (amount time) device link cause (arrival_of_it s hs (amount time) device link cause _ c), inr (inr (refl, inl (omega arith))))
 by_body s hs time members (notes.Delivered device link cause vl cycle) m c =

@@ -20,3 +20,9 @@ pub record HasSentFrom (s : Scenario) (device : DeviceId) (node : Node) (low hig
       → pos (s.reading device x) <ℤ sent.at.0
   pub sent : (sent : Compressed) → Contains node.emitted sent → (x : ℕ) × (x < high)
       × (sent.at.0 ≤ℤ pos (s.reading device x))
+
+-- it rests at the time: what it has still to do or to send its clock had not come to before, and what it has done and
+-- sent it had
+pub record HasWorkedTo (s : Scenario) (device : DeviceId) (node : Node) (changed t : ℕ) : Type 0 where
+  pub done : HasDoneFrom s.network (s.reading device) device node changed t t
+  pub sent : HasSentFrom s device node t t

@@ -19,7 +19,8 @@ use Rattle.run_law.specs.records.Happenings.{Happening, earlier, happenings, num
 use Rattle.run_law.specs.records.{Order.{AllBefore, IsBefore, IsIn, NoneBefore, behind}, Ranks.{members_in, place_of}}
 use Rattle.run_law.specs.scenario.{Devices.{is_cm, is_end}, Ways.{delay_at, hold_at, is_cut, receiver_of, way_from}}
 use Rattle.{run_law.specs.timed.Dispatching.is_accepted, tte_units.specs.{Amount.amount, declared.frames.pcf.Pcf.Pcf}}
-use Rattle.world_law.specs.device.{Deeds.{HasDoneFrom, HasSentFrom}, Own.moves, Recorded.{AreRecorded, HasCleared}}
+use Rattle.world_law.specs.device.{Deeds.{HasDoneFrom, HasSentFrom, HasWorkedTo}, Own.moves}
+use Rattle.world_law.specs.device.Recorded.{AreRecorded, HasCleared}
 use Rattle.run_law.specs.machines.Tasks.{Task}
 use Rattle.world_law.specs.source.Sources.{IsActing, IsArriving, IsDeparting, IsOwnSource, IsRipening, IsSource}
 use Rattle.world_law.specs.source.Sources.{task_place}
@@ -283,11 +284,22 @@ abbrev pub IsCalledBy : Node → List ℕ → ℕ → Type 0
 IsCalledBy node cursor now =
     node.last.time.0 ≡ pos now → (p : List ℕ) → IsBefore p (now ∷ rank_of_call node.phase ∷ []) → IsBefore p cursor
 
+-- the device is at work at the present instant: its acts are taken up, and a task of it is due
+pub record IsWorking (s : Scenario) (device : DeviceId) (node : Node) (changed now : ℕ) (cursor : List ℕ) : Type 0 where
+  pub taken_up : (p : List ℕ) → IsBefore p (act_place now device) → IsBefore p cursor
+  pub due : HasTaskBy s device node now
+  pub done : HasDoneFrom s.network (s.reading device) device node changed now (now + 1)
+  pub sent : HasSentFrom s device node now (now + 1)
+
+-- it rests at the time up to which it has acted, or is at work
+abbrev pub HasWorked : Scenario → DeviceId → Node → ℕ → ℕ → ℕ → List ℕ → Type 0
+HasWorked s device node changed up now cursor =
+    HasWorkedTo s device node changed up ⊎ ((up ≡ now) × IsWorking s device node changed now cursor)
+
 -- the machine of a sound device stands for a node that the records, those given and those to come, leave it; it has
--- taken what they say, it has done and sent what its clock had come to, and it may be called from now on. While it
--- acts, something more is due. Only a compression master has points, and sends for them. Where it has not acted, no
--- record of the instant moves it but that it was turned on; where it has, its acts are worked off, or it had none, as a
--- frame told it the time
+-- taken what they say, it has done and sent what its clock had come to, and it may be called from now on. Only a
+-- compression master has points, and sends for them. Where it has not acted, no record of the instant moves it but that
+-- it was turned on; where it has, its acts are worked off, or it had none, as a frame told it the time
 pub record IsKept {M : Type 0} (stands : M → Network → DeviceId → Node → Type 0) (s : Scenario)
     (hs coming : List Happening) (cursor : List ℕ) (now : ℕ) (device : DeviceId) (machine : M) : Type 0 where
   pub node : Node
@@ -295,15 +307,10 @@ pub record IsKept {M : Type 0} (stands : M → Network → DeviceId → Node →
   pub sound : is_broken s device now ≡ false
   pub up : ℕ
   pub acted : IsActedUpTo s hs now device cursor up
-  pub high : ℕ
-  pub doing : (high ≡ up)
-      ⊎ ((up ≡ now) × (high ≡ now + 1) × ((p : List ℕ) → IsBefore p (act_place now device) → IsBefore p cursor)
-      × HasTaskBy s device node now)
   pub told : up ≡ now + 1 → IsBefore (act_place now device) cursor ⊎ IsJustTold s (hs ++ coming) device now
   pub left : IsLeft s (hs ++ coming) device up node
   pub taken : node.taken ≡ frames_taken s (hs ++ coming) device
-  pub done : HasDoneFrom s.network (s.reading device) device node (changed_at (hs ++ coming) device up) up high
-  pub sent : HasSentFrom s device node up high
+  pub worked : HasWorked s device node (changed_at (hs ++ coming) device up) up now cursor
   pub bare : is_cm s.network device ≡ false → (node.points ≡ []) × (node.emitted ≡ [])
   pub ready : IsReadyAt (s.reading device) s.network device node now
   pub still : up ≡ now → (h : Happening) → IsIn h (hs ++ coming) → time_of h ≡ now → IsAtRest s device now h.note.body

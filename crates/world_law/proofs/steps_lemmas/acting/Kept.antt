@@ -105,14 +105,11 @@ kept_at_work stands s hs new now device machine after is work recorded cleared t
   sound = work.sound;
   up = now;
   acted = inl (refl, λ t b. absurd (never_self (act_place now device) (acts_before s.network now device t (act_place now device) b)));
-  high = now + 1;
-  doing = inr (refl, refl, λ p b. b, task);
   told = λ over. absurd (no_step now over);
   left = work.left;
   taken = taken;
   bare = bare;
-  done = work.done;
-  sent = work.sent;
+  worked = inr (refl, record { taken_up = λ p b. b; due = task; done = work.done; sent = work.sent });
   ready = work.ready;
   still = λ same. work.still;
   turned = turned;
@@ -130,4 +127,29 @@ pub kept_over : {M : Type 0} (stands : M → Network → DeviceId → Node → T
     → IsBare s.network device after → (is_turned_on_at s device now ≡ true → HasTurnedOn s hs new (behind (act_place now device)) device now)
     → after.phase ≡ acting → IsKept stands s hs new (behind (act_place now device)) now device machine
 kept_over stands s hs new now device machine after is sound over ready cleared taken bare turned phase =
-    grind (arith, acted, chain, act_place, behind, before_behind, no_step)
+    let here = act_place now device in
+    record {
+      node = after;
+      is = is;
+      sound = sound;
+      up = now + 1;
+      acted = inr (refl, λ p b. chain p here (behind here) (under p b) (before_behind here));
+      told = λ same. inl (before_behind here);
+      left = over.left;
+      taken = taken;
+      worked = inl (record { done = over.done; sent = over.sent });
+      bare = bare;
+      ready = ready;
+      still = λ same. absurd (no_step now (sym same));
+      turned = turned;
+      cleared = cleared;
+      recorded = λ same. absurd (no_step now (sym same));
+      phase = λ at p b.
+          chain p here (behind here)
+          (chain p (now ∷ 4 ∷ []) here (subst (λ (f : _). IsBefore p (now ∷ Rattle.world_law.specs.world.World.rank_of_call f ∷ [])) phase b)
+          (inr (refl, inr (refl, tt))))
+          (before_behind here);
+    }
+  where
+    under : (p : List ℕ) → IsBefore p (now ∷ 3 ∷ []) → IsBefore p (act_place now device)
+    under p b = chain p (now ∷ 3 ∷ []) (act_place now device) b (inr (refl, inl (omega arith)))

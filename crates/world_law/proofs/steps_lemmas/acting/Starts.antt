@@ -1,5 +1,5 @@
 -- A device that is kept and has something due at the present instant is at work.
-use Rattle.world_law.proofs.steps_lemmas.Words.{◌++◌, ◌+◌, ◌∙◌, ◌∷◌, ◌≡◌, ◌≤ℤ◌, ◌≤◌, ◌⊎◌, AreSettled, Compressed, DeviceId, Happening, HasDoneFrom, HasSentFrom}
+use Rattle.world_law.proofs.steps_lemmas.Words.{◌++◌, ◌+◌, ◌∙◌, ◌∷◌, ◌≡◌, ◌≤ℤ◌, ◌≤◌, AreSettled, Compressed, DeviceId, Happening, HasDoneFrom, HasSentFrom}
 use Rattle.world_law.proofs.steps_lemmas.Words.{HasTaskBy, IsActing, IsBefore, IsIn, IsKept, IsLawful, IsLeft, IsOwnSource, IsPending, Judgement, List, Network}
 use Rattle.world_law.proofs.steps_lemmas.Words.{Node, None, NoteBody, RowId, Scenario, Task, [], act_place, ap, append-nil, arith, changed_at}
 use Rattle.world_law.proofs.steps_lemmas.Words.{changes_adjustment, correcting, dispatches_same, dispatching, doing, earlier, earlier_still, emitting, filter}
@@ -22,10 +22,14 @@ pub up_now : {M : Type 0} (stands : M → Network → DeviceId → Node → Type
 up_now stands s hs coming cursor now device machine k due = elim k.acted [
   | inl yet ↦ yet
   | inr over ↦
-      absurd (not_over s (hs ++ coming) device now k.high k.node
-      (subst (λ (n : ℕ). HasDoneFrom s.network (s.reading device) device k.node (changed_at (hs ++ coming) device n) n k.high) over.0 k.done)
-      (subst (λ (n : ℕ). HasSentFrom s device k.node n k.high) over.0 k.sent)
-      (changed_soon (hs ++ coming) device now) due)
+      elim k.worked [
+        | inr working ↦ absurd (let at = working.0 in omega (arith, at, over.0))
+        | inl rests ↦
+            absurd (not_over s (hs ++ coming) device now (now + 1) k.node
+            (subst (λ (n : ℕ). HasDoneFrom s.network (s.reading device) device k.node (changed_at (hs ++ coming) device n) n n) over.0 rests.done)
+            (subst (λ (n : ℕ). HasSentFrom s device k.node n n) over.0 rests.sent)
+            (changed_soon (hs ++ coming) device now) due)
+      ]
 ]
 
 -- ---- own records
@@ -53,17 +57,23 @@ pub at_work : {M : Type 0} (stands : M → Network → DeviceId → Node → Typ
     → k.up ≡ now → IsAtWork s hs coming now device k.node
 at_work stands s hs coming cursor now device machine k of past late up =
     let js = hs ++ coming in
-    let high : (k.high ≡ now) ⊎ (k.high ≡ now + 1) = elim k.doing [ inl e ↦ inl (e ∙ up) | inr d ↦ inr d.1 ] in
-    let few : k.high ≤ now + 1 = elim high [ inl e ↦ omega (arith, e) | inr e ↦ omega (arith, e) ] in
-    let done : HasDoneFrom s.network (s.reading device) device k.node (changed_at js device now) now k.high =
-    subst (λ (n : ℕ). HasDoneFrom s.network (s.reading device) device k.node (changed_at js device n) n k.high) up k.done in
+    let done : HasDoneFrom s.network (s.reading device) device k.node (changed_at js device now) now (now + 1) = elim k.worked [
+      | inr working ↦ subst (λ (n : ℕ). HasDoneFrom s.network (s.reading device) device k.node (changed_at js device n) now (now + 1)) up working.1.done
+      | inl rests ↦
+          let was = subst (λ (n : ℕ). HasDoneFrom s.network (s.reading device) device k.node (changed_at js device n) n n) up rests.done in
+          record { undone = was.undone; done = λ deed there. let x = was.done deed there in (x.0, x.1, omega (arith, x.2), x.3) }
+    ] in
+    let sent : HasSentFrom s device k.node now (now + 1) = elim k.worked [
+      | inr working ↦ working.1.sent
+      | inl rests ↦ record {
+        unsent = λ c w x lt. rests.sent.unsent c w x (omega (arith, lt, up));
+        sent = λ c there. let x = rests.sent.sent c there in (x.0, omega (arith, x.1, up), x.2);
+      }
+    ] in
     record {
       left = subst (λ (n : ℕ). IsLeft s js device n k.node) up k.left;
-      done = record { undone = done.undone; done = λ deed there. let x = done.done deed there in (x.0, x.1, omega (arith, x.2, few), x.3) };
-      sent = record {
-        unsent = λ c w x lt. k.sent.unsent c w x (omega (arith, lt, up));
-        sent = λ c there. let x = k.sent.sent c there in (x.0, omega (arith, x.1, few), x.2);
-      };
+      done = done;
+      sent = sent;
       ready = k.ready;
       still = k.still up;
       past = past;

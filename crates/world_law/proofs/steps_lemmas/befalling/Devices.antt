@@ -1,4 +1,5 @@
 -- Each device when the outcomes of the events of an instant are settled.
+use Rattle.world_law.proofs.devices.Working.{rested}
 use Rattle.{net_plan.proofs.SameIds.alike, world_law.proofs.acts.Recorded.first_recorded}
 use Rattle.world_law.proofs.{acts.Dispatched.{dispatch_told, send_apart}, steps_lemmas.befalling.{CalmTakings.taken_calm, UnderWay.{IsTelling, goes_on}}}
 use Rattle.world_law.proofs.steps_lemmas.Words.{◌++◌, ◌==◌, ◌∙◌, ◌∷◌, ◌≡◌, ◌≤◌, AreOfNetwork, Befell, Compressed, DeviceId, Dispatches, Happening, HasDoneFrom}
@@ -129,28 +130,21 @@ kept_told stands s hs coming cursor now befell device machine m k =
     let left_so : IsLeft s (hs ++ coming) device k.up k.node =
     left_all_calm s hs coming device k.up k.node (λ z i. let of = m.at z i in omega (arith, of, at_now))
     (λ z i. calm_outcome s hs now z.note.body (m.out z i)) (subst (λ (l : List Happening). IsLeft s l device k.up k.node) (append-nil hs) k.left) in
-    let done_so : HasDoneFrom s.network (s.reading device) device k.node (changed_at (hs ++ coming) device k.up) k.up k.high =
-    subst (λ (n : ℕ). HasDoneFrom s.network (s.reading device) device k.node n k.up k.high)
-    (ap (λ (l : List Happening). option_map_or time_of (last_or None (filter (λ h. changes_adjustment device h.note.body) l)) 0) (same k.up up_le)) k.done in
-    let high_now : k.high ≡ now = elim k.doing [
-      | inl e ↦ e ∙ at_now
-      | inr d ↦ absurd (early_not hs cursor now befell m.telling (d.2 (now ∷ 2 ∷ []) (inr (refl, inl (omega arith)))))
-    ] in
+    let rests = rested s device k.node _ k.up now cursor k.worked
+    (λ up_to. early_not hs cursor now befell m.telling (up_to (now ∷ 2 ∷ []) (inr (refl, inl (omega arith))))) in
+    let done_so : HasDoneFrom s.network (s.reading device) device k.node (changed_at (hs ++ coming) device k.up) k.up k.up =
+    subst (λ (n : ℕ). HasDoneFrom s.network (s.reading device) device k.node n k.up k.up)
+    (ap (λ (l : List Happening). option_map_or time_of (last_or None (filter (λ h. changes_adjustment device h.note.body) l)) 0) (same k.up up_le))
+    rests.done in
     record {
       node = k.node;
       is = k.is;
       sound = k.sound;
       up = k.up;
       acted = inl (at_now, λ task b a. not_past_acts now device (acts_before s.network now device task (behind (now ∷ 2 ∷ [])) b));
-      high = k.high;
-      doing = elim k.doing [
-        | inl e ↦ inl e
-        | inr d ↦ absurd (early_not hs cursor now befell m.telling (d.2 (now ∷ 2 ∷ []) (inr (refl, inl (omega arith)))))
-      ];
       told = λ over. absurd (omega (arith, at_now, over));
       left = left_so;
-      done = done_so;
-      sent = k.sent;
+      worked = inl (record { done = done_so; sent = rests.sent });
       taken =
           k.taken ∙ ap (λ (l : List Happening). frames_taken s l device) (append-nil hs)
           ∙ sym (taken_calm s hs coming device now (past_told hs cursor now befell m.telling)
@@ -174,9 +168,8 @@ kept_told stands s hs coming cursor now befell device machine m k =
       cleared = k.cleared;
       recorded = λ same_up.
           first_recorded s (hs ++ coming) coming now device k.node (subst (λ (n : ℕ). IsLeft s (hs ++ coming) device n k.node) at_now left_so)
-          (subst (λ (n : ℕ). HasDoneFrom s.network (s.reading device) device k.node (changed_at (hs ++ coming) device n) n now) at_now
-          (subst (λ (n : ℕ). HasDoneFrom s.network (s.reading device) device k.node (changed_at (hs ++ coming) device k.up) k.up n) high_now done_so))
-          (subst (λ (n : ℕ). HasSentFrom s device k.node n now) at_now (subst (λ (n : ℕ). HasSentFrom s device k.node k.up n) high_now k.sent))
+          (subst (λ (n : ℕ). HasDoneFrom s.network (s.reading device) device k.node (changed_at (hs ++ coming) device n) n n) at_now done_so)
+          (subst (λ (n : ℕ). HasSentFrom s device k.node n n) at_now rests.sent)
           (λ z i cycle e. no_sending s hs now device cycle z.note.body (m.out z i) e)
           (λ z i c verdict e. no_frame s hs now device c verdict z.note.body (m.out z i) e) m.at
           (λ z i link cause vl cycle d e.

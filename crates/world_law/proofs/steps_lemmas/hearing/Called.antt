@@ -1,8 +1,9 @@
 -- A device that is called, and takes nothing by it, is kept as before.
 use Rattle.world_law.proofs.{acts.Recorded.recorded_alike, steps_lemmas.ripening.Called.left_called}
-use Rattle.world_law.proofs.steps_lemmas.Words.{◌++◌, ◌∷◌, ◌≡◌, ◌≤ℤ◌, DeviceId, Happening, HasTaskBy, IsAlike, IsBefore, IsKept, IsOut, IsPending, IsReadyAt}
-use Rattle.world_law.proofs.steps_lemmas.Words.{List, Moment, Network, Node, Phase, Scenario, Task, [], arith, called, doing, emitting, inl, inr, ints}
-use Rattle.world_law.proofs.steps_lemmas.Words.{moment_of, pos, rank_of_call, reading_for, refl, subst, sym, undone_alike, waiting_alike, ℕ, ℤ}
+use Rattle.world_law.proofs.steps_lemmas.Words.{◌++◌, ◌+◌, ◌∷◌, ◌≡◌, ◌≤ℤ◌, DeviceId, Happening, HasDoneFrom, HasSentFrom, HasTaskBy, IsAlike, IsBefore, IsKept}
+use Rattle.world_law.proofs.steps_lemmas.Words.{IsOut, IsPending, IsReadyAt, List, Moment, Network, Node, Phase, Scenario, Task, [], arith, called, doing}
+use Rattle.world_law.proofs.steps_lemmas.Words.{emitting, inl, inr, ints, moment_of, pos, rank_of_call, reading_for, refl, subst, sym, undone_alike}
+use Rattle.world_law.proofs.steps_lemmas.Words.{waiting_alike, ℕ, ℤ}
 
 -- the called device, and the device before the call, are alike
 to_called : (node : Node) (moment : Moment) (phase : Phase) → IsAlike node (called moment phase node)
@@ -53,7 +54,7 @@ After stands after by machine network device node = stands after network device 
 pub kept_by : {M : Type 0} (stands then_ : M → Network → DeviceId → Node → Type 0) (s : Scenario) (hs coming : List Happening) (cursor : List ℕ) (now : ℕ)
     (device : DeviceId) (machine : M) (k : IsKept stands s hs coming cursor now device machine) → then_ machine s.network device k.node
     → IsKept then_ s hs coming cursor now device machine
-kept_by stands then_ s hs coming cursor now device machine k is = grind (arith, doing)
+kept_by stands then_ s hs coming cursor now device machine k is = grind arith
 
 -- a sound device that is called so is kept, where the call's kind is not later than the cursor
 pub kept_called : {M : Type 0} (stands : M → Network → DeviceId → Node → Type 0) (s : Scenario) (hs coming : List Happening) (cursor : List ℕ) (now : ℕ)
@@ -68,20 +69,21 @@ kept_called stands s hs coming cursor now device machine after phase k come =
       sound = k.sound;
       up = k.up;
       acted = k.acted;
-      high = k.high;
-      doing = elim k.doing [ inl e ↦ inl e | inr d ↦ inr (d.0, d.1, d.2, has_task_called s device k.node m phase now d.3) ];
       told = k.told;
       left = left_called s (hs ++ coming) device k.up k.node m phase k.left;
       taken = k.taken;
-      done = record {
-        undone = λ deed u x from lt.
-            k.done.undone deed (undone_alike s.network device k.node (called m phase k.node) deed (to_called k.node m phase) u) x from lt;
-        done = k.done.done;
-      };
-      sent = record {
-        unsent = λ sent w x lt. k.sent.unsent sent (waiting_alike s.network device k.node (called m phase k.node) sent refl (λ c there. there) w) x lt;
-        sent = k.sent.sent;
-      };
+      worked = elim k.worked [
+        | inl rests ↦ inl (record { done = done_called _ k.up k.up rests.done; sent = sent_called k.up k.up rests.sent })
+        | inr working ↦ inr (
+          working.0,
+          record {
+            taken_up = working.1.taken_up;
+            due = has_task_called s device k.node m phase now working.1.due;
+            done = done_called _ now (now + 1) working.1.done;
+            sent = sent_called now (now + 1) working.1.sent;
+          },
+        )
+      ];
       bare = k.bare;
       ready = ready_called s now device k.node phase k.ready;
       still = k.still;
@@ -89,6 +91,24 @@ kept_called stands s hs coming cursor now device machine after phase k come =
       cleared = k.cleared;
       recorded = λ same. recorded_alike s (hs ++ coming) coming now device k.node (called m phase k.node) refl refl refl (k.recorded same);
       phase = λ at p b. come p b;
+    }
+  where
+    done_called : (changed low high : ℕ) → HasDoneFrom s.network (s.reading device) device k.node changed low high
+        → HasDoneFrom s.network (s.reading device) device (called (moment_of s device now) phase k.node) changed low high
+    done_called changed low high has = record {
+      undone = λ deed u x from lt.
+          has.undone deed
+          (undone_alike s.network device k.node (called (moment_of s device now) phase k.node) deed (to_called k.node (moment_of s device now) phase) u) x from
+          lt;
+      done = has.done;
+    }
+
+    sent_called : (low high : ℕ) → HasSentFrom s device k.node low high
+        → HasSentFrom s device (called (moment_of s device now) phase k.node) low high
+    sent_called low high has = record {
+      unsent = λ sent w x lt.
+          has.unsent sent (waiting_alike s.network device k.node (called (moment_of s device now) phase k.node) sent refl (λ c there. there) w) x lt;
+      sent = has.sent;
     }
 
 -- and so is a broken one, where the cursor goes on

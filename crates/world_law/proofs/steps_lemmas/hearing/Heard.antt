@@ -1,4 +1,5 @@
 -- A frame arrives at its device: it is judged as the records say, and each device is kept behind it.
+use Rattle.world_law.proofs.devices.Working.{rested}
 use Rattle.{run_law.specs.machines.{Answers.after_arrival, Calls.MayArrive}, world_law.specs.world.Calls.HasHeard}
 use Rattle.world_law.proofs.{putting.Moving.kept_moves, steps_lemmas.Words.{place_of, placed, pos, rank, refl, signal_of, subst, sym, taken_in, time_of, ℕ, ℤ}}
 use Rattle.world_law.proofs.steps_lemmas.Words.{◌++◌, ◌+◌, ◌==◌, ◌^◌, ◌∙◌, ◌∷◌, ◌≡◌, ◌≤ℤ◌, ◌≤◌, Arrival, Bool, DeviceId, Happening, IsBefore, IsHeld, IsKept}
@@ -148,12 +149,10 @@ taken_there stands s n hs front back mark cursor now e machine heard w vl cycle 
       | inl still ↦ still.0
       | inr gone ↦ absurd (not_over now e.device.0 over (gone.1 (now ∷ 2 ∷ (e.device.0 + 1) ∷ []) (inr (refl, inl (omega arith)))))
     ] in
-    let high : on.high ≡ on.up = elim on.doing [
-      | inl same ↦ same
-      | inr acts ↦ absurd (not_over now e.device.0 over (acts.2 (now ∷ 2 ∷ (e.device.0 + 1) ∷ []) (inr (refl, inl (omega arith)))))
-    ] in
+    let rests = rested s e.device on.node _ on.up now (behind (now ∷ 2 ∷ more)) on.worked
+    (λ up_to. not_over now e.device.0 over (up_to (now ∷ 2 ∷ (e.device.0 + 1) ∷ []) (inr (refl, inl (omega arith))))) in
     inl (kept_taking stands s n hs front back w (behind (now ∷ 2 ∷ more)) now e.device machine heard vl cycle taking steady precise (after_here s now e) on up
-    high)
+    rests)
 
 taking_by : {M : Type 0} (stands : M → Network → DeviceId → Node → Type 0) (s : Scenario) (hs front back : List Happening) (mark cursor : List ℕ) (now : ℕ)
     (e : OnWire) (is : Arrival) (w : Happening) (vl : VlId) (cycle : ℕ) → IsAfterGiven s hs (front ++ back) mark cursor now e

@@ -1,4 +1,5 @@
 -- A record that bears on no device is put in among those of its instant: what each device took, and the device that took a frame by it.
+use Rattle.world_law.proofs.Words.{HasWorkedTo}
 use Rattle.{run_law.specs.machines.Nodes.local_at, std.proofs.Common.arith, world_law.proofs.rows.Takings.{frames_by_others, frames_put, frames_with}}
 use Rattle.world_law.proofs.{acts.Recorded.{recorded_alike, recorded_put}, steps_lemmas.hearing.Took.{done_took, left_took, ready_took, sent_took, took}}
 use Rattle.world_law.proofs.{putting.Bearing.{before_aside, changed_aside, earlier_aside, left_aside, still_aside}, steps_lemmas.hearing.Called.After}
@@ -42,16 +43,17 @@ pub kept_taking : {M : Type 0} (stands : M → Network → DeviceId → Node →
     (cursor : List ℕ)
     (now : ℕ) (device : DeviceId) (machine after : M) (vl : VlId) (cycle : ℕ) → IsTakingBy s hs front back now w device vl cycle
     → IsSteady (s.reading device) (amount s.network.precision) → pos 0 ≤ℤ s.network.precision.0 → ((p : List ℕ) → IsBefore p (now ∷ 2 ∷ []) → IsBefore p cursor)
-    → (k : IsKept (After stands after (took (moment_of s device now) vl cycle)) s hs (front ++ back) cursor now device machine) → k.up ≡ now → k.high ≡ k.up
+    → (k : IsKept (After stands after (took (moment_of s device now) vl cycle)) s hs (front ++ back) cursor now device machine) → k.up ≡ now
+    → HasWorkedTo s device k.node (changed_at (hs ++ (front ++ back)) device k.up) k.up
     → IsKept stands s hs (placed n front w back) cursor now device after
-kept_taking stands s n hs front back w cursor now device machine after vl cycle t steady precise come k up doing =
+kept_taking stands s n hs front back w cursor now device machine after vl cycle t steady precise come k up rests =
     let m = moment_of s device now in
     let none = t.quiet.bears in
-    let done : HasDoneFrom s.network (s.reading device) device k.node (changed_at (hs ++ (front ++ back)) device k.up) now k.high =
-    subst (λ (n : ℕ). HasDoneFrom s.network (s.reading device) device k.node (changed_at (hs ++ (front ++ back)) device k.up) n k.high) up k.done in
+    let done : HasDoneFrom s.network (s.reading device) device k.node (changed_at (hs ++ (front ++ back)) device k.up) now k.up =
+    subst (λ (n : ℕ). HasDoneFrom s.network (s.reading device) device k.node (changed_at (hs ++ (front ++ back)) device k.up) n k.up) up rests.done in
     let done_then = subst (λ (n : ℕ). HasDoneFrom s.network (s.reading device) device (took m vl cycle k.node)
-    (changed_at (hs ++ (front ++ back)) device k.up) n k.high) (sym up)
-    (done_took s now device k.node vl cycle (changed_at (hs ++ (front ++ back)) device k.up) k.high steady done) in
+    (changed_at (hs ++ (front ++ back)) device k.up) n k.up) (sym up)
+    (done_took s now device k.node vl cycle (changed_at (hs ++ (front ++ back)) device k.up) k.up steady done) in
     let left_now : IsLeft s (hs ++ (front ++ back)) device now k.node = subst (λ (n : ℕ). IsLeft s (hs ++ (front ++ back)) device n k.node) up k.left in
     let shows : local_at k.node m ≡ local_before s (hs ++ (front ++ back)) device now =
     ap (λ (u : Units). pos (s.reading device now) +ℤ u.0) left_now.counted.adjustment in
@@ -72,14 +74,14 @@ kept_taking stands s n hs front back w cursor now device machine after vl cycle 
       sound = k.sound;
       up = k.up;
       acted = k.acted;
-      high = k.high;
-      doing = inl doing;
       told = grind (arith, before_aside, none);
       left = left_took s (hs ++ placed n front w back) device k.up k.node m vl cycle (left_aside s n hs front back w device k.up k.node none k.left);
       taken = took_it;
-      done = subst (λ (c : ℕ). HasDoneFrom s.network (s.reading device) device (took m vl cycle k.node) c k.up k.high)
-          (changed_aside s n hs front back w device k.up none) done_then;
-      sent = sent_took s now device k.node vl cycle k.up k.high k.sent;
+      worked = inl (record {
+        done = subst (λ (c : ℕ). HasDoneFrom s.network (s.reading device) device (took m vl cycle k.node) c k.up k.up)
+            (changed_aside s n hs front back w device k.up none) done_then;
+        sent = sent_took s now device k.node vl cycle k.up k.up rests.sent;
+      });
       bare = k.bare;
       ready = ready_took s now device k.node vl cycle steady precise k.ready;
       still = λ same. still_aside s n hs front back now device w (moves_no_other device w.note.body none) (k.still same);

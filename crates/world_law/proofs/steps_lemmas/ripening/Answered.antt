@@ -13,7 +13,7 @@ use Rattle.world_law.proofs.steps_lemmas.Words.{pos, put_at, raised, rank, refl,
 use Rattle.world_law.proofs.steps_lemmas.{hearing.Quiet.frames_placed, ripening.{Calling.may_call, Grown.IsByRole, JustTold.{all_high, ends_in}, Merely.IsMere}}
 use Rattle.world_law.proofs.steps_lemmas.ripening.{Awake.{still_on, stirs, was_on}, Called.left_called, Coming.{IsLateKind, all_late, late_mere, state_cause}}
 use Rattle.world_law.proofs.steps_lemmas.ripening.{Joined.{IsJoin, kept_joined, was_looking}, Judged.{Hears, IsKindOf, hears_before, hears_told, outcome_kind}}
-use Rattle.world_law.proofs.steps_lemmas.ripening.Kept.{IsNoOwnAct, carried_by_role, carried_called, is_yet, kept_next, next_aside, next_by_role}
+use Rattle.world_law.proofs.steps_lemmas.ripening.Kept.{IsNoOwnAct, carried_by_role, carried_called, is_yet, kept_next, next_aside, next_by_role, rests_yet}
 use Rattle.world_law.proofs.steps_lemmas.ripening.Ripens.{IsRipe, come_of, emitted_no_later, may_ripen, points_no_later, ripe_more, sooner_of, sound_of}
 use Rattle.run_law.specs.declared.judgement.Judgement.TheVariants as judgements
 use Rattle.run_law.specs.declared.judgement.Why.TheVariants as whys
@@ -89,7 +89,7 @@ may_be_asked stands s hs coming mark cursor now e machine r k master =
     let emitted : (x : Compressed) → Contains k.node.emitted x → x.at.0 ≤ℤ e.point.0 = λ x there. elim (cases_Bool (is_cm s.network device)) [
       | inl cm ↦ elim yet.stands [
         | inl here ↦ emitted_no_later s hs coming mark cursor now k.up e k.node r
-            (subst (λ (n : ℕ). HasSentFrom s device k.node k.up n) (yet.rests ∙ here.0) k.sent) x there
+            (subst (λ (n : ℕ). HasSentFrom s device k.node k.up n) here.0 (rests_yet stands s hs coming mark cursor now e machine r k).sent) x there
         | inr over ↦ absurd (both_ways (is_cm s.network device) over.1.just.other cm)
       ]
       | inr other ↦ absurd (Rattle.compression.proofs.Elements.in_none x (subst (λ (l : List Compressed). Contains l x) (k.bare other).1 there))

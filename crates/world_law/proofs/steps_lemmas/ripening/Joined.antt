@@ -1,7 +1,7 @@
 -- The device that a frame tells the time is kept.
 use Rattle.run_law.{proofs.control.Verdicts.looking_ripe, specs.{declared.judgement.Judgement.TheVariants.Integrates, device.States.joined_adjustment}}
 use Rattle.{sync_state.specs.Integration.joined_by, world_law.specs.device.Told.change_in}
-use Rattle.world_law.proofs.steps_lemmas.Words.{◌&&◌, ◌++◌, ◌+ℤ◌, ◌+◌, ◌-ℤ◌, ◌-◌, ◌<ℤ◌, ◌<◌, ◌||◌, ◌∙◌, ◌∷◌, ◌≡◌, ◌≤ℤ◌, ◌≤◌, ◌⊎◌, Bool, DeviceId, Happening}
+use Rattle.world_law.proofs.steps_lemmas.Words.{◌&&◌, ◌++◌, ◌+ℤ◌, ◌+◌, ◌-ℤ◌, ◌-◌, ◌<ℤ◌, ◌||◌, ◌∙◌, ◌∷◌, ◌≡◌, ◌≤ℤ◌, ◌≤◌, ◌⊎◌, Bool, DeviceId, Happening}
 use Rattle.world_law.proofs.steps_lemmas.Words.{HasTurnedOn, Integrating, IsIn, IsKept, IsLeft, IsPending, Joining, LinkId, List, Moment, Network, Node, None}
 use Rattle.world_law.proofs.steps_lemmas.Words.{Option, Pcf, Phase, Scenario, Some, State, SyncPlan, Task, Units, Waiting, [], adjustment_after}
 use Rattle.world_law.proofs.steps_lemmas.Words.{adjustment_with, after_last, and_right, ap, append_assoc, arith, before_behind, behind, both_ways, called}
@@ -137,19 +137,19 @@ kept_joined stands s hs coming zs mark cursor now e machine after w r k is other
       sound = k.sound;
       up = now + 1;
       acted = inr (refl, λ p b. chain p here (behind here) (before_place p now (ripe_more e) b) (before_behind here));
-      high = now + 1;
-      doing = inl refl;
       told = grind (arith, is_turned_on_at, device, state_after, same);
       left = left_joined s hs zs device now w e.link e.cause e.point e.frame k.node moment ripening j refl k.left.counted.plan sound off other;
       taken = k.taken ∙ frames;
-      done = record {
-        undone = λ deed u x from lt.
-            let now_is : x ≡ now = omega (arith, from, lt, changed) in
-            let ahead = u.ahead in
-            subst (λ (n : ℕ). pos (s.reading device n) <ℤ (value_of s.network deed -ℤ new.standing.adjustment.0)) (sym now_is) (omega (arith, ints, ahead));
-        done = λ deed there. absurd (none_in deed there);
-      };
-      sent = grind (arith, both_ways, is_cm, device, none_in);
+      worked = inl (record {
+        done = record {
+          undone = λ deed u x from lt.
+              let now_is : x ≡ now = omega (arith, from, lt, changed) in
+              let ahead = u.ahead in
+              subst (λ (n : ℕ). pos (s.reading device n) <ℤ (value_of s.network deed -ℤ new.standing.adjustment.0)) (sym now_is) (omega (arith, ints, ahead));
+          done = λ deed there. absurd (none_in deed there);
+        };
+        sent = grind (arith, both_ways, is_cm, device, none_in);
+      });
       bare = λ not_cm. (refl, refl);
       ready = record {
         time = omega (arith, ints);

@@ -1,4 +1,6 @@
 -- The device of a frame that is permanent, and tells it no time, is kept.
+use Rattle.world_law.proofs.devices.Working.{rested}
+use Rattle.world_law.proofs.Words.{HasWorkedTo}
 use Rattle.world_law.proofs.steps_lemmas.Words.{◌++◌, ◌+ℤ◌, ◌+◌, ◌-ℤ◌, ◌<ℤ◌, ◌<◌, ◌||◌, ◌∙◌, ◌∷◌, ◌≡◌, ◌≤ℤ◌, ◌≤◌, ◌⊎◌, AllByRecursion, AreClusters, Bool}
 use Rattle.world_law.proofs.steps_lemmas.Words.{ClockTask, Compressed, DeviceId, Happening, HasDoneFrom, HasSentFrom, HasTurnedOn, IsAlike, IsAtRest, IsBefore}
 use Rattle.world_law.proofs.steps_lemmas.Words.{IsIn, IsKept, IsLeft, IsMoving, IsNoTaking, IsPending, IsSource, IsWaiting, Judgement, List, Network, Node}
@@ -22,8 +24,7 @@ use Rattle.run_law.specs.declared.note.NoteBody.TheVariants as kinds
 -- ---- where it stands before the call
 
 -- a device that stands at this instant: it has not acted, or a frame has told it the time
-pub record IsYet (s : Scenario) (hs coming : List Happening) (mark cursor : List ℕ) (now up high : ℕ) (e : Waiting) : Type 0 where
-  pub rests : high ≡ up
+pub record IsYet (s : Scenario) (hs coming : List Happening) (mark cursor : List ℕ) (now up : ℕ) (e : Waiting) : Type 0 where
   pub stands : ((up ≡ now) × (IsBefore (act_place now e.device) cursor → ⊥)) ⊎ ((up ≡ now + 1) × IsTold s hs coming mark cursor now e)
 
 under_act : (now d : ℕ) (more : List ℕ) → IsBefore (now ∷ 3 ∷ more) (now ∷ 4 ∷ d ∷ [])
@@ -31,8 +32,17 @@ under_act now d more = inr (refl, inl (omega arith))
 
 pub is_yet : {M : Type 0} (stands : M → Network → DeviceId → Node → Type 0) (s : Scenario) (hs coming : List Happening) (mark cursor : List ℕ) (now : ℕ)
     (e : Waiting) (machine : M)
-    → IsRipe s hs coming mark cursor now e → (k : IsKept stands s hs coming cursor now e.device machine) → IsYet s hs coming mark cursor now k.up k.high e
+    → IsRipe s hs coming mark cursor now e → (k : IsKept stands s hs coming cursor now e.device machine) → IsYet s hs coming mark cursor now k.up e
 is_yet stands s hs coming mark cursor now e machine r k = grind (arith, ripe_more, act_place, chain, under_act)
+
+-- and rests
+pub rests_yet : {M : Type 0} (stands : M → Network → DeviceId → Node → Type 0) (s : Scenario) (hs coming : List Happening) (mark cursor : List ℕ) (now : ℕ)
+    (e : Waiting) (machine : M)
+    → IsRipe s hs coming mark cursor now e → (k : IsKept stands s hs coming cursor now e.device machine)
+    → HasWorkedTo s e.device k.node (changed_at (hs ++ coming) e.device k.up) k.up
+rests_yet stands s hs coming mark cursor now e machine r k =
+    rested s e.device k.node (changed_at (hs ++ coming) e.device k.up) k.up now cursor k.worked
+    (λ up_to. r.moving.waits (up_to (now ∷ 3 ∷ ripe_more e) (under_act now e.device.0 (ripe_more e))))
 
 -- ---- its tasks
 
@@ -131,6 +141,7 @@ kept_next stands s hs coming coming2 mark cursor now e machine after base r k is
     let new = called (moment_of s e.device now) ripening base in
     let here = now ∷ 3 ∷ more in
     let yet = is_yet stands s hs coming mark cursor now e machine r k in
+    let rests = rests_yet stands s hs coming mark cursor now e machine r k in
     let a = alike_of k.node new c.same in
     let soon = in_time s hs coming mark cursor now e r in
     let adjusted : new.standing.adjustment ≡ k.node.standing.adjustment = ap (λ (x : Standing). x.adjustment) c.same.standing in
@@ -139,21 +150,21 @@ kept_next stands s hs coming coming2 mark cursor now e machine after base r k is
     in
     let times : (z : Happening) → IsIn z coming2 → time_of z ≡ now = λ z i. elim (n.back z i) [ inl y ↦ y.3 ∙ m.are.of_now y.0 y.1 | inr none ↦ none.1 ] in
     let not_at : act_place now e.device ≡ cursor → ⊥ = λ at. m.waits (subst (λ (q : List ℕ). IsBefore here q) at (under_act now e.device.0 more)) in
-    let done_so : HasDoneFrom s.network (s.reading e.device) e.device new (changed_at (hs ++ coming2) e.device k.up) k.up k.high = record {
+    let done_so : HasDoneFrom s.network (s.reading e.device) e.device new (changed_at (hs ++ coming2) e.device k.up) k.up k.up = record {
       undone = λ deed u x from lt.
           subst (λ (z : Units). pos (s.reading e.device x) <ℤ (value_of s.network deed -ℤ z.0)) (sym adjusted)
-          (k.done.undone deed (undone_alike s.network e.device k.node new deed a u) x (omega (arith, from, change)) lt);
+          (rests.done.undone deed (undone_alike s.network e.device k.node new deed a u) x (omega (arith, from, change)) lt);
       done = λ deed there.
-          let x = k.done.done deed (subst (λ (l : List ClockTask). Contains l deed) c.same.done there) in (
+          let x = rests.done.done deed (subst (λ (l : List ClockTask). Contains l deed) c.same.done there) in (
             x.0,
             omega (arith, x.1, change),
             x.2,
             subst (λ (z : Units). (value_of s.network deed -ℤ z.0) ≤ℤ pos (s.reading e.device x.0)) (sym adjusted) x.3,
           );
     } in
-    let sent_so : HasSentFrom s e.device new k.up k.high = record {
+    let sent_so : HasSentFrom s e.device new k.up k.up = record {
       unsent = λ sent w x lt. elim (c.waiting sent w) [
-        | inl old ↦ k.sent.unsent sent old x lt
+        | inl old ↦ rests.sent.unsent sent old x lt
         | inr later ↦ elim yet.stands [
           | inl now_is ↦
               let under = not_beyond s hs coming mark cursor now e r x (let at = now_is.0 in omega (arith, lt, at)) in
@@ -161,7 +172,7 @@ kept_next stands s hs coming coming2 mark cursor now e machine after base r k is
           | inr over ↦ absurd (both_ways (is_cm s.network e.device) over.1.just.other w.cm)
         ]
       ];
-      sent = λ sent there. k.sent.sent sent (subst (λ (l : List Compressed). Contains l sent) c.same.emitted there);
+      sent = λ sent there. rests.sent.sent sent (subst (λ (l : List Compressed). Contains l sent) c.same.emitted there);
     } in
     record {
       node = new;
@@ -185,16 +196,13 @@ kept_next stands s hs coming coming2 mark cursor now e machine after base r k is
                   ],
             )
       ];
-      high = k.high;
-      doing = inl yet.rests;
       told = λ over. elim (k.told over) [
         | inl past ↦ inl (stays s hs coming mark cursor now 3 more m (act_place now e.device) past)
         | inr just ↦ inr (record { looking = sym n.before ∙ just.looking; other = just.other })
       ];
       left = n.left;
       taken = c.same.taken ∙ k.taken ∙ n.frames;
-      done = done_so;
-      sent = sent_so;
+      worked = inl (record { done = done_so; sent = sent_so });
       bare = λ other. (c.bare other ∙ (k.bare other).0, c.same.emitted ∙ (k.bare other).1);
       ready = record {
         time = omega (arith, ints);
@@ -216,10 +224,8 @@ kept_next stands s hs coming coming2 mark cursor now e machine after base r k is
           (k.cleared cycle (subst (λ (l : List ClockTask). Contains l (correcting cycle)) c.same.done there));
       recorded = λ up.
           first_recorded s (hs ++ coming2) coming2 now e.device new (subst (λ (n : ℕ). IsLeft s (hs ++ coming2) e.device n new) up n.left)
-          (subst (λ (n : ℕ). HasDoneFrom s.network (s.reading e.device) e.device new (changed_at (hs ++ coming2) e.device n) n now) up
-          (subst (λ (n : ℕ). HasDoneFrom s.network (s.reading e.device) e.device new (changed_at (hs ++ coming2) e.device k.up) k.up n) (yet.rests ∙ up)
-          done_so))
-          (subst (λ (n : ℕ). HasSentFrom s e.device new n now) up (subst (λ (n : ℕ). HasSentFrom s e.device new k.up n) (yet.rests ∙ up) sent_so))
+          (subst (λ (n : ℕ). HasDoneFrom s.network (s.reading e.device) e.device new (changed_at (hs ++ coming2) e.device n) n n) up done_so)
+          (subst (λ (n : ℕ). HasSentFrom s e.device new n n) up sent_so)
           (λ z i cycle is_sent. elim (n.back z i) [
             | inr none ↦ no_own_sent e.device cycle z.note.body none.0 is_sent
             | inl y ↦

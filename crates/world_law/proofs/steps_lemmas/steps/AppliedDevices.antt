@@ -1,4 +1,5 @@
 -- An event befalls before all else of its instant: each device then.
+use Rattle.world_law.proofs.devices.Working.{rested}
 use Rattle.world_law.proofs.{acts.Recorded.none_recorded, devices.Befalls.{is_turned_on, stands_still}, rows.Takings.{frames_alike, frames_end}}
 use Rattle.world_law.{proofs.devices.{Borne.other_comes, TurnedOn.fold_still}, specs.{steps.Steps.FitsWorld, world.{Outcomes.befallen_node, World.IsCalledBy}}}
 use Rattle.world_law.proofs.steps_lemmas.Words.{◌&&◌, ◌++◌, ◌+◌, ◌-ℤ◌, ◌<ℤ◌, ◌<◌, ◌==◌, ◌||◌, ◌∙◌, ◌∷◌, ◌≡◌, ◌≤ℤ◌, ◌≤◌, ◌⊎◌, Bool, ClockTask, Compressed}
@@ -200,7 +201,8 @@ kept_less stands network f g past event hs cursor now number ev device machine a
     let js = hs ++ ev ∷ [] in
     let up : k.up ≡ now = elim k.acted [ inl yet ↦ yet.0 | inr over ↦ never_there now cursor m.early (over.1 (now ∷ 2 ∷ []) (inr (refl, inl (omega arith)))) ]
     in
-    let high : k.high ≡ now = elim k.doing [ inl e ↦ e ∙ up | inr d ↦ never_there now cursor m.early (d.2 (now ∷ 2 ∷ []) (inr (refl, inl (omega arith)))) ] in
+    let rests = rested (scenario network f past) device k.node _ k.up now cursor k.worked
+    (λ up_to. never_there now cursor m.early (up_to (now ∷ 2 ∷ []) (inr (refl, inl (omega arith))))) in
     let change : changed_at (js ++ []) device now ≡ changed_at (hs ++ []) device k.up =
     ap (λ (l : List Happening). option_map_or time_of (last_or None (filter (λ h. changes_adjustment device h.note.body) l)) 0)
     (same_earlier hs now ev m.events ∙ sym (ap (earlier now) (append-nil hs))) ∙ ap (λ (n : ℕ). changed_at (hs ++ []) device n) (sym up) in
@@ -210,25 +212,25 @@ kept_less stands network f g past event hs cursor now number ev device machine a
     (subst (λ (l : List Happening). IsLeft r l device now new) (sym (append-nil hs)) (left up)) in
     let done_so : HasDoneFrom network (r.reading device) device new (changed_at (js ++ []) device now) now now = record {
       undone = λ deed u x from lt.
-          let before = k.done.undone deed (undone_less network device k.node new deed a u) x (omega (arith, from, change)) (omega (arith, lt, up)) in
+          let before = rests.done.undone deed (undone_less network device k.node new deed a u) x (omega (arith, from, change)) (omega (arith, lt, up)) in
           subst (λ (n : ℕ). pos n <ℤ (value_of network deed -ℤ new.standing.adjustment.0)) (m.reads device x (omega (arith, lt)))
           (subst (λ (w : Units). pos (f device x) <ℤ (value_of network deed -ℤ w.0)) (sym a.adjustment) before);
       done = λ deed there.
-          let x = k.done.done deed (subst (λ (l : List ClockTask). Contains l deed) a.done there) in (
+          let x = rests.done.done deed (subst (λ (l : List ClockTask). Contains l deed) a.done there) in (
             x.0,
             omega (arith, x.1, change),
-            omega (arith, x.2, high),
-            subst (λ (n : ℕ). (value_of network deed -ℤ new.standing.adjustment.0) ≤ℤ pos n) (m.reads device x.0 (omega (arith, x.2, high)))
+            omega (arith, x.2, up),
+            subst (λ (n : ℕ). (value_of network deed -ℤ new.standing.adjustment.0) ≤ℤ pos n) (m.reads device x.0 (omega (arith, x.2, up)))
                 (subst (λ (w : Units). (value_of network deed -ℤ w.0) ≤ℤ pos (f device x.0)) (sym a.adjustment) x.3),
           );
     } in
     let sent_so : HasSentFrom r device new now now = record {
       unsent =
           λ c w x lt. subst (λ (n : ℕ). pos n <ℤ c.at.0) (m.reads device x (omega (arith, lt)))
-          (k.sent.unsent c (waiting_less network device k.node new c a w) x (omega (arith, lt, up)));
+          (rests.sent.unsent c (waiting_less network device k.node new c a w) x (omega (arith, lt, up)));
       sent = λ c there.
-          let x = k.sent.sent c (subst (λ (l : List Compressed). Contains l c) a.emitted there) in
-          (x.0, omega (arith, x.1, high), subst (λ (n : ℕ). c.at.0 ≤ℤ pos n) (m.reads device x.0 (omega (arith, x.1, high))) x.2);
+          let x = rests.sent.sent c (subst (λ (l : List Compressed). Contains l c) a.emitted there) in
+          (x.0, omega (arith, x.1, up), subst (λ (n : ℕ). c.at.0 ≤ℤ pos n) (m.reads device x.0 (omega (arith, x.1, up))) x.2);
     } in
     record {
       node = new;
@@ -236,8 +238,6 @@ kept_less stands network f g past event hs cursor now number ev device machine a
       sound = sound;
       up = now;
       acted = inl (refl, λ task b acts. late_act now device (acts_before network now device task (now ∷ 2 ∷ []) b));
-      high = now;
-      doing = inl refl;
       told = λ over. absurd (let bad : now ≡ now + 1 = over in omega (arith, bad));
       left = left_so;
       taken =
@@ -246,8 +246,7 @@ kept_less stands network f g past event hs cursor now number ev device machine a
           ∙ sym (ap (λ (l : List Happening). frames_taken r l device) (append-nil js)
           ∙ frames_end r hs ev device (event_takes device ev.note.body m.events.is)
           (λ h i. let early = past_all h i in let at = m.events.at in omega (arith, early, at)));
-      done = done_so;
-      sent = sent_so;
+      worked = inl (record { done = done_so; sent = sent_so });
       bare = λ other. (a.points ∙ (k.bare other).0, a.emitted ∙ (k.bare other).1);
       ready = ready_less network f g device now k.node new (m.reads device) k.ready a.last (λ task p. pending_less network device k.node new task a p);
       still = λ same h i at. elim (only h i) [ inl lt ↦ absurd (omega (arith, lt, at)) | inr it ↦ inl (event_moves device h.note.body it.1) ];

@@ -50,13 +50,13 @@ kept_fresh stands network f device machine zero_first le is = record {
   sound = refl;
   up = 0;
   acted = inl (refl, λ task b a. low_rank 0 4 (device.0 ∷ []) (omega arith) (acts_before network 0 device task (0 ∷ 1 ∷ []) b));
-  high = 0;
-  doing = inl refl;
   told = λ over. absurd cc;
   left = left_fresh network f device 0 zero_first;
   taken = refl;
-  done = record { undone = λ deed u x from lt. absurd (omega (arith, lt)); done = λ deed there. absurd (none_in deed there) };
-  sent = record { unsent = λ sent w x lt. absurd (omega (arith, lt)); sent = λ sent there. absurd (none_in sent there) };
+  worked = inl (record {
+    done = record { undone = λ deed u x from lt. absurd (omega (arith, lt)); done = λ deed there. absurd (none_in deed there) };
+    sent = record { unsent = λ sent w x lt. absurd (omega (arith, lt)); sent = λ sent there. absurd (none_in sent there) };
+  });
   bare = λ other. (refl, refl);
   ready = record {
     time = omega (arith, ints);

@@ -3,12 +3,12 @@ use Rattle.world_law.proofs.{acts.{Acting.{IsUnmoved, cleared_on, had_come_befor
 use Rattle.world_law.{proofs.{acts.Recorded.none_recorded, giving.Given.no_later_events, runs.Worlds.nothing_settled_is_all}, specs.source.First.NoSourceBefore}
 use Rattle.world_law.{proofs.devices.Passes.passes_if, specs.{device.Own.IsStill, steps.Steps.PassedStep, world.{Moves.NothingBefore, World.way_now}}}
 use Rattle.world_law.proofs.steps_lemmas.Words.{◌++◌, ◌+◌, ◌-◌, ◌<ℤ◌, ◌<◌, ◌^◌, ◌∙◌, ◌∷◌, ◌≡◌, ◌≤ℤ◌, ◌≤◌, AreOfNetwork, AreSettled, DeviceId, Down, Happening}
-use Rattle.world_law.proofs.steps_lemmas.Words.{HasDoneFrom, HaveBefallen, IsBefore, IsHeld, IsIn, IsKept, IsLeft, IsOut, IsPending, IsReadyAt, IsSteady}
-use Rattle.world_law.proofs.steps_lemmas.Words.{LinkId, List, Network, Node, Note, Scenario, Some, Stands, StandsBehind, Task, Up, Way, World, [], act_place}
-use Rattle.world_law.proofs.steps_lemmas.Words.{acts_before, adjustment_after, all_up_to, amount, ap, append-nil, are_past, arith, cases_Bool, cases_int}
-use Rattle.world_law.proofs.steps_lemmas.Words.{cases_lt, change_still, changed_at, doing, emitting, false, filter_map, happenings, has_cleared, hidden, inl}
-use Rattle.world_law.proofs.steps_lemmas.Words.{inr, ints, last_or, length, map, members_in, natural, no_later_breaks, not_on_after, numbered_in, own_time, pos}
-use Rattle.world_law.proofs.steps_lemmas.Words.{reading_for, refl, ripe_place, slice_get, state_after, subst, sym, time_of, true, up_to, ℕ, ℤ}
+use Rattle.world_law.proofs.steps_lemmas.Words.{HasDoneFrom, HasSentFrom, HaveBefallen, IsBefore, IsHeld, IsIn, IsKept, IsLeft, IsOut, IsPending, IsReadyAt}
+use Rattle.world_law.proofs.steps_lemmas.Words.{IsSteady, LinkId, List, Network, Node, Note, Scenario, Some, Stands, StandsBehind, Task, Up, Way, World, []}
+use Rattle.world_law.proofs.steps_lemmas.Words.{act_place, acts_before, adjustment_after, all_up_to, amount, ap, append-nil, are_past, arith, cases_Bool}
+use Rattle.world_law.proofs.steps_lemmas.Words.{cases_int, cases_lt, change_still, changed_at, doing, emitting, false, filter_map, happenings, has_cleared}
+use Rattle.world_law.proofs.steps_lemmas.Words.{hidden, inl, inr, ints, last_or, length, map, members_in, natural, no_later_breaks, not_on_after, numbered_in}
+use Rattle.world_law.proofs.steps_lemmas.Words.{own_time, pos, reading_for, refl, ripe_place, slice_get, state_after, subst, sym, time_of, true, up_to, ℕ, ℤ}
 use Rattle.run_law.proofs.runs.Places.{before_later_time, before_of_time, earlier_time}
 
 -- no way changes without an event
@@ -218,22 +218,23 @@ device_passes stands s hs mark cursor now t device machine k lt steady precise b
           let change = change_still hs device from t le still in
           (x.0, omega (arith, x.1, change), omega (arith, x.2, le), x.3);
     } in
+    let sent : HasSentFrom s device k.node t t = record {
+      unsent = λ c w x before. undone (emitting c) (sound, w) x before;
+      sent = λ c there. let x = rest.sent.sent c there in (x.0, omega (arith, x.1, le), x.2);
+    } in
     record {
       node = k.node;
       is = k.is;
       sound = no_later_breaks s mark now t device befallen (omega (arith, lt)) ∙ k.sound;
       up = t;
       acted = inl (refl, λ task b a. not_now t device (acts_before s.network t device task (t ∷ []) b));
-      high = t;
-      doing = inl refl;
       told = λ over. absurd (too_soon t over);
       left = subst (λ (l : List Happening). IsLeft s l device t k.node) whole left;
       taken = k.taken;
-      done = subst (λ (l : List Happening). HasDoneFrom s.network (s.reading device) device k.node (changed_at l device t) t t) whole done;
-      sent = record {
-        unsent = λ c w x before. undone (emitting c) (sound, w) x before;
-        sent = λ c there. let x = rest.sent.sent c there in (x.0, omega (arith, x.1, le), x.2);
-      };
+      worked = inl (record {
+        done = subst (λ (l : List Happening). HasDoneFrom s.network (s.reading device) device k.node (changed_at l device t) t t) whole done;
+        sent = sent;
+      });
       bare = k.bare;
       ready = ready_later s device k.node now t k.ready steady wide lt undone;
       turned = λ on. absurd (let bad : false ≡ true = sym off_later ∙ on in cc);
@@ -241,10 +242,7 @@ device_passes stands s hs mark cursor now t device machine k lt steady precise b
       cleared = k.cleared;
       recorded = λ same. none_recorded s hs t device k.node (subst (λ (l : List Happening). IsLeft s l device t k.node) whole left)
           (subst (λ (l : List Happening). HasDoneFrom s.network (s.reading device) device k.node (changed_at l device t) t t) whole done)
-          (record {
-            unsent = λ c w x before. undone (emitting c) (sound, w) x before;
-            sent = λ c there. let x = rest.sent.sent c there in (x.0, omega (arith, x.1, le), x.2);
-          });
+          sent;
       phase = λ at. let early = k.ready.time in absurd (too_late _ now t at early lt);
     }
   where

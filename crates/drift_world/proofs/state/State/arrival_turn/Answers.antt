@@ -1,5 +1,6 @@
 use Rattle.drift_world.{proofs.{Dues.due_stays, state.State.arrival_turn.Goals.{After-give_in_turn-turn, After-put_in}}, specs.declared.state.State.State}
-use Rattle.drift_world.proofs.{Fits.{all_put, have_octets, sound_same}, Timings.rekeyed, Words.{length, place_of, rank, refl, settled_at, subst, sym, world_of, ℕ}}
+use Rattle.drift_world.proofs.{Fits.{all_put, have_octets, sound_same}, Timings.rekeyed, Words.{length, place_of, rank, refl, settled_at, subst, sym}}
+use Rattle.drift_world.proofs.Words.{world_of, ℕ}
 use Rattle.drift_world.{proofs.{Halves.set_act, OwnPlaces.{changes_both, none_ahead, runs_first, stands_first}}, specs.Turns.given_in}
 use Rattle.drift_world.{proofs.Turning.{comes_first, is_at, kept_timers, rekeyed_step, runs_on, step_kept}, specs.declared.source.Source.TheVariants.Arrival}
 use Rattle.drift_world.proofs.Words.{◌++◌, ◌∙◌, ◌∷◌, ◌≡◌, ChangesOnly, DeviceId, IsPutAt, IsSound, List, Note, Scenario, Settled, Stands, [], ap, arith, keeps}

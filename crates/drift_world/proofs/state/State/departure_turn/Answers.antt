@@ -1,7 +1,8 @@
 use Rattle.drift_world.{proofs.Fits.{all_put, have_octets, sound_same}, specs.declared.{source.Source.TheVariants.Departure, state.State.State}}
 use Rattle.drift_world.proofs.{OwnPlaces.{changes_both, none_ahead, runs_first, stands_first}, Turning.{comes_first, kept_timers, plain_step, step_kept}}
 use Rattle.drift_world.proofs.{Timings.aside, Words.ℕ}
-use Rattle.drift_world.proofs.Words.{◌∙◌, ◌∷◌, ◌≡◌, ChangesOnly, IsPutAt, List, Settled, [], ap, arith, changed_device, place_of, rank, refl, settled_at, subst, sym}
+use Rattle.drift_world.proofs.Words.{◌∙◌, ◌∷◌, ◌≡◌, ChangesOnly, IsPutAt, List, Settled, [], ap, arith, changed_device, place_of, rank, refl, settled_at, subst}
+use Rattle.drift_world.proofs.Words.{sym}
 use Rattle.drift_world.proofs.state.State.departure_turn.Goals as goal
 
 pub returns-in_default-clause-kept : goal.returns-in_default-clause-kept
@@ -19,7 +20,8 @@ returns-in_default-clause-kept g c =
 pub give_in_turn-requires-clause-front : goal.give_in_turn-requires-clause-front
 give_in_turn-requires-clause-front g c =
     subst (λ (l : List Settled). IsPutAt c.in-Some.record l (c.in-Some.record ∷ l) 0)
-    (sym (ap (λ (t : State _ _). t.settled.items) c.in-Some.ensures.same)) (none_ahead g.C.Clock.last_step g.C.Clock.reading g.M.Machine.stands c.args.network.now
+    (sym (ap (λ (t : State _ _). t.settled.items) c.in-Some.ensures.same))
+    (none_ahead g.C.Clock.last_step g.C.Clock.reading g.M.Machine.stands c.args.network.now
     c.args.self.now (Departure c.args.place) c.in-Some.record c.requires.may tt
     (c.in-Some.ensures.own (omega (arith, c.rank_of.ensures, c.number.ensures, c.if-rank_of-number.true))))
 

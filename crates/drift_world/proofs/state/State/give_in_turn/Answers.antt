@@ -1,7 +1,8 @@
 use Rattle.drift_world.proofs.{Fits.{all_put, have_octets, sound_same}, Gave.{changes_since, unchanged}, OwnPlaces.{first_world, put_first, settled_first}}
 use Rattle.drift_world.{proofs.{MayGive.{low_now, may_be_given}, Words.ℕ}, specs.declared.state.State.State}
 use Rattle.drift_world.proofs.Words.{◌++◌, ◌+◌, ◌∙◌, ◌∷◌, ◌≡◌, List, NoSourceBefore, Note, Stands, StandsBehind, World, [], ap, append-nil, behind}
-use Rattle.drift_world.proofs.Words.{changed_device, happenings, keeps, length, map, note_of, place_of, refl, settled_at, subst, sym, units_of, with_first, world_of}
+use Rattle.drift_world.proofs.Words.{changed_device, happenings, keeps, length, map, note_of, place_of, refl, settled_at, subst, sym, units_of, with_first}
+use Rattle.drift_world.proofs.Words.{world_of}
 use Rattle.drift_world.proofs.state.State.give_in_turn.Goals as goal
 
 pub returns-in-Err-clause-sound : goal.returns-in-Err-clause-sound

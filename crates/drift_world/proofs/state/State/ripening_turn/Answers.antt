@@ -1,9 +1,11 @@
-use Rattle.drift_world.proofs.{Dues.due_stays, OwnPlaces.{judged_far, judged_first, judged_own, none_ahead, runs_first, stands_first}, Ripenings.{octets_fit, record_fits}}
+use Rattle.drift_world.proofs.{Dues.due_stays, Ripenings.{octets_fit, record_fits}}
+use Rattle.drift_world.proofs.OwnPlaces.{judged_far, judged_first, judged_own, none_ahead, runs_first, stands_first}
 use Rattle.{drift_world.{proofs.Fits.{have_octets, sound_same}, specs.declared.state.State.State}, world_state.specs.Ripening.{AreSettledSo, ripe_record}}
 use Rattle.{drift_world.{proofs.Timings.rekeyed_by, specs.Stepping.StandsPast}, run_law.specs.declared.steps.Ripe.Ripe, world_law.proofs.giving.Given.some_same}
 use Rattle.drift_world.{proofs.Turning.{comes_first, is_at, kept_timers, rekeyed_step, runs_on, step_kept}, specs.declared.source.Source.TheVariants.Ripening}
-use Rattle.drift_world.proofs.Words.{◌++◌, ◌∙◌, ◌∷◌, ◌≡◌, ◌≤ℤ◌, ChangesOnly, DeviceId, IsPutAt, IsSound, List, Network, Node, Note, Scenario, Settled, Some, Stands}
-use Rattle.drift_world.proofs.Words.{Waits, [], ap, arith, changed_device, keeps, length, place_of, pos, refl, ripe_place, settled_at, subst, sym, waiting_as}
+use Rattle.drift_world.proofs.Words.{◌++◌, ◌∙◌, ◌∷◌, ◌≡◌, ◌≤ℤ◌, ChangesOnly, DeviceId, IsPutAt, IsSound, List, Network, Node, Note, Scenario, Settled, Some}
+use Rattle.drift_world.proofs.Words.{Stands, Waits, [], ap, arith, changed_device, keeps, length, place_of, pos, refl, ripe_place, settled_at, subst, sym}
+use Rattle.drift_world.proofs.Words.{waiting_as}
 use Rattle.{drift_world.{proofs.Words.{world_of, ℕ}, specs.Ripening.IsJudged}, std.proofs.Common.{is_some, slice_get}, world_state.specs.Frames.first_of}
 use Rattle.drift_world.{proofs.state.State.ripening_turn.Goals.{After-give_in_turn-turn, After-settle_ripe}, specs.Turns.{IsRipe, MayWork, given_in}}
 use Rattle.drift_world.proofs.state.State.ripening_turn.Given as given
