@@ -1,0 +1,23 @@
+-- The line of a virtual link and a receiver.
+use Rattle.std.specs.{Fmt.decimal, Prelude.{◌++◌, List, codes, max, min, ℕ}}
+use Rattle.lens_latency.specs.declared.{comings.Coming.Coming, trips.Trip.Trip}
+use Rattle.net_plan.specs.{Belonging.{device_name, vl_name}, declared.network.Network.Network}
+
+-- the virtual link and the receiver
+unfoldable pub names_text : Network → Coming → List ℕ
+names_text network c =
+    codes "latency " ++ vl_name network c.vl ++ codes " to " ++ device_name network c.device
+
+-- the least and the greatest time of the trip
+unfoldable pub trip_text : Trip → List ℕ
+trip_text trip = decimal trip.least ++ codes " " ++ decimal trip.most
+
+-- from the first place of either channel to the last of either
+unfoldable pub window_text : Trip → Trip → List ℕ
+window_text a b = codes " window " ++ decimal (min a.from b.from) ++ codes " " ++ decimal (max a.to b.to)
+
+-- the line
+unfoldable pub latency_line : Network → Coming → List ℕ
+latency_line network c =
+    names_text network c ++ codes " by a " ++ trip_text c.a ++ codes " by b " ++ trip_text c.b ++ window_text c.a c.b
+    ++ codes "\n"

@@ -1,0 +1,8 @@
+ghost use Rattle.lens_latency.specs.Laws.{ComesAtItsPlace, ComesInItsTime};
+
+/// Each frame that is owed has a line and comes at a place of it, and a frame that comes by a channel was on its way as
+/// long as the line says, in world time.
+pub fn latency_law()
+    ensures place { ComesAtItsPlace }
+    ensures time { ComesInItsTime }
+{}
