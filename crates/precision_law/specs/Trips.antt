@@ -3,13 +3,13 @@ use Rattle.std.specs.Option.{option_map_or}
 use Rattle.std.specs.Prelude.{◌+◌, ◌<◌, ◌^◌, ◌∷◌, ◌≡◌, ◌≤◌, ◌⊎◌, List, Some, [], false, fold, map, pos, ℕ, ℤ}
 use Rattle.drift_clock.specs.Reach.{IsReach}
 use Rattle.{drift_clock.specs.transparent.Points.point_of, net_plan.specs.declared.tables.Way.TheVariants.{Down, Up}}
-use Rattle.net_plan.specs.{Paths.IsPath, Places.{IsCmOf, IsDeviceOf}, declared.{ids.LinkId.LinkId, tables.Way.Way}}
+use Rattle.net_plan.specs.{Paths.IsPath, Places.{IsCmOf, IsDeviceOf, IsSwitchOf}, declared.{ids.LinkId.LinkId, tables.Way.Way}}
 use Rattle.{net_plan.specs.declared.ids.DeviceId.DeviceId, precision_law.specs.Bases.{IsEmission, IsHeard, base_of}}
-use Rattle.precision_law.specs.{Standings.IsTimely, Views.{IsBad, IsDispatch, IsGood, IsSoundSwitch, IsView, View}}
+use Rattle.precision_law.specs.{Standings.IsTimely, Views.{IsBad, IsDispatch, IsGood, IsView, View}}
 use Rattle.run_law.specs.{control.Arrivals.is_gate_shut, scenario.Devices.{channel_of, channel_of_link, member_of}}
 use Rattle.run_law.specs.{control.Leaving.Gives, records.{Order.IsIn, Ranks.members_in}}
 use Rattle.run_law.specs.{device.Standpoints.standpoint, records.{Causes.GoesBackTo, Happenings.{Happening, time_of}}}
-use Rattle.run_law.specs.{device.States.{cycle_in, is_off, state_before}, scenario.Ways.{receiver_of, way_from, way_to}}
+use Rattle.run_law.specs.{device.States.{cycle_in, is_off, state_before}, scenario.{Faults.IsLinkOf, Ways.{is_cut, receiver_of, way_from, way_to}}}
 use Rattle.tte_units.specs.declared.frames.{channel.Channel.Channel, members.Members.Members}
 use Rattle.run_law.specs.declared.note.NoteBody.TheVariants as notes
 
@@ -144,11 +144,22 @@ FramesDownAreOfCms =
 abbrev pub IsOpen : View → DeviceId → ℕ → Type 0
 IsOpen v device t = is_gate_shut v.scenario.network device (standpoint v.scenario v.records device t) ≡ false
 
--- each switch of the sound channel is open while a trip that begins at the time may last
+-- each switch of the channel is open while a trip that begins at the time may last
+abbrev pub AreOpenOn : View → Channel → ℕ → Type 0
+AreOpenOn v channel t =
+    (switch : DeviceId) (u : ℕ) → IsSwitchOf v.scenario.network channel switch → t ≤ u
+    → u + v.sizes.path ≤ t + v.sizes.dmax → IsOpen v switch u
+
+-- those of the sound channel are
 abbrev pub AreOpenFrom : View → ℕ → Type 0
-AreOpenFrom v t =
-    (switch : DeviceId) (u : ℕ) → IsSoundSwitch v switch → t ≤ u → u + v.sizes.path ≤ t + v.sizes.dmax
-    → IsOpen v switch u
+AreOpenFrom v t = AreOpenOn v v.channel t
+
+-- from the time on no way of a link of the channel is cut, and its switches are on
+pub record IsWholeFrom (v : View) (channel : Channel) (from : ℕ) : Type 0 where
+  pub ways : (link : LinkId) (way : Way) (t : ℕ) → IsLinkOf v.scenario.network channel link → from ≤ t → t ≤ v.until
+      → is_cut v.scenario link way t ≡ false
+  pub on : (switch : DeviceId) (t : ℕ) → IsSwitchOf v.scenario.network channel switch → from ≤ t
+      → is_off (state_before v.scenario v.records switch t) ≡ false
 
 -- the frame comes to the device over these legs, and is permanent there
 pub record IsBrought (v : View) (way : Way) (first : Happening) (device : DeviceId) : Type 0 where
@@ -160,7 +171,15 @@ pub record IsBrought (v : View) (way : Way) (first : Happening) (device : Device
   pub permanent : IsPermanentAt v last device point q
   pub in_time : IsInTime v first q
 
--- the dispatch of a good master comes to the compression master of the sound channel
+-- the dispatch of a good master comes to the compression master of a channel that is whole from it on
+abbrev pub FramesGoUp : Type 0
+FramesGoUp =
+    (v : View) (channel : Channel) (h : Happening) (master cm : DeviceId) (cycle : ℕ) → IsView v
+    → IsWholeFrom v channel (time_of h) → IsDispatch v h master cycle → IsCmOf v.scenario.network channel cm
+    → AreOpenOn v channel (time_of h) → time_of h + v.sizes.dmax + v.sizes.path ≤ v.until
+    → IsBrought v Up h cm
+
+-- so it does on the sound channel
 abbrev pub SoundFramesGoUp : Type 0
 SoundFramesGoUp =
     (v : View) (h : Happening) (master cm : DeviceId) (cycle : ℕ) → IsView v → IsDispatch v h master cycle
@@ -169,6 +188,18 @@ SoundFramesGoUp =
     → IsBrought v Up h cm
 
 -- the frame that this sends comes to each device of the channel that is good and on
+abbrev pub FramesGoDown : Type 0
+FramesGoDown =
+    (v : View) (channel : Channel) (h : Happening) (device cm : DeviceId) (cycle : ℕ) (members : Members) → IsView v
+    → IsWholeFrom v channel (time_of h) → IsEmission v h cm cycle members
+    → IsCmOf v.scenario.network channel cm → IsDeviceOf v.scenario.network channel device → IsGood v device
+    → (device ≡ cm → ⊥)
+    → AreOpenOn v channel (time_of h) → time_of h + v.sizes.dmax + v.sizes.path ≤ v.until
+    → ((u : ℕ) → time_of h ≤ u → u + v.sizes.path ≤ time_of h + v.sizes.dmax
+    → is_off (state_before v.scenario v.records device u) ≡ false)
+    → IsBrought v Down h device
+
+-- so it does on the sound channel
 abbrev pub SoundFramesGoDown : Type 0
 SoundFramesGoDown =
     (v : View) (h : Happening) (device cm : DeviceId) (cycle : ℕ) (members : Members) → IsView v

@@ -1,7 +1,7 @@
 -- A frame goes over one link of the sound channel, in either way.
 use Rattle.precision_law.proofs.words.Clocks.{HasGone, IsClean, IsGivenOn, IsReady, arrives_at, goes_over, good_is_correct, leaves_at, no_fault, sizes_are}
-use Rattle.precision_law.proofs.words.{Clocks.{sound_ways_are_whole, takes_at_most}, Plans.link_at, Runs.{Happening, is_of_other_member, time_of}}
-use Rattle.precision_law.proofs.words.{Laws.{IsGood, IsSoundSwitch, IsView, View}, Std.{option_map_or, suc, sum_by-cons, ℕ}}
+use Rattle.precision_law.proofs.words.{Clocks.takes_at_most, Plans.{Channel, link_at}, Runs.{Happening, is_of_other_member, time_of}}
+use Rattle.precision_law.proofs.words.{Laws.{IsGood, IsWholeFrom, IsView, View}, Std.{option_map_or, suc, sum_by-cons, ℕ}}
 use Rattle.precision_law.proofs.words.Plans.{DeviceId, IsSwitchOf, Link, LinkId, Network, Pcf, Way, amount, beta_at, closed, delay_by, delay_of, delay_on}
 use Rattle.precision_law.proofs.words.Std.{◌*◌, ◌+◌, ◌/◌, ◌<◌, ◌^◌, ◌∙◌, ◌∷◌, ◌≡◌, ◌≤◌, List, Option, Some, ap, arith, false, ints, mul-le-mul_left}
 
@@ -10,10 +10,10 @@ abbrev pub HasGrown : View → ℕ → ℕ → ℕ → Type 0
 HasGrown v clock d k = 10 ^ 9 * clock ≤ 10 ^ 9 * d + v.scenario.network.rho * d + 2 * amount v.scenario.network.grain * 10 ^ 9 * k
 
 -- a frame of the sound channel was given to a link, having been on its way for so long since t0, over so many links
-pub record IsUnderWay (v : View) (way : Way) (t0 : ℕ) (r : Happening) (frame : Pcf) (sender receiver : DeviceId) (link : LinkId) (l : Link)
+pub record IsUnderWay (v : View) (channel : Channel) (way : Way) (t0 : ℕ) (r : Happening) (frame : Pcf) (sender receiver : DeviceId) (link : LinkId) (l : Link)
     (d k : ℕ) : Type 0 where
   pub given : IsGivenOn v way r frame sender receiver link l
-  pub switch : IsSoundSwitch v l.parent
+  pub switch : IsSwitchOf v.scenario.network channel l.parent
   pub clean : IsClean v.scenario.network frame
   pub good : IsGood v sender
   pub taken_by : IsGood v receiver
@@ -37,10 +37,10 @@ pub delay_more : (n : Network) (link : LinkId) (l : Link) (rest : List LinkId) �
 delay_more n link l rest at = sum_by-cons (delay_of n) link rest ∙ ap (λ (x : ℕ). x + delay_on n rest) (ap (λ (o : Option Link). option_map_or delay_by o 0) at)
 
 -- so it does, where its path is no longer than others
-pub comes_over : (v : View) (way : Way) (t0 : ℕ) (r : Happening) (frame : Pcf) (sender receiver : DeviceId) (link : LinkId) (l : Link) (d k : ℕ)
-    (is : IsView v) → IsUnderWay v way t0 r frame sender receiver link l d k → v.sizes.path + (d + delay_by l) ≤ v.sizes.dmax → k + 1 ≤ is.beta.links
+pub comes_over : (v : View) (channel : Channel) (way : Way) (t0 : ℕ) (r : Happening) (frame : Pcf) (sender receiver : DeviceId) (link : LinkId) (l : Link) (d k : ℕ)
+    (is : IsView v) → IsWholeFrom v channel t0 → IsUnderWay v channel way t0 r frame sender receiver link l d k → v.sizes.path + (d + delay_by l) ≤ v.sizes.dmax → k + 1 ≤ is.beta.links
     → t0 + v.sizes.dmax + v.sizes.path ≤ v.until → HasCome v way t0 r frame receiver link l d k
-comes_over v way t0 r frame sender receiver link l d k is c fits few in_run =
+comes_over v channel way t0 r frame sender receiver link l d k is intact c fits few in_run =
     let n = v.scenario.network in
     let takes = takes_at_most v way link l (time_of r) is c.given.there in
     let value : v.sizes.path ≡ beta_at n is.beta.jitter is.beta.links = omega (arith, ints, is.beta.value) in
@@ -57,8 +57,8 @@ comes_over v way t0 r frame sender receiver link l d k is c fits few in_run =
     let spend : (next : ℕ) → 10 ^ 9 * next ≤ 10 ^ 9 * frame.clock + 10 ^ 9 * delay_by l + n.rho * delay_by l + 2 * amount n.grain * 10 ^ 9
     → (next ≤ amount n.dmax) × HasGrown v next (d + delay_by l) (suc k) = λ next grows.
     (omega (arith, value, fits_so, c.clock, grows, drift, grains, floor), omega (arith, c.clock, grows)) in
-    let whole = sound_ways_are_whole v link way left is (closed (λ (x : Link). IsSwitchOf n v.channel x.parent) (link_at n link) l c.given.there c.switch)
-    (omega (arith, takes.1, within)) in
+    let of_channel = closed (λ (x : Link). IsSwitchOf n channel x.parent) (link_at n link) l c.given.there c.switch in
+    let whole = intact.ways link way left of_channel (omega (arith, c.after)) (omega (arith, takes.1, within)) in
     let gone = goes_over v way r frame sender receiver link l is c.given (good_is_correct v sender left c.good (omega (arith, takes.1, within))) whole
     (λ next grows. (spend next grows).0)
     (λ next small. no_fault v receiver link u next frame is c.clean c.taken_by within stands.0 stands.1 c.mine small) within in

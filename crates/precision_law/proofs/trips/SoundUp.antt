@@ -1,8 +1,8 @@
 -- The sound channel brings dispatches up to its compression master.
 use Rattle.precision_law.proofs.{compression.Made.dispatch_clock, trips.Upward.{path_up, trips_up_take_dmax}}
 use Rattle.precision_law.proofs.{trips.SoundLinks.{HasCome, HasGrown, comes_over, delay_more}, words.Clocks.{switches_are_good, will_be_permanent}}
-use Rattle.precision_law.proofs.words.Clocks.{IsClean, child_kind, child_ways, device_of, master_ends, master_member, receiver_way, sizes_are, sound_switch_on}
-use Rattle.precision_law.proofs.words.Laws.{AreOpenFrom, IsBrought, IsGood, IsSoundSwitch, IsTrip, IsView, Leg, SoundFramesGoUp, View, clock_in}
+use Rattle.precision_law.proofs.words.Clocks.{IsClean, child_kind, child_ways, device_of, master_ends, master_member, receiver_way, sizes_are, sound_switch_on, sound_ways_are_whole}
+use Rattle.precision_law.proofs.words.Laws.{AreOpenOn, FramesGoUp, IsBrought, IsGood, IsTrip, IsView, IsWholeFrom, Leg, SoundFramesGoUp, View, clock_in}
 use Rattle.precision_law.proofs.words.Plans.{A, B, Channel, Cm, CompressionMasters, Device, DeviceId, IsChildOf, IsCmOf, IsDeviceInRange, IsDeviceOf, IsPath}
 use Rattle.precision_law.proofs.words.Plans.{IsSwitchOf, Link, LinkId, Master, Pcf, Role, Up, all_at, amount, closed, delay_by, delay_on, device_at}
 use Rattle.precision_law.proofs.words.Plans.{is_end_system, is_master, link_at, margins, opened, rules_give_trees, shape_rules, target_by}
@@ -44,8 +44,8 @@ one_cm v B a b is x y = (let one = (is.lawful.rules CompressionMasters 1).on_b r
 -- ---- one link up
 
 -- a frame that is given to the first link of a path, and has been on its way for so long over so many links
-record CanGoUp (v : View) (t0 : ℕ) (link : LinkId) (rest : List LinkId) (r : Happening) (frame : Pcf) (sender : DeviceId) (d k links : ℕ) : Type 0 where
-  pub path : IsPath v.scenario.network v.channel sender (link ∷ rest)
+record CanGoUp (v : View) (channel : Channel) (t0 : ℕ) (link : LinkId) (rest : List LinkId) (r : Happening) (frame : Pcf) (sender : DeviceId) (d k links : ℕ) : Type 0 where
+  pub path : IsPath v.scenario.network channel sender (link ∷ rest)
   pub there : IsIn r v.records
   pub of_frame : r.frame ≡ Some frame
   pub clean : IsClean v.scenario.network frame
@@ -59,19 +59,19 @@ record CanGoUp (v : View) (t0 : ℕ) (link : LinkId) (rest : List LinkId) (r : H
   pub few : k + suc (length rest) ≤ links
 
 -- it has come up the link, to a switch that has the rest of the path
-record Stepped (v : View) (t0 : ℕ) (link : LinkId) (rest : List LinkId) (r : Happening) (frame : Pcf) (d k : ℕ) : Type 0 where
+record Stepped (v : View) (channel : Channel) (t0 : ℕ) (link : LinkId) (rest : List LinkId) (r : Happening) (frame : Pcf) (d k : ℕ) : Type 0 where
   pub l : Link
   pub at : link_at v.scenario.network link ≡ Some l
-  pub switch : IsSoundSwitch v l.parent
-  pub path : IsPath v.scenario.network v.channel l.parent rest
+  pub switch : IsSwitchOf v.scenario.network channel l.parent
+  pub path : IsPath v.scenario.network channel l.parent rest
   pub come : HasCome v Up t0 r frame l.parent link l d k
 
-step_up : (v : View) (t0 : ℕ) (link : LinkId) (rest : List LinkId) (r : Happening) (frame : Pcf) (sender : DeviceId) (d k : ℕ) (is : IsView v)
-    → CanGoUp v t0 link rest r frame sender d k is.beta.links → AreOpenFrom v t0 → t0 + v.sizes.dmax + v.sizes.path ≤ v.until
-    → Stepped v t0 link rest r frame d k
-step_up v t0 link rest r frame sender d k is c opens in_run =
+step_up : (v : View) (channel : Channel) (t0 : ℕ) (link : LinkId) (rest : List LinkId) (r : Happening) (frame : Pcf) (sender : DeviceId) (d k : ℕ) (is : IsView v)
+    → IsWholeFrom v channel t0 → CanGoUp v channel t0 link rest r frame sender d k is.beta.links → AreOpenOn v channel t0 → t0 + v.sizes.dmax + v.sizes.path ≤ v.until
+    → Stepped v channel t0 link rest r frame d k
+step_up v channel t0 link rest r frame sender d k is intact c opens in_run =
     let n = v.scenario.network in
-    let l = opened (λ (x : Link). (x.child ≡ sender) × IsSwitchOf n v.channel x.parent × IsPath n v.channel x.parent rest) (link_at n link) c.path in
+    let l = opened (λ (x : Link). (x.child ≡ sender) × IsSwitchOf n channel x.parent × IsPath n channel x.parent rest) (link_at n link) c.path in
     let receiver : DeviceId = l.0.parent in
     let child : IsChildOf n sender link = closed (λ (x : Link). x.child ≡ sender) (link_at n link) l.0 l.1 l.2.0 in
     let to : receiver_of n link Up ≡ Some receiver = ap (λ (o : Option Link). option_map (target_by Up) o) l.1 in
@@ -82,7 +82,7 @@ step_up v t0 link rest r frame sender d k is c opens in_run =
       at = l.1;
       switch = l.2.1;
       path = l.2.2;
-      come = comes_over v Up t0 r frame sender receiver link l.0 d k is (record {
+      come = comes_over v channel Up t0 r frame sender receiver link l.0 d k is intact (record {
         given = record {
           given = c.there;
           of_frame = c.of_frame;
@@ -95,8 +95,8 @@ step_up v t0 link rest r frame sender d k is c opens in_run =
         switch = l.2.1;
         clean = c.clean;
         good = c.good;
-        taken_by = switches_are_good v v.channel receiver is l.2.1;
-        ready = λ u from till. (sound_switch_on v receiver u is l.2.1, opens receiver u l.2.1 from till);
+        taken_by = switches_are_good v channel receiver is l.2.1;
+        ready = λ u from till. (intact.on receiver u l.2.1 from, opens receiver u l.2.1 from till);
         mine = member;
         clock = c.clock;
         time = c.time;
@@ -107,9 +107,9 @@ step_up v t0 link rest r frame sender d k is c opens in_run =
 -- ---- up to the compression master
 
 -- the frame has arrived at the compression master
-record IsAtCm (v : View) (last : Happening) : Type 0 where
+record IsAtCm (v : View) (channel : Channel) (last : Happening) : Type 0 where
   pub cm : DeviceId
-  pub is_cm : IsCmOf v.scenario.network v.channel cm
+  pub is_cm : IsCmOf v.scenario.network channel cm
   pub link : LinkId
   pub cause : ℕ
   pub clock : ℕ
@@ -117,16 +117,16 @@ record IsAtCm (v : View) (last : Happening) : Type 0 where
   pub clock_is : clock_in last ≡ clock
   pub small : clock ≤ amount v.scenario.network.dmax
 
-record GoesUp (v : View) (r : Happening) : Type 0 where
+record GoesUp (v : View) (channel : Channel) (r : Happening) : Type 0 where
   pub legs : List Leg
   pub last : Happening
   pub trip : IsTrip v Up r legs last
-  pub come : IsAtCm v last
+  pub come : IsAtCm v channel last
 
-go_up : (v : View) (t0 : ℕ) (link : LinkId) (rest : List LinkId) (r : Happening) (frame : Pcf) (sender : DeviceId) (d k : ℕ) (is : IsView v)
-    → CanGoUp v t0 link rest r frame sender d k is.beta.links → AreOpenFrom v t0 → t0 + v.sizes.dmax + v.sizes.path ≤ v.until → GoesUp v r
-go_up v t0 link [] r frame sender d k is c opens in_run =
-    let p = step_up v t0 link [] r frame sender d k is c opens in_run in
+go_up : (v : View) (channel : Channel) (t0 : ℕ) (link : LinkId) (rest : List LinkId) (r : Happening) (frame : Pcf) (sender : DeviceId) (d k : ℕ) (is : IsView v)
+    → IsWholeFrom v channel t0 → CanGoUp v channel t0 link rest r frame sender d k is.beta.links → AreOpenOn v channel t0 → t0 + v.sizes.dmax + v.sizes.path ≤ v.until → GoesUp v channel r
+go_up v channel t0 link [] r frame sender d k is intact c opens in_run =
+    let p = step_up v channel t0 link [] r frame sender d k is intact c opens in_run in
     let gone = p.come.gone in
     record {
       legs = record { link = link; giving = r; leaving = gone.leaving; arriving = gone.arriving } ∷ [];
@@ -143,23 +143,23 @@ go_up v t0 link [] r frame sender d k is c opens in_run =
         small = p.come.small;
       };
     }
-go_up v t0 link (next ∷ rest) r frame sender d k is c opens in_run =
+go_up v channel t0 link (next ∷ rest) r frame sender d k is intact c opens in_run =
     let n = v.scenario.network in
-    let p = step_up v t0 link (next ∷ rest) r frame sender d k is c opens in_run in
+    let p = step_up v channel t0 link (next ∷ rest) r frame sender d k is intact c opens in_run in
     let gone = p.come.gone in
     let device : DeviceId = p.l.parent in
-    let m = opened (λ (x : Link). (x.child ≡ device) × IsSwitchOf n v.channel x.parent × IsPath n v.channel x.parent rest) (link_at n next) p.path in
-    let relay = child_relays v device v.channel next m.0 is m.1 m.2.0 p.switch in
+    let m = opened (λ (x : Link). (x.child ≡ device) × IsSwitchOf n channel x.parent × IsPath n channel x.parent rest) (link_at n next) p.path in
+    let relay = child_relays v device channel next m.0 is m.1 m.2.0 p.switch in
     let parent : IsParentOf n device link = closed (λ (x : Link). x.parent ≡ device) (link_at n link) p.l p.at refl in
     let child : IsChildOf n device next = closed (λ (x : Link). x.child ≡ device) (link_at n next) m.0 m.1 m.2.0 in
-    let more = go_up v t0 next rest gone.arriving (with_clock gone.clock frame) device (d + delay_by p.l) (suc k) is (record {
+    let more = go_up v channel t0 next rest gone.arriving (with_clock gone.clock frame) device (d + delay_by p.l) (suc k) is intact (record {
       path = p.path;
       there = gone.is.arrived;
       of_frame = gone.of_frame;
       clean = record { kind = c.clean.kind; priority = c.clean.priority; domain = c.clean.domain };
       gives = subst (λ (b : NoteBody). Gives n b device next) (sym gone.body) (refl, record { relay = relay; on = inl (parent, child) });
-      good = switches_are_good v v.channel device is p.switch;
-      member = λ ends. absurd (both_ways (is_end n device) (switch_ends v device v.channel is p.switch) ends);
+      good = switches_are_good v channel device is p.switch;
+      member = λ ends. absurd (both_ways (is_end n device) (switch_ends v device channel is p.switch) ends);
       clock = p.come.clock;
       time = p.come.time;
       after = p.come.after;
@@ -186,24 +186,24 @@ path_fits v channel device links is member path =
     let fits = (margins rules_give_trees v.scenario.network v.sizes.path is.lawful.range is.lawful.rules is.beta).dmax.paths channel device links member path in
     (omega (arith, fits, (sizes_are v is).dmax), is.beta.links_greatest.most (length links) (channel, (device, (links, member, path, refl))))
 
-pub sound_frames_go_up : SoundFramesGoUp
-sound_frames_go_up v h master cm cycle is d one opens in_run =
+pub frames_go_up : FramesGoUp
+frames_go_up v channel h master cm cycle is intact d one opens in_run =
     let n = v.scenario.network in
     let at = founded_at v.scenario v.records h is.run.founded d.there in
     let sends : IsCaused v.scenario at.front h.note.time (notes.Sent master cycle) = subst (IsCaused v.scenario at.front h.note.time) d.is at.due.cause in
     let role = device_of is_master (device_at n master) sends.master in
-    let of_channel : IsDeviceOf n v.channel master = closed (λ (x : Device). (is_end_system x.role ≡ true) ⊎ (x.channel ≡ Some v.channel)) (device_at n master)
+    let of_channel : IsDeviceOf n channel master = closed (λ (x : Device). (is_end_system x.role ≡ true) ⊎ (x.channel ≡ Some channel)) (device_at n master)
     role.0 role.1 (inl (master_ends role.0.role role.2)) in
-    let reach = (rules_give_trees n (shape_rules n is.lawful.rules)).reach v.channel master of_channel in
+    let reach = (rules_give_trees n (shape_rules n is.lawful.rules)).reach channel master of_channel in
     let framed : h.frame ≡ Some (dispatched_frame n master cycle) = ap (λ (x : Happening). x.frame) at.due.same ∙ ap (frame_by n at.front) d.is in
     let m = master_member v master is sends.master in
-    elim reach.0 as (λ links. IsPath n v.channel master links → IsBrought v Up h cm) [
+    elim reach.0 as (λ links. IsPath n channel master links → IsBrought v Up h cm) [
       | [] ↦ grind (arith, opened, device_at, n, role.0, same_some, role.1, master_no_cm, role.0.role, role.2)
       | link ∷ rest ↦ λ path.
-          let l = opened (λ (x : Link). (x.child ≡ master) × IsSwitchOf n v.channel x.parent × IsPath n v.channel x.parent rest) (link_at n link) path in
+          let l = opened (λ (x : Link). (x.child ≡ master) × IsSwitchOf n channel x.parent × IsPath n channel x.parent rest) (link_at n link) path in
           let child : IsChildOf n master link = closed (λ (x : Link). x.child ≡ master) (link_at n link) l.0 l.1 l.2.0 in
-          let fits = path_fits v v.channel master (link ∷ rest) is of_channel path in
-          let goes = go_up v (time_of h) link rest h (dispatched_frame n master cycle) master 0 0 is (record {
+          let fits = path_fits v channel master (link ∷ rest) is of_channel path in
+          let goes = go_up v channel (time_of h) link rest h (dispatched_frame n master cycle) master 0 0 is intact (record {
             path = path;
             there = d.there;
             of_frame = framed;
@@ -218,9 +218,9 @@ sound_frames_go_up v h master cm cycle is d one opens in_run =
             few = omega (arith, fits.1);
           }) opens in_run in
           let come = goes.come in
-          let body = come.body ∙ ap (λ (x : DeviceId). notes.Arrived x come.link come.cause come.clock) (one_cm v v.channel come.cm cm is come.is_cm one) in
+          let body = come.body ∙ ap (λ (x : DeviceId). notes.Arrived x come.link come.cause come.clock) (one_cm v channel come.cm cm is come.is_cm one) in
           let will = will_be_permanent v goes.last cm come.link come.cause come.clock is body (omega (arith, come.small, sizes_are v is)) in
-          let up = path_up v v.channel h goes.last goes.legs master cm cycle come.link come.cause come.clock is one goes.trip body d.is in
+          let up = path_up v channel h goes.last goes.legs master cm cycle come.link come.cause come.clock is one goes.trip body d.is in
           record {
             legs = goes.legs;
             last = goes.last;
@@ -229,7 +229,18 @@ sound_frames_go_up v h master cm cycle is d one opens in_run =
             q = will.q;
             permanent = will.permanent;
             in_time =
-                trips_up_take_dmax v h goes.last goes.legs v.channel master cm will.point will.q is of_channel up (dispatch_clock v h master cycle is d)
+                trips_up_take_dmax v h goes.last goes.legs channel master cm will.point will.q is of_channel up (dispatch_clock v h master cycle is d)
                 goes.trip will.permanent (come.clock_is ∙ sym will.same);
           }
     ] reach.2
+
+-- the sound channel is whole
+pub sound_is_whole : (v : View) (t : ℕ) → IsView v → IsWholeFrom v v.channel t
+sound_is_whole v t is = record {
+  ways = λ link way u of_channel from le. sound_ways_are_whole v link way u is of_channel le;
+  on = λ switch u of_channel from. sound_switch_on v switch u is of_channel;
+}
+
+pub sound_frames_go_up : SoundFramesGoUp
+sound_frames_go_up v h master cm cycle is d one opens in_run =
+    frames_go_up v v.channel h master cm cycle is (sound_is_whole v (time_of h) is) d one opens in_run

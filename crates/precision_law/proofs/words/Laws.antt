@@ -27,7 +27,7 @@ pub use Rattle.precision_law.specs.Standings.{AnchoredClocksReach, AnchoredClock
 pub use Rattle.precision_law.specs.Standings.{IsNearHull, IsReachedNear, IsTimely, OneFrameAnchors, OneFrameSets, SetClocksHaveReached, SetClocksReach}
 pub use Rattle.precision_law.specs.Standings.{SetClocksShow, SharedClocksHalve, ShowsIn, StartsAreSet, StartsStayTogether, TwoFramesAnchor, TwoFramesSet}
 pub use Rattle.precision_law.specs.Standings.{setting}
-pub use Rattle.precision_law.specs.Trips.{AreOpenFrom, FramesDownAreOfCms, FramesUpAreOfMasters, HeardFramesAreTimely, IsBrought, IsInTime, IsLeg, IsOfBad}
+pub use Rattle.precision_law.specs.Trips.{AreOpenFrom, AreOpenOn, FramesGoDown, FramesGoUp, IsWholeFrom, FramesDownAreOfCms, FramesUpAreOfMasters, HeardFramesAreTimely, IsBrought, IsInTime, IsLeg, IsOfBad}
 pub use Rattle.precision_law.specs.Trips.{IsOfCm, IsOfGood, IsOpen, IsPermanentAt, IsTrip, Leg, SoundFramesGoDown, SoundFramesGoUp, TripsDownTakeDmax}
 pub use Rattle.precision_law.specs.Trips.{TripsUpTakeDmax, clock_in, links_back, links_of}
 pub use Rattle.precision_law.specs.Views.{Covers, IsBad, IsDispatch, IsFirm, IsGood, IsGoodEnd, IsSound, IsSoundSwitch, IsView, View}
