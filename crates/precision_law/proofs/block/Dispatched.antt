@@ -1,5 +1,5 @@
 -- Good masters dispatch the frames of each cycle.
-use Rattle.precision_law.proofs.{block.{Coming.reaches_in_block, Onward.hull_ordered}, words.Blocks.{master_is_end, not_turned_on_then, old_point, turned_at}}
+use Rattle.precision_law.proofs.{block.{Coming.reaches_in_block, Onward.hull_ordered}, clocks.Joiners.joiner_waits, words.Blocks.{master_is_end, not_turned_on_then, old_point, turned_at}}
 use Rattle.precision_law.proofs.words.Blocks.{HasPoint, before_narrow, earlier_in_block, early_show, has_corrected, has_lost, joining_of_setting, looking_by}
 use Rattle.precision_law.proofs.words.Clocks.{before_of, before_place, earlier_before, frames_come_first, good_is_correct, in_earlier, natural_of, one_more}
 use Rattle.{precision_law.proofs.words.Clocks.{reaches_front, room, same_device, setting_is, sizes_are}, run_law.specs.timed.Dispatching.Sends}
@@ -8,10 +8,10 @@ use Rattle.precision_law.proofs.words.Laws.{MastersDispatch, View, first_correct
 use Rattle.precision_law.proofs.words.Plans.{Corrected, Device, DeviceId, Event, Integrating, Joining, State, Synchronised, Verdict, amount, device_at}
 use Rattle.precision_law.proofs.words.{Plans.{state_at_start, units_of}, Std.{option_and_then, option_map_or, pos, refl, subst, suc, sym, true, zero, ℕ, ℤ}}
 use Rattle.precision_law.proofs.words.Runs.{BeginsOn, ChangesState, Happening, Integrates, IsCaused, IsDue, IsFoundedAt, IsIn, NotOff, Note, NoteBody, Reaches}
-use Rattle.precision_law.proofs.words.Runs.{TurnsOn, Why, due_is_there, earlier, founded_at, happening, in_at, in_left, is_joined_by, is_turned_on_at, numbered}
+use Rattle.precision_law.proofs.words.Runs.{is_synchronised, TurnsOn, Why, due_is_there, earlier, founded_at, happening, in_at, in_left, is_joined_by, is_turned_on_at, numbered}
 use Rattle.precision_law.proofs.words.Runs.{numbered_in, parted, place_of, split, start_of, state_after, state_before, state_with, time_of}
 use Rattle.precision_law.proofs.words.Std.{◌*◌, ◌+ℤ◌, ◌+◌, ◌<ℤ◌, ◌<◌, ◌==◌, ◌∙◌, ◌∷◌, ◌≡◌, ◌≤◌, Bool, IsNone, IsSomeAnd, List, None, Option, Some, [], ap}
-use Rattle.precision_law.proofs.words.Std.{arith, cases_Bool, cases_lt, false, false_from_ne_true, fold, if◌then◌else◌, inl, inr, ints, length, negsuc}
+use Rattle.precision_law.proofs.words.Std.{arith, both_ways, cases_Bool, cases_lt, false, false_from_ne_true, fold, if◌then◌else◌, inl, inr, ints, length, negsuc}
 use Rattle.run_law.specs.declared.judgement.Why.TheVariants as whys
 use Rattle.run_law.specs.declared.note.NoteBody.TheVariants as notes
 
@@ -119,13 +119,48 @@ pub record IsCalm (v : View) (n t : ℕ) (block : IsInBlock v n t) (device : Dev
   pub good : IsGood v device
   pub on : BeginsOn v.scenario.network device
 
+-- an instant of the block before its correction points
+abbrev pub IsEarly : (v : View) (n t : ℕ) → IsInBlock v n t → ℕ → Type 0
+IsEarly v n t block b = (pos b <ℤ (first_correction v.sizes block.before.hull +ℤ pos v.sizes.reach)) × (b ≤ t)
+
 module _ (goes : BlocksGoSo) (v : View) (n t : ℕ) (block : IsInBlock v n t) (device : DeviceId) (b : ℕ) where
-  -- it has no correction point by then
-  no_point : (w cycle : ℕ) (verdict : Verdict) → IsView v → IsCalm v n t block device b → block.before.next ≤ w → w ≤ b → HasPoint v w device cycle verdict → ⊥
-  no_point w cycle verdict is at from le p =
-      let here = earlier_in_block v n t w block from (omega (arith, le, at.to)) in
+  -- no device has a correction point by then
+  early_point : (w cycle : ℕ) (verdict : Verdict) → IsView v → IsEarly v n t block b → block.before.next ≤ w → w ≤ b
+      → HasPoint v w device cycle verdict → ⊥
+  early_point w cycle verdict is early from le p =
+      let here = earlier_in_block v n t w block from (omega (arith, le, early.1)) in
       let late = (old_point v n _ w _ device cycle verdict (goes v n w here is) p).1.not_early in
-      omega (arith, ints, late, at.before, le)
+      omega (arith, ints, late, early.0, le)
+
+  -- so the clock of a good device that is synchronised by then was set before the block
+  set_before : (w : ℕ) → IsView v → IsEarly v n t block b → IsGood v device → w ≤ b + 1
+      → is_synchronised (state_left v device w) ≡ true → (o : Option Happening) → last_setting (earlier w v.records) device ≡ o
+      → option_map_or (λ h. pos (time_of h)) o (negsuc 0) <ℤ pos block.before.next
+  set_before w is early good le synchronised None e = omega (arith, ints)
+  set_before w is early good le synchronised (Some h) e =
+      let set = setting_is v device w h e in
+      let to : time_of h ≤ b = omega (arith, set.early, le) in
+      elim (cases_lt (time_of h) block.before.next) [
+        | inl lt ↦ omega (arith, ints, lt)
+        | inr from ↦ elim (cases_Bool (is_correction h.note.body)) [
+          | inr joined ↦
+              let joins = joining_of_setting device h.note.body set.sets joined in
+              absurd (both_ways _ (joiner_waits v device w h is e joins) synchronised)
+          | inl corrected ↦
+              let c = has_corrected v device h is good set.there set.sets corrected in
+              absurd (early_point (time_of h) c.cycle (Corrected c.by) is early from to c.point)
+        ]
+      ]
+
+  pub old_early : (w : ℕ) → IsView v → IsEarly v n t block b → IsGood v device → w ≤ b + 1
+      → is_synchronised (state_left v device w) ≡ true → IsOldAt v block.before.next device w
+  old_early w is early good le synchronised =
+      set_before w is early good le synchronised (last_setting (earlier w v.records) device) refl
+
+  -- a calm device has no correction point by then
+  no_point : (w cycle : ℕ) (verdict : Verdict) → IsView v → IsCalm v n t block device b → block.before.next ≤ w → w ≤ b
+      → HasPoint v w device cycle verdict → ⊥
+  no_point w cycle verdict is at from le p = early_point w cycle verdict is (at.before, at.to) from le p
 
   no_clique : (w : ℕ) → IsView v → IsCalm v n t block device b → w ≤ b + 1 → NoCliqueBefore v device w
   no_clique w is at le h state cause why i lt body clique = elim (cases_lt (time_of h) block.before.next) [

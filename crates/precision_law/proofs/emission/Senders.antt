@@ -101,5 +101,5 @@ sends_up goes v n t block cm master is late one first =
       dispatch = sent.1;
       low = low;
       high = sent.2;
-      brought = sound_frames_go_up v sent.0 master cm (suc n) is sent.1 one (dispatches_pass goes v n w there is low sent.2 (omega (arith, soon))) soon;
+      brought = sound_frames_go_up v sent.0 master cm (suc n) is sent.1 one (dispatches_pass goes v v.channel n w there is low sent.2 (omega (arith, soon))) soon;
     }

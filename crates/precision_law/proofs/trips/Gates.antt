@@ -1,11 +1,11 @@
 -- The gates of the sound channel are open while the frames of a cycle come.
-use Rattle.precision_law.proofs.{block.Dispatched.{IsCalm, old_then, synchronised_then}, words.Runs.{is_relay, is_synchronised, offset_in_cycle, standpoint}}
-use Rattle.precision_law.proofs.{block.Onward.hull_ordered, words.Plans.{DeviceId, Network, amount}}
+use Rattle.precision_law.proofs.{block.Dispatched.old_early, words.Runs.{is_relay, is_synchronised, is_turned_on_at, offset_in_cycle, standpoint, state_before}}
+use Rattle.precision_law.proofs.{block.Onward.hull_ordered, words.Plans.{Channel, DeviceId, Integrating, Network, State, Synchronised, amount}}
 use Rattle.precision_law.proofs.words.{Blocks.{before_narrow, block_ends, old_shows}, Std.{int_rem_euclid_is, ints, le-ltb, mod-mul-add, pos, suc, ℕ, ℤ}}
-use Rattle.precision_law.proofs.words.Clocks.{frames_come_first, natural, natural_of, one_more, room, sizes_are, sound_switches_begin_on, switches_are_good}
-use Rattle.precision_law.proofs.words.Laws.{AreOpenFrom, BlocksGoSo, HasTimeAt, HaveRoom, Hull, IsInBlock, IsNarrow, IsOpen, IsSoundSwitch, IsView, ShowsIn}
-use Rattle.precision_law.proofs.words.Laws.{Sizes, View, adjustment_left, first_correction, first_dispatch, has_time, last_dispatch}
-use Rattle.precision_law.proofs.words.Std.{◌%◌, ◌&&◌, ◌*◌, ◌+ℤ◌, ◌+◌, ◌-◌, ◌<◌, ◌∙◌, ◌≡◌, ◌≤ℤ◌, ◌≤◌, and_right, ap, arith, false, inr, int_lt}
+use Rattle.precision_law.proofs.words.Clocks.{frames_come_first, natural, natural_of, one_more, room, sizes_are, switches_are_good}
+use Rattle.precision_law.proofs.words.Laws.{AreOpenFrom, AreOpenOn, BlocksGoSo, IsGood, HasTimeAt, HaveRoom, Hull, IsInBlock, IsNarrow, IsOpen, IsView, ShowsIn}
+use Rattle.precision_law.proofs.words.Laws.{Sizes, View, adjustment_left, first_correction, first_dispatch, has_time, last_dispatch, state_left}
+use Rattle.precision_law.proofs.words.Std.{◌%◌, ◌&&◌, ◌*◌, ◌+ℤ◌, ◌+◌, ◌-◌, ◌<◌, ◌∙◌, ◌≡◌, ◌≤ℤ◌, ◌≤◌, Bool, and_right, ap, arith, cases_Bool, false, if◌then◌else◌, inl, inr, int_lt, refl, true}
 
 -- ---- a value's place in its cycle
 
@@ -50,33 +50,44 @@ open_by v cycle shown is window =
     let place = placed n cycle rest m.0 z some (omega (arith, ints, is.lawful.range.cycle.least)) small is_rest m.1 in
     ap (int_lt (pos (amount n.correction + 2 * amount n.precision))) place ∙ le-ltb (amount n.correction + 2 * amount n.precision) rest top
 
--- a switch of the sound channel is calm
-switch_calm : (v : View) (n u : ℕ) (block : IsInBlock v n u) (switch : DeviceId) → IsView v → IsSoundSwitch v switch
-    → pos u ≤ℤ first_correction v.sizes block.before.hull → IsCalm v n u block switch u
-switch_calm v n u block switch is sound high =
-    record {
-      before = omega (arith, ints, high, room v is);
-      to = omega arith;
-      firm = inr sound;
-      good = switches_are_good v v.channel switch is sound;
-      on = sound_switches_begin_on v switch is sound;
-    }
+-- a device whose state is that after the events of an instant, if it is synchronised, was so before it
+synchronised_left : (b : Bool) (state : State) → is_synchronised (if b then Integrating else state) ≡ true → is_synchronised state ≡ true
+synchronised_left true state e = absurd cc
+synchronised_left false state e = e
+
+and_middle : (a b c : Bool) → b ≡ false → (a && b && c) ≡ false
+and_middle true false c e = refl
+and_middle false false c e = refl
+and_middle a true c e = absurd cc
+
+-- a device in this state has the common time
+has_it : (state : State) → is_synchronised state ≡ true → has_time state ≡ true
+has_it Synchronised e = refl
+has_it state e = absurd cc
 
 -- from the first dispatch to the first correction of a cycle the gates are open
-pub gate_is_open : BlocksGoSo → (v : View) (n u : ℕ) (block : IsInBlock v n u) (switch : DeviceId) → IsView v → IsSoundSwitch v switch
+pub gate_is_open : BlocksGoSo → (v : View) (n u : ℕ) (block : IsInBlock v n u) (switch : DeviceId) → IsView v → IsGood v switch
     → first_dispatch v.sizes block.before.hull ≤ℤ pos u → pos u ≤ℤ first_correction v.sizes block.before.hull → IsOpen v switch u
-gate_is_open goes v n u block switch is sound low high =
+gate_is_open goes v n u block switch is good low high =
     let s = v.scenario in
-    let calm = switch_calm v n u block switch is sound high in
-    let has : HasTimeAt v switch u = record { good = calm.good; timed = ap has_time (synchronised_then goes v n u block switch u u is calm (omega arith)) } in
-    let window = in_window v.sizes (pos (s.reading switch u) +ℤ adjustment_left v switch u) n u block.before.hull (room v is) (before_narrow v n block.before)
-    (old_shows v n u u switch block is (omega arith) has (old_then goes v n u block switch u u is calm (omega arith))) low high in
-    and_right (is_relay s.network switch && is_synchronised (standpoint s v.records switch u).state) _ (open_by v _ _ is window)
+    let relay = is_relay s.network switch in
+    let state = state_before s v.records switch u in
+    elim (cases_Bool (is_synchronised state)) [
+      | inr not_so ↦ and_middle relay (is_synchronised state) _ not_so
+      | inl so ↦
+          let left = synchronised_left (is_turned_on_at s switch u) (state_left v switch u) so in
+          let has : HasTimeAt v switch u = record { good = good; timed = has_it (state_left v switch u) left } in
+          let old = old_early goes v n u block switch u u is (omega (arith, ints, high, room v is), omega arith) good (omega arith) left in
+          let window = in_window v.sizes (pos (s.reading switch u) +ℤ adjustment_left v switch u) n u block.before.hull (room v is)
+          (before_narrow v n block.before) (old_shows v n u u switch block is (omega arith) has old) low high in
+          and_right (relay && is_synchronised state) _ (open_by v _ _ is window)
+    ]
 
 -- so they are while a frame that is given then may travel
-pub are_open_from : BlocksGoSo → (v : View) (n w : ℕ) (block : IsInBlock v n w) → IsView v → first_dispatch v.sizes block.before.hull ≤ℤ pos w
-    → pos (w + v.sizes.dmax) ≤ℤ first_correction v.sizes block.before.hull → w + v.sizes.dmax ≤ v.until + v.sizes.path → AreOpenFrom v w
-are_open_from goes v n w block is low high in_run switch u sound from to =
+pub are_open_on : BlocksGoSo → (v : View) (channel : Channel) (n w : ℕ) (block : IsInBlock v n w) → IsView v
+    → first_dispatch v.sizes block.before.hull ≤ℤ pos w → pos (w + v.sizes.dmax) ≤ℤ first_correction v.sizes block.before.hull
+    → w + v.sizes.dmax ≤ v.until + v.sizes.path → AreOpenOn v channel w
+are_open_on goes v channel n w block is low high in_run switch u of_channel from to =
     let space = room v is in
     let narrow = before_narrow v n block.before in
     let at : IsInBlock v n u = record {
@@ -87,11 +98,16 @@ are_open_from goes v n w block is low high in_run switch u sound from to =
       to = omega (arith, ints, block_ends v n block.next _ block.before.is_hull block.is_over, high, to, hull_ordered v n block.before is);
       in_run = omega (arith, to, in_run);
     } in
-    gate_is_open goes v n u at switch is sound (omega (arith, ints, low, from)) (omega (arith, ints, high, to))
+    gate_is_open goes v n u at switch is (switches_are_good v channel switch is of_channel) (omega (arith, ints, low, from)) (omega (arith, ints, high, to))
+
+pub are_open_from : BlocksGoSo → (v : View) (n w : ℕ) (block : IsInBlock v n w) → IsView v → first_dispatch v.sizes block.before.hull ≤ℤ pos w
+    → pos (w + v.sizes.dmax) ≤ℤ first_correction v.sizes block.before.hull → w + v.sizes.dmax ≤ v.until + v.sizes.path → AreOpenFrom v w
+are_open_from goes v n w block is low high in_run = are_open_on goes v v.channel n w block is low high in_run
 
 -- so they are for the dispatches of the block's cycle
-pub dispatches_pass : BlocksGoSo → (v : View) (n w : ℕ) (block : IsInBlock v n w) → IsView v → first_dispatch v.sizes block.before.hull ≤ℤ pos w
-    → pos w ≤ℤ last_dispatch v.sizes block.before.hull → w + v.sizes.dmax ≤ v.until + v.sizes.path → AreOpenFrom v w
-dispatches_pass goes v n w block is low high in_run =
+pub dispatches_pass : BlocksGoSo → (v : View) (channel : Channel) (n w : ℕ) (block : IsInBlock v n w) → IsView v
+    → first_dispatch v.sizes block.before.hull ≤ℤ pos w → pos w ≤ℤ last_dispatch v.sizes block.before.hull
+    → w + v.sizes.dmax ≤ v.until + v.sizes.path → AreOpenOn v channel w
+dispatches_pass goes v channel n w block is low high in_run =
     let first = frames_come_first v.sizes block.before.hull (room v is) (before_narrow v n block.before) in
-    are_open_from goes v n w block is low (omega (arith, ints, high, first)) in_run
+    are_open_on goes v channel n w block is low (omega (arith, ints, high, first)) in_run
