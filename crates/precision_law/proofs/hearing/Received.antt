@@ -2,18 +2,18 @@
 -- the time.
 use Rattle.precision_law.proofs.faults.Turned.{timed_not_off}
 use Rattle.{net_plan.proofs.SameIds.same_device, precision_law.proofs.block.Onward.firm_good, tte_units.specs.declared.units.Units.Units}
-use Rattle.precision_law.proofs.{hearing.{GoodFrames.{IsAtPoint, sooner}, Timely.of_channel_is}, words.Plans.{Synchronised, device_at, is_end_system, opened}}
-use Rattle.precision_law.proofs.{trips.Gates.are_open_from, words.Blocks.{next_first, not_turned_on_then, one_cm, sound_frames_go_down, up_to_then}}
+use Rattle.precision_law.proofs.{hearing.{GoodFrames.{IsAtPoint, sooner}, Timely.of_channel_is}, words.Plans.{Channel, Synchronised, device_at, is_end_system, opened}}
+use Rattle.precision_law.proofs.{trips.{Gates.are_open_on, SoundDown.frames_go_down, SoundUp.sound_is_whole}, words.Blocks.{next_first, not_turned_on_then, one_cm, up_to_then}}
 use Rattle.precision_law.proofs.words.Blocks.{AreUpTo, EndsSo, before_narrow, cm_of, earlier_in_block, ends_so, follows_before, hears_as_at, judged_at}
 use Rattle.precision_law.proofs.words.Clocks.{IsRipeArrival, IsRipeRecord, before_of, before_place, child_not_parent, cm_is_no_end, device_of, emission_shows}
 use Rattle.precision_law.proofs.words.Clocks.{frames_come_first, is_heard_of, place_of_ripe, receiver_down, room, switches_are_good, time_stays}
-use Rattle.precision_law.proofs.words.Laws.{BlocksGoSo, HearsBy, Hull, IsBrought, IsEmission, IsFirm, IsInBlock, IsNearHull, IsOfHearer, IsSoundSwitch, IsTrip}
+use Rattle.precision_law.proofs.words.Laws.{BlocksGoSo, HearsBy, Hull, IsBrought, IsEmission, IsFirm, IsInBlock, IsNearHull, IsGood, IsOfHearer, IsTrip, IsWholeFrom}
 use Rattle.precision_law.proofs.words.Laws.{IsView, Leg, Stands, View, base_of, epoch_time, first_correction, first_dispatch, has_time, hull_of, state_left}
 use Rattle.precision_law.proofs.words.Plans.{Cm, Device, DeviceId, Down, Integrating, IsCmOf, IsDeviceOf, Joining, LinkId, Members, Pcf, State, SyncPlan}
 use Rattle.precision_law.proofs.words.Runs.{Gives, Happening, IsCaused, IsDue, IsIn, Judgement, NoteBody, adjustment_at_hearing, channel_of, channel_of_link}
 use Rattle.precision_law.proofs.words.Runs.{IsSplit, cycle_in, earlier, founded_at, heard_as, heard_by_schedule, is_cm, is_cm_role, is_off, is_parent_of, is_relay, members_in}
 use Rattle.precision_law.proofs.words.{Runs.{observation_window, place_of, plan_of, receiver_of, split, state_before, time_of}, Std.{true, unsigned_abs, ℕ, ℤ}}
-use Rattle.precision_law.proofs.words.Std.{◌+◌, ◌<ℤ◌, ◌<◌, ◌||◌, ◌∙◌, ◌∷◌, ◌≡◌, ◌≤ℤ◌, ◌≤◌, Bool, List, None, Option, Some, [], ap, arith, cases_eq, false}
+use Rattle.precision_law.proofs.words.Std.{◌+◌, ◌<ℤ◌, ◌<◌, ◌||◌, ◌∙◌, ◌∷◌, ◌≡◌, ◌≤ℤ◌, ◌≤◌, ◌⊎◌, Bool, List, None, Option, Some, [], ap, arith, cases_eq, false}
 use Rattle.precision_law.proofs.words.Std.{false_from_ne_true, if◌then◌else◌, inl, inr, ints, not, option_and_then, option_map_or, pos, refl, subst, suc, sym}
 use Rattle.run_law.specs.declared.note.NoteBody.TheVariants as notes
 
@@ -54,31 +54,31 @@ no_end_cm None a b = absurd cc
 no_end_cm (Some d) a b = cm_is_no_end d.role a b
 
 -- a device that is to keep the time is of the channel
-firm_member : (v : View) (device : DeviceId) → IsFirm v device → IsDeviceOf v.scenario.network v.channel device
+pub firm_member : (v : View) (device : DeviceId) → IsFirm v device → IsDeviceOf v.scenario.network v.channel device
 firm_member v device (inl end) =
     (let d = device_of is_end_system (device_at v.scenario.network device) end.end in of_channel_is v v.channel device d.0 d.1 (inl d.2))
 firm_member v device (inr switch) =
     (let d = opened (λ (x : Device). x.channel ≡ Some v.channel) (device_at v.scenario.network device) switch in of_channel_is v v.channel device d.0 d.1
     (inr d.2))
 
-switch_channel : (v : View) (device : DeviceId) → IsSoundSwitch v device → channel_of v.scenario.network device ≡ Some v.channel
-switch_channel v device switch =
-    (let d = opened (λ (x : Device). x.channel ≡ Some v.channel) (device_at v.scenario.network device)
-    switch in ap (λ (o : Option Device). option_and_then (λ x. x.channel) o) d.1 ∙ d.2)
-
--- one other than the compression master is none
-firm_other : (v : View) (device cm : DeviceId) → IsView v → IsFirm v device → IsCmOf v.scenario.network v.channel cm → (device ≡ cm → ⊥)
-    → is_cm v.scenario.network device ≡ false
-firm_other v device cm is firm one other =
-    false_from_ne_true (is_cm v.scenario.network device) (λ also. elim firm [
-      | inl end ↦ no_end_cm (device_at v.scenario.network device) also end.end
-      | inr switch ↦ other (one_cm v v.channel device cm is (cm_of v device v.channel also (switch_channel v device switch)) one)
+-- a device of a channel other than its compression master is none
+pub other_than_cm : (v : View) (channel : Channel) (device cm : DeviceId) → IsView v → IsDeviceOf v.scenario.network channel device
+    → IsCmOf v.scenario.network channel cm → (device ≡ cm → ⊥) → is_cm v.scenario.network device ≡ false
+other_than_cm v channel device cm is member one other =
+    let d = opened (λ (x : Device). (is_end_system x.role ≡ true) ⊎ (x.channel ≡ Some channel)) (device_at v.scenario.network device) member in
+    false_from_ne_true (is_cm v.scenario.network device) (λ also. elim d.2 [
+      | inl end ↦ no_end_cm (device_at v.scenario.network device) also
+          (ap (λ (o : Option Device). option_map_or (λ x. is_end_system x.role) o false) d.1 ∙ end)
+      | inr of_channel ↦
+          let on : channel_of v.scenario.network device ≡ Some channel =
+          ap (λ (o : Option Device). option_and_then (λ x. x.channel) o) d.1 ∙ of_channel in
+          other (one_cm v channel device cm is (cm_of v device channel also on) one)
     ])
 
 -- the channel of its compression master
-pub cm_of_channel : (v : View) (cm : DeviceId) → IsCmOf v.scenario.network v.channel cm → channel_of v.scenario.network cm ≡ Some v.channel
-cm_of_channel v cm one =
-    (let d = opened (λ (x : Device). (x.role ≡ Cm) × (x.channel ≡ Some v.channel)) (device_at v.scenario.network cm)
+pub cm_of_channel : (v : View) (channel : Channel) (cm : DeviceId) → IsCmOf v.scenario.network channel cm → channel_of v.scenario.network cm ≡ Some channel
+cm_of_channel v channel cm one =
+    (let d = opened (λ (x : Device). (x.role ≡ Cm) × (x.channel ≡ Some channel)) (device_at v.scenario.network cm)
     one in ap (λ (o : Option Device). option_and_then (λ x. x.channel) o) d.1 ∙ d.2.1)
 
 -- ---- what it hears
@@ -109,7 +109,7 @@ waits_by false false e = refl
 waits_by relay true e = absurd cc
 
 -- the frame of the sound channel is permanent at the device, which judges it by the records before
-pub record ComesDown (v : View) (n : ℕ) (device : DeviceId) (first : Happening) (members : Members) : Type 0 where
+pub record ComesDown (v : View) (channel : Channel) (n : ℕ) (device : DeviceId) (first : Happening) (members : Members) : Type 0 where
   pub arrival : Happening
   pub link : LinkId
   pub frame : Pcf
@@ -117,44 +117,44 @@ pub record ComesDown (v : View) (n : ℕ) (device : DeviceId) (first : Happening
   pub q : ℕ
   pub place : IsSplit place_of v.records (place_of_ripe device arrival link frame point q)
   pub ripe : IsRipeRecord v device arrival link point q (judged_at v.scenario device place.front q point frame.cycle frame.members) frame
-  pub of_channel : channel_of_link v.scenario.network link ≡ Some v.channel
+  pub of_channel : channel_of_link v.scenario.network link ≡ Some channel
   pub of_cycle : frame.cycle ≡ suc n
   pub of_members : frame.members.0 ≡ members.0
   pub from : time_of first ≤ q
   pub soon : q ≤ time_of first + v.sizes.dmax + v.sizes.path
 
-module _ (v : View) (n t : ℕ) (block : IsInBlock v n t) (is : IsView v) (device cm : DeviceId) (firm : IsFirm v device)
-    (one : IsCmOf v.scenario.network v.channel cm) (first : Happening) (members : Members) (e : IsEmission v first cm (suc n) members)
+module _ (v : View) (channel : Channel) (n t : ℕ) (block : IsInBlock v n t) (is : IsView v) (device cm : DeviceId)
+    (member : IsDeviceOf v.scenario.network channel device) (good : IsGood v device)
+    (one : IsCmOf v.scenario.network channel cm) (first : Happening) (members : Members) (e : IsEmission v first cm (suc n) members)
     (timed : IsSentInTime v n block.before first) where
   shows : (suc n ≡ cycle_in first) × (members.0 ≡ members_in first)
   shows = emission_shows v first cm e.opened e.at (suc n) members e.verdict is e.there e.is
 
   -- what was brought down to a device came by a last leg
-  brought_by_leg : (b : IsBrought v Down first device) → EndsSo v v.channel first b.last
+  brought_by_leg : (b : IsBrought v Down first device) → EndsSo v channel first b.last
   brought_by_leg b = by b.legs b.trip
     where
-      by : (legs : List Leg) → IsTrip v Down first legs b.last → EndsSo v v.channel first b.last
+      by : (legs : List Leg) → IsTrip v Down first legs b.last → EndsSo v channel first b.last
       by [] trip =
           let wrong : notes.Compressed cm e.opened e.at (suc n) members e.verdict ≡ notes.Arrived device b.permanent.link b.permanent.from b.permanent.clock =
           sym e.is ∙ ap (λ (h : Happening). h.note.body) trip ∙ b.permanent.is in absurd (never_both _ _ _ _ _ _ _ _ _ _ wrong)
       by (leg ∷ legs) trip =
-          ends_so v v.channel first b.last leg legs is (λ d k gives.
-          (let g = subst (λ (x : NoteBody). Gives v.scenario.network x d k) e.is gives in ap (channel_of v.scenario.network) g.0 ∙ cm_of_channel v cm one)) trip
+          ends_so v channel first b.last leg legs is (λ d k gives.
+          (let g = subst (λ (x : NoteBody). Gives v.scenario.network x d k) e.is gives in ap (channel_of v.scenario.network) g.0 ∙ cm_of_channel v channel cm one)) trip
 
   -- the frame comes to each other device that is on
-  pub comes_down : BlocksGoSo → (device ≡ cm → ⊥) → time_of first + v.sizes.dmax + v.sizes.path ≤ t
+  pub comes_down : BlocksGoSo → IsWholeFrom v channel (time_of first) → (device ≡ cm → ⊥) → time_of first + v.sizes.dmax + v.sizes.path ≤ t
       → ((u : ℕ) → time_of first ≤ u → u + v.sizes.path ≤ time_of first + v.sizes.dmax
-      → is_off (state_before v.scenario v.records device u) ≡ false) → ComesDown v n device first members
-  comes_down goes other le on =
+      → is_off (state_before v.scenario v.records device u) ≡ false) → ComesDown v channel n device first members
+  comes_down goes intact other le on =
       let s = v.scenario in
       let network = s.network in
       let w = time_of first in
       let space = room v is in
       let soon = timed.soon in
       let instant : IsInBlock v n w = earlier_in_block _ _ _ _ block timed.from (omega (arith, le)) in
-      let opens = are_open_from goes v n w instant is timed.low (omega (arith, ints, soon)) (omega (arith, le, block.in_run)) in
-      let good = firm_good switches_are_good v device is firm in
-      let b = sound_frames_go_down v first device cm (suc n) members is e one (firm_member v device firm) good other opens (omega (arith, le, block.in_run))
+      let opens = are_open_on goes v channel n w instant is timed.low (omega (arith, ints, soon)) (omega (arith, le, block.in_run)) in
+      let b = frames_go_down v channel first device cm (suc n) members is intact e one member good other opens (omega (arith, le, block.in_run))
       on in
       let p = b.permanent in
       let q = b.q in
@@ -185,7 +185,7 @@ module _ (v : View) (n t : ℕ) (block : IsInBlock v n t) (is : IsView v) (devic
         point = b.point;
         q = q;
         place = place;
-        ripe = is_heard_of v device b.last p.link frame b.point q is (firm_other v device cm is firm one other) r place;
+        ripe = is_heard_of v device b.last p.link frame b.point q is (other_than_cm v channel device cm is member one other) r place;
         of_channel = ap (channel_of_link network) (sym link) ∙ ends.of_channel;
         of_cycle = ap (λ (o : Option Pcf). option_map_or (λ f. f.cycle) o 0) (sym ends.keeps.of_frame) ∙ sym ends.keeps.cycle ∙ sym shows.0;
         of_members = ap (λ (o : Option Pcf). option_map_or (λ f. f.members.0) o 0) (sym ends.keeps.of_frame) ∙ sym ends.keeps.members ∙ sym shows.1;
@@ -214,14 +214,14 @@ module _ (v : View) (n t : ℕ) (block : IsInBlock v n t) (is : IsView v) (devic
       let late : pos q <ℤ first_correction v.sizes block.before.hull = (let soon = timed.soon in omega (arith, ints, soon)) in
       let hearer = hears q found.front e.at.0 (suc n) members (up_to_then v q found.front (before_of v first is found)) timed.from
       (sooner v n t block device q at late) in
-      let of_channel = subst (λ (d : DeviceId). channel_of s.network d ≡ Some v.channel) same (cm_of_channel v cm one) in
+      let of_channel = subst (λ (d : DeviceId). channel_of s.network d ≡ Some v.channel) same (cm_of_channel v v.channel cm one) in
       record {
         h = first;
         point = e.at.0;
         judgement = e.verdict;
         hearer = subst IsOfHearer (sym emits.heard) hearer;
         hears = record { there = e.there; how = inr (e.opened, e.at, suc n, members, body, of_channel, refl) };
-        members_are = sym (shows v n t block is device cm firm one first members e timed).1;
+        members_are = sym (shows v v.channel n t block is device cm (firm_member v device firm) (firm_good switches_are_good v device is firm) one first members e timed).1;
         from = timed.from;
         late = late;
       }
@@ -238,7 +238,8 @@ module _ (v : View) (n t : ℕ) (block : IsInBlock v n t) (is : IsView v) (devic
       let timed_u = time_stays v device u t is (omega (arith, le, lt)) old_u at.has.timed in
       ap (λ (b : Bool). is_off (if b then Integrating else state_left v device u)) (not_turned_on_then v device u is timed_u)
       ∙ timed_not_off (state_left v device u) timed_u) in
-      let c = comes_down v n t block is device cm firm one first members e timed goes other (omega (arith, lt)) on in
+      let c = comes_down v v.channel n t block is device cm (firm_member v device firm) (firm_good switches_are_good v device is firm) one first members e
+      timed goes (sound_is_whole v w is) other (omega (arith, lt)) on in
       let q = c.q in
       let split_at = before_place v q (3 ∷ device.0 ∷ unsigned_abs c.point ∷ c.frame.members.0 ∷ c.link.0 ∷ c.arrival.note.number ∷ []) c.place in
       let ripe = c.ripe in

@@ -2,7 +2,7 @@
 use Rattle.precision_law.proofs.law.{Cover.{behind_of, later_end}, OnTime.begins_late, Precision.no_clique}
 use Rattle.precision_law.proofs.progress_lemmas.{Corrected.synchronised_by, Told.has_time_by}
 use Rattle.precision_law.proofs.records.Views.{room_of}
-use Rattle.precision_law.proofs.progress_lemmas.Staying.{IsOn, IsSynchronised, KeepsAll, stays_synchronised}
+use Rattle.precision_law.proofs.progress_lemmas.Staying.{IsOn, IsSynchronised, KeepsFrom, stays_synchronised}
 use Rattle.precision_law.proofs.words.Blocks.{before_narrow, block_ends, follows_before, up_to_is, view_of, view_with}
 use Rattle.precision_law.proofs.words.Clocks.{corrections_come_first, room}
 use Rattle.precision_law.proofs.words.Laws.{BlockIsOver, BlocksCover, BlocksGoSo, FirmDevicesCorrect, Follows}
@@ -51,8 +51,8 @@ later_soon : (s : Sizes) (t until : ℕ) (hull later : Hull) → IsNarrow s hull
 later_soon s t until hull later narrow follows early long = omega (arith, ints, follows.most, narrow, early, long)
 
 module _ (known : AreBlocksKnown) (v : View) (device : DeviceId) (is : IsView v) (end : IsGoodEnd v device) where
-  never : KeepsAll v device
-  never h state cause why i body clique =
+  never : KeepsFrom v device 0
+  never h state cause why i late body clique =
       no_clique known.cover known.goes known.correct v h device state cause why is i body clique
       (λ good. (end.good, inl end))
 
@@ -74,7 +74,7 @@ module _ (known : AreBlocksKnown) (v : View) (device : DeviceId) (is : IsView v)
       → pos x ≤ℤ (next.before.hull.least +ℤ pos 1) → IsSynchronised (state_left v device (v.until + 1))
   in_two_blocks n x over next on early =
       let hull = over.before.hull in
-      let timed = has_time_by v device is never known.sends known.goes n over x end on (λ w at.
+      let timed = has_time_by v device is 0 never known.sends known.goes n over x (omega arith) end on (λ w at.
       subst (λ (z : Hull). pos x ≤ℤ (z.least +ℤ pos 1)) (same_some (hull_of v (suc n)) next.before.hull w
       next.before.is_hull at) early) in
       let one = block_ends v n over.next hull over.before.is_hull over.is_over in
@@ -82,8 +82,8 @@ module _ (known : AreBlocksKnown) (v : View) (device : DeviceId) (is : IsView v)
       let same : over.next ≡ next.before.next = omega (arith, ints, one, other) in
       let has : HasTimeAt v device next.before.next =
       record { good = end.good; timed = subst (λ (y : ℕ). has_time (state_left v device y) ≡ true) same timed } in
-      stays_synchronised v device is never next.next (v.until + 1) next.in_run
-      (synchronised_by v device is never known.come (suc n) next has)
+      stays_synchronised v device is 0 never next.next (v.until + 1) (omega arith) next.in_run
+      (synchronised_by v device is 0 never known.come (suc n) next (omega arith) has)
 
   -- an end system that is on has come in so long behind it
   arrives : (t : ℕ) → IsOn (state_left v device (t + 1)) → t + coming v.sizes ≤ v.until

@@ -1,7 +1,7 @@
 -- A device that has the common time when a block begins is synchronised when it is over.
 use Rattle.precision_law.proofs.law.{Cover.later_end, OnTime.corrects_by, Together.block_ends}
 use Rattle.precision_law.proofs.faults.Turned.{not_turned_on_then}
-use Rattle.precision_law.proofs.progress_lemmas.Staying.{IsSynchronised, KeepsAll, becomes_synchronised, not_told}
+use Rattle.precision_law.proofs.progress_lemmas.Staying.{IsSynchronised, KeepsFrom, becomes_synchronised, not_told}
 use Rattle.precision_law.proofs.progress_lemmas.Staying.{stays_synchronised, time_stays_on}
 use Rattle.precision_law.proofs.words.Clocks.{before_of, before_place, due_there, earlier_before, next_note}
 use Rattle.precision_law.proofs.words.Clocks.{point_timed, setting_is, within_run}
@@ -26,7 +26,7 @@ timed_cases Integrating e = absurd cc
 timed_cases Joining e = inl refl
 timed_cases Synchronised e = inr refl
 
-module _ (v : View) (device : DeviceId) (is : IsView v) (never : KeepsAll v device) where
+module _ (v : View) (device : DeviceId) (is : IsView v) (z : ℕ) (never : KeepsFrom v device z) where
   -- a record that leaves the device synchronised
   record MakesSynchronised (t : ℕ) : Type 0 where
     pub g : Happening
@@ -66,10 +66,10 @@ module _ (v : View) (device : DeviceId) (is : IsView v) (never : KeepsAll v devi
       }
 
   -- behind a correction it is synchronised
-  corrected_then : (h : Happening) (cycle : ℕ) (by adjustment : Units) (y : ℕ) → IsIn h v.records
+  corrected_then : (h : Happening) (cycle : ℕ) (by adjustment : Units) (y : ℕ) → z ≤ time_of h → IsIn h v.records
       → h.note.body ≡ notes.Corrected device cycle by adjustment → time_of h < y
       → IsSynchronised (state_left v device y)
-  corrected_then h cycle by adjustment y i body to =
+  corrected_then h cycle by adjustment y late i body to =
       let s = v.scenario in
       let t = time_of h in
       let found = founded_at s v.records h is.run.founded i in
@@ -80,33 +80,32 @@ module _ (v : View) (device : DeviceId) (is : IsView v) (never : KeepsAll v devi
         | inl joining ↦
             let m = first_corrected h cycle by adjustment i body joining in
             let timed_m = subst (λ (x : ℕ). has_time (state_left v device x) ≡ true) (sym m.at) timed in
-            becomes_synchronised v device is never m.g y m.there timed_m (omega (arith, m.at, to)) m.makes
-        | inr synchronised ↦ stays_synchronised v device is never t y (omega (arith, to)) synchronised
+            becomes_synchronised v device is z never m.g y (omega (arith, m.at, late)) m.there timed_m (omega (arith, m.at, to)) m.makes
+        | inr synchronised ↦ stays_synchronised v device is z never t y late (omega (arith, to)) synchronised
       ]
 
   -- what set the clock last in the block corrected it
-  set_then : (x y : ℕ) (o : Option Happening) → last_setting (earlier y v.records) device ≡ o
+  set_then : (x y : ℕ) (o : Option Happening) → z ≤ x → last_setting (earlier y v.records) device ≡ o
       → pos x ≤ℤ option_map_or (λ h. pos (time_of h)) o (negsuc 0) → has_time (state_left v device x) ≡ true
       → IsSynchronised (state_left v device y)
-  set_then x y None e late timed = absurd (omega (arith, ints, late))
-  set_then x y (Some h) e late timed =
+  set_then x y None soon e late timed = absurd (omega (arith, ints, late))
+  set_then x y (Some h) soon e late timed =
       let at = setting_is v device y h e in
       let from : x ≤ time_of h = omega (arith, ints, late) in
-      let told = not_told v device is h at.there (time_stays_on v device is never x (time_of h) from timed) in
+      let told = not_told v device is h at.there (time_stays_on v device is z never x (time_of h) soon from timed) in
       let c = corrects_by device h.note.body at.sets told in
-      corrected_then h c.cycle c.by c.adjustment y at.there c.is at.early
+      corrected_then h c.cycle c.by c.adjustment y (omega (arith, soon, from)) at.there c.is at.early
 
   -- a device that has the common time when a block begins is synchronised when it is over
-  pub synchronised_by : PointsHaveCome → (n : ℕ) (over : BlockIsOver v n) → HasTimeAt v device over.before.next
+  pub synchronised_by : PointsHaveCome → (n : ℕ) (over : BlockIsOver v n) → z ≤ over.before.next → HasTimeAt v device over.before.next
       → IsSynchronised (state_left v device over.next)
-  synchronised_by come n over has =
+  synchronised_by come n over soon has =
       let x = over.before.next in
       let y = over.next in
       let ends = block_ends v n y over.before.hull over.before.is_hull over.is_over in
       let le : x ≤ y = omega (arith, ints, ends, later_end v n over.before is) in
       let new = come v n over device is (record {
         good = has.good;
-        timed = time_stays_on v device is never x y le
-            has.timed;
+        timed = time_stays_on v device is z never x y soon le has.timed;
       }) in
-      set_then x y (last_setting (earlier y v.records) device) refl new has.timed
+      set_then x y (last_setting (earlier y v.records) device) soon refl new has.timed

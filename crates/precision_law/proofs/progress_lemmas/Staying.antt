@@ -10,17 +10,17 @@ use Rattle.precision_law.proofs.words.Plans.{DeviceId, Integrating, State, Synch
 use Rattle.precision_law.proofs.words.Runs.{ChangesState, Happening, IsCaused, IsIn, NoteBody, Why, earlier, founded_at}
 use Rattle.precision_law.proofs.words.Runs.{in_left, is_joined_by, is_off, is_turned_on_at, numbered_in, state_after}
 use Rattle.precision_law.proofs.words.Runs.{state_with, time_of}
-use Rattle.precision_law.proofs.words.Std.{if◌then◌else◌, ◌<◌, ◌∙◌, ◌∷◌, ◌≡◌, ◌≤◌, Bool, List, ap, both_ways, false}
+use Rattle.precision_law.proofs.words.Std.{if◌then◌else◌, ◌<◌, ◌∙◌, ◌∷◌, ◌≡◌, ◌≤◌, Bool, List, ap, arith, both_ways, false}
 use Rattle.precision_law.proofs.words.Std.{false_from_ne_true, refl, subst, sym, true, ℕ}
 use Rattle.net_plan.specs.declared.event.What.TheVariants as events
 use Rattle.run_law.specs.declared.judgement.Why.TheVariants as whys
 use Rattle.run_law.specs.declared.note.NoteBody.TheVariants as notes
 
--- no correction point takes the common time from the device
-abbrev pub KeepsAll : View → DeviceId → Type 0
-KeepsAll v device =
-    (h : Happening) (state : State) (cause : ℕ) (why : Why)
-    → IsIn h v.records → h.note.body ≡ notes.State device state cause why → IsClique why → ⊥
+-- from z on no correction point takes the common time from the device
+abbrev pub KeepsFrom : View → DeviceId → ℕ → Type 0
+KeepsFrom v device z =
+    (h : Happening) (state : State) (cause : ℕ) (why : Why) → IsIn h v.records → z ≤ time_of h
+    → h.note.body ≡ notes.State device state cause why → IsClique why → ⊥
 
 -- a device in this state is on
 abbrev pub IsOn : State → Type 0
@@ -90,44 +90,45 @@ module _ (v : View) (device : DeviceId) (is : IsView v) where
       apart true state off timed e = absurd cc
       apart false state off timed e = both_ways (has_time state) (ap has_time e) timed
 
-  module _ (never : KeepsAll v device) where
+  module _ (z : ℕ) (never : KeepsFrom v device z) where
     changes_timed : (h : Happening) (state : State) (cause : ℕ) (why : Why) → IsIn h v.records
-        → IsChange v device h state cause why
+        → z ≤ time_of h → IsChange v device h state cause why
         → is_turned_on_at v.scenario device (time_of h) ≡ false → IsTimed state
-    changes_timed h state cause whys.On i c off = absurd (both_ways _ off (turned_then h state cause c))
-    changes_timed h state cause whys.Frame i c off = ap has_time c.changes.0
-    changes_timed h state cause whys.Correction i c off = ap has_time c.changes.0
-    changes_timed h state cause whys.SyncClique i c off = absurd (never h state cause whys.SyncClique i c.is tt)
-    changes_timed h state cause whys.AsyncClique i c off = absurd (never h state cause whys.AsyncClique i c.is tt)
+    changes_timed h state cause whys.On i from c off = absurd (both_ways _ off (turned_then h state cause c))
+    changes_timed h state cause whys.Frame i from c off = ap has_time c.changes.0
+    changes_timed h state cause whys.Correction i from c off = ap has_time c.changes.0
+    changes_timed h state cause whys.SyncClique i from c off = absurd (never h state cause whys.SyncClique i from c.is tt)
+    changes_timed h state cause whys.AsyncClique i from c off =
+        absurd (never h state cause whys.AsyncClique i from c.is tt)
 
     -- once it is on, all records leave it the common time
-    timed_carry : (x y : ℕ) → IsOn (state_left v device x) → AllCarry IsTimed v device x y
-    timed_carry x y on h i from to =
+    timed_carry : (x y : ℕ) → z ≤ x → IsOn (state_left v device x) → AllCarry IsTimed v device x y
+    timed_carry x y late on h i from to =
         let off = on_not_turned_on v device (time_of h) is (stays_on x (time_of h) from on) in
-        carries IsTimed v device h is i (λ told. refl) (λ state cause why c. changes_timed h state cause why i c off)
+        carries IsTimed v device h is i (λ told. refl) (λ state cause why c. changes_timed h state cause why i (omega (arith, late, from)) c off)
 
     -- the common time stays
-    pub time_stays_on : (x y : ℕ) → x ≤ y → IsTimed (state_left v device x) → IsTimed (state_left v device y)
-    time_stays_on x y le timed =
-        carried_between IsTimed v device x y is le (timed_carry x y (timed_not_off (state_left v device x) timed)) timed
+    pub time_stays_on : (x y : ℕ) → z ≤ x → x ≤ y → IsTimed (state_left v device x) → IsTimed (state_left v device y)
+    time_stays_on x y late le timed =
+        carried_between IsTimed v device x y is le (timed_carry x y late (timed_not_off (state_left v device x) timed)) timed
 
     -- a frame that tells a device the time leaves it with the time
-    pub told_has_time : (g : Happening) (x y : ℕ) → IsIn g v.records → is_joined_by device g.note.body ≡ true
+    pub told_has_time : (g : Happening) (x y : ℕ) → z ≤ x → IsIn g v.records → is_joined_by device g.note.body ≡ true
         → IsOn (state_left v device x) → x ≤ time_of g → time_of g < y → IsTimed (state_left v device y)
-    told_has_time g x y i joined on from to =
+    told_has_time g x y late i joined on from to =
         let on_then = stays_on x (time_of g) from on in
-        carried_behind IsTimed v device g y is i to (timed_carry (time_of g) y on_then)
+        carried_behind IsTimed v device g y is i to (timed_carry (time_of g) y (omega (arith, late, from)) on_then)
         (λ old. joins_timed device old g.note.body joined)
 
     -- ---- synchronised
 
     changes_synchronised : (h : Happening) (state : State) (cause : ℕ) (why : Why) → IsIn h v.records
-        → IsChange v device h state cause why
+        → z ≤ time_of h → IsChange v device h state cause why
         → IsTimed (state_left v device (time_of h)) → IsSynchronised state
-    changes_synchronised h state cause whys.On i c timed =
+    changes_synchronised h state cause whys.On i from c timed =
         let off = on_not_turned_on v device (time_of h) is (timed_not_off (state_left v device (time_of h)) timed) in
         absurd (both_ways _ off (turned_then h state cause c))
-    changes_synchronised h state cause whys.Frame i c timed =
+    changes_synchronised h state cause whys.Frame i from c timed =
         let told = c.changes.1 in
         let g = told.0 in
         let there : IsIn g v.records =
@@ -135,29 +136,29 @@ module _ (v : View) (device : DeviceId) (is : IsView v) where
         (numbered_in c.found.front cause g told.1.there)) in
         let same = subst (λ (t : ℕ). IsTimed (state_left v device t)) (sym told.1.same_time) timed in
         absurd (both_ways _ (not_told g there same) told.2)
-    changes_synchronised h state cause whys.Correction i c timed = c.changes.0
-    changes_synchronised h state cause whys.SyncClique i c timed =
-        absurd (never h state cause whys.SyncClique i c.is tt)
-    changes_synchronised h state cause whys.AsyncClique i c timed =
-        absurd (never h state cause whys.AsyncClique i c.is tt)
+    changes_synchronised h state cause whys.Correction i from c timed = c.changes.0
+    changes_synchronised h state cause whys.SyncClique i from c timed =
+        absurd (never h state cause whys.SyncClique i from c.is tt)
+    changes_synchronised h state cause whys.AsyncClique i from c timed =
+        absurd (never h state cause whys.AsyncClique i from c.is tt)
 
     -- once it has the time, all records leave it synchronised
-    synchronised_carry : (x y : ℕ) → IsTimed (state_left v device x) → AllCarry IsSynchronised v device x y
-    synchronised_carry x y timed h i from to =
-        let then_timed = time_stays_on x (time_of h) from timed in
+    synchronised_carry : (x y : ℕ) → z ≤ x → IsTimed (state_left v device x) → AllCarry IsSynchronised v device x y
+    synchronised_carry x y late timed h i from to =
+        let then_timed = time_stays_on x (time_of h) late from timed in
         carries IsSynchronised v device h is i (λ told. absurd (both_ways _ (not_told h i then_timed) told))
-        (λ state cause why c. changes_synchronised h state cause why i c then_timed)
+        (λ state cause why c. changes_synchronised h state cause why i (omega (arith, late, from)) c then_timed)
 
     -- a synchronised device stays so
-    pub stays_synchronised : (x y : ℕ) → x ≤ y → IsSynchronised (state_left v device x)
+    pub stays_synchronised : (x y : ℕ) → z ≤ x → x ≤ y → IsSynchronised (state_left v device x)
         → IsSynchronised (state_left v device y)
-    stays_synchronised x y le synchronised =
-        carried_between IsSynchronised v device x y is le (synchronised_carry x y (ap has_time synchronised))
+    stays_synchronised x y late le synchronised =
+        carried_between IsSynchronised v device x y is le (synchronised_carry x y late (ap has_time synchronised))
         synchronised
 
     -- and is so behind a record that makes it so
-    pub becomes_synchronised : (g : Happening) (y : ℕ) → IsIn g v.records → IsTimed (state_left v device (time_of g))
+    pub becomes_synchronised : (g : Happening) (y : ℕ) → z ≤ time_of g → IsIn g v.records → IsTimed (state_left v device (time_of g))
         → time_of g < y
         → ((old : State) → IsSynchronised (state_with device old g.note.body)) → IsSynchronised (state_left v device y)
-    becomes_synchronised g y i timed to brings =
-        carried_behind IsSynchronised v device g y is i to (synchronised_carry (time_of g) y timed) brings
+    becomes_synchronised g y late i timed to brings =
+        carried_behind IsSynchronised v device g y is i to (synchronised_carry (time_of g) y late timed) brings

@@ -2,14 +2,15 @@
 use Rattle.precision_law.proofs.block.Onward.{hull_ordered, last_of}
 use Rattle.precision_law.proofs.emission.Senders.{cm_is}
 use Rattle.precision_law.proofs.faults.Turned.{on_not_turned_on}
-use Rattle.precision_law.proofs.hearing.Received.{ComesDown, comes_down, no_end_cm, sent_in_time}
-use Rattle.precision_law.proofs.progress_lemmas.Staying.{IsOn, IsTimed, KeepsAll, stays_on, time_stays_on}
+use Rattle.precision_law.proofs.hearing.Received.{ComesDown, comes_down, firm_member, no_end_cm, sent_in_time}
+use Rattle.precision_law.proofs.progress_lemmas.Staying.{IsOn, IsTimed, KeepsFrom, stays_on, time_stays_on}
 use Rattle.precision_law.proofs.progress_lemmas.Staying.{told_has_time}
+use Rattle.precision_law.proofs.trips.SoundUp.{sound_is_whole}
 use Rattle.precision_law.proofs.words.Blocks.{few_cycles}
 use Rattle.precision_law.proofs.words.Clocks.{any_in, before_place, earlier_before, has_before, room, within_run}
-use Rattle.precision_law.proofs.words.Laws.{BlockIsOver, BlocksGoSo, Hull, IsGoodEnd, IsInBlock, IsView}
+use Rattle.precision_law.proofs.words.Laws.{BlockIsOver, BlocksGoSo, Hull, IsGood, IsGoodEnd, IsInBlock, IsView, IsWholeFrom, SendsOn}
 use Rattle.precision_law.proofs.words.Laws.{SoundMasterSends, View, has_time, hull_of, state_left}
-use Rattle.precision_law.proofs.words.Plans.{DeviceId, Integrating, Joining, Members, Off, State, SyncPlan, count_of}
+use Rattle.precision_law.proofs.words.Plans.{Channel, DeviceId, Integrating, IsDeviceOf, Joining, Members, Off, State, SyncPlan, count_of}
 use Rattle.precision_law.proofs.words.Plans.{device_at}
 use Rattle.precision_law.proofs.words.Runs.{Happening, Integrates, IsIn, IsSplit, Judgement, earlier, has_joined_at}
 use Rattle.precision_law.proofs.words.Runs.{heard_as, in_left, is_cm, is_joined_by, is_off, last_cycle}
@@ -34,7 +35,7 @@ integrates_by plan precision Integrating adjustment point cycle members looks en
     rw (le-leb plan.threshold (count_of members) enough, le-leb cycle last_cycle few) refl
 integrates_by plan precision state adjustment point cycle members looks enough few = absurd cc
 
-module _ (v : View) (device : DeviceId) (is : IsView v) (never : KeepsAll v device) where
+module _ (v : View) (device : DeviceId) (is : IsView v) (z : ℕ) (never : KeepsFrom v device z) where
   -- it looks for the time where it hears, if no frame has told it the time by then
   looks_then : (q : ℕ) (more : List ℕ) (at : IsSplit place_of v.records (q ∷ more))
       → has_joined_at at.front device q ≡ false
@@ -48,7 +49,7 @@ module _ (v : View) (device : DeviceId) (is : IsView v) (never : KeepsAll v devi
       ∙ ap (λ (hs : List Happening). state_after s hs device) (earlier_before v q at.front (before_place v q more at))
       ∙ looks
 
-  module _ (n x y : ℕ) (first : Happening) (members : Members) (c : ComesDown v n device first members)
+  module _ (channel : Channel) (n x y : ℕ) (late : z ≤ x) (first : Happening) (members : Members) (c : ComesDown v channel n device first members)
       (on : IsOn (state_left v device x)) (from : x ≤ time_of first) (to : c.q < y)
       (enough : v.scenario.network.sync_threshold ≤ count_of members) (few : suc n ≤ last_cycle) where
     -- where a frame has told it the time by then, it has it from then on
@@ -59,7 +60,7 @@ module _ (v : View) (device : DeviceId) (is : IsView v) (never : KeepsAll v devi
         let at = eqb-true (time_of g.0) c.q both.0 in
         let there : IsIn g.0 v.records = subst (IsIn g.0) (sym c.place.whole)
         (in_left g.0 c.place.front c.place.rest g.1) in
-        told_has_time v device is never g.0 x y there both.1 on (omega (arith, at, from, c.from))
+        told_has_time v device is z never g.0 x y late there both.1 on (omega (arith, at, from, c.from))
         (omega (arith, at, to))
 
     -- and else the frame does
@@ -79,7 +80,7 @@ module _ (v : View) (device : DeviceId) (is : IsView v) (never : KeepsAll v devi
         ∙ ap (λ (j : Judgement). notes.Permanent device c.link c.arrival.note.number (record { 0 = c.point }) j) judged
         in
         let joined = ap (is_joined_by device) body ∙ eq-eqb device.0 device.0 refl in
-        told_has_time v device is never c.ripe.h x y c.ripe.there joined on (omega (arith, c.ripe.time, from, c.from))
+        told_has_time v device is z never c.ripe.h x y late c.ripe.there joined on (omega (arith, c.ripe.time, from, c.from))
         (omega (arith, c.ripe.time, to))
 
     -- a device that is on when the frame comes has the common time behind it
@@ -88,7 +89,7 @@ module _ (v : View) (device : DeviceId) (is : IsView v) (never : KeepsAll v devi
         let on_then = stays_on v device is x c.q (omega (arith, from, c.from)) on in
         elim (has_time (state_left v device c.q)) as (λ b. has_time (state_left v device c.q) ≡ b → IsTimed
         (state_left v device y)) [
-          | true ↦ λ timed. time_stays_on v device is never c.q y (omega (arith, to)) timed
+          | true ↦ λ timed. time_stays_on v device is z never c.q y (omega (arith, late, from, c.from)) (omega (arith, to)) timed
           | false ↦ λ untimed.
               let looks = looks_by (state_left v device c.q) on_then untimed in
               elim (has_joined_at c.place.front device c.q) as
@@ -98,12 +99,13 @@ module _ (v : View) (device : DeviceId) (is : IsView v) (never : KeepsAll v devi
               ] refl
         ] refl
 
-  -- what is on when the dispatches of the block's cycle begin has the time when the block is over
-  pub has_time_by : SoundMasterSends → BlocksGoSo → (n : ℕ) (over : BlockIsOver v n) (x : ℕ) → IsGoodEnd v device
-      → IsOn (state_left v device x)
-      → ((hull : Hull) → hull_of v (suc n) ≡ Some hull → pos x ≤ℤ (hull.least +ℤ pos 1))
-      → IsTimed (state_left v device over.next)
-  has_time_by sends goes n over x end on early =
+  -- what is on when the dispatches of the block's cycle begin, on a channel that is whole then and whose compression
+  -- master sends the frame, has the time when the block is over
+  pub has_time_on : BlocksGoSo → (channel : Channel) (n : ℕ) (over : BlockIsOver v n) (x : ℕ) (hull : Hull) → z ≤ x
+      → IsGood v device → IsDeviceOf v.scenario.network channel device → hull_of v (suc n) ≡ Some hull
+      → (so : SendsOn v channel n hull) → (device ≡ so.cm → ⊥) → IsWholeFrom v channel (time_of so.first)
+      → IsOn (state_left v device x) → pos x ≤ℤ (hull.least +ℤ pos 1) → IsTimed (state_left v device over.next)
+  has_time_on goes channel n over x hull late good member at so other intact on early =
       let s = v.scenario in
       let last = last_of v n over is in
       let t = last.last in
@@ -116,23 +118,42 @@ module _ (v : View) (device : DeviceId) (is : IsView v) (never : KeepsAll v devi
         in_run = omega (arith, last.is_last, over.in_run);
       } in
       let ordered = hull_ordered v n over.before is in
-      let sent = sends v n t block is (omega (arith, ints, last.at, ordered)) in
-      let so = sent.2 in
       let w = time_of so.first in
       let space = room v is in
-      let timed = sent_in_time v n over.before sent.0 so.first is sent.1 so.near in
+      let timed = sent_in_time v n over.before hull so.first is at so.near in
       let soon = timed.soon in
       let le : w + v.sizes.dmax + v.sizes.path ≤ t = omega (arith, ints, soon, last.at, ordered) in
-      let from : x ≤ w = omega (arith, ints, early sent.0 sent.1, so.near.least, space) in
-      let on_then : (u : ℕ) → w ≤ u → u + v.sizes.path ≤ w + v.sizes.dmax → is_off
-      (state_before s v.records device u) ≡ false = λ u ge short.
+      let from : x ≤ w = omega (arith, ints, early, so.near.least, space) in
+      let on_then : (u : ℕ) → w ≤ u → u + v.sizes.path ≤ w + v.sizes.dmax
+      → is_off (state_before s v.records device u) ≡ false = λ u ge short.
       (let on_u = stays_on v device is x u (omega (arith, from, ge)) on in
       ap (λ (b : Bool). is_off (if b then Integrating else state_left v device u)) (on_not_turned_on v device u is on_u)
       ∙ on_u) in
+      let few = few_cycles v (suc n) hull is at (has_before v n hull (within_run v is) at).begun in
+      let c = comes_down v channel n t block is device so.cm member good so.is_cm so.first so.members so.emission
+      timed goes intact other le on_then in
+      told_by channel n x over.next late so.first so.members c on from (omega (arith, c.soon, le, last.is_last)) so.enough few
+
+  -- so it has on the sound channel, where it is an end system
+  pub has_time_by : SoundMasterSends → BlocksGoSo → (n : ℕ) (over : BlockIsOver v n) (x : ℕ) → z ≤ x → IsGoodEnd v device
+      → IsOn (state_left v device x)
+      → ((hull : Hull) → hull_of v (suc n) ≡ Some hull → pos x ≤ℤ (hull.least +ℤ pos 1)) → IsTimed (state_left v device over.next)
+  has_time_by sends goes n over x late end on early =
+      let s = v.scenario in
+      let last = last_of v n over is in
+      let block : IsInBlock v n last.last = record {
+        before = over.before;
+        next = over.next;
+        is_over = over.is_over;
+        from = last.from;
+        to = omega (arith, last.is_last);
+        in_run = omega (arith, last.is_last, over.in_run);
+      } in
+      let ordered = hull_ordered v n over.before is in
+      let sent = sends v n last.last block is (omega (arith, ints, last.at, ordered)) in
+      let so = sent.2 in
       let other : device ≡ so.cm → ⊥ = λ same.
-      no_end_cm (device_at s.network device) (subst (λ (d : DeviceId). is_cm s.network d ≡ true) (sym same)
-      (cm_is v so.cm so.is_cm).one) end.end in
-      let few = few_cycles v (suc n) sent.0 is sent.1 (has_before v n sent.0 (within_run v is) sent.1).begun in
-      let c = comes_down v n t block is device so.cm (inl end) so.is_cm so.first so.members so.emission timed goes other
-      le on_then in
-      told_by n x over.next so.first so.members c on from (omega (arith, c.soon, le, last.is_last)) so.enough few
+      no_end_cm (device_at s.network device)
+      (subst (λ (d : DeviceId). is_cm s.network d ≡ true) (sym same) (cm_is v so.cm so.is_cm).one) end.end in
+      has_time_on goes v.channel n over x sent.0 late end.good (firm_member v device (inl end)) sent.1 so other
+      (sound_is_whole v (time_of so.first) is) on (early sent.0 sent.1)

@@ -77,7 +77,7 @@ module _ (laws : FramesGoSo) (goes : BlocksGoSo) (v : View) (n t : ℕ) (block :
     sent = record {
       cm = sends.cm;
       emission = sends.emission;
-      of_channel = cm_of_channel v sends.cm sends.is_cm;
+      of_channel = cm_of_channel v v.channel sends.cm sends.is_cm;
       good = laws.three v sends.first sends.cm (suc n) sends.members is sends.emission three;
     };
     before = (let soon = timed.soon in let lt = sooner v n t block device (time_of sends.first + v.sizes.dmax + v.sizes.path) at soon in omega (arith, lt));

@@ -22,7 +22,7 @@ pub use Rattle.precision_law.specs.Joined.{IsFirstCorrection, IsFixedByPoints, J
 pub use Rattle.precision_law.specs.Masters.{EnoughMasters, GoodIsCorrect, IsFirstMaster, OneChannelIsSound, OneMasterBreaks, SoundSwitchesBeginOn}
 pub use Rattle.precision_law.specs.{Masters.{SoundWaysAreWhole, SwitchesAreGood}, Precision.{ClocksStayTogether, IsRunUpTo, TimeIsKept}}
 pub use Rattle.precision_law.specs.Readings.{ClocksAreSteady, IsRipe, IsSteady, PermanenceIsSharp, ReachIsSharp, ReachIsThere, RipeInOrder, ShortByReading}
-pub use Rattle.precision_law.specs.{Sizes.{HaveRoom, Sizes, expectation, sizes_of}, SoundEmissions.{SendsSo, SoundMasterSends}}
+pub use Rattle.precision_law.specs.{Sizes.{HaveRoom, Sizes, expectation, sizes_of}, SoundEmissions.{SendsOn, SendsSo, SoundMasterSends}}
 pub use Rattle.precision_law.specs.Standings.{AnchoredClocksReach, AnchoredClocksShow, AnchorsWiden, AreNear, ClocksOfOneCycle, ClocksOfTwoCycles, Follows}
 pub use Rattle.precision_law.specs.Standings.{IsNearHull, IsReachedNear, IsTimely, OneFrameAnchors, OneFrameSets, SetClocksHaveReached, SetClocksReach}
 pub use Rattle.precision_law.specs.Standings.{SetClocksShow, SharedClocksHalve, ShowsIn, StartsAreSet, StartsStayTogether, TwoFramesAnchor, TwoFramesSet}
