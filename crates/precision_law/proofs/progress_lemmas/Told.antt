@@ -7,12 +7,12 @@ use Rattle.precision_law.proofs.progress_lemmas.Staying.{IsOn, IsTimed, KeepsFro
 use Rattle.precision_law.proofs.progress_lemmas.Staying.{told_has_time}
 use Rattle.precision_law.proofs.trips.SoundUp.{sound_is_whole}
 use Rattle.precision_law.proofs.words.Blocks.{few_cycles}
-use Rattle.precision_law.proofs.words.Clocks.{any_in, before_place, earlier_before, has_before, room, within_run}
-use Rattle.precision_law.proofs.words.Laws.{BlockIsOver, BlocksGoSo, Hull, IsGood, IsGoodEnd, IsInBlock, IsView, IsWholeFrom, SendsOn}
+use Rattle.precision_law.proofs.words.Clocks.{any_in, before_of, before_place, earlier_before, has_before, room, within_run}
+use Rattle.precision_law.proofs.words.Laws.{BlockIsOver, BlocksGoSo, Hull, IsGood, IsGoodEnd, IsEmission, IsInBlock, IsView, IsWholeFrom, SendsOn}
 use Rattle.precision_law.proofs.words.Laws.{SoundMasterSends, View, has_time, hull_of, state_left}
 use Rattle.precision_law.proofs.words.Plans.{Channel, DeviceId, Integrating, IsDeviceOf, Joining, Members, Off, State, SyncPlan, count_of}
 use Rattle.precision_law.proofs.words.Plans.{device_at}
-use Rattle.precision_law.proofs.words.Runs.{Happening, Integrates, IsIn, IsSplit, Judgement, earlier, has_joined_at}
+use Rattle.precision_law.proofs.words.Runs.{Happening, Integrates, IsCaused, IsIn, founded_at, Judgement, earlier, has_joined_at}
 use Rattle.precision_law.proofs.words.Runs.{heard_as, in_left, is_cm, is_joined_by, is_off, last_cycle}
 use Rattle.precision_law.proofs.words.Runs.{observation_window, place_of, plan_of, state_after, state_at_hearing}
 use Rattle.precision_law.proofs.words.Runs.{state_before, time_of}
@@ -35,69 +35,106 @@ integrates_by plan precision Integrating adjustment point cycle members looks en
     rw (le-leb plan.threshold (count_of members) enough, le-leb cycle last_cycle few) refl
 integrates_by plan precision state adjustment point cycle members looks enough few = absurd cc
 
+-- a frame that the device hears at q, which tells it the time where it looks for it
+pub record TellsAt (v : View) (device : DeviceId) (q : ℕ) : Type 0 where
+  pub front : List Happening
+  pub before : earlier q front ≡ earlier q v.records
+  pub inside : (g : Happening) → IsIn g front → IsIn g v.records
+  pub h : Happening
+  pub there : IsIn h v.records
+  pub at : time_of h ≡ q
+  pub tells : state_at_hearing v.scenario front device q ≡ Integrating → is_joined_by device h.note.body ≡ true
+
 module _ (v : View) (device : DeviceId) (is : IsView v) (z : ℕ) (never : KeepsFrom v device z) where
   -- it looks for the time where it hears, if no frame has told it the time by then
-  looks_then : (q : ℕ) (more : List ℕ) (at : IsSplit place_of v.records (q ∷ more))
-      → has_joined_at at.front device q ≡ false
+  looks_then : (q : ℕ) (front : List Happening) → earlier q front ≡ earlier q v.records → has_joined_at front device q ≡ false
       → IsOn (state_left v device q) → state_left v device q ≡ Integrating
-      → state_at_hearing v.scenario at.front device q ≡ Integrating
-  looks_then q more at none on looks =
+      → state_at_hearing v.scenario front device q ≡ Integrating
+  looks_then q front before none on looks =
       let s = v.scenario in
-      ap (λ (b : Bool). if b then Joining else state_before s at.front device q) none
-      ∙ ap (λ (b : Bool). if b then Integrating else state_after s (earlier q at.front) device)
+      ap (λ (b : Bool). if b then Joining else state_before s front device q) none
+      ∙ ap (λ (b : Bool). if b then Integrating else state_after s (earlier q front) device)
       (on_not_turned_on v device q is on)
-      ∙ ap (λ (hs : List Happening). state_after s hs device) (earlier_before v q at.front (before_place v q more at))
+      ∙ ap (λ (hs : List Happening). state_after s hs device) before
       ∙ looks
 
-  module _ (channel : Channel) (n x y : ℕ) (late : z ≤ x) (first : Happening) (members : Members) (c : ComesDown v channel n device first members)
-      (on : IsOn (state_left v device x)) (from : x ≤ time_of first) (to : c.q < y)
-      (enough : v.scenario.network.sync_threshold ≤ count_of members) (few : suc n ≤ last_cycle) where
+  module _ (x q y : ℕ) (late : z ≤ x) (on : IsOn (state_left v device x)) (from : x ≤ q) (to : q < y) (f : TellsAt v device q) where
     -- where a frame has told it the time by then, it has it from then on
-    told_before : has_joined_at c.place.front device c.q ≡ true → IsTimed (state_left v device y)
+    told_before : has_joined_at f.front device q ≡ true → IsTimed (state_left v device y)
     told_before joined =
-        let g = any_in (λ (h : Happening). time_of h == c.q && is_joined_by device h.note.body) c.place.front joined in
-        let both = and_parts (time_of g.0 == c.q) (is_joined_by device g.0.note.body) g.2 in
-        let at = eqb-true (time_of g.0) c.q both.0 in
-        let there : IsIn g.0 v.records = subst (IsIn g.0) (sym c.place.whole)
-        (in_left g.0 c.place.front c.place.rest g.1) in
-        told_has_time v device is z never g.0 x y late there both.1 on (omega (arith, at, from, c.from))
+        let g = any_in (λ (h : Happening). time_of h == q && is_joined_by device h.note.body) f.front joined in
+        let both = and_parts (time_of g.0 == q) (is_joined_by device g.0.note.body) g.2 in
+        let at = eqb-true (time_of g.0) q both.0 in
+        told_has_time v device is z never g.0 x y late (f.inside g.0 g.1) both.1 on (omega (arith, at, from))
         (omega (arith, at, to))
 
     -- and else the frame does
-    told_now : has_joined_at c.place.front device c.q ≡ false → IsOn (state_left v device c.q)
-        → state_left v device c.q ≡ Integrating
-        → IsTimed (state_left v device y)
+    told_now : has_joined_at f.front device q ≡ false → IsOn (state_left v device q)
+        → state_left v device q ≡ Integrating → IsTimed (state_left v device y)
     told_now none on_then looks =
-        let s = v.scenario in
-        let state = looks_then c.q _ c.place none on_then looks in
-        let enough_then : s.network.sync_threshold ≤ count_of c.frame.members =
-        subst (λ (m : ℕ). s.network.sync_threshold ≤ count_of (record { 0 = m })) (sym c.of_members) enough in
-        let few_then : c.frame.cycle ≤ last_cycle = subst (λ (k : ℕ). k ≤ last_cycle) (sym c.of_cycle) few in
-        let judged = integrates_by (plan_of s.network device) (observation_window s.network)
-        (state_at_hearing s c.place.front device c.q) _
-        c.point c.frame.cycle c.frame.members state enough_then few_then in
-        let body = c.ripe.is
-        ∙ ap (λ (j : Judgement). notes.Permanent device c.link c.arrival.note.number (record { 0 = c.point }) j) judged
-        in
-        let joined = ap (is_joined_by device) body ∙ eq-eqb device.0 device.0 refl in
-        told_has_time v device is z never c.ripe.h x y late c.ripe.there joined on (omega (arith, c.ripe.time, from, c.from))
-        (omega (arith, c.ripe.time, to))
+        told_has_time v device is z never f.h x y late f.there (f.tells (looks_then q f.front f.before none on_then looks)) on
+        (omega (arith, f.at, from)) (omega (arith, f.at, to))
 
-    -- a device that is on when the frame comes has the common time behind it
+    -- a device that is on when it hears such a frame has the common time behind it
     pub told_by : IsTimed (state_left v device y)
     told_by =
-        let on_then = stays_on v device is x c.q (omega (arith, from, c.from)) on in
-        elim (has_time (state_left v device c.q)) as (λ b. has_time (state_left v device c.q) ≡ b → IsTimed
+        let on_then = stays_on v device is x q from on in
+        elim (has_time (state_left v device q)) as (λ b. has_time (state_left v device q) ≡ b → IsTimed
         (state_left v device y)) [
-          | true ↦ λ timed. time_stays_on v device is z never c.q y (omega (arith, late, from, c.from)) (omega (arith, to)) timed
+          | true ↦ λ timed. time_stays_on v device is z never q y (omega (arith, late, from)) (omega (arith, to)) timed
           | false ↦ λ untimed.
-              let looks = looks_by (state_left v device c.q) on_then untimed in
-              elim (has_joined_at c.place.front device c.q) as
-              (λ b. has_joined_at c.place.front device c.q ≡ b → IsTimed (state_left v device y)) [
+              let looks = looks_by (state_left v device q) on_then untimed in
+              elim (has_joined_at f.front device q) as
+              (λ b. has_joined_at f.front device q ≡ b → IsTimed (state_left v device y)) [
                 | true ↦ λ joined. told_before joined
                 | false ↦ λ none. told_now none on_then looks
               ] refl
         ] refl
+
+  -- what comes down to it is such a frame
+  comes_tells : (channel : Channel) (n : ℕ) (first : Happening) (members : Members) (c : ComesDown v channel n device first members)
+      → v.scenario.network.sync_threshold ≤ count_of members → suc n ≤ last_cycle → TellsAt v device c.q
+  comes_tells channel n first members c enough few =
+      let s = v.scenario in
+      let enough_then : s.network.sync_threshold ≤ count_of c.frame.members =
+      subst (λ (m : ℕ). s.network.sync_threshold ≤ count_of (record { 0 = m })) (sym c.of_members) enough in
+      let few_then : c.frame.cycle ≤ last_cycle = subst (λ (k : ℕ). k ≤ last_cycle) (sym c.of_cycle) few in
+      record {
+        front = c.place.front;
+        before = earlier_before v c.q c.place.front (before_place v c.q _ c.place);
+        inside = λ g i. subst (IsIn g) (sym c.place.whole) (in_left g c.place.front c.place.rest i);
+        h = c.ripe.h;
+        there = c.ripe.there;
+        at = c.ripe.time;
+        tells = λ state.
+            (let judged = integrates_by (plan_of s.network device) (observation_window s.network)
+            (state_at_hearing s c.place.front device c.q) _ c.point c.frame.cycle c.frame.members state enough_then few_then in
+            let body = c.ripe.is
+            ∙ ap (λ (j : Judgement). notes.Permanent device c.link c.arrival.note.number (record { 0 = c.point }) j) judged in
+            ap (is_joined_by device) body ∙ eq-eqb device.0 device.0 refl);
+      }
+
+  -- and so is what a compression master sends, to itself
+  sent_tells : (n : ℕ) (first : Happening) (members : Members) → IsEmission v first device (suc n) members
+      → v.scenario.network.sync_threshold ≤ count_of members → suc n ≤ last_cycle → TellsAt v device (time_of first)
+  sent_tells n first members e enough few =
+      let s = v.scenario in
+      let found = founded_at s v.records first is.run.founded e.there in
+      let emits = subst (IsCaused s found.front first.note.time) e.is found.due.cause in
+      record {
+        front = found.front;
+        before = earlier_before v (time_of first) found.front (before_of v first is found);
+        inside = λ g i. subst (IsIn g) (sym found.whole) (in_left g found.front (first ∷ found.rest) i);
+        h = first;
+        there = e.there;
+        at = refl;
+        tells = λ state.
+            (let judged = integrates_by (plan_of s.network device) (observation_window s.network)
+            (state_at_hearing s found.front device (time_of first)) _ e.at.0 (suc n) members state enough few in
+            let body = e.is
+            ∙ ap (λ (j : Judgement). notes.Compressed device e.opened e.at (suc n) members j) (emits.heard ∙ judged) in
+            ap (is_joined_by device) body ∙ eq-eqb device.0 device.0 refl);
+      }
 
   -- what is on when the dispatches of the block's cycle begin, on a channel that is whole then and whose compression
   -- master sends the frame, has the time when the block is over
@@ -132,7 +169,25 @@ module _ (v : View) (device : DeviceId) (is : IsView v) (z : ℕ) (never : Keeps
       let few = few_cycles v (suc n) hull is at (has_before v n hull (within_run v is) at).begun in
       let c = comes_down v channel n t block is device so.cm member good so.is_cm so.first so.members so.emission
       timed goes intact other le on_then in
-      told_by channel n x over.next late so.first so.members c on from (omega (arith, c.soon, le, last.is_last)) so.enough few
+      told_by x c.q over.next late on (omega (arith, from, c.from)) (omega (arith, c.soon, le, last.is_last))
+      (comes_tells channel n so.first so.members c so.enough few)
+
+  -- so it has where it is that compression master
+  pub has_time_itself : (channel : Channel) (n : ℕ) (over : BlockIsOver v n) (x : ℕ) (hull : Hull) → z ≤ x
+      → hull_of v (suc n) ≡ Some hull → (so : SendsOn v channel n hull) → so.cm ≡ device
+      → IsOn (state_left v device x) → pos x ≤ℤ (hull.least +ℤ pos 1) → IsTimed (state_left v device over.next)
+  has_time_itself channel n over x hull late at so same on early =
+      let last = last_of v n over is in
+      let w = time_of so.first in
+      let space = room v is in
+      let timed = sent_in_time v n over.before hull so.first is at so.near in
+      let soon = timed.soon in
+      let ordered = hull_ordered v n over.before is in
+      let from : x ≤ w = omega (arith, ints, early, so.near.least, space) in
+      let few = few_cycles v (suc n) hull is at (has_before v n hull (within_run v is) at).begun in
+      let e = subst (λ (d : DeviceId). IsEmission v so.first d (suc n) so.members) same so.emission in
+      told_by x w over.next late on from (omega (arith, ints, soon, last.at, ordered, last.is_last))
+      (sent_tells n so.first so.members e so.enough few)
 
   -- so it has on the sound channel, where it is an end system
   pub has_time_by : SoundMasterSends → BlocksGoSo → (n : ℕ) (over : BlockIsOver v n) (x : ℕ) → z ≤ x → IsGoodEnd v device
