@@ -4,7 +4,9 @@ use Rattle.run_law.proofs.runs.SameSteps.{never_dropped}
 use Rattle.precision_law.proofs.block.Dispatched.{IsCalm, changes_never, joins_never, old_then, synchronised_before, synchronised_then}
 use Rattle.precision_law.proofs.words.{Blocks.{AreUpTo, GivesPoint, hears_as_at, judged_up_to, read_at}, Runs.{state_at_hearing, state_before, time_of}}
 use Rattle.precision_law.proofs.words.Clocks.{adjustment_stays, any_in, int_le-is, natural, natural_of, one_more, room, same_device, sizes_are, steady}
-use Rattle.precision_law.proofs.words.Laws.{BlocksGoSo, HaveRoom, IsInBlock, IsView, Sizes, View, adjustment_left, has_time}
+use Rattle.precision_law.proofs.words.Blocks.{before_narrow, earlier_in_block, old_shows}
+use Rattle.precision_law.proofs.words.Laws.{BlocksGoSo, HasTimeAt, HaveRoom, Hull, IsInBlock, IsOldAt, IsView, ShowsIn, Sizes, View, adjustment_left}
+use Rattle.precision_law.proofs.words.Laws.{first_dispatch, has_time, last_dispatch}
 use Rattle.precision_law.proofs.words.Plans.{DeviceId, Joining, Network, Pcf, Point, State, Synchronised, Units, amount, int_le-true}
 use Rattle.precision_law.proofs.words.Runs.{Cycle, Gate, Happening, IsCaused, IsCollectedOrDropped, IsIn, Judgement, NoteBody, Reason, Why}
 use Rattle.precision_law.proofs.words.Runs.{adjustment_at_hearing, before_permanence, dispatch_value, ends_stretch, first_reason, founded_at, frame_by}
@@ -108,11 +110,36 @@ none_of network points point verdict (Some reason) so = absurd (never_dropped ve
 abbrev pub value_of : View → DeviceId → ℕ → ℤ → ℤ
 value_of v cm next point = dispatch_value v.scenario.network (adjustment_left v cm next) point
 
--- the point is that of a frame of the cycle behind n, which is permanent at q, long behind the beginning of the block
-pub record IsAimed (v : View) (n next : ℕ) (cm : DeviceId) (point : ℤ) (q : ℕ) : Type 0 where
-  pub value : IsTakenFor v.sizes (suc n) (value_of v cm next point)
-  pub late : next + 4 * v.sizes.precision ≤ q
+-- the point is that of a frame which was dispatched in time in the block behind the cycle of this hull, and which is
+-- permanent at q, long behind the beginning of the block
+pub record IsAimed (v : View) (before : Hull) (next : ℕ) (cm : DeviceId) (point : ℤ) (q : ℕ) : Type 0 where
+  pub sent : ℕ
+  pub low : first_dispatch v.sizes before ≤ℤ pos sent
+  pub high : pos sent ≤ℤ last_dispatch v.sizes before
+  pub not_early : sent + v.sizes.dmax ≤ q + v.sizes.path
+  pub not_late : q ≤ sent + v.sizes.dmax + v.sizes.path
+  pub least : point ≤ℤ pos (v.scenario.reading cm q)
   pub most : pos (v.scenario.reading cm q) ≤ℤ (point +ℤ pos (2 * v.sizes.grain))
+  pub late : next + 4 * v.sizes.precision ≤ q
+
+-- a clock that was set before the block, and has the common time, takes it for one of the block's cycle
+pub taken_by_old : (v : View) (n t : ℕ) (block : IsInBlock v n t) (cm : DeviceId) (point : ℤ) (q : ℕ) → IsView v → q ≤ t → HasTimeAt v cm q
+    → IsOldAt v block.before.next cm q → IsAimed v block.before.hull block.before.next cm point q
+    → IsTakenFor v.sizes (suc n) (value_of v cm block.before.next point)
+taken_by_old v n t block cm point q is le has old aimed =
+    let before = block.before in
+    let space = room v is in
+    let there : IsInBlock v n q = earlier_in_block _ _ _ _ block (omega (arith, aimed.late)) le in
+    let shows = old_shows v n q q cm there is (omega arith) has old in
+    let same = sym (ap (λ (a : Units). a.0) (adjustment_stays v cm before.next q is (omega (arith, aimed.late)) old)) in
+    let shows_so = subst (λ (a : ℤ). ShowsIn v.sizes (pos (v.scenario.reading cm q) +ℤ a) n before.hull q) same shows in
+    let narrow = before_narrow v n before in
+    let more = one_more n v.sizes.cycle in
+    let sizes = sizes_are v is in
+    record {
+      least = omega (arith, ints, aimed.low, aimed.most, aimed.not_early, aimed.not_late, sizes.dmax, sizes.precision);
+      most = omega (arith, ints, aimed.high, aimed.least, aimed.not_early, aimed.not_late, sizes.dmax, sizes.precision);
+    }
 
 -- ---- what the compression master of the sound channel is when it takes frames
 
@@ -163,10 +190,27 @@ module _ (goes : BlocksGoSo) (v : View) (n t : ℕ) (block : IsInBlock v n t) (c
       let fine = none_of _ _ _ g.verdict _ (MatchBool-at_true _ _ one ripens.becomes) in
       cc (cycle, g.reads, hearing_adjustment q hs from to judge, hearing_state q hs to judge, fine)
 
+  -- it takes a frame of the block for one of the block's cycle
+  pub value_then : (point : ℤ) (q : ℕ) → q ≤ b → IsAimed v block.before.hull block.before.next cm point q
+      → IsTakenFor v.sizes (suc n) (value_of v cm block.before.next point)
+  value_then point q le aimed =
+      let old = old_then goes v n t block cm b q is calm (omega (arith, le)) in
+      let timed = ap has_time (synchronised_then goes v n t block cm b q is calm (omega (arith, le))) in
+      taken_by_old v n t block cm point q is (omega (arith, le, calm.to)) (record { good = calm.good; timed = timed }) old aimed
+
+  -- so it finds no fault
+  pub fine_then : (q : ℕ) (hs : List Happening) (point : ℤ) → AreUpTo v q hs → q ≤ b → IsAimed v block.before.hull block.before.next cm point q
+      → point_fault v.scenario.network (state_at_hearing v.scenario hs cm q) (adjustment_at_hearing v.scenario hs cm q).0 point (suc n) ≡ None
+  fine_then q hs point up le aimed =
+      let stands = hearing_adjustment q hs (omega (arith, aimed.late)) le up in
+      no_point_fault v (state_at_hearing v.scenario hs cm q) (adjustment_at_hearing v.scenario hs cm q).0 point (suc n) is
+      (subst (λ (z : ℤ). IsTakenFor v.sizes (suc n) (dispatch_value v.scenario.network z point)) (sym stands) (value_then point q le aimed))
+
   -- what lies at most two windows before it is of its cycle
-  pub of_block_cycle : is_cm v.scenario.network cm ≡ true → (point : ℤ) (q : ℕ) (k : Happening) (o : Point) → IsAimed v n block.before.next cm point q
-      → IsIn k v.records → time_of k ≤ b → GivesPoint cm k o → o.reading ≤ℤ point → point ≤ℤ (o.reading +ℤ pos (2 * v.sizes.precision)) → o.cycle ≡ suc n
-  of_block_cycle one point q k o aimed i to g low high =
+  pub of_block_cycle : is_cm v.scenario.network cm ≡ true → (point : ℤ) (q : ℕ) (k : Happening) (o : Point) → q ≤ b
+      → IsAimed v block.before.hull block.before.next cm point q → IsIn k v.records → time_of k ≤ b → GivesPoint cm k o → o.reading ≤ℤ point → point ≤ℤ (o.reading +ℤ pos (2 * v.sizes.precision)) → o.cycle ≡ suc n
+  of_block_cycle one point q k o le aimed i to g low high =
+      let value = value_then point q le aimed in
       elim (cases_lt (time_of k) block.before.next) [
         | inl early ↦
             let r = (read_at v cm k o is i g).ripe in
@@ -178,8 +222,8 @@ module _ (goes : BlocksGoSo) (v : View) (n t : ℕ) (block : IsInBlock v n t) (c
             absurd (omega (arith, ints, rises, slow, more, r.least, aimed.most, high, room v is))
         | inr from ↦
             let m = natural_of (value_of v cm block.before.next o.reading) 0
-            (omega (arith, ints, aimed.value.least, high, one_more n v.sizes.cycle, (room v is).cycles)) in
+            (omega (arith, ints, value.least, high, one_more n v.sizes.cycle, (room v is).cycles)) in
             let taken = taken_for v (adjustment_left v cm block.before.next) o.reading o.cycle m.0 is m.1 (no_fault_then one k o i from to g) in
             of_one_cycle v.sizes o.cycle (suc n) (value_of v cm block.before.next o.reading) (value_of v cm block.before.next point) (room v is)
-            (subst (IsTakenFor v.sizes o.cycle) (sym m.1) taken) aimed.value (omega (arith, ints, low)) (omega (arith, ints, high))
+            (subst (IsTakenFor v.sizes o.cycle) (sym m.1) taken) value (omega (arith, ints, low)) (omega (arith, ints, high))
       ]

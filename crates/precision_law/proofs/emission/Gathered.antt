@@ -1,15 +1,15 @@
 -- The compression master of the sound channel takes the frames of the first masters.
-use Rattle.precision_law.proofs.{block.Dispatched.{IsCalm, old_then, synchronised_then}, emission.Senders.{IsSender, cm_is}}
-use Rattle.precision_law.proofs.{emission.Aimed.{IsAimed, IsTakenFor, hearing_adjustment, no_point_fault, of_block_cycle}, words.Laws.{has_time, last_dispatch}}
-use Rattle.precision_law.proofs.words.Blocks.{IsReadAt, arrival_young, before_narrow, contained, earlier_in_block, early_show, ends_soon, later_point}
+use Rattle.precision_law.proofs.emission.Senders.{IsSender, cm_is}
+use Rattle.precision_law.proofs.{emission.Aimed.IsAimed, words.Laws.{IsGood, IsInHull, IsWholeFrom, last_dispatch}}
+use Rattle.precision_law.proofs.words.Blocks.{AreUpTo, GivesPoint, IsReadAt, arrival_young, before_narrow, contained, earlier_in_block, early_show, ends_soon, later_point}
 use Rattle.precision_law.proofs.words.{Blocks.{master_of_bit, old_shows, place_order, point_record, points_ordered, read_at, up_to_then}, Plans.{role, role_in}}
 use Rattle.precision_law.proofs.words.Clocks.{IsRipeArrival, IsRipeRecord, adjustment_stays, before_place, contains, has_member, is_collected, last_in}
 use Rattle.precision_law.proofs.words.Clocks.{master_member, one_more, opened_by, permanence_is_sharp, place_of_ripe, room, sizes_are, steady, trip_says}
 use Rattle.precision_law.proofs.words.Laws.{BlocksGoSo, HasTimeAt, Hull, IsFirstMaster, IsInBlock, IsRipe, IsTrip, IsView, Leg, ShowsIn, View, first_correction}
-use Rattle.precision_law.proofs.words.Plans.{AreClusters, Cluster, DeviceId, IsCmOf, Members, Pcf, Point, Units, Up, Way, amount, has_point_of, none, point_at}
+use Rattle.precision_law.proofs.words.Plans.{AreClusters, Channel, Cluster, DeviceId, IsCmOf, Members, Pcf, Point, Units, Up, Way, amount, has_point_of, none, point_at}
 use Rattle.precision_law.proofs.words.Runs.{Happening, IsBefore, IsCaused, IsDue, IsIn, IsSplit, Judgement, NoteBody, adjustment_at_hearing, cycle_in}
 use Rattle.precision_law.proofs.words.Runs.{dispatch_value, founded_at, frame_by, in_left, key, master_of, member_of, members_in, observation_window, place_of}
-use Rattle.precision_law.proofs.words.{Runs.{point_by, points_of, rank, split, state_at_hearing, time_of}, Std.{unsigned_abs, unwrap_or, ℕ, ℤ}}
+use Rattle.precision_law.proofs.words.{Runs.{ends_stretch, point_by, point_fault, points_of, rank, split, state_at_hearing, time_of}, Std.{unsigned_abs, unwrap_or, ℕ, ℤ}}
 use Rattle.precision_law.proofs.words.Std.{◌*◌, ◌+ℤ◌, ◌+◌, ◌^◌, ◌∙◌, ◌∷◌, ◌≡◌, ◌≤ℤ◌, ◌≤◌, Bool, List, None, Option, Some, [], ap, arith, eq-eqb, false}
 use Rattle.precision_law.proofs.words.Std.{if◌then◌else◌, inl, inr, int_lt, ints, last_or, option_and_then, option_map_or, pos, refl, subst, suc, sym, true}
 use Rattle.compression.specs.declared.taken.Taken.TheVariants as taken
@@ -50,14 +50,14 @@ last_there v way first last [] trip i = subst (λ (h : Happening). IsIn h v.reco
 last_there v way first last (leg ∷ legs) trip i = last_there v way leg.arriving last legs trip.2 trip.1.arrived
 
 -- the point of a first master's frame at the compression master
-pub record IsGathered (v : View) (n next : ℕ) (cm master : DeviceId) (by : ℕ) : Type 0 where
+pub record IsGathered (v : View) (n : ℕ) (before : Hull) (next : ℕ) (cm master : DeviceId) (by : ℕ) : Type 0 where
   pub k : Happening
   pub there : IsIn k v.records
   pub p : Point
   pub gives : point_by cm k k.note.body ≡ Some p
   pub of_cycle : p.cycle ≡ suc n
   pub of_master : member_of v.scenario.network master ≡ Some p.master
-  pub aimed : IsAimed v n next cm p.reading (time_of k)
+  pub aimed : IsAimed v before next cm p.reading (time_of k)
   pub to : time_of k ≤ by
 
 -- ---- what a dispatch brings
@@ -102,45 +102,43 @@ has_frame v n before cm master s is first =
       not_negative = omega (arith, ints, p.at_point, young, size);
     }
 
--- the compression master of the sound channel, once the correction points may come, and an instant before them by which it
--- has the frames of the first masters and could send its own
-pub record Collects (v : View) (n t : ℕ) (block : IsInBlock v n t) (cm : DeviceId) (by : ℕ) : Type 0 where
-  pub calm : IsCalm v n t block cm by
-  pub of_channel : IsCmOf v.scenario.network v.channel cm
+-- the compression master of a channel that is whole from the block's dispatches on, once the correction points may come, and
+-- an instant before them by which it has the frames of the first masters and could send its own: it finds no fault with
+-- these, none of another cycle lies so near before one, and no record ends its stretch in the block by then
+pub record Collects (v : View) (channel : Channel) (n t : ℕ) (block : IsInBlock v n t) (cm : DeviceId) (by : ℕ) : Type 0 where
+  pub of_channel : IsCmOf v.scenario.network channel cm
+  pub good : IsGood v cm
+  pub to : by ≤ t
   pub late : (first_correction v.sizes block.before.hull +ℤ pos v.sizes.reach) ≤ℤ pos t
   pub over : (last_dispatch v.sizes block.before.hull +ℤ pos (v.sizes.dmax + v.sizes.compression + v.sizes.base + v.sizes.path + v.sizes.precision)) ≤ℤ pos by
+  pub whole : (u : ℕ) → IsInHull v (suc n) u → IsWholeFrom v channel u
+  pub fine : (q : ℕ) (hs : List Happening) (point : ℤ) → AreUpTo v q hs → q ≤ by → IsAimed v block.before.hull block.before.next cm point q
+      → point_fault v.scenario.network (state_at_hearing v.scenario hs cm q) (adjustment_at_hearing v.scenario hs cm q).0 point (suc n) ≡ None
+  pub alike : (point : ℤ) (q : ℕ) (k : Happening) (o : Point) → q ≤ by → IsAimed v block.before.hull block.before.next cm point q
+      → IsIn k v.records → time_of k ≤ by → GivesPoint cm k o → o.reading ≤ℤ point → point ≤ℤ (o.reading +ℤ pos (2 * v.sizes.precision))
+      → o.cycle ≡ suc n
+  pub quiet : (h : Happening) → IsIn h v.records → block.before.next ≤ time_of h → time_of h ≤ by → ends_stretch cm h.note.body ≡ false
 
-module _ (goes : BlocksGoSo) (v : View) (n t : ℕ) (block : IsInBlock v n t) (cm : DeviceId) (by : ℕ) (is : IsView v) (c : Collects v n t block cm by)
+module _ (v : View) (channel : Channel) (n t : ℕ) (block : IsInBlock v n t) (cm : DeviceId) (by : ℕ) (is : IsView v)
+    (c : Collects v channel n t block cm by)
     (master : DeviceId) (s : IsSender v n block.before.hull cm master) (f : HasFrame v n block.before.hull cm master s) where
   -- the point of the frame lies where it should
-  aims : (s.brought.q ≤ by) × IsAimed v n block.before.next cm s.brought.point s.brought.q
+  aims : (s.brought.q ≤ by) × IsAimed v block.before.hull block.before.next cm s.brought.point s.brought.q
   aims =
       let before = block.before in
       let space = room v is in
       let b = s.brought in
-      let q = b.q in
-      let w = time_of s.first in
-      let high = s.high in
-      let to : q ≤ by = omega (arith, ints, high, b.in_time.not_late, c.over) in
-      let behind : before.next + 4 * v.sizes.precision ≤ q = omega (arith, ints, early_show v n before is, s.low, b.in_time.not_early, space) in
-      let there : IsInBlock v n q = earlier_in_block _ _ _ _ block (omega (arith, behind)) (omega (arith, to, c.calm.to)) in
-      let old = old_then goes v n t block cm by q is c.calm (omega (arith, to)) in
-      let timed = ap has_time (synchronised_then goes v n t block cm by q is c.calm (omega (arith, to))) in
-      let has : HasTimeAt v cm q = record { good = c.calm.good; timed = timed } in
-      let shows = old_shows v n q q cm there is (omega arith) has old in
-      let same = sym (ap (λ (a : Units). a.0) (adjustment_stays v cm before.next q is (omega (arith, behind)) old)) in
-      let shows_so = subst (λ (a : ℤ). ShowsIn v.sizes (pos (v.scenario.reading cm q) +ℤ a) n before.hull q) same shows in
-      let narrow = before_narrow v n before in
-      let more = one_more n v.sizes.cycle in
-      let sizes = sizes_are v is in (
-        to,
+      let high = s.high in (
+        omega (arith, ints, high, b.in_time.not_late, c.over),
         record {
-          value = record {
-            least = omega (arith, ints, s.low, f.sharp, b.in_time, sizes.dmax, sizes.precision);
-            most = omega (arith, ints, s.low, f.sharp, b.in_time, sizes.dmax, sizes.precision);
-          };
-          late = behind;
+          sent = time_of s.first;
+          low = s.low;
+          high = s.high;
+          not_early = b.in_time.not_early;
+          not_late = b.in_time.not_late;
+          least = f.sharp.least;
           most = f.sharp.most;
+          late = omega (arith, ints, early_show v n before is, s.low, b.in_time.not_early, space);
         },
       )
 
@@ -173,12 +171,12 @@ module _ (goes : BlocksGoSo) (v : View) (n t : ℕ) (block : IsInBlock v n t) (c
       let size = (sizes_are v is).precision in
       let soon = ends_soon ow o (o ∷ opened.rest) (omega (arith, ints)) in
       let high : b.point ≤ℤ (o.reading +ℤ pos (2 * v.sizes.precision)) = omega (arith, ints, meets.to, soon, ap (λ (x : Cluster). x.end) opened.is, size) in
-      let same = of_block_cycle goes v n t block cm by is c.calm (cm_is v cm c.of_channel).one b.point b.q k o aims.1 i (omega (arith, early, to)) g low high in
+      let same = c.alike b.point b.q k o aims.0 aims.1 i (omega (arith, early, to)) g low high in
       meets.other (f.of_cycle ∙ sym same ∙ sym (ap (λ (x : Cluster). x.cycle) opened.is))
 
   -- so its record gives its point
   recorded : (verdict : Judgement) → IsRipeRecord v cm s.brought.last s.brought.permanent.link s.brought.point s.brought.q verdict f.frame
-      → IsGathered v n block.before.next cm master by
+      → IsGathered v n block.before.hull block.before.next cm master by
   recorded verdict r =
       let b = s.brought in
       let p : Point = point_at b.point (master_of (members_in r.h)) (cycle_in r.h) in
@@ -191,33 +189,31 @@ module _ (goes : BlocksGoSo) (v : View) (n t : ℕ) (block : IsInBlock v n t) (c
         of_cycle = ap (λ (o : Option Pcf). option_map_or (λ x. x.cycle) o 0) r.of_frame ∙ f.of_cycle;
         of_master =
             f.is_member ∙ ap (λ (m : ℕ). Some m) (sym (ap master_of members ∙ master_of_bit f.member (has_member v master f.member is f.is_member).small));
-        aimed = subst (IsAimed v n block.before.next cm b.point) (sym r.time) aims.1;
+        aimed = subst (IsAimed v block.before.hull block.before.next cm b.point) (sym r.time) aims.1;
         to = omega (arith, r.time, aims.0);
       }
 
-  pub gathered : IsGathered v n block.before.next cm master by
+  pub gathered : IsGathered v n block.before.hull block.before.next cm master by
   gathered =
       let b = s.brought in
       let link = b.permanent.link in
-      let cm_so = cm_is v cm c.of_channel in
+      let cm_so = cm_is v channel cm c.of_channel in
       let later = f.sharp.after in
       let ripe : IsRipeArrival v cm b.last link f.frame b.point b.q = record {
         there = f.there;
         of_frame = f.of_frame;
         waits = cm_so.waits link;
-        good = c.calm.good;
+        good = c.good;
         permanent = b.permanent;
         by_link = refl;
         later = later;
-        in_run = omega (arith, aims.0, c.calm.to, block.in_run);
+        in_run = omega (arith, aims.0, c.to, block.in_run);
       } in
       let at = split place_of (IsDue v.scenario) v.records (place_of_ripe cm b.last link f.frame b.point b.q) is.run.founded in
       let split_at = before_place v b.q (3 ∷ cm.0 ∷ unsigned_abs b.point ∷ f.frame.members.0 ∷ link.0 ∷ b.last.note.number ∷ []) at in
-      let adjustment = (adjustment_at_hearing v.scenario at.front cm b.q).0 in
-      let stands = hearing_adjustment goes v n t block cm by is c.calm b.q at.front (omega (arith, aims.1.late)) aims.0 (up_to_then v b.q at.front split_at) in
-      let taken_so = subst (λ (k : ℕ). IsTakenFor v.sizes k (dispatch_value v.scenario.network adjustment b.point)) (sym f.of_cycle)
-      (subst (λ (z : ℤ). IsTakenFor v.sizes (suc n) (dispatch_value v.scenario.network z b.point)) (sym stands) aims.1.value) in
-      let fine = no_point_fault v (state_at_hearing v.scenario at.front cm b.q) adjustment b.point f.frame.cycle is taken_so in
+      let fine = subst (λ (k : ℕ). point_fault v.scenario.network (state_at_hearing v.scenario at.front cm b.q)
+      (adjustment_at_hearing v.scenario at.front cm b.q).0 b.point k ≡ None) (sym f.of_cycle)
+      (c.fine b.q at.front b.point (up_to_then v b.q at.front split_at) aims.0 aims.1) in
       elim (is_collected v cm b.last link f.frame b.point b.q is cm_so.one ripe at fine) [
         | inl meets ↦ absurd (never_other at meets.0 meets.1 meets.2)
         | inr found ↦ recorded found.0 found.1

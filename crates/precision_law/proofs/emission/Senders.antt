@@ -1,8 +1,8 @@
 -- The compression master of the sound channel, a good master that began on, and what its dispatches bring.
-use Rattle.precision_law.proofs.{block.Dispatched.masters_dispatch, trips.Gates.dispatches_pass}
-use Rattle.precision_law.proofs.words.{Blocks.{before_narrow, earlier_in_block, follows_before, sound_frames_go_up}, Std.{slice_get, subst, suc, true, zero, ℕ}}
+use Rattle.precision_law.proofs.{block.Dispatched.masters_dispatch, trips.{Gates.dispatches_pass, SoundUp.frames_go_up}}
+use Rattle.precision_law.proofs.words.{Blocks.{before_narrow, earlier_in_block, follows_before}, Std.{slice_get, subst, suc, true, zero, ℕ}}
 use Rattle.precision_law.proofs.words.{Clocks.{enough_masters, frames_come_first, room}, Laws.last_dispatch, Plans.{count_of, device_at, is_master, opened}}
-use Rattle.precision_law.proofs.words.Laws.{BlocksGoSo, Hull, IsBrought, IsDispatch, IsFirstMaster, IsInBlock, IsView, View, first_correction, first_dispatch}
+use Rattle.precision_law.proofs.words.Laws.{BlocksGoSo, Hull, IsBrought, IsDispatch, IsFirstMaster, IsInBlock, IsInHull, IsView, IsWholeFrom, View, first_correction, first_dispatch}
 use Rattle.precision_law.proofs.words.Plans.{A, B, Channel, CompressionMasters, Device, DeviceId, IsCmOf, IsSwitchOf, LinkId, Masters, Role, Up, closed}
 use Rattle.precision_law.proofs.words.Runs.{Happening, has_role, is_broken, is_cm, is_cm_role, is_parent_of, is_relay_role, time_of, waits_for}
 use Rattle.precision_law.proofs.words.Std.{◌+ℤ◌, ◌+◌, ◌<◌, ◌∷◌, ◌≡◌, ◌≤ℤ◌, ◌≤◌, ◌⊎◌, Bool, IsNone, IsSomeAnd, List, None, Option, Some, [], arith}
@@ -10,23 +10,20 @@ use Rattle.precision_law.proofs.words.Std.{both_ways, cases_Bool, cases_lt, fals
 
 -- ---- the compression master
 
--- the sound channel has one
-pub sound_cm : (v : View) → IsView v → (cm : DeviceId) × IsCmOf v.scenario.network v.channel cm
-sound_cm v is = by v.channel
-  where
-    by : (channel : Channel) → (cm : DeviceId) × IsCmOf v.scenario.network channel cm
-    by A = (let one = (is.lawful.rules CompressionMasters 0).on_a refl in (one.0, one.1))
-    by B = (let one = (is.lawful.rules CompressionMasters 1).on_b refl in (one.0, one.1))
+-- each channel has one
+pub channel_cm : (v : View) (channel : Channel) → IsView v → (cm : DeviceId) × IsCmOf v.scenario.network channel cm
+channel_cm v A is = (let one = (is.lawful.rules CompressionMasters 0).on_a refl in (one.0, one.1))
+channel_cm v B is = (let one = (is.lawful.rules CompressionMasters 1).on_b refl in (one.0, one.1))
 
 -- what it is
-pub record IsSoundCm (v : View) (cm : DeviceId) : Type 0 where
+pub record IsOneCm (v : View) (channel : Channel) (cm : DeviceId) : Type 0 where
   pub one : is_cm v.scenario.network cm ≡ true
-  pub switch : IsSwitchOf v.scenario.network v.channel cm
+  pub switch : IsSwitchOf v.scenario.network channel cm
   pub waits : (link : LinkId) → waits_for v.scenario.network cm link ≡ true
 
--- a compression master of the sound channel is such
-pub cm_is : (v : View) (cm : DeviceId) → IsCmOf v.scenario.network v.channel cm → IsSoundCm v cm
-cm_is v cm of_channel = grind (arith, opened, device_at, has_role, option_map_or, is_cm_role, closed, not, is_parent_of, is_relay_role)
+-- a compression master of a channel is such
+pub cm_is : (v : View) (channel : Channel) (cm : DeviceId) → IsCmOf v.scenario.network channel cm → IsOneCm v channel cm
+cm_is v channel cm of_channel = grind (arith, opened, device_at, has_role, option_map_or, is_cm_role, closed, not, is_parent_of, is_relay_role)
 
 -- ---- a first master
 
@@ -79,10 +76,10 @@ pub record IsSender (v : View) (n : ℕ) (before : Hull) (cm master : DeviceId) 
   pub brought : IsBrought v Up first cm
 
 -- each first master has one
-pub sends_up : BlocksGoSo → (v : View) (n t : ℕ) (block : IsInBlock v n t) (cm master : DeviceId) → IsView v
-    → (first_correction v.sizes block.before.hull +ℤ pos v.sizes.reach) ≤ℤ pos t → IsCmOf v.scenario.network v.channel cm → IsFirstMaster v master
-    → IsSender v n block.before.hull cm master
-sends_up goes v n t block cm master is late one first =
+pub sends_up : BlocksGoSo → (v : View) (channel : Channel) (n t : ℕ) (block : IsInBlock v n t) (cm master : DeviceId) → IsView v
+    → (first_correction v.sizes block.before.hull +ℤ pos v.sizes.reach) ≤ℤ pos t → IsCmOf v.scenario.network channel cm
+    → ((u : ℕ) → IsInHull v (suc n) u → IsWholeFrom v channel u) → IsFirstMaster v master → IsSender v n block.before.hull cm master
+sends_up goes v channel n t block cm master is late one whole first =
     let before = block.before in
     let space = frames_come_first v.sizes before.hull (room v is) (before_narrow v n before) in
     let sent = masters_dispatch goes v n t block master is (omega (arith, ints, space, late)) first in
@@ -101,5 +98,6 @@ sends_up goes v n t block cm master is late one first =
       dispatch = sent.1;
       low = low;
       high = sent.2;
-      brought = sound_frames_go_up v sent.0 master cm (suc n) is sent.1 one (dispatches_pass goes v v.channel n w there is low sent.2 (omega (arith, soon))) soon;
+      brought = frames_go_up v channel sent.0 master cm (suc n) is (whole w hull) sent.1 one
+          (dispatches_pass goes v channel n w there is low sent.2 (omega (arith, soon))) soon;
     }

@@ -1,33 +1,33 @@
 -- The compression master of the sound channel sends one frame of the block's cycle, of enough masters.
 use Rattle.precision_law.proofs.{block.Onward.hull_ordered, words.{Laws.last_dispatch, Plans.{end_of, one_cluster, one_list_of_clusters}}}
-use Rattle.precision_law.proofs.{emission.Aimed.{never_ends, of_block_cycle}, words.Runs.{place_of, point_by, points_of, rank, same_some, sign, split, time_of}}
-use Rattle.precision_law.proofs.emission.{Gathered.{Collects, IsGathered, gathered, has_frame}, Senders.{cm_is, first_master, sends_up, sound_cm}}
+use Rattle.precision_law.proofs.{block.Dispatched.IsCalm, emission.Aimed.{fine_then, never_ends, of_block_cycle}, trips.SoundUp.sound_is_whole, words.Runs.{place_of, point_by, points_of, rank, same_some, sign, split, time_of}}
+use Rattle.precision_law.proofs.emission.{Gathered.{Collects, IsGathered, gathered, has_frame}, Senders.{channel_cm, cm_is, first_master, sends_up}}
 use Rattle.precision_law.proofs.words.Blocks.{IsBadPoint, IsGoodPoint, IsKnown, IsWitness, bad_number, bases_are_in_hulls, before_narrow, cluster_was}
 use Rattle.precision_law.proofs.words.Blocks.{contained, earlier_in_block, early_show, ends_soon, follows_before, front_point, front_witness, gives_point}
 use Rattle.precision_law.proofs.words.Blocks.{good_near, hulls_are_narrow, is_held, later_point, not_both, point_record, points_ordered, read_at, tidy}
-use Rattle.precision_law.proofs.words.Clocks.{IsSentAt, after_last_none, all_by, all_of, ascending_from, contains, enough_masters, frames_come_first}
-use Rattle.precision_law.proofs.words.Clocks.{in_filter_map, is_sent, made_in, natural_of, one_member, opened_by, place_of_sent, reach_is_there, room, sent_at}
+use Rattle.precision_law.proofs.words.Clocks.{IsSentAt, after_more, all_by, ascending_from, contains, enough_masters, frames_come_first}
+use Rattle.precision_law.proofs.words.Clocks.{in_filter_map, is_sent, made_in, natural_of, one_member, opened_by, parts_at_last, place_of_sent, reach_is_there, room, sent_at}
 use Rattle.precision_law.proofs.words.{Clocks.{sizes_are, sound_switches_begin_on, steady, switches_are_good}, Std.{subst, suc, sym, true, unsigned_abs, ℕ, ℤ}}
-use Rattle.precision_law.proofs.words.Laws.{BlocksGoSo, Hull, IsEmission, IsFirstMaster, IsInBlock, IsInHull, IsView, SendsSo, SoundMasterSends, View, hull_of}
-use Rattle.precision_law.proofs.words.Plans.{AreClusters, Cluster, DeviceId, Holds, IsDropped, IsKept, IsMember, IsReach, Masters, Members, Ordered, Point}
+use Rattle.precision_law.proofs.words.Laws.{BlocksGoSo, Hull, IsEmission, IsFirstMaster, IsInBlock, IsInHull, IsView, SendsOn, SoundMasterSends, View, hull_of}
+use Rattle.precision_law.proofs.words.Plans.{AreClusters, Channel, Cluster, DeviceId, Holds, IsDropped, IsKept, IsMember, IsReach, Masters, Members, Ordered, Point}
 use Rattle.precision_law.proofs.words.Runs.{Happening, IsDue, IsFounded, IsIn, IsSplit, before_later_time, before_next_time, earlier_time, ends_stretch}
 use Rattle.precision_law.proofs.words.Runs.{front_founded, in_front_of, in_left, in_parts, in_right, is_cm, key, member_of, members_in, observation_window}
 use Rattle.precision_law.proofs.words.Std.{◌*◌, ◌++◌, ◌+ℤ◌, ◌+◌, ◌<ℤ◌, ◌<◌, ◌∙◌, ◌∷◌, ◌≡◌, ◌≤ℤ◌, ◌≤◌, ◌⊎◌, Contains, List, Some, [], ap, append_assoc, arith}
-use Rattle.precision_law.proofs.words.Std.{bit_at, cases_lt, false_from_ne_true, filter_map, filter_map-append, inl, inr, ints, not, not_from_false, pos, refl}
+use Rattle.precision_law.proofs.words.Std.{after_last, bit_at, cases_lt, false, false_from_ne_true, filter_map, filter_map-append, inl, inr, ints, not, not_from_false, pos, refl}
 
 -- ---- the points by then
 
-module _ (goes : BlocksGoSo) (v : View) (n t : ℕ) (block : IsInBlock v n t) (cm : DeviceId) (by : ℕ) (is : IsView v) (coll : Collects v n t block cm by) where
-  -- the compression master has been in one stretch
-  points_all : (hs : List Happening) → ((h : Happening) → IsIn h hs → IsIn h v.records × (time_of h ≤ by))
-      → points_of hs cm ≡ filter_map (λ h. point_by cm h h.note.body) hs
-  points_all hs each =
-      ap (filter_map (λ (h : Happening). point_by cm h h.note.body))
-      (after_last_none (λ (h : Happening). ends_stretch cm h.note.body) hs
-      (all_of (λ (h : Happening). not (ends_stretch cm h.note.body) ≡ true) hs (λ h i. not_from_false (ends_stretch cm h.note.body)
-      (false_from_ne_true (ends_stretch cm h.note.body)
-      (λ hit. (let e = each h i in never_ends goes v n t block cm by is coll.calm h h.note.body e.0 e.1 refl hit))))))
+-- records that end no stretch add their points
+points_more : (cm : DeviceId) (front back : List Happening) → ((h : Happening) → IsIn h back → ends_stretch cm h.note.body ≡ false)
+    → points_of (front ++ back) cm ≡ points_of front cm ++ filter_map (λ h. point_by cm h h.note.body) back
+points_more cm front back quiet =
+    let point = λ (h : Happening). point_by cm h h.note.body in
+    ap (filter_map point) (after_more (λ (h : Happening). ends_stretch cm h.note.body) front back quiet
+    (parts_at_last (λ (h : Happening). ends_stretch cm h.note.body) front))
+    ∙ filter_map-append point (after_last (λ (h : Happening). ends_stretch cm h.note.body) front) back
 
+module _ (goes : BlocksGoSo) (v : View) (channel : Channel) (n t : ℕ) (block : IsInBlock v n t) (cm : DeviceId) (by : ℕ) (is : IsView v)
+    (coll : Collects v channel n t block cm by) where
   -- what is known of the cycle
   known : IsKnown v (by + 1) (suc n)
   known = record {
@@ -54,7 +54,7 @@ module _ (goes : BlocksGoSo) (v : View) (n t : ℕ) (block : IsInBlock v n t) (c
 
   -- it is a compression master
   one : is_cm v.scenario.network cm ≡ true
-  one = (cm_is v cm coll.of_channel).one
+  one = (cm_is v channel cm coll.of_channel).one
 
   -- each is a good one or a bad one
   each_is : (q : Point) → IsIn q points → IsGoodPoint v cm by q ⊎ IsBadPoint v q
@@ -68,16 +68,31 @@ module _ (goes : BlocksGoSo) (v : View) (n t : ℕ) (block : IsInBlock v n t) (c
   found : (cs : List Cluster) × AreClusters ow points cs
   found = (let z = one_list_of_clusters ow points in (z.0, z.1))
 
-  gather : (master : DeviceId) → IsFirstMaster v master → IsGathered v n block.before.next cm master by
+  gather : (master : DeviceId) → IsFirstMaster v master → IsGathered v n block.before.hull block.before.next cm master by
   gather m first =
-      let sender = sends_up goes v n t block cm m is coll.late coll.of_channel first in
-      gathered goes v n t block cm by is coll m sender (has_frame v n block.before.hull cm m sender is first)
+      let sender = sends_up goes v channel n t block cm m is coll.late coll.of_channel coll.whole first in
+      gathered v channel n t block cm by is coll m sender (has_frame v n block.before.hull cm m sender is first)
 
   -- a first master's point is among them
-  is_point : (master : DeviceId) (g : IsGathered v n block.before.next cm master by) → IsIn g.p points
+  is_point : (master : DeviceId) (g : IsGathered v n block.before.hull block.before.next cm master by) → IsIn g.p points
   is_point master g =
+      let next = block.before.next in
+      let cut = split place_of (IsDue v.scenario) by_then.front (next ∷ [])
+      (front_founded place_of (IsDue v.scenario) by_then.front by_then.rest (subst (IsFounded place_of (IsDue v.scenario)) by_then.whole is.run.founded)) in
+      let in_all : (h : Happening) → IsIn h cut.rest → IsIn h by_then.front = λ h i. subst (IsIn h) (sym cut.whole) (in_right h cut.front cut.rest i) in
+      let late : (h : Happening) → IsIn h cut.rest → next ≤ time_of h = λ h i. elim (cases_lt (time_of h) next)
+      [ inl lt ↦ absurd (cut.none h i (inl lt)) | inr ge ↦ ge ] in
       let front : IsIn g.k by_then.front = in_front_of place_of v.records ((by + 1) ∷ []) by_then g.k g.there (inl (omega (arith, g.to))) in
-      subst (IsIn g.p) (sym (points_all by_then.front up_to)) (made_in (λ (h : Happening). point_by cm h h.note.body) by_then.front g.k g.p front g.gives)
+      let behind : IsIn g.k cut.rest = elim (in_parts g.k cut.front cut.rest (subst (IsIn g.k) cut.whole front)) [
+        | inr there ↦ there
+        | inl before ↦
+            let early = earlier_time (time_of g.k) next (rank g.k.note.body ∷ key (members_in g.k) g.k.note.body) (cut.before g.k before) in
+            absurd (omega (arith, early, g.aimed.late))
+      ] in
+      let more = points_more cm cut.front cut.rest (λ h i. coll.quiet h (up_to h (in_all h i)).0 (late h i) (up_to h (in_all h i)).1) in
+      subst (IsIn g.p) (sym (ap (λ (hs : List Happening). points_of hs cm) cut.whole ∙ more))
+      (in_right g.p (points_of cut.front cm) (filter_map (λ h. point_by cm h h.note.body) cut.rest)
+      (made_in (λ (h : Happening). point_by cm h h.note.body) cut.rest g.k g.p behind g.gives))
 
   -- a point of a good master's number is good
   good_by : (master : DeviceId) (q : Point) → IsFirstMaster v master → member_of v.scenario.network master ≡ Some q.master → IsIn q points
@@ -88,7 +103,7 @@ module _ (goes : BlocksGoSo) (v : View) (n t : ℕ) (block : IsInBlock v n t) (c
   ]
 
   -- and it is in the time of no cluster of another cycle
-  never_dropped : (master : DeviceId) (g : IsGathered v n block.before.next cm master by) → IsDropped found.0 g.p → ⊥
+  never_dropped : (master : DeviceId) (g : IsGathered v n block.before.hull block.before.next cm master by) → IsDropped found.0 g.p → ⊥
   never_dropped master g dropped =
       let opened = opened_by ow points found.0 dropped.0 ordered found.1 dropped.1 in
       let o = opened.first in
@@ -97,7 +112,7 @@ module _ (goes : BlocksGoSo) (v : View) (n t : ℕ) (block : IsInBlock v n t) (c
       let lies = dropped.3 in
       let ends : dropped.0.end ≡ end_of ow o (o ∷ opened.rest) = ap (λ (x : Cluster). x.end) opened.is in
       let opens : dropped.0.opened ≡ o.reading = ap (λ (x : Cluster). x.opened) opened.is in
-      let cycle = of_block_cycle goes v n t block cm by is coll.calm one g.p.reading (time_of g.k) given.0 o g.aimed there.0 there.1 given.2
+      let cycle = coll.alike g.p.reading (time_of g.k) given.0 o g.to g.aimed there.0 there.1 given.2
       (omega (arith, ints, lies.low, opens)) (omega (arith, ints, lies.high, ends, ends_soon ow o (o ∷ opened.rest) (omega (arith, ints)), sizes_are v is)) in
       dropped.2 (g.of_cycle ∙ sym cycle ∙ sym (ap (λ (x : Cluster). x.cycle) opened.is))
 
@@ -189,6 +204,23 @@ module _ (goes : BlocksGoSo) (v : View) (n t : ℕ) (block : IsInBlock v n t) (c
   abbrev u : ℕ
   u = comes_to.0
 
+  -- which is in the block
+  begun : block.before.next ≤ u
+  begun =
+      let near = emerges.0 in
+      let e = emerges.1 in
+      let g = e.good in
+      let space = room v is in
+      let w = subst (λ (m : ℕ). IsInHull v m (time_of g.first)) e.of_cycle (known.tidy g.first g.master near.cycle g.dispatch (omega (arith, g.before))) in
+      let follows = follows_before v n block.before.hull w.hull is block.before.is_hull w.is in
+      let above : g.ripe ≤ u = elim (cases_lt u g.ripe) [
+        | inr ge ↦ ge
+        | inl lt ↦
+            let up = (steady v is cm).never_falls u g.ripe (omega (arith, lt)) in
+            absurd (omega (arith, ints, up, g.most, e.near, comes_to.2.reached, space))
+      ] in
+      omega (arith, ints, above, early_show v n block.before is, follows, w.least, g.in_time.not_early, space)
+
   -- the records before the place of the frame
   first : IsSplit place_of by_then.front (place_of_sent v cm all.cluster u)
   first =
@@ -231,19 +263,19 @@ module _ (goes : BlocksGoSo) (v : View) (n t : ℕ) (block : IsInBlock v n t) (c
   sends =
       let point = λ (h : Happening). point_by cm h h.note.body in
       let more = filter_map point first.rest in
-      let in_front : (h : Happening) → IsIn h first.front → IsIn h v.records
-      × (time_of h ≤ by) = λ h i. up_to h (subst (IsIn h) (sym first.whole) (in_left h first.front first.rest i)) in
-      let whole = points_all by_then.front up_to ∙ ap (filter_map point) first.whole ∙ filter_map-append point first.front first.rest
-      ∙ ap (λ (ps : List Point). ps ++ more) (sym (points_all first.front in_front)) in
+      let whole = ap (λ (hs : List Happening). points_of hs cm) first.whole ∙ points_more cm first.front first.rest (λ h i.
+      (let there = up_to h (subst (IsIn h) (sym first.whole) (in_right h first.front first.rest i)) in
+      let late : u ≤ time_of h = elim (cases_lt (time_of h) u) [ inl lt ↦ absurd (first.none h i (inl lt)) | inr ge ↦ ge ] in
+      coll.quiet h there.0 (omega (arith, late, begun)) there.1)) in
       let ends = emerges.1.ends in
       let past = all_by (λ (q : Point). all.cluster.end <ℤ q.reading) more (λ q i. (let above = past_sent q i in omega (arith, ints, above, ends))) in
       let before = one_list_of_clusters ow (points_of first.front cm) in
       let was = cluster_was ow (points_of first.front cm) more before.0 found.0 all.cluster (omega (arith, ints)) before.1
       (subst (λ (ps : List Point). AreClusters ow ps found.0) whole found.1) all.there past in
-      is_sent v cm u all.cluster before.0 is one coll.calm.good (omega (arith, comes_to.1, coll.calm.to, block.in_run)) all_before before.1 was comes_to.2
+      is_sent v cm u all.cluster before.0 is one coll.good (omega (arith, comes_to.1, coll.to, block.in_run)) all_before before.1 was comes_to.2
 
   -- and its base lies in the hull
-  pub emits : (hull : Hull) × (hull_of v (suc n) ≡ Some hull) × SendsSo v n hull
+  pub emits : (hull : Hull) × (hull_of v (suc n) ≡ Some hull) × SendsOn v channel n hull
   emits =
       let members : Members = record { 0 = all.cluster.members } in
       let emission : IsEmission v sends.h cm (suc n) members = subst (λ (k : ℕ). IsEmission v sends.h cm k members) of_cycle sends.emission in
@@ -272,18 +304,26 @@ sound_master_sends goes v n t block is late =
     let space = room v is in
     let natural = natural_of (last_dispatch v.sizes before.hull +ℤ pos (v.sizes.dmax + v.sizes.compression + v.sizes.base + v.sizes.path + v.sizes.precision)) 0
     (omega (arith, ints, early_show v n before is, hull_ordered v n before is, space)) in
+    let by : ℕ = natural.0 in
     let early = frames_come_first v.sizes before.hull space (before_narrow v n before) in
-    let cm = sound_cm v is in
-    let switch = (cm_is v cm.0 cm.1).switch in
-    emits goes v n t block cm.0 natural.0 is (record {
-      calm = record {
-        before = omega (arith, ints, natural.1, early);
-        to = omega (arith, ints, natural.1, early, late);
-        firm = inr switch;
-        good = switches_are_good v v.channel cm.0 is switch;
-        on = sound_switches_begin_on v cm.0 is switch;
-      };
+    let cm = channel_cm v v.channel is in
+    let switch = (cm_is v v.channel cm.0 cm.1).switch in
+    let calm : IsCalm v n t block cm.0 by = record {
+      before = omega (arith, ints, natural.1, early);
+      to = omega (arith, ints, natural.1, early, late);
+      firm = inr switch;
+      good = switches_are_good v v.channel cm.0 is switch;
+      on = sound_switches_begin_on v cm.0 is switch;
+    } in
+    emits goes v v.channel n t block cm.0 by is (record {
       of_channel = cm.1;
+      good = calm.good;
+      to = calm.to;
       late = late;
       over = omega (arith, ints, natural.1);
+      whole = λ u inside. sound_is_whole v u is;
+      fine = fine_then goes v n t block cm.0 by is calm;
+      alike = of_block_cycle goes v n t block cm.0 by is calm (cm_is v v.channel cm.0 cm.1).one;
+      quiet = λ h i from le. false_from_ne_true (ends_stretch cm.0 h.note.body)
+          (λ hit. never_ends goes v n t block cm.0 by is calm h h.note.body i le refl hit);
     })

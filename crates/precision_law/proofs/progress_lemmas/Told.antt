@@ -209,6 +209,6 @@ module _ (v : View) (device : DeviceId) (is : IsView v) (z : ℕ) (never : Keeps
       let so = sent.2 in
       let other : device ≡ so.cm → ⊥ = λ same.
       no_end_cm (device_at s.network device)
-      (subst (λ (d : DeviceId). is_cm s.network d ≡ true) (sym same) (cm_is v so.cm so.is_cm).one) end.end in
+      (subst (λ (d : DeviceId). is_cm s.network d ≡ true) (sym same) (cm_is v v.channel so.cm so.is_cm).one) end.end in
       has_time_on goes v.channel n over x sent.0 late end.good (firm_member v device (inl end)) sent.1 so other
       (sound_is_whole v (time_of so.first) is) on (early sent.0 sent.1)
