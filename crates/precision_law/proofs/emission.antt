@@ -3,3 +3,4 @@ pub mod Senders
 pub mod Aimed
 pub mod Gathered
 pub mod SoundMaster
+pub mod WholeMaster

@@ -125,7 +125,7 @@ IsEarly v n t block b = (pos b <ℤ (first_correction v.sizes block.before.hull 
 
 module _ (goes : BlocksGoSo) (v : View) (n t : ℕ) (block : IsInBlock v n t) (device : DeviceId) (b : ℕ) where
   -- no device has a correction point by then
-  early_point : (w cycle : ℕ) (verdict : Verdict) → IsView v → IsEarly v n t block b → block.before.next ≤ w → w ≤ b
+  pub early_point : (w cycle : ℕ) (verdict : Verdict) → IsView v → IsEarly v n t block b → block.before.next ≤ w → w ≤ b
       → HasPoint v w device cycle verdict → ⊥
   early_point w cycle verdict is early from le p =
       let here = earlier_in_block v n t w block from (omega (arith, le, early.1)) in

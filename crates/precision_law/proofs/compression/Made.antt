@@ -1,6 +1,6 @@
 -- What compressed frames are made of.
 use Rattle.{compression.proofs.ClusterFacts.ends_soon, precision_law.proofs.{block.Joins.cm_channel, words.Std.{zero_from_ones, ℕ, ℤ}}}
-use Rattle.precision_law.proofs.{compression.Emitted.{in_cluster, point_record}, words.Laws.{MembersAreMasters, ThreeHaveGood, View, clock_in, links_of}}
+use Rattle.precision_law.proofs.{compression.Emitted.{GivesPoint, in_cluster, point_record}, words.Laws.{MembersAreMasters, ThreeHaveGood, View, clock_in, links_of}}
 use Rattle.precision_law.proofs.{compression.Ripenings.{master_of_bit, ripening}, words.Runs.{member_of, observation_window, points_of, same_some, time_of}}
 use Rattle.precision_law.proofs.{compression.Stretches.points_ordered, hearing.Timely.{cm_of, path_member}, trips.Upward.{path_up, trips_up_take_dmax}}
 use Rattle.precision_law.proofs.words.Clocks.{Apart, any_in, before_of, cluster_from, few_members, frames_up_are_of_masters, has_firsts, has_is_member}
@@ -51,16 +51,12 @@ dispatch_clock v first master cycle is d =
     let at = founded_at v.scenario v.records first is.run.founded d.there in
     ap (λ (o : Option Pcf). option_map_or (λ f. f.clock) o 0) (ap (λ (x : Happening). x.frame) at.due.same ∙ ap (frame_by v.scenario.network at.front) d.is)
 
-pub front_point : (v : View) (cm : DeviceId) (q : Point) (by : ℕ) (front rest : List Happening) → IsView v → v.records ≡ front ++ rest
-    → ((h : Happening) → IsIn h front → time_of h ≤ by) → is_cm v.scenario.network cm ≡ true → IsIn q (points_of front cm) → IsGoodPoint v cm by q
-    ⊎ IsBadPoint v q
-front_point v cm q by front rest is whole only one i =
-    let given = point_record cm front q i in
-    let k = given.0 in
-    let g = given.2 in
-    let r = ripening v cm k g.link g.cause g.point g.verdict is (subst (IsIn k) (sym whole) (in_left k front rest given.1)) g.is in
+-- a point that a record gives is that of a good master or of a bad one
+pub record_point : (v : View) (cm : DeviceId) (q : Point) (by : ℕ) (k : Happening) → IsView v → IsIn k v.records → time_of k ≤ by
+    → is_cm v.scenario.network cm ≡ true → GivesPoint cm k q → IsGoodPoint v cm by q ⊎ IsBadPoint v q
+record_point v cm q by k is there early one g =
+    let r = ripening v cm k g.link g.cause g.point g.verdict is there g.is in
     let p = r.permanent in
-    let early = only k given.1 in
     elim (frames_up_are_of_masters v r.arrival cm p.link p.from p.clock is r.arrived p.is (r.up one)) [
       | inr bad ↦ inr (record {
         master = bad.master;
@@ -89,6 +85,14 @@ front_point v cm q by front rest is whole only one i =
   where
     master_is : {a b : ℕ} (master : DeviceId) (m : ℕ) → q.master ≡ master_of a → a ≡ b → member_of v.scenario.network master ≡ Some m → b ≡ 2 ^ m → q.master ≡ m
     master_is master m e same member bits = e ∙ ap master_of (same ∙ bits) ∙ master_of_bit m (has_member v master m is member).small
+
+pub front_point : (v : View) (cm : DeviceId) (q : Point) (by : ℕ) (front rest : List Happening) → IsView v → v.records ≡ front ++ rest
+    → ((h : Happening) → IsIn h front → time_of h ≤ by) → is_cm v.scenario.network cm ≡ true → IsIn q (points_of front cm) → IsGoodPoint v cm by q
+    ⊎ IsBadPoint v q
+front_point v cm q by front rest is whole only one i =
+    let given = point_record cm front q i in
+    let k = given.0 in
+    record_point v cm q by k is (subst (IsIn k) (sym whole) (in_left k front rest given.1)) (only k given.1) one given.2
 
 -- a point of those before a record
 pub point_is : (v : View) (h : Happening) (cm : DeviceId) (q : Point) → IsView v → (at : IsFoundedAt v.scenario v.records h)

@@ -61,7 +61,7 @@ and_middle false false c e = refl
 and_middle a true c e = absurd cc
 
 -- a device in this state has the common time
-has_it : (state : State) → is_synchronised state ≡ true → has_time state ≡ true
+pub has_it : (state : State) → is_synchronised state ≡ true → has_time state ≡ true
 has_it Synchronised e = refl
 has_it state e = absurd cc
 
