@@ -92,13 +92,13 @@ never_both : (d e : DeviceId) (opened at : Units) (n : ℕ) (members : Members) 
     → notes.Compressed d opened at n members j ≡ notes.Arrived e k c x → ⊥
 never_both d e opened at n members j k c x same = cc
 
--- a record by which the device hears the frame of the sound channel
-pub record Receives (v : View) (n : ℕ) (before : Stands v n) (device : DeviceId) (members : Members) : Type 0 where
+-- a record by which the device hears the frame of the channel
+pub record Receives (v : View) (channel : Channel) (n : ℕ) (before : Stands v n) (device : DeviceId) (members : Members) : Type 0 where
   pub h : Happening
   pub point : ℤ
   pub judgement : Judgement
   pub hearer : IsOfHearer judgement
-  pub hears : HearsBy v device v.channel point judgement h
+  pub hears : HearsBy v device channel point judgement h
   pub members_are : members_in h ≡ members.0
   pub from : before.next ≤ time_of h
   pub late : pos (time_of h) <ℤ first_correction v.sizes before.hull
@@ -193,8 +193,9 @@ module _ (v : View) (channel : Channel) (n t : ℕ) (block : IsInBlock v n t) (i
         soon = b.in_time.not_late;
       }
 
-module _ (v : View) (n t : ℕ) (block : IsInBlock v n t) (is : IsView v) (device cm : DeviceId) (firm : IsFirm v device) (at : IsAtPoint v n t block device)
-    (one : IsCmOf v.scenario.network v.channel cm) (first : Happening) (members : Members) (e : IsEmission v first cm (suc n) members)
+module _ (v : View) (channel : Channel) (n t : ℕ) (block : IsInBlock v n t) (is : IsView v) (device cm : DeviceId)
+    (member : IsDeviceOf v.scenario.network channel device) (at : IsAtPoint v n t block device)
+    (one : IsCmOf v.scenario.network channel cm) (first : Happening) (members : Members) (e : IsEmission v first cm (suc n) members)
     (timed : IsSentInTime v n block.before first) where
   -- what it hears in the block it hears with a common time
   hears : (q : ℕ) (hs : List Happening) (point : ℤ) (cycle : ℕ) (others : Members) → AreUpTo v q hs → block.before.next ≤ q → q < t
@@ -204,7 +205,7 @@ module _ (v : View) (n t : ℕ) (block : IsInBlock v n t) (is : IsView v) (devic
       others (hears_as_at v device block.before.next q t hs is up from lt at.old at.has.timed).state
 
   -- the compression master's own frame
-  own_frame : cm ≡ device → Receives v n block.before device members
+  own_frame : cm ≡ device → Receives v channel n block.before device members
   own_frame same =
       let s = v.scenario in
       let q = time_of first in
@@ -214,21 +215,21 @@ module _ (v : View) (n t : ℕ) (block : IsInBlock v n t) (is : IsView v) (devic
       let late : pos q <ℤ first_correction v.sizes block.before.hull = (let soon = timed.soon in omega (arith, ints, soon)) in
       let hearer = hears q found.front e.at.0 (suc n) members (up_to_then v q found.front (before_of v first is found)) timed.from
       (sooner v n t block device q at late) in
-      let of_channel = subst (λ (d : DeviceId). channel_of s.network d ≡ Some v.channel) same (cm_of_channel v v.channel cm one) in
+      let of_channel = subst (λ (d : DeviceId). channel_of s.network d ≡ Some channel) same (cm_of_channel v channel cm one) in
       record {
         h = first;
         point = e.at.0;
         judgement = e.verdict;
         hearer = subst IsOfHearer (sym emits.heard) hearer;
         hears = record { there = e.there; how = inr (e.opened, e.at, suc n, members, body, of_channel, refl) };
-        members_are = sym (shows v v.channel n t block is device cm (firm_member v device firm) (firm_good switches_are_good v device is firm) one first members e timed).1;
+        members_are = sym (shows v channel n t block is device cm member at.has.good one first members e timed).1;
         from = timed.from;
         late = late;
       }
 
   -- the frame that comes to another device
-  brought_frame : BlocksGoSo → (device ≡ cm → ⊥) → Receives v n block.before device members
-  brought_frame goes other =
+  brought_frame : BlocksGoSo → IsWholeFrom v channel (time_of first) → (device ≡ cm → ⊥) → Receives v channel n block.before device members
+  brought_frame goes intact other =
       let s = v.scenario in
       let w = time_of first in
       let soon = timed.soon in
@@ -238,8 +239,7 @@ module _ (v : View) (n t : ℕ) (block : IsInBlock v n t) (is : IsView v) (devic
       let timed_u = time_stays v device u t is (omega (arith, le, lt)) old_u at.has.timed in
       ap (λ (b : Bool). is_off (if b then Integrating else state_left v device u)) (not_turned_on_then v device u is timed_u)
       ∙ timed_not_off (state_left v device u) timed_u) in
-      let c = comes_down v v.channel n t block is device cm (firm_member v device firm) (firm_good switches_are_good v device is firm) one first members e
-      timed goes (sound_is_whole v w is) other (omega (arith, lt)) on in
+      let c = comes_down v channel n t block is device cm member at.has.good one first members e timed goes intact other (omega (arith, lt)) on in
       let q = c.q in
       let split_at = before_place v q (3 ∷ device.0 ∷ unsigned_abs c.point ∷ c.frame.members.0 ∷ c.link.0 ∷ c.arrival.note.number ∷ []) c.place in
       let ripe = c.ripe in
@@ -259,10 +259,10 @@ module _ (v : View) (n t : ℕ) (block : IsInBlock v n t) (is : IsView v) (devic
         late = omega (arith, ints, ripe.time, c.soon, soon);
       }
 
-  -- each old device that is to keep the time hears the frame
-  pub receives : BlocksGoSo → Receives v n block.before device members
-  receives goes =
+  -- each old device of the channel hears the frame
+  pub receives : BlocksGoSo → IsWholeFrom v channel (time_of first) → Receives v channel n block.before device members
+  receives goes intact =
       elim (cases_eq device.0 cm.0) [
         | inl same ↦ own_frame (same_device cm device (sym same))
-        | inr differs ↦ brought_frame goes (λ d. differs (ap (λ (x : DeviceId). x.0) d))
+        | inr differs ↦ brought_frame goes intact (λ d. differs (ap (λ (x : DeviceId). x.0) d))
       ]

@@ -1,10 +1,10 @@
 -- The correction points of the devices that are to keep the time correct their clocks, and share one frame.
 use Rattle.precision_law.proofs.{block.Corrections.{IsByFrame, is_by_frame, shared_by, turned}, words.Blocks.{FramesGoSo, good_hearing, late_from, members_by}}
 use Rattle.precision_law.proofs.hearing.{GoodFrames.{IsAtPoint, heard_within, heard_within_by, same_sent, sooner, went_so}, Since.{is_since, not_integrating}}
-use Rattle.precision_law.proofs.{hearing.Received.{IsSentInTime, cm_of_channel, receives, sent_in_time}, verdict.HeardOutside.{SoundIsSent, few_heard_outside}}
+use Rattle.precision_law.proofs.{hearing.Received.{IsSentInTime, cm_of_channel, firm_member, receives, sent_in_time}, trips.SoundUp.sound_is_whole, verdict.HeardOutside.{SoundIsSent, few_heard_outside}}
 use Rattle.precision_law.proofs.words.Laws.{AreBeforeCorrections, BlocksGoSo, FirmDevicesCorrect, HearsBy, Hull, IsFirm, IsGoodEnd, IsInBlock}
-use Rattle.precision_law.proofs.words.Laws.{IsSharedCorrection, IsView, SendsSo, SoundMasterSends, View, base_of, hull_of}
-use Rattle.precision_law.proofs.words.Plans.{A, AsyncClique, B, Channel, Cleared, Corrected, DeviceId, HasVerdict, HeardFrame, Hearing, IsBehind, IsBestOf}
+use Rattle.precision_law.proofs.words.Laws.{IsSharedCorrection, IsView, IsWholeFrom, SendsOn, SendsSo, SoundMasterSends, View, base_of, hull_of}
+use Rattle.precision_law.proofs.words.Plans.{A, AsyncClique, B, Channel, Cleared, Corrected, DeviceId, HasVerdict, HeardFrame, Hearing, IsBehind, IsBestOf, IsDeviceOf}
 use Rattle.precision_law.proofs.words.Plans.{IsLevel, IsWithinOn, Masters, Members, SomeQualifies, Standing, Summarizes, Summary, SyncClique, Units, Verdict}
 use Rattle.precision_law.proofs.words.Plans.{best_on, correction_of, count_of, deviation_by, deviation_on, within_on}
 use Rattle.precision_law.proofs.words.Runs.{Happening, IsIn, Judgement, Within, heard_by, heard_since, in_parts, same_some, standing_before, time_of}
@@ -57,6 +57,72 @@ some_qualifies : (standing : Standing) (summary : Summary) (channel : Channel) �
 some_qualifies standing summary A b = inl (let e = b.is in rw e b.enough)
 some_qualifies standing summary B b = inr (let e = b.is in rw e b.enough)
 
+module _ (laws : FramesGoSo) (goes : BlocksGoSo) (v : View) (n t : ℕ) (block : IsInBlock v n t) (is : IsView v) (device : DeviceId)
+    (at : IsAtPoint v n t block device) (hull : Hull) (is_hull : hull_of v (suc n) ≡ Some hull) (sound_sends : SendsSo v n hull) (channel : Channel)
+    (member : IsDeviceOf v.scenario.network channel device) (sends : SendsOn v channel n hull) (intact : IsWholeFrom v channel (time_of sends.first))
+    (front : List Happening) (split : AreBeforeCorrections v t front) (summary : Summary)
+    (sums : Summarizes summary (heard_since v.scenario front device t)) where
+  abbrev on_standing : Standing
+  on_standing = standing_before v.scenario front device t
+
+  many_of : (c : Channel) (s : SendsOn v c n hull) → 3 ≤ count_of s.members
+  many_of c s = (let enough = s.enough in omega (arith, (is.lawful.rules Masters 2).threshold_least refl, enough))
+
+  in_time : (c : Channel) (s : SendsOn v c n hull) → IsSentInTime v n block.before s.first
+  in_time c s = sent_in_time v n block.before hull s.first is is_hull s.near
+
+  sent_sound : SoundIsSent v n t sound_sends.first sound_sends.members
+  sent_sound = record {
+    sent = record {
+      cm = sound_sends.cm;
+      emission = sound_sends.emission;
+      of_channel = cm_of_channel v v.channel sound_sends.cm sound_sends.is_cm;
+      good = laws.three v sound_sends.first sound_sends.cm (suc n) sound_sends.members is sound_sends.emission (many_of v.channel sound_sends);
+    };
+    before = (let soon = (in_time v.channel sound_sends).soon in
+    let lt = sooner v n t block device (time_of sound_sends.first + v.sizes.dmax + v.sizes.path) at soon in omega (arith, lt));
+    three = many_of v.channel sound_sends;
+  }
+
+  -- the frame of the channel was heard within
+  heard_on : (frame : HeardFrame) × IsIn (within_on channel frame) (heard_since v.scenario front device t)
+      × (count_of sends.members ≤ count_of frame.members)
+  heard_on =
+      let r = receives v channel n t block is device sends.cm member at sends.is_cm sends.first sends.members sends.emission (in_time channel sends) goes intact in
+      let h = r.h in
+      let same : count_of (members_by h) ≡ count_of sends.members = ap (λ (x : ℕ). let m : Members = record { 0 = x } in count_of m) r.members_are in
+      let many : 3 ≤ count_of (members_by h) = omega (arith, same, many_of channel sends) in
+      let lt = sooner v n t block device (time_of h) at r.late in
+      let g = good_hearing laws v n t block.before is (went_so goes v n t block is) device channel r.point h (omega (arith, lt)) r.judgement r.hearer r.hears
+      (late_from v n (time_of h) block.before is r.from) (λ e cm f. laws.three v e cm _ (members_by h) is f many) in
+      let within = heard_within goes v n t block is laws device channel r.point r.judgement h at lt r.hearer r.hears g (inl many) in
+      let hears : HearsBy v device channel r.point Within h = subst (λ (j : Judgement). HearsBy v device channel r.point j h) within r.hears in
+      let shown = heard_within_by v device channel r.point h hears in
+      let hearing : Hearing = heard_by channel h shown.0 true in
+      (hearing.frame, is_since v n t block is device at front split h hearing hears.there r.from lt shown.1, omega (arith, same))
+
+  -- so the channel has a best frame of enough members, and more than were heard outside
+  pub best_is_enough : HasBest (standing_before v.scenario front device t) summary channel
+  best_is_enough =
+      let b = best_has (heard_since v.scenario front device t) channel heard_on.0 (best_on channel summary) (sums.best channel) heard_on.1 in
+      let few = few_heard_outside laws goes v n t block is device at sound_sends.first sound_sends.members sent_sound front split summary.outside sums.outside in
+      record {
+        best = b.0;
+        is = b.1;
+        enough = omega (arith, sends.enough, heard_on.2, b.2);
+        more = omega (arith, few, many_of channel sends, heard_on.2, b.2);
+      }
+
+  -- and the point is not one of the cliques
+  pub corrects_on : (verdict : Verdict) → HasVerdict (standing_before v.scenario front device t) summary verdict → (by : Units) × (verdict ≡ Corrected by)
+  corrects_on Cleared has = absurd (not_integrating v n t block is device at front split has)
+  corrects_on SyncClique has = absurd (has.1 (some_qualifies on_standing summary channel best_is_enough))
+  corrects_on AsyncClique has =
+      let best = best_is_enough in
+      let few = subst (λ (o : Option HeardFrame). IfSome o (λ frame. count_of frame.members ≤ count_of summary.outside)) best.is (has.2 channel) in
+      absurd (omega (arith, few, best.more))
+  corrects_on (Corrected by) has = (by, refl)
+
 module _ (laws : FramesGoSo) (goes : BlocksGoSo) (v : View) (n t : ℕ) (block : IsInBlock v n t) (is : IsView v) (device : DeviceId) (firm : IsFirm v device)
     (at : IsAtPoint v n t block device) (hull : Hull) (is_hull : hull_of v (suc n) ≡ Some hull) (sends : SendsSo v n hull) (front : List Happening)
     (split : AreBeforeCorrections v t front) (summary : Summary) (sums : Summarizes summary (heard_since v.scenario front device t)) where
@@ -66,46 +132,13 @@ module _ (laws : FramesGoSo) (goes : BlocksGoSo) (v : View) (n t : ℕ) (block :
   abbrev deviation : Channel → Option Units
   deviation channel = deviation_on standing summary channel
 
-  timed : IsSentInTime v n block.before sends.first
-  timed = sent_in_time v n block.before hull sends.first is is_hull sends.near
-
-  three : 3 ≤ count_of sends.members
-  three = (let enough = sends.enough in omega (arith, (is.lawful.rules Masters 2).threshold_least refl, enough))
-
   sound : SoundIsSent v n t sends.first sends.members
-  sound = record {
-    sent = record {
-      cm = sends.cm;
-      emission = sends.emission;
-      of_channel = cm_of_channel v v.channel sends.cm sends.is_cm;
-      good = laws.three v sends.first sends.cm (suc n) sends.members is sends.emission three;
-    };
-    before = (let soon = timed.soon in let lt = sooner v n t block device (time_of sends.first + v.sizes.dmax + v.sizes.path) at soon in omega (arith, lt));
-    three = three;
-  }
-
-  -- the frame of the sound channel was heard within
-  heard_sound : (frame : HeardFrame) × IsIn (within_on v.channel frame) (heard_since v.scenario front device t)
-      × (count_of sends.members ≤ count_of frame.members)
-  heard_sound =
-      let r = receives v n t block is device sends.cm firm at sends.is_cm sends.first sends.members sends.emission timed goes in
-      let h = r.h in
-      let same : count_of (members_by h) ≡ count_of sends.members = ap (λ (x : ℕ). let m : Members = record { 0 = x } in count_of m) r.members_are in
-      let many : 3 ≤ count_of (members_by h) = omega (arith, same, three) in
-      let lt = sooner v n t block device (time_of h) at r.late in
-      let g = good_hearing laws v n t block.before is (went_so goes v n t block is) device v.channel r.point h (omega (arith, lt)) r.judgement r.hearer r.hears
-      (late_from v n (time_of h) block.before is r.from) (λ e cm f. laws.three v e cm _ (members_by h) is f many) in
-      let within = heard_within goes v n t block is laws device v.channel r.point r.judgement h at lt r.hearer r.hears g (inl many) in
-      let hears : HearsBy v device v.channel r.point Within h = subst (λ (j : Judgement). HearsBy v device v.channel r.point j h) within r.hears in
-      let shown = heard_within_by v device v.channel r.point h hears in
-      let hearing : Hearing = heard_by v.channel h shown.0 true in
-      (hearing.frame, is_since v n t block is device at front split h hearing hears.there r.from lt shown.1, omega (arith, same))
+  sound = sent_sound laws goes v n t block is device at hull is_hull sends v.channel (firm_member v device firm) sends
+      (sound_is_whole v (time_of sends.first) is) front split summary sums
 
   has_best : HasBest standing summary v.channel
-  has_best =
-      let b = best_has (heard_since v.scenario front device t) v.channel heard_sound.0 (best_on v.channel summary) (sums.best v.channel) heard_sound.1 in
-      let few = few_heard_outside laws goes v n t block is device at sends.first sends.members sound front split summary.outside sums.outside in
-      record { best = b.0; is = b.1; enough = omega (arith, sends.enough, heard_sound.2, b.2); more = omega (arith, few, three, heard_sound.2, b.2) }
+  has_best = best_is_enough laws goes v n t block is device at hull is_hull sends v.channel (firm_member v device firm) sends
+      (sound_is_whole v (time_of sends.first) is) front split summary sums
 
   -- the deviation of a channel is by a frame
   by_frame : (channel : Channel) (dev : Units) → deviation channel ≡ Some dev → IsByFrame v n t block.before device channel dev
@@ -134,14 +167,16 @@ module _ (laws : FramesGoSo) (goes : BlocksGoSo) (v : View) (n t : ℕ) (block :
       opposite A = (B, e)
       opposite B = (A, turned (deviation B) (deviation A) ∙ e)
 
+  corrects_so : (verdict : Verdict) → HasVerdict standing summary verdict → (by : Units) × (verdict ≡ Corrected by)
+  corrects_so = corrects_on laws goes v n t block is device at hull is_hull sends v.channel (firm_member v device firm) sends
+      (sound_is_whole v (time_of sends.first) is) front split summary sums
+
   -- the point comes to a correction
   corrects : (verdict : Verdict) → HasVerdict standing summary verdict
       → (by : Units) × (verdict ≡ Corrected by) × (IsGoodEnd v device → IsSharedCorrection v n t hull (base_of v.sizes (time_of sends.first)) device by)
-  corrects Cleared has = absurd (not_integrating v n t block is device at front split has)
-  corrects SyncClique has = absurd (has.1 (some_qualifies standing summary v.channel has_best))
-  corrects AsyncClique has =
-      let few = subst (λ (o : Option HeardFrame). IfSome o (λ frame. count_of frame.members ≤ count_of summary.outside)) has_best.is (has.2 v.channel) in
-      absurd (omega (arith, few, has_best.more))
+  corrects Cleared has = (let wrong = (corrects_so Cleared has).1 in absurd cc)
+  corrects SyncClique has = (let wrong = (corrects_so SyncClique has).1 in absurd cc)
+  corrects AsyncClique has = (let wrong = (corrects_so AsyncClique has).1 in absurd cc)
   corrects (Corrected by) has = (by, refl, λ end. shared by has.3)
 
 -- ---- the law
