@@ -4,3 +4,4 @@ pub mod Staying
 pub mod Corrected
 pub mod Told
 pub mod Arriving
+pub mod Mending

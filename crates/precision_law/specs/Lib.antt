@@ -8,6 +8,7 @@ pub mod Bases
 pub mod Blocks
 pub mod Precision
 pub mod Progress
+pub mod Mending
 pub mod WorldTime
 pub mod Readings
 pub mod Standings

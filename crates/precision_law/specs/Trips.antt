@@ -3,13 +3,15 @@ use Rattle.std.specs.Option.{option_map_or}
 use Rattle.std.specs.Prelude.{◌+◌, ◌<◌, ◌^◌, ◌∷◌, ◌≡◌, ◌≤◌, ◌⊎◌, List, Some, [], false, fold, map, pos, ℕ, ℤ}
 use Rattle.drift_clock.specs.Reach.{IsReach}
 use Rattle.{drift_clock.specs.transparent.Points.point_of, net_plan.specs.declared.tables.Way.TheVariants.{Down, Up}}
-use Rattle.net_plan.specs.{Paths.IsPath, Places.{IsCmOf, IsDeviceOf, IsSwitchOf}, declared.{ids.LinkId.LinkId, tables.Way.Way}}
+use Rattle.net_plan.specs.{Paths.IsPath, Places.{IsCmOf, IsDeviceOf, IsSwitchOf}}
+use Rattle.net_plan.specs.declared.{ids.LinkId.LinkId, tables.Way.Way}
 use Rattle.{net_plan.specs.declared.ids.DeviceId.DeviceId, precision_law.specs.Bases.{IsEmission, IsHeard, base_of}}
 use Rattle.precision_law.specs.{Standings.IsTimely, Views.{IsBad, IsDispatch, IsGood, IsView, View}}
 use Rattle.run_law.specs.{control.Arrivals.is_gate_shut, scenario.Devices.{channel_of, channel_of_link, member_of}}
 use Rattle.run_law.specs.{control.Leaving.Gives, records.{Order.IsIn, Ranks.members_in}}
 use Rattle.run_law.specs.{device.Standpoints.standpoint, records.{Causes.GoesBackTo, Happenings.{Happening, time_of}}}
-use Rattle.run_law.specs.{device.States.{cycle_in, is_off, state_before}, scenario.{Faults.IsLinkOf, Ways.{is_cut, receiver_of, way_from, way_to}}}
+use Rattle.run_law.specs.device.States.{cycle_in, is_off, state_before}
+use Rattle.run_law.specs.scenario.{Faults.IsLinkOf, Ways.{is_cut, receiver_of, way_from, way_to}}
 use Rattle.tte_units.specs.declared.frames.{channel.Channel.Channel, members.Members.Members}
 use Rattle.run_law.specs.declared.note.NoteBody.TheVariants as notes
 

@@ -1,6 +1,7 @@
 ghost use Rattle.precision_law.specs.Dispatches.{DispatchesHalve, DispatchesStayNear};
 ghost use Rattle.precision_law.specs.IdealClocks.{ClocksKeepTheSpan, ClocksKeepTheirCycles, ValuesAreReachedOnTime};
-ghost use Rattle.precision_law.specs.{Joined.JoinersComeIn, Precision.{ClocksStayTogether, TimeIsKept}};
+ghost use Rattle.precision_law.specs.{Joined.JoinersComeIn, Mending.MendedChannelsComeIn};
+ghost use Rattle.precision_law.specs.Precision.{ClocksStayTogether, TimeIsKept};
 ghost use Rattle.precision_law.specs.{
   Progress.{EndSystemsComeIn, EndSystemsComeInSoon},
   WorldTime.ClocksKeepWorldTime,
@@ -21,6 +22,11 @@ pub fn time_is_kept()
 pub fn end_systems_come_in()
     ensures soon { EndSystemsComeInSoon }
     ensures in_three_cycles { EndSystemsComeIn }
+{}
+
+/// Where no device is broken, each switch of a channel that is whole comes in as an end system does.
+pub fn mended_channels_come_in()
+    ensures { MendedChannelsComeIn }
 {}
 
 /// The clock of a correct synchronised device keeps between two ideal clocks, which began its cycle with the first and

@@ -7,6 +7,6 @@ pub mod traffic;
 
 pub use laws::{
     clocks_keep_the_span, clocks_keep_their_cycles, clocks_keep_world_time, clocks_stay_together,
-    dispatches_halve, dispatches_stay_near, end_systems_come_in, joiners_come_in, time_is_kept,
-    values_are_reached_on_time,
+    dispatches_halve, dispatches_stay_near, end_systems_come_in, joiners_come_in,
+    mended_channels_come_in, time_is_kept, values_are_reached_on_time,
 };

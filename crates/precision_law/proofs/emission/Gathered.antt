@@ -1,14 +1,14 @@
 -- The compression master of the sound channel takes the frames of the first masters.
 use Rattle.precision_law.proofs.emission.Senders.{IsSender, cm_is}
 use Rattle.precision_law.proofs.{emission.Aimed.IsAimed, words.Laws.{IsGood, IsInHull, IsWholeFrom, last_dispatch}}
-use Rattle.precision_law.proofs.words.Blocks.{AreUpTo, GivesPoint, IsReadAt, arrival_young, before_narrow, contained, earlier_in_block, early_show, ends_soon, later_point}
-use Rattle.precision_law.proofs.words.{Blocks.{master_of_bit, old_shows, place_order, point_record, points_ordered, read_at, up_to_then}, Plans.{role, role_in}}
-use Rattle.precision_law.proofs.words.Clocks.{IsRipeArrival, IsRipeRecord, adjustment_stays, before_place, contains, has_member, is_collected, last_in}
-use Rattle.precision_law.proofs.words.Clocks.{master_member, one_more, opened_by, permanence_is_sharp, place_of_ripe, room, sizes_are, steady, trip_says}
-use Rattle.precision_law.proofs.words.Laws.{BlocksGoSo, HasTimeAt, Hull, IsFirstMaster, IsInBlock, IsRipe, IsTrip, IsView, Leg, ShowsIn, View, first_correction}
-use Rattle.precision_law.proofs.words.Plans.{AreClusters, Channel, Cluster, DeviceId, IsCmOf, Members, Pcf, Point, Units, Up, Way, amount, has_point_of, none, point_at}
+use Rattle.precision_law.proofs.words.Blocks.{AreUpTo, GivesPoint, IsReadAt, arrival_young, contained, early_show, ends_soon, later_point}
+use Rattle.precision_law.proofs.words.{Blocks.{master_of_bit, place_order, point_record, points_ordered, read_at, up_to_then}, Plans.{role, role_in}}
+use Rattle.precision_law.proofs.words.Clocks.{IsRipeArrival, IsRipeRecord, before_place, contains, has_member, is_collected, last_in}
+use Rattle.precision_law.proofs.words.Clocks.{master_member, opened_by, permanence_is_sharp, place_of_ripe, room, sizes_are, steady, trip_says}
+use Rattle.precision_law.proofs.words.Laws.{Hull, IsFirstMaster, IsInBlock, IsRipe, IsTrip, IsView, Leg, View, first_correction}
+use Rattle.precision_law.proofs.words.Plans.{AreClusters, Channel, Cluster, DeviceId, IsCmOf, Members, Pcf, Point, Up, Way, amount, has_point_of, none, point_at}
 use Rattle.precision_law.proofs.words.Runs.{Happening, IsBefore, IsCaused, IsDue, IsIn, IsSplit, Judgement, NoteBody, adjustment_at_hearing, cycle_in}
-use Rattle.precision_law.proofs.words.Runs.{dispatch_value, founded_at, frame_by, in_left, key, master_of, member_of, members_in, observation_window, place_of}
+use Rattle.precision_law.proofs.words.Runs.{founded_at, frame_by, in_left, key, master_of, member_of, members_in, observation_window, place_of}
 use Rattle.precision_law.proofs.words.{Runs.{ends_stretch, point_by, point_fault, points_of, rank, split, state_at_hearing, time_of}, Std.{unsigned_abs, unwrap_or, ℕ, ℤ}}
 use Rattle.precision_law.proofs.words.Std.{◌*◌, ◌+ℤ◌, ◌+◌, ◌^◌, ◌∙◌, ◌∷◌, ◌≡◌, ◌≤ℤ◌, ◌≤◌, Bool, List, None, Option, Some, [], ap, arith, eq-eqb, false}
 use Rattle.precision_law.proofs.words.Std.{if◌then◌else◌, inl, inr, int_lt, ints, last_or, option_and_then, option_map_or, pos, refl, subst, suc, sym, true}

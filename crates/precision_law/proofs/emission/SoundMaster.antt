@@ -13,7 +13,7 @@ use Rattle.precision_law.proofs.words.Plans.{AreClusters, Channel, Cluster, Devi
 use Rattle.precision_law.proofs.words.Runs.{Happening, IsDue, IsFounded, IsIn, IsSplit, before_later_time, before_next_time, earlier_time, ends_stretch}
 use Rattle.precision_law.proofs.words.Runs.{front_founded, in_front_of, in_left, in_parts, in_right, is_cm, key, member_of, members_in, observation_window}
 use Rattle.precision_law.proofs.words.Std.{◌*◌, ◌++◌, ◌+ℤ◌, ◌+◌, ◌<ℤ◌, ◌<◌, ◌∙◌, ◌∷◌, ◌≡◌, ◌≤ℤ◌, ◌≤◌, ◌⊎◌, Contains, List, Some, [], ap, append_assoc, arith}
-use Rattle.precision_law.proofs.words.Std.{after_last, bit_at, cases_lt, false, false_from_ne_true, filter_map, filter_map-append, inl, inr, ints, not, not_from_false, pos, refl}
+use Rattle.precision_law.proofs.words.Std.{after_last, bit_at, cases_lt, false, false_from_ne_true, filter_map, filter_map-append, inl, inr, ints, pos, refl}
 
 -- ---- the points by then
 

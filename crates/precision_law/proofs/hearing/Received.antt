@@ -1,12 +1,12 @@
 -- The frame that the compression master of the sound channel sends in a block is heard by each old device that is to keep
 -- the time.
 use Rattle.precision_law.proofs.faults.Turned.{timed_not_off}
-use Rattle.{net_plan.proofs.SameIds.same_device, precision_law.proofs.block.Onward.firm_good, tte_units.specs.declared.units.Units.Units}
+use Rattle.{net_plan.proofs.SameIds.same_device, tte_units.specs.declared.units.Units.Units}
 use Rattle.precision_law.proofs.{hearing.{GoodFrames.{IsAtPoint, sooner}, Timely.of_channel_is}, words.Plans.{Channel, Synchronised, device_at, is_end_system, opened}}
-use Rattle.precision_law.proofs.{trips.{Gates.are_open_on, SoundDown.frames_go_down, SoundUp.sound_is_whole}, words.Blocks.{next_first, not_turned_on_then, one_cm, up_to_then}}
+use Rattle.precision_law.proofs.{trips.{Gates.are_open_on, SoundDown.frames_go_down}, words.Blocks.{next_first, not_turned_on_then, one_cm, up_to_then}}
 use Rattle.precision_law.proofs.words.Blocks.{AreUpTo, EndsSo, before_narrow, cm_of, earlier_in_block, ends_so, follows_before, hears_as_at, judged_at}
 use Rattle.precision_law.proofs.words.Clocks.{IsRipeArrival, IsRipeRecord, before_of, before_place, child_not_parent, cm_is_no_end, device_of, emission_shows}
-use Rattle.precision_law.proofs.words.Clocks.{frames_come_first, is_heard_of, place_of_ripe, receiver_down, room, switches_are_good, time_stays}
+use Rattle.precision_law.proofs.words.Clocks.{frames_come_first, is_heard_of, place_of_ripe, receiver_down, room, time_stays}
 use Rattle.precision_law.proofs.words.Laws.{BlocksGoSo, HearsBy, Hull, IsBrought, IsEmission, IsFirm, IsInBlock, IsNearHull, IsGood, IsOfHearer, IsTrip, IsWholeFrom}
 use Rattle.precision_law.proofs.words.Laws.{IsView, Leg, Stands, View, base_of, epoch_time, first_correction, first_dispatch, has_time, hull_of, state_left}
 use Rattle.precision_law.proofs.words.Plans.{Cm, Device, DeviceId, Down, Integrating, IsCmOf, IsDeviceOf, Joining, LinkId, Members, Pcf, State, SyncPlan}

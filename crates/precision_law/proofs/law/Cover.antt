@@ -25,24 +25,31 @@ behind_of (negsuc n) least le = absurd (omega (arith, ints, le))
 
 -- from a block that is over the next ones reach each later time
 reach_from : StandsOn → (v : View) (t : ℕ) (fuel n : ℕ) (stands : Stands v n) → IsView v → t ≤ v.until → stands.next ≤ t → t < stands.next + fuel → (m : ℕ)
-    × IsInBlock v m t
+    × IsInBlock v m t × (n ≤ m)
 reach_from on v t zero n stands is in_run from short = absurd (omega (arith, from, short))
 reach_from on v t (suc fuel) n stands is in_run from short =
     let later = later_end v n stands is in
     let next = behind_of (last_correction v.sizes stands.hull) stands.next later in
     let over : IsOverBefore v (suc n) next.0 = (stands.hull, stands.is_hull, next.1.behind) in
     elim (cases_lt t next.0) [
-      | inl lt ↦ (n, record { before = stands; next = next.0; is_over = over; from = from; to = lt; in_run = in_run })
+      | inl lt ↦ (n, record { before = stands; next = next.0; is_over = over; from = from; to = lt; in_run = in_run }, omega arith)
       | inr ge ↦
           let done : BlockIsOver v n = record { before = stands; next = next.0; is_over = over; in_run = omega (arith, ge, in_run) } in
           let more = on v n is done in
           let same : more.next ≡ next.0 = omega (arith, ints, block_ends v n more.next stands.hull stands.is_hull more.is_over, next.1.behind) in
           let grows : stands.next < next.0 = omega (arith, ints, later, next.1.behind) in
-          reach_from on v t fuel (suc n) more is in_run (omega (arith, same, ge)) (omega (arith, same, grows, short))
+          let found = reach_from on v t fuel (suc n) more is in_run (omega (arith, same, ge)) (omega (arith, same, grows, short)) in
+          let above = found.2 in
+          (found.0, found.1, omega (arith, above))
     ]
+
+-- each time behind a block lies in that of a later cycle
+pub later_block : StandsOn → (v : View) (n t : ℕ) (stands : Stands v n) → IsView v → t ≤ v.until → stands.next ≤ t → (m : ℕ) × IsInBlock v m t × (n ≤ m)
+later_block on v n t stands is in_run from = reach_from on v t (t + 1) n stands is in_run from (omega arith)
 
 pub blocks_cover : StandsAtStart → StandsOn → BlocksCover
 blocks_cover start on v t is in_run =
     let first = start v is in
     let zero_next : first.next ≡ 0 = first.is_over in
-    reach_from on v t (t + 1) 0 first is in_run (omega (arith, zero_next)) (omega (arith, zero_next))
+    let found = reach_from on v t (t + 1) 0 first is in_run (omega (arith, zero_next)) (omega (arith, zero_next)) in
+    (found.0, found.1)

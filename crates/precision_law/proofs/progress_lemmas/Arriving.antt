@@ -13,7 +13,7 @@ use Rattle.precision_law.proofs.words.Plans.{DeviceId, IsBeta, amount, beta_at, 
 use Rattle.precision_law.proofs.words.Plans.{shape_rules}
 use Rattle.precision_law.proofs.words.Runs.{Happening, happenings, same_some, state_after, up_to}
 use Rattle.precision_law.proofs.words.Std.{◌*◌, ◌+ℤ◌, ◌+◌, ◌<ℤ◌, ◌<◌, ◌∙◌, ◌≡◌, ◌≤ℤ◌, ◌≤◌, List, ap, arith, by_lt_z}
-use Rattle.precision_law.proofs.words.Std.{inl, ints, pos, refl, subst, suc, sym, true, zero, ℕ}
+use Rattle.precision_law.proofs.words.Std.{inl, ints, pos, refl, subst, suc, sym, true, zero, ℕ, ℤ}
 use Rattle.precision_law.specs.Progress.{EndSystemsComeIn, EndSystemsComeInSoon, coming_time}
 
 -- what is known of blocks
@@ -26,11 +26,11 @@ pub record AreBlocksKnown : Type 0 where
   pub on : StandsOn
 
 -- how long a device takes to come in
-abbrev coming : Sizes → ℕ
+abbrev pub coming : Sizes → ℕ
 coming s = 2 * s.cycle + s.correction + s.spread + 3 * s.reach
 
 -- a hull lies before the end of its block
-hull_before : (v : View) (n : ℕ) (stands : Stands v n) → IsView v → stands.hull.greatest ≤ℤ pos stands.next
+pub hull_before : (v : View) (n : ℕ) (stands : Stands v n) → IsView v → stands.hull.greatest ≤ℤ pos stands.next
 hull_before v zero stands is =
     let same : start_hull v.sizes ≡ stands.hull = same_some (hull_of v zero)
     (start_hull v.sizes) stands.hull refl stands.is_hull in
@@ -38,36 +38,39 @@ hull_before v zero stands is =
 hull_before v (suc n) stands is = omega (arith, ints, begins_late v n stands is)
 
 -- a time in a block lies before the dispatches of the cycle after the block's
-later_hull : (s : Sizes) (t next : ℕ) (before hull later : Hull) → HaveRoom s → IsNarrow s before
+pub later_hull : (s : Sizes) (t next : ℕ) (before hull later : Hull) → HaveRoom s → IsNarrow s before
     → Follows s before hull → Follows s hull later
     → pos next ≡ (last_correction s before +ℤ pos 1) → t < next → pos (t + 1) ≤ℤ (later.least +ℤ pos 1)
 later_hull s t next before hull later space narrow follows more ends to =
     omega (arith, ints, to, ends, corrections_come_first s before hull space narrow follows, more.least)
 
+pub less_at_most : (a b : ℤ) → a <ℤ b → a ≤ℤ b
+less_at_most a b lt = omega (arith, ints, lt)
+
 -- where a cycle's dispatches begin before the time, the block of the next cycle is over in time
-later_soon : (s : Sizes) (t until : ℕ) (hull later : Hull) → IsNarrow s hull → Follows s hull later
-    → hull.least <ℤ pos t → t + coming s ≤ until
+pub later_soon : (s : Sizes) (t until : ℕ) (hull later : Hull) → IsNarrow s hull → Follows s hull later
+    → hull.least ≤ℤ pos t → t + coming s ≤ until
     → last_correction s later ≤ℤ pos until
 later_soon s t until hull later narrow follows early long = omega (arith, ints, follows.most, narrow, early, long)
+
+-- behind a block that is over the next one is, where its last correction lies in the run
+abbrev pub next_over : (known : AreBlocksKnown) (v : View) (is : IsView v) (n : ℕ) (over : BlockIsOver v n)
+    → last_correction v.sizes (known.on v n is over).hull ≤ℤ pos v.until → BlockIsOver v (suc n)
+next_over known v is n over short =
+    let stands = known.on v n is over in
+    let next = behind_of (last_correction v.sizes stands.hull) stands.next (later_end v (suc n) stands is) in
+    record {
+      before = stands;
+      next = next.0;
+      is_over = (stands.hull, stands.is_hull, next.1.behind);
+      in_run = omega (arith, ints, next.1.behind, short);
+    }
 
 module _ (known : AreBlocksKnown) (v : View) (device : DeviceId) (is : IsView v) (end : IsGoodEnd v device) where
   never : KeepsFrom v device 0
   never h state cause why i late body clique =
       no_clique known.cover known.goes known.correct v h device state cause why is i body clique
       (λ good. (end.good, inl end))
-
-  -- behind a block that is over the next one is, where its last correction lies in the run
-  abbrev next_over : (n : ℕ) (over : BlockIsOver v n)
-      → last_correction v.sizes (known.on v n is over).hull ≤ℤ pos v.until → BlockIsOver v (suc n)
-  next_over n over short =
-      let stands = known.on v n is over in
-      let next = behind_of (last_correction v.sizes stands.hull) stands.next (later_end v (suc n) stands is) in
-      record {
-        before = stands;
-        next = next.0;
-        is_over = (stands.hull, stands.is_hull, next.1.behind);
-        in_run = omega (arith, ints, next.1.behind, short);
-      }
 
   -- what is on when the dispatches of a block's cycle begin is synchronised when the next block is over
   in_two_blocks : (n x : ℕ) (over : BlockIsOver v n) (next : BlockIsOver v (suc n)) → IsOn (state_left v device x)
@@ -106,7 +109,7 @@ module _ (known : AreBlocksKnown) (v : View) (device : DeviceId) (is : IsView v)
       let follows = follows_before v n before.hull stands.hull is before.is_hull stands.is_hull in
       let short : last_correction v.sizes stands.hull ≤ℤ pos v.until =
       omega (arith, ints, follows.most, begun, block.from, long) in
-      let next = next_over n over short in
+      let next = next_over known v is n over short in
       by_lt_z {P = IsSynchronised (state_left v device (v.until + 1))} stands.hull.least (pos t)
       (λ late.
       let later = known.on v (suc n) is next in
@@ -114,8 +117,8 @@ module _ (known : AreBlocksKnown) (v : View) (device : DeviceId) (is : IsView v)
       let early = later_hull v.sizes t block.next before.hull stands.hull later.hull space
       (before_narrow v n before) follows follows_next ends block.to in
       let low = later_soon v.sizes t v.until stands.hull later.hull
-      (before_narrow v (suc n) stands) follows_next late long in
-      in_two_blocks (suc n) (t + 1) next (next_over (suc n) next low) on early)
+      (before_narrow v (suc n) stands) follows_next (less_at_most stands.hull.least (pos t) late) long in
+      in_two_blocks (suc n) (t + 1) next (next_over known v is (suc n) next low) on early)
       (λ soon. in_two_blocks n (t + 1) over next on (omega (arith, ints, soon)))
 
 pub end_systems_come_in_soon : OneChannelIsSound → AreBlocksKnown → EndSystemsComeInSoon

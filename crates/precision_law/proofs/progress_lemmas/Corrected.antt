@@ -80,7 +80,8 @@ module _ (v : View) (device : DeviceId) (is : IsView v) (z : ℕ) (never : Keeps
         | inl joining ↦
             let m = first_corrected h cycle by adjustment i body joining in
             let timed_m = subst (λ (x : ℕ). has_time (state_left v device x) ≡ true) (sym m.at) timed in
-            becomes_synchronised v device is z never m.g y (omega (arith, m.at, late)) m.there timed_m (omega (arith, m.at, to)) m.makes
+            becomes_synchronised v device is z never m.g y (omega (arith, m.at, late)) m.there timed_m
+            (omega (arith, m.at, to)) m.makes
         | inr synchronised ↦ stays_synchronised v device is z never t y late (omega (arith, to)) synchronised
       ]
 
@@ -97,7 +98,8 @@ module _ (v : View) (device : DeviceId) (is : IsView v) (z : ℕ) (never : Keeps
       corrected_then h c.cycle c.by c.adjustment y (omega (arith, soon, from)) at.there c.is at.early
 
   -- a device that has the common time when a block begins is synchronised when it is over
-  pub synchronised_by : PointsHaveCome → (n : ℕ) (over : BlockIsOver v n) → z ≤ over.before.next → HasTimeAt v device over.before.next
+  pub synchronised_by : PointsHaveCome → (n : ℕ) (over : BlockIsOver v n) → z ≤ over.before.next
+      → HasTimeAt v device over.before.next
       → IsSynchronised (state_left v device over.next)
   synchronised_by come n over soon has =
       let x = over.before.next in

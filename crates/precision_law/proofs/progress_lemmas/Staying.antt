@@ -10,8 +10,8 @@ use Rattle.precision_law.proofs.words.Plans.{DeviceId, Integrating, State, Synch
 use Rattle.precision_law.proofs.words.Runs.{ChangesState, Happening, IsCaused, IsIn, NoteBody, Why, earlier, founded_at}
 use Rattle.precision_law.proofs.words.Runs.{in_left, is_joined_by, is_off, is_turned_on_at, numbered_in, state_after}
 use Rattle.precision_law.proofs.words.Runs.{state_with, time_of}
-use Rattle.precision_law.proofs.words.Std.{if◌then◌else◌, ◌<◌, ◌∙◌, ◌∷◌, ◌≡◌, ◌≤◌, Bool, List, ap, arith, both_ways, false}
-use Rattle.precision_law.proofs.words.Std.{false_from_ne_true, refl, subst, sym, true, ℕ}
+use Rattle.precision_law.proofs.words.Std.{if◌then◌else◌, ◌<◌, ◌∙◌, ◌∷◌, ◌≡◌, ◌≤◌, Bool, List, ap, arith, both_ways}
+use Rattle.precision_law.proofs.words.Std.{false, false_from_ne_true, refl, subst, sym, true, ℕ}
 use Rattle.net_plan.specs.declared.event.What.TheVariants as events
 use Rattle.run_law.specs.declared.judgement.Why.TheVariants as whys
 use Rattle.run_law.specs.declared.note.NoteBody.TheVariants as notes
@@ -97,7 +97,8 @@ module _ (v : View) (device : DeviceId) (is : IsView v) where
     changes_timed h state cause whys.On i from c off = absurd (both_ways _ off (turned_then h state cause c))
     changes_timed h state cause whys.Frame i from c off = ap has_time c.changes.0
     changes_timed h state cause whys.Correction i from c off = ap has_time c.changes.0
-    changes_timed h state cause whys.SyncClique i from c off = absurd (never h state cause whys.SyncClique i from c.is tt)
+    changes_timed h state cause whys.SyncClique i from c off =
+        absurd (never h state cause whys.SyncClique i from c.is tt)
     changes_timed h state cause whys.AsyncClique i from c off =
         absurd (never h state cause whys.AsyncClique i from c.is tt)
 
@@ -105,12 +106,14 @@ module _ (v : View) (device : DeviceId) (is : IsView v) where
     timed_carry : (x y : ℕ) → z ≤ x → IsOn (state_left v device x) → AllCarry IsTimed v device x y
     timed_carry x y late on h i from to =
         let off = on_not_turned_on v device (time_of h) is (stays_on x (time_of h) from on) in
-        carries IsTimed v device h is i (λ told. refl) (λ state cause why c. changes_timed h state cause why i (omega (arith, late, from)) c off)
+        carries IsTimed v device h is i (λ told. refl) (λ state cause why c. changes_timed h state cause why i
+        (omega (arith, late, from)) c off)
 
     -- the common time stays
     pub time_stays_on : (x y : ℕ) → z ≤ x → x ≤ y → IsTimed (state_left v device x) → IsTimed (state_left v device y)
     time_stays_on x y late le timed =
-        carried_between IsTimed v device x y is le (timed_carry x y late (timed_not_off (state_left v device x) timed)) timed
+        carried_between IsTimed v device x y is le (timed_carry x y late (timed_not_off (state_left v device x) timed))
+        timed
 
     -- a frame that tells a device the time leaves it with the time
     pub told_has_time : (g : Happening) (x y : ℕ) → z ≤ x → IsIn g v.records → is_joined_by device g.note.body ≡ true
@@ -157,7 +160,8 @@ module _ (v : View) (device : DeviceId) (is : IsView v) where
         synchronised
 
     -- and is so behind a record that makes it so
-    pub becomes_synchronised : (g : Happening) (y : ℕ) → z ≤ time_of g → IsIn g v.records → IsTimed (state_left v device (time_of g))
+    pub becomes_synchronised : (g : Happening) (y : ℕ) → z ≤ time_of g → IsIn g v.records
+        → IsTimed (state_left v device (time_of g))
         → time_of g < y
         → ((old : State) → IsSynchronised (state_with device old g.note.body)) → IsSynchronised (state_left v device y)
     becomes_synchronised g y late i timed to brings =

@@ -7,15 +7,17 @@ use Rattle.precision_law.proofs.progress_lemmas.Staying.{IsOn, IsTimed, KeepsFro
 use Rattle.precision_law.proofs.progress_lemmas.Staying.{told_has_time}
 use Rattle.precision_law.proofs.trips.SoundUp.{sound_is_whole}
 use Rattle.precision_law.proofs.words.Blocks.{few_cycles}
-use Rattle.precision_law.proofs.words.Clocks.{any_in, before_of, before_place, earlier_before, has_before, room, within_run}
-use Rattle.precision_law.proofs.words.Laws.{BlockIsOver, BlocksGoSo, Hull, IsGood, IsGoodEnd, IsEmission, IsInBlock, IsView, IsWholeFrom, SendsOn}
-use Rattle.precision_law.proofs.words.Laws.{SoundMasterSends, View, has_time, hull_of, state_left}
-use Rattle.precision_law.proofs.words.Plans.{Channel, DeviceId, Integrating, IsDeviceOf, Joining, Members, Off, State, SyncPlan, count_of}
-use Rattle.precision_law.proofs.words.Plans.{device_at}
-use Rattle.precision_law.proofs.words.Runs.{Happening, Integrates, IsCaused, IsIn, founded_at, Judgement, earlier, has_joined_at}
-use Rattle.precision_law.proofs.words.Runs.{heard_as, in_left, is_cm, is_joined_by, is_off, last_cycle}
-use Rattle.precision_law.proofs.words.Runs.{observation_window, place_of, plan_of, state_after, state_at_hearing}
-use Rattle.precision_law.proofs.words.Runs.{state_before, time_of}
+use Rattle.precision_law.proofs.words.Clocks.{any_in, before_of, before_place, earlier_before, has_before, room}
+use Rattle.precision_law.proofs.words.Clocks.{within_run}
+use Rattle.precision_law.proofs.words.Laws.{BlockIsOver, BlocksGoSo, Hull, IsGood, IsGoodEnd, IsEmission, IsInBlock}
+use Rattle.precision_law.proofs.words.Laws.{IsView, IsWholeFrom, SendsOn, SoundMasterSends, View, has_time, hull_of}
+use Rattle.precision_law.proofs.words.Laws.{state_left}
+use Rattle.precision_law.proofs.words.Plans.{Channel, DeviceId, Integrating, IsDeviceOf, Joining, Members, Off, State}
+use Rattle.precision_law.proofs.words.Plans.{SyncPlan, count_of, device_at}
+use Rattle.precision_law.proofs.words.Runs.{Happening, Integrates, IsCaused, IsIn, founded_at, Judgement, earlier}
+use Rattle.precision_law.proofs.words.Runs.{has_joined_at, heard_as, in_left, is_cm, is_joined_by, is_off, last_cycle}
+use Rattle.precision_law.proofs.words.Runs.{observation_window, plan_of, state_after, state_at_hearing, state_before}
+use Rattle.precision_law.proofs.words.Runs.{time_of}
 use Rattle.precision_law.proofs.words.Std.{if◌then◌else◌, ◌&&◌, ◌+ℤ◌, ◌+◌, ◌<◌, ◌==◌, ◌∙◌, ◌∷◌, ◌≡◌, ◌≤ℤ◌, ◌≤◌, Bool}
 use Rattle.precision_law.proofs.words.Std.{List, Some, and_parts, ap, arith, eq-eqb, eqb-true, false, inl, ints, le-leb}
 use Rattle.precision_law.proofs.words.Std.{pos, refl, subst, suc, sym, true, ℕ, ℤ}
@@ -47,7 +49,8 @@ pub record TellsAt (v : View) (device : DeviceId) (q : ℕ) : Type 0 where
 
 module _ (v : View) (device : DeviceId) (is : IsView v) (z : ℕ) (never : KeepsFrom v device z) where
   -- it looks for the time where it hears, if no frame has told it the time by then
-  looks_then : (q : ℕ) (front : List Happening) → earlier q front ≡ earlier q v.records → has_joined_at front device q ≡ false
+  looks_then : (q : ℕ) (front : List Happening) → earlier q front ≡ earlier q v.records
+      → has_joined_at front device q ≡ false
       → IsOn (state_left v device q) → state_left v device q ≡ Integrating
       → state_at_hearing v.scenario front device q ≡ Integrating
   looks_then q front before none on looks =
@@ -58,7 +61,8 @@ module _ (v : View) (device : DeviceId) (is : IsView v) (z : ℕ) (never : Keeps
       ∙ ap (λ (hs : List Happening). state_after s hs device) before
       ∙ looks
 
-  module _ (x q y : ℕ) (late : z ≤ x) (on : IsOn (state_left v device x)) (from : x ≤ q) (to : q < y) (f : TellsAt v device q) where
+  module _ (x q y : ℕ) (late : z ≤ x) (on : IsOn (state_left v device x)) (from : x ≤ q) (to : q < y)
+      (f : TellsAt v device q) where
     -- where a frame has told it the time by then, it has it from then on
     told_before : has_joined_at f.front device q ≡ true → IsTimed (state_left v device y)
     told_before joined =
@@ -72,7 +76,8 @@ module _ (v : View) (device : DeviceId) (is : IsView v) (z : ℕ) (never : Keeps
     told_now : has_joined_at f.front device q ≡ false → IsOn (state_left v device q)
         → state_left v device q ≡ Integrating → IsTimed (state_left v device y)
     told_now none on_then looks =
-        told_has_time v device is z never f.h x y late f.there (f.tells (looks_then q f.front f.before none on_then looks)) on
+        told_has_time v device is z never f.h x y late f.there (f.tells
+        (looks_then q f.front f.before none on_then looks)) on
         (omega (arith, f.at, from)) (omega (arith, f.at, to))
 
     -- a device that is on when it hears such a frame has the common time behind it
@@ -92,7 +97,8 @@ module _ (v : View) (device : DeviceId) (is : IsView v) (z : ℕ) (never : Keeps
         ] refl
 
   -- what comes down to it is such a frame
-  comes_tells : (channel : Channel) (n : ℕ) (first : Happening) (members : Members) (c : ComesDown v channel n device first members)
+  comes_tells : (channel : Channel) (n : ℕ) (first : Happening) (members : Members)
+      (c : ComesDown v channel n device first members)
       → v.scenario.network.sync_threshold ≤ count_of members → suc n ≤ last_cycle → TellsAt v device c.q
   comes_tells channel n first members c enough few =
       let s = v.scenario in
@@ -108,9 +114,11 @@ module _ (v : View) (device : DeviceId) (is : IsView v) (z : ℕ) (never : Keeps
         at = c.ripe.time;
         tells = λ state.
             (let judged = integrates_by (plan_of s.network device) (observation_window s.network)
-            (state_at_hearing s c.place.front device c.q) _ c.point c.frame.cycle c.frame.members state enough_then few_then in
+            (state_at_hearing s c.place.front device c.q) _ c.point c.frame.cycle c.frame.members state enough_then
+            few_then in
             let body = c.ripe.is
-            ∙ ap (λ (j : Judgement). notes.Permanent device c.link c.arrival.note.number (record { 0 = c.point }) j) judged in
+            ∙ ap (λ (j : Judgement). notes.Permanent device c.link c.arrival.note.number (record { 0 = c.point }) j)
+            judged in
             ap (is_joined_by device) body ∙ eq-eqb device.0 device.0 refl);
       }
 
@@ -190,9 +198,11 @@ module _ (v : View) (device : DeviceId) (is : IsView v) (z : ℕ) (never : Keeps
       (sent_tells n so.first so.members e so.enough few)
 
   -- so it has on the sound channel, where it is an end system
-  pub has_time_by : SoundMasterSends → BlocksGoSo → (n : ℕ) (over : BlockIsOver v n) (x : ℕ) → z ≤ x → IsGoodEnd v device
+  pub has_time_by : SoundMasterSends → BlocksGoSo → (n : ℕ) (over : BlockIsOver v n) (x : ℕ) → z ≤ x
+      → IsGoodEnd v device
       → IsOn (state_left v device x)
-      → ((hull : Hull) → hull_of v (suc n) ≡ Some hull → pos x ≤ℤ (hull.least +ℤ pos 1)) → IsTimed (state_left v device over.next)
+      → ((hull : Hull) → hull_of v (suc n) ≡ Some hull → pos x ≤ℤ (hull.least +ℤ pos 1))
+      → IsTimed (state_left v device over.next)
   has_time_by sends goes n over x late end on early =
       let s = v.scenario in
       let last = last_of v n over is in

@@ -80,7 +80,7 @@ module _ (laws : FramesGoSo) (goes : BlocksGoSo) (v : View) (n t : ℕ) (block :
       good = laws.three v sound_sends.first sound_sends.cm (suc n) sound_sends.members is sound_sends.emission (many_of v.channel sound_sends);
     };
     before = (let soon = (in_time v.channel sound_sends).soon in
-    let lt = sooner v n t block device (time_of sound_sends.first + v.sizes.dmax + v.sizes.path) at soon in omega (arith, lt));
+        let lt = sooner v n t block device (time_of sound_sends.first + v.sizes.dmax + v.sizes.path) at soon in omega (arith, lt));
     three = many_of v.channel sound_sends;
   }
 

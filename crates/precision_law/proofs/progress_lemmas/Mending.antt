@@ -1,0 +1,228 @@
+-- Where no device is broken, a switch of a channel that is whole is synchronised when the second block is over whose
+-- cycle's dispatches begin behind that.
+use Rattle.net_plan.proofs.SameIds.{same_device}
+use Rattle.precision_law.proofs.block.Goings.{has_lost, old_point}
+use Rattle.precision_law.proofs.block.Onward.{hull_ordered, last_of}
+use Rattle.precision_law.proofs.emission.WholeMaster.{AreAllGood, IsFrameSent, leasts_grow, whole_master_sends}
+use Rattle.precision_law.proofs.law.Cover.{later_block}
+use Rattle.precision_law.proofs.progress_lemmas.Arriving.{AreBlocksKnown, coming, hull_before, later_soon, next_over}
+use Rattle.precision_law.proofs.progress_lemmas.Corrected.{synchronised_by}
+use Rattle.precision_law.proofs.progress_lemmas.Staying.{IsOn, IsSynchronised, IsTimed, KeepsFrom, stays_on}
+use Rattle.precision_law.proofs.progress_lemmas.Staying.{stays_synchronised}
+use Rattle.precision_law.proofs.progress_lemmas.Told.{has_time_itself, has_time_on}
+use Rattle.precision_law.proofs.verdict.FirmDevices.{corrects_on}
+use Rattle.precision_law.proofs.hearing.{GoodFrames.IsAtPoint, Timely.of_channel_is}
+use Rattle.precision_law.proofs.faults.Turned.{on_not_turned_on}
+use Rattle.precision_law.proofs.words.Blocks.{FramesGoSo, block_ends, later_end}
+use Rattle.precision_law.proofs.words.Clocks.{room, within_run}
+use Rattle.precision_law.proofs.words.Laws.{BlockIsOver, HasTimeAt, Hull, IsInBlock, IsView, IsWholeFrom, SendsOn}
+use Rattle.precision_law.proofs.words.Laws.{SendsSo, Stands, View, first_correction, has_time, hull_of, state_left}
+use Rattle.precision_law.proofs.words.Plans.{Channel, DeviceId, IsDeviceOf, IsSwitchOf}
+use Rattle.precision_law.proofs.words.Runs.{same_some, time_of}
+use Rattle.precision_law.proofs.words.Std.{◌+ℤ◌, ◌+◌, ◌≡◌, ◌≤ℤ◌, ◌≤◌, Some, ap, arith, cases_eq, inl, inr, ints, pos}
+use Rattle.precision_law.proofs.words.Std.{subst, suc, sym, true, ℕ, ℤ}
+use Rattle.precision_law.proofs.words.Blocks.{before_narrow, follows_before, up_to_is, view_of, view_with}
+use Rattle.precision_law.proofs.words.Clocks.{corrections_come_first}
+use Rattle.precision_law.proofs.words.Laws.{Follows, HaveRoom, IsNarrow, OneChannelIsSound, Sizes, last_correction}
+use Rattle.precision_law.proofs.words.Plans.{Device, Integrating, device_at, opened}
+use Rattle.precision_law.proofs.words.Runs.{Happening, happenings, is_off, state_after, up_to}
+use Rattle.precision_law.proofs.words.Std.{◌<ℤ◌, ◌<◌, ◌∙◌, if◌then◌else◌, Bool, List, by_lt_z}
+use Rattle.precision_law.specs.Mending.{MendedChannelsComeIn}
+
+-- ---- numbers
+
+-- two ends of one block are one
+one_end : (z : ℤ) (a b t x : ℕ) → pos a ≡ (z +ℤ pos 1) → pos b ≡ (z +ℤ pos 1) → t < b → x ≤ t + 1 → x ≤ a
+one_end z a b t x one other lt le = omega (arith, ints, one, other, lt, le)
+
+-- the dispatches of the cycle after the block's come behind the block
+behind_block : (s : Sizes) (before hull later : Hull) (next : ℕ) → HaveRoom s → IsNarrow s before
+    → Follows s before hull → Follows s hull later
+    → pos next ≡ (last_correction s before +ℤ pos 1) → pos next ≤ℤ later.least
+behind_block s before hull later next space narrow follows more ends =
+    omega (arith, ints, corrections_come_first s before hull space narrow follows, more.least, ends)
+
+le_self : (n : ℕ) → n ≤ n
+le_self n = omega arith
+
+through : (x y : ℕ) (z : ℤ) → x ≤ y → pos y ≤ℤ z → pos x ≤ℤ z
+through x y z le at = omega (arith, ints, le, at)
+
+one_above : (a z : ℤ) → a ≤ℤ z → a ≤ℤ (z +ℤ pos 1)
+one_above a z le = omega (arith, ints, le)
+
+next_above : (t x : ℕ) (z : ℤ) → pos t <ℤ z → x ≤ t + 1 → pos x ≤ℤ z
+next_above t x z lt le = omega (arith, ints, lt, le)
+
+-- ---- channels
+
+-- what is whole from a time on is so from each later one on
+later_whole : (v : View) (channel : Channel) (x u : ℕ) → x ≤ u → IsWholeFrom v channel x → IsWholeFrom v channel u
+later_whole v channel x u le whole = record {
+  ways = λ link way t of_channel from in_run. whole.ways link way t of_channel (omega (arith, le, from)) in_run;
+  on = λ switch t of_channel from. whole.on switch t of_channel (omega (arith, le, from));
+}
+
+module _ (laws : FramesGoSo) (known : AreBlocksKnown) (v : View) (channel : Channel) (device : DeviceId) (is : IsView v)
+    (all : AreAllGood v)
+    (switch : IsSwitchOf v.scenario.network channel device) (member : IsDeviceOf v.scenario.network channel device)
+    (x : ℕ)
+    (whole : IsWholeFrom v channel x) where
+  -- in each block behind one whose cycle's dispatches begin from x on the compression master sends
+  sends_in : (k m t : ℕ) (block : IsInBlock v m t) (first : Hull) → k ≤ m → hull_of v (suc k) ≡ Some first
+      → pos x ≤ℤ first.least
+      → (first_correction v.sizes block.before.hull +ℤ pos v.sizes.reach) ≤ℤ pos t → IsFrameSent v channel m
+  sends_in k m t block first le is_first early late =
+      whole_master_sends known.goes v channel m t block is all (λ u inside.
+      (let grows = leasts_grow v (suc k) (suc m) first inside.hull is (omega (arith, le)) is_first inside.is in
+      later_whole v channel x u (omega (arith, ints, grows, early, inside.least)) whole)) late
+
+  -- so from then on no correction point takes the common time from its devices
+  keeps_from : (k : ℕ) (stands : Stands v k) (first : Hull) → hull_of v (suc k) ≡ Some first → pos x ≤ℤ first.least
+      → KeepsFrom v device stands.next
+  keeps_from k stands first is_first early h state cause why i from body clique =
+      let w = time_of h in
+      let lost = has_lost v device h state cause why is (all device) i body clique in
+      let found = later_block known.on v k w stands is (within_run v is h i) from in
+      let m = found.0 in
+      let block = found.1 in
+      let point = old_point v m _ w _ device lost.cycle lost.verdict (known.goes v m w block is) lost.point in
+      let late = point.1.not_early in
+      let sent = sends_in k m w block first found.2 is_first early late in
+      let sound = known.sends v m w block is late in
+      let sound_so = subst (λ (z : Hull). SendsSo v m z) (same_some (hull_of v (suc m)) sound.0 sent.0 sound.1 sent.1)
+      sound.2 in
+      let at : IsAtPoint v m w block device = record { has = lost.point.has; old = point.0; late = late } in
+      let comes = lost.point.comes in
+      let so = sent.2 in
+      let inside : pos x ≤ℤ pos (time_of so.first) =
+      (let grows = leasts_grow v (suc k) (suc m) first sent.0 is (omega (arith, found.2)) is_first sent.1 in
+      omega (arith, ints, grows, early, so.near.least, room v is)) in
+      let corrected = corrects_on laws known.goes v m w block is device at sent.0 sent.1 sound_so channel member so
+      (later_whole v channel x (time_of so.first) (omega (arith, ints, inside)) whole) comes.front comes.split
+      comes.point.summary comes.point.heard
+      lost.verdict comes.point.comes in
+      lost.not_corrected corrected.0 corrected.1
+
+  -- what is on when the dispatches of a block's cycle begin has the time when the block is over
+  timed_when_over : (k y : ℕ) (over : BlockIsOver v k) (first : Hull) → hull_of v (suc k) ≡ Some first
+      → pos x ≤ℤ first.least
+      → over.before.next ≤ y → pos y ≤ℤ (first.least +ℤ pos 1) → IsOn (state_left v device y)
+      → IsTimed (state_left v device over.next)
+  timed_when_over k y over first is_first early from soon on =
+      let last = last_of v k over is in
+      let block : IsInBlock v k last.last = record {
+        before = over.before;
+        next = over.next;
+        is_over = over.is_over;
+        from = last.from;
+        to = omega (arith, last.is_last);
+        in_run = omega (arith, last.is_last, over.in_run);
+      } in
+      let ordered = hull_ordered v k over.before is in
+      let sent = sends_in k k last.last block first (omega arith) is_first early
+      (omega (arith, ints, last.at, ordered)) in
+      let so = subst (λ (z : Hull). SendsOn v channel k z) (same_some (hull_of v (suc k)) sent.0 first sent.1 is_first)
+      sent.2 in
+      let never = keeps_from k over.before first is_first early in
+      let inside : x ≤ time_of so.first = omega (arith, ints, early, so.near.least, room v is) in
+      elim (cases_eq device.0 so.cm.0) [
+        | inl same ↦
+            has_time_itself v device is over.before.next never channel k over y first from is_first so
+            (same_device so.cm device (sym same)) on soon
+        | inr differs ↦
+            has_time_on v device is over.before.next never known.goes channel k over y first from (all device) member
+            is_first so (λ d. differs (ap (λ (e : DeviceId). e.0) d))
+            (later_whole v channel x (time_of so.first) inside whole) on soon
+      ]
+
+  -- and is synchronised when the next one is
+  in_two : (k y : ℕ) (over : BlockIsOver v k) (next : BlockIsOver v (suc k)) → pos x ≤ℤ next.before.hull.least
+      → over.before.next ≤ y
+      → pos y ≤ℤ (next.before.hull.least +ℤ pos 1) → IsOn (state_left v device y)
+      → IsSynchronised (state_left v device (v.until + 1))
+  in_two k y over next early from soon on =
+      let first = next.before.hull in
+      let hull = over.before.hull in
+      let timed = timed_when_over k y over first next.before.is_hull early from soon on in
+      let one = block_ends v k over.next hull over.before.is_hull over.is_over in
+      let other = block_ends v k next.before.next hull over.before.is_hull next.before.is_over in
+      let later = later_end v k over.before is in
+      let same : over.next ≡ next.before.next = omega (arith, ints, one, other) in
+      let z = over.before.next in
+      let never = keeps_from k over.before first next.before.is_hull early in
+      let behind : z ≤ next.before.next = omega (arith, ints, later, one, same) in
+      let has : HasTimeAt v device next.before.next =
+      record { good = all device; timed = subst (λ (w : ℕ). has_time (state_left v device w) ≡ true) same timed } in
+      let ends = block_ends v (suc k) next.next first next.before.is_hull next.is_over in
+      let over_later = later_end v (suc k) next.before is in
+      stays_synchronised v device is z never next.next (v.until + 1)
+      (omega (arith, ints, ends, over_later, behind)) next.in_run
+      (synchronised_by v device is z never known.come (suc k) next behind has)
+
+  -- so a switch that is on comes in
+  comes : (t : ℕ) → t < x → x ≤ t + 1 → IsOn (state_left v device x) → t + coming v.sizes ≤ v.until
+      → IsSynchronised (state_left v device (v.until + 1))
+  comes t lt le on long =
+      let found = known.cover v t is (omega (arith, long)) in
+      let n = found.0 in
+      let block = found.1 in
+      let before = block.before in
+      let space = room v is in
+      let ends = block_ends v n block.next before.hull before.is_hull block.is_over in
+      let begun = hull_before v n before is in
+      let over : BlockIsOver v n = record {
+        before = before;
+        next = block.next;
+        is_over = block.is_over;
+        in_run = omega (arith, ints, ends, begun, block.from, long);
+      } in
+      let stands = known.on v n is over in
+      let follows = follows_before v n before.hull stands.hull is before.is_hull stands.is_hull in
+      let short : last_correction v.sizes stands.hull ≤ℤ pos v.until =
+      omega (arith, ints, follows.most, begun, block.from, long) in
+      let next = next_over known v is n over short in
+      by_lt_z {P = IsSynchronised (state_left v device (v.until + 1))} (pos t) stands.hull.least
+      (λ early.
+      let high = next_above t x stands.hull.least early le in
+      in_two n x over next high (omega (arith, block.from, lt)) (one_above (pos x) stands.hull.least high) on)
+      (λ late.
+      let later = known.on v (suc n) is next in
+      let follows_next = follows_before v (suc n) stands.hull later.hull is stands.is_hull later.is_hull in
+      let low = later_soon v.sizes t v.until stands.hull later.hull
+      (before_narrow v (suc n) stands) follows_next late long in
+      let stood = block_ends v n stands.next before.hull before.is_hull stands.is_over in
+      let from = one_end (last_correction v.sizes before.hull) stands.next block.next t x stood ends block.to le in
+      let high = behind_block v.sizes before.hull stands.hull later.hull stands.next space
+      (before_narrow v n before) follows follows_next stood in
+      in_two (suc n) stands.next next (next_over known v is (suc n) next low)
+      (through x stands.next later.hull.least from high) (le_self stands.next)
+      (one_above (pos stands.next) later.hull.least high) (stays_on v device is x stands.next from on))
+
+pub mended_channels_come_in : OneChannelIsSound → FramesGoSo → AreBlocksKnown → MendedChannelsComeIn
+mended_channels_come_in sound laws known s mark ns until beta up is_beta channel switch t u of_channel mended good long
+    le =
+    let hs = happenings s.network ns in
+    let sure = sound s u up.lawful in
+    let at = view_with s mark ns until u sure.0 beta up is_beta le sure.1 in
+    let is = at.is in
+    let v = view_of s u sure.0 beta at.cut.front in
+    let left : (d : DeviceId) (w : ℕ) → w ≤ u → state_after s (up_to w hs) d ≡ state_left v d (w + 1) = λ d w to.
+    ap (λ (gs : List Happening). state_after s gs d) (up_to_is w hs ∙ sym (at.cut.early (w + 1) (omega (arith, to)))) in
+    let on : (d : DeviceId) → IsSwitchOf s.network channel d → IsOn (state_left v d (t + 1)) = λ d has.
+    subst IsOn (left d t (omega (arith, long))) (mended.on d has) in
+    let whole : IsWholeFrom v channel (t + 1) = record {
+      ways = λ link way w has from to. mended.ways link way w has (omega (arith, from)) to;
+      on = λ d w has from.
+          (let on_w = stays_on v d is (t + 1) w from (on d has) in
+          ap (λ (b : Bool). is_off (if b then Integrating else state_left v d w)) (on_not_turned_on v d w is on_w)
+          ∙ on_w);
+    } in
+    let d = opened (λ (x : Device). x.channel ≡ Some channel) (device_at s.network switch) of_channel in
+    let member : IsDeviceOf s.network channel switch = of_channel_is v channel switch d.0 d.1 (inr d.2) in
+    record {
+      correct = good switch;
+      synchronised = left switch u (omega arith)
+          ∙ comes laws known v channel switch is good of_channel member (t + 1) whole t (omega arith) (omega arith)
+          (on switch of_channel) long;
+    }
