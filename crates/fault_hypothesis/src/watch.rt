@@ -100,8 +100,8 @@ impl<'a> Watch<'a> {
         Ok(())
     }
 
-    // Keeps of the event what the conditions ask for.
-    fn keep(&mut self, event: &Event)
+    /// Admits an event that is within the hypothesis, given those admitted before. It is not judged again.
+    pub fn keep(&mut self, event: &Event)
         ensures { (network : Network) (admitted : List EventValue)
             → Watches network self.old admitted → IsOfNetwork network event.now.what
             → IsWithinHypothesis network admitted event.now

@@ -1,6 +1,6 @@
-ghost use Rattle.std.specs.Prelude.{◌<◌, ◌^◌, ◌≡◌, ◌≤ℤ◌, ◌≤◌, IfSome, List, MatchOption, Some, pos};
+ghost use Rattle.std.specs.Prelude.{◌<◌, ◌^◌, ◌≡◌, ◌≤ℤ◌, ◌≤◌, List, Some, pos, true};
 ghost use Rattle.fault_hypothesis.specs.{Watching.Watches, storm.Choosing.{hold_of, rate_of, wire_of}};
-ghost use Rattle.fault_hypothesis.specs.storm.{Events.{IsDrawn, IsEventOf, substitute}, Known.KnowsBroken};
+ghost use Rattle.fault_hypothesis.specs.storm.{Events.{IsDrawn, IsEventOf}, Known.KnowsBroken, Striking.Strikes};
 ghost use Rattle.net_plan.specs.{Belonging.{HasLink, IsOfNetwork}, declared.event.Event.{Event as EventValue}};
 ghost use Rattle.net_plan.specs.Places.{link_at};
 ghost use Rattle.{net_plan.specs.Ranges.{IsInRange, IsWithin}, schedule_tables.specs.Rules.KeepsRules};
@@ -46,63 +46,99 @@ fn link_at(network: &Network, link: LinkId) -> &Link
     &network.link.as_slice()[link.0 as usize]
 }
 
-// What befalls the network by the words of a step. It is None where the network has none of what
-// is chosen, which no accepted network comes to.
-fn drawn(network: &Network, broken: Option<DeviceId>, time: Units, draw: Draw) -> Option<What>
+// Writes what befalls the network by the words of a step over `what`. It is false where the network has none of what is
+// chosen, which no accepted network comes to.
+fn draw_in(
+    network: &Network,
+    broken: Option<DeviceId>,
+    time: Units,
+    draw: Draw,
+    what: &mut What,
+) -> bool
     requires range { IsInRange network.now }
     requires rules { KeepsRules network.now }
     requires early { pos 0 ≤ℤ time.0 }
     requires late { time.0 ≤ℤ pos (2 ^ 60) }
     ensures value { (before : List EventValue) → KnowsBroken network.now before broken
-        → MatchOption result ⊥ (IsDrawn network.now before time draw) }
-    ensures of_network { IfSome result (IsOfNetwork network.now) }
-    ensures range { IfSome result IsWhatInRange }
+        → (result ≡ true) × IsDrawn network.now before time draw what.new }
+    ensures of_network { result ≡ true → IsOfNetwork network.now what.new }
+    ensures range { result ≡ true → IsWhatInRange what.new }
 {
     let (device, link) = (draw.device(network), draw.link(network));
     let found = link_at(network, link);
     match draw.choice() {
-        Choice::Rate => Some(What::Rate(device, rate(network, draw))),
-        Choice::Wire => Some(What::Wire(link, draw.way(), wire(found, draw))),
-        Choice::Hold => Some(What::Hold(link, draw.way(), hold(found, draw))),
-        Choice::Cut => Some(What::Cut(link, draw.way())),
-        Choice::Heal => Some(What::Heal(link, draw.way())),
-        Choice::On => Some(What::On(device)),
-        Choice::Strike => match broken {
-            None => Some(What::Break(last_master(network)?)),
-            Some(broken) => forged_send(network, broken, time, draw),
+        Choice::Rate => *what = What::Rate(device, rate(network, draw)),
+        Choice::Wire => *what = What::Wire(link, draw.way(), wire(found, draw)),
+        Choice::Hold => *what = What::Hold(link, draw.way(), hold(found, draw)),
+        Choice::Cut => *what = What::Cut(link, draw.way()),
+        Choice::Heal => *what = What::Heal(link, draw.way()),
+        Choice::On => *what = What::On(device),
+        Choice::Strike => return strike_in(network, broken, time, draw, what),
+    }
+    true
+}
+
+// The same where a strike is chosen: the last master breaks, or the broken one sends a forged frame.
+#[inline(never)]
+fn strike_in(
+    network: &Network,
+    broken: Option<DeviceId>,
+    time: Units,
+    draw: Draw,
+    what: &mut What,
+) -> bool
+    requires range { IsInRange network.now }
+    requires rules { KeepsRules network.now }
+    requires early { pos 0 ≤ℤ time.0 }
+    requires late { time.0 ≤ℤ pos (2 ^ 60) }
+    ensures value { (before : List EventValue) → KnowsBroken network.now before broken
+        → (result ≡ true) × Strikes network.now before time draw what.new }
+    ensures of_network { result ≡ true → IsOfNetwork network.now what.new }
+    ensures range { result ≡ true → IsWhatInRange what.new }
+{
+    match broken {
+        None => match last_master(network) {
+            Some(master) => {
+                *what = What::Break(master);
+                true
+            }
+            None => false,
+        },
+        Some(broken) => match forged_send(network, broken, time, draw) {
+            Some(sent) => {
+                *what = sent;
+                true
+            }
+            None => false,
         },
     }
 }
 
-// What stands for an event that the hypothesis refuses: the rate of the first device is set to 0.
-fn substitute(time: Units) -> Event
-    ensures { result ≡ record { time = time; what = substitute } }
-{
-    Event {
-        time,
-        what: What::Rate(DeviceId(0), Ppb(0)),
-    }
-}
-
-/// The event at the time by the words of a step: what is drawn, where that is within the
-/// hypothesis, and otherwise what stands for it.
-pub(crate) fn chosen_event(network: &Network, watch: &Watch<'_>, time: Units, draw: Draw) -> Event
+/// Writes the event at the time by the words of a step over `event`: what is drawn, where that is within the hypothesis,
+/// and otherwise what stands for it, which sets the rate of the first device to 0.
+pub(crate) fn choose_event(
+    network: &Network,
+    watch: &Watch<'_>,
+    time: Units,
+    draw: Draw,
+    event: &mut Event,
+)
     requires range { IsInRange network.now }
     requires rules { KeepsRules network.now }
     requires early { pos 0 ≤ℤ time.0 }
     requires late { time.0 ≤ℤ pos (2 ^ 60) }
     ensures value { (before : List EventValue) → Watches network.now watch.now before
-        → IsEventOf network.now before time draw result }
-    ensures time { result.time ≡ time }
-    ensures of_network { IsOfNetwork network.now result.what }
-    ensures range { IsEventInRange result }
+        → IsEventOf network.now before time draw event.new }
+    ensures time { event.new.time ≡ time }
+    ensures of_network { IsOfNetwork network.now event.new.what }
+    ensures range { IsEventInRange event.new }
 {
-    let Some(what) = drawn(network, watch.broken(), time, draw) else {
-        return substitute(time);
-    };
-    let event = Event { time, what };
-    match watch.judge(&event) {
-        Ok(()) => event,
-        Err(_) => substitute(time),
+    event.time = time;
+    if draw_in(network, watch.broken(), time, draw, &mut event.what) {
+        match watch.judge(event) {
+            Ok(()) => return,
+            Err(_) => (),
+        }
     }
+    event.what = What::Rate(DeviceId(0), Ppb(0));
 }

@@ -1,11 +1,11 @@
-ghost use Rattle.std.specs.Prelude.{◌*◌, ◌+◌, ◌^◌, ◌≡◌, ◌≤ℤ◌, ◌≤◌, IfNone, IfSome, List, MatchOption, pos};
+ghost use Rattle.std.specs.Prelude.{◌*◌, ◌+◌, ◌^◌, ◌≡◌, ◌≤ℤ◌, ◌≤◌, List, MatchBool, false, pos, true};
 ghost use Rattle.fault_hypothesis.specs.{Watching.Watches, storm.Events.{AreNoLater, IsStormEvent, time_of}};
 ghost use Rattle.net_plan.specs.{Belonging.IsOfNetwork, Ranges.IsInRange, declared.event.Event.{Event as EventValue}};
 ghost use Rattle.{run_law.specs.scenario.Hypothesis.IsWithinHypothesis, trace_text.specs.Ranges.IsEventInRange};
 ghost use Rattle.tte_units.specs.Amount.{amount};
 
 use crate::Watch;
-use crate::storm::chosen::chosen_event;
+use crate::storm::chosen::choose_event;
 use crate::storm::words::Words;
 use net_plan::{Event, Network, What};
 use schedule_tables::Accepted;
@@ -49,41 +49,40 @@ impl Storm {
         }
     }
 
-    /// The next event, given those that the watch admitted. It is None exactly after the end.
+    /// Writes the next event over `event`, given those that the watch admitted, and answers whether there is one. There
+    /// is none exactly after the end, and then nothing is written.
     ///
     /// The watch is one over this accepted network, and the last event that it admitted is no later
     /// than the event to come. Where it admits each event of the storm and no others, these are the
     /// events of the storm.
-    pub fn next_event(&mut self, accepted: &Accepted, watch: &Watch<'_>) -> Option<Event>
-        ensures event { (admitted : List EventValue) → Watches accepted.now watch.now admitted
-            → IfSome result (IsStormEvent accepted.now self.old.seed self.old.cycles admitted self.old.given) }
-        ensures within { (admitted : List EventValue) → Watches accepted.now watch.now admitted
+    pub fn next_event(&mut self, accepted: &Accepted, watch: &Watch<'_>, event: &mut Event) -> bool
+        ensures event { (admitted : List EventValue) → Watches accepted.now watch.now admitted → result ≡ true
+            → IsStormEvent accepted.now self.old.seed self.old.cycles admitted self.old.given event.new }
+        ensures within { (admitted : List EventValue) → Watches accepted.now watch.now admitted → result ≡ true
             → AreNoLater admitted (time_of accepted.now self.old.given)
-            → IfSome result (IsWithinHypothesis accepted.now admitted) }
-        ensures time { IfSome result (λ e. e.time ≡ time_of accepted.now self.old.given) }
-        ensures of_network { IfSome result (λ e. IsOfNetwork accepted.now e.what) }
-        ensures range { IfSome result IsEventInRange }
-        ensures end { MatchOption result (self.old.given ≡ 8 * self.old.cycles + 1)
-            (λ _. self.old.given ≤ 8 * self.old.cycles) }
-        ensures given { IfSome result (λ _. self.new ≡ record self.old { given = self.old.given + 1 }) }
-        ensures still { IfNone result (self.new ≡ self.old) }
+            → IsWithinHypothesis accepted.now admitted event.new }
+        ensures time { result ≡ true → event.new.time ≡ time_of accepted.now self.old.given }
+        ensures of_network { result ≡ true → IsOfNetwork accepted.now event.new.what }
+        ensures range { result ≡ true → IsEventInRange event.new }
+        ensures end { MatchBool result (self.old.given ≤ 8 * self.old.cycles)
+            (self.old.given ≡ 8 * self.old.cycles + 1) }
+        ensures given { result ≡ true → self.new ≡ record self.old { given = self.old.given + 1 } }
+        ensures still { result ≡ false → (self.new ≡ self.old) × (event.new ≡ event.old) }
     {
         let steps = STEPS * self.cycles;
         if self.given > steps {
-            return None;
+            return false;
         }
         let network = accepted.network();
         let time = step_time(network, self.given);
-        let event = if self.given == steps {
-            Event {
-                time,
-                what: What::End,
-            }
+        if self.given == steps {
+            event.time = time;
+            event.what = What::End;
         } else {
-            chosen_event(network, watch, time, self.words.draw())
-        };
+            choose_event(network, watch, time, self.words.draw(), event);
+        }
         self.given += 1;
-        Some(event)
+        true
     }
 }
 

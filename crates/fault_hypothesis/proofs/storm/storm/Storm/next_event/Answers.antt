@@ -12,7 +12,7 @@ is_of m n es t u d f x y over at draw is h =
     (subst (λ (k : Units). IsEventOf m es k f y) at (subst (λ (k : Draw). IsEventOf m es t k y) draw (subst (IsEventOf m es t d) (sym is) h)))
 
 pub returns-clause-event : goal.returns-clause-event
-returns-clause-event c = λ admitted w.
+returns-clause-event c = λ admitted w yes.
     let over = c.network-network.ensures.value in
     let few = c.if-self-steps.false in
     let at : c.step_time-time.result ≡ time_of c.args.accepted.now c.args.self.now.given = c.step_time-time.ensures.value
@@ -30,12 +30,12 @@ returns-clause-event c = λ admitted w.
           ∙ ap (λ (s : Progress). draw_at s.seed s.given) c.self.view_is in
           inl (
             omega (arith, few, b.if-self-steps-2.false, ap (λ (s : Progress). s.given) c.self.view_is, ap (λ (s : Progress). s.cycles) c.self.view_is),
-            is_of _ _ admitted _ _ _ _ _ _ over at draw b.event-is (b.chosen_event-event.ensures.value admitted known),
+            is_of _ _ admitted _ _ _ _ _ _ over at draw b.event-is (b.choose_event.ensures.value admitted known),
           )
     ]
 
 pub returns-clause-within : goal.returns-clause-within
-returns-clause-within c = λ admitted w no_later.
+returns-clause-within c = λ admitted w yes no_later.
     let over = c.network-network.ensures.value in
     let same : c.args.self.now.given ≡ c.self.inside.given = sym (ap (λ (s : Progress). s.given) c.self.view_is) in
     let at : time_of c.args.accepted.now c.args.self.now.given ≡ c.step_time-time.result = sym
@@ -51,7 +51,7 @@ returns-clause-within c = λ admitted w no_later.
           (end_within c.network-network.result.now admitted _ refl later c.step_time-time.ensures.in_run)
       | else-self-steps-2 b ↦
           subst (IsWithinHypothesis c.network-network.result.now admitted) (sym b.event-is)
-          (step_within c.network-network.result.now admitted c.step_time-time.result b.draw.result b.chosen_event-event.result
-          (b.chosen_event-event.ensures.value admitted (subst (λ (n : Network). Watches n c.args.watch.now admitted) (sym over) w)) later
+          (step_within c.network-network.result.now admitted c.step_time-time.result b.draw.result b.choose_event.new.event
+          (b.choose_event.ensures.value admitted (subst (λ (n : Network). Watches n c.args.watch.now admitted) (sym over) w)) later
           c.step_time-time.ensures.in_run)
     ])
