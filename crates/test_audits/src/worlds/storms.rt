@@ -1,14 +1,23 @@
 use fault_hypothesis::Watch;
 use fault_hypothesis::storm::{Draw, Storm, Words};
-use net_plan::Event;
+use net_plan::{Event, What};
 use schedule_tables::Accepted;
 use std::process::Abort;
 use std::test::Fail;
 use trace_text::{LineRefusal, line};
+use tte_units::Units;
 use worked_network::{accepted_of, edited, silent};
 
 fn event(accepted: &Accepted, text: &str) -> Result<Event, LineRefusal> {
     line(accepted.network(), text.as_bytes())
+}
+
+// What is written over.
+fn no_event() -> Event {
+    Event {
+        time: Units(0),
+        what: What::End,
+    }
 }
 
 /// Tries that the storm gives the event of this line next, and that it is admitted.
@@ -20,8 +29,9 @@ fn try_event(
     text: &str,
 ) -> Result<(), LineRefusal> {
     let wanted = event(accepted, text)?;
-    let given = storm.next_event(accepted, watch);
-    assert!(rt; given.as_ref() == Some(&wanted), "at {text}");
+    let mut given = no_event();
+    assert!(rt; storm.next_event(accepted, watch, &mut given), "at {text}");
+    assert!(rt; given == wanted, "at {text}");
     assert!(rt; watch.admit(&wanted) == Ok(()), "at {text}");
     Ok(())
 }
@@ -40,7 +50,9 @@ fn try_storm(
         try_event(rt, accepted, &mut watch, &mut storm, text)?;
     }
     for _ in 0..2 {
-        assert!(rt; storm.next_event(accepted, &watch).is_none());
+        let mut given = no_event();
+        assert!(rt; !storm.next_event(accepted, &watch, &mut given));
+        assert!(rt; given == no_event());
     }
     Ok(())
 }

@@ -1,6 +1,7 @@
 use crate::calls::ended;
 use fault_hypothesis::Watch;
 use fault_hypothesis::storm::Storm;
+use net_plan::{Event, What};
 use std::alloc::Global;
 use std::process::Abort;
 use std::test::Fail;
@@ -8,6 +9,7 @@ use trace_text::print;
 use tte_forms::accept;
 use tte_io::{MemorySink, MemorySource, SteadySource};
 use tte_run::{Status, tte};
+use tte_units::Units;
 use worked_network::{WORKED, words_of};
 
 const ROOM: u64 = 1 << 22;
@@ -50,10 +52,14 @@ fn trace_of(rt: &impl Abort, alloc: Global, seed: u64, cycles: u32) -> Result<Me
     };
     let mut storm = Storm::new(seed, cycles);
     let mut watch = Watch::new(&accepted);
+    let mut event = Event {
+        time: Units(0),
+        what: What::End,
+    };
     for _ in 0..8 * cycles + 1 {
-        let Some(event) = storm.next_event(&accepted, &watch) else {
+        if !storm.next_event(&accepted, &watch, &mut event) {
             break;
-        };
+        }
         let _admitted = watch.admit(&event);
         let _printed = print(accepted.network(), &event, &mut trace);
     }

@@ -3,10 +3,10 @@ use Rattle.fault_hypothesis.{proofs.storm_lemmas.Ends.end_is_behind, specs.{Watc
 use Rattle.{fault_hypothesis.proofs.storm_lemmas.Storms.{no_events, none_later, one_more}, tte_traces.specs.declared.storms.events.StormEvents.StormEvents}
 use Rattle.{fault_hypothesis.specs.storm.Progress.Progress, net_plan.specs.declared.network.Network.Network, std.proofs.lemmas.List.Quantifiers.Any-push}
 use Rattle.{net_plan.specs.{Belonging.IsOfNetwork, declared.event.Event.Event}, run_law.specs.declared.note.Note.Note, trace_text.specs.Ranges.IsEventInRange}
-use Rattle.{run_law.specs.scenario.Hypothesis.IsWithinHypothesis, tte_traces.specs.{declared.storms.counting.Seen.Seen, storms.Storms.{HasStormed, IsStormTo}}}
-use Rattle.std.proofs.Common.{◌*◌, ◌++◌, ◌+◌, ◌-◌, ◌<◌, ◌∙◌, ◌∷◌, ◌≡◌, ◌≤◌, Err, List, None, Ok, Result, [], ap, arith, inl, inr, length, length-append, subst}
-use Rattle.std.{proofs.Common.{sym, ℕ}, specs.Prelude.MatchResult}
-use Rattle.{tte_traces.{proofs.Taken.holds_a_time, specs.storms.Counts.IsSeen}, world_drive.specs.{Observing.Told, Sources.MayGive}}
+use Rattle.{run_law.specs.scenario.Hypothesis.IsWithinHypothesis, tte_traces.specs.{declared.storms.counting.Seen.Seen, storms.Storms.{GivesStorm, HasStormed, IsStormTo, left_of}}}
+use Rattle.std.proofs.Common.{◌*◌, ◌++◌, ◌+◌, ◌-◌, ◌<◌, ◌∙◌, ◌∷◌, ◌≡◌, ◌≤◌, Bool, List, None, Ok, Some, [], ap, arith, false, if◌then◌else◌, inl, inr, length}
+use Rattle.std.proofs.Common.{length-append, subst, sym, true, ℕ}
+use Rattle.{tte_traces.{proofs.Taken.holds_a_time, specs.storms.Counts.IsSeen}, world_drive.specs.{Observing.Told, Sources.{GivesNext, MayGive, given_in}}}
 use Rattle.world_drive.{proofs.exact_lemmas.Events.{last_or_none, parted}, specs.exact.{Records.{AreAllRecords, HaveEnded}, Worlds.{ExactWorld, StandsExact}}}
 use Rattle.net_plan.specs.declared.event.What.TheVariants as kinds
 
@@ -42,12 +42,6 @@ none_ended network seed cycles events each few (k, e, lt, at, is) =
     let long = ap (λ (l : List Event). length l) p.2 in
     let longer = length-append p.0 (e ∷ p.1) in
     omega (arith, last, few, long, longer)
-
--- what was judged, where it was not refused
-pub judged_well : {T E : Type 0} (r : Result T E) (P : T → Type 0) (Q : E → Type 0) (R : Type 0) → ((t : T) → P t → R) → ((e : E) → Q e → ⊥)
-    → MatchResult r P Q → R
-judged_well (Ok t) P Q R well never is = well t is
-judged_well (Err e) P Q R well never is = absurd (never e is)
 
 -- the event was drawn
 pub record IsDrawnFor (network : Network) (it : StormEvents) (event : Event) : Type 0 where
@@ -105,6 +99,16 @@ module _ (network : Network) (seed cycles : ℕ) (events : List Event) (it : Sto
       let same = ap (λ (p : Progress). p.cycles) storm in
       let more = ap (λ (p : Progress). p.given) storm in
       omega (arith, early, same, more)
+
+-- what answers whether there is an event gives it as a source of events
+pub gives_as_source : {K : Type 0} (answer : Bool) (event : Event) (network : Network) (first from : Unit {0}) (origin old new : StormEvents)
+    (events : List Event) (before after : K)
+    → GivesStorm network origin.storm.seed origin.storm.cycles events (if answer then Some event else None) old new
+    → GivesNext {B = Unit {0}} {S = Unit {0}} {K = K} {E = StormEvents} (λ n f o es b it. IsStormTo n o.storm.seed o.storm.cycles es it)
+    (λ n f o es b it. IsStormTo n o.storm.seed o.storm.cycles es it × (length es ≡ 8 * o.storm.cycles + 1)) (λ n f o es stop b it x y. ⊥) left_of network
+    first origin events (given_in (Ok answer) event) from old new before after
+gives_as_source true event network first from origin old new events before after gives = gives
+gives_as_source false event network first from origin old new events before after gives = (gives.0, (gives.1, gives.2))
 
 -- ---- the end
 

@@ -1,12 +1,13 @@
-ghost use Rattle.std.specs.Prelude.{◌*◌, ◌+◌, ◌≡◌, ◌≤◌, List, [], length, ℕ};
+ghost use Rattle.std.specs.Prelude.{◌*◌, ◌+◌, ◌≡◌, ◌≤◌, List, None, Some, [], if◌then◌else◌, length, ℕ};
 ghost use Rattle.net_plan.specs.declared.{event.Event.Event as EventValue, network.Network.Network as NetworkValue};
 ghost use Rattle.tte_traces.specs.storms.Storms.{GivesStorm, IsStormTo, left_of};
 
 use fault_hypothesis::Watch;
 use fault_hypothesis::storm::Storm;
-use net_plan::Event;
+use net_plan::{Event, What};
 use schedule_tables::Accepted;
 use tte_io::Sink;
+use tte_units::Units;
 use world_drive::Events;
 
 /// The events of a storm, each admitted by the fault hypothesis.
@@ -38,12 +39,29 @@ impl<'a> StormEvents<'a> {
             → IsStormTo network seed cycles events self.old
             → GivesStorm network seed cycles events result self.old self.new }
     {
-        let Some(event) = self.storm.next_event(self.accepted, &self.watch) else {
-            return None;
+        let mut event = Event {
+            time: Units(0),
+            what: What::End,
         };
+        if self.next_in(&mut event) {
+            Some(event)
+        } else {
+            None
+        }
+    }
+
+    // Writes the next event of the storm over `event`, and answers whether there is one: behind its end there is none.
+    fn next_in(&mut self, event: &mut Event) -> bool
+        ensures { (network : NetworkValue) (seed cycles : ℕ) (events : List EventValue)
+            → IsStormTo network seed cycles events self.old
+            → GivesStorm network seed cycles events (if result then Some event.new else None) self.old self.new }
+    {
+        if !self.storm.next_event(self.accepted, &self.watch, event) {
+            return false;
+        }
         // It is within the hypothesis, as each event of a storm is.
-        let _admitted = self.watch.admit(&event);
-        Some(event)
+        self.watch.keep(event);
+        true
     }
 }
 
@@ -60,12 +78,6 @@ impl<'a, K: Sink> Events<(), K, ()> for StormEvents<'a> {
     ghost left = { λ it. left_of it };
 
     fn next_event(&mut self, _from: &mut (), event: &mut Event, _out: &mut K) -> Result<bool, ()> {
-        match self.next() {
-            Some(next) => {
-                *event = next;
-                Ok(true)
-            }
-            None => Ok(false),
-        }
+        Ok(self.next_in(event))
     }
 }
