@@ -8,3 +8,4 @@ pub mod Bringers
 pub mod Judging
 pub mod Sweeping
 pub mod Lacking
+pub mod Indexing

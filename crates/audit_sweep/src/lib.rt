@@ -7,6 +7,7 @@ mod clocks;
 mod dispatching;
 mod ending;
 mod hearing;
+mod index;
 mod judging;
 mod known;
 mod lacking;
@@ -19,5 +20,6 @@ mod sweep;
 pub mod unpaid;
 
 pub use crate::records::OutOfMemory;
+pub use index::{Index, Permanence};
 pub use known::{carried_by, readings};
 pub use sweep::Sweep;

@@ -5,12 +5,14 @@ ghost use Rattle.std.specs.Prelude.{◌++◌, ◌+◌, ◌^◌, ◌↔◌, ◌�
 ghost use Rattle.{audit_law.specs.events.Remembering.Remembers, audit_sweep.specs.unpaid.Payments.ArePayments};
 ghost use Rattle.{audit_sweep.specs.Judging.{Befalls, IsJudgeable}, run_law.specs.records.Ranks.{place_at, place_of}};
 ghost use Rattle.audit_sweep.specs.Sweeping.{IsPlacedSoundly, IsSoundUpTo, IsSwept, SweepsSome};
+ghost use Rattle.audit_sweep.specs.Indexing.{IsIndex};
 ghost use Rattle.{audit_sweep.specs.records.Keeping.records_of, run_law.specs.runs.DueRecords.EndsAt};
 ghost use Rattle.{net_plan.specs.Ranges.IsInRange, tte_units.specs.Amount.amount};
 ghost use Rattle.net_plan.specs.declared.{event.Event.Event, network.Network.{Network as NetworkValue}};
 ghost use Rattle.{report_text.specs.Ranges.IsBodyOf, tte_units.specs.declared.units.Units.{Units as UnitsValue}};
 ghost use Rattle.run_law.specs.records.Happenings.{Happening, frame_by, frame_from, happening};
 
+use crate::index::Index;
 use crate::judging::is_due;
 use crate::known::Known;
 use crate::records::OutOfMemory;
@@ -83,6 +85,26 @@ impl<'a> Sweep<'a> {
         match self.push(note, place) {
             Ok(()) => Ok(true),
             Err(_) => Err(OutOfMemory),
+        }
+    }
+
+    /// Ends the sweep, and keeps what the records that were taken show.
+    pub fn into_index(self) -> Index
+        ensures { (network : NetworkValue) (befallen : List Event) (end : UnitsValue) (hs : List Happening)
+            → IsSwept network befallen end hs self.entry → IsIndex network befallen hs result }
+    {
+        let Known {
+            events,
+            end,
+            records,
+            standings,
+            ..
+        } = self.known;
+        Index {
+            events,
+            end,
+            records,
+            standings,
         }
     }
 

@@ -1,4 +1,6 @@
 -- The records of a report, swept one by one.
+use Rattle.audit_sweep.specs.{Indexing.IsIndex, declared.index.Index.Index}
+use Rattle.tte_audit.{proofs.OneAnswer.same_of, specs.Passing.IsIndexOf}
 use Rattle.{audit_law.proofs.law_lemmas.FirstUnpaid.lack_law, audit_sweep.specs.declared.sweep.Sweep.Sweep, std.proofs.lemmas.List.Elements.filter_map-append}
 use Rattle.{audit_law.{proofs.law_lemmas.Owing.timely, specs.law.TracedEvents.{OwesEvent, TellsEvent}}, run_law.specs.records.Ranks.{key, members_in, rank}}
 use Rattle.{audit_law.specs.law.{DebtLaws.IsFirstDebt, Findings.{AreSound, IsSound, LacksNothing}}, run_law.proofs.records.Happenings.{as_many, happenings_on}}
@@ -181,6 +183,12 @@ pub passes : (network : Network) (octets : List ℕ) (ns : List Note) (end : Uni
     → IsAudited network octets n
 passes network octets ns end n named of counted sound lacks =
     subst (IsAudited network octets) (sym counted) ((passed_law network octets ns end named of).1 (sound, lacks))
+
+-- what its records show is what the octets tell
+pub indexed : (network : Network) (octets : List ℕ) (ns : List Note) (end : Units) (index : Index) → IsNamed network → IsOfEvents network octets ns end
+    → IsIndex network (events_of ns) (happenings network ns) index → IsIndexOf network octets index
+indexed network octets ns end index named of h notes time other =
+    subst (λ (ms : List Note). IsIndex network (events_of ms) (happenings network ms) index) (same_of network octets ns notes end time named of other).lists h
 
 -- and one that lacks something is refused by the time of that
 pub lacks_at : (network : Network) (octets : List ℕ) (ns : List Note) (end : Units) (t : ℕ) → IsOfEvents network octets ns end → AreSoundNotes network ns end

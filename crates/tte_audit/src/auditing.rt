@@ -1,14 +1,14 @@
 ghost use Rattle.std.specs.Prelude.{◌<◌, ◌^◌, ◌≡◌, List, MatchResult, length, ℕ};
 ghost use Rattle.{audit_sweep.specs.Sweeping.SweepsSome, run_law.specs.declared.note.Note.{Note as NoteValue}};
 ghost use Rattle.{net_plan.specs.declared.network.Network.{Network as NetworkValue}, report_text.specs.Ranges.IsBodyOf};
-ghost use Rattle.tte_audit.specs.{Answers.{IsAudited, IsRefusedBy}, LineSwept.IsLineSwept, Report.IsNextLine};
+ghost use Rattle.tte_audit.specs.{Answers.IsRefusedBy, LineSwept.IsLineSwept, Passing.IsPassed, Report.IsNextLine};
 ghost use Rattle.tte_audit.specs.{Named.IsNamed, Telling.IsReadOf};
 
 use crate::hints::NameHints;
 use crate::lines::{numbered_record, plain_record};
 use crate::named::keep_names_apart;
 use crate::swift::audited;
-use crate::{AuditRefusal, ReportEvents, read_events};
+use crate::{AuditRefusal, PassedReport, ReportEvents, read_events};
 use audit_sweep::Sweep;
 use net_plan::Network;
 use run_law::Note;
@@ -17,20 +17,24 @@ use schedule_tables::Accepted;
 use std::alloc::Global;
 use tte_units::Units;
 
-/// Audits a finished report, record by record and without a run, and answers how many records it has.
+/// Audits a finished report, record by record and without a run, and answers what is kept of it.
 ///
 /// The report has fewer than 2^32 octets. It is passed exactly where it is that of the run of the network under the
 /// events that its own records tell. Otherwise it is refused by the first thing that is wrong, in the order of
 /// `AuditRefusal`; or memory has run out.
-pub fn audit(alloc: Global, accepted: &Accepted, report: &[u8]) -> Result<u64, AuditRefusal>
+pub fn audit(
+    alloc: Global,
+    accepted: &Accepted,
+    report: &[u8],
+) -> Result<PassedReport, AuditRefusal>
     requires { length report.now < 2 ^ 32 }
     ensures { MatchResult result
-        (λ count. IsAudited accepted.now report.now count)
+        (IsPassed accepted.now report.now)
         (λ refusal. IsRefusedBy accepted.now report.now refusal) }
 {
     keep_names_apart(accepted);
-    if let Some(records) = audited(alloc, accepted, report) {
-        return Ok(records);
+    if let Some(passed) = audited(alloc, accepted, report) {
+        return Ok(passed);
     }
     match read_events(alloc, accepted, report) {
         Ok(read) => audit_records(alloc, accepted.network(), report, read),
@@ -44,12 +48,12 @@ fn audit_records(
     network: &Network,
     report: &[u8],
     read: ReportEvents,
-) -> Result<u64, AuditRefusal>
+) -> Result<PassedReport, AuditRefusal>
     requires named { IsNamed network.now }
     requires short { length report.now < 2 ^ 32 }
     requires told { (notes : List NoteValue) × IsReadOf network.now report.now notes read }
     ensures { MatchResult result
-        (λ count. IsAudited network.now report.now count)
+        (IsPassed network.now report.now)
         (λ refusal. IsRefusedBy network.now report.now refusal) }
 {
     let mut sweep = match Sweep::new(alloc, network, read.history, read.end) {
@@ -71,7 +75,10 @@ fn audit_records(
     }
     match sweep.first_lack() {
         Some(time) => Err(AuditRefusal::Lacking(Units::from_amount(time))),
-        None => Ok(records),
+        None => Ok(PassedReport {
+            count: records,
+            index: sweep.into_index(),
+        }),
     }
 }
 

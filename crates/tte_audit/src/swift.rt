@@ -3,14 +3,14 @@
 
 ghost use Rattle.std.specs.Prelude.{◌++◌, ◌<◌, ◌^◌, ◌∷◌, ◌≡◌, IfSome, List, Ok, [], length, ℕ};
 ghost use Rattle.{audit_sweep.specs.Sweeping.SweepsSome, run_law.specs.declared.note.Note.{Note as NoteValue}};
-ghost use Rattle.tte_audit.specs.{Answers.IsAudited, Named.IsNamed, Swift.{IsBehind, IsGoneOn, IsSought, IsSoughtOn}};
+ghost use Rattle.tte_audit.specs.{Named.IsNamed, Passing.IsPassed, Swift.{IsBehind, IsGoneOn, IsSought, IsSoughtOn}};
 
-use crate::AuditRefusal;
 use crate::auditing::{judge, take_other};
 use crate::events::Befallen;
 use crate::hints::NameHints;
 use crate::lines::{first_lf, first_record, plain_record};
 use crate::named::keep_names_apart;
+use crate::{AuditRefusal, PassedReport};
 use audit_sweep::Sweep;
 use net_plan::Network;
 use run_law::Note;
@@ -18,10 +18,10 @@ use run_law::plain::no_record;
 use schedule_tables::Accepted;
 use std::alloc::Global;
 
-/// How many records the report has, where it is that of the run under the events that its own records tell.
-pub(crate) fn audited(alloc: Global, accepted: &Accepted, report: &[u8]) -> Option<u64>
+/// What is kept of the report, where it is that of the run under the events that its own records tell.
+pub(crate) fn audited(alloc: Global, accepted: &Accepted, report: &[u8]) -> Option<PassedReport>
     requires { length report.now < 2 ^ 32 }
-    ensures { IfSome result (λ count. IsAudited accepted.now report.now count) }
+    ensures { IfSome result (IsPassed accepted.now report.now) }
 {
     keep_names_apart(accepted);
     match seek(alloc, accepted, report) {
@@ -228,11 +228,11 @@ fn behind_place<'p>(places: &'p [usize], place: usize) -> Option<&'p [usize]>
 }
 
 // Sweeps the report, of which the events were found.
-fn swept(alloc: Global, network: &Network, report: &[u8], sought: Sought) -> Option<u64>
+fn swept(alloc: Global, network: &Network, report: &[u8], sought: Sought) -> Option<PassedReport>
     requires named { IsNamed network.now }
     requires short { length report.now < 2 ^ 32 }
     requires sought { (notes : List NoteValue) × IsSought network.now report.now notes sought }
-    ensures { IfSome result (λ count. IsAudited network.now report.now count) }
+    ensures { IfSome result (IsPassed network.now report.now) }
 {
     let Sought { befallen, places } = sought;
     let end = match befallen.end {
@@ -264,6 +264,9 @@ fn swept(alloc: Global, network: &Network, report: &[u8], sought: Sought) -> Opt
     }
     match sweep.first_lack() {
         Some(_) => None,
-        None => Some(records),
+        None => Some(PassedReport {
+            count: records,
+            index: sweep.into_index(),
+        }),
     }
 }

@@ -86,7 +86,7 @@ fn is_old(reason: Reason) -> bool
 }
 
 /// The number of the record that a record comes from, or 0.
-pub(crate) fn cause_of(body: &NoteBody) -> u64
+pub fn cause_of(body: &NoteBody) -> u64
     ensures { result ≡ cause_of body.now }
 {
     match body {

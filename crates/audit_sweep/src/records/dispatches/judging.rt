@@ -10,11 +10,11 @@ ghost use Rattle.audit_sweep.specs.records.dispatches.Judged.{DispatchesSome, Is
 
 use crate::records::Kept;
 use crate::records::dispatches::{Dispatch, Exits, dispatches, sends_some};
+use crate::records::wires::way_from;
 use audit_devices::clocks::Moment;
 use audit_devices::{Shown, Takings};
 use audit_law::events::EventHistory;
-use device_rules::is_parent_of;
-use net_plan::{DeviceId, LinkId, Network, Way};
+use net_plan::{DeviceId, LinkId, Network};
 
 /// A device at a time.
 #[derive(Clone, Copy)]
@@ -176,15 +176,4 @@ pub fn is_cut(network: &Network, events: &EventHistory, at: At, link: LinkId) ->
         ≡ is_cut (scenario_under network.now befallen) link (way_from network.now at.device link) at.time }
 {
     events.is_cut(link, way_from(network, at.device, link), at.time)
-}
-
-/// The way on which the device sends on the link.
-fn way_from(network: &Network, device: DeviceId, link: LinkId) -> Way
-    ensures { result ≡ way_from network.now device link }
-{
-    if is_parent_of(network, device, link) {
-        Way::Down
-    } else {
-        Way::Up
-    }
 }

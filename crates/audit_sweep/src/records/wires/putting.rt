@@ -89,7 +89,7 @@ fn sent_on_wire(kept: &KeptRecord, sending: Sending) -> Option<OnWire>
 }
 
 /// The way on which the device sends on the link.
-pub(crate) fn way_from(network: &Network, device: DeviceId, link: LinkId) -> Way
+pub fn way_from(network: &Network, device: DeviceId, link: LinkId) -> Way
     ensures { result ≡ way_from network.now device link }
 {
     if is_parent_of(network, device, link) {

@@ -1,6 +1,6 @@
 use Rattle.tte_audit.proofs.Words.{◌+◌, ◌<◌, ◌∙◌, IsRefusedBy, Units, [], amount, ap, arith, events_of, happenings, length, refl, rules, subst, sym}
 use Rattle.tte_audit.proofs.{OnlyEnd.{ends_soon, only_end}, Parts.{begins_none, shorter}, SweptLines.{going_on, no_more_lines, refused_line, some_octets}}
-use Rattle.tte_audit.{proofs.UnderWay.{all_taken, events_paid, lacks_at, lacks_by_end, passes, swept_all}, specs.LineSwept.IsLineSwept}
+use Rattle.tte_audit.{proofs.UnderWay.{all_taken, events_paid, indexed, lacks_at, lacks_by_end, passes, swept_all}, specs.LineSwept.IsLineSwept}
 use Rattle.tte_audit.specs.declared.refusal.AuditRefusal.TheVariants as refusals
 use Rattle.tte_audit.proofs.auditing.audit_records.Goals as goal
 
@@ -109,8 +109,8 @@ returns-in-Some c =
     subst (λ (t : Units). IsRefusedBy network octets (refusals.Lacking t)) (sym c.from_amount.ensures.value)
     (lacks_at network octets under.notes under.end c.in-Some.time under.of swept.sound debt)
 
-pub returns : goal.returns
-returns c =
+pub returns-in-None : goal.returns-in-None
+returns-in-None c =
     let network = c.args.network.now in
     let octets = c.args.report.now in
     let under = c.records.invariant.under in
@@ -119,4 +119,9 @@ returns c =
     let swept = swept_all network octets under.notes under.taken under.end c.records.sweep all under.swept in
     let lacks = c.in-None.ensures network (events_of under.notes) under.end (happenings network under.notes) swept
     (λ line owes. events_paid network under.notes (amount under.end) line under.of.right owes) in
-    passes network octets under.notes under.end c.records.records c.requires.named under.of (under.counted ∙ ap length (sym all)) swept.sound lacks
+    record {
+      audited = passes network octets under.notes under.end c.records.records c.requires.named under.of (under.counted ∙ ap length (sym all))
+          swept.sound lacks;
+      index = indexed network octets under.notes under.end c.into_index.result c.requires.named under.of
+          (c.into_index.ensures network (events_of under.notes) under.end (happenings network under.notes) swept);
+    }

@@ -1,4 +1,4 @@
-use Rattle.tte_audit.{proofs.{OnlyEnd.{ends_soon, only_end}, Parts.{no_octets_left, shorter}, UnderWay.{events_paid, passes}}, specs.Swift.AreAt}
+use Rattle.tte_audit.{proofs.{OnlyEnd.{ends_soon, only_end}, Parts.{no_octets_left, shorter}, UnderWay.{events_paid, indexed, passes}}, specs.Swift.AreAt}
 use Rattle.tte_audit.proofs.{SweptSwift.{at_first, at_last, goes_on}, Words.{◌≡◌, List, amount, arith, events_of, happenings, length, rules, subst, sym, ℕ}}
 use Rattle.tte_audit.proofs.swift.swept.Goals as goal
 
@@ -82,4 +82,8 @@ returns c =
     (no_octets_left left.octets.now empty) (no_octets_left left.places.now none) in
     let lacks = c.in-None-first_lack.ensures network (events_of last.taken) on.end (happenings network last.taken) last.swept
     (λ line owes. events_paid network last.taken (amount on.end) line last.of.right owes) in
-    passes network octets last.taken on.end c.records.records c.requires.named last.of last.counted last.swept.sound lacks
+    record {
+      audited = passes network octets last.taken on.end c.records.records c.requires.named last.of last.counted last.swept.sound lacks;
+      index = indexed network octets last.taken on.end c.into_index.result c.requires.named last.of
+          (c.into_index.ensures network (events_of last.taken) on.end (happenings network last.taken) last.swept);
+    }
