@@ -11,3 +11,5 @@ mod checks;
 mod forms;
 #[cfg(test)]
 mod frames;
+#[cfg(test)]
+mod hints;

@@ -4,6 +4,7 @@
 mod chains;
 mod eventful;
 mod forms;
+mod hints;
 mod least;
 mod slack;
 mod summed;

@@ -4,6 +4,7 @@ use std::alloc::Global;
 use std::process::Abort;
 use std::test::Fail;
 use tte_forms::{Form, read_form};
+use tte_hints::{Program, words_fault};
 use tte_run::Status;
 use tte_units::Units;
 use worked_network::{call_of_one, words_of};
@@ -119,6 +120,8 @@ fn words_of_no_form_are_answered_by_the_usage(rt: HostRuntime) -> Result<(), Fai
     for words in NO_FORMS {
         let call = call_of_one(words, &[], USAGE, Status::Usage);
         try_call(&rt, alloc, &call)?;
+        let words = words_of(alloc, words)?;
+        assert!(rt; words_fault(Program::Tte, &words).is_some());
     }
     Ok(())
 }

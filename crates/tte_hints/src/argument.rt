@@ -1,0 +1,118 @@
+use std::fmt;
+use tte_forms::{cycles_spelled, number_up_to};
+
+/// The greatest granule of stamps, in units of 2^-16 ns.
+const GREATEST_GRANULE: u64 = 1 << 60;
+
+/// The rules that are inequalities, of which `slack` tells all places.
+const INEQUALITIES: [&str; 8] = ["8", "9", "10", "11", "12", "13", "21", "23"];
+
+/// An argument behind a command.
+#[derive(Clone, Copy, Debug, PartialEq, Eq)]
+pub enum Argument {
+    /// A file of protocol control frames.
+    Frames,
+    /// A capture of packets.
+    Capture,
+    Network,
+    Trace,
+    Report,
+    /// The number that a storm is drawn from.
+    Seed,
+    /// How many cycles a storm lasts.
+    Cycles,
+    /// The granule of stamps, in units of 2^-16 ns.
+    Granule,
+    Link,
+    Way,
+    VirtualLink,
+    /// The number of a rule.
+    Rule,
+    /// The number of a record.
+    Record,
+    /// Where a part of a run begins, in units of 2^-16 ns.
+    From,
+    /// Where it ends.
+    To,
+}
+
+impl Argument {
+    /// Its name in the usage line.
+    pub fn name(self) -> &'static str {
+        match self {
+            Argument::Frames | Argument::Capture => "FILE",
+            Argument::Network => "NETWORK",
+            Argument::Trace => "TRACE",
+            Argument::Report => "REPORT",
+            Argument::Seed => "SEED",
+            Argument::Cycles => "CYCLES",
+            Argument::Granule => "GRANULE",
+            Argument::Link => "LINK",
+            Argument::Way => "WAY",
+            Argument::VirtualLink => "VL",
+            Argument::Rule => "RULE",
+            Argument::Record => "N",
+            Argument::From => "FROM",
+            Argument::To => "TO",
+        }
+    }
+
+    /// What it must be.
+    pub fn must_be(self) -> &'static str {
+        match self {
+            Argument::Frames
+            | Argument::Capture
+            | Argument::Network
+            | Argument::Trace
+            | Argument::Report => "the path of a file",
+            Argument::Seed =>
+                "a whole number from 0 to 18446744073709551615, with no sign and no leading zero",
+            Argument::Cycles => "a whole number from 1 to 100000, with no sign and no leading zero",
+            Argument::Granule => {
+                "a whole number of units of 2^-16 ns (65536000 to the microsecond) from 1 to 2^60, with no sign, no \
+                 leading zero and no other unit"
+            }
+            Argument::Link => "the name of a link",
+            Argument::Way => "up or down",
+            Argument::VirtualLink => "the name of a virtual link",
+            Argument::Rule => "8, 9, 10, 11, 12, 13, 21 or 23, the rules that are inequalities",
+            Argument::Record => "the number of a record, from 1, with no sign and no leading zero",
+            Argument::From | Argument::To => {
+                "a whole number of units of 2^-16 ns (65536000 to the microsecond), with no sign, no leading zero and \
+                 no other unit"
+            }
+        }
+    }
+
+    /// Whether the text may stand for it.
+    pub fn admits(self, text: &str) -> bool {
+        match self {
+            Argument::Seed | Argument::From | Argument::To => {
+                number_up_to(u64::MAX, text).is_some()
+            }
+            Argument::Cycles => cycles_spelled(text).is_some(),
+            Argument::Granule => is_from_one(GREATEST_GRANULE, text),
+            Argument::Record => is_from_one(u64::MAX, text),
+            Argument::Way => text == "up" || text == "down",
+            Argument::Rule => INEQUALITIES.iter().any(|rule| *rule == text),
+            Argument::Frames
+            | Argument::Capture
+            | Argument::Network
+            | Argument::Trace
+            | Argument::Report
+            | Argument::Link
+            | Argument::VirtualLink => true,
+        }
+    }
+}
+
+/// Whether the text is the decimal of a number from 1 to `most`.
+fn is_from_one(most: u64, text: &str) -> bool {
+    number_up_to(most, text).is_some_and(|number| number > 0)
+}
+
+impl fmt::Display for Argument {
+    fn fmt<W: fmt::Write>(&self, f: &mut fmt::Formatter<W>) -> fmt::Result {
+        f.write_str(self.name())
+    }
+}
