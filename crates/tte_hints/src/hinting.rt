@@ -44,9 +44,9 @@ impl<'x> Called<'x> {
             .find_map(|form| form.arguments().get(place).copied())
     }
 
-    /// Whether its answer tells each broken rule.
+    /// Whether its answer itself tells what rules want of a network.
     pub(crate) fn tells_rules(self) -> bool {
-        self.program == Program::Lens && self.command() == "slack"
+        self.program == Program::Lens && matches!(self.command(), "slack" | "least")
     }
 }
 

@@ -113,6 +113,7 @@ fn hint_of<R: Files>(
 fn explain<R: Files + Eprint>(rt: &R, alloc: Global, called: Called<'_>, ended: Ended<'_>) {
     let name = called.program.name();
     let _told = match ended.status {
+        Status::Done => Ok(()),
         Status::ReadFault => {
             let path = ended.unread;
             let why = Unread::why(rt, path);
