@@ -4,3 +4,6 @@ pub mod Under
 pub mod Safely
 pub mod Reports
 pub mod RecordLines
+pub mod Folded
+pub mod Placed
+pub mod Times

@@ -4,11 +4,7 @@ use Rattle.{report_text.specs.{Laws.AreOfNetwork, Ranges.{IsNoteInRange, IsNoteO
 use Rattle.std.proofs.{Common.{◌++◌, ◌+◌, ◌∙◌, ◌∷◌, ◌≡◌, ◌⊎◌, List, None, Some, [], ap, inl, inr, refl, subst, sym, take, ℕ}, lemmas.List.append-nil}
 use Rattle.{std.specs.{List.concat, Prelude.position}, tte_audit.{proofs.Parts.{no_lf, text_at}, specs.Named.IsNamed}}
 use Rattle.tte_audit.{proofs.Meet.{GoesOn, apart_of, meet, no_octets}, specs.Report.{BeginsWith, BeginsWithRecord, IsTextOf, LineThen, is_line_end}}
-
--- the octets are the lines of these records
-pub record AreLines (network : Network) (octets : List ℕ) (notes : List Note) : Type 0 where
-  pub of_network : AreOfNetwork network notes
-  pub text : octets ≡ concat (report_of network notes)
+use Rattle.tte_reports.specs.Reports.{AreLines}
 
 pub begun_lines : (network : Network) (octets : List ℕ) (notes : List Note) → BeginsWith network octets notes [] → AreLines network octets notes
 begun_lines network octets notes h =
@@ -18,7 +14,7 @@ begun_lines network octets notes h =
 abbrev behind_first : (network : Network) (n : Note) (ns : List Note) → AreOfNetwork network (n ∷ ns) → AreOfNetwork network ns
 behind_first network n ns h = record { of_network = All-tail (IsNoteOf network) n ns h.of_network; in_range = All-tail IsNoteInRange n ns h.in_range }
 
-abbrev line_then : (network : Network) (octets : List ℕ) (n : Note) (ns : List Note) → AreLines network octets (n ∷ ns)
+abbrev pub line_then : (network : Network) (octets : List ℕ) (n : Note) (ns : List Note) → AreLines network octets (n ∷ ns)
     → LineThen network n.number octets (concat (report_of network ns))
 line_then network octets n ns h = record {
   note = n;

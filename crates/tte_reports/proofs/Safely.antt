@@ -1,31 +1,31 @@
--- A report that `audit` does not refuse is that of a run that is safe.
+-- A report that is not refused is that of a run that is safe.
 use Rattle.{audit_law.specs.events.Readings.scenario_under, schedule_tables.specs.Rules.KeepsRules, tte_units.specs.{Amount.amount, declared.units.Units.Units}}
 use Rattle.{drift_clock.proofs.ExactSegments.{exact_begins, exact_laws}, tte_audit.specs.{Report.events_of, declared.refusal.AuditRefusal.AuditRefusal}}
 use Rattle.{drift_clock.specs.Segment.{fresh_segment, segment_reading, stepped_segment}, precision_law.proofs.traffic_lemmas.safety_lemmas.Clocked.{ended, own}}
 use Rattle.{net_plan.specs.declared.network.Network.Network, run_law.specs.records.Happenings.happenings, tte_reports.proofs.Under.{report_ends, report_under}}
-use Rattle.{precision_law.proofs.traffic_lemmas.safety_lemmas.Times.end_in_time, tte_reports.specs.Answer.{IsAuditAnswer, PassesAudit, report_refused_answer}}
+use Rattle.{precision_law.proofs.traffic_lemmas.safety_lemmas.Times.end_in_time, tte_reports.specs.Answer.report_refused_answer}
 use Rattle.{precision_law.specs.traffic.safety.Headline.GoesWell, tte_reports.{proofs.Answers.kept_apart, specs.Safely.{AuditsSafely, ReportsSafeRun}}}
-use Rattle.{report_text.specs.NoteLine.report_of, run_law.specs.declared.note.Note.Note, tte_reports.{proofs.Sources.GivesFiles, specs.Reports.IsReportOf}}
+use Rattle.{run_law.specs.declared.note.Note.Note, tte_reports.proofs.Sources.GivesFiles, tte_reports.specs.Reports.{AnswersFor, IsReportAnswer, IsReportOf}}
+use Rattle.report_text.specs.NoteLine.{report_of}
 use Rattle.{std.proofs.Common.{◌∙◌, ◌≡◌, List, Option, ap, inl, inr, sym, ℕ}, tte_forms.specs.networks.Accepting.{IsNetworkAnswer, MeansAccepted}}
 use Rattle.{std.proofs.lemmas.List.append-nil, tte_forms.specs.{Answering.{Answer, ForOctets, GivesAnswer}, declared.status.Status.{Status, TheVariants.Done}}}
 use Rattle.{std.specs.List.concat, tte_audit.specs.Named.IsNamed, tte_forms.{proofs.Octets.for_more, specs.Putting.Shown}}
 use Rattle.tte_audit.specs.declared.refusal.AuditRefusal.TheVariants as refusals
 
-safe_run : (octets report : List ℕ) (network : Network) (count : ℕ) → MeansAccepted octets network → PassesAudit network report count
-    → ReportsSafeRun octets report
-safe_run octets report network count accepted p =
-    let a = p.audited in
-    let events = events_of a.notes in
-    let named : IsNamed network = kept_apart network accepted.rules p.range in
+safe_run : (octets report : List ℕ) (network : Network) (notes : List Note) (end : Units) → MeansAccepted octets network
+    → IsReportOf network report notes end → ReportsSafeRun octets report
+safe_run octets report network notes end accepted r =
+    let events = events_of notes in
+    let named : IsNamed network = kept_apart network accepted.rules r.range in
     record {
       network = network;
       accepted = accepted;
-      notes = a.notes;
-      text = a.events.text.text ∙ append-nil (concat (report_of network a.notes));
-      run = ended fresh_segment stepped_segment segment_reading exact_laws exact_begins network events a.time a.notes
-          (report_under network report a.notes a.time named accepted.rules a.events) (report_ends events a.time a.events.ends) a.run;
-      time = a.time;
-      events = a.events;
+      notes = notes;
+      text = r.events.text.text ∙ append-nil (concat (report_of network notes));
+      run = ended fresh_segment stepped_segment segment_reading exact_laws exact_begins network events end notes
+          (report_under network report notes end named accepted.rules r.events) (report_ends events end r.events.ends) r.run;
+      time = end;
+      events = r.events;
     }
 
 -- no refusal is told as done
@@ -39,35 +39,39 @@ not_done refusals.OutOfMemory e = cc
 told : (a b : Answer) → Done ≡ a.status → a ≡ b → Done ≡ b.status
 told a b done same = done ∙ ap (λ (x : Answer). x.status) same
 
--- what is answered by done for an accepted network is the report of such a run
-done_safely : (octets report : List ℕ) (network : Network) (a : Answer) → MeansAccepted octets network → IsAuditAnswer report network a → Done ≡ a.status
-    → ReportsSafeRun octets report
-done_safely octets report network a accepted (inl h) done = let e = told a _ done h.1 in absurd cc
-done_safely octets report network a accepted (inr (inl h)) done = safe_run octets report network h.0 accepted h.1
-done_safely octets report network a accepted (inr (inr h)) done = absurd (not_done h.0 (told a _ done h.2))
+-- ---- whatever is answered for the records
 
-answered_safely : (octets report : List ℕ) (a : Answer) → IsNetworkAnswer (IsAuditAnswer report) octets a → Done ≡ a.status → ReportsSafeRun octets report
-answered_safely octets report a (inl h) done = let e = told a _ done h.1 in absurd cc
-answered_safely octets report a (inr (inl h)) done = let e = told a _ done h.2 in absurd cc
-answered_safely octets report a (inr (inr (inl h))) done = let e = told a _ done h.2 in absurd cc
-answered_safely octets report a (inr (inr (inr h))) done = done_safely octets report h.0 a h.1 h.2 done
+module _ (IsAnswerFor : AnswersFor) where
+  -- what is answered by done for an accepted network is the report of such a run
+  done_safely : (octets report : List ℕ) (network : Network) (a : Answer) → MeansAccepted octets network → IsReportAnswer IsAnswerFor report network a
+      → Done ≡ a.status → ReportsSafeRun octets report
+  done_safely octets report network a accepted (inl h) done = let e = told a _ done h.1 in absurd cc
+  done_safely octets report network a accepted (inr (inl h)) done = absurd (not_done h.0 (told a _ done h.2))
+  done_safely octets report network a accepted (inr (inr h)) done = safe_run octets report network h.0 h.1 accepted h.2
 
-given_safely : (octets report : List ℕ) (status : Status) (old new : Shown) → status ≡ Done
-    → GivesAnswer (IsNetworkAnswer (IsAuditAnswer report) octets) status old new → ReportsSafeRun octets report
-given_safely octets report status old new done (inl (a, is, inl g)) = answered_safely octets report a is (sym done ∙ g.0)
-given_safely octets report status old new done (inl (a, is, inr (inl g))) = let e = g.0 in absurd cc
-given_safely octets report status old new done (inl (a, is, inr (inr (inl r, p)))) = absurd cc
-given_safely octets report status old new done (inl (a, is, inr (inr (inr m, p)))) = absurd cc
-given_safely octets report status old new done (inr (inl r, p)) = absurd cc
-given_safely octets report status old new done (inr (inr m, p)) = absurd cc
+  answered_safely : (octets report : List ℕ) (a : Answer) → IsNetworkAnswer (IsReportAnswer IsAnswerFor report) octets a → Done ≡ a.status
+      → ReportsSafeRun octets report
+  answered_safely octets report a (inl h) done = let e = told a _ done h.1 in absurd cc
+  answered_safely octets report a (inr (inl h)) done = let e = told a _ done h.2 in absurd cc
+  answered_safely octets report a (inr (inr (inl h))) done = let e = told a _ done h.2 in absurd cc
+  answered_safely octets report a (inr (inr (inr h))) done = done_safely octets report h.0 a h.1 h.2 done
 
-pub audited_safely : (first second : Option (List ℕ)) (status : Status) (old new : Shown) → GivesFiles IsAuditAnswer first second status old new
-    → AuditsSafely first second status
-audited_safely first second status old new g done =
-    for_more first (λ octets. ForOctets second (λ report. GivesAnswer (IsNetworkAnswer (IsAuditAnswer report) octets) status old new))
-    (λ octets. ForOctets second (λ report. ReportsSafeRun octets report))
-    (λ octets h. for_more second (λ report. GivesAnswer (IsNetworkAnswer (IsAuditAnswer report) octets) status old new)
-    (λ report. ReportsSafeRun octets report) (λ report. given_safely octets report status old new done) h) g
+  given_safely : (octets report : List ℕ) (status : Status) (old new : Shown) → status ≡ Done
+      → GivesAnswer (IsNetworkAnswer (IsReportAnswer IsAnswerFor report) octets) status old new → ReportsSafeRun octets report
+  given_safely octets report status old new done (inl (a, is, inl g)) = answered_safely octets report a is (sym done ∙ g.0)
+  given_safely octets report status old new done (inl (a, is, inr (inl g))) = let e = g.0 in absurd cc
+  given_safely octets report status old new done (inl (a, is, inr (inr (inl r, p)))) = absurd cc
+  given_safely octets report status old new done (inl (a, is, inr (inr (inr m, p)))) = absurd cc
+  given_safely octets report status old new done (inr (inl r, p)) = absurd cc
+  given_safely octets report status old new done (inr (inr m, p)) = absurd cc
+
+  pub files_safely : (first second : Option (List ℕ)) (status : Status) (old new : Shown) → GivesFiles (IsReportAnswer IsAnswerFor) first second status old new
+      → AuditsSafely first second status
+  files_safely first second status old new g done =
+      for_more first (λ octets. ForOctets second (λ report. GivesAnswer (IsNetworkAnswer (IsReportAnswer IsAnswerFor report) octets) status old new))
+      (λ octets. ForOctets second (λ report. ReportsSafeRun octets report))
+      (λ octets h. for_more second (λ report. GivesAnswer (IsNetworkAnswer (IsReportAnswer IsAnswerFor report) octets) status old new)
+      (λ report. ReportsSafeRun octets report) (λ report. given_safely octets report status old new done) h) g
 
 -- the run that a report tells goes well up to its end
 pub report_well : (network : Network) (octets : List ℕ) (notes : List Note) (end : Units) → KeepsRules network → IsReportOf network octets notes end

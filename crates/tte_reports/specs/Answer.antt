@@ -1,8 +1,8 @@
 -- What `audit` answers for the octets of a network file and of a report.
-use Rattle.std.specs.Prelude.{◌<◌, ◌≡◌, ◌≤◌, ◌⊎◌, List, [], codes, length, ℕ}
+use Rattle.std.specs.Prelude.{◌≤◌, List, [], codes, length, ℕ}
 use Rattle.{net_plan.specs.Ranges.IsInRange, tte_audit.specs.Laws.IsOfReport}
 use Rattle.{net_plan.specs.declared.network.Network.Network, tte_audit.specs.declared.refusal.AuditRefusal.AuditRefusal}
-use Rattle.{tte_audit.specs.Answers.{IsAudited, IsRefusedBy}, tte_forms.specs.networks.Accepting.too_long_answer}
+use Rattle.tte_audit.specs.Answers.{IsRefusedBy}
 use Rattle.tte_forms.specs.{Answering.{Answer, line_answer}, Statuses.IsNetworkStatus}
 use Rattle.tte_forms.specs.declared.status.Status.{Status, TheVariants.{AuditRefused, Done, OutOfMemory}}
 use Rattle.tte_reports.specs.AuditLine.{audited_line, lack_line, record_refusal_line}
@@ -11,13 +11,6 @@ use Rattle.tte_audit.specs.declared.refusal.AuditRefusal.TheVariants as refusals
 -- how many octets a report has at most
 abbrev pub report_limit : ℕ
 report_limit = 16777216
-
--- the octets, which are not too many, are the report of a run of the network, whose numbers lie in their ranges; it has
--- so many records
-pub record PassesAudit (network : Network) (octets : List ℕ) (count : ℕ) : Type 0 where
-  pub range : IsInRange network
-  pub fits : length octets ≤ report_limit
-  pub audited : IsAudited network octets count
 
 -- the octets, which are not too many, are refused by this as a report of the network, whose numbers lie in their ranges
 pub record FailsAudit (network : Network) (octets : List ℕ) (refusal : AuditRefusal) : Type 0 where
@@ -37,13 +30,6 @@ report_refused_answer (refusals.Events n) = line_answer AuditRefused (record_ref
 report_refused_answer (refusals.Unfounded n) = line_answer AuditRefused (record_refusal_line n (codes "unfounded"))
 report_refused_answer (refusals.Lacking t) = line_answer AuditRefused (lack_line t)
 report_refused_answer refusals.OutOfMemory = record { status = OutOfMemory; lines = [] }
-
--- the answer for an accepted network under the octets of a report
-abbrev pub IsAuditAnswer : List ℕ → Network → Answer → Type 0
-IsAuditAnswer octets network a =
-    ((report_limit < length octets) × (a ≡ too_long_answer))
-    ⊎ ((count : ℕ) × PassesAudit network octets count × (a ≡ audited_answer count))
-    ⊎ ((refusal : AuditRefusal) × FailsAudit network octets refusal × (a ≡ report_refused_answer refusal))
 
 -- the statuses of `audit`
 abbrev pub IsAuditStatus : Status → Type 0

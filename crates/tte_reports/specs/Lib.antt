@@ -4,3 +4,6 @@ pub mod Reports
 pub mod NoReports
 pub mod Reading
 pub mod Safely
+pub mod Commands
+pub mod Folding
+pub mod Places

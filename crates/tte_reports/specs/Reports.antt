@@ -6,7 +6,8 @@ use Rattle.{report_text.specs.{Laws.AreOfNetwork, NoteLine.report_of}, run_law.s
 use Rattle.{run_law.specs.declared.note.Note.Note, tte_units.specs.declared.units.Units.Units}
 use Rattle.tte_audit.specs.{Report.{IsOfEvents, behind_time, events_of}, declared.refusal.AuditRefusal.AuditRefusal}
 use Rattle.{tte_forms.specs.networks.Accepting.too_long_answer, tte_reports.specs.declared.records.Records.Records}
-use Rattle.tte_reports.specs.Answer.{FailsAudit, report_limit, report_refused_answer}
+use Rattle.schedule_tables.specs.Rules.{KeepsRules}
+use Rattle.tte_reports.specs.Answer.{FailsAudit, audited_answer, report_limit, report_refused_answer}
 
 -- the octets, which are not too many, are the report of these records of the network, whose numbers lie in their
 -- ranges: that of the run under the events that they tell, up to this end
@@ -16,14 +17,40 @@ pub record IsReportOf (network : Network) (octets : List ℕ) (notes : List Note
   pub events : IsOfEvents network octets notes end
   pub run : IsRunOf network (clock_reading network (events_of notes)) (events_of notes) (behind_time end) notes
 
+-- which answers there are for the records of a report of a network, up to their end
+abbrev pub AnswersFor : Type 1
+AnswersFor = Network → List Note → Units → Answer → Type 0
+
 -- the answer for an accepted network and the octets of a report, where that for the records of the report is given
-abbrev pub IsReportAnswer : (Network → List Note → Units → Answer → Type 0) → List ℕ → Network → Answer → Type 0
+abbrev pub IsReportAnswer : AnswersFor → List ℕ → Network → Answer → Type 0
 IsReportAnswer IsAnswerFor octets network a =
     ((report_limit < length octets) × (a ≡ too_long_answer))
     ⊎ ((refusal : AuditRefusal) × FailsAudit network octets refusal × (a ≡ report_refused_answer refusal))
     ⊎ ((notes : List Note) × (end : Units) × IsReportOf network octets notes end × IsAnswerFor network notes end a)
 
--- these records are left to be read
-pub record AreLeft (network : Network) (records : Records) (notes : List Note) : Type 0 where
+-- the answer of an audit for the records of a report: how many they are
+abbrev pub IsAuditedAnswer : AnswersFor
+IsAuditedAnswer network notes end a = a ≡ audited_answer (length notes)
+
+-- the answer of an audit for an accepted network and the octets of a report
+abbrev pub IsAuditAnswer : List ℕ → Network → Answer → Type 0
+IsAuditAnswer octets network a = IsReportAnswer IsAuditedAnswer octets network a
+
+-- for each network and its report there is one answer at most
+abbrev pub IsOneFor : AnswersFor → Type 0
+IsOneFor IsAnswerFor =
+    (network : Network) (octets : List ℕ) (notes : List Note) (end : Units) (a b : Answer) → KeepsRules network
+    → IsReportOf network octets notes end → IsAnswerFor network notes end a → IsAnswerFor network notes end b → a ≡ b
+
+-- the octets are the report of some records
+abbrev pub IsSomeReport : Network → List ℕ → Type 0
+IsSomeReport network octets = (notes : List Note) × (end : Units) × IsReportOf network octets notes end
+
+-- the octets are the lines of these records of the network
+pub record AreLines (network : Network) (octets : List ℕ) (notes : List Note) : Type 0 where
   pub of_network : AreOfNetwork network notes
-  pub text : records.rest.now ≡ concat (report_of network notes)
+  pub text : octets ≡ concat (report_of network notes)
+
+-- these records are left to be read
+abbrev pub AreLeft : Network → Records → List Note → Type 0
+AreLeft network records notes = AreLines network records.rest.now notes

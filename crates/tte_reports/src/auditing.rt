@@ -1,20 +1,39 @@
 ghost use Rattle.std.specs.Prelude.{◌≡◌, ◌⊎◌};
 ghost use Rattle.tte_forms.specs.{Answering.{ForOctets, Gives, GivesAnswer}, networks.Accepting.IsNetworkAnswer};
 ghost use Rattle.tte_forms.specs.{Faults.{HasCause, IsWanted, PutFailed, ReadFailed}, Putting.Over};
-ghost use Rattle.tte_reports.specs.Answer.{IsAuditAnswer, IsAuditStatus, audited_answer};
-ghost use Rattle.tte_reports.specs.{Reading.{ReadsReport, TakesReport}, Safely.AuditsSafely};
+ghost use Rattle.tte_reports.specs.Answer.{IsAuditStatus, audited_answer};
+ghost use Rattle.tte_reports.specs.{Reading.ReadsReport, Reports.{IsAuditAnswer, IsAuditedAnswer}, Safely.AuditsSafely};
 
 use crate::audit_line::make_audited_line;
-use crate::{put_no_report, read_report};
-use schedule_tables::Accepted;
+use crate::{AuditedReport, ReportCommand, answer_report};
+use net_plan::Network;
 use std::alloc::Global;
-use tte_forms::{Status, accept, put_last, put_no_network};
+use tte_forms::{Status, put_last};
 use tte_io::{LineText, Sink, Source};
+
+/// The command that says no more of a report than how many records it has.
+pub struct Audit;
+
+impl<K: Sink> ReportCommand<K> for Audit {
+    ghost answers = { λ command network notes end answer. IsAuditedAnswer network notes end answer };
+
+    ghost ends = { λ command status. IsAuditStatus status };
+
+    ghost audits = { λ command status is. is };
+
+    fn put(
+        &self,
+        _alloc: Global,
+        _network: &Network,
+        report: &AuditedReport,
+        out: &mut K,
+    ) -> Status {
+        put_audited(report.count(), out)
+    }
+}
 
 /// Judges the finished report of the second file over the network of the first, record by record. It is the report of
 /// the run under the events that its own records tell, or it is refused at its first fault.
-///
-/// The second file is read only where the network is accepted, and whole before anything is put.
 pub fn audit_report<A: Source, B: Source, K: Sink>(
     alloc: Global,
     first: &mut A,
@@ -34,29 +53,7 @@ pub fn audit_report<A: Source, B: Source, K: Sink>(
     ensures taken { (second.new ≡ second.old)
         ⊎ ReadsReport (A.left first.old) (B.left second.old) (B.left second.new) result }
 {
-    match accept(alloc, first) {
-        Ok(accepted) => audit_file(alloc, &accepted, second, out),
-        Err(cause) => put_no_network(cause, out),
-    }
-}
-
-fn audit_file<B: Source, K: Sink>(
-    alloc: Global,
-    accepted: &Accepted,
-    second: &mut B,
-    out: &mut K,
-) -> Status
-    ensures gives { Over K.Sink out.old out.new (λ old new.
-        ForOctets (B.left second.old) (λ report. GivesAnswer (IsAuditAnswer report accepted.now) result old new)) }
-    ensures statuses { IsAuditStatus result }
-    ensures cause { HasCause result (ReadFailed B.Source second.old second.new × (out.new ≡ out.old))
-        (PutFailed K.Sink out.old out.new) }
-    ensures taken { TakesReport (B.left second.old) (B.left second.new) result }
-{
-    match read_report(alloc, accepted, second) {
-        Ok(report) => put_audited(report.count(), out),
-        Err(cause) => put_no_report(cause, out),
-    }
+    answer_report(alloc, first, second, &Audit, out)
 }
 
 fn put_audited<K: Sink>(count: u64, out: &mut K) -> Status

@@ -5,11 +5,16 @@
 
 mod audit_line;
 mod auditing;
+mod commands;
+mod folding;
 mod no_report;
+mod places;
 mod reading;
 mod records;
 
-pub use auditing::audit_report;
+pub use auditing::{Audit, audit_report};
+pub use commands::{ReportCommand, answer_report};
+pub use folding::{RecordTaker, take_records};
 pub use no_report::{NoReport, put_no_report};
 pub use reading::{AuditedReport, read_report};
 pub use records::Records;

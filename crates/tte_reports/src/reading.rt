@@ -1,11 +1,16 @@
 ghost use Rattle.std.specs.{Io.KnownBytes.IsAtEnd, Prelude.{◌≡◌, ◌≢◌, ◌≤◌, Err, IfOk, List, MatchResult, length}};
 ghost use Rattle.{net_plan.specs.declared.network.Network.{Network as NetworkValue}, tte_forms.specs.Faults.ReadFailed};
 ghost use Rattle.{run_law.specs.declared.note.Note.{Note as NoteValue}, tte_forms.specs.Answering.ForOctets};
-ghost use Rattle.tte_io.specs.Whole.{TakesSome};
+ghost use Rattle.{tte_io.specs.Whole.TakesSome, tte_reports.specs.Commands.IsRead};
 ghost use Rattle.{tte_reports.specs.Answer.report_limit, tte_units.specs.declared.units.Units.{Units as UnitsValue}};
-ghost use Rattle.tte_reports.specs.{NoReports.{IfJudged, IsNoReport}, Reports.{AreLeft, IsReportOf}};
+ghost use Rattle.tte_reports.specs.{NoReports.{IfJudged, IsNoReport}, Places.note_at, Reports.{AreLeft, IsReportOf}};
+ghost use Rattle.tte_audit.specs.Named.{IsNamed};
 
+use crate::places::places_of;
 use crate::{NoReport, Records};
+use audit_sweep::Index;
+use net_plan::Network;
+use run_law::Note;
 use schedule_tables::Accepted;
 use std::alloc::Global;
 use tte_audit::{AuditRefusal, audit};
@@ -20,11 +25,15 @@ pub struct AuditedReport {
     octets: Bytes,
     // How many records it has.
     count: u64,
+    // Where the line of each record begins.
+    places: Vec<usize>,
+    /// What its events set and its records show, at any of its times.
+    pub index: Index,
 }
 
 impl AuditedReport {
     /// How many records the report has.
-    pub(crate) fn count(&self) -> u64
+    pub fn count(&self) -> u64
         ensures { result ≡ self.now.count }
     {
         self.count
@@ -35,6 +44,26 @@ impl AuditedReport {
         ensures { result.now ≡ self.now.octets }
     {
         self.octets.as_slice()
+    }
+
+    /// The record of the number, from 1.
+    pub fn record(&self, network: &Network, number: u64) -> Option<Note>
+        requires named { IsNamed network.now }
+        requires read { IsRead network.now self.now }
+        ensures { (notes : List NoteValue) (end : UnitsValue)
+            → IsReportOf network.now self.now.octets notes end → result ≡ note_at notes number }
+    {
+        if number == 0 {
+            return None;
+        }
+        match self.places.get((number - 1) as usize) {
+            Some(place) => {
+                let (_, rest) = self.octets.as_slice().split_at(*place);
+                let mut records = Records { rest };
+                records.next(network)
+            }
+            None => None,
+        }
     }
 
     /// The records of the report from the first on.
@@ -58,8 +87,7 @@ pub fn read_report<B: Source>(
         (λ report. (notes : List NoteValue) × (end : UnitsValue) × IsReportOf accepted.now octets notes end
         × (report.octets ≡ octets))
         (λ cause. IsNoReport accepted.now octets cause)) }
-    ensures counted { IfOk result (λ report. (notes : List NoteValue) (end : UnitsValue)
-        → IsReportOf accepted.now report.octets notes end → report.count ≡ length notes) }
+    ensures read { IfOk result (IsRead accepted.now) }
     ensures fault { result ≡ Err NoReport.ReadFault → ReadFailed B.Source second.old second.new }
     ensures taken { TakesSome (B.left second.old) (B.left second.new) }
     // Where the octets were judged, they are all.
@@ -83,14 +111,21 @@ fn audit_octets(
         (λ report. (notes : List NoteValue) × (end : UnitsValue) × IsReportOf accepted.now octets notes end
         × (report.octets ≡ octets))
         (λ cause. IsNoReport accepted.now octets cause) }
-    ensures counted { IfOk result (λ report. (notes : List NoteValue) (end : UnitsValue)
-        → IsReportOf accepted.now report.octets notes end → report.count ≡ length notes) }
+    ensures read { IfOk result (IsRead accepted.now) }
     ensures fault { result ≢ Err NoReport.ReadFault }
 {
     // The checker has to meet the network here.
     let _network = accepted.network();
     match audit(alloc, accepted, octets.as_slice()) {
-        Ok(count) => Ok(AuditedReport { octets, count }),
+        Ok(passed) => match places_of(alloc, octets.as_slice()) {
+            Ok(places) => Ok(AuditedReport {
+                octets,
+                count: passed.count,
+                places,
+                index: passed.index,
+            }),
+            Err(_) => Err(NoReport::OutOfMemory),
+        },
         Err(AuditRefusal::OutOfMemory) => Err(NoReport::OutOfMemory),
         Err(refusal) => Err(NoReport::Refused(refusal)),
     }

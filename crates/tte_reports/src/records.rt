@@ -1,10 +1,10 @@
-ghost use Rattle.std.specs.Prelude.{◌<◌, ◌∷◌, ◌≡◌, IfSome, List, MatchOption, [], length, position};
-ghost use Rattle.{run_law.specs.declared.note.Note.{Note as NoteValue}, tte_audit.specs.Report.is_line_end};
-ghost use Rattle.{tte_audit.specs.Named.IsNamed, tte_reports.specs.Reports.AreLeft};
+ghost use Rattle.std.specs.Prelude.{◌∷◌, ◌≡◌, List, MatchOption, []};
+ghost use Rattle.{run_law.specs.declared.note.Note.{Note as NoteValue}, tte_audit.specs.Named.IsNamed};
+ghost use Rattle.tte_reports.specs.Reports.{AreLeft};
 
 use net_plan::Network;
 use run_law::Note;
-use tte_audit::note_line;
+use tte_audit::{first_lf, note_line};
 
 /// The records of a report, one after another. It keeps none of them; for a second reading ask the report anew.
 #[derive(Drop)]
@@ -31,11 +31,4 @@ impl<'a> Records<'a> {
             None => None,
         }
     }
-}
-
-fn first_lf(octets: &[u8]) -> Option<usize>
-    ensures place { result ≡ position is_line_end octets.now }
-    ensures within { IfSome result (λ place. place < length octets.now) }
-{
-    octets.iter().position(|octet| *octet == b'\n')
 }

@@ -1,7 +1,9 @@
 -- The answer for the words.
 use Rattle.{net_plan.specs.Bounds.BetaIsUnique, std.specs.Prelude.IfSome, tte_forms.specs.Putting.Shown}
 use Rattle.{net_plan.specs.declared.event.Event.Event, tte_forms.specs.Forms.{IsFormInRange, form_of}, tte_traces.specs.storms.Answer.IsStormAnswer}
-use Rattle.{net_plan.specs.declared.network.Network.Network, tte_forms.specs.networks.Checking.IsAcceptance, tte_reports.proofs.Answers.{audit_done, audit_one}}
+use Rattle.{tte_reports.proofs.Reports.{audit_done, report_one}, tte_reports.specs.Reports.{IsAuditAnswer, IsAuditedAnswer}}
+use Rattle.{net_plan.specs.declared.network.Network.Network, tte_forms.specs.networks.Checking.IsAcceptance, tte_run.specs.Whole.{Completes, MeansRun}}
+use Rattle.{tte_traces.specs.Along.IsAllAdmitted, tte_traces.specs.Answer.IsRunAnswer}
 use Rattle.{schedule_checker.specs.Refusals.RefusalIsOne, tte_forms.proofs.frames.Answers.shows_frames, tte_traces.proofs.Completes.{run_done, run_one}}
 use Rattle.{std.proofs.Common.{◌∙◌, ◌≡◌, List, None, Option, Some, ap, inl, refl, subst, sym, ℕ}, tte_observers.specs.votes.Answer.{IsVoteAnswer, the_names}}
 use Rattle.tte_forms.{proofs.{FormLemmas.form_in_range, Octets.for_more, OneAnswers.answered_done}, specs.{declared.form.Form.Form, frames.Answer.show_answer}}
@@ -12,7 +14,6 @@ use Rattle.{tte_forms.specs.declared.status.Status.TheVariants.{Done, ReadFault,
 use Rattle.{tte_forms.specs.declared.status.Status.Status, tte_run.{proofs.WireAnswers.{wire_done, wire_one}, specs.SecondFiles.{ForSecond, second_of}}}
 use Rattle.tte_observers.{proofs.stamps_lemmas.Completes.{stamp_done, stamp_one}, specs.captures.wires.Answer.{IsWireAnswer, IsWireNetworkAnswer}}
 use Rattle.{tte_observers.specs.{captures.Answer.capture_answer, stamps.Answer.IsStampAnswer}, tte_traces.proofs.storms_lemmas.OneAnswer.storm_one}
-use Rattle.{tte_reports.specs.Answer.IsAuditAnswer, tte_run.specs.Whole.{Completes, MeansRun}, tte_traces.specs.{Along.IsAllAdmitted, Answer.IsRunAnswer}}
 
 -- the one answer for the octets of a file is one of those
 pub as_one : (answer : List ℕ → Answer) (first : Option (List ℕ)) (status : Status) (old new : Shown) → Answers answer first status old new
@@ -88,7 +89,7 @@ form_one unique one (Some Check) range octets trace a b p q = network_answer_one
 form_one unique one (Some Run) range octets trace a b p q = run_one one octets trace a b p q
 form_one unique one (Some (Storm seed cycles)) range octets trace a b p q = storm_one one seed cycles range.1 octets a b p q
 form_one unique one (Some (Stamp granule)) range octets trace a b p q = stamp_one one granule octets trace a b p q
-form_one unique one (Some Audit) range octets trace a b p q = audit_one one octets trace a b p q
+form_one unique one (Some Audit) range octets trace a b p q = report_one one IsAuditedAnswer (λ network text notes end x y rules of i j. i ∙ sym j) octets trace a b p q
 form_one unique one (Some Capture) range octets trace a b p q = p ∙ sym q
 form_one unique one (Some (Wire link way)) range octets trace a b p q = wire_one one link way octets trace a b p q
 form_one unique one (Some (Vote x y z)) range octets trace a b p q = vote_one one (the_names x y z) octets trace a b p q

@@ -10,7 +10,7 @@ use Rattle.tte_observers.specs.{captures.Answer.capture_answer, votes.Answer.{Is
 use Rattle.tte_observers.specs.captures.wires.{Answer.{IsWireAnswer, IsWireNetworkAnswer}, Safely.WiresSafely}
 use Rattle.{tte_observers.specs.stamps.Safely.StampsSafely, tte_traces.specs.storms.Safely.SummarisesSafely}
 use Rattle.{tte_observers.specs.votes.Safely.VotesSafely, tte_run.specs.SecondFiles.{ForSecond, second_of}}
-use Rattle.{tte_reports.specs.{Answer.IsAuditAnswer, Safely.AuditsSafely}, tte_traces.specs.Safely.WritesSafely}
+use Rattle.{tte_reports.specs.{Reports.IsAuditAnswer, Safely.AuditsSafely}, tte_traces.specs.Safely.WritesSafely}
 
 -- the line for words of no form
 abbrev pub usage_line : List ℕ

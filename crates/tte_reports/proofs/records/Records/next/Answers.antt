@@ -1,5 +1,6 @@
-use Rattle.{std.proofs.Common.{◌+◌, ◌∙◌, ◌≡◌, None, Some, subst, sym}, tte_reports.proofs.RecordLines.{AreLines, first_then, no_text_left, none_left}}
+use Rattle.{std.proofs.Common.{◌+◌, ◌∙◌, ◌≡◌, None, Some, subst, sym}, tte_reports.proofs.RecordLines.{first_then, no_text_left, none_left}}
 use Rattle.{std.{proofs.lemmas.List.take_rest, specs.Prelude.{drop, position}}, tte_audit.{proofs.Parts.record_at, specs.Report.is_line_end}}
+use Rattle.tte_reports.specs.Reports.{AreLines}
 use Rattle.tte_reports.proofs.records.Records.next.Goals as goal
 
 pub returns-in-Some-note_line : goal.returns-in-Some-note_line
@@ -9,21 +10,18 @@ returns-in-Some-note_line c notes h =
     let place = c.in-Some.place in
     let at : position is_line_end octets ≡ Some place = sym c.first_lf.ensures.place ∙ c.in-Some.is in
     let here = record_at network octets place c.in-Some-note_line.note at c.in-Some-note_line.ensures in
-    let next = first_then network c.in-Some-note_line.note octets (drop (place + 1) octets) notes c.requires.named here
-    (record { of_network = h.of_network; text = h.text }) in
+    let next = first_then network c.in-Some-note_line.note octets (drop (place + 1) octets) notes c.requires.named here h in
     let left = take_rest octets (place + 1) in
-    let lines = subst (λ xs. AreLines network xs next.rest) (sym left) next.lines in
-    (next.rest, next.is, record { of_network = lines.of_network; text = lines.text })
+    (next.rest, next.is, subst (λ xs. AreLines network xs next.rest) (sym left) next.lines)
 
 pub returns-in-None-note_line : goal.returns-in-None-note_line
 returns-in-None-note_line c notes h =
     let octets = c.args.self.now.rest.now in
     let at : position is_line_end octets ≡ Some c.in-Some.place = sym c.first_lf.ensures.place ∙ c.in-Some.is in
-    no_text_left c.args.network.now octets notes c.in-Some.place c.requires.named at c.in-None-note_line.ensures
-    (record { of_network = h.of_network; text = h.text })
+    no_text_left c.args.network.now octets notes c.in-Some.place c.requires.named at c.in-None-note_line.ensures h
 
 pub returns-in-None : goal.returns-in-None
 returns-in-None c notes h =
     let octets = c.args.self.now.rest.now in
     let none : position is_line_end octets ≡ None = sym c.first_lf.ensures.place ∙ c.in-None.is in
-    none_left c.args.network.now octets notes c.requires.named none (record { of_network = h.of_network; text = h.text })
+    none_left c.args.network.now octets notes c.requires.named none h
