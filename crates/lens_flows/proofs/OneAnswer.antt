@@ -2,7 +2,7 @@
 use Rattle.{audit_law.specs.events.Readings.scenario_under, run_law.specs.records.Happenings.happenings, tte_units.specs.declared.units.Units.Units}
 use Rattle.lens_flows.{proofs.counts_lemmas.OneTold.{all_told_one, count_one, flows_one}, specs.{Lines.flow_line, declared.counts.told.FlowTold.FlowTold}}
 use Rattle.{lens_flows.specs.{Answer.{IsFlowsAnswer, IsMissingAt}, counts.Deliveries.deliveries_of}, net_plan.specs.declared.network.Network.Network}
-use Rattle.{run_law.specs.declared.note.Note.Note, schedule_tables.specs.Rules.KeepsRules, tte_reports.{proofs.Reports.IsOneFor, specs.Reports.IsReportOf}}
+use Rattle.{run_law.specs.declared.note.Note.Note, tte_reports.specs.Reports.IsOneFor}
 use Rattle.{run_law.specs.records.Order.IsIn, tte_audit.specs.Report.events_of, tte_forms.specs.Answering.Answer, tte_units.specs.Amount.amount}
 use Rattle.{std.proofs.Common.{◌∙◌, ◌∷◌, ◌≡◌, List, [], ap, inl, inr, map, refl, subst, sym, ℕ}, tte_forms.specs.declared.status.Status.TheVariants.Done}
 

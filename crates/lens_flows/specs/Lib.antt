@@ -3,5 +3,4 @@ pub mod counts
 pub mod Lines
 pub mod Answer
 pub mod Writing
-pub mod Seeing
 pub mod Laws

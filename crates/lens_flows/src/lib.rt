@@ -8,5 +8,5 @@ mod laws;
 mod lines;
 mod seeing;
 
-pub use answering::flows;
+pub use answering::Flows;
 pub use laws::flows_law;

@@ -1,7 +1,4 @@
 -- What was seen of records, and one more.
-pub use Rattle.audit_sweep.proofs.NextRecords.{steady}
-pub use Rattle.audit_sweep.proofs.NextRecords.{records_next}
-pub use Rattle.audit_sweep.proofs.NextRecords.{subject_there}
 use Rattle.lens_flows.specs.{counts.{Deliveries.{deliveries_of, delivery_by}, Seen.some_delivery}, declared.counts.deliveries.Delivery.Delivery}
 use Rattle.{run_law.specs.declared.note.Note.Note, std.proofs.{Common.{◌++◌, ◌∙◌, ◌∷◌, ◌≡◌, List, [], ap, refl}, lemmas.List.Elements.filter_map-append}}
 use Rattle.{std.{proofs.lemmas.List.map-append, specs.Prelude.{None, Option, Some, filter_map}}, tte_units.specs.Amount.amount}

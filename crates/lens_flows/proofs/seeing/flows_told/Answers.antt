@@ -1,29 +1,52 @@
-use Rattle.{lens_flows.{proofs.Reading.read_by, specs.Answer.AreAllTold}, tte_audit.specs.Telling.IsReadOf, tte_reports.specs.Reports.IsReportOf}
-use Rattle.{lens_flows.specs.Seeing.{IsSomeReport, TellsEvents}, std.proofs.Common.{◌<◌, ◌^◌, ◌∙◌, ◌≡◌, List, ap, arith, length, rules, subst, sym, ℕ}}
-use Rattle.{net_plan.specs.declared.network.Network.Network, run_law.specs.declared.note.Note.Note, tte_units.specs.declared.units.Units.Units}
-use Rattle.{std.specs.Prelude.IfOk, tte_audit.specs.Named.IsNamed}
+use Rattle.{lens_flows.proofs.AllTold.{all_told, flows_each}, run_law.specs.records.Happenings.happenings, tte_reports.proofs.Times.{end_same, end_soon}}
+use Rattle.lens_flows.proofs.Reading.{deliveries_soon}
+use Rattle.{lens_flows.specs.counts.FlowLists.AreFlows, std.specs.Prelude.{All, unsigned_abs}, tte_units.specs.{Amount.amount, declared.units.Units.Units}}
+use Rattle.{lens_flows.specs.declared.counts.deliveries.Delivery.Delivery, std.proofs.Common.{◌^◌, ◌∙◌, ◌≤◌, List, ap, arith, rules, subst, sym, ℤ}}
+use Rattle.{std.{proofs.lemmas.Int.to_z-of_z, specs.Int.w64}, tte_audit.specs.Report.events_of}
 use Rattle.lens_flows.proofs.seeing.flows_told.Goals as goal
 
-pub read_events-requires : goal.read_events-requires
-read_events-requires c =
-    let fits = c.requires.2.fits in
-    let same = ap (λ (xs : List ℕ). length xs) c.as_slice.ensures in
-    omega (arith, fits, same)
+pub deliveries_in-requires-clause-report : goal.deliveries_in-requires-clause-report
+deliveries_in-requires-clause-report c = c.requires.read.some
 
-pub tell_flows-requires-clause-named : goal.tell_flows-requires-clause-named
-tell_flows-requires-clause-named c = subst IsNamed (sym c.network.ensures.value) c.keep_names_apart.ensures
+pub flows_of-requires : goal.flows_of-requires
+flows_of-requires c = c.requires.read.some.2.range
 
-pub tell_flows-requires-clause-report : goal.tell_flows-requires-clause-report
-tell_flows-requires-clause-report c = subst (λ (n : Network). IsSomeReport n c.args.report.now.octets) (sym c.network.ensures.value) c.requires
+pub tell_all-requires-clause-fit : goal.tell_all-requires-clause-fit
+tell_all-requires-clause-fit c =
+    let network = c.args.network.now in
+    let some = c.requires.read.some in
+    let shows = c.requires.read.index some.0 some.1 some.2 in
+    let soon = end_soon network c.args.report.now.octets some.0 some.1 some.2 in
+    let until = c.unsigned_abs-until.ensures.value ∙ ap (λ (z : ℤ). unsigned_abs z) (to_z-of_z w64 c.args.report.now.index.end.0 (search rules))
+    ∙ ap (λ (u : Units). amount u) (sym (end_same network c.args.report.now.octets some.0 some.1 c.args.report.now.index some.2 shows)) in
+    record { range = some.2.range; standing = shows.devices; timely = omega (arith, until, soon) }
 
-pub tell_flows-requires-clause-events : goal.tell_flows-requires-clause-events
-tell_flows-requires-clause-events c =
-    let octets = c.args.report.now.octets in
-    let read = subst (λ (xs : List ℕ). (others : List Note) × IsReadOf c.args.accepted.now xs others c.in-Ok.read) c.as_slice.ensures c.in-Ok.ensures.judged in
-    subst (λ (n : Network). TellsEvents n octets c.in-Ok.read) (sym c.network.ensures.value)
-    (λ notes end r. read_by c.args.accepted.now octets read.0 notes end c.in-Ok.read c.keep_names_apart.ensures read.1 r)
+pub tell_all-requires-clause-known : goal.tell_all-requires-clause-known
+tell_all-requires-clause-known c =
+    let network = c.args.network.now in
+    let some = c.requires.read.some in
+    let shows = c.requires.read.index some.0 some.1 some.2 in
+    (events_of some.0, happenings network some.0, record { remembers = shows.events; stands = shows.standings })
 
-pub returns-in-Ok : goal.returns-in-Ok
-returns-in-Ok c =
-    subst (λ (n : Network). IfOk c.tell_flows.result (λ told. (notes : List Note) (end : Units) → IsReportOf n c.args.report.now.octets notes end
-    → AreAllTold n notes end told.items)) c.network.ensures.value c.tell_flows.ensures
+pub tell_all-requires-clause-flows : goal.tell_all-requires-clause-flows
+tell_all-requires-clause-flows c =
+    let network = c.args.network.now in
+    flows_each network c.as_slice-all.result.now (subst (AreFlows network) (sym c.as_slice-all.ensures.value) c.in_ok-flows.ensures)
+
+pub tell_all-requires-clause-timely : goal.tell_all-requires-clause-timely
+tell_all-requires-clause-timely c =
+    let some = c.requires.read.some in
+    subst (λ (ds : List Delivery). All (λ (d : Delivery). d.time ≤ 2 ^ 60) ds)
+    (sym (c.as_slice-deliveries.ensures.value ∙ c.in_ok-seen.ensures some.0 some.1 some.2))
+    (deliveries_soon c.args.network.now c.args.report.now.octets some.0 some.1 some.2)
+
+pub returns : goal.returns
+returns c notes end r =
+    let network = c.args.network.now in
+    let shows = c.requires.read.index notes end r in
+    let until = c.unsigned_abs-until.ensures.value ∙ ap (λ (z : ℤ). unsigned_abs z) (to_z-of_z w64 c.args.report.now.index.end.0 (search rules))
+    ∙ ap (λ (u : Units). amount u) (sym (end_same network c.args.report.now.octets notes end c.args.report.now.index r shows)) in
+    all_told network notes end c.unsigned_abs-until.result c.as_slice-deliveries.result.now c.as_slice-all.result.now c.in_ok-told.told.items
+    (subst (AreFlows network) (sym c.as_slice-all.ensures.value) c.in_ok-flows.ensures) until
+    (c.as_slice-deliveries.ensures.value ∙ c.in_ok-seen.ensures notes end r)
+    (c.in_ok-told.ensures (events_of notes) (happenings network notes) (record { remembers = shows.events; stands = shows.standings }))
