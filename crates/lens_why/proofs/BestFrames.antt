@@ -8,7 +8,8 @@ use Rattle.{lens_why.specs.Corrections.{told_on, value_of, with_hearing}, sync_s
 use Rattle.{lens_why.specs.declared.{ground.Best.Best, seeking.Sought.TheVariants.Frame}, run_law.proofs.law.FirstPlaces.{front_founded, in_filter}}
 use Rattle.{lens_why.specs.declared.ground.Ground.TheVariants.{Clique, Corrected}, sync_state.specs.declared.membership.frame.HeardFrame.HeardFrame}
 use Rattle.{lens_why.specs.declared.ground.Told.Told, run_law.{proofs.{records.Members.in_kept, runs.Lacking.behind_first}, specs.scenario.Scenarios.Scenario}}
-use Rattle.{lens_why.specs.past.Pasts.before_corrections, sync_state.specs.{Standing.next_point, declared.state.State.State, membership.Hearing.Hearing}}
+use Rattle.sync_state.specs.{Standing.next_point, declared.state.State.State, membership.Hearing.Hearing}
+use Rattle.audit_sweep.specs.Indexing.{before_corrections}
 use Rattle.{run_law.specs.declared.{judgement.Why.Why, note.Note.Note}, tte_audit.proofs.ReportRuns.audit_run, tte_reports.specs.Reports.IsReportOf}
 use Rattle.{run_law.specs.{declared.note.NoteBody.NoteBody, records.Order.{IsBefore, IsIn, is_before}}, tte_units.specs.declared.frames.members.Members.Members}
 use Rattle.{run_law.specs.device.States.adjustment_before, std.proofs.lemmas.Bool.{and_from, cases_Bool, eq-eqb, eqb-true, lt-ltb, ltb-true, or_left, or_right}}

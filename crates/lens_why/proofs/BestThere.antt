@@ -6,7 +6,8 @@ use Rattle.{lens_why.proofs.{BestFrames.summarized, Naming.earlier_by}, run_law.
 use Rattle.lens_why.specs.Corrections.{channel_ground, clique_ground, corrected_ground, heard_at_point, said_by, told_by, told_on, value_of}
 use Rattle.{lens_why.specs.{Grounds.ground_by, declared.seeking.Sought.TheVariants.Frame}, run_law.specs.records.Ranks.{key, members_in, place_of, rank}}
 use Rattle.lens_why.specs.{Laws.{BestAreThere, best_number, told_in, told_number}, Seeking.{is_channel, is_frame, is_hearing_of, is_sought, last_sought}}
-use Rattle.{lens_why.specs.past.Pasts.before_corrections, run_law.specs.control.Corrections.hearing_by, sync_state.specs.membership.Hearing.within_on}
+use Rattle.{run_law.specs.control.Corrections.hearing_by, sync_state.specs.membership.Hearing.within_on}
+use Rattle.audit_sweep.specs.Indexing.{before_corrections}
 use Rattle.run_law.{proofs.law.FirstPlaces.{founded_at, in_filter}, specs.{device.LocalClocks.changes_adjustment, records.Order.{IsBefore, IsIn, is_before}}}
 use Rattle.{run_law.proofs.records.Order.{before_is, given_of, has_passed, in_drop, is_there}, sync_state.specs.declared.membership.frame.HeardFrame.HeardFrame}
 use Rattle.run_law.{proofs.runs.Places.{in_parts, in_right}, specs.{declared.note.{Note.Note, NoteBody.NoteBody}, device.States.adjustment_before}}

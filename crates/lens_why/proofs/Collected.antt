@@ -3,17 +3,19 @@ use Rattle.{audit_devices.specs.Effects.carried_by, compression.proofs.Sound.ope
 use Rattle.{audit_devices.specs.Keeping.records_before, compression.proofs.{Rows.last_split, Taking.role_in-joined}, tte_units.specs.declared.units.Units.Units}
 use Rattle.{audit_devices.specs.declared.effect.Carried.Carried, audit_law.proofs.collections_lemmas.Stepping.{AreBefore, are-ignored, are-joined, are-opened}}
 use Rattle.{compression.proofs.{Elements.{Ordered, Ordered-from}, Standing.AreClusters-unique}, std.proofs.lemmas.List.{Elements.filter_map-append, append-nil}}
-use Rattle.{compression.specs.Clusters.{AreClusters, Cluster, Point}, tte_reports.specs.{Reports.{AreLeft, IsReportOf}, declared.records.Records.Records}}
-use Rattle.{compression.specs.{Collection.{joined, opening}, declared.taken.Taken.Taken}, std.specs.Prelude.{filter_map, fold, option_map}}
+use Rattle.{compression.specs.Clusters.{AreClusters, Cluster, Point}, tte_reports.specs.Reports.IsReportOf}
+use Rattle.{compression.specs.{Collection.{joined, opening}, declared.taken.Taken.Taken}, std.specs.Prelude.{filter_map, fold, option_map, take}}
 use Rattle.compression.specs.Role.{open_at, role}
 use Rattle.{compression.specs.declared.taken.Taken.TheVariants.{Joined, Opened, OtherCycle, Repeat}, lens_why.specs.declared.collecting.Collection.Collection}
-use Rattle.{lens_why.proofs.LastRecords.gone_more, run_law.specs.{declared.note.Note.Note, device.States.cycle_in}, std.proofs.lemmas.List.Sums.fold_push}
-use Rattle.{lens_why.proofs.Notes.{IsUnderWay, begun, begun_none, next_missed}, run_law.specs.records.Happenings.{Happening, happening, happenings}}
+use Rattle.{lens_why.proofs.LastRecords.{before_number, own_at}, run_law.specs.declared.note.Note.Note, std.proofs.lemmas.List.Sums.fold_push}
+use Rattle.run_law.specs.device.States.{cycle_in}
+use Rattle.{lens_why.specs.Records.IsThere, run_law.specs.records.Happenings.{Happening, happenings}}
 use Rattle.lens_why.specs.Collections.{LastIsOfClusters, behind_point, collected_ground, last_collection, last_of, taken_to, told_of}
 use Rattle.{lens_why.specs.declared.ground.Ground.TheVariants.Collected, std.specs.List.{AllByRecursion, after_last, cons_option, last_or}}
 use Rattle.{net_plan.specs.declared.{ids.DeviceId.DeviceId, network.Network.Network}, tte_units.proofs.general_lemmas.Lists.last_pushed}
 use Rattle.run_law.specs.{control.Collections.{ends_stretch, master_of, observation_window, point_by, points_of}, records.Ranks.{members_in, place_of}}
-use Rattle.std.proofs.Common.{◌++◌, ◌∙◌, ◌∷◌, ◌≡◌, ◌≤ℤ◌, List, None, Option, Some, [], ap, append_assoc, false, inl, inr, pos, refl, subst, sym, ℕ, ℤ}
+use Rattle.std.proofs.Common.{◌++◌, ◌+◌, ◌-◌, ◌<◌, ◌∙◌, ◌∷◌, ◌≡◌, ◌≤ℤ◌, ◌≤◌, List, None, Option, Some, [], ap, append_assoc, arith, false, inl, inr, pos, refl}
+use Rattle.std.proofs.Common.{subst, sym, ℕ, ℤ}
 
 -- ---- one more record
 
@@ -111,33 +113,41 @@ last_is_of_clusters ow points clusters some up are =
 
 -- ---- the records of a report
 
--- what was collected by the records so far
-abbrev pub IsCollected : Network → List ℕ → ℕ → DeviceId → Records → ℕ → Option Collection → Type 0
-IsCollected network octets number device records count last =
-    (u : IsUnderWay network octets number records count)
-    × (last ≡ option_map told_of (last_collection network device (happenings network u.gone)))
+-- behind the records of lower numbers than this, the last collection is this
+pub record IsCollectedUpTo (network : Network) (device : DeviceId) (hs : List Happening) (number at : ℕ) (last : Option Collection) : Type 0 where
+  pub within : at ≤ number
+  pub is : last ≡ option_map told_of (last_collection network device (take (at - 1) hs))
 
--- at first nothing
-pub collected_none : (network : Network) (octets : List ℕ) (number : ℕ) (device : DeviceId) (records : Records) (ns : List Note) (end : Units)
-    → IsReportOf network octets ns end → AreLeft network records ns → IsCollected network octets number device records 0 None
-collected_none network octets number device records ns end of left = (
-  begun network octets number records ns end of left,
-  sym (ap (λ (gs : List Note). option_map told_of (last_collection network device (happenings network gs)))
-      (begun_none network octets number records ns end of left)),
-)
+module _ (network : Network) (octets : List ℕ) (ns : List Note) (end : Units) (of : IsReportOf network octets ns end) (device : DeviceId) (number : ℕ)
+    (h : Happening) (there : IsThere network ns number h) where
+  pub collected_none : IsCollectedUpTo network device (happenings network ns) number 1 None
+  collected_none = record { within = (before_number network octets ns end of number h there).some; is = refl }
 
--- and by one more
-pub collected_more : (network : Network) (octets : List ℕ) (number : ℕ) (device : DeviceId) (records : Records) (count : ℕ) (last : Option Collection)
-    (w : IsCollected network octets number device records count last) (note : Note) (behind : List Note) (parts : w.0.rest ≡ note ∷ behind)
-    (after : Records) (more : Option Collection) → AreLeft network after behind → (note.number ≡ number → ⊥) → more ≡ option_map told_of
-    (last_collection network device (happenings network w.0.gone ++ happening network (happenings network w.0.gone) note ∷ []))
-    → IsCollected network octets number device after note.number more
-collected_more network octets number device records count last w note behind parts after more left not is = (
-  next_missed network octets number records count w.0 note behind parts after left not,
-  is
-      ∙ ap (λ (hs : List Happening). option_map told_of (last_collection network device hs))
-      (sym (gone_more network octets number records count w.0 note behind parts after left not)),
-)
+  pub collected_more : (at : ℕ) (last more : Option Collection) → 1 ≤ at → at < number
+      → IsCollectedUpTo network device (happenings network ns) number at last
+      → ((g : Happening) (before : List Happening) → IsThere network ns at g → last ≡ option_map told_of (last_collection network device before)
+      → more ≡ option_map told_of (last_collection network device (before ++ g ∷ [])))
+      → IsCollectedUpTo network device (happenings network ns) number (at + 1) more
+  collected_more at last more some less so is =
+      let within = (before_number network octets ns end of number h there).within in
+      let o = own_at network octets ns end of at some (omega (arith, less, within)) in
+      let next : at + 1 - 1 ≡ at = omega arith in
+      record {
+        within = omega (arith, less);
+        is = is o.own (take (at - 1) (happenings network ns)) o.there so.is
+            ∙ ap (λ (gs : List Happening). option_map told_of (last_collection network device gs)) (sym o.taken)
+            ∙ ap (λ (n : ℕ). option_map told_of (last_collection network device (take n (happenings network ns)))) (sym next);
+      }
+
+  pub collected_all : (at : ℕ) (last : Option Collection) → number ≤ at → IsCollectedUpTo network device (happenings network ns) number at last
+      → last ≡ option_map told_of (last_collection network device (records_before (place_of h) (happenings network ns)))
+  collected_all at last past so =
+      let within = so.within in
+      let b = before_number network octets ns end of number h there in
+      let reached : at ≡ number = omega (arith, past, within) in
+      so.is
+      ∙ ap (λ (n : ℕ). option_map told_of (last_collection network device (take (n - 1) (happenings network ns)))) reached
+      ∙ ap (λ (gs : List Happening). option_map told_of (last_collection network device gs)) (sym b.are)
 
 -- what is told is the ground
 pub collected_is : (network : Network) (hs : List Happening) (device : DeviceId) (h : Happening) (carried : Carried) (master : ℕ) (last : Option Collection)

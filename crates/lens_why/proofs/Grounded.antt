@@ -1,6 +1,7 @@
 -- The ground of a record, by what the record says.
-use Rattle.{lens_why.specs.{Grounds.{ground_by, ground_of, position_at}, past.Pasts.{IsSomePast, IsSomeReport, ShowsAll}}, tte_units.specs.Amount.amount}
-use Rattle.lens_why.specs.{Records.{ComesFrom, IsCorrection, IsState, IsThere}, declared.{ground.Ground.Ground, past.reading.KnownReport.KnownReport}}
+use Rattle.{lens_why.specs.Grounds.{ground_by, ground_of, position_at}, tte_units.specs.Amount.amount}
+use Rattle.{audit_sweep.specs.Indexing.IsSomeIndex, tte_reports.specs.Commands.IsRead, tte_reports.specs.declared.reading.AuditedReport.AuditedReport}
+use Rattle.lens_why.specs.{Records.{ComesFrom, IsCorrection, IsState, IsThere}, declared.ground.Ground.Ground}
 use Rattle.{net_plan.specs.declared.{ids.DeviceId.DeviceId, network.Network.Network}, run_law.specs.declared.{judgement.Why.Why, note.NoteBody.NoteBody}}
 use Rattle.run_law.{proofs.law.FirstPlaces.number_is, specs.{declared.note.Note.Note, scenario.Scenarios.Scenario}}
 use Rattle.{run_law.specs.records.Happenings.{Happening, happenings, numbered, time_of}, std.proofs.Common.{◌∙◌, ◌≡◌, List, Option, Some, ap, subst, sym, ℕ, ℤ}}
@@ -8,8 +9,9 @@ use Rattle.{sync_state.specs.declared.state.State.State, tte_audit.specs.Report.
 use Rattle.run_law.specs.declared.note.NoteBody.TheVariants as notes
 
 -- what the records of the report show is what some records show
-pub past_there : (network : Network) (known : KnownReport) → IsSomeReport network known.report.octets → ShowsAll network known → IsSomePast network known.past
-past_there network known r shows = (events_of r.0, happenings network r.0, shows r.0 r.1 r.2)
+pub index_there : (network : Network) (report : AuditedReport) → IsRead network report → IsSomeIndex network report.index
+index_there network report read =
+    let r = read.some in (events_of r.0, happenings network r.0, read.index r.0 r.1 r.2)
 
 module _ (s : Scenario) (hs : List Happening) (h : Happening) (note : Note) (giving : Option Note) (from : ComesFrom s hs h note giving) where
   -- what is the ground by the record's body is its ground

@@ -1,11 +1,12 @@
 -- What the frame of a permanence is judged by.
 use Rattle.{audit_devices.specs.Effects.carried_by, run_law.specs.scenario.Scenarios.Scenario}
-use Rattle.{audit_devices.specs.Keeping.records_before, lens_why.specs.past.Pasts.permanence_place, tte_units.specs.{Amount.amount, declared.units.Units.Units}}
+use Rattle.{audit_devices.specs.Keeping.records_before, tte_units.specs.{Amount.amount, declared.units.Units.Units}}
+use Rattle.audit_sweep.specs.Indexing.{permanence_place}
 use Rattle.{audit_devices.specs.declared.effect.Carried.Carried, run_law.specs.declared.{judgement.Judgement.Judgement, note.{Note.Note, NoteBody.NoteBody}}}
 use Rattle.{lens_why.specs.{Collections.collected_ground, Records.{ComesFrom, IsPermanence}}, net_plan.specs.declared.ids.DeviceId.DeviceId}
 use Rattle.lens_why.specs.Grounds.{heard_ground, hearing_adjustment, is_by_schedule, is_collected, permanent_ground, scheduled_ground}
 use Rattle.{lens_why.specs.declared.ground.Ground.{Ground, TheVariants.{Heard, Untold}}, run_law.specs.device.States.{adjustment_at_hearing, cycle_in}}
-use Rattle.{lens_why.specs.declared.past.past.Permanence.Permanence, run_law.specs.records.{Happenings.Happening, Ranks.{members_in, place_at, place_of}}}
+use Rattle.{audit_sweep.specs.declared.index.Permanence.Permanence, run_law.specs.records.{Happenings.Happening, Ranks.{members_in, place_at, place_of}}}
 use Rattle.std.proofs.{Common.{◌+ℤ◌, ◌-ℤ◌, ◌∙◌, ◌≡◌, Bool, List, Option, ap, arith, false, if◌then◌else◌, sym, true, ℕ, ℤ}, lemmas.Int.ints}
 use Rattle.run_law.specs.declared.note.NoteBody.TheVariants as notes
 

@@ -1,15 +1,15 @@
--- The last record that is looked for, found one record after another.
+-- The last record that is looked for, found from one record back to another.
 use Rattle.{audit_devices.specs.Keeping.records_before, lens_why.specs.{Records.IsThere, Seeking.{is_sought, last_sought}, declared.seeking.Sought.Sought}}
-use Rattle.{lens_why.proofs.Notes.{IsUnderWay, begun, begun_none, next_gone, next_missed, next_number}, run_law.proofs.runs.Places.{chain, never_self, parted}}
-use Rattle.{net_plan.specs.declared.network.Network.Network, std.proofs.{Common.{refl, subst, suc, sym, true, ℕ}, lemmas.List.Elements.filter-append}}
-use Rattle.run_law.{proofs.law.FirstPlaces.{at_length, none_kept, numbered_in}, specs.records.Happenings.{Happening, happening, happenings, numbered}}
-use Rattle.run_law.{proofs.records.{Happenings.as_many, Order.{all_kept, before_is, is_there}}, specs.records.Order.{IsBefore, IsIn, is_before}}
-use Rattle.run_law.{proofs.runs.{Lacking.behind_first, NetworkRuns.one_more}, specs.{declared.note.Note.Note, records.Ranks.place_of, runs.DueRecords.IsDue}}
-use Rattle.{run_law.specs.runs.Runs.IsFounded, std.specs.Option.option_map_or, tte_audit.specs.Report.scenario_of, tte_reports.proofs.Reports.one_notes}
-use Rattle.std.proofs.Common.{◌++◌, ◌∙◌, ◌∷◌, ◌≡◌, Bool, List, None, Option, Some, [], ap, arith, false, filter, if◌then◌else◌, inl, inr, length, length-append}
-use Rattle.{std.proofs.lemmas.{Bool.false_from_ne_true, List.append-nil}, tte_audit.proofs.UnderWay.happening_there, tte_units.specs.declared.units.Units.Units}
-use Rattle.{std.specs.List.last_or, tte_audit.specs.Named.IsNamed}
-use Rattle.{tte_reports.specs.{Reports.{AreLeft, IsReportOf}, declared.records.Records.Records}, tte_units.proofs.general_lemmas.Lists.last_pushed}
+use Rattle.{net_plan.specs.declared.network.Network.Network, run_law.proofs.runs.Places.{chain, never_self, parted}}
+use Rattle.run_law.{proofs.law.FirstPlaces.{none_kept, number_is, numbered_in}, specs.records.Happenings.{Happening, happenings, numbered}}
+use Rattle.run_law.{proofs.records.Order.{all_kept, before_is, is_there}, specs.records.Order.{IsBefore, IsIn, is_before}}
+use Rattle.run_law.{proofs.runs.Lacking.behind_first, specs.{declared.note.Note.Note, records.Ranks.place_of, runs.{DueRecords.IsDue, Runs.IsFounded}}}
+use Rattle.{std.specs.{List.last_or, Option.option_map_or}, tte_audit.specs.Report.scenario_of, tte_reports.specs.Reports.IsReportOf}
+use Rattle.std.proofs.Common.{◌++◌, ◌+◌, ◌-◌, ◌<◌, ◌∙◌, ◌∷◌, ◌≡◌, ◌≤◌, Bool, List, None, Option, Some, [], ap, arith, false, filter, if◌then◌else◌, inl, inr}
+use Rattle.std.proofs.Common.{length, length-append, refl, subst, suc, sym, true, zero, ℕ}
+use Rattle.std.proofs.Math.Seq.{take-append_seam}
+use Rattle.std.{proofs.lemmas.{Bool.false_from_ne_true, List.append-nil, List.Elements.filter-append}, specs.Prelude.{slice_get, take}}
+use Rattle.{tte_units.proofs.general_lemmas.Lists.last_pushed, tte_units.specs.declared.units.Units.Units}
 
 -- the records before the place of one are those that stand before it
 split_before : (network : Network) (octets : List ℕ) (ns : List Note) (end : Units) → IsReportOf network octets ns end → (before later : List Happening)
@@ -47,18 +47,59 @@ parted_there network octets ns end of number h there =
     let at = parted h (happenings network ns) (numbered_in (happenings network ns) number h there) in
     record { before = at.0; later = at.1; parts = at.2; are = split_before network octets ns end of at.0 at.1 h at.2 }
 
--- what is found among some records
-abbrev pub IsSought : Network → List ℕ → ℕ → Sought → Records → ℕ → ℕ → Type 0
-IsSought network octets number sought records count last =
-    (u : IsUnderWay network octets number records count) × (last ≡ last_sought network sought (happenings network u.gone))
+-- ---- records by their numbers
 
--- at first none
-pub sought_none : (network : Network) (octets : List ℕ) (number : ℕ) (sought : Sought) (records : Records) (notes : List Note) (end : Units)
-    → IsReportOf network octets notes end → AreLeft network records notes → IsSought network octets number sought records 0 0
-sought_none network octets number sought records notes end of left = (
-  begun network octets number records notes end of left,
-  sym (ap (λ (gs : List Note). last_sought network sought (happenings network gs)) (begun_none network octets number records notes end of left)),
-)
+-- the element of a place is the last of those up to it
+taken_one : {X : Type 0} (xs : List X) (k : ℕ) (x : X) → slice_get xs k ≡ Some x → take (suc k) xs ≡ take k xs ++ x ∷ []
+taken_one [] k x there = absurd cc
+taken_one (y ∷ xs) zero x there = let same : y ≡ x = cc in ap (λ (z : _). z ∷ []) same
+taken_one (y ∷ xs) (suc k) x there = ap (λ (zs : List _). y ∷ zs) (taken_one xs k x there)
+
+-- something is at each place of a list
+some_at : {X : Type 0} (xs : List X) (k : ℕ) → k < length xs → (x : X) × (slice_get xs k ≡ Some x)
+some_at [] k less = absurd (omega (arith, less))
+some_at (x ∷ xs) zero less = (x, refl)
+some_at (x ∷ xs) (suc k) less = some_at xs k (omega (arith, less))
+
+module _ (network : Network) (octets : List ℕ) (ns : List Note) (end : Units) (of : IsReportOf network octets ns end) where
+  abbrev all : List Happening
+  all = happenings network ns
+
+  -- a record has its number, and the records before its place are so many less one
+  pub record HasBefore (number : ℕ) (h : Happening) : Type 0 where
+    pub some : 1 ≤ number
+    pub within : number ≤ length all
+    pub are : records_before (place_of h) all ≡ take (number - 1) all
+
+  pub before_number : (number : ℕ) (h : Happening) → IsThere network ns number h → HasBefore number h
+  before_number number h at =
+      let p = parted_there network octets ns end of number h at.there in
+      let due = (of.run.founded p.before p.later h p.parts).1 in
+      let long = ap (λ (hs : List Happening). length hs) p.parts ∙ length-append p.before (h ∷ p.later) in
+      let count : number - 1 ≡ length p.before = omega (arith, at.own, due.number) in
+      record {
+        some = omega (arith, at.own, due.number);
+        within = omega (arith, at.own, due.number, long);
+        are = p.are ∙ sym (ap (λ (n : ℕ). take n all) count ∙ ap (λ (hs : List Happening). take (length p.before) hs) p.parts
+            ∙ take-append_seam p.before (h ∷ p.later));
+      }
+
+  -- the record of a number that is none too great, behind those before it
+  pub record IsBehindOthers (number : ℕ) : Type 0 where
+    pub own : Happening
+    pub there : IsThere network ns number own
+    pub taken : take number all ≡ take (number - 1) all ++ own ∷ []
+
+  pub own_at : (number : ℕ) → 1 ≤ number → number ≤ length all → IsBehindOthers number
+  own_at zero some within = absurd (omega (arith, some))
+  own_at (suc k) some within =
+      let x = some_at all k (omega (arith, within)) in
+      let before : suc k - 1 ≡ k = omega arith in
+      record {
+        own = x.0;
+        there = record { there = x.1; own = number_is (scenario_of network ns) all (suc k) x.0 of.run.founded x.1 };
+        taken = taken_one all k x.0 x.1 ∙ ap (λ (n : ℕ). take n all ++ x.0 ∷ []) (sym before);
+      }
 
 -- one more record is found, or is not
 sought_more : (network : Network) (sought : Sought) (before : List Happening) (h : Happening) (b : Bool) → is_sought network sought h h.note.body ≡ b
@@ -75,90 +116,45 @@ sought_more network sought before h false is =
     ap (λ (gs : List Happening). option_map_or (λ (g : Happening). g.note.number) (last_or None gs) 0)
     (filter-append test before (h ∷ []) ∙ ap (λ (b : Bool). kept ++ (if b then h ∷ [] else [])) is ∙ append-nil kept)
 
-same_front : {X : Type 0} (ls cs bs ds : List X) (x y : X) → ls ++ x ∷ bs ≡ cs ++ y ∷ ds → length ls ≡ length cs → ls ≡ cs
-same_front [] [] bs ds x y e l = refl
-same_front [] (c ∷ cs) bs ds x y e l = absurd (omega (arith, l))
-same_front (a ∷ ls) [] bs ds x y e l = absurd (omega (arith, l))
-same_front {X} (a ∷ ls) (c ∷ cs) bs ds x y e l =
-    let head : a ≡ c = cc in
-    let tail : ls ++ x ∷ bs ≡ cs ++ y ∷ ds = cc in
-    ap (λ (z : X). z ∷ ls) head ∙ ap (λ (zs : List X). c ∷ zs) (same_front ls cs bs ds x y tail (omega (arith, l)))
+-- the last before the record is the last of those of lower numbers than this
+pub record IsSoughtDownTo (network : Network) (sought : Sought) (hs : List Happening) (h : Happening) (at : ℕ) : Type 0 where
+  pub some : 1 ≤ at
+  pub within : at ≤ length hs
+  pub same : last_sought network sought (records_before (place_of h) hs) ≡ last_sought network sought (take (at - 1) hs)
 
-module _ (network : Network) (octets : List ℕ) (number : ℕ) (records : Records) (count : ℕ) (u : IsUnderWay network octets number records count) where
-  module _ (note : Note) (behind : List Note) (parts : u.rest ≡ note ∷ behind) where
-    abbrev own : Happening
-    own = happening network (happenings network u.gone) note
+module _ (network : Network) (octets : List ℕ) (ns : List Note) (end : Units) (of : IsReportOf network octets ns end) (sought : Sought) (h : Happening) where
+  pub sought_from : (number : ℕ) → IsThere network ns number h → IsSoughtDownTo network sought (happenings network ns) h number
+  sought_from number at =
+      let b = before_number network octets ns end of number h at in
+      record { some = b.some; within = b.within; same = ap (last_sought network sought) b.are }
 
-    whole_at : u.notes ≡ u.gone ++ note ∷ behind
-    whole_at = u.whole ∙ ap (λ (ns : List Note). u.gone ++ ns) parts
+  module _ (at : ℕ) (so : IsSoughtDownTo network sought (happenings network ns) h at) where
+    -- the record of the number before was looked at
+    sought_on : 1 < at → (b : Bool) → ((g : Happening) → IsThere network ns (at - 1) g → b ≡ is_sought network sought g g.note.body)
+        → last_sought network sought (records_before (place_of h) (happenings network ns))
+        ≡ (if b then at - 1 else last_sought network sought (take (at - 1 - 1) (happenings network ns)))
+    sought_on more b is =
+        let within = so.within in
+        let o = own_at network octets ns end of (at - 1) (omega (arith, more)) (omega (arith, within)) in
+        so.same
+        ∙ ap (last_sought network sought) o.taken
+        ∙ sought_more network sought (take (at - 1 - 1) (happenings network ns)) o.own b (sym (is o.own o.there))
+        ∙ ap (λ (n : ℕ). if b then n else last_sought network sought (take (at - 1 - 1) (happenings network ns))) o.there.own
 
-    -- the next record is the one of its number
-    pub next_there : numbered (happenings network u.notes) note.number ≡ Some own
-    next_there =
-        let there = happening_there network u.notes u.gone behind note whole_at in
-        let many : length (happenings network u.gone) ≡ length u.gone = as_many network u.gone in
-        let counted = next_number network octets number records count u note behind parts in
-        let next : suc (length (happenings network u.gone)) ≡ note.number = omega (arith, many, counted) in
-        subst (λ (n : ℕ). numbered (happenings network u.notes) n ≡ Some own) next
-        (subst (λ (hs : List Happening). numbered hs (suc (length (happenings network u.gone))) ≡ Some own) (sym there.1)
-        (at_length (happenings network u.gone) there.0 own))
+    -- it is the one
+    pub sought_found : 1 < at → ((g : Happening) → IsThere network ns (at - 1) g → true ≡ is_sought network sought g g.note.body)
+        → at - 1 ≡ last_sought network sought (records_before (place_of h) (happenings network ns))
+    sought_found more is = sym (sought_on more true is)
 
-    -- where it is the record before which is looked, those that have come are those before that
-    pub gone_before : IsNamed network → note.number ≡ number → (notes : List Note) (end : Units) (h : Happening) → IsReportOf network octets notes end
-        → IsThere network notes number h → happenings network u.gone ≡ records_before (place_of h) (happenings network notes)
-    gone_before named at notes end h of at_hand =
-        let p = parted_there network octets notes end of number h at_hand.there in
-        let numbered_so = at_hand.own in
-        let before = p.before in
-        let later = p.later in
-        let e = p.parts in
-        let there = happening_there network u.notes u.gone behind note whole_at in
-        let same : u.notes ≡ notes = one_notes network octets u.notes notes u.end end named u.of of in
-        let lists : happenings network u.gone ++ own ∷ there.0 ≡ before ++ h ∷ later = sym there.1 ∙ ap (happenings network) same ∙ e in
-        let due = (of.run.founded before later h e).1 in
-        let many : length (happenings network u.gone) ≡ length u.gone = as_many network u.gone in
-        let counted = next_number network octets number records count u note behind parts in
-        let lengths : length (happenings network u.gone) ≡ length before = omega (arith, many, counted, at, numbered_so, due.number) in
-        same_front (happenings network u.gone) before there.0 later own h lists lengths ∙ sym p.are
+    -- or it is not
+    pub sought_back : 1 < at → ((g : Happening) → IsThere network ns (at - 1) g → false ≡ is_sought network sought g g.note.body)
+        → IsSoughtDownTo network sought (happenings network ns) h (at - 1)
+    sought_back more is =
+        let within = so.within in record { some = omega (arith, more); within = omega (arith, within); same = sought_on more false is }
 
-    -- where it is not, these have come with it
-    pub gone_more : (after : Records) (left : AreLeft network after behind) (not : note.number ≡ number → ⊥)
-        → happenings network (next_missed network octets number records count u note behind parts after left not).gone ≡ happenings network u.gone ++ own ∷ []
-    gone_more after left not =
-        ap (λ (gs : List Note). happenings network gs) (next_gone network octets number records count u note behind parts after left not)
-        ∙ one_more network u.gone note
-
-  -- no record is left only where there is none of the number
-  pub never_there : IsNamed network → u.rest ≡ [] → (notes : List Note) (end : Units) (h : Happening) → IsReportOf network octets notes end
-      → IsThere network notes number h → ⊥
-  never_there named none notes end h of at_hand =
-      let p = parted_there network octets notes end of number h at_hand.there in
-      let numbered_so = at_hand.own in
-      let before = p.before in
-      let later = p.later in
-      let e = p.parts in
-      let same : u.notes ≡ notes = one_notes network octets u.notes notes u.end end named u.of of in
-      let due = (of.run.founded before later h e).1 in
-      let whole : u.notes ≡ u.gone = u.whole ∙ ap (λ (ns : List Note). u.gone ++ ns) none ∙ append-nil u.gone in
-      let many : length (happenings network notes) ≡ length notes = as_many network notes in
-      let parts : length (happenings network notes) ≡ length (before ++ h ∷ later) = ap length e in
-      let gone : length u.gone ≡ length notes = ap length (sym whole ∙ same) in
-      elim u.missed [
-        | inl zero_is ↦ omega (arith, zero_is, numbered_so, due.number)
-        | inr less ↦ omega (arith, less, numbered_so, due.number, many, parts, gone, length-append before (h ∷ later))
-      ]
-
-module _ (network : Network) (octets : List ℕ) (number : ℕ) (sought : Sought) (records : Records) (count last : ℕ)
-    (w : IsSought network octets number sought records count last) where
-  -- with the next record one more was looked at
-  pub next_sought : (note : Note) (behind : List Note) (parts : w.0.rest ≡ note ∷ behind) (after : Records) (b : Bool) (more : ℕ)
-      → AreLeft network after behind → (note.number ≡ number → ⊥)
-      → b ≡ is_sought network sought (happening network (happenings network w.0.gone) note) note.body → more ≡ (if b then note.number else last)
-      → IsSought network octets number sought after note.number more
-  next_sought note behind parts after b more left not is more_is = (
-    next_missed network octets number records count w.0 note behind parts after left not,
-    more_is
-        ∙ ap (λ (l : ℕ). if b then note.number else l) w.1
-        ∙ sym (sought_more network sought (happenings network w.0.gone) (happening network (happenings network w.0.gone) note) b (sym is))
-        ∙ ap (last_sought network sought) (sym (gone_more network octets number records count w.0 note behind parts after left not)),
-  )
+    -- none is left
+    pub sought_none : at ≤ 1 → 0 ≡ last_sought network sought (records_before (place_of h) (happenings network ns))
+    sought_none least =
+        let some = so.some in
+        let first : at - 1 ≡ 0 = omega (arith, least, some) in
+        sym (so.same ∙ ap (λ (n : ℕ). last_sought network sought (take n (happenings network ns))) first)

@@ -1,4 +1,4 @@
-pub mod past_lemmas
+pub mod Timely
 pub mod Pieces
 pub mod Comings
 pub mod Chains

@@ -1,14 +1,15 @@
 -- The lines of a chain put one record after another.
 use Rattle.lens_why.{proofs.Chains.{Along, along_both, along_more, along_there, none_at_zero, whole_of}, specs.Lines.{chain_lines, record_lines, told_lines}}
-use Rattle.lens_why.proofs.{Comings.{IsNoneOrThere, comes_from_earlier}, Notes.{founded_of, happening_at, none_there, note_in, note_numbered, number_of}}
-use Rattle.lens_why.{proofs.past_lemmas.Following.timely_in, specs.{Answer.{IsWhyAnswer, chain_answer}, Records.{ComesFrom, IsRecordOf, note_at}}}
-use Rattle.{lens_why.specs.{Grounds.ground_of, past.Pasts.IsTimely}, std.proofs.lemmas.List.append-nil, tte_audit.specs.{Named.IsNamed, Report.scenario_of}}
+use Rattle.{lens_why.proofs.Notes.{founded_of, happening_at, none_there, note_in, note_numbered, note_of, number_of}, lens_why.specs.Records.IsTimely}
+use Rattle.{lens_why.proofs.Comings.{IsNoneOrThere, comes_from_earlier}, std.specs.Prelude.option_map}
+use Rattle.lens_why.{proofs.Timely.timely_in, specs.{Answer.{IsWhyAnswer, chain_answer}, Records.ComesFrom}}
+use Rattle.{report_text.specs.Ranges.IsNoteOf, tte_reports.specs.Places.note_at}
+use Rattle.{lens_why.specs.{Grounds.ground_of}, std.proofs.lemmas.List.append-nil, tte_audit.specs.{Named.IsNamed, Report.scenario_of}}
 use Rattle.{lens_why.specs.declared.ground.Ground.Ground, net_plan.specs.declared.network.Network.Network, tte_reports.proofs.Reports.{one_end, one_notes}}
 use Rattle.{run_law.specs.{declared.note.Note.Note, records.Causes.cause_of}, std.proofs.lemmas.Grind.flat_map-append, tte_reports.specs.Reports.IsReportOf}
 use Rattle.{run_law.specs.records.Happenings.{Happening, happenings, numbered}, tte_forms.specs.declared.status.Status.{Status, TheVariants.{Done, WriteFault}}}
 use Rattle.{run_law.specs.scenario.Scenarios.Scenario, tte_forms.specs.Answering.{Ends, GivesAnswer}, tte_units.specs.declared.units.Units.Units}
 use Rattle.std.proofs.Common.{◌++◌, ◌<◌, ◌∙◌, ◌∷◌, ◌≡◌, List, None, Option, Some, [], ap, append_assoc, arith, inl, inr, refl, subst, sym, ℕ}
-use Rattle.std.specs.Prelude.{option_map}
 use Rattle.tte_forms.{proofs.Puts.{Ends-gives, PutFails-behind, PutFails-more, PutsLines-append, PutsLines-none}, specs.Putting.{PutFails, PutsLines, Shown}}
 
 -- the lines of the records of a chain up to the one that is at hand were put
@@ -91,19 +92,13 @@ module _ (network : Network) (octets : List ℕ) (first note : Note) (old now : 
   there_at : note_at t.notes t.at ≡ Some note
   there_at = sym (note_numbered network t.notes t.at) ∙ ap (option_map (λ (h : Happening). h.note)) t.here ∙ ap Some t.is
 
+  -- it is one of the network
+  pub network_of : IsNoteOf network note
+  network_of = note_of network octets t.notes t.end t.of t.at note there_at
+
   -- it is of a time that clocks have
   pub timely : IsTimely network note
   timely = timely_in network octets t.notes t.end t.of note (note_in t.notes t.at note there_at)
-
-  -- it is one of the report
-  pub record_of : IsRecordOf network octets note
-  record_of = record {
-    notes = t.notes;
-    end = t.end;
-    report = t.of;
-    number = t.at;
-    there = there_at;
-  }
 
   -- and its cause has a lower number
   pub smaller : (next : Note) → note_at t.notes (cause_of note.body) ≡ Some next → next.number < note.number

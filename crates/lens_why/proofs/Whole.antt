@@ -1,13 +1,14 @@
 -- The law: the chains that are told are whole.
 use Rattle.{lens_why.proofs.Chains.{Along, along_there, along_whole, goes_back, none_at_zero, one_along, whole_of}, net_plan.specs.declared.ids.LinkId.LinkId}
 use Rattle.{lens_why.{proofs.Notes.founded_of, specs.Chain.IsWholeChain}, tte_forms.specs.Answering.Answer}
+use Rattle.tte_reports.specs.Reports.{IsOneFor}
 use Rattle.{lens_why.specs.Answer.{IsWhyAnswer, chain_answer, number_refused_answer}, run_law.specs.records.Happenings.{Happening, happenings, numbered}}
-use Rattle.{lens_why.specs.Laws.{HasWhy, WhyLaw}, run_law.specs.{declared.note.Note.Note, law.FirstLaws.IsBeginning}, tte_reports.proofs.Reports.report_one}
+use Rattle.{lens_why.specs.Laws.{HasWhy, WhyLaw}, run_law.specs.{declared.note.Note.Note, law.FirstLaws.IsBeginning}}
 use Rattle.{net_plan.specs.declared.{event.What.TheVariants.Send, ids.VlId.VlId, network.Network.Network}, run_law.proofs.law.FirstDeliveries.deliveries_begin}
 use Rattle.{net_plan.specs.declared.ids.DeviceId.DeviceId, std.proofs.Common.{◌∙◌, ◌∷◌, ◌≡◌, List, None, Some, [], ap, inl, inr, length, refl, subst, sym, ℕ}}
-use Rattle.{run_law.proofs.law.FirstPlaces.numbered_in, schedule_checker.specs.Refusals.RefusalIsOne, tte_audit.specs.Report.{behind_time, scenario_of}}
-use Rattle.{run_law.specs.{declared.note.NoteBody.NoteBody, records.Causes.{cause_of, last_from}}, tte_forms.specs.networks.Accepting.IsNetworkAnswer}
-use Rattle.{tte_reports.specs.Reports.{IsReportAnswer, IsReportOf}, tte_units.{proofs.general_lemmas.Options.some_or_none, specs.declared.units.Units.Units}}
+use Rattle.{run_law.proofs.law.FirstPlaces.numbered_in, tte_audit.specs.Report.{behind_time, scenario_of}}
+use Rattle.run_law.specs.{declared.note.NoteBody.NoteBody, records.Causes.{cause_of, last_from}}
+use Rattle.{tte_reports.specs.Reports.IsReportOf, tte_units.{proofs.general_lemmas.Options.some_or_none, specs.declared.units.Units.Units}}
 use Rattle.run_law.specs.declared.note.NoteBody.TheVariants as notes
 
 -- a beginning has no cause
@@ -78,9 +79,6 @@ module _ (network : Network) (octets : List ℕ) (ns : List Note) (end : Units) 
 pub why_law : WhyLaw
 why_law network octets ns end of = has_why network octets ns end of
 
--- the octets of a network file and of a report have one answer
-pub why_one : RefusalIsOne → (number : ℕ) (octets report : List ℕ) (a b : Answer) → IsNetworkAnswer (IsReportAnswer (IsWhyAnswer number) report) octets a
-    → IsNetworkAnswer (IsReportAnswer (IsWhyAnswer number) report) octets b → a ≡ b
-why_one one number octets report a b p q =
-    report_one one (IsWhyAnswer number)
-    (λ network text notes end x y rules of i j. (has_why network text notes end of).one number x y i j) octets report a b p q
+-- a report has one answer
+pub why_answer_one : (number : ℕ) → IsOneFor (IsWhyAnswer number)
+why_answer_one number network octets ns end a b rules of p q = (has_why network octets ns end of).one number a b p q

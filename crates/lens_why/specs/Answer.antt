@@ -1,14 +1,11 @@
 -- What `why` answers for a network and the records of a report.
 use Rattle.std.specs.Prelude.{◌∷◌, ◌≡◌, ◌⊎◌, List, None, length, ℕ}
-use Rattle.lens_why.specs.Chain.{IsWholeChain}
+use Rattle.{lens_why.specs.Chain.IsWholeChain, tte_reports.specs.Answer.IsAuditStatus}
 use Rattle.{lens_why.specs.Lines.{chain_lines, number_refused_line}, net_plan.specs.declared.network.Network.Network}
 use Rattle.run_law.specs.{declared.note.Note.Note, records.Happenings.{Happening, happenings, numbered}}
 use Rattle.{tte_audit.specs.Report.scenario_of, tte_units.specs.declared.units.Units.Units}
 use Rattle.tte_forms.specs.{Answering.{Answer, line_answer}, declared.status.Status.Status}
-use Rattle.tte_forms.specs.declared.status.Status.TheVariants.{AuditRefused, CaptureRefused, Done, FrameRefused}
-use Rattle.tte_forms.specs.declared.status.Status.TheVariants.{GranuleRefused, NameRefused, NetworkRefused}
-use Rattle.tte_forms.specs.declared.status.Status.TheVariants.{NumberRefused, OutOfMemory, OutsideHypothesis, ReadFault}
-use Rattle.tte_forms.specs.declared.status.Status.TheVariants.{TooLong, TraceRefused, Usage, VoteRefused, WriteFault}
+use Rattle.tte_forms.specs.declared.status.Status.TheVariants.{Done, NumberRefused}
 
 -- the answer where there are only so many records
 abbrev pub number_refused_answer : ℕ → ℕ → Answer
@@ -30,19 +27,10 @@ IsWhyAnswer number network notes end a =
 
 -- the statuses of `why`
 abbrev pub IsWhyStatus : Status → Type 0
-IsWhyStatus Done = Unit {0}
-IsWhyStatus Usage = ⊥
-IsWhyStatus FrameRefused = ⊥
-IsWhyStatus NetworkRefused = Unit {0}
-IsWhyStatus TraceRefused = ⊥
-IsWhyStatus OutsideHypothesis = ⊥
-IsWhyStatus ReadFault = Unit {0}
-IsWhyStatus WriteFault = Unit {0}
-IsWhyStatus OutOfMemory = Unit {0}
-IsWhyStatus TooLong = Unit {0}
-IsWhyStatus AuditRefused = Unit {0}
-IsWhyStatus GranuleRefused = ⊥
-IsWhyStatus CaptureRefused = ⊥
-IsWhyStatus NameRefused = ⊥
-IsWhyStatus VoteRefused = ⊥
 IsWhyStatus NumberRefused = Unit {0}
+IsWhyStatus other = IsAuditStatus other
+
+-- it may end as an audit does
+pub why_audits : (status : Status) → IsAuditStatus status → IsWhyStatus status
+why_audits NumberRefused h = tt
+why_audits other h = h

@@ -5,7 +5,8 @@ use Rattle.std.specs.Prelude.{nat_le, nat_lt, option_and_then, option_map, true,
 use Rattle.{audit_devices.specs.Keeping.records_before, tte_units.specs.declared.units.Units.Units}
 use Rattle.{audit_law.specs.law.CorrectionNumbers.heard_since_point, net_plan.specs.declared.network.Network.Network}
 use Rattle.{lens_why.specs.Seeking.last_sought, run_law.specs.records.Ranks.place_of, sync_state.specs.Plan.expected_at}
-use Rattle.lens_why.specs.{declared.ground.{Best.Best, Ground.Ground, Told.Told}, past.Pasts.before_corrections}
+use Rattle.{audit_sweep.specs.Indexing.before_corrections, lens_why.specs.declared.ground.Ground.Ground}
+use Rattle.{lens_why.specs.declared.ground.Best.Best, lens_why.specs.declared.ground.Told.Told}
 use Rattle.lens_why.specs.declared.{ground.Ground.TheVariants.{Clique, Corrected}, seeking.Sought.TheVariants.Frame}
 use Rattle.{net_plan.specs.declared.ids.DeviceId.DeviceId, run_law.specs.records.Happenings.{Happening, time_of}}
 use Rattle.tte_units.specs.declared.frames.channel.Channel.{Channel, TheVariants.{A, B}}

@@ -1,4 +1,3 @@
-pub mod past
 pub mod Chain
 pub mod Seeking
 pub mod Corrections

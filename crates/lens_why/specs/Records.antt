@@ -1,19 +1,14 @@
 -- The records of a report by their numbers.
-use Rattle.std.specs.Prelude.{◌≡◌, List, MatchResult, None, Option, Result, Some, length, option_map, slice_get, suc}
-use Rattle.std.specs.Prelude.{zero, ℕ}
-use Rattle.{lens_why.specs.declared.past.past.Permanence.Permanence, net_plan.specs.declared.network.Network.Network}
+use Rattle.std.specs.Prelude.{◌^◌, ◌≡◌, ◌≤ℤ◌, ◌≤◌, List, MatchResult, None, Option, Result, Some, length, option_map}
+use Rattle.{run_law.specs.runs.Runs.IsFounded, std.specs.Prelude.{pos, ℕ}}
+use Rattle.{audit_sweep.specs.declared.index.Permanence.Permanence, net_plan.specs.declared.network.Network.Network}
 use Rattle.{net_plan.specs.declared.ids.DeviceId.DeviceId, run_law.specs.declared.note.{Note.Note, NoteBody.NoteBody}}
 use Rattle.run_law.specs.{declared.judgement.Judgement.Judgement, records.Happenings.{Happening, happenings, numbered}}
 use Rattle.run_law.specs.{declared.judgement.Why.Why, records.Causes.cause_of, scenario.Scenarios.Scenario}
+use Rattle.{report_text.specs.Ranges.IsBodyOf, tte_reports.specs.Places.note_at, tte_units.specs.Amount.amount}
 use Rattle.{run_law.specs.{records.Ranks.place_of, runs.DueRecords.IsDue}, tte_reports.specs.Reports.IsReportOf}
-use Rattle.run_law.specs.runs.Runs.{IsFounded}
 use Rattle.{sync_state.specs.declared.state.State.State, tte_units.specs.declared.units.Units.Units}
 use Rattle.run_law.specs.declared.note.NoteBody.TheVariants as notes
-
--- the record of this number, from 1; 0 is the number of none
-abbrev pub note_at : List Note → ℕ → Option Note
-note_at ns zero = None
-note_at ns (suc before) = slice_get ns before
 
 -- the octets are the report of some records, and this is one of them
 pub record IsRecordOf (network : Network) (octets : List ℕ) (note : Note) : Type 0 where
@@ -37,6 +32,12 @@ pub record ComesFrom (s : Scenario) (hs : List Happening) (h : Happening) (note 
   pub there : numbered hs number ≡ Some h
   pub is : note ≡ h.note
   pub from : giving ≡ option_map (λ g. g.note) (numbered hs (cause_of h.note.body))
+
+-- a record of the network, of a time from 0 on that is none too late for a clock
+pub record IsTimely (network : Network) (note : Note) : Type 0 where
+  pub of_network : IsBodyOf network note.body
+  pub begun : pos 0 ≤ℤ note.time.0
+  pub soon : amount note.time ≤ 2 ^ 60
 
 -- this is the record of the number
 pub record IsThere (network : Network) (notes : List Note) (number : ℕ) (h : Happening) : Type 0 where

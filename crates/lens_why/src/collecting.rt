@@ -1,22 +1,21 @@
 //! What a compression master has collected.
 ghost use Rattle.std.specs.Prelude.{◌*◌, ◌++◌, ◌+◌, ◌-ℤ◌, ◌<◌, ◌∷◌, ◌≡◌, IfSome, List, Option, Some, [], option_map};
-ghost use Rattle.std.specs.Prelude.{pos};
+ghost use Rattle.{lens_why.specs.Collections.{sent_ground, taken_to, told_of}, tte_reports.specs.Commands.IsRead};
+ghost use Rattle.{std.specs.Prelude.pos, tte_units.specs.Amount.amount};
 ghost use Rattle.{audit_devices.specs.Effects.carried_by, tte_units.specs.declared.units.Units.{Units as UnitsValue}};
 ghost use Rattle.{audit_devices.specs.Keeping.records_before, run_law.specs.records.Happenings.{Happening, happenings}};
 ghost use Rattle.compression.specs.{Clusters.Cluster, Collection.{joined_end, opening}, Role.{has_point_of, role_in}};
 ghost use Rattle.{device_rules.specs.Widths.IsWide, lens_why.specs.Records.IsThere, tte_audit.specs.Named.IsNamed};
 ghost use Rattle.lens_why.specs.Collections.{as_point, behind_point, collected_ground, last_collection, middle_told};
-ghost use Rattle.lens_why.specs.{Collections.{sent_ground, taken_to, told_of}, past.Pasts.{IsSomeReport, ShowsAll}};
 ghost use Rattle.run_law.specs.{control.Collections.{ends_stretch, point_by}, declared.note.Note.{Note as NoteValue}};
 ghost use Rattle.{run_law.specs.records.Ranks.place_of, tte_reports.specs.Reports.IsReportOf};
-ghost use Rattle.tte_units.specs.Amount.{amount};
 
 use crate::ground::{Ground, beyond, magnitude};
-use crate::past::KnownReport;
 use crate::seeking::{Sought, last_before};
 use audit_devices::Carried;
 use net_plan::{DeviceId, Network};
 use run_law::{Judgement, NoteBody, Why};
+use tte_reports::AuditedReport;
 use tte_units::Units;
 
 /// The last collection of a compression master so far. Readings are in units of 2^-16 ns.
@@ -42,27 +41,26 @@ pub(crate) struct Given {
 
 /// What the compression master had collected before the record of the number, by which a frame was permanent there.
 pub(crate) fn collected(
-    known: &KnownReport,
+    report: &AuditedReport,
     network: &Network,
     number: u64,
     device: DeviceId,
 ) -> Ground
     requires named { IsNamed network.now }
-    requires report { IsSomeReport network.now known.now.report.octets }
-    requires past { ShowsAll network.now known.now }
+    requires read { IsRead network.now report.now }
     ensures { (notes : List NoteValue) (end : UnitsValue) (h : Happening)
-        → IsReportOf network.now known.now.report.octets notes end → IsThere network.now notes number h
+        → IsReportOf network.now report.now.octets notes end → IsThere network.now notes number h
         → result ≡ collected_ground network.now (happenings network.now notes) device h }
 {
-    let carried = known.past.carried(number);
-    let last = collection_before(known, network, number, device);
+    let carried = report.index.carried(number);
+    let last = collection_before(report, network, number, device);
     Ground::Collected(carried.members.0.trailing_zeros(), carried.cycle, last)
 }
 
 /// What the compression master sent at the reading, with the record of the number, for the collection that opened at
 /// the point.
 pub(crate) fn sent_for(
-    known: &KnownReport,
+    report: &AuditedReport,
     network: &Network,
     number: u64,
     device: DeviceId,
@@ -70,13 +68,12 @@ pub(crate) fn sent_for(
     at: Units,
 ) -> Ground
     requires named { IsNamed network.now }
-    requires report { IsSomeReport network.now known.now.report.octets }
-    requires past { ShowsAll network.now known.now }
+    requires read { IsRead network.now report.now }
     ensures { (notes : List NoteValue) (end : UnitsValue) (h : Happening)
-        → IsReportOf network.now known.now.report.octets notes end → IsThere network.now notes number h
+        → IsReportOf network.now report.now.octets notes end → IsThere network.now notes number h
         → result ≡ sent_ground network.now (happenings network.now notes) h device opened at }
 {
-    let from = last_before(known, network, number, Sought::Opening(device, opened));
+    let from = last_before(report, network, number, Sought::Opening(device, opened));
     Ground::Middle(from, middle_told(network, opened, at))
 }
 
@@ -105,34 +102,49 @@ fn windows(network: &Network) -> i128
 
 /// The last collection of the device before the record of the number.
 fn collection_before(
-    known: &KnownReport,
+    report: &AuditedReport,
     network: &Network,
     number: u64,
     device: DeviceId,
 ) -> Option<Collection>
     requires named { IsNamed network.now }
-    requires report { IsSomeReport network.now known.now.report.octets }
-    requires past { ShowsAll network.now known.now }
+    requires read { IsRead network.now report.now }
     ensures { (notes : List NoteValue) (end : UnitsValue) (h : Happening)
-        → IsReportOf network.now known.now.report.octets notes end → IsThere network.now notes number h
+        → IsReportOf network.now report.now.octets notes end → IsThere network.now notes number h
         → result ≡ option_map told_of
         (last_collection network.now device (records_before (place_of h) (happenings network.now notes))) }
 {
-    let mut records = known.report.records();
-    let mut count = 0;
     let mut last = None;
-    'records: loop {
-        match records.next(network) {
-            Some(note) => {
-                count = note.number;
-                if count == number {
-                    return last;
-                }
-                let carried = known.past.carried(count);
-                last = behind(network, device, carried, &note.body, last);
-            }
-            None => return last,
-        }
+    'records: for at in 1..number {
+        last = behind_record(report, network, at, device, last);
+    }
+    last
+}
+
+/// The last collection of the device behind the record of the number too.
+fn behind_record(
+    report: &AuditedReport,
+    network: &Network,
+    number: u64,
+    device: DeviceId,
+    last: Option<Collection>,
+) -> Option<Collection>
+    requires named { IsNamed network.now }
+    requires read { IsRead network.now report.now }
+    ensures { (notes : List NoteValue) (end : UnitsValue) (h : Happening) (before : List Happening)
+        → IsReportOf network.now report.now.octets notes end → IsThere network.now notes number h
+        → last ≡ option_map told_of (last_collection network.now device before)
+        → result ≡ option_map told_of (last_collection network.now device (before ++ h ∷ [])) }
+{
+    match report.record(network, number) {
+        Some(note) => behind(
+            network,
+            device,
+            report.index.carried(number),
+            &note.body,
+            last,
+        ),
+        None => last,
     }
 }
 

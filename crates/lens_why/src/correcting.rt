@@ -2,25 +2,25 @@
 ghost use Rattle.std.specs.Prelude.{◌^◌, ◌≡◌, ◌≤◌, List, option_and_then, true};
 ghost use Rattle.{device_rules.specs.Widths.IsWide, tte_audit.specs.{Named.IsNamed, Report.scenario_of}};
 ghost use Rattle.lens_why.specs.Corrections.{clique_ground, corrected_ground, is_clique, said_by, told_on, value_of};
-ghost use Rattle.lens_why.specs.{Records.{IsCorrection, IsState, IsThere}, past.Pasts.{IsSomeReport, ShowsAll}};
+ghost use Rattle.{lens_why.specs.Records.{IsCorrection, IsState, IsThere}, tte_reports.specs.Commands.IsRead};
+ghost use Rattle.tte_units.specs.Amount.{amount};
 ghost use Rattle.{net_plan.specs.{Belonging.HasDevice, Ranges.IsInRange}, tte_reports.specs.Reports.IsReportOf};
 ghost use Rattle.{run_law.specs.declared.judgement.Why.Why, tte_units.specs.declared.units.Units.{Units as UnitsValue}};
 ghost use Rattle.run_law.specs.{declared.note.Note.{Note as NoteValue}, records.Happenings.{Happening, happenings}};
-ghost use Rattle.tte_units.specs.Amount.{amount};
 
 use crate::ground::{Best, Ground, Told, beyond, magnitude};
-use crate::past::KnownReport;
 use crate::seeking::{Sought, last_before};
 use device_rules::joined_adjustment;
 use net_plan::{DeviceId, Network};
 use sync_state::membership::{Heard, HeardFrame, count};
+use tte_reports::AuditedReport;
 use tte_units::Units;
 use tte_units::frames::Channel;
 
 /// What the channels say to the correction of the device's clock, that of the cycle, by the record of the number at the
 /// time.
 pub(crate) fn corrected(
-    known: &KnownReport,
+    report: &AuditedReport,
     network: &Network,
     number: u64,
     time: Units,
@@ -28,18 +28,17 @@ pub(crate) fn corrected(
     cycle: u32,
 ) -> Ground
     requires named { IsNamed network.now }
-    requires report { IsSomeReport network.now known.now.report.octets }
-    requires past { ShowsAll network.now known.now }
+    requires read { IsRead network.now report.now }
     requires there { HasDevice network.now device }
     requires soon { amount time ≤ 2 ^ 60 }
     ensures { (notes : List NoteValue) (end : UnitsValue) (h : Happening)
-        → IsReportOf network.now known.now.report.octets notes end → IsThere network.now notes number h
+        → IsReportOf network.now report.now.octets notes end → IsThere network.now notes number h
         → IsCorrection h time device cycle
         → result ≡ corrected_ground (scenario_of network.now notes) (happenings network.now notes) h device cycle }
 {
     let at = magnitude(time);
-    let heard = known.past.heard(network, device, at);
-    let adjustment = known.past.adjustment_before(network, device, at);
+    let heard = report.index.heard(network, device, at);
+    let adjustment = report.index.adjustment_before(network, device, at);
     let correction = Correction {
         number,
         device,
@@ -47,14 +46,14 @@ pub(crate) fn corrected(
         adjustment,
     };
     let a = said_on(
-        known,
+        report,
         network,
         correction,
         heard.best(Channel::A),
         Channel::A,
     );
     let b = said_on(
-        known,
+        report,
         network,
         correction,
         heard.best(Channel::B),
@@ -74,48 +73,46 @@ struct Correction {
 
 /// What the channel says to the correction, of which this is the best frame.
 fn said_on(
-    known: &KnownReport,
+    report: &AuditedReport,
     network: &Network,
     correction: Correction,
     best: Option<HeardFrame>,
     channel: Channel,
 ) -> Option<Best>
     requires named { IsNamed network.now }
-    requires report { IsSomeReport network.now known.now.report.octets }
-    requires past { ShowsAll network.now known.now }
+    requires read { IsRead network.now report.now }
     requires wide { IsWide correction.adjustment }
     ensures { (notes : List NoteValue) (end : UnitsValue) (h : Happening)
-        → IsReportOf network.now known.now.report.octets notes end → IsThere network.now notes correction.number h
+        → IsReportOf network.now report.now.octets notes end → IsThere network.now notes correction.number h
         → result ≡ option_and_then (said_by (scenario_of network.now notes) (happenings network.now notes) h
         correction.device correction.cycle correction.adjustment channel) best }
 {
     match best {
-        Some(frame) => said_by(known, network, correction, frame, channel),
+        Some(frame) => said_by(report, network, correction, frame, channel),
         None => None,
     }
 }
 
 /// The same, of a best frame, if it has enough members.
 fn said_by(
-    known: &KnownReport,
+    report: &AuditedReport,
     network: &Network,
     correction: Correction,
     frame: HeardFrame,
     channel: Channel,
 ) -> Option<Best>
     requires named { IsNamed network.now }
-    requires report { IsSomeReport network.now known.now.report.octets }
-    requires past { ShowsAll network.now known.now }
+    requires read { IsRead network.now report.now }
     requires wide { IsWide correction.adjustment }
     ensures { (notes : List NoteValue) (end : UnitsValue) (h : Happening)
-        → IsReportOf network.now known.now.report.octets notes end → IsThere network.now notes correction.number h
+        → IsReportOf network.now report.now.octets notes end → IsThere network.now notes correction.number h
         → result ≡ said_by (scenario_of network.now notes) (happenings network.now notes) h correction.device
         correction.cycle correction.adjustment channel frame }
 {
     if network.sync_threshold <= count(frame.members) {
         let sought = Sought::Frame(correction.device, channel, frame);
         Some(Best {
-            number: last_before(known, network, correction.number, sought),
+            number: last_before(report, network, correction.number, sought),
             members: frame.members,
             value: value(network, correction, frame.point),
         })
@@ -127,31 +124,30 @@ fn said_by(
 /// The best frames of both channels where the device comes to a clique by the record of the number at the time, the
 /// members of what it heard outside its time, and how many masters are enough.
 pub(crate) fn clique(
-    known: &KnownReport,
+    report: &AuditedReport,
     network: &Network,
     number: u64,
     time: Units,
     device: DeviceId,
 ) -> Ground
     requires named { IsNamed network.now }
-    requires report { IsSomeReport network.now known.now.report.octets }
-    requires past { ShowsAll network.now known.now }
+    requires read { IsRead network.now report.now }
     requires there { HasDevice network.now device }
     requires soon { amount time ≤ 2 ^ 60 }
     ensures { (notes : List NoteValue) (end : UnitsValue) (h : Happening) (why : Why)
-        → IsReportOf network.now known.now.report.octets notes end → IsThere network.now notes number h
+        → IsReportOf network.now report.now.octets notes end → IsThere network.now notes number h
         → IsState h time device why → is_clique why ≡ true
         → result ≡ clique_ground (scenario_of network.now notes) (happenings network.now notes) h device }
 {
-    let heard = known.past.heard(network, device, magnitude(time));
-    let a = told_on(known, network, number, device, &heard, Channel::A);
-    let b = told_on(known, network, number, device, &heard, Channel::B);
+    let heard = report.index.heard(network, device, magnitude(time));
+    let a = told_on(report, network, number, device, &heard, Channel::A);
+    let b = told_on(report, network, number, device, &heard, Channel::B);
     Ground::Clique(a, b, heard.outside(), network.sync_threshold)
 }
 
 /// The best frame that the device had heard on the channel before the record of the number.
 fn told_on(
-    known: &KnownReport,
+    report: &AuditedReport,
     network: &Network,
     number: u64,
     device: DeviceId,
@@ -159,16 +155,15 @@ fn told_on(
     channel: Channel,
 ) -> Option<Told>
     requires named { IsNamed network.now }
-    requires report { IsSomeReport network.now known.now.report.octets }
-    requires past { ShowsAll network.now known.now }
+    requires read { IsRead network.now report.now }
     ensures { (notes : List NoteValue) (end : UnitsValue) (h : Happening)
-        → IsReportOf network.now known.now.report.octets notes end → IsThere network.now notes number h
+        → IsReportOf network.now report.now.octets notes end → IsThere network.now notes number h
         → result ≡ told_on network.now (happenings network.now notes) h device channel heard.now }
 {
     match heard.best(channel) {
         Some(frame) => Some(Told {
             number: last_before(
-                known,
+                report,
                 network,
                 number,
                 Sought::Frame(device, channel, frame),

@@ -5,7 +5,8 @@ ghost use Rattle.{audit_law.specs.events.Readings.scenario_under, schedule_table
 ghost use Rattle.{device_rules.specs.Widths.IsLocal, tte_audit.specs.Named.IsNamed, tte_units.specs.Amount.amount};
 ghost use Rattle.lens_why.specs.Grounds.{beside_ground, cycle_before, dropped_ground, entry_given, gate_ground};
 ghost use Rattle.lens_why.specs.Grounds.{length_ground, repeat_ground, unknown_ground, unsynchronised_ground};
-ghost use Rattle.lens_why.specs.{Records.IsThere, past.Pasts.{IsPast, IsSomePast, IsSomeReport, ShowsAll}};
+ghost use Rattle.{audit_sweep.specs.Indexing.{IsIndex, IsSomeIndex}, tte_reports.specs.Commands.IsRead};
+ghost use Rattle.lens_why.specs.Records.{IsThere};
 ghost use Rattle.{net_plan.specs.{Belonging.HasDevice, Ranges.IsInRange}, tte_audit.specs.Report.scenario_of};
 ghost use Rattle.net_plan.specs.declared.{event.Event.Event, network.Network.{Network as NetworkValue}};
 ghost use Rattle.run_law.specs.{declared.note.Note.{Note as NoteValue}, timed.Arrivals.{entry_entering, is_row_with}};
@@ -14,12 +15,13 @@ ghost use Rattle.run_law.specs.{records.Happenings.{Happening, happenings, numbe
 ghost use Rattle.{tte_reports.specs.Reports.IsReportOf, tte_units.specs.declared.units.Units.{Units as UnitsValue}};
 
 use crate::ground::{Ground, magnitude, place_in_cycle, position_at};
-use crate::past::{KnownReport, Past};
 use crate::seeking::{Coming, Sought, last_before};
+use audit_sweep::Index;
 use device_rules::{is_relay, way_to};
 use net_plan::{DeviceId, LinkId, Network, Row, RowId, Way};
 use run_law::Reason;
 use schedule_tables::{Entry, entry_of, window_of};
+use tte_reports::AuditedReport;
 use tte_units::Units;
 
 /// What comes to the device by the link at the time, from the record of the number `cause`, and is dropped with the
@@ -35,30 +37,29 @@ pub(crate) struct Passage {
 
 /// What the frame was judged by that is dropped for the reason.
 pub(crate) fn dropped(
-    known: &KnownReport,
+    report: &AuditedReport,
     network: &Network,
     passage: Passage,
     reason: Reason,
 ) -> Ground
     requires named { IsNamed network.now }
-    requires report { IsSomeReport network.now known.now.report.octets }
-    requires past { ShowsAll network.now known.now }
+    requires read { IsRead network.now report.now }
     requires there { HasDevice network.now passage.device }
     requires soon { amount passage.time ≤ 2 ^ 60 }
     ensures { (notes : List NoteValue) (end : UnitsValue) (h : Happening)
-        → IsReportOf network.now known.now.report.octets notes end → IsThere network.now notes passage.number h
+        → IsReportOf network.now report.now.octets notes end → IsThere network.now notes passage.number h
         → h.note.time ≡ passage.time → result ≡ dropped_ground (scenario_of network.now notes)
         (happenings network.now notes) h passage.device passage.link passage.cause
         (numbered (happenings network.now notes) passage.cause) reason }
 {
     match reason {
-        Reason::Early => beside(&known.past, network, passage),
-        Reason::Late => beside(&known.past, network, passage),
-        Reason::Repeat => repeated(known, network, passage),
-        Reason::Length => of_length(&known.past, network, passage),
-        Reason::Unknown => unknown(&known.past, network, passage.cause),
-        Reason::Unsynchronised => unsynchronised(known, network, passage),
-        Reason::Gate => shut(&known.past, network, passage.device, passage.time),
+        Reason::Early => beside(&report.index, network, passage),
+        Reason::Late => beside(&report.index, network, passage),
+        Reason::Repeat => repeated(report, network, passage),
+        Reason::Length => of_length(&report.index, network, passage),
+        Reason::Unknown => unknown(&report.index, network, passage.cause),
+        Reason::Unsynchronised => unsynchronised(report, network, passage),
+        Reason::Gate => shut(&report.index, network, passage.device, passage.time),
         Reason::Off
         | Reason::ColdStart
         | Reason::Domain
@@ -74,13 +75,13 @@ pub(crate) fn dropped(
 
 /// The entry by which the time-triggered frame comes to the device by the link that the record of the number `cause`
 /// gave.
-fn entry_given(past: &Past, network: &Network, passage: Passage) -> Option<Entry>
+fn entry_given(index: &Index, network: &Network, passage: Passage) -> Option<Entry>
     requires { IsInRange network.now }
-    ensures is { (befallen : List Event) (hs : List Happening) → IsPast network.now befallen hs past.now
+    ensures is { (befallen : List Event) (hs : List Happening) → IsIndex network.now befallen hs index.now
         → result ≡ entry_given network.now passage.device passage.link (numbered hs passage.cause) }
     ensures range { IfSome result (IsEntryInRange network.now) }
 {
-    match past.heading(passage.cause) {
+    match index.heading(passage.cause) {
         Some(heading) => entry_entering(network, passage.device, passage.link, heading.id),
         None => None,
     }
@@ -129,48 +130,48 @@ fn is_row_with(network: &Network, id: u16, row: &Row) -> bool
 }
 
 /// The cycle and the place in which the frame came, and between which places it is taken.
-fn beside(past: &Past, network: &Network, passage: Passage) -> Ground
+fn beside(index: &Index, network: &Network, passage: Passage) -> Ground
     requires range { IsInRange network.now }
-    requires past { IsSomePast network.now past.now }
+    requires index { IsSomeIndex network.now index.now }
     requires there { HasDevice network.now passage.device }
     requires soon { amount passage.time ≤ 2 ^ 60 }
-    ensures { (befallen : List Event) (hs : List Happening) → IsPast network.now befallen hs past.now
+    ensures { (befallen : List Event) (hs : List Happening) → IsIndex network.now befallen hs index.now
         → result ≡ beside_ground (scenario_under network.now befallen) hs passage.device (amount passage.time)
         (entry_given network.now passage.device passage.link (numbered hs passage.cause)) }
 {
-    match entry_given(past, network, passage) {
-        Some(entry) => missed(past, network, passage, &entry),
+    match entry_given(index, network, passage) {
+        Some(entry) => missed(index, network, passage, &entry),
         None => Ground::Untold,
     }
 }
 
 /// The same, of a frame of the entry.
-fn missed(past: &Past, network: &Network, passage: Passage, entry: &Entry) -> Ground
+fn missed(index: &Index, network: &Network, passage: Passage, entry: &Entry) -> Ground
     requires range { IsInRange network.now }
-    requires past { IsSomePast network.now past.now }
+    requires index { IsSomeIndex network.now index.now }
     requires there { HasDevice network.now passage.device }
     requires soon { amount passage.time ≤ 2 ^ 60 }
     requires entry { IsEntryInRange network.now entry.now }
-    ensures { (befallen : List Event) (hs : List Happening) → IsPast network.now befallen hs past.now
+    ensures { (befallen : List Event) (hs : List Happening) → IsIndex network.now befallen hs index.now
         → result ≡ beside_ground (scenario_under network.now befallen) hs passage.device (amount passage.time)
         (Some entry.now) }
 {
-    let cycle = cycle_before(past, network, passage.device, passage.time);
-    let at = position_at(past, network, passage.device, passage.time);
+    let cycle = cycle_before(index, network, passage.device, passage.time);
+    let at = position_at(index, network, passage.device, passage.time);
     let places = window_of(network, entry);
     Ground::Missed(cycle, at, places.from, places.to)
 }
 
 /// In which cycle of its local clock something comes to the device at the time.
-fn cycle_before(past: &Past, network: &Network, device: DeviceId, time: Units) -> u128
+fn cycle_before(index: &Index, network: &Network, device: DeviceId, time: Units) -> u128
     requires range { IsInRange network.now }
-    requires past { IsSomePast network.now past.now }
+    requires index { IsSomeIndex network.now index.now }
     requires there { HasDevice network.now device }
     requires soon { amount time ≤ 2 ^ 60 }
-    ensures { (befallen : List Event) (hs : List Happening) → IsPast network.now befallen hs past.now
+    ensures { (befallen : List Event) (hs : List Happening) → IsIndex network.now befallen hs index.now
         → result ≡ cycle_before (scenario_under network.now befallen) hs device (amount time) }
 {
-    cycle_at(network, past.clock_at(network, device, magnitude(time)))
+    cycle_at(network, index.clock_at(network, device, magnitude(time)))
 }
 
 /// The cycle of a local value, which is 0 before the first cycle.
@@ -186,38 +187,36 @@ fn cycle_at(network: &Network, value: i128) -> u128
 }
 
 /// The cycle in which the frame came, and the last record before by which the device took one of its virtual link.
-fn repeated(known: &KnownReport, network: &Network, passage: Passage) -> Ground
+fn repeated(report: &AuditedReport, network: &Network, passage: Passage) -> Ground
     requires named { IsNamed network.now }
-    requires report { IsSomeReport network.now known.now.report.octets }
-    requires past { ShowsAll network.now known.now }
+    requires read { IsRead network.now report.now }
     requires there { HasDevice network.now passage.device }
     requires soon { amount passage.time ≤ 2 ^ 60 }
     ensures { (notes : List NoteValue) (end : UnitsValue) (h : Happening)
-        → IsReportOf network.now known.now.report.octets notes end → IsThere network.now notes passage.number h
+        → IsReportOf network.now report.now.octets notes end → IsThere network.now notes passage.number h
         → h.note.time ≡ passage.time → result ≡ repeat_ground (scenario_of network.now notes)
         (happenings network.now notes) h passage.device passage.link passage.cause
         (entry_given network.now passage.device passage.link (numbered (happenings network.now notes) passage.cause)) }
 {
-    match entry_given(&known.past, network, passage) {
-        Some(entry) => taken(known, network, passage, &entry),
+    match entry_given(&report.index, network, passage) {
+        Some(entry) => taken(report, network, passage, &entry),
         None => Ground::Untold,
     }
 }
 
 /// The same, of a frame of the entry.
-fn taken(known: &KnownReport, network: &Network, passage: Passage, entry: &Entry) -> Ground
+fn taken(report: &AuditedReport, network: &Network, passage: Passage, entry: &Entry) -> Ground
     requires named { IsNamed network.now }
-    requires report { IsSomeReport network.now known.now.report.octets }
-    requires past { ShowsAll network.now known.now }
+    requires read { IsRead network.now report.now }
     requires there { HasDevice network.now passage.device }
     requires soon { amount passage.time ≤ 2 ^ 60 }
     ensures { (notes : List NoteValue) (end : UnitsValue) (h : Happening)
-        → IsReportOf network.now known.now.report.octets notes end → IsThere network.now notes passage.number h
+        → IsReportOf network.now report.now.octets notes end → IsThere network.now notes passage.number h
         → h.note.time ≡ passage.time
         → result ≡ repeat_ground (scenario_of network.now notes) (happenings network.now notes) h passage.device
         passage.link passage.cause (Some entry.now) }
 {
-    let cycle = cycle_before(&known.past, network, passage.device, passage.time);
+    let cycle = cycle_before(&report.index, network, passage.device, passage.time);
     let coming = Coming {
         device: passage.device,
         vl: entry.row.vl,
@@ -225,62 +224,61 @@ fn taken(known: &KnownReport, network: &Network, passage: Passage, entry: &Entry
         link: passage.link,
         cause: passage.cause,
     };
-    let number = last_before(known, network, passage.number, Sought::Taking(coming));
+    let number = last_before(report, network, passage.number, Sought::Taking(coming));
     Ground::Taken(cycle, number)
 }
 
 /// How many octets the frame has, and how many those of its virtual link have.
-fn of_length(past: &Past, network: &Network, passage: Passage) -> Ground
+fn of_length(index: &Index, network: &Network, passage: Passage) -> Ground
     requires { IsInRange network.now }
-    ensures { (befallen : List Event) (hs : List Happening) → IsPast network.now befallen hs past.now → result
+    ensures { (befallen : List Event) (hs : List Happening) → IsIndex network.now befallen hs index.now → result
         ≡ length_ground (option_map_or (λ g. length g.octets) (numbered hs passage.cause) 0)
         (entry_given network.now passage.device passage.link (numbered hs passage.cause)) }
 {
-    match entry_given(past, network, passage) {
-        Some(entry) => Ground::Length(size(past, passage.cause), u64::from(entry.vl.length)),
+    match entry_given(index, network, passage) {
+        Some(entry) => Ground::Length(size(index, passage.cause), u64::from(entry.vl.length)),
         None => Ground::Untold,
     }
 }
 
 /// How many octets the frame has that the record of the number gave.
-fn size(past: &Past, number: u64) -> u64
+fn size(index: &Index, number: u64) -> u64
     ensures { (network : NetworkValue) (befallen : List Event) (hs : List Happening)
-        → IsPast network befallen hs past.now
+        → IsIndex network befallen hs index.now
         → result ≡ option_map_or (λ g. length g.octets) (numbered hs number) 0 }
 {
-    match past.heading(number) {
+    match index.heading(number) {
         Some(heading) => heading.length as u64,
         None => 0,
     }
 }
 
 /// The marker of the frame that the record of the number gave, that of the network, and the id in the frame.
-fn unknown(past: &Past, network: &Network, number: u64) -> Ground
-    ensures { (befallen : List Event) (hs : List Happening) → IsPast network.now befallen hs past.now
+fn unknown(index: &Index, network: &Network, number: u64) -> Ground
+    ensures { (befallen : List Event) (hs : List Happening) → IsIndex network.now befallen hs index.now
         → result ≡ unknown_ground network.now (numbered hs number) }
 {
-    match past.heading(number) {
+    match index.heading(number) {
         Some(heading) => Ground::Unknown(heading.marker, network.marker, heading.id),
         None => Ground::Untold,
     }
 }
 
 /// The state of the device, which has no common time, and the last record before by which it came to one.
-fn unsynchronised(known: &KnownReport, network: &Network, passage: Passage) -> Ground
+fn unsynchronised(report: &AuditedReport, network: &Network, passage: Passage) -> Ground
     requires named { IsNamed network.now }
-    requires report { IsSomeReport network.now known.now.report.octets }
-    requires past { ShowsAll network.now known.now }
+    requires read { IsRead network.now report.now }
     requires there { HasDevice network.now passage.device }
     ensures { (notes : List NoteValue) (end : UnitsValue) (h : Happening)
-        → IsReportOf network.now known.now.report.octets notes end → IsThere network.now notes passage.number h
+        → IsReportOf network.now report.now.octets notes end → IsThere network.now notes passage.number h
         → h.note.time ≡ passage.time → result
         ≡ unsynchronised_ground (scenario_of network.now notes) (happenings network.now notes) h passage.device }
 {
-    let state = known
-        .past
+    let state = report
+        .index
         .state_before(network, passage.device, magnitude(passage.time));
     let since = last_before(
-        known,
+        report,
         network,
         passage.number,
         Sought::Turning(passage.device),
@@ -290,17 +288,17 @@ fn unsynchronised(known: &KnownReport, network: &Network, passage: Passage) -> G
 
 /// How far beyond the opening of its gate the clock of the device, a relay, stands at the time, and up to where it is
 /// open.
-fn shut(past: &Past, network: &Network, device: DeviceId, time: Units) -> Ground
+fn shut(index: &Index, network: &Network, device: DeviceId, time: Units) -> Ground
     requires range { IsInRange network.now }
-    requires past { IsSomePast network.now past.now }
+    requires index { IsSomeIndex network.now index.now }
     requires there { HasDevice network.now device }
     requires soon { amount time ≤ 2 ^ 60 }
-    ensures { (befallen : List Event) (hs : List Happening) → IsPast network.now befallen hs past.now
+    ensures { (befallen : List Event) (hs : List Happening) → IsIndex network.now befallen hs index.now
         → result ≡ gate_ground network.now device
         (clock_of (standpoint (scenario_under network.now befallen) hs device (amount time))) }
 {
     if is_relay(network, device) {
-        gate(network, past.clock_at(network, device, magnitude(time)))
+        gate(network, index.clock_at(network, device, magnitude(time)))
     } else {
         Ground::Untold
     }

@@ -6,9 +6,10 @@ ghost use Rattle.lens_why.specs.{Corrections.is_clique, Grounds.{scheduled_groun
 ghost use Rattle.lens_why.specs.Grounds.{dispatch_ground, ground_of, heard_ground, is_by_schedule, is_collected};
 ghost use Rattle.lens_why.specs.Grounds.{lost_ground, offset_at, permanent_ground, position_at, row_of};
 ghost use Rattle.lens_why.specs.Records.{ComesFrom, IsPermanence, IsState, IsThere, clock_given};
-ghost use Rattle.lens_why.specs.past.Pasts.{IsPast, IsSomePast, IsSomeReport, IsTimely, ShowsAll};
+ghost use Rattle.run_law.specs.declared.judgement.Judgement.{Judgement as JudgementValue};
+ghost use Rattle.{audit_sweep.specs.Indexing.{IsIndex, IsSomeIndex}, tte_reports.specs.Commands.IsRead};
+ghost use Rattle.lens_why.specs.Records.{IsTimely};
 ghost use Rattle.{net_plan.specs.{Belonging.HasDevice, Ranges.IsInRange}, tte_audit.specs.Report.scenario_of};
-ghost use Rattle.run_law.specs.{declared.judgement.Judgement.{Judgement as JudgementValue}, scenario.Ways.way_from};
 ghost use Rattle.run_law.specs.{declared.note.Note.{Note as NoteValue}, device.Standpoints.offset_in_cycle};
 ghost use Rattle.{tte_audit.specs.Named.IsNamed, tte_units.specs.Amount.amount};
 ghost use Rattle.{tte_reports.specs.Reports.IsReportOf, tte_units.specs.declared.units.Units.{Units as UnitsValue}};
@@ -16,13 +17,15 @@ ghost use Rattle.{tte_reports.specs.Reports.IsReportOf, tte_units.specs.declared
 use crate::collecting::{Collection, collected, sent_for};
 use crate::correcting::{clique, corrected};
 use crate::dropping::{Passage, dropped};
-use crate::past::{KnownReport, Past, Permanence};
 use crate::seeking::{Sought, last_before};
-use device_rules::{is_parent_of, joined_adjustment};
-use net_plan::{DeviceId, LinkId, Network, RowId, VlId, Way};
+use audit_sweep::records::wires::way_from;
+use audit_sweep::{Index, Permanence};
+use device_rules::joined_adjustment;
+use net_plan::{DeviceId, LinkId, Network, RowId, VlId};
 use run_law::{Judgement, Note, NoteBody, Why};
 use schedule_tables::{entry_of, window_of};
 use sync_state::State;
+use tte_reports::AuditedReport;
 use tte_units::Units;
 use tte_units::frames::Members;
 
@@ -96,21 +99,20 @@ pub enum Ground {
 
 /// What bore on the record, which comes from this one or from none.
 pub(crate) fn ground_of(
-    known: &KnownReport,
+    report: &AuditedReport,
     network: &Network,
     note: &Note,
     giving: &Option<Note>,
 ) -> Ground
     requires named { IsNamed network.now }
-    requires report { IsSomeReport network.now known.now.report.octets }
-    requires past { ShowsAll network.now known.now }
+    requires read { IsRead network.now report.now }
     requires timely { IsTimely network.now note.now }
     ensures { (notes : List NoteValue) (end : UnitsValue) (h : Happening)
-        → IsReportOf network.now known.now.report.octets notes end
+        → IsReportOf network.now report.now.octets notes end
         → ComesFrom (scenario_of network.now notes) (happenings network.now notes) h note.now giving.now
         → result ≡ ground_of (scenario_of network.now notes) (happenings network.now notes) h }
 {
-    let past = &known.past;
+    let index = &report.index;
     match &note.body {
         NoteBody::Event { line, .. } => Ground::Line(*line),
         NoteBody::Sent { cycle, .. } => Ground::Local(local_value(network, *cycle, 0)),
@@ -127,13 +129,13 @@ pub(crate) fn ground_of(
             link,
             vl,
             ..
-        } => taken(past, network, note.time, *device, *link, *vl),
+        } => taken(index, network, note.time, *device, *link, *vl),
         NoteBody::Delivered {
             device,
             link,
             vl,
             ..
-        } => taken(past, network, note.time, *device, *link, *vl),
+        } => taken(index, network, note.time, *device, *link, *vl),
         NoteBody::Dropped {
             device,
             link,
@@ -147,7 +149,7 @@ pub(crate) fn ground_of(
                 link: *link,
                 cause: *cause,
             };
-            dropped(known, network, passage, *reason)
+            dropped(report, network, passage, *reason)
         }
         NoteBody::Clock { reading, .. } => Ground::Reading(*reading),
         NoteBody::Permanent {
@@ -163,27 +165,27 @@ pub(crate) fn ground_of(
                 cause: *cause,
                 point: *point,
             };
-            permanent(known, network, note.number, note.time, frame, *verdict)
+            permanent(report, network, note.number, note.time, frame, *verdict)
         }
         NoteBody::Corrected { device, cycle, .. } => {
-            corrected(known, network, note.number, note.time, *device, *cycle)
+            corrected(report, network, note.number, note.time, *device, *cycle)
         }
-        NoteBody::Lost { device, link, .. } => lost(known, network, note.number, *device, *link),
+        NoteBody::Lost { device, link, .. } => lost(report, network, note.number, *device, *link),
         NoteBody::State { device, why, .. } => {
-            state_by(known, network, note.number, note.time, *device, *why)
+            state_by(report, network, note.number, note.time, *device, *why)
         }
         NoteBody::Compressed {
             device,
             opened,
             at,
             ..
-        } => sent_for(known, network, note.number, *device, *opened, *at),
+        } => sent_for(report, network, note.number, *device, *opened, *at),
     }
 }
 
 /// Where the device's clock stood when the virtual link's frame came by the link at the time, and where it takes it.
 fn taken(
-    past: &Past,
+    index: &Index,
     network: &Network,
     time: Units,
     device: DeviceId,
@@ -191,27 +193,27 @@ fn taken(
     vl: VlId,
 ) -> Ground
     requires range { IsInRange network.now }
-    requires past { IsSomePast network.now past.now }
+    requires index { IsSomeIndex network.now index.now }
     requires there { HasDevice network.now device }
     requires soon { amount time ≤ 2 ^ 60 }
-    ensures { (befallen : List Event) (hs : List Happening) → IsPast network.now befallen hs past.now
+    ensures { (befallen : List Event) (hs : List Happening) → IsIndex network.now befallen hs index.now
         → result ≡ window_ground network.now
         (position_at (scenario_under network.now befallen) hs device (amount time)) (row_of network.now vl link) }
 {
-    let at = position_at(past, network, device, time);
+    let at = position_at(index, network, device, time);
     window_on(network, at, link, vl)
 }
 
 /// Where in its cycle the local clock of the device stands when something comes to it at the time.
-pub(crate) fn position_at(past: &Past, network: &Network, device: DeviceId, time: Units) -> i128
+pub(crate) fn position_at(index: &Index, network: &Network, device: DeviceId, time: Units) -> i128
     requires range { IsInRange network.now }
-    requires past { IsSomePast network.now past.now }
+    requires index { IsSomeIndex network.now index.now }
     requires there { HasDevice network.now device }
     requires soon { amount time ≤ 2 ^ 60 }
-    ensures { (befallen : List Event) (hs : List Happening) → IsPast network.now befallen hs past.now
+    ensures { (befallen : List Event) (hs : List Happening) → IsIndex network.now befallen hs index.now
         → result ≡ position_at (scenario_under network.now befallen) hs device (amount time) }
 {
-    place_in_cycle(network, past.clock_at(network, device, magnitude(time)))
+    place_in_cycle(network, index.clock_at(network, device, magnitude(time)))
 }
 
 /// The place of a local value in its cycle.
@@ -224,7 +226,7 @@ pub(crate) fn place_in_cycle(network: &Network, value: i128) -> i128
 
 /// What the frame of the record of the number, which is permanent so, was judged by.
 fn permanent(
-    known: &KnownReport,
+    report: &AuditedReport,
     network: &Network,
     number: u64,
     time: Units,
@@ -232,34 +234,39 @@ fn permanent(
     verdict: Judgement,
 ) -> Ground
     requires named { IsNamed network.now }
-    requires report { IsSomeReport network.now known.now.report.octets }
-    requires past { ShowsAll network.now known.now }
+    requires read { IsRead network.now report.now }
     requires there { HasDevice network.now frame.device }
     ensures { (notes : List NoteValue) (end : UnitsValue) (h : Happening)
-        → IsReportOf network.now known.now.report.octets notes end → IsThere network.now notes number h
+        → IsReportOf network.now report.now.octets notes end → IsThere network.now notes number h
         → IsPermanence h time frame verdict → result ≡ permanent_ground (scenario_of network.now notes)
         (happenings network.now notes) frame.device frame.point verdict h }
 {
     if is_by_schedule(verdict) {
-        return scheduled(&known.past, network, number, time, frame);
+        return scheduled(&report.index, network, number, time, frame);
     }
     if is_collected(verdict) {
-        return collected(known, network, number, frame.device);
+        return collected(report, network, number, frame.device);
     }
     Ground::Untold
 }
 
 /// What the frame of the record of the number, which its device judges by its schedule, was judged by.
-fn scheduled(past: &Past, network: &Network, number: u64, time: Units, frame: Permanence) -> Ground
+fn scheduled(
+    index: &Index,
+    network: &Network,
+    number: u64,
+    time: Units,
+    frame: Permanence,
+) -> Ground
     requires range { IsInRange network.now }
-    requires past { IsSomePast network.now past.now }
+    requires index { IsSomeIndex network.now index.now }
     requires there { HasDevice network.now frame.device }
     ensures { (befallen : List Event) (hs : List Happening) (h : Happening) (verdict : JudgementValue)
-        → IsPast network.now befallen hs past.now → numbered hs number ≡ Some h → IsPermanence h time frame verdict
+        → IsIndex network.now befallen hs index.now → numbered hs number ≡ Some h → IsPermanence h time frame verdict
         → result ≡ scheduled_ground (scenario_under network.now befallen) hs frame.device frame.point h }
 {
-    let carried = past.carried(number);
-    let adjustment = past.adjustment_at(network, magnitude(time), carried.members, frame);
+    let carried = index.carried(number);
+    let adjustment = index.adjustment_at(network, magnitude(time), carried.members, frame);
     heard(
         network,
         frame.device,
@@ -323,7 +330,7 @@ pub(crate) fn beyond(adjustment: i128, other: i128) -> i128
 
 /// What the device had heard where it comes to a state so by the record of the number, if by a clique.
 fn state_by(
-    known: &KnownReport,
+    report: &AuditedReport,
     network: &Network,
     number: u64,
     time: Units,
@@ -331,17 +338,16 @@ fn state_by(
     why: Why,
 ) -> Ground
     requires named { IsNamed network.now }
-    requires report { IsSomeReport network.now known.now.report.octets }
-    requires past { ShowsAll network.now known.now }
+    requires read { IsRead network.now report.now }
     requires there { HasDevice network.now device }
     requires soon { amount time ≤ 2 ^ 60 }
     ensures { (notes : List NoteValue) (end : UnitsValue) (h : Happening)
-        → IsReportOf network.now known.now.report.octets notes end → IsThere network.now notes number h
+        → IsReportOf network.now report.now.octets notes end → IsThere network.now notes number h
         → IsState h time device why
         → result ≡ state_ground (scenario_of network.now notes) (happenings network.now notes) h device why }
 {
     if is_clique(why) {
-        clique(known, network, number, time, device)
+        clique(report, network, number, time, device)
     } else {
         Ground::Untold
     }
@@ -356,32 +362,20 @@ fn is_clique(why: Why) -> bool
 
 /// The last record before that of the number, of a frame that the device gave to the link, by which the way was cut.
 fn lost(
-    known: &KnownReport,
+    report: &AuditedReport,
     network: &Network,
     number: u64,
     device: DeviceId,
     link: LinkId,
 ) -> Ground
     requires named { IsNamed network.now }
-    requires report { IsSomeReport network.now known.now.report.octets }
-    requires past { ShowsAll network.now known.now }
+    requires read { IsRead network.now report.now }
     ensures { (notes : List NoteValue) (end : UnitsValue) (h : Happening)
-        → IsReportOf network.now known.now.report.octets notes end → IsThere network.now notes number h
+        → IsReportOf network.now report.now.octets notes end → IsThere network.now notes number h
         → result ≡ lost_ground network.now (happenings network.now notes) h device link }
 {
     let sought = Sought::Cut(link, way_from(network, device, link));
-    Ground::CutBy(last_before(known, network, number, sought))
-}
-
-/// The way on which the device sends on the link.
-fn way_from(network: &Network, device: DeviceId, link: LinkId) -> Way
-    ensures { result ≡ way_from network.now device link }
-{
-    if is_parent_of(network, device, link) {
-        Way::Down
-    } else {
-        Way::Up
-    }
+    Ground::CutBy(last_before(report, network, number, sought))
 }
 
 /// How many units these are, without their sign.

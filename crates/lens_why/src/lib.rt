@@ -9,10 +9,9 @@ mod dropping;
 mod ground;
 mod laws;
 mod lines;
-pub mod past;
 mod seeking;
 
-pub use answering::why_record;
+pub use answering::Why;
 pub use collecting::Collection;
 pub use ground::{Best, Ground, Told};
 pub use laws::{best_law, collections_law, middles_law, names_law, row_law, why_law, windows_law};

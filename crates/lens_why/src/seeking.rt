@@ -1,6 +1,7 @@
 //! The last record before another one by which something came about.
-ghost use Rattle.std.specs.Prelude.{if◌then◌else◌, ◌≡◌, List, Some, option_map, true};
-ghost use Rattle.{audit_devices.specs.Effects.carried_by, lens_why.specs.past.Pasts.{IsPast, IsSomeReport, ShowsAll}};
+ghost use Rattle.std.specs.Prelude.{◌≡◌, List, Some, option_map, true};
+ghost use Rattle.{audit_devices.specs.Effects.carried_by, audit_sweep.specs.Indexing.IsIndex};
+ghost use Rattle.{tte_audit.specs.Named.IsNamed, tte_reports.specs.Commands.IsRead};
 ghost use Rattle.{audit_devices.specs.Keeping.records_before, run_law.specs.control.Corrections.{heard_by, hearing_by}};
 ghost use Rattle.{lens_why.specs.Records.IsThere, tte_units.specs.declared.units.Units.{Units as UnitsValue}};
 ghost use Rattle.lens_why.specs.Seeking.{is_channel, is_frame, is_hearing_of, is_sought, last_sought, opens, turns};
@@ -8,14 +9,14 @@ ghost use Rattle.net_plan.specs.declared.{event.Event.{Event as EventValue}, net
 ghost use Rattle.run_law.specs.{declared.note.Note.{Note as NoteValue}, scenario.Devices.{channel_of, channel_of_link}};
 ghost use Rattle.run_law.specs.records.{Happenings.{Happening, happenings, numbered}, Ranks.place_of};
 ghost use Rattle.{run_law.specs.timed.Receptions.{comes_before, is_taken_before}, tte_reports.specs.Reports.IsReportOf};
-ghost use Rattle.tte_audit.specs.Named.{IsNamed};
 
 use crate::ground::magnitude;
-use crate::past::{KnownReport, Past};
 use audit_devices::Carried;
+use audit_sweep::Index;
 use net_plan::{DeviceId, LinkId, Network, VlId, Way, What};
 use run_law::{Judgement, Note, NoteBody};
 use sync_state::membership::HeardFrame;
+use tte_reports::AuditedReport;
 use tte_units::Units;
 use tte_units::frames::Channel;
 
@@ -47,52 +48,51 @@ pub(crate) struct Coming {
 
 /// The number of the last record before that of the number by which it came about, or 0.
 pub(crate) fn last_before(
-    known: &KnownReport,
+    report: &AuditedReport,
     network: &Network,
     number: u64,
     sought: Sought,
 ) -> u64
     requires named { IsNamed network.now }
-    requires report { IsSomeReport network.now known.now.report.octets }
-    requires past { ShowsAll network.now known.now }
+    requires read { IsRead network.now report.now }
     ensures { (notes : List NoteValue) (end : UnitsValue) (h : Happening)
-        → IsReportOf network.now known.now.report.octets notes end → IsThere network.now notes number h
+        → IsReportOf network.now report.now.octets notes end → IsThere network.now notes number h
         → result ≡ last_sought network.now sought (records_before (place_of h) (happenings network.now notes)) }
 {
-    let mut records = known.report.records();
-    let mut count = 0;
-    let mut last = 0;
-    'records: loop {
-        match records.next(network) {
-            Some(note) => {
-                count = note.number;
-                if count == number {
-                    return last;
-                }
-                last = last_of(is_sought(&known.past, network, &note, sought), count, last);
-            }
-            None => return last,
+    let mut at = number;
+    'records: while at > 1 {
+        if is_sought_at(report, network, at - 1, sought) {
+            return at - 1;
         }
+        at -= 1;
+    }
+    0
+}
+
+/// Did it come about by the record of the number?
+fn is_sought_at(report: &AuditedReport, network: &Network, number: u64, sought: Sought) -> bool
+    requires named { IsNamed network.now }
+    requires read { IsRead network.now report.now }
+    ensures { (notes : List NoteValue) (end : UnitsValue) (h : Happening)
+        → IsReportOf network.now report.now.octets notes end → IsThere network.now notes number h
+        → result ≡ is_sought network.now sought h h.note.body }
+{
+    match report.record(network, number) {
+        Some(note) => is_sought(&report.index, network, &note, sought),
+        None => false,
     }
 }
 
-/// The number of the last so far, where the next one is looked for or not.
-fn last_of(found: bool, number: u64, last: u64) -> u64
-    ensures { result ≡ (if found then number else last) }
-{
-    if found { number } else { last }
-}
-
 /// Did it come about by the record?
-fn is_sought(past: &Past, network: &Network, note: &Note, sought: Sought) -> bool
+fn is_sought(index: &Index, network: &Network, note: &Note, sought: Sought) -> bool
     ensures { (befallen : List EventValue) (hs : List Happening) (h : Happening)
-        → IsPast network.now befallen hs past.now → numbered hs note.now.number ≡ Some h → h.note ≡ note.now
+        → IsIndex network.now befallen hs index.now → numbered hs note.now.number ≡ Some h → h.note ≡ note.now
         → result ≡ is_sought network.now sought h h.note.body }
 {
     match sought {
         Sought::Cut(link, way) => sets_cut(link, way, &note.body),
         Sought::Frame(device, channel, frame) => {
-            let carried = past.carried(note.number);
+            let carried = index.carried(note.number);
             is_heard(network, carried, &note.body, device, channel, frame)
         }
         Sought::Taking(coming) => is_taken_before(coming, magnitude(note.time), &note.body),

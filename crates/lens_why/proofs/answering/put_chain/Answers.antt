@@ -1,52 +1,48 @@
-use Rattle.{lens_why.proofs.Telling.{record_of, said_as, smaller, timely, told_all, told_fails, told_more, told_none}, run_law.specs.declared.note.Note.Note}
-use Rattle.{report_text.specs.Ranges.IsNoteOf, std.{proofs.Common.{◌∙◌, Option, refl, subst, sym}, specs.Prelude.IfSome}, tte_forms.specs.Putting.shown_by}
+use Rattle.lens_why.proofs.Telling.{network_of, said_as, smaller, timely, told_all, told_fails, told_more, told_none}
+use Rattle.{std.proofs.Common.{◌∙◌, refl, sym}, tte_forms.specs.Putting.shown_by}
 use Rattle.lens_why.proofs.answering.put_chain.Goals as goal
 
 pub records-init : goal.records-init
 records-init g c =
     let r = c.requires.record in
     record {
-      told = told_none c.args.network.now c.args.known.now.report.octets c.args.first (shown_by g.K.Sink c.args.out.now) r.notes r.end r.report r.number
+      told = told_none c.args.network.now c.args.report.now.octets c.args.first (shown_by g.K.Sink c.args.out.now) r.notes r.end r.report r.number
           r.there;
-      of_network = c.requires.of_network;
       quiet = refl;
     }
 
-pub giving-cause-requires-clause-record : goal.giving-cause-requires-clause-record
-giving-cause-requires-clause-record g c =
+pub put_record-requires-clause-of_network : goal.put_record-requires-clause-of_network
+put_record-requires-clause-of_network g c =
     let shown = shown_by g.K.Sink in
-    record_of c.args.network.now c.args.known.now.report.octets c.args.first c.records.note (shown c.args.out.now) (shown c.records.out)
+    network_of c.args.network.now c.args.report.now.octets c.args.first c.records.note (shown c.args.out.now) (shown c.records.out)
     c.records.invariant.told
-
-pub ground_of-ground-requires-clause-report : goal.ground_of-ground-requires-clause-report
-ground_of-ground-requires-clause-report g c = let t = c.records.invariant.told in (t.notes, t.end, t.of)
 
 pub ground_of-ground-requires-clause-timely : goal.ground_of-ground-requires-clause-timely
 ground_of-ground-requires-clause-timely g c =
     let shown = shown_by g.K.Sink in
-    timely c.args.network.now c.args.known.now.report.octets c.args.first c.records.note (shown c.args.out.now) (shown c.records.out)
+    timely c.args.network.now c.args.report.now.octets c.args.first c.records.note (shown c.args.out.now) (shown c.records.out)
     c.records.invariant.told
 
 pub returns-in-Err-clause-gives : goal.returns-in-Err-clause-gives
 returns-in-Err-clause-gives g c notes end of =
     let shown = shown_by g.K.Sink in
     let t = c.records.invariant.told in
-    let given = c.giving-cause.ensures.is t.notes t.end t.of in
-    let said = said_as c.args.network.now c.args.known.now.report.octets c.args.first c.records.note (shown c.args.out.now) (shown c.records.out) t
+    let given = c.giving-cause.ensures t.notes t.end t.of in
+    let said = said_as c.args.network.now c.args.report.now.octets c.args.first c.records.note (shown c.args.out.now) (shown c.records.out) t
     c.giving-cause.result
     c.ground_of-ground.result given (c.ground_of-ground.ensures t.notes t.end t.h t.of) in
-    told_fails c.args.network.now c.args.known.now.report.octets c.args.first c.records.note (shown c.args.out.now) (shown c.records.out) t
+    told_fails c.args.network.now c.args.report.now.octets c.args.first c.records.note (shown c.args.out.now) (shown c.records.out) t
     (shown c.put_record.new.out) c.ground_of-ground.result said c.requires.named c.in-Err.ensures.puts notes end of
 
 pub returns-in-None-clause-gives : goal.returns-in-None-clause-gives
 returns-in-None-clause-gives g c notes end of =
     let shown = shown_by g.K.Sink in
     let t = c.records.invariant.told in
-    let given = c.giving-cause.ensures.is t.notes t.end t.of in
-    let said = said_as c.args.network.now c.args.known.now.report.octets c.args.first c.records.note (shown c.args.out.now) (shown c.records.out) t
+    let given = c.giving-cause.ensures t.notes t.end t.of in
+    let said = said_as c.args.network.now c.args.report.now.octets c.args.first c.records.note (shown c.args.out.now) (shown c.records.out) t
     c.giving-cause.result
     c.ground_of-ground.result given (c.ground_of-ground.ensures t.notes t.end t.h t.of) in
-    told_all c.args.network.now c.args.known.now.report.octets c.args.first c.records.note (shown c.args.out.now) (shown c.records.out) t
+    told_all c.args.network.now c.args.report.now.octets c.args.first c.records.note (shown c.args.out.now) (shown c.records.out) t
     (shown c.put_record.new.out) c.ground_of-ground.result said c.requires.named c.in-Ok.ensures.puts (sym given ∙ c.in-None.is) c.end_with.result
     (shown c.end_with.new.out) c.end_with.ensures.ends notes end of
 
@@ -54,20 +50,19 @@ pub records-smaller : goal.records-smaller
 records-smaller g c =
     let shown = shown_by g.K.Sink in
     let t = c.records.invariant.told in
-    smaller c.args.network.now c.args.known.now.report.octets c.args.first c.records.note (shown c.args.out.now) (shown c.records.out) t c.in-Some.next
-    (sym (c.giving-cause.ensures.is t.notes t.end t.of) ∙ c.in-Some.is)
+    smaller c.args.network.now c.args.report.now.octets c.args.first c.records.note (shown c.args.out.now) (shown c.records.out) t c.in-Some.next
+    (sym (c.giving-cause.ensures t.notes t.end t.of) ∙ c.in-Some.is)
 
 pub records-preserved : goal.records-preserved
 records-preserved g c =
     let shown = shown_by g.K.Sink in
     let t = c.records.invariant.told in
-    let given = c.giving-cause.ensures.is t.notes t.end t.of in
-    let said = said_as c.args.network.now c.args.known.now.report.octets c.args.first c.records.note (shown c.args.out.now) (shown c.records.out) t
+    let given = c.giving-cause.ensures t.notes t.end t.of in
+    let said = said_as c.args.network.now c.args.report.now.octets c.args.first c.records.note (shown c.args.out.now) (shown c.records.out) t
     c.giving-cause.result
     c.ground_of-ground.result given (c.ground_of-ground.ensures t.notes t.end t.h t.of) in
     record {
-      told = told_more c.args.network.now c.args.known.now.report.octets c.args.first c.records.note (shown c.args.out.now) (shown c.records.out) t
+      told = told_more c.args.network.now c.args.report.now.octets c.args.first c.records.note (shown c.args.out.now) (shown c.records.out) t
           (shown c.put_record.new.out) c.ground_of-ground.result said c.in-Ok.ensures.puts c.in-Some.next (sym given ∙ c.in-Some.is);
-      of_network = subst (λ (o : Option Note). IfSome o (IsNoteOf c.args.network.now)) c.in-Some.is c.giving-cause.ensures.of_network;
       quiet = c.in-Ok.ensures.faults ∙ c.records.invariant.quiet;
     }

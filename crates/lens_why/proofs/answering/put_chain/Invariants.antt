@@ -1,10 +1,9 @@
-use Rattle.{lens_why.proofs.Telling.IsToldTo, report_text.specs.Ranges.IsNoteOf, std.proofs.Common.◌≡◌, tte_forms.specs.Putting.shown_by}
+use Rattle.{lens_why.proofs.Telling.IsToldTo, std.proofs.Common.◌≡◌, tte_forms.specs.Putting.shown_by}
 use Rattle.lens_why.proofs.answering.put_chain.Given as goal
 
 abbrev pub invariant-records : goal.invariant-records
 invariant-records g l = record {
-  told : IsToldTo l.network l.known.report.octets l.initial.note l.note (shown_by g.K.Sink l.fn.out) (shown_by g.K.Sink l.out);
-  of_network : IsNoteOf l.network l.note;
+  told : IsToldTo l.network l.report.octets l.initial.note l.note (shown_by g.K.Sink l.fn.out) (shown_by g.K.Sink l.out);
   quiet : g.K.Sink.faults l.out ≡ g.K.Sink.faults l.fn.out;
 }
 

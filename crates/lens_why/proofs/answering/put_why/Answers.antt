@@ -5,20 +5,20 @@ use Rattle.lens_why.proofs.answering.put_why.Goals as goal
 
 pub put_chain-requires-clause-record : goal.put_chain-requires-clause-record
 put_chain-requires-clause-record g c =
-    let r = c.requires.report in
-    record { notes = r.0; end = r.1; report = r.2; number = c.args.number; there = c.in-Ok.ensures.found r.0 r.1 r.2 }
+    let r = c.requires.read.some in
+    record { notes = r.0; end = r.1; report = r.2; number = c.args.number; there = c.in-Ok.ensures r.0 r.1 r.2 }
 
 pub returns-in-Ok-clause-gives : goal.returns-in-Ok-clause-gives
 returns-in-Ok-clause-gives g c notes end of =
     let shown = shown_by g.K.Sink in
-    let number = number_of c.args.network.now c.args.known.now.report.octets notes end of c.args.number c.in-Ok.first (c.in-Ok.ensures.found notes end of) in
+    let number = number_of c.args.network.now c.args.report.now.octets notes end of c.args.number c.in-Ok.first (c.in-Ok.ensures notes end of) in
     subst (λ (n : ℕ). GivesAnswer (IsWhyAnswer n c.args.network.now notes end) c.put_chain.result (shown c.args.out.now) (shown c.put_chain.new.out)) number
     (c.put_chain.ensures.gives notes end of)
 
 pub returns-in-Err-clause-gives : goal.returns-in-Err-clause-gives
 returns-in-Err-clause-gives g c notes end of =
     let shown = shown_by g.K.Sink in
-    let none = c.in-Err.ensures.found notes end of in
+    let none = c.in-Err.ensures notes end of in
     let line : c.as_slice.result.now ≡ number_refused_line c.args.number c.in-Err.count = c.as_slice.ensures ∙ c.make_refused_line.ensures in
     let whole = line ∙ ap (number_refused_line c.args.number) none.0 in
     let given = subst (λ (bytes : List ℕ). Gives (line_answer NumberRefused bytes) c.put_last.result (shown c.args.out.now) (shown c.put_last.new.out)) whole

@@ -4,6 +4,6 @@ use Rattle.lens_why.proofs.collecting.collected.Goals as goal
 pub returns : goal.returns
 returns c ns end h of there =
     let network = c.args.network.now in
-    let carried = c.carried-carried.ensures network (events_of ns) (happenings network ns) h (c.requires.past ns end of) there.there in
+    let carried = c.carried-carried.ensures network (events_of ns) (happenings network ns) h (c.requires.read.index ns end of) there.there in
     collected_is network (happenings network ns) c.args.device h c.carried-carried.result _ c.collection_before-last.result carried
     refl (c.collection_before-last.ensures ns end h of there)

@@ -1,8 +1,10 @@
-use Rattle.{lens_why.proofs.Collected.IsCollected, std.proofs.Common.length}
+use Rattle.{lens_why.{proofs.Collected.IsCollectedUpTo, specs.Records.IsThere}, std.proofs.Common.{List, ◌≤◌}, tte_reports.specs.Reports.IsReportOf}
+use Rattle.{run_law.specs.{declared.note.Note.Note, records.Happenings.{Happening, happenings}}, tte_units.specs.declared.units.Units.Units}
 use Rattle.lens_why.proofs.collecting.collection_before.Given as goal
 
 abbrev pub invariant-records : goal.invariant-records
-invariant-records l = record { collected : IsCollected l.network l.known.report.octets l.number l.device l.records l.count l.last }
-
-abbrev pub decreases-records : goal.decreases-records
-decreases-records l = length l.records.rest.now
+invariant-records l = record {
+  some : 1 ≤ l.at;
+  so : (notes : List Note) (end : Units) (h : Happening) → IsReportOf l.network l.report.octets notes end → IsThere l.network notes l.number h
+      → IsCollectedUpTo l.network l.device (happenings l.network notes) l.number l.at l.last;
+}

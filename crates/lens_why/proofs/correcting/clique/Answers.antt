@@ -1,12 +1,13 @@
-use Rattle.{audit_devices.specs.Showing.IsAfter, lens_why.{proofs.LastRecords.parted_there, specs.past.Pasts.before_corrections}, tte_units.specs.Amount.amount}
+use Rattle.{audit_devices.specs.Showing.IsAfter, audit_sweep.specs.Indexing.before_corrections, lens_why.proofs.LastRecords.parted_there}
 use Rattle.{lens_why.proofs.BestFrames.{after_clique, clique_is, summary_is}, run_law.specs.records.Happenings.{happenings, time_of}}
-use Rattle.{std.proofs.Common.{◌∙◌, ◌≡◌, ap, refl, subst, sym, ℕ}, tte_audit.specs.Report.{events_of, scenario_of}, tte_units.specs.declared.units.Units.Units}
+use Rattle.{std.proofs.Common.{◌∙◌, ◌≡◌, ap, refl, subst, sym, ℕ}, tte_audit.specs.Report.{events_of, scenario_of}}
+use Rattle.tte_units.specs.{Amount.amount, declared.units.Units.Units}
 use Rattle.lens_why.proofs.correcting.clique.Goals as goal
 
-pub heard-heard-requires-clause-past : goal.heard-heard-requires-clause-past
-heard-heard-requires-clause-past c =
-    let r = c.requires.report in
-    (events_of r.0, happenings c.args.network.now r.0, c.requires.past r.0 r.1 r.2)
+pub heard-heard-requires-clause-index : goal.heard-heard-requires-clause-index
+heard-heard-requires-clause-index c =
+    let r = c.requires.read.some in
+    (events_of r.0, happenings c.args.network.now r.0, c.requires.read.index r.0 r.1 r.2)
 
 pub returns : goal.returns
 returns c ns end h why of there state told =
@@ -15,11 +16,11 @@ returns c ns end h why of there state told =
     let s = scenario_of network ns in
     let d = c.args.device in
     let t = c.magnitude.result in
-    let at = parted_there network c.args.known.now.report.octets ns end of c.args.number h there.there in
+    let at = parted_there network c.args.report.now.octets ns end of c.args.number h there.there in
     let time : t ≡ time_of h = c.magnitude.ensures ∙ ap (λ (u : Units). amount u) (sym state.at) in
     let after = subst (λ (u : ℕ). IsAfter (before_corrections u hs) d u) (sym time)
-    (after_clique network c.args.known.now.report.octets ns end of c.requires.named at.before at.later h at.parts d state.state state.cause why told
+    (after_clique network c.args.report.now.octets ns end of c.requires.named at.before at.later h at.parts d state.state state.cause why told
     state.is) in
-    let heard = summary_is _ _ (c.heard-heard.ensures (events_of ns) hs (c.requires.past ns end of) after) in
+    let heard = summary_is _ _ (c.heard-heard.ensures (events_of ns) hs (c.requires.read.index ns end of) after) in
     clique_is s hs h d t c.heard-heard.result c.told_on-a.result c.told_on-b.result c.outside.result network.sync_threshold time heard
     (c.told_on-a.ensures ns end h of there) (c.told_on-b.ensures ns end h of there) c.outside.ensures.value refl

@@ -1,19 +1,19 @@
 use Rattle.{audit_devices.specs.Showing.IsAfter, lens_why.specs.Corrections.said_by, std.{proofs.lemmas.Int.to_z-of_z, specs.Prelude.option_and_then}}
 use Rattle.{lens_why.proofs.BestFrames.{after_change, corrected_is, summary_is}, std.proofs.Common.{◌∙◌, ◌≡◌, ap, of_z, rules, subst, sym, to_z, ℕ, ℤ}}
-use Rattle.{lens_why.{proofs.LastRecords.parted_there, specs.past.Pasts.before_corrections}, tte_audit.specs.Report.{events_of, scenario_of}}
+use Rattle.{audit_sweep.specs.Indexing.before_corrections, lens_why.proofs.LastRecords.parted_there, tte_audit.specs.Report.{events_of, scenario_of}}
 use Rattle.{run_law.specs.records.Happenings.{happenings, time_of}, tte_units.specs.declared.{frames.channel.Channel.TheVariants.{A, B}, units.Units.Units}}
 use Rattle.{std.specs.Int.w128, tte_units.specs.Amount.amount}
 use Rattle.lens_why.proofs.correcting.corrected.Goals as goal
 
-pub heard-heard-requires-clause-past : goal.heard-heard-requires-clause-past
-heard-heard-requires-clause-past c =
-    let r = c.requires.report in
-    (events_of r.0, happenings c.args.network.now r.0, c.requires.past r.0 r.1 r.2)
+pub heard-heard-requires-clause-index : goal.heard-heard-requires-clause-index
+heard-heard-requires-clause-index c =
+    let r = c.requires.read.some in
+    (events_of r.0, happenings c.args.network.now r.0, c.requires.read.index r.0 r.1 r.2)
 
-pub adjustment_before-adjustment-requires-clause-past : goal.adjustment_before-adjustment-requires-clause-past
-adjustment_before-adjustment-requires-clause-past c =
-    let r = c.requires.report in
-    (events_of r.0, happenings c.args.network.now r.0, c.requires.past r.0 r.1 r.2)
+pub adjustment_before-adjustment-requires-clause-index : goal.adjustment_before-adjustment-requires-clause-index
+adjustment_before-adjustment-requires-clause-index c =
+    let r = c.requires.read.some in
+    (events_of r.0, happenings c.args.network.now r.0, c.requires.read.index r.0 r.1 r.2)
 
 pub returns : goal.returns
 returns c ns end h of there correction =
@@ -22,14 +22,14 @@ returns c ns end h of there correction =
     let s = scenario_of network ns in
     let d = c.args.device in
     let t = c.magnitude-at.result in
-    let at = parted_there network c.args.known.now.report.octets ns end of c.args.number h there.there in
+    let at = parted_there network c.args.report.now.octets ns end of c.args.number h there.there in
     let time : t ≡ time_of h = c.magnitude-at.ensures ∙ ap (λ (u : Units). amount u) (sym correction.at) in
-    let past = c.requires.past ns end of in
+    let index = c.requires.read.index ns end of in
     let after = subst (λ (u : ℕ). IsAfter (before_corrections u hs) d u) (sym time)
-    (after_change network c.args.known.now.report.octets ns end of c.requires.named at.before at.later h at.parts d c.args.cycle correction.by
+    (after_change network c.args.report.now.octets ns end of c.requires.named at.before at.later h at.parts d c.args.cycle correction.by
     correction.adjustment correction.is) in
-    let heard = summary_is _ _ (c.heard-heard.ensures (events_of ns) hs past after) in
-    let changed = to_z-of_z w128 c.adjustment_before-adjustment.result (search rules) ∙ c.adjustment_before-adjustment.ensures.is (events_of ns) hs past in
+    let heard = summary_is _ _ (c.heard-heard.ensures (events_of ns) hs index after) in
+    let changed = to_z-of_z w128 c.adjustment_before-adjustment.result (search rules) ∙ c.adjustment_before-adjustment.ensures.is (events_of ns) hs index in
     let adjustment : ℤ = to_z w128 (of_z w128 c.adjustment_before-adjustment.result) in
     corrected_is s hs h d c.args.cycle t c.heard-heard.result adjustment c.said_on-a.result c.said_on-b.result time heard changed
     (c.said_on-a.ensures ns end h of there ∙ ap (option_and_then (said_by s hs h d c.args.cycle adjustment A)) c.best.ensures.value)

@@ -1,16 +1,16 @@
-use Rattle.{lens_why.proofs.Grounded.past_there, std.proofs.Common.{◌∙◌, ap, sym}, tte_units.specs.{Amount.amount, declared.units.Units.Units}}
+use Rattle.{lens_why.proofs.Grounded.index_there, std.proofs.Common.{◌∙◌, ap, sym}, tte_units.specs.{Amount.amount, declared.units.Units.Units}}
 use Rattle.{lens_why.specs.Grounds.{beside_ground, dropped_ground, entry_given, gate_ground}, run_law.specs.device.Standpoints.{clock_of, standpoint}}
 use Rattle.{run_law.specs.{declared.judgement.Reason.Reason, records.Happenings.{happenings, numbered}}, tte_audit.specs.Report.{events_of, scenario_of}}
 use Rattle.lens_why.proofs.dropping.dropped.Goals as goal
 
-pub beside-requires-clause-past : goal.beside-requires-clause-past
-beside-requires-clause-past c = past_there c.args.network.now c.args.known.now c.requires.report c.requires.past
+pub beside-requires-clause-index : goal.beside-requires-clause-index
+beside-requires-clause-index c = index_there c.args.network.now c.args.report.now c.requires.read
 
-pub beside-requires-in-Late-clause-past : goal.beside-requires-in-Late-clause-past
-beside-requires-in-Late-clause-past c = past_there c.args.network.now c.args.known.now c.requires.report c.requires.past
+pub beside-requires-in-Late-clause-index : goal.beside-requires-in-Late-clause-index
+beside-requires-in-Late-clause-index c = index_there c.args.network.now c.args.report.now c.requires.read
 
-pub shut-requires-clause-past : goal.shut-requires-clause-past
-shut-requires-clause-past c = past_there c.args.network.now c.args.known.now c.requires.report c.requires.past
+pub shut-requires-clause-index : goal.shut-requires-clause-index
+shut-requires-clause-index c = index_there c.args.network.now c.args.report.now c.requires.read
 
 pub returns-in-Early : goal.returns-in-Early
 returns-in-Early c ns end h of there at =
@@ -18,7 +18,7 @@ returns-in-Early c ns end h of there at =
     let s = scenario_of network ns in
     let hs = happenings network ns in
     let p = c.args.passage in
-    c.beside.ensures (events_of ns) hs (c.requires.past ns end of)
+    c.beside.ensures (events_of ns) hs (c.requires.read.index ns end of)
     ∙ ap (λ (u : Units). beside_ground s hs p.device (amount u) (entry_given network p.device p.link (numbered hs p.cause))) (sym at)
     ∙ ap (λ (r : Reason). dropped_ground s hs h p.device p.link p.cause (numbered hs p.cause) r) (sym c.in-Early.is)
 
@@ -28,7 +28,7 @@ returns-in-Late c ns end h of there at =
     let s = scenario_of network ns in
     let hs = happenings network ns in
     let p = c.args.passage in
-    c.beside-in-Late.ensures (events_of ns) hs (c.requires.past ns end of)
+    c.beside-in-Late.ensures (events_of ns) hs (c.requires.read.index ns end of)
     ∙ ap (λ (u : Units). beside_ground s hs p.device (amount u) (entry_given network p.device p.link (numbered hs p.cause))) (sym at)
     ∙ ap (λ (r : Reason). dropped_ground s hs h p.device p.link p.cause (numbered hs p.cause) r) (sym c.in-Late.is)
 
@@ -47,7 +47,7 @@ returns-in-Length c ns end h of there at =
     let s = scenario_of network ns in
     let hs = happenings network ns in
     let p = c.args.passage in
-    c.of_length.ensures (events_of ns) hs (c.requires.past ns end of)
+    c.of_length.ensures (events_of ns) hs (c.requires.read.index ns end of)
     ∙ ap (λ (r : Reason). dropped_ground s hs h p.device p.link p.cause (numbered hs p.cause) r) (sym c.in-Length.is)
 
 pub returns-in-Unknown : goal.returns-in-Unknown
@@ -56,7 +56,7 @@ returns-in-Unknown c ns end h of there at =
     let s = scenario_of network ns in
     let hs = happenings network ns in
     let p = c.args.passage in
-    c.unknown.ensures (events_of ns) hs (c.requires.past ns end of)
+    c.unknown.ensures (events_of ns) hs (c.requires.read.index ns end of)
     ∙ ap (λ (r : Reason). dropped_ground s hs h p.device p.link p.cause (numbered hs p.cause) r) (sym c.in-Unknown.is)
 
 pub returns-in-Unsynchronised : goal.returns-in-Unsynchronised
@@ -74,6 +74,6 @@ returns-in-Gate c ns end h of there at =
     let s = scenario_of network ns in
     let hs = happenings network ns in
     let p = c.args.passage in
-    c.shut.ensures (events_of ns) hs (c.requires.past ns end of)
+    c.shut.ensures (events_of ns) hs (c.requires.read.index ns end of)
     ∙ ap (λ (u : Units). gate_ground network p.device (clock_of (standpoint s hs p.device (amount u)))) (sym at)
     ∙ ap (λ (r : Reason). dropped_ground s hs h p.device p.link p.cause (numbered hs p.cause) r) (sym c.in-Gate.is)

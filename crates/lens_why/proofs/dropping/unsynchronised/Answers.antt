@@ -1,11 +1,11 @@
-use Rattle.{lens_why.proofs.Grounded.past_there, run_law.specs.device.States.state_before, std.proofs.Common.{◌∙◌, ◌≡◌, ap, sym, ℕ}}
+use Rattle.{lens_why.proofs.Grounded.index_there, run_law.specs.device.States.state_before, std.proofs.Common.{◌∙◌, ◌≡◌, ap, sym, ℕ}}
 use Rattle.{lens_why.specs.declared.ground.Ground.TheVariants.Unsynchronised, run_law.specs.records.Happenings.{happenings, time_of}}
 use Rattle.{sync_state.specs.declared.state.State.State, tte_audit.specs.Report.{events_of, scenario_of}, tte_units.specs.declared.units.Units.Units}
 use Rattle.tte_units.specs.Amount.{amount}
 use Rattle.lens_why.proofs.dropping.unsynchronised.Goals as goal
 
-pub state_before-state-requires-clause-past : goal.state_before-state-requires-clause-past
-state_before-state-requires-clause-past c = past_there c.args.network.now c.args.known.now c.requires.report c.requires.past
+pub state_before-state-requires-clause-index : goal.state_before-state-requires-clause-index
+state_before-state-requires-clause-index c = index_there c.args.network.now c.args.report.now c.requires.read
 
 pub returns : goal.returns
 returns c ns end h of there at =
@@ -14,6 +14,6 @@ returns c ns end h of there at =
     let hs = happenings network ns in
     let d = c.args.passage.device in
     let time : c.magnitude.result ≡ time_of h = c.magnitude.ensures ∙ ap (λ (u : Units). amount u) (sym at) in
-    let state = c.state_before-state.ensures (events_of ns) hs (c.requires.past ns end of) ∙ ap (λ (t : ℕ). state_before s hs d t) time in
+    let state = c.state_before-state.ensures (events_of ns) hs (c.requires.read.index ns end of) ∙ ap (λ (t : ℕ). state_before s hs d t) time in
     ap (λ (k : State). Unsynchronised k c.last_before-since.result) state
     ∙ ap (λ (n : ℕ). Unsynchronised (state_before s hs d (time_of h)) n) (c.last_before-since.ensures ns end h of there)

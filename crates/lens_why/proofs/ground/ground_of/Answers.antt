@@ -1,5 +1,6 @@
-use Rattle.{lens_why.proofs.Grounded.{correction_so, ground_as, is_there, past_there, position_so, state_so}, std.proofs.Common.{◌∙◌, ap, refl, subst, sym, ℤ}}
-use Rattle.lens_why.{proofs.Hearing.permanence_so, specs.{Grounds.{position_at, row_of, window_ground}, declared.past.past.Permanence.Permanence}}
+use Rattle.{lens_why.proofs.Grounded.{correction_so, ground_as, is_there, index_there, position_so, state_so}, std.proofs.Common.{◌∙◌, ap, refl, subst, sym, ℤ}}
+use Rattle.audit_sweep.specs.declared.index.Permanence.{Permanence}
+use Rattle.lens_why.{proofs.Hearing.permanence_so, specs.Grounds.{position_at, row_of, window_ground}}
 use Rattle.{lens_why.proofs.Holding.held_is, report_text.specs.Ranges.IsBodyOf, tte_units.specs.Amount.amount}
 use Rattle.{run_law.specs.{declared.note.{Note.Note, NoteBody.NoteBody}, records.Happenings.happenings}, tte_audit.specs.Report.{events_of, scenario_of}}
 use Rattle.run_law.specs.declared.note.NoteBody.TheVariants as notes
@@ -7,14 +8,14 @@ use Rattle.lens_why.proofs.ground.ground_of.Goals as goal
 
 -- ---- what the calls ask for
 
-pub taken-requires-clause-past : goal.taken-requires-clause-past
-taken-requires-clause-past c = past_there c.args.network.now c.args.known.now c.requires.report c.requires.past
+pub taken-requires-clause-index : goal.taken-requires-clause-index
+taken-requires-clause-index c = index_there c.args.network.now c.args.report.now c.requires.read
 
 pub taken-requires-clause-there : goal.taken-requires-clause-there
 taken-requires-clause-there c = (subst (λ (b : NoteBody). IsBodyOf c.args.network.now b) c.in-Accepted.is c.requires.timely.of_network).0
 
-pub taken-requires-in-Delivered-clause-past : goal.taken-requires-in-Delivered-clause-past
-taken-requires-in-Delivered-clause-past c = past_there c.args.network.now c.args.known.now c.requires.report c.requires.past
+pub taken-requires-in-Delivered-clause-index : goal.taken-requires-in-Delivered-clause-index
+taken-requires-in-Delivered-clause-index c = index_there c.args.network.now c.args.report.now c.requires.read
 
 pub taken-requires-in-Delivered-clause-there : goal.taken-requires-in-Delivered-clause-there
 taken-requires-in-Delivered-clause-there c = (subst (λ (b : NoteBody). IsBodyOf c.args.network.now b) c.in-Delivered.is c.requires.timely.of_network).0
@@ -42,7 +43,7 @@ returns-in-Accepted c ns end h of from =
     let note = c.args.note.now in
     let at = position_so s hs h note c.args.giving.now from a.device (position_at s hs a.device (amount note.time)) refl in
     ground_as s hs h note c.args.giving.now from (notes.Accepted a.device a.link a.cause a.vl a.cycle) a.is c.taken.result
-    (c.taken.ensures (events_of ns) hs (c.requires.past ns end of) ∙ ap (λ (z : ℤ). window_ground network z (row_of network a.vl a.link)) at)
+    (c.taken.ensures (events_of ns) hs (c.requires.read.index ns end of) ∙ ap (λ (z : ℤ). window_ground network z (row_of network a.vl a.link)) at)
 
 pub returns-in-Delivered : goal.returns-in-Delivered
 returns-in-Delivered c ns end h of from =
@@ -53,7 +54,7 @@ returns-in-Delivered c ns end h of from =
     let note = c.args.note.now in
     let at = position_so s hs h note c.args.giving.now from a.device (position_at s hs a.device (amount note.time)) refl in
     ground_as s hs h note c.args.giving.now from (notes.Delivered a.device a.link a.cause a.vl a.cycle) a.is c.taken-in-Delivered.result
-    (c.taken-in-Delivered.ensures (events_of ns) hs (c.requires.past ns end of)
+    (c.taken-in-Delivered.ensures (events_of ns) hs (c.requires.read.index ns end of)
     ∙ ap (λ (z : ℤ). window_ground network z (row_of network a.vl a.link)) at)
 
 pub returns-in-Dropped : goal.returns-in-Dropped

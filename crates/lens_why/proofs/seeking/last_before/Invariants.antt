@@ -1,8 +1,10 @@
-use Rattle.{lens_why.proofs.LastRecords.IsSought, std.proofs.Common.length}
+use Rattle.{lens_why.{proofs.LastRecords.IsSoughtDownTo, specs.Records.IsThere}, std.proofs.Common.List, tte_reports.specs.Reports.IsReportOf}
+use Rattle.{run_law.specs.{declared.note.Note.Note, records.Happenings.{Happening, happenings}}, tte_units.specs.declared.units.Units.Units}
 use Rattle.lens_why.proofs.seeking.last_before.Given as goal
 
 abbrev pub invariant-records : goal.invariant-records
-invariant-records l = record { sought : IsSought l.network l.known.report.octets l.number l.sought l.records l.count l.last }
+invariant-records l = (notes : List Note) (end : Units) (h : Happening) → IsReportOf l.network l.report.octets notes end
+    → IsThere l.network notes l.number h → IsSoughtDownTo l.network l.sought (happenings l.network notes) h l.at
 
 abbrev pub decreases-records : goal.decreases-records
-decreases-records l = length l.records.rest.now
+decreases-records l = l.at

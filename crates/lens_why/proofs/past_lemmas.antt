@@ -1,3 +1,0 @@
-pub mod Beginning
-pub mod Following
-pub mod Words
