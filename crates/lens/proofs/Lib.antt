@@ -1,3 +1,4 @@
 pub mod draw_lemmas
 pub mod events_lemmas
+pub mod FormLemmas
 pub mod TopAnswers

@@ -1,14 +1,16 @@
 -- The answer for the words.
 use Rattle.{fault_hypothesis.proofs.storm_lemmas.OneStorm.one_storm, std.proofs.Common.{◌∙◌, ◌≡◌, ◌≤◌, List, None, Some, ap, subst, sym, ℕ}}
-use Rattle.lens.specs.{Top.{AnswerIsOne, AnswersWords, IsAnswerBy}, draw.overview.Answer.IsOverviewAnswer, events.Answer.{IsEventsAnswer, event_lines}}
-use Rattle.{lens.specs.draw.Answer.IsDrawAnswer, lens_slack.specs.Answer.IsSlackOf, std.specs.Prelude.{IfSome, Option}, tte_reports.proofs.Reports.report_one}
+use Rattle.lens.specs.{Forms.{IsFormInRange, form_of}, Top.{AnswerIsOne, AnswersWords, IsAnswerBy}, events.Answer.{IsEventsAnswer, event_lines}}
+use Rattle.{lens.specs.Questions.{EndsFor, IsQuestionAnswer}, lens_slack.specs.Answer.IsSlackOf, std.specs.Prelude.{IfSome, Option}}
 use Rattle.{lens_flows.proofs.OneAnswer.flows_answer_one, net_plan.specs.declared.network.Network.Network, schedule_checker.specs.Refusals.RefusalIsOne}
-use Rattle.{lens_flows.specs.Answer.IsFlowsAnswer, net_plan.specs.declared.event.Event.Event, schedule_tables.specs.Rules.KeepsRules}
+use Rattle.{lens.proofs.FormLemmas.form_in_range, net_plan.specs.declared.event.Event.Event, schedule_tables.specs.Rules.KeepsRules}
 use Rattle.{lens_slack.proofs.OneSlack.{octets_one, slack_one}, tte_forms.specs.{declared.status.Status.Status, networks.Accepting.IsNetworkAnswer}}
-use Rattle.{lens_slack.proofs.{forms_lemmas.FormLemmas.form_in_range, least_lemmas.OneLeast.least_one}, tte_forms.specs.declared.status.Status.TheVariants.Done}
-use Rattle.{lens_slack.specs.{Steps.{all_steps, rule_steps}, forms.Forms.{IsFormInRange, form_of}}, tte_forms.proofs.networks.Answers.network_answer_one}
-use Rattle.lens_slack.specs.{declared.forms.form.Form.{Form, TheVariants.{Draw, DrawWhole, Events, Flows, Least, Slack, SlackOf, Why}}, least.Answer.IsLeastOf}
-use Rattle.{lens_why.proofs.Whole.why_one, tte_forms.specs.{Answering.Answer, Putting.Shown}}
+use Rattle.{lens_slack.proofs.least_lemmas.OneLeast.least_one, tte_forms.specs.declared.status.Status.TheVariants.{Done, Usage}}
+use Rattle.{lens_slack.specs.{Steps.{all_steps, rule_steps}, least.Answer.IsLeastOf}, tte_forms.proofs.networks.Answers.network_answer_one}
+use Rattle.{lens.specs.declared.forms.Form.TheVariants.{Events, Least, Report, Slack, SlackOf}, lens.specs.declared.forms.Question.Question}
+use Rattle.{lens.specs.declared.forms.Form.Form, lens.specs.declared.forms.Question.TheVariants.{Draw, DrawWhole, Flows, Why}}
+use Rattle.{lens_why.proofs.Whole.why_answer_one, tte_forms.specs.{Answering.Answer, Putting.Shown}}
+use Rattle.tte_reports.{proofs.Reports.report_one, specs.Reports.IsOneFor}
 
 -- what is answered for the form is answered for the words
 pub words_as : {f form : Option Form} → f ≡ form → (first second : Option (List ℕ)) (status : Status) (old new : Shown)
@@ -27,18 +29,25 @@ events_one : RefusalIsOne → (seed cycles : ℕ) → cycles ≤ 100000 → (oct
 events_one one seed cycles few octets a b p q =
     network_answer_one one (IsEventsAnswer seed cycles) octets (λ network accepted. events_answer_one seed cycles network few accepted.rules) a b p q
 
+question_one : (question : Question) → IsOneFor (IsQuestionAnswer question)
+question_one (Why number) = why_answer_one number
+question_one DrawWhole = λ network text notes end x y rules of i j. i ∙ sym j
+question_one (Draw from to) = λ network text notes end x y rules of i j. i ∙ sym j
+question_one Flows = flows_answer_one
+
+-- no question ends as words of no form do
+pub no_usage_for : (question : Question) → EndsFor question Usage → ⊥
+no_usage_for (Why number) h = h
+no_usage_for other h = h
+
 answer_one : RefusalIsOne → (form : Option Form) → IfSome form IsFormInRange → (octets report : List ℕ) (a b : Answer) → IsAnswerBy form octets report a
     → IsAnswerBy form octets report b → a ≡ b
 answer_one one None range octets report a b p q = p ∙ sym q
 answer_one one (Some Slack) range octets report a b p q = octets_one (IsSlackOf all_steps) (slack_one all_steps) octets a b p q
 answer_one one (Some (SlackOf rule)) range octets report a b p q = octets_one (IsSlackOf (rule_steps rule)) (slack_one (rule_steps rule)) octets a b p q
 answer_one one (Some Least) range octets report a b p q = octets_one IsLeastOf least_one octets a b p q
-answer_one one (Some (Why number)) range octets report a b p q = why_one one number octets report a b p q
-answer_one one (Some DrawWhole) range octets report a b p q =
-    report_one one IsOverviewAnswer (λ network text notes end x y rules of i j. i ∙ sym j) octets report a b p q
-answer_one one (Some (Draw from to)) range octets report a b p q =
-    report_one one (IsDrawAnswer (record { from = from; to = to })) (λ network text notes end x y rules of i j. i ∙ sym j) octets report a b p q
-answer_one one (Some Flows) range octets report a b p q = report_one one IsFlowsAnswer flows_answer_one octets report a b p q
+answer_one one (Some (Report question)) range octets report a b p q =
+    report_one one (IsQuestionAnswer question) (question_one question) octets report a b p q
 answer_one one (Some (Events seed cycles)) range octets report a b p q = events_one one seed cycles range.1 octets a b p q
 
 pub one_answer : RefusalIsOne → AnswerIsOne

@@ -1,3 +1,5 @@
 pub mod draw
 pub mod events
+pub mod Forms
+pub mod Questions
 pub mod Top

@@ -1,13 +1,12 @@
 -- What the program `lens` answers.
 use Rattle.std.specs.Prelude.{◌++◌, ◌≡◌, ◌≢◌, ◌⊎◌, List, None, Option, Some, [], codes, ℕ}
-use Rattle.{lens.specs.draw.Answer.IsDrawAnswer, lens_why.specs.Answer.IsWhyAnswer}
-use Rattle.{lens.specs.draw.overview.Answer.IsOverviewAnswer, lens_slack.specs.least.Answer.IsLeastAnswer}
+use Rattle.{lens.specs.{Forms.form_of, Questions.IsQuestionAnswer}, lens_slack.specs.least.Answer.IsLeastAnswer}
 use Rattle.{lens.specs.events.Answer.IsEventsAnswer, tte_reports.specs.Reports.IsReportAnswer}
-use Rattle.{lens_flows.specs.Answer.IsFlowsAnswer, lens_slack.specs.forms.Forms.form_of}
-use Rattle.lens_slack.specs.{Answer.{IsSlackAnswer, IsSlackAnswerOf}, declared.forms.form.Form.{Form, TheVariants.Why}}
-use Rattle.lens_slack.specs.declared.forms.form.Form.TheVariants.{Draw, DrawWhole, Events, Flows, Least, Slack, SlackOf}
-use Rattle.tte_forms.specs.{Answering.{Answer, ForOctets, Gives, GivesAnswer, line_answer}, Putting.Shown}
+use Rattle.lens.specs.declared.forms.Form.{Form, TheVariants.{Events, Least, Report, Slack, SlackOf}}
+use Rattle.{lens_slack.specs.Answer.{IsSlackAnswer, IsSlackAnswerOf}, tte_forms.specs.Putting.Shown}
+use Rattle.tte_forms.specs.Answering.{Answer, ForOctets, Gives, GivesAnswer, line_answer}
 use Rattle.tte_forms.specs.{declared.status.Status.{Status, TheVariants.Usage}, networks.Accepting.IsNetworkAnswer}
+use Rattle.tte_reports.specs.{Commands.CompletesReport, Safely.AuditsSafely}
 
 -- the line for words of no form
 abbrev pub usage_line : List ℕ
@@ -19,16 +18,13 @@ usage_line =
 abbrev pub usage_answer : Answer
 usage_answer = line_answer Usage usage_line
 
--- an answer for a form and the octets of its files, of which only `why`, `draw` and `flows` have a second
+-- an answer for a form and the octets of its files, of which only what is asked of a report has a second
 abbrev pub IsFormAnswer : Form → List ℕ → List ℕ → Answer → Type 0
 IsFormAnswer Slack octets report a = IsSlackAnswer octets a
 IsFormAnswer (SlackOf rule) octets report a = IsSlackAnswerOf rule octets a
 IsFormAnswer Least octets report a = IsLeastAnswer octets a
-IsFormAnswer (Why number) octets report a = IsNetworkAnswer (IsReportAnswer (IsWhyAnswer number) report) octets a
-IsFormAnswer DrawWhole octets report a = IsNetworkAnswer (IsReportAnswer IsOverviewAnswer report) octets a
-IsFormAnswer (Draw from to) octets report a =
-    IsNetworkAnswer (IsReportAnswer (IsDrawAnswer (record { from = from; to = to })) report) octets a
-IsFormAnswer Flows octets report a = IsNetworkAnswer (IsReportAnswer IsFlowsAnswer report) octets a
+IsFormAnswer (Report question) octets report a =
+    IsNetworkAnswer (IsReportAnswer (IsQuestionAnswer question) report) octets a
 IsFormAnswer (Events seed cycles) octets report a = IsNetworkAnswer (IsEventsAnswer seed cycles) octets a
 
 -- an answer for the words and the octets of the files
@@ -44,10 +40,7 @@ AnswerIsOne =
 
 -- the fact holds for the octets of the second file, if the form has one
 abbrev pub ForSecond : Form → Option (List ℕ) → (List ℕ → Type 0) → Type 0
-ForSecond (Why number) left P = ForOctets left P
-ForSecond DrawWhole left P = ForOctets left P
-ForSecond (Draw from to) left P = ForOctets left P
-ForSecond Flows left P = ForOctets left P
+ForSecond (Report question) left P = ForOctets left P
 ForSecond other left P = P []
 
 -- words of no form are answered by usage, and no others are; to those of a form its answer was given, for the octets of
@@ -59,18 +52,24 @@ AnswersWords (Some form) first second status old new =
     × ForOctets first (λ octets.
     ForSecond form second (λ report. GivesAnswer (IsFormAnswer form octets report) status old new))
 
+-- where a report was asked and this is done, the report is that of a run that goes well, under events within the
+-- hypothesis
+abbrev pub AnswersSafely : Option Form → Option (List ℕ) → Option (List ℕ) → Status → Type 0
+AnswersSafely (Some (Report question)) first second status = AuditsSafely first second status
+AnswersSafely other first second status = Unit {0}
+
+-- what is asked of the report of a run is answered to its end, where no count of faults rose, unless memory ran out
+abbrev pub AnswersReports : Option Form → Option (List ℕ) → Option (List ℕ) → Type 0 → Type 0 → Status → Type 0
+AnswersReports (Some (Report question)) first second SourceRose SinkRose status =
+    CompletesReport (IsQuestionAnswer question) first second SourceRose SinkRose status
+AnswersReports other first second SourceRose SinkRose status = Unit {0}
+
 -- a read failed, and nothing was put: of the first file, and then the second was not read, or of the second
 abbrev pub FailsToRead : Option Form → Type 0 → Type 0 → Type 0 → Type 0 → Type 0
-FailsToRead (Some (Why number)) InFirst InSecond Unput Unread = (InFirst × Unput × Unread) ⊎ (InSecond × Unput)
-FailsToRead (Some DrawWhole) InFirst InSecond Unput Unread = (InFirst × Unput × Unread) ⊎ (InSecond × Unput)
-FailsToRead (Some (Draw from to)) InFirst InSecond Unput Unread = (InFirst × Unput × Unread) ⊎ (InSecond × Unput)
-FailsToRead (Some Flows) InFirst InSecond Unput Unread = (InFirst × Unput × Unread) ⊎ (InSecond × Unput)
+FailsToRead (Some (Report question)) InFirst InSecond Unput Unread = (InFirst × Unput × Unread) ⊎ (InSecond × Unput)
 FailsToRead other InFirst InSecond Unput Unread = InFirst × Unput × Unread
 
--- only `why`, `draw` and `flows` read a second file
+-- only what is asked of a report reads a second file
 abbrev pub LeavesSecond : Option Form → Type 0 → Type 0
-LeavesSecond (Some (Why number)) Unread = Unit {0}
-LeavesSecond (Some DrawWhole) Unread = Unit {0}
-LeavesSecond (Some (Draw from to)) Unread = Unit {0}
-LeavesSecond (Some Flows) Unread = Unit {0}
+LeavesSecond (Some (Report question)) Unread = Unit {0}
 LeavesSecond other Unread = Unread

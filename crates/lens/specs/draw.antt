@@ -1,6 +1,7 @@
 pub mod Putting
 pub mod Signs
 pub mod Picture
+pub mod Drafts
 pub mod Answer
 pub mod Laws
 pub mod ClockLaws

@@ -8,5 +8,5 @@ mod putting;
 mod signs;
 mod windows;
 
-pub use drawing::draw_report;
+pub use drawing::Draw;
 pub use laws::{clocks_law, picture_law, reading_law, windows_law};

@@ -1,21 +1,17 @@
-ghost use Rattle.std.specs.Prelude.{◌≡◌};
-ghost use Rattle.lens_slack.specs.forms.Forms.{form_of};
+ghost use Rattle.std.specs.Prelude.{◌≡◌, ◌⊎◌};
+ghost use Rattle.lens.specs.{Forms.form_of, Top.{AnswerIsOne, AnswersReports, AnswersSafely, AnswersWords}};
+ghost use Rattle.lens.specs.Top.{FailsToRead, LeavesSecond, usage_answer};
 ghost use Rattle.tte_forms.specs.{Answering.Gives, Faults.{HasCause, IsWanted, PutFailed, ReadFailed}, Putting.Over};
-ghost use Rattle.lens.specs.Top.{AnswerIsOne, AnswersWords, FailsToRead, LeavesSecond, usage_answer};
 
-use crate::draw::draw_report;
-use crate::draw::overview::draw_whole;
 use crate::events::storm_events;
-use lens_flows::flows;
-use lens_slack::forms::{Form, read_form};
+use crate::forms::{Form, read_form};
 use lens_slack::least::least_of_network;
 use lens_slack::{slack_of_network, slack_of_rule};
-use lens_svg::Span;
-use lens_why::why_record;
 use schedule_checker::refusal_is_one;
 use std::alloc::Global;
 use tte_forms::{Status, Words, put_last};
 use tte_io::{Sink, Source};
+use tte_reports::answer_report;
 
 const USAGE: &str = "usage: lens slack NETWORK [RULE] | least NETWORK | why NETWORK REPORT N | \
                      draw NETWORK REPORT [FROM TO] | flows NETWORK REPORT | events NETWORK SEED CYCLES\n";
@@ -31,6 +27,7 @@ pub fn lens<A: Source, B: Source, K: Sink>(
 ) -> Status
     ensures general { Over K.Sink out.old out.new
         (AnswersWords (form_of words.now) (A.left first.old) (B.left second.old) result) }
+    ensures safe { AnswersSafely (form_of words.now) (A.left first.old) (B.left second.old) result }
     // Where a source failed, nothing was written.
     ensures faults { HasCause result
         (FailsToRead (form_of words.now)
@@ -38,15 +35,15 @@ pub fn lens<A: Source, B: Source, K: Sink>(
         (out.new ≡ out.old) (second.new ≡ second.old))
         (PutFailed K.Sink out.old out.new) }
     ensures second { LeavesSecond (form_of words.now) (second.new ≡ second.old) }
+    ensures complete { AnswersReports (form_of words.now) (A.left first.old) (B.left second.old)
+        (ReadFailed A.Source first.old first.new ⊎ ReadFailed B.Source second.old second.new)
+        (PutFailed K.Sink out.old out.new) result }
 {
     match read_form(words) {
         Some(Form::Slack) => slack_of_network(alloc, first, out),
         Some(Form::SlackOf(rule)) => slack_of_rule(alloc, first, rule, out),
         Some(Form::Least) => least_of_network(alloc, first, out),
-        Some(Form::Why { number }) => why_record(alloc, first, second, number, out),
-        Some(Form::DrawWhole) => draw_whole(alloc, first, second, out),
-        Some(Form::Draw { from, to }) => draw_report(alloc, first, second, Span { from, to }, out),
-        Some(Form::Flows) => flows(alloc, first, second, out),
+        Some(Form::Report(question)) => answer_report(alloc, first, second, &question, out),
         Some(Form::Events { seed, cycles }) => storm_events(alloc, first, seed, cycles, out),
         None => put_usage(out),
     }

@@ -2,7 +2,7 @@
 use Rattle.{lens_slack.proofs.Deciding.bounds_decide, net_plan.specs.declared.network.Network.Network, std.proofs.lemmas.List.Sums.{sum_by-append, sum_by-cons}}
 use Rattle.{lens_slack.proofs.Numbers.{bounds_met, has_number, number_spot}, schedule_tables.specs.declared.rule.Rule.{Rule, TheVariants.WindowEnds}}
 use Rattle.{lens_slack.{proofs.Ones.one_of, specs.{Lines.spot_index, Steps.all_steps}}, net_plan.specs.Paths.IsTree}
-use Rattle.{lens_slack.specs.{Answer.ending_status, declared.spot.Measure.Measure, forms.Forms.IsInequality}, std.specs.Prelude.{◌==◌, cond, if◌then◌else◌}}
+use Rattle.{lens_slack.specs.{Answer.ending_status, declared.spot.Measure.Measure, Inequalities.IsInequality}, std.specs.Prelude.{◌==◌, cond, if◌then◌else◌}}
 use Rattle.lens_slack.specs.{Finds.{AreFound, AreOf, shorts_of, some_found}, Tightest.{IsEnough, IsTightestAt, is_short}, declared.spot.Finding.Finding}
 use Rattle.{lens_slack.specs.Laws.SlackAccepts, net_plan.proofs.Shape.rules_give_trees, schedule_checker.{proofs.Trees.tree_of, specs.Judging.plan_rule}}
 use Rattle.{lens_slack.specs.Spots.{IsTightestOf, rule_of, spot_at, spots_of}, std.proofs.{Common.ℕ, lemmas.Bool.{cases_lt, eq-eqb, eqb-true, le-ltb, lt-ltb}}}

@@ -1,6 +1,6 @@
 -- The first finding that is short, wherever one is.
 use Rattle.{lens_slack.proofs.Accepting.{AllHold, IsMet, measure_holds}, std.proofs.lemmas.List.{Elements.{All-append, All-cons, All-nil}, append_assoc}}
-use Rattle.lens_slack.{proofs.Ones.one_at, specs.{Steps.{all_steps, rule_steps}, declared.spot.{Finding.Finding, Measure.Measure}, forms.Forms.IsInequality}}
+use Rattle.lens_slack.{proofs.Ones.one_at, specs.{Steps.{all_steps, rule_steps}, declared.spot.{Finding.Finding, Measure.Measure}, Inequalities.IsInequality}}
 use Rattle.{lens_slack.specs.{Finds.{AreFound, AreOf, some_found}, declared.measuring.Ending.Ending}, schedule_checker.specs.declared.parts.PlanRule.PlanRule}
 use Rattle.{lens_slack.specs.{Laws.{IsFirstShort, KeepsOthers}, Tightest.{IsEnough, IsTightestAt}}, net_plan.specs.declared.network.Network.Network}
 use Rattle.lens_slack.specs.{Spots.{IsTightestOf, rule_of, spot_at, spots_of}, declared.step.Step.{Step, TheVariants.{Judged, Listed, Measured}}}

@@ -1,4 +1,3 @@
-pub mod forms_lemmas
 pub mod Deciding
 pub mod Keeping
 pub mod Numbered

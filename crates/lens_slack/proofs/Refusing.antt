@@ -4,7 +4,7 @@ use Rattle.{lens_slack.proofs.Deciding.bounds_decide, schedule_checker.proofs.{O
 use Rattle.lens_slack.proofs.FirstShort.{AreMet, IsListedIn, ShortMeasure, ShortSpot, all_in, all_rise, listed_or, lists_only, lists_own, none_measured}
 use Rattle.{lens_slack.{proofs.FirstShort.short_or, specs.Finds.IsFoundIn}, net_plan.specs.Paths.IsTree, std.{proofs.lemmas.Bool.cases_lt, specs.Prelude.◌/◌}}
 use Rattle.lens_slack.{proofs.Numbers.{bound_spot, channel_number, has_number, path_number, spot_met}, specs.Laws.{IsFirstShort, KeepsOthers, SlackRefuses}}
-use Rattle.lens_slack.specs.{Lines.{spot_index, spot_rule}, Steps.{all_steps, rule_steps}, declared.spot.Measure.Measure, forms.Forms.IsInequality}
+use Rattle.lens_slack.specs.{Lines.{spot_index, spot_rule}, Steps.{all_steps, rule_steps}, declared.spot.Measure.Measure, Inequalities.IsInequality}
 use Rattle.{lens_slack.specs.Spots.{IsSpotAt, rule_of, spot_at, spots_of}, schedule_tables.specs.declared.rule.Rule.{Rule, TheVariants.WindowEnds}}
 use Rattle.{lens_slack.specs.{Tightest.{IsEnough, IsTightestAt}, declared.spot.{Finding.Finding, Spot.Spot}}, net_plan.specs.declared.network.Network.Network}
 use Rattle.{net_plan.proofs.Shape.rules_give_trees, std.proofs.Common.{◌*◌, ◌+◌, ◌<◌, ◌∙◌, ◌≡◌, ◌≤◌, ◌⊎◌, List, Some, ap, arith, inl, inr, refl, subst, sym, ℕ}}

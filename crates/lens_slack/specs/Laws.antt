@@ -2,7 +2,7 @@
 use Rattle.std.specs.{List.All, Prelude.{◌++◌, ◌<◌, ◌↔◌, ◌∷◌, ◌≡◌, List, ℕ}}
 use Rattle.lens_slack.specs.declared.{measuring.Ending.Ending, spot.{Finding.Finding, Spot.Spot}}
 use Rattle.lens_slack.specs.{Answer.IsSlackOf, Bounds.IsBoundAt, Finds.IsFoundIn, Spots.IsSpotAt, Tightest.IsEnough}
-use Rattle.lens_slack.specs.{Lines.{spot_index, spot_rule}, Steps.{all_steps, rule_steps}, forms.Forms.IsInequality}
+use Rattle.lens_slack.specs.{Inequalities.IsInequality, Lines.{spot_index, spot_rule}, Steps.{all_steps, rule_steps}}
 use Rattle.net_plan.specs.{Ranges.IsInRange, declared.network.Network.Network}
 use Rattle.schedule_tables.specs.{Rules.{IsFirstBroken, IsKept, IsKeptAt, KeepsRules}, declared.rule.Rule.Rule}
 use Rattle.tte_forms.specs.{Answering.Answer, declared.status.Status.TheVariants.Done}

@@ -1,10 +1,10 @@
-pub mod forms
 pub mod Bounds
 pub mod Tightest
 pub mod Keeping
 pub mod Spots
 pub mod Lines
 pub mod Writing
+pub mod Inequalities
 pub mod Steps
 pub mod Finds
 pub mod Answer

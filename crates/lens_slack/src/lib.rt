@@ -2,7 +2,6 @@
 #![tactic(auto)]
 
 mod bounds;
-pub mod forms;
 mod laws;
 pub mod least;
 mod lines;

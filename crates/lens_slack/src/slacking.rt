@@ -2,7 +2,7 @@ ghost use Rattle.std.specs.Prelude.{◌≡◌, ◌≢◌, All, List};
 ghost use Rattle.lens_slack.specs.declared.spot.Finding.{Finding as FindingValue};
 ghost use Rattle.lens_slack.specs.Answer.{IsFileAnswer, IsSlackAnswer, IsSlackAnswerOf, IsSlackOf, broken_answer};
 ghost use Rattle.lens_slack.specs.{Answer.{ending_answer, ending_status, found_answer, told_of}, Finds.shorts_of};
-ghost use Rattle.lens_slack.specs.{Writing.{HasEndingPlace, HasPlace, IsWritable}, forms.Forms.IsInequality};
+ghost use Rattle.lens_slack.specs.{Writing.{HasEndingPlace, HasPlace, IsWritable}, Inequalities.IsInequality};
 ghost use Rattle.{net_plan.specs.Ranges.IsInRange, tte_forms.specs.Faults.{HasCause, IsWanted, PutFailed, ReadFailed}};
 ghost use Rattle.tte_forms.specs.{Answering.{AnswersOne, Gives, GivesAnswer}, Putting.Over};
 ghost use Rattle.tte_forms.specs.networks.{Checking.IsCheckStatus, NetworkLine.{network_refusal_line, rule_reason}};

@@ -1,10 +1,11 @@
 -- Of the marks of a report it can be asked where in their windows their frames came.
-use Rattle.{lens.proofs.draw_lemmas.Runs.pictures_show_runs, lens_why.proofs.past_lemmas.Following.timely_in, net_plan.specs.declared.network.Network.Network}
+use Rattle.{lens.proofs.draw_lemmas.Runs.pictures_show_runs, lens_why.proofs.Timely.timely_in, net_plan.specs.declared.network.Network.Network}
 use Rattle.{lens.specs.draw.Asking.IsAskable, report_text.specs.Ranges.IsBodyOf, run_law.specs.records.Order.IsIn, std.specs.List.cons_option}
 use Rattle.{lens_svg.specs.Bodies.{look_of, scene_of, struck_look}, std.proofs.lemmas.List.{Elements.{All-cons, All-nil, filter_map-append}, take_more}}
 use Rattle.{lens_svg.specs.{Laws.{AreMarksOf, IsMarkOf, shown}, declared.mark.Look.TheVariants.Taken}, std.specs.Prelude.{All, filter_map, if◌then◌else◌}}
 use Rattle.{lens_svg.specs.{Layout.holds, Sketching.{moment, plan_of}, declared.{layout.Span.Span, mark.Mark.Mark}}, net_plan.specs.declared.event.What.What}
-use Rattle.{lens_why.specs.past.Pasts.IsTimely, net_plan.specs.Belonging.HasDevice, run_law.specs.declared.note.Note.Note, tte_reports.specs.Reports.IsReportOf}
+use Rattle.{net_plan.specs.Belonging.HasDevice, run_law.specs.declared.note.Note.Note, tte_reports.specs.Reports.IsReportOf}
+use Rattle.lens_why.specs.Records.{IsTimely}
 use Rattle.{net_plan.specs.declared.ids.{LinkId.LinkId, VlId.VlId}, run_law.specs.declared.note.NoteBody.NoteBody, tte_units.specs.declared.units.Units.Units}
 use Rattle.std.proofs.Common.{◌++◌, ◌+◌, ◌<◌, ◌^◌, ◌∙◌, ◌∷◌, ◌≡◌, ◌≤◌, Bool, List, Option, [], ap, false, get_or, inl, inr, length, refl, subst, sym, take}
 use Rattle.std.proofs.Common.{true, ℕ}

@@ -1,5 +1,6 @@
--- The marks of records put one after another.
-use Rattle.{lens.proofs.draw_lemmas.Parts.{fails_before, fails_between}, lens_svg.specs.{Clocks.{Clocks, clocks_in, clocks_with}, declared.layout.Span.Span}}
+-- The draft of a picture, and the marks of records put one after another.
+use Rattle.{lens.specs.{declared.draw.drawing.Draft.Draft, draw.Drafts.IsDraftOf}, std.proofs.lemmas.List.Sums.fold_push}
+use Rattle.{lens.proofs.draw_lemmas.Parts.{fails_before, fails_between}, lens_svg.specs.{Clocks.{Clocks, clocks_in, clocks_with, no_clocks}, declared.layout.Span.Span}}
 use Rattle.{lens.specs.draw.Answer.{back_answer, draw_answer, fitting_answer}, lens_svg.specs.{Plan.Plan, Sketching.{begun, fits, plan_behind, plan_of, took}}}
 use Rattle.lens.specs.draw.{Picture.{back_lines, front_lines, mark_lines, marks_of, pen_behind, picture_lines, windows_of}, Signs.close_line}
 use Rattle.{lens_svg.{proofs.Painting.span_behind, specs.Layout.pen_at}, std.{proofs.Common.{true, ℕ}, specs.List.concat}, tte_reports.specs.Reports.AreLeft}
@@ -23,47 +24,24 @@ left_less network old new note rest a b =
     let others : length new.rest.now ≡ length (concat (report_of network rest)) = ap length b.text in
     omega (arith, line, whole, others)
 
--- ---- the sketch
+-- ---- the draft
 
--- these records are left, and the plan of all is that of them behind this one
-pub record IsSketched (network : Network) (begin : Plan) (notes : List Note) (records : Records) (plan : Plan) : Type 0 where
-  pub rest : List Note
-  pub left : AreLeft network records rest
-  pub whole : plan_behind network begin notes ≡ plan_behind network plan rest
+plan_more : (network : Network) (plan : Plan) (before : List Note) (note : Note)
+    → plan_behind network plan (before ++ note ∷ []) ≡ took network (plan_behind network plan before) note
+plan_more network plan [] note = refl
+plan_more network plan (n ∷ before) note = plan_more network (took network plan n) before note
 
-pub sketched_more : (network : Network) (begin : Plan) (notes : List Note) (records after : Records) (plan : Plan) (note : Note) (rest : List Note)
-    (h : IsSketched network begin notes records plan) → h.rest ≡ note ∷ rest → AreLeft network after rest
-    → IsSketched network begin notes after (took network plan note)
-sketched_more network begin notes records after plan note rest h next left = record {
-  rest = rest;
-  left = left;
-  whole = h.whole ∙ ap (plan_behind network plan) next;
-}
-
-pub sketched_all : (network : Network) (begin : Plan) (notes : List Note) (records : Records) (plan : Plan)
-    (h : IsSketched network begin notes records plan) → h.rest ≡ [] → plan ≡ plan_behind network begin notes
-sketched_all network begin notes records plan h none = sym (h.whole ∙ ap (plan_behind network plan) none)
-
--- ---- the clocks
-
--- these records are left, and what all tell of clocks is what they tell behind this
-pub record AreHeard (network : Network) (span : Span) (notes : List Note) (records : Records) (clocks : Clocks) : Type 0 where
-  pub rest : List Note
-  pub left : AreLeft network records rest
-  pub whole : clocks_in span notes ≡ fold (clocks_with span) clocks rest
-
-pub heard_more : (network : Network) (span : Span) (notes : List Note) (records after : Records) (clocks : Clocks) (note : Note) (rest : List Note)
-    (h : AreHeard network span notes records clocks) → h.rest ≡ note ∷ rest → AreLeft network after rest
-    → AreHeard network span notes after (clocks_with span clocks note)
-heard_more network span notes records after clocks note rest h next left = record {
-  rest = rest;
-  left = left;
-  whole = h.whole ∙ ap (fold (clocks_with span) clocks) next;
-}
-
-pub heard_all : (network : Network) (span : Span) (notes : List Note) (records : Records) (clocks : Clocks)
-    (h : AreHeard network span notes records clocks) → h.rest ≡ [] → clocks ≡ clocks_in span notes
-heard_all network span notes records clocks h none = sym (h.whole ∙ ap (fold (clocks_with span) clocks) none)
+-- what is taken of one more record
+pub drafted_more : (network : Network) (begin : Plan) (before : List Note) (old new : Draft) (note : Note) → IsDraftOf network begin before old
+    → new.sketch ≡ took network old.sketch note → new.clocks ≡ clocks_with new.sketch.span old.clocks note → IsDraftOf network begin (before ++ note ∷ []) new
+drafted_more network begin before old new note so sketch clocks =
+    let plan = sketch ∙ ap (λ (p : Plan). took network p note) so.sketch ∙ sym (plan_more network begin before note) in
+    let span = ap (λ (p : Plan). p.span) plan ∙ span_behind network begin (before ++ note ∷ []) in
+    record {
+      sketch = plan;
+      clocks = clocks ∙ ap (λ (s : Span). clocks_with s old.clocks note) span ∙ ap (λ (k : Clocks). clocks_with begin.span k note) so.clocks
+          ∙ sym (fold_push (clocks_with begin.span) no_clocks before note);
+    }
 
 -- ---- the marks
 

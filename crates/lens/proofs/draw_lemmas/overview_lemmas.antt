@@ -10,3 +10,4 @@ pub mod Laying
 pub mod Lines
 pub mod Joins
 pub mod Swept
+pub mod Greatest

@@ -9,7 +9,7 @@ use Rattle.{lens_svg.specs.{Elements.element_line, Plan.Plan}, run_law.specs.dec
 use Rattle.lens_svg.specs.{Layout.{holds, moved, pen_at}, Marking.{counted, mark_line}, Windows.{box_of, windows_in}}
 use Rattle.lens_svg.specs.{Sketching.{moment, plan_of}, declared.{layout.{Pen.Pen, Span.Span}, window.Came.Came}}
 use Rattle.lens_svg.specs.declared.{element.Element.Element, layer.{LaneLayer.LaneLayer, MarkLayer.MarkLayer}}
-use Rattle.{lens_why.specs.past.Pasts.clock_at, tte_audit.specs.Report.scenario_of}
+use Rattle.{audit_sweep.specs.Indexing.clock_at, tte_audit.specs.Report.scenario_of}
 use Rattle.net_plan.specs.declared.{ids.DeviceId.DeviceId, network.Network.Network}
 use Rattle.lens_svg.specs.declared.element.Element.TheVariants as elements
 

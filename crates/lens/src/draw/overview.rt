@@ -15,7 +15,7 @@ mod sweeping;
 
 pub use grid::{Grid, Pen};
 pub use laws::overview_law;
-pub use overview::draw_whole;
+pub use overview::DrawWhole;
 pub use row::{Group, Kind, Row};
 pub use shade::Shade;
 pub use strip::{Ribbon, Strip};

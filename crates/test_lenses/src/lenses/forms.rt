@@ -1,6 +1,6 @@
 use crate::calls::try_call;
 use lens::Status;
-use lens_slack::forms::{Form, read_form};
+use lens::forms::{Form, Question, read_form};
 use schedule_tables::Rule;
 use std::alloc::Global;
 use std::process::Abort;
@@ -125,7 +125,7 @@ const NUMBERS: &[(&str, u64)] = &[("1", 1), ("98", 98), ("18446744073709551615",
 #[test]
 fn words_of_why_are_read(rt: HostRuntime) -> Result<(), Fail> {
     for (text, number) in NUMBERS {
-        let why = Form::Why { number: *number };
+        let why = Form::Report(Question::Why { number: *number });
         try_form(&rt, rt.alloc(), &["why", "a", "b", text], why)?;
     }
     Ok(())
@@ -135,11 +135,11 @@ fn words_of_why_are_read(rt: HostRuntime) -> Result<(), Fail> {
 #[test]
 fn words_of_draw_are_read(rt: HostRuntime) -> Result<(), Fail> {
     let alloc = rt.alloc();
-    try_form(&rt, alloc, &["draw", "a", "b"], Form::DrawWhole)?;
-    let part = Form::Draw {
+    try_form(&rt, alloc, &["draw", "a", "b"], Form::Report(Question::DrawWhole))?;
+    let part = Form::Report(Question::Draw {
         from: 0,
         to: u64::MAX,
-    };
+    });
     let words = ["draw", "a", "b", "0", "18446744073709551615"];
     try_form(&rt, alloc, &words, part)
 }

@@ -1,11 +1,12 @@
 use crate::calls::try_ended;
-use lens::draw::draw_report;
+use lens::draw::Draw;
 use lens_svg::Span;
 use std::alloc::Global;
 use std::process::Abort;
 use std::test::Fail;
 use tte_forms::Status;
 use tte_io::{MemorySink, OutOfMemory, SteadySource};
+use tte_reports::answer_report;
 use worked_network::{CALM, WORKED};
 
 const ROOM: u64 = 1 << 17;
@@ -15,7 +16,7 @@ fn drew(alloc: Global, report: &str, span: Span) -> Result<(Status, MemorySink),
     let mut first = SteadySource::new(alloc, WORKED.as_bytes())?;
     let mut second = SteadySource::new(alloc, report.as_bytes())?;
     let mut out = MemorySink::new(alloc, ROOM, &[])?;
-    let status = draw_report(alloc, &mut first, &mut second, span, &mut out);
+    let status = answer_report(alloc, &mut first, &mut second, &Draw { span }, &mut out);
     Ok((status, out))
 }
 

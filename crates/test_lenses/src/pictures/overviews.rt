@@ -1,11 +1,12 @@
 use crate::calls::try_ended;
 use crate::pictures::drawn::{count_is, has_lines, is_passed_on, text_of};
-use lens::draw::overview::draw_whole;
+use lens::draw::overview::DrawWhole;
 use std::alloc::{AllocError, Global};
 use std::process::Abort;
 use std::test::Fail;
 use tte_forms::Status;
 use tte_io::{MemorySink, OutOfMemory, SteadySource};
+use tte_reports::answer_report;
 use worked_network::{CALM, WORKED};
 
 const ROOM: u64 = 1 << 18;
@@ -19,7 +20,7 @@ fn drew(
     let mut first = SteadySource::new(alloc, WORKED.as_bytes())?;
     let mut second = SteadySource::new(alloc, report.as_bytes())?;
     let mut out = MemorySink::new(alloc, ROOM, failing_puts)?;
-    let status = draw_whole(alloc, &mut first, &mut second, &mut out);
+    let status = answer_report(alloc, &mut first, &mut second, &DrawWhole, &mut out);
     Ok((status, out))
 }
 

@@ -1,5 +1,5 @@
 -- The records of a report swept one after another.
-use Rattle.lens.{proofs.draw_lemmas.Parts.{fails_before, fails_between}, specs.draw.overview.{Grids.{column_of, greatest, pen_at}, Signs.close_line}}
+use Rattle.lens.{proofs.draw_lemmas.Parts.{fails_before, fails_between}, specs.draw.overview.{Grids.{column_of, pen_at}, Signs.close_line}}
 use Rattle.lens.specs.{declared.draw.overview.strip.{Ends.TheVariants.{Column, Picture}, Ribbon.Ribbon}, draw.overview.Boards.{IsLaid, bottom_of, rows_of, top}}
 use Rattle.{lens.specs.declared.draw.overview.{board.Board.Board, grid.Grid.Grid, strip.Strip.Strip}, tte_forms.specs.Putting.{PutFails, PutsLines, Shown}}
 use Rattle.{lens.specs.declared.draw.overview.grid.Pen.Pen, net_plan.specs.declared.network.Network.Network, tte_reports.specs.declared.records.Records.Records}
@@ -8,29 +8,9 @@ use Rattle.{lens.specs.draw.overview.Changes.news_of, std.proofs.lemmas.List.{ap
 use Rattle.lens.specs.draw.overview.{Pieces.ribbon_line, Sweeps.{Sweep, begun, behind, last_ribbons, moved, moved_ribbons, stepped, steps_to, sweep_ribbons}}
 use Rattle.{lens.specs.draw.overview.Strips.{ended, ribbons_of, taken}, tte_forms.specs.{Answering.{Answer, Gives, line_answer}, declared.status.Status.Status}}
 use Rattle.lens_svg.specs.Sketching.{moment}
-use Rattle.{run_law.specs.declared.note.Note.Note, std.{proofs.Math.Nat.sub-add-eq-max, specs.Prelude.{fold, map, max}}, tte_reports.specs.Reports.AreLeft}
+use Rattle.{run_law.specs.declared.note.Note.Note, std.{proofs.Math.Nat.sub-add-eq-max, specs.Prelude.{map, max}}, tte_reports.specs.Reports.AreLeft}
 use Rattle.std.proofs.Common.{◌++◌, ◌+◌, ◌-◌, ◌<◌, ◌∙◌, ◌∷◌, ◌≡◌, ◌≤◌, List, [], ap, append_assoc, arith, inl, inr, refl, subst, suc, sym, zero, ℕ}
 use Rattle.tte_forms.{proofs.Puts.{PutFails-behind, PutsLines-append, PutsLines-none}, specs.declared.status.Status.TheVariants.{Done, OutOfMemory, WriteFault}}
-
--- ---- the greatest time
-
--- these records are left, and the greatest time of all is that of these from here on
-pub record IsMeasured (network : Network) (notes : List Note) (records : Records) (last : ℕ) : Type 0 where
-  pub rest : List Note
-  pub left : AreLeft network records rest
-  pub whole : greatest notes ≡ fold (λ time note. max time (moment note)) last rest
-
-pub measured_more : (network : Network) (notes : List Note) (records after : Records) (last : ℕ) (note : Note) (rest : List Note)
-    (h : IsMeasured network notes records last) → h.rest ≡ note ∷ rest → AreLeft network after rest → IsMeasured network notes after (max last (moment note))
-measured_more network notes records after last note rest h next left = record {
-  rest = rest;
-  left = left;
-  whole = h.whole ∙ ap (fold (λ time n. max time (moment n)) last) next;
-}
-
-pub measured_all : (network : Network) (notes : List Note) (records : Records) (last : ℕ) (h : IsMeasured network notes records last) → h.rest ≡ []
-    → last ≡ greatest notes
-measured_all network notes records last h none = sym (h.whole ∙ ap (fold (λ time n. max time (moment n)) last) none)
 
 max_swap : (a b : ℕ) → max a b ≡ max b a
 max_swap a b = omega arith

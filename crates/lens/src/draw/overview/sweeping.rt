@@ -1,7 +1,7 @@
 //! The sweep over the records of a report, column by column.
 ghost use Rattle.std.specs.Prelude.{◌≡◌, ◌≤◌, ◌<◌, ◌-◌, List, MatchResult, OnOk};
 ghost use Rattle.{lens.specs.draw.Putting.Draws, tte_audit.specs.Named.IsNamed, tte_forms.specs.Answering.Gives};
-ghost use Rattle.lens.specs.draw.overview.{Answer.ribbons_answer, Grids.{IsNarrow, greatest}, Overview.ribbon_lines};
+ghost use Rattle.lens.specs.draw.overview.{Answer.ribbons_answer, Grids.IsNarrow, Overview.ribbon_lines};
 ghost use Rattle.lens.specs.draw.overview.Sweeps.{last_ribbons, moved, moved_ribbons, sweep_at, sweep_ribbons};
 ghost use Rattle.{net_plan.specs.Ranges.IsInRange, tte_reports.specs.{Answer.IsAuditStatus, Reports.AreLeft}};
 ghost use Rattle.{run_law.specs.declared.note.Note.{Note as NoteValue}, tte_forms.specs.Faults.{HasCause, PutFailed}};
@@ -16,22 +16,6 @@ use net_plan::Network;
 use tte_forms::{Status, put_last};
 use tte_io::{LineText, Sink, SinkFailed};
 use tte_reports::Records;
-
-/// The greatest time of the records.
-pub(crate) fn greatest_of(network: &Network, first: Records<'_>) -> u64
-    requires named { IsNamed network.now }
-    requires left { (notes : List NoteValue) × AreLeft network.now first notes }
-    ensures { (notes : List NoteValue) → AreLeft network.now first.entry notes → result ≡ greatest notes }
-{
-    let mut records = first;
-    let mut last = 0;
-    'records: loop {
-        match records.next(network) {
-            Some(note) => last = last.max(note.time.0.unsigned_abs()),
-            None => return last,
-        }
-    }
-}
 
 /// Ends the columns from one to another, and puts the ribbons that end with them.
 fn end_columns<K: Sink>(

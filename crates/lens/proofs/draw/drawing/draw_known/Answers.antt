@@ -3,35 +3,31 @@ use Rattle.{lens.specs.draw.{Answer.draw_answer, Asking.IsAskable, Picture.clock
 use Rattle.{lens_svg.specs.Plan.Plan, std.specs.Prelude.All}
 use Rattle.lens.proofs.draw.drawing.draw_known.Goals as goal
 
-pub sketch_of-requires-clause-left : goal.sketch_of-requires-clause-left
-sketch_of-requires-clause-left g c = let r = c.requires.report in (r.0, c.records.ensures c.args.network.now r.0 r.1 r.2)
+pub draft_of-requires-clause-report : goal.draft_of-requires-clause-report
+draft_of-requires-clause-report g c = c.requires.read.some
 
-pub windows_of-requires-clause-past : goal.windows_of-requires-clause-past
-windows_of-requires-clause-past g c =
-    let r = c.requires.report in (events_of r.0, happenings c.args.network.now r.0, c.requires.past r.0 r.1 r.2)
+pub windows_of-requires-clause-index : goal.windows_of-requires-clause-index
+windows_of-requires-clause-index g c =
+    let r = c.requires.read.some in (events_of r.0, happenings c.args.network.now r.0, c.requires.read.index r.0 r.1 r.2)
 
 pub windows_of-requires-clause-askable : goal.windows_of-requires-clause-askable
 windows_of-requires-clause-askable g c =
     let network = c.args.network.now in
-    let r = c.requires.report in
-    let sketch = c.in-Ok.ensures r.0 (c.records.ensures network r.0 r.1 r.2) in
-    subst (λ (p : Plan). All (IsAskable network) p.marks) (sym sketch) (report_askable network c.args.span c.args.known.now.report.octets r.0 r.1 r.2)
-
-pub clocks_of-requires-clause-left : goal.clocks_of-requires-clause-left
-clocks_of-requires-clause-left g c = let r = c.requires.report in (r.0, c.records-2.ensures c.args.network.now r.0 r.1 r.2)
+    let r = c.requires.read.some in
+    let draft = c.in-Ok.ensures r.0 r.1 r.2 in
+    subst (λ (p : Plan). All (IsAskable network) p.marks) (sym draft.sketch) (report_askable network c.args.span c.args.report.now.octets r.0 r.1 r.2)
 
 pub put_sketch-requires-clause-left : goal.put_sketch-requires-clause-left
-put_sketch-requires-clause-left g c = let r = c.requires.report in (r.0, c.records-in-Ok-clocks_of.ensures c.args.network.now r.0 r.1 r.2)
+put_sketch-requires-clause-left g c = let r = c.requires.read.some in (r.0, c.records.ensures c.args.network.now r.0 r.1 r.2)
 
-pub returns-in-Ok-clocks_of-clause-gives : goal.returns-in-Ok-clocks_of-clause-gives
-returns-in-Ok-clocks_of-clause-gives g c notes end of =
+pub returns-in-Ok-windows_of-clause-gives : goal.returns-in-Ok-windows_of-clause-gives
+returns-in-Ok-windows_of-clause-gives g c notes end of =
     let network = c.args.network.now in
-    let sketch = c.in-Ok.ensures notes (c.records.ensures network notes end of) in
-    let windows = c.deref.ensures.value ∙ c.in-Ok-windows_of.ensures (events_of notes) (happenings network notes) (c.requires.past notes end of)
-    ∙ ap (λ (p : Plan). windows_in network (clocks_of network notes) p.marks) sketch in
-    let clocks = c.in-Ok-clocks_of.ensures notes (c.records-2.ensures network notes end of) in
+    let draft = c.in-Ok.ensures notes end of in
+    let windows = c.deref.ensures.value ∙ c.in-Ok-windows_of.ensures (events_of notes) (happenings network notes) (c.requires.read.index notes end of)
+    ∙ ap (λ (p : Plan). windows_in network (clocks_of network notes) p.marks) draft.sketch in
     inl (
       draw_answer network c.args.span notes,
       refl,
-      c.put_sketch.ensures.gives notes c.args.span (c.records-in-Ok-clocks_of.ensures network notes end of) sketch windows clocks,
+      c.put_sketch.ensures.gives notes c.args.span (c.records.ensures network notes end of) draft.sketch windows draft.clocks,
     )

@@ -1,6 +1,7 @@
 use Rattle.{audit_law.specs.events.Readings.scenario_under, std.proofs.Common.{◌++◌, ◌∙◌, ◌≤◌, Global, List, Option, Vec, [], ap, length, subst, sym}}
 use Rattle.{lens.proofs.{draw.windows.windows_of.Goals.{in-Some+in-Ok, in_default}, draw_lemmas.Asking.with_next}, lens_svg.specs.Windows.{came_of, windows_in}}
-use Rattle.{lens.proofs.draw_lemmas.Parts.take_all, lens_svg.specs.declared.{mark.Mark.Mark, window.Came.Came}, lens_why.specs.past.Pasts.clock_at}
+use Rattle.{lens.proofs.draw_lemmas.Parts.take_all, lens_svg.specs.declared.{mark.Mark.Mark, window.Came.Came}}
+use Rattle.audit_sweep.specs.Indexing.{clock_at}
 use Rattle.{lens.specs.draw.Asking.IsAskable, std.{proofs.lemmas.List.append-nil, specs.{List.cons_option, Prelude.All}}}
 use Rattle.lens.proofs.draw.windows.windows_of.Goals as goal
 
@@ -10,11 +11,11 @@ came_at-requires-clause-askable c =
     c.frames-test.true
 
 pub frames-preserved : goal.frames-preserved
-frames-preserved c befallen hs past =
+frames-preserved c befallen hs index =
     let network = c.args.network.now in
     let clock = clock_at (scenario_under network befallen) hs in
-    let own = c.came_at.ensures befallen hs past in
-    let before = c.frames.invariant befallen hs past in
+    let own = c.came_at.ensures befallen hs index in
+    let before = c.frames.invariant befallen hs index in
     elim c.match-came_at.branch [
       | in-Some+in-Ok w ↦
           with_next (λ (m : Mark). came_of network m (clock m.device m.time)) c.args.sketch.now.marks c.marks-marks.result.now c.marks-marks.ensures
@@ -29,10 +30,10 @@ frames-preserved c befallen hs past =
     ]
 
 pub returns : goal.returns
-returns c befallen hs past =
+returns c befallen hs index =
     let network = c.args.network.now in
     let clock = clock_at (scenario_under network befallen) hs in
-    c.frames.invariant befallen hs past
+    c.frames.invariant befallen hs index
     ∙ ap (windows_in network clock)
     (take_all c.frames.mark-index c.args.sketch.now.marks
     (subst (λ (ms : List Mark). length ms ≤ c.frames.mark-index) c.marks-marks.ensures c.frames-test.false))

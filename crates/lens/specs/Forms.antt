@@ -1,8 +1,9 @@
 -- The forms of the words of `lens`.
 use Rattle.std.specs.{Option.{option_and_then, option_map}, Str.bytes_eq}
 use Rattle.std.specs.Prelude.{◌-◌, ◌^◌, ◌∷◌, ◌≤◌, List, None, Option, Some, [], codes, if◌then◌else◌, nat_le, ℕ}
-use Rattle.lens_slack.specs.declared.forms.form.Form.TheVariants.{Draw, DrawWhole, Events, Flows, Least, Slack, SlackOf}
-use Rattle.{lens_slack.specs.declared.forms.form.Form.{Form, TheVariants.Why}, trace_text.specs.Numbers.number_up_to}
+use Rattle.lens.specs.declared.forms.{Form.{Form, TheVariants.{Events, Least, Report, Slack, SlackOf}}, Question.Question}
+use Rattle.{lens.specs.declared.forms.Question.TheVariants.{Draw, DrawWhole, Flows, Why}, trace_text.specs.Numbers.number_up_to}
+use Rattle.lens_slack.specs.Inequalities.{IsInequality}
 use Rattle.schedule_tables.specs.declared.rule.Rule.TheVariants.{Correction, Delays, Forwarding, Precision}
 use Rattle.schedule_tables.specs.declared.rule.Rule.{Rule, TheVariants.{ScheduleStart, Settling, Spacing, WindowEnds}}
 use Rattle.tte_forms.specs.Forms.{cycles_spelled, if_some, most_cycles, seed_spelled}
@@ -39,8 +40,8 @@ greatest_number = 2 ^ 64 - 1
 abbrev pub three_words_form : List ℕ → List ℕ → Option Form
 three_words_form command third =
     if bytes_eq command (codes "slack") then slack_of_form third
-    else if bytes_eq command (codes "draw") then Some DrawWhole
-    else if bytes_eq command (codes "flows") then Some Flows
+    else if bytes_eq command (codes "draw") then Some (Report DrawWhole)
+    else if bytes_eq command (codes "flows") then Some (Report Flows)
     else None
 
 -- the number of a record, at least 1, in decimal without leading zeros
@@ -49,7 +50,7 @@ number_spelled text = option_and_then if_some (number_up_to greatest_number text
 
 -- a record of a report, by its number: `why NETWORK REPORT N`
 abbrev pub why_form : List ℕ → Option Form
-why_form number = option_map (λ n. Why n) (number_spelled number)
+why_form number = option_map (λ n. Report (Why n)) (number_spelled number)
 
 -- the events of a storm, by its seed and its cycles: `events NETWORK SEED CYCLES`
 abbrev pub events_form : List ℕ → List ℕ → Option Form
@@ -65,7 +66,7 @@ four_words_form command third last =
 
 -- a part of a run, from a time to one that is no earlier
 abbrev pub part_form : ℕ → ℕ → Option Form
-part_form from to = if nat_le from to then Some (Draw from to) else None
+part_form from to = if nat_le from to then Some (Report (Draw from to)) else None
 
 -- a part of a run, by its two times: `draw NETWORK REPORT FROM TO`
 abbrev pub draw_form : List ℕ → List ℕ → Option Form
@@ -77,27 +78,19 @@ draw_form from to =
 abbrev pub five_words_form : List ℕ → List ℕ → List ℕ → Option Form
 five_words_form command fourth last = if bytes_eq command (codes "draw") then draw_form fourth last else None
 
--- the rule says that one number is at most another
-abbrev pub IsInequality : Rule → Type 0
-IsInequality Delays = Unit {0}
-IsInequality Settling = Unit {0}
-IsInequality Precision = Unit {0}
-IsInequality Correction = Unit {0}
-IsInequality ScheduleStart = Unit {0}
-IsInequality WindowEnds = Unit {0}
-IsInequality Spacing = Unit {0}
-IsInequality Forwarding = Unit {0}
-IsInequality other = ⊥
+-- the numbers of what is asked lie in their ranges
+abbrev pub IsQuestionInRange : Question → Type 0
+IsQuestionInRange (Why number) = 1 ≤ number
+IsQuestionInRange DrawWhole = Unit {0}
+IsQuestionInRange (Draw from to) = from ≤ to
+IsQuestionInRange Flows = Unit {0}
 
 -- the rule of the form is an inequality, and its numbers lie in their ranges
 abbrev pub IsFormInRange : Form → Type 0
 IsFormInRange Slack = Unit {0}
 IsFormInRange (SlackOf rule) = IsInequality rule
 IsFormInRange Least = Unit {0}
-IsFormInRange (Why number) = 1 ≤ number
-IsFormInRange DrawWhole = Unit {0}
-IsFormInRange (Draw from to) = from ≤ to
-IsFormInRange Flows = Unit {0}
+IsFormInRange (Report question) = IsQuestionInRange question
 IsFormInRange (Events seed cycles) = (1 ≤ cycles) × (cycles ≤ most_cycles)
 
 -- the form of the words

@@ -1,6 +1,6 @@
 use Rattle.std.proofs.Common.{◌∙◌, arith, refl, rules, sym}
-use Rattle.lens_slack.proofs.forms_lemmas.FormLemmas.{five_words, four_words, network_words, no_words, other_count, three_words}
-use Rattle.lens_slack.proofs.forms.form.read_form.Goals as goal
+use Rattle.lens.proofs.FormLemmas.{five_words, four_words, network_words, no_words, other_count, three_words}
+use Rattle.lens.proofs.forms.read_form.Goals as goal
 
 pub returns-in_err-command-clause-form : goal.returns-in_err-command-clause-form
 returns-in_err-command-clause-form c = c.from_residual.ensures ∙ no_words c.args.words.now (c.in_err-command.ensures.found.0 refl)

@@ -1,7 +1,10 @@
+//! The words of the program `lens` and their forms.
+
 ghost use Rattle.std.specs.Prelude.{◌≡◌, ◌≤◌, IfSome};
-ghost use Rattle.lens_slack.specs.forms.Forms.{IsFormInRange, IsInequality, draw_form, events_form, five_words_form};
-ghost use Rattle.lens_slack.specs.forms.Forms.{form_of, four_words_form, inequality_spelled, network_form};
-ghost use Rattle.lens_slack.specs.forms.Forms.{number_spelled, slack_of_form, three_words_form, why_form};
+ghost use Rattle.lens_slack.specs.Inequalities.{IsInequality};
+ghost use Rattle.lens.specs.Forms.{IsFormInRange, draw_form, events_form, five_words_form};
+ghost use Rattle.lens.specs.Forms.{form_of, four_words_form, inequality_spelled, network_form};
+ghost use Rattle.lens.specs.Forms.{number_spelled, slack_of_form, three_words_form, why_form};
 
 use schedule_tables::Rule;
 use tte_forms::{Words, cycles_spelled, number_up_to};
@@ -15,6 +18,19 @@ pub enum Form {
     SlackOf(Rule),
     /// `least NETWORK`.
     Least,
+    /// A command, a network, a report, and what is asked of that.
+    Report(Question),
+    /// `events NETWORK SEED CYCLES`.
+    Events {
+        seed: u64,
+        /// From 1 to 100,000.
+        cycles: u32,
+    },
+}
+
+/// What is asked of a finished report.
+#[derive(Clone, Copy, PartialEq, Eq)]
+pub enum Question {
     /// `why NETWORK REPORT N`.
     Why {
         /// At least 1.
@@ -30,12 +46,6 @@ pub enum Form {
     },
     /// `flows NETWORK REPORT`.
     Flows,
-    /// `events NETWORK SEED CYCLES`.
-    Events {
-        seed: u64,
-        /// From 1 to 100,000.
-        cycles: u32,
-    },
 }
 
 /// The form of a command with a network alone.
@@ -84,8 +94,8 @@ fn three_words_form(command: &str, third: &str) -> Option<Form>
 {
     match command {
         "slack" => slack_of_form(third),
-        "draw" => Some(Form::DrawWhole),
-        "flows" => Some(Form::Flows),
+        "draw" => Some(Form::Report(Question::DrawWhole)),
+        "flows" => Some(Form::Report(Question::Flows)),
         _ => None,
     }
 }
@@ -107,7 +117,7 @@ fn why_form(number: &str) -> Option<Form>
     ensures range { IfSome result IsFormInRange }
 {
     let number = number_spelled(number)?;
-    Some(Form::Why { number })
+    Some(Form::Report(Question::Why { number }))
 }
 
 /// The form of the events of a storm.
@@ -140,7 +150,7 @@ fn draw_form(from: &str, to: &str) -> Option<Form>
     let from = number_up_to(u64::MAX, from)?;
     let to = number_up_to(u64::MAX, to)?;
     if from <= to {
-        Some(Form::Draw { from, to })
+        Some(Form::Report(Question::Draw { from, to }))
     } else {
         None
     }

@@ -1,7 +1,8 @@
 -- The form of words by their count and their first, and the numbers of forms.
-use Rattle.lens_slack.specs.declared.forms.form.Form.{Form, TheVariants.{Draw, DrawWhole, Events, Flows, Least, Slack, SlackOf, Why}}
-use Rattle.lens_slack.specs.forms.Forms.{IsFormInRange, IsInequality, draw_form, events_form, five_words_form, form_of, four_words_form, greatest_number}
-use Rattle.lens_slack.specs.forms.Forms.{inequality_spelled, network_form, part_form, slack_of_form, three_words_form, why_form}
+use Rattle.lens.specs.declared.forms.{Form.{Form, TheVariants.{Events, Least, Report, Slack, SlackOf}}, Question.TheVariants.{Draw, DrawWhole, Flows, Why}}
+use Rattle.lens_slack.specs.Inequalities.{IsInequality}
+use Rattle.lens.specs.Forms.{IsFormInRange, draw_form, events_form, five_words_form, form_of, four_words_form, greatest_number}
+use Rattle.lens.specs.Forms.{inequality_spelled, network_form, part_form, slack_of_form, three_words_form, why_form}
 use Rattle.{schedule_tables.specs.declared.rule.Rule.Rule, std.proofs.Common.{◌∷◌, ◌≡◌, ◌≤◌, Bool, List, None, Some, [], arith, false, length, refl, true, ℕ}}
 use Rattle.{std.proofs.lemmas.Bool.Decides.nat_tests, trace_text.specs.Numbers.number_up_to}
 use Rattle.std.specs.{Option.{option_and_then, option_map}, Prelude.{◌==◌, IfSome, Option, bytes_eq, codes, if◌then◌else◌, nat_le, slice_get}}
@@ -76,11 +77,11 @@ events_by (Some s) None range = tt
 events_by (Some s) (Some c) range = range
 
 -- the number of a record is not 0
-some_number : (n : ℕ) (b : Bool) → (b ≡ false → 1 ≤ n) → IfSome (option_map (λ m. Why m) (if b then None else Some n)) IsFormInRange
+some_number : (n : ℕ) (b : Bool) → (b ≡ false → 1 ≤ n) → IfSome (option_map (λ m. Report (Why m)) (if b then None else Some n)) IsFormInRange
 some_number n true some = tt
 some_number n false some = some refl
 
-why_by : (o : Option ℕ) → IfSome (option_map (λ m. Why m) (option_and_then if_some o)) IsFormInRange
+why_by : (o : Option ℕ) → IfSome (option_map (λ m. Report (Why m)) (option_and_then if_some o)) IsFormInRange
 why_by None = tt
 why_by (Some n) = some_number n (n == 0) (λ e. grind (arith, nat_tests, e))
 
@@ -108,14 +109,14 @@ slack_of_by None is = tt
 slack_of_by (Some rule) is = is
 
 three_words_by : (slack draw flows : Bool) (of : Option Form) → IfSome of IsFormInRange
-    → IfSome (if slack then of else if draw then Some DrawWhole else if flows then Some Flows else None) IsFormInRange
+    → IfSome (if slack then of else if draw then Some (Report DrawWhole) else if flows then Some (Report Flows) else None) IsFormInRange
 three_words_by true draw flows of h = h
 three_words_by false true flows of h = tt
 three_words_by false false true of h = tt
 three_words_by false false false of h = tt
 
 -- a part of a run ends no earlier than it begins
-part_by : (from to : ℕ) (b : Bool) → (b ≡ true → from ≤ to) → IfSome (if b then Some (Draw from to) else None) IsFormInRange
+part_by : (from to : ℕ) (b : Bool) → (b ≡ true → from ≤ to) → IfSome (if b then Some (Report (Draw from to)) else None) IsFormInRange
 part_by from to true later = later refl
 part_by from to false later = tt
 

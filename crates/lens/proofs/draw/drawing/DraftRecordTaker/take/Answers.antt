@@ -1,0 +1,7 @@
+use Rattle.{lens.proofs.draw_lemmas.Marking.drafted_more, lens_svg.specs.{Clocks.clocks_with, declared.layout.Span.Span}, std.proofs.Common.{◌∙◌, ap}}
+use Rattle.lens.proofs.draw.drawing.DraftRecordTaker.take.Goals as goal
+
+pub returns : goal.returns
+returns c octets notes before begun next holds =
+    drafted_more c.args.network.now begun.sketch before c.args.self.now (record { sketch = c.take.new.self; clocks = c.take-2.new.self }) c.args.note.now
+    holds c.in_ok-take.ensures (c.in_ok-take-2.ensures ∙ ap (λ (s : Span). clocks_with s c.args.self.now.clocks c.args.note.now) c.span.ensures)

@@ -1,0 +1,22 @@
+-- What is answered for what is asked of a report.
+use Rattle.lens.specs.{declared.forms.Question.Question, draw.{Answer.IsDrawAnswer, overview.Answer.IsOverviewAnswer}}
+use Rattle.lens.specs.declared.forms.Question.TheVariants.{Draw, DrawWhole, Flows, Why}
+use Rattle.{lens_flows.specs.Answer.IsFlowsAnswer, tte_reports.specs.{Answer.IsAuditStatus, Reports.AnswersFor}}
+use Rattle.{lens_why.specs.Answer.{IsWhyAnswer, IsWhyStatus, why_audits}, tte_forms.specs.declared.status.Status.Status}
+
+-- the answer for the records of a report
+abbrev pub IsQuestionAnswer : Question → AnswersFor
+IsQuestionAnswer (Why number) = IsWhyAnswer number
+IsQuestionAnswer DrawWhole = IsOverviewAnswer
+IsQuestionAnswer (Draw from to) = IsDrawAnswer (record { from = from; to = to })
+IsQuestionAnswer Flows = IsFlowsAnswer
+
+-- the statuses with which it ends: only `why` may refuse a number
+abbrev pub EndsFor : Question → Status → Type 0
+EndsFor (Why number) status = IsWhyStatus status
+EndsFor other status = IsAuditStatus status
+
+-- it may end as an audit does
+pub ends_as_audit : (question : Question) (status : Status) → IsAuditStatus status → EndsFor question status
+ends_as_audit (Why number) status h = why_audits status h
+ends_as_audit other status h = h

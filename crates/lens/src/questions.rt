@@ -1,0 +1,35 @@
+//! What is asked of a report, as a command over it.
+
+ghost use Rattle.lens.specs.Questions.{EndsFor, IsQuestionAnswer, ends_as_audit};
+
+use crate::draw::Draw;
+use crate::draw::overview::DrawWhole;
+use crate::forms::Question;
+use lens_flows::Flows;
+use lens_svg::Span;
+use lens_why::Why;
+use net_plan::Network;
+use std::alloc::Global;
+use tte_forms::Status;
+use tte_io::Sink;
+use tte_reports::{AuditedReport, ReportCommand};
+
+impl<K: Sink> ReportCommand<K> for Question {
+    ghost answers = { λ question network notes end answer. IsQuestionAnswer question network notes end answer };
+
+    ghost ends = { λ question status. EndsFor question status };
+
+    ghost audits = { λ question status is. ends_as_audit question status is };
+
+    fn put(&self, alloc: Global, network: &Network, report: &AuditedReport, out: &mut K) -> Status {
+        match *self {
+            Question::Why { number } => Why { number }.put(alloc, network, report, out),
+            Question::DrawWhole => DrawWhole.put(alloc, network, report, out),
+            Question::Draw { from, to } => {
+                let span = Span { from, to };
+                Draw { span }.put(alloc, network, report, out)
+            }
+            Question::Flows => Flows.put(alloc, network, report, out),
+        }
+    }
+}
