@@ -56,12 +56,13 @@ impl<'a> StormEvents<'a> {
             → IsStormTo network seed cycles events self.old
             → GivesStorm network seed cycles events (if result then Some event.new else None) self.old self.new }
     {
-        if !self.storm.next_event(self.accepted, &self.watch, event) {
-            return false;
+        if self.storm.next_event(self.accepted, &self.watch, event) {
+            // It is within the hypothesis, as each event of a storm is.
+            self.watch.keep(event);
+            true
+        } else {
+            false
         }
-        // It is within the hypothesis, as each event of a storm is.
-        self.watch.keep(event);
-        true
     }
 }
 
