@@ -1,5 +1,5 @@
 use Rattle.{fault_hypothesis.specs.Watching.Watches, net_plan.specs.declared.network.Network.Network, std.proofs.Common.{◌*◌, ◌++◌, ◌+◌, ◌∷◌, ◌≡◌}}
-use Rattle.tte_traces.{proofs.storms_lemmas.Drawn.{IsDrawnFor, all_ended, fewer_left, gives_one, may_give, within_now}, specs.storms.Storms.IsStormTo}
+use Rattle.tte_traces.{proofs.storms_lemmas.Drawn.{IsDrawnFor, all_ended, fewer_left, gives_one, may_give, within_now}, specs.{declared.storms.events.StormEvents.StormEvents, storms.Storms.IsStormTo}}
 use Rattle.{fault_hypothesis.specs.storm.Progress.Progress, std.proofs.Common.{[], arith, length, refl, subst, sym}}
 use Rattle.tte_traces.proofs.storms.events.StormEvents.next_in.Goals as goal
 
@@ -17,7 +17,7 @@ returns-then-next_event c network seed cycles events given =
     }) in
     let inside = within_now network seed cycles events it given event d in
     let watches : Watches network c.keep.new.self (events ++ event ∷ []) = c.keep.ensures network events given.watches d.of_network inside in
-    let new = record { accepted = it.accepted; storm = c.next_event.new.self; watch = c.keep.new.self } in (
+    let new : StormEvents = record { accepted = it.accepted; storm = c.next_event.new.self; watch = c.keep.new.self } in (
       may_give network seed cycles events it given event d,
       fewer_left network seed cycles events it given event d new (told.given refl),
       gives_one network seed cycles events it given event d new refl watches (told.given refl),
