@@ -1,5 +1,5 @@
 -- The form of words by their count and their first, and the numbers of forms.
-use Rattle.lens.specs.declared.forms.{Form.{Form, TheVariants.{Events, Least, Report, Slack, SlackOf}}, Question.TheVariants.{Draw, DrawWhole, Flows, Why}}
+use Rattle.lens.specs.declared.forms.{Form.{Form, TheVariants.{Events, Latency, Least, Report, Slack, SlackOf}}, Question.TheVariants.{Draw, DrawWhole, Flows, Why}}
 use Rattle.lens_slack.specs.Inequalities.{IsInequality}
 use Rattle.lens.specs.Forms.{IsFormInRange, draw_form, events_form, five_words_form, form_of, four_words_form, greatest_number}
 use Rattle.lens.specs.Forms.{inequality_spelled, network_form, part_form, slack_of_form, three_words_form, why_form}
@@ -99,10 +99,12 @@ spelled_by false rule o is others = others
 inequality_by : (text : List ℕ) → IfSome (inequality_spelled text) IsInequality
 inequality_by text = grind (arith, spelled_by)
 
-network_by : (slack least : Bool) → IfSome (if slack then Some Slack else if least then Some Least else None) IsFormInRange
-network_by true least = tt
-network_by false true = tt
-network_by false false = tt
+network_by : (slack least latency : Bool)
+    → IfSome (if slack then Some Slack else if least then Some Least else if latency then Some Latency else None) IsFormInRange
+network_by true least latency = tt
+network_by false true latency = tt
+network_by false false true = tt
+network_by false false false = tt
 
 slack_of_by : (o : Option Rule) → IfSome o IsInequality → IfSome (option_map (λ r. SlackOf r) o) IsFormInRange
 slack_of_by None is = tt
@@ -134,7 +136,7 @@ pub form_in_range : (words : List (List ℕ)) → IfSome (form_of words) IsFormI
 unfolding form_of
 form_in_range [] = tt
 form_in_range (command ∷ []) = tt
-form_in_range (command ∷ network ∷ []) = network_by (bytes_eq command (codes "slack")) (bytes_eq command (codes "least"))
+form_in_range (command ∷ network ∷ []) = network_by (bytes_eq command (codes "slack")) (bytes_eq command (codes "least")) (bytes_eq command (codes "latency"))
 form_in_range (command ∷ network ∷ third ∷ []) =
     three_words_by (bytes_eq command (codes "slack")) (bytes_eq command (codes "draw")) (bytes_eq command (codes "flows")) (slack_of_form third)
     (slack_of_by (inequality_spelled third) (inequality_by third))

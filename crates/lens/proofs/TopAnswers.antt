@@ -1,4 +1,5 @@
 -- The answer for the words.
+use Rattle.lens_latency.{proofs.OneAnswer.latency_one, specs.Answer.IsLatencyOf}
 use Rattle.{fault_hypothesis.proofs.storm_lemmas.OneStorm.one_storm, std.proofs.Common.{◌∙◌, ◌≡◌, ◌≤◌, List, None, Some, ap, subst, sym, ℕ}}
 use Rattle.lens.specs.{Forms.{IsFormInRange, form_of}, Top.{AnswerIsOne, AnswersWords, IsAnswerBy}, events.Answer.{IsEventsAnswer, event_lines}}
 use Rattle.{lens.specs.Questions.{EndsFor, IsQuestionAnswer}, lens_slack.specs.Answer.IsSlackOf, std.specs.Prelude.{IfSome, Option}}
@@ -7,7 +8,7 @@ use Rattle.{lens.proofs.FormLemmas.form_in_range, net_plan.specs.declared.event.
 use Rattle.{lens_slack.proofs.OneSlack.{octets_one, slack_one}, tte_forms.specs.{declared.status.Status.Status, networks.Accepting.IsNetworkAnswer}}
 use Rattle.{lens_slack.proofs.least_lemmas.OneLeast.least_one, tte_forms.specs.declared.status.Status.TheVariants.{Done, Usage}}
 use Rattle.{lens_slack.specs.{Steps.{all_steps, rule_steps}, least.Answer.IsLeastOf}, tte_forms.proofs.networks.Answers.network_answer_one}
-use Rattle.{lens.specs.declared.forms.Form.TheVariants.{Events, Least, Report, Slack, SlackOf}, lens.specs.declared.forms.Question.Question}
+use Rattle.{lens.specs.declared.forms.Form.TheVariants.{Events, Latency, Least, Report, Slack, SlackOf}, lens.specs.declared.forms.Question.Question}
 use Rattle.{lens.specs.declared.forms.Form.Form, lens.specs.declared.forms.Question.TheVariants.{Draw, DrawWhole, Flows, Why}}
 use Rattle.{lens_why.proofs.Whole.why_answer_one, tte_forms.specs.{Answering.Answer, Putting.Shown}}
 use Rattle.tte_reports.{proofs.Reports.report_one, specs.Reports.IsOneFor}
@@ -46,6 +47,8 @@ answer_one one None range octets report a b p q = p ∙ sym q
 answer_one one (Some Slack) range octets report a b p q = octets_one (IsSlackOf all_steps) (slack_one all_steps) octets a b p q
 answer_one one (Some (SlackOf rule)) range octets report a b p q = octets_one (IsSlackOf (rule_steps rule)) (slack_one (rule_steps rule)) octets a b p q
 answer_one one (Some Least) range octets report a b p q = octets_one IsLeastOf least_one octets a b p q
+answer_one one (Some Latency) range octets report a b p q =
+    network_answer_one one IsLatencyOf octets (λ network accepted. latency_one network) a b p q
 answer_one one (Some (Report question)) range octets report a b p q =
     report_one one (IsQuestionAnswer question) (question_one question) octets report a b p q
 answer_one one (Some (Events seed cycles)) range octets report a b p q = events_one one seed cycles range.1 octets a b p q

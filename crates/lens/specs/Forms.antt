@@ -1,18 +1,19 @@
 -- The forms of the words of `lens`.
 use Rattle.std.specs.{Option.{option_and_then, option_map}, Str.bytes_eq}
 use Rattle.std.specs.Prelude.{◌-◌, ◌^◌, ◌∷◌, ◌≤◌, List, None, Option, Some, [], codes, if◌then◌else◌, nat_le, ℕ}
-use Rattle.lens.specs.declared.forms.{Form.{Form, TheVariants.{Events, Least, Report, Slack, SlackOf}}, Question.Question}
+use Rattle.lens.specs.declared.forms.{Form.{Form, TheVariants.{Events, Latency, Least, Report, Slack, SlackOf}}, Question.Question}
 use Rattle.{lens.specs.declared.forms.Question.TheVariants.{Draw, DrawWhole, Flows, Why}, trace_text.specs.Numbers.number_up_to}
 use Rattle.lens_slack.specs.Inequalities.{IsInequality}
 use Rattle.schedule_tables.specs.declared.rule.Rule.TheVariants.{Correction, Delays, Forwarding, Precision}
 use Rattle.schedule_tables.specs.declared.rule.Rule.{Rule, TheVariants.{ScheduleStart, Settling, Spacing, WindowEnds}}
 use Rattle.tte_forms.specs.Forms.{cycles_spelled, if_some, most_cycles, seed_spelled}
 
--- a network alone: `slack NETWORK` and `least NETWORK`
+-- a network alone: `slack NETWORK`, `least NETWORK` or `latency NETWORK`
 abbrev pub network_form : List ℕ → Option Form
 network_form command =
     if bytes_eq command (codes "slack") then Some Slack
     else if bytes_eq command (codes "least") then Some Least
+    else if bytes_eq command (codes "latency") then Some Latency
     else None
 
 -- the rule of this number, if it is an inequality
@@ -90,6 +91,7 @@ abbrev pub IsFormInRange : Form → Type 0
 IsFormInRange Slack = Unit {0}
 IsFormInRange (SlackOf rule) = IsInequality rule
 IsFormInRange Least = Unit {0}
+IsFormInRange Latency = Unit {0}
 IsFormInRange (Report question) = IsQuestionInRange question
 IsFormInRange (Events seed cycles) = (1 ≤ cycles) × (cycles ≤ most_cycles)
 

@@ -1,8 +1,9 @@
 -- What the program `lens` answers.
+use Rattle.lens_latency.specs.Answer.{IsLatencyAnswer}
 use Rattle.std.specs.Prelude.{◌++◌, ◌≡◌, ◌≢◌, ◌⊎◌, List, None, Option, Some, [], codes, ℕ}
 use Rattle.{lens.specs.{Forms.form_of, Questions.IsQuestionAnswer}, lens_slack.specs.least.Answer.IsLeastAnswer}
 use Rattle.{lens.specs.events.Answer.IsEventsAnswer, tte_reports.specs.Reports.IsReportAnswer}
-use Rattle.lens.specs.declared.forms.Form.{Form, TheVariants.{Events, Least, Report, Slack, SlackOf}}
+use Rattle.lens.specs.declared.forms.Form.{Form, TheVariants.{Events, Latency, Least, Report, Slack, SlackOf}}
 use Rattle.{lens_slack.specs.Answer.{IsSlackAnswer, IsSlackAnswerOf}, tte_forms.specs.Putting.Shown}
 use Rattle.tte_forms.specs.Answering.{Answer, ForOctets, Gives, GivesAnswer, line_answer}
 use Rattle.tte_forms.specs.{declared.status.Status.{Status, TheVariants.Usage}, networks.Accepting.IsNetworkAnswer}
@@ -11,7 +12,7 @@ use Rattle.tte_reports.specs.{Commands.CompletesReport, Safely.AuditsSafely}
 -- the line for words of no form
 abbrev pub usage_line : List ℕ
 usage_line =
-    codes "usage: lens slack NETWORK [RULE] | least NETWORK | why NETWORK REPORT N | "
+    codes "usage: lens slack NETWORK [RULE] | least NETWORK | latency NETWORK | why NETWORK REPORT N | "
     ++ codes "draw NETWORK REPORT [FROM TO] | flows NETWORK REPORT | events NETWORK SEED CYCLES\n"
 
 -- the answer for words of no form: the usage line
@@ -23,6 +24,7 @@ abbrev pub IsFormAnswer : Form → List ℕ → List ℕ → Answer → Type 0
 IsFormAnswer Slack octets report a = IsSlackAnswer octets a
 IsFormAnswer (SlackOf rule) octets report a = IsSlackAnswerOf rule octets a
 IsFormAnswer Least octets report a = IsLeastAnswer octets a
+IsFormAnswer Latency octets report a = IsLatencyAnswer octets a
 IsFormAnswer (Report question) octets report a =
     IsNetworkAnswer (IsReportAnswer (IsQuestionAnswer question) report) octets a
 IsFormAnswer (Events seed cycles) octets report a = IsNetworkAnswer (IsEventsAnswer seed cycles) octets a

@@ -18,6 +18,8 @@ pub enum Form {
     SlackOf(Rule),
     /// `least NETWORK`.
     Least,
+    /// `latency NETWORK`.
+    Latency,
     /// A command, a network, a report, and what is asked of that.
     Report(Question),
     /// `events NETWORK SEED CYCLES`.
@@ -56,6 +58,7 @@ fn network_form(command: &str) -> Option<Form>
     match command {
         "slack" => Some(Form::Slack),
         "least" => Some(Form::Least),
+        "latency" => Some(Form::Latency),
         _ => None,
     }
 }

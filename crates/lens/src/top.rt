@@ -5,6 +5,7 @@ ghost use Rattle.tte_forms.specs.{Answering.Gives, Faults.{HasCause, IsWanted, P
 
 use crate::events::storm_events;
 use crate::forms::{Form, read_form};
+use lens_latency::latency_of_network;
 use lens_slack::least::least_of_network;
 use lens_slack::{slack_of_network, slack_of_rule};
 use schedule_checker::refusal_is_one;
@@ -13,7 +14,8 @@ use tte_forms::{Status, Words, put_last};
 use tte_io::{Sink, Source};
 use tte_reports::answer_report;
 
-const USAGE: &str = "usage: lens slack NETWORK [RULE] | least NETWORK | why NETWORK REPORT N | \
+const USAGE: &str =
+    "usage: lens slack NETWORK [RULE] | least NETWORK | latency NETWORK | why NETWORK REPORT N | \
                      draw NETWORK REPORT [FROM TO] | flows NETWORK REPORT | events NETWORK SEED CYCLES\n";
 
 /// All that the program does: it answers the words, with `first` as the file that word 2 names and
@@ -43,6 +45,7 @@ pub fn lens<A: Source, B: Source, K: Sink>(
         Some(Form::Slack) => slack_of_network(alloc, first, out),
         Some(Form::SlackOf(rule)) => slack_of_rule(alloc, first, rule, out),
         Some(Form::Least) => least_of_network(alloc, first, out),
+        Some(Form::Latency) => latency_of_network(alloc, first, out),
         Some(Form::Report(question)) => answer_report(alloc, first, second, &question, out),
         Some(Form::Events { seed, cycles }) => storm_events(alloc, first, seed, cycles, out),
         None => put_usage(out),

@@ -5,6 +5,7 @@ mod chains;
 mod eventful;
 mod forms;
 mod hints;
+mod latency;
 mod least;
 mod slack;
 mod summed;

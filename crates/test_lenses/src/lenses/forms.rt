@@ -8,8 +8,8 @@ use std::test::Fail;
 use worked_network::{call_of_one, words_of};
 
 const USAGE: &str =
-    "usage: lens slack NETWORK [RULE] | least NETWORK | why NETWORK REPORT N | draw NETWORK REPORT [FROM TO] | flows \
-        NETWORK REPORT | events NETWORK SEED CYCLES\n";
+    "usage: lens slack NETWORK [RULE] | least NETWORK | latency NETWORK | why NETWORK REPORT N | draw NETWORK REPORT \
+        [FROM TO] | flows NETWORK REPORT | events NETWORK SEED CYCLES\n";
 
 const NO_FORMS: &[&[&str]] = &[
     &[],
@@ -17,6 +17,9 @@ const NO_FORMS: &[&[&str]] = &[
     &["slack"],
     &["least"],
     &["least", "a", "8"],
+    &["latency"],
+    &["latency", "a", "b", "c"],
+    &["Latency", "a"],
     &["Least", "a"],
     // Rules that are no inequalities, and what is no rule.
     &["slack", "a", "7"],
@@ -119,6 +122,11 @@ fn words_of_least_are_read(rt: HostRuntime) -> Result<(), Fail> {
     try_form(&rt, rt.alloc(), &["least", "a"], Form::Least)
 }
 
+#[test]
+fn words_of_latency_are_read(rt: HostRuntime) -> Result<(), Fail> {
+    try_form(&rt, rt.alloc(), &["latency", "a"], Form::Latency)
+}
+
 // Numbers of records.
 const NUMBERS: &[(&str, u64)] = &[("1", 1), ("98", 98), ("18446744073709551615", u64::MAX)];
 
@@ -135,7 +143,12 @@ fn words_of_why_are_read(rt: HostRuntime) -> Result<(), Fail> {
 #[test]
 fn words_of_draw_are_read(rt: HostRuntime) -> Result<(), Fail> {
     let alloc = rt.alloc();
-    try_form(&rt, alloc, &["draw", "a", "b"], Form::Report(Question::DrawWhole))?;
+    try_form(
+        &rt,
+        alloc,
+        &["draw", "a", "b"],
+        Form::Report(Question::DrawWhole),
+    )?;
     let part = Form::Report(Question::Draw {
         from: 0,
         to: u64::MAX,
