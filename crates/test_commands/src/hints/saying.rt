@@ -7,6 +7,7 @@ use tte_run::{Status, tte};
 use worked_network::words_of;
 
 /// A call of `tte` over two files, and what is told of it.
+#[derive(Clone, Copy)]
 pub(super) struct Told<'a> {
     pub(super) words: &'a [&'a str],
     pub(super) first: &'a [u8],
