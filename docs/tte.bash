@@ -22,6 +22,7 @@ _tte_forms=(
 _lens_forms=(
     'slack NETWORK [RULE]'
     'least NETWORK'
+    'latency NETWORK'
     'why NETWORK REPORT N'
     'draw NETWORK REPORT [FROM TO]'
     'flows NETWORK REPORT'
