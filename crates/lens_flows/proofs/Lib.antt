@@ -5,3 +5,4 @@ pub mod AllTold
 pub mod Listed
 pub mod Reading
 pub mod OneAnswer
+pub mod Certain

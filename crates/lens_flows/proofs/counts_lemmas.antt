@@ -9,3 +9,5 @@ pub mod Sums
 pub mod SeenMore
 pub mod Telling
 pub mod OneTold
+pub mod Certainty
+pub mod Within

@@ -1,7 +1,7 @@
 -- The line of a flow.
 --
 --     flow VL to DEVICE owed N delivered N by a N by b N missing N
---         not owed receiver N sender N end N nearest early E late L
+--         not owed receiver N sender N end N nearest early E late L certain N
 --
 -- Behind `nearest` stands `none` where no frame is delivered within its window.
 use Rattle.std.specs.Prelude.{ℕ, List, ◌++◌, codes, decimal, Option, Some, None}
@@ -38,7 +38,10 @@ abbrev pub nearest_words : Option Nearest → List ℕ
 nearest_words None = codes " nearest none"
 nearest_words (Some n) = codes " nearest" ++ (count_words (codes "early") n.early ++ count_words (codes "late") n.late)
 
+-- the line: at its end in how many cycles delivery is owed by events alone
 unfoldable pub flow_line : Network → FlowTold → ℕ → List ℕ
 flow_line network t missing =
     flow_words network t.flow
-    ++ (delivered_words t missing ++ (unowed_words t.fates ++ (nearest_words t.deliveries.nearest ++ codes "\n")))
+    ++ (delivered_words t missing
+    ++ (unowed_words t.fates
+    ++ (nearest_words t.deliveries.nearest ++ (count_words (codes "certain") t.certain ++ codes "\n"))))

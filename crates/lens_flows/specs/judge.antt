@@ -4,3 +4,4 @@ pub mod Flows
 pub mod Fates
 pub mod Beginnings
 pub mod Values
+pub mod Certain

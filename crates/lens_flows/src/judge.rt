@@ -2,6 +2,7 @@
 //! judged by what the events have set and by what the records show of the devices.
 
 mod beginning;
+mod certain;
 mod course;
 mod fate;
 mod flow;

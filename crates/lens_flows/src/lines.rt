@@ -22,6 +22,7 @@ pub(crate) fn make_flow_line(line: &mut LineText, network: &Network, told: &Flow
     push_delivered(line, told, missing);
     push_unowed(line, &told.fates);
     push_nearest(line, told.deliveries.nearest);
+    push_count(line, "certain", told.certain);
     line.push("\n");
 }
 

@@ -16,7 +16,7 @@ owed_ready : (s : Scenario) (hs : List Happening) (until : ℕ) (flow : Flow) (c
 owed_ready s hs until flow cycle from is o t ge le most =
     owed_stays s hs until flow cycle from o t ge (most o.owed.to (owed_ends s hs until flow cycle from is o))
 
-fate_one : (s : Scenario) (hs : List Happening) (until : ℕ) (flow : Flow) (cycle from : ℕ) → IsFlow s.network flow → (f g : Fate)
+pub fate_one : (s : Scenario) (hs : List Happening) (until : ℕ) (flow : Flow) (cycle from : ℕ) → IsFlow s.network flow → (f g : Fate)
     → HasFate s hs until flow cycle from f → HasFate s hs until flow cycle from g → f ≡ g
 fate_one s hs until flow cycle from is fates.Owed fates.Owed hf hg = refl
 fate_one s hs until flow cycle from is fates.Owed fates.Receiver hf hg = absurd (hg (owed_ready s hs until flow cycle from is hf))
@@ -52,7 +52,7 @@ never_less s hs device (suc t) c d on wide first second lt =
     let reached = second.reach.reached in
     omega (arith, ints, more, now, before, reached, wide)
 
-same_cycle : (s : Scenario) (hs : List Happening) (device : DeviceId) (t c d : ℕ) → ReadsOn (s.reading device) → 2 ^ 32 ≤ amount s.network.cycle
+pub same_cycle : (s : Scenario) (hs : List Happening) (device : DeviceId) (t c d : ℕ) → ReadsOn (s.reading device) → 2 ^ 32 ≤ amount s.network.cycle
     → ReachesPlace s hs device c 0 t → ReachesPlace s hs device d 0 t → c ≡ d
 same_cycle s hs device t c d on wide first second =
     elim (cases_lt c d) [

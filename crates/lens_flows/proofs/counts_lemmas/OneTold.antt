@@ -3,7 +3,7 @@ use Rattle.lens_flows.specs.{counts.{Counted.{AreFateCounts, HasFateAt}, FlowLis
 use Rattle.lens_flows.specs.{counts.Deliveries.{AreDeliveries, IsDeliveredWithin}, declared.counts.deliveries.{Deliveries.Deliveries, Delivery.Delivery}}
 use Rattle.{lens_flows.specs.{counts.{Nearest.TellsLeast, Told.IsTold}, declared.judge.flow.Flow.Flow}, net_plan.specs.declared.network.Network.Network}
 use Rattle.lens_flows.specs.{counts.Ordered.{AreAll, IsCountOf, IsOrdered}, declared.counts.{counting.FateCounts.FateCounts, nearest.Nearest.Nearest}}
-use Rattle.lens_flows.specs.judge.Flows.{IsFlow}
+use Rattle.lens_flows.specs.judge.{Certain.IsCertainAt, Flows.IsFlow}
 use Rattle.{run_law.specs.{records.{Happenings.Happening, Order.IsIn}, scenario.Scenarios.Scenario}, std.specs.Prelude.{All, None, Option, Some}}
 use Rattle.std.proofs.{Common.{◌<◌, ◌∙◌, ◌∷◌, ◌≡◌, List, [], ap, arith, inl, inr, length, map, refl, subst, sym, ℕ}, lemmas.List.Elements.{All-head, All-tail}}
 use Rattle.lens_flows.specs.declared.judge.fate.Fate.TheVariants as fates
@@ -100,13 +100,16 @@ told_one : (s : Scenario) (hs : List Happening) (until : ℕ) (ds : List Deliver
     → IsTold s hs until ds b → a ≡ b
 told_one s hs until ds a b same p q =
     let counts = subst (λ (f : Flow). AreFateCounts s hs until f a.fates) same p.fates in
+    let sure = subst (λ (f : Flow). IsCountOf (IsCertainAt s hs until f) a.certain) same p.certain in
+    let certain = count_one (IsCertainAt s hs until b.flow) a.certain b.certain sure q.certain in
     let came = subst (λ (f : Flow). AreDeliveries s hs ds f a.deliveries) same p.deliveries in
-    ap (λ (f : Flow). made f a.fates a.deliveries) same
-    ∙ ap (λ (c : FateCounts). made b.flow c a.deliveries) (fates_one s hs until b.flow a.fates b.fates counts q.fates)
-    ∙ ap (λ (d : Deliveries). made b.flow b.fates d) (deliveries_one s hs ds b.flow a.deliveries b.deliveries came q.deliveries)
+    ap (λ (f : Flow). made f a.fates a.certain a.deliveries) same
+    ∙ ap (λ (c : FateCounts). made b.flow c a.certain a.deliveries) (fates_one s hs until b.flow a.fates b.fates counts q.fates)
+    ∙ ap (λ (n : ℕ). made b.flow b.fates n a.deliveries) certain
+    ∙ ap (λ (d : Deliveries). made b.flow b.fates b.certain d) (deliveries_one s hs ds b.flow a.deliveries b.deliveries came q.deliveries)
   where
-    made : Flow → FateCounts → Deliveries → FlowTold
-    made f c d = record { flow = f; fates = c; deliveries = d }
+    made : Flow → FateCounts → ℕ → Deliveries → FlowTold
+    made f c n d = record { flow = f; fates = c; certain = n; deliveries = d }
 
 -- ---- and of all flows
 

@@ -4,7 +4,8 @@ use Rattle.{lens_flows.specs.counts.Ordered.IsCountOf, run_law.specs.records.Hap
 use Rattle.lens_flows.specs.declared.{counts.counting.FateCounts.FateCounts, judge.beginning.Begun.Begun}
 use Rattle.lens_flows.specs.{declared.judge.course.Course.Course, judge.Courses.{IsCourse, scenario_of}}
 use Rattle.lens_flows.specs.{declared.judge.{fate.Fate.Fate, flow.Flow.Flow}, judge.Fates.{HasFate, IsBegun}}
-use Rattle.{net_plan.specs.declared.event.Event.Event, run_law.specs.scenario.Scenarios.Scenario}
+use Rattle.{lens_flows.specs.judge.Certain.IsCertainFrom, net_plan.specs.declared.event.Event.Event}
+use Rattle.run_law.specs.scenario.Scenarios.{Scenario}
 use Rattle.schedule_tables.specs.Windows.{OccursIn}
 use Rattle.lens_flows.specs.declared.judge.fate.Fate.TheVariants as fates
 
@@ -39,6 +40,18 @@ IsCycleCounted course flow begun old new =
     × ((befallen : List Event) (hs : List Happening) → IsCourse befallen hs course
     → IsBegun (scenario_of course befallen) hs course.until flow begun.cycle begun.time
     → HasFate (scenario_of course befallen) hs course.until flow begun.cycle begun.time fate))
+
+-- in a run: the cycle that begins so was counted, if delivery is owed in it by events alone
+abbrev pub IsCertainCounted : Course → Flow → Begun → ℕ → ℕ → Type 0
+IsCertainCounted course flow begun old new =
+    (OccursIn flow.of_vl begun.cycle × (new ≡ old + 1)
+    × ((befallen : List Event) (hs : List Happening) → IsCourse befallen hs course
+    → IsBegun (scenario_of course befallen) hs course.until flow begun.cycle begun.time
+    → IsCertainFrom (scenario_of course befallen) hs course.until flow begun.cycle begun.time))
+    ⊎ ((new ≡ old)
+    × ((befallen : List Event) (hs : List Happening) → IsCourse befallen hs course
+    → IsBegun (scenario_of course befallen) hs course.until flow begun.cycle begun.time
+    → IsCertainFrom (scenario_of course befallen) hs course.until flow begun.cycle begun.time → ⊥))
 
 -- so many cycles of the flow have each fate
 abbrev pub AreFateCounts : Scenario → List Happening → ℕ → Flow → FateCounts → Type 0

@@ -5,7 +5,7 @@ ghost use Rattle.{lens_flows.specs.counts.Told.{AreToldOf, IsTold}, run_law.spec
 ghost use Rattle.lens_flows.specs.judge.{Courses.{IsCourse, IsFit, IsSomeCourse, scenario_of}, Flows.IsFlow};
 ghost use Rattle.net_plan.specs.declared.event.Event.{Event};
 
-use crate::counts::counting::count_fates;
+use crate::counts::counting::count_cycles;
 use crate::counts::deliveries::count_deliveries;
 use crate::counts::{Deliveries, Delivery, FateCounts};
 use crate::judge::{Course, Flow};
@@ -16,6 +16,9 @@ use std::alloc::{AllocError, Global};
 pub struct FlowTold {
     pub flow: Flow,
     pub fates: FateCounts,
+    /// In how many of its cycles delivery is owed by events alone: its sender and its receiver were on three cycles
+    /// before.
+    pub certain: u64,
     pub deliveries: Deliveries,
 }
 
@@ -52,9 +55,11 @@ fn tell(course: &Course<'_>, flow: &Flow, deliveries: &[Delivery]) -> FlowTold
     ensures told { (befallen : List Event) (hs : List Happening) → IsCourse befallen hs course.now
         → IsTold (scenario_of course.now befallen) hs course.now.until deliveries.now result }
 {
+    let cycles = count_cycles(course, flow);
     FlowTold {
         flow: *flow,
-        fates: count_fates(course, flow),
+        fates: cycles.fates,
+        certain: cycles.certain,
         deliveries: count_deliveries(course, flow, deliveries),
     }
 }

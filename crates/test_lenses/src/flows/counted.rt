@@ -26,23 +26,37 @@ const NAMES: [&str; 8] = [
     "end",
 ];
 
-// Edits and a trace, with what is counted of each, and what is nearest.
-const COUNTED: &[(&[Edit<'_>], &str, [u32; 8], &str)] = &[
+// Edits and a trace, with what is counted of each, what is nearest, and what is certain: of the cycles that are owed that
+// which begins three cycles after time 0, at which all devices are on.
+const COUNTED: &[(&[Edit<'_>], &str, [u32; 8], &str, u32)] = &[
     // Four cycles but for one unit: cycle 0 is silent, and three are owed.
-    (&[], "524287999999 end\n", [3, 3, 3, 0, 0, 0, 0, 0], CALM),
+    (&[], "524287999999 end\n", [3, 3, 3, 0, 0, 0, 0, 0], CALM, 1),
     // The run ends at the end of the last window of cycle 3.
-    (&[], "422945751044 end\n", [3, 3, 3, 0, 0, 0, 0, 0], CALM),
+    (&[], "422945751044 end\n", [3, 3, 3, 0, 0, 0, 0, 0], CALM, 1),
     // It ends a unit before: the frame is delivered, but not owed.
-    (&[], "422945751043 end\n", [2, 3, 3, 0, 0, 0, 0, 1], CALM),
+    (&[], "422945751043 end\n", [2, 3, 3, 0, 0, 0, 0, 1], CALM, 0),
     // It ends where cycle 1 begins, and a unit before.
-    (&[], "131072000000 end\n", [0, 0, 0, 0, 0, 0, 0, 1], "none"),
-    (&[], "131071999999 end\n", [0, 0, 0, 0, 0, 0, 0, 0], "none"),
+    (
+        &[],
+        "131072000000 end\n",
+        [0, 0, 0, 0, 0, 0, 0, 1],
+        "none",
+        0,
+    ),
+    (
+        &[],
+        "131071999999 end\n",
+        [0, 0, 0, 0, 0, 0, 0, 0],
+        "none",
+        0,
+    ),
     // Channel a does not come to c1.
     (
         &[],
         "1 cut c1_a down\n524287999999 end\n",
         [3, 3, 0, 3, 0, 0, 0, 0],
         CALM,
+        1,
     ),
     // The sender breaks a unit before cycle 2.
     (
@@ -50,6 +64,7 @@ const COUNTED: &[(&[Edit<'_>], &str, [u32; 8], &str)] = &[
         "262143999999 break m1\n524287999999 end\n",
         [1, 1, 1, 0, 0, 0, 2, 0],
         CALM,
+        0,
     ),
     // It breaks in cycle 2 at the end of the last window: the frame was delivered, but is not owed.
     (
@@ -57,6 +72,7 @@ const COUNTED: &[(&[Edit<'_>], &str, [u32; 8], &str)] = &[
         "291873751044 break m1\n524287999999 end\n",
         [1, 2, 2, 0, 0, 0, 2, 0],
         CALM,
+        0,
     ),
     // It breaks a unit later.
     (
@@ -64,6 +80,7 @@ const COUNTED: &[(&[Edit<'_>], &str, [u32; 8], &str)] = &[
         "291873751045 break m1\n524287999999 end\n",
         [2, 2, 2, 0, 0, 0, 1, 0],
         CALM,
+        0,
     ),
     // The receiver is off.
     (
@@ -71,6 +88,7 @@ const COUNTED: &[(&[Edit<'_>], &str, [u32; 8], &str)] = &[
         "524287999999 end\n",
         [0, 0, 0, 0, 0, 3, 0, 0],
         "none",
+        0,
     ),
     // The virtual link occurs in each second cycle.
     (
@@ -78,6 +96,7 @@ const COUNTED: &[(&[Edit<'_>], &str, [u32; 8], &str)] = &[
         "524287999999 end\n",
         [2, 2, 2, 0, 0, 0, 0, 0],
         CALM,
+        1,
     ),
     // Behind the correction of cycle 1 both wires of c1 take their greatest delays.
     (
@@ -85,6 +104,7 @@ const COUNTED: &[(&[Edit<'_>], &str, [u32; 8], &str)] = &[
         "150000000000 wire c1_a down 34078720\n150000000000 wire c1_b down 34078720\n200000000000 end\n",
         [1, 1, 1, 0, 0, 0, 0, 0],
         "early 1076101124 late 1074790404",
+        0,
     ),
     // They do behind that of cycle 2: each end is nearest to another delivery.
     (
@@ -92,6 +112,7 @@ const COUNTED: &[(&[Edit<'_>], &str, [u32; 8], &str)] = &[
         "281000000000 wire c1_a down 34078720\n281000000000 wire c1_b down 34078720\n390000000000 end\n",
         [2, 2, 2, 0, 0, 0, 0, 0],
         "early 1074790404 late 1074790404",
+        0,
     ),
     // Only that of channel a does: the frame of channel b comes first.
     (
@@ -99,6 +120,7 @@ const COUNTED: &[(&[Edit<'_>], &str, [u32; 8], &str)] = &[
         "150000000000 wire c1_a down 34078720\n200000000000 end\n",
         [1, 1, 0, 1, 0, 0, 0, 0],
         CALM,
+        0,
     ),
 ];
 
@@ -107,12 +129,17 @@ fn push_count(alloc: Global, text: &mut String, name: &str, count: u32) -> Resul
     text.push_str(one.as_str())
 }
 
-fn text_of(alloc: Global, counts: &[u32; 8], nearest: &str) -> Result<String, AllocError> {
+fn text_of(
+    alloc: Global,
+    counts: &[u32; 8],
+    nearest: &str,
+    certain: u32,
+) -> Result<String, AllocError> {
     let mut text = String::from_str(alloc, "flow v1 to c1")?;
     for (name, count) in NAMES.iter().zip(counts) {
         push_count(alloc, &mut text, name, *count)?;
     }
-    format!(in alloc; "{text} nearest {nearest}\n")
+    format!(in alloc; "{text} nearest {nearest} certain {certain}\n")
 }
 
 // The flow of a network under a trace is told so.
@@ -131,9 +158,9 @@ fn try_counted(
 #[test]
 fn flows_are_counted(rt: HostRuntime) -> Result<(), Fail> {
     let alloc = rt.alloc();
-    for (edits, trace, counts, nearest) in COUNTED {
+    for (edits, trace, counts, nearest, certain) in COUNTED {
         let network = edited(alloc, WORKED, edits)?;
-        let text = text_of(alloc, counts, nearest)?;
+        let text = text_of(alloc, counts, nearest, *certain)?;
         try_counted(&rt, alloc, network.as_str(), trace, text.as_str())?;
     }
     Ok(())

@@ -22,7 +22,8 @@ pub(super) fn try_flows<'x>(
 }
 
 const LINE: &str =
-    "flow v1 to c1 owed 0 delivered 0 by a 0 by b 0 missing 0 not owed receiver 0 sender 0 end 0 nearest none\n";
+    "flow v1 to c1 owed 0 delivered 0 by a 0 by b 0 missing 0 not owed receiver 0 sender 0 end 0 nearest none \
+    certain 0\n";
 
 // An event without an end, a line that is none, and one record of an end alone.
 const NO_REPORTS: &[(&str, &str)] = &[

@@ -1,5 +1,5 @@
-use Rattle.lens_flows.proofs.Missing.{none_is_missing}
+use Rattle.lens_flows.proofs.{Certain.{certain_are_due, certain_are_owed}, Missing.none_is_missing}
 use Rattle.lens_flows.proofs.laws.flows_law.Goals as goal
 
 pub returns : goal.returns
-returns c = none_is_missing
+returns c = record { missing = none_is_missing; certain = certain_are_owed; due = certain_are_due }
