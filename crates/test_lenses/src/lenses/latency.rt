@@ -17,7 +17,7 @@ const LATER: &str =
 
 // Its sender dispatches later on channel b, and no place changes.
 const SENT_LATER: &str =
-    "latency v1 to c1 by a 1036779516 3187671044 by b 936779516 3087671044 window 27578859516 \
+    "latency v1 to c1 by a 1036779516 3187671044 by b 986779516 3137671044 window 27578859516 \
                           29729751044\n";
 
 // It has another receiver, which is an earlier device.
@@ -46,7 +46,7 @@ const TOLD: &[(&[Edit<'_>], &str, Status)] = &[
     (
         &[(
             "\"m1_b\", way=\"up\", offset=26542080000",
-            "\"m1_b\", way=\"up\", offset=26642080000",
+            "\"m1_b\", way=\"up\", offset=26592080000",
         )],
         SENT_LATER,
         Status::Done,
