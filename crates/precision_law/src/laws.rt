@@ -1,6 +1,6 @@
 ghost use Rattle.precision_law.specs.Dispatches.{DispatchesHalve, DispatchesStayNear};
 ghost use Rattle.precision_law.specs.IdealClocks.{ClocksKeepTheSpan, ClocksKeepTheirCycles, ValuesAreReachedOnTime};
-ghost use Rattle.precision_law.specs.{Joined.JoinersComeIn, Mending.MendedChannelsComeIn};
+ghost use Rattle.precision_law.specs.{Joined.JoinersComeIn, Mending.{MendedChannelsComeIn, MendedRelaysComeIn}};
 ghost use Rattle.precision_law.specs.Precision.{ClocksStayTogether, TimeIsKept};
 ghost use Rattle.precision_law.specs.{
   Progress.{EndSystemsComeIn, EndSystemsComeInSoon},
@@ -24,9 +24,11 @@ pub fn end_systems_come_in()
     ensures in_three_cycles { EndSystemsComeIn }
 {}
 
-/// Where no device is broken, each switch of a channel that is whole comes in as an end system does.
+/// Each switch of a channel that is whole comes in as an end system does, where no device is broken, or where the channel's
+/// compression master keeps the common time.
 pub fn mended_channels_come_in()
-    ensures { MendedChannelsComeIn }
+    ensures unbroken { MendedChannelsComeIn }
+    ensures kept { MendedRelaysComeIn }
 {}
 
 /// The clock of a correct synchronised device keeps between two ideal clocks, which began its cycle with the first and

@@ -3,7 +3,7 @@ use Rattle.precision_law.proofs.{block.{Coming.reaches_in_block, Onward.hull_ord
 use Rattle.precision_law.proofs.words.Blocks.{HasPoint, before_narrow, earlier_in_block, early_show, has_corrected, has_lost, joining_of_setting, looking_by}
 use Rattle.precision_law.proofs.words.Clocks.{before_of, before_place, earlier_before, frames_come_first, good_is_correct, in_earlier, natural_of, one_more}
 use Rattle.{precision_law.proofs.words.Clocks.{reaches_front, room, same_device, setting_is, sizes_are}, run_law.specs.timed.Dispatching.Sends}
-use Rattle.precision_law.proofs.words.Laws.{BlocksGoSo, HasTimeAt, IsClique, IsDispatch, IsFirm, IsFirstMaster, IsGood, IsInBlock, IsOldAt, IsView}
+use Rattle.precision_law.proofs.words.Laws.{BlocksGoSo, HasTimeAt, IsClique, IsDispatch, IsFirm, IsFirstMaster, IsGood, IsInBlock, IsOldAt, IsView, Stands}
 use Rattle.precision_law.proofs.words.Laws.{MastersDispatch, View, first_correction, has_time, is_correction, last_dispatch, last_setting, state_left}
 use Rattle.precision_law.proofs.words.Plans.{Corrected, Device, DeviceId, Event, Integrating, Joining, State, Synchronised, Verdict, amount, device_at}
 use Rattle.precision_law.proofs.words.{Plans.{state_at_start, units_of}, Std.{option_and_then, option_map_or, pos, refl, subst, suc, sym, true, zero, ℕ, ℤ}}
@@ -109,13 +109,17 @@ stays_synchronised v device (suc bound) t is le on none =
     stays_now v device t is on none (λ w lt. stays_synchronised v device bound w is (omega (arith, lt, le)) on
     (λ h state cause why i early. none h state cause why i (omega (arith, early, lt))))
 
+-- a device that is to keep the time has kept it up to a block
+pub firm_kept : (v : View) (n : ℕ) (before : Stands v n) (device : DeviceId) → IsFirm v device → NoCliqueBefore v device before.next
+firm_kept v n before device firm h state cause why i early body clique = before.kept h device state cause why i early body clique firm
+
 -- ---- before the correction points of a block
 
--- a good device that keeps the time and began on, and an instant of the block before its correction points
+-- a good device that began on and kept the time up to the block, and an instant of the block before its correction points
 pub record IsCalm (v : View) (n t : ℕ) (block : IsInBlock v n t) (device : DeviceId) (b : ℕ) : Type 0 where
   pub before : pos b <ℤ (first_correction v.sizes block.before.hull +ℤ pos v.sizes.reach)
   pub to : b ≤ t
-  pub firm : IsFirm v device
+  pub kept : NoCliqueBefore v device block.before.next
   pub good : IsGood v device
   pub on : BeginsOn v.scenario.network device
 
@@ -164,7 +168,7 @@ module _ (goes : BlocksGoSo) (v : View) (n t : ℕ) (block : IsInBlock v n t) (d
 
   no_clique : (w : ℕ) → IsView v → IsCalm v n t block device b → w ≤ b + 1 → NoCliqueBefore v device w
   no_clique w is at le h state cause why i lt body clique = elim (cases_lt (time_of h) block.before.next) [
-    | inl early ↦ block.before.kept h device state cause why i early body clique at.firm
+    | inl early ↦ at.kept h state cause why i early body clique
     | inr from ↦
         let lost = has_lost v device h state cause why is at.good i body clique in
         no_point (time_of h) lost.cycle lost.verdict is at from (omega (arith, lt, le)) lost.point
@@ -248,7 +252,7 @@ masters_dispatch goes v n t block device is late master =
     let calm : IsCalm v n t block device b = record {
       before = omega (arith, ints, natural.1, frames_come_first v.sizes before.hull (room v is) (before_narrow v n before));
       to = omega (arith, ints, natural.1, late);
-      firm = inl (record { end = master_is_end v device master.master; good = master.good });
+      kept = firm_kept v n before device (inl (record { end = master_is_end v device master.master; good = master.good }));
       good = master.good;
       on = master.on;
     } in

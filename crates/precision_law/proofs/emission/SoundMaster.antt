@@ -1,6 +1,6 @@
 -- The compression master of the sound channel sends one frame of the block's cycle, of enough masters.
 use Rattle.precision_law.proofs.{block.Onward.hull_ordered, words.{Laws.last_dispatch, Plans.{end_of, one_cluster, one_list_of_clusters}}}
-use Rattle.precision_law.proofs.{block.Dispatched.IsCalm, emission.Aimed.{fine_then, never_ends, of_block_cycle}, trips.SoundUp.sound_is_whole, words.Runs.{place_of, point_by, points_of, rank, same_some, sign, split, time_of}}
+use Rattle.precision_law.proofs.{block.Dispatched.{IsCalm, NoCliqueBefore, firm_kept}, emission.Aimed.{fine_then, never_ends, of_block_cycle}, trips.SoundUp.sound_is_whole, words.Runs.{place_of, point_by, points_of, rank, same_some, sign, split, time_of}}
 use Rattle.precision_law.proofs.emission.{Gathered.{Collects, IsGathered, gathered, has_frame}, Senders.{channel_cm, cm_is, first_master, sends_up}}
 use Rattle.precision_law.proofs.words.Blocks.{IsBadPoint, IsGoodPoint, IsKnown, IsWitness, bad_number, bases_are_in_hulls, before_narrow, cluster_was}
 use Rattle.precision_law.proofs.words.Blocks.{contained, earlier_in_block, early_show, ends_soon, follows_before, front_point, front_witness, gives_point}
@@ -8,9 +8,9 @@ use Rattle.precision_law.proofs.words.Blocks.{good_near, hulls_are_narrow, is_he
 use Rattle.precision_law.proofs.words.Clocks.{IsSentAt, after_more, all_by, ascending_from, contains, enough_masters, frames_come_first}
 use Rattle.precision_law.proofs.words.Clocks.{in_filter_map, is_sent, made_in, natural_of, one_member, opened_by, parts_at_last, place_of_sent, reach_is_there, room, sent_at}
 use Rattle.precision_law.proofs.words.{Clocks.{sizes_are, sound_switches_begin_on, steady, switches_are_good}, Std.{subst, suc, sym, true, unsigned_abs, ℕ, ℤ}}
-use Rattle.precision_law.proofs.words.Laws.{BlocksGoSo, Hull, IsEmission, IsFirstMaster, IsInBlock, IsInHull, IsView, SendsOn, SoundMasterSends, View, hull_of}
-use Rattle.precision_law.proofs.words.Plans.{AreClusters, Channel, Cluster, DeviceId, Holds, IsDropped, IsKept, IsMember, IsReach, Masters, Members, Ordered, Point}
-use Rattle.precision_law.proofs.words.Runs.{Happening, IsDue, IsFounded, IsIn, IsSplit, before_later_time, before_next_time, earlier_time, ends_stretch}
+use Rattle.precision_law.proofs.words.Laws.{IsWholeFrom, first_correction, BlocksGoSo, Hull, IsEmission, IsFirstMaster, IsInBlock, IsInHull, IsView, SendsOn, SoundMasterSends, View, hull_of}
+use Rattle.precision_law.proofs.words.Plans.{AreClusters, Channel, Cluster, IsCmOf, DeviceId, Holds, IsDropped, IsKept, IsMember, IsReach, Masters, Members, Ordered, Point}
+use Rattle.precision_law.proofs.words.Runs.{BeginsOn, Happening, IsDue, IsFounded, IsIn, IsSplit, before_later_time, before_next_time, earlier_time, ends_stretch}
 use Rattle.precision_law.proofs.words.Runs.{front_founded, in_front_of, in_left, in_parts, in_right, is_cm, key, member_of, members_in, observation_window}
 use Rattle.precision_law.proofs.words.Std.{◌*◌, ◌++◌, ◌+ℤ◌, ◌+◌, ◌<ℤ◌, ◌<◌, ◌∙◌, ◌∷◌, ◌≡◌, ◌≤ℤ◌, ◌≤◌, ◌⊎◌, Contains, List, Some, [], ap, append_assoc, arith}
 use Rattle.precision_law.proofs.words.Std.{after_last, bit_at, cases_lt, false, false_from_ne_true, filter_map, filter_map-append, inl, inr, ints, pos, refl}
@@ -298,32 +298,44 @@ module _ (goes : BlocksGoSo) (v : View) (channel : Channel) (n t : ℕ) (block :
 
 -- ---- the law
 
-pub sound_master_sends : BlocksGoSo → SoundMasterSends
-sound_master_sends goes v n t block is late =
+-- the compression master of a channel that is whole sends its frame, where it has kept the time
+pub calm_master_sends : BlocksGoSo → (v : View) (channel : Channel) (n t : ℕ) (block : IsInBlock v n t) (cm : DeviceId) → IsView v
+    → IsCmOf v.scenario.network channel cm → BeginsOn v.scenario.network cm → NoCliqueBefore v cm block.before.next
+    → ((u : ℕ) → IsInHull v (suc n) u → IsWholeFrom v channel u)
+    → (first_correction v.sizes block.before.hull +ℤ pos v.sizes.reach) ≤ℤ pos t
+    → (hull : Hull) × (hull_of v (suc n) ≡ Some hull) × SendsOn v channel n hull
+calm_master_sends goes v channel n t block cm is of_channel on kept whole late =
     let before = block.before in
     let space = room v is in
-    let natural = natural_of (last_dispatch v.sizes before.hull +ℤ pos (v.sizes.dmax + v.sizes.compression + v.sizes.base + v.sizes.path + v.sizes.precision)) 0
+    let natural = natural_of (last_dispatch v.sizes before.hull +ℤ pos
+    (v.sizes.dmax + v.sizes.compression + v.sizes.base + v.sizes.path + v.sizes.precision)) 0
     (omega (arith, ints, early_show v n before is, hull_ordered v n before is, space)) in
     let by : ℕ = natural.0 in
     let early = frames_come_first v.sizes before.hull space (before_narrow v n before) in
-    let cm = channel_cm v v.channel is in
-    let switch = (cm_is v v.channel cm.0 cm.1).switch in
-    let calm : IsCalm v n t block cm.0 by = record {
+    let as_cm = cm_is v channel cm of_channel in
+    let calm : IsCalm v n t block cm by = record {
       before = omega (arith, ints, natural.1, early);
       to = omega (arith, ints, natural.1, early, late);
-      firm = inr switch;
-      good = switches_are_good v v.channel cm.0 is switch;
-      on = sound_switches_begin_on v cm.0 is switch;
+      kept = kept;
+      good = switches_are_good v channel cm is as_cm.switch;
+      on = on;
     } in
-    emits goes v v.channel n t block cm.0 by is (record {
-      of_channel = cm.1;
+    emits goes v channel n t block cm by is (record {
+      of_channel = of_channel;
       good = calm.good;
       to = calm.to;
       late = late;
       over = omega (arith, ints, natural.1);
-      whole = λ u inside. sound_is_whole v u is;
-      fine = fine_then goes v n t block cm.0 by is calm;
-      alike = of_block_cycle goes v n t block cm.0 by is calm (cm_is v v.channel cm.0 cm.1).one;
-      quiet = λ h i from le. false_from_ne_true (ends_stretch cm.0 h.note.body)
-          (λ hit. never_ends goes v n t block cm.0 by is calm h h.note.body i le refl hit);
+      whole = whole;
+      fine = fine_then goes v n t block cm by is calm;
+      alike = of_block_cycle goes v n t block cm by is calm as_cm.one;
+      quiet = λ h i from le. false_from_ne_true (ends_stretch cm h.note.body)
+          (λ hit. never_ends goes v n t block cm by is calm h h.note.body i le refl hit);
     })
+
+pub sound_master_sends : BlocksGoSo → SoundMasterSends
+sound_master_sends goes v n t block is late =
+    let cm = channel_cm v v.channel is in
+    let switch = (cm_is v v.channel cm.0 cm.1).switch in
+    calm_master_sends goes v v.channel n t block cm.0 is cm.1 (sound_switches_begin_on v cm.0 is switch)
+    (firm_kept v n block.before cm.0 (inr switch)) (λ u inside. sound_is_whole v u is) late

@@ -1,5 +1,5 @@
 -- The laws, from what each instant of a block brings.
-use Rattle.precision_law.{proofs.progress_lemmas.Mending.mended_channels_come_in, specs.Mending.MendedChannelsComeIn}
+use Rattle.precision_law.{proofs.progress_lemmas.Mending.{mended_channels_come_in, mended_relays_come_in}, specs.Mending.{MendedChannelsComeIn, MendedRelaysComeIn}}
 use Rattle.precision_law.proofs.block.{Brings.blocks_go_so, Coming.points_have_come, Onward.stands_on}
 use Rattle.precision_law.proofs.{emission.SoundMaster.sound_master_sends, words.Blocks.{none_turns_on, stands_at_start, three_have_good, time_is_kept}}
 use Rattle.precision_law.proofs.{hearing.InBlocks.heard_in_their_blocks, law.{InSpans.clocks_keep_the_span, Spreading.{dispatches_halve, dispatches_stay_near}}}
@@ -93,3 +93,6 @@ world_time_kept = clocks_keep_world_time one_channel_is_sound blocks_known.cover
 
 pub mended_come_in : MendedChannelsComeIn
 mended_come_in = mended_channels_come_in one_channel_is_sound frames_known blocks_known
+
+pub mended_relays : MendedRelaysComeIn
+mended_relays = mended_relays_come_in one_channel_is_sound frames_known blocks_known

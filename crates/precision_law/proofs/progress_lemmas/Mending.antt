@@ -3,7 +3,7 @@
 use Rattle.net_plan.proofs.SameIds.{same_device}
 use Rattle.precision_law.proofs.block.Goings.{has_lost, old_point}
 use Rattle.precision_law.proofs.block.Onward.{hull_ordered, last_of}
-use Rattle.precision_law.proofs.emission.WholeMaster.{AreAllGood, IsFrameSent, leasts_grow, whole_master_sends}
+use Rattle.precision_law.proofs.emission.{SoundMaster.calm_master_sends, WholeMaster.{IsFrameSent, leasts_grow, whole_master_sends}}
 use Rattle.precision_law.proofs.law.Cover.{later_block}
 use Rattle.precision_law.proofs.progress_lemmas.Arriving.{AreBlocksKnown, coming, hull_before, later_soon, next_over}
 use Rattle.precision_law.proofs.progress_lemmas.Corrected.{synchronised_by}
@@ -27,7 +27,15 @@ use Rattle.precision_law.proofs.words.Laws.{Follows, HaveRoom, IsNarrow, OneChan
 use Rattle.precision_law.proofs.words.Plans.{Device, Integrating, device_at, opened}
 use Rattle.precision_law.proofs.words.Runs.{Happening, happenings, is_off, state_after, up_to}
 use Rattle.precision_law.proofs.words.Std.{◌<ℤ◌, ◌<◌, ◌∙◌, if◌then◌else◌, Bool, List, by_lt_z}
-use Rattle.precision_law.specs.Mending.{MendedChannelsComeIn}
+use Rattle.precision_law.proofs.block.Dispatched.{NoCliqueBefore}
+use Rattle.precision_law.proofs.records.RunViews.{IsViewWith}
+use Rattle.precision_law.proofs.words.Clocks.{switches_are_good}
+use Rattle.precision_law.proofs.words.Laws.{IsGood, IsInHull}
+use Rattle.precision_law.proofs.words.Plans.{IsBeta}
+use Rattle.precision_law.proofs.words.Runs.{Scenario}
+use Rattle.precision_law.specs.{Precision.IsRunUpTo, Progress.coming_time}
+use Rattle.precision_law.specs.Mending.{IsMended, MendedChannelsComeIn, MendedRelaysComeIn}
+use Rattle.run_law.specs.{declared.note.Note.Note, law.Safety.IsInStep}
 
 -- ---- numbers
 
@@ -63,17 +71,21 @@ later_whole v channel x u le whole = record {
   on = λ switch t of_channel from. whole.on switch t of_channel (omega (arith, le, from));
 }
 
+-- in each block whose cycle's dispatches begin when the channel is whole its compression master sends
+abbrev pub SendsWhole : View → Channel → Type 0
+SendsWhole v channel =
+    (m t : ℕ) (block : IsInBlock v m t) → ((u : ℕ) → IsInHull v (suc m) u → IsWholeFrom v channel u)
+    → (first_correction v.sizes block.before.hull +ℤ pos v.sizes.reach) ≤ℤ pos t → IsFrameSent v channel m
+
 module _ (laws : FramesGoSo) (known : AreBlocksKnown) (v : View) (channel : Channel) (device : DeviceId) (is : IsView v)
-    (all : AreAllGood v)
-    (switch : IsSwitchOf v.scenario.network channel device) (member : IsDeviceOf v.scenario.network channel device)
-    (x : ℕ)
-    (whole : IsWholeFrom v channel x) where
-  -- in each block behind one whose cycle's dispatches begin from x on the compression master sends
+    (good : IsGood v device) (member : IsDeviceOf v.scenario.network channel device) (sending : SendsWhole v channel)
+    (x : ℕ) (whole : IsWholeFrom v channel x) where
+  -- so it does in each block behind one whose cycle's dispatches begin from x on
   sends_in : (k m t : ℕ) (block : IsInBlock v m t) (first : Hull) → k ≤ m → hull_of v (suc k) ≡ Some first
       → pos x ≤ℤ first.least
       → (first_correction v.sizes block.before.hull +ℤ pos v.sizes.reach) ≤ℤ pos t → IsFrameSent v channel m
   sends_in k m t block first le is_first early late =
-      whole_master_sends known.goes v channel m t block is all (λ u inside.
+      sending m t block (λ u inside.
       (let grows = leasts_grow v (suc k) (suc m) first inside.hull is (omega (arith, le)) is_first inside.is in
       later_whole v channel x u (omega (arith, ints, grows, early, inside.least)) whole)) late
 
@@ -82,7 +94,7 @@ module _ (laws : FramesGoSo) (known : AreBlocksKnown) (v : View) (channel : Chan
       → KeepsFrom v device stands.next
   keeps_from k stands first is_first early h state cause why i from body clique =
       let w = time_of h in
-      let lost = has_lost v device h state cause why is (all device) i body clique in
+      let lost = has_lost v device h state cause why is good i body clique in
       let found = later_block known.on v k w stands is (within_run v is h i) from in
       let m = found.0 in
       let block = found.1 in
@@ -131,7 +143,7 @@ module _ (laws : FramesGoSo) (known : AreBlocksKnown) (v : View) (channel : Chan
             has_time_itself v device is over.before.next never channel k over y first from is_first so
             (same_device so.cm device (sym same)) on soon
         | inr differs ↦
-            has_time_on v device is over.before.next never known.goes channel k over y first from (all device) member
+            has_time_on v device is over.before.next never known.goes channel k over y first from good member
             is_first so (λ d. differs (ap (λ (e : DeviceId). e.0) d))
             (later_whole v channel x (time_of so.first) inside whole) on soon
       ]
@@ -153,7 +165,7 @@ module _ (laws : FramesGoSo) (known : AreBlocksKnown) (v : View) (channel : Chan
       let never = keeps_from k over.before first next.before.is_hull early in
       let behind : z ≤ next.before.next = omega (arith, ints, later, one, same) in
       let has : HasTimeAt v device next.before.next =
-      record { good = all device; timed = subst (λ (w : ℕ). has_time (state_left v device w) ≡ true) same timed } in
+      record { good = good; timed = subst (λ (w : ℕ). has_time (state_left v device w) ≡ true) same timed } in
       let ends = block_ends v (suc k) next.next first next.before.is_hull next.is_over in
       let over_later = later_end v (suc k) next.before is in
       stays_synchronised v device is z never next.next (v.until + 1)
@@ -199,20 +211,27 @@ module _ (laws : FramesGoSo) (known : AreBlocksKnown) (v : View) (channel : Chan
       (through x stands.next later.hull.least from high) (le_self stands.next)
       (one_above (pos stands.next) later.hull.least high) (stays_on v device is x stands.next from on))
 
-pub mended_channels_come_in : OneChannelIsSound → FramesGoSo → AreBlocksKnown → MendedChannelsComeIn
-mended_channels_come_in sound laws known s mark ns until beta up is_beta channel switch t u of_channel mended good long
-    le =
+-- ---- the laws
+
+-- a switch of a channel that is mended at t is synchronised at the end of the view, where the channel's compression master
+-- sends
+mended : (laws : FramesGoSo) (known : AreBlocksKnown) (s : Scenario) (mark : List ℕ) (ns : List Note) (until beta : ℕ)
+    (up : IsRunUpTo s mark ns until) (is_beta : IsBeta s.network (pos beta)) (channel : Channel) (switch : DeviceId) (t u : ℕ)
+    → IsSwitchOf s.network channel switch → IsMended s (happenings s.network ns) channel t u
+    → (sure : Channel) (at : IsViewWith s (happenings s.network ns) u sure beta)
+    → SendsWhole (view_of s u sure beta at.cut.front) channel
+    → t + coming_time s.network beta ≤ u → IsInStep s (happenings s.network ns) switch u
+mended laws known s mark ns until beta up is_beta channel switch t u of_channel mends sure at sending long =
     let hs = happenings s.network ns in
-    let sure = sound s u up.lawful in
-    let at = view_with s mark ns until u sure.0 beta up is_beta le sure.1 in
     let is = at.is in
-    let v = view_of s u sure.0 beta at.cut.front in
+    let v = view_of s u sure beta at.cut.front in
+    let good = switches_are_good v channel switch is of_channel in
     let left : (d : DeviceId) (w : ℕ) → w ≤ u → state_after s (up_to w hs) d ≡ state_left v d (w + 1) = λ d w to.
     ap (λ (gs : List Happening). state_after s gs d) (up_to_is w hs ∙ sym (at.cut.early (w + 1) (omega (arith, to)))) in
     let on : (d : DeviceId) → IsSwitchOf s.network channel d → IsOn (state_left v d (t + 1)) = λ d has.
-    subst IsOn (left d t (omega (arith, long))) (mended.on d has) in
+    subst IsOn (left d t (omega (arith, long))) (mends.on d has) in
     let whole : IsWholeFrom v channel (t + 1) = record {
-      ways = λ link way w has from to. mended.ways link way w has (omega (arith, from)) to;
+      ways = λ link way w has from to. mends.ways link way w has (omega (arith, from)) to;
       on = λ d w has from.
           (let on_w = stays_on v d is (t + 1) w from (on d has) in
           ap (λ (b : Bool). is_off (if b then Integrating else state_left v d w)) (on_not_turned_on v d w is on_w)
@@ -221,8 +240,27 @@ mended_channels_come_in sound laws known s mark ns until beta up is_beta channel
     let d = opened (λ (x : Device). x.channel ≡ Some channel) (device_at s.network switch) of_channel in
     let member : IsDeviceOf s.network channel switch = of_channel_is v channel switch d.0 d.1 (inr d.2) in
     record {
-      correct = good switch;
+      correct = good;
       synchronised = left switch u (omega arith)
-          ∙ comes laws known v channel switch is good of_channel member (t + 1) whole t (omega arith) (omega arith)
+          ∙ comes laws known v channel switch is good member sending (t + 1) whole t (omega arith) (omega arith)
           (on switch of_channel) long;
     }
+
+pub mended_channels_come_in : OneChannelIsSound → FramesGoSo → AreBlocksKnown → MendedChannelsComeIn
+mended_channels_come_in sound laws known s mark ns until beta up is_beta channel switch t u of_channel mends all long le =
+    let sure = sound s u up.lawful in
+    let at = view_with s mark ns until u sure.0 beta up is_beta le sure.1 in
+    let v = view_of s u sure.0 beta at.cut.front in
+    mended laws known s mark ns until beta up is_beta channel switch t u of_channel mends sure.0 at
+    (λ m w block whole late. whole_master_sends known.goes v channel m w block at.is all whole late) long
+
+pub mended_relays_come_in : OneChannelIsSound → FramesGoSo → AreBlocksKnown → MendedRelaysComeIn
+mended_relays_come_in sound laws known s mark ns until beta up is_beta channel cm switch t u of_cm of_channel mends keeps long le =
+    let sure = sound s u up.lawful in
+    let at = view_with s mark ns until u sure.0 beta up is_beta le sure.1 in
+    let v = view_of s u sure.0 beta at.cut.front in
+    let kept : (next : ℕ) → next ≤ u + 1 → NoCliqueBefore v cm next = λ next to h state cause why i early body clique.
+    keeps.kept h state cause why (at.cut.inside h i) (omega (arith, early, to)) body clique in
+    mended laws known s mark ns until beta up is_beta channel switch t u of_channel mends sure.0 at
+    (λ m w block whole late. calm_master_sends known.goes v channel m w block cm at.is of_cm keeps.on
+    (kept block.before.next block.before.in_run) whole late) long
