@@ -10,12 +10,9 @@ use crate::network::{expected_at, precision};
 use crate::standpoint::shown;
 use net_plan::{DeviceId, Network};
 use run_law::Judgement;
-use sync_state::State;
 use sync_state::membership::count;
+use sync_state::{LAST_CYCLE, State};
 use tte_units::frames::Members;
-
-/// A frame of a later cycle is not used.
-const LAST_CYCLE: u32 = (1 << 20) + (1 << 17);
 
 /// How the device, in this state and with this adjustment, hears a frame of a cycle and members at a point.
 ///

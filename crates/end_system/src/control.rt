@@ -13,12 +13,9 @@ use net_plan::LinkId;
 use pcf_codec::PcfRefusal;
 use run_law::{Arrival, Reason, Ripe};
 use sync_state::membership::count;
-use sync_state::{State, Sync};
+use sync_state::{LAST_CYCLE, State, Sync};
 use tte_units::Units;
 use tte_units::frames::{Pcf, PcfKind};
-
-/// A frame of a later cycle is not used.
-const LAST_CYCLE: u32 = (1 << 20) + (1 << 17);
 
 /// What becomes of a frame that arrives by the link at the reading, at a device that takes part.
 pub fn arrival(own: &Own, reading: Units, link: LinkId, decoded: Result<Pcf, PcfRefusal>) -> Arrival

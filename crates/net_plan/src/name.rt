@@ -1,4 +1,4 @@
-ghost use Rattle.std.specs.Prelude.{◌≡◌, ◌↔◌, IsTrue};
+ghost use Rattle.std.specs.Prelude.{◌≡◌, ◌↔◌, ◌≤◌, IsTrue, length, take};
 ghost use Rattle.net_plan.specs.NameText.{IsNameText};
 
 use std::marker::Model;
@@ -41,6 +41,23 @@ impl Name {
             octets,
             len: name.len() as u8,
         }
+    }
+
+    /// The octets of the name's text, and behind them zeros, 16 in all.
+    #[inline(always)]
+    pub fn padded(&self) -> &[u8; ROOM]
+        ensures { take (length self.now) result.now ≡ self.now }
+    {
+        &self.octets
+    }
+
+    /// How many octets the name's text has: at most 16.
+    #[inline(always)]
+    pub fn count(&self) -> usize
+        ensures count { result ≡ length self.now }
+        ensures most { result ≤ 16 }
+    {
+        self.len as usize
     }
 
     /// The octets of the name's text.

@@ -7,3 +7,4 @@ pub mod SameWords
 pub mod SameBodies
 pub mod SameReports
 pub mod Short
+pub mod Counting

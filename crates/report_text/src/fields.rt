@@ -4,7 +4,7 @@ ghost use Rattle.net_plan.specs.Belonging.{HasDevice, HasLink, HasVl, device_nam
 ghost use Rattle.{net_plan.specs.Ranges.IsInRange, trace_text.specs.Steps.space, tte_io.specs.Line.line_limit};
 ghost use Rattle.report_text.specs.{NoteLine.{passage_words, stream_words}, NoteWords.members_text};
 
-use net_plan::{DeviceId, LinkId, Network, VlId};
+use net_plan::{DeviceId, LinkId, Name, Network, VlId};
 use tte_io::LineText;
 use tte_units::Units;
 use tte_units::frames::Members;
@@ -30,6 +30,16 @@ pub(crate) fn push_members(line: &mut LineText, members: Members)
     line.push_hex(&members.0.to_be_bytes());
 }
 
+// Adds a name, which takes at most 16 octets.
+#[inline(always)]
+fn push_name(line: &mut LineText, name: &Name)
+    requires { length line.old + 16 ≤ line_limit }
+    ensures text { line.new ≡ line.old ++ name.now }
+    ensures grows { length line.new ≤ length line.old + 16 }
+{
+    line.append_padded(name.padded(), name.count());
+}
+
 // Adds the word of a record's kind, and the device: at most 17 octets behind the word.
 pub(crate) fn push_device(line: &mut LineText, network: &Network, kind: &str, device: DeviceId)
     requires in_range { IsInRange network.now }
@@ -40,7 +50,7 @@ pub(crate) fn push_device(line: &mut LineText, network: &Network, kind: &str, de
 {
     line.push(kind);
     line.push(" ");
-    line.append(network.device_name(device));
+    push_name(line, &network.device.as_slice()[device.0 as usize].name);
 }
 
 // Adds the word of a record's kind, the device, the link and the cause: at most 55 octets behind the word.
@@ -62,7 +72,7 @@ pub(crate) fn push_passage(
 {
     push_device(line, network, kind, device);
     line.push(" ");
-    line.append(network.link_name(link));
+    push_name(line, &network.link.as_slice()[link.0 as usize].name);
     line.push(" ");
     line.push_decimal(cause);
 }
@@ -76,7 +86,7 @@ pub(crate) fn push_stream(line: &mut LineText, network: &Network, vl: VlId, cycl
     ensures grows { length line.new ≤ length line.old + 47 }
 {
     line.push(" vl ");
-    line.append(network.vl_name(vl));
+    push_name(line, &network.vl.as_slice()[vl.0 as usize].name);
     line.push(" cycle ");
     line.push_decimal(cycle.into());
 }

@@ -6,6 +6,7 @@ ghost use Rattle.run_law.specs.declared.note.NoteBody.TheVariants as bodies;
 
 use crate::fields::push_units;
 use crate::kinds::{push_body, push_event, push_plain};
+use crate::numbers::NumberText;
 use crate::times::TimeText;
 use net_plan::{Event, Network};
 use run_law::Note;
@@ -38,13 +39,14 @@ pub fn make_note_line(line: &mut LineText, network: &Network, note: &Note)
     line.push("\n");
 }
 
-/// Makes the line of a record of no event, ended by LF: its number, its time, and what it says. Its time's text is kept
-/// for the next record.
+/// Makes the line of a record of no event, ended by LF: its number, its time, and what it says. The texts of its time and
+/// its number are kept for the next record.
 ///
 /// The network is in its ranges, and the record's devices, links and virtual links are its own.
 pub fn make_plain_line(
     line: &mut LineText,
     times: &mut TimeText,
+    numbers: &mut NumberText,
     network: &Network,
     note: &PlainNote,
 )
@@ -53,7 +55,7 @@ pub fn make_plain_line(
     ensures { line.new ≡ note_line network.now note.now }
 {
     line.clear();
-    line.push_decimal(note.number);
+    numbers.push_in(line, note.number);
     line.push(" ");
     times.push_in(line, note.time);
     line.push(" ");

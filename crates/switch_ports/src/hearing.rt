@@ -5,13 +5,10 @@ ghost use Rattle.{switch_ports.specs.Standpoints.{IsPoint, IsSiteInRange}, sync_
 
 use crate::Site;
 use run_law::Ripe;
-use sync_state::State;
 use sync_state::membership::count;
+use sync_state::{LAST_CYCLE, State};
 use tte_units::Units;
 use tte_units::frames::Members;
-
-/// A frame of a later cycle is not used.
-const LAST_CYCLE: u32 = (1 << 20) + (1 << 17);
 
 impl Site {
     /// How the switch hears a compressed frame of a cycle and members at a point, in this state and

@@ -4,7 +4,6 @@ ghost use Rattle.tte_forms.specs.{Answering.{ForOctets, Gives}, Putting.{Over, P
 ghost use Rattle.tte_forms.specs.{Faults.{PutFailed, ReadFailed}, networks.Accepting.{MeansAccepted, MeansNetwork}};
 ghost use Rattle.tte_forms.specs.networks.NoNetworks.{IsNoNetwork, IsUnread, no_network_answer};
 
-pub(crate) mod fault_place;
 pub(crate) mod network_line;
 
 use crate::Status;

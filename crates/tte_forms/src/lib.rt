@@ -11,7 +11,6 @@ mod status;
 mod word;
 mod words;
 
-pub use accepting::fault_place::find_fault_in;
 pub use accepting::network_line::make_rule_line;
 pub use accepting::{NoNetwork, accept, accept_text, put_no_network, read_unjudged};
 pub use checking::check_network;

@@ -78,8 +78,18 @@ impl Held {
 
     /// Takes octets behind those that are held, and answers whether that went well. Where there is
     /// no room for them it writes out first.
+    #[inline(always)]
     pub(crate) fn take<R: Print>(&mut self, rt: &R, octets: &[u8]) -> bool {
-        if octets.len() > self.room_left() && !self.write_out(rt) {
+        if octets.len() <= self.room_left() {
+            self.append(octets);
+            return true;
+        }
+        self.take_more(rt, octets)
+    }
+
+    #[inline(never)]
+    fn take_more<R: Print>(&mut self, rt: &R, octets: &[u8]) -> bool {
+        if !self.write_out(rt) {
             return false;
         }
         if octets.len() > self.room_left() {

@@ -1,4 +1,4 @@
-ghost use Rattle.std.specs.Prelude.{◌≡◌, ◌≤◌, ◌+◌, ◌*◌, ◌↔◌, [], ◌∷◌, ◌++◌, length, decimal, IsTrue};
+ghost use Rattle.std.specs.Prelude.{◌≡◌, ◌≤◌, ◌+◌, ◌*◌, ◌↔◌, [], ◌∷◌, ◌++◌, length, decimal, take, IsTrue};
 ghost use Rattle.{hex.specs.Hex.encode_lower, tte_io.specs.Line.line_limit};
 
 use crate::digits::digit_count;
@@ -66,6 +66,19 @@ impl LineText {
         let end = self.len + octets.len();
         self.octets[self.len..end].copy_from_slice(octets);
         self.len = end;
+    }
+
+    /// Adds the first `count` octets of a text that is padded to N, for which there is room.
+    #[inline(always)]
+    pub fn append_padded<const N: usize>(&mut self, octets: &[u8; N], count: usize)
+        requires count { count ≤ N }
+        requires room { length self.old + N ≤ line_limit }
+        ensures text { self.new ≡ self.old ++ take count octets.now }
+        ensures grows { length self.new ≡ length self.old + count }
+    {
+        let end = self.len + N;
+        self.octets[self.len..end].copy_from_slice(octets);
+        self.len += count;
     }
 
     /// Adds a text, for which there is room.

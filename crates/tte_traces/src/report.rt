@@ -5,7 +5,7 @@ ghost use Rattle.{report_text.specs.Ranges.IsNoteOf, tte_io.specs.{Faults.{Rose,
 
 use drift_world::EventNote;
 use net_plan::{Event, Network};
-use report_text::{TimeText, make_event_line, make_plain_line};
+use report_text::{NumberText, TimeText, make_event_line, make_plain_line};
 use run_law::plain::PlainNote;
 use tte_io::{LineText, Sink};
 use tte_units::Units;
@@ -19,6 +19,7 @@ pub(crate) struct Report {
     text: LineText,
     /// The text of the last record's time.
     times: TimeText,
+    numbers: NumberText,
 }
 
 impl Report {
@@ -27,6 +28,7 @@ impl Report {
         Report {
             text: LineText::new(),
             times: TimeText::new(),
+            numbers: NumberText::new(),
         }
     }
 }
@@ -35,6 +37,7 @@ impl Report {
 fn put_note<K: Sink>(
     text: &mut LineText,
     times: &mut TimeText,
+    numbers: &mut NumberText,
     network: &Network,
     note: &PlainNote,
     out: &mut K,
@@ -48,7 +51,7 @@ fn put_note<K: Sink>(
     ensures counted { K.puts out.new ≡ next_count (K.puts out.old) }
     ensures cut { IfErr result (λ cut. cut ≡ Cut.WriteFault) }
 {
-    make_plain_line(text, times, network, note);
+    make_plain_line(text, times, numbers, network, note);
     match out.put(text.as_slice()) {
         Ok(()) => Ok(()),
         Err(_) => Err(Cut::WriteFault),
@@ -92,7 +95,14 @@ impl<K: Sink> Observer<K> for Report {
         note: &PlainNote,
         out: &mut K,
     ) -> Result<bool, Cut> {
-        match put_note(&mut self.text, &mut self.times, network, note, out) {
+        match put_note(
+            &mut self.text,
+            &mut self.times,
+            &mut self.numbers,
+            network,
+            note,
+            out,
+        ) {
             Ok(()) => Ok(false),
             Err(cut) => Err(cut),
         }

@@ -1,13 +1,10 @@
 -- How a device hears a compressed frame.
+pub use Rattle.sync_state.specs.Integration.{last_cycle}
 use Rattle.std.specs.Prelude.{if◌then◌else◌, ◌&&◌, ◌+ℤ◌, ◌+◌, ◌-ℤ◌, ◌^◌, Bool, int_le, nat_le, ℕ, ℤ}
 use Rattle.run_law.specs.declared.judgement.Judgement.{Judgement, TheVariants.{Ignored, Integrates, Outside, Within}}
 use Rattle.sync_state.specs.{Plan.expected_at, membership.Members.count_of}
 use Rattle.{sync_state.specs.declared.plan.SyncPlan.SyncPlan, tte_units.specs.declared.frames.members.Members.Members}
 use Rattle.sync_state.specs.declared.state.State.{State, TheVariants.{Integrating, Joining, Off, Synchronised}}
-
--- the last cycle of a frame that is used
-abbrev pub last_cycle : ℕ
-last_cycle = 2 ^ 20 + 2 ^ 17
 
 -- is the local value where the frame of the cycle is expected, up to the precision?
 abbrev pub is_in_schedule : SyncPlan → ℤ → ℕ → ℤ → Bool

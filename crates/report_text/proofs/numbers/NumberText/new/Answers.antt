@@ -1,0 +1,5 @@
+use Rattle.std.{proofs.{Common.{arith, sym}, lemmas.Fmt.decimal_digit}}
+use Rattle.report_text.proofs.numbers.NumberText.new.Goals as goal
+
+pub invariant_of-result : goal.invariant_of-result
+invariant_of-result c = (sym (decimal_digit 0 (omega arith)), omega arith, omega arith)
