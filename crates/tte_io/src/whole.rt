@@ -1,6 +1,6 @@
 ghost use Rattle.std.specs.Io.KnownBytes.{Consumes, IsAtEnd};
-ghost use Rattle.std.specs.Prelude.{◌<◌, ◌≡◌, ◌≢◌, ◌≤◌, Err, IfOk, IfSome, OnOk, length};
-ghost use Rattle.tte_io.specs.{Faults.Rose, Whole.{TakesSome, TakesTooMany}};
+ghost use Rattle.std.specs.Prelude.{◌+◌, ◌<◌, ◌≡◌, ◌≢◌, ◌≤◌, Err, IfOk, IfSome, OnOk, length};
+ghost use Rattle.tte_io.specs.{Faults.Rose, Whole.{TakesAtMost, TakesTooMany, excess_limit}};
 
 use crate::Source;
 use std::alloc::Global;
@@ -56,7 +56,7 @@ pub fn read_all<S: Source>(alloc: Global, source: &mut S, limit: u64) -> Result<
         → TakesTooMany (S.left source.old) (S.left source.new) limit }
     ensures too_long_left { result ≡ Err ReadAll.TooLong
         → IfSome (S.left source.old) (λ left. limit < length left) }
-    ensures taken { TakesSome (S.left source.old) (S.left source.new) }
+    ensures taken { TakesAtMost (S.left source.old) (S.left source.new) (limit + excess_limit) }
 
     ensures fault { result ≡ Err ReadAll.Fault → Rose (S.faults source.old) (S.faults source.new) }
     ensures no_fault { result ≢ Err ReadAll.Fault → S.faults source.new ≡ S.faults source.old }

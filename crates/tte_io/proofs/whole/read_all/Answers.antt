@@ -16,8 +16,20 @@ returns-then-count-limit-clause-too_long_left g c is = too_many-left _ _ c.args.
 
 pub returns-then-count-limit-clause-taken : goal.returns-then-count-limit-clause-taken
 returns-then-count-limit-clause-taken g c =
-    (c.pieces.octets.items ++ take c.in-Ok.count c.read.new.buf, Consumes-trans _ _ _ _ _ c.pieces.invariant.taken c.in-Ok.ensures.octets.0)
+    let before = c.pieces.octets.items in
+    let piece = take c.in-Ok.count c.read.new.buf in (
+      before ++ piece,
+      let came = length-take c.in-Ok.count c.read.new.buf in
+          omega (arith, length-append before piece, came, c.read.auto.buf, c.pieces.invariant.within),
+      Consumes-trans _ _ _ _ _ c.pieces.invariant.taken c.in-Ok.ensures.octets.0,
+    )
 
 pub returns-then-is_err-clause-taken : goal.returns-then-is_err-clause-taken
 returns-then-is_err-clause-taken g c =
-    (c.pieces.octets.items ++ take c.in-Ok.count c.read.new.buf, Consumes-trans _ _ _ _ _ c.pieces.invariant.taken c.in-Ok.ensures.octets.0)
+    let before = c.pieces.octets.items in
+    let piece = take c.in-Ok.count c.read.new.buf in (
+      before ++ piece,
+      let came = length-take c.in-Ok.count c.read.new.buf in
+          omega (arith, length-append before piece, came, c.read.auto.buf, c.pieces.invariant.within),
+      Consumes-trans _ _ _ _ _ c.pieces.invariant.taken c.in-Ok.ensures.octets.0,
+    )
