@@ -30,6 +30,33 @@ pub(crate) fn push_members(line: &mut LineText, members: Members)
     line.push_hex(&members.0.to_be_bytes());
 }
 
+// The name of a device of the network.
+#[inline(always)]
+fn device_name(network: &Network, device: DeviceId) -> &Name
+    requires { HasDevice network.now device }
+    ensures { result.now ≡ device_name network.now device }
+{
+    &network.device.as_slice()[device.0 as usize].name
+}
+
+// The name of a link of the network.
+#[inline(always)]
+fn link_name(network: &Network, link: LinkId) -> &Name
+    requires { HasLink network.now link }
+    ensures { result.now ≡ link_name network.now link }
+{
+    &network.link.as_slice()[link.0 as usize].name
+}
+
+// The name of a virtual link of the network.
+#[inline(always)]
+fn vl_name(network: &Network, vl: VlId) -> &Name
+    requires { HasVl network.now vl }
+    ensures { result.now ≡ vl_name network.now vl }
+{
+    &network.vl.as_slice()[vl.0 as usize].name
+}
+
 // Adds a name, which takes at most 16 octets.
 #[inline(always)]
 fn push_name(line: &mut LineText, name: &Name)
@@ -50,7 +77,7 @@ pub(crate) fn push_device(line: &mut LineText, network: &Network, kind: &str, de
 {
     line.push(kind);
     line.push(" ");
-    push_name(line, &network.device.as_slice()[device.0 as usize].name);
+    push_name(line, device_name(network, device));
 }
 
 // Adds the word of a record's kind, the device, the link and the cause: at most 55 octets behind the word.
@@ -72,7 +99,7 @@ pub(crate) fn push_passage(
 {
     push_device(line, network, kind, device);
     line.push(" ");
-    push_name(line, &network.link.as_slice()[link.0 as usize].name);
+    push_name(line, link_name(network, link));
     line.push(" ");
     line.push_decimal(cause);
 }
@@ -86,7 +113,7 @@ pub(crate) fn push_stream(line: &mut LineText, network: &Network, vl: VlId, cycl
     ensures grows { length line.new ≤ length line.old + 47 }
 {
     line.push(" vl ");
-    push_name(line, &network.vl.as_slice()[vl.0 as usize].name);
+    push_name(line, vl_name(network, vl));
     line.push(" cycle ");
     line.push_decimal(cycle.into());
 }
