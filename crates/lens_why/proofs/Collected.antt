@@ -2,20 +2,22 @@
 use Rattle.{audit_devices.specs.Effects.carried_by, compression.proofs.Sound.open_at-some, run_law.{proofs.records.Order.after_more, specs.records.Order.IsIn}}
 use Rattle.{audit_devices.specs.Keeping.records_before, compression.proofs.{Rows.last_split, Taking.role_in-joined}, tte_units.specs.declared.units.Units.Units}
 use Rattle.{audit_devices.specs.declared.effect.Carried.Carried, audit_law.proofs.collections_lemmas.Stepping.{AreBefore, are-ignored, are-joined, are-opened}}
-use Rattle.{compression.proofs.{Elements.{Ordered, Ordered-from}, Standing.AreClusters-unique}, std.proofs.lemmas.List.{Elements.filter_map-append, append-nil}}
+use Rattle.{compression.proofs.{Elements.{Ordered, Ordered-from}, Standing.AreClusters-unique}, std.proofs.lemmas.List.{Elements.{All-nil, filter_map-append}, append-nil}}
 use Rattle.{compression.specs.Clusters.{AreClusters, Cluster, Point}, tte_reports.specs.Reports.IsReportOf}
 use Rattle.{compression.specs.{Collection.{joined, opening}, declared.taken.Taken.Taken}, std.specs.Prelude.{filter_map, fold, option_map, take}}
 use Rattle.compression.specs.Role.{open_at, role}
 use Rattle.{compression.specs.declared.taken.Taken.TheVariants.{Joined, Opened, OtherCycle, Repeat}, lens_why.specs.declared.collecting.Collection.Collection}
 use Rattle.{lens_why.proofs.LastRecords.{before_number, own_at}, run_law.specs.declared.note.Note.Note, std.proofs.lemmas.List.Sums.fold_push}
 use Rattle.run_law.specs.device.States.{cycle_in}
+use Rattle.precision_law.proofs.records.Behind.{after_last_at}
+use Rattle.std.{proofs.lemmas.{Bool.cases_Bool, Int.ints}, specs.Prelude.not}
 use Rattle.{lens_why.specs.Records.IsThere, run_law.specs.records.Happenings.{Happening, happenings}}
 use Rattle.lens_why.specs.Collections.{LastIsOfClusters, behind_point, collected_ground, last_collection, last_of, taken_to, told_of}
 use Rattle.{lens_why.specs.declared.ground.Ground.TheVariants.Collected, std.specs.List.{AllByRecursion, after_last, cons_option, last_or}}
 use Rattle.{net_plan.specs.declared.{ids.DeviceId.DeviceId, network.Network.Network}, tte_units.proofs.general_lemmas.Lists.last_pushed}
 use Rattle.run_law.specs.{control.Collections.{ends_stretch, master_of, observation_window, point_by, points_of}, records.Ranks.{members_in, place_of}}
 use Rattle.std.proofs.Common.{◌++◌, ◌+◌, ◌-◌, ◌<◌, ◌∙◌, ◌∷◌, ◌≡◌, ◌≤ℤ◌, ◌≤◌, List, None, Option, Some, [], ap, append_assoc, arith, false, inl, inr, pos, refl}
-use Rattle.std.proofs.Common.{subst, sym, ℕ, ℤ}
+use Rattle.std.proofs.Common.{subst, sym, true, ℕ, ℤ}
 
 -- ---- one more record
 
@@ -110,6 +112,56 @@ last_is_of_clusters ow points clusters some up are =
     let none : IsLastOf ow [] None = record { clusters = []; are = tt; is = refl } in
     let all = all_points ow [] points None some none (rises_from [] points (Ordered-from points up)) in
     all.is ∙ ap (λ (cs : List Cluster). last_or None cs) (AreClusters-unique ow points all.clusters clusters all.are are)
+
+-- ---- the stretch of a device
+
+-- none of its points is later than the next
+abbrev pub ComeInOrder : DeviceId → List Happening → Type 0
+ComeInOrder d hs = (ps qs : List Happening) (x : Happening) (p : Point) → hs ≡ ps ++ x ∷ qs → ends_stretch d x.note.body ≡ false
+    → point_by d x x.note.body ≡ Some p → AreBefore (points_of ps d) p.reading
+
+-- the last collection of these records is the last of the clusters of their points
+abbrev Stands : Network → DeviceId → List Happening → Type 0
+Stands network d hs = IsLastOf (observation_window network) (points_of hs d) (last_collection network d hs)
+
+ended_there : (network : Network) (d : DeviceId) (hs : List Happening) (x : Happening) → ends_stretch d x.note.body ≡ true → Stands network d (hs ++ x ∷ [])
+ended_there network d hs x ends =
+    let none : points_of (hs ++ x ∷ []) d ≡ [] = ap (filter_map (λ y. point_by d y y.note.body))
+    (after_last_at (λ y. ends_stretch d y.note.body) hs x [] ends (All-nil (λ y. not (ends_stretch d y.note.body) ≡ true))) in
+    subst (λ (ps : List Point). IsLastOf (observation_window network) ps (last_of (observation_window network) ps)) (sym none)
+    (record { clusters = []; are = tt; is = refl })
+
+went_further : (network : Network) (d : DeviceId) (hs : List Happening) (x : Happening) (o : Option Point) → Stands network d hs
+    → ends_stretch d x.note.body ≡ false → point_by d x x.note.body ≡ o → ((p : Point) → o ≡ Some p → AreBefore (points_of hs d) p.reading)
+    → Stands network d (hs ++ x ∷ [])
+went_further network d hs x None so on given rises =
+    let same : points_of (hs ++ x ∷ []) d ≡ points_of hs d = went_on hs x d on ∙ ap (λ (o : Option Point). points_of hs d ++ cons_option o []) given
+    ∙ append-nil (points_of hs d) in
+    subst (λ (ps : List Point). IsLastOf (observation_window network) ps (last_of (observation_window network) ps)) (sym same) so
+went_further network d hs x (Some p) so on given rises =
+    let ow = observation_window network in
+    let more : points_of (hs ++ x ∷ []) d ≡ points_of hs d ++ p ∷ [] = went_on hs x d on
+    ∙ ap (λ (o : Option Point). points_of hs d ++ cons_option o []) given in
+    let one = one_point ow (points_of hs d) so.clusters p (omega (arith, ints)) so.are (rises p refl) (role so.clusters p) refl in
+    let next : IsLastOf ow (points_of hs d ++ p ∷ []) (behind_point ow (last_collection network d hs) p) =
+    subst (λ (o : Option Cluster). IsLastOf ow (points_of hs d ++ p ∷ []) (behind_point ow o p)) (sym so.is) one in
+    subst (λ (ps : List Point). IsLastOf ow ps (last_of ow ps)) (sym more)
+    (subst (IsLastOf ow (points_of hs d ++ p ∷ [])) (sym (fold_push (behind_point ow) None (points_of hs d) p)) next)
+
+all_stand : (network : Network) (d : DeviceId) (all ps qs : List Happening) → ComeInOrder d all → all ≡ ps ++ qs → Stands network d ps → Stands network d all
+all_stand network d all ps [] rises parts so = subst (Stands network d) (sym (parts ∙ append-nil ps)) so
+all_stand network d all ps (x ∷ qs) rises parts so =
+    let next : Stands network d (ps ++ x ∷ []) = elim (cases_Bool (ends_stretch d x.note.body)) [
+      | inl ends ↦ ended_there network d ps x ends
+      | inr on ↦ went_further network d ps x (point_by d x x.note.body) so on refl (λ p given. rises ps qs x p parts on given)
+    ] in
+    all_stand network d all (ps ++ x ∷ []) qs rises (parts ∙ sym (append_assoc ps (x ∷ []) qs)) next
+
+pub last_stands : (network : Network) (d : DeviceId) (hs : List Happening) (clusters : List Cluster) → ComeInOrder d hs
+    → AreClusters (observation_window network) (points_of hs d) clusters → last_collection network d hs ≡ last_or None clusters
+last_stands network d hs clusters rises are =
+    let all = all_stand network d hs [] hs rises refl (record { clusters = []; are = tt; is = refl }) in
+    all.is ∙ ap (λ (cs : List Cluster). last_or None cs) (AreClusters-unique (observation_window network) (points_of hs d) all.clusters clusters all.are are)
 
 -- ---- the records of a report
 

@@ -6,7 +6,7 @@ use Rattle.{net_plan.specs.declared.{ids.{DeviceId.DeviceId, LinkId.LinkId}, net
 use Rattle.run_law.{proofs.law.FirstPlaces.{founded_at, numbered_front, numbered_in}, specs.records.Happenings.{Happening, frame_by, numbered, time_of}}
 use Rattle.run_law.specs.{control.Leaving.{Departs, Gives, clock_at_leaving, leaves, on_cut_way, too_old}, scenario.Ways.{hold_at, is_cut, way_from}}
 use Rattle.run_law.specs.{declared.note.Note.Note, records.{Causes.cause_of, Ranks.place_of}, runs.Runs.IsFounded, scenario.Scenarios.Scenario}
-use Rattle.std.proofs.Common.{◌-◌, ◌∙◌, ◌∷◌, ◌≡◌, Bool, List, Option, Some, ap, arith, false, refl, subst, sym, true, ℕ}
+use Rattle.std.proofs.Common.{◌+◌, ◌-◌, ◌∙◌, ◌∷◌, ◌≡◌, Bool, List, Option, Some, ap, arith, false, refl, subst, sym, true, ℕ}
 use Rattle.run_law.specs.declared.note.NoteBody.TheVariants as notes
 
 -- what leaves has the clock of its leaving
@@ -28,8 +28,8 @@ given_clock network before other device link frame gives e = absurd gives
 -- the record that gave a frame which leaves, how long its way held it, and how much of that was measured
 pub record IsHeldBy (s : Scenario) (hs : List Happening) (device : DeviceId) (link : LinkId) (t cause clock : ℕ) (giving : Happening) : Type 0 where
   pub there : numbered hs cause ≡ Some giving
-  pub held : t - time_of giving ≡ hold_at s link (way_from s.network device link) (time_of giving)
-  pub measured : clock - clock_given giving.note.body ≡ s.reading device t - s.reading device (time_of giving)
+  pub held : t ≡ time_of giving + hold_at s link (way_from s.network device link) (time_of giving)
+  pub measured : clock ≡ clock_given giving.note.body + (s.reading device t - s.reading device (time_of giving))
 
 pub held_by : (s : Scenario) (hs : List Happening) → IsFounded place_of (IsDue s) hs → (n : ℕ) (h : Happening) (device : DeviceId) (link : LinkId)
     (cause clock : ℕ) → numbered hs n ≡ Some h → h.note.body ≡ notes.Left device link cause clock
@@ -64,9 +64,12 @@ held_is s hs h note giving device link cause clock result from is told =
     ∙ ap (λ (o : Option Happening). option_map (λ (x : Happening). x.note) o) by.1.there in
     let time : amount note.time ≡ time_of h = ap (λ (n : Note). amount n.time) from.is in
     let said = told g.note (from.from ∙ of_cause) in
-    let held : amount note.time - amount g.note.time ≡ hold_at s link (way_from s.network device link) (time_of g) =
-    ap (λ (t : ℕ). t - time_of g) time ∙ by.1.held in
+    let long = hold_at s link (way_from s.network device link) (time_of g) in
+    let later = by.1.held in
+    let sum = by.1.measured in
+    let held : amount note.time - amount g.note.time ≡ long = omega (arith, time, later) in
+    let measured : clock - clock_given g.note.body ≡ s.reading device (time_of h) - s.reading device (time_of g) = omega (arith, sum) in
     said
     ∙ ap (λ (t : ℕ). Held t (clock - clock_given g.note.body)) held
-    ∙ ap (λ (m : ℕ). Held (hold_at s link (way_from s.network device link) (time_of g)) m) by.1.measured
+    ∙ ap (λ (m : ℕ). Held (hold_at s link (way_from s.network device link) (time_of g)) m) measured
     ∙ sym (ap (λ (b : NoteBody). ground_by s hs h b) body ∙ ap (held_ground s device link (time_of h)) by.1.there)

@@ -19,3 +19,7 @@ pub mod Whole
 pub mod Within
 pub mod Naming
 pub mod BestThere
+pub mod Permanents
+pub mod Cutting
+pub mod Losing
+pub mod Deciding

@@ -1,13 +1,15 @@
 -- The records that a ground names stand earlier in the report.
 use Rattle.{audit_devices.specs.Keeping.records_before, lens_why.specs.{Collections.collected_ground, declared.ground.Ground.Ground}}
 use Rattle.{compression.proofs.Rows.last_split, run_law.specs.runs.DueRecords.IsDue, tte_audit.specs.Report.scenario_of, tte_reports.specs.Reports.IsReportOf}
+use Rattle.lens_why.{proofs.{Cutting.{IsCutBy, cut_or_whole}, Losing.some_number}, specs.Seeking.cut_by}
+use Rattle.net_plan.specs.declared.tables.Way.{Way}
 use Rattle.{lens_why.proofs.LastRecords.parted_there, run_law.specs.scenario.{Devices.is_relay, Scenarios.Scenario}, tte_units.specs.declared.units.Units.Units}
 use Rattle.lens_why.specs.Corrections.{channel_ground, clique_ground, corrected_ground, heard_at_point, is_clique, said_by, told_by, told_on, value_of}
 use Rattle.lens_why.specs.Grounds.{beside_ground, dispatch_ground, dropped_ground, entry_given, ground_by, held_ground, is_by_schedule, is_collected}
 use Rattle.lens_why.specs.Grounds.{length_ground, places_ground, position_at, repeat_ground, row_of, scheduled_ground, unknown_ground, window_ground}
 use Rattle.{lens_why.specs.Laws.{IsEarlier, NamesEarlier, best_number, named_in, told_number}, sync_state.specs.declared.membership.frame.HeardFrame.HeardFrame}
 use Rattle.{lens_why.specs.{Seeking.{is_sought, last_sought}, declared.seeking.Coming.Coming}, net_plan.specs.declared.ids.{DeviceId.DeviceId, LinkId.LinkId}}
-use Rattle.lens_why.specs.declared.{ground.Ground.TheVariants.{Gate, Untold}, seeking.Sought.{Sought, TheVariants.{Cut, Frame, Opening, Taking, Turning}}}
+use Rattle.lens_why.specs.declared.{ground.Ground.TheVariants.{Gate, Untold}, seeking.Sought.{Sought, TheVariants.{Frame, Opening, Taking, Turning}}}
 use Rattle.{net_plan.specs.declared.network.Network.Network, schedule_tables.specs.declared.entry.Entry.Entry, std.proofs.Common.{refl, subst, sym, true, ℕ, ℤ}}
 use Rattle.run_law.{proofs.law.FirstPlaces.{by_number, front_founded, in_filter, numbered_front, numbered_within}, specs.declared.judgement.Reason.Reason}
 use Rattle.run_law.{proofs.runs.Places.{in_parts, in_right}, specs.{declared.note.{Note.Note, NoteBody.NoteBody}, device.States.adjustment_before}}
@@ -59,6 +61,29 @@ module _ (network : Network) (octets : List ℕ) (ns : List Note) (end : Units) 
   earlier_by sought =
       let p = parted_there network octets ns end of number h there in
       subst (λ (hs : List Happening). IsEarlier all h (last_sought network sought hs)) (sym p.are) (in_front sought p.before p.later p.parts)
+
+  -- the one that cut a way is none, or stands earlier
+  pub cut_earlier : (link : LinkId) (way : Way) → IsEarlier all h (cut_by link way (records_before (place_of h) all))
+  cut_earlier link way =
+      let p = parted_there network octets ns end of number h there in
+      subst (λ (hs : List Happening). IsEarlier all h (cut_by link way hs)) (sym p.are)
+      (elim (cut_or_whole link way p.before (some_number network octets ns end of number h there)) [
+        | inl whole ↦ inl whole.0
+        | inr cut ↦ by p.before p.later p.parts (cut_by link way p.before) cut.0
+      ])
+    where
+      by : (before later : List Happening) → all ≡ before ++ h ∷ later → (since : ℕ) → IsCutBy link way before since → IsEarlier all h since
+      by before later parts since cut =
+          let g = cut.cutting in
+          let i : IsIn g before = subst (IsIn g) (sym cut.parts) (in_right g cut.front (g ∷ cut.between) (inl refl)) in
+          let due = (of.run.founded before later h parts).1 in
+          let founded = front_founded place_of (IsDue own) before (h ∷ later) (subst (IsFounded place_of (IsDue own)) parts of.run.founded) in
+          let found = by_number own before g founded i in
+          let whole : numbered all g.note.number ≡ Some g = subst (λ (hs : List Happening). numbered hs g.note.number ≡ Some g) (sym parts)
+          (numbered_front before (h ∷ later) g.note.number g found) in
+          let within = numbered_within before g.note.number g found in
+          let is = cut.number in
+          inr (g, subst (λ (n : ℕ). numbered all n ≡ Some g) (sym is) whole, omega (arith, is, within, due.number))
 
   -- the records that it names stand earlier
   abbrev Names : Ground → Type 0
@@ -168,7 +193,7 @@ module _ (network : Network) (octets : List ℕ) (ns : List Note) (end : Units) 
   of_dropped device link cause o reasons.Repeat n i = of_repeat device link cause (entry_given network device link o) n i
   of_dropped device link cause o reasons.Length n i = of_length (option_map_or (λ (g : Happening). length g.octets) o 0) (entry_given network device link o) n i
   of_dropped device link cause o reasons.Unknown n i = of_unknown o n i
-  of_dropped device link cause o reasons.Unsynchronised n i = one (Turning device) n i
+  of_dropped device link cause o reasons.Unsynchronised n i = one (Turning device (time_of h)) n i
   of_dropped device link cause o reasons.Gate n i = of_gate (clock_of (standpoint own all device (time_of h))) (is_relay network device) n i
   of_dropped device link cause o other n i = absurd i
 
@@ -184,7 +209,8 @@ module _ (network : Network) (octets : List ℕ) (ns : List Note) (end : Units) 
   names_by (notes.Compressed device opened at cycle members verdict) n i = one (Opening device opened) n i
   names_by (notes.Corrected device cycle by adjustment) n i = of_corrected device cycle n i
   names_by (notes.State device state cause why) n i = of_state device (is_clique why) n i
-  names_by (notes.Lost device link cause) n i = one (Cut link (way_from network device link)) n i
+  names_by (notes.Lost device link cause) n (inl same) = subst (IsEarlier all h) (sym same) (cut_earlier link (way_from network device link))
+  names_by (notes.Lost device link cause) n (inr none) = absurd none
   names_by (notes.Permanent device link cause point verdict) n i = of_permanent device point (is_by_schedule verdict) (is_collected verdict) n i
   names_by (notes.Clock device reading adjustment state) n i = absurd i
 

@@ -4,11 +4,11 @@ use Rattle.std.specs.Prelude.{◌&&◌, ◌*◌, ◌+ℤ◌, ◌+◌, ◌-ℤ◌
 use Rattle.std.specs.Prelude.{if◌then◌else◌, length, option_and_then, pos, position, slice_get, true, ℕ, ℤ}
 use Rattle.{audit_devices.specs.Keeping.records_before, run_law.specs.scenario.Ways.{hold_at, way_from}}
 use Rattle.{lens_why.specs.Collections.{collected_ground, sent_ground}, net_plan.specs.declared.network.Network.Network}
-use Rattle.lens_why.specs.{Corrections.{clique_ground, corrected_ground, is_clique}, Seeking.last_sought}
+use Rattle.lens_why.specs.{Corrections.{clique_ground, corrected_ground, is_clique}, Seeking.{cut_by, last_sought}}
 use Rattle.lens_why.specs.declared.ground.Ground.TheVariants.{Clock, CutBy, Dispatched, Gate, Heard, Held, Length, Line}
 use Rattle.lens_why.specs.declared.ground.Ground.TheVariants.{Local, Missed, Reading, Taken, Unknown, Unsynchronised}
 use Rattle.lens_why.specs.declared.ground.Ground.{Ground, TheVariants.{Untold, Window}}
-use Rattle.lens_why.specs.declared.seeking.{Coming.Coming, Sought.TheVariants.{Cut, Taking, Turning}}
+use Rattle.lens_why.specs.declared.seeking.{Coming.Coming, Sought.TheVariants.{Taking, Turning}}
 use Rattle.{net_plan.specs.declared.ids.{DeviceId.DeviceId, VlId.VlId}, run_law.specs.declared.note.NoteBody.NoteBody}
 use Rattle.{net_plan.specs.declared.ids.LinkId.LinkId, tte_units.specs.{Amount.amount, declared.units.Units.Units}}
 use Rattle.{pcf_codec.specs.Fields.field, sync_state.specs.Plan.expected_at}
@@ -100,11 +100,11 @@ unknown_ground network None = Untold
 unknown_ground network (Some giving) = Unknown (field 0 4 giving.octets) network.marker (field 4 2 giving.octets)
 
 -- something is dropped with this record by the device, which has no common time: its state, and the last record before
--- by which it came to one
+-- by which it came to it
 abbrev pub unsynchronised_ground : Scenario → List Happening → Happening → DeviceId → Ground
 unsynchronised_ground s hs h device =
     Unsynchronised (state_before s hs device (time_of h))
-    (last_sought s.network (Turning device) (records_before (place_of h) hs))
+    (last_sought s.network (Turning device (time_of h)) (records_before (place_of h) hs))
 
 -- a frame comes to the device where its local clock shows this, and a relay's gate is shut: how far beyond the opening
 -- of the gate that is, and up to where the gate is open
@@ -171,10 +171,10 @@ permanent_ground s hs device point verdict h =
 abbrev pub state_ground : Scenario → List Happening → Happening → DeviceId → Why → Ground
 state_ground s hs h device why = if is_clique why then clique_ground s hs h device else Untold
 
--- the frame meets a cut way when the device gives it to the link: the last record before that tells of the cut
+-- the frame meets a cut way when the device gives it to the link: the record before that cut it
 abbrev pub lost_ground : Network → List Happening → Happening → DeviceId → LinkId → Ground
 lost_ground network hs h device link =
-    CutBy (last_sought network (Cut link (way_from network device link)) (records_before (place_of h) hs))
+    CutBy (cut_by link (way_from network device link) (records_before (place_of h) hs))
 
 -- the ground of a record of this body: the line of the trace that has the event; the beginning of the cycle, which the
 -- clock of a master came to; how long a frame was held; a frame's transparent clock, and the greatest that is taken;

@@ -7,3 +7,4 @@ pub mod Lines
 pub mod Answer
 pub mod Records
 pub mod Laws
+pub mod Decisions

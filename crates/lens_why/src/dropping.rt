@@ -264,7 +264,7 @@ fn unknown(index: &Index, network: &Network, number: u64) -> Ground
     }
 }
 
-/// The state of the device, which has no common time, and the last record before by which it came to one.
+/// The state of the device, which has no common time, and the last record before by which it came to it.
 fn unsynchronised(report: &AuditedReport, network: &Network, passage: Passage) -> Ground
     requires named { IsNamed network.now }
     requires read { IsRead network.now report.now }
@@ -274,14 +274,13 @@ fn unsynchronised(report: &AuditedReport, network: &Network, passage: Passage) -
         → h.note.time ≡ passage.time → result
         ≡ unsynchronised_ground (scenario_of network.now notes) (happenings network.now notes) h passage.device }
 {
-    let state = report
-        .index
-        .state_before(network, passage.device, magnitude(passage.time));
+    let time = magnitude(passage.time);
+    let state = report.index.state_before(network, passage.device, time);
     let since = last_before(
         report,
         network,
         passage.number,
-        Sought::Turning(passage.device),
+        Sought::Turning(passage.device, time),
     );
     Ground::Unsynchronised(state, since)
 }

@@ -17,7 +17,7 @@ ghost use Rattle.{tte_reports.specs.Reports.IsReportOf, tte_units.specs.declared
 use crate::collecting::{Collection, collected, sent_for};
 use crate::correcting::{clique, corrected};
 use crate::dropping::{Passage, dropped};
-use crate::seeking::{Sought, last_before};
+use crate::seeking::cut_before;
 use audit_sweep::records::wires::way_from;
 use audit_sweep::{Index, Permanence};
 use device_rules::joined_adjustment;
@@ -89,7 +89,7 @@ pub enum Ground {
     Length(u64, u64),
     /// The marker of a frame, that of the network, and the id of the virtual link that the frame names.
     Unknown(u32, u32, u16),
-    /// The state of a device, and the number of the last record before by which it came to one, or 0.
+    /// The state of a device, and the number of the last record before by which it came to it, or 0.
     Unsynchronised(State, u64),
     /// How far beyond the opening of a relay's gate its clock stands, and up to where the gate is open.
     Gate(i128, u128),
@@ -360,7 +360,7 @@ fn is_clique(why: Why) -> bool
     matches!(why, Why::SyncClique | Why::AsyncClique)
 }
 
-/// The last record before that of the number, of a frame that the device gave to the link, by which the way was cut.
+/// The record before that of the number, of a frame that the device gave to the link, by which the way was cut.
 fn lost(
     report: &AuditedReport,
     network: &Network,
@@ -374,8 +374,8 @@ fn lost(
         → IsReportOf network.now report.now.octets notes end → IsThere network.now notes number h
         → result ≡ lost_ground network.now (happenings network.now notes) h device link }
 {
-    let sought = Sought::Cut(link, way_from(network, device, link));
-    Ground::CutBy(last_before(report, network, number, sought))
+    let way = way_from(network, device, link);
+    Ground::CutBy(cut_before(report, network, number, link, way))
 }
 
 /// How many units these are, without their sign.

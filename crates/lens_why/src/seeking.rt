@@ -4,7 +4,8 @@ ghost use Rattle.{audit_devices.specs.Effects.carried_by, audit_sweep.specs.Inde
 ghost use Rattle.{tte_audit.specs.Named.IsNamed, tte_reports.specs.Commands.IsRead};
 ghost use Rattle.{audit_devices.specs.Keeping.records_before, run_law.specs.control.Corrections.{heard_by, hearing_by}};
 ghost use Rattle.{lens_why.specs.Records.IsThere, tte_units.specs.declared.units.Units.{Units as UnitsValue}};
-ghost use Rattle.lens_why.specs.Seeking.{is_channel, is_frame, is_hearing_of, is_sought, last_sought, opens, turns};
+ghost use Rattle.lens_why.specs.Seeking.{cut_by, cut_told, cut_with, is_channel, is_frame, is_hearing_of, is_sought};
+ghost use Rattle.lens_why.specs.Seeking.{is_turning_on, last_sought, opens, turns, turns_before};
 ghost use Rattle.net_plan.specs.declared.{event.Event.{Event as EventValue}, network.Network.{Network as NetworkValue}};
 ghost use Rattle.run_law.specs.{declared.note.Note.{Note as NoteValue}, scenario.Devices.{channel_of, channel_of_link}};
 ghost use Rattle.run_law.specs.records.{Happenings.{Happening, happenings, numbered}, Ranks.place_of};
@@ -14,7 +15,7 @@ use crate::ground::magnitude;
 use audit_devices::Carried;
 use audit_sweep::Index;
 use net_plan::{DeviceId, LinkId, Network, VlId, Way, What};
-use run_law::{Judgement, Note, NoteBody};
+use run_law::{Judgement, Note, NoteBody, Why};
 use sync_state::membership::HeardFrame;
 use tte_reports::AuditedReport;
 use tte_units::Units;
@@ -23,14 +24,12 @@ use tte_units::frames::Channel;
 /// By what a record is looked for.
 #[derive(Clone, Copy)]
 pub(crate) enum Sought {
-    /// An event cuts the way, or heals it.
-    Cut(LinkId, Way),
     /// The device hears the frame, come by the channel within its time.
     Frame(DeviceId, Channel, HeardFrame),
     /// The device takes a frame of the virtual link before this one.
     Taking(Coming),
-    /// The state of the device changes.
-    Turning(DeviceId),
+    /// The device comes to the state in which it is when something comes to it at the time, in units of 2^-16 ns.
+    Turning(DeviceId, u64),
     /// A collection of the device opens at the point.
     Opening(DeviceId, Units),
 }
@@ -90,13 +89,14 @@ fn is_sought(index: &Index, network: &Network, note: &Note, sought: Sought) -> b
         → result ≡ is_sought network.now sought h h.note.body }
 {
     match sought {
-        Sought::Cut(link, way) => sets_cut(link, way, &note.body),
         Sought::Frame(device, channel, frame) => {
             let carried = index.carried(note.number);
             is_heard(network, carried, &note.body, device, channel, frame)
         }
         Sought::Taking(coming) => is_taken_before(coming, magnitude(note.time), &note.body),
-        Sought::Turning(device) => turns(device, &note.body),
+        Sought::Turning(device, time) => {
+            turns_before(device, time, magnitude(note.time), &note.body)
+        }
         Sought::Opening(device, point) => opens(device, point, &note.body),
     }
 }
@@ -176,6 +176,37 @@ fn turns(device: DeviceId, body: &NoteBody) -> bool
     }
 }
 
+/// Does by a record of this body at the time `at` the device come to the state in which it is when something comes to
+/// it at the time `time`? The record is of an earlier time, or the device is turned on by it.
+fn turns_before(device: DeviceId, time: u64, at: u64, body: &NoteBody) -> bool
+    ensures { result ≡ turns_before device time at body.now }
+{
+    turns(device, body) && (at < time || is_turning_on(body))
+}
+
+/// Is a device turned on by a record of this body?
+fn is_turning_on(body: &NoteBody) -> bool
+    ensures { result ≡ is_turning_on body.now }
+{
+    match body {
+        NoteBody::State { why: Why::On, .. } => true,
+        NoteBody::State { .. }
+        | NoteBody::Event { .. }
+        | NoteBody::Arrived { .. }
+        | NoteBody::Permanent { .. }
+        | NoteBody::Compressed { .. }
+        | NoteBody::Sent { .. }
+        | NoteBody::Corrected { .. }
+        | NoteBody::Left { .. }
+        | NoteBody::Lost { .. }
+        | NoteBody::TtSent { .. }
+        | NoteBody::Accepted { .. }
+        | NoteBody::Delivered { .. }
+        | NoteBody::Dropped { .. }
+        | NoteBody::Clock { .. } => false,
+    }
+}
+
 /// Does by a record of this body a frame open a collection of the device at the point?
 fn opens(device: DeviceId, point: Units, body: &NoteBody) -> bool
     ensures { result ≡ opens device point body.now }
@@ -204,15 +235,85 @@ fn opens(device: DeviceId, point: Units, body: &NoteBody) -> bool
     }
 }
 
-/// Does the record tell of an event that cuts the way, or heals it?
-fn sets_cut(link: LinkId, way: Way, body: &NoteBody) -> bool
-    ensures { (network : NetworkValue) (h : Happening) → result ≡ is_sought network (Sought.Cut link way) h body.now }
+/// The number of the record that cut the way, of those before the record of the number, or 0 where it is whole. An event
+/// that cuts a cut way changes nothing.
+pub(crate) fn cut_before(
+    report: &AuditedReport,
+    network: &Network,
+    number: u64,
+    link: LinkId,
+    way: Way,
+) -> u64
+    requires named { IsNamed network.now }
+    requires read { IsRead network.now report.now }
+    ensures { (notes : List NoteValue) (end : UnitsValue) (h : Happening)
+        → IsReportOf network.now report.now.octets notes end → IsThere network.now notes number h
+        → result ≡ cut_by link way (records_before (place_of h) (happenings network.now notes)) }
+{
+    let mut since = 0;
+    'records: for at in 1..number {
+        since = cut_behind(report, network, at, link, way, since);
+    }
+    since
+}
+
+/// The same behind the record of the number too, where it is `since` before it.
+fn cut_behind(
+    report: &AuditedReport,
+    network: &Network,
+    number: u64,
+    link: LinkId,
+    way: Way,
+    since: u64,
+) -> u64
+    requires named { IsNamed network.now }
+    requires read { IsRead network.now report.now }
+    ensures { (notes : List NoteValue) (end : UnitsValue) (h : Happening)
+        → IsReportOf network.now report.now.octets notes end → IsThere network.now notes number h
+        → result ≡ cut_with since number (cut_told link way h.note.body) }
+{
+    match report.record(network, number) {
+        Some(note) => cut_with(since, number, cut_told(link, way, &note.body)),
+        None => since,
+    }
+}
+
+/// The same behind a record of the number that says this of the way.
+fn cut_with(since: u64, number: u64, told: Option<bool>) -> u64
+    ensures { result ≡ cut_with since number told }
+{
+    match told {
+        Some(true) => { if since == 0 { number } else { since } }
+        Some(false) => 0,
+        None => since,
+    }
+}
+
+/// Whether the way is cut from a record of this body on, if that says so.
+fn cut_told(link: LinkId, way: Way, body: &NoteBody) -> Option<bool>
+    ensures { result ≡ cut_told link way body.now }
 {
     match body {
         NoteBody::Event {
-            what: What::Cut(other, turned) | What::Heal(other, turned),
+            what: What::Cut(other, turned),
             ..
-        } => link.0 == other.0 && way == *turned,
+        } => {
+            if link.0 == other.0 && way == *turned {
+                Some(true)
+            } else {
+                None
+            }
+        }
+        NoteBody::Event {
+            what: What::Heal(other, turned),
+            ..
+        } => {
+            if link.0 == other.0 && way == *turned {
+                Some(false)
+            } else {
+                None
+            }
+        }
         NoteBody::Event { .. }
         | NoteBody::Arrived { .. }
         | NoteBody::Permanent { .. }
@@ -226,7 +327,7 @@ fn sets_cut(link: LinkId, way: Way, body: &NoteBody) -> bool
         | NoteBody::Accepted { .. }
         | NoteBody::Delivered { .. }
         | NoteBody::Dropped { .. }
-        | NoteBody::Clock { .. } => false,
+        | NoteBody::Clock { .. } => None,
     }
 }
 

@@ -2,6 +2,8 @@ use Rattle.{lens_why.proofs.Grounded.index_there, run_law.specs.device.States.st
 use Rattle.{lens_why.specs.declared.ground.Ground.TheVariants.Unsynchronised, run_law.specs.records.Happenings.{happenings, time_of}}
 use Rattle.{sync_state.specs.declared.state.State.State, tte_audit.specs.Report.{events_of, scenario_of}, tte_units.specs.declared.units.Units.Units}
 use Rattle.tte_units.specs.Amount.{amount}
+use Rattle.{audit_devices.specs.Keeping.records_before, run_law.specs.records.Ranks.place_of}
+use Rattle.lens_why.specs.{Seeking.last_sought, declared.seeking.Sought.TheVariants.Turning}
 use Rattle.lens_why.proofs.dropping.unsynchronised.Goals as goal
 
 pub state_before-state-requires-clause-index : goal.state_before-state-requires-clause-index
@@ -13,7 +15,8 @@ returns c ns end h of there at =
     let s = scenario_of network ns in
     let hs = happenings network ns in
     let d = c.args.passage.device in
-    let time : c.magnitude.result ≡ time_of h = c.magnitude.ensures ∙ ap (λ (u : Units). amount u) (sym at) in
+    let time : c.magnitude-time.result ≡ time_of h = c.magnitude-time.ensures ∙ ap (λ (u : Units). amount u) (sym at) in
     let state = c.state_before-state.ensures (events_of ns) hs (c.requires.read.index ns end of) ∙ ap (λ (t : ℕ). state_before s hs d t) time in
     ap (λ (k : State). Unsynchronised k c.last_before-since.result) state
-    ∙ ap (λ (n : ℕ). Unsynchronised (state_before s hs d (time_of h)) n) (c.last_before-since.ensures ns end h of there)
+    ∙ ap (λ (n : ℕ). Unsynchronised (state_before s hs d (time_of h)) n) (c.last_before-since.ensures ns end h of there
+    ∙ ap (λ (t : ℕ). last_sought network (Turning d t) (records_before (place_of h) hs)) time)

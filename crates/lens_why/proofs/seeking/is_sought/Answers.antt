@@ -1,14 +1,7 @@
-use Rattle.{lens_why.specs.Seeking.is_sought, run_law.specs.declared.note.{Note.Note, NoteBody.NoteBody}, std.proofs.Common.{◌∙◌, ap, sym, ℕ}}
-use Rattle.{lens_why.specs.declared.seeking.Sought.{Sought, TheVariants.{Cut, Frame, Opening, Taking, Turning}}, run_law.specs.timed.Receptions.is_taken_before}
+use Rattle.{lens_why.specs.Seeking.{is_sought, turns_before}, run_law.specs.declared.note.{Note.Note, NoteBody.NoteBody}, std.proofs.Common.{◌∙◌, ap, sym, ℕ}}
+use Rattle.{lens_why.specs.declared.seeking.Sought.{Sought, TheVariants.{Frame, Opening, Taking, Turning}}, run_law.specs.timed.Receptions.is_taken_before}
 use Rattle.tte_units.specs.Amount.{amount}
 use Rattle.lens_why.proofs.seeking.is_sought.Goals as goal
-
-pub returns-in-Cut : goal.returns-in-Cut
-returns-in-Cut c befallen hs h known there same =
-    let network = c.args.network.now in
-    c.sets_cut.ensures network h
-    ∙ ap (λ (b : NoteBody). is_sought network (Cut c.in-Cut.link c.in-Cut.way) h b) (sym (ap (λ (n : Note). n.body) same))
-    ∙ ap (λ (s : Sought). is_sought network s h h.note.body) (sym c.in-Cut.is)
 
 pub returns-in-Frame : goal.returns-in-Frame
 returns-in-Frame c befallen hs h known there same =
@@ -31,9 +24,11 @@ returns-in-Taking c befallen hs h known there same =
 pub returns-in-Turning : goal.returns-in-Turning
 returns-in-Turning c befallen hs h known there same =
     let network = c.args.network.now in
-    c.turns.ensures
-    ∙ ap (λ (b : NoteBody). is_sought network (Turning c.in-Turning.device) h b) (sym (ap (λ (n : Note). n.body) same))
-    ∙ ap (λ (s : Sought). is_sought network s h h.note.body) (sym c.in-Turning.is)
+    let f = c.in-Turning in
+    c.turns_before.ensures
+    ∙ ap (λ (t : ℕ). turns_before f.device f.time t c.args.note.now.body) (c.magnitude-in-Turning.ensures ∙ ap (λ (n : Note). amount n.time) (sym same))
+    ∙ ap (λ (b : NoteBody). is_sought network (Turning f.device f.time) h b) (sym (ap (λ (n : Note). n.body) same))
+    ∙ ap (λ (s : Sought). is_sought network s h h.note.body) (sym f.is)
 
 pub returns-in-Opening : goal.returns-in-Opening
 returns-in-Opening c befallen hs h known there same =
