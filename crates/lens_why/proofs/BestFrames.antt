@@ -5,19 +5,19 @@ use Rattle.{audit_law.{proofs.law_lemmas.Correcting.time_before, specs.law.Corre
 use Rattle.{audit_sweep.proofs.{HeardBefore.rank_below, HeardPoints.unchanged_before}, net_plan.specs.declared.{ids.DeviceId.DeviceId, network.Network.Network}}
 use Rattle.lens_why.specs.Corrections.{better, channel_ground, clique_ground, corrected_ground, heard_at_point, is_behind, is_clique, said_by, summary_of}
 use Rattle.{lens_why.specs.Corrections.{told_on, value_of, with_hearing}, sync_state.specs.membership.{BestFrame.{IsBehind, IsBetterOf}, Members.count_of}}
-use Rattle.{lens_why.specs.declared.{ground.Best.Best, seeking.Sought.TheVariants.Frame}, run_law.proofs.law.FirstPlaces.{front_founded, in_filter}}
+use Rattle.{lens_why.specs.declared.{ground.Best.Best, seeking.Sought.TheVariants.Frame}, run_law.proofs.law.FirstPlaces.{front_founded, in_filter, none_kept}}
 use Rattle.{lens_why.specs.declared.ground.Ground.TheVariants.{Clique, Corrected}, sync_state.specs.declared.membership.frame.HeardFrame.HeardFrame}
 use Rattle.{lens_why.specs.declared.ground.Told.Told, run_law.{proofs.{records.Members.in_kept, runs.Lacking.behind_first}, specs.scenario.Scenarios.Scenario}}
 use Rattle.sync_state.specs.{Standing.next_point, declared.state.State.State, membership.Hearing.Hearing}
 use Rattle.audit_sweep.specs.Indexing.{before_corrections}
 use Rattle.{run_law.specs.declared.{judgement.Why.Why, note.Note.Note}, tte_audit.proofs.ReportRuns.audit_run, tte_reports.specs.Reports.IsReportOf}
 use Rattle.{run_law.specs.{declared.note.NoteBody.NoteBody, records.Order.{IsBefore, IsIn, is_before}}, tte_units.specs.declared.frames.members.Members.Members}
-use Rattle.{run_law.specs.device.States.adjustment_before, std.proofs.lemmas.Bool.{and_from, cases_Bool, eq-eqb, eqb-true, lt-ltb, ltb-true, or_left, or_right}}
+use Rattle.{run_law.specs.device.States.adjustment_before, std.proofs.lemmas.Bool.{and_from, cases_Bool, eq-eqb, eqb-true, false_from_ne_true, lt-ltb, ltb-true, or_left, or_right}}
 use Rattle.{run_law.specs.records.Happenings.{Happening, happenings, time_of}, std.specs.Prelude.{◌||◌, int_lt, nat_le, nat_lt, option_and_then}}
 use Rattle.{run_law.specs.records.Ranks.{key, members_in, place_of, rank}, tte_units.proofs.general_lemmas.Integers.{int_lt-from, int_lt-is}}
 use Rattle.std.proofs.Common.{◌&&◌, ◌++◌, ◌==◌, ◌∙◌, ◌∷◌, ◌≡◌, ◌≤◌, Bool, List, None, Option, Some, [], ap, append_assoc, arith, false, filter, fold}
 use Rattle.{std.proofs.Common.{if◌then◌else◌, inl, inr, refl, subst, sym, true, ℕ, ℤ}, tte_units.proofs.general_lemmas.Bools.{both_left, both_right, not_both}}
-use Rattle.{std.proofs.lemmas.List.append-nil, tte_audit.specs.Named.IsNamed}
+use Rattle.{std.proofs.lemmas.List.{Elements.filter-append, append-nil}, tte_audit.specs.Named.IsNamed}
 use Rattle.sync_state.proofs.membership_lemmas.{OneSummary.one_summary, SummaryLemmas.{hears_on_a, hears_on_b, hears_outside, silence_summarizes}}
 use Rattle.{sync_state.specs.membership.Summary.{Summarizes, Summary, best_on}, tte_units.specs.declared.frames.channel.Channel.{Channel, TheVariants.{A, B}}}
 use Rattle.audit_law.specs.law.DueRecords as audits
@@ -98,13 +98,13 @@ module _ (network : Network) (octets : List ℕ) (ns : List Note) (end : Units) 
   audited = (audit_run network ns end named of.events.right of.run).founded
 
   -- what causes a record of this body
-  caused : (body : NoteBody) → h.note.body ≡ body → audits.IsCaused own before h.note.time body
+  pub caused : (body : NoteBody) → h.note.body ≡ body → audits.IsCaused own before h.note.time body
   caused body is = subst (λ (b : NoteBody). audits.IsCaused own before h.note.time b) is (audited before later h parts).1.cause
 
-  before_founded : IsFounded place_of (audits.IsDue own) before
+  pub before_founded : IsFounded place_of (audits.IsDue own) before
   before_founded = front_founded place_of (audits.IsDue own) before (h ∷ later) (subst (IsFounded place_of (audits.IsDue own)) parts audited)
 
-  none_later : (g : Happening) → IsIn g before → time_of g ≤ time_of h
+  pub none_later : (g : Happening) → IsIn g before → time_of g ≤ time_of h
   none_later g i =
       time_before (time_of g) (rank g.note.body) (time_of h) (rank h.note.body) (key (members_in g) g.note.body) (key (members_in h) h.note.body)
       ((audited before later h parts).0 g i)
@@ -119,6 +119,21 @@ module _ (network : Network) (octets : List ℕ) (ns : List Note) (end : Units) 
             let ahead = behind_first place_of (audits.IsDue own) before later h g (subst (IsFounded place_of (audits.IsDue own)) parts audited) more in
             absurd (never_before h high (chain (place_of h) (place_of g) (time_of h ∷ 6 ∷ []) ahead b))
       ]
+
+  -- those before this one are all
+  pub before_all : 6 ≤ rank h.note.body → records_before (time_of h ∷ 6 ∷ []) before ≡ before_corrections (time_of h) (happenings network ns)
+  before_all high =
+      let place = time_of h ∷ 6 ∷ [] in
+      let test : Happening → Bool = λ g. is_before (place_of g) place in
+      sym (ap (filter test) parts ∙ filter-append test before (h ∷ later)
+      ∙ ap (λ (gs : List Happening). filter test before ++ gs) (none_kept test (h ∷ later) (λ g i. false_from_ne_true (test g) (λ e. never g i (is_there (place_of g) place e))))
+      ∙ append-nil (filter test before))
+    where
+      never : (g : Happening) → IsIn g (h ∷ later) → IsBefore (place_of g) (time_of h ∷ 6 ∷ []) → ⊥
+      never g (inl same) b = never_before h high (subst (λ (x : Happening). IsBefore (place_of x) (time_of h ∷ 6 ∷ [])) same b)
+      never g (inr more) b =
+          let ahead = behind_first place_of (audits.IsDue own) before later h g (subst (IsFounded place_of (audits.IsDue own)) parts audited) more in
+          never_before h high (chain (place_of h) (place_of g) (time_of h ∷ 6 ∷ []) ahead b)
 
   -- where the device comes to a correction point, no record before the corrections of the time changes its adjustment at it
   quiet_before : (cycle : ℕ) → 6 ≤ rank h.note.body → next_point (standing_at own before device (time_of h)) ≡ Some cycle

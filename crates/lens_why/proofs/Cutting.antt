@@ -1,5 +1,5 @@
 -- The record that cut a way.
-use Rattle.lens_why.specs.{Decisions.{IsCutBefore, is_cut_after}, Seeking.{cut_by, cut_told, cut_with}}
+use Rattle.lens_why.specs.{Decisions.{is_cut_after}, Seeking.{cut_by, cut_told, cut_with}}
 use Rattle.{audit_devices.specs.Keeping.records_before, lens_why.{proofs.LastRecords.{before_number, own_at}, specs.Records.IsThere}}
 use Rattle.net_plan.specs.declared.{ids.LinkId.LinkId, network.Network.Network, tables.Way.Way}
 use Rattle.run_law.specs.{declared.note.Note.Note, records.{Happenings.{Happening, happenings}, Ranks.place_of}}

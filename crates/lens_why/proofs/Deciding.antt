@@ -1,10 +1,10 @@
 -- What the grounds of leavings and of losses decide.
-use Rattle.{lens_why.proofs.{Holding.held_by, LastRecords.parted_there}, run_law.specs.runs.DueRecords.IsCaused}
-use Rattle.lens_why.specs.{Decisions.IsLeftBy, Grounds.{ground_by, ground_of, held_ground}}
-use Rattle.{net_plan.specs.declared.{ids.{DeviceId.DeviceId, LinkId.LinkId}, network.Network.Network}, run_law.specs.declared.note.{Note.Note, NoteBody.NoteBody}}
+use Rattle.{lens_why.proofs.{Holding.held_by}}
+use Rattle.lens_why.specs.{Decisions.IsLeftBy, Grounds.{ground_by, held_ground}}
+use Rattle.{net_plan.specs.declared.{ids.{DeviceId.DeviceId, LinkId.LinkId}, network.Network.Network}, run_law.specs.declared.note.{Note.Note}}
 use Rattle.run_law.specs.records.Happenings.{Happening, happenings, numbered, time_of}
 use Rattle.run_law.specs.scenario.{Scenarios.Scenario, Ways.{hold_at, way_from}}
-use Rattle.std.proofs.Common.{◌-◌, ◌∙◌, ◌≡◌, List, Option, Some, ap, ℕ}
+use Rattle.std.proofs.Common.{◌-◌, ◌≡◌, List, Some, ap, ℕ}
 use Rattle.{tte_audit.specs.Report.scenario_of, tte_reports.specs.Reports.IsReportOf, tte_units.specs.declared.units.Units.Units}
 use Rattle.run_law.specs.declared.note.NoteBody.TheVariants as notes
 

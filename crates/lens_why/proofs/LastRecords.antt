@@ -5,7 +5,7 @@ use Rattle.run_law.{proofs.law.FirstPlaces.{none_kept, number_is, numbered_in}, 
 use Rattle.run_law.{proofs.records.Order.{all_kept, before_is, is_there}, specs.records.Order.{IsBefore, IsIn, is_before}}
 use Rattle.run_law.{proofs.runs.Lacking.behind_first, specs.{declared.note.Note.Note, records.Ranks.place_of, runs.{DueRecords.IsDue, Runs.IsFounded}}}
 use Rattle.{std.specs.{List.last_or, Option.option_map_or}, tte_audit.specs.Report.scenario_of, tte_reports.specs.Reports.IsReportOf}
-use Rattle.std.proofs.Common.{◌++◌, ◌+◌, ◌-◌, ◌<◌, ◌∙◌, ◌∷◌, ◌≡◌, ◌≤◌, Bool, List, None, Option, Some, [], ap, arith, false, filter, if◌then◌else◌, inl, inr}
+use Rattle.std.proofs.Common.{◌++◌, ◌-◌, ◌<◌, ◌∙◌, ◌∷◌, ◌≡◌, ◌≤◌, Bool, List, None, Option, Some, [], ap, arith, false, filter, if◌then◌else◌, inl, inr}
 use Rattle.std.proofs.Common.{length, length-append, refl, subst, suc, sym, true, zero, ℕ}
 use Rattle.std.proofs.Math.Seq.{take-append_seam}
 use Rattle.std.{proofs.lemmas.{Bool.false_from_ne_true, List.append-nil, List.Elements.filter-append}, specs.Prelude.{slice_get, take}}

@@ -23,3 +23,5 @@ pub mod Permanents
 pub mod Cutting
 pub mod Losing
 pub mod Deciding
+pub mod Corrections
+pub mod Decided

@@ -1,17 +1,17 @@
 -- The way of a frame that is lost was cut by a record before it.
-use Rattle.{lens_why.proofs.{Cutting.{IsCutBy, cut_found, cut_or_whole}, LastRecords.parted_there}, run_law.specs.runs.DueRecords.{IsCaused, IsDue}}
+use Rattle.{lens_why.proofs.{Cutting.{cut_found}, LastRecords.parted_there}, run_law.specs.runs.DueRecords.{IsDue}}
 use Rattle.lens_why.specs.{Decisions.{IsCutBefore, is_cut_after}, Seeking.{cut_by, cut_told}, declared.ground.Ground.TheVariants.CutBy}
 use Rattle.audit_devices.specs.Keeping.{records_before}
-use Rattle.{net_plan.specs.declared.{event.{Event.Event, What.What}, ids.{DeviceId.DeviceId, LinkId.LinkId}, network.Network.Network, tables.Way.Way}}
+use Rattle.{net_plan.specs.declared.{event.{Event.Event}, ids.{LinkId.LinkId}, network.Network.Network, tables.Way.Way}}
 use Rattle.run_law.specs.declared.note.{Note.Note, NoteBody.NoteBody}
 use Rattle.run_law.specs.records.{Happenings.{Happening, happenings, numbered, time_of}, Order.{IsBefore, IsIn}, Ranks.{key, members_in, place_of, rank}}
 use Rattle.run_law.specs.runs.Runs.{IsFounded}
-use Rattle.run_law.specs.scenario.{Scenarios.Scenario, Ways.{cut_set, is_cut, way_from}}
-use Rattle.run_law.proofs.{law.FirstPlaces.founded_at, records.Order.{all_kept, has_passed, makes_none, time_before}, runs.{Lacking.behind_first, NetworkRuns.same_notes, Places.in_parts}}
+use Rattle.run_law.specs.scenario.{Scenarios.Scenario, Ways.{cut_set, is_cut}}
+use Rattle.run_law.proofs.{law.FirstPlaces.founded_at, records.Order.{all_kept, has_passed, makes_none, time_before}, runs.{Lacking.behind_first, NetworkRuns.same_notes}}
 use Rattle.run_law.proofs.law.FirstPlaces.{front_founded, in_filter}
-use Rattle.std.proofs.Common.{◌++◌, ◌+◌, ◌<◌, ◌∙◌, ◌∷◌, ◌≡◌, ◌≤◌, ◌⊎◌, Bool, List, None, Option, Some, [], ap, append_assoc, arith, false, filter, if◌then◌else◌, inl, inr, map, refl}
+use Rattle.std.proofs.Common.{◌++◌, ◌<◌, ◌∙◌, ◌∷◌, ◌≡◌, ◌≤◌, Bool, List, None, Option, Some, [], ap, append_assoc, arith, false, filter, if◌then◌else◌, inl, inr, map, refl}
 use Rattle.std.proofs.Common.{subst, sym, true, ℕ}
-use Rattle.std.proofs.lemmas.{Bool.{cases_Bool, le-leb, leb-true}, List.{Elements.{filter-append, filter_map-append}, append-nil}}
+use Rattle.std.proofs.lemmas.{Bool.{le-leb, leb-true}, List.{Elements.{filter-append, filter_map-append}, append-nil}}
 use Rattle.std.specs.{List.{cons_option, last_or}, Prelude.{filter_map, nat_le, unwrap_or}}
 use Rattle.{tte_audit.specs.Report.{event_by, events_of, scenario_of}, tte_reports.specs.Reports.IsReportOf, tte_units.specs.{Amount.amount, declared.units.Units.Units}}
 use Rattle.run_law.specs.declared.note.NoteBody.TheVariants as notes

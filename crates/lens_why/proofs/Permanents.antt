@@ -1,6 +1,6 @@
 -- What the grounds of permanences decide.
 use Rattle.{lens_why.proofs.LastRecords.parted_there, run_law.specs.runs.DueRecords.IsCaused}
-use Rattle.lens_why.specs.Decisions.{IsCollectedBy, IsHeardBy, IsNoFarther, IsOpenFor, IsPermanentBy}
+use Rattle.lens_why.specs.Decisions.{IsNoFarther, IsOpenFor, IsPermanentBy}
 use Rattle.lens_why.specs.Grounds.{hearing_adjustment, is_by_schedule, is_collected, scheduled_ground}
 use Rattle.lens_why.proofs.Collected.{ComeInOrder, last_stands}
 use Rattle.lens_why.specs.Collections.{collected_ground, last_collection, open_in, told_of}
@@ -11,18 +11,18 @@ use Rattle.run_law.specs.runs.DueRecords.{IsDue}
 use Rattle.std.specs.{List.last_or, Option.option_map_or}
 use Rattle.std.proofs.Common.{◌<ℤ◌, ◌==◌}
 use Rattle.{net_plan.specs.declared.{ids.{DeviceId.DeviceId, LinkId.LinkId}, network.Network.Network}, run_law.specs.declared.note.{Note.Note, NoteBody.NoteBody}}
-use Rattle.run_law.specs.records.Happenings.{Happening, frame_from, happenings, numbered, time_of}
+use Rattle.run_law.specs.records.Happenings.{Happening, happenings, numbered, time_of}
 use Rattle.run_law.specs.records.Ranks.{members_in, place_at, place_of}
 use Rattle.run_law.specs.control.Hearing.{heard_as, heard_by_schedule, heard_enough, is_in_schedule, last_cycle}
-use Rattle.run_law.specs.control.Collections.{IsCollectedAs, master_of, observation_window, point_fault, points_of, ripe_by_role}
-use Rattle.run_law.specs.control.Permanence.{BecomesPermanent, IsCollectedOrDropped, IsCollectionOutcome, IsPermanenceOutcome, IsPermanent, before_permanence, ripe_as}
+use Rattle.run_law.specs.control.Collections.{master_of, observation_window, point_fault, points_of, ripe_by_role}
+use Rattle.run_law.specs.control.Permanence.{BecomesPermanent, IsCollectedOrDropped, IsPermanenceOutcome, before_permanence, ripe_as}
 use Rattle.run_law.specs.declared.judgement.{Judgement.Judgement, Reason.Reason}
 use Rattle.run_law.specs.declared.steps.Ripe.{Ripe}
 use Rattle.run_law.specs.device.States.{adjustment_at_hearing, cycle_in, state_at_hearing}
-use Rattle.run_law.specs.records.Order.{IsIn, is_before}
+use Rattle.run_law.specs.records.Order.{is_before}
 use Rattle.run_law.proofs.records.Order.{all_kept, before_is}
 use Rattle.run_law.specs.scenario.{Devices.{is_cm, plan_of}, Scenarios.Scenario}
-use Rattle.std.proofs.Common.{◌&&◌, ◌+ℤ◌, ◌+◌, ◌-ℤ◌, ◌-◌, ◌∙◌, ◌∷◌, ◌≡◌, ◌≤ℤ◌, ◌≤◌, ◌⊎◌, Bool, List, None, Option, Some, ap, arith, false, filter, if◌then◌else◌, inl, inr, neg_ℤ, pos, refl, subst, sym, true, ℕ, ℤ}
+use Rattle.std.proofs.Common.{◌&&◌, ◌+ℤ◌, ◌-ℤ◌, ◌∙◌, ◌≡◌, ◌≤ℤ◌, ◌⊎◌, Bool, List, None, Option, Some, ap, arith, false, filter, if◌then◌else◌, inl, inr, neg_ℤ, pos, refl, subst, sym, true, ℕ, ℤ}
 use Rattle.std.specs.Prelude.{IfSome, IsSomeAnd, MatchBool, int_le, int_lt, nat_le, option_and_then, option_map}
 use Rattle.std.proofs.lemmas.{Bool.{and_from, cases_Bool, eqb-true, le-leb, leb-true}, Int.ints}
 use Rattle.audit_devices.specs.Keeping.{records_before}

@@ -2,26 +2,23 @@
 use Rattle.std.specs.Prelude.{◌++◌, ◌+ℤ◌, ◌+◌, ◌-ℤ◌, ◌<ℤ◌, ◌<◌, ◌==◌, ◌^◌, ◌∷◌, ◌≡◌, ◌≢◌, ◌≤ℤ◌, ◌≤◌, ◌⊎◌}
 use Rattle.std.specs.Prelude.{All, Bool, IfSome, IsSomeAnd, List, None, Option, Some, bit_and, false, filter_map}
 use Rattle.std.specs.Prelude.{neg_ℤ, not, option_map, pos, true, unwrap_or, ℕ, ℤ}
-use Rattle.{lens_why.specs.Grounds.{entry_given, ground_of}, net_plan.specs.declared.network.Network.Network}
+use Rattle.{lens_why.specs.Grounds.{ground_of}, net_plan.specs.declared.network.Network.Network}
 use Rattle.{lens_why.specs.{Records.clock_given, Seeking.cut_told}, std.specs.List.last_or}
-use Rattle.lens_why.specs.declared.{collecting.Collection.Collection, ground.{Best.Best, Ground.Ground, Told.Told}}
-use Rattle.lens_why.specs.declared.ground.Ground.TheVariants.{Clique, Collected, Corrected, CutBy, Gate, Heard, Held}
-use Rattle.lens_why.specs.declared.ground.Ground.TheVariants.{Length, Missed, Taken, Unsynchronised}
-use Rattle.net_plan.specs.declared.{ids.{DeviceId.DeviceId, LinkId.LinkId}, tables.Way.Way}
+use Rattle.lens_why.specs.declared.{collecting.Collection.Collection, ground.{Best.Best, Ground.Ground}}
+use Rattle.lens_why.specs.declared.ground.Ground.TheVariants.{Clique, Collected, Corrected, CutBy, Heard, Held}
+use Rattle.net_plan.specs.declared.{ids.{LinkId.LinkId}, tables.Way.Way}
 use Rattle.run_law.specs.control.Hearing.{last_cycle}
 use Rattle.run_law.specs.declared.judgement.Judgement.{Judgement, TheVariants.{Joined, Opened, Outside, Repeat, Within}}
-use Rattle.run_law.specs.declared.judgement.{Reason.Reason, Why.{TheVariants.{AsyncClique, SyncClique}, Why}}
-use Rattle.run_law.specs.device.States.{cycle_in, is_synchronised, state_with}
+use Rattle.run_law.specs.declared.judgement.{Why.{TheVariants.{AsyncClique, SyncClique}, Why}}
+use Rattle.run_law.specs.device.States.{cycle_in}
 use Rattle.run_law.specs.declared.note.{Note.Note, NoteBody.NoteBody}
 use Rattle.run_law.specs.records.Happenings.{Happening, happenings, numbered, time_of}
-use Rattle.run_law.specs.scenario.{Devices.{is_relay, start_of}, Ways.way_from}
-use Rattle.run_law.specs.timed.{Arrivals.occurs_in, Receptions.taken_cycle}
-use Rattle.schedule_tables.specs.{Rules.KeepsRules, declared.entry.Entry.Entry}
-use Rattle.sync_state.specs.{Standing.state_at_start, correction.Correction.correction_of}
-use Rattle.sync_state.specs.{declared.state.State.State, membership.Members.count_of}
+use Rattle.run_law.specs.scenario.{Ways.way_from}
+use Rattle.schedule_tables.specs.{Rules.KeepsRules}
+use Rattle.sync_state.specs.{correction.Correction.correction_of}
+use Rattle.sync_state.specs.{membership.Members.count_of}
 use Rattle.{tte_audit.specs.Report.scenario_of, tte_reports.specs.Reports.IsReportOf}
 use Rattle.tte_units.specs.declared.units.Units.{Units}
-use Rattle.run_law.specs.declared.judgement.Reason.TheVariants as reasons
 use Rattle.run_law.specs.declared.note.NoteBody.TheVariants as notes
 
 -- ---- corrections and cliques
@@ -128,56 +125,6 @@ pub record IsCutBefore (hs : List Happening) (h : Happening) (link : LinkId) (wa
   pub cuts : cut_told link way cutting.note.body ≡ Some true
   pub unhealed : All (λ g. cut_told link way g.note.body ≢ Some false) between
 
--- ---- drops
-
--- the frame came beside its window, and so it goes with the cycle and the place in it, and with the window
-abbrev pub IsMissedBy : (ℕ → ℤ → Units → Units → Type 0) → Ground → Type 0
-IsMissedBy P (Missed cycle position from to) = P cycle position from to
-IsMissedBy P other = ⊥
-
--- the relay's clock stands farther beyond the opening of the gate than the gate is open
-abbrev pub IsShutBy : Ground → Type 0
-IsShutBy (Gate beyond most) = pos most <ℤ beyond
-IsShutBy other = ⊥
-
--- the frame has another length than those of its virtual link
-abbrev pub IsOfLengthBy : Ground → Type 0
-IsOfLengthBy (Length size of) = size ≢ of
-IsOfLengthBy other = ⊥
-
--- the record of the number is that of a frame taken in the same cycle
-abbrev pub IsTakenBy : List Happening → Ground → Type 0
-IsTakenBy hs (Taken cycle number) = (g : Happening) × (numbered hs number ≡ Some g) × (taken_cycle g.note.body ≡ Some cycle)
-IsTakenBy hs other = ⊥
-
--- the state is that of the device at first, where no record is told, or the one in which the record leaves the device
-abbrev pub IsStateSince : Network → List Happening → DeviceId → State → ℕ → Type 0
-IsStateSince network hs device state number =
-    ((number ≡ 0) × (state ≡ state_at_start (start_of network device)))
-    ⊎ ((g : Happening) × (numbered hs number ≡ Some g) × ((old : State) → state_with device old g.note.body ≡ state))
-
--- the device has no common time, since a record before or from the beginning on
-abbrev pub IsUntimedBy : Network → List Happening → DeviceId → Ground → Type 0
-IsUntimedBy network hs device (Unsynchronised state number) =
-    (is_synchronised state ≡ false) × IsStateSince network hs device state number
-IsUntimedBy network hs device other = ⊥
-
--- what came to the device is dropped for the reason: it came before its window or behind it, or in a cycle in which its
--- virtual link does not occur; behind one of the same cycle; with another length; at a shut gate; or the device has no
--- common time
-abbrev pub IsDroppedBy : Network → List Happening → DeviceId → Option Entry → Reason → Ground → Type 0
-IsDroppedBy network hs device entry reasons.Early said =
-    IsSomeAnd entry (λ e. IsMissedBy (λ cycle position from to. (occurs_in e.vl cycle ≡ false)
-    ⊎ (position <ℤ from.0)) said)
-IsDroppedBy network hs device entry reasons.Late said =
-    IsSomeAnd entry (λ e. IsMissedBy (λ cycle position from to. (occurs_in e.vl cycle ≡ true)
-    × (to.0 <ℤ position)) said)
-IsDroppedBy network hs device entry reasons.Repeat said = IsTakenBy hs said
-IsDroppedBy network hs device entry reasons.Length said = IsOfLengthBy said
-IsDroppedBy network hs device entry reasons.Gate said = is_relay network device ≡ true → IsShutBy said
-IsDroppedBy network hs device entry reasons.Unsynchronised said = IsUntimedBy network hs device said
-IsDroppedBy network hs device entry other said = Unit {0}
-
 -- ---- all
 
 -- the record, which has this body, is so by its ground
@@ -189,8 +136,6 @@ IsDecidedBy network hs h (notes.Permanent device link cause point verdict) said 
 IsDecidedBy network hs h (notes.Left device link cause clock) said = IsLeftBy hs cause (time_of h) clock said
 IsDecidedBy network hs h (notes.Lost device link cause) said =
     IsCutBefore hs h link (way_from network device link) said
-IsDecidedBy network hs h (notes.Dropped device link cause reason) said =
-    IsDroppedBy network hs device (entry_given network device link (numbered hs cause)) reason said
 IsDecidedBy network hs h other said = Unit {0}
 
 -- each record of a report is so by its ground, in a network that keeps the rules

@@ -1,4 +1,5 @@
 ghost use Rattle.lens_why.specs.Collections.{LastIsOfClusters, MiddlesAreOfClusters};
+ghost use Rattle.lens_why.specs.Decisions.{GroundsDecide};
 ghost use Rattle.lens_why.specs.Laws.{BestAreThere, NamesEarlier, RowIsOne, TakenInWindows, WhyLaw};
 
 /// Of each report `why` has one answer for each number; the chains that it tells are whole and go back, and that of a
@@ -37,4 +38,11 @@ pub fn names_law()
 /// Each record that the ground of a correction or of a clique names is there, and stands earlier in the report.
 pub fn best_law()
     ensures { BestAreThere }
+{}
+
+/// A record is so by what its ground tells: a correction by what the channels say, a clique by how many masters they told,
+/// a permanence by the schedule or by the last collection, a frame that leaves by what was measured of its hold, and one
+/// that is lost by the event that cut its way.
+pub fn decisions_law()
+    ensures { GroundsDecide }
 {}

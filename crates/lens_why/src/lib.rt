@@ -14,4 +14,6 @@ mod seeking;
 pub use answering::Why;
 pub use collecting::Collection;
 pub use ground::{Best, Ground, Told};
-pub use laws::{best_law, collections_law, middles_law, names_law, row_law, why_law, windows_law};
+pub use laws::{
+    best_law, collections_law, decisions_law, middles_law, names_law, row_law, why_law, windows_law,
+};
