@@ -7,7 +7,7 @@ use Rattle.{lens_flows.proofs.OneAnswer.flows_answer_one, net_plan.specs.declare
 use Rattle.{lens.proofs.FormLemmas.form_in_range, net_plan.specs.declared.event.Event.Event, schedule_tables.specs.Rules.KeepsRules}
 use Rattle.{lens_slack.proofs.OneSlack.{octets_one, slack_one}, tte_forms.specs.{declared.status.Status.Status, networks.Accepting.IsNetworkAnswer}}
 use Rattle.{lens_slack.proofs.least_lemmas.OneLeast.least_one, tte_forms.specs.declared.status.Status.TheVariants.{Done, Usage}}
-use Rattle.{lens_slack.specs.{Steps.{all_steps, rule_steps}, least.Answer.IsLeastOf}, tte_forms.proofs.networks.Answers.network_answer_one}
+use Rattle.{lens_slack.specs.{Steps.{all_steps, rule_steps}, least.Answer.{IsLeastOf, with_late}}, tte_forms.proofs.networks.Answers.network_answer_one}
 use Rattle.{lens.specs.declared.forms.Form.TheVariants.{Events, Latency, Least, Report, Slack, SlackOf}, lens.specs.declared.forms.Question.Question}
 use Rattle.{lens.specs.declared.forms.Form.Form, lens.specs.declared.forms.Question.TheVariants.{Draw, DrawWhole, Flows, Why}}
 use Rattle.{lens_why.proofs.Whole.why_answer_one, tte_forms.specs.{Answering.Answer, Putting.Shown}}
@@ -46,7 +46,8 @@ answer_one : RefusalIsOne → (form : Option Form) → IfSome form IsFormInRange
 answer_one one None range octets report a b p q = p ∙ sym q
 answer_one one (Some Slack) range octets report a b p q = octets_one (IsSlackOf all_steps) (slack_one all_steps) octets a b p q
 answer_one one (Some (SlackOf rule)) range octets report a b p q = octets_one (IsSlackOf (rule_steps rule)) (slack_one (rule_steps rule)) octets a b p q
-answer_one one (Some Least) range octets report a b p q = octets_one IsLeastOf least_one octets a b p q
+answer_one one (Some Least) range octets report a b p q =
+    octets_one (λ network. IsLeastOf (with_late network)) (λ network. least_one (with_late network)) octets a b p q
 answer_one one (Some Latency) range octets report a b p q =
     network_answer_one one IsLatencyOf octets (λ network accepted. latency_one network) a b p q
 answer_one one (Some (Report question)) range octets report a b p q =

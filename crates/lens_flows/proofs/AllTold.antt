@@ -1,7 +1,7 @@
 -- What is told of all flows: it has lines, and these are the answer.
 use Rattle.{audit_law.specs.events.Readings.scenario_under, lens_flows.specs.counts.Deliveries.deliveries_of, net_plan.specs.declared.network.Network.Network}
 use Rattle.{lens_flows.proofs.Missing.missing_none, std.proofs.lemmas.Option.slice_get_within, tte_units.specs.{Amount.amount, declared.units.Units.Units}}
-use Rattle.{lens_flows.proofs.judge_lemmas.Rows.receiver_there, std.proofs.Common.{◌∙◌, ◌∷◌, ◌≡◌, List, [], ap, inl, inr, map, refl, subst, sym, ℕ}}
+use Rattle.{lens_flows.proofs.judge_lemmas.Rows.receiver_there, std.proofs.Common.{◌∷◌, ◌≡◌, List, [], ap, inl, inr, map, refl, subst, sym, ℕ}}
 use Rattle.lens_flows.specs.{Answer.{AreAllTold, IsFlowsAnswer, told_answer}, declared.counts.{deliveries.Delivery.Delivery, told.FlowTold.FlowTold}}
 use Rattle.{lens_flows.specs.{Writing.IsWritable, judge.Flows.IsFlow}, run_law.specs.records.Order.IsIn, tte_audit.specs.Report.events_of}
 use Rattle.{lens_flows.specs.{counts.{FlowLists.AreFlows, Told.AreToldOf}, declared.judge.flow.Flow.Flow}, run_law.specs.records.Happenings.happenings}

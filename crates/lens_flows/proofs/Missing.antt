@@ -1,6 +1,6 @@
 -- Nothing that is owed is missing.
 use Rattle.{audit_law.specs.events.Readings.scenario_under, lens_flows.specs.Answer.{IsMissing, IsMissingAt}, run_law.specs.records.Happenings.happenings}
-use Rattle.{lens_flows.{proofs.counts_lemmas.Orders.all_none, specs.counts.Ordered.{AreTimes, IsCountOf}}, net_plan.specs.declared.network.Network.Network}
+use Rattle.{lens_flows.{proofs.counts_lemmas.Orders.all_none, specs.counts.Ordered.{IsCountOf}}, net_plan.specs.declared.network.Network.Network}
 use Rattle.{lens_flows.specs.Laws.NoneIsMissing, tte_audit.specs.Report.events_of, tte_reports.{proofs.Safely.report_well, specs.Reports.IsReportOf}}
 use Rattle.{lens_flows.specs.declared.{counts.told.FlowTold.FlowTold, judge.flow.Flow.Flow}, std.proofs.Common.{◌<◌, ◌∷◌, ◌≡◌, List, [], inl, refl, ℕ}}
 use Rattle.{run_law.specs.declared.note.Note.Note, schedule_tables.specs.Rules.KeepsRules, tte_units.specs.{Amount.amount, declared.units.Units.Units}}

@@ -3,8 +3,11 @@
 --     flow VL to DEVICE owed N delivered N by a N by b N missing N
 --         not owed receiver N sender N end N nearest early E late L certain N
 --
--- Behind `nearest` stands `none` where no frame is delivered within its window.
-use Rattle.std.specs.Prelude.{ℕ, List, ◌++◌, codes, decimal, Option, Some, None}
+-- Behind `nearest` stands `none` where no frame is delivered within its window. Behind the lines of all flows stand the
+-- sums of their numbers.
+--
+--     sum owed N delivered N by a N by b N missing N certain N
+use Rattle.std.specs.Prelude.{ℕ, List, ◌++◌, codes, decimal, Option, Some, None, sum_by}
 use Rattle.lens_flows.specs.declared.counts.{counting.FateCounts.FateCounts, nearest.Nearest.Nearest}
 use Rattle.lens_flows.specs.declared.{counts.told.FlowTold.FlowTold, judge.flow.Flow.Flow}
 use Rattle.net_plan.specs.{Belonging.{device_name, vl_name}, declared.network.Network.Network}
@@ -45,3 +48,14 @@ flow_line network t missing =
     ++ (delivered_words t missing
     ++ (unowed_words t.fates
     ++ (nearest_words t.deliveries.nearest ++ (count_words (codes "certain") t.certain ++ codes "\n"))))
+
+-- the last line: the sums over all flows, of which so many frames are missing
+unfoldable pub sum_line : List FlowTold → ℕ → List ℕ
+sum_line told missing =
+    codes "sum"
+    ++ (count_words (codes "owed") (sum_by (λ t. t.fates.owed) told)
+    ++ (count_words (codes "delivered") (sum_by (λ t. t.deliveries.total) told)
+    ++ (count_words (codes "by a") (sum_by (λ t. t.deliveries.by_a) told)
+    ++ (count_words (codes "by b") (sum_by (λ t. t.deliveries.by_b) told)
+    ++ (count_words (codes "missing") missing
+    ++ (count_words (codes "certain") (sum_by (λ t. t.certain) told) ++ codes "\n"))))))

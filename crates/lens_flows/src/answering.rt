@@ -6,15 +6,17 @@ ghost use Rattle.{tte_forms.specs.{Answering.Gives, Putting.Over}, tte_reports.s
 use crate::counts::FlowTold;
 use crate::lines::make_flow_line;
 use crate::seeing::flows_told;
+use crate::sums::make_sum_line;
 use net_plan::Network;
 use std::alloc::Global;
-use tte_forms::{Status, end_with};
+use tte_forms::{Status, put_last};
 use tte_io::{LineText, Sink};
 use tte_reports::{AuditedReport, ReportCommand};
 
 /// Tells of each flow of the network what the report shows: in how many cycles delivery is owed, how many frames are
 /// delivered and on which channel, how many are missing, in how many cycles none is owed and by which premise, and how
-/// near deliveries came to the ends of their windows. `flows_law` says that none is missing.
+/// near deliveries came to the ends of their windows; and then the sums over all flows. `flows_law` says that none is
+/// missing.
 pub struct Flows;
 
 impl<K: Sink> ReportCommand<K> for Flows {
@@ -32,7 +34,7 @@ impl<K: Sink> ReportCommand<K> for Flows {
     }
 }
 
-/// Puts the lines of what was told, and passes them on.
+/// Puts the lines of what was told and of the sums, and passes them on.
 fn put_told<K: Sink>(network: &Network, told: &[FlowTold], out: &mut K) -> Status
     requires range { IsInRange network.now }
     requires writable { All (IsWritable network.now) told.now }
@@ -47,5 +49,6 @@ fn put_told<K: Sink>(network: &Network, told: &[FlowTold], out: &mut K) -> Statu
             Err(_) => return Status::WriteFault,
         }
     }
-    end_with(Status::Done, out)
+    make_sum_line(&mut line, told, 0);
+    put_last(line.as_slice(), Status::Done, out)
 }

@@ -7,6 +7,7 @@ pub mod judge;
 mod laws;
 mod lines;
 mod seeing;
+mod sums;
 
 pub use answering::Flows;
 pub use laws::flows_law;

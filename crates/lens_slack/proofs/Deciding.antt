@@ -6,7 +6,7 @@ use Rattle.{net_plan.specs.declared.ids.RowId.RowId, std.proofs.lemmas.Bool.{cas
 use Rattle.{net_plan.specs.declared.{network.Network.Network, tables.Link.Link}, schedule_tables.specs.declared.{entry.Entry.Entry, rule.Rule.Rule}}
 use Rattle.{schedule_checker.proofs.Selection.{all_of_each, each_of_all}, schedule_tables.specs.Schedule.{ComesInTime, EndsInCycle, IsClearBefore, StandsApart}}
 use Rattle.{schedule_tables.specs.Delays.{CorrectionFits, DelaysFit, ErrorsSettle, PrecisionFits, ScheduleFits, delay_on, pcf_port_time}, std.specs.Prelude.◌↔◌}
-use Rattle.{schedule_tables.specs.Windows.{port_time, window_end}, std.proofs.Common.{◌*◌, ◌+◌, ◌<◌, ◌≡◌, ◌≤◌, ◌⊎◌, arith, inl, inr, refl, subst, sym, ℕ}}
+use Rattle.{schedule_tables.specs.Windows.{window_end}, std.proofs.Common.{◌*◌, ◌+◌, ◌<◌, ◌≡◌, ◌≤◌, ◌⊎◌, arith, inl, inr, refl, subst, sym, ℕ}}
 use Rattle.schedule_tables.specs.declared.rule.Rule.TheVariants.{Correction, Delays, Forwarding, Precision, ScheduleStart, Settling, Spacing, WindowEnds}
 use Rattle.lens_slack.specs.declared.spot.Spot.TheVariants as spots
 use Rattle.tte_units.specs.declared.speed.Speed.TheVariants as speeds

@@ -1,7 +1,7 @@
 -- A row by its names.
-use Rattle.{lens_slack.specs.Lines.row_text, std.specs.Prelude.{codes, slice_get}, trace_text.specs.EventWords.way_text}
+use Rattle.{lens_slack.specs.Lines.row_text, std.specs.Prelude.{codes}, trace_text.specs.EventWords.way_text}
 use Rattle.{net_plan.specs.{Belonging.{link_name, vl_name}, declared.{ids.RowId.RowId, tables.Row.Row}}, std.proofs.lemmas.Option.slice_get-get_or}
-use Rattle.{net_plan.specs.declared.network.Network.Network, std.proofs.Common.{◌++◌, ◌<◌, ◌≡◌, List, ap, append_assoc, arith, get_or, length, ℕ}}
+use Rattle.{net_plan.specs.declared.network.Network.Network, std.proofs.Common.{◌++◌, ◌<◌, ◌≡◌, List, append_assoc, arith, get_or, length, ℕ}}
 
 -- what is put together from its names is its text
 pub row_named : (network : Network) (row : RowId) (rows : List Row) (d : Row) (vl link way : List ℕ) → rows ≡ network.row → row.0 < length rows

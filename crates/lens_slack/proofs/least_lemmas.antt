@@ -9,3 +9,4 @@ pub mod Keeping
 pub mod Ranged
 pub mod OneLeast
 pub mod Rooms
+pub mod Late

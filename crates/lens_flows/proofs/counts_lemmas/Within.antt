@@ -1,7 +1,7 @@
 -- A kind that lies within another has no more times.
 use Rattle.lens_flows.specs.counts.Ordered.{IsCountOf, IsOrdered}
 use Rattle.run_law.specs.records.Order.{IsIn}
-use Rattle.std.proofs.Common.{◌<◌, ◌∷◌, ◌≡◌, ◌≤◌, List, [], arith, inl, inr, length, refl, ℕ}
+use Rattle.std.proofs.Common.{◌<◌, ◌∷◌, ◌≤◌, List, [], arith, inl, inr, length, refl, ℕ}
 
 abbrev before : ℕ → ℕ → Type 0
 before t u = t < u

@@ -1,8 +1,8 @@
 -- What owing comes to, and what becomes of a flow where it is not owed.
-use Rattle.{lens_flows.specs.declared.judge.flow.Flow.Flow, std.proofs.Common.{◌*◌, ◌+◌, ◌<◌, ◌≡◌, ◌≤◌, ◌⊎◌, List, arith, inl, inr, pos, refl, subst, sym, ℕ}}
+use Rattle.{lens_flows.specs.declared.judge.flow.Flow.Flow, std.proofs.Common.{◌+◌, ◌<◌, ◌≡◌, ◌≤◌, List, arith, inl, inr, refl, subst, ℕ}}
 use Rattle.lens_flows.specs.judge.{Fates.{Ends, IsBegun, IsOwedFrom, IsReady, IsSent, StaysInStep}, Flows.IsFlow, Times.{IsFirstTime, NoneWithin}}
-use Rattle.{net_plan.specs.Bounds.IsGreatest, std.proofs.lemmas.Bool.cases_lt, tte_units.specs.Amount.amount}
-use Rattle.run_law.specs.{device.LocalClocks.Reaches, law.Safety.{IsWindowEnd, ReachesPlace}, records.Happenings.Happening, scenario.Scenarios.Scenario}
+use Rattle.{net_plan.specs.Bounds.IsGreatest, std.proofs.lemmas.Bool.cases_lt}
+use Rattle.run_law.specs.{law.Safety.{IsWindowEnd, ReachesPlace}, records.Happenings.Happening, scenario.Scenarios.Scenario}
 
 greatest_le : (Has : ℕ → Type 0) (m n : ℕ) → IsGreatest Has m → IsGreatest Has n → m ≤ n
 greatest_le Has m n a b = elim a.reached [

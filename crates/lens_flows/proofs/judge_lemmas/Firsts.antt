@@ -1,6 +1,6 @@
 -- The first time of a kind, in one stretch of time after another.
 use Rattle.{lens_flows.specs.judge.Times.{IsFirstTime, NoneWithin, TellsFirstTime}, std.proofs.lemmas.Bool.cases_lt}
-use Rattle.std.{proofs.Common.{◌+◌, ◌<◌, ◌≡◌, ◌≤◌, arith, false, inl, inr, refl, subst, true, ℕ}, specs.Prelude.{None, Option, Some, is_some}}
+use Rattle.std.{proofs.Common.{◌+◌, ◌≡◌, ◌≤◌, arith, inl, inr, subst, true, ℕ}, specs.Prelude.{None, Option, Some, is_some}}
 
 pub none_both : (IsSo : ℕ → Type 0) (after mid before : ℕ) → NoneWithin IsSo after (mid + 1) → NoneWithin IsSo mid before → NoneWithin IsSo after before
 none_both IsSo after mid before first second t lt early is =

@@ -1,8 +1,8 @@
 -- The rows by which the sender of a flow sends.
 use Rattle.{lens_flows.specs.{declared.judge.flow.Flow.Flow, judge.Fates.IsRowSent}, std.specs.Prelude.{IsSomeAnd, None, Option, Some, slice_get}}
 use Rattle.{lens_flows.specs.judge.Flows.IsFlow, net_plan.specs.Belonging.HasDevice, std.proofs.lemmas.{Bool.cases_lt, Option.slice_get_within}}
-use Rattle.net_plan.specs.{Places.{device_at, is_end_system}, Ranges.{IsInRange, IsVlInRange}, declared.{ids.DeviceId.DeviceId, tables.Device.Device}}
-use Rattle.{net_plan.specs.declared.network.Network.Network, std.proofs.Common.{◌+◌, ◌<◌, ◌≡◌, ◌≤◌, List, arith, inl, inr, length, refl, subst, sym, true, ℕ}}
+use Rattle.net_plan.specs.{Places.{device_at, is_end_system}, Ranges.{IsInRange, IsVlInRange}, declared.{tables.Device.Device}}
+use Rattle.{net_plan.specs.declared.network.Network.Network, std.proofs.Common.{◌+◌, ◌<◌, ◌≡◌, ◌≤◌, List, arith, inl, inr, length, refl, subst, true, ℕ}}
 use Rattle.{run_law.specs.{records.Happenings.Happening, scenario.Scenarios.Scenario}, tte_units.proofs.general_lemmas.Lists.in_all}
 
 pub sender_there : (network : Network) (flow : Flow) → IsInRange network → IsFlow network flow → HasDevice network flow.of_vl.sender

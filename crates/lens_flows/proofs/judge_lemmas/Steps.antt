@@ -1,9 +1,9 @@
 -- How long a device is in step.
-use Rattle.{audit_devices.specs.Lasting.ShowsUpTo, run_law.{proofs.records.Order.same_kept, specs.law.Safety.IsInStep}}
-use Rattle.{audit_devices.specs.Showing.{Shown, Shows}, lens_flows.specs.judge.Fates.StaysInStep, sync_state.specs.declared.state.State.State}
+use Rattle.{run_law.{proofs.records.Order.same_kept}}
+use Rattle.{audit_devices.specs.Showing.{Shown, Shows}, lens_flows.specs.judge.Fates.StaysInStep}
 use Rattle.{audit_law.specs.events.Remembering.has_come, net_plan.specs.declared.ids.DeviceId.DeviceId, std.specs.Prelude.{None, Option, Some, nat_le, nat_lt}}
 use Rattle.run_law.specs.{device.States.state_after, records.Happenings.{Happening, earlier, time_of, up_to}, scenario.Scenarios.{Scenario, is_broken}}
-use Rattle.std.proofs.Common.{◌+◌, ◌<◌, ◌∙◌, ◌≡◌, ◌≤◌, Bool, List, ap, arith, false, inl, inr, refl, subst, sym, true, ℕ}
+use Rattle.std.proofs.Common.{◌+◌, ◌<◌, ◌∙◌, ◌≡◌, ◌≤◌, List, ap, arith, false, inl, inr, refl, sym, ℕ}
 use Rattle.{std.proofs.lemmas.Bool.{cases_lt, false≢true, le-leb, le-ltb, lt-leb, lt-ltb}, sync_state.specs.declared.state.State.TheVariants.Synchronised}
 
 up_to_is : (t : ℕ) (hs : List Happening) → up_to t hs ≡ earlier (t + 1) hs

@@ -3,7 +3,7 @@ use Rattle.lens_slack.{proofs.least_lemmas.{Drift.drift_more, SamePlan.path_to},
 use Rattle.lens_slack.{proofs.least_lemmas.{Links.{some_link, some_path}, Suffice.{AreMade, suffices}}, specs.least.Times.{AreAtMost, with_times}}
 use Rattle.{lens_slack.specs.Bounds.begin_bound, net_plan.specs.Ranges.IsInRange, std.proofs.lemmas.Int.ints}
 use Rattle.{lens_slack.specs.least.Parts.drift_over, net_plan.specs.Bounds.{IsOfPath, gamma_of}, std.specs.Prelude.{◌≤ℤ◌, IfSome, slice_get}}
-use Rattle.{net_plan.specs.declared.network.Network.Network, std.proofs.Common.{◌*◌, ◌+◌, ◌≡◌, ◌≤◌, Option, Some, [], arith, inl, inr, pos, refl, subst, ℕ, ℤ}}
+use Rattle.{net_plan.specs.declared.network.Network.Network, std.proofs.Common.{◌*◌, ◌+◌, ◌≡◌, ◌≤◌, Option, Some, [], arith, inl, inr, pos, refl, subst, ℕ}}
 use Rattle.{net_plan.specs.declared.tables.{Device.Device, Link.Link}, tte_units.{proofs.general_lemmas.Lists.in_all, specs.declared.units.Units.Units}}
 use Rattle.{schedule_checker.specs.Timing.errors_of, schedule_tables.specs.Rules.KeepsBelow, tte_units.specs.Amount.{amount, units_of}}
 use Rattle.schedule_tables.specs.{Delays.{delay_on, pcf_port_time}, declared.rule.Rule.TheVariants.{Correction, Delays, Masters, Precision, Settling}}

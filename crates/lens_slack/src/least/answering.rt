@@ -1,21 +1,26 @@
 ghost use Rattle.std.specs.Prelude.{◌*◌, ◌+◌, ◌^◌, ◌≡◌, ◌≢◌, ◌≤◌};
 ghost use Rattle.net_plan.specs.Ranges.{IsInRange};
-ghost use Rattle.tte_forms.specs.{Answering.{AnswersOne, Gives, GivesAnswer}, Putting.Over};
+ghost use Rattle.tte_forms.specs.{Answering.{AnswersOne, Gives, GivesAnswer, line_answer, with_line}, Putting.Over};
 ghost use Rattle.tte_forms.specs.{Faults.{HasCause, IsWanted, PutFailed, ReadFailed}, networks.Checking.IsCheckStatus};
-ghost use Rattle.lens_slack.specs.least.Answer.{IsLeastAnswer, IsLeastOf, room_of, times_answer};
+ghost use Rattle.lens_slack.specs.least.Answer.{IsLeastAnswer, IsLeastOf, room_of, times_answer, with_late};
 
 use crate::least::Times;
 use crate::least::computing::least_times;
-use crate::least::lines::make_least_line;
+use crate::least::lines::{make_keys, make_least_line};
 use crate::{Beside, Finding, Spot, make_finding_line, put_broken};
 use net_plan::Network;
 use schedule_checker::judge_shape;
 use std::alloc::Global;
 use tte_forms::{Status, put_last, put_no_network, read_unjudged};
 use tte_io::{LineText, Sink, Source};
+use tte_units::Units;
+
+/// The greatest number that `settled` may have.
+const LATEST: Units = Units(1_099_511_627_776);
 
 /// Tells the least dmax, settled, precision, correction and tt_start that rules 8 to 12 admit for the links, the delays
-/// and the rates of the network of a file, and what the cycle lacks where it has no room for them.
+/// and the rates of the network of a file, and then their five lines, to be pasted into the file; or what the cycle lacks
+/// where it has no room for them.
 ///
 /// `least_law` says that with these the rules are kept, and that no others are less.
 pub fn least_of_network<A: Source, K: Sink>(alloc: Global, source: &mut A, out: &mut K) -> Status
@@ -26,7 +31,7 @@ pub fn least_of_network<A: Source, K: Sink>(alloc: Global, source: &mut A, out: 
         (PutFailed K.Sink out.old out.new) }
 {
     match read_unjudged(alloc, source) {
-        Ok(network) => put_least_of(&network, out),
+        Ok(network) => put_least_of(&with_late(network), out),
         Err(cause) => put_no_network(cause, out),
     }
 }
@@ -45,7 +50,18 @@ fn put_least_of<K: Sink>(network: &Network, out: &mut K) -> Status
     }
 }
 
-/// Puts the line of the times, and the line of what is short where the cycle has no room for them.
+/// The network with the greatest `settled`.
+fn with_late(mut network: Network) -> Network
+    requires { IsInRange network }
+    ensures late { result ≡ with_late network }
+    ensures range { IsInRange result }
+{
+    network.settled = LATEST;
+    network
+}
+
+/// Puts the line of the times, and then the lines of their keys, or the line of what is short where the cycle has no room
+/// for them.
 fn put_times<K: Sink>(network: &Network, times: &Times, out: &mut K) -> Status
     requires range { IsInRange network.now }
     requires few { times.now.tt_start + 4 * times.now.precision ≤ 2 ^ 60 }
@@ -54,18 +70,33 @@ fn put_times<K: Sink>(network: &Network, times: &Times, out: &mut K) -> Status
     ensures statuses { IsCheckStatus result }
     ensures read { result ≢ Status.ReadFault }
 {
-    let mut line = LineText::new();
-    make_least_line(&mut line, times);
+    let mut first = LineText::new();
+    let mut behind = LineText::new();
+    make_least_line(&mut first, times);
     let room = room_of(network, times);
     if room.wants <= room.has {
-        return put_last(line.as_slice(), Status::Done, out);
+        make_keys(&mut behind, times);
+        put_both(first.as_slice(), behind.as_slice(), Status::Done, out)
+    } else {
+        make_finding_line(&mut behind, network, &room);
+        put_both(
+            first.as_slice(),
+            behind.as_slice(),
+            Status::NetworkRefused,
+            out,
+        )
     }
-    match out.put(line.as_slice()) {
-        Ok(()) => (),
-        Err(_) => return Status::WriteFault,
+}
+
+/// Puts two texts and passes them on.
+fn put_both<K: Sink>(first: &[u8], behind: &[u8], status: Status, out: &mut K) -> Status
+    ensures gives { Over K.Sink out.old out.new (Gives (with_line first.now (line_answer status behind.now)) result) }
+    ensures status { IsWanted status result (PutFailed K.Sink out.old out.new) }
+{
+    match out.put(first) {
+        Ok(()) => put_last(behind, status, out),
+        Err(_) => Status::WriteFault,
     }
-    make_finding_line(&mut line, network, &room);
-    put_last(line.as_slice(), Status::NetworkRefused, out)
 }
 
 /// The cycle, and where the schedule begins with these times, with room for the precision.

@@ -129,17 +129,29 @@ fn push_count(alloc: Global, text: &mut String, name: &str, count: u32) -> Resul
     text.push_str(one.as_str())
 }
 
+fn counts_text(
+    alloc: Global,
+    begin: &str,
+    names: &[&str],
+    counts: &[u32; 8],
+) -> Result<String, AllocError> {
+    let mut text = String::from_str(alloc, begin)?;
+    for (name, count) in names.iter().zip(counts) {
+        push_count(alloc, &mut text, name, *count)?;
+    }
+    Ok(text)
+}
+
+// The lines of the flow and of the sums, which are its own numbers.
 fn text_of(
     alloc: Global,
     counts: &[u32; 8],
     nearest: &str,
     certain: u32,
 ) -> Result<String, AllocError> {
-    let mut text = String::from_str(alloc, "flow v1 to c1")?;
-    for (name, count) in NAMES.iter().zip(counts) {
-        push_count(alloc, &mut text, name, *count)?;
-    }
-    format!(in alloc; "{text} nearest {nearest} certain {certain}\n")
+    let flow = counts_text(alloc, "flow v1 to c1", &NAMES, counts)?;
+    let sum = counts_text(alloc, "sum", &NAMES[..5], counts)?;
+    format!(in alloc; "{flow} nearest {nearest} certain {certain}\n{sum} certain {certain}\n")
 }
 
 // The flow of a network under a trace is told so.
@@ -162,6 +174,65 @@ fn flows_are_counted(rt: HostRuntime) -> Result<(), Fail> {
         let network = edited(alloc, WORKED, edits)?;
         let text = text_of(alloc, counts, nearest, *certain)?;
         try_counted(&rt, alloc, network.as_str(), trace, text.as_str())?;
+    }
+    Ok(())
+}
+
+// m2 is a second receiver, with wires as those of c1, and channel a does not come to it.
+const SECOND: &[Edit<'_>] = &[(
+    "row = [\n",
+    "row = [\n {vl=\"v1\", link=\"m2_a\", way=\"down\", offset=28180480000},\n \
+        {vl=\"v1\", link=\"m2_b\", way=\"down\", offset=28180480000},\n",
+)];
+
+const BOTH: &str =
+    "flow v1 to m2 owed 3 delivered 3 by a 0 by b 3 missing 0 not owed receiver 0 sender 0 end 0 \
+        nearest early 1074790404 late 1076101124 certain 1
+flow v1 to c1 owed 3 delivered 3 by a 3 by b 0 missing 0 not owed receiver 0 sender 0 end 0 \
+        nearest early 1074790404 late 1076101124 certain 1
+sum owed 6 delivered 6 by a 3 by b 3 missing 0 certain 2
+";
+
+// There is no virtual link.
+const NONE: &[Edit<'_>] = &[
+    (
+        " {name=\"v1\", id=1, length=60, ethertype=2048, sender=\"m1\", period=1, phase=0},\n",
+        "",
+    ),
+    (
+        " {vl=\"v1\", link=\"m1_a\", way=\"up\", offset=26542080000},\n",
+        "",
+    ),
+    (
+        " {vl=\"v1\", link=\"m1_b\", way=\"up\", offset=26542080000},\n",
+        "",
+    ),
+    (
+        " {vl=\"v1\", link=\"c1_a\", way=\"down\", offset=28180480000},\n",
+        "",
+    ),
+    (
+        " {vl=\"v1\", link=\"c1_b\", way=\"down\", offset=28180480000},\n",
+        "",
+    ),
+];
+
+// Networks with two flows and with none, a trace of each, and what is told.
+const SUMMED: &[(&[Edit<'_>], &str, &str)] = &[
+    (SECOND, "1 cut m2_a down\n524287999999 end\n", BOTH),
+    (
+        NONE,
+        "524287999999 end\n",
+        "sum owed 0 delivered 0 by a 0 by b 0 missing 0 certain 0\n",
+    ),
+];
+
+#[test]
+fn all_flows_are_summed(rt: HostRuntime) -> Result<(), Fail> {
+    let alloc = rt.alloc();
+    for (edits, trace, text) in SUMMED {
+        let network = edited(alloc, WORKED, edits)?;
+        try_counted(&rt, alloc, network.as_str(), trace, text)?;
     }
     Ok(())
 }

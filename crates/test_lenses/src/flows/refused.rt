@@ -21,9 +21,9 @@ pub(super) fn try_flows<'x>(
     try_call(rt, alloc, &Call { fails, ..call })
 }
 
-const LINE: &str =
+const LINES: &str =
     "flow v1 to c1 owed 0 delivered 0 by a 0 by b 0 missing 0 not owed receiver 0 sender 0 end 0 nearest none \
-    certain 0\n";
+    certain 0\nsum owed 0 delivered 0 by a 0 by b 0 missing 0 certain 0\n";
 
 // An event without an end, a line that is none, and one record of an end alone.
 const NO_REPORTS: &[(&str, &str)] = &[
@@ -46,7 +46,7 @@ const TOML: &str = "refused network toml\n";
 
 // Networks, what fails, and what is told. Nothing is put where the report cannot be read, or the first put fails.
 const FAULTS: &[(&str, Fails, &str, Status)] = &[
-    (WORKED, Fails::Nothing, LINE, Status::Done),
+    (WORKED, Fails::Nothing, LINES, Status::Done),
     (WORKED, Fails::Second(1), "", Status::ReadFault),
     (WORKED, Fails::Put(1), "", Status::WriteFault),
     ("=", Fails::Nothing, TOML, Status::NetworkRefused),

@@ -8,7 +8,13 @@ const WORDS: &[&str] = &["least", "a"];
 // The least numbers of the worked network. All of them were worked out apart from the program, by trying one dmax after
 // another.
 const OF_WORKED: &str =
-    "least dmax 2692757463 settled 339853072 precision 1019559216 correction 15646643086 tt_start 22858039333\n";
+    "least dmax 2692757463 settled 339853072 precision 1019559216 correction 15646643086 tt_start 22858039333
+dmax = 2692757463
+settled = 339853072
+precision = 1019559216
+correction = 15646643086
+tt_start = 22858039333
+";
 
 // Its cycle is too short for its control frames.
 const HURRIED: &str =
@@ -18,11 +24,23 @@ rule 12 at index 0 tt_start_end has 10000000000 wants 11245344997 short 12453449
 
 // A device begins later than the errors of a resynchronisation ask for.
 const LATE: &str =
-    "least dmax 2692757463 settled 345000000 precision 1024706144 correction 15698112366 tt_start 22930096325\n";
+    "least dmax 2692757463 settled 345000000 precision 1024706144 correction 15698112366 tt_start 22930096325
+dmax = 2692757463
+settled = 345000000
+precision = 1024706144
+correction = 15698112366
+tt_start = 22930096325
+";
 
 // A compression takes longer than the errors of the clocks.
 const SLOW: &str =
-    "least dmax 2692757463 settled 339853072 precision 1100000000 correction 17485514926 tt_start 25018674309\n";
+    "least dmax 2692757463 settled 339853072 precision 1100000000 correction 17485514926 tt_start 25018674309
+dmax = 2692757463
+settled = 339853072
+precision = 1100000000
+correction = 17485514926
+tt_start = 25018674309
+";
 
 // A wire is so long that no file may hold the least numbers.
 const FAR: &str =
@@ -90,7 +108,7 @@ const TOLD: &[(&[Edit<'_>], &str, Status)] = &[
         DRIFTING,
         Status::NetworkRefused,
     ),
-    // A rule that the others suppose.
+    // A rule that the others suppose, and a start that exceeds the file's `settled`, which refuses nothing.
     (
         &[("sync_threshold = 3", "sync_threshold = 2")],
         "refused network rule 7 index 2\nat index 2 threshold\n",
@@ -101,11 +119,11 @@ const TOLD: &[(&[Edit<'_>], &str, Status)] = &[
             ("settled = 345000000", "settled = 0"),
             (
                 "\"020000000014\", member=3, start=0",
-                "\"020000000014\", member=3, start=1",
+                "\"020000000014\", member=3, start=345000000",
             ),
         ],
-        "refused network rule 7 index 4\nat index 4 starts\n",
-        Status::NetworkRefused,
+        LATE,
+        Status::Done,
     ),
 ];
 

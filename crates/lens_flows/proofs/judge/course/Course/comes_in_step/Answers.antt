@@ -1,4 +1,4 @@
-use Rattle.{lens_flows.proofs.judge_lemmas.Comings.{none_in_step, passed_in_step}, std.proofs.Common.{◌+◌, ◌-◌, ◌∙◌, ◌≡◌, ◌≤◌, List, arith, sym, ℕ}}
+use Rattle.{lens_flows.proofs.judge_lemmas.Comings.{none_in_step, passed_in_step}, std.proofs.Common.{◌+◌, ◌-◌, ◌∙◌, arith, sym}}
 use Rattle.{lens_flows.{proofs.judge_lemmas.Firsts.none_both, specs.judge.{Courses.scenario_of, Fates.ReachesInStep}}, std.proofs.lemmas.Bool.false≢true}
 use Rattle.lens_flows.proofs.judge.course.Course.comes_in_step.Goals as goal
 

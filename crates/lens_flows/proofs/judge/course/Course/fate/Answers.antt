@@ -1,4 +1,4 @@
-use Rattle.std.proofs.{Common.{◌+◌, ◌∙◌, ◌≡◌, ◌≤◌, List, arith, refl, subst, sym, ℕ}, lemmas.Bool.false≢true}
+use Rattle.std.proofs.{Common.{◌+◌, ◌∙◌, arith, sym}, lemmas.Bool.false≢true}
 use Rattle.lens_flows.proofs.judge_lemmas.{Fating.{IsEndOf, end_there, no_end, ready_stays, ready_to_end, stays_ready}, Rows.receiver_there}
 use Rattle.lens_flows.specs.judge.{Courses.scenario_of, Times.{IsFirstTime, NoneWithin}}
 use Rattle.lens_flows.proofs.judge.course.Course.fate.Goals as goal

@@ -1,5 +1,5 @@
 use Rattle.lens_flows.{proofs.judge_lemmas.Comings.{Comes, has_come, tells_come, when_true}, specs.judge.{Courses.scenario_of, Fates.ReachesInStep}}
-use Rattle.{lens_flows.specs.judge.Times.NoneWithin, std.proofs.Common.{List, refl}}
+use Rattle.{lens_flows.specs.judge.Times.NoneWithin, std.proofs.Common.{refl}}
 use Rattle.lens_flows.proofs.judge.course.Course.has_come_in_step.Goals as goal
 
 pub returns-then-comes_in_step : goal.returns-then-comes_in_step

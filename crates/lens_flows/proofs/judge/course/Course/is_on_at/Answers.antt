@@ -1,6 +1,6 @@
 use Rattle.{lens_flows.{proofs.judge_lemmas.Steps.shown_state, specs.judge.Courses.scenario_of}, std.proofs.lemmas.Bool.false≢true}
 use Rattle.run_law.specs.device.States.{is_off}
-use Rattle.std.proofs.Common.{◌+◌, ◌∙◌, ◌≡◌, ◌≤◌, List, ap, arith, false, refl, rules, sym}
+use Rattle.std.proofs.Common.{◌∙◌, ◌≡◌, ap, arith, false, refl, rules, sym}
 use Rattle.sync_state.specs.declared.state.State.{State, TheVariants.Off}
 use Rattle.lens_flows.proofs.judge.course.Course.is_on_at.Goals as goal
 

@@ -1,4 +1,4 @@
-use Rattle.{lens_flows.specs.judge.Courses.{IsCourse, scenario_of}, run_law.specs.records.Happenings.Happening, std.proofs.Common.{◌+◌, ◌-◌, ◌<◌, ◌≤◌, List, ℕ}}
+use Rattle.{lens_flows.specs.judge.Courses.{IsCourse, scenario_of}, run_law.specs.records.Happenings.Happening, std.proofs.Common.{◌-◌, ◌≤◌, List, ℕ}}
 use Rattle.{lens_flows.specs.judge.Fates.{Ends, IsSent}, net_plan.specs.declared.event.Event.Event}
 use Rattle.lens_flows.proofs.judge.course.Course.is_owed.Given as goal
 

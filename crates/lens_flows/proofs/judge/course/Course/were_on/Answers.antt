@@ -1,7 +1,7 @@
 use Rattle.lens_flows.specs.judge.{Certain.three_cycles, Courses.scenario_of}
 use Rattle.net_plan.specs.declared.ids.DeviceId.{DeviceId}
-use Rattle.run_law.specs.{device.States.{is_off, state_after}, records.Happenings.{Happening, up_to}, scenario.Scenarios.Scenario}
-use Rattle.std.proofs.{Common.{◌*◌, ◌-◌, ◌∙◌, ◌≡◌, ◌≤◌, List, ap, arith, false, subst, sym, ℕ}, lemmas.Bool.false≢true}
+use Rattle.run_law.specs.{device.States.{is_off, state_after}, records.Happenings.{up_to}}
+use Rattle.std.proofs.{Common.{◌*◌, ◌-◌, ◌∙◌, ◌≡◌, ap, arith, false, subst, sym, ℕ}, lemmas.Bool.false≢true}
 use Rattle.lens_flows.proofs.judge.course.Course.were_on.Goals as goal
 
 pub returns-then-not-is_on_at : goal.returns-then-not-is_on_at
