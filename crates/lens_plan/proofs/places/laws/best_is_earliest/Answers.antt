@@ -1,0 +1,5 @@
+use Rattle.lens_plan.proofs.Spaced.{best_is_earliest}
+use Rattle.lens_plan.proofs.places.laws.best_is_earliest.Goals as goal
+
+pub returns : goal.returns
+returns c = best_is_earliest

@@ -1,0 +1,5 @@
+use Rattle.lens_plan.proofs.NoneOne.{none_one}
+use Rattle.lens_plan.proofs.places.laws.no_plan_is_one.Goals as goal
+
+pub returns : goal.returns
+returns c = none_one

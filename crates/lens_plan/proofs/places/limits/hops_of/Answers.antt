@@ -1,0 +1,12 @@
+use Rattle.lens_plan.{proofs.Wanted.hops_next, specs.{declared.places.ways.Hop.Hop, messages.Message.Message, places.Limits.{AreWays, once}}}
+use Rattle.std.proofs.Common.{◌++◌, ◌∙◌, List, ap, subst}
+use Rattle.lens_plan.proofs.places.limits.hops_of.Goals as goal
+
+pub messages-preserved : goal.messages-preserved
+messages-preserved c =
+    let network = c.args.network.now in
+    let ways = c.in-Ok.ways.items in
+    hops_next network c.args.messages.now c.messages.message-index c.message-item.result c.messages.hops.items c.push_once.new.hops.items ways
+    c.messages-test.true c.messages.invariant
+    (subst (λ (m : Message). AreWays network m.sender m.receivers ways) c.message-item.is c.in-Ok.ensures)
+    (c.in-Ok-push_once.ensures ∙ ap (λ (ws : List Hop). c.messages.hops.items ++ once network ws) c.as_slice.ensures.value)
