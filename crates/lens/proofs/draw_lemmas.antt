@@ -1,6 +1,7 @@
 pub mod Parts
 pub mod Marking
 pub mod Titles
+pub mod Lines
 pub mod Falls
 pub mod Runs
 pub mod Clocks

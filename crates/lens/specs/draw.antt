@@ -4,6 +4,7 @@ pub mod Picture
 pub mod Drafts
 pub mod Answer
 pub mod Laws
+pub mod LineLaws
 pub mod ClockLaws
 pub mod ReadingLaws
 pub mod Asking

@@ -9,4 +9,4 @@ mod signs;
 mod windows;
 
 pub use drawing::Draw;
-pub use laws::{clocks_law, picture_law, reading_law, windows_law};
+pub use laws::{clocks_law, lines_law, picture_law, reading_law, windows_law};

@@ -54,7 +54,7 @@ shown_at : (span : Span) (note : Note) (notes : List Note) (side : Side) → sid
 shown_at span note notes side e = ap (λ (s : Side). if is_within s then note ∷ shown span notes else shown span notes) e
 
 mark_is : (network : Network) (plan : Plan) (note : Note) → IsMarkOf network (mark_of network plan (moved plan.pen (moment note)) note) note
-mark_is network plan note = record { number = refl; time = refl; device = refl; cause = refl; look = refl }
+mark_is network plan note = record { number = refl; time = refl; seat = refl; device = refl; cause = refl; look = refl }
 
 taken_at : (network : Network) (plan after : Plan) (note : Note) (notes : List Note) (side : Side) → side_of plan.span (moment note) ≡ side
     → AreTaken network (took_at side network plan note) after notes → AreTaken network plan after (note ∷ notes)

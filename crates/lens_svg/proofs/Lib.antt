@@ -1,6 +1,7 @@
 pub mod ShortNotes
 pub mod Order
 pub mod Arrows
+pub mod Hues
 pub mod Painting
 pub mod Plain
 pub mod Folds

@@ -4,7 +4,7 @@ use Rattle.{net_plan.specs.Ranges.IsInRange, std.{proofs.lemmas.Bool.and_parts, 
 use Rattle.{net_plan.specs.declared.network.Network.Network, report_text.proofs.{Texts.{AreOfLine, AreVisible}, Visible.{body_visible, units_visible}}}
 use Rattle.report_text.{proofs.Characters.{IsVisible, decimal_visible, is_visible}, specs.Ranges.{IsBodyInRange, IsBodyOf, IsNoteInRange, IsNoteOf}}
 use Rattle.{report_text.specs.NoteLine.{body_text, body_words, note_text}, std.proofs.lemmas.List.Elements.{All-append, All-cons, All-nil, All-weaker}}
-use Rattle.{run_law.specs.declared.note.Note.Note, std.proofs.Common.{◌++◌, ◌<◌, ◌^◌, ◌∷◌, ◌≡◌, List, [], append_assoc, nat_lt, not, refl, subst, sym, true, ℕ}}
+use Rattle.{run_law.specs.declared.note.Note.Note, std.proofs.Common.{◌++◌, ◌∷◌, ◌≡◌, List, [], append_assoc, nat_lt, not, refl, subst, sym, true, ℕ}}
 use Rattle.std.specs.Fmt.{signed_decimal}
 
 -- what is visible is plain

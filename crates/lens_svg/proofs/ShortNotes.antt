@@ -7,7 +7,7 @@ use Rattle.{net_plan.specs.declared.network.Network.Network, run_law.specs.decla
 use Rattle.{report_text.proofs.Short.{device_short, joined_short, link_short, size, what_short}, std.specs.Prelude.{FitsSigned, codes, decimal, negsuc, pos, ℤ}}
 use Rattle.report_text.specs.{NoteLine.{body_text, body_words, note_text}, NoteWords.{judgement_text, members_text, reason_words, state_text, why_text}}
 use Rattle.{run_law.specs.declared.judgement.Why.Why, tte_units.{proofs.general_lemmas.Lists.{in_all, some_at}, specs.declared.frames.members.Members.Members}}
-use Rattle.std.proofs.{Common.{◌*◌, ◌++◌, ◌+◌, ◌-◌, ◌<◌, ◌^◌, ◌∙◌, ◌∷◌, ◌≡◌, ◌≤◌, List, [], ap, arith, length, length-append, suc, take, ℕ}, lemmas.Int.ints}
+use Rattle.std.proofs.{Common.{◌*◌, ◌++◌, ◌-◌, ◌<◌, ◌^◌, ◌∙◌, ◌∷◌, ◌≡◌, ◌≤◌, List, [], ap, arith, length, length-append, suc, take, ℕ}, lemmas.Int.ints}
 use Rattle.run_law.specs.declared.judgement.Judgement.TheVariants as judgements
 use Rattle.run_law.specs.declared.judgement.Reason.TheVariants as reasons
 use Rattle.run_law.specs.declared.judgement.Why.TheVariants as whys

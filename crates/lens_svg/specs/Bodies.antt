@@ -1,5 +1,5 @@
 -- What a record says of where it is drawn, and how.
-use Rattle.std.specs.Option.{option_map_or}
+use Rattle.std.specs.{Option.option_map_or, Prelude.{◌+◌, ℕ}}
 use Rattle.{lens_svg.specs.Marks.ground_of, run_law.specs.declared.note.NoteBody.NoteBody}
 use Rattle.lens_svg.specs.declared.mark.{Ground.TheVariants.Broken, Hue.TheVariants.{Control, Forged, Stream, Summary}}
 use Rattle.lens_svg.specs.declared.mark.{Hue.Hue, Look.{Look, TheVariants.{Gone, Plain, Taken, Turned, Waited}}}
@@ -50,7 +50,12 @@ scene_of network (Delivered device link cause vl cycle) = device
 scene_of network (Dropped device link cause reason) = device
 scene_of network (Clock device reading adjustment state) = device
 
--- its hue where the record that it comes from is not drawn
+-- the row in which its mark stands: 0 is that of the events, and then there is one for each device
+abbrev pub seat_of : Network → NoteBody → ℕ
+seat_of network (Event line what) = 0
+seat_of network body = (scene_of network body).0 + 1
+
+-- its hue where it comes from no record
 abbrev pub own_hue : NoteBody → Hue
 own_hue (Event line what) = Forged
 own_hue (Compressed device opened at cycle members verdict) = Summary

@@ -98,7 +98,7 @@ nanos_of units = units / 65536
 abbrev pub gauge_at : Network → Pen → Ends → Told → Element
 gauge_at network pen ends told =
     let beyond = apart_of told ends.least in
-    Gauge (record { x = pen.x; y = y_of network told.device })
+    Gauge (record { x = pen.most; y = y_of network told.device })
     (if beyond == 0 then 0 else share 50 beyond (apart_of ends.greatest ends.least)) (nanos_of beyond)
 
 -- what is drawn of a clock: nothing of that of a broken device

@@ -6,7 +6,7 @@ use Rattle.lens_svg.specs.{Marks.{ground_text, hue_text}, declared.{element.{Ban
 use Rattle.lens_svg.specs.declared.element.{Band.TheVariants.{Ground, Wait}, Element.{Element, TheVariants.Window}}
 use Rattle.lens_svg.specs.declared.element.Element.TheVariants.{Bar, Caption, Gauge, Opening, Rail, Spread, Tick, Way}
 use Rattle.net_plan.specs.{Belonging.{HasDevice, device_name}, declared.{ids.DeviceId.DeviceId, tables.Role.Role}}
-use Rattle.net_plan.specs.Places.{device_at}
+use Rattle.{net_plan.specs.Places.device_at, tte_units.specs.Amount.amount}
 use Rattle.tte_units.specs.declared.frames.channel.Channel.{Channel, TheVariants.{A, B}}
 use Rattle.net_plan.specs.declared.{network.Network.Network, tables.Role.TheVariants.{Client, Cm, Master, Relay}}
 
@@ -61,11 +61,17 @@ opening_line width height =
 abbrev pub until_text : ℕ → List ℕ
 until_text to = if to == last_time then codes "the end" else micros_text to ++ codes " us"
 
+-- how many records are drawn, and the precision
+unfoldable pub extent_text : ℕ → ℕ → List ℕ
+extent_text records precision =
+    codes ", records " ++ decimal records ++ codes ", precision " ++ micros_text precision
+    ++ codes " us. Gaps are drawn shortened.</text>\n"
+
 -- which part of the run is drawn
-unfoldable pub caption_line : Span → List ℕ
-caption_line span =
+unfoldable pub caption_line : Span → ℕ → ℕ → List ℕ
+caption_line span records precision =
     codes "<text class=\"note\" x=\"12\" y=\"42\">" ++ micros_text span.from ++ codes " us to " ++ until_text span.to
-    ++ codes ". Gaps are drawn shortened.</text>\n"
+    ++ extent_text records precision
 
 -- a stroke along a lane
 unfoldable pub bar_line : Band → Point → ℕ → List ℕ
@@ -83,7 +89,7 @@ rail_line network device y to =
 unfoldable pub tick_line : Point → ℕ → List ℕ
 tick_line point time =
     codes "<g><path class=\"tick\" d=\"M" ++ point_text point
-    ++ codes " V128\"/><text class=\"time\" transform=\"translate(" ++ point_text point
+    ++ codes " V168\"/><text class=\"time\" transform=\"translate(" ++ point_text point
     ++ codes ") rotate(50)\" x=\"8\" y=\"6\">" ++ micros_text time ++ codes "</text></g>\n"
 
 -- the word for whether a frame ends
@@ -130,7 +136,7 @@ window_line point tick =
 -- the line of something that is drawn
 abbrev pub element_line : Network → Element → List ℕ
 element_line network (Opening width height) = opening_line width height
-element_line network (Caption span) = caption_line span
+element_line network (Caption span records) = caption_line span records (amount network.precision)
 element_line network (Bar band point to) = bar_line band point to
 element_line network (Rail device y to) = rail_line network device y to
 element_line network (Tick point time) = tick_line point time

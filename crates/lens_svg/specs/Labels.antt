@@ -6,7 +6,7 @@ use Rattle.net_plan.specs.declared.event.What.{TheVariants.{Break, Cut, End, Hea
 use Rattle.{net_plan.specs.declared.{ids.LinkId.LinkId, tables.Way.Way}, run_law.specs.declared.note.NoteBody.NoteBody}
 use Rattle.{net_plan.specs.declared.ids.VlId.VlId, run_law.specs.declared.judgement.Why.Why}
 use Rattle.report_text.specs.NoteWords.{judgement_text, members_text, state_text, why_text}
-use Rattle.run_law.specs.declared.{judgement.Judgement.Judgement, note.NoteBody.TheVariants.{Permanent, State}}
+use Rattle.run_law.specs.declared.{judgement.Judgement.Judgement, note.NoteBody.TheVariants.{Accepted, Permanent, State, TtSent}}
 use Rattle.{run_law.specs.declared.judgement.Reason.Reason, tte_units.specs.declared.frames.members.Members.Members}
 use Rattle.run_law.specs.declared.note.NoteBody.TheVariants.{Compressed, Corrected, Delivered, Dropped, Event, Lost}
 use Rattle.run_law.specs.declared.judgement.Judgement.TheVariants as judgements
@@ -39,7 +39,7 @@ verdict_label judgements.Outside = codes "out"
 verdict_label judgements.Integrates = codes "integrates"
 verdict_label judgements.Ignored = codes "ignored"
 
--- why a frame is dropped
+-- why a frame is dropped, where it is not a second copy
 abbrev pub reason_label : Reason → List ℕ
 reason_label reasons.Off = codes "off"
 reason_label reasons.ColdStart = codes "coldstart"
@@ -53,7 +53,7 @@ reason_label reasons.Unknown = codes "unknown"
 reason_label reasons.Length = codes "length"
 reason_label reasons.Early = codes "early"
 reason_label reasons.Late = codes "late"
-reason_label reasons.Repeat = codes "repeat"
+reason_label reasons.Repeat = []
 reason_label (reasons.RefusedLength length) = codes "refused"
 reason_label reasons.RefusedEtherType = codes "refused"
 reason_label (reasons.RefusedReserved offset) = codes "refused"
@@ -79,6 +79,8 @@ label_text network (Compressed device opened at cycle members verdict) = collect
 label_text network (Corrected device cycle by adjustment) = nanos_text by
 label_text network (State device state cause why) = state_label state why
 label_text network (Lost device link cause) = codes "lost"
+label_text network (TtSent device link cause vl cycle) = vl_name network vl
+label_text network (Accepted device link cause vl cycle) = vl_name network vl
 label_text network (Delivered device link cause vl cycle) = stream_label network vl cycle
 label_text network (Dropped device link cause reason) = reason_label reason
 label_text network body = []

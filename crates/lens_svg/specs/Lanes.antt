@@ -40,11 +40,11 @@ lane_of network device =
 
 -- how far down it is
 abbrev pub y_of : Network → DeviceId → ℕ
-y_of network device = 152 + 40 * lane_of network device
+y_of network device = 192 + 40 * lane_of network device
 
 -- how far down the lanes end
 abbrev pub bottom_of : Network → ℕ
-bottom_of network = 132 + 40 * length network.device
+bottom_of network = 172 + 40 * length network.device
 
 -- the ground of a device's lane where a run begins: one with a local clock is synchronised, the others are off
 abbrev pub start_in : Option Units → Ground

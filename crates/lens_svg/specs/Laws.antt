@@ -1,10 +1,13 @@
 -- What holds of pictures.
-use Rattle.std.specs.Prelude.{◌≡◌, ◌≢◌, ℕ, ◌+◌, ◌<◌, ◌≤◌, true, List, [], ◌∷◌, ◌++◌, All, Some, filter, fold, length}
+use Rattle.std.specs.Prelude.{◌≡◌, ◌≢◌, ℕ, ◌+◌, ◌-◌, ◌<◌, ◌≤◌, true, List, [], ◌∷◌, ◌++◌, All, Some, filter, fold, length}
 use Rattle.std.specs.Prelude.{map, slice_get, take}
-use Rattle.{lens_svg.specs.Bodies.{look_of, scene_of}, run_law.specs.{declared.note.Note.Note, records.Causes.cause_of}}
+use Rattle.report_text.specs.Ranges.{IsNoteOf}
+use Rattle.lens_svg.specs.Bodies.{look_of, own_hue, scene_of, seat_of}
+use Rattle.run_law.specs.{declared.note.Note.Note, records.{Causes.cause_of, Order.IsIn}}
 use Rattle.lens_svg.specs.{Lanes.start_of, Layout.holds, Plan.Plan}
 use Rattle.lens_svg.specs.{Layers.{is_gone, point_of, way_of}, declared.{element.Element.Element, mark.Ground.Ground}}
-use Rattle.lens_svg.specs.{Sketching.{fits, grounds_behind, moment, plan_of}, declared.element.Element.TheVariants.Way}
+use Rattle.lens_svg.specs.{Sketching.{fits, grounds_behind, hues_with, moment, plan_of}, declared.mark.Hue.Hue}
+use Rattle.lens_svg.specs.declared.element.Element.TheVariants.{Way}
 use Rattle.{lens_svg.specs.declared.{layout.Span.Span, mark.Mark.Mark}, net_plan.specs.declared.network.Network.Network}
 
 -- the times of the records never fall, and none is before this time
@@ -12,29 +15,32 @@ abbrev pub NeverFall : ℕ → List Note → Type 0
 NeverFall time [] = Unit {0}
 NeverFall time (note ∷ notes) = (time ≤ moment note) × NeverFall (moment note) notes
 
--- where the instant of the first mark is earlier, it stands at least 26 pixels further to the left
-abbrev pub StandsLeft : Mark → Mark → Type 0
-StandsLeft earlier later = earlier.time < later.time → earlier.x + 26 ≤ later.x
+-- where the instant of the first mark is earlier, it stands at least 26 pixels further to the left; and where both are of
+-- one instant and in one row, at least 14
+pub record StandsLeft (earlier later : Mark) : Type 0 where
+  pub instants : earlier.time < later.time → earlier.x + 26 ≤ later.x
+  pub beside : earlier.time ≡ later.time → earlier.seat ≡ later.seat → earlier.x + 14 ≤ later.x
 
 -- so does each mark to those behind it
 abbrev pub AreApart : List Mark → Type 0
 AreApart [] = Unit {0}
 AreApart (mark ∷ marks) = All (StandsLeft mark) marks × AreApart marks
 
--- in a picture that fits, the marks stand in the order of their instants
+-- in a picture that fits, the marks stand in the order of their instants, and those of one instant and row side by side
 abbrev pub KeepsOrder : Type 0
 KeepsOrder =
-    (network : Network) (span : Span) (notes : List Note) → NeverFall 0 notes → fits (plan_of network span notes) ≡ true
-    → AreApart (plan_of network span notes).marks
+    (network : Network) (span : Span) (notes : List Note) → All (IsNoteOf network) notes → NeverFall 0 notes
+    → fits (plan_of network span notes) ≡ true → AreApart (plan_of network span notes).marks
 
 -- the records in the span
 abbrev pub shown : Span → List Note → List Note
 shown span notes = filter (λ note. holds span (moment note)) notes
 
--- the mark tells of the record its number, its time, its device, its cause and what it draws
+-- the mark tells of the record its number, its time, its row, its device, its cause and what it draws
 pub record IsMarkOf (network : Network) (mark : Mark) (note : Note) : Type 0 where
   pub number : mark.number ≡ note.number
   pub time : mark.time ≡ moment note
+  pub seat : mark.seat ≡ seat_of network note.body
   pub device : mark.device ≡ scene_of network note.body
   pub cause : mark.cause ≡ cause_of note.body
   pub look : mark.look ≡ look_of note.body
@@ -74,6 +80,28 @@ abbrev pub ArrowsAreCauses : Type 0
 ArrowsAreCauses =
     (network : Network) (span : Span) (notes : List Note) → NumbersFollow 1 notes → NeverFall 0 notes
     → AreMarksOf network (plan_of network span notes).marks (shown span notes) × HasArrows (plan_of network span notes)
+
+-- the hues of records, one after another, from the run's beginning on
+abbrev pub hues_of : List Note → List Hue
+hues_of notes = fold (λ hues note. hues_with hues note.body) [] notes
+
+-- the hue of a record is its own where it comes from none, and else that of the earlier one that it comes from
+pub record HasCausesHue (front rest : List Note) (note : Note) : Type 0 where
+  pub own : cause_of note.body ≡ 0
+      → slice_get (hues_of (front ++ note ∷ rest)) (length front) ≡ Some (own_hue note.body)
+  pub cause : 1 ≤ cause_of note.body → cause_of note.body ≤ length front
+      → slice_get (hues_of (front ++ note ∷ rest)) (length front)
+      ≡ slice_get (hues_of (front ++ note ∷ rest)) (cause_of note.body - 1)
+
+abbrev pub HuesComeFromCauses : Type 0
+HuesComeFromCauses = (front rest : List Note) (note : Note) → HasCausesHue front rest note
+
+-- each mark has the hue of its record, also where what that comes from lies before the picture
+abbrev pub MarksHaveHues : Type 0
+MarksHaveHues =
+    (network : Network) (span : Span) (notes : List Note) → NumbersFollow 1 notes → NeverFall 0 notes
+    → (mark : Mark) → IsIn mark (plan_of network span notes).marks
+    → slice_get (hues_of notes) (mark.number - 1) ≡ Some mark.hue
 
 -- the grounds of the lanes behind a record
 abbrev pub grounds_with : Network → List Ground → Note → List Ground

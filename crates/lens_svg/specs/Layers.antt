@@ -1,5 +1,5 @@
 -- The layers of a picture below its marks.
-use Rattle.std.specs.Prelude.{ℕ, ◌+◌, ◌==◌, Bool, true, false, if◌then◌else◌, Option, Some, None, slice_get}
+use Rattle.std.specs.Prelude.{ℕ, ◌+◌, ◌==◌, ◌&&◌, Bool, true, false, nat_lt, if◌then◌else◌, Option, Some, None, slice_get}
 use Rattle.std.specs.Prelude.{option_and_then, option_map}
 use Rattle.lens_svg.specs.{Lanes.{bottom_of, y_of}, Sketching.mark_at, declared.element.Band.TheVariants.{Ground, Wait}}
 use Rattle.lens_svg.specs.{Layout.{right_of, width_of}, declared.mark.Look.{Look, TheVariants.{Gone, Turned, Waited}}}
@@ -39,14 +39,24 @@ turn_of plan mark = turn_to mark.look plan mark
 abbrev pub tick_of : Network → Mark → Option Element
 tick_of network mark = if mark.first then Some (Tick (record { x = mark.x; y = bottom_of network }) mark.time) else None
 
--- how long the frame waited that is permanent with the mark
-abbrev pub wait_to : Look → Plan → Mark → Option Element
-wait_to Waited plan mark =
-    option_map (λ cause. Bar (Wait mark.hue) (point_of cause) mark.x) (mark_at plan.marks mark.cause)
-wait_to look plan mark = None
+-- a frame may have waited at its device that is permanent or dropped there
+abbrev pub may_wait : Look → Bool
+may_wait Waited = true
+may_wait Gone = true
+may_wait look = false
 
+-- the wait of a frame from one mark to a later one at the same device
+abbrev pub wait_between : Mark → Mark → Option Element
+wait_between cause mark =
+    if cause.device.0 == mark.device.0 && nat_lt cause.time mark.time then
+    Some (Bar (Wait mark.hue) (point_of cause) mark.x)
+    else None
+
+-- how long the frame waited that is permanent with the mark, or dropped
 abbrev pub wait_of : Plan → Mark → Option Element
-wait_of plan mark = wait_to mark.look plan mark
+wait_of plan mark =
+    if may_wait mark.look then option_and_then (λ cause. wait_between cause mark) (mark_at plan.marks mark.cause)
+    else None
 
 -- the frame ends with the mark
 abbrev pub is_gone : Look → Bool

@@ -1,5 +1,5 @@
 -- Where an instant stands in a picture.
-use Rattle.std.specs.Prelude.{ℕ, ◌+◌, ◌-◌, ◌/◌, nat_lt, if◌then◌else◌, Bool, true, false}
+use Rattle.std.specs.Prelude.{ℕ, ◌+◌, ◌-◌, ◌/◌, ◌≤◌, nat_lt, if◌then◌else◌, Bool, true, false}
 use Rattle.lens_svg.specs.declared.layout.{Pen.Pen, Side.{Side, TheVariants.{Before, Behind, Within}}, Span.Span}
 
 -- how many pixels wide a picture is at most
@@ -35,28 +35,37 @@ clamped pixels = if nat_lt pixels 26 then 26 else if nat_lt 78 pixels then 78 el
 abbrev pub gap : ℕ → ℕ → ℕ
 gap from to = if nat_lt from to then clamped ((to - from) / 30000000) else 0
 
+-- no farther to the right than a picture may be wide
+abbrev pub capped : ℕ → ℕ
+capped x = if nat_lt x widest then x else widest
+
 -- the pen where a picture from this time on begins
 abbrev pub pen_at : ℕ → Pen
-pen_at from = record { x = 170; time = from; row = 0 }
+pen_at from = record { x = 170; time = from; most = 170 }
 
--- how many events the pen has above it at a time: none at a later one than its own
-abbrev pub row_at : Pen → ℕ → ℕ
-row_at pen time = if nat_lt pen.time time then 0 else pen.row
-
--- the pen at a time: by the gap to the right of where it was, and no farther than a picture may be wide
+-- the pen at a time: a later one stands by the gap to the right of all marks of the one before, and none farther than a
+-- picture may be wide
 abbrev pub moved : Pen → ℕ → Pen
 moved pen time =
-    let x = pen.x + gap pen.time time in
-    if nat_lt x widest then record { x = x; time = time; row = row_at pen time }
-    else record { x = widest; time = time; row = row_at pen time }
+    let x = capped (pen.most + gap pen.time time) in
+    if nat_lt pen.time time then record { x = x; time = time; most = x } else pen
 
--- one event more, of which four have a row of their own
-abbrev pub next_row : ℕ → ℕ
-next_row row = if nat_lt row 4 then row + 1 else 4
+-- a mark stands where its instant does, or 14 pixels to the right of the last one of its row that stands there
+abbrev pub stand : Pen → ℕ → ℕ
+stand pen last = if nat_lt last pen.x then pen.x else capped (last + 14)
+
+-- the pen with a mark that stands here
+abbrev pub reached : Pen → ℕ → Pen
+reached pen x = record pen { most = if nat_lt pen.most x then x else pen.most }
+
+-- it is there
+pub record IsOnPaper (pen : Pen) : Type 0 where
+  pub x : pen.x ≤ widest
+  pub most : pen.most ≤ widest
 
 -- where the lanes end behind the last instant
 abbrev pub right_of : Pen → ℕ
-right_of pen = if nat_lt pen.x 810 then 940 else pen.x + 130
+right_of pen = if nat_lt pen.most 810 then 940 else pen.most + 130
 
 -- how wide the picture is
 abbrev pub width_of : Pen → ℕ

@@ -1,10 +1,12 @@
 -- How the plan of a picture grows record by record.
-use Rattle.std.specs.{Option.option_map_or, Prelude.{option_and_then, slice_get, slice_set, unsigned_abs, ℕ}}
-use Rattle.std.specs.Prelude.{◌++◌, ◌-◌, ◌∷◌, Bool, List, None, Option, [], if◌then◌else◌, length, map, nat_le, nat_lt}
+use Rattle.std.specs.Prelude.{is_some, option_and_then, slice_get, slice_set, unsigned_abs, unwrap_or, ℕ}
+use Rattle.std.specs.Prelude.{◌++◌, ◌-◌, ◌==◌, ◌∷◌, Bool, List, None, Option, [], if◌then◌else◌, length, map, nat_le, nat_lt}
 use Rattle.lens_svg.specs.declared.{layout.Side.TheVariants.{Before, Behind, Within}, mark.Look.TheVariants.Turned}
 use Rattle.lens_svg.specs.declared.{layout.{Pen.Pen, Side.Side, Span.Span}, mark.{Ground.Ground, Look.Look}}
 use Rattle.lens_svg.specs.{Lanes.{start_of, y_of}, Plan.Plan, declared.mark.{Hue.Hue, Mark.Mark}}
-use Rattle.lens_svg.specs.{Bodies.{look_of, own_hue, scene_of}, Layout.{moved, pen_at, side_of, widest, width_of}}
+use Rattle.lens_svg.specs.{Bodies.{look_of, own_hue, scene_of, seat_of}, Layout.{moved, pen_at, reached, side_of, stand}}
+use Rattle.lens_svg.specs.Layout.{widest, width_of}
+use Rattle.net_plan.specs.declared.tables.Device.{Device}
 use Rattle.net_plan.specs.declared.network.Network.{Network}
 use Rattle.run_law.specs.{declared.note.{Note.Note, NoteBody.NoteBody}, records.Causes.cause_of}
 
@@ -12,29 +14,50 @@ use Rattle.run_law.specs.{declared.note.{Note.Note, NoteBody.NoteBody}, records.
 abbrev pub moment : Note → ℕ
 moment note = unsigned_abs note.time.0
 
+-- how far to the right the last mark of each row stands where there is none: of the events, and of each device
+abbrev pub no_marks_in : List Device → List ℕ
+no_marks_in devices = 0 ∷ map (λ d. 0) devices
+
 -- the plan before the first record
 abbrev pub begun : Network → Span → Plan
 begun network span = record {
   span = span;
   pen = pen_at span.from;
   last = 0;
+  seats = no_marks_in network.device;
+  hues = [];
   marks = [];
   grounds = map start_of network.device;
 }
 
--- the grounds with another one at this place, if there is such a place
-abbrev pub set_ground : List Ground → ℕ → Ground → List Ground
-set_ground grounds place shade = if nat_lt place (length grounds) then slice_set grounds place shade else grounds
+-- the list with another element at this place, if there is such a place
+abbrev pub with_at : {X : Type 0} → List X → ℕ → X → List X
+with_at xs place x = if nat_lt place (length xs) then slice_set xs place x else xs
 
 -- the grounds behind a record that draws this
 abbrev pub grounds_behind : Look → ℕ → List Ground → List Ground
-grounds_behind (Turned shade) place grounds = set_ground grounds place shade
+grounds_behind (Turned shade) place grounds = with_at grounds place shade
 grounds_behind look place grounds = grounds
+
+-- the hue of a record: that of the one that it comes from, if it comes from one
+abbrev pub hue_of : List Hue → NoteBody → Hue
+hue_of hues body =
+    if cause_of body == 0 then own_hue body
+    else unwrap_or (slice_get hues (cause_of body - 1)) (own_hue body)
+
+-- the hues of records with one more
+abbrev pub hues_with : List Hue → NoteBody → List Hue
+hues_with hues body = hues ++ hue_of hues body ∷ []
+
+abbrev pub with_hue : Plan → NoteBody → Plan
+with_hue plan body = record plan { hues = hues_with plan.hues body }
 
 -- the plan behind a record before the picture
 abbrev pub turned : Network → Plan → NoteBody → Plan
-turned network plan body =
-    record plan { grounds = grounds_behind (look_of body) (scene_of network body).0 plan.grounds }
+turned network plan body = record plan {
+  hues = hues_with plan.hues body;
+  grounds = grounds_behind (look_of body) (scene_of network body).0 plan.grounds;
+}
 
 -- the mark of the record of this number, if it is drawn: the numbers of marks follow each other
 abbrev pub mark_at : List Mark → ℕ → Option Mark
@@ -42,21 +65,26 @@ mark_at marks number =
     option_and_then (λ first. if nat_lt number first.number then None else slice_get marks (number - first.number))
     (slice_get marks 0)
 
--- the hue of a record: that of the one that it comes from, where that is drawn
-abbrev pub hue_of : List Mark → NoteBody → Hue
-hue_of marks body = option_map_or (λ mark. mark.hue) (mark_at marks (cause_of body)) (own_hue body)
+-- how far to the right the last mark of a row stands, or 0
+abbrev pub last_in : List ℕ → ℕ → ℕ
+last_in seats seat = unwrap_or (slice_get seats seat) 0
+
+abbrev pub seated : Plan → ℕ → ℕ → Plan
+seated plan seat x = record plan { seats = with_at plan.seats seat x }
 
 -- the mark of a record where the pen is
 abbrev pub mark_of : Network → Plan → Pen → Note → Mark
 mark_of network plan pen note = record {
   number = note.number;
   time = moment note;
-  x = pen.x;
+  x = stand pen (last_in plan.seats (seat_of network note.body));
   first = nat_lt plan.last pen.x;
+  seat = seat_of network note.body;
   device = scene_of network note.body;
   y = y_of network (scene_of network note.body);
   cause = cause_of note.body;
-  hue = hue_of plan.marks note.body;
+  linked = is_some (mark_at plan.marks (cause_of note.body));
+  hue = hue_of plan.hues note.body;
   look = look_of note.body;
 }
 
@@ -64,7 +92,14 @@ mark_of network plan pen note = record {
 abbrev pub drawn : Network → Plan → Note → Plan
 drawn network plan note =
     let pen = moved plan.pen (moment note) in
-    record plan { pen = pen; last = pen.x; marks = plan.marks ++ mark_of network plan pen note ∷ [] }
+    let mark = mark_of network plan pen note in
+    record plan {
+      pen = reached pen mark.x;
+      last = pen.x;
+      seats = with_at plan.seats mark.seat mark.x;
+      hues = hues_with plan.hues note.body;
+      marks = plan.marks ++ mark ∷ [];
+    }
 
 -- the plan behind a record that is before the picture, in it, or behind it
 abbrev pub took_at : Side → Network → Plan → Note → Plan

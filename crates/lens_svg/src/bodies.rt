@@ -1,6 +1,6 @@
 //! What a record says of where it is drawn, and how.
 ghost use Rattle.std.specs.Prelude.{◌≡◌};
-ghost use Rattle.lens_svg.specs.Bodies.{child_of, look_of, own_hue, scene_of, struck_by, struck_look};
+ghost use Rattle.lens_svg.specs.Bodies.{child_of, look_of, own_hue, scene_of, seat_of, struck_by, struck_look};
 ghost use Rattle.run_law.specs.records.Causes.{cause_of};
 
 use crate::mark::ground_of;
@@ -72,6 +72,28 @@ pub(crate) fn scene_of(network: &Network, body: &NoteBody) -> DeviceId
     }
 }
 
+/// The row in which its mark stands: 0 is that of the events, and then there is one for each device.
+pub(crate) fn seat_of(network: &Network, body: &NoteBody) -> u64
+    ensures { result ≡ seat_of network.now body.now }
+{
+    match body {
+        NoteBody::Event { .. } => 0,
+        NoteBody::Arrived { .. }
+        | NoteBody::Permanent { .. }
+        | NoteBody::Compressed { .. }
+        | NoteBody::Sent { .. }
+        | NoteBody::Corrected { .. }
+        | NoteBody::State { .. }
+        | NoteBody::Left { .. }
+        | NoteBody::Lost { .. }
+        | NoteBody::TtSent { .. }
+        | NoteBody::Accepted { .. }
+        | NoteBody::Delivered { .. }
+        | NoteBody::Dropped { .. }
+        | NoteBody::Clock { .. } => u64::from(scene_of(network, body).0) + 1,
+    }
+}
+
 /// The number of the record that it comes from, or 0.
 pub(crate) fn cause_of(body: &NoteBody) -> u64
     ensures { result ≡ cause_of body.now }
@@ -94,7 +116,7 @@ pub(crate) fn cause_of(body: &NoteBody) -> u64
     }
 }
 
-/// Its hue where the record that it comes from is not drawn.
+/// Its hue where it comes from no record.
 pub(crate) fn own_hue(body: &NoteBody) -> Hue
     ensures { result ≡ own_hue body.now }
 {

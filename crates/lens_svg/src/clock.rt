@@ -226,7 +226,7 @@ fn gauge_at(network: &Network, pen: Pen, ends: Ends, told: Told) -> Element
         share(50, beyond, ends.greatest.apart(ends.least))
     };
     let place = Point {
-        x: pen.x,
+        x: pen.most,
         y: y_of(network, told.device),
     };
     Element::Gauge(place, width, nanos_of(beyond))

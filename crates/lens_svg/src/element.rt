@@ -1,7 +1,7 @@
 //! What is drawn besides the marks, each as a line.
 ghost use Rattle.std.specs.Prelude.{◌≡◌, ◌≤◌, ◌+◌, ◌++◌, length};
 ghost use Rattle.lens_svg.specs.Elements.{HasNames, band_text, bar_line, caption_line, element_line, gauge_line};
-ghost use Rattle.lens_svg.specs.Elements.{gone_text, kind_text, name_part, opening_line, point_text, rail_line};
+ghost use Rattle.lens_svg.specs.Elements.{extent_text, gone_text, kind_text, name_part, opening_line, point_text, rail_line};
 ghost use Rattle.lens_svg.specs.Elements.{role_part, role_text, role_word, spread_bar, spread_line, spread_words};
 ghost use Rattle.lens_svg.specs.Elements.{tick_line, until_text, way_line, window_line};
 ghost use Rattle.{net_plan.specs.{Belonging.{HasDevice, device_name}, Ranges.IsInRange}, tte_io.specs.Line.line_limit};
@@ -33,8 +33,8 @@ pub enum Band {
 pub enum Element {
     /// The beginning of the picture: how wide and how high it is.
     Opening(u64, u64),
-    /// Which part of the run is drawn.
-    Caption(Span),
+    /// Which part of the run is drawn, and how many records there are in it.
+    Caption(Span, u64),
     /// A stroke along a lane, from a place to so far to the right.
     Bar(Band, Point, u64),
     /// A device's name, and the line of its lane: how far down it is, and how far to the right it ends.
@@ -201,7 +201,7 @@ fn make_tick(line: &mut LineText, point: Point, time: u64)
     line.clear();
     line.push("<g><path class=\"tick\" d=\"M");
     push_point(line, point);
-    line.push(" V128\"/><text class=\"time\" transform=\"translate(");
+    line.push(" V168\"/><text class=\"time\" transform=\"translate(");
     push_point(line, point);
     line.push(") rotate(50)\" x=\"8\" y=\"6\">");
     push_micros(line, time);
@@ -263,16 +263,29 @@ fn push_until(line: &mut LineText, to: u64)
     }
 }
 
+/// Adds how many records are drawn, and the precision.
+#[tactic(auto, unfolding(crate::specs::Elements::extent_text))]
+fn push_extent(line: &mut LineText, records: u64, precision: u64)
+    requires { length line.old + 200 ≤ line_limit }
+    ensures { line.new ≡ line.old ++ extent_text records precision }
+{
+    line.push(", records ");
+    line.push_decimal(records);
+    line.push(", precision ");
+    push_micros(line, precision);
+    line.push(" us. Gaps are drawn shortened.</text>\n");
+}
+
 #[tactic(auto, unfolding(crate::specs::Elements::caption_line))]
-fn make_caption(line: &mut LineText, span: Span)
-    ensures { line.new ≡ caption_line span }
+fn make_caption(line: &mut LineText, span: Span, records: u64, precision: u64)
+    ensures { line.new ≡ caption_line span records precision }
 {
     line.clear();
     line.push("<text class=\"note\" x=\"12\" y=\"42\">");
     push_micros(line, span.from);
     line.push(" us to ");
     push_until(line, span.to);
-    line.push(". Gaps are drawn shortened.</text>\n");
+    push_extent(line, records, precision);
 }
 
 #[tactic(auto, unfolding(crate::specs::Elements::gauge_line))]
@@ -345,7 +358,9 @@ pub fn make_element_line(line: &mut LineText, network: &Network, element: Elemen
 {
     match element {
         Element::Opening(width, height) => make_opening(line, width, height),
-        Element::Caption(span) => make_caption(line, span),
+        Element::Caption(span, records) => {
+            make_caption(line, span, records, network.precision.amount());
+        }
         Element::Bar(band, point, to) => make_bar(line, band, point, to),
         Element::Rail(device, y, to) => make_rail(line, network, device, y, to),
         Element::Tick(point, time) => make_tick(line, point, time),

@@ -80,7 +80,7 @@ fn verdict_label(verdict: Judgement) -> &'static str
     }
 }
 
-/// Why a frame is dropped.
+/// Why a frame is dropped, where it is not a second copy.
 fn reason_label(reason: Reason) -> &'static str
     ensures text { result.now ≡ reason_label reason }
     ensures short { length result.now ≤ 14 }
@@ -98,7 +98,7 @@ fn reason_label(reason: Reason) -> &'static str
         Reason::Length => "length",
         Reason::Early => "early",
         Reason::Late => "late",
-        Reason::Repeat => "repeat",
+        Reason::Repeat => "",
         Reason::RefusedLength(_)
         | Reason::RefusedEtherType
         | Reason::RefusedReserved(_)
@@ -160,13 +160,14 @@ pub(crate) fn push_label(line: &mut LineText, network: &Network, body: &NoteBody
         NoteBody::Corrected { by, .. } => push_nanos(line, *by),
         NoteBody::State { state, why, .. } => push_turn(line, *state, *why),
         NoteBody::Lost { .. } => line.push("lost"),
+        NoteBody::TtSent { vl, .. } | NoteBody::Accepted { vl, .. } => {
+            line.append(network.vl_name(*vl));
+        }
         NoteBody::Delivered { vl, cycle, .. } => push_stream(line, network, *vl, *cycle),
         NoteBody::Dropped { reason, .. } => line.push(reason_label(*reason)),
         NoteBody::Arrived { .. }
         | NoteBody::Sent { .. }
         | NoteBody::Left { .. }
-        | NoteBody::TtSent { .. }
-        | NoteBody::Accepted { .. }
         | NoteBody::Clock { .. } => (),
     }
 }

@@ -70,7 +70,7 @@ pub(crate) fn y_of(network: &Network, device: DeviceId) -> u64
     requires { IsInRange network.now }
     ensures { result ≡ y_of network.now device }
 {
-    152 + 40 * lane_of(network, device)
+    192 + 40 * lane_of(network, device)
 }
 
 /// How far down the lanes end.
@@ -79,7 +79,7 @@ pub(crate) fn bottom_of(network: &Network) -> u64
     ensures value { result ≡ bottom_of network.now }
     ensures few { result ≤ 2 ^ 40 }
 {
-    132 + 40 * network.device.as_slice().len() as u64
+    172 + 40 * network.device.as_slice().len() as u64
 }
 
 /// The ground of the device's lane where a run begins.

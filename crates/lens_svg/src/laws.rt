@@ -1,6 +1,7 @@
-ghost use Rattle.lens_svg.specs.Laws.{ArrowsAreCauses, KeepsOrder, LanesAreStates};
+ghost use Rattle.lens_svg.specs.Laws.{ArrowsAreCauses, HuesComeFromCauses, KeepsOrder, LanesAreStates, MarksHaveHues};
 
-/// In a picture that fits, the marks stand in the order of their instants, at least 26 pixels apart.
+/// In a picture that fits, the marks stand in the order of their instants, at least 26 pixels apart, and those of one
+/// instant and one row side by side, at least 14 pixels apart.
 pub fn order_law()
     ensures { KeepsOrder }
 {}
@@ -14,4 +15,10 @@ pub fn arrows_law()
 /// The ground of each lane, from the mark of a record on, is what the records up to it leave its device in.
 pub fn lanes_law()
     ensures { LanesAreStates }
+{}
+
+/// A frame has one hue on all its way: that of the record where it began, also where this lies before the picture.
+pub fn hues_law()
+    ensures causes { HuesComeFromCauses }
+    ensures marks { MarksHaveHues }
 {}

@@ -1,7 +1,8 @@
 //! The layers of a picture below its marks.
 ghost use Rattle.std.specs.Prelude.{◌≡◌, ◌<◌, IfSome, length};
 ghost use Rattle.{lens_svg.specs.Elements.HasNames, net_plan.specs.Ranges.IsInRange};
-ghost use Rattle.lens_svg.specs.Layers.{is_gone, on_lane, on_mark, opening_of, tick_of, turn_of, wait_of, way_of};
+ghost use Rattle.lens_svg.specs.Layers.{is_gone, may_wait, on_lane, on_mark, opening_of, tick_of, turn_of};
+ghost use Rattle.lens_svg.specs.Layers.{wait_between, wait_of, way_of};
 
 use crate::element::{Band, Element, Point};
 use crate::lanes::{bottom_of, y_of};
@@ -24,7 +25,7 @@ pub enum MarkLayer {
     Turns,
     /// The instants.
     Ticks,
-    /// How long each frame waited until it was permanent.
+    /// How long each frame waited until it was permanent, or was dropped.
     Waits,
     /// The ways of frames from device to device.
     Ways,
@@ -95,23 +96,41 @@ fn tick_of(network: &Network, mark: &Mark) -> Option<Element>
     }
 }
 
-/// How long the frame waited that is permanent with the mark.
+/// May the frame of the mark have waited at its device?
+fn may_wait(look: Look) -> bool
+    ensures { result ≡ may_wait look }
+{
+    match look {
+        Look::Waited | Look::Gone => true,
+        Look::Plain | Look::Turned(_) | Look::Taken(_, _) => false,
+    }
+}
+
+/// The wait of a frame from one mark to a later one at the same device.
+fn wait_between(cause: &Mark, mark: &Mark) -> Option<Element>
+    ensures { result ≡ wait_between cause.now mark.now }
+{
+    if cause.device.0 == mark.device.0 && cause.time < mark.time {
+        let place = Point {
+            x: cause.x,
+            y: cause.y,
+        };
+        Some(Element::Bar(Band::Wait(mark.hue), place, mark.x))
+    } else {
+        None
+    }
+}
+
+/// How long the frame waited that is permanent with the mark, or that is dropped with it.
 fn wait_of(sketch: &Sketch, mark: &Mark) -> Option<Element>
     ensures { result ≡ wait_of sketch.now mark.now }
 {
-    match mark.look {
-        Look::Waited => match sketch.mark_at(mark.cause) {
-            Some(cause) => Some(Element::Bar(
-                Band::Wait(mark.hue),
-                Point {
-                    x: cause.x,
-                    y: cause.y,
-                },
-                mark.x,
-            )),
-            None => None,
-        },
-        Look::Plain | Look::Gone | Look::Turned(_) | Look::Taken(_, _) => None,
+    if !may_wait(mark.look) {
+        return None;
+    }
+    match sketch.mark_at(mark.cause) {
+        Some(cause) => wait_between(&cause, mark),
+        None => None,
     }
 }
 

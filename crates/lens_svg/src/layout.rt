@@ -1,9 +1,7 @@
 //! Where an instant stands.
 ghost use Rattle.std.specs.Prelude.{◌≡◌, ◌≤◌, ◌+◌};
-ghost use Rattle.lens_svg.specs.Marking.{counted};
-ghost use Rattle.lens_svg.specs.Layout.{clamped, gap, holds, moved, pen_at, right_of, side_of, whole, widest};
-
-use run_law::NoteBody;
+ghost use Rattle.lens_svg.specs.Layout.{IsOnPaper, capped, clamped, gap, holds, moved, pen_at, reached, right_of};
+ghost use Rattle.lens_svg.specs.Layout.{side_of, stand, whole, widest};
 
 /// How far to the right an instant stands at most, in pixels, and how wide a picture is at most.
 const WIDEST: u64 = 65_536;
@@ -26,12 +24,12 @@ pub(crate) enum Side {
     Behind,
 }
 
-/// The instant that was drawn last, how far to the right it stands, and how many events stand above it.
+/// The instant that was drawn last, how far to the right it stands, and how far its marks reach.
 #[derive(Clone, Copy)]
 pub struct Pen {
     pub x: u64,
     pub time: u64,
-    pub row: u64,
+    pub most: u64,
 }
 
 /// Where the time is.
@@ -73,6 +71,26 @@ fn gap(from: u64, to: u64) -> u64
     }
 }
 
+/// A place, and no farther to the right than a picture may be wide.
+fn capped(x: u64) -> u64
+    ensures value { result ≡ capped x }
+    ensures within { result ≤ widest }
+{
+    if x < WIDEST { x } else { WIDEST }
+}
+
+/// The place to the right of a mark.
+fn beside(last: u64) -> u64
+    ensures value { result ≡ capped (last + 14) }
+    ensures within { result ≤ widest }
+{
+    if last < WIDEST {
+        capped(last + 14)
+    } else {
+        WIDEST
+    }
+}
+
 impl Span {
     /// The whole run.
     pub fn whole() -> Span
@@ -100,66 +118,62 @@ impl Pen {
     /// The pen where a picture from this time on begins.
     pub fn new(from: u64) -> Pen
         ensures value { result ≡ pen_at from }
-        ensures within { result.x ≤ widest }
+        ensures within { IsOnPaper result }
     {
         Pen {
             x: 170,
             time: from,
-            row: 0,
+            most: 170,
         }
     }
 
     /// The pen at a time.
-    pub fn moved(self, time: u64) -> Pen
-        requires { self.x ≤ widest }
+    pub(crate) fn moved(self, time: u64) -> Pen
+        requires { IsOnPaper self }
         ensures value { result ≡ moved self time }
-        ensures within { result.x ≤ widest }
+        ensures within { IsOnPaper result }
     {
-        let x = self.x + gap(self.time, time);
-        let row = if self.time < time { 0 } else { self.row };
-        if x < WIDEST {
-            Pen { x, time, row }
+        if self.time < time {
+            let x = capped(self.most + gap(self.time, time));
+            Pen { x, time, most: x }
         } else {
-            Pen {
-                x: WIDEST,
-                time,
-                row,
-            }
+            self
         }
     }
 
-    /// The pen with one event more above it, if the record is one. Four have a row of their own.
-    pub fn counted(self, body: &NoteBody) -> Pen
-        ensures value { result ≡ counted self body.now }
-        ensures still { result.x ≡ self.x }
+    /// Where a mark stands whose row's last mark stands here, or at 0 where it has none.
+    pub(crate) fn stand(self, last: u64) -> u64
+        requires { IsOnPaper self }
+        ensures value { result ≡ stand self last }
+        ensures within { result ≤ widest }
     {
-        match body {
-            NoteBody::Event { .. } => Pen {
-                row: if self.row < 4 { self.row + 1 } else { 4 },
-                ..self
-            },
-            NoteBody::Arrived { .. }
-            | NoteBody::Permanent { .. }
-            | NoteBody::Compressed { .. }
-            | NoteBody::Sent { .. }
-            | NoteBody::Corrected { .. }
-            | NoteBody::State { .. }
-            | NoteBody::Left { .. }
-            | NoteBody::Lost { .. }
-            | NoteBody::TtSent { .. }
-            | NoteBody::Accepted { .. }
-            | NoteBody::Delivered { .. }
-            | NoteBody::Dropped { .. }
-            | NoteBody::Clock { .. } => self,
+        if last < self.x { self.x } else { beside(last) }
+    }
+
+    /// The pen with a mark that stands here.
+    pub(crate) fn reached(self, x: u64) -> Pen
+        requires pen { IsOnPaper self }
+        requires mark { x ≤ widest }
+        ensures value { result ≡ reached self x }
+        ensures within { IsOnPaper result }
+    {
+        if self.most < x {
+            Pen { most: x, ..self }
+        } else {
+            self
         }
     }
 
     /// Where the lanes of a picture end whose last instant is here.
     pub(crate) fn right(self) -> u64
-        requires { self.x ≤ widest }
+        requires { IsOnPaper self }
         ensures value { result ≡ right_of self }
         ensures within { result ≤ widest + 130 }
     {
-        if self.x < 810 { 940 } else { self.x + 130 }
+        if self.most < 810 {
+            940
+        } else {
+            self.most + 130
+        }
     }
 }

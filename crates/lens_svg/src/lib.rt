@@ -19,7 +19,7 @@ mod window;
 pub use clock::{Clocks, Ends, Told, gauge_of, spread_of};
 pub use element::{Band, Element, Point, make_element_line};
 pub use lanes::rank_in;
-pub use laws::{arrows_law, lanes_law, order_law};
+pub use laws::{arrows_law, hues_law, lanes_law, order_law};
 pub use layer::{LaneLayer, MarkLayer, on_lane, on_mark, opening_of};
 pub use layout::{Pen, Span};
 pub use mark::{Ground, Hue, Look, Mark};

@@ -35,7 +35,7 @@ pub enum Look {
     Plain,
     /// How long its frame waited.
     Waited,
-    /// That its frame ends here.
+    /// That its frame ends here, and how long it waited before, if it did.
     Gone,
     /// The lane's ground from here on.
     Turned(Ground),
@@ -48,15 +48,18 @@ pub enum Look {
 pub struct Mark {
     pub number: u64,
     pub time: u64,
-    /// How far to the right its instant stands.
+    /// How far to the right it stands.
     pub x: u64,
     /// Is it the first of its instant?
     pub first: bool,
+    /// The row in which it stands: 0 is that of the events, and then there is one for each device.
+    pub seat: u64,
     /// The device at which it happens, and how far down that device's lane is.
     pub device: DeviceId,
     pub y: u64,
-    /// The number of the record that it comes from, or 0.
+    /// The number of the record that it comes from, or 0, and whether that is drawn.
     pub cause: u64,
+    pub linked: bool,
     pub hue: Hue,
     pub look: Look,
 }

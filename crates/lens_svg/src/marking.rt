@@ -1,40 +1,23 @@
 //! The line of a record's mark, which has the record's own line as its title.
 ghost use Rattle.std.specs.Prelude.{◌≡◌, ◌≤◌, ◌+◌, ◌++◌, length};
-ghost use Rattle.{lens_svg.specs.Lanes.y_of, net_plan.specs.Ranges.IsInRange, tte_io.specs.Line.line_limit};
-ghost use Rattle.lens_svg.specs.Marking.{head_text, height_of, label_part, mark_line, place_text, title_room};
+ghost use Rattle.{net_plan.specs.Ranges.IsInRange, tte_io.specs.Line.line_limit};
+ghost use Rattle.lens_svg.specs.Marking.{head_text, height_of, label_part, link_end, link_text, link_to, mark_line};
+ghost use Rattle.lens_svg.specs.Marking.{place_text, title_room};
 ghost use Rattle.report_text.specs.{NoteLine.note_text, Ranges.{IsBodyOf, IsNoteInRange, IsNoteOf}};
 
-use crate::Pen;
-use crate::bodies::scene_of;
+use crate::Mark;
 use crate::glyphs::glyph_text;
 use crate::labels::push_label;
-use crate::lanes::y_of;
 use net_plan::Network;
 use report_text::make_note_line;
 use run_law::{Note, NoteBody};
 use tte_io::LineText;
 
-/// How far down the mark of a record is: that of an event is above the lanes, in its row.
-fn height_of(network: &Network, row: u64, body: &NoteBody) -> u64
-    requires { IsInRange network.now }
-    ensures { result ≡ height_of network.now row body.now }
+/// How far down the sign of a mark stands: that of an event is above the lanes.
+fn height_of(mark: &Mark) -> u64
+    ensures { result ≡ height_of mark.now }
 {
-    match body {
-        NoteBody::Event { .. } => 127 - 11 * row.min(4),
-        NoteBody::Arrived { .. }
-        | NoteBody::Permanent { .. }
-        | NoteBody::Compressed { .. }
-        | NoteBody::Sent { .. }
-        | NoteBody::Corrected { .. }
-        | NoteBody::State { .. }
-        | NoteBody::Left { .. }
-        | NoteBody::Lost { .. }
-        | NoteBody::TtSent { .. }
-        | NoteBody::Accepted { .. }
-        | NoteBody::Delivered { .. }
-        | NoteBody::Dropped { .. }
-        | NoteBody::Clock { .. } => y_of(network, scene_of(network, body)),
-    }
+    if mark.seat == 0 { 167 } else { mark.y }
 }
 
 /// Adds the record's own line, without its LF.
@@ -69,6 +52,37 @@ fn make_head(line: &mut LineText, network: &Network, note: &Note)
     line.push("</title>");
 }
 
+/// Adds the beginning of a link to the mark of the record of this number: at most 40 octets.
+#[tactic(auto, unfolding(crate::specs::Marking::link_to))]
+fn push_link_to(line: &mut LineText, number: u64)
+    requires { length line.old + 40 ≤ line_limit }
+    ensures text { line.new ≡ line.old ++ link_to number }
+    ensures grows { length line.new ≤ length line.old + 40 }
+{
+    line.push("<a xlink:href=\"#r");
+    line.push_decimal(number);
+    line.push("\">");
+}
+
+/// Adds the beginning of the link to the mark of the record that it comes from, where that is drawn: at most 40 octets.
+fn push_link(line: &mut LineText, mark: &Mark)
+    requires { length line.old + 40 ≤ line_limit }
+    ensures text { line.new ≡ line.old ++ link_text mark.now }
+    ensures grows { length line.new ≤ length line.old + 40 }
+{
+    if mark.linked {
+        push_link_to(line, mark.cause);
+    }
+}
+
+/// The end of the link to the mark of the record that it comes from.
+fn link_end(mark: &Mark) -> &'static str
+    ensures text { result.now ≡ link_end mark.now }
+    ensures short { length result.now ≤ 4 }
+{
+    if mark.linked { "</a>" } else { "" }
+}
+
 /// Adds where a mark is: at most 68 octets.
 #[tactic(auto, unfolding(crate::specs::Marking::place_text))]
 fn push_place(line: &mut LineText, x: u64, y: u64)
@@ -83,27 +97,31 @@ fn push_place(line: &mut LineText, x: u64, y: u64)
     line.push(")\">");
 }
 
-/// Adds the sign of a record, and its label.
+/// Adds the sign of a record, and its label: at most 160 octets.
 #[tactic(auto, unfolding(crate::specs::Marking::label_part))]
 fn push_sign(line: &mut LineText, network: &Network, body: &NoteBody)
     requires range { IsInRange network.now }
     requires of_network { IsBodyOf network.now body.now }
-    requires room { length line.old + 200 ≤ line_limit }
-    ensures { line.new ≡ line.old ++ label_part network.now body.now }
+    requires room { length line.old + 160 ≤ line_limit }
+    ensures text { line.new ≡ line.old ++ label_part network.now body.now }
+    ensures grows { length line.new ≤ length line.old + 160 }
 {
     line.push(glyph_text(body));
     push_label(line, network, body);
-    line.push("</text></g></g>\n");
+    line.push("</text></g>");
 }
 
-/// Makes the line of the mark of a record that stands where the pen is, ended by LF.
-pub fn make_mark_line(line: &mut LineText, network: &Network, pen: Pen, note: &Note)
+/// Makes the line of the mark of a record, ended by LF.
+pub fn make_mark_line(line: &mut LineText, network: &Network, mark: &Mark, note: &Note)
     requires range { IsInRange network.now }
     requires of_network { IsNoteOf network.now note.now }
     requires in_range { IsNoteInRange note.now }
-    ensures { line.new ≡ mark_line network.now pen note.now }
+    ensures { line.new ≡ mark_line network.now mark.now note.now }
 {
     make_head(line, network, note);
-    push_place(line, pen.x, height_of(network, pen.row, &note.body));
+    push_link(line, mark);
+    push_place(line, mark.x, height_of(mark));
     push_sign(line, network, &note.body);
+    line.push(link_end(mark));
+    line.push("</g>\n");
 }

@@ -27,7 +27,7 @@ pub(crate) fn push_nanos(line: &mut LineText, by: Units)
     ensures text { line.new ≡ line.old ++ nanos_text by }
     ensures grows { length line.new ≤ length line.old + 24 }
 {
-    if by.0 < 0 {
+    if by.0 <= -65_536 {
         line.push("-");
     }
     line.push_decimal(by.0.unsigned_abs() / 65_536);

@@ -1,9 +1,10 @@
 //! What is kept of the records while they stream by.
 ghost use Rattle.std.specs.Prelude.{◌≡◌, ◌≤◌, IfOk, OnOk, map, slice_get};
-ghost use Rattle.{lens_svg.specs.Lanes.start_of, net_plan.specs.Ranges.IsInRange};
-ghost use Rattle.lens_svg.specs.{Layout.widest, Sketching.{begun, drawn, fits, hue_of, mark_at, mark_of, took, turned}};
+ghost use Rattle.lens_svg.specs.{Lanes.start_of, Layout.{IsOnPaper, widest}, Sketching.{begun, drawn, fits, hue_of}};
+ghost use Rattle.lens_svg.specs.Sketching.{last_in, mark_at, mark_of, no_marks_in, seated, took, turned, with_hue};
+ghost use Rattle.net_plan.specs.Ranges.{IsInRange};
 
-use crate::bodies::{cause_of, look_of, own_hue, scene_of};
+use crate::bodies::{cause_of, look_of, own_hue, scene_of, seat_of};
 use crate::lanes::{start_of, y_of};
 use crate::layout::{Side, side_of};
 use crate::{Ground, Hue, Look, Mark, Pen, Span};
@@ -13,21 +14,23 @@ use std::alloc::Global;
 use std::marker::Model;
 use tte_io::OutOfMemory;
 
-/// A picture as far as the records have come: a small value for each that is drawn, and each lane's ground where the
-/// picture begins.
+/// A picture as far as the records have come: a small value for each that is drawn, the hue of each up to the picture's
+/// end, and each lane's ground where the picture begins.
 #[derive(Drop)]
 pub struct Sketch {
     span: Span,
     pen: Pen,
-    /// How far to the right the last record stands, or 0.
+    /// How far to the right the last instant stands that is drawn, or 0.
     last: u64,
+    /// How far to the right the last mark of each row stands, or 0: of the events, and of each device.
+    seats: Vec<u64>,
+    hues: Vec<Hue>,
     marks: Vec<Mark>,
     grounds: Vec<Ground>,
 }
 
 impl Model for Sketch {
-    ghost use Rattle.std.specs.Prelude.{◌≤◌};
-    ghost use Rattle.lens_svg.specs.{Lanes.start_of, Layout.widest, Plan.Plan};
+    ghost use Rattle.lens_svg.specs.{Layout.IsOnPaper, Plan.Plan};
 
     ghost Value = { Plan };
 
@@ -35,11 +38,13 @@ impl Model for Sketch {
       span = s.span;
       pen = s.pen;
       last = s.last;
+      seats = s.seats.items;
+      hues = s.hues.items;
       marks = s.marks.items;
       grounds = s.grounds.items;
     } };
 
-    ghost invariant = { λ s. s.pen.x ≤ widest };
+    ghost invariant = { λ s. IsOnPaper s.pen };
 }
 
 /// The ground of each device's lane where a run begins.
@@ -56,6 +61,24 @@ fn starts_of(alloc: Global, devices: &[Device]) -> Result<Vec<Ground>, OutOfMemo
     Ok(grounds)
 }
 
+/// The places of the last marks where there is none yet.
+fn no_marks_in(alloc: Global, devices: &[Device]) -> Result<Vec<u64>, OutOfMemory>
+    ensures { IfOk result (λ seats. seats.items ≡ no_marks_in devices.now) }
+{
+    let mut seats = Vec::new(alloc);
+    match seats.push(0) {
+        Ok(()) => (),
+        Err(_) => return Err(OutOfMemory),
+    }
+    'devices: for _device in devices {
+        match seats.push(0) {
+            Ok(()) => (),
+            Err(_) => return Err(OutOfMemory),
+        }
+    }
+    Ok(seats)
+}
+
 impl Sketch {
     /// The sketch of this part of a run, before its first record.
     pub fn new(alloc: Global, network: &Network, span: Span) -> Result<Sketch, OutOfMemory>
@@ -65,10 +88,16 @@ impl Sketch {
             Ok(grounds) => grounds,
             Err(OutOfMemory) => return Err(OutOfMemory),
         };
+        let seats = match no_marks_in(alloc, network.device.as_slice()) {
+            Ok(seats) => seats,
+            Err(OutOfMemory) => return Err(OutOfMemory),
+        };
         Ok(Sketch {
             span,
             pen: Pen::new(span.from),
             last: 0,
+            seats,
+            hues: Vec::new(alloc),
             marks: Vec::new(alloc),
             grounds,
         })
@@ -80,19 +109,17 @@ impl Sketch {
         ensures { OnOk result (self.new ≡ took network.now self.old note.now) }
     {
         match side_of(self.span, note.time.0.unsigned_abs()) {
-            Side::Before => {
-                self.turn(network, &note.body);
-                Ok(())
-            }
+            Side::Before => self.turn(network, &note.body),
             Side::Within => self.draw(network, note),
             Side::Behind => Ok(()),
         }
     }
 
-    /// Keeps the ground that a record before the picture leaves.
-    fn turn(&mut self, network: &Network, body: &NoteBody)
-        ensures { self.new ≡ turned network.now self.old body.now }
+    /// Keeps the hue of a record before the picture, and the ground that it leaves.
+    fn turn(&mut self, network: &Network, body: &NoteBody) -> Result<(), OutOfMemory>
+        ensures { OnOk result (self.new ≡ turned network.now self.old body.now) }
     {
+        self.keep_hue(body)?;
         match look_of(body) {
             Look::Turned(ground) => {
                 let place = scene_of(network, body).0 as usize;
@@ -101,6 +128,18 @@ impl Sketch {
                 }
             }
             Look::Plain | Look::Waited | Look::Gone | Look::Taken(_, _) => (),
+        }
+        Ok(())
+    }
+
+    /// Keeps the hue of a record.
+    fn keep_hue(&mut self, body: &NoteBody) -> Result<(), OutOfMemory>
+        ensures { OnOk result (self.new ≡ with_hue self.old body.now) }
+    {
+        let hue = self.hue_of(body);
+        match self.hues.push(hue) {
+            Ok(()) => Ok(()),
+            Err(_) => Err(OutOfMemory),
         }
     }
 
@@ -111,41 +150,73 @@ impl Sketch {
     {
         let pen = self.pen.moved(note.time.0.unsigned_abs());
         let mark = self.mark_of(network, pen, note);
+        self.keep_hue(&note.body)?;
         match self.marks.push(mark) {
             Ok(()) => {
-                self.pen = pen;
+                self.pen = pen.reached(mark.x);
                 self.last = pen.x;
+                self.sit(mark.seat, mark.x);
                 Ok(())
             }
             Err(_) => Err(OutOfMemory),
         }
     }
 
+    /// Keeps where the last mark of a row stands.
+    fn sit(&mut self, seat: u64, x: u64)
+        ensures { self.new ≡ seated self.old seat x }
+    {
+        let place = seat as usize;
+        if place < self.seats.len() {
+            self.seats[place] = x;
+        }
+    }
+
+    /// How far to the right the last mark of a row stands, or 0.
+    fn last_in(&self, seat: u64) -> u64
+        ensures { result ≡ last_in self.now.seats seat }
+    {
+        match self.seats.get(seat as usize) {
+            Some(last) => *last,
+            None => 0,
+        }
+    }
+
     /// The mark of a record where the pen is.
     fn mark_of(&self, network: &Network, pen: Pen, note: &Note) -> Mark
-        requires { IsInRange network.now }
-        ensures { result ≡ mark_of network.now self.now pen note.now }
+        requires range { IsInRange network.now }
+        requires pen { IsOnPaper pen }
+        ensures value { result ≡ mark_of network.now self.now pen note.now }
+        ensures within { result.x ≤ widest }
     {
         let device = scene_of(network, &note.body);
+        let seat = seat_of(network, &note.body);
+        let cause = cause_of(&note.body);
         Mark {
             number: note.number,
             time: note.time.0.unsigned_abs(),
-            x: pen.x,
+            x: pen.stand(self.last_in(seat)),
             first: self.last < pen.x,
+            seat,
             device,
             y: y_of(network, device),
-            cause: cause_of(&note.body),
+            cause,
+            linked: self.mark_at(cause).is_some(),
             hue: self.hue_of(&note.body),
             look: look_of(&note.body),
         }
     }
 
-    /// The hue of a record: that of the one that it comes from, where that is drawn.
+    /// The hue of a record: that of the one that it comes from, if it comes from one.
     fn hue_of(&self, body: &NoteBody) -> Hue
-        ensures { result ≡ hue_of self.now.marks body.now }
+        ensures { result ≡ hue_of self.now.hues body.now }
     {
-        match self.mark_at(cause_of(body)) {
-            Some(mark) => mark.hue,
+        let cause = cause_of(body);
+        if cause == 0 {
+            return own_hue(body);
+        }
+        match self.hues.get((cause - 1) as usize) {
+            Some(hue) => *hue,
             None => own_hue(body),
         }
     }
@@ -184,7 +255,7 @@ impl Sketch {
     /// The pen at the last instant that is drawn.
     pub fn pen(&self) -> Pen
         ensures value { result ≡ self.now.pen }
-        ensures within { result.x ≤ widest }
+        ensures within { IsOnPaper result }
     {
         self.pen
     }

@@ -3,5 +3,6 @@
 mod clocks;
 mod drawn;
 mod overviews;
+mod places;
 mod refused;
 mod windows;

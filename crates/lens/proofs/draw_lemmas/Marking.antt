@@ -2,9 +2,9 @@
 use Rattle.{lens.specs.{declared.draw.drawing.Draft.Draft, draw.Drafts.IsDraftOf}, std.proofs.lemmas.List.Sums.fold_push}
 use Rattle.{lens.proofs.draw_lemmas.Parts.{fails_before, fails_between}, lens_svg.specs.{Clocks.{Clocks, clocks_in, clocks_with, no_clocks}, declared.layout.Span.Span}}
 use Rattle.{lens.specs.draw.Answer.{back_answer, draw_answer, fitting_answer}, lens_svg.specs.{Plan.Plan, Sketching.{begun, fits, plan_behind, plan_of, took}}}
-use Rattle.lens.specs.draw.{Picture.{back_lines, front_lines, mark_lines, marks_of, pen_behind, picture_lines, windows_of}, Signs.close_line}
-use Rattle.{lens_svg.{proofs.Painting.span_behind, specs.Layout.pen_at}, std.{proofs.Common.{true, ℕ}, specs.List.concat}, tte_reports.specs.Reports.AreLeft}
-use Rattle.{lens_svg.specs.declared.layout.Pen.Pen, run_law.specs.declared.note.Note.Note, std.proofs.lemmas.List.{Elements.All-head, append-nil}}
+use Rattle.lens.specs.draw.{Picture.{back_lines, front_lines, mark_lines, marks_behind, marks_of, picture_lines, windows_of}, Signs.close_line}
+use Rattle.{lens_svg.proofs.Painting.span_behind, std.{proofs.Common.{true, ℕ}, specs.List.concat}, tte_reports.specs.Reports.AreLeft}
+use Rattle.{lens_svg.specs.declared.mark.Mark.Mark, run_law.specs.declared.note.Note.Note, std.proofs.lemmas.List.{Elements.All-head, append-nil}}
 use Rattle.{lens_svg.specs.declared.window.Came.Came, report_text.specs.Ranges.{IsNoteInRange, IsNoteOf}, std.specs.Prelude.{All, codes, fold, if◌then◌else◌}}
 use Rattle.{net_plan.specs.declared.network.Network.Network, tte_forms.{proofs.frames.Frames.Gives-behind, specs.declared.status.Status.Status}}
 use Rattle.{report_text.specs.NoteLine.{note_line, note_text, report_of}, tte_forms.specs.Answering.{Answer, Ends, Gives, line_answer}}
@@ -45,63 +45,58 @@ drafted_more network begin before old new note so sketch clocks =
 
 -- ---- the marks
 
--- the marks of the first records were put, those of these are to come, where the pen is
-pub record IsMarked (network : Network) (span : Span) (notes : List Note) (records : Records) (pen : Pen) (old now : Shown) : Type 0 where
+-- the marks of the first records were put, those of these are to come, and they have these marks
+pub record IsMarked (network : Network) (span : Span) (all : List Mark) (notes : List Note) (records : Records) (marks : List Mark) (old now : Shown)
+    : Type 0 where
   pub rest : List Note
   pub left : AreLeft network records rest
   pub done : List (List ℕ)
   pub puts : PutsLines done old now
-  pub whole : mark_lines network span (pen_at span.from) notes ≡ done ++ mark_lines network span pen rest
+  pub whole : mark_lines network span all notes ≡ done ++ mark_lines network span marks rest
 
-pub marked_first : (network : Network) (span : Span) (notes : List Note) (records : Records) (pen : Pen) (s : Shown) → AreLeft network records notes
-    → pen ≡ pen_at span.from → IsMarked network span notes records pen s s
-marked_first network span notes records pen s left begins = record {
-  rest = notes;
-  left = left;
-  done = [];
-  puts = PutsLines-none s;
-  whole = ap (λ (p : Pen). mark_lines network span p notes) (sym begins);
-}
+pub marked_first : (network : Network) (span : Span) (all : List Mark) (notes : List Note) (records : Records) (s : Shown) → AreLeft network records notes
+    → IsMarked network span all notes records all s s
+marked_first network span all notes records s left = record { rest = notes; left = left; done = []; puts = PutsLines-none s; whole = refl }
 
-module _ (network : Network) (span : Span) (notes : List Note) (records : Records) (pen : Pen) (old now : Shown)
-    (h : IsMarked network span notes records pen old now) where
+module _ (network : Network) (span : Span) (all : List Mark) (notes : List Note) (records : Records) (marks : List Mark) (old now : Shown)
+    (h : IsMarked network span all notes records marks old now) where
   -- the lines that are to come begin with those of the next record
-  next_lines : (note : Note) (rest : List Note) (here : Pen) → h.rest ≡ note ∷ rest → here ≡ pen_behind span pen note
-      → mark_lines network span (pen_at span.from) notes ≡ h.done ++ (marks_of network span here note ++ mark_lines network span here rest)
-  next_lines note rest here next moves =
-      h.whole
-      ∙ ap (λ (ns : List Note). h.done ++ mark_lines network span pen ns) next
-      ∙ ap (λ (p : Pen). h.done ++ (marks_of network span p note ++ mark_lines network span p rest)) (sym moves)
+  next_lines : (note : Note) (rest : List Note) → h.rest ≡ note ∷ rest
+      → mark_lines network span all notes ≡ h.done ++ (marks_of network span marks note ++ mark_lines network span (marks_behind span marks note) rest)
+  next_lines note rest next = h.whole ∙ ap (λ (ns : List Note). h.done ++ mark_lines network span marks ns) next
 
-  pub marked_more : (after : Records) (note : Note) (rest : List Note) (here : Pen) (new : Shown) → h.rest ≡ note ∷ rest → AreLeft network after rest
-      → here ≡ pen_behind span pen note → PutsLines (marks_of network span here note) now new → IsMarked network span notes after here old new
-  marked_more after note rest here new next left moves puts =
-      let marks = marks_of network span here note in record {
+  pub marked_more : (after : Records) (note : Note) (rest : List Note) (behind : List Mark) (new : Shown) → h.rest ≡ note ∷ rest → AreLeft network after rest
+      → behind ≡ marks_behind span marks note → PutsLines (marks_of network span marks note) now new
+      → IsMarked network span all notes after behind old new
+  marked_more after note rest behind new next left moves puts =
+      let own = marks_of network span marks note in record {
         rest = rest;
         left = left;
-        done = h.done ++ marks;
-        puts = PutsLines-append h.done marks old now new h.puts puts;
-        whole = next_lines note rest here next moves ∙ sym (append_assoc h.done marks (mark_lines network span here rest));
+        done = h.done ++ own;
+        puts = PutsLines-append h.done own old now new h.puts puts;
+        whole = next_lines note rest next
+            ∙ ap (λ (ms : List Mark). h.done ++ (own ++ mark_lines network span ms rest)) (sym moves)
+            ∙ sym (append_assoc h.done own (mark_lines network span behind rest));
       }
 
-  pub marked_fails : (note : Note) (rest : List Note) (here : Pen) (new : Shown) → h.rest ≡ note ∷ rest → here ≡ pen_behind span pen note
-      → PutFails (marks_of network span here note) now new → Gives (back_answer network span (pen_at span.from) notes) WriteFault old new
-  marked_fails note rest here new next moves fails =
-      let marks = marks_of network span here note in
-      let others = mark_lines network span here rest in
-      let lines : back_lines network span (pen_at span.from) notes ≡ (h.done ++ (marks ++ others)) ++ close_line ∷ [] =
-      ap (λ (ls : List (List ℕ)). ls ++ close_line ∷ []) (next_lines note rest here next moves) in
+  pub marked_fails : (note : Note) (rest : List Note) (new : Shown) → h.rest ≡ note ∷ rest → PutFails (marks_of network span marks note) now new
+      → Gives (back_answer network span all notes) WriteFault old new
+  marked_fails note rest new next fails =
+      let own = marks_of network span marks note in
+      let others = mark_lines network span (marks_behind span marks note) rest in
+      let lines : back_lines network span all notes ≡ (h.done ++ (own ++ others)) ++ close_line ∷ [] =
+      ap (λ (ls : List (List ℕ)). ls ++ close_line ∷ []) (next_lines note rest next) in
       inr (inl (
         refl,
         inl (subst (λ (ls : List (List ℕ)). PutFails ls old new) (sym lines)
-            (fails_before (h.done ++ (marks ++ others)) (close_line ∷ []) old new (fails_between h.done marks others old now new h.puts fails))),
+            (fails_before (h.done ++ (own ++ others)) (close_line ∷ []) old new (fails_between h.done own others old now new h.puts fails))),
       ))
 
   pub marked_all : (status : Status) (new : Shown) → h.rest ≡ [] → Gives (line_answer Done close_line) status now new
-      → Gives (back_answer network span (pen_at span.from) notes) status old new
+      → Gives (back_answer network span all notes) status old new
   marked_all status new none gives =
-      let lines : back_lines network span (pen_at span.from) notes ≡ h.done ++ close_line ∷ [] = ap (λ (ls : List (List ℕ)). ls ++ close_line ∷ [])
-      (h.whole ∙ ap (λ (ns : List Note). h.done ++ mark_lines network span pen ns) none ∙ append-nil h.done) in
+      let lines : back_lines network span all notes ≡ h.done ++ close_line ∷ [] = ap (λ (ls : List (List ℕ)). ls ++ close_line ∷ [])
+      (h.whole ∙ ap (λ (ns : List Note). h.done ++ mark_lines network span marks ns) none ∙ append-nil h.done) in
       subst (λ (ls : List (List ℕ)). Gives (record { status = Done; lines = ls }) status old new) (sym lines)
       (Gives-behind h.done (line_answer Done close_line) status old now new h.puts gives)
 
@@ -133,12 +128,12 @@ pub fit_answer : (network : Network) (span : Span) (notes : List Note) (plan : P
     → Gives (fitting_answer network plan windows clocks notes) status old new → Gives (draw_answer network span notes) status old new
 fit_answer network span notes plan windows clocks status old new same came told fit gives =
     let of_span : plan.span ≡ span = ap (λ (p : Plan). p.span) same ∙ span_behind network (begun network span) notes in
-    let lines : front_lines network plan windows clocks ++ back_lines network plan.span (pen_at plan.span.from) notes ≡ picture_lines network span notes =
-    ap (λ (s : Span). front_lines network plan windows clocks ++ back_lines network s (pen_at s.from) notes) of_span
-    ∙ ap (λ (p : Plan). front_lines network p windows clocks ++ back_lines network span (pen_at span.from) notes) same
-    ∙ ap (λ (w : List Came). front_lines network (plan_of network span notes) w clocks ++ back_lines network span (pen_at span.from) notes) came
-    ∙ ap (λ (c : Clocks). front_lines network (plan_of network span notes) (windows_of network span notes) c
-    ++ back_lines network span (pen_at span.from) notes) told in
+    let whole = plan_of network span notes in
+    let lines : front_lines network plan windows clocks ++ back_lines network plan.span plan.marks notes ≡ picture_lines network span notes =
+    ap (λ (s : Span). front_lines network plan windows clocks ++ back_lines network s plan.marks notes) of_span
+    ∙ ap (λ (p : Plan). front_lines network p windows clocks ++ back_lines network span p.marks notes) same
+    ∙ ap (λ (w : List Came). front_lines network whole w clocks ++ back_lines network span whole.marks notes) came
+    ∙ ap (λ (c : Clocks). front_lines network whole (windows_of network span notes) c ++ back_lines network span whole.marks notes) told in
     let answer : draw_answer network span notes ≡ fitting_answer network plan windows clocks notes =
     ap (λ (b : Bool). if b then record { status = Done; lines = picture_lines network span notes } else too_long_answer) (ap fits (sym same) ∙ fit)
     ∙ ap (λ (ls : List (List ℕ)). let a : Answer = record { status = Done; lines = ls } in a) (sym lines) in
@@ -148,12 +143,13 @@ fit_answer network span notes plan windows clocks status old new same came told 
 pub front_fails : (network : Network) (plan : Plan) (windows : List Came) (clocks : Clocks) (notes : List Note) (old new : Shown)
     → PutFails (front_lines network plan windows clocks) old new → Gives (fitting_answer network plan windows clocks notes) WriteFault old new
 front_fails network plan windows clocks notes old new fails =
-    inr (inl (refl, inl (fails_before (front_lines network plan windows clocks) (back_lines network plan.span (pen_at plan.span.from) notes) old new fails)))
+    inr (inl (refl, inl (fails_before (front_lines network plan windows clocks) (back_lines network plan.span plan.marks notes) old new fails)))
 
 -- the lines below the marks were put, and then those from the marks on
-pub front_given : (network : Network) (plan : Plan) (windows : List Came) (clocks : Clocks) (notes : List Note) (span : Span) (status : Status)
-    (old now new : Shown) → span ≡ plan.span → PutsLines (front_lines network plan windows clocks) old now
-    → Gives (back_answer network span (pen_at span.from) notes) status now new → Gives (fitting_answer network plan windows clocks notes) status old new
-front_given network plan windows clocks notes span status old now new same puts gives =
-    Gives-behind (front_lines network plan windows clocks) (back_answer network plan.span (pen_at plan.span.from) notes) status old now new puts
-    (subst (λ (s : Span). Gives (back_answer network s (pen_at s.from) notes) status now new) same gives)
+pub front_given : (network : Network) (plan : Plan) (windows : List Came) (clocks : Clocks) (notes : List Note) (span : Span) (marks : List Mark)
+    (status : Status) (old now new : Shown) → span ≡ plan.span → marks ≡ plan.marks → PutsLines (front_lines network plan windows clocks) old now
+    → Gives (back_answer network span marks notes) status now new → Gives (fitting_answer network plan windows clocks notes) status old new
+front_given network plan windows clocks notes span marks status old now new same all puts gives =
+    Gives-behind (front_lines network plan windows clocks) (back_answer network plan.span plan.marks notes) status old now new puts
+    (subst (λ (ms : List Mark). Gives (back_answer network plan.span ms notes) status now new) all
+    (subst (λ (s : Span). Gives (back_answer network s marks notes) status now new) same gives))

@@ -1,6 +1,6 @@
 -- Two reports with one picture have the same lines.
 use Rattle.{lens.proofs.draw_lemmas.Titles.titles_are, lens_svg.specs.{Sketching.{moment, plan_of}, Windows.box_of}, tte_units.specs.declared.units.Units.Units}
-use Rattle.lens.specs.declared.draw.{putting.TheConstants.LAYERS, signs.Sign.{Sign, TheVariants.{Arrows, Backdrop, Heading, MarkKey, Shapes, Style, WayKey}}}
+use Rattle.lens.specs.declared.draw.{signs.Sign.{Sign, TheVariants.{Arrows, Backdrop, Heading, MarkKey, Shapes, Style, WayKey}}}
 use Rattle.{lens.specs.declared.draw.putting.Layer.Layer, std.proofs.{Common.{suc, sym, take, true, zero, ℕ}, lemmas.Fmt.decimal_is_IsNumeral}}
 use Rattle.lens.specs.draw.{Laws.HaveTitles, Picture.{back_lines, front_lines, layer_lines, lines_from, mark_lines, picture_lines, some_line, windows_of}}
 use Rattle.{lens.specs.draw.{ReadingLaws.{PicturesAreOne, TitlesArePlain}, Signs.{close_line, sign_line}}, lens_svg.specs.Layers.{on_lane, on_mark, opening_of}}
@@ -8,12 +8,13 @@ use Rattle.{lens_svg.proofs.Plain.note_plain, net_plan.specs.Ranges.IsInRange, r
 use Rattle.{lens_svg.specs.Clocks.{Clocks, clocks_in, gauge_of, spread_of}, std.proofs.lemmas.List.Elements.{All-cons, All-head, All-nil, All-tail, All-weaker}}
 use Rattle.lens_svg.specs.Elements.{bar_line, caption_line, element_line, gauge_line, opening_line, rail_line, spread_bar, tick_line, way_line, window_line}
 use Rattle.{lens_svg.specs.{Laws.shown, Plan.Plan}, std.specs.{Char.digit_value, Str.Parse.AllDigits}}
-use Rattle.{lens_svg.specs.{Layout.{holds, pen_at}, declared.window.Came.Came}, run_law.specs.declared.note.Note.Note, std.proofs.lemmas.Bool.Decides.nat_tests}
+use Rattle.{lens_svg.specs.{Layout.holds, declared.window.Came.Came}, run_law.specs.declared.note.Note.Note, std.proofs.lemmas.Bool.Decides.nat_tests}
 use Rattle.{lens_svg.specs.Marking.{IsPlain, head_text, is_plain}, std.specs.Prelude.{◌==◌, All, bytes_eq, codes, decimal, flat_map, if◌then◌else◌, length}}
 use Rattle.lens_svg.specs.declared.{element.Element.{Element, TheVariants.{Bar, Caption, Gauge, Opening, Rail, Spread, Tick, Way, Window}}, layout.Span.Span}
 use Rattle.{net_plan.specs.declared.network.Network.Network, report_text.{proofs.Splits.{NonePasses, split_once}, specs.Ranges.{IsNoteInRange, IsNoteOf}}}
 use Rattle.std.proofs.Common.{◌++◌, ◌+◌, ◌<◌, ◌∙◌, ◌∷◌, ◌≡◌, Bool, List, None, Option, Some, [], ap, append_assoc, arith, drop, false, filter, map, refl, subst}
 use Rattle.lens.specs.declared.draw.putting.Layer.TheVariants as layers
+use Rattle.lens.specs.draw.Picture as pictures
 
 -- ---- which lines are marks
 
@@ -41,7 +42,7 @@ none_places f each i (suc n) = none_append (f i) (lines_from f (i + 1) n) (each 
 no_element : (network : Network) (e : Element) → is_mark (element_line network e) ≡ false
 unfolding opening_line caption_line bar_line rail_line tick_line way_line gauge_line spread_bar window_line
 no_element network (Opening a b) = refl
-no_element network (Caption a) = refl
+no_element network (Caption a b) = refl
 no_element network (Bar a b c) = refl
 no_element network (Rail a b c) = refl
 no_element network (Tick a b) = refl
@@ -68,7 +69,7 @@ none_layer : (network : Network) (plan : Plan) (windows : List Came) (clocks : C
     → NoneMarks (layer_lines network plan windows clocks layer)
 none_layer network plan windows clocks layers.Opening = (no_element network (opening_of network plan), tt)
 none_layer network plan windows clocks (layers.Shared sign) = (no_sign sign, tt)
-none_layer network plan windows clocks layers.Caption = (no_element network (Caption plan.span), tt)
+none_layer network plan windows clocks layers.Caption = (no_element network (Caption plan.span (length plan.marks)), tt)
 none_layer network plan windows clocks (layers.Lanes layer) =
     none_places (λ place. some_line network (on_lane layer network plan place)) (λ place. none_some network (on_lane layer network plan place)) 0
     (length network.device)
@@ -82,7 +83,7 @@ none_layer network plan windows clocks layers.Spread = none_some network (spread
 
 none_front : (network : Network) (plan : Plan) (windows : List Came) (clocks : Clocks) → NoneMarks (front_lines network plan windows clocks)
 none_front network plan windows clocks = none_flat (λ layer. layer_lines network plan windows clocks layer) (λ layer.
-    none_layer network plan windows clocks layer) LAYERS
+    none_layer network plan windows clocks layer) pictures.layers
 
 -- those that do, of a list
 
@@ -106,12 +107,12 @@ only_marks network (line ∷ lines) (note ∷ notes) titles =
     ∙ ap (λ (ls : List (List ℕ)). line ∷ ls) rest
 
 marks_of_picture : (network : Network) (span : Span) (notes : List Note)
-    → filter is_mark (picture_lines network span notes) ≡ mark_lines network span (pen_at span.from) notes
+    → filter is_mark (picture_lines network span notes) ≡ mark_lines network span (plan_of network span notes).marks notes
 marks_of_picture network span notes =
     without (front_lines network (plan_of network span notes) (windows_of network span notes) (clocks_in span notes))
-    (back_lines network span (pen_at span.from) notes)
+    (back_lines network span (plan_of network span notes).marks notes)
     (none_front network (plan_of network span notes) (windows_of network span notes) (clocks_in span notes))
-    ∙ only_marks network (mark_lines network span (pen_at span.from) notes) (shown span notes) (titles_are network span (pen_at span.from) notes)
+    ∙ only_marks network (mark_lines network span (plan_of network span notes).marks notes) (shown span notes) (titles_are network span notes)
 
 -- ---- which titles they have
 
@@ -187,11 +188,11 @@ same_titles network other (line ∷ lines) (n ∷ notes) (m ∷ more) p q a b =
 
 pub pictures_are_one : PicturesAreOne
 pictures_are_one network other span part octets report notes more end last of by same =
-    let marks : mark_lines network span (pen_at span.from) notes ≡ mark_lines other part (pen_at part.from) more =
+    let marks : mark_lines network span (plan_of network span notes).marks notes ≡ mark_lines other part (plan_of other part more).marks more =
     sym (marks_of_picture network span notes) ∙ ap (filter is_mark) same ∙ marks_of_picture other part more in
-    same_titles network other (mark_lines other part (pen_at part.from) more) (shown span notes) (shown part more)
-    (subst (λ (ls : List (List ℕ)). HaveTitles network ls (shown span notes)) marks (titles_are network span (pen_at span.from) notes))
-    (titles_are other part (pen_at part.from) more) (report_written network span octets notes end of) (report_written other part report more last by)
+    same_titles network other (mark_lines other part (plan_of other part more).marks more) (shown span notes) (shown part more)
+    (subst (λ (ls : List (List ℕ)). HaveTitles network ls (shown span notes)) marks (titles_are network span notes))
+    (titles_are other part more) (report_written network span octets notes end of) (report_written other part report more last by)
 
 all_plain : (network : Network) (notes : List Note) → AreWritten network notes → All (λ note. IsPlain (note_text network note)) notes
 all_plain network [] a = All-nil (λ note. IsPlain (note_text network note))

@@ -3,7 +3,7 @@ use Rattle.{lens.proofs.draw_lemmas.Falls.never_fall, lens_svg.proofs.{Arrows.ar
 use Rattle.{lens.proofs.draw_lemmas.Titles.titles_are, net_plan.specs.declared.network.Network.Network, tte_units.specs.declared.units.Units.Units}
 use Rattle.{lens.specs.draw.Laws.{PicturesShowRuns, ShowsRun}, lens_svg.specs.Laws.{NeverFall, NumbersFollow, grounds_after, painted_with, shown}}
 use Rattle.{lens_svg.proofs.Order.keeps_order, tte_reports.specs.Reports.IsReportOf}
-use Rattle.{lens_svg.specs.{Layout.{holds, pen_at}, Sketching.{moment, plan_of}, declared.layout.Span.Span}, run_law.specs.declared.note.Note.Note}
+use Rattle.{lens_svg.specs.{Layout.holds, Sketching.{moment, plan_of}, declared.layout.Span.Span}, run_law.specs.declared.note.Note.Note}
 use Rattle.std.{proofs.Common.{◌++◌, ◌+◌, ◌∙◌, ◌∷◌, ◌≡◌, List, [], append_assoc, length, length-append, refl, subst, sym, true, ℕ}, specs.Prelude.{fold, take}}
 
 -- ---- the numbers follow each other
@@ -35,8 +35,8 @@ module _ (network : Network) (octets : List ℕ) (notes : List Note) (end : Unit
   shows : (span : Span) → ShowsRun network span notes
   shows span =
       let arrows = arrows_are_causes network span notes numbers falls in record {
-        titles = titles_are network span (pen_at span.from) notes;
-        order = keeps_order network span notes falls;
+        titles = titles_are network span notes;
+        order = keeps_order network span notes of.events.text.records.of_network falls;
         marks = arrows.0;
         arrows = arrows.1;
         lanes = lanes span;

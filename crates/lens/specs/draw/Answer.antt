@@ -1,21 +1,21 @@
 -- What `draw` answers for a report.
 use Rattle.std.specs.Prelude.{◌≡◌, ◌++◌, if◌then◌else◌, List}
 use Rattle.{lens.specs.draw.Picture.{back_lines, front_lines, picture_lines}, lens_svg.specs.declared.layout.Span.Span}
-use Rattle.lens_svg.specs.{Clocks.Clocks, Sketching.{fits, plan_of}, declared.{layout.Pen.Pen, window.Came.Came}}
-use Rattle.{lens_svg.specs.Layout.pen_at, run_law.specs.declared.note.Note.Note, tte_forms.specs.Answering.Answer}
+use Rattle.lens_svg.specs.{Clocks.Clocks, Sketching.{fits, plan_of}, declared.{mark.Mark.Mark, window.Came.Came}}
+use Rattle.{run_law.specs.declared.note.Note.Note, tte_forms.specs.Answering.Answer}
 use Rattle.lens_svg.specs.Plan.{Plan}
 use Rattle.{net_plan.specs.declared.network.Network.Network, tte_units.specs.declared.units.Units.Units}
 use Rattle.tte_forms.specs.{declared.status.Status.TheVariants.Done, networks.Accepting.too_long_answer}
 
 -- the marks and the end of the picture, as an answer
-abbrev pub back_answer : Network → Span → Pen → List Note → Answer
-back_answer network span pen notes = record { status = Done; lines = back_lines network span pen notes }
+abbrev pub back_answer : Network → Span → List Mark → List Note → Answer
+back_answer network span marks notes = record { status = Done; lines = back_lines network span marks notes }
 
 -- the picture of this plan, these windows and these clocks, with the marks of these records, as an answer
 abbrev pub fitting_answer : Network → Plan → List Came → Clocks → List Note → Answer
 fitting_answer network plan windows clocks notes = record {
   status = Done;
-  lines = front_lines network plan windows clocks ++ back_lines network plan.span (pen_at plan.span.from) notes;
+  lines = front_lines network plan windows clocks ++ back_lines network plan.span plan.marks notes;
 }
 
 -- the answer for the records of a report: their picture, where it is not too wide

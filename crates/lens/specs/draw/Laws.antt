@@ -1,6 +1,6 @@
 -- What holds of the picture of a report.
 use Rattle.std.specs.Prelude.{◌≡◌, ℕ, true, List, [], ◌∷◌, ◌++◌, fold, length, take}
-use Rattle.{lens.specs.draw.Picture.mark_lines, lens_svg.specs.Layout.{holds, pen_at}}
+use Rattle.{lens.specs.draw.Picture.mark_lines, lens_svg.specs.Layout.holds}
 use Rattle.lens_svg.specs.Laws.{AreApart, AreMarksOf, HasArrows, grounds_after, painted_with, shown}
 use Rattle.{lens_svg.specs.{Marking.head_text, declared.layout.Span.Span}, tte_units.specs.declared.units.Units.Units}
 use Rattle.{lens_svg.specs.Sketching.{fits, moment, plan_of}, net_plan.specs.declared.network.Network.Network}
@@ -18,7 +18,7 @@ HaveTitles network lines notes = ⊥
 -- exactly where there is a cause at another device; and from each mark on, a lane's ground is what the records up to
 -- there leave the device in
 pub record ShowsRun (network : Network) (span : Span) (notes : List Note) : Type 0 where
-  pub titles : HaveTitles network (mark_lines network span (pen_at span.from) notes) (shown span notes)
+  pub titles : HaveTitles network (mark_lines network span (plan_of network span notes).marks notes) (shown span notes)
   pub order : fits (plan_of network span notes) ≡ true → AreApart (plan_of network span notes).marks
   pub marks : AreMarksOf network (plan_of network span notes).marks (shown span notes)
   pub arrows : HasArrows (plan_of network span notes)

@@ -156,5 +156,12 @@ fn put_fitting<K: Sink>(
         Ok(()) => (),
         Err(_) => return Status::WriteFault,
     }
-    put_back(network, sketch.span(), records, &mut line, out)
+    put_back(
+        network,
+        sketch.span(),
+        sketch.marks(),
+        records,
+        &mut line,
+        out,
+    )
 }

@@ -1,4 +1,5 @@
 ghost use Rattle.lens.specs.draw.{ClockLaws.PicturesShowClocks, Laws.PicturesShowRuns};
+ghost use Rattle.lens.specs.draw.LineLaws.{MarksStandWhereTheirsDo, PicturesDrawPlans};
 ghost use Rattle.lens.specs.draw.{ReadingLaws.{PicturesAreOne, TitlesArePlain}, WindowLaws.PicturesShowWindows};
 
 /// The picture of a part of the run of a report shows it: its titles are the lines of the records there, its instants
@@ -6,6 +7,13 @@ ghost use Rattle.lens.specs.draw.{ReadingLaws.{PicturesAreOne, TitlesArePlain}, 
 /// is the state of its device.
 pub fn picture_law()
     ensures { PicturesShowRuns }
+{}
+
+/// A picture has the line of each thing that its plan draws: of each lane, of each record's arrow, bar and instant, of
+/// each window and of each clock; and the line of each record's mark, where that stands.
+pub fn lines_law()
+    ensures plans { PicturesDrawPlans }
+    ensures marks { MarksStandWhereTheirsDo }
 {}
 
 /// The clocks in the picture of a report of an accepted network are those of correct synchronised devices at the end of

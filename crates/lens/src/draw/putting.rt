@@ -20,7 +20,7 @@ pub(crate) enum Layer {
     Opening,
     /// A line that each picture has.
     Shared(Sign),
-    /// Which part of the run is drawn.
+    /// Which part of the run is drawn, how many records that are, and the precision.
     Caption,
     /// Something of each device.
     Lanes(LaneLayer),
@@ -199,7 +199,11 @@ fn put_layer<K: Sink>(
     match layer {
         Layer::Opening => put_some(network, Some(opening_of(network, sketch)), line, out),
         Layer::Shared(sign) => put_shared(sign, out),
-        Layer::Caption => put_some(network, Some(Element::Caption(sketch.span())), line, out),
+        Layer::Caption => {
+            let records = sketch.marks().len() as u64;
+            let caption = Element::Caption(sketch.span(), records);
+            put_some(network, Some(caption), line, out)
+        }
         Layer::Lanes(layer) => put_lanes(network, sketch, layer, line, out),
         Layer::Marks(layer) => put_marks(network, sketch, layer, line, out),
         Layer::Windows => put_windows(network, windows, line, out),

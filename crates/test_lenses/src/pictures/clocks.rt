@@ -20,19 +20,19 @@ const APART: &str = "1 0 event 1 rate m1 -50000
 13 131000000000 clock cb reading 131000000000 adj 0 state synchronised
 ";
 
-// By hand: the end stands 78 pixels behind time 0. The greatest lies 13,100,000 units beyond the least, so the others
+// By hand: three events stand side by side at time 0, from 170 to 198, and the end 78 pixels behind the last. The greatest lies 13,100,000 units beyond the least, so the others
 // lie half as far beyond it: 25 pixels of 50. That is 199 ns, and 1.499 pixels of the 120 that the precision has, which
 // is 16,000 ns.
 const BARS: &[&str] = &[
-    "<g transform=\"translate(248 232)\"><path class=\"frame\" d=\"M10 0 h50\"/>\
+    "<g transform=\"translate(276 272)\"><path class=\"frame\" d=\"M10 0 h50\"/>\
      <path class=\"clock\" d=\"M10 0 h0\"/><text class=\"key\" x=\"66\" y=\"-4\">0 ns</text></g>",
-    "<g transform=\"translate(248 272)\"><path class=\"frame\" d=\"M10 0 h50\"/>\
+    "<g transform=\"translate(276 312)\"><path class=\"frame\" d=\"M10 0 h50\"/>\
      <path class=\"clock\" d=\"M10 0 h50\"/><text class=\"key\" x=\"66\" y=\"-4\">199 ns</text></g>",
-    "<g transform=\"translate(248 312)\"><path class=\"frame\" d=\"M10 0 h50\"/>\
+    "<g transform=\"translate(276 352)\"><path class=\"frame\" d=\"M10 0 h50\"/>\
      <path class=\"clock\" d=\"M10 0 h25\"/><text class=\"key\" x=\"66\" y=\"-4\">99 ns</text></g>",
-    "<g transform=\"translate(248 392)\"><path class=\"frame\" d=\"M10 0 h50\"/>\
+    "<g transform=\"translate(276 432)\"><path class=\"frame\" d=\"M10 0 h50\"/>\
      <path class=\"clock\" d=\"M10 0 h25\"/><text class=\"key\" x=\"66\" y=\"-4\">99 ns</text></g>",
-    "<g transform=\"translate(12 492)\"><path class=\"frame\" d=\"M0 12 h120\"/>\
+    "<g transform=\"translate(12 532)\"><path class=\"frame\" d=\"M0 12 h120\"/>\
      <path class=\"clock\" d=\"M0 12 h1\"/><text class=\"key\" y=\"28\">clocks 199 ns apart,</text>\
      <text class=\"key\" y=\"41\">16000 ns at most</text></g>",
 ];
@@ -44,7 +44,7 @@ fn clocks_are_drawn(rt: HostRuntime) -> Result<(), Fail> {
     let text = text_of(&rt, &out);
     has_lines(&rt, text, BARS);
     // The clock of m4, which is broken, is not among them.
-    let front = "<g transform=\"translate(248 352)\">";
+    let front = "<g transform=\"translate(276 392)\">";
     count_is(&rt, text, front, 0);
     Ok(())
 }

@@ -83,33 +83,35 @@ pub(super) fn count_is(rt: &impl Abort, text: &str, front: &str, wanted: u32) {
     assert!(rt; count_lines(text, front) == wanted);
 }
 
-// Lines of the picture of the first cycle up to its end, worked out by hand: nine lanes of 40 pixels, and an instant
-// every 26 to 78 pixels.
+// Lines of the picture of the first cycle up to its end, worked out from the page by another program: nine lanes of 40
+// pixels, an instant 26 to 78 pixels behind the last mark before it, and marks of one instant and lane 14 pixels apart.
 const WHOLE: &[&str] = &[
-    "<svg xmlns=\"http://www.w3.org/2000/svg\" xmlns:xlink=\"http://www.w3.org/1999/xlink\" width=\"960\" \
-     height=\"562\" viewBox=\"0 0 960 562\">",
+    "<svg xmlns=\"http://www.w3.org/2000/svg\" xmlns:xlink=\"http://www.w3.org/1999/xlink\" width=\"1274\" \
+     height=\"602\" viewBox=\"0 0 1274 602\">",
     "<text class=\"note\" x=\"12\" y=\"42\">2000.000 us to 2441.406 us. Gaps are drawn shortened.</text>",
-    "<path class=\"ground synchronised\" d=\"M140 152 H940\"/>",
-    "<g transform=\"translate(0,232)\"><path class=\"rail\" d=\"M140 0 H940\"/>\
+    "<path class=\"ground synchronised\" d=\"M140 192 H1254\"/>",
+    "<g transform=\"translate(0,272)\"><path class=\"rail\" d=\"M140 0 H1254\"/>\
      <text class=\"name\" x=\"132\" y=\"3\">m1</text><text class=\"role\" x=\"132\" y=\"15\">master</text></g>",
-    "<g transform=\"translate(0,472)\"><path class=\"rail\" d=\"M140 0 H940\"/>\
+    "<g transform=\"translate(0,512)\"><path class=\"rail\" d=\"M140 0 H1254\"/>\
      <text class=\"name\" x=\"132\" y=\"3\">cb</text><text class=\"role\" x=\"132\" y=\"15\">cm b</text></g>",
-    "<g><path class=\"tick\" d=\"M196 492 V128\"/>\
-     <text class=\"time\" transform=\"translate(196 492) rotate(50)\" x=\"8\" y=\"6\">2000.500</text></g>",
-    "<path class=\"wait control\" d=\"M222 152 H300\"/>",
-    "<path class=\"way control\" d=\"M170 232 L196 192\"/>",
-    "<path class=\"way stream gone\" d=\"M722 432 L748 392\"/>",
-    "<g id=\"r1\"><title>1 131072000000 sent m1 cycle 1</title><g transform=\"translate(170 232)\">\
+    "<g><path class=\"tick\" d=\"M224 532 V168\"/>\
+     <text class=\"time\" transform=\"translate(224 532) rotate(50)\" x=\"8\" y=\"6\">2000.500</text></g>",
+    "<path class=\"wait control\" d=\"M348 192 H468\"/>",
+    "<path class=\"way control\" d=\"M184 272 L224 232\"/>",
+    "<path class=\"way stream gone\" d=\"M1058 472 L1098 432\"/>",
+    "<g id=\"r1\"><title>1 131072000000 sent m1 cycle 1</title><g transform=\"translate(170 272)\">\
      <use xlink:href=\"#sent\"/><text class=\"label\"></text></g></g>",
     "<g id=\"r45\">\
      <title>45 136511488000 compressed ca opened 134348800000 at 136511488000 cycle 1 members 0000000f within\
-     </title><g transform=\"translate(372 152)\"><use xlink:href=\"#compressed\"/>\
+     </title><g transform=\"translate(582 192)\"><use xlink:href=\"#compressed\"/>\
      <text class=\"label compressed\" x=\"10\" y=\"-3\">0000000f within</text></g></g>",
     "<g id=\"r98\"><title>98 159725649920 delivered c1 c1_a 96 vl v1 cycle 1</title>\
-     <g transform=\"translate(748 392)\"><use xlink:href=\"#delivered\"/>\
-     <text class=\"label delivered\" x=\"7\" y=\"-9\">v1 1</text></g></g>",
-    "<g id=\"r100\"><title>100 160000000000 event 1 end</title><g transform=\"translate(774 116)\">\
-     <use xlink:href=\"#event\"/><text class=\"label event\" x=\"4\" y=\"-6\" transform=\"rotate(-30)\">end\
+     <a xlink:href=\"#r96\"><g transform=\"translate(1084 432)\"><use xlink:href=\"#delivered\"/>\
+     <text class=\"label delivered\" x=\"7\" y=\"-3\" transform=\"rotate(-40)\">v1 1</text></g></a></g>",
+    "<g id=\"r99\"><title>99 159725649920 dropped c1 c1_b 97 repeat</title><a xlink:href=\"#r97\">\
+     <g transform=\"translate(1098 432)\"><use xlink:href=\"#second\"/><text class=\"label\"></text></g></a></g>",
+    "<g id=\"r100\"><title>100 160000000000 event 1 end</title><g transform=\"translate(1124 167)\">\
+     <use xlink:href=\"#event\"/><text class=\"label event\" x=\"4\" y=\"-4\" transform=\"rotate(-40)\">end\
      </text></g></g>",
 ];
 
@@ -126,8 +128,8 @@ fn a_calm_cycle_is_drawn(rt: HostRuntime) -> Result<(), Fail> {
 // Lines of the picture of a part: what comes before it is not drawn, so no arrow comes from there.
 const PART: &[&str] = &[
     "<text class=\"note\" x=\"12\" y=\"42\">2083.000 us to the end. Gaps are drawn shortened.</text>",
-    "<path class=\"way summary\" d=\"M170 152 L196 192\"/>",
-    "<path class=\"wait summary\" d=\"M196 192 H300\"/>",
+    "<path class=\"way summary\" d=\"M184 192 L210 232\"/>",
+    "<path class=\"wait summary\" d=\"M210 232 H398\"/>",
 ];
 
 const SUMMARIES: Span = Span {

@@ -64,17 +64,24 @@ const RAILS: &[(&str, u32, u32, &str)] = &[
     ("title", 499, 0, "delivered"),
     ("flow", 511, 12, "v1 c1_a, v1 c1_b"),
     ("title", 545, 0, "dropped"),
-    ("dropped", 557, 12, REASONS),
+    ("refused", 557, 12, "lost"),
+    ("spared", 569, 12, "off"),
+    (
+        "refused",
+        581,
+        12,
+        "coldstart, domain, member, old, gate, cycle",
+    ),
+    ("spared", 653, 12, "unsynchronised"),
+    ("refused", 665, 12, "unknown, length, early, late"),
+    ("spared", 713, 12, "repeat"),
+    ("refused", 725, 12, "refused"),
 ];
 
 const PASSAGES: &str =
     "m1_a up, m1_a down, m2_a up, m2_a down, m3_a up, m3_a down, m4_a up, m4_a down, \
     c1_a up, c1_a down, ra_ca up, ra_ca down, m1_b up, m1_b down, m2_b up, m2_b down, \
     m3_b up, m3_b down, m4_b up, m4_b down, c1_b up, c1_b down, rb_cb up, rb_cb down";
-
-const REASONS: &str =
-    "lost, off, coldstart, domain, member, old, gate, cycle, unsynchronised, unknown, length, early, \
-    late, repeat, refused";
 
 // The strokes on them, and the end.
 const STROKES: &[&str] = &[
@@ -89,7 +96,7 @@ const STROKES: &[&str] = &[
     "<path class=\"lane synchronised\" d=\"M200 224 H320\"><title>rb synchronised from cycle 0 until 2</title></path>",
     "<path class=\"lane synchronised\" d=\"M200 239 H320\"><title>cb synchronised from cycle 0 until 2</title></path>",
     "<path class=\"flow one\" d=\"M260 511 H320\"><title>v1 c1_a one from cycle 1 until 2</title></path>",
-    "<path class=\"dropped one\" d=\"M260 713 H320\"><title>repeat one from cycle 1 until 2</title></path>",
+    "<path class=\"spared one\" d=\"M260 713 H320\"><title>repeat one from cycle 1 until 2</title></path>",
     "</svg>",
 ];
 
@@ -277,8 +284,8 @@ const SEEN: &[&str] = &[
     "<path class=\"lane synchronised\" d=\"M200 209 H380\"><title>c1 synchronised from cycle 0 until 3</title></path>",
     "<path class=\"lane synchronised\" d=\"M200 224 H380\"><title>rb synchronised from cycle 0 until 3</title></path>",
     "<path class=\"lane synchronised\" d=\"M200 239 H380\"><title>cb synchronised from cycle 0 until 3</title></path>",
-    "<path class=\"dropped one\" d=\"M260 557 H380\"><title>lost one from cycle 1 until 3</title></path>",
-    "<path class=\"dropped two\" d=\"M320 569 H380\"><title>off two from cycle 2 until 3</title></path>",
+    "<path class=\"refused one\" d=\"M260 557 H380\"><title>lost one from cycle 1 until 3</title></path>",
+    "<path class=\"spared two\" d=\"M320 569 H380\"><title>off two from cycle 2 until 3</title></path>",
 ];
 
 // The report of that run.

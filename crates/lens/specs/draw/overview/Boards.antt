@@ -1,12 +1,14 @@
 -- The rows of an overview from the top, and where they are.
 use Rattle.std.specs.{Option.option_map_or, Prelude.{slice_get, suc, zero, ℕ}}
 use Rattle.std.specs.Prelude.{◌++◌, ◌+◌, ◌==◌, ◌∷◌, ◌≡◌, Bool, List, [], false, flat_map, if◌then◌else◌, length, map}
-use Rattle.lens.specs.declared.draw.overview.{row.Row.TheVariants.{Count, Flow, Lane, Passage}, strip.Strip.Strip}
-use Rattle.lens.specs.declared.draw.overview.{board.{Board.Board, Part.Part, TheConstants.{LOSSES, PARTS}}, row.Row.Row}
+use Rattle.lens.specs.declared.draw.overview.{row.Row.TheVariants.{Count, Flow, Lane, Passage, Title}, strip.Strip.Strip}
+use Rattle.lens.specs.declared.draw.overview.{board.{Board.Board, Part.Part}, row.{Kind.Kind, Row.Row}}
 use Rattle.{lens.specs.draw.overview.{Rows.height_of, Strips.fresh}, lens_svg.specs.Lanes.rank_of}
 use Rattle.net_plan.specs.{Places.{device_at, is_end_system, link_at}, declared.tables.Way.TheVariants.{Down, Up}}
 use Rattle.net_plan.specs.declared.{ids.{DeviceId.DeviceId, LinkId.LinkId}, network.Network.Network, tables.Way.Way}
 use Rattle.lens.specs.declared.draw.overview.board.Part.TheVariants as parts
+use Rattle.lens.specs.declared.draw.overview.row.Group.TheVariants as groups
+use Rattle.lens.specs.declared.draw.overview.row.Kind.TheVariants as kinds
 
 -- the rows of the places below this one
 abbrev pub rows_below : (ℕ → List Row) → ℕ → List Row
@@ -51,17 +53,30 @@ flow_at network place =
 abbrev pub flow_rows : Network → List Row
 flow_rows network = rows_below (flow_at network) (length network.row)
 
+-- what may become of a frame that does not come where it should
+abbrev pub losses : List Kind
+losses =
+    kinds.Lost ∷ kinds.Off ∷ kinds.ColdStart ∷ kinds.Domain ∷ kinds.Member ∷ kinds.Old ∷ kinds.Gate ∷ kinds.Cycle
+    ∷ kinds.Unsynchronised ∷ kinds.Unknown ∷ kinds.Length ∷ kinds.Early ∷ kinds.Late ∷ kinds.Repeat ∷ kinds.Refused ∷ []
+
 -- a part of the rows
 abbrev pub part_rows : Network → Part → List Row
 part_rows network (parts.Single row) = row ∷ []
 part_rows network parts.Lanes = lane_rows network
 part_rows network parts.Passages = passage_rows network
 part_rows network parts.Flows = flow_rows network
-part_rows network parts.Losses = map Count LOSSES
+part_rows network parts.Losses = map Count losses
 
--- all of them: the events, the states, the cut ways, what was delivered, and what was lost or dropped
+-- the parts from the top: the events, the states, the cut ways, what was delivered, and what was lost or dropped
+abbrev pub board_parts : List Part
+board_parts =
+    parts.Single (Count kinds.Event) ∷ parts.Single (Title groups.Lanes) ∷ parts.Lanes ∷ parts.Single (Title groups.Ways)
+    ∷ parts.Passages ∷ parts.Single (Title groups.Flows) ∷ parts.Flows ∷ parts.Single (Title groups.Losses) ∷ parts.Losses
+    ∷ []
+
+-- the rows of all of them
 abbrev pub rows_of : Network → List Row
-rows_of network = flat_map (part_rows network) PARTS
+rows_of network = flat_map (part_rows network) board_parts
 
 -- the strips of rows, one below another, from below here on
 abbrev pub laid : Network → ℕ → List Row → List Strip

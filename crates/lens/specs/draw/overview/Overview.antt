@@ -1,11 +1,12 @@
 -- The lines of an overview.
 use Rattle.std.specs.Prelude.{ℕ, ◌+◌, ◌*◌, ◌/◌, List, [], ◌∷◌, ◌++◌, flat_map, map}
 use Rattle.lens.specs.declared.draw.overview.putting.Layer.TheVariants.{Caption, Labels, Marks, Opening, Shared}
-use Rattle.lens.specs.declared.draw.overview.{putting.{Layer.Layer, TheConstants.LAYERS}, strip.Ribbon.Ribbon}
+use Rattle.lens.specs.declared.draw.overview.{putting.Layer.Layer, strip.Ribbon.Ribbon}
 use Rattle.{lens.specs.declared.draw.overview.{grid.Grid.Grid, strip.Strip.Strip}, lens_svg.specs.Elements.opening_line}
 use Rattle.lens.specs.draw.{Picture.lines_from, overview.Pieces.{caption_line, label_line, mark_line, ribbon_line}}
 use Rattle.lens.specs.draw.overview.{Boards.{bottom_of, rows_of, top}, Grids.{greatest, grid_of, pen_at, width_of}}
 use Rattle.lens.specs.draw.overview.{Signs.{close_line, sign_line}, Sweeps.{begun, sweep_ribbons}}
+use Rattle.lens.specs.declared.draw.overview.signs.Sign.TheVariants.{Backdrop, Heading, Key, Style}
 use Rattle.{net_plan.specs.declared.network.Network.Network, run_law.specs.declared.note.Note.Note}
 
 -- a line before each tenth column
@@ -25,9 +26,13 @@ layer_lines network grid strips bottom Caption = caption_line grid ∷ []
 layer_lines network grid strips bottom Marks = marks_lines grid bottom
 layer_lines network grid strips bottom Labels = labels_lines network grid strips
 
+-- the parts below the ribbons, in their order
+abbrev pub layers : List Layer
+layers = Opening ∷ Shared Style ∷ Shared Backdrop ∷ Shared Heading ∷ Shared Key ∷ Caption ∷ Marks ∷ Labels ∷ []
+
 -- all that is below the ribbons
 abbrev pub front_lines : Network → Grid → List Strip → ℕ → List (List ℕ)
-front_lines network grid strips bottom = flat_map (λ layer. layer_lines network grid strips bottom layer) LAYERS
+front_lines network grid strips bottom = flat_map (λ layer. layer_lines network grid strips bottom layer) layers
 
 -- the lines of ribbons
 abbrev pub ribbon_lines : Network → List Ribbon → List (List ℕ)

@@ -50,10 +50,14 @@ number_of kinds.Late = 13
 number_of kinds.Repeat = 14
 number_of kinds.Refused = 15
 
--- the word of what a count is of, by which it has its colour
+-- the word of what a count is of, by which it has its colour: a second copy is not wanted, and a device that is off or
+-- not synchronised takes no frame; else a frame is lost or refused
 abbrev pub count_word : Kind → List ℕ
 count_word kinds.Event = codes "event"
-count_word kind = codes "dropped"
+count_word kinds.Off = codes "spared"
+count_word kinds.Unsynchronised = codes "spared"
+count_word kinds.Repeat = codes "spared"
+count_word kind = codes "refused"
 
 -- the word of what a row shows, by which it has its colours
 abbrev pub row_word : Row → List ℕ

@@ -111,28 +111,27 @@ pub(crate) fn number_of(kind: Kind) -> u64
     }
 }
 
-/// The word of what a count is of: its colour.
+/// The word of what a count is of: its colour. A second copy is not wanted, and a device that is off or not synchronised
+/// takes no frame; else a frame is lost or refused.
 fn count_word(kind: Kind) -> &'static str
     ensures text { result.now ≡ count_word kind }
     ensures short { length result.now ≤ 7 }
 {
     match kind {
         Kind::Event => "event",
+        Kind::Off | Kind::Unsynchronised | Kind::Repeat => "spared",
         Kind::Lost
-        | Kind::Off
         | Kind::ColdStart
         | Kind::Domain
         | Kind::Member
         | Kind::Old
         | Kind::Gate
         | Kind::Cycle
-        | Kind::Unsynchronised
         | Kind::Unknown
         | Kind::Length
         | Kind::Early
         | Kind::Late
-        | Kind::Repeat
-        | Kind::Refused => "dropped",
+        | Kind::Refused => "refused",
     }
 }
 

@@ -5,10 +5,7 @@ use Rattle.lens.proofs.draw.marks.put_back.Goals as goal
 
 pub records-init : goal.records-init
 records-init g c = record {
-  marked =
-      λ notes left. marked_first c.args.network.now c.args.span notes c.args.first c.new-pen.result (shown_by g.K.Sink c.args.out.now) left
-      c.new-pen.ensures.value;
-  within = c.new-pen.ensures.within;
+  marked = λ notes left. marked_first c.args.network.now c.args.span c.args.all.now notes c.args.first (shown_by g.K.Sink c.args.out.now) left;
   quiet = refl;
 }
 
@@ -42,9 +39,9 @@ records-preserved g c =
       marked =
           λ notes left. let h = c.records.invariant.marked notes left in
           let next = c.in-Some.ensures h.rest h.left in
-          marked_more c.args.network.now c.args.span notes c.records.records c.records.pen (shown c.args.out.now) (shown c.records.out) h c.next.new.self
-          c.in-Some.note next.0 c.pen_behind-pen.result (shown c.put_mark.new.out) next.1 next.2 c.pen_behind-pen.ensures.value c.in-Ok.ensures.draws;
-      within = c.pen_behind-pen.ensures.within;
+          marked_more c.args.network.now c.args.span c.args.all.now notes c.records.records c.records.marks.now (shown c.args.out.now) (shown c.records.out) h
+          c.next.new.self c.in-Some.note next.0 c.marks_behind-marks.result.now (shown c.put_mark.new.out) next.1 next.2 c.marks_behind-marks.ensures
+          c.in-Ok.ensures.draws;
       quiet = c.in-Ok.ensures.faults ∙ c.records.invariant.quiet;
     }
 
@@ -53,15 +50,15 @@ returns-in-Err-clause-gives g c notes left =
     let shown = shown_by g.K.Sink in
     let h = c.records.invariant.marked notes left in
     let next = c.in-Some.ensures h.rest h.left in
-    marked_fails c.args.network.now c.args.span notes c.records.records c.records.pen (shown c.args.out.now) (shown c.records.out) h c.in-Some.note next.0
-    c.pen_behind-pen.result (shown c.put_mark.new.out) next.1 c.pen_behind-pen.ensures.value c.in-Err.ensures.draws
+    marked_fails c.args.network.now c.args.span c.args.all.now notes c.records.records c.records.marks.now (shown c.args.out.now) (shown c.records.out) h
+    c.in-Some.note next.0 (shown c.put_mark.new.out) next.1 c.in-Err.ensures.draws
 
 pub returns-in-None-clause-gives : goal.returns-in-None-clause-gives
 returns-in-None-clause-gives g c notes left =
     let shown = shown_by g.K.Sink in
     let h = c.records.invariant.marked notes left in
     let last : c.as_bytes.result.now ≡ close_line = c.as_bytes.ensures.value in
-    marked_all c.args.network.now c.args.span notes c.records.records c.records.pen (shown c.args.out.now) (shown c.records.out) h c.put_last.result
+    marked_all c.args.network.now c.args.span c.args.all.now notes c.records.records c.records.marks.now (shown c.args.out.now) (shown c.records.out) h c.put_last.result
     (shown c.put_last.new.out) (c.in-None.ensures h.rest h.left)
     (subst (λ (bytes : List ℕ). Gives (line_answer Done bytes) c.put_last.result (shown c.records.out) (shown c.put_last.new.out)) last
     c.put_last.ensures.gives)

@@ -1,5 +1,5 @@
-use Rattle.{lens.proofs.draw_lemmas.Marking.IsMarked, run_law.specs.declared.note.Note.Note, std.proofs.Common.{◌≡◌, ◌≤◌, List, length}}
-use Rattle.{lens_svg.specs.Layout.widest, tte_forms.specs.Putting.shown_by, tte_reports.specs.Reports.AreLeft}
+use Rattle.{lens.proofs.draw_lemmas.Marking.IsMarked, run_law.specs.declared.note.Note.Note, std.proofs.Common.{◌≡◌, List, length}}
+use Rattle.{tte_forms.specs.Putting.shown_by, tte_reports.specs.Reports.AreLeft}
 use Rattle.lens.proofs.draw.marks.put_back.Given as goal
 
 abbrev pub decreases-records : goal.decreases-records
@@ -8,7 +8,6 @@ decreases-records g l = length l.records.rest.now
 abbrev pub invariant-records : goal.invariant-records
 invariant-records g l = record {
   marked : (notes : List Note) → AreLeft l.network l.initial.records notes
-      → IsMarked l.network l.span notes l.records l.pen (shown_by g.K.Sink l.fn.out) (shown_by g.K.Sink l.out);
-  within : l.pen.x ≤ widest;
+      → IsMarked l.network l.span l.all notes l.records l.marks (shown_by g.K.Sink l.fn.out) (shown_by g.K.Sink l.out);
   quiet : g.K.Sink.faults l.out ≡ g.K.Sink.faults l.fn.out;
 }

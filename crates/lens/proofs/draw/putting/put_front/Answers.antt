@@ -1,4 +1,4 @@
-use Rattle.lens.{proofs.draw_lemmas.Parts.{flat_fails, flat_more}, specs.{declared.draw.putting.TheConstants.LAYERS, draw.Picture.layer_lines}}
+use Rattle.lens.{proofs.draw_lemmas.Parts.{flat_fails, flat_more}, specs.draw.Picture.{layer_lines, layers}}
 use Rattle.{std.proofs.Common.◌∙◌, tte_forms.specs.Putting.shown_by}
 use Rattle.lens.proofs.draw.putting.put_front.Goals as goal
 
@@ -7,7 +7,7 @@ layers-preserved g c =
     let shown = shown_by g.K.Sink in
     record {
       puts =
-          flat_more (λ layer. layer_lines c.args.network.now c.args.sketch.now c.args.windows.now c.args.clocks.now layer) LAYERS c.layers.layer-index _
+          flat_more (λ layer. layer_lines c.args.network.now c.args.sketch.now c.args.windows.now c.args.clocks.now layer) layers c.layers.layer-index _
           (shown c.args.out.now)
           (shown c.layers.out) (shown c.put_layer.new.out) c.layers-test.true c.layers.invariant.puts c.in-Ok.ensures.draws;
       quiet = c.in-Ok.ensures.faults ∙ c.layers.invariant.quiet;
@@ -16,6 +16,6 @@ layers-preserved g c =
 pub returns-in-Err-clause-draws : goal.returns-in-Err-clause-draws
 returns-in-Err-clause-draws g c =
     let shown = shown_by g.K.Sink in
-    flat_fails (λ layer. layer_lines c.args.network.now c.args.sketch.now c.args.windows.now c.args.clocks.now layer) LAYERS c.layers.layer-index _
+    flat_fails (λ layer. layer_lines c.args.network.now c.args.sketch.now c.args.windows.now c.args.clocks.now layer) layers c.layers.layer-index _
     (shown c.args.out.now)
     (shown c.layers.out) (shown c.put_layer.new.out) c.layers-test.true c.layers.invariant.puts c.in-Err.ensures.draws

@@ -1,4 +1,4 @@
-use Rattle.lens.{proofs.draw_lemmas.Parts.{flat_fails, flat_more}, specs.declared.draw.overview.putting.TheConstants.LAYERS}
+use Rattle.lens.{proofs.draw_lemmas.Parts.{flat_fails, flat_more}, specs.draw.overview.Overview.layers}
 use Rattle.{lens.specs.draw.overview.Overview.layer_lines, std.proofs.Common.◌∙◌, tte_forms.specs.Putting.shown_by}
 use Rattle.lens.proofs.draw.overview.putting.put_front.Goals as goal
 
@@ -7,7 +7,7 @@ layers-preserved g c =
     let shown = shown_by g.K.Sink in
     record {
       puts =
-          flat_more (λ layer. layer_lines c.args.network.now c.args.grid c.args.board.now.strips.items c.args.board.now.bottom layer) LAYERS
+          flat_more (λ layer. layer_lines c.args.network.now c.args.grid c.args.board.now.strips.items c.args.board.now.bottom layer) layers
           c.layers.layer-index _ (shown c.args.out.now) (shown c.layers.out) (shown c.put_layer.new.out) c.layers-test.true c.layers.invariant.puts
           c.in-Ok.ensures.draws;
       quiet = c.in-Ok.ensures.faults ∙ c.layers.invariant.quiet;
@@ -16,6 +16,6 @@ layers-preserved g c =
 pub returns-in-Err-clause-draws : goal.returns-in-Err-clause-draws
 returns-in-Err-clause-draws g c =
     let shown = shown_by g.K.Sink in
-    flat_fails (λ layer. layer_lines c.args.network.now c.args.grid c.args.board.now.strips.items c.args.board.now.bottom layer) LAYERS
+    flat_fails (λ layer. layer_lines c.args.network.now c.args.grid c.args.board.now.strips.items c.args.board.now.bottom layer) layers
     c.layers.layer-index _ (shown c.args.out.now) (shown c.layers.out) (shown c.put_layer.new.out) c.layers-test.true c.layers.invariant.puts
     c.in-Err.ensures.draws
