@@ -1,8 +1,12 @@
 -- The last collection of a compression master, point after point.
-use Rattle.{audit_devices.specs.Effects.carried_by, compression.proofs.Sound.open_at-some, run_law.{proofs.records.Order.after_more, specs.records.Order.IsIn}}
-use Rattle.{audit_devices.specs.Keeping.records_before, compression.proofs.{Rows.last_split, Taking.role_in-joined}, tte_units.specs.declared.units.Units.Units}
-use Rattle.{audit_devices.specs.declared.effect.Carried.Carried, audit_law.proofs.collections_lemmas.Stepping.{AreBefore, are-ignored, are-joined, are-opened}}
-use Rattle.{compression.proofs.{Elements.{Ordered, Ordered-from}, Standing.AreClusters-unique}, std.proofs.lemmas.List.{Elements.{All-nil, filter_map-append}, append-nil}}
+use Rattle.{audit_devices.specs.Effects.carried_by}
+use Rattle.{compression.proofs.Sound.open_at-some, run_law.{proofs.records.Order.after_more, specs.records.Order.IsIn}}
+use Rattle.{audit_devices.specs.Keeping.records_before}
+use Rattle.{compression.proofs.{Rows.last_split, Taking.role_in-joined}, tte_units.specs.declared.units.Units.Units}
+use Rattle.{audit_devices.specs.declared.effect.Carried.Carried}
+use Rattle.{audit_law.proofs.collections_lemmas.Stepping.{AreBefore, are-ignored, are-joined, are-opened}}
+use Rattle.{compression.proofs.{Elements.{Ordered, Ordered-from}, Standing.AreClusters-unique}}
+use Rattle.{std.proofs.lemmas.List.{Elements.{All-nil, filter_map-append}, append-nil}}
 use Rattle.{compression.specs.Clusters.{AreClusters, Cluster, Point}, tte_reports.specs.Reports.IsReportOf}
 use Rattle.{compression.specs.{Collection.{joined, opening}, declared.taken.Taken.Taken}, std.specs.Prelude.{filter_map, fold, option_map, take}}
 use Rattle.compression.specs.Role.{open_at, role}
@@ -16,7 +20,8 @@ use Rattle.lens_why.specs.Collections.{LastIsOfClusters, behind_point, collected
 use Rattle.{lens_why.specs.declared.ground.Ground.TheVariants.Collected, std.specs.List.{AllByRecursion, after_last, cons_option, last_or}}
 use Rattle.{net_plan.specs.declared.{ids.DeviceId.DeviceId, network.Network.Network}, tte_units.proofs.general_lemmas.Lists.last_pushed}
 use Rattle.run_law.specs.{control.Collections.{ends_stretch, master_of, observation_window, point_by, points_of}, records.Ranks.{members_in, place_of}}
-use Rattle.std.proofs.Common.{◌++◌, ◌+◌, ◌-◌, ◌<◌, ◌∙◌, ◌∷◌, ◌≡◌, ◌≤ℤ◌, ◌≤◌, List, None, Option, Some, [], ap, append_assoc, arith, false, inl, inr, pos, refl}
+use Rattle.std.proofs.Common.{◌++◌, ◌+◌, ◌-◌, ◌<◌, ◌∙◌, ◌∷◌, ◌≡◌, ◌≤ℤ◌, ◌≤◌, List, None}
+use Rattle.std.proofs.Common.{Option, Some, [], ap, append_assoc, arith, false, inl, inr, pos, refl}
 use Rattle.std.proofs.Common.{subst, sym, true, ℕ, ℤ}
 
 -- ---- one more record

@@ -8,10 +8,13 @@ use Rattle.lens_why.specs.Decisions.{IsCorrectedBy, IsStateBy, value_told}
 use Rattle.lens_why.specs.declared.ground.Told.{Told}
 use Rattle.net_plan.specs.declared.{ids.DeviceId.DeviceId, network.Network.Network}
 use Rattle.run_law.{proofs.law.FirstPlaces.{same_earlier, split}, specs.{declared.note.{Note.Note, NoteBody.NoteBody}, runs.DueRecords.IsDue}}
-use Rattle.run_law.specs.{device.States.{adjustment_after, adjustment_before}, records.Ranks.{key, members_in, place_of, rank}, scenario.{Devices.plan_of, Scenarios.Scenario}}
+use Rattle.run_law.specs.{device.States.{adjustment_after, adjustment_before}}
+use Rattle.run_law.specs.{records.Ranks.{key, members_in, place_of, rank}, scenario.{Devices.plan_of, Scenarios.Scenario}}
 use Rattle.run_law.specs.records.Happenings.{Happening, earlier, happenings, numbered, time_of}
-use Rattle.{schedule_tables.specs.Rules.KeepsRules, tte_audit.specs.{Named.IsNamed, Report.scenario_of}, tte_reports.{proofs.Answers.kept_apart, specs.Reports.IsReportOf}}
-use Rattle.std.proofs.Common.{◌<◌, ◌∙◌, ◌∷◌, ◌≡◌, ◌≤◌, Bool, List, None, Option, Some, ap, arith, false, if◌then◌else◌, inl, inr, refl, subst, sym, true, ℕ, ℤ}
+use Rattle.{schedule_tables.specs.Rules.KeepsRules}
+use Rattle.{tte_audit.specs.{Named.IsNamed, Report.scenario_of}, tte_reports.{proofs.Answers.kept_apart, specs.Reports.IsReportOf}}
+use Rattle.std.proofs.Common.{◌<◌, ◌∙◌, ◌∷◌, ◌≡◌, ◌≤◌, Bool, List, None, Option, Some, ap}
+use Rattle.std.proofs.Common.{arith, false, if◌then◌else◌, inl, inr, refl, subst, sym, true, ℕ, ℤ}
 use Rattle.{std.proofs.lemmas.Bool.cases_lt, std.specs.Prelude.{IfSome, IsSomeAnd, nat_le, option_and_then, option_map}}
 use Rattle.sync_state.specs.{Plan.expected_at, Standing.{Standing, point_in}, Verdicts.{HasVerdict, deviation_on}, correction.Correction.correction_of}
 use Rattle.sync_state.specs.{correction.Deviation.deviation_of, declared.{answers.Verdict.Verdict, membership.frame.HeardFrame.HeardFrame, state.State.State}}

@@ -5,7 +5,8 @@ use Rattle.net_plan.specs.declared.{ids.LinkId.LinkId, network.Network.Network, 
 use Rattle.run_law.specs.{declared.note.Note.Note, records.{Happenings.{Happening, happenings}, Ranks.place_of}}
 use Rattle.{std.proofs.lemmas.List.Sums.fold_push, tte_reports.specs.Reports.IsReportOf, tte_units.specs.declared.units.Units.Units}
 use Rattle.run_law.specs.records.Order.{IsIn}
-use Rattle.std.proofs.Common.{◌++◌, ◌+◌, ◌-◌, ◌<◌, ◌==◌, ◌∙◌, ◌∷◌, ◌≡◌, ◌≢◌, ◌≤◌, ◌⊎◌, Bool, List, None, Option, Some, [], ap, append_assoc, arith, false, fold, if◌then◌else◌, inl, inr, refl}
+use Rattle.std.proofs.Common.{◌++◌, ◌+◌, ◌-◌, ◌<◌, ◌==◌, ◌∙◌, ◌∷◌, ◌≡◌, ◌≢◌, ◌≤◌, ◌⊎◌, Bool, List}
+use Rattle.std.proofs.Common.{None, Option, Some, [], ap, append_assoc, arith, false, fold, if◌then◌else◌, inl, inr, refl}
 use Rattle.std.proofs.Common.{subst, sym, true, ℕ}
 use Rattle.std.proofs.lemmas.{Bool.{cases_Bool, eqb-true}, List.{Elements.{All-append, All-cons, All-nil, filter_map-append}, append-nil}}
 use Rattle.std.specs.{List.{cons_option, last_or}, Prelude.{All, filter_map, take, unwrap_or}}

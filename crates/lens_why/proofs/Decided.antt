@@ -8,19 +8,24 @@ use Rattle.{run_law.proofs.law.FirstPlaces.front_founded, tte_audit.proofs.{Cloc
 use Rattle.run_law.specs.{control.{Collections.master_of, Leaving.clock_at_leaving}, records.Ranks.{members_in, place_of}, runs.Runs.IsFounded}
 use Rattle.{std.proofs.lemmas.{Bool.eqb-true, List.Elements.recursion_from_All}, std.specs.{Option.option_map_or, Prelude.{All, IfSome, nat_lt}}}
 use Rattle.{net_plan.specs.declared.tables.Way.Way, tte_units.specs.Amount.amount}
-use Rattle.lens_why.proofs.{Collected.ComeInOrder, Corrections.{clique_by, corrected_by, outnumbered_by}, Deciding.left_by, LastRecords.parted_there, Losing.cut_before}
+use Rattle.lens_why.proofs.{Collected.ComeInOrder, Corrections.{clique_by, corrected_by, outnumbered_by}}
+use Rattle.lens_why.proofs.{Deciding.left_by, LastRecords.parted_there, Losing.cut_before}
+use Rattle.lens_why.proofs.Dropped.{early_so, gate_so, late_so}
 use Rattle.lens_why.proofs.Permanents.{joined_so, opened_so, outside_so, repeat_so, within_so}
 use Rattle.lens_why.specs.{Decisions.{GroundsDecide, IsCutBefore, IsDecidedBy}, Grounds.{ground_by, lost_ground}}
-use Rattle.net_plan.specs.{Places.link_at, declared.{ids.{DeviceId.DeviceId, LinkId.LinkId}, network.Network.Network, tables.{Link.Link, Way.TheVariants.{Down, Up}}}}
+use Rattle.net_plan.specs.{Places.link_at}
+use Rattle.net_plan.specs.{declared.{ids.{DeviceId.DeviceId, LinkId.LinkId}, network.Network.Network, tables.{Link.Link, Way.TheVariants.{Down, Up}}}}
 use Rattle.run_law.specs.{control.Losses.{IsLost}, declared.{judgement.Judgement.Judgement, note.{Note.Note, NoteBody.NoteBody}}}
 use Rattle.run_law.specs.{control.{Collections.{ends_stretch, point_by, points_of}, Leaving.{leaves, on_cut_way, too_old}}, device.States.cycle_in}
 use Rattle.run_law.specs.{records.{Happenings.{Happening, happenings, numbered, time_of}, Ranks.rank}, scenario.{Devices.{is_cm}, Scenarios.Scenario}}
 use Rattle.run_law.specs.{runs.DueRecords.{IsCaused}, scenario.Ways.{is_cut, way_from}}
 use Rattle.{schedule_tables.specs.Rules.KeepsRules, tte_audit.specs.Report.scenario_of, tte_reports.specs.Reports.IsReportOf}
-use Rattle.std.proofs.Common.{◌++◌, ◌==◌, ◌∙◌, ◌∷◌, ◌≡◌, ◌≤ℤ◌, ◌⊎◌, Bool, List, None, Option, Some, [], ap, append_assoc, arith, false, if◌then◌else◌, inl, inr, refl, subst, sym, true, ℕ}
+use Rattle.std.proofs.Common.{◌++◌, ◌==◌, ◌∙◌, ◌∷◌, ◌≡◌, ◌≤ℤ◌, ◌⊎◌, Bool, List, None, Option, Some}
+use Rattle.std.proofs.Common.{[], ap, append_assoc, arith, false, if◌then◌else◌, inl, inr, refl, subst, sym, true, ℕ}
 use Rattle.tte_units.specs.declared.units.Units.{Units}
 use Rattle.audit_law.specs.law.DueRecords as audits
 use Rattle.run_law.specs.declared.judgement.Judgement.TheVariants as judgements
+use Rattle.run_law.specs.declared.judgement.Reason.TheVariants as reasons
 use Rattle.run_law.specs.declared.judgement.Why.TheVariants as whys
 use Rattle.run_law.specs.declared.note.NoteBody.TheVariants as notes
 
@@ -157,6 +162,10 @@ module _ (network : Network) (octets : List ℕ) (ns : List Note) (end : Units) 
       repeat_so network octets ns end of number h there device link cause point judgements.Repeat is (rises device) refl
   by_body (notes.Permanent device link cause point verdict) is = tt
   by_body (notes.Lost device link cause) is = lost_by device link cause is
+  by_body (notes.Dropped device link cause reasons.Early) is = early_so network octets ns end of number h there device link cause reasons.Early is refl
+  by_body (notes.Dropped device link cause reasons.Late) is = late_so network octets ns end of number h there device link cause reasons.Late is refl
+  by_body (notes.Dropped device link cause reasons.Gate) is = gate_so network octets ns end of number h there device link cause reasons.Gate is refl
+  by_body (notes.Dropped device link cause reason) is = tt
   by_body other is = tt
 
 pub grounds_decide : GroundsDecide

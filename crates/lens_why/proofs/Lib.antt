@@ -25,3 +25,4 @@ pub mod Losing
 pub mod Deciding
 pub mod Corrections
 pub mod Decided
+pub mod Dropped

@@ -7,13 +7,16 @@ use Rattle.run_law.specs.declared.note.{Note.Note, NoteBody.NoteBody}
 use Rattle.run_law.specs.records.{Happenings.{Happening, happenings, numbered, time_of}, Order.{IsBefore, IsIn}, Ranks.{key, members_in, place_of, rank}}
 use Rattle.run_law.specs.runs.Runs.{IsFounded}
 use Rattle.run_law.specs.scenario.{Scenarios.Scenario, Ways.{cut_set, is_cut}}
-use Rattle.run_law.proofs.{law.FirstPlaces.founded_at, records.Order.{all_kept, has_passed, makes_none, time_before}, runs.{Lacking.behind_first, NetworkRuns.same_notes}}
+use Rattle.run_law.proofs.{law.FirstPlaces.founded_at}
+use Rattle.run_law.proofs.{records.Order.{all_kept, has_passed, makes_none, time_before}, runs.{Lacking.behind_first, NetworkRuns.same_notes}}
 use Rattle.run_law.proofs.law.FirstPlaces.{front_founded, in_filter}
-use Rattle.std.proofs.Common.{◌++◌, ◌<◌, ◌∙◌, ◌∷◌, ◌≡◌, ◌≤◌, Bool, List, None, Option, Some, [], ap, append_assoc, arith, false, filter, if◌then◌else◌, inl, inr, map, refl}
+use Rattle.std.proofs.Common.{◌++◌, ◌<◌, ◌∙◌, ◌∷◌, ◌≡◌, ◌≤◌, Bool, List, None, Option, Some}
+use Rattle.std.proofs.Common.{[], ap, append_assoc, arith, false, filter, if◌then◌else◌, inl, inr, map, refl}
 use Rattle.std.proofs.Common.{subst, sym, true, ℕ}
 use Rattle.std.proofs.lemmas.{Bool.{le-leb, leb-true}, List.{Elements.{filter-append, filter_map-append}, append-nil}}
 use Rattle.std.specs.{List.{cons_option, last_or}, Prelude.{filter_map, nat_le, unwrap_or}}
-use Rattle.{tte_audit.specs.Report.{event_by, events_of, scenario_of}, tte_reports.specs.Reports.IsReportOf, tte_units.specs.{Amount.amount, declared.units.Units.Units}}
+use Rattle.{tte_audit.specs.Report.{event_by, events_of, scenario_of}}
+use Rattle.{tte_reports.specs.Reports.IsReportOf, tte_units.specs.{Amount.amount, declared.units.Units.Units}}
 use Rattle.run_law.specs.declared.note.NoteBody.TheVariants as notes
 
 module _ (link : LinkId) (way : Way) (t : ℕ) where

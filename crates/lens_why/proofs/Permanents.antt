@@ -10,7 +10,8 @@ use Rattle.run_law.specs.records.Happenings.{frame_by}
 use Rattle.run_law.specs.runs.DueRecords.{IsDue}
 use Rattle.std.specs.{List.last_or, Option.option_map_or}
 use Rattle.std.proofs.Common.{◌<ℤ◌, ◌==◌}
-use Rattle.{net_plan.specs.declared.{ids.{DeviceId.DeviceId, LinkId.LinkId}, network.Network.Network}, run_law.specs.declared.note.{Note.Note, NoteBody.NoteBody}}
+use Rattle.{net_plan.specs.declared.{ids.{DeviceId.DeviceId, LinkId.LinkId}, network.Network.Network}}
+use Rattle.{run_law.specs.declared.note.{Note.Note, NoteBody.NoteBody}}
 use Rattle.run_law.specs.records.Happenings.{Happening, happenings, numbered, time_of}
 use Rattle.run_law.specs.records.Ranks.{members_in, place_at, place_of}
 use Rattle.run_law.specs.control.Hearing.{heard_as, heard_by_schedule, heard_enough, is_in_schedule, last_cycle}
@@ -22,7 +23,8 @@ use Rattle.run_law.specs.device.States.{adjustment_at_hearing, cycle_in, state_a
 use Rattle.run_law.specs.records.Order.{is_before}
 use Rattle.run_law.proofs.records.Order.{all_kept, before_is}
 use Rattle.run_law.specs.scenario.{Devices.{is_cm, plan_of}, Scenarios.Scenario}
-use Rattle.std.proofs.Common.{◌&&◌, ◌+ℤ◌, ◌-ℤ◌, ◌∙◌, ◌≡◌, ◌≤ℤ◌, ◌⊎◌, Bool, List, None, Option, Some, ap, arith, false, filter, if◌then◌else◌, inl, inr, neg_ℤ, pos, refl, subst, sym, true, ℕ, ℤ}
+use Rattle.std.proofs.Common.{◌&&◌, ◌+ℤ◌, ◌-ℤ◌, ◌∙◌, ◌≡◌, ◌≤ℤ◌, ◌⊎◌, Bool, List, None, Option, Some, ap}
+use Rattle.std.proofs.Common.{arith, false, filter, if◌then◌else◌, inl, inr, neg_ℤ, pos, refl, subst, sym, true, ℕ, ℤ}
 use Rattle.std.specs.Prelude.{IfSome, IsSomeAnd, MatchBool, int_le, int_lt, nat_le, option_and_then, option_map}
 use Rattle.std.proofs.lemmas.{Bool.{and_from, cases_Bool, eqb-true, le-leb, leb-true}, Int.ints}
 use Rattle.audit_devices.specs.Keeping.{records_before}

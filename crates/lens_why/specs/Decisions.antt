@@ -2,23 +2,25 @@
 use Rattle.std.specs.Prelude.{◌++◌, ◌+ℤ◌, ◌+◌, ◌-ℤ◌, ◌<ℤ◌, ◌<◌, ◌==◌, ◌^◌, ◌∷◌, ◌≡◌, ◌≢◌, ◌≤ℤ◌, ◌≤◌, ◌⊎◌}
 use Rattle.std.specs.Prelude.{All, Bool, IfSome, IsSomeAnd, List, None, Option, Some, bit_and, false, filter_map}
 use Rattle.std.specs.Prelude.{neg_ℤ, not, option_map, pos, true, unwrap_or, ℕ, ℤ}
-use Rattle.{lens_why.specs.Grounds.{ground_of}, net_plan.specs.declared.network.Network.Network}
+use Rattle.{lens_why.specs.Grounds.{entry_given, ground_of}, net_plan.specs.declared.network.Network.Network}
 use Rattle.{lens_why.specs.{Records.clock_given, Seeking.cut_told}, std.specs.List.last_or}
 use Rattle.lens_why.specs.declared.{collecting.Collection.Collection, ground.{Best.Best, Ground.Ground}}
-use Rattle.lens_why.specs.declared.ground.Ground.TheVariants.{Clique, Collected, Corrected, CutBy, Heard, Held}
-use Rattle.net_plan.specs.declared.{ids.{LinkId.LinkId}, tables.Way.Way}
+use Rattle.lens_why.specs.declared.ground.Ground.TheVariants.{Clique, Collected, Corrected, CutBy, Gate, Heard}
+use Rattle.lens_why.specs.declared.ground.Ground.TheVariants.{Held, Missed}
+use Rattle.net_plan.specs.declared.{ids.{DeviceId.DeviceId, LinkId.LinkId}, tables.Way.Way}
 use Rattle.run_law.specs.control.Hearing.{last_cycle}
 use Rattle.run_law.specs.declared.judgement.Judgement.{Judgement, TheVariants.{Joined, Opened, Outside, Repeat, Within}}
-use Rattle.run_law.specs.declared.judgement.{Why.{TheVariants.{AsyncClique, SyncClique}, Why}}
+use Rattle.run_law.specs.declared.judgement.{Reason.Reason, Why.{TheVariants.{AsyncClique, SyncClique}, Why}}
 use Rattle.run_law.specs.device.States.{cycle_in}
 use Rattle.run_law.specs.declared.note.{Note.Note, NoteBody.NoteBody}
 use Rattle.run_law.specs.records.Happenings.{Happening, happenings, numbered, time_of}
-use Rattle.run_law.specs.scenario.{Ways.way_from}
-use Rattle.schedule_tables.specs.{Rules.KeepsRules}
+use Rattle.run_law.specs.{scenario.{Devices.is_relay, Ways.way_from}, timed.Arrivals.occurs_in}
+use Rattle.schedule_tables.specs.{Rules.KeepsRules, declared.entry.Entry.Entry}
 use Rattle.sync_state.specs.{correction.Correction.correction_of}
 use Rattle.sync_state.specs.{membership.Members.count_of}
 use Rattle.{tte_audit.specs.Report.scenario_of, tte_reports.specs.Reports.IsReportOf}
 use Rattle.tte_units.specs.declared.units.Units.{Units}
+use Rattle.run_law.specs.declared.judgement.Reason.TheVariants as reasons
 use Rattle.run_law.specs.declared.note.NoteBody.TheVariants as notes
 
 -- ---- corrections and cliques
@@ -81,8 +83,8 @@ IsCollectedBy cycle P (Collected master of_cycle last) = (of_cycle ≡ cycle) ×
 IsCollectedBy cycle P other = ⊥
 
 -- a frame of the cycle is permanent at the point and judged so: it is heard within its time where its clock is no
--- farther from the expected than it may, in a cycle that is used; it opens a collection where the last is past, or there
--- is none; and it joins the last one where it is the first of its master
+-- farther from the expected than it may, in a cycle that is used; it opens a collection where the last is past, or
+-- there is none; and it joins the last one where it is the first of its master
 abbrev pub IsPermanentBy : Units → ℕ → Judgement → Ground → Type 0
 IsPermanentBy point cycle Within said =
     IsHeardBy point (λ off most. (cycle ≤ last_cycle) × IsNoFarther off most) said
@@ -125,6 +127,30 @@ pub record IsCutBefore (hs : List Happening) (h : Happening) (link : LinkId) (wa
   pub cuts : cut_told link way cutting.note.body ≡ Some true
   pub unhealed : All (λ g. cut_told link way g.note.body ≢ Some false) between
 
+-- ---- drops
+
+-- the frame came beside its window, and so it goes with the cycle and the place in it, and with the window
+abbrev pub IsMissedBy : (ℕ → ℤ → Units → Units → Type 0) → Ground → Type 0
+IsMissedBy P (Missed cycle position from to) = P cycle position from to
+IsMissedBy P other = ⊥
+
+-- the relay's clock stands farther beyond the opening of the gate than the gate is open
+abbrev pub IsShutBy : Ground → Type 0
+IsShutBy (Gate beyond most) = pos most <ℤ beyond
+IsShutBy other = ⊥
+
+-- what came to the device is dropped for the reason: before its window or behind it, or in a cycle in which its virtual
+-- link does not occur; or at a shut gate
+abbrev pub IsDroppedBy : Network → DeviceId → Option Entry → Reason → Ground → Type 0
+IsDroppedBy network device entry reasons.Early said =
+    IsSomeAnd entry (λ e. IsMissedBy (λ cycle position from to. (occurs_in e.vl cycle ≡ false) ⊎ (position <ℤ from.0))
+    said)
+IsDroppedBy network device entry reasons.Late said =
+    IsSomeAnd entry (λ e. IsMissedBy (λ cycle position from to. (occurs_in e.vl cycle ≡ true) × (to.0 <ℤ position))
+    said)
+IsDroppedBy network device entry reasons.Gate said = is_relay network device ≡ true → IsShutBy said
+IsDroppedBy network device entry other said = Unit {0}
+
 -- ---- all
 
 -- the record, which has this body, is so by its ground
@@ -136,6 +162,8 @@ IsDecidedBy network hs h (notes.Permanent device link cause point verdict) said 
 IsDecidedBy network hs h (notes.Left device link cause clock) said = IsLeftBy hs cause (time_of h) clock said
 IsDecidedBy network hs h (notes.Lost device link cause) said =
     IsCutBefore hs h link (way_from network device link) said
+IsDecidedBy network hs h (notes.Dropped device link cause reason) said =
+    IsDroppedBy network device (entry_given network device link (numbered hs cause)) reason said
 IsDecidedBy network hs h other said = Unit {0}
 
 -- each record of a report is so by its ground, in a network that keeps the rules

@@ -40,9 +40,9 @@ pub fn best_law()
     ensures { BestAreThere }
 {}
 
-/// A record is so by what its ground tells: a correction by what the channels say, a clique by how many masters they told,
-/// a permanence by the schedule or by the last collection, a frame that leaves by what was measured of its hold, and one
-/// that is lost by the event that cut its way.
+/// A record is so by what its ground tells: a correction by what the channels say, a clique by how many masters they
+/// told, a permanence by the schedule or by the last collection, a frame that leaves by what was measured of its hold,
+/// one that is lost by the event that cut its way, and one that is dropped by where it came.
 pub fn decisions_law()
     ensures { GroundsDecide }
 {}

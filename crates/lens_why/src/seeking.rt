@@ -235,8 +235,8 @@ fn opens(device: DeviceId, point: Units, body: &NoteBody) -> bool
     }
 }
 
-/// The number of the record that cut the way, of those before the record of the number, or 0 where it is whole. An event
-/// that cuts a cut way changes nothing.
+/// The number of the record that cut the way, of those before the record of the number, or 0 where it is whole. An
+/// event that cuts a cut way changes nothing.
 pub(crate) fn cut_before(
     report: &AuditedReport,
     network: &Network,
