@@ -1,7 +1,9 @@
 -- What the lines of `latency` have to do with the runs of the network.
 use Rattle.std.specs.{List.Contains, Prelude.{◌+◌, ◌≡◌, ◌≤ℤ◌, ◌≤◌, List, max, min, pos, ℕ}}
-use Rattle.lens_latency.specs.{Comings.AreComings, declared.{comings.Coming.Coming, trips.Trip.Trip}}
-use Rattle.{net_plan.specs.declared.ids.{DeviceId.DeviceId, VlId.VlId}, precision_law.specs.Precision.IsRunUpTo}
+use Rattle.lens_latency.specs.{Arrivals.IsArrival, Comings.AreComings}
+use Rattle.lens_latency.specs.declared.{arrivals.Arrival.Arrival, comings.Coming.Coming, trips.Trip.Trip}
+use Rattle.net_plan.specs.declared.ids.{DeviceId.DeviceId, LinkId.LinkId, VlId.VlId}
+use Rattle.{run_law.specs.scenario.Faults.IsLinkOf, precision_law.specs.Precision.IsRunUpTo}
 use Rattle.{net_plan.specs.declared.tables.VirtualLink.VirtualLink, precision_law.specs.traffic.Ports.IsRunTo}
 use Rattle.precision_law.specs.traffic.Latency.{HasCorrectSender, IsDeliveryBy, IsDispatchOn}
 use Rattle.run_law.specs.{declared.note.Note.Note, device.{LocalClocks.local_before, Standpoints.offset_in_cycle}}
@@ -9,6 +11,7 @@ use Rattle.run_law.specs.{law.Safety.{IsDelivered, IsOwed}, records.Happenings.{
 use Rattle.{run_law.specs.{records.Order.IsIn, scenario.Scenarios.Scenario}, schedule_tables.specs.declared.entry.Entry.Entry}
 use Rattle.schedule_tables.specs.Entries.{IsOnChannel, source_of, target_of}
 use Rattle.tte_units.specs.declared.frames.channel.Channel.{Channel, TheVariants.{A, B}}
+use Rattle.run_law.specs.declared.note.NoteBody.TheVariants as notes
 
 -- the frame is delivered exactly once, at a place of the device's cycle from the first to the last that the line tells
 pub record ComesWithin (s : Scenario) (hs : List Happening) (vl : VlId) (of_vl : VirtualLink) (cycle : ℕ)
@@ -59,3 +62,21 @@ ComesInItsTime =
     → IsRunUpTo s mark ns until → AreComings s.network cs → Contains cs c → time_of z ≤ until
     → GoesBy s (happenings s.network ns) c cycle channel f z
     → (time_of f + (trip_by channel c).least ≤ time_of z) × (time_of z ≤ time_of f + (trip_by channel c).most)
+
+-- the delivery is one of those that are seen, and took as long as the line says by the channel
+pub record IsSeenWithin (hs : List Happening) (c : Coming) (channel : Channel) (h : Happening) : Type 0 where
+  pub arrival : Arrival
+  pub arrives : IsArrival hs h arrival
+  pub of_vl : arrival.vl ≡ c.vl
+  pub at : arrival.device ≡ c.device
+  pub least : (trip_by channel c).least ≤ arrival.time
+  pub most : arrival.time ≤ (trip_by channel c).most
+
+-- so it is with each delivery of a frame by the channel, where its sender is not broken by then
+abbrev pub DeliveriesAreSeen : Type 0
+DeliveriesAreSeen =
+    (s : Scenario) (mark : List ℕ) (ns : List Note) (until : ℕ) (cs : List Coming) (c : Coming) (channel : Channel)
+    (h : Happening) (link : LinkId) (cause cycle : ℕ)
+    → IsRunUpTo s mark ns until → AreComings s.network cs → Contains cs c → IsIn h (happenings s.network ns)
+    → time_of h ≤ until → h.note.body ≡ notes.Delivered c.device link cause c.vl cycle → IsLinkOf s.network channel link
+    → HasCorrectSender s c.vl (time_of h) → IsSeenWithin (happenings s.network ns) c channel h

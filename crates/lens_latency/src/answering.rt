@@ -1,17 +1,20 @@
 ghost use Rattle.std.specs.Prelude.{◌≡◌, ◌≢◌, All};
-ghost use Rattle.lens_latency.specs.Answer.{IsLatencyAnswer, IsLatencyOf, latency_answer};
+ghost use Rattle.lens_latency.specs.Answer.{IsLatencyAnswer, IsLatencyOf, IsLatencyReport, latency_answer, told_answer};
 ghost use Rattle.{lens_latency.specs.Comings.HasNames, net_plan.specs.Ranges.IsInRange, tte_forms.specs.Putting.Over};
 ghost use Rattle.tte_forms.specs.{Answering.{AnswersOne, Gives, GivesAnswer}, networks.Checking.IsCheckStatus};
 ghost use Rattle.tte_forms.specs.Faults.{HasCause, IsWanted, PutFailed, ReadFailed};
+ghost use Rattle.tte_reports.specs.Answer.{IsAuditStatus};
 
-use crate::Coming;
 use crate::comings::comings_of;
-use crate::lines::make_latency_line;
+use crate::lines::{make_latency_line, make_told_line};
+use crate::seeing::told_by;
+use crate::{Coming, Told};
 use net_plan::Network;
 use schedule_tables::Accepted;
 use std::alloc::Global;
 use tte_forms::{Status, accept, end_with, put_no_network};
 use tte_io::{LineText, Sink, Source};
+use tte_reports::{AuditedReport, ReportCommand};
 
 /// Tells of the network of a file, for each virtual link and each of its receivers, how long a frame is on its way from
 /// the sender's dispatch by either channel, and at which places of the receiver's cycle it comes.
@@ -54,6 +57,43 @@ fn put_comings<K: Sink>(network: &Network, comings: &[Coming], out: &mut K) -> S
     let mut line = LineText::new();
     'comings: for coming in comings {
         make_latency_line(&mut line, network, coming);
+        match out.put(line.as_slice()) {
+            Ok(()) => (),
+            Err(_) => return Status::WriteFault,
+        }
+    }
+    end_with(Status::Done, out)
+}
+
+/// Tells the same, and of each line how many frames of a report go back to the sender's dispatch, and the least and the
+/// greatest time between.
+pub struct Latency;
+
+impl<K: Sink> ReportCommand<K> for Latency {
+    ghost answers = { λ command network notes end answer. IsLatencyReport network notes end answer };
+
+    ghost ends = { λ command status. IsAuditStatus status };
+
+    ghost audits = { λ command status is. is };
+
+    fn put(&self, alloc: Global, network: &Network, report: &AuditedReport, out: &mut K) -> Status {
+        match told_by(alloc, network, report) {
+            Ok(told) => put_told(network, told.as_slice(), out),
+            Err(_) => Status::OutOfMemory,
+        }
+    }
+}
+
+/// Puts a line for each with what was seen, and passes them on.
+fn put_told<K: Sink>(network: &Network, told: &[Told], out: &mut K) -> Status
+    requires range { IsInRange network.now }
+    requires names { All (λ one. HasNames network.now one.coming) told.now }
+    ensures gives { Over K.Sink out.old out.new (Gives (told_answer network.now told.now) result) }
+    ensures status { IsWanted Status.Done result (PutFailed K.Sink out.old out.new) }
+{
+    let mut line = LineText::new();
+    'lines: for one in told {
+        make_told_line(&mut line, network, one);
         match out.put(line.as_slice()) {
             Ok(()) => (),
             Err(_) => return Status::WriteFault,

@@ -2,12 +2,16 @@
 #![tactic(auto)]
 
 mod answering;
+mod arrivals;
 mod comings;
 mod laws;
 mod lines;
+mod seeing;
 mod trips;
 
-pub use answering::latency_of_network;
+pub use answering::{Latency, latency_of_network};
+pub use arrivals::Arrival;
 pub use comings::Coming;
 pub use laws::latency_law;
+pub use seeing::{Seen, Told};
 pub use trips::Trip;
