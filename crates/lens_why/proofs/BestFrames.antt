@@ -133,7 +133,8 @@ module _ (network : Network) (octets : List ℕ) (ns : List Note) (end : Units) 
       let place = time_of h ∷ 6 ∷ [] in
       let test : Happening → Bool = λ g. is_before (place_of g) place in
       sym (ap (filter test) parts ∙ filter-append test before (h ∷ later)
-      ∙ ap (λ (gs : List Happening). filter test before ++ gs) (none_kept test (h ∷ later) (λ g i. false_from_ne_true (test g) (λ e. never g i (is_there (place_of g) place e))))
+      ∙ ap (λ (gs : List Happening). filter test before ++ gs) (none_kept test (h ∷ later) (λ g i. false_from_ne_true (test g) (λ e. never g i
+      (is_there (place_of g) place e))))
       ∙ append-nil (filter test before))
     where
       never : (g : Happening) → IsIn g (h ∷ later) → IsBefore (place_of g) (time_of h ∷ 6 ∷ []) → ⊥

@@ -121,7 +121,8 @@ module _ (network : Network) (octets : List ℕ) (ns : List Note) (end : Units) 
       let each : (channel : Channel) → deviation_on standing comes.summary channel ≡ value_told (channel_ground own all h device cycle channel) = λ channel.
       ap (λ (m : Summary). deviation_on standing m channel) heard
       ∙ said_so own all h device standing.number standing.adjustment.0 channel (best_on channel (heard_at_point own all device t))
-      ∙ ap (λ (n : ℕ). value_told (option_and_then (said_by own all h device n standing.adjustment.0 channel) (best_on channel (heard_at_point own all device t)))) cycle_is
+      ∙ ap (λ (n : ℕ). value_told (option_and_then (said_by own all h device n standing.adjustment.0 channel) (best_on channel
+      (heard_at_point own all device t)))) cycle_is
       ∙ ap (λ (a : ℤ). value_told (option_and_then (said_by own all h device cycle a channel) (best_on channel (heard_at_point own all device t)))) adjusted in
       sym (ap (λ (o : Option Units). correction_of o (deviation_on standing comes.summary B)) (each A)
       ∙ ap (λ (o : Option Units). correction_of (value_told (channel_ground own all h device cycle A)) o) (each B))

@@ -88,7 +88,8 @@ no_loop n rules link l at same =
     no_loop_on n joint.0 l.parent link l tree at up refl path.0 path.2
 
 -- the child of a link sends up
-goes_up : (n : Network) → KeepsRules n → (device : DeviceId) (link : LinkId) (l : Link) → link_at n link ≡ Some l → device ≡ l.child → way_from n device link ≡ Up
+goes_up : (n : Network) → KeepsRules n → (device : DeviceId) (link : LinkId) (l : Link) → link_at n link ≡ Some l → device ≡ l.child
+    → way_from n device link ≡ Up
 goes_up n rules device link l at is = by (l.parent.0 == device.0) refl
   where
     by : (b : Bool) → (l.parent.0 == device.0) ≡ b → way_from n device link ≡ Up
@@ -130,7 +131,8 @@ module _ (network : Network) (octets : List ℕ) (ns : List Note) (end : Units) 
       → is_cut own link (way_from network device link) (time_of h) ≡ true
   way_is_cut device link cause (inl departs) =
       cut_away (nat_lt (amount network.dmax) (clock_at_leaving own device departs.frame (time_of departs.giving) (time_of h)))
-      (is_cut own link (way_from network device link) (time_of h)) (clock_at_leaving own device departs.frame (time_of departs.giving) (time_of h)) departs.becomes
+      (is_cut own link (way_from network device link) (time_of h)) (clock_at_leaving own device departs.frame (time_of departs.giving)
+      (time_of h)) departs.becomes
   way_is_cut device link cause (inr (inl dispatch)) = dispatch.3
   way_is_cut device link cause (inr (inr sent)) =
       ap (λ (w : Way). is_cut own link w (time_of h)) (goes_up network rules device link sent.way sent.there sent.by) ∙ sent.cut

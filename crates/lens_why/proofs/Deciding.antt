@@ -12,7 +12,8 @@ use Rattle.run_law.specs.declared.note.NoteBody.TheVariants as notes
 pub left_by : (network : Network) (octets : List ℕ) (ns : List Note) (end : Units) → IsReportOf network octets ns end → (number : ℕ) (h : Happening)
     → numbered (happenings network ns) number ≡ Some h → (device : DeviceId) (link : LinkId) (cause clock : ℕ)
     → h.note.body ≡ notes.Left device link cause clock
-    → IsLeftBy (happenings network ns) cause (time_of h) clock (ground_by (scenario_of network ns) (happenings network ns) h (notes.Left device link cause clock))
+    → IsLeftBy (happenings network ns) cause (time_of h) clock (ground_by (scenario_of network ns) (happenings network ns) h
+    (notes.Left device link cause clock))
 left_by network octets ns end of number h there device link cause clock is =
     let s : Scenario = scenario_of network ns in
     let hs = happenings network ns in

@@ -2,10 +2,12 @@
 use Rattle.{audit_law.proofs.law_lemmas.Emitting.before_is_front, lens_why.proofs.LastRecords.{IsParted, parted_there}}
 use Rattle.lens_why.specs.{Decisions.{IsDroppedBy, IsShutBy}, declared.ground.Ground.TheVariants.{Gate, Untold}}
 use Rattle.lens_why.specs.Grounds.{beside_ground, entry_given, gate_ground}
-use Rattle.net_plan.specs.declared.{event.What.TheVariants.Send, ids.{DeviceId.DeviceId, LinkId.LinkId, VlId.VlId}, network.Network.Network, tables.Way.{TheVariants.{Down, Up}, Way}}
+use Rattle.net_plan.specs.declared.{event.What.TheVariants.Send, ids.{DeviceId.DeviceId, LinkId.LinkId, VlId.VlId}}
+use Rattle.net_plan.specs.declared.{network.Network.Network, tables.Way.{TheVariants.{Down, Up}, Way}}
 use Rattle.pcf_codec.specs.{EtherType.pcf_type, Fields.field, declared.refusal.PcfRefusal.PcfRefusal}
 use Rattle.run_law.proofs.law.FirstPlaces.{founded_at, front_founded, numbered_front, numbered_in, same_earlier, split}
-use Rattle.run_law.specs.control.{Arrivals.{clock_on_arrival, control_arrival, frame_fault, frame_or_fault, is_cold_start, is_gate_shut, is_of_other_domain}, Losses.IsDropped}
+use Rattle.run_law.specs.control.{Arrivals.{clock_on_arrival, control_arrival, frame_fault, frame_or_fault, is_cold_start, is_gate_shut, is_of_other_domain}}
+use Rattle.run_law.specs.control.{Losses.IsDropped}
 use Rattle.run_law.specs.control.{Collections.{point_fault, ripe_by_role}, Permanence.{BecomesPermanent, IsCollectedOrDropped, ripe_as}}
 use Rattle.run_law.specs.control.Arrivals.{is_of_other_member, refused}
 use Rattle.run_law.specs.control.{Collections.{dispatch_value, is_number, master_of, observation_window, points_of}, Hearing.heard_as}
@@ -284,7 +286,8 @@ permanent_drop s hs device t link cause point r b =
     let state = state_at_hearing s judged device t in
     let adjustment = (adjustment_at_hearing s judged device t).0 in
     let p = point_at point.0 (master_of b.frame.members.0) b.frame.cycle in
-    let Collects : Type 0 = IsCollectedOrDropped s.network (points_of judged device) p (point_fault s.network state adjustment point.0 b.frame.cycle) (ripe.Dropped r) in
+    let Collects : Type 0 = IsCollectedOrDropped s.network (points_of judged device) p
+    (point_fault s.network state adjustment point.0 b.frame.cycle) (ripe.Dropped r) in
     let Hears : Type 0 = ripe.Dropped r
     ≡ ripe_as (heard_as (plan_of s.network device) (observation_window s.network) state adjustment point.0 b.frame.cycle b.frame.members) in
     elim (cases_Bool (is_cm s.network device)) [
@@ -293,7 +296,8 @@ permanent_drop s hs device t link cause point r b =
         by s.network (points_of judged device) p state adjustment point.0 b.frame.cycle (point_fault s.network state adjustment point.0 b.frame.cycle) refl
             (subst (λ (c : Bool). MatchBool c Collects Hears) cm b.becomes),
       )
-      | inr other ↦ absurd (never_judged (heard_as (plan_of s.network device) (observation_window s.network) state adjustment point.0 b.frame.cycle b.frame.members)
+      | inr other ↦ absurd (never_judged (heard_as (plan_of s.network device)
+          (observation_window s.network) state adjustment point.0 b.frame.cycle b.frame.members)
           r (subst (λ (c : Bool). MatchBool c Collects Hears) other b.becomes))
     ]
   where
@@ -320,7 +324,8 @@ never_gated : (network : Network) (device : DeviceId) (link : LinkId) (at : Stan
     → arrivals.Dropped reasons.Gate ≡ timed_arrival network device link at octets last → ⊥
 never_gated network device link at octets last t = by (octets_fault network at octets) refl t
   where
-    none_taken : (b : Bool) (vl : VlId) (cycle : ℕ) → arrivals.Dropped reasons.Gate ≡ (if b then arrivals.Delivered vl cycle else arrivals.Accepted vl cycle) → ⊥
+    none_taken : (b : Bool) (vl : VlId) (cycle : ℕ) → arrivals.Dropped reasons.Gate ≡
+        (if b then arrivals.Delivered vl cycle else arrivals.Accepted vl cycle) → ⊥
     none_taken true vl cycle e = cc
     none_taken false vl cycle e = cc
 
@@ -328,7 +333,8 @@ never_gated network device link at octets last t = by (octets_fault network at o
         → arrivals.Dropped reasons.Gate ≡ taken_or_fault network device at entry o → ⊥
     by_fault entry (Some q) e t =
         let same : reasons.Gate ≡ q = cc in
-        true_is_false (ap of_gate same ∙ never_first of_gate ((not (length octets == entry.vl.length), reasons.Length) ∷ at_all network at entry (last entry.row.vl)) q
+        true_is_false (ap of_gate same ∙ never_first of_gate ((not (length octets == entry.vl.length), reasons.Length) ∷ at_all network at entry
+        (last entry.row.vl)) q
         (refl, (refl, (refl, (refl, tt)))) e)
     by_fault entry None e t = none_taken (is_end network device) entry.row.vl (cycle_at network (clock_of at)) t
 
@@ -352,7 +358,8 @@ one_role roles.Cm a b = cc
 relay_is_none : (network : Network) (device : DeviceId) → is_cm network device ≡ true → is_relay network device ≡ true → ⊥
 relay_is_none network device cm relay = by (device_at network device) cm relay
   where
-    by : (o : Option Device) → option_map_or (λ (d : Device). is_cm_role d.role) o false ≡ true → option_map_or (λ (d : Device). is_relay_role d.role) o false ≡ true
+    by : (o : Option Device) → option_map_or (λ (d : Device). is_cm_role d.role) o false ≡ true
+        → option_map_or (λ (d : Device). is_relay_role d.role) o false ≡ true
         → ⊥
     by None a b = cc
     by (Some d) a b = one_role d.role a b
@@ -375,7 +382,12 @@ launched_octets s h t link way octets (notes.TtSent device on cause vl cycle) se
     timed_same h.octets octets (ap (λ (l : Launch). l.signal) put)
 launched_octets s h t link way octets (notes.Left device on cause clock) sends e = absurd (by h.frame e)
   where
-    by : (o : Option Pcf) → option_map (λ (frame : Pcf). let l : Launch = record { link = on; way = way_from s.network device on; signal = control (Ok frame) } in l) o
+    by : (o : Option Pcf) → option_map (λ (frame : Pcf). let l : Launch = record {
+      link = on;
+      way = way_from s.network device on;
+      signal = control
+          (Ok frame);
+    } in l) o
         ≡ Some (record { link = link; way = way; signal = timed octets }) → ⊥
     by None e = cc
     by (Some f) e =
@@ -393,7 +405,8 @@ launched_octets s h t link way octets (notes.Event line (Send l sent)) sends e =
         ≡ Some (record { link = link; way = way; signal = timed octets }) → octets ≡ sent
     by true e = absurd cc
     by false e =
-        let put : (let l : Launch = record { link = l; way = Up; signal = signal_of sent } in l) ≡ record { link = link; way = way; signal = timed octets } = cc in
+        let put : (let l : Launch = record { link = l; way = Up; signal = signal_of sent } in l)
+        ≡ record { link = link; way = way; signal = timed octets } = cc in
         by_type (field 12 2 sent == pcf_type) (ap (λ (l : Launch). l.signal) put)
 launched_octets s h t link way octets other sends e = absurd cc
 
@@ -444,7 +457,8 @@ module _ (network : Network) (octets : List ℕ) (ns : List Note) (end : Units) 
       p = parted_there network octets ns end of number h there
 
       put_there : numbered all cause ≡ Some a.putting
-      put_there = subst (λ (hs : List Happening). numbered hs cause ≡ Some a.putting) (sym p.parts) (numbered_front p.before (h ∷ p.later) cause a.putting a.there)
+      put_there = subst (λ (hs : List Happening). numbered hs cause ≡ Some a.putting) (sym p.parts) (numbered_front p.before
+          (h ∷ p.later) cause a.putting a.there)
 
       own_octets : (line : ℕ) (l : LinkId) (sent : List ℕ) → a.putting.note.body ≡ notes.Event line (Send l sent) → a.putting.octets ≡ sent
       own_octets line l sent body =
@@ -521,7 +535,8 @@ module _ (network : Network) (octets : List ℕ) (ns : List Note) (end : Units) 
       regroup true b c e = e
       regroup false b c e = e
 
-      by_signal : (signal : Signal) → arrivals.Dropped reason ≡ arrival_of own before device (time_of h) link cause signal → is_gate_shut network device at ≡ true
+      by_signal : (signal : Signal) → arrivals.Dropped reason ≡ arrival_of own before device (time_of h) link cause signal
+          → is_gate_shut network device at ≡ true
       by_signal (timed found) e =
           absurd (never_gated network device link at found (last_taken before device (time_of h) link cause)
           (ap (λ (r : Reason). arrivals.Dropped r) (sym same) ∙ e))

@@ -51,7 +51,8 @@ module _ (link : LinkId) (way : Way) (t : ℕ) where
       ∙ ap (cons_option (if nat_le (time_of h) t then told h else None)) (same_told hs)
       ∙ by (nat_le (time_of h) t) refl
     where
-      by : (b : Bool) → nat_le (time_of h) t ≡ b → cons_option (if nat_le (time_of h) t then told h else None) (filter_map told (filter (λ x. nat_le (time_of x) t) hs))
+      by : (b : Bool) → nat_le (time_of h) t ≡ b → cons_option (if nat_le (time_of h) t then told h else None) (filter_map told (filter (λ x. nat_le
+          (time_of x) t) hs))
           ≡ filter_map told (filter (λ x. nat_le (time_of x) t) (h ∷ hs))
       by true e = rw e refl
       by false e = rw e refl

@@ -347,8 +347,15 @@ module _ (network : Network) (octets : List ℕ) (ns : List Note) (end : Units) 
       let used = both_left (nat_le (cycle_in h) last_cycle)
       (is_in_schedule plan (observation_window network) (cycle_in h) (point.0 +ℤ hearing_adjustment own all device h)) so in
       let close = both_right (nat_le (cycle_in h) last_cycle)
-      (is_in_schedule plan (observation_window network) (cycle_in h) (point.0 +ℤ hearing_adjustment own all device h)) so in
-      (refl, refl, (leb-true (cycle_in h) last_cycle used, near plan (amount network.precision) (cycle_in h) (point.0 +ℤ hearing_adjustment own all device h) close))
+      (is_in_schedule plan (observation_window network) (cycle_in h) (point.0 +ℤ hearing_adjustment own all device h)) so in (
+        refl,
+        refl,
+        (
+          leb-true (cycle_in h) last_cycle used,
+          near plan (amount network.precision) (cycle_in h)
+              (point.0 +ℤ hearing_adjustment own all device h) close,
+        ),
+      )
 
   pub outside_so : verdict ≡ judgements.Outside → IsPermanentBy point (cycle_in h) judgements.Outside (scheduled_ground own all device point h)
   outside_so same =
@@ -364,7 +371,8 @@ module _ (network : Network) (octets : List ℕ) (ns : List Note) (end : Units) 
         λ used close.
             not_both (in_time plan (observation_window network) (point.0 +ℤ hearing_adjustment own all device h) (cycle_in h))
             (and_from (nat_le (cycle_in h) last_cycle)
-            (is_in_schedule plan (observation_window network) (cycle_in h) (point.0 +ℤ hearing_adjustment own all device h)) (le-leb (cycle_in h) last_cycle used)
+            (is_in_schedule plan (observation_window network) (cycle_in h) (point.0 +ℤ hearing_adjustment own all device h)) (le-leb
+            (cycle_in h) last_cycle used)
             (in_schedule plan (amount network.precision) (cycle_in h) (point.0 +ℤ hearing_adjustment own all device h) close)) so,
       )
 
@@ -375,8 +383,10 @@ module _ (network : Network) (octets : List ℕ) (ns : List Note) (end : Units) 
         (point_at point.0 (master_of (members_in h)) (cycle_in h)) ≡ role)
     collected is_so =
         elim by_device [
-          | inl both ↦ by both.0 (point_fault network (state_at_hearing own before device (time_of h)) (adjustment_at_hearing own before device (time_of h)).0 point.0 permanence.frame.cycle) both.1
-          | inr e ↦ absurd (never_heard verdict heard_so is_so (heard_plain (plan_of network device) (observation_window network) (state_at_hearing own before device (time_of h))
+          | inl both ↦ by both.0 (point_fault network (state_at_hearing own before device (time_of h)) (adjustment_at_hearing own before device
+              (time_of h)).0 point.0 permanence.frame.cycle) both.1
+          | inr e ↦ absurd (never_heard verdict heard_so is_so (heard_plain (plan_of network device) (observation_window network)
+              (state_at_hearing own before device (time_of h))
               (adjustment_at_hearing own before device (time_of h)).0 point.0 permanence.frame.cycle permanence.frame.members) e)
         ]
       where
@@ -395,7 +405,8 @@ module _ (network : Network) (octets : List ℕ) (ns : List Note) (end : Units) 
               so.taken,
               so.becomes,
               ap (λ (o : Option Cluster). role_in (open_in o point.0) (point_at point.0 (master_of (members_in h)) (cycle_in h))) last
-                  ∙ sym (ap (λ (m : ℕ). role_in (open_in (last_or None so.collected.clusters) point.0) (point_at point.0 (master_of m) (cycle_in h))) members_are)
+                  ∙ sym (ap (λ (m : ℕ). role_in (open_in (last_or None so.collected.clusters) point.0) (point_at point.0 (master_of m)
+                  (cycle_in h))) members_are)
                   ∙ sym (ap (λ (c : ℕ). role_in (open_in (last_or None so.collected.clusters) point.0)
                   (point_at point.0 (master_of permanence.frame.members.0) c)) cycle_is)
                   ∙ sym so.collected.is,
