@@ -1,5 +1,5 @@
 -- The picture of a part of the run of a report shows it.
-use Rattle.{lens.proofs.draw_lemmas.Falls.never_fall, lens_svg.proofs.{Arrows.arrows_are_causes, Painting.lanes_are_states}, tte_audit.specs.Report.AreNumbered}
+use Rattle.{lens.proofs.draw_lemmas.Falls.never_fall, lens_svg.proofs.{Arrows.arrows_are_causes, Hues.marks_have_hues, Painting.lanes_are_states}, tte_audit.specs.Report.AreNumbered}
 use Rattle.{lens.proofs.draw_lemmas.Titles.titles_are, net_plan.specs.declared.network.Network.Network, tte_units.specs.declared.units.Units.Units}
 use Rattle.{lens.specs.draw.Laws.{PicturesShowRuns, ShowsRun}, lens_svg.specs.Laws.{NeverFall, NumbersFollow, grounds_after, painted_with, shown}}
 use Rattle.{lens_svg.proofs.Order.keeps_order, tte_reports.specs.Reports.IsReportOf}
@@ -38,6 +38,7 @@ module _ (network : Network) (octets : List ℕ) (notes : List Note) (end : Unit
         titles = titles_are network span notes;
         order = keeps_order network span notes of.events.text.records.of_network falls;
         marks = arrows.0;
+        hues = marks_have_hues network span notes numbers falls;
         arrows = arrows.1;
         lanes = lanes span;
       }

@@ -3,8 +3,8 @@ ghost use Rattle.lens.specs.draw.LineLaws.{MarksStandWhereTheirsDo, PicturesDraw
 ghost use Rattle.lens.specs.draw.{ReadingLaws.{PicturesAreOne, TitlesArePlain}, WindowLaws.PicturesShowWindows};
 
 /// The picture of a part of the run of a report shows it: its titles are the lines of the records there, its instants
-/// stand in their order, there is an arrow exactly where there is a cause at another device, and the ground of a lane
-/// is the state of its device.
+/// stand in their order, a frame has one colour on all its way, there is an arrow exactly where there is a cause at
+/// another device, and the ground of a lane is the state of its device.
 pub fn picture_law()
     ensures { PicturesShowRuns }
 {}

@@ -88,7 +88,8 @@ pub(super) fn count_is(rt: &impl Abort, text: &str, front: &str, wanted: u32) {
 const WHOLE: &[&str] = &[
     "<svg xmlns=\"http://www.w3.org/2000/svg\" xmlns:xlink=\"http://www.w3.org/1999/xlink\" width=\"1274\" \
      height=\"602\" viewBox=\"0 0 1274 602\">",
-    "<text class=\"note\" x=\"12\" y=\"42\">2000.000 us to 2441.406 us. Gaps are drawn shortened.</text>",
+    "<text class=\"note\" x=\"12\" y=\"42\">2000.000 us to 2441.406 us, records 109, precision 16.000 us. \
+     Gaps are drawn shortened.</text>",
     "<path class=\"ground synchronised\" d=\"M140 192 H1254\"/>",
     "<g transform=\"translate(0,272)\"><path class=\"rail\" d=\"M140 0 H1254\"/>\
      <text class=\"name\" x=\"132\" y=\"3\">m1</text><text class=\"role\" x=\"132\" y=\"15\">master</text></g>",
@@ -127,7 +128,8 @@ fn a_calm_cycle_is_drawn(rt: HostRuntime) -> Result<(), Fail> {
 
 // Lines of the picture of a part: what comes before it is not drawn, so no arrow comes from there.
 const PART: &[&str] = &[
-    "<text class=\"note\" x=\"12\" y=\"42\">2083.000 us to the end. Gaps are drawn shortened.</text>",
+    "<text class=\"note\" x=\"12\" y=\"42\">2083.000 us to the end, records 65, precision 16.000 us. \
+     Gaps are drawn shortened.</text>",
     "<path class=\"way summary\" d=\"M184 192 L210 232\"/>",
     "<path class=\"wait summary\" d=\"M210 232 H398\"/>",
 ];
