@@ -9,7 +9,7 @@ use Rattle.{lens_slack.proofs.OneSlack.{octets_one, slack_one}, tte_forms.specs.
 use Rattle.{lens_slack.proofs.least_lemmas.OneLeast.least_one, tte_forms.specs.declared.status.Status.TheVariants.{Done, Usage}}
 use Rattle.{lens_slack.specs.{Steps.{all_steps, rule_steps}, least.Answer.{IsLeastOf, with_late}}, tte_forms.proofs.networks.Answers.network_answer_one}
 use Rattle.{lens.specs.declared.forms.Form.TheVariants.{Events, Latency, Least, Report, Slack, SlackOf}, lens.specs.declared.forms.Question.Question}
-use Rattle.{lens.specs.declared.forms.Form.Form, lens.specs.declared.forms.Question.TheVariants.{Draw, DrawWhole, Flows, Why}}
+use Rattle.{lens.specs.declared.forms.Form.Form, lens.specs.declared.forms.Question.TheVariants.{Draw, DrawWhole, Flows, Page, Why}}
 use Rattle.{lens_why.proofs.Whole.why_answer_one, tte_forms.specs.{Answering.Answer, Putting.Shown}}
 use Rattle.tte_reports.{proofs.Reports.report_one, specs.Reports.IsOneFor}
 
@@ -34,6 +34,7 @@ question_one : (question : Question) → IsOneFor (IsQuestionAnswer question)
 question_one (Why number) = why_answer_one number
 question_one DrawWhole = λ network text notes end x y rules of i j. i ∙ sym j
 question_one (Draw from to) = λ network text notes end x y rules of i j. i ∙ sym j
+question_one Page = λ network text notes end x y rules of i j. i ∙ sym j
 question_one Flows = flows_answer_one
 
 -- no question ends as words of no form do

@@ -13,7 +13,8 @@ use Rattle.tte_reports.specs.{Commands.CompletesReport, Safely.AuditsSafely}
 abbrev pub usage_line : List ℕ
 usage_line =
     codes "usage: lens slack NETWORK [RULE] | least NETWORK | latency NETWORK | why NETWORK REPORT N | "
-    ++ codes "draw NETWORK REPORT [FROM TO] | flows NETWORK REPORT | events NETWORK SEED CYCLES\n"
+    ++ codes "draw NETWORK REPORT [FROM TO] | page NETWORK REPORT | flows NETWORK REPORT | "
+    ++ codes "events NETWORK SEED CYCLES\n"
 
 -- the answer for words of no form: the usage line
 abbrev pub usage_answer : Answer

@@ -46,6 +46,8 @@ pub enum Question {
         /// No earlier than `from`.
         to: u64,
     },
+    /// `page NETWORK REPORT`.
+    Page,
     /// `flows NETWORK REPORT`.
     Flows,
 }
@@ -98,6 +100,7 @@ fn three_words_form(command: &str, third: &str) -> Option<Form>
     match command {
         "slack" => slack_of_form(third),
         "draw" => Some(Form::Report(Question::DrawWhole)),
+        "page" => Some(Form::Report(Question::Page)),
         "flows" => Some(Form::Report(Question::Flows)),
         _ => None,
     }

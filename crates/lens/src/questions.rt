@@ -6,6 +6,7 @@ use crate::draw::Draw;
 use crate::draw::overview::DrawWhole;
 use crate::forms::Question;
 use lens_flows::Flows;
+use lens_page::Page;
 use lens_svg::Span;
 use lens_why::Why;
 use net_plan::Network;
@@ -29,6 +30,7 @@ impl<K: Sink> ReportCommand<K> for Question {
                 let span = Span { from, to };
                 Draw { span }.put(alloc, network, report, out)
             }
+            Question::Page => Page.put(alloc, network, report, out),
             Question::Flows => Flows.put(alloc, network, report, out),
         }
     }

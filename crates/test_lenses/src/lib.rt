@@ -8,4 +8,6 @@ mod flows;
 #[cfg(test)]
 mod lenses;
 #[cfg(test)]
+mod pages;
+#[cfg(test)]
 mod pictures;

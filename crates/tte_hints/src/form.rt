@@ -61,6 +61,7 @@ const LENS: &[Form] = &[
             Argument::To,
         ],
     ),
+    Form("page", &[Argument::Network, Argument::Report]),
     Form("flows", &[Argument::Network, Argument::Report]),
     Form(
         "events",

@@ -9,7 +9,7 @@ use worked_network::{call_of_one, words_of};
 
 const USAGE: &str =
     "usage: lens slack NETWORK [RULE] | least NETWORK | latency NETWORK | why NETWORK REPORT N | draw NETWORK REPORT \
-        [FROM TO] | flows NETWORK REPORT | events NETWORK SEED CYCLES\n";
+        [FROM TO] | page NETWORK REPORT | flows NETWORK REPORT | events NETWORK SEED CYCLES\n";
 
 const NO_FORMS: &[&[&str]] = &[
     &[],
@@ -44,6 +44,9 @@ const NO_FORMS: &[&[&str]] = &[
     &["why", "a", "b", "+1"],
     &["why", "a", "b", " 1"],
     &["why", "a", "b", ""],
+    &["page", "a"],
+    &["page", "a", "b", "c"],
+    &["Page", "a", "b"],
     &["events", "a"],
     &["events", "a", "1"],
     &["events", "a", "1", "2", "3"],
@@ -125,6 +128,16 @@ fn words_of_least_are_read(rt: HostRuntime) -> Result<(), Fail> {
 #[test]
 fn words_of_latency_are_read(rt: HostRuntime) -> Result<(), Fail> {
     try_form(&rt, rt.alloc(), &["latency", "a"], Form::Latency)
+}
+
+#[test]
+fn words_of_page_are_read(rt: HostRuntime) -> Result<(), Fail> {
+    try_form(
+        &rt,
+        rt.alloc(),
+        &["page", "a", "b"],
+        Form::Report(Question::Page),
+    )
 }
 
 // Numbers of records.

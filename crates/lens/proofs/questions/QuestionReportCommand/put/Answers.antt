@@ -20,6 +20,12 @@ returns-in-Draw-clause-gives g c notes end of =
     subst (λ (q : Question). GivesAnswer (λ (a : Answer). IsQuestionAnswer q c.args.network.now notes end a) c.put-in-Draw.result (shown c.args.out.now)
     (shown c.put-in-Draw.new.out)) (sym c.in-Draw.is) (c.put-in-Draw.ensures.gives notes end of)
 
+pub returns-in-Page-clause-gives : goal.returns-in-Page-clause-gives
+returns-in-Page-clause-gives g c notes end of =
+    let shown = shown_by g.K.Sink in
+    subst (λ (q : Question). GivesAnswer (λ (a : Answer). IsQuestionAnswer q c.args.network.now notes end a) c.put-in-Page.result (shown c.args.out.now)
+    (shown c.put-in-Page.new.out)) (sym c.in-Page.is) (c.put-in-Page.ensures.gives notes end of)
+
 pub returns-in-Flows-clause-gives : goal.returns-in-Flows-clause-gives
 returns-in-Flows-clause-gives g c notes end of =
     let shown = shown_by g.K.Sink in
