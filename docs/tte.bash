@@ -25,6 +25,7 @@ _lens_forms=(
     'latency NETWORK'
     'why NETWORK REPORT N'
     'draw NETWORK REPORT [FROM TO]'
+    'page NETWORK REPORT'
     'flows NETWORK REPORT'
     'events NETWORK SEED CYCLES'
     'help'

@@ -20,3 +20,14 @@ pub mod Spaced
 pub mod SameAttempts
 pub mod PlanOne
 pub mod NoneOne
+pub mod RowsBelow
+pub mod FirstServed
+pub mod IdLists
+pub mod InTime
+pub mod Texts
+pub mod Plans
+pub mod PutLines
+pub mod Meanings
+pub mod Tellable
+pub mod GoodPlans
+pub mod OneAnswer

@@ -1,8 +1,16 @@
 //! From messages to a schedule: virtual links and rows for a network.
 #![tactic(auto)]
 
+mod answering;
+mod joining;
+mod laws;
 mod messages;
 mod places;
+mod reading;
+mod text;
 
+pub use answering::plan_of_network;
+pub use laws::plan_law;
 pub use messages::{Message, MessageRefusal, NoMessages, RefusedLine, read_messages};
 pub use places::{best_is_earliest, best_is_one, no_plan_is_one, plan_is_one, plan_or_none};
+pub use text::PlanLine;

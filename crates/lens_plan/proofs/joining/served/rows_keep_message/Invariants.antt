@@ -1,0 +1,5 @@
+use Rattle.{lens_plan.{proofs.RowsBelow.HoldsBelow, specs.joining.Served.KeepsMessage}, std.specs.Prelude.◌≡◌}
+use Rattle.lens_plan.proofs.joining.served.rows_keep_message.Given as goal
+
+abbrev pub invariant-rows : goal.invariant-rows
+invariant-rows l = HoldsBelow l.network (λ entry. entry.row.vl ≡ l.vl → KeepsMessage l.network l.message entry) l.number

@@ -1,0 +1,40 @@
+-- What the lines of `plan` have to do with the runs of the planned network.
+use Rattle.std.specs.{List.{Contains, concat}, Prelude.{◌++◌, ◌≡◌, ◌≤ℤ◌, IfSome, List, pos, ℕ}}
+use Rattle.lens_plan.specs.{Answer.{IsPlanAnswer, MeansMessages}, joining.{Joined.MeansPlanned, Served.IsServedBy}, messages.Message.Message}
+use Rattle.tte_forms.specs.{Answering.Answer, declared.status.Status.TheVariants.Done, networks.Accepting.MeansAccepted}
+use Rattle.net_plan.specs.declared.{ids.{DeviceId.DeviceId, VlId.VlId}, network.Network.Network, tables.VirtualLink.VirtualLink}
+use Rattle.{precision_law.specs.traffic.Ports.IsRunTo, run_law.specs.declared.note.Note.Note}
+use Rattle.run_law.specs.{device.{LocalClocks.local_before, Standpoints.offset_in_cycle}, law.Safety.{IsDelivered, IsOwed}}
+use Rattle.run_law.specs.{records.Happenings.{Happening, happenings, time_of}, scenario.Scenarios.Scenario}
+
+-- the frame is delivered exactly once to the device, a receiver of the message, at a place of its cycle by the one that
+-- the message asks for
+pub record ComesInTime (s : Scenario) (hs : List Happening) (vl : VlId) (m : Message) (of_vl : VirtualLink) (cycle : ℕ)
+    (device : DeviceId) : Type 0 where
+  pub receiver : Contains m.receivers device
+  pub delivered : IsDelivered s hs vl of_vl cycle device
+  pub in_time : IfSome m.by
+      (λ by. offset_in_cycle s.network (local_before s hs device (time_of delivered.delivery)) ≤ℤ pos by)
+
+-- each frame that is owed of a virtual link that serves a message comes in time
+abbrev pub ServedComeInTime : Type 0
+ServedComeInTime =
+    (s : Scenario) (mark : List ℕ) (ns : List Note) (until : ℕ) → IsRunTo s mark ns until
+    → (vl : VlId) (m : Message) → IsServedBy s.network vl m
+    → (of_vl : VirtualLink) (cycle : ℕ) (device : DeviceId)
+    → IsOwed s (happenings s.network ns) until vl of_vl cycle device
+    → ComesInTime s (happenings s.network ns) vl m of_vl cycle device
+
+-- what `plan` promises where it is done: the octets of the network file with these lines behind them mean an accepted
+-- network; it is that of the file with virtual links and rows added, which serve the messages
+pub record IsGoodPlan (octets text : List ℕ) (lines : List (List ℕ)) : Type 0 where
+  pub network : Network
+  pub accepted : MeansAccepted octets network
+  pub messages : List Message
+  pub read : MeansMessages network text messages
+  pub planned : MeansPlanned (octets ++ concat lines) network messages
+
+-- each answer that is done is so
+abbrev pub DoneIsPlanned : Type 0
+DoneIsPlanned =
+    (octets text : List ℕ) (a : Answer) → IsPlanAnswer text octets a → a.status ≡ Done → IsGoodPlan octets text a.lines

@@ -1,0 +1,4 @@
+-- The planned network.
+pub mod Extends
+pub mod Served
+pub mod Joined
