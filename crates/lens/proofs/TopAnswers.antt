@@ -1,5 +1,7 @@
 -- The answer for the words.
 use Rattle.lens_latency.{proofs.OneAnswer.latency_one, specs.Answer.IsLatencyOf}
+use Rattle.lens_plan.{proofs.OneAnswer.plan_one_for, specs.Answer.IsPlanFor}
+use Rattle.{net_plan.proofs.Shape.rules_give_trees, schedule_tables.proofs.Margins.shape_rules}
 use Rattle.{fault_hypothesis.proofs.storm_lemmas.OneStorm.one_storm, std.proofs.Common.{◌∙◌, ◌≡◌, ◌≤◌, List, None, Some, ap, subst, sym, ℕ}}
 use Rattle.lens.specs.{Forms.{IsFormInRange, form_of}, Top.{AnswerIsOne, AnswersWords, IsAnswerBy}, events.Answer.{IsEventsAnswer, event_lines}}
 use Rattle.{lens.specs.Questions.{EndsFor, IsQuestionAnswer}, lens_slack.specs.Answer.IsSlackOf, std.specs.Prelude.{IfSome, Option}}
@@ -8,7 +10,7 @@ use Rattle.{lens.proofs.FormLemmas.form_in_range, net_plan.specs.declared.event.
 use Rattle.{lens_slack.proofs.OneSlack.{octets_one, slack_one}, tte_forms.specs.{declared.status.Status.Status, networks.Accepting.IsNetworkAnswer}}
 use Rattle.{lens_slack.proofs.least_lemmas.OneLeast.least_one, tte_forms.specs.declared.status.Status.TheVariants.{Done, Usage}}
 use Rattle.{lens_slack.specs.{Steps.{all_steps, rule_steps}, least.Answer.{IsLeastOf, with_late}}, tte_forms.proofs.networks.Answers.network_answer_one}
-use Rattle.{lens.specs.declared.forms.Form.TheVariants.{Events, Latency, Least, Report, Slack, SlackOf}, lens.specs.declared.forms.Question.Question}
+use Rattle.{lens.specs.declared.forms.Form.TheVariants.{Events, Latency, Least, Plan, Report, Slack, SlackOf}, lens.specs.declared.forms.Question.Question}
 use Rattle.{lens.specs.declared.forms.Form.Form, lens.specs.declared.forms.Question.TheVariants.{Draw, DrawWhole, Flows, Page, Why}}
 use Rattle.{lens_why.proofs.Whole.why_answer_one, tte_forms.specs.{Answering.Answer, Putting.Shown}}
 use Rattle.tte_reports.{proofs.Reports.report_one, specs.Reports.IsOneFor}
@@ -51,6 +53,9 @@ answer_one one (Some Least) range octets report a b p q =
     octets_one (λ network. IsLeastOf (with_late network)) (λ network. least_one (with_late network)) octets a b p q
 answer_one one (Some Latency) range octets report a b p q =
     network_answer_one one IsLatencyOf octets (λ network accepted. latency_one network) a b p q
+answer_one one (Some Plan) range octets messages a b p q =
+    network_answer_one one (IsPlanFor messages octets) octets
+    (λ network accepted. plan_one_for messages octets network (rules_give_trees network (shape_rules network accepted.rules))) a b p q
 answer_one one (Some (Report question)) range octets report a b p q =
     report_one one (IsQuestionAnswer question) (question_one question) octets report a b p q
 answer_one one (Some (Events seed cycles)) range octets report a b p q = events_one one seed cycles range.1 octets a b p q

@@ -1,7 +1,7 @@
 -- The forms of the words of `lens`.
 use Rattle.std.specs.{Option.{option_and_then, option_map}, Str.bytes_eq}
 use Rattle.std.specs.Prelude.{◌-◌, ◌^◌, ◌∷◌, ◌≤◌, List, None, Option, Some, [], codes, if◌then◌else◌, nat_le, ℕ}
-use Rattle.lens.specs.declared.forms.{Form.{Form, TheVariants.{Events, Latency, Least, Report, Slack, SlackOf}}, Question.Question}
+use Rattle.lens.specs.declared.forms.{Form.{Form, TheVariants.{Events, Latency, Least, Plan, Report, Slack, SlackOf}}, Question.Question}
 use Rattle.{lens.specs.declared.forms.Question.TheVariants.{Draw, DrawWhole, Flows, Page, Why}, trace_text.specs.Numbers.number_up_to}
 use Rattle.lens_slack.specs.Inequalities.{IsInequality}
 use Rattle.schedule_tables.specs.declared.rule.Rule.TheVariants.{Correction, Delays, Forwarding, Precision}
@@ -37,11 +37,12 @@ slack_of_form rule = option_map (λ r. SlackOf r) (inequality_spelled rule)
 abbrev pub greatest_number : ℕ
 greatest_number = 2 ^ 64 - 1
 
--- a command with three words: `slack NETWORK RULE`, `draw NETWORK REPORT`, `page NETWORK REPORT` or
--- `flows NETWORK REPORT`
+-- a command with three words: `slack NETWORK RULE`, `plan NETWORK MESSAGES`, `draw NETWORK REPORT`, `page NETWORK REPORT`
+-- or `flows NETWORK REPORT`
 abbrev pub three_words_form : List ℕ → List ℕ → Option Form
 three_words_form command third =
     if bytes_eq command (codes "slack") then slack_of_form third
+    else if bytes_eq command (codes "plan") then Some Plan
     else if bytes_eq command (codes "draw") then Some (Report DrawWhole)
     else if bytes_eq command (codes "page") then Some (Report Page)
     else if bytes_eq command (codes "flows") then Some (Report Flows)
@@ -95,6 +96,7 @@ IsFormInRange Slack = Unit {0}
 IsFormInRange (SlackOf rule) = IsInequality rule
 IsFormInRange Least = Unit {0}
 IsFormInRange Latency = Unit {0}
+IsFormInRange Plan = Unit {0}
 IsFormInRange (Report question) = IsQuestionInRange question
 IsFormInRange (Events seed cycles) = (1 ≤ cycles) × (cycles ≤ most_cycles)
 

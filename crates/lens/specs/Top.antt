@@ -1,9 +1,9 @@
 -- What the program `lens` answers.
-use Rattle.lens_latency.specs.Answer.{IsLatencyAnswer}
+use Rattle.{lens_latency.specs.Answer.IsLatencyAnswer, lens_plan.specs.Answer.IsPlanAnswer}
 use Rattle.std.specs.Prelude.{◌++◌, ◌≡◌, ◌≢◌, ◌⊎◌, List, None, Option, Some, [], codes, ℕ}
 use Rattle.{lens.specs.{Forms.form_of, Questions.IsQuestionAnswer}, lens_slack.specs.least.Answer.IsLeastAnswer}
 use Rattle.{lens.specs.events.Answer.IsEventsAnswer, tte_reports.specs.Reports.IsReportAnswer}
-use Rattle.lens.specs.declared.forms.Form.{Form, TheVariants.{Events, Latency, Least, Report, Slack, SlackOf}}
+use Rattle.lens.specs.declared.forms.Form.{Form, TheVariants.{Events, Latency, Least, Plan, Report, Slack, SlackOf}}
 use Rattle.{lens_slack.specs.Answer.{IsSlackAnswer, IsSlackAnswerOf}, tte_forms.specs.Putting.Shown}
 use Rattle.tte_forms.specs.Answering.{Answer, ForOctets, Gives, GivesAnswer, line_answer}
 use Rattle.tte_forms.specs.{declared.status.Status.{Status, TheVariants.Usage}, networks.Accepting.IsNetworkAnswer}
@@ -12,20 +12,21 @@ use Rattle.tte_reports.specs.{Commands.CompletesReport, Safely.AuditsSafely}
 -- the line for words of no form
 abbrev pub usage_line : List ℕ
 usage_line =
-    codes "usage: lens slack NETWORK [RULE] | least NETWORK | latency NETWORK | why NETWORK REPORT N | "
-    ++ codes "draw NETWORK REPORT [FROM TO] | page NETWORK REPORT | flows NETWORK REPORT | "
+    codes "usage: lens slack NETWORK [RULE] | least NETWORK | plan NETWORK MESSAGES | latency NETWORK | "
+    ++ codes "why NETWORK REPORT N | draw NETWORK REPORT [FROM TO] | page NETWORK REPORT | flows NETWORK REPORT | "
     ++ codes "events NETWORK SEED CYCLES\n"
 
 -- the answer for words of no form: the usage line
 abbrev pub usage_answer : Answer
 usage_answer = line_answer Usage usage_line
 
--- an answer for a form and the octets of its files, of which only what is asked of a report has a second
+-- an answer for a form and the octets of its files, of which only a plan and what is asked of a report have a second
 abbrev pub IsFormAnswer : Form → List ℕ → List ℕ → Answer → Type 0
 IsFormAnswer Slack octets report a = IsSlackAnswer octets a
 IsFormAnswer (SlackOf rule) octets report a = IsSlackAnswerOf rule octets a
 IsFormAnswer Least octets report a = IsLeastAnswer octets a
 IsFormAnswer Latency octets report a = IsLatencyAnswer octets a
+IsFormAnswer Plan octets messages a = IsPlanAnswer messages octets a
 IsFormAnswer (Report question) octets report a =
     IsNetworkAnswer (IsReportAnswer (IsQuestionAnswer question) report) octets a
 IsFormAnswer (Events seed cycles) octets report a = IsNetworkAnswer (IsEventsAnswer seed cycles) octets a
@@ -44,6 +45,7 @@ AnswerIsOne =
 -- the fact holds for the octets of the second file, if the form has one
 abbrev pub ForSecond : Form → Option (List ℕ) → (List ℕ → Type 0) → Type 0
 ForSecond (Report question) left P = ForOctets left P
+ForSecond Plan left P = ForOctets left P
 ForSecond other left P = P []
 
 -- words of no form are answered by usage, and no others are; to those of a form its answer was given, for the octets of
@@ -70,9 +72,11 @@ AnswersReports other first second SourceRose SinkRose status = Unit {0}
 -- a read failed, and nothing was put: of the first file, and then the second was not read, or of the second
 abbrev pub FailsToRead : Option Form → Type 0 → Type 0 → Type 0 → Type 0 → Type 0
 FailsToRead (Some (Report question)) InFirst InSecond Unput Unread = (InFirst × Unput × Unread) ⊎ (InSecond × Unput)
+FailsToRead (Some Plan) InFirst InSecond Unput Unread = (InFirst × Unput × Unread) ⊎ (InSecond × Unput)
 FailsToRead other InFirst InSecond Unput Unread = InFirst × Unput × Unread
 
--- only what is asked of a report reads a second file
+-- only a plan and what is asked of a report read a second file
 abbrev pub LeavesSecond : Option Form → Type 0 → Type 0
 LeavesSecond (Some (Report question)) Unread = Unit {0}
+LeavesSecond (Some Plan) Unread = Unit {0}
 LeavesSecond other Unread = Unread

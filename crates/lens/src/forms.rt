@@ -20,6 +20,8 @@ pub enum Form {
     Least,
     /// `latency NETWORK`.
     Latency,
+    /// `plan NETWORK MESSAGES`.
+    Plan,
     /// A command, a network, a report, and what is asked of that.
     Report(Question),
     /// `events NETWORK SEED CYCLES`.
@@ -99,6 +101,7 @@ fn three_words_form(command: &str, third: &str) -> Option<Form>
 {
     match command {
         "slack" => slack_of_form(third),
+        "plan" => Some(Form::Plan),
         "draw" => Some(Form::Report(Question::DrawWhole)),
         "page" => Some(Form::Report(Question::Page)),
         "flows" => Some(Form::Report(Question::Flows)),

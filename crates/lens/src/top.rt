@@ -6,6 +6,7 @@ ghost use Rattle.tte_forms.specs.{Answering.Gives, Faults.{HasCause, IsWanted, P
 use crate::events::storm_events;
 use crate::forms::{Form, read_form};
 use lens_latency::latency_of_network;
+use lens_plan::plan_of_network;
 use lens_slack::least::least_of_network;
 use lens_slack::{slack_of_network, slack_of_rule};
 use schedule_checker::refusal_is_one;
@@ -15,12 +16,12 @@ use tte_io::{Sink, Source};
 use tte_reports::answer_report;
 
 const USAGE: &str =
-    "usage: lens slack NETWORK [RULE] | least NETWORK | latency NETWORK | why NETWORK REPORT N | \
-                     draw NETWORK REPORT [FROM TO] | page NETWORK REPORT | flows NETWORK REPORT | \
+    "usage: lens slack NETWORK [RULE] | least NETWORK | plan NETWORK MESSAGES | latency NETWORK | \
+                     why NETWORK REPORT N | draw NETWORK REPORT [FROM TO] | page NETWORK REPORT | flows NETWORK REPORT | \
                      events NETWORK SEED CYCLES\n";
 
 /// All that the program does: it answers the words, with `first` as the file that word 2 names and
-/// `second` as the one that word 3 of `why`, `draw`, `page` or `flows` names, and writes to `out`.
+/// `second` as the one that word 3 of `plan`, `why`, `draw`, `page` or `flows` names, and writes to `out`.
 pub fn lens<A: Source, B: Source, K: Sink>(
     alloc: Global,
     words: &Words,
@@ -47,6 +48,7 @@ pub fn lens<A: Source, B: Source, K: Sink>(
         Some(Form::SlackOf(rule)) => slack_of_rule(alloc, first, rule, out),
         Some(Form::Least) => least_of_network(alloc, first, out),
         Some(Form::Latency) => latency_of_network(alloc, first, out),
+        Some(Form::Plan) => plan_of_network(alloc, first, second, out),
         Some(Form::Report(question)) => answer_report(alloc, first, second, &question, out),
         Some(Form::Events { seed, cycles }) => storm_events(alloc, first, seed, cycles, out),
         None => put_usage(out),

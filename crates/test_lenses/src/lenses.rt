@@ -7,6 +7,7 @@ mod forms;
 mod hints;
 mod latency;
 mod least;
+mod plan;
 mod slack;
 mod summed;
 mod traces;

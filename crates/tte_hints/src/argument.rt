@@ -17,6 +17,7 @@ pub enum Argument {
     Network,
     Trace,
     Report,
+    Messages,
     /// The number that a storm is drawn from.
     Seed,
     /// How many cycles a storm lasts.
@@ -44,6 +45,7 @@ impl Argument {
             Argument::Network => "NETWORK",
             Argument::Trace => "TRACE",
             Argument::Report => "REPORT",
+            Argument::Messages => "MESSAGES",
             Argument::Seed => "SEED",
             Argument::Cycles => "CYCLES",
             Argument::Granule => "GRANULE",
@@ -64,7 +66,8 @@ impl Argument {
             | Argument::Capture
             | Argument::Network
             | Argument::Trace
-            | Argument::Report => "the path of a file",
+            | Argument::Report
+            | Argument::Messages => "the path of a file",
             Argument::Seed =>
                 "a whole number from 0 to 18446744073709551615, with no sign and no leading zero",
             Argument::Cycles => "a whole number from 1 to 100000, with no sign and no leading zero",
@@ -100,6 +103,7 @@ impl Argument {
             | Argument::Network
             | Argument::Trace
             | Argument::Report
+            | Argument::Messages
             | Argument::Link
             | Argument::VirtualLink => true,
         }

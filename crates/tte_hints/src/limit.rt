@@ -16,6 +16,8 @@ enum Limit<'x> {
     Lines { path: &'x str },
     #[error("the picture would be wider than 65536 pixels; draw a part of the run")]
     Picture,
+    #[error("{path} with the text of its plan would have more than {most} octets")]
+    Plan { path: &'x str, most: u64 },
     #[error("more than is read: 262144 octets, 16777216 of a report or a capture, or 2^32 lines of a trace")]
     OneOf,
 }
@@ -37,7 +39,7 @@ fn exceeds<S: Source>(alloc: Global, most: u64, source: &mut S) -> Option<bool> 
     }
 }
 
-/// The limit of its second file that a call passed, or that of its picture.
+/// The limit of its second file that a call passed, or that of its plan or its picture.
 fn second_limit<'x, B: Source>(alloc: Global, called: Called<'x>, second: &mut B) -> Limit<'x> {
     let path = called.second_path();
     let argument = called.argument(1);
@@ -47,6 +49,10 @@ fn second_limit<'x, B: Source>(alloc: Global, called: Called<'x>, second: &mut B
     let most = most_octets(argument);
     match exceeds(alloc, most, second) {
         Some(true) => Limit::Octets { path, most },
+        Some(false) if argument == Some(Argument::Messages) => Limit::Plan {
+            path: called.first_path(),
+            most: FILE_LIMIT,
+        },
         Some(false) => Limit::Picture,
         None => Limit::OneOf,
     }

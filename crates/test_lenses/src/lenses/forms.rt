@@ -8,8 +8,8 @@ use std::test::Fail;
 use worked_network::{call_of_one, words_of};
 
 const USAGE: &str =
-    "usage: lens slack NETWORK [RULE] | least NETWORK | latency NETWORK | why NETWORK REPORT N | draw NETWORK REPORT \
-        [FROM TO] | page NETWORK REPORT | flows NETWORK REPORT | events NETWORK SEED CYCLES\n";
+    "usage: lens slack NETWORK [RULE] | least NETWORK | plan NETWORK MESSAGES | latency NETWORK | why NETWORK REPORT N | \
+        draw NETWORK REPORT [FROM TO] | page NETWORK REPORT | flows NETWORK REPORT | events NETWORK SEED CYCLES\n";
 
 const NO_FORMS: &[&[&str]] = &[
     &[],
@@ -17,6 +17,9 @@ const NO_FORMS: &[&[&str]] = &[
     &["slack"],
     &["least"],
     &["least", "a", "8"],
+    &["plan", "a"],
+    &["plan", "a", "b", "c"],
+    &["Plan", "a", "b"],
     &["latency"],
     &["latency", "a", "b", "c"],
     &["Latency", "a"],
@@ -123,6 +126,11 @@ fn words_of_slack_are_read(rt: HostRuntime) -> Result<(), Fail> {
 #[test]
 fn words_of_least_are_read(rt: HostRuntime) -> Result<(), Fail> {
     try_form(&rt, rt.alloc(), &["least", "a"], Form::Least)
+}
+
+#[test]
+fn words_of_plan_are_read(rt: HostRuntime) -> Result<(), Fail> {
+    try_form(&rt, rt.alloc(), &["plan", "a", "b"], Form::Plan)
 }
 
 #[test]

@@ -1,5 +1,6 @@
 use Rattle.{lens.proofs.TopAnswers.{no_usage_for, words_as}, tte_forms.{proofs.Facts.no_usage, specs.Putting.shown_by}}
-use Rattle.lens.specs.{Forms.form_of, Questions.EndsFor, declared.forms.Form.TheVariants.{Events, Latency, Least, Report, Slack, SlackOf}}
+use Rattle.lens.specs.{Forms.form_of, Questions.EndsFor, declared.forms.Form.TheVariants.{Events, Latency, Least, Plan, Report, Slack, SlackOf}}
+use Rattle.lens_plan.specs.Answer.{IsPlanStatus}
 use Rattle.{std.proofs.Common.{◌≡◌, None, Some, rules}, tte_forms.specs.networks.Checking.IsCheckStatus}
 use Rattle.lens.proofs.top.lens.Goals as goal
 
@@ -38,6 +39,15 @@ returns-in-Some-Latency-clause-general g c =
     let shown = shown_by g.K.Sink in
     words_as form first second c.latency_of_network.result (shown c.args.out.now) (shown c.latency_of_network.new.out)
     (no_usage IsCheckStatus c.latency_of_network.result (λ none. none) c.latency_of_network.ensures.statuses, c.latency_of_network.ensures.general)
+
+pub returns-in-Some-Plan-clause-general : goal.returns-in-Some-Plan-clause-general
+returns-in-Some-Plan-clause-general g c =
+    let form : Some Plan ≡ form_of c.args.words.now = search rules in
+    let first = g.A.Source.left c.args.first.now in
+    let second = g.B.Source.left c.args.second.now in
+    let shown = shown_by g.K.Sink in
+    words_as form first second c.plan_of_network.result (shown c.args.out.now) (shown c.plan_of_network.new.out)
+    (no_usage IsPlanStatus c.plan_of_network.result (λ none. none) c.plan_of_network.ensures.statuses, c.plan_of_network.ensures.general)
 
 pub returns-in-Some-Report-clause-general : goal.returns-in-Some-Report-clause-general
 returns-in-Some-Report-clause-general g c =
