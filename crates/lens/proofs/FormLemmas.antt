@@ -1,5 +1,5 @@
 -- The form of words by their count and their first, and the numbers of forms.
-use Rattle.lens.specs.declared.forms.{Form.{Form, TheVariants.{Events, Latency, Least, Plan, Report, Slack, SlackOf}}, Question.TheVariants.{Draw, DrawWhole, Flows, Page, Why}}
+use Rattle.lens.specs.declared.forms.{Form.{Form, TheVariants.{Events, Latency, Least, Plan, Report, Slack, SlackOf}}, Question.TheVariants.{Draw, DrawWhole, Flows, LatencySeen, Page, Why}}
 use Rattle.lens_slack.specs.Inequalities.{IsInequality}
 use Rattle.lens.specs.Forms.{IsFormInRange, draw_form, events_form, five_words_form, form_of, four_words_form, greatest_number}
 use Rattle.lens.specs.Forms.{inequality_spelled, network_form, part_form, slack_of_form, three_words_form, why_form}
@@ -110,15 +110,16 @@ slack_of_by : (o : Option Rule) → IfSome o IsInequality → IfSome (option_map
 slack_of_by None is = tt
 slack_of_by (Some rule) is = is
 
-three_words_by : (slack plan draw page flows : Bool) (of : Option Form) → IfSome of IsFormInRange
+three_words_by : (slack plan draw page flows latency : Bool) (of : Option Form) → IfSome of IsFormInRange
     → IfSome (if slack then of else if plan then Some Plan else if draw then Some (Report DrawWhole) else if page then Some (Report Page)
-    else if flows then Some (Report Flows) else None) IsFormInRange
-three_words_by true plan draw page flows of h = h
-three_words_by false true draw page flows of h = tt
-three_words_by false false true page flows of h = tt
-three_words_by false false false true flows of h = tt
-three_words_by false false false false true of h = tt
-three_words_by false false false false false of h = tt
+    else if flows then Some (Report Flows) else if latency then Some (Report LatencySeen) else None) IsFormInRange
+three_words_by true plan draw page flows latency of h = h
+three_words_by false true draw page flows latency of h = tt
+three_words_by false false true page flows latency of h = tt
+three_words_by false false false true flows latency of h = tt
+three_words_by false false false false true latency of h = tt
+three_words_by false false false false false true of h = tt
+three_words_by false false false false false false of h = tt
 
 -- a part of a run ends no earlier than it begins
 part_by : (from to : ℕ) (b : Bool) → (b ≡ true → from ≤ to) → IfSome (if b then Some (Report (Draw from to)) else None) IsFormInRange
@@ -142,7 +143,7 @@ form_in_range (command ∷ []) = tt
 form_in_range (command ∷ network ∷ []) = network_by (bytes_eq command (codes "slack")) (bytes_eq command (codes "least")) (bytes_eq command (codes "latency"))
 form_in_range (command ∷ network ∷ third ∷ []) =
     three_words_by (bytes_eq command (codes "slack")) (bytes_eq command (codes "plan")) (bytes_eq command (codes "draw"))
-    (bytes_eq command (codes "page")) (bytes_eq command (codes "flows")) (slack_of_form third)
+    (bytes_eq command (codes "page")) (bytes_eq command (codes "flows")) (bytes_eq command (codes "latency")) (slack_of_form third)
     (slack_of_by (inequality_spelled third) (inequality_by third))
 form_in_range (command ∷ network ∷ third ∷ last ∷ []) =
     four_words_by (bytes_eq command (codes "why")) (bytes_eq command (codes "events")) (why_form last) (events_form third last)

@@ -1,5 +1,5 @@
 -- The answer for the words.
-use Rattle.lens_latency.{proofs.OneAnswer.latency_one, specs.Answer.IsLatencyOf}
+use Rattle.lens_latency.{proofs.{OneAnswer.latency_one, OneReport.latency_report_one}, specs.Answer.IsLatencyOf}
 use Rattle.lens_plan.{proofs.OneAnswer.plan_one_for, specs.Answer.IsPlanFor}
 use Rattle.{net_plan.proofs.Shape.rules_give_trees, schedule_tables.proofs.Margins.shape_rules}
 use Rattle.{fault_hypothesis.proofs.storm_lemmas.OneStorm.one_storm, std.proofs.Common.{◌∙◌, ◌≡◌, ◌≤◌, List, None, Some, ap, subst, sym, ℕ}}
@@ -11,7 +11,7 @@ use Rattle.{lens_slack.proofs.OneSlack.{octets_one, slack_one}, tte_forms.specs.
 use Rattle.{lens_slack.proofs.least_lemmas.OneLeast.least_one, tte_forms.specs.declared.status.Status.TheVariants.{Done, Usage}}
 use Rattle.{lens_slack.specs.{Steps.{all_steps, rule_steps}, least.Answer.{IsLeastOf, with_late}}, tte_forms.proofs.networks.Answers.network_answer_one}
 use Rattle.{lens.specs.declared.forms.Form.TheVariants.{Events, Latency, Least, Plan, Report, Slack, SlackOf}, lens.specs.declared.forms.Question.Question}
-use Rattle.{lens.specs.declared.forms.Form.Form, lens.specs.declared.forms.Question.TheVariants.{Draw, DrawWhole, Flows, Page, Why}}
+use Rattle.{lens.specs.declared.forms.Form.Form, lens.specs.declared.forms.Question.TheVariants.{Draw, DrawWhole, Flows, LatencySeen, Page, Why}}
 use Rattle.{lens_why.proofs.Whole.why_answer_one, tte_forms.specs.{Answering.Answer, Putting.Shown}}
 use Rattle.tte_reports.{proofs.Reports.report_one, specs.Reports.IsOneFor}
 
@@ -38,6 +38,7 @@ question_one DrawWhole = λ network text notes end x y rules of i j. i ∙ sym j
 question_one (Draw from to) = λ network text notes end x y rules of i j. i ∙ sym j
 question_one Page = λ network text notes end x y rules of i j. i ∙ sym j
 question_one Flows = flows_answer_one
+question_one LatencySeen = latency_report_one
 
 -- no question ends as words of no form do
 pub no_usage_for : (question : Question) → EndsFor question Usage → ⊥

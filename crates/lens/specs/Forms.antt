@@ -2,7 +2,7 @@
 use Rattle.std.specs.{Option.{option_and_then, option_map}, Str.bytes_eq}
 use Rattle.std.specs.Prelude.{◌-◌, ◌^◌, ◌∷◌, ◌≤◌, List, None, Option, Some, [], codes, if◌then◌else◌, nat_le, ℕ}
 use Rattle.lens.specs.declared.forms.{Form.{Form, TheVariants.{Events, Latency, Least, Plan, Report, Slack, SlackOf}}, Question.Question}
-use Rattle.{lens.specs.declared.forms.Question.TheVariants.{Draw, DrawWhole, Flows, Page, Why}, trace_text.specs.Numbers.number_up_to}
+use Rattle.{lens.specs.declared.forms.Question.TheVariants.{Draw, DrawWhole, Flows, LatencySeen, Page, Why}, trace_text.specs.Numbers.number_up_to}
 use Rattle.lens_slack.specs.Inequalities.{IsInequality}
 use Rattle.schedule_tables.specs.declared.rule.Rule.TheVariants.{Correction, Delays, Forwarding, Precision}
 use Rattle.schedule_tables.specs.declared.rule.Rule.{Rule, TheVariants.{ScheduleStart, Settling, Spacing, WindowEnds}}
@@ -37,8 +37,8 @@ slack_of_form rule = option_map (λ r. SlackOf r) (inequality_spelled rule)
 abbrev pub greatest_number : ℕ
 greatest_number = 2 ^ 64 - 1
 
--- a command with three words: `slack NETWORK RULE`, `plan NETWORK MESSAGES`, `draw NETWORK REPORT`, `page NETWORK REPORT`
--- or `flows NETWORK REPORT`
+-- a command with three words: `slack NETWORK RULE`, `plan NETWORK MESSAGES`, `draw NETWORK REPORT`, `page NETWORK REPORT`,
+-- `flows NETWORK REPORT` or `latency NETWORK REPORT`
 abbrev pub three_words_form : List ℕ → List ℕ → Option Form
 three_words_form command third =
     if bytes_eq command (codes "slack") then slack_of_form third
@@ -46,6 +46,7 @@ three_words_form command third =
     else if bytes_eq command (codes "draw") then Some (Report DrawWhole)
     else if bytes_eq command (codes "page") then Some (Report Page)
     else if bytes_eq command (codes "flows") then Some (Report Flows)
+    else if bytes_eq command (codes "latency") then Some (Report LatencySeen)
     else None
 
 -- the number of a record, at least 1, in decimal without leading zeros
@@ -89,6 +90,7 @@ IsQuestionInRange DrawWhole = Unit {0}
 IsQuestionInRange (Draw from to) = from ≤ to
 IsQuestionInRange Page = Unit {0}
 IsQuestionInRange Flows = Unit {0}
+IsQuestionInRange LatencySeen = Unit {0}
 
 -- the rule of the form is an inequality, and its numbers lie in their ranges
 abbrev pub IsFormInRange : Form → Type 0

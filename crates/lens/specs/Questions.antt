@@ -1,7 +1,8 @@
 -- What is answered for what is asked of a report.
 use Rattle.lens.specs.{declared.forms.Question.Question, draw.{Answer.IsDrawAnswer, overview.Answer.IsOverviewAnswer}}
-use Rattle.lens.specs.declared.forms.Question.TheVariants.{Draw, DrawWhole, Flows, Page, Why}
-use Rattle.{lens_flows.specs.Answer.IsFlowsAnswer, lens_page.specs.Answer.IsPageAnswer}
+use Rattle.lens.specs.declared.forms.Question.TheVariants.{Draw, DrawWhole, Flows, LatencySeen, Page, Why}
+use Rattle.{lens_flows.specs.Answer.IsFlowsAnswer, lens_latency.specs.Answer.IsLatencyReport}
+use Rattle.lens_page.specs.Answer.{IsPageAnswer}
 use Rattle.tte_reports.specs.{Answer.IsAuditStatus, Reports.AnswersFor}
 use Rattle.{lens_why.specs.Answer.{IsWhyAnswer, IsWhyStatus, why_audits}, tte_forms.specs.declared.status.Status.Status}
 
@@ -12,6 +13,7 @@ IsQuestionAnswer DrawWhole = IsOverviewAnswer
 IsQuestionAnswer (Draw from to) = IsDrawAnswer (record { from = from; to = to })
 IsQuestionAnswer Page = IsPageAnswer
 IsQuestionAnswer Flows = IsFlowsAnswer
+IsQuestionAnswer LatencySeen = IsLatencyReport
 
 -- the statuses with which it ends: only `why` may refuse a number
 abbrev pub EndsFor : Question → Status → Type 0

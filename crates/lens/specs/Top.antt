@@ -12,7 +12,7 @@ use Rattle.tte_reports.specs.{Commands.CompletesReport, Safely.AuditsSafely}
 -- the line for words of no form
 abbrev pub usage_line : List ℕ
 usage_line =
-    codes "usage: lens slack NETWORK [RULE] | least NETWORK | plan NETWORK MESSAGES | latency NETWORK | "
+    codes "usage: lens slack NETWORK [RULE] | least NETWORK | plan NETWORK MESSAGES | latency NETWORK [REPORT] | "
     ++ codes "why NETWORK REPORT N | draw NETWORK REPORT [FROM TO] | page NETWORK REPORT | flows NETWORK REPORT | "
     ++ codes "events NETWORK SEED CYCLES\n"
 

@@ -52,6 +52,8 @@ pub enum Question {
     Page,
     /// `flows NETWORK REPORT`.
     Flows,
+    /// `latency NETWORK REPORT`.
+    LatencySeen,
 }
 
 /// The form of a command with a network alone.
@@ -105,6 +107,7 @@ fn three_words_form(command: &str, third: &str) -> Option<Form>
         "draw" => Some(Form::Report(Question::DrawWhole)),
         "page" => Some(Form::Report(Question::Page)),
         "flows" => Some(Form::Report(Question::Flows)),
+        "latency" => Some(Form::Report(Question::LatencySeen)),
         _ => None,
     }
 }

@@ -6,6 +6,7 @@ use crate::draw::Draw;
 use crate::draw::overview::DrawWhole;
 use crate::forms::Question;
 use lens_flows::Flows;
+use lens_latency::Latency;
 use lens_page::Page;
 use lens_svg::Span;
 use lens_why::Why;
@@ -32,6 +33,7 @@ impl<K: Sink> ReportCommand<K> for Question {
             }
             Question::Page => Page.put(alloc, network, report, out),
             Question::Flows => Flows.put(alloc, network, report, out),
+            Question::LatencySeen => Latency.put(alloc, network, report, out),
         }
     }
 }

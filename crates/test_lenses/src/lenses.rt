@@ -3,11 +3,13 @@
 
 mod chains;
 mod eventful;
+mod first;
 mod forms;
 mod hints;
 mod latency;
 mod least;
 mod plan;
+mod seen;
 mod slack;
 mod summed;
 mod traces;

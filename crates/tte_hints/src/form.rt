@@ -48,6 +48,7 @@ const LENS: &[Form] = &[
     Form("least", &[Argument::Network]),
     Form("plan", &[Argument::Network, Argument::Messages]),
     Form("latency", &[Argument::Network]),
+    Form("latency", &[Argument::Network, Argument::Report]),
     Form(
         "why",
         &[Argument::Network, Argument::Report, Argument::Record],

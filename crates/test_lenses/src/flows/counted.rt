@@ -3,7 +3,7 @@
 //! from 1074790404 before that, which are the precision and gamma, to 1074790404 and the jitter of 1310720 behind it.
 //! So its last window ends at 29729751044 in its cycle.
 
-use crate::calls::report_of;
+use crate::calls::{FORGED, report_of};
 use crate::flows::refused::try_flows;
 use lens::Status;
 use std::alloc::{AllocError, Global};
@@ -122,6 +122,8 @@ const COUNTED: &[(&[Edit<'_>], &str, [u32; 8], &str, u32)] = &[
         CALM,
         0,
     ),
+    // The sender puts its frame of cycle 1 on channel a itself, broken.
+    (&[], FORGED, [0, 1, 1, 0, 0, 0, 1, 0], CALM, 0),
 ];
 
 fn push_count(alloc: Global, text: &mut String, name: &str, count: u32) -> Result<(), AllocError> {

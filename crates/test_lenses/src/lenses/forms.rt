@@ -8,7 +8,7 @@ use std::test::Fail;
 use worked_network::{call_of_one, words_of};
 
 const USAGE: &str =
-    "usage: lens slack NETWORK [RULE] | least NETWORK | plan NETWORK MESSAGES | latency NETWORK | why NETWORK REPORT N | \
+    "usage: lens slack NETWORK [RULE] | least NETWORK | plan NETWORK MESSAGES | latency NETWORK [REPORT] | why NETWORK REPORT N | \
         draw NETWORK REPORT [FROM TO] | page NETWORK REPORT | flows NETWORK REPORT | events NETWORK SEED CYCLES\n";
 
 const NO_FORMS: &[&[&str]] = &[
@@ -135,7 +135,10 @@ fn words_of_plan_are_read(rt: HostRuntime) -> Result<(), Fail> {
 
 #[test]
 fn words_of_latency_are_read(rt: HostRuntime) -> Result<(), Fail> {
-    try_form(&rt, rt.alloc(), &["latency", "a"], Form::Latency)
+    let alloc = rt.alloc();
+    try_form(&rt, alloc, &["latency", "a"], Form::Latency)?;
+    let seen = Form::Report(Question::LatencySeen);
+    try_form(&rt, alloc, &["latency", "a", "b"], seen)
 }
 
 #[test]

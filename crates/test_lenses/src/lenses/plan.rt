@@ -45,21 +45,65 @@ offset = 28091351045
 // Messages, and what is answered for them over that network.
 const TOLD: &[(&str, &str, Status)] = &[
     ("v1 length 60 period 1 from m1 to c1", OF_ONE, Status::Done),
-    ("v1 length 60 period 1 from m1 to c1\n", OF_ONE, Status::Done),
-    ("# one\n\nv1 length 60 period 1 from m1 to c1\n", OF_ONE, Status::Done),
+    (
+        "v1 length 60 period 1 from m1 to c1\n",
+        OF_ONE,
+        Status::Done,
+    ),
+    (
+        "# one\n\nv1 length 60 period 1 from m1 to c1\n",
+        OF_ONE,
+        Status::Done,
+    ),
     // No message has no lines.
     ("", "", Status::Done),
     ("\n# none\n", "", Status::Done),
     // Lines that are refused.
-    ("v1 length 60 period 1 from m1 to c1 ", "refused line 1 name\n", Status::MessagesRefused),
-    ("V1 length 60 period 1 from m1 to c1", "refused line 1 name\n", Status::MessagesRefused),
-    (" v1 length 60 period 1 from m1 to c1", "refused line 1 name\n", Status::MessagesRefused),
-    ("v1 length 60 period 1 from ra to c1", "refused line 1 name\n", Status::MessagesRefused),
-    ("v1 length 60 period 1 from m1 to c1\r\n", "refused line 1 name\n", Status::MessagesRefused),
-    ("v1 length 59 period 1 from m1 to c1", "refused line 1 number\n", Status::MessagesRefused),
-    ("v1 length 060 period 1 from m1 to c1", "refused line 1 number\n", Status::MessagesRefused),
-    ("v1 length 60 period 3 from m1 to c1", "refused line 1 number\n", Status::MessagesRefused),
-    ("v1 length 60 period 2 phase 2 from m1 to c1", "refused line 1 number\n", Status::MessagesRefused),
+    (
+        "v1 length 60 period 1 from m1 to c1 ",
+        "refused line 1 name\n",
+        Status::MessagesRefused,
+    ),
+    (
+        "V1 length 60 period 1 from m1 to c1",
+        "refused line 1 name\n",
+        Status::MessagesRefused,
+    ),
+    (
+        " v1 length 60 period 1 from m1 to c1",
+        "refused line 1 name\n",
+        Status::MessagesRefused,
+    ),
+    (
+        "v1 length 60 period 1 from ra to c1",
+        "refused line 1 name\n",
+        Status::MessagesRefused,
+    ),
+    (
+        "v1 length 60 period 1 from m1 to c1\r\n",
+        "refused line 1 name\n",
+        Status::MessagesRefused,
+    ),
+    (
+        "v1 length 59 period 1 from m1 to c1",
+        "refused line 1 number\n",
+        Status::MessagesRefused,
+    ),
+    (
+        "v1 length 060 period 1 from m1 to c1",
+        "refused line 1 number\n",
+        Status::MessagesRefused,
+    ),
+    (
+        "v1 length 60 period 3 from m1 to c1",
+        "refused line 1 number\n",
+        Status::MessagesRefused,
+    ),
+    (
+        "v1 length 60 period 2 phase 2 from m1 to c1",
+        "refused line 1 number\n",
+        Status::MessagesRefused,
+    ),
     (
         "v1 length 60 ethertype 35101 period 1 from m1 to c1",
         "refused line 1 number\n",
@@ -75,25 +119,53 @@ const TOLD: &[(&str, &str, Status)] = &[
         "refused line 1 number\n",
         Status::MessagesRefused,
     ),
-    ("v1 length 60 period 1 by 2US from m1 to c1", "refused line 1 number\n", Status::MessagesRefused),
+    (
+        "v1 length 60 period 1 by 2US from m1 to c1",
+        "refused line 1 number\n",
+        Status::MessagesRefused,
+    ),
     ("v1", "refused line 1 form\n", Status::MessagesRefused),
-    ("v1 period 1 length 60 from m1 to c1", "refused line 1 form\n", Status::MessagesRefused),
+    (
+        "v1 period 1 length 60 from m1 to c1",
+        "refused line 1 form\n",
+        Status::MessagesRefused,
+    ),
     (
         "v1 length 60 period 1 by 1 after 1 from m1 to c1",
         "refused line 1 form\n",
         Status::MessagesRefused,
     ),
-    ("v1 length 60 period 1 by 600 us from m1 to c1", "refused line 1 form\n", Status::MessagesRefused),
-    ("v1 length 60 period 1 from m1 to", "refused line 1 form\n", Status::MessagesRefused),
-    ("v1 length 60 period 1 from m1 to m1", "refused line 1 twice\n", Status::MessagesRefused),
-    ("v1 length 60 period 1 from m1 to c1 m2 c1", "refused line 1 twice\n", Status::MessagesRefused),
+    (
+        "v1 length 60 period 1 by 600 us from m1 to c1",
+        "refused line 1 form\n",
+        Status::MessagesRefused,
+    ),
+    (
+        "v1 length 60 period 1 from m1 to",
+        "refused line 1 form\n",
+        Status::MessagesRefused,
+    ),
+    (
+        "v1 length 60 period 1 from m1 to m1",
+        "refused line 1 twice\n",
+        Status::MessagesRefused,
+    ),
+    (
+        "v1 length 60 period 1 from m1 to c1 m2 c1",
+        "refused line 1 twice\n",
+        Status::MessagesRefused,
+    ),
     (
         "v1 id 7 length 60 period 1 from m1 to c1\n\n# two\nv2 id 7 length 60 period 1 from m1 to c1\n",
         "refused line 4 taken\n",
         Status::MessagesRefused,
     ),
     // The last window ends at 29640622089 at the earliest.
-    ("v1 length 60 period 1 by 29640622089 from m1 to c1", OF_ONE, Status::Done),
+    (
+        "v1 length 60 period 1 by 29640622089 from m1 to c1",
+        OF_ONE,
+        Status::Done,
+    ),
     (
         "v1 length 60 period 1 by 29640622088 from m1 to c1",
         "impossible v1 phase 0 at c1_a down by has 29640622088 wants 29640622089 short 1\n",
@@ -105,7 +177,12 @@ const TOLD: &[(&str, &str, Status)] = &[
 fn messages_are_planned(rt: HostRuntime) -> Result<(), Fail> {
     let alloc = rt.alloc();
     for (messages, text, status) in TOLD {
-        let call = call_of_two(WORDS, (silent().as_bytes(), messages.as_bytes()), text, *status);
+        let call = call_of_two(
+            WORDS,
+            (silent().as_bytes(), messages.as_bytes()),
+            text,
+            *status,
+        );
         try_call(&rt, alloc, &call)?;
     }
     Ok(())
@@ -131,7 +208,12 @@ fn arrays_do_not_grow(rt: HostRuntime) -> Result<(), Fail> {
     let alloc = rt.alloc();
     let messages = "v2 length 60 period 1 from m2 to c1";
     let files = (WORKED.as_bytes(), messages.as_bytes());
-    let call = call_of_two(WORDS, files, "refused network closed\n", Status::NetworkRefused);
+    let call = call_of_two(
+        WORDS,
+        files,
+        "refused network closed\n",
+        Status::NetworkRefused,
+    );
     try_call(&rt, alloc, &call)
 }
 

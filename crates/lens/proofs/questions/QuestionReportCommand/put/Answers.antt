@@ -31,3 +31,9 @@ returns-in-Flows-clause-gives g c notes end of =
     let shown = shown_by g.K.Sink in
     subst (λ (q : Question). GivesAnswer (λ (a : Answer). IsQuestionAnswer q c.args.network.now notes end a) c.put-in-Flows.result (shown c.args.out.now)
     (shown c.put-in-Flows.new.out)) (sym c.in-Flows.is) (c.put-in-Flows.ensures.gives notes end of)
+
+pub returns-in-LatencySeen-clause-gives : goal.returns-in-LatencySeen-clause-gives
+returns-in-LatencySeen-clause-gives g c notes end of =
+    let shown = shown_by g.K.Sink in
+    subst (λ (q : Question). GivesAnswer (λ (a : Answer). IsQuestionAnswer q c.args.network.now notes end a) c.put-in-LatencySeen.result (shown c.args.out.now)
+    (shown c.put-in-LatencySeen.new.out)) (sym c.in-LatencySeen.is) (c.put-in-LatencySeen.ensures.gives notes end of)
