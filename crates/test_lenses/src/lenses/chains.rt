@@ -174,6 +174,17 @@ ground cut 1\n\
 ground local 131072000000\n",
 )];
 
+// The second of the two events changes nothing.
+const CUT_TWICE: &str = "0 cut m2_b up\n1 cut m2_b up\n131072000000 end\n";
+
+const CUT_TWICE_CHAINS: &[(&str, &str)] = &[(
+    "15",
+    "15 131072000000 lost m2 m2_b 5\n\
+ground cut 1\n\
+5 131072000000 sent m2 cycle 1\n\
+ground local 131072000000\n",
+)];
+
 // Two masters do not reach channel b: its compressed frame, with record 40, has two members. It comes to m1 before that
 // of channel a, since its members are the lesser number, and to the relay of b with record 76. At the corrections both
 // switches of b have heard no frame of enough masters, and so the frame of m1 finds the relay without the common time.
@@ -286,18 +297,25 @@ const CHAINS: &[(&str, Chains)] = &[
     (CALM, CALM_CHAINS),
     (HELD, HELD_CHAINS),
     (CUT, CUT_CHAINS),
+    (CUT_TWICE, CUT_TWICE_CHAINS),
     (APART, APART_CHAINS),
     (FORGED, FORGED_CHAINS),
     (SHUT, SHUT_CHAINS),
     (AHEAD, AHEAD_CHAINS),
 ];
 
-// The chains of the worked network's report under a trace.
-fn try_chains(rt: &impl Abort, alloc: Global, trace: &str, chains: Chains) -> Result<(), Fail> {
-    let report = report_of(rt, alloc, WORKED, trace)?;
+// The chains of the network's report under a trace.
+fn try_chains(
+    rt: &impl Abort,
+    alloc: Global,
+    network: &str,
+    trace: &str,
+    chains: Chains,
+) -> Result<(), Fail> {
+    let report = report_of(rt, alloc, network, trace)?;
     for (number, text) in chains {
         let told = (*text, Status::Done);
-        let files = (WORKED, report.written());
+        let files = (network, report.written());
         try_why(rt, alloc, files, number, Fails::Nothing, told)?;
     }
     Ok(())
@@ -306,9 +324,42 @@ fn try_chains(rt: &impl Abort, alloc: Global, trace: &str, chains: Chains) -> Re
 #[test]
 fn chains_go_back_by_causes(rt: HostRuntime) -> Result<(), Fail> {
     for (trace, chains) in CHAINS {
-        try_chains(&rt, rt.alloc(), trace, chains)?;
+        try_chains(&rt, rt.alloc(), WORKED, trace, chains)?;
     }
     Ok(())
+}
+
+// The switches of channel b begin off, and are turned on.
+const LATE: &[Edit<'_>] = &[
+    (
+        "020000000023\", channel=\"b\", start=0}",
+        "020000000023\", channel=\"b\"}",
+    ),
+    (
+        "020000000024\", channel=\"b\", start=0}",
+        "020000000024\", channel=\"b\"}",
+    ),
+];
+
+// A frame of the broken master comes to the relay of b at the time at which that joins, by records 76 and 77. It is
+// judged in the state before.
+const JOINED: &str = "0 break m1\n1000 on rb\n1000 on cb\n\
+139315118080 send m1_b 03040506000102000000001108000000000000000000000000000000000000000000000000000\
+0000000000000000000000000000000000000000000\n140000000000 end\n";
+
+const JOINED_CHAINS: &[(&str, &str)] = &[(
+    "78",
+    "78 139788288000 dropped rb m1_b 66 unsynchronised\n\
+ground state integrating since 4\n\
+66 139315118080 event 4 send m1_b 03040506000102000000001108000000000000000000000000000000000000000000000000000\
+0000000000000000000000000000000000000000000\n\
+ground line 4\n",
+)];
+
+#[test]
+fn a_state_is_told_with_the_record_that_brought_it(rt: HostRuntime) -> Result<(), Fail> {
+    let late = edited(rt.alloc(), WORKED, LATE)?;
+    try_chains(&rt, rt.alloc(), late.as_str(), JOINED, JOINED_CHAINS)
 }
 
 // The report of the frame that was held has no record of this number.

@@ -1,9 +1,10 @@
+use crate::calls::try_call;
 use crate::runs::running::{CUTS, CUTS_REPORT, RATES, RATES_REPORT, try_silent, whole};
 use std::alloc::{AllocError, Global};
 use std::process::Abort;
 use std::test::Fail;
 use tte_run::Status;
-use worked_network::{Call, Fails};
+use worked_network::{CALM, Call, Fails, WORKED};
 
 // The first lines of a text.
 fn first_lines(alloc: Global, text: &str, count: usize) -> Result<String, AllocError> {
@@ -114,6 +115,47 @@ fn a_run_stops_at_a_failed_put(rt: HostRuntime) -> Result<(), Fail> {
     try_failing_puts(&rt, alloc, &whole(RATES, RATES_REPORT, Status::Done), 13)?;
     let outside = whole(CUTS, CUTS_REPORT, Status::OutsideHypothesis);
     try_failing_puts(&rt, alloc, &outside, 3)
+}
+
+const CALM_TRACE: &str = "160000000000 end\n";
+
+// The calm run over the whole network ends behind the lines before this put, where that fails.
+fn try_calm_put(rt: &impl Abort, alloc: Global, put: u32) -> Result<(), Fail> {
+    let text = first_lines(alloc, CALM, put.saturating_sub(1) as usize)?;
+    let run = whole(CALM_TRACE, text.as_str(), Status::WriteFault);
+    let fails = Fails::Put(put);
+    try_call(rt, alloc, &Call { fails, ..run })
+}
+
+#[test]
+fn a_calm_run_stops_at_each_put(rt: HostRuntime) -> Result<(), Fail> {
+    for put in 1..=109 {
+        try_calm_put(&rt, rt.alloc(), put)?;
+    }
+    Ok(())
+}
+
+// The same where a read of the network fails, and so this is told.
+fn try_network_read(
+    rt: &impl Abort,
+    alloc: Global,
+    read: u32,
+    (text, status): (&str, Status),
+) -> Result<(), Fail> {
+    let run = whole(CALM_TRACE, text, status);
+    let fails = Fails::First(read);
+    try_call(rt, alloc, &Call { fails, ..run })
+}
+
+// A read of the network gives 17 octets, and the last one nothing. No more are made.
+#[test]
+fn a_run_stops_at_each_failed_read_of_the_network(rt: HostRuntime) -> Result<(), Fail> {
+    let reads = (WORKED.len().div_ceil(17) as u32).saturating_add(1);
+    for read in 1..=reads {
+        try_network_read(&rt, rt.alloc(), read, ("", Status::ReadFault))?;
+    }
+    let calm = (CALM, Status::Done);
+    try_network_read(&rt, rt.alloc(), reads.saturating_add(1), calm)
 }
 
 // The rates are 61 octets, behind which a read gives nothing. The cuts stop at their third line,
