@@ -22,7 +22,8 @@ _tte_forms=(
 _lens_forms=(
     'slack NETWORK [RULE]'
     'least NETWORK'
-    'latency NETWORK'
+    'plan NETWORK MESSAGES'
+    'latency NETWORK [REPORT]'
     'why NETWORK REPORT N'
     'draw NETWORK REPORT [FROM TO]'
     'page NETWORK REPORT'

@@ -1,5 +1,7 @@
 use crate::calls::try_call;
 use lens::Status;
+use std::alloc::Global;
+use std::process::Abort;
 use std::test::Fail;
 use worked_network::{WORKED, call_of_one, call_of_two, silent};
 
@@ -46,11 +48,6 @@ offset = 28091351045
 const TOLD: &[(&str, &str, Status)] = &[
     ("v1 length 60 period 1 from m1 to c1", OF_ONE, Status::Done),
     (
-        "v1 length 60 period 1 from m1 to c1\n",
-        OF_ONE,
-        Status::Done,
-    ),
-    (
         "# one\n\nv1 length 60 period 1 from m1 to c1\n",
         OF_ONE,
         Status::Done,
@@ -58,108 +55,6 @@ const TOLD: &[(&str, &str, Status)] = &[
     // No message has no lines.
     ("", "", Status::Done),
     ("\n# none\n", "", Status::Done),
-    // Lines that are refused.
-    (
-        "v1 length 60 period 1 from m1 to c1 ",
-        "refused line 1 name\n",
-        Status::MessagesRefused,
-    ),
-    (
-        "V1 length 60 period 1 from m1 to c1",
-        "refused line 1 name\n",
-        Status::MessagesRefused,
-    ),
-    (
-        " v1 length 60 period 1 from m1 to c1",
-        "refused line 1 name\n",
-        Status::MessagesRefused,
-    ),
-    (
-        "v1 length 60 period 1 from ra to c1",
-        "refused line 1 name\n",
-        Status::MessagesRefused,
-    ),
-    (
-        "v1 length 60 period 1 from m1 to c1\r\n",
-        "refused line 1 name\n",
-        Status::MessagesRefused,
-    ),
-    (
-        "v1 length 59 period 1 from m1 to c1",
-        "refused line 1 number\n",
-        Status::MessagesRefused,
-    ),
-    (
-        "v1 length 060 period 1 from m1 to c1",
-        "refused line 1 number\n",
-        Status::MessagesRefused,
-    ),
-    (
-        "v1 length 60 period 3 from m1 to c1",
-        "refused line 1 number\n",
-        Status::MessagesRefused,
-    ),
-    (
-        "v1 length 60 period 2 phase 2 from m1 to c1",
-        "refused line 1 number\n",
-        Status::MessagesRefused,
-    ),
-    (
-        "v1 length 60 ethertype 35101 period 1 from m1 to c1",
-        "refused line 1 number\n",
-        Status::MessagesRefused,
-    ),
-    (
-        "v1 length 60 period 1 by 1099511627777 from m1 to c1",
-        "refused line 1 number\n",
-        Status::MessagesRefused,
-    ),
-    (
-        "v1 length 60 period 1 by 16777217ns from m1 to c1",
-        "refused line 1 number\n",
-        Status::MessagesRefused,
-    ),
-    (
-        "v1 length 60 period 1 by 2US from m1 to c1",
-        "refused line 1 number\n",
-        Status::MessagesRefused,
-    ),
-    ("v1", "refused line 1 form\n", Status::MessagesRefused),
-    (
-        "v1 period 1 length 60 from m1 to c1",
-        "refused line 1 form\n",
-        Status::MessagesRefused,
-    ),
-    (
-        "v1 length 60 period 1 by 1 after 1 from m1 to c1",
-        "refused line 1 form\n",
-        Status::MessagesRefused,
-    ),
-    (
-        "v1 length 60 period 1 by 600 us from m1 to c1",
-        "refused line 1 form\n",
-        Status::MessagesRefused,
-    ),
-    (
-        "v1 length 60 period 1 from m1 to",
-        "refused line 1 form\n",
-        Status::MessagesRefused,
-    ),
-    (
-        "v1 length 60 period 1 from m1 to m1",
-        "refused line 1 twice\n",
-        Status::MessagesRefused,
-    ),
-    (
-        "v1 length 60 period 1 from m1 to c1 m2 c1",
-        "refused line 1 twice\n",
-        Status::MessagesRefused,
-    ),
-    (
-        "v1 id 7 length 60 period 1 from m1 to c1\n\n# two\nv2 id 7 length 60 period 1 from m1 to c1\n",
-        "refused line 4 taken\n",
-        Status::MessagesRefused,
-    ),
     // The last window ends at 29640622089 at the earliest.
     (
         "v1 length 60 period 1 by 29640622089 from m1 to c1",
@@ -173,17 +68,112 @@ const TOLD: &[(&str, &str, Status)] = &[
     ),
 ];
 
+// Messages that are refused, and how.
+const REFUSED: &[(&str, &str)] = &[
+    (
+        "v1 length 60 period 1 from m1 to c1 ",
+        "refused line 1 name\n",
+    ),
+    (
+        "V1 length 60 period 1 from m1 to c1",
+        "refused line 1 name\n",
+    ),
+    (
+        " v1 length 60 period 1 from m1 to c1",
+        "refused line 1 name\n",
+    ),
+    (
+        "v1 length 60 period 1 from ra to c1",
+        "refused line 1 name\n",
+    ),
+    (
+        "v1 length 60 period 1 from m1 to c1\r\n",
+        "refused line 1 name\n",
+    ),
+    (
+        "v1 length 59 period 1 from m1 to c1",
+        "refused line 1 number\n",
+    ),
+    (
+        "v1 length 060 period 1 from m1 to c1",
+        "refused line 1 number\n",
+    ),
+    (
+        "v1 length 60 period 3 from m1 to c1",
+        "refused line 1 number\n",
+    ),
+    (
+        "v1 length 60 period 2 phase 2 from m1 to c1",
+        "refused line 1 number\n",
+    ),
+    (
+        "v1 length 60 ethertype 35101 period 1 from m1 to c1",
+        "refused line 1 number\n",
+    ),
+    (
+        "v1 length 60 period 1 by 1099511627777 from m1 to c1",
+        "refused line 1 number\n",
+    ),
+    (
+        "v1 length 60 period 1 by 16777217ns from m1 to c1",
+        "refused line 1 number\n",
+    ),
+    (
+        "v1 length 60 period 1 by 2US from m1 to c1",
+        "refused line 1 number\n",
+    ),
+    ("v1", "refused line 1 form\n"),
+    (
+        "v1 period 1 length 60 from m1 to c1",
+        "refused line 1 form\n",
+    ),
+    (
+        "v1 length 60 period 1 by 1 after 1 from m1 to c1",
+        "refused line 1 form\n",
+    ),
+    (
+        "v1 length 60 period 1 by 600 us from m1 to c1",
+        "refused line 1 form\n",
+    ),
+    ("v1 length 60 period 1 from m1 to", "refused line 1 form\n"),
+    (
+        "v1 length 60 period 1 from m1 to m1",
+        "refused line 1 twice\n",
+    ),
+    (
+        "v1 length 60 period 1 from m1 to c1 m2 c1",
+        "refused line 1 twice\n",
+    ),
+    (
+        "v1 id 7 length 60 period 1 from m1 to c1\n\n# two\nv2 id 7 length 60 period 1 from m1 to c1\n",
+        "refused line 4 taken\n",
+    ),
+];
+
+// What is answered for messages over the worked network without its schedule.
+fn try_plan(
+    rt: &impl Abort,
+    alloc: Global,
+    messages: &str,
+    text: &str,
+    status: Status,
+) -> Result<(), Fail> {
+    let files = (silent().as_bytes(), messages.as_bytes());
+    try_call(rt, alloc, &call_of_two(WORDS, files, text, status))
+}
+
 #[test]
 fn messages_are_planned(rt: HostRuntime) -> Result<(), Fail> {
-    let alloc = rt.alloc();
     for (messages, text, status) in TOLD {
-        let call = call_of_two(
-            WORDS,
-            (silent().as_bytes(), messages.as_bytes()),
-            text,
-            *status,
-        );
-        try_call(&rt, alloc, &call)?;
+        try_plan(&rt, rt.alloc(), messages, text, *status)?;
+    }
+    Ok(())
+}
+
+#[test]
+fn lines_of_messages_are_refused(rt: HostRuntime) -> Result<(), Fail> {
+    for (messages, text) in REFUSED {
+        try_plan(&rt, rt.alloc(), messages, text, Status::MessagesRefused)?;
     }
     Ok(())
 }
@@ -197,9 +187,7 @@ fn more_virtual_links_than_may_be_are_told(rt: HostRuntime) -> Result<(), Fail> 
         messages.push_str(line.as_str())?;
     }
     let text = "rule 1 at index 2 vls has 64 wants 65 short 1\n";
-    let files = (silent().as_bytes(), messages.as_bytes());
-    let call = call_of_two(WORDS, files, text, Status::PlanRefused);
-    try_call(&rt, alloc, &call)
+    try_plan(&rt, alloc, messages.as_str(), text, Status::PlanRefused)
 }
 
 // An array of virtual links or rows does not grow.
