@@ -1,9 +1,10 @@
+use net_file::FileRefusal::{Kind, Missing, Name, NotToml, Range, Unknown};
 use net_file::KeyName::{
-    Child, Cycle, Ethertype, Grain, Marker, Member, Name, PcfDestination, Rho, Role, Sender, Speed,
-    Version, Vl as VlKey, Way,
+    Child, Cycle, Ethertype, Grain, Marker, Member, PcfDestination, Rho, Role, Sender, Speed,
+    Version, Way,
 };
 use net_file::TableName::{Device, Link, Row, Top, Vl};
-use net_file::{FileRefusal, KeyName, Spot, TableName, read_network};
+use net_file::{FileRefusal, KeyName, Spot, read_network};
 use net_plan::{DeviceId, LinkId, Network, VlId};
 use std::alloc::Global;
 use std::process::Abort;
@@ -43,81 +44,100 @@ fn read(alloc: Global, rt: &impl Abort, old: &str, new: &str) -> Result<Network,
 #[test]
 fn a_network_is_read(rt: HostRuntime) {
     let network = read(rt.alloc(), &rt, "", "").ok().expect(&rt, "a network");
+    has_numbers(&rt, &network);
+    has_devices(&rt, network.device.as_slice());
+    has_links(&rt, network.link.as_slice());
+    has_rows(&rt, network.row.as_slice());
+}
+
+fn has_numbers(rt: &impl Abort, network: &Network) {
     assert!(rt; network.version == 1);
     assert!(rt; network.cycle == Units(131_072_000_000));
     assert!(rt; network.grain == Units(1));
     assert!(rt; network.tt_start == Units(26_542_080_000));
     assert!(rt; network.pcf_destination == Mac::from_number(0x0300_0000_0001));
     assert!(rt; network.marker == 0x0304_0506);
-    let devices = network.device.as_slice();
-    assert!(rt; devices.len() == 3);
-    assert!(rt; devices[0].role == net_plan::Role::Master);
-    assert!(rt; devices[0].member == Some(0));
-    assert!(rt; devices[1].channel == None);
-    assert!(rt; devices[2].channel == Some(Channel::A));
-    assert!(rt; devices[2].start == None);
-    let links = network.link.as_slice();
-    assert!(rt; links.len() == 1);
-    assert!(rt; links[0].child == DeviceId(0));
-    assert!(rt; links[0].parent == DeviceId(2));
-    assert!(rt; links[0].speed == tte_units::Speed::Mbit100);
-    let rows = network.row.as_slice();
-    assert!(rt; rows.len() == 1);
-    assert!(rt; rows[0].vl == VlId(0));
-    assert!(rt; rows[0].link == LinkId(0));
-    assert!(rt; rows[0].way == net_plan::Way::Up);
 }
 
-fn missing(table: TableName, index: u32, key: KeyName) -> FileRefusal {
-    FileRefusal::Missing(Spot { table, index, key })
+fn has_devices(rt: &impl Abort, devices: &[net_plan::Device]) {
+    let [master, client, relay] = devices else {
+        panic!(rt; "three devices");
+    };
+    assert!(rt; master.role == net_plan::Role::Master);
+    assert!(rt; master.member == Some(0));
+    assert!(rt; client.channel == None);
+    assert!(rt; relay.channel == Some(Channel::A));
+    assert!(rt; relay.start == None);
 }
 
-fn kind(table: TableName, index: u32, key: KeyName) -> FileRefusal {
-    FileRefusal::Kind(Spot { table, index, key })
+fn has_links(rt: &impl Abort, links: &[net_plan::Link]) {
+    let [link] = links else {
+        panic!(rt; "one link");
+    };
+    assert!(rt; link.child == DeviceId(0));
+    assert!(rt; link.parent == DeviceId(2));
+    assert!(rt; link.speed == tte_units::Speed::Mbit100);
 }
 
-fn range(table: TableName, index: u32, key: KeyName) -> FileRefusal {
-    FileRefusal::Range(Spot { table, index, key })
+fn has_rows(rt: &impl Abort, rows: &[net_plan::Row]) {
+    let [row] = rows else {
+        panic!(rt; "one row");
+    };
+    assert!(rt; row.vl == VlId(0));
+    assert!(rt; row.link == LinkId(0));
+    assert!(rt; row.way == net_plan::Way::Up);
 }
 
-fn name(table: TableName, index: u32, key: KeyName) -> FileRefusal {
-    FileRefusal::Name(Spot { table, index, key })
+/// The key of a table of the file.
+macro_rules! spot {
+    ($table:expr, $index:expr, $key:expr) => {
+        Spot {
+            table: $table,
+            index: $index,
+            key: $key,
+        }
+    };
 }
 
-fn unknown(table: TableName, index: u32) -> FileRefusal {
-    FileRefusal::Unknown(table, index)
+// An old text, the new one in its first place, and how the file is refused.
+const REFUSED: &[(&str, &str, FileRefusal)] = &[
+    ("version = 1", "version = ", NotToml),
+    ("version = 1\n", "", Missing(spot!(Top, 0, Version))),
+    ("version = 1", "version = 3", Range(spot!(Top, 0, Version))),
+    ("131072000000", "4294967295", Range(spot!(Top, 0, Cycle))),
+    ("rho = 50000", "rho = \"1\"", Kind(spot!(Top, 0, Rho))),
+    ("dmax", "grain = 1048577\ndmax", Range(spot!(Top, 0, Grain))),
+    ("\"0300", "\"030", Range(spot!(Top, 0, PcfDestination))),
+    ("\"03040506\"", "3", Kind(spot!(Top, 0, Marker))),
+    ("version", "color = 1\nversion", Unknown(Top, 0)),
+    ("row = [", "row = 1\nrow_old = [", Unknown(Top, 0)),
+    ("\"c1\"", "\"C1\"", Range(spot!(Device, 1, KeyName::Name))),
+    ("\"client\"", "\"slave\"", Range(spot!(Device, 1, Role))),
+    (
+        "\"client\"",
+        "\"master\"",
+        Missing(spot!(Device, 1, Member)),
+    ),
+    ("\"client\"", "\"client\", member=1", Unknown(Device, 1)),
+    ("member=0", "member=32", Range(spot!(Device, 0, Member))),
+    ("child=\"m1\"", "child=\"m9\"", Name(spot!(Link, 0, Child))),
+    ("child=\"m1\"", "child=9", Kind(spot!(Link, 0, Child))),
+    ("speed=100", "speed=10", Range(spot!(Link, 0, Speed))),
+    ("2048", "35101", Range(spot!(Vl, 0, Ethertype))),
+    ("sender=\"m1\", ", "", Missing(spot!(Vl, 0, Sender))),
+    ("vl=\"v1\"", "vl=\"m1\"", Name(spot!(Row, 0, KeyName::Vl))),
+    ("way=\"up\"", "way=\"left\"", Range(spot!(Row, 0, Way))),
+    ("26542080000}", "26542080000, color=1}", Unknown(Row, 0)),
+];
+
+fn is_refused(rt: &impl Abort, alloc: Global, old: &str, new: &str, refusal: FileRefusal) {
+    let told = read(alloc, rt, old, new).err();
+    assert!(rt; told == Some(refusal), "for {new}");
 }
 
 #[test]
 fn faults_of_files_are_told(rt: HostRuntime) {
-    // An old text, the new one in its first place, and how the file is refused.
-    let cases = [
-        ("version = 1", "version = ", FileRefusal::NotToml),
-        ("version = 1\n", "", missing(Top, 0, Version)),
-        ("version = 1", "version = 3", range(Top, 0, Version)),
-        ("131072000000", "4294967295", range(Top, 0, Cycle)),
-        ("rho = 50000", "rho = \"1\"", kind(Top, 0, Rho)),
-        ("dmax", "grain = 1048577\ndmax", range(Top, 0, Grain)),
-        ("\"0300", "\"030", range(Top, 0, PcfDestination)),
-        ("\"03040506\"", "3", kind(Top, 0, Marker)),
-        ("version", "color = 1\nversion", unknown(Top, 0)),
-        ("row = [", "row = 1\nrow_old = [", unknown(Top, 0)),
-        ("\"c1\"", "\"C1\"", range(Device, 1, Name)),
-        ("\"client\"", "\"slave\"", range(Device, 1, Role)),
-        ("\"client\"", "\"master\"", missing(Device, 1, Member)),
-        ("\"client\"", "\"client\", member=1", unknown(Device, 1)),
-        ("member=0", "member=32", range(Device, 0, Member)),
-        ("child=\"m1\"", "child=\"m9\"", name(Link, 0, Child)),
-        ("child=\"m1\"", "child=9", kind(Link, 0, Child)),
-        ("speed=100", "speed=10", range(Link, 0, Speed)),
-        ("2048", "35101", range(Vl, 0, Ethertype)),
-        ("sender=\"m1\", ", "", missing(Vl, 0, Sender)),
-        ("vl=\"v1\"", "vl=\"m1\"", name(Row, 0, VlKey)),
-        ("way=\"up\"", "way=\"left\"", range(Row, 0, Way)),
-        ("26542080000}", "26542080000, color=1}", unknown(Row, 0)),
-    ];
-    for (old, new, refusal) in cases {
-        let told = read(rt.alloc(), &rt, old, new).err();
-        assert!(rt; told == Some(refusal), "for {new}");
+    for (old, new, refusal) in REFUSED {
+        is_refused(&rt, rt.alloc(), old, new, *refusal);
     }
 }

@@ -1,8 +1,9 @@
 ghost use Rattle.std.specs.Prelude.{IfOk};
-ghost use Rattle.net_plan.specs.Ranges.{IsInRange};
+ghost use Rattle.net_plan.specs.{Belonging.IsOfNetwork, Ranges.IsInRange};
 
 use net_plan::{DeviceId, Event, LinkId, Network, Octets, Way, What};
 use std::alloc::{AllocError, Global};
+use std::process::Abort;
 use std::test::Fail;
 use trace_text::{LineRefusal, event_text, line, print};
 use tte_io::MemorySink;
@@ -33,152 +34,177 @@ fn send(alloc: Global, digits: u16, digit: u8) -> Result<Vec<u8>, AllocError> {
     Ok(text)
 }
 
-fn event(time: i64, what: What) -> Event {
-    Event {
-        time: Units(time),
-        what,
+/// The event prints as this line.
+fn is_printed(rt: &impl Abort, alloc: Global, network: &Network, event: &Event, text: &[u8])
+    requires in_range { IsInRange network.now }
+    requires of_network { IsOfNetwork network.now event.now.what }
+{
+    let mut sink = MemorySink::new(alloc, 4096, &[]).ok().expect(rt, "memory");
+    assert!(rt; print(network, event, &mut sink) == Ok(()));
+    assert!(rt; sink.written().strip_suffix(b"\n") == Some(text));
+    assert!(rt; text.ends_with(event_text(network, &event.what).as_slice()));
+}
+
+/// The line is read as this event, which prints as the line.
+fn reads(rt: &impl Abort, alloc: Global, network: &Network, text: &[u8], time: i64, what: &What)
+    requires { IsInRange network.now }
+{
+    match line(network, text) {
+        Ok(read) => {
+            assert!(rt; read.time == Units(time) && read.what == *what);
+            is_printed(rt, alloc, network, &read, text);
+        }
+        Err(_) => panic!(rt; "no event"),
     }
+}
+
+fn reads_of_devices(rt: &impl Abort, alloc: Global, network: &Network)
+    requires { IsInRange network.now }
+{
+    let slower = What::Rate(DeviceId(0), Ppb(-50_000));
+    reads(rt, alloc, network, b"0 rate m1 -50000", 0, &slower);
+    let steady = What::Rate(DeviceId(1), Ppb(0));
+    reads(rt, alloc, network, b"0 rate ra 0", 0, &steady);
+    let turned_on = What::On(DeviceId(1));
+    reads(rt, alloc, network, b"3000 on ra", 3000, &turned_on);
+    let broken = What::Break(DeviceId(0));
+    reads(rt, alloc, network, b"3000 break m1", 3000, &broken);
+    reads(
+        rt,
+        alloc,
+        network,
+        b"1152921504606846976 end",
+        1 << 60,
+        &What::End,
+    );
+}
+
+fn reads_of_links(rt: &impl Abort, alloc: Global, network: &Network)
+    requires { IsInRange network.now }
+{
+    let wire = What::Wire(LinkId(0), Way::Up, Units(32_768_000));
+    reads(
+        rt,
+        alloc,
+        network,
+        b"1000 wire m1_a up 32768000",
+        1000,
+        &wire,
+    );
+    let hold = What::Hold(LinkId(0), Way::Down, Units(0));
+    reads(rt, alloc, network, b"1000 hold m1_a down 0", 1000, &hold);
+    let cut = What::Cut(LinkId(0), Way::Up);
+    reads(rt, alloc, network, b"2000 cut m1_a up", 2000, &cut);
+    let heal = What::Heal(LinkId(0), Way::Down);
+    reads(rt, alloc, network, b"2000 heal m1_a down", 2000, &heal);
 }
 
 #[test]
 fn each_kind_of_event_reads_and_prints(rt: HostRuntime) -> Result<(), Fail> {
     let network = network(rt.alloc())?;
-    let frame = send(rt.alloc(), 120, b'a').expect(&rt, "memory");
-    let cases = [
-        (
-            b"0 rate m1 -50000".as_slice(),
-            event(0, What::Rate(DeviceId(0), Ppb(-50_000))),
-        ),
-        (
-            b"0 rate ra 0".as_slice(),
-            event(0, What::Rate(DeviceId(1), Ppb(0))),
-        ),
-        (
-            b"1000 wire m1_a up 32768000".as_slice(),
-            event(1000, What::Wire(LinkId(0), Way::Up, Units(32_768_000))),
-        ),
-        (
-            b"1000 hold m1_a down 0".as_slice(),
-            event(1000, What::Hold(LinkId(0), Way::Down, Units(0))),
-        ),
-        (
-            b"2000 cut m1_a up".as_slice(),
-            event(2000, What::Cut(LinkId(0), Way::Up)),
-        ),
-        (
-            b"2000 heal m1_a down".as_slice(),
-            event(2000, What::Heal(LinkId(0), Way::Down)),
-        ),
-        (b"3000 on ra".as_slice(), event(3000, What::On(DeviceId(1)))),
-        (
-            b"3000 break m1".as_slice(),
-            event(3000, What::Break(DeviceId(0))),
-        ),
-        (
-            &frame[..],
-            event(7, What::Send(LinkId(0), Octets::new(&[0xaa; 60]))),
-        ),
-        (
-            b"1152921504606846976 end".as_slice(),
-            event(1 << 60, What::End),
-        ),
-    ];
-    for (text, event) in &cases {
-        let mut sink = MemorySink::new(rt.alloc(), 4096, &[]).expect(&rt, "memory");
-        let read = line(&network, text);
-        assert!(rt; read.as_ref().ok() == Some(event));
-        if let Ok(read) = read {
-            assert!(rt; print(&network, &read, &mut sink) == Ok(()));
-            assert!(rt; sink.written().strip_suffix(b"\n") == Some(text));
-            assert!(rt; text.ends_with(event_text(&network, &read.what).as_slice()));
-        }
-    }
+    reads_of_devices(&rt, rt.alloc(), &network);
+    reads_of_links(&rt, rt.alloc(), &network);
+    let frame = send(rt.alloc(), 120, b'a')?;
+    let sends = What::Send(LinkId(0), Octets::new(&[0xaa; 60]));
+    reads(&rt, rt.alloc(), &network, frame.as_slice(), 7, &sends);
     Ok(())
+}
+
+const REFUSED: &[(&[u8], LineRefusal)] = &[
+    (b"", LineRefusal::Number),
+    (b" end", LineRefusal::Number),
+    (b"01 end", LineRefusal::Number),
+    (b"-0 end", LineRefusal::Number),
+    (b"1152921504606846977 end", LineRefusal::Number),
+    (b"18446744073709551616 end", LineRefusal::Number),
+    (b"aaaa", LineRefusal::Number),
+    (b"0 wire m1_a up 01", LineRefusal::Number),
+    (b"0 hold m1_a up ", LineRefusal::Number),
+    (b"0 rate m1 -0", LineRefusal::Number),
+    (b"0 rate m1 +1", LineRefusal::Number),
+    (b"0 rate m1 -", LineRefusal::Number),
+    (b"0 rate m1 1000000001", LineRefusal::Number),
+    (b"0 rate m1 -1000000001", LineRefusal::Number),
+    (b"0", LineRefusal::Form),
+    (b"0 ", LineRefusal::Form),
+    (b"0  end", LineRefusal::Form),
+    (b"0 begin", LineRefusal::Form),
+    (b"0 rate", LineRefusal::Form),
+    (b"0 rate m1", LineRefusal::Form),
+    (b"0 rate m1 1 ", LineRefusal::Form),
+    (b"0 cut m1_a left", LineRefusal::Form),
+    (b"0 send m1_a", LineRefusal::Form),
+    (b"0 end 1", LineRefusal::Form),
+    (b"0 rate m9 1", LineRefusal::Name),
+    (b"0 rate m9 -0", LineRefusal::Name),
+    (b"0 on m1_a", LineRefusal::Name),
+    (b"0 on \xff", LineRefusal::Name),
+    (b"0 cut m1 up", LineRefusal::Name),
+    (b"0 send m9_a 0", LineRefusal::Name),
+    (b"0 send m1_a 0", LineRefusal::Hex),
+    (b"0 send m1_a 0g 1", LineRefusal::Hex),
+    (b"0 send m1_a ", LineRefusal::Octets),
+    (b"0 send m1_a 00 1", LineRefusal::Octets),
+];
+
+/// How the line is refused, if it is.
+fn refusal_of(network: &Network, text: &[u8]) -> Option<LineRefusal>
+    requires { IsInRange network.now }
+{
+    line(network, text).err()
 }
 
 #[test]
 fn the_leftmost_fault_is_told(rt: HostRuntime) -> Result<(), Fail> {
     let network = network(rt.alloc())?;
-    let cases = [
-        (b"".as_slice(), LineRefusal::Number),
-        (b" end".as_slice(), LineRefusal::Number),
-        (b"01 end".as_slice(), LineRefusal::Number),
-        (b"-0 end".as_slice(), LineRefusal::Number),
-        (b"1152921504606846977 end".as_slice(), LineRefusal::Number),
-        (b"18446744073709551616 end".as_slice(), LineRefusal::Number),
-        (b"aaaa".as_slice(), LineRefusal::Number),
-        (b"0 wire m1_a up 01".as_slice(), LineRefusal::Number),
-        (b"0 hold m1_a up ".as_slice(), LineRefusal::Number),
-        (b"0 rate m1 -0".as_slice(), LineRefusal::Number),
-        (b"0 rate m1 +1".as_slice(), LineRefusal::Number),
-        (b"0 rate m1 -".as_slice(), LineRefusal::Number),
-        (b"0 rate m1 1000000001".as_slice(), LineRefusal::Number),
-        (b"0 rate m1 -1000000001".as_slice(), LineRefusal::Number),
-        (b"0".as_slice(), LineRefusal::Form),
-        (b"0 ".as_slice(), LineRefusal::Form),
-        (b"0  end".as_slice(), LineRefusal::Form),
-        (b"0 begin".as_slice(), LineRefusal::Form),
-        (b"0 rate".as_slice(), LineRefusal::Form),
-        (b"0 rate m1".as_slice(), LineRefusal::Form),
-        (b"0 rate m1 1 ".as_slice(), LineRefusal::Form),
-        (b"0 cut m1_a left".as_slice(), LineRefusal::Form),
-        (b"0 send m1_a".as_slice(), LineRefusal::Form),
-        (b"0 end 1".as_slice(), LineRefusal::Form),
-        (b"0 rate m9 1".as_slice(), LineRefusal::Name),
-        (b"0 rate m9 -0".as_slice(), LineRefusal::Name),
-        (b"0 on m1_a".as_slice(), LineRefusal::Name),
-        (b"0 on \xff".as_slice(), LineRefusal::Name),
-        (b"0 cut m1 up".as_slice(), LineRefusal::Name),
-        (b"0 send m9_a 0".as_slice(), LineRefusal::Name),
-        (b"0 send m1_a 0".as_slice(), LineRefusal::Hex),
-        (b"0 send m1_a 0g 1".as_slice(), LineRefusal::Hex),
-        (b"0 send m1_a ".as_slice(), LineRefusal::Octets),
-        (b"0 send m1_a 00 1".as_slice(), LineRefusal::Octets),
-    ];
-    for (text, refusal) in &cases {
-        assert!(rt; line(&network, text) == Err(*refusal));
+    for (text, refusal) in REFUSED {
+        assert!(rt; refusal_of(&network, text) == Some(*refusal));
     }
-    for text in [b"0 rate m1 1000000000".as_slice(), b"0 rate m1 -1000000000"] {
-        assert!(rt; line(&network, text).is_ok());
-    }
+    assert!(rt; refusal_of(&network, b"0 rate m1 1000000000") == None);
+    assert!(rt; refusal_of(&network, b"0 rate m1 -1000000000") == None);
     Ok(())
 }
+
+const SENDS: &[(u16, u8, Option<LineRefusal>)] = &[
+    (118, b'0', Some(LineRefusal::Octets)),
+    (119, b'0', Some(LineRefusal::Hex)),
+    (120, b'0', None),
+    (120, b'F', None),
+    (120, b'g', Some(LineRefusal::Hex)),
+    (3028, b'0', None),
+    (3029, b'0', Some(LineRefusal::Hex)),
+    (3030, b'0', Some(LineRefusal::Octets)),
+    (3030, b'g', Some(LineRefusal::Hex)),
+];
 
 #[test]
 fn a_frame_has_sixty_to_1514_octets(rt: HostRuntime) -> Result<(), Fail> {
     let network = network(rt.alloc())?;
-    let cases = [
-        (118, b'0', Some(LineRefusal::Octets)),
-        (119, b'0', Some(LineRefusal::Hex)),
-        (120, b'0', None),
-        (120, b'F', None),
-        (120, b'g', Some(LineRefusal::Hex)),
-        (3028, b'0', None),
-        (3029, b'0', Some(LineRefusal::Hex)),
-        (3030, b'0', Some(LineRefusal::Octets)),
-        (3030, b'g', Some(LineRefusal::Hex)),
-    ];
-    for (digits, digit, refusal) in &cases {
-        let text = send(rt.alloc(), *digits, *digit).expect(&rt, "memory");
-        assert!(rt; line(&network, &text).err() == *refusal);
+    for (digits, digit, refusal) in SENDS {
+        let text = send(rt.alloc(), *digits, *digit)?;
+        assert!(rt; refusal_of(&network, text.as_slice()) == *refusal);
     }
+    Ok(())
+}
+
+/// The send with the first digits reads as that with the others, which are the printed ones.
+fn prints_as(rt: &impl Abort, network: &Network, upper: &[u8], lower: &[u8]) -> Result<(), Fail>
+    requires { IsInRange network.now }
+{
+    let read = line(network, upper)?;
+    let text = event_text(network, &read.what);
+    assert!(rt; lower.ends_with(text.as_slice()));
+    assert!(rt; text.as_slice().len() == 130);
+    assert!(rt; line(network, lower) == Ok(read));
     Ok(())
 }
 
 #[test]
 fn digits_print_in_lower_case(rt: HostRuntime) -> Result<(), Fail> {
     let network = network(rt.alloc())?;
-    let upper = send(rt.alloc(), 120, b'F').expect(&rt, "memory");
-    let lower = send(rt.alloc(), 120, b'f').expect(&rt, "memory");
-    if let Ok(read) = line(&network, &upper) {
-        let text = event_text(&network, &read.what);
-        assert!(rt; lower.ends_with(text.as_slice()));
-        assert!(rt; text.as_slice().len() == 130);
-    }
-    let read = line(&network, &lower);
-    assert!(rt; read.is_ok());
-    assert!(rt; line(&network, &upper) == read);
-    Ok(())
+    let upper = send(rt.alloc(), 120, b'F')?;
+    let lower = send(rt.alloc(), 120, b'f')?;
+    prints_as(&rt, &network, upper.as_slice(), lower.as_slice())
 }
 
 #[test]

@@ -1,4 +1,7 @@
+ghost use Rattle.std.specs.Prelude.{◌<◌, ◌^◌, length};
+
 use pcf_codec::{PcfReader, PcfRefusal, TtRefusal, decode, decode_tt, encode, is_pcf};
+use std::process::Abort;
 use tte_units::frames::{Mac, Members, Pcf, PcfKind, TtHead};
 
 // What a master with member number 0 sends in cycle 7.
@@ -61,24 +64,42 @@ fn a_frame_has_sixty_octets_and_any_padding(rt: HostRuntime) {
     assert!(rt; decode(&octets[..60]) == Ok(value()));
 }
 
+fn takes_in(rt: &impl Abort, reader: &mut PcfReader, octets: &[u8], count: usize)
+    requires { length octets.now < 2 ^ 32 }
+{
+    assert!(rt; reader.feed(octets) == Ok(count));
+}
+
+fn gives(rt: &impl Abort, reader: &mut PcfReader, frame: Option<Pcf>) {
+    assert!(rt; reader.take() == frame);
+}
+
+fn takes_in_octet_by_octet(rt: &impl Abort, reader: &mut PcfReader) {
+    for octet in FRAME.iter() {
+        gives(rt, reader, None);
+        takes_in(rt, reader, &[*octet], 1);
+    }
+}
+
 #[test]
 fn a_frame_comes_in_pieces_of_any_length(rt: HostRuntime) {
     let mut reader = PcfReader::new();
-    for octet in FRAME.iter() {
-        assert!(rt; reader.take() == None);
-        assert!(rt; reader.feed(&[*octet]) == Ok(1));
-    }
-    assert!(rt; reader.take() == Some(value()));
+    takes_in_octet_by_octet(&rt, &mut reader);
+    gives(&rt, &mut reader, Some(value()));
 
     let mut twice = [0; 120];
     twice[..60].copy_from_slice(&FRAME);
     twice[60..].copy_from_slice(&FRAME);
-    assert!(rt; reader.feed(&twice) == Ok(60));
-    assert!(rt; reader.feed(&FRAME) == Ok(0));
-    assert!(rt; reader.take() == Some(value()));
-    assert!(rt; reader.feed(&FRAME) == Ok(60));
-    assert!(rt; reader.take() == Some(value()));
+    takes_in(&rt, &mut reader, &twice, 60);
+    takes_in(&rt, &mut reader, &FRAME, 0);
+    gives(&rt, &mut reader, Some(value()));
+    takes_in(&rt, &mut reader, &FRAME, 60);
+    gives(&rt, &mut reader, Some(value()));
     assert!(rt; reader.finish() == Ok(()));
+}
+
+fn refuses(rt: &impl Abort, reader: &PcfReader, refusal: PcfRefusal) {
+    assert!(rt; reader.finish() == Err(refusal));
 }
 
 #[test]
@@ -86,13 +107,19 @@ fn a_reader_keeps_to_its_refusal(rt: HostRuntime) {
     let mut octets = FRAME;
     octets[30] = 1;
     let mut reader = PcfReader::new();
-    assert!(rt; reader.feed(&octets[..59]) == Ok(59));
-    assert!(rt; reader.finish() == Err(PcfRefusal::Length(59)));
+    takes_in(&rt, &mut reader, &octets[..59], 59);
+    refuses(&rt, &reader, PcfRefusal::Length(59));
     for _ in 0..2 {
         assert!(rt; reader.feed(&octets[59..]) == Err(PcfRefusal::Reserved(30)));
-        assert!(rt; reader.finish() == Err(PcfRefusal::Reserved(30)));
-        assert!(rt; reader.take() == None);
+        refuses(&rt, &reader, PcfRefusal::Reserved(30));
+        gives(&rt, &mut reader, None);
     }
+}
+
+fn heads(rt: &impl Abort, octets: &[u8], head: Result<TtHead, TtRefusal>)
+    requires { length octets.now < 2 ^ 32 }
+{
+    assert!(rt; decode_tt(octets) == head);
 }
 
 #[test]
@@ -107,11 +134,11 @@ fn the_head_of_a_time_triggered_frame_is_read(rt: HostRuntime) {
         ethertype: 0x0800,
         length: 60,
     };
-    assert!(rt; decode_tt(&octets[..60]) == Ok(value));
-    assert!(rt; decode_tt(&octets[..59]) == Err(TtRefusal::Length(59)));
-    assert!(rt; decode_tt(&octets) == Err(TtRefusal::Length(1515)));
-    assert!(rt; decode_tt(&FRAME) == Err(TtRefusal::EtherType));
+    heads(&rt, &octets[..60], Ok(value));
+    heads(&rt, &octets[..59], Err(TtRefusal::Length(59)));
+    heads(&rt, &octets, Err(TtRefusal::Length(1515)));
+    heads(&rt, &FRAME, Err(TtRefusal::EtherType));
     assert!(rt; is_pcf(&FRAME[..14]) && !is_pcf(&FRAME[..13]) && !is_pcf(&octets));
     octets[12] = 0x05;
-    assert!(rt; decode_tt(&octets[..60]) == Err(TtRefusal::EtherType));
+    heads(&rt, &octets[..60], Err(TtRefusal::EtherType));
 }

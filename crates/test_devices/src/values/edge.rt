@@ -1,5 +1,6 @@
 use std::cell::Cell;
 use std::fmt::Display;
+use std::process::Abort;
 use std::test::Fail;
 use std::{fs, io};
 use tte_io::{LazyFile, PathText, Sink, SinkFailed, Source, SourceFailed, StdSink};
@@ -7,10 +8,10 @@ use tte_io::{LazyFile, PathText, Sink, SinkFailed, Source, SourceFailed, StdSink
 #[test]
 fn a_missing_file_is_a_fault(rt: HostRuntime) -> Result<(), Fail> {
     let mut file = LazyFile::new(&rt, PathText::new(rt.alloc(), "no/such/file")?);
-    assert!(rt; file.read(&mut [0; 8]) == Err(SourceFailed));
-    assert!(rt; file.fault_count() == 1);
-    assert!(rt; file.read(&mut [0; 8]) == Err(SourceFailed));
-    assert!(rt; file.fault_count() == 2);
+    for faults in [1, 2] {
+        assert!(rt; file.read(&mut [0; 8]) == Err(SourceFailed));
+        assert!(rt; file.fault_count() == faults);
+    }
     Ok(())
 }
 
@@ -53,22 +54,38 @@ impl Print for SlowPrint {
     }
 }
 
+fn takes(rt: &impl Abort, out: &mut StdSink<'_, SlowPrint>, octets: &[u8]) {
+    assert!(rt; out.put(octets) == Ok(()));
+}
+
+fn passes_on(rt: &impl Abort, out: &mut StdSink<'_, SlowPrint>) {
+    assert!(rt; out.pass_on() == Ok(()));
+}
+
+fn fails_to_pass_on(rt: &impl Abort, out: &mut StdSink<'_, SlowPrint>) {
+    assert!(rt; out.pass_on() == Err(SinkFailed));
+}
+
+fn has_room(rt: &impl Abort, output: &SlowPrint, room: usize) {
+    assert!(rt; output.room.get() == room);
+}
+
 #[test]
 fn standard_output_holds_octets_until_they_are_passed_on(rt: HostRuntime) {
     let output = SlowPrint {
         room: Cell::new(10),
     };
     let mut out = StdSink::new(&output);
-    assert!(rt; out.put(b"seven..") == Ok(()));
-    assert!(rt; output.room.get() == 10);
-    assert!(rt; out.pass_on() == Ok(()));
-    assert!(rt; output.room.get() == 3);
-    assert!(rt; out.pass_on() == Ok(()));
-    assert!(rt; out.put(b"") == Ok(()));
-    assert!(rt; out.put(b"four") == Ok(()));
+    takes(&rt, &mut out, b"seven..");
+    has_room(&rt, &output, 10);
+    passes_on(&rt, &mut out);
+    has_room(&rt, &output, 3);
+    passes_on(&rt, &mut out);
+    takes(&rt, &mut out, b"");
+    takes(&rt, &mut out, b"four");
     assert!(rt; out.fault_count() == 0);
-    assert!(rt; out.pass_on() == Err(SinkFailed));
-    assert!(rt; output.room.get() == 0);
+    fails_to_pass_on(&rt, &mut out);
+    has_room(&rt, &output, 0);
     assert!(rt; out.fault_count() == 1);
 }
 
@@ -76,11 +93,11 @@ fn standard_output_holds_octets_until_they_are_passed_on(rt: HostRuntime) {
 fn what_was_not_written_stays_held(rt: HostRuntime) {
     let output = SlowPrint { room: Cell::new(2) };
     let mut out = StdSink::new(&output);
-    assert!(rt; out.put(b"seven..") == Ok(()));
-    assert!(rt; out.pass_on() == Err(SinkFailed));
+    takes(&rt, &mut out, b"seven..");
+    fails_to_pass_on(&rt, &mut out);
     output.room.set(10);
-    assert!(rt; out.pass_on() == Ok(()));
-    assert!(rt; output.room.get() == 5);
+    passes_on(&rt, &mut out);
+    has_room(&rt, &output, 5);
 }
 
 #[test]
@@ -89,16 +106,16 @@ fn a_full_standard_output_writes(rt: HostRuntime) {
         room: Cell::new(40_000),
     };
     let mut out = StdSink::new(&output);
-    assert!(rt; out.put(&[b'a'; 16_000]) == Ok(()));
-    assert!(rt; out.put(&[b'b'; 384]) == Ok(()));
-    assert!(rt; output.room.get() == 40_000);
-    assert!(rt; out.put(b"c") == Ok(()));
-    assert!(rt; output.room.get() == 23_616);
+    takes(&rt, &mut out, &[b'a'; 16_000]);
+    takes(&rt, &mut out, &[b'b'; 384]);
+    has_room(&rt, &output, 40_000);
+    takes(&rt, &mut out, b"c");
+    has_room(&rt, &output, 23_616);
     // What is longer than the room goes straight out, behind what is held.
-    assert!(rt; out.put(&[b'd'; 16_385]) == Ok(()));
-    assert!(rt; output.room.get() == 7_230);
+    takes(&rt, &mut out, &[b'd'; 16_385]);
+    has_room(&rt, &output, 7_230);
     assert!(rt; out.put(&[b'e'; 16_385]) == Err(SinkFailed));
-    assert!(rt; output.room.get() == 0);
+    has_room(&rt, &output, 0);
 }
 
 #[test]
