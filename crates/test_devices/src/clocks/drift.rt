@@ -16,30 +16,40 @@ fn reading<C: Clock>(grain: i64, rate: i32) -> i64
     clock.read(Units(1_500_000_000)).0
 }
 
+// What segment clocks of this grain read with the rates of 50,000, -50,000, 1 and 0 parts per 10^9.
+fn readings(grain: i64) -> [i64; 4]
+    requires some { pos 1 ≤ℤ grain }
+    requires fine { grain ≤ℤ pos (2 ^ 20) }
+{
+    [
+        reading::<SegmentClock>(grain, 50_000),
+        reading::<SegmentClock>(grain, -50_000),
+        reading::<SegmentClock>(grain, 1),
+        reading::<SegmentClock>(grain, 0),
+    ]
+}
+
 #[test]
 fn a_segment_clock_drifts_by_its_rate(rt: HostRuntime) {
     clock_laws::<SegmentClock>();
     segment_law();
-    assert!(rt; reading::<SegmentClock>(1, 50_000) == 1_500_075_000);
-    assert!(rt; reading::<SegmentClock>(1, -50_000) == 1_499_925_000);
-    assert!(rt; reading::<SegmentClock>(1, 1) == 1_500_000_001);
-    assert!(rt; reading::<SegmentClock>(1, 0) == 1_500_000_000);
+    assert!(rt; readings(1) == [1_500_075_000, 1_499_925_000, 1_500_000_001, 1_500_000_000]);
 }
 
 #[test]
 fn a_segment_clock_reads_whole_grains(rt: HostRuntime) {
-    assert!(rt; reading::<SegmentClock>(4096, 50_000) == 1_500_073_984);
-    assert!(rt; reading::<SegmentClock>(4096, -50_000) == 1_499_922_432);
-    assert!(rt; reading::<SegmentClock>(4096, 1) == 1_499_996_160);
-    assert!(rt; reading::<SegmentClock>(4096, 0) == 1_499_996_160);
+    assert!(rt; readings(4096) == [1_500_073_984, 1_499_922_432, 1_499_996_160, 1_499_996_160]);
 }
 
 #[test]
 fn a_steady_clock_keeps_its_rate(rt: HostRuntime) {
     clock_laws::<SteadyClock>();
     steady_law();
-    assert!(rt; reading::<SteadyClock>(1, 50_000) == 1_500_000_000);
-    assert!(rt; reading::<SteadyClock>(4096, 50_000) == 1_499_996_160);
+    let read = [
+        reading::<SteadyClock>(1, 50_000),
+        reading::<SteadyClock>(4096, 50_000),
+    ];
+    assert!(rt; read == [1_500_000_000, 1_499_996_160]);
     let steady = SteadyClock::fresh(Units(4096));
     assert!(rt; steady.grain() == Units(4096));
     assert!(rt; steady.reach(Units(0), Units(131_072_000_000)) == Units(131_072_000_000));

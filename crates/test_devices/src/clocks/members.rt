@@ -1,3 +1,4 @@
+use std::process::Abort;
 use sync_state::membership::{Heard, HeardFrame, count, join, one};
 use tte_units::Units;
 use tte_units::frames::{Channel, Members};
@@ -17,33 +18,41 @@ fn hear(heard: &mut Heard, frames: &[(Channel, u32, i64, bool)]) {
     }
 }
 
+/// The best frame of the channel is the one with these members and this point.
+fn best_is(rt: &impl Abort, heard: &Heard, channel: Channel, members: u32, point: i64) {
+    assert!(rt; heard.best(channel) == Some(frame(members, point)));
+}
+
 #[test]
 fn sets_are_bits(rt: HostRuntime) {
-    assert!(rt; one(0) == Members(1));
-    assert!(rt; one(31) == Members(0x8000_0000));
-    assert!(rt; count(Members(0)) == 0);
-    assert!(rt; count(Members(0xffff_ffff)) == 32);
+    assert!(rt; [one(0), one(31)] == [Members(1), Members(0x8000_0000)]);
+    assert!(rt; [count(Members(0)), count(Members(0xffff_ffff))] == [0, 32]);
     assert!(rt; join(Members(0x5), Members(0x6)) == Members(0x7));
 }
+
+const FIRST: &[(Channel, u32, i64, bool)] = &[
+    (Channel::A, 0x7, 10, true),
+    (Channel::A, 0x3, 90, true),
+    (Channel::B, 0xf, 50, true),
+    (Channel::A, 0xf, 99, false),
+];
+
+const LATER: &[(Channel, u32, i64, bool)] = &[
+    (Channel::A, 0xb, 20, true),
+    (Channel::A, 0xd, 15, true),
+];
 
 #[test]
 fn most_members_then_the_latest_point_then_the_last(rt: HostRuntime) {
     let mut heard = Heard::default();
     assert!(rt; heard.best(Channel::A) == None);
-    let first = &[
-        (Channel::A, 0x7, 10, true),
-        (Channel::A, 0x3, 90, true),
-        (Channel::B, 0xf, 50, true),
-        (Channel::A, 0xf, 99, false),
-    ];
-    hear(&mut heard, first);
-    assert!(rt; heard.best(Channel::A) == Some(frame(0x7, 10)));
-    let later = &[(Channel::A, 0xb, 20, true), (Channel::A, 0xd, 15, true)];
-    hear(&mut heard, later);
-    assert!(rt; heard.best(Channel::A) == Some(frame(0xb, 20)));
+    hear(&mut heard, FIRST);
+    best_is(&rt, &heard, Channel::A, 0x7, 10);
+    hear(&mut heard, LATER);
+    best_is(&rt, &heard, Channel::A, 0xb, 20);
     heard.hear(Channel::A, frame(0xe, 20), true);
-    assert!(rt; heard.best(Channel::A) == Some(frame(0xe, 20)));
-    assert!(rt; heard.best(Channel::B) == Some(frame(0xf, 50)));
+    best_is(&rt, &heard, Channel::A, 0xe, 20);
+    best_is(&rt, &heard, Channel::B, 0xf, 50);
 }
 
 #[test]
@@ -56,15 +65,16 @@ fn a_channel_qualifies_from_the_threshold_on(rt: HostRuntime) {
     assert!(rt; !heard.qualified(Channel::A, 3));
 }
 
+const OUTSIDE: &[(Channel, u32, i64, bool)] = &[
+    (Channel::A, 0x1, 5, false),
+    (Channel::B, 0x9, 6, false),
+    (Channel::A, 0x6, 7, true),
+];
+
 #[test]
 fn frames_outside_are_kept_as_one_set(rt: HostRuntime) {
     let mut heard = Heard::new();
-    let frames = &[
-        (Channel::A, 0x1, 5, false),
-        (Channel::B, 0x9, 6, false),
-        (Channel::A, 0x6, 7, true),
-    ];
-    hear(&mut heard, frames);
+    hear(&mut heard, OUTSIDE);
     assert!(rt; heard.outside() == Members(0x9));
     heard.clear();
     assert!(rt; heard.outside() == Members(0));

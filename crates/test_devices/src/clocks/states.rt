@@ -67,11 +67,27 @@ fn heard_of(frames: &[(Channel, u32, u32, i64, bool)]) -> Heard {
     heard
 }
 
+fn has(rt: &impl Abort, sync: &Sync, state: State, next_correction: Option<u32>) {
+    assert!(rt; sync.state() == state);
+    assert!(rt; sync.next_correction() == next_correction);
+}
+
+fn is_set_by(rt: &impl Abort, sync: &Sync, adjustment: i64) {
+    assert!(rt; sync.adjustment() == Units(adjustment));
+}
+
 /// A device that begins on at this time comes to its first correction point: the verdict there, and the device behind.
 fn corrected(rt: &impl Abort, start: i64, heard: &Heard) -> (Verdict, Sync) {
     let mut sync = Sync::new(PLAN, Some(Units(start)));
     let verdict = reach(rt, &mut sync, heard);
     (verdict, sync)
+}
+
+/// Such a device is corrected by so much.
+fn corrected_by(rt: &impl Abort, start: i64, heard: &Heard, correction: i64) -> Sync {
+    let (verdict, sync) = corrected(rt, start, heard);
+    assert!(rt; verdict == Verdict::Corrected(Units(correction)));
+    sync
 }
 
 #[test]
@@ -80,14 +96,11 @@ fn devices_that_begin_on_meet_at_the_mean(rt: HostRuntime) {
         (Channel::A, 1, 0x7, 139_688_288_000, true),
         (Channel::B, 1, 0xe, 139_588_288_000, true),
     ]);
-    let (verdict, m1) = corrected(&rt, 0, &heard);
-    assert!(rt; verdict == Verdict::Corrected(Units(150_000_000)));
-    assert!(rt; m1.adjustment() == Units(150_000_000));
-    assert!(rt; m1.state() == State::Synchronised);
-    assert!(rt; m1.next_correction() == Some(2));
-    let (verdict, m3) = corrected(&rt, 200_000_000, &heard);
-    assert!(rt; verdict == Verdict::Corrected(Units(-50_000_000)));
-    assert!(rt; m3.adjustment() == Units(150_000_000));
+    let m1 = corrected_by(&rt, 0, &heard, 150_000_000);
+    is_set_by(&rt, &m1, 150_000_000);
+    has(&rt, &m1, State::Synchronised, Some(2));
+    let m3 = corrected_by(&rt, 200_000_000, &heard, -50_000_000);
+    is_set_by(&rt, &m3, 150_000_000);
 }
 
 #[test]
@@ -96,8 +109,15 @@ fn one_channel_is_enough(rt: HostRuntime) {
         (Channel::A, 1, 0x7, 139_688_288_000, true),
         (Channel::B, 1, 0x9, 139_588_288_000, true),
     ]);
-    let (verdict, _) = corrected(&rt, 0, &heard);
-    assert!(rt; verdict == Verdict::Corrected(Units(100_000_000)));
+    corrected_by(&rt, 0, &heard, 100_000_000);
+}
+
+/// Takes a frame of cycle 2 with these members, and joins by it or not.
+fn integrates(rt: &impl Abort, sync: &mut Sync, members: u32, joined: Option<Joined>)
+    ensures { sync.new.plan ≡ sync.old.plan }
+{
+    let point = Units(270_860_288_000);
+    assert!(rt; sync.integrate(&control_frame(2, members), point) == joined);
 }
 
 /// A device that was off, and joined by the frame of cycle 2.
@@ -106,19 +126,17 @@ fn joiner(rt: &impl Abort) -> Sync
     ensures expected { result.plan.expected.0 ≡ pos 8716288000 }
 {
     let mut m4 = Sync::new(PLAN, None);
-    assert!(rt; m4.state() == State::Off);
-    assert!(rt; m4.next_correction() == None);
+    has(rt, &m4, State::Off, None);
     m4.on();
-    let point = Units(270_860_288_000);
-    assert!(rt; m4.integrate(&control_frame(2, 0x3), point) == None);
+    integrates(rt, &mut m4, 0x3, None);
     assert!(rt; m4.state() == State::Integrating);
-    let joined = Some(Joined {
+    let joined = Joined {
         cycle: 2,
         adjustment: Units(0),
-    });
-    assert!(rt; m4.integrate(&control_frame(2, 0x7), point) == joined);
+    };
+    integrates(rt, &mut m4, 0x7, Some(joined));
     assert!(rt; m4.state() == State::Joining);
-    assert!(rt; m4.integrate(&control_frame(2, 0x7), point) == None);
+    integrates(rt, &mut m4, 0x7, None);
     m4
 }
 
@@ -127,12 +145,10 @@ fn a_joiner_corrects_from_the_cycle_after_its_own(rt: HostRuntime) {
     let mut m4 = joiner(&rt);
     let mut heard = Heard::new();
     assert!(rt; reach(&rt, &mut m4, &heard) == Verdict::Cleared);
-    assert!(rt; m4.state() == State::Joining);
-    assert!(rt; m4.next_correction() == Some(3));
+    has(&rt, &m4, State::Joining, Some(3));
     heard.hear(Channel::A, frame(3, 0x7, 401_932_287_999), true);
     assert!(rt; reach(&rt, &mut m4, &heard) == Verdict::Corrected(Units(1)));
-    assert!(rt; m4.state() == State::Synchronised);
-    assert!(rt; m4.next_correction() == Some(4));
+    has(&rt, &m4, State::Synchronised, Some(4));
 }
 
 #[test]
@@ -143,8 +159,7 @@ fn a_device_that_is_alone_integrates_again(rt: HostRuntime) {
     ]);
     let (verdict, rb) = corrected(&rt, 0, &heard);
     assert!(rt; verdict == Verdict::SyncClique);
-    assert!(rt; rb.state() == State::Integrating);
-    assert!(rt; rb.next_correction() == None);
+    has(&rt, &rb, State::Integrating, None);
 }
 
 #[test]
@@ -154,8 +169,7 @@ fn a_device_outnumbered_from_outside_integrates_again(rt: HostRuntime) {
         (Channel::B, 1, 0x18, 139_788_288_000, true),
         (Channel::B, 1, 0x3, 9, false),
     ]);
-    let (verdict, _) = corrected(&rt, 0, &heard);
-    assert!(rt; verdict == Verdict::Corrected(Units(0)));
+    corrected_by(&rt, 0, &heard, 0);
     heard.hear(Channel::A, frame(1, 0x6, 9), false);
     let (verdict, rb) = corrected(&rt, 0, &heard);
     assert!(rt; verdict == Verdict::AsyncClique);

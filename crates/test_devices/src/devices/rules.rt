@@ -34,12 +34,11 @@ fn a_device_that_is_on_time_is_corrected(rt: HostRuntime) -> Result<(), Fail> {
     let network = bare(&rt, rt.alloc())?;
     let members = Members(0b1011);
     let early = 139_788_287_000;
-    assert!(rt;
-        heard_as(&network, DEVICE, State::Joining, 0, early, 1, members) == Judgement::Within
-    );
-    assert!(rt;
-        heard_as(&network, DEVICE, State::Joining, 0, early, 2, members) == Judgement::Outside
-    );
+    let judged = [
+        heard_as(&network, DEVICE, State::Joining, 0, early, 1, members),
+        heard_as(&network, DEVICE, State::Joining, 0, early, 2, members),
+    ];
+    assert!(rt; judged == [Judgement::Within, Judgement::Outside]);
     let mut heard = Heard::new();
     let frame = HeardFrame {
         cycle: 1,
@@ -53,8 +52,11 @@ fn a_device_that_is_on_time_is_corrected(rt: HostRuntime) -> Result<(), Fail> {
         number: 1,
         integrated: None,
     };
-    assert!(rt; verdict(&network, DEVICE, &standing, &heard) == PointVerdict::Corrected(1000));
-    assert!(rt; verdict(&network, DEVICE, &standing, &Heard::new()) == PointVerdict::SyncClique);
+    let verdicts = [
+        verdict(&network, DEVICE, &standing, &heard),
+        verdict(&network, DEVICE, &standing, &Heard::new()),
+    ];
+    assert!(rt; verdicts == [PointVerdict::Corrected(1000), PointVerdict::SyncClique]);
     assert!(rt; joined_adjustment(&network, DEVICE, 1, Units(288_000)) == 139_788_000_000);
     Ok(())
 }
@@ -62,14 +64,19 @@ fn a_device_that_is_on_time_is_corrected(rt: HostRuntime) -> Result<(), Fail> {
 #[test]
 fn frames_leave_until_they_are_too_old(rt: HostRuntime) -> Result<(), Fail> {
     let network = bare(&rt, rt.alloc())?;
-    assert!(rt;
-        departure(&network, 3_276_000_000, 800_000, false) == Departed::Leaves(3_276_800_000)
-    );
-    assert!(rt; departure(&network, 3_276_000_000, 800_000, true) == Departed::OnCutWay);
-    assert!(rt; departure(&network, u64::MAX, 800_000, true) == Departed::TooOld);
+    let departed = [
+        departure(&network, 3_276_000_000, 800_000, false),
+        departure(&network, 3_276_000_000, 800_000, true),
+        departure(&network, u64::MAX, 800_000, true),
+    ];
+    let leaves = Departed::Leaves(3_276_800_000);
+    assert!(rt; departed == [leaves, Departed::OnCutWay, Departed::TooOld]);
     let point = 262_144_000_000 + 3_276_800_000;
-    assert!(rt; point_fault(&network, State::Synchronised, 0, point, 2) == None);
-    assert!(rt; point_fault(&network, State::Synchronised, 0, point, 1) == Some(Reason::Cycle));
+    let faults = [
+        point_fault(&network, State::Synchronised, 0, point, 2),
+        point_fault(&network, State::Synchronised, 0, point, 1),
+    ];
+    assert!(rt; faults == [None, Some(Reason::Cycle)]);
     Ok(())
 }
 

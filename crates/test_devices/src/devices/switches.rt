@@ -8,6 +8,7 @@ use net_plan::{LinkId, RowId, VlId, Way};
 use run_law::{Arrival, Reason};
 use schedule_tables::Window;
 use std::alloc::{AllocError, Global};
+use std::process::Abort;
 use std::test::Fail;
 use switch_ports::{Departure, Held, LeavingRow, Peer, Port, Site, Standpoint, Taking};
 use sync_state::{State, SyncPlan};
@@ -73,7 +74,7 @@ fn frame(cycle: u32, members: u32) -> Pcf {
 }
 
 // What becomes of a frame of cycle 1 that comes to the relay so long behind the beginning of that cycle.
-fn arrival(site: &Site, late: u16, link: u32, members: u32) -> Arrival
+fn becomes(rt: &impl Abort, site: &Site, late: u16, link: u32, members: u32, wanted: Arrival)
     requires { IsSiteInRange site.now }
 {
     let at = Standpoint {
@@ -81,7 +82,7 @@ fn arrival(site: &Site, late: u16, link: u32, members: u32) -> Arrival
         reading: Units(131_072_000_000 + i64::from(late) * 1_000_000),
         adjustment: Units(0),
     };
-    site.frame_arrival(&at, LinkId(link), &frame(1, members))
+    assert!(rt; site.frame_arrival(&at, LinkId(link), &frame(1, members)) == wanted);
 }
 
 #[test]
@@ -91,10 +92,10 @@ fn a_relay_passes_a_master_s_frame_up(rt: HostRuntime) -> Result<(), Fail> {
         clock: 32_768_000,
         ..frame(1, 1)
     };
-    assert!(rt; arrival(&site, 0, 0, 1) == Arrival::Passes(grown, Way::Up));
-    assert!(rt; arrival(&site, 0, 0, 2) == Arrival::Dropped(Reason::Member));
-    assert!(rt; arrival(&site, 0, 1, 1) == Arrival::Dropped(Reason::Member));
-    assert!(rt; arrival(&site, 60_000, 0, 1) == Arrival::Dropped(Reason::Gate));
+    becomes(&rt, &site, 0, 0, 1, Arrival::Passes(grown, Way::Up));
+    becomes(&rt, &site, 0, 0, 2, Arrival::Dropped(Reason::Member));
+    becomes(&rt, &site, 0, 1, 1, Arrival::Dropped(Reason::Member));
+    becomes(&rt, &site, 60_000, 0, 1, Arrival::Dropped(Reason::Gate));
     Ok(())
 }
 
@@ -174,10 +175,13 @@ const CYCLE: Units = Units(10_000);
 #[test]
 fn a_row_dispatches_what_is_taken_before_its_place(rt: HostRuntime) {
     let row = departure(2, 1, None, None).of;
-    assert!(rt; row.held(CYCLE, &taking(3, 30_499)) == Some(held(3, 30_500)));
-    assert!(rt; row.held(CYCLE, &taking(3, 30_500)) == None);
-    assert!(rt; row.held(CYCLE, &taking(2, 20_100)) == None);
-    assert!(rt; row.held(CYCLE, &taking(0, 100)) == None);
+    let dispatched = [
+        row.held(CYCLE, &taking(3, 30_499)),
+        row.held(CYCLE, &taking(3, 30_500)),
+        row.held(CYCLE, &taking(2, 20_100)),
+        row.held(CYCLE, &taking(0, 100)),
+    ];
+    assert!(rt; dispatched == [Some(held(3, 30_500)), None, None, None]);
 }
 
 // What the row holds and what it awaits, where a frame of cycle 3 is taken in the place of an awaited one.
@@ -191,8 +195,7 @@ fn taken_anew(at: i64) -> (Option<Held>, Option<Held>) {
 #[test]
 fn a_new_frame_takes_the_place_of_the_last(rt: HostRuntime) {
     let last = Some(held(3, 30_500));
-    assert!(rt; taken_anew(30_400) == (last, last));
-    assert!(rt; taken_anew(30_600) == (None, None));
+    assert!(rt; [taken_anew(30_400), taken_anew(30_600)] == [(last, last), (None, None)]);
 }
 
 #[test]
@@ -218,25 +221,29 @@ fn key_of_none(link: u8, place: u8) -> u128 {
 #[test]
 fn rows_dispatch_by_values_links_and_places(rt: HostRuntime) {
     let next = key(2, 1, 10_500);
-    assert!(rt; key(3, 1, 10_499) < next);
-    assert!(rt; key(1, 4, 10_500) < next);
-    assert!(rt; key(2, 0, 10_500) < next);
-    assert!(rt; next < key_of_none(2, 1));
-    assert!(rt; key_of_none(2, 1) == NO_KEY);
+    let sooner = [key(3, 1, 10_499), key(1, 4, 10_500), key(2, 0, 10_500)];
+    for soon in sooner {
+        assert!(rt; soon < next);
+    }
+    assert!(rt; next < NO_KEY && key_of_none(2, 1) == NO_KEY);
+}
+
+fn has_least(rt: &impl Abort, keys: &Keys, key: u128) {
+    assert!(rt; keys.least() == key);
 }
 
 #[test]
 fn the_least_key_is_at_hand(rt: HostRuntime) -> Result<(), Fail> {
     let mut keys = Keys::new(rt.alloc(), 5)?;
-    assert!(rt; keys.least() == NO_KEY);
+    has_least(&rt, &keys, NO_KEY);
     keys.set(3, 500);
     keys.set(4, 300);
     keys.set(0, 400);
-    assert!(rt; keys.least() == 300);
+    has_least(&rt, &keys, 300);
     keys.set(4, NO_KEY);
-    assert!(rt; keys.least() == 400);
+    has_least(&rt, &keys, 400);
     keys.set(0, 600);
-    assert!(rt; keys.least() == 500);
+    has_least(&rt, &keys, 500);
     Ok(())
 }
 

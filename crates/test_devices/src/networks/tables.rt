@@ -2,7 +2,7 @@ ghost use Rattle.std.specs.Prelude.{◌≡◌, IfOk, length};
 ghost use Rattle.net_plan.specs.Ranges.{IsInRange};
 
 use net_plan::{DeviceId, Network, RowId};
-use schedule_tables::{Tables, Window, entries_of, entry_of, window_of};
+use schedule_tables::{Entry, Tables, Window, entries_of, entry_of, window_of};
 use std::alloc::Global;
 use std::process::Abort;
 use std::test::Fail;
@@ -61,51 +61,55 @@ fn windows_of_the_worked_rows(rt: HostRuntime) -> Result<(), Fail> {
             from: Units(from),
             to: Units(to),
         };
-        assert_eq!(rt; entry.port_time(), Units(440_401_920), "row {row}");
-        assert_eq!(rt; window_of(&network, &entry), window, "row {row}");
+        assert!(rt; entry.port_time() == Units(440_401_920), "row {row}");
+        assert!(rt; window_of(&network, &entry) == window, "row {row}");
     }
     Ok(())
+}
+
+/// The row leads from this device to that.
+fn leads(rt: &impl Abort, entry: &Entry, source: u32, target: u32) {
+    assert!(rt; entry.source() == DeviceId(source));
+    assert!(rt; entry.target() == DeviceId(target));
 }
 
 #[test]
 fn frames_leave_and_enter_by_the_way(rt: HostRuntime) -> Result<(), Fail> {
     let network = half(&rt, rt.alloc())?;
-    let up = entry_of(&network, RowId(1));
-    assert_eq!(rt; up.source(), DeviceId(0));
-    assert_eq!(rt; up.target(), DeviceId(3));
-    let down = entry_of(&network, RowId(2));
-    assert_eq!(rt; down.source(), DeviceId(2));
-    assert_eq!(rt; down.target(), DeviceId(1));
-    assert_eq!(rt;
-        entries_of(rt.alloc(), &network)
-            .ok()
-            .map_or(0, |entries| entries.len()),
-        6
-    );
+    leads(&rt, &entry_of(&network, RowId(1)), 0, 3);
+    leads(&rt, &entry_of(&network, RowId(2)), 2, 1);
+    assert!(rt; entries_of(rt.alloc(), &network)?.len() == 6);
     Ok(())
+}
+
+// The rows that leave a device in a cycle.
+const IN_ORDER: &[(u32, u32, &[u32])] = &[
+    (0, 0, &[]),
+    (0, 3, &[0, 1, 5, 4]),
+    (0, 4, &[0, 1]),
+    (0, 131, &[0, 1, 5, 4]),
+    (1, 3, &[]),
+    (3, 3, &[3]),
+];
+
+fn come_in_order(rt: &impl Abort, tables: &Tables, device: DeviceId, cycle: u32, rows: &[u32]) {
+    let mut after = None;
+    for row in rows {
+        let next = tables.next_row(device, cycle, after);
+        assert!(rt; next == Some(RowId(*row)), "row {row} in cycle {cycle}");
+        after = next;
+    }
+    assert!(rt; tables.next_row(device, cycle, after) == None);
 }
 
 #[test]
 fn rows_come_in_order_in_their_cycles(rt: HostRuntime) -> Result<(), Fail> {
     let network = half(&rt, rt.alloc())?;
     let tables = Tables::of(rt.alloc(), &network)?;
-    for (device, cycle, rows) in [
-        (0, 0, [].as_slice()),
-        (0, 3, [0, 1, 5, 4].as_slice()),
-        (0, 4, [0, 1].as_slice()),
-        (0, 131, [0, 1, 5, 4].as_slice()),
-        (1, 3, [].as_slice()),
-        (3, 3, [3].as_slice()),
-    ] {
-        let mut after = None;
-        for row in rows {
-            let next = tables.next_row(DeviceId(device), cycle, after);
-            assert_eq!(rt; next, Some(RowId(*row)), "device {device} in cycle {cycle}");
-            after = next;
-        }
-        assert_eq!(rt; tables.next_row(DeviceId(device), cycle, after), None);
+    for (device, cycle, rows) in IN_ORDER {
+        come_in_order(&rt, &tables, DeviceId(*device), *cycle, rows);
     }
-    assert_eq!(rt; tables.next_row(DeviceId(0), 3, Some(RowId(6))), None);
-    assert_eq!(rt; tables.window(RowId(2)).to, Units(29_729_751_044));
+    assert!(rt; tables.next_row(DeviceId(0), 3, Some(RowId(6))) == None);
+    assert!(rt; tables.window(RowId(2)).to == Units(29_729_751_044));
     Ok(())
 }

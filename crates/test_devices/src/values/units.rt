@@ -2,9 +2,12 @@ use tte_units::{Speed, Units, mean, octets, slip};
 
 #[test]
 fn means_round_down(rt: HostRuntime) {
-    assert!(rt; mean(Units(-3), Units(0)) == Units(-2));
-    assert!(rt; mean(Units(3), Units(0)) == Units(1));
-    assert!(rt; mean(Units(-4), Units(2)) == Units(-1));
+    let means = [
+        mean(Units(-3), Units(0)),
+        mean(Units(3), Units(0)),
+        mean(Units(-4), Units(2)),
+    ];
+    assert!(rt; means == [Units(-2), Units(1), Units(-1)]);
 }
 
 #[test]
@@ -14,6 +17,6 @@ fn two_cycles_at_fifty_ppm_slip_by_gamma(rt: HostRuntime) {
 
 #[test]
 fn an_octet_takes_eighty_or_eight_nanoseconds(rt: HostRuntime) {
-    assert!(rt; octets(Speed::Mbit100, 1) == Units(80 * 65_536));
-    assert!(rt; octets(Speed::Gbit1, 84) == Units(84 * 8 * 65_536));
+    let times = [octets(Speed::Mbit100, 1), octets(Speed::Gbit1, 84)];
+    assert!(rt; times == [Units(80 * 65_536), Units(84 * 8 * 65_536)]);
 }

@@ -1,6 +1,6 @@
 use super::watching::{accepted, befallen, event};
 use fault_hypothesis::{Outside, Watch};
-use net_plan::DeviceId;
+use net_plan::{DeviceId, Event};
 use schedule_tables::Accepted;
 use std::process::Abort;
 use std::test::Fail;
@@ -62,20 +62,19 @@ const REFUSED: [Refused<'static>; 6] = [
     },
 ];
 
+/// The watch refuses the event so, and still has what it had.
+fn refuses(rt: &impl Abort, watch: &mut Watch<'_>, event: &Event, outside: Outside) {
+    let (broken, faulty) = (watch.broken(), watch.faulty());
+    assert!(rt; watch.admit(event) == Err(outside));
+    assert!(rt; watch.broken() == broken && watch.faulty() == faulty);
+}
+
 fn try_refused(rt: &impl Abort, accepted: &Accepted, case: &Refused<'_>) -> Result<(), Fail> {
     let mut watch = befallen(rt, accepted, case.befallen)?;
-    let (broken, faulty) = (watch.broken(), watch.faulty());
     let refused = event(accepted, case.refused)?;
-    assert_eq!(rt;
-        watch.admit(&refused),
-        Err(case.outside),
-        "at {}",
-        case.refused
-    );
-    assert_eq!(rt; watch.broken(), broken, "behind {}", case.refused);
-    assert_eq!(rt; watch.faulty(), faulty, "behind {}", case.refused);
+    refuses(rt, &mut watch, &refused, case.outside);
     let next = event(accepted, case.next)?;
-    assert_eq!(rt; watch.judge(&next), case.judged, "at {}", case.next);
+    assert!(rt; watch.judge(&next) == case.judged, "at {}", case.next);
     Ok(())
 }
 
@@ -94,8 +93,8 @@ type Told<'a> = (&'a [&'a str], Option<DeviceId>, Option<Channel>);
 fn try_told(rt: &impl Abort, accepted: &Accepted, cases: &[Told<'_>]) -> Result<(), Fail> {
     for (lines, broken, faulty) in cases {
         let watch = befallen(rt, accepted, lines)?;
-        assert_eq!(rt; watch.broken(), *broken, "behind {lines:?}");
-        assert_eq!(rt; watch.faulty(), *faulty, "behind {lines:?}");
+        assert!(rt; watch.broken() == *broken, "behind {lines:?}");
+        assert!(rt; watch.faulty() == *faulty, "behind {lines:?}");
     }
     Ok(())
 }
@@ -138,8 +137,8 @@ fn many_heals_are_admitted(rt: HostRuntime) -> Result<(), Fail> {
     let heal = event(&network, "0 heal m1_a up")?;
     let mut watch = Watch::new(&network);
     for count in 0..20_000 {
-        assert_eq!(rt; watch.admit(&heal), Ok(()), "behind {count}");
+        assert!(rt; watch.admit(&heal) == Ok(()), "behind {count}");
     }
-    assert_eq!(rt; watch.faulty(), None);
+    assert!(rt; watch.faulty() == None);
     Ok(())
 }
