@@ -1,3 +1,4 @@
+pub mod Existence
 pub mod captures
 pub mod stamps
 pub mod votes

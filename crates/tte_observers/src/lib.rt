@@ -3,5 +3,8 @@
 #![tactic(auto)]
 
 pub mod captures;
+mod laws;
 pub mod stamps;
 pub mod votes;
+
+pub use laws::observers_answer;

@@ -1,6 +1,6 @@
 -- There is an answer for each trace.
 use Rattle.{precision_law.proofs.traffic_lemmas.existence_lemmas.Existence.runs_exist_to_each_mark, world_drive.proofs.exact_lemmas.Events.ended_at}
-use Rattle.tte_traces.{proofs.{Splits.split, Words.{fault_lines, fault_status, inl, inr, last_time, length, refl, report_lines, ℕ}}, specs.Laws.RunAnswersExist}
+use Rattle.tte_traces.proofs.{Splits.split, Words.{fault_lines, fault_status, inl, inr, last_time, length, refl, ℕ}}
 use Rattle.tte_traces.proofs.Words.{◌++◌, ◌+◌, ◌∷◌, ◌≡◌, Answer, AnswersAll, AnswersFault, AreAllRecords, AreRecordsBefore, Done, Event, HaveEnded, IsFault}
 use Rattle.tte_traces.proofs.Words.{IsInRange, IsTraceAnswer, LinesOf, List, Network, Note, TraceFault, [], amount, behind_events, behind_lines, clock_reading}
 
@@ -48,6 +48,3 @@ module _ (lines : LinesOf) where
             (let a = faulty network octets at.events fault.0 range fault.1 in
             (a.0, record { events = at.events; admitted = at.admitted; is = inr a.1 }))
       ]
-
-pub run_answers_exist : RunAnswersExist
-run_answers_exist = trace_answers_exist report_lines

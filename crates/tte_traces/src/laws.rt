@@ -1,6 +1,6 @@
-ghost use Rattle.tte_traces.specs.Laws.{RunAnswersExist};
+ghost use Rattle.tte_traces.specs.Laws.{TraceAnswersExist};
 
-/// For each network in range and all octets of a trace there is an answer of `run`.
-pub fn run_answers_exist()
-    ensures { RunAnswersExist }
+/// Whatever lines a command tells of a run, for each network in range and all octets of a trace there is an answer.
+pub fn trace_answers_exist()
+    ensures { TraceAnswersExist }
 {}

@@ -14,7 +14,7 @@ pub mod storms;
 
 pub use driving::follow_trace;
 pub use fault::{TraceFault, TraceStop};
-pub use laws::run_answers_exist;
+pub use laws::trace_answers_exist;
 pub use lines::Trace;
 pub use refusing::put_fault;
 pub use running::run_trace;

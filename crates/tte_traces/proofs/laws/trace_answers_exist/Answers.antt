@@ -1,0 +1,5 @@
+use Rattle.tte_traces.proofs.Existing.{trace_answers_exist}
+use Rattle.tte_traces.proofs.laws.trace_answers_exist.Goals as goal
+
+pub returns : goal.returns
+returns c = trace_answers_exist
