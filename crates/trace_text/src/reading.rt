@@ -67,23 +67,20 @@ fn send_behind(network: &Network, words: &mut Words, what: &mut What) -> Result<
     Ok(())
 }
 
-/// Reads what befalls the network: the words of an event's line without its time, up to the line's end.
+/// Reads what befalls the network: the words of an event's line without its time, up to the line's end. It is put in the
+/// place of another, which on an error is of no use.
 ///
 /// The network is in its ranges.
 #[tactic(auto, unfolding(crate::specs::EventReading::what_reader))]
-pub fn what(network: &Network, words: &mut Words) -> Result<What, LineRefusal>
+pub fn what_in(network: &Network, words: &mut Words, what: &mut What) -> Result<(), LineRefusal>
     requires { IsInRange network.now }
-    ensures value { Reads (what_reader network.now words.old) result words.new }
-    ensures of_network { IfOk result (IsOfNetwork network.now) }
-    ensures range { IfOk result IsWhatInRange }
+    ensures value { Reads (what_reader network.now words.old) (read_in result what.new) words.new }
+    ensures of_network { OnOk result (IsOfNetwork network.now what.new) }
+    ensures range { OnOk result (IsWhatInRange what.new) }
 {
     let word = words.event_word()?;
-    let mut what = What::End;
-    what_behind(network, word, words, &mut what)?;
-    match words.end() {
-        Ok(()) => Ok(what),
-        Err(fault) => Err(fault),
-    }
+    what_behind(network, word, words, what)?;
+    words.end()
 }
 
 /// Reads a line of a trace, without its LF, to an event, and puts it in the place of another. On an error that one is

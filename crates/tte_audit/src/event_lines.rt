@@ -12,7 +12,7 @@ use crate::numbers::{exact_count, exact_units};
 use net_plan::{Network, What};
 use report_text::make_note_line;
 use run_law::{Note, NoteBody};
-use trace_text::{Words, what};
+use trace_text::{Words, what_in};
 use tte_io::LineText;
 
 // Takes the next word. It is empty where the line has ended.
@@ -33,8 +33,9 @@ fn event_what(network: &Network, words: &mut Words) -> Option<What>
     ensures of_network { IfSome result (IsOfNetwork network.now) }
     ensures range { IfSome result IsWhatInRange }
 {
-    match what(network, words) {
-        Ok(what) => Some(what),
+    let mut what = What::End;
+    match what_in(network, words, &mut what) {
+        Ok(()) => Some(what),
         Err(_) => None,
     }
 }
