@@ -70,13 +70,13 @@ pub fn answer_report<A: Source, B: Source, K: Sink, C: ReportCommand<K>>(
         (PutFailed K.Sink out.old out.new) result }
 {
     match accept(alloc, first) {
-        Ok(accepted) => answer_file(alloc, &accepted, second, command, out),
+        Ok(accepted) => answer_accepted(alloc, &accepted, second, command, out),
         Err(cause) => put_no_network(cause, out),
     }
 }
 
-/// The same, over an accepted network.
-fn answer_file<B: Source, K: Sink, C: ReportCommand<K>>(
+/// The same, over a network that was accepted.
+pub fn answer_accepted<B: Source, K: Sink, C: ReportCommand<K>>(
     alloc: Global,
     accepted: &Accepted,
     second: &mut B,

@@ -13,7 +13,7 @@ mod reading;
 mod records;
 
 pub use auditing::{Audit, audit_report};
-pub use commands::{ReportCommand, answer_report};
+pub use commands::{ReportCommand, answer_accepted, answer_report};
 pub use folding::{RecordTaker, take_records};
 pub use no_report::{NoReport, put_no_report};
 pub use reading::{AuditedReport, read_report};

@@ -6,7 +6,7 @@ pub returns-in-Ok-clause-general : goal.returns-in-Ok-clause-general
 returns-in-Ok-clause-general g c =
     let shown = shown_by g.K.Sink in
     files_accepted (IsReportAnswer (g.C.ReportCommand.answers c.args.command.now)) (g.A.Source.left c.args.first.now) (g.B.Source.left c.args.second.now)
-    c.in-Ok.accepted c.answer_file.result (shown c.args.out.now) (shown c.answer_file.new.out) c.in-Ok.ensures.accepted c.answer_file.ensures.gives
+    c.in-Ok.accepted c.answer_accepted.result (shown c.args.out.now) (shown c.answer_accepted.new.out) c.in-Ok.ensures.accepted c.answer_accepted.ensures.gives
 
 pub returns-in-Err-clause-general : goal.returns-in-Err-clause-general
 returns-in-Err-clause-general g c =
@@ -18,8 +18,8 @@ returns-in-Err-clause-general g c =
 pub returns-in-Ok-clause-safe : goal.returns-in-Ok-clause-safe
 returns-in-Ok-clause-safe g c =
     let shown = shown_by g.K.Sink in
-    files_safely (g.C.ReportCommand.answers c.args.command.now) (g.A.Source.left c.args.first.now) (g.B.Source.left c.args.second.now) c.answer_file.result
-    (shown c.args.out.now) (shown c.answer_file.new.out) (returns-in-Ok-clause-general g c)
+    files_safely (g.C.ReportCommand.answers c.args.command.now) (g.A.Source.left c.args.first.now) (g.B.Source.left c.args.second.now) c.answer_accepted.result
+    (shown c.args.out.now) (shown c.answer_accepted.new.out) (returns-in-Ok-clause-general g c)
 
 pub returns-in-Err-clause-safe : goal.returns-in-Err-clause-safe
 returns-in-Err-clause-safe g c =
@@ -35,14 +35,14 @@ returns-in-Err-clause-statuses g c =
 
 -- the network was accepted, so the second file may have been read
 pub returns-in-Ok-clause-taken : goal.returns-in-Ok-clause-taken
-returns-in-Ok-clause-taken g c = inr (c.in-Ok.accepted, c.in-Ok.ensures.accepted, c.answer_file.ensures.taken)
+returns-in-Ok-clause-taken g c = inr (c.in-Ok.accepted, c.in-Ok.ensures.accepted, c.answer_accepted.ensures.taken)
 
 pub returns-in-Ok-clause-complete : goal.returns-in-Ok-clause-complete
 returns-in-Ok-clause-complete g c =
     let shown = shown_by g.K.Sink in
-    completed (g.C.ReportCommand.answers c.args.command.now) (g.A.Source.left c.args.first.now) (g.B.Source.left c.args.second.now) c.answer_file.result
-    (shown c.args.out.now) (shown c.answer_file.new.out) _ _ (returns-in-Ok-clause-general g c) (λ e. inr (c.answer_file.ensures.cause.read e).0)
-    c.answer_file.ensures.cause.write
+    completed (g.C.ReportCommand.answers c.args.command.now) (g.A.Source.left c.args.first.now) (g.B.Source.left c.args.second.now) c.answer_accepted.result
+    (shown c.args.out.now) (shown c.answer_accepted.new.out) _ _ (returns-in-Ok-clause-general g c) (λ e. inr (c.answer_accepted.ensures.cause.read e).0)
+    c.answer_accepted.ensures.cause.write
 
 pub returns-in-Err-clause-complete : goal.returns-in-Err-clause-complete
 returns-in-Err-clause-complete g c =
