@@ -1,4 +1,5 @@
-use Rattle.tte_traces.proofs.{Existing.run_answers_exist, Sources.trace_given, Words.{IsRunAnswer, refl, shown_by}}
+use Rattle.tte_traces.proofs.{Existing.trace_answers_exist, Sources.trace_given}
+use Rattle.tte_traces.proofs.Words.{IsRunAnswer, refl, report_lines, shown_by}
 use Rattle.tte_traces.{proofs.Safely.{report_safe, safely_accepted, safely_refused}, specs.Safely.{IsReportToFault, IsWholeReport}}
 use Rattle.tte_forms.{proofs.networks.Answers.{files_accepted, files_refused}, specs.networks.{Accepting.refusal_lines, NetworkLine.IsRefusalText}}
 use Rattle.tte_traces.proofs.running.run_trace.Goals as goal
@@ -8,7 +9,8 @@ returns-in-Ok-clause-general g c =
     files_accepted refusal_lines IsRunAnswer (g.A.Source.left c.args.first.now) (g.B.Source.left c.args.second.now) c.in-Ok.accepted c.run_network.result _ _
     c.in-Ok.ensures.accepted
     (trace_given (λ trace. IsRunAnswer trace c.in-Ok.accepted) (g.B.Source.left c.args.second.now) c.run_network.result _ _
-    (λ trace. run_answers_exist c.in-Ok.accepted trace c.in-Ok.ensures.range) c.run_network.ensures.ends.general)
+    (λ trace. trace_answers_exist report_lines c.in-Ok.accepted trace c.in-Ok.ensures.range)
+    c.run_network.ensures.ends.general)
 
 pub returns-in-Err-clause-general : goal.returns-in-Err-clause-general
 returns-in-Err-clause-general g c =
@@ -22,7 +24,7 @@ returns-in-Ok-clause-safe g c =
     (g.B.Source.left c.args.second.now) c.run_network.result _ _ n (λ trace. IsRunAnswer trace n)
     (λ octets trace a m is. report_safe octets trace n IsRefusalText c.in-Ok.ensures.range a m is) c.in-Ok.ensures.accepted
     (trace_given (λ trace. IsRunAnswer trace n) (g.B.Source.left c.args.second.now) c.run_network.result _ _
-    (λ trace. run_answers_exist n trace c.in-Ok.ensures.range) c.run_network.ensures.ends.general)
+    (λ trace. trace_answers_exist report_lines n trace c.in-Ok.ensures.range) c.run_network.ensures.ends.general)
 
 pub returns-in-Err-clause-safe : goal.returns-in-Err-clause-safe
 returns-in-Err-clause-safe g c =
