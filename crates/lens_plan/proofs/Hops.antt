@@ -7,7 +7,7 @@ if_append : (b : Bool) (h : Hop) (xs ys : List Hop) → cond b (xs ++ ys) (h ∷
 if_append true h xs ys = refl
 if_append false h xs ys = refl
 
-up_append : (other path more : List LinkId) → up_hops other (path ++ more) ≡ up_hops other path ++ up_hops other more
+pub up_append : (other path more : List LinkId) → up_hops other (path ++ more) ≡ up_hops other path ++ up_hops other more
 up_append other [] more = refl
 up_append other (link ∷ path) more =
     ap (λ (hs : List Hop). cond (is_on other link) hs (hop_by Up link ∷ hs)) (up_append other path more)

@@ -31,3 +31,10 @@ pub mod Meanings
 pub mod Tellable
 pub mod GoodPlans
 pub mod OneAnswer
+pub mod WayLinks
+pub mod Leading
+pub mod Serving
+pub mod Unserved
+pub mod Counting
+pub mod Crowded
+pub mod Impossible

@@ -1,7 +1,8 @@
 -- What the lines of `plan` have to do with the runs of the planned network.
-use Rattle.std.specs.{List.{Contains, concat}, Prelude.{◌++◌, ◌≡◌, ◌≤ℤ◌, IfSome, List, pos, ℕ}}
-use Rattle.lens_plan.specs.{Answer.{IsPlanAnswer, MeansMessages}, joining.{Joined.MeansPlanned, Served.IsServedBy}, messages.Message.Message}
-use Rattle.tte_forms.specs.{Answering.Answer, declared.status.Status.TheVariants.Done, networks.Accepting.MeansAccepted}
+use Rattle.std.specs.{List.{Contains, concat}, Prelude.{◌++◌, ◌≡◌, ◌≤ℤ◌, IfSome, List, codes, pos, ℕ}}
+use Rattle.lens_plan.specs.{Answer.{IsPlanAnswer, MeansMessages}, joining.{Impossible.{NoneServes, NoneServesAll}, Joined.MeansPlanned, Served.IsServedBy}, messages.Message.Message}
+use Rattle.tte_forms.specs.{Answering.{Answer, line_answer}, declared.status.Status.TheVariants.{Done, PlanRefused}}
+use Rattle.tte_forms.specs.networks.Accepting.{MeansAccepted}
 use Rattle.net_plan.specs.declared.{ids.{DeviceId.DeviceId, VlId.VlId}, network.Network.Network, tables.VirtualLink.VirtualLink}
 use Rattle.{precision_law.specs.traffic.Ports.IsRunTo, run_law.specs.declared.note.Note.Note}
 use Rattle.run_law.specs.{device.{LocalClocks.local_before, Standpoints.offset_in_cycle}, law.Safety.{IsDelivered, IsOwed}}
@@ -38,3 +39,35 @@ pub record IsGoodPlan (octets text : List ℕ) (lines : List (List ℕ)) : Type 
 abbrev pub DoneIsPlanned : Type 0
 DoneIsPlanned =
     (octets text : List ℕ) (a : Answer) → IsPlanAnswer text octets a → a.status ≡ Done → IsGoodPlan octets text a.lines
+
+-- a message of the file, over the accepted network, is named first, and no accepted network with virtual links and rows
+-- added to this one serves it
+pub record IsImpossible (octets text rest : List ℕ) : Type 0 where
+  pub network : Network
+  pub accepted : MeansAccepted octets network
+  pub messages : List Message
+  pub read : MeansMessages network text messages
+  pub message : Message
+  pub there : Contains messages message
+  pub named : (more : List ℕ) × (rest ≡ message.name ++ codes " " ++ more)
+  pub none : NoneServes network message
+
+-- no accepted network with virtual links and rows added to that of the file serves all of its messages
+pub record AreImpossible (octets text : List ℕ) : Type 0 where
+  pub network : Network
+  pub accepted : MeansAccepted octets network
+  pub messages : List Message
+  pub read : MeansMessages network text messages
+  pub none : NoneServesAll network messages
+
+-- a message that is told to be impossible is so
+abbrev pub ImpossibleIsTrue : Type 0
+ImpossibleIsTrue =
+    (octets text rest : List ℕ) → IsPlanAnswer text octets (line_answer PlanRefused (codes "impossible " ++ rest))
+    → IsImpossible octets text rest
+
+-- messages that are told to want more than a rule lets be are impossible together
+abbrev pub ExcessIsTrue : Type 0
+ExcessIsTrue =
+    (octets text rest : List ℕ) → IsPlanAnswer text octets (line_answer PlanRefused (codes "rule " ++ rest))
+    → AreImpossible octets text

@@ -2,3 +2,4 @@
 pub mod Extends
 pub mod Served
 pub mod Joined
+pub mod Impossible

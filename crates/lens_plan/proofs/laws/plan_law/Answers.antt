@@ -1,4 +1,4 @@
-use Rattle.lens_plan.proofs.{GoodPlans.done_is_planned, InTime.served_come_in_time}
+use Rattle.lens_plan.proofs.{GoodPlans.done_is_planned, Impossible.{excess_is_true, impossible_is_true}, InTime.served_come_in_time}
 use Rattle.lens_plan.proofs.laws.plan_law.Goals as goal
 
 pub returns-clause-planned : goal.returns-clause-planned
@@ -6,3 +6,9 @@ returns-clause-planned c = done_is_planned
 
 pub returns-clause-time : goal.returns-clause-time
 returns-clause-time c = served_come_in_time
+
+pub returns-clause-impossible : goal.returns-clause-impossible
+returns-clause-impossible c = impossible_is_true
+
+pub returns-clause-excess : goal.returns-clause-excess
+returns-clause-excess c = excess_is_true
