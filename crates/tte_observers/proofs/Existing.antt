@@ -29,7 +29,7 @@ bearer_or_none [] name = inr none
     none : HasNoBearer [] name
     none zero e = cc
     none (suc k) e = cc
-bearer_or_none (n ∷ names) name = by (bytes_eq n name) refl
+bearer_or_none (n ∷ names) name = by (bytes_eq n name) refl (bearer_or_none names name)
   where
     later : (n ≡ name → ⊥) → ((i : ℕ) × IsFirstBearer names name i) ⊎ HasNoBearer names name
         → ((i : ℕ) × IsFirstBearer (n ∷ names) name i) ⊎ HasNoBearer (n ∷ names) name
@@ -44,11 +44,12 @@ bearer_or_none (n ∷ names) name = by (bytes_eq n name) refl
         each zero e = other cc
         each (suc k) e = none k e
 
-    by : (b : Bool) → bytes_eq n name ≡ b → ((i : ℕ) × IsFirstBearer (n ∷ names) name i) ⊎ HasNoBearer (n ∷ names) name
-    by true e =
+    by : (b : Bool) → bytes_eq n name ≡ b → ((i : ℕ) × IsFirstBearer names name i) ⊎ HasNoBearer names name
+        → ((i : ℕ) × IsFirstBearer (n ∷ names) name i) ⊎ HasNoBearer (n ∷ names) name
+    by true e rest =
         let same : n ≡ name = (bytes_eq-Decides n name).0 e in
         inl (0, record { bears = ap (λ (x : List ℕ). Some x) same; first = λ k less. absurd (omega (arith, less)) })
-    by false e = later (differ n name e) (bearer_or_none names name)
+    by false e rest = later (differ n name e) rest
 
 -- ---- stamps
 
