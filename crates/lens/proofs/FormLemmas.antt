@@ -1,11 +1,12 @@
 -- The form of words by their count and their first, and the numbers of forms.
 use Rattle.lens.specs.declared.forms.{Form.{Form, TheVariants.{Events, Latency, Least, Plan, Report, Slack, SlackOf}}, Question.TheVariants.{Draw, DrawWhole, Flows, LatencySeen, Page, Why}}
+use Rattle.{lens.specs.declared.forms.Part.TheVariants.{Cycle, Times}, lens_plan.specs.messages.Values.time_spelled}
 use Rattle.lens_slack.specs.Inequalities.{IsInequality}
-use Rattle.lens.specs.Forms.{IsFormInRange, draw_form, events_form, five_words_form, form_of, four_words_form, greatest_number}
+use Rattle.lens.specs.Forms.{IsFormInRange, cycle_form, draw_form, events_form, five_words_form, form_of, four_words_form, greatest_cycle, greatest_number}
 use Rattle.lens.specs.Forms.{inequality_spelled, network_form, part_form, slack_of_form, three_words_form, why_form}
 use Rattle.{schedule_tables.specs.declared.rule.Rule.Rule, std.proofs.Common.{◌∷◌, ◌≡◌, ◌≤◌, Bool, List, None, Some, [], arith, false, length, refl, true, ℕ}}
-use Rattle.{std.proofs.lemmas.Bool.Decides.nat_tests, trace_text.specs.Numbers.number_up_to}
-use Rattle.std.specs.{Option.{option_and_then, option_map}, Prelude.{◌==◌, IfSome, Option, bytes_eq, codes, if◌then◌else◌, nat_le, slice_get}}
+use Rattle.{std.{proofs.lemmas.Bool.{Decides.nat_tests, and_parts}, specs.Str.Parse.digits_value}, trace_text.specs.Numbers.number_up_to}
+use Rattle.std.specs.{Option.{option_and_then, option_map}, Prelude.{◌&&◌, ◌==◌, IfSome, Option, bytes_eq, codes, decimal, if◌then◌else◌, nat_le, slice_get}}
 use Rattle.tte_forms.{proofs.FormLemmas.{form_in_range as storm_in_range}, specs.declared.form.Form.TheVariants.Storm}
 use Rattle.tte_forms.specs.Forms.{IsFormInRange as IsStormInRange, cycles_spelled, form_of as storm_form_of, if_some, seed_spelled, storm_form}
 
@@ -85,11 +86,23 @@ why_by : (o : Option ℕ) → IfSome (option_map (λ m. Report (Why m)) (option_
 why_by None = tt
 why_by (Some n) = some_number n (n == 0) (λ e. grind (arith, nat_tests, e))
 
-four_words_by : (b d : Bool) (why events : Option Form) → IfSome why IsFormInRange → IfSome events IsFormInRange
-    → IfSome (if b then why else if d then events else None) IsFormInRange
-four_words_by true d why events h k = h
-four_words_by false true why events h k = k
-four_words_by false false why events h k = tt
+-- a cycle that is drawn has one of their numbers
+cycle_some : (n : ℕ) (b : Bool) → (b ≡ true → n ≤ greatest_cycle) → IfSome (option_map (λ m. Report (Draw (Cycle m))) (if b then Some n else None)) IsFormInRange
+cycle_some n true few = few refl
+cycle_some n false few = tt
+
+cycle_by : (text : List ℕ) → IfSome (cycle_form text) IsFormInRange
+cycle_by text =
+    let n = digits_value 10 text in
+    cycle_some n (bytes_eq text (decimal n) && nat_le n greatest_cycle)
+    (λ e. let parts = and_parts (bytes_eq text (decimal n)) (nat_le n greatest_cycle) e in grind (arith, nat_tests, parts.1))
+
+four_words_by : (b c d : Bool) (why cycle events : Option Form) → IfSome why IsFormInRange → IfSome cycle IsFormInRange → IfSome events IsFormInRange
+    → IfSome (if b then why else if c then cycle else if d then events else None) IsFormInRange
+four_words_by true c d why cycle events h i k = h
+four_words_by false true d why cycle events h i k = i
+four_words_by false false true why cycle events h i k = k
+four_words_by false false false why cycle events h i k = tt
 
 -- a rule that is spelled is an inequality
 spelled_by : (b : Bool) (rule : Rule) (o : Option Rule) → IsInequality rule → IfSome o IsInequality → IfSome (if b then Some rule else o) IsInequality
@@ -122,7 +135,7 @@ three_words_by false false false false false true of h = tt
 three_words_by false false false false false false of h = tt
 
 -- a part of a run ends no earlier than it begins
-part_by : (from to : ℕ) (b : Bool) → (b ≡ true → from ≤ to) → IfSome (if b then Some (Report (Draw from to)) else None) IsFormInRange
+part_by : (from to : ℕ) (b : Bool) → (b ≡ true → from ≤ to) → IfSome (if b then Some (Report (Draw (Times from to))) else None) IsFormInRange
 part_by from to true later = later refl
 part_by from to false later = tt
 
@@ -146,9 +159,10 @@ form_in_range (command ∷ network ∷ third ∷ []) =
     (bytes_eq command (codes "page")) (bytes_eq command (codes "flows")) (bytes_eq command (codes "latency")) (slack_of_form third)
     (slack_of_by (inequality_spelled third) (inequality_by third))
 form_in_range (command ∷ network ∷ third ∷ last ∷ []) =
-    four_words_by (bytes_eq command (codes "why")) (bytes_eq command (codes "events")) (why_form last) (events_form third last)
-    (why_by (number_up_to greatest_number last)) (events_by (seed_spelled third) (cycles_spelled last) (storm_range third last))
+    four_words_by (bytes_eq command (codes "why")) (bytes_eq command (codes "draw")) (bytes_eq command (codes "events")) (why_form last)
+    (cycle_form last) (events_form third last)
+    (why_by (number_up_to greatest_number last)) (cycle_by last) (events_by (seed_spelled third) (cycles_spelled last) (storm_range third last))
 form_in_range (command ∷ network ∷ report ∷ fourth ∷ last ∷ []) =
     five_words_by (bytes_eq command (codes "draw")) (draw_form fourth last)
-    (draw_by (number_up_to greatest_number fourth) (number_up_to greatest_number last))
+    (draw_by (time_spelled greatest_number fourth) (time_spelled greatest_number last))
 form_in_range (command ∷ network ∷ report ∷ fourth ∷ last ∷ more ∷ words) = tt

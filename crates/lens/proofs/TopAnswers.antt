@@ -35,7 +35,7 @@ events_one one seed cycles few octets a b p q =
 question_one : (question : Question) → IsOneFor (IsQuestionAnswer question)
 question_one (Why number) = why_answer_one number
 question_one DrawWhole = λ network text notes end x y rules of i j. i ∙ sym j
-question_one (Draw from to) = λ network text notes end x y rules of i j. i ∙ sym j
+question_one (Draw part) = λ network text notes end x y rules of i j. i ∙ sym j
 question_one Page = λ network text notes end x y rules of i j. i ∙ sym j
 question_one Flows = flows_answer_one
 question_one LatencySeen = latency_report_one

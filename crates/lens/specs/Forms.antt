@@ -2,7 +2,9 @@
 use Rattle.std.specs.{Option.{option_and_then, option_map}, Str.bytes_eq}
 use Rattle.std.specs.Prelude.{◌-◌, ◌^◌, ◌∷◌, ◌≤◌, List, None, Option, Some, [], codes, if◌then◌else◌, nat_le, ℕ}
 use Rattle.lens.specs.declared.forms.{Form.{Form, TheVariants.{Events, Latency, Least, Plan, Report, Slack, SlackOf}}, Question.Question}
-use Rattle.{lens.specs.declared.forms.Question.TheVariants.{Draw, DrawWhole, Flows, LatencySeen, Page, Why}, trace_text.specs.Numbers.number_up_to}
+use Rattle.lens.specs.declared.forms.{Part.{Part, TheVariants.{Cycle, Times}}, Question.TheVariants.{Draw, DrawWhole}}
+use Rattle.{lens.specs.declared.forms.Question.TheVariants.{Flows, LatencySeen, Page, Why}, trace_text.specs.Numbers.number_up_to}
+use Rattle.lens_plan.specs.messages.Values.{time_spelled}
 use Rattle.lens_slack.specs.Inequalities.{IsInequality}
 use Rattle.schedule_tables.specs.declared.rule.Rule.TheVariants.{Correction, Delays, Forwarding, Precision}
 use Rattle.schedule_tables.specs.declared.rule.Rule.{Rule, TheVariants.{ScheduleStart, Settling, Spacing, WindowEnds}}
@@ -62,32 +64,46 @@ abbrev pub events_form : List ℕ → List ℕ → Option Form
 events_form seed cycles =
     option_and_then (λ s. option_map (λ c. Events s c) (cycles_spelled cycles)) (seed_spelled seed)
 
--- a command with four words: `why NETWORK REPORT N` or `events NETWORK SEED CYCLES`
+-- the greatest number of a cycle that is drawn
+abbrev pub greatest_cycle : ℕ
+greatest_cycle = 2 ^ 20
+
+-- a cycle of a run, by its number in decimal without leading zeros: `draw NETWORK REPORT CYCLE`
+abbrev pub cycle_form : List ℕ → Option Form
+cycle_form cycle = option_map (λ n. Report (Draw (Cycle n))) (number_up_to greatest_cycle cycle)
+
+-- a command with four words: `why NETWORK REPORT N`, `draw NETWORK REPORT CYCLE` or `events NETWORK SEED CYCLES`
 abbrev pub four_words_form : List ℕ → List ℕ → List ℕ → Option Form
 four_words_form command third last =
     if bytes_eq command (codes "why") then why_form last
+    else if bytes_eq command (codes "draw") then cycle_form last
     else if bytes_eq command (codes "events") then events_form third last
     else None
 
 -- a part of a run, from a time to one that is no earlier
 abbrev pub part_form : ℕ → ℕ → Option Form
-part_form from to = if nat_le from to then Some (Report (Draw from to)) else None
+part_form from to = if nat_le from to then Some (Report (Draw (Times from to))) else None
 
--- a part of a run, by its two times: `draw NETWORK REPORT FROM TO`
+-- a part of a run, by its two times, each a number of units, or of ns, us or ms: `draw NETWORK REPORT FROM TO`
 abbrev pub draw_form : List ℕ → List ℕ → Option Form
 draw_form from to =
-    option_and_then (λ f. option_and_then (part_form f) (number_up_to greatest_number to))
-    (number_up_to greatest_number from)
+    option_and_then (λ f. option_and_then (part_form f) (time_spelled greatest_number to))
+    (time_spelled greatest_number from)
 
 -- a command with five words
 abbrev pub five_words_form : List ℕ → List ℕ → List ℕ → Option Form
 five_words_form command fourth last = if bytes_eq command (codes "draw") then draw_form fourth last else None
 
+-- the cycle may be drawn, or the end is no earlier than the beginning
+abbrev pub IsPartInRange : Part → Type 0
+IsPartInRange (Cycle number) = number ≤ greatest_cycle
+IsPartInRange (Times from to) = from ≤ to
+
 -- the numbers of what is asked lie in their ranges
 abbrev pub IsQuestionInRange : Question → Type 0
 IsQuestionInRange (Why number) = 1 ≤ number
 IsQuestionInRange DrawWhole = Unit {0}
-IsQuestionInRange (Draw from to) = from ≤ to
+IsQuestionInRange (Draw part) = IsPartInRange part
 IsQuestionInRange Page = Unit {0}
 IsQuestionInRange Flows = Unit {0}
 IsQuestionInRange LatencySeen = Unit {0}

@@ -1,5 +1,5 @@
 -- What is answered for what is asked of a report.
-use Rattle.lens.specs.{declared.forms.Question.Question, draw.{Answer.IsDrawAnswer, overview.Answer.IsOverviewAnswer}}
+use Rattle.lens.specs.{declared.forms.Question.Question, draw.{Answer.IsPartAnswer, overview.Answer.IsOverviewAnswer}}
 use Rattle.lens.specs.declared.forms.Question.TheVariants.{Draw, DrawWhole, Flows, LatencySeen, Page, Why}
 use Rattle.{lens_flows.specs.Answer.IsFlowsAnswer, lens_latency.specs.Answer.IsLatencyReport}
 use Rattle.lens_page.specs.Answer.{IsPageAnswer}
@@ -10,7 +10,7 @@ use Rattle.{lens_why.specs.Answer.{IsWhyAnswer, IsWhyStatus, why_audits}, tte_fo
 abbrev pub IsQuestionAnswer : Question → AnswersFor
 IsQuestionAnswer (Why number) = IsWhyAnswer number
 IsQuestionAnswer DrawWhole = IsOverviewAnswer
-IsQuestionAnswer (Draw from to) = IsDrawAnswer (record { from = from; to = to })
+IsQuestionAnswer (Draw part) = IsPartAnswer part
 IsQuestionAnswer Page = IsPageAnswer
 IsQuestionAnswer Flows = IsFlowsAnswer
 IsQuestionAnswer LatencySeen = IsLatencyReport

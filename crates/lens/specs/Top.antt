@@ -13,8 +13,8 @@ use Rattle.tte_reports.specs.{Commands.CompletesReport, Safely.AuditsSafely}
 abbrev pub usage_line : List ℕ
 usage_line =
     codes "usage: lens slack NETWORK [RULE] | least NETWORK | plan NETWORK MESSAGES | latency NETWORK [REPORT] | "
-    ++ codes "why NETWORK REPORT N | draw NETWORK REPORT [FROM TO] | page NETWORK REPORT | flows NETWORK REPORT | "
-    ++ codes "events NETWORK SEED CYCLES\n"
+    ++ codes "why NETWORK REPORT N | draw NETWORK REPORT [CYCLE] | draw NETWORK REPORT FROM TO | page NETWORK REPORT | "
+    ++ codes "flows NETWORK REPORT | events NETWORK SEED CYCLES\n"
 
 -- the answer for words of no form: the usage line
 abbrev pub usage_answer : Answer

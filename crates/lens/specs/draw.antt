@@ -1,3 +1,4 @@
+pub mod Spans
 pub mod Putting
 pub mod Signs
 pub mod Picture

@@ -6,6 +6,7 @@ mod marks;
 pub mod overview;
 mod putting;
 mod signs;
+pub(crate) mod spans;
 mod windows;
 
 pub use drawing::Draw;

@@ -2,12 +2,16 @@
 
 ghost use Rattle.std.specs.Prelude.{◌≡◌, ◌≤◌, IfSome};
 ghost use Rattle.lens_slack.specs.Inequalities.{IsInequality};
-ghost use Rattle.lens.specs.Forms.{IsFormInRange, draw_form, events_form, five_words_form};
+ghost use Rattle.lens.specs.Forms.{IsFormInRange, cycle_form, draw_form, events_form, five_words_form};
 ghost use Rattle.lens.specs.Forms.{form_of, four_words_form, inequality_spelled, network_form};
 ghost use Rattle.lens.specs.Forms.{number_spelled, slack_of_form, three_words_form, why_form};
 
+use lens_plan::time_spelled;
 use schedule_tables::Rule;
 use tte_forms::{Words, cycles_spelled, number_up_to};
+
+/// The greatest number of a cycle that is drawn.
+const GREATEST_CYCLE: u64 = 1 << 20;
 
 /// What the words ask for.
 #[derive(Clone, Copy, PartialEq, Eq)]
@@ -42,18 +46,30 @@ pub enum Question {
     },
     /// `draw NETWORK REPORT`.
     DrawWhole,
-    /// `draw NETWORK REPORT FROM TO`.
-    Draw {
-        from: u64,
-        /// No earlier than `from`.
-        to: u64,
-    },
+    /// `draw NETWORK REPORT CYCLE` or `draw NETWORK REPORT FROM TO`.
+    Draw(Part),
     /// `page NETWORK REPORT`.
     Page,
     /// `flows NETWORK REPORT`.
     Flows,
     /// `latency NETWORK REPORT`.
     LatencySeen,
+}
+
+/// A part of a run.
+#[derive(Clone, Copy, PartialEq, Eq)]
+pub enum Part {
+    /// A cycle.
+    Cycle {
+        /// From 0 to 2^20.
+        number: u64,
+    },
+    /// From one time to another, both in units of 2^-16 ns.
+    Times {
+        from: u64,
+        /// No earlier than `from`.
+        to: u64,
+    },
 }
 
 /// The form of a command with a network alone.
@@ -142,6 +158,15 @@ fn events_form(seed: &str, cycles: &str) -> Option<Form>
     Some(Form::Events { seed, cycles })
 }
 
+/// The form of a cycle of a run.
+fn cycle_form(cycle: &str) -> Option<Form>
+    ensures form { result ≡ cycle_form cycle.now }
+    ensures range { IfSome result IsFormInRange }
+{
+    let number = number_up_to(GREATEST_CYCLE, cycle)?;
+    Some(Form::Report(Question::Draw(Part::Cycle { number })))
+}
+
 /// The form of a command with four words, by its first and its last two.
 fn four_words_form(command: &str, third: &str, last: &str) -> Option<Form>
     ensures form { result ≡ four_words_form command.now third.now last.now }
@@ -149,6 +174,7 @@ fn four_words_form(command: &str, third: &str, last: &str) -> Option<Form>
 {
     match command {
         "why" => why_form(last),
+        "draw" => cycle_form(last),
         "events" => events_form(third, last),
         _ => None,
     }
@@ -159,10 +185,10 @@ fn draw_form(from: &str, to: &str) -> Option<Form>
     ensures form { result ≡ draw_form from.now to.now }
     ensures range { IfSome result IsFormInRange }
 {
-    let from = number_up_to(u64::MAX, from)?;
-    let to = number_up_to(u64::MAX, to)?;
+    let from = time_spelled(u64::MAX, from.as_bytes())?;
+    let to = time_spelled(u64::MAX, to.as_bytes())?;
     if from <= to {
-        Some(Form::Report(Question::Draw { from, to }))
+        Some(Form::Report(Question::Draw(Part::Times { from, to })))
     } else {
         None
     }

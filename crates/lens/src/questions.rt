@@ -4,11 +4,11 @@ ghost use Rattle.lens.specs.Questions.{EndsFor, IsQuestionAnswer, ends_as_audit}
 
 use crate::draw::Draw;
 use crate::draw::overview::DrawWhole;
+use crate::draw::spans::span_of;
 use crate::forms::Question;
 use lens_flows::Flows;
 use lens_latency::Latency;
 use lens_page::Page;
-use lens_svg::Span;
 use lens_why::Why;
 use net_plan::Network;
 use std::alloc::Global;
@@ -27,8 +27,8 @@ impl<K: Sink> ReportCommand<K> for Question {
         match *self {
             Question::Why { number } => Why { number }.put(alloc, network, report, out),
             Question::DrawWhole => DrawWhole.put(alloc, network, report, out),
-            Question::Draw { from, to } => {
-                let span = Span { from, to };
+            Question::Draw(part) => {
+                let span = span_of(network, part);
                 Draw { span }.put(alloc, network, report, out)
             }
             Question::Page => Page.put(alloc, network, report, out),

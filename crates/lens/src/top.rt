@@ -17,8 +17,8 @@ use tte_reports::answer_report;
 
 const USAGE: &str =
     "usage: lens slack NETWORK [RULE] | least NETWORK | plan NETWORK MESSAGES | latency NETWORK [REPORT] | \
-                     why NETWORK REPORT N | draw NETWORK REPORT [FROM TO] | page NETWORK REPORT | flows NETWORK REPORT | \
-                     events NETWORK SEED CYCLES\n";
+                     why NETWORK REPORT N | draw NETWORK REPORT [CYCLE] | draw NETWORK REPORT FROM TO | page NETWORK REPORT | \
+                     flows NETWORK REPORT | events NETWORK SEED CYCLES\n";
 
 /// All that the program does: it answers the words, with `first` as the file that word 2 names and
 /// `second` as the one that word 3 of `plan`, `latency`, `why`, `draw`, `page` or `flows` names, and writes to `out`.

@@ -1,6 +1,12 @@
 use std::fmt;
 use tte_forms::{cycles_spelled, number_up_to};
 
+/// The greatest number of a cycle that is drawn.
+const GREATEST_CYCLE: u64 = 1 << 20;
+
+/// A nanosecond, a microsecond and a millisecond in units of 2^-16 ns.
+const UNITS: [(&str, u64); 3] = [("ns", 65_536), ("us", 65_536_000), ("ms", 65_536_000_000)];
+
 /// The greatest granule of stamps, in units of 2^-16 ns.
 const GREATEST_GRANULE: u64 = 1 << 60;
 
@@ -31,7 +37,9 @@ pub enum Argument {
     Rule,
     /// The number of a record.
     Record,
-    /// Where a part of a run begins, in units of 2^-16 ns.
+    /// The number of a cycle.
+    Cycle,
+    /// Where a part of a run begins.
     From,
     /// Where it ends.
     To,
@@ -54,6 +62,7 @@ impl Argument {
             Argument::VirtualLink => "VL",
             Argument::Rule => "RULE",
             Argument::Record => "N",
+            Argument::Cycle => "CYCLE",
             Argument::From => "FROM",
             Argument::To => "TO",
         }
@@ -80,9 +89,11 @@ impl Argument {
             Argument::VirtualLink => "the name of a virtual link",
             Argument::Rule => "8, 9, 10, 11, 12, 13, 21 or 23, the rules that are inequalities",
             Argument::Record => "the number of a record, from 1, with no sign and no leading zero",
+            Argument::Cycle =>
+                "the number of a cycle, from 0 to 1048576, with no sign, no leading zero and no unit",
             Argument::From | Argument::To => {
-                "a whole number of units of 2^-16 ns (65536000 to the microsecond), with no sign, no leading zero and \
-                 no other unit"
+                "a whole number of units of 2^-16 ns (65536000 to the microsecond), or of ns, us or ms with that word \
+                 right behind it, with no sign and no leading zero"
             }
         }
     }
@@ -90,9 +101,9 @@ impl Argument {
     /// Whether the text may stand for it.
     pub fn admits(self, text: &str) -> bool {
         match self {
-            Argument::Seed | Argument::From | Argument::To => {
-                number_up_to(u64::MAX, text).is_some()
-            }
+            Argument::Seed => number_up_to(u64::MAX, text).is_some(),
+            Argument::From | Argument::To => is_time(text),
+            Argument::Cycle => number_up_to(GREATEST_CYCLE, text).is_some(),
             Argument::Cycles => cycles_spelled(text).is_some(),
             Argument::Granule => is_from_one(GREATEST_GRANULE, text),
             Argument::Record => is_from_one(u64::MAX, text),
@@ -113,6 +124,16 @@ impl Argument {
 /// Whether the text is the decimal of a number from 1 to `most`.
 fn is_from_one(most: u64, text: &str) -> bool {
     number_up_to(most, text).is_some_and(|number| number > 0)
+}
+
+/// Whether the text is a number of units, or of ns, us or ms with that word right behind it.
+fn is_time(text: &str) -> bool {
+    for (word, units) in UNITS {
+        if let Some(digits) = text.strip_suffix(word) {
+            return number_up_to(u64::MAX / units, digits).is_some();
+        }
+    }
+    number_up_to(u64::MAX, text).is_some()
 }
 
 impl fmt::Display for Argument {

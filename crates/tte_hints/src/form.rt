@@ -56,6 +56,10 @@ const LENS: &[Form] = &[
     Form("draw", &[Argument::Network, Argument::Report]),
     Form(
         "draw",
+        &[Argument::Network, Argument::Report, Argument::Cycle],
+    ),
+    Form(
+        "draw",
         &[
             Argument::Network,
             Argument::Report,

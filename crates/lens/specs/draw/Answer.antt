@@ -1,6 +1,7 @@
 -- What `draw` answers for a report.
 use Rattle.std.specs.Prelude.{◌≡◌, ◌++◌, if◌then◌else◌, List}
 use Rattle.{lens.specs.draw.Picture.{back_lines, front_lines, picture_lines}, lens_svg.specs.declared.layout.Span.Span}
+use Rattle.lens.specs.{declared.forms.Part.Part, draw.Spans.span_of}
 use Rattle.lens_svg.specs.{Clocks.Clocks, Sketching.{fits, plan_of}, declared.{mark.Mark.Mark, window.Came.Came}}
 use Rattle.{run_law.specs.declared.note.Note.Note, tte_forms.specs.Answering.Answer}
 use Rattle.lens_svg.specs.Plan.{Plan}
@@ -26,3 +27,7 @@ draw_answer network span notes =
 
 abbrev pub IsDrawAnswer : Span → Network → List Note → Units → Answer → Type 0
 IsDrawAnswer span network notes end a = a ≡ draw_answer network span notes
+
+-- the answer for a part of the run
+abbrev pub IsPartAnswer : Part → Network → List Note → Units → Answer → Type 0
+IsPartAnswer part network notes end a = IsDrawAnswer (span_of network part) network notes end a

@@ -18,19 +18,19 @@ number_between least most text = option_and_then (at_least least) (number_up_to 
 abbrev pub latest : ℕ
 latest = 2 ^ 40
 
--- so many of the unit, in units, if that is no later
-unfoldable pub in_unit : ℕ → List ℕ → Option ℕ
-in_unit unit digits = option_map (λ n. n * unit) (number_between 0 (latest / unit) digits)
+-- so many of the unit, in units of 2^-16 ns, if that is at most this
+unfoldable pub in_unit : ℕ → ℕ → List ℕ → Option ℕ
+in_unit most unit digits = option_map (λ n. n * unit) (number_between 0 (most / unit) digits)
 
--- a place in the cycle: a number of units, or of ns, us or ms with that word right behind it
-unfoldable pub time_spelled : List ℕ → Option ℕ
-time_spelled text =
+-- a time of at most this: a number of units, or of ns, us or ms with that word right behind it
+unfoldable pub time_spelled : ℕ → List ℕ → Option ℕ
+time_spelled most text =
     let digits = take (length text - 2) text in
     let unit = drop (length text - 2) text in
-    if bytes_eq unit (codes "ns") then in_unit 65536 digits
-    else if bytes_eq unit (codes "us") then in_unit 65536000 digits
-    else if bytes_eq unit (codes "ms") then in_unit 65536000000 digits
-    else in_unit 1 text
+    if bytes_eq unit (codes "ns") then in_unit most 65536 digits
+    else if bytes_eq unit (codes "us") then in_unit most 65536000 digits
+    else if bytes_eq unit (codes "ms") then in_unit most 65536000000 digits
+    else in_unit most 1 text
 
 -- a period of cycles: 1, 2, 4, 8, 16, 32 or 64, the divisors of 64
 unfoldable pub period_spelled : List ℕ → Option ℕ

@@ -1,7 +1,7 @@
 -- The kinds of words of a message's line, each with its fault.
 use Rattle.std.specs.{Option.ok_or, Prelude.{ℕ}}
 use Rattle.net_plan.specs.declared.{ids.DeviceId.DeviceId, network.Network.Network}
-use Rattle.lens_plan.specs.messages.{Steps.{Reader, next_word}, Values.{end_system_spelled, number_between, period_spelled}}
+use Rattle.lens_plan.specs.messages.{Steps.{Reader, next_word}, Values.{end_system_spelled, latest, number_between, period_spelled}}
 use Rattle.lens_plan.specs.messages.Values.{time_spelled}
 use Rattle.lens_plan.specs.declared.messages.refusal.MessageRefusal.TheVariants.{Name, Number}
 
@@ -11,7 +11,7 @@ number least most = next_word (λ text. ok_or (number_between least most text) N
 
 -- a place in the cycle
 unfoldable pub time : Reader ℕ
-time = next_word (λ text. ok_or (time_spelled text) Number)
+time = next_word (λ text. ok_or (time_spelled latest text) Number)
 
 -- a period
 unfoldable pub period : Reader ℕ

@@ -39,33 +39,33 @@ pub(crate) fn number_between(least: u64, most: u64, text: &[u8]) -> Option<u64>
     Some(number)
 }
 
-/// So many of the unit, in units of 2^-16 ns, if that is no later than a cycle may have places.
+/// So many of the unit, in units of 2^-16 ns, if that is at most `most`.
 #[tactic(auto, unfolding(crate::specs::messages::Values::in_unit))]
-fn in_unit(unit: u64, digits: &[u8]) -> Option<u64>
-    requires least { 1 ≤ unit }
-    requires most { unit ≤ 2 ^ 40 }
-    ensures value { result ≡ in_unit unit digits.now }
-    ensures most { IfSome result (λ n. n ≤ 2 ^ 40) }
+fn in_unit(most: u64, unit: u64, digits: &[u8]) -> Option<u64>
+    requires { 1 ≤ unit }
+    ensures value { result ≡ in_unit most unit digits.now }
+    ensures most { IfSome result (λ n. n ≤ most) }
 {
-    let number = number_between(0, LATEST / unit, digits)?;
+    let number = number_between(0, most / unit, digits)?;
     Some(number * unit)
 }
 
-/// The place in the cycle: a number of units, or of ns, us or ms with that word right behind it.
+/// The time that the text spells, in units of 2^-16 ns, if it is at most `most`: a number of units, or of ns, us or ms
+/// with that word right behind it, without leading zeros.
 #[tactic(auto, unfolding(crate::specs::messages::Values::time_spelled))]
-fn time_spelled(text: &[u8]) -> Option<u64>
-    ensures value { result ≡ time_spelled text.now }
-    ensures most { IfSome result (λ n. n ≤ 2 ^ 40) }
+pub fn time_spelled(most: u64, text: &[u8]) -> Option<u64>
+    ensures value { result ≡ time_spelled most text.now }
+    ensures most { IfSome result (λ n. n ≤ most) }
 {
     let (digits, unit) = text.split_at(text.len().saturating_sub(2));
     if unit == b"ns".as_slice() {
-        in_unit(NS, digits)
+        in_unit(most, NS, digits)
     } else if unit == b"us".as_slice() {
-        in_unit(US, digits)
+        in_unit(most, US, digits)
     } else if unit == b"ms".as_slice() {
-        in_unit(MS, digits)
+        in_unit(most, MS, digits)
     } else {
-        in_unit(1, text)
+        in_unit(most, 1, text)
     }
 }
 
@@ -143,7 +143,7 @@ impl<'a> Line<'a> {
         ensures most { IfOk result (λ n. n ≤ 2 ^ 40) }
     {
         let text = self.word()?;
-        time_spelled(text).ok_or(MessageRefusal::Number)
+        time_spelled(LATEST, text).ok_or(MessageRefusal::Number)
     }
 
     /// A period.

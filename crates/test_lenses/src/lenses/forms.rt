@@ -1,6 +1,6 @@
 use crate::calls::try_call;
 use lens::Status;
-use lens::forms::{Form, Question, read_form};
+use lens::forms::{Form, Part, Question, read_form};
 use schedule_tables::Rule;
 use std::alloc::Global;
 use std::process::Abort;
@@ -9,7 +9,7 @@ use worked_network::{call_of_one, words_of};
 
 const USAGE: &str =
     "usage: lens slack NETWORK [RULE] | least NETWORK | plan NETWORK MESSAGES | latency NETWORK [REPORT] | why NETWORK REPORT N | \
-        draw NETWORK REPORT [FROM TO] | page NETWORK REPORT | flows NETWORK REPORT | events NETWORK SEED CYCLES\n";
+        draw NETWORK REPORT [CYCLE] | draw NETWORK REPORT FROM TO | page NETWORK REPORT | flows NETWORK REPORT | events NETWORK SEED CYCLES\n";
 
 const NO_FORMS: &[&[&str]] = &[
     &[],
@@ -47,6 +47,21 @@ const NO_FORMS: &[&[&str]] = &[
     &["why", "a", "b", "+1"],
     &["why", "a", "b", " 1"],
     &["why", "a", "b", ""],
+    // A cycle past 2^20, one with a unit, and one with a leading zero.
+    &["draw", "a", "b", "1048577"],
+    &["draw", "a", "b", "5ms"],
+    &["draw", "a", "b", "05"],
+    &["draw", "a", "b", "5", "4"],
+    &["draw", "a", "b", "1ms", "999us"],
+    // Past 2^64 - 1 units.
+    &["draw", "a", "b", "0", "18446744073709551616"],
+    &["draw", "a", "b", "0", "281474977ms"],
+    &["draw", "a", "b", "0", "01us"],
+    &["draw", "a", "b", "0", "us"],
+    &["draw", "a", "b", "0", "1s"],
+    &["draw", "a", "b", "0", "1 us"],
+    &["draw", "a", "b", "0", "1.5us"],
+    &["draw", "a", "b", "0", "1US"],
     &["page", "a"],
     &["page", "a", "b", "c"],
     &["Page", "a", "b"],
@@ -163,7 +178,18 @@ fn words_of_why_are_read(rt: HostRuntime) -> Result<(), Fail> {
     Ok(())
 }
 
-// Without times the whole run is drawn, and with two the part between them.
+// Cycles that are drawn.
+const CYCLES: &[(&str, u64)] = &[("0", 0), ("99", 99), ("1048576", 1_048_576)];
+
+// Parts of runs, by their times: a millisecond is 1,000 us, and one of 65,536,000 units.
+const TIMES: &[(&str, &str, u64, u64)] = &[
+    ("0", "18446744073709551615", 0, u64::MAX),
+    ("7ns", "7ns", 458_752, 458_752),
+    ("65536000", "2ms", 65_536_000, 131_072_000_000),
+    ("1us", "281474976ms", 65_536_000, 18_446_744_027_136_000_000),
+];
+
+// Without times the whole run is drawn, with a number a cycle, and with two times the part between them.
 #[test]
 fn words_of_draw_are_read(rt: HostRuntime) -> Result<(), Fail> {
     let alloc = rt.alloc();
@@ -173,12 +199,20 @@ fn words_of_draw_are_read(rt: HostRuntime) -> Result<(), Fail> {
         &["draw", "a", "b"],
         Form::Report(Question::DrawWhole),
     )?;
-    let part = Form::Report(Question::Draw {
-        from: 0,
-        to: u64::MAX,
-    });
-    let words = ["draw", "a", "b", "0", "18446744073709551615"];
-    try_form(&rt, alloc, &words, part)
+    for (cycle, number) in CYCLES {
+        let part = Part::Cycle { number: *number };
+        let form = Form::Report(Question::Draw(part));
+        try_form(&rt, alloc, &["draw", "a", "b", cycle], form)?;
+    }
+    for (first, last, from, to) in TIMES {
+        let part = Part::Times {
+            from: *from,
+            to: *to,
+        };
+        let form = Form::Report(Question::Draw(part));
+        try_form(&rt, alloc, &["draw", "a", "b", first, last], form)?;
+    }
+    Ok(())
 }
 
 #[test]

@@ -26,15 +26,18 @@ const WRONG: &[(&[&str], &str)] = &[
         "N is \"0\"; it must be the number of a record, from 1, with no sign and no leading zero",
     ),
     (
-        &["draw", "a", "b", "5"],
+        &["draw", "a", "b", "2097152"],
         "TO is missing in: draw NETWORK REPORT FROM TO",
     ),
     (
-        &["draw", "a", "b", "5", "4ms"],
-        "TO is \"4ms\"; it must be a whole number of units of 2^-16 ns (65536000 to the microsecond), with no sign, \
-         no leading zero and no other unit",
+        &["draw", "a", "b", "5", "4 ms"],
+        "TO is \"4 ms\"; it must be a whole number of units of 2^-16 ns (65536000 to the microsecond), or of ns, us or \
+         ms with that word right behind it, with no sign and no leading zero",
     ),
-    (&["draw", "a", "b", "9", "3"], "TO, 3, is less than FROM, 9"),
+    (
+        &["draw", "a", "b", "9us", "3"],
+        "TO, 3, is less than FROM, 9us",
+    ),
 ];
 
 /// The words are of no form, and this is told of them.

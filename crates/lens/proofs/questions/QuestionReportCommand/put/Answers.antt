@@ -1,4 +1,5 @@
-use Rattle.{lens.specs.{Questions.IsQuestionAnswer, declared.forms.Question.Question}, std.proofs.Common.{subst, sym}}
+use Rattle.{lens.specs.{Questions.IsQuestionAnswer, declared.forms.Question.Question, draw.Answer.IsDrawAnswer}, std.proofs.Common.{subst, sym}}
+use Rattle.lens_svg.specs.declared.layout.Span.{Span}
 use Rattle.tte_forms.specs.{Answering.{Answer, GivesAnswer}, Putting.shown_by}
 use Rattle.lens.proofs.questions.QuestionReportCommand.put.Goals as goal
 
@@ -18,7 +19,9 @@ pub returns-in-Draw-clause-gives : goal.returns-in-Draw-clause-gives
 returns-in-Draw-clause-gives g c notes end of =
     let shown = shown_by g.K.Sink in
     subst (λ (q : Question). GivesAnswer (λ (a : Answer). IsQuestionAnswer q c.args.network.now notes end a) c.put-in-Draw.result (shown c.args.out.now)
-    (shown c.put-in-Draw.new.out)) (sym c.in-Draw.is) (c.put-in-Draw.ensures.gives notes end of)
+    (shown c.put-in-Draw.new.out)) (sym c.in-Draw.is)
+    (subst (λ (s : Span). GivesAnswer (λ (a : Answer). IsDrawAnswer s c.args.network.now notes end a) c.put-in-Draw.result (shown c.args.out.now)
+    (shown c.put-in-Draw.new.out)) c.span_of.ensures (c.put-in-Draw.ensures.gives notes end of))
 
 pub returns-in-Page-clause-gives : goal.returns-in-Page-clause-gives
 returns-in-Page-clause-gives g c notes end of =

@@ -1,0 +1,21 @@
+//! Which part of a run is drawn.
+ghost use Rattle.{lens.specs.draw.Spans.span_of, std.specs.Prelude.◌≡◌};
+
+use crate::forms::Part;
+use lens_svg::Span;
+use net_plan::Network;
+
+/// The world times of the part: those of a cycle from its beginning to the next one's less 1.
+pub(crate) fn span_of(network: &Network, part: Part) -> Span
+    ensures { result ≡ span_of network.now part }
+{
+    match part {
+        Part::Cycle { number } => {
+            let cycle = network.cycle.0.unsigned_abs();
+            let from = number.saturating_mul(cycle);
+            let to = from.saturating_add(cycle.saturating_sub(1));
+            Span { from, to }
+        }
+        Part::Times { from, to } => Span { from, to },
+    }
+}
