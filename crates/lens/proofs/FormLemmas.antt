@@ -1,9 +1,10 @@
 -- The form of words by their count and their first, and the numbers of forms.
-use Rattle.lens.specs.declared.forms.{Form.{Form, TheVariants.{Events, Latency, Least, Plan, Report, Slack, SlackOf}}, Question.TheVariants.{Draw, DrawWhole, Flows, LatencySeen, Page, Why}}
-use Rattle.{lens.specs.declared.forms.Part.TheVariants.{Cycle, Times}, lens_plan.specs.messages.Values.time_spelled}
+use Rattle.lens.specs.declared.forms.{Form.{Form, TheVariants.{DrawNamed, Events, Latency, Least, Plan, Report, Slack, SlackOf}}, Question.TheVariants.{Draw, DrawWhole, Flows, LatencySeen, Page, Why}}
+use Rattle.{lens.specs.declared.forms.Part.{Part, TheVariants.{Cycle, Times}}, lens_plan.specs.messages.Values.{is_name_text, time_spelled}}
 use Rattle.lens_slack.specs.Inequalities.{IsInequality}
-use Rattle.lens.specs.Forms.{IsFormInRange, cycle_form, draw_form, events_form, five_words_form, form_of, four_words_form, greatest_cycle, greatest_number}
-use Rattle.lens.specs.Forms.{inequality_spelled, network_form, part_form, slack_of_form, three_words_form, why_form}
+use Rattle.lens.specs.Forms.{IsFormInRange, IsPartInRange, cycle_part, draw_form, events_form, five_words_form, form_of, four_words_form, greatest_cycle}
+use Rattle.lens.specs.Forms.{greatest_number, inequality_spelled, named_by, named_form, network_form, part_between, reads_as_time, six_words_form}
+use Rattle.lens.specs.Forms.{slack_of_form, three_words_form, times_part, two_words_form, why_form}
 use Rattle.{schedule_tables.specs.declared.rule.Rule.Rule, std.proofs.Common.{◌∷◌, ◌≡◌, ◌≤◌, Bool, List, None, Some, [], arith, false, length, refl, true, ℕ}}
 use Rattle.{std.{proofs.lemmas.Bool.{Decides.nat_tests, and_parts}, specs.Str.Parse.digits_value}, trace_text.specs.Numbers.number_up_to}
 use Rattle.std.specs.{Option.{option_and_then, option_map}, Prelude.{◌&&◌, ◌==◌, IfSome, Option, bytes_eq, codes, decimal, if◌then◌else◌, nat_le, slice_get}}
@@ -16,15 +17,16 @@ no_words [] e = refl
 no_words (a ∷ words) e = absurd (omega (arith, e))
 
 pub other_count : (words : List (List ℕ)) → (length words ≡ 2 → ⊥) → (length words ≡ 3 → ⊥) → (length words ≡ 4 → ⊥) → (length words ≡ 5 → ⊥)
-    → None ≡ form_of words
+    → (length words ≡ 6 → ⊥) → None ≡ form_of words
 unfolding form_of
-other_count [] h k l m = refl
-other_count (a ∷ []) h k l m = refl
-other_count (a ∷ b ∷ []) h k l m = absurd (h refl)
-other_count (a ∷ b ∷ c ∷ []) h k l m = absurd (k refl)
-other_count (a ∷ b ∷ c ∷ d ∷ []) h k l m = absurd (l refl)
-other_count (a ∷ b ∷ c ∷ d ∷ e ∷ []) h k l m = absurd (m refl)
-other_count (a ∷ b ∷ c ∷ d ∷ e ∷ x ∷ rest) h k l m = refl
+other_count [] h k l m n = refl
+other_count (a ∷ []) h k l m n = refl
+other_count (a ∷ b ∷ []) h k l m n = absurd (h refl)
+other_count (a ∷ b ∷ c ∷ []) h k l m n = absurd (k refl)
+other_count (a ∷ b ∷ c ∷ d ∷ []) h k l m n = absurd (l refl)
+other_count (a ∷ b ∷ c ∷ d ∷ e ∷ []) h k l m n = absurd (m refl)
+other_count (a ∷ b ∷ c ∷ d ∷ e ∷ x ∷ []) h k l m n = absurd (n refl)
+other_count (a ∷ b ∷ c ∷ d ∷ e ∷ x ∷ y ∷ rest) h k l m n = refl
 
 pub network_words : (words : List (List ℕ)) (command : List ℕ) → length words ≡ 2 → slice_get words 0 ≡ Some command → form_of words ≡ network_form command
 unfolding form_of
@@ -63,6 +65,23 @@ five_words (a ∷ b ∷ c ∷ d ∷ []) command fourth last n e f g = absurd (om
 five_words (a ∷ b ∷ c ∷ d ∷ e' ∷ []) command fourth last n e f g = grind arith
 five_words (a ∷ b ∷ c ∷ d ∷ e' ∷ x ∷ rest) command fourth last n e f g = absurd (omega arith)
 
+pub six_words : (words : List (List ℕ)) (command from to name : List ℕ) → length words ≡ 6 → slice_get words 0 ≡ Some command
+    → slice_get words 3 ≡ Some from → slice_get words 4 ≡ Some to → slice_get words 5 ≡ Some name → form_of words ≡ six_words_form command from to name
+unfolding form_of
+six_words [] command from to name n e f g h = absurd (omega arith)
+six_words (a ∷ []) command from to name n e f g h = absurd (omega arith)
+six_words (a ∷ b ∷ []) command from to name n e f g h = absurd (omega arith)
+six_words (a ∷ b ∷ c ∷ []) command from to name n e f g h = absurd (omega arith)
+six_words (a ∷ b ∷ c ∷ d ∷ []) command from to name n e f g h = absurd (omega arith)
+six_words (a ∷ b ∷ c ∷ d ∷ e' ∷ []) command from to name n e f g h = absurd (omega arith)
+six_words (a ∷ b ∷ c ∷ d ∷ e' ∷ x ∷ []) command from to name n e f g h =
+    let first : a ≡ command = cc in
+    let begin : d ≡ from = cc in
+    let end : e' ≡ to = cc in
+    let last : x ≡ name = cc in
+    rw (first, begin, end, last) refl
+six_words (a ∷ b ∷ c ∷ d ∷ e' ∷ x ∷ y ∷ rest) command from to name n e f g h = absurd (omega arith)
+
 -- ---- the numbers of forms
 
 -- those of a storm are in their ranges
@@ -87,15 +106,49 @@ why_by None = tt
 why_by (Some n) = some_number n (n == 0) (λ e. grind (arith, nat_tests, e))
 
 -- a cycle that is drawn has one of their numbers
-cycle_some : (n : ℕ) (b : Bool) → (b ≡ true → n ≤ greatest_cycle) → IfSome (option_map (λ m. Report (Draw (Cycle m))) (if b then Some n else None)) IsFormInRange
+cycle_some : (n : ℕ) (b : Bool) → (b ≡ true → n ≤ greatest_cycle) → IfSome (option_map (λ m. Cycle m) (if b then Some n else None)) IsPartInRange
 cycle_some n true few = few refl
 cycle_some n false few = tt
 
-cycle_by : (text : List ℕ) → IfSome (cycle_form text) IsFormInRange
+cycle_by : (text : List ℕ) → IfSome (cycle_part text) IsPartInRange
 cycle_by text =
     let n = digits_value 10 text in
     cycle_some n (bytes_eq text (decimal n) && nat_le n greatest_cycle)
     (λ e. let parts = and_parts (bytes_eq text (decimal n)) (nat_le n greatest_cycle) e in grind (arith, nat_tests, parts.1))
+
+-- a part of a run ends no earlier than it begins
+between_by : (from to : ℕ) (b : Bool) → (b ≡ true → from ≤ to) → IfSome (if b then Some (Times from to) else None) IsPartInRange
+between_by from to true later = later refl
+between_by from to false later = tt
+
+times_by : (from to : Option ℕ) → IfSome (option_and_then (λ f. option_and_then (part_between f) to) from) IsPartInRange
+times_by None to = tt
+times_by (Some f) None = tt
+times_by (Some f) (Some t) = between_by f t (nat_le f t) (λ e. grind (arith, nat_tests, e))
+
+times_range : (from to : List ℕ) → IfSome (times_part from to) IsPartInRange
+times_range from to = times_by (time_spelled greatest_number from) (time_spelled greatest_number to)
+
+draw_by : (part : Option Part) → IfSome part IsPartInRange → IfSome (draw_form part) IsFormInRange
+draw_by None h = tt
+draw_by (Some p) h = h
+
+name_by : (name : List ℕ) (part : Part) (b : Bool) → IsPartInRange part → IfSome (if b then Some (DrawNamed part name) else None) IsFormInRange
+name_by name part true h = h
+name_by name part false h = tt
+
+named_range : (name : List ℕ) (part : Option Part) → IfSome part IsPartInRange → IfSome (named_form part name) IsFormInRange
+named_range name None h = tt
+named_range name (Some p) h = name_by name p (is_name_text name) h
+
+either_by : (b : Bool) (one other : Option Form) → IfSome one IsFormInRange → IfSome other IsFormInRange → IfSome (if b then one else other) IsFormInRange
+either_by true one other h k = h
+either_by false one other h k = k
+
+two_words_range : (fourth last : List ℕ) → IfSome (two_words_form fourth last) IsFormInRange
+two_words_range fourth last =
+    either_by (reads_as_time last) (draw_form (times_part fourth last)) (named_form (cycle_part fourth) last)
+    (draw_by (times_part fourth last) (times_range fourth last)) (named_range last (cycle_part fourth) (cycle_by fourth))
 
 four_words_by : (b c d : Bool) (why cycle events : Option Form) → IfSome why IsFormInRange → IfSome cycle IsFormInRange → IfSome events IsFormInRange
     → IfSome (if b then why else if c then cycle else if d then events else None) IsFormInRange
@@ -134,16 +187,6 @@ three_words_by false false false false true latency of h = tt
 three_words_by false false false false false true of h = tt
 three_words_by false false false false false false of h = tt
 
--- a part of a run ends no earlier than it begins
-part_by : (from to : ℕ) (b : Bool) → (b ≡ true → from ≤ to) → IfSome (if b then Some (Report (Draw (Times from to))) else None) IsFormInRange
-part_by from to true later = later refl
-part_by from to false later = tt
-
-draw_by : (from to : Option ℕ) → IfSome (option_and_then (λ f. option_and_then (part_form f) to) from) IsFormInRange
-draw_by None to = tt
-draw_by (Some f) None = tt
-draw_by (Some f) (Some t) = part_by f t (nat_le f t) (λ e. grind (arith, nat_tests, e))
-
 five_words_by : (b : Bool) (draw : Option Form) → IfSome draw IsFormInRange → IfSome (if b then draw else None) IsFormInRange
 five_words_by true draw h = h
 five_words_by false draw h = tt
@@ -160,9 +203,10 @@ form_in_range (command ∷ network ∷ third ∷ []) =
     (slack_of_by (inequality_spelled third) (inequality_by third))
 form_in_range (command ∷ network ∷ third ∷ last ∷ []) =
     four_words_by (bytes_eq command (codes "why")) (bytes_eq command (codes "draw")) (bytes_eq command (codes "events")) (why_form last)
-    (cycle_form last) (events_form third last)
-    (why_by (number_up_to greatest_number last)) (cycle_by last) (events_by (seed_spelled third) (cycles_spelled last) (storm_range third last))
+    (draw_form (cycle_part last)) (events_form third last)
+    (why_by (number_up_to greatest_number last)) (draw_by (cycle_part last) (cycle_by last)) (events_by (seed_spelled third) (cycles_spelled last) (storm_range third last))
 form_in_range (command ∷ network ∷ report ∷ fourth ∷ last ∷ []) =
-    five_words_by (bytes_eq command (codes "draw")) (draw_form fourth last)
-    (draw_by (time_spelled greatest_number fourth) (time_spelled greatest_number last))
-form_in_range (command ∷ network ∷ report ∷ fourth ∷ last ∷ more ∷ words) = tt
+    five_words_by (bytes_eq command (codes "draw")) (two_words_form fourth last) (two_words_range fourth last)
+form_in_range (command ∷ network ∷ report ∷ from ∷ to ∷ name ∷ []) =
+    five_words_by (bytes_eq command (codes "draw")) (named_form (times_part from to) name) (named_range name (times_part from to) (times_range from to))
+form_in_range (command ∷ network ∷ report ∷ fourth ∷ fifth ∷ last ∷ more ∷ words) = tt

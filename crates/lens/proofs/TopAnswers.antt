@@ -10,7 +10,8 @@ use Rattle.{lens.proofs.FormLemmas.form_in_range, net_plan.specs.declared.event.
 use Rattle.{lens_slack.proofs.OneSlack.{octets_one, slack_one}, tte_forms.specs.{declared.status.Status.Status, networks.Accepting.IsNetworkAnswer}}
 use Rattle.{lens_slack.proofs.least_lemmas.OneLeast.least_one, tte_forms.specs.declared.status.Status.TheVariants.{Done, Usage}}
 use Rattle.{lens_slack.specs.{Steps.{all_steps, rule_steps}, least.Answer.{IsLeastOf, with_late}}, tte_forms.proofs.networks.Answers.network_answer_one}
-use Rattle.{lens.specs.declared.forms.Form.TheVariants.{Events, Latency, Least, Plan, Report, Slack, SlackOf}, lens.specs.declared.forms.Question.Question}
+use Rattle.lens.proofs.draw_lemmas.Naming.{named_one}
+use Rattle.{lens.specs.declared.forms.Form.TheVariants.{DrawNamed, Events, Latency, Least, Plan, Report, Slack, SlackOf}, lens.specs.declared.forms.Question.Question}
 use Rattle.{lens.specs.declared.forms.Form.Form, lens.specs.declared.forms.Question.TheVariants.{Draw, DrawWhole, Flows, LatencySeen, Page, Why}}
 use Rattle.{lens_why.proofs.Whole.why_answer_one, tte_forms.specs.{Answering.Answer, Putting.Shown}}
 use Rattle.tte_reports.{proofs.Reports.report_one, specs.Reports.IsOneFor}
@@ -59,6 +60,7 @@ answer_one one (Some Plan) range octets messages a b p q =
     (λ network accepted. plan_one_for messages octets network (rules_give_trees network (shape_rules network accepted.rules))) a b p q
 answer_one one (Some (Report question)) range octets report a b p q =
     report_one one (IsQuestionAnswer question) (question_one question) octets report a b p q
+answer_one one (Some (DrawNamed part name)) range octets report a b p q = named_one one part name octets report a b p q
 answer_one one (Some (Events seed cycles)) range octets report a b p q = events_one one seed cycles range.1 octets a b p q
 
 pub one_answer : RefusalIsOne → AnswerIsOne

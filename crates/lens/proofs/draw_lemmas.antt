@@ -1,5 +1,7 @@
 pub mod Parts
 pub mod Marking
+pub mod Keeping
+pub mod Naming
 pub mod Titles
 pub mod Lines
 pub mod Falls

@@ -1,10 +1,12 @@
 -- The forms of the words of `lens`.
-use Rattle.std.specs.{Option.{option_and_then, option_map}, Str.bytes_eq}
-use Rattle.std.specs.Prelude.{◌-◌, ◌^◌, ◌∷◌, ◌≤◌, List, None, Option, Some, [], codes, if◌then◌else◌, nat_le, ℕ}
-use Rattle.lens.specs.declared.forms.{Form.{Form, TheVariants.{Events, Latency, Least, Plan, Report, Slack, SlackOf}}, Question.Question}
+use Rattle.std.specs.{Char.is_ascii_digit, List.list_all, Option.{option_and_then, option_map}, Str.bytes_eq}
+use Rattle.std.specs.Prelude.{◌&&◌, ◌-◌, ◌^◌, ◌||◌, ◌∷◌, ◌≤◌, Bool, List, None, Option, Some, [], codes, drop, if◌then◌else◌}
+use Rattle.std.specs.Prelude.{length, nat_le, take, ℕ}
+use Rattle.lens.specs.declared.forms.{Form.{Form, TheVariants.{DrawNamed, Events, Latency, Least, Plan}}, Question.Question}
+use Rattle.lens.specs.declared.forms.Form.TheVariants.{Report, Slack, SlackOf}
 use Rattle.lens.specs.declared.forms.{Part.{Part, TheVariants.{Cycle, Times}}, Question.TheVariants.{Draw, DrawWhole}}
 use Rattle.{lens.specs.declared.forms.Question.TheVariants.{Flows, LatencySeen, Page, Why}, trace_text.specs.Numbers.number_up_to}
-use Rattle.lens_plan.specs.messages.Values.{time_spelled}
+use Rattle.lens_plan.specs.messages.Values.{is_name_text, time_spelled}
 use Rattle.lens_slack.specs.Inequalities.{IsInequality}
 use Rattle.schedule_tables.specs.declared.rule.Rule.TheVariants.{Correction, Delays, Forwarding, Precision}
 use Rattle.schedule_tables.specs.declared.rule.Rule.{Rule, TheVariants.{ScheduleStart, Settling, Spacing, WindowEnds}}
@@ -68,31 +70,65 @@ events_form seed cycles =
 abbrev pub greatest_cycle : ℕ
 greatest_cycle = 2 ^ 20
 
--- a cycle of a run, by its number in decimal without leading zeros: `draw NETWORK REPORT CYCLE`
-abbrev pub cycle_form : List ℕ → Option Form
-cycle_form cycle = option_map (λ n. Report (Draw (Cycle n))) (number_up_to greatest_cycle cycle)
+-- a cycle of a run, by its number in decimal without leading zeros
+abbrev pub cycle_part : List ℕ → Option Part
+cycle_part cycle = option_map (λ n. Cycle n) (number_up_to greatest_cycle cycle)
+
+-- a part of a run, from a time to one that is no earlier
+abbrev pub part_between : ℕ → ℕ → Option Part
+part_between from to = if nat_le from to then Some (Times from to) else None
+
+-- a part of a run, by its two times, each a number of units, or of ns, us or ms
+abbrev pub times_part : List ℕ → List ℕ → Option Part
+times_part from to =
+    option_and_then (λ f. option_and_then (part_between f) (time_spelled greatest_number to))
+    (time_spelled greatest_number from)
+
+-- a part of a run: `draw NETWORK REPORT CYCLE` or `draw NETWORK REPORT FROM TO`
+abbrev pub draw_form : Option Part → Option Form
+draw_form part = option_map (λ p. Report (Draw p)) part
+
+-- of one thing, where the name is one: `draw NETWORK REPORT CYCLE NAME` or `draw NETWORK REPORT FROM TO NAME`
+abbrev pub named_by : List ℕ → Part → Option Form
+named_by name part = if is_name_text name then Some (DrawNamed part name) else None
+
+abbrev pub named_form : Option Part → List ℕ → Option Form
+named_form part name = option_and_then (named_by name) part
+
+-- digits, at least one
+abbrev pub is_number : List ℕ → Bool
+is_number text = nat_le 1 (length text) && list_all is_ascii_digit text
+
+-- the word of a unit of time
+abbrev pub is_unit : List ℕ → Bool
+is_unit text = bytes_eq text (codes "ns") || (bytes_eq text (codes "us") || bytes_eq text (codes "ms"))
+
+-- digits, or digits with the word of a unit right behind them
+unfoldable pub reads_as_time : List ℕ → Bool
+reads_as_time text =
+    is_number text || (is_unit (drop (length text - 2) text) && is_number (take (length text - 2) text))
+
+-- two words behind the report: times where the second reads as one, and else a cycle and a name
+abbrev pub two_words_form : List ℕ → List ℕ → Option Form
+two_words_form fourth last =
+    if reads_as_time last then draw_form (times_part fourth last) else named_form (cycle_part fourth) last
 
 -- a command with four words: `why NETWORK REPORT N`, `draw NETWORK REPORT CYCLE` or `events NETWORK SEED CYCLES`
 abbrev pub four_words_form : List ℕ → List ℕ → List ℕ → Option Form
 four_words_form command third last =
     if bytes_eq command (codes "why") then why_form last
-    else if bytes_eq command (codes "draw") then cycle_form last
+    else if bytes_eq command (codes "draw") then draw_form (cycle_part last)
     else if bytes_eq command (codes "events") then events_form third last
     else None
 
--- a part of a run, from a time to one that is no earlier
-abbrev pub part_form : ℕ → ℕ → Option Form
-part_form from to = if nat_le from to then Some (Report (Draw (Times from to))) else None
-
--- a part of a run, by its two times, each a number of units, or of ns, us or ms: `draw NETWORK REPORT FROM TO`
-abbrev pub draw_form : List ℕ → List ℕ → Option Form
-draw_form from to =
-    option_and_then (λ f. option_and_then (part_form f) (time_spelled greatest_number to))
-    (time_spelled greatest_number from)
-
 -- a command with five words
 abbrev pub five_words_form : List ℕ → List ℕ → List ℕ → Option Form
-five_words_form command fourth last = if bytes_eq command (codes "draw") then draw_form fourth last else None
+five_words_form command fourth last = if bytes_eq command (codes "draw") then two_words_form fourth last else None
+
+-- a command with six words
+abbrev pub six_words_form : List ℕ → List ℕ → List ℕ → List ℕ → Option Form
+six_words_form command from to name =
+    if bytes_eq command (codes "draw") then named_form (times_part from to) name else None
 
 -- the cycle may be drawn, or the end is no earlier than the beginning
 abbrev pub IsPartInRange : Part → Type 0
@@ -116,6 +152,7 @@ IsFormInRange Least = Unit {0}
 IsFormInRange Latency = Unit {0}
 IsFormInRange Plan = Unit {0}
 IsFormInRange (Report question) = IsQuestionInRange question
+IsFormInRange (DrawNamed part name) = IsPartInRange part
 IsFormInRange (Events seed cycles) = (1 ≤ cycles) × (cycles ≤ most_cycles)
 
 -- the form of the words
@@ -126,4 +163,5 @@ form_of (command ∷ network ∷ []) = network_form command
 form_of (command ∷ network ∷ third ∷ []) = three_words_form command third
 form_of (command ∷ network ∷ third ∷ last ∷ []) = four_words_form command third last
 form_of (command ∷ network ∷ report ∷ fourth ∷ last ∷ []) = five_words_form command fourth last
-form_of (command ∷ network ∷ report ∷ fourth ∷ last ∷ more ∷ words) = None
+form_of (command ∷ network ∷ report ∷ from ∷ to ∷ name ∷ []) = six_words_form command from to name
+form_of (command ∷ network ∷ report ∷ fourth ∷ fifth ∷ last ∷ more ∷ words) = None

@@ -3,7 +3,8 @@ use Rattle.{lens_latency.specs.Answer.IsLatencyAnswer, lens_plan.specs.Answer.Is
 use Rattle.std.specs.Prelude.{◌++◌, ◌≡◌, ◌≢◌, ◌⊎◌, List, None, Option, Some, [], codes, ℕ}
 use Rattle.{lens.specs.{Forms.form_of, Questions.IsQuestionAnswer}, lens_slack.specs.least.Answer.IsLeastAnswer}
 use Rattle.{lens.specs.events.Answer.IsEventsAnswer, tte_reports.specs.Reports.IsReportAnswer}
-use Rattle.lens.specs.declared.forms.Form.{Form, TheVariants.{Events, Latency, Least, Plan, Report, Slack, SlackOf}}
+use Rattle.lens.specs.declared.forms.Form.{Form, TheVariants.{DrawNamed, Events, Latency, Least, Plan, Report, Slack}}
+use Rattle.lens.specs.{declared.forms.Form.TheVariants.SlackOf, draw.Naming.{CompletesNamed, IsNamedAnswer, LeavesUnnamed}}
 use Rattle.{lens_slack.specs.Answer.{IsSlackAnswer, IsSlackAnswerOf}, tte_forms.specs.Putting.Shown}
 use Rattle.tte_forms.specs.Answering.{Answer, ForOctets, Gives, GivesAnswer, line_answer}
 use Rattle.tte_forms.specs.{declared.status.Status.{Status, TheVariants.Usage}, networks.Accepting.IsNetworkAnswer}
@@ -13,8 +14,8 @@ use Rattle.tte_reports.specs.{Commands.CompletesReport, Safely.AuditsSafely}
 abbrev pub usage_line : List ℕ
 usage_line =
     codes "usage: lens slack NETWORK [RULE] | least NETWORK | plan NETWORK MESSAGES | latency NETWORK [REPORT] | "
-    ++ codes "why NETWORK REPORT N | draw NETWORK REPORT [CYCLE] | draw NETWORK REPORT FROM TO | page NETWORK REPORT | "
-    ++ codes "flows NETWORK REPORT | events NETWORK SEED CYCLES\n"
+    ++ codes "why NETWORK REPORT N | draw NETWORK REPORT | draw NETWORK REPORT CYCLE [NAME] | "
+    ++ codes "draw NETWORK REPORT FROM TO [NAME] | page NETWORK REPORT | flows NETWORK REPORT | events NETWORK SEED CYCLES\n"
 
 -- the answer for words of no form: the usage line
 abbrev pub usage_answer : Answer
@@ -29,6 +30,7 @@ IsFormAnswer Latency octets report a = IsLatencyAnswer octets a
 IsFormAnswer Plan octets messages a = IsPlanAnswer messages octets a
 IsFormAnswer (Report question) octets report a =
     IsNetworkAnswer (IsReportAnswer (IsQuestionAnswer question) report) octets a
+IsFormAnswer (DrawNamed part name) octets report a = IsNetworkAnswer (IsNamedAnswer part name report) octets a
 IsFormAnswer (Events seed cycles) octets report a = IsNetworkAnswer (IsEventsAnswer seed cycles) octets a
 
 -- an answer for the words and the octets of the files
@@ -45,6 +47,7 @@ AnswerIsOne =
 -- the fact holds for the octets of the second file, if the form has one
 abbrev pub ForSecond : Form → Option (List ℕ) → (List ℕ → Type 0) → Type 0
 ForSecond (Report question) left P = ForOctets left P
+ForSecond (DrawNamed part name) left P = ForOctets left P
 ForSecond Plan left P = ForOctets left P
 ForSecond other left P = P []
 
@@ -61,22 +64,28 @@ AnswersWords (Some form) first second status old new =
 -- hypothesis
 abbrev pub AnswersSafely : Option Form → Option (List ℕ) → Option (List ℕ) → Status → Type 0
 AnswersSafely (Some (Report question)) first second status = AuditsSafely first second status
+AnswersSafely (Some (DrawNamed part name)) first second status = AuditsSafely first second status
 AnswersSafely other first second status = Unit {0}
 
 -- what is asked of the report of a run is answered to its end, where no count of faults rose, unless memory ran out
 abbrev pub AnswersReports : Option Form → Option (List ℕ) → Option (List ℕ) → Type 0 → Type 0 → Status → Type 0
 AnswersReports (Some (Report question)) first second SourceRose SinkRose status =
     CompletesReport (IsQuestionAnswer question) first second SourceRose SinkRose status
+AnswersReports (Some (DrawNamed part name)) first second SourceRose SinkRose status =
+    CompletesNamed part name first second SourceRose SinkRose status
 AnswersReports other first second SourceRose SinkRose status = Unit {0}
 
 -- a read failed, and nothing was put: of the first file, and then the second was not read, or of the second
 abbrev pub FailsToRead : Option Form → Type 0 → Type 0 → Type 0 → Type 0 → Type 0
 FailsToRead (Some (Report question)) InFirst InSecond Unput Unread = (InFirst × Unput × Unread) ⊎ (InSecond × Unput)
+FailsToRead (Some (DrawNamed part name)) InFirst InSecond Unput Unread =
+    (InFirst × Unput × Unread) ⊎ (InSecond × Unput)
 FailsToRead (Some Plan) InFirst InSecond Unput Unread = (InFirst × Unput × Unread) ⊎ (InSecond × Unput)
 FailsToRead other InFirst InSecond Unput Unread = InFirst × Unput × Unread
 
--- only a plan and what is asked of a report read a second file
-abbrev pub LeavesSecond : Option Form → Type 0 → Type 0
-LeavesSecond (Some (Report question)) Unread = Unit {0}
-LeavesSecond (Some Plan) Unread = Unit {0}
-LeavesSecond other Unread = Unread
+-- only a plan and what is asked of a report read a second file, and where a name is given it is judged before that
+abbrev pub LeavesSecond : Option Form → Option (List ℕ) → Type 0 → Type 0
+LeavesSecond (Some (Report question)) first Unread = Unit {0}
+LeavesSecond (Some (DrawNamed part name)) first Unread = LeavesUnnamed name first Unread
+LeavesSecond (Some Plan) first Unread = Unit {0}
+LeavesSecond other first Unread = Unread

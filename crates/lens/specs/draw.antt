@@ -1,5 +1,7 @@
 pub mod Spans
 pub mod Putting
+pub mod Keeping
+pub mod Naming
 pub mod Signs
 pub mod Picture
 pub mod Drafts

@@ -2,20 +2,21 @@
 
 ghost use Rattle.std.specs.Prelude.{◌≡◌, ◌≤◌, IfSome};
 ghost use Rattle.lens_slack.specs.Inequalities.{IsInequality};
-ghost use Rattle.lens.specs.Forms.{IsFormInRange, cycle_form, draw_form, events_form, five_words_form};
+ghost use Rattle.lens.specs.Forms.{IsFormInRange, IsPartInRange, cycle_part, events_form, five_words_form, is_number};
+ghost use Rattle.lens.specs.Forms.{is_unit, named_by, reads_as_time, six_words_form, times_part, two_words_form};
 ghost use Rattle.lens.specs.Forms.{form_of, four_words_form, inequality_spelled, network_form};
 ghost use Rattle.lens.specs.Forms.{number_spelled, slack_of_form, three_words_form, why_form};
 
-use lens_plan::time_spelled;
+use lens_plan::{is_name_text, time_spelled};
 use schedule_tables::Rule;
-use tte_forms::{Words, cycles_spelled, number_up_to};
+use tte_forms::{Word, Words, cycles_spelled, number_up_to};
 
 /// The greatest number of a cycle that is drawn.
 const GREATEST_CYCLE: u64 = 1 << 20;
 
 /// What the words ask for.
-#[derive(Clone, Copy, PartialEq, Eq)]
-pub enum Form {
+#[derive(Drop)]
+pub enum Form<'a> {
     /// `slack NETWORK`.
     Slack,
     /// `slack NETWORK RULE`, of a rule that is an inequality.
@@ -28,6 +29,11 @@ pub enum Form {
     Plan,
     /// A command, a network, a report, and what is asked of that.
     Report(Question),
+    /// `draw NETWORK REPORT CYCLE NAME` or `draw NETWORK REPORT FROM TO NAME`.
+    DrawNamed {
+        part: Part,
+        name: Word<'a>,
+    },
     /// `events NETWORK SEED CYCLES`.
     Events {
         seed: u64,
@@ -73,7 +79,7 @@ pub enum Part {
 }
 
 /// The form of a command with a network alone.
-fn network_form(command: &str) -> Option<Form>
+fn network_form(command: &str) -> Option<Form<'static>>
     ensures form { result ≡ network_form command.now }
     ensures range { IfSome result IsFormInRange }
 {
@@ -104,7 +110,7 @@ fn inequality_spelled(text: &str) -> Option<Rule>
 }
 
 /// The form of a network and a rule.
-fn slack_of_form(rule: &str) -> Option<Form>
+fn slack_of_form(rule: &str) -> Option<Form<'static>>
     ensures form { result ≡ slack_of_form rule.now }
     ensures range { IfSome result IsFormInRange }
 {
@@ -113,7 +119,7 @@ fn slack_of_form(rule: &str) -> Option<Form>
 }
 
 /// The form of a command with three words, by its first and its last.
-fn three_words_form(command: &str, third: &str) -> Option<Form>
+fn three_words_form(command: &str, third: &str) -> Option<Form<'static>>
     ensures form { result ≡ three_words_form command.now third.now }
     ensures range { IfSome result IsFormInRange }
 {
@@ -140,7 +146,7 @@ fn number_spelled(text: &str) -> Option<u64>
 }
 
 /// The form of a record of a report.
-fn why_form(number: &str) -> Option<Form>
+fn why_form(number: &str) -> Option<Form<'static>>
     ensures form { result ≡ why_form number.now }
     ensures range { IfSome result IsFormInRange }
 {
@@ -149,7 +155,7 @@ fn why_form(number: &str) -> Option<Form>
 }
 
 /// The form of the events of a storm.
-fn events_form(seed: &str, cycles: &str) -> Option<Form>
+fn events_form(seed: &str, cycles: &str) -> Option<Form<'static>>
     ensures form { result ≡ events_form seed.now cycles.now }
     ensures range { IfSome result IsFormInRange }
 {
@@ -158,56 +164,122 @@ fn events_form(seed: &str, cycles: &str) -> Option<Form>
     Some(Form::Events { seed, cycles })
 }
 
-/// The form of a cycle of a run.
-fn cycle_form(cycle: &str) -> Option<Form>
-    ensures form { result ≡ cycle_form cycle.now }
-    ensures range { IfSome result IsFormInRange }
+/// The cycle of this number.
+fn cycle_part(cycle: &str) -> Option<Part>
+    ensures part { result ≡ cycle_part cycle.now }
+    ensures range { IfSome result IsPartInRange }
 {
     let number = number_up_to(GREATEST_CYCLE, cycle)?;
-    Some(Form::Report(Question::Draw(Part::Cycle { number })))
+    Some(Part::Cycle { number })
+}
+
+/// The part between these times.
+fn times_part(from: &str, to: &str) -> Option<Part>
+    ensures part { result ≡ times_part from.now to.now }
+    ensures range { IfSome result IsPartInRange }
+{
+    let from = time_spelled(u64::MAX, from.as_bytes())?;
+    let to = time_spelled(u64::MAX, to.as_bytes())?;
+    if from <= to {
+        Some(Part::Times { from, to })
+    } else {
+        None
+    }
 }
 
 /// The form of a command with four words, by its first and its last two.
-fn four_words_form(command: &str, third: &str, last: &str) -> Option<Form>
+fn four_words_form(command: &str, third: &str, last: &str) -> Option<Form<'static>>
     ensures form { result ≡ four_words_form command.now third.now last.now }
     ensures range { IfSome result IsFormInRange }
 {
     match command {
         "why" => why_form(last),
-        "draw" => cycle_form(last),
+        "draw" => {
+            let part = cycle_part(last)?;
+            Some(Form::Report(Question::Draw(part)))
+        }
         "events" => events_form(third, last),
         _ => None,
     }
 }
 
-/// The form of a part of a run.
-fn draw_form(from: &str, to: &str) -> Option<Form>
-    ensures form { result ≡ draw_form from.now to.now }
+/// The form of one thing of a part of a run, if the name is one.
+fn named_by(name: &str, part: Part) -> Option<Form<'_>>
+    requires { IsPartInRange part }
+    ensures form { result ≡ named_by name.now part }
     ensures range { IfSome result IsFormInRange }
 {
-    let from = time_spelled(u64::MAX, from.as_bytes())?;
-    let to = time_spelled(u64::MAX, to.as_bytes())?;
-    if from <= to {
-        Some(Form::Report(Question::Draw(Part::Times { from, to })))
+    if is_name_text(name.as_bytes()) {
+        let name = Word::of(name);
+        Some(Form::DrawNamed { part, name })
     } else {
         None
+    }
+}
+
+/// Are there digits, and nothing else?
+fn is_number(text: &[u8]) -> bool
+    ensures { result ≡ is_number text.now }
+{
+    !text.is_empty() && text.iter().all(|octet| octet.is_ascii_digit())
+}
+
+/// Is it the word of a unit of time?
+fn is_unit(text: &[u8]) -> bool
+    ensures { result ≡ is_unit text.now }
+{
+    text == b"ns".as_slice() || text == b"us".as_slice() || text == b"ms".as_slice()
+}
+
+/// Are there digits, or digits and the word of a unit right behind them?
+#[tactic(auto, unfolding(crate::specs::Forms::reads_as_time))]
+fn reads_as_time(text: &[u8]) -> bool
+    ensures { result ≡ reads_as_time text.now }
+{
+    let (digits, unit) = text.split_at(text.len().saturating_sub(2));
+    is_number(text) || (is_unit(unit) && is_number(digits))
+}
+
+/// The form of two words behind the report.
+fn two_words_form<'a>(fourth: &str, last: &'a str) -> Option<Form<'a>>
+    ensures form { result ≡ two_words_form fourth.now last.now }
+    ensures range { IfSome result IsFormInRange }
+{
+    if reads_as_time(last.as_bytes()) {
+        let part = times_part(fourth, last)?;
+        Some(Form::Report(Question::Draw(part)))
+    } else {
+        let part = cycle_part(fourth)?;
+        named_by(last, part)
     }
 }
 
 /// The form of a command with five words, by its first and its last two.
-fn five_words_form(command: &str, fourth: &str, last: &str) -> Option<Form>
+fn five_words_form<'a>(command: &str, fourth: &str, last: &'a str) -> Option<Form<'a>>
     ensures form { result ≡ five_words_form command.now fourth.now last.now }
     ensures range { IfSome result IsFormInRange }
 {
     if command == "draw" {
-        draw_form(fourth, last)
+        two_words_form(fourth, last)
     } else {
         None
     }
 }
 
+/// The form of a command with six words, by its first and its last three.
+fn six_words_form<'a>(command: &str, from: &str, to: &str, name: &'a str) -> Option<Form<'a>>
+    ensures form { result ≡ six_words_form command.now from.now to.now name.now }
+    ensures range { IfSome result IsFormInRange }
+{
+    if command != "draw" {
+        return None;
+    }
+    let part = times_part(from, to)?;
+    named_by(name, part)
+}
+
 /// The form of the words, if they have one.
-pub fn read_form(words: &Words) -> Option<Form>
+pub fn read_form(words: &Words) -> Option<Form<'_>>
     ensures form { result ≡ form_of words.now }
     ensures range { IfSome result IsFormInRange }
 {
@@ -217,6 +289,7 @@ pub fn read_form(words: &Words) -> Option<Form>
         3 => three_words_form(command, words.get(2)?),
         4 => four_words_form(command, words.get(2)?, words.get(3)?),
         5 => five_words_form(command, words.get(3)?, words.get(4)?),
+        6 => six_words_form(command, words.get(3)?, words.get(4)?, words.get(5)?),
         _ => None,
     }
 }

@@ -3,6 +3,7 @@ ghost use Rattle.lens.specs.{Forms.form_of, Top.{AnswerIsOne, AnswersReports, An
 ghost use Rattle.lens.specs.Top.{FailsToRead, LeavesSecond, usage_answer};
 ghost use Rattle.tte_forms.specs.{Answering.Gives, Faults.{HasCause, IsWanted, PutFailed, ReadFailed}, Putting.Over};
 
+use crate::draw::draw_named;
 use crate::events::storm_events;
 use crate::forms::{Form, read_form};
 use lens_latency::latency_of_network;
@@ -17,8 +18,9 @@ use tte_reports::answer_report;
 
 const USAGE: &str =
     "usage: lens slack NETWORK [RULE] | least NETWORK | plan NETWORK MESSAGES | latency NETWORK [REPORT] | \
-                     why NETWORK REPORT N | draw NETWORK REPORT [CYCLE] | draw NETWORK REPORT FROM TO | page NETWORK REPORT | \
-                     flows NETWORK REPORT | events NETWORK SEED CYCLES\n";
+                     why NETWORK REPORT N | draw NETWORK REPORT | draw NETWORK REPORT CYCLE [NAME] | \
+                     draw NETWORK REPORT FROM TO [NAME] | page NETWORK REPORT | flows NETWORK REPORT | \
+                     events NETWORK SEED CYCLES\n";
 
 /// All that the program does: it answers the words, with `first` as the file that word 2 names and
 /// `second` as the one that word 3 of `plan`, `latency`, `why`, `draw`, `page` or `flows` names, and writes to `out`.
@@ -38,7 +40,7 @@ pub fn lens<A: Source, B: Source, K: Sink>(
         (ReadFailed A.Source first.old first.new) (ReadFailed B.Source second.old second.new)
         (out.new ≡ out.old) (second.new ≡ second.old))
         (PutFailed K.Sink out.old out.new) }
-    ensures second { LeavesSecond (form_of words.now) (second.new ≡ second.old) }
+    ensures second { LeavesSecond (form_of words.now) (A.left first.old) (second.new ≡ second.old) }
     ensures complete { AnswersReports (form_of words.now) (A.left first.old) (B.left second.old)
         (ReadFailed A.Source first.old first.new ⊎ ReadFailed B.Source second.old second.new)
         (PutFailed K.Sink out.old out.new) result }
@@ -50,6 +52,9 @@ pub fn lens<A: Source, B: Source, K: Sink>(
         Some(Form::Latency) => latency_of_network(alloc, first, out),
         Some(Form::Plan) => plan_of_network(alloc, first, second, out),
         Some(Form::Report(question)) => answer_report(alloc, first, second, &question, out),
+        Some(Form::DrawNamed { part, name }) => {
+            draw_named(alloc, first, second, part, name.text(), out)
+        }
         Some(Form::Events { seed, cycles }) => storm_events(alloc, first, seed, cycles, out),
         None => put_usage(out),
     }

@@ -13,4 +13,4 @@ pub use all::read_messages;
 pub use message::Message;
 pub use refusal::{MessageRefusal, NoMessages, RefusedLine};
 pub(crate) use words::is_end_system;
-pub use words::time_spelled;
+pub use words::{is_name_text, time_spelled};

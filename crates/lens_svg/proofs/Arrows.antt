@@ -1,9 +1,9 @@
 -- There is a mark for each record of the span, and an arrow exactly where there is a cause.
 use Rattle.lens_svg.specs.{Laws.{AreMarksOf, ArrowsAreCauses, ComesAcross, HasArrows, IsMarkOf, NeverFall, NumbersFollow, arrow, shown}, Plan.Plan}
-use Rattle.{lens_svg.specs.{Layers.{way_between, way_of}, declared.{layout.{Side.Side, Span.Span}, mark.Mark.Mark}}, run_law.specs.declared.note.Note.Note}
-use Rattle.lens_svg.specs.{Layout.{is_within, moved, side_of}, Sketching.{begun, drawn, mark_at, mark_of, moment, plan_behind, plan_of, took, took_at}}
+use Rattle.{lens_svg.specs.{Layers.{way_between, way_of}, Views.{View, is_kept, side_if}, declared.{layout.{Side.Side, Span.Span}, mark.Mark.Mark}}, run_law.specs.declared.note.Note.Note}
+use Rattle.lens_svg.specs.{Layout.{is_within, moved, side_of}, Sketching.{begun, drawn, if_of, mark_at, mark_of, moment, places_with, plan_behind, plan_of, side_in, took, took_at}}
 use Rattle.{lens_svg.specs.declared.element.Element.Element, std.specs.Prelude.{◌==◌, None, Option, Some, if◌then◌else◌, nat_lt, option_and_then, slice_get}}
-use Rattle.{lens_svg.specs.declared.layout.Side.TheVariants.{Before, Behind, Within}, std.proofs.Common.{length-append, refl, subst, suc, sym, true, zero, ℕ}}
+use Rattle.{lens_svg.specs.declared.layout.Side.TheVariants.{Before, Behind, Passed, Within}, std.proofs.Common.{length-append, refl, subst, suc, sym, true, zero, ℕ}}
 use Rattle.{net_plan.specs.declared.network.Network.Network, std.proofs.lemmas.{Bool.{eq-eqb, eqb-true, le-ltb, ltb-false, ltb-true}, List.append-nil}}
 use Rattle.std.proofs.Common.{◌++◌, ◌+◌, ◌-◌, ◌<◌, ◌∙◌, ◌∷◌, ◌≡◌, ◌≢◌, ◌≤◌, ◌⊎◌, Bool, List, [], ap, append_assoc, arith, false, inl, inr, length}
 
@@ -38,179 +38,228 @@ within_both span time e =
 pub behind_to : (span : Span) (time : ℕ) → side_of span time ≡ Behind → span.to < time
 behind_to span time e = ltb-true span.to time (by_behind (nat_lt time span.from) (nat_lt span.to time) e)
 
+-- a record's side to what is drawn, by that to the part
+kept_before : (b : Bool) (side : Side) → side_if b side ≡ Before → side ≡ Before
+kept_before true side e = e
+kept_before false Before e = refl
+kept_before false Within e = absurd cc
+kept_before false Passed e = absurd cc
+kept_before false Behind e = absurd cc
+
+kept_within : (b : Bool) (side : Side) → side_if b side ≡ Within → (side ≡ Within) × (b ≡ true)
+kept_within true side e = (e, refl)
+kept_within false Before e = absurd cc
+kept_within false Within e = absurd cc
+kept_within false Passed e = absurd cc
+kept_within false Behind e = absurd cc
+
+kept_behind : (b : Bool) (side : Side) → side_if b side ≡ Behind → side ≡ Behind
+kept_behind true side e = e
+kept_behind false Before e = absurd cc
+kept_behind false Within e = absurd cc
+kept_behind false Passed e = absurd cc
+kept_behind false Behind e = refl
+
+kept_passed : (b : Bool) (side : Side) → side_if b side ≡ Passed → (side ≡ Within) × (b ≡ false) ⊎ (side ≡ Passed)
+kept_passed true side e = inr e
+kept_passed false Before e = absurd cc
+kept_passed false Within e = inl (refl, refl)
+kept_passed false Passed e = inr refl
+kept_passed false Behind e = absurd cc
+
+never_passed : (b c : Bool) → side_by b c ≡ Passed → ⊥
+never_passed true c e = cc
+never_passed false true e = cc
+never_passed false false e = cc
+
+module _ (view : View) (note : Note) where
+  abbrev kept : Bool
+  kept = is_kept view.kept note.number
+
+  abbrev side : Side
+  side = side_of view.span (moment note)
+
+  pub drawn_before : side_in view note ≡ Before → moment note < view.span.from
+  drawn_before e = before_from view.span (moment note) (kept_before kept side e)
+
+  pub drawn_within : side_in view note ≡ Within → (view.span.from ≤ moment note) × (moment note ≤ view.span.to)
+  drawn_within e = within_both view.span (moment note) (kept_within kept side e).0
+
+  pub drawn_kept : side_in view note ≡ Within → is_kept view.kept note.number ≡ true
+  drawn_kept e = (kept_within kept side e).1
+
+  pub drawn_behind : side_in view note ≡ Behind → view.span.to < moment note
+  drawn_behind e = behind_to view.span (moment note) (kept_behind kept side e)
+
+  -- what is passed over lies in the part, and is not kept
+  passed_by : (side ≡ Within) × (kept ≡ false) ⊎ (side ≡ Passed)
+      → (view.span.from ≤ moment note) × (kept ≡ false)
+  passed_by (inl both) = ((within_both view.span (moment note) both.0).0, both.1)
+  passed_by (inr e) = absurd (never_passed (nat_lt (moment note) view.span.from) (nat_lt view.span.to (moment note)) e)
+
+  pub passed_over : side_in view note ≡ Passed → (view.span.from ≤ moment note) × (is_kept view.kept note.number ≡ false)
+  passed_over e = passed_by (kept_passed kept side e)
+
 -- ---- marks are records
 
--- the marks behind records are those before, and those of the records in the span
+-- the marks behind records are those before, and those of the records that are drawn
 pub record AreTaken (network : Network) (plan after : Plan) (notes : List Note) : Type 0 where
   pub more : List Mark
   pub whole : after.marks ≡ plan.marks ++ more
-  pub marks : AreMarksOf network more (shown plan.span notes)
+  pub marks : AreMarksOf network more (shown plan.view notes)
 
 taken_none : (network : Network) (plan : Plan) → AreTaken network plan plan []
 taken_none network plan = record { more = []; whole = sym (append-nil plan.marks); marks = tt }
 
-shown_at : (span : Span) (note : Note) (notes : List Note) (side : Side) → side_of span (moment note) ≡ side
-    → shown span (note ∷ notes) ≡ (if is_within side then note ∷ shown span notes else shown span notes)
-shown_at span note notes side e = ap (λ (s : Side). if is_within s then note ∷ shown span notes else shown span notes) e
+shown_at : (view : View) (note : Note) (notes : List Note) (side : Side) → side_in view note ≡ side
+    → shown view (note ∷ notes) ≡ (if is_within side then note ∷ shown view notes else shown view notes)
+shown_at view note notes side e = ap (λ (s : Side). if is_within s then note ∷ shown view notes else shown view notes) e
 
 mark_is : (network : Network) (plan : Plan) (note : Note) → IsMarkOf network (mark_of network plan (moved plan.pen (moment note)) note) note
 mark_is network plan note = record { number = refl; time = refl; seat = refl; device = refl; cause = refl; look = refl }
 
-taken_at : (network : Network) (plan after : Plan) (note : Note) (notes : List Note) (side : Side) → side_of plan.span (moment note) ≡ side
+taken_at : (network : Network) (plan after : Plan) (note : Note) (notes : List Note) (side : Side) → side_in plan.view note ≡ side
     → AreTaken network (took_at side network plan note) after notes → AreTaken network plan after (note ∷ notes)
 taken_at network plan after note notes Before e h = record {
   more = h.more;
   whole = h.whole;
-  marks = subst (λ (ns : List Note). AreMarksOf network h.more ns) (sym (shown_at plan.span note notes Before e)) h.marks;
+  marks = subst (λ (ns : List Note). AreMarksOf network h.more ns) (sym (shown_at plan.view note notes Before e)) h.marks;
 }
 taken_at network plan after note notes Within e h =
     let mark = mark_of network plan (moved plan.pen (moment note)) note in record {
       more = mark ∷ h.more;
       whole = h.whole ∙ append_assoc plan.marks (mark ∷ []) h.more;
       marks =
-          subst (λ (ns : List Note). AreMarksOf network (mark ∷ h.more) ns) (sym (shown_at plan.span note notes Within e))
+          subst (λ (ns : List Note). AreMarksOf network (mark ∷ h.more) ns) (sym (shown_at plan.view note notes Within e))
           (mark_is network plan note, h.marks);
     }
+taken_at network plan after note notes Passed e h = record {
+  more = h.more;
+  whole = h.whole;
+  marks = subst (λ (ns : List Note). AreMarksOf network h.more ns) (sym (shown_at plan.view note notes Passed e)) h.marks;
+}
 taken_at network plan after note notes Behind e h = record {
   more = h.more;
   whole = h.whole;
-  marks = subst (λ (ns : List Note). AreMarksOf network h.more ns) (sym (shown_at plan.span note notes Behind e)) h.marks;
+  marks = subst (λ (ns : List Note). AreMarksOf network h.more ns) (sym (shown_at plan.view note notes Behind e)) h.marks;
 }
 
 pub taken_all : (network : Network) (plan : Plan) (notes : List Note) → AreTaken network plan (plan_behind network plan notes) notes
 taken_all network plan [] = taken_none network plan
 taken_all network plan (note ∷ notes) =
-    taken_at network plan (plan_behind network (took network plan note) notes) note notes (side_of plan.span (moment note)) refl
+    taken_at network plan (plan_behind network (took network plan note) notes) note notes (side_in plan.view note) refl
     (taken_all network (took network plan note) notes)
 
--- ---- the numbers of marks
+-- ---- where marks stand
 
--- the numbers of the marks follow each other from this one on
-abbrev MarksFollow : ℕ → List Mark → Type 0
-MarksFollow number [] = Unit {0}
-MarksFollow number (mark ∷ marks) = (mark.number ≡ number) × MarksFollow (number + 1) marks
+some_left : {X : Type 0} (xs ys : List X) (n : ℕ) (x : X) → slice_get xs n ≡ Some x → slice_get (xs ++ ys) n ≡ Some x
+some_left [] ys n x there = absurd cc
+some_left (y ∷ xs) ys zero x there = there
+some_left (y ∷ xs) ys (suc n) x there = some_left xs ys n x there
 
-follow_more : (first : ℕ) (marks : List Mark) (mark : Mark) → MarksFollow first marks → mark.number ≡ first + length marks
-    → MarksFollow first (marks ++ mark ∷ [])
-follow_more first [] mark follow number = (omega (arith, number), tt)
-follow_more first (m ∷ marks) mark follow number = (follow.0, follow_more (first + 1) marks mark follow.1 (omega (arith, number)))
+some_last : {X : Type 0} (xs : List X) (x : X) → slice_get (xs ++ x ∷ []) (length xs) ≡ Some x
+some_last [] x = refl
+some_last (y ∷ xs) x = some_last xs x
 
-follow_at : (first place : ℕ) (marks : List Mark) (mark : Mark) → MarksFollow first marks → slice_get marks place ≡ Some mark → mark.number ≡ first + place
-follow_at first place [] mark follow there = absurd cc
-follow_at first zero (m ∷ marks) mark follow there =
-    let same : m ≡ mark = cc in
-    let number : mark.number ≡ first = ap (λ (x : Mark). x.number) (sym same) ∙ follow.0 in
-    omega (arith, number)
-follow_at first (suc place) (m ∷ marks) mark follow there =
-    let rest = follow_at (first + 1) place marks mark follow.1 there in
-    omega (arith, rest)
+-- what stands at a place stood there before, or is the last
+some_more : {X : Type 0} (xs : List X) (last x : X) (n : ℕ) → slice_get (xs ++ last ∷ []) n ≡ Some x
+    → (slice_get xs n ≡ Some x) ⊎ ((n ≡ length xs) × (x ≡ last))
+some_more [] last x zero there = let same : x ≡ last = cc in inr (refl, same)
+some_more [] last x (suc n) there = absurd cc
+some_more (y ∷ xs) last x zero there = inl there
+some_more (y ∷ xs) last x (suc n) there = by (some_more xs last x n there)
+  where
+    by : (slice_get xs n ≡ Some x) ⊎ ((n ≡ length xs) × (x ≡ last)) → (slice_get xs n ≡ Some x) ⊎ ((suc n ≡ suc (length xs)) × (x ≡ last))
+    by (inl here) = inl here
+    by (inr both) = inr (ap suc both.0, both.1)
 
--- the plan, where the next record has this number and the last one this time
+-- the place of each mark is kept at its number
+abbrev ArePlaced : Plan → Type 0
+ArePlaced plan = (place : ℕ) (mark : Mark) → slice_get plan.marks place ≡ Some mark → slice_get plan.places (mark.number - 1) ≡ Some place
+
+-- so it is, and there is a place for each record before the next, unless they have come past the picture
 record Follows (plan : Plan) (next time : ℕ) : Type 0 where
-  pub first : ℕ
-  pub follow : MarksFollow first plan.marks
-  pub begins : 1 ≤ first
-  pub reaches : (plan.marks ≡ []) ⊎ (((first + length plan.marks ≡ next) × (plan.span.from ≤ time)) ⊎ (plan.span.to < time))
+  pub placed : ArePlaced plan
+  pub long : (length plan.places + 1 ≡ next) ⊎ (plan.view.span.to < time)
 
-module _ (network : Network) (plan : Plan) (note : Note) (next time : ℕ) (positive : 1 ≤ next) (number : note.number ≡ next) (later : time ≤ moment note) where
+module _ (network : Network) (plan : Plan) (note : Note) (next time : ℕ) (number : note.number ≡ next) (later : time ≤ moment note)
+    (h : Follows plan next time) where
   abbrev mark : Mark
   mark = mark_of network plan (moved plan.pen (moment note)) note
 
-  drawn_first : side_of plan.span (moment note) ≡ Within → plan.marks ≡ [] → Follows (drawn network plan note) (next + 1) (moment note)
-  drawn_first e none =
-      let alone : mark ∷ [] ≡ plan.marks ++ mark ∷ [] = ap (λ (ms : List Mark). ms ++ mark ∷ []) (sym none) in
-      let one : length (plan.marks ++ mark ∷ []) ≡ 1 = ap length (sym alone) in record {
-        first = next;
-        follow = subst (λ (ms : List Mark). MarksFollow next ms) alone (number, tt);
-        begins = positive;
-        reaches = inr (inl (omega (arith, one), (within_both plan.span (moment note) e).0));
-      }
+  -- what was placed stays
+  placed_still : (place : ℕ) (m : Mark) → slice_get plan.marks place ≡ Some m → slice_get (places_with plan) (m.number - 1) ≡ Some place
+  placed_still place m there = some_left plan.places (length plan.marks ∷ []) (m.number - 1) place (h.placed place m there)
 
-  drawn_next : side_of plan.span (moment note) ≡ Within → (h : Follows plan next time) → h.first + length plan.marks ≡ next
+  -- the next one is placed
+  placed_next : length plan.places + 1 ≡ next → slice_get (places_with plan) (mark.number - 1) ≡ Some (length plan.marks)
+  placed_next long =
+      let at : note.number - 1 ≡ length plan.places = omega (arith, number, long) in
+      ap (λ (n : ℕ). slice_get (places_with plan) n) at ∙ some_last plan.places (length plan.marks)
+
+  placed_drawn : length plan.places + 1 ≡ next → ArePlaced (drawn network plan note)
+  placed_drawn long place m there = by (some_more plan.marks mark m place there)
+    where
+      by : (slice_get plan.marks place ≡ Some m) ⊎ ((place ≡ length plan.marks) × (m ≡ mark)) → slice_get (places_with plan) (m.number - 1) ≡ Some place
+      by (inl before) = placed_still place m before
+      by (inr both) = rw (both.0, both.1) (placed_next long)
+
+  long_more : (length plan.places + 1 ≡ next) ⊎ (plan.view.span.to < time)
+      → (length (places_with plan) + 1 ≡ next + 1) ⊎ (plan.view.span.to < moment note)
+  long_more (inl long) = let more = length-append plan.places (length plan.marks ∷ []) in inl (omega (arith, more, long))
+  long_more (inr past) = inr (omega (arith, past, later))
+
+  follows_drawn : side_in plan.view note ≡ Within → (length plan.places + 1 ≡ next) ⊎ (plan.view.span.to < time)
       → Follows (drawn network plan note) (next + 1) (moment note)
-  drawn_next e h reaches =
-      let more : length (plan.marks ++ mark ∷ []) ≡ length plan.marks + 1 = length-append plan.marks (mark ∷ []) in record {
-        first = h.first;
-        follow = follow_more h.first plan.marks mark h.follow (number ∙ sym reaches);
-        begins = h.begins;
-        reaches = inr (inl (omega (arith, more, reaches), (within_both plan.span (moment note) e).0));
-      }
+  follows_drawn e (inl long) = record { placed = placed_drawn long; long = long_more (inl long) }
+  follows_drawn e (inr past) = let most = (drawn_within plan.view note e).1 in absurd (omega (arith, past, later, most))
 
-  follows_drawn : side_of plan.span (moment note) ≡ Within → (h : Follows plan next time)
-      → (plan.marks ≡ []) ⊎ (((h.first + length plan.marks ≡ next) × (plan.span.from ≤ time)) ⊎ (plan.span.to < time))
-      → Follows (drawn network plan note) (next + 1) (moment note)
-  follows_drawn e h (inl none) = drawn_first e none
-  follows_drawn e h (inr (inl here)) = drawn_next e h here.0
-  follows_drawn e h (inr (inr past)) = let most = (within_both plan.span (moment note) e).1 in absurd (omega (arith, past, later, most))
+  follows_took : (side : Side) → side_in plan.view note ≡ side → Follows (took_at side network plan note) (next + 1) (moment note)
+  follows_took Before e = record { placed = placed_still; long = long_more h.long }
+  follows_took Within e = follows_drawn e h.long
+  follows_took Passed e = record { placed = placed_still; long = long_more h.long }
+  follows_took Behind e = record { placed = h.placed; long = inr (drawn_behind plan.view note e) }
 
-  still : side_of plan.span (moment note) ≡ Before → (h : Follows plan next time)
-      → (plan.marks ≡ []) ⊎ (((h.first + length plan.marks ≡ next) × (plan.span.from ≤ time)) ⊎ (plan.span.to < time))
-      → (plan.marks ≡ []) ⊎ (((h.first + length plan.marks ≡ next + 1) × (plan.span.from ≤ moment note)) ⊎ (plan.span.to < moment note))
-  still e h (inl none) = inl none
-  still e h (inr (inl here)) = let least = before_from plan.span (moment note) e in let from = here.1 in absurd (omega (arith, least, later, from))
-  still e h (inr (inr past)) = inr (inr (omega (arith, past, later)))
+follows_all : (network : Network) (plan : Plan) (notes : List Note) (next time : ℕ) → NumbersFollow next notes → NeverFall time notes
+    → Follows plan next time → ArePlaced (plan_behind network plan notes)
+follows_all network plan [] next time numbers falls h = h.placed
+follows_all network plan (note ∷ notes) next time numbers falls h =
+    follows_all network (took network plan note) notes (next + 1) (moment note) numbers.1 falls.1
+    (follows_took network plan note next time numbers.0 falls.0 h (side_in plan.view note) refl)
 
-  follows_took : (side : Side) → side_of plan.span (moment note) ≡ side → Follows plan next time
-      → Follows (took_at side network plan note) (next + 1) (moment note)
-  follows_took Before e h = record { first = h.first; follow = h.follow; begins = h.begins; reaches = still e h h.reaches }
-  follows_took Within e h = follows_drawn e h h.reaches
-  follows_took Behind e h = record { first = h.first; follow = h.follow; begins = h.begins; reaches = inr (inr (behind_to plan.span (moment note) e)) }
-
--- where the marks of a plan follow each other from a number above 0
-record AreFollowing (marks : List Mark) : Type 0 where
-  pub first : ℕ
-  pub follow : MarksFollow first marks
-  pub begins : 1 ≤ first
-
-follows_all : (network : Network) (plan : Plan) (notes : List Note) (next time : ℕ) → 1 ≤ next → NumbersFollow next notes → NeverFall time notes
-    → Follows plan next time → AreFollowing (plan_behind network plan notes).marks
-follows_all network plan [] next time positive numbers falls h = record { first = h.first; follow = h.follow; begins = h.begins }
-follows_all network plan (note ∷ notes) next time positive numbers falls h =
-    follows_all network (took network plan note) notes (next + 1) (moment note) (omega arith) numbers.1 falls.1
-    (follows_took network plan note next time positive numbers.0 falls.0 (side_of plan.span (moment note)) refl h)
+none_there : (place : ℕ) (mark : Mark) → slice_get [] place ≡ Some mark → ⊥
+none_there zero mark there = cc
+none_there (suc place) mark there = cc
 
 -- ---- finding a mark
 
-abbrev find_in : List Mark → ℕ → Mark → Option Mark
-find_in marks number first = if nat_lt number first.number then None else slice_get marks (number - first.number)
+module _ (plan : Plan) where
+  finds : ArePlaced plan → (place : ℕ) (mark : Mark) → slice_get plan.marks place ≡ Some mark → mark_at plan mark.number ≡ Some mark
+  finds placed place mark there =
+      let test : (mark.number == mark.number) ≡ true = eq-eqb mark.number mark.number refl in
+      ap (λ (o : Option ℕ). option_and_then (if_of mark.number) (option_and_then (slice_get plan.marks) o)) (placed place mark there)
+      ∙ ap (λ (o : Option Mark). option_and_then (if_of mark.number) o) there
+      ∙ ap (λ (b : Bool). if b then Some mark else None) test
 
--- the first mark, and what is found by its number
-find_first : (marks : List Mark) (number : ℕ) (first : Mark) → slice_get marks 0 ≡ Some first → mark_at marks number ≡ find_in marks number first
-find_first marks number first there = ap (λ (o : Option Mark). option_and_then (find_in marks number) o) there
+  found_of : (number place : ℕ) (mark other : Mark) (b : Bool) → slice_get plan.marks place ≡ Some other → (other.number == number) ≡ b
+      → (if b then Some other else None) ≡ Some mark → (place : ℕ) × (slice_get plan.marks place ≡ Some mark) × (mark.number ≡ number)
+  found_of number place mark other true there test e =
+      let same : other ≡ mark = cc in
+      (place, there ∙ ap (λ (m : Mark). Some m) same, ap (λ (m : Mark). m.number) (sym same) ∙ eqb-true other.number number test)
+  found_of number place mark other false there test e = absurd cc
 
-has_first : (marks : List Mark) (place : ℕ) (mark : Mark) → slice_get marks place ≡ Some mark → (first : Mark) × (slice_get marks 0 ≡ Some first)
-has_first [] place mark there = absurd cc
-has_first (m ∷ marks) place mark there = (m, refl)
+  found_by : (number place : ℕ) (mark : Mark) (o : Option Mark) → slice_get plan.marks place ≡ o → option_and_then (if_of number) o ≡ Some mark
+      → (place : ℕ) × (slice_get plan.marks place ≡ Some mark) × (mark.number ≡ number)
+  found_by number place mark None there e = absurd cc
+  found_by number place mark (Some other) there e = found_of number place mark other (other.number == number) there refl e
 
-module _ (marks : List Mark) (follow : AreFollowing marks) where
-  finds : (place : ℕ) (mark : Mark) → slice_get marks place ≡ Some mark → mark_at marks mark.number ≡ Some mark
-  finds place mark there =
-      let h = has_first marks place mark there in
-      let number = follow_at follow.first place marks mark follow.follow there in
-      let least = follow_at follow.first 0 marks h.0 follow.follow h.1 in
-      let test : nat_lt mark.number h.0.number ≡ false = le-ltb mark.number h.0.number (omega (arith, number, least)) in
-      let at : mark.number - h.0.number ≡ place = omega (arith, number, least) in
-      find_first marks mark.number h.0 h.1
-      ∙ ap (λ (b : Bool). if b then None else slice_get marks (mark.number - h.0.number)) test
-      ∙ ap (λ (i : ℕ). slice_get marks i) at
-      ∙ there
+  found_at : (number : ℕ) (mark : Mark) (o : Option ℕ) → option_and_then (if_of number) (option_and_then (slice_get plan.marks) o) ≡ Some mark
+      → (place : ℕ) × (slice_get plan.marks place ≡ Some mark) × (mark.number ≡ number)
+  found_at number mark None e = absurd cc
+  found_at number mark (Some place) e = found_by number place mark (slice_get plan.marks place) refl e
 
-  found_by : (number : ℕ) (mark first : Mark) → slice_get marks 0 ≡ Some first → (b : Bool) → nat_lt number first.number ≡ b
-      → (if b then None else slice_get marks (number - first.number)) ≡ Some mark → (place : ℕ) × (slice_get marks place ≡ Some mark) × (mark.number ≡ number)
-  found_by number mark first there true test e = absurd cc
-  found_by number mark first there false test e =
-      let least = follow_at follow.first 0 marks first follow.follow there in
-      let at = follow_at follow.first (number - first.number) marks mark follow.follow e in
-      let most = ltb-false number first.number test in
-      (number - first.number, e, omega (arith, least, at, most))
-
-  found_from : (number : ℕ) (mark : Mark) (o : Option Mark) → slice_get marks 0 ≡ o → option_and_then (find_in marks number) o ≡ Some mark
-      → (place : ℕ) × (slice_get marks place ≡ Some mark) × (mark.number ≡ number)
-  found_from number mark None there e = absurd cc
-  found_from number mark (Some first) there e = found_by number mark first there (nat_lt number first.number) refl e
-
-  found : (number : ℕ) (mark : Mark) → mark_at marks number ≡ Some mark → (place : ℕ) × (slice_get marks place ≡ Some mark) × (mark.number ≡ number)
-  found number mark e = found_from number mark (slice_get marks 0) refl e
+  found : (number : ℕ) (mark : Mark) → mark_at plan number ≡ Some mark → (place : ℕ) × (slice_get plan.marks place ≡ Some mark) × (mark.number ≡ number)
+  found number mark e = found_at number mark (slice_get plan.places (number - 1)) e
 
 -- ---- the arrows
 
@@ -228,30 +277,30 @@ across cause mark element false e way =
     let same : element ≡ arrow cause mark = cc in
     (λ equal. let test = eq-eqb cause.device.0 mark.device.0 equal in absurd cc, same)
 
-module _ (plan : Plan) (follow : AreFollowing plan.marks) where
+module _ (plan : Plan) (placed : ArePlaced plan) where
   arrow_each : (place : ℕ) (cause mark : Mark) → slice_get plan.marks place ≡ Some cause → ComesAcross mark cause → way_of plan mark ≡ Some (arrow cause mark)
   arrow_each place cause mark there comes =
-      let at : mark_at plan.marks mark.cause ≡ Some cause =
-      ap (λ (n : ℕ). mark_at plan.marks n) (sym comes.number) ∙ finds plan.marks follow place cause there in
+      let at : mark_at plan mark.cause ≡ Some cause =
+      ap (λ (n : ℕ). mark_at plan n) (sym comes.number) ∙ finds plan placed place cause there in
       ap (λ (o : Option Mark). option_and_then (λ c. way_between c mark) o) at ∙ between cause mark comes.apart
 
-  arrow_from : (mark : Mark) (element : Element) (o : Option Mark) → mark_at plan.marks mark.cause ≡ o
+  arrow_from : (mark : Mark) (element : Element) (o : Option Mark) → mark_at plan mark.cause ≡ o
       → option_and_then (λ c. way_between c mark) o ≡ Some element
       → (place : ℕ) × (cause : Mark) × (slice_get plan.marks place ≡ Some cause) × ComesAcross mark cause × (element ≡ arrow cause mark)
   arrow_from mark element None at way = absurd cc
   arrow_from mark element (Some cause) at way =
-      let there = found plan.marks follow mark.cause cause at in
+      let there = found plan mark.cause cause at in
       let apart = across cause mark element (cause.device.0 == mark.device.0) refl way in
       (there.0, cause, there.1, record { number = there.2; apart = apart.0 }, apart.1)
 
   has_arrows : HasArrows plan
-  has_arrows = record { each = arrow_each; only = λ mark element way. arrow_from mark element (mark_at plan.marks mark.cause) refl way }
+  has_arrows = record { each = arrow_each; only = λ mark element way. arrow_from mark element (mark_at plan mark.cause) refl way }
 
 pub arrows_are_causes : ArrowsAreCauses
-arrows_are_causes network span notes numbers falls =
-    let taken = taken_all network (begun network span) notes in (
-      subst (λ (ms : List Mark). AreMarksOf network ms (shown span notes)) (sym taken.whole) taken.marks,
-      has_arrows (plan_of network span notes)
-          (follows_all network (begun network span) notes 1 0 (omega arith) numbers falls
-          (record { first = 1; follow = tt; begins = omega arith; reaches = inl refl })),
+arrows_are_causes network view notes numbers falls =
+    let taken = taken_all network (begun network view) notes in (
+      subst (λ (ms : List Mark). AreMarksOf network ms (shown view notes)) (sym taken.whole) taken.marks,
+      has_arrows (plan_of network view notes)
+          (follows_all network (begun network view) notes 1 0 numbers falls
+          (record { placed = λ place mark there. absurd (none_there place mark there); long = inl (omega arith) })),
     )

@@ -1,8 +1,8 @@
 -- The hue of a mark is that of its record, which is that of the record that it comes from.
-use Rattle.lens_svg.proofs.Arrows.{behind_to, within_both}
+use Rattle.lens_svg.proofs.Arrows.{drawn_behind, drawn_within}
 use Rattle.lens_svg.specs.Laws.{HuesComeFromCauses, MarksHaveHues, NeverFall, NumbersFollow, hues_of}
-use Rattle.lens_svg.specs.{Layout.{moved, side_of}, Plan.Plan, Sketching.{begun, hue_of, hues_with, mark_of, moment, plan_behind, took, took_at}}
-use Rattle.lens_svg.specs.declared.{layout.{Side.{Side, TheVariants.{Before, Behind, Within}}}, mark.{Hue.Hue, Mark.Mark}}
+use Rattle.lens_svg.specs.{Layout.moved, Plan.Plan, Sketching.{begun, hue_of, hues_with, mark_of, moment, plan_behind, side_in, took, took_at}}
+use Rattle.lens_svg.specs.declared.{layout.{Side.{Side, TheVariants.{Before, Behind, Passed, Within}}}, mark.{Hue.Hue, Mark.Mark}}
 use Rattle.{net_plan.specs.declared.network.Network.Network, run_law.specs.{declared.note.{Note.Note}, records.{Causes.cause_of, Order.IsIn}}}
 use Rattle.std.proofs.Common.{◌++◌, ◌+◌, ◌-◌, ◌<◌, ◌∙◌, ◌∷◌, ◌≡◌, ◌≤◌, ◌⊎◌, Bool, List, None, Option, Some, [], ap, append_assoc, arith, false, inl, inr, length, length-append, refl, subst, suc, sym, true, zero, ℕ}
 use Rattle.std.{proofs.lemmas.{Bool.Decides.nat_tests, List.{Sums.fold_push, append-nil}}, specs.Prelude.{◌==◌, if◌then◌else◌, slice_get, unwrap_or}}
@@ -103,7 +103,7 @@ hues_come_from_causes front rest note = record { own = own front rest note; caus
 
 -- the plan behind these first records has their hues, unless they have come past the picture
 record HasHues (plan : Plan) (front : List Note) (time : ℕ) : Type 0 where
-  pub hues : (plan.hues ≡ hues_of front) ⊎ (plan.span.to < time)
+  pub hues : (plan.hues ≡ hues_of front) ⊎ (plan.view.span.to < time)
   pub marks : (mark : Mark) → IsIn mark plan.marks → slice_get (hues_of front) (mark.number - 1) ≡ Some mark.hue
   pub numbers : (mark : Mark) → IsIn mark plan.marks → (1 ≤ mark.number) × (mark.number ≤ length front)
 
@@ -134,32 +134,31 @@ module _ (network : Network) (plan : Plan) (front : List Note) (note : Note) (ti
       let long = length-append front (note ∷ []) in
       (n.0, omega (arith, most, long))
 
-  hues_more : (side : Side) → side_of plan.span (moment note) ≡ Within ⊎ (side_of plan.span (moment note) ≡ Before)
-      → hues_with plan.hues note.body ≡ hues_of (front ++ note ∷ []) ⊎ (plan.span.to < moment note)
-  hues_more side inside = by h.hues
+  hues_more : hues_with plan.hues note.body ≡ hues_of (front ++ note ∷ []) ⊎ (plan.view.span.to < moment note)
+  hues_more = by h.hues
     where
-      by : (plan.hues ≡ hues_of front) ⊎ (plan.span.to < time) → (hues_with plan.hues note.body ≡ hues_of (front ++ note ∷ [])) ⊎ (plan.span.to < moment note)
+      by : (plan.hues ≡ hues_of front) ⊎ (plan.view.span.to < time) → (hues_with plan.hues note.body ≡ hues_of (front ++ note ∷ [])) ⊎ (plan.view.span.to < moment note)
       by (inl same) = inl (ap (λ (hs : List Hue). hues_with hs note.body) same ∙ sym (more_hues front note))
       by (inr past) = inr (omega (arith, past, later))
 
   abbrev mark : Mark
   mark = mark_of network plan (moved plan.pen (moment note)) note
 
-  here : side_of plan.span (moment note) ≡ Within → slice_get (hues_of (front ++ note ∷ [])) (mark.number - 1) ≡ Some mark.hue
+  here : side_in plan.view note ≡ Within → slice_get (hues_of (front ++ note ∷ [])) (mark.number - 1) ≡ Some mark.hue
   here e = by h.hues
     where
-      by : (plan.hues ≡ hues_of front) ⊎ (plan.span.to < time) → slice_get (hues_of (front ++ note ∷ [])) (note.number - 1) ≡ Some (hue_of plan.hues note.body)
+      by : (plan.hues ≡ hues_of front) ⊎ (plan.view.span.to < time) → slice_get (hues_of (front ++ note ∷ [])) (note.number - 1) ≡ Some (hue_of plan.hues note.body)
       by (inl same) =
           let place : note.number - 1 ≡ length front = omega (arith, number) in
           ap (λ (n : ℕ). slice_get (hues_of (front ++ note ∷ [])) n) place
           ∙ hue_at front [] note
           ∙ ap (λ (hs : List Hue). Some (hue_of hs note.body)) (sym same)
-      by (inr past) = let most = (within_both plan.span (moment note) e).1 in absurd (omega (arith, past, later, most))
+      by (inr past) = let most = (drawn_within plan.view note e).1 in absurd (omega (arith, past, later, most))
 
-  hues_took : (side : Side) → side_of plan.span (moment note) ≡ side → HasHues (took_at side network plan note) (front ++ note ∷ []) (moment note)
-  hues_took Before e = record { hues = hues_more Before (inr e); marks = still; numbers = counted }
+  hues_took : (side : Side) → side_in plan.view note ≡ side → HasHues (took_at side network plan note) (front ++ note ∷ []) (moment note)
+  hues_took Before e = record { hues = hues_more; marks = still; numbers = counted }
   hues_took Within e = record {
-    hues = hues_more Within (inl e);
+    hues = hues_more;
     marks = λ m of. each m (in_more plan.marks mark m of);
     numbers = λ m of. each_number m (in_more plan.marks mark m of);
   }
@@ -174,7 +173,8 @@ module _ (network : Network) (plan : Plan) (front : List Note) (note : Note) (ti
           let long = length-append front (note ∷ []) in
           let is : m.number ≡ note.number = ap (λ (x : Mark). x.number) same in
           (omega (arith, is, number), omega (arith, is, number, long))
-  hues_took Behind e = record { hues = inr (behind_to plan.span (moment note) e); marks = still; numbers = counted }
+  hues_took Passed e = record { hues = hues_more; marks = still; numbers = counted }
+  hues_took Behind e = record { hues = inr (drawn_behind plan.view note e); marks = still; numbers = counted }
 
 hues_behind : (network : Network) (plan : Plan) (front rest : List Note) (time : ℕ) → NumbersFollow (length front + 1) rest → NeverFall time rest
     → HasHues plan front time
@@ -186,9 +186,9 @@ hues_behind network plan front (note ∷ rest) time numbers falls h mark of =
     ap (λ (ns : List Note). slice_get (hues_of ns) (mark.number - 1)) (sym (append_assoc front (note ∷ []) rest))
     ∙ hues_behind network (took network plan note) (front ++ note ∷ []) rest (moment note)
     (subst (λ (n : ℕ). NumbersFollow (n + 1) rest) (sym long) numbers.1) falls.1
-    (hues_took network plan front note time numbers.0 falls.0 h (side_of plan.span (moment note)) refl) mark of
+    (hues_took network plan front note time numbers.0 falls.0 h (side_in plan.view note) refl) mark of
 
 pub marks_have_hues : MarksHaveHues
-marks_have_hues network span notes numbers falls =
-    hues_behind network (begun network span) [] notes 0 numbers falls
+marks_have_hues network view notes numbers falls =
+    hues_behind network (begun network view) [] notes 0 numbers falls
     (record { hues = inl refl; marks = λ mark of. absurd of; numbers = λ mark of. absurd of })

@@ -1,7 +1,8 @@
 -- The marks of a picture that fits stand in the order of their instants, and those of one instant and row side by side.
-use Rattle.lens_svg.specs.{Laws.{AreApart, KeepsOrder, NeverFall, StandsLeft}, Sketching.{begun, drawn, mark_of, moment, plan_behind, plan_of, took, took_at}}
-use Rattle.lens_svg.specs.Layout.{IsOnPaper, capped, clamped, gap, moved, pen_at, reached, side_of, stand, widest, width_of}
-use Rattle.lens_svg.specs.{Bodies.seat_of, Sketching.{last_in, no_marks_in, with_at}, declared.layout.Side.{Side, TheVariants.{Before, Behind, Within}}}
+use Rattle.lens_svg.proofs.Arrows.{drawn_within}
+use Rattle.lens_svg.specs.{Laws.{AreApart, KeepsOrder, NeverFall, StandsLeft}, Sketching.{begun, drawn, mark_of, moment, plan_behind, plan_of, side_in, took, took_at}}
+use Rattle.lens_svg.specs.Layout.{IsOnPaper, capped, clamped, gap, moved, pen_at, reached, stand, widest, width_of}
+use Rattle.lens_svg.specs.{Bodies.seat_of, Sketching.{last_in, no_marks_in, with_at}, declared.layout.Side.{Side, TheVariants.{Before, Behind, Passed, Within}}}
 use Rattle.{lens_svg.specs.{Plan.Plan, declared.mark.Mark.Mark}, run_law.specs.declared.note.{Note.Note, NoteBody.NoteBody}}
 use Rattle.{net_plan.specs.declared.tables.Device.Device, report_text.specs.Ranges.{IsBodyOf, IsNoteOf}}
 use Rattle.{lens_svg.specs.declared.layout.{Pen.Pen, Span.Span}, net_plan.specs.declared.network.Network.Network, std.proofs.lemmas.Bool.Decides.nat_tests}
@@ -284,34 +285,22 @@ took_grows network plan note Within h =
     let first = moved_reach plan.pen (moment note) h.most in
     let more = (reached_most pen mark.x).0 in
     (omega (arith, first, more), reached_paper pen mark.x paper (stand_paper pen (last_in plan.seats mark.seat) paper))
+took_grows network plan note Passed h = (omega arith, h)
 took_grows network plan note Behind h = (omega arith, h)
 
 behind_grows : (network : Network) (plan : Plan) (notes : List Note) → IsOnPaper plan.pen → plan.pen.most ≤ (plan_behind network plan notes).pen.most
 behind_grows network plan [] h = omega arith
 behind_grows network plan (note ∷ notes) h =
-    let first = took_grows network plan note (side_of plan.span (moment note)) h in
+    let first = took_grows network plan note (side_in plan.view note) h in
     let rest = behind_grows network (took network plan note) notes first.1 in
     let grows = first.0 in
     omega (arith, grows, rest)
 
-abbrev IsInside : Side → Type 0
-IsInside Before = ⊥
-IsInside Within = Unit {0}
-IsInside Behind = ⊥
-
--- a record in the span is not before it
-side_first : (b c : Bool) → (if b then Before else if c then Behind else Within) ≡ Within → b ≡ false
-side_first false c h = refl
-side_first true c h = absurd (subst IsInside (sym h) tt)
-
-within_from : (span : Span) (time : ℕ) → side_of span time ≡ Within → span.from ≤ time
-within_from span time h = let test = side_first (nat_lt time span.from) (nat_lt span.to time) h in grind (arith, nat_tests, test)
-
 -- the pen is at no later time than a record that comes next, or where the picture begins
 abbrev IsBehind : Plan → ℕ → Type 0
-IsBehind plan time = (plan.pen.time ≤ time) ⊎ (plan.pen.time ≤ plan.span.from)
+IsBehind plan time = (plan.pen.time ≤ time) ⊎ (plan.pen.time ≤ plan.view.span.from)
 
-not_later : (plan : Plan) (time next : ℕ) → IsBehind plan time → time ≤ next → plan.span.from ≤ next → plan.pen.time ≤ next
+not_later : (plan : Plan) (time next : ℕ) → IsBehind plan time → time ≤ next → plan.view.span.from ≤ next → plan.pen.time ≤ next
 not_later plan time next (inl h) later from = omega (arith, h, later)
 not_later plan time next (inr h) later from = omega (arith, h, from)
 
@@ -324,7 +313,7 @@ record IsInOrder (network : Network) (plan : Plan) (time : ℕ) : Type 0 where
   pub ordered : IsOrdered network plan
   pub behind : IsBehind plan time
 
-order_took : (network : Network) (plan : Plan) (note : Note) (time : ℕ) (side : Side) → side_of plan.span (moment note) ≡ side → IsNoteOf network note
+order_took : (network : Network) (plan : Plan) (note : Note) (time : ℕ) (side : Side) → side_in plan.view note ≡ side → IsNoteOf network note
     → time ≤ moment note → IsOnPaper plan.pen → (took_at side network plan note).pen.most < widest → IsInOrder network plan time
     → IsInOrder network (took_at side network plan note) (moment note)
 order_took network plan note time Before at of later paper inside h = record {
@@ -332,10 +321,14 @@ order_took network plan note time Before at of later paper inside h = record {
   behind = still_behind plan time (moment note) h.behind later;
 }
 order_took network plan note time Within at of later paper inside h =
-    let from = within_from plan.span (moment note) at in
+    let from = (drawn_within plan.view note at).0 in
     let now = not_later plan time (moment note) h.behind later from in
     let t = moved_time plan.pen (moment note) now in
     record { ordered = ordered_drawn network plan note of now paper inside h.ordered; behind = inl (omega (arith, t)) }
+order_took network plan note time Passed at of later paper inside h = record {
+  ordered = record { apart = h.ordered.apart; past = h.ordered.past; seated = h.ordered.seated; seats = h.ordered.seats };
+  behind = still_behind plan time (moment note) h.behind later;
+}
 order_took network plan note time Behind at of later paper inside h =
     record { ordered = h.ordered; behind = still_behind plan time (moment note) h.behind later }
 
@@ -343,7 +336,7 @@ order_behind : (network : Network) (plan : Plan) (notes : List Note) (time : ℕ
     → (plan_behind network plan notes).pen.most < widest → IsInOrder network plan time → AreApart (plan_behind network plan notes).marks
 order_behind network plan [] time of falls paper inside h = h.ordered.apart
 order_behind network plan (note ∷ notes) time of falls paper inside h =
-    let side = side_of plan.span (moment note) in
+    let side = side_in plan.view note in
     let grows = took_grows network plan note side paper in
     let after = behind_grows network (took network plan note) notes grows.1 in
     let first : (took network plan note).pen.most < widest = omega (arith, after, inside) in
@@ -359,12 +352,12 @@ first_seats : (devices : List Device) → length (no_marks_in devices) ≡ lengt
 first_seats devices = let same = length-map {B = ℕ} devices (λ (d : Device). 0) in omega (arith, same)
 
 pub keeps_order : KeepsOrder
-keeps_order network span notes of falls fit =
-    order_behind network (begun network span) notes 0 of falls (record { x = omega arith; most = omega arith })
-    (fits_inside (plan_of network span notes).pen fit) (record {
+keeps_order network view notes of falls fit =
+    order_behind network (begun network view) notes 0 of falls (record { x = omega arith; most = omega arith })
+    (fits_inside (plan_of network view notes).pen fit) (record {
       ordered = record {
         apart = tt;
-        past = All-nil (IsPast (pen_at span.from));
+        past = All-nil (IsPast (pen_at view.span.from));
         seated = All-nil (IsSeated (no_marks_in network.device));
         seats = first_seats network.device;
       };

@@ -4,7 +4,7 @@ use Rattle.std.specs.Prelude.{◌++◌, ◌==◌, Bool, List, None, Option, Some
 use Rattle.lens_svg.specs.{Layout.last_time, Numbers.micros_text, declared.mark.Hue.Hue}
 use Rattle.lens_svg.specs.{Marks.{ground_text, hue_text}, declared.{element.{Band.Band, Point.Point}, layout.Span.Span}}
 use Rattle.lens_svg.specs.declared.element.{Band.TheVariants.{Ground, Wait}, Element.{Element, TheVariants.Window}}
-use Rattle.lens_svg.specs.declared.element.Element.TheVariants.{Bar, Caption, Gauge, Opening, Rail, Spread, Tick, Way}
+use Rattle.lens_svg.specs.declared.element.Element.TheVariants.{Bar, Caption, Gauge, Lack, Opening, Rail, Spread, Tick, Way}
 use Rattle.net_plan.specs.{Belonging.{HasDevice, device_name}, declared.{ids.DeviceId.DeviceId, tables.Role.Role}}
 use Rattle.{net_plan.specs.Places.device_at, tte_units.specs.Amount.amount}
 use Rattle.tte_units.specs.declared.frames.channel.Channel.{Channel, TheVariants.{A, B}}
@@ -133,6 +133,10 @@ window_line point tick =
     ++ codes " m-12 -8 h24 v16 h-24 z\"/><path class=\"came\" d=\"M" ++ point_text point ++ codes " m-12 -8 m"
     ++ decimal tick ++ codes " 0 v16\"/></g>\n"
 
+-- that nothing is drawn
+abbrev pub lack_line : List ℕ
+lack_line = codes "<text class=\"note\" x=\"170\" y=\"140\">No such record lies in this part.</text>\n"
+
 -- the line of something that is drawn
 abbrev pub element_line : Network → Element → List ℕ
 element_line network (Opening width height) = opening_line width height
@@ -144,6 +148,7 @@ element_line network (Way hue gone from to) = way_line hue gone from to
 element_line network (Gauge point width nanos) = gauge_line point width nanos
 element_line network (Spread y width apart most) = spread_line y width apart most
 element_line network (Window point tick) = window_line point tick
+element_line network Lack = lack_line
 
 -- the device that it names is the network's
 abbrev pub HasNames : Network → Element → Type 0

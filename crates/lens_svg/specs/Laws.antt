@@ -4,11 +4,11 @@ use Rattle.std.specs.Prelude.{map, slice_get, take}
 use Rattle.report_text.specs.Ranges.{IsNoteOf}
 use Rattle.lens_svg.specs.Bodies.{look_of, own_hue, scene_of, seat_of}
 use Rattle.run_law.specs.{declared.note.Note.Note, records.{Causes.cause_of, Order.IsIn}}
-use Rattle.lens_svg.specs.{Lanes.start_of, Layout.holds, Plan.Plan}
+use Rattle.lens_svg.specs.{Lanes.start_of, Plan.Plan, Views.View}
 use Rattle.lens_svg.specs.{Layers.{is_gone, point_of, way_of}, declared.{element.Element.Element, mark.Ground.Ground}}
-use Rattle.lens_svg.specs.{Sketching.{fits, grounds_behind, hues_with, moment, plan_of}, declared.mark.Hue.Hue}
+use Rattle.lens_svg.specs.{Sketching.{fits, grounds_behind, hues_with, is_drawn, is_told, moment, plan_of}, declared.mark.Hue.Hue}
 use Rattle.lens_svg.specs.declared.element.Element.TheVariants.{Way}
-use Rattle.{lens_svg.specs.declared.{layout.Span.Span, mark.Mark.Mark}, net_plan.specs.declared.network.Network.Network}
+use Rattle.{lens_svg.specs.declared.mark.Mark.Mark, net_plan.specs.declared.network.Network.Network}
 
 -- the times of the records never fall, and none is before this time
 abbrev pub NeverFall : ℕ → List Note → Type 0
@@ -29,12 +29,16 @@ AreApart (mark ∷ marks) = All (StandsLeft mark) marks × AreApart marks
 -- in a picture that fits, the marks stand in the order of their instants, and those of one instant and row side by side
 abbrev pub KeepsOrder : Type 0
 KeepsOrder =
-    (network : Network) (span : Span) (notes : List Note) → All (IsNoteOf network) notes → NeverFall 0 notes
-    → fits (plan_of network span notes) ≡ true → AreApart (plan_of network span notes).marks
+    (network : Network) (view : View) (notes : List Note) → All (IsNoteOf network) notes → NeverFall 0 notes
+    → fits (plan_of network view notes) ≡ true → AreApart (plan_of network view notes).marks
 
--- the records in the span
-abbrev pub shown : Span → List Note → List Note
-shown span notes = filter (λ note. holds span (moment note)) notes
+-- the records that are drawn
+abbrev pub shown : View → List Note → List Note
+shown view notes = filter (is_drawn view) notes
+
+-- the records that the lanes tell of
+abbrev pub told : View → List Note → List Note
+told view notes = filter (is_told view) notes
 
 -- the mark tells of the record its number, its time, its row, its device, its cause and what it draws
 pub record IsMarkOf (network : Network) (mark : Mark) (note : Note) : Type 0 where
@@ -75,11 +79,11 @@ pub record HasArrows (plan : Plan) : Type 0 where
       × (element ≡ arrow cause mark)
 
 -- in a picture of records whose numbers follow each other and whose times never fall, there is a mark for each record
--- in the span, and an arrow exactly where there is a cause
+-- that is drawn, and an arrow exactly where there is a cause
 abbrev pub ArrowsAreCauses : Type 0
 ArrowsAreCauses =
-    (network : Network) (span : Span) (notes : List Note) → NumbersFollow 1 notes → NeverFall 0 notes
-    → AreMarksOf network (plan_of network span notes).marks (shown span notes) × HasArrows (plan_of network span notes)
+    (network : Network) (view : View) (notes : List Note) → NumbersFollow 1 notes → NeverFall 0 notes
+    → AreMarksOf network (plan_of network view notes).marks (shown view notes) × HasArrows (plan_of network view notes)
 
 -- the hues of records, one after another, from the run's beginning on
 abbrev pub hues_of : List Note → List Hue
@@ -99,8 +103,8 @@ HuesComeFromCauses = (front rest : List Note) (note : Note) → HasCausesHue fro
 -- each mark has the hue of its record, also where what that comes from lies before the picture
 abbrev pub MarksHaveHues : Type 0
 MarksHaveHues =
-    (network : Network) (span : Span) (notes : List Note) → NumbersFollow 1 notes → NeverFall 0 notes
-    → (mark : Mark) → IsIn mark (plan_of network span notes).marks
+    (network : Network) (view : View) (notes : List Note) → NumbersFollow 1 notes → NeverFall 0 notes
+    → (mark : Mark) → IsIn mark (plan_of network view notes).marks
     → slice_get (hues_of notes) (mark.number - 1) ≡ Some mark.hue
 
 -- the grounds of the lanes behind a record
@@ -116,11 +120,12 @@ grounds_after network notes = fold (grounds_with network) (map start_of network.
 abbrev pub painted_with : List Ground → Mark → List Ground
 painted_with grounds mark = grounds_behind mark.look mark.device.0 grounds
 
--- where the marks up to that of a record are painted, the lanes' grounds are those behind the records up to it
+-- where the marks up to that of a record are painted, the lanes' grounds are those behind the records up to it that the
+-- lanes tell of
 abbrev pub LanesAreStates : Type 0
 LanesAreStates =
-    (network : Network) (span : Span) (front rest : List Note) (note : Note) → NeverFall 0 (front ++ note ∷ rest)
-    → holds span (moment note) ≡ true
-    → fold painted_with (plan_of network span (front ++ note ∷ rest)).grounds
-    (take (length (shown span (front ++ note ∷ []))) (plan_of network span (front ++ note ∷ rest)).marks)
-    ≡ grounds_after network (front ++ note ∷ [])
+    (network : Network) (view : View) (front rest : List Note) (note : Note) → NeverFall 0 (front ++ note ∷ rest)
+    → is_drawn view note ≡ true
+    → fold painted_with (plan_of network view (front ++ note ∷ rest)).grounds
+    (take (length (shown view (front ++ note ∷ []))) (plan_of network view (front ++ note ∷ rest)).marks)
+    ≡ grounds_after network (told view (front ++ note ∷ []))

@@ -1,16 +1,20 @@
 -- The layers of a picture below its marks.
-use Rattle.std.specs.Prelude.{ℕ, ◌+◌, ◌==◌, ◌&&◌, Bool, true, false, nat_lt, if◌then◌else◌, Option, Some, None, slice_get}
+use Rattle.std.specs.Prelude.{ℕ, ◌+◌, ◌==◌, ◌&&◌, Bool, true, false, nat_lt, if◌then◌else◌, Option, Some, None, length, slice_get}
 use Rattle.std.specs.Prelude.{option_and_then, option_map}
 use Rattle.lens_svg.specs.{Lanes.{bottom_of, y_of}, Sketching.mark_at, declared.element.Band.TheVariants.{Ground, Wait}}
 use Rattle.lens_svg.specs.{Layout.{right_of, width_of}, declared.mark.Look.{Look, TheVariants.{Gone, Turned, Waited}}}
 use Rattle.lens_svg.specs.{Plan.Plan, declared.layer.MarkLayer.{MarkLayer, TheVariants.{Ticks, Turns, Waits, Ways}}}
-use Rattle.lens_svg.specs.declared.element.{Element.{Element, TheVariants.{Bar, Opening, Rail, Tick, Way}}, Point.Point}
+use Rattle.lens_svg.specs.declared.element.{Element.{Element, TheVariants.{Bar, Lack, Opening, Rail, Tick, Way}}, Point.Point}
 use Rattle.lens_svg.specs.declared.{layer.LaneLayer.{LaneLayer, TheVariants.{Grounds, Rails}}, mark.Mark.Mark}
 use Rattle.net_plan.specs.declared.{ids.DeviceId.DeviceId, network.Network.Network}
 
 -- the beginning of the picture, which is 70 pixels higher than the lanes end
 abbrev pub opening_of : Network → Plan → Element
 opening_of network plan = Opening (width_of plan.pen) (bottom_of network + 70)
+
+-- that no record is drawn
+abbrev pub lack_of : Plan → Option Element
+lack_of plan = if length plan.marks == 0 then Some Lack else None
 
 -- the device at this place
 abbrev pub device_of : ℕ → DeviceId
@@ -55,7 +59,7 @@ wait_between cause mark =
 -- how long the frame waited that is permanent with the mark, or dropped
 abbrev pub wait_of : Plan → Mark → Option Element
 wait_of plan mark =
-    if may_wait mark.look then option_and_then (λ cause. wait_between cause mark) (mark_at plan.marks mark.cause)
+    if may_wait mark.look then option_and_then (λ cause. wait_between cause mark) (mark_at plan mark.cause)
     else None
 
 -- the frame ends with the mark
@@ -70,7 +74,7 @@ way_between cause mark =
     else Some (Way mark.hue (is_gone mark.look) (point_of cause) (point_of mark))
 
 abbrev pub way_of : Plan → Mark → Option Element
-way_of plan mark = option_and_then (λ cause. way_between cause mark) (mark_at plan.marks mark.cause)
+way_of plan mark = option_and_then (λ cause. way_between cause mark) (mark_at plan mark.cause)
 
 -- what is drawn of the record of a mark
 abbrev pub on_mark : MarkLayer → Network → Plan → Mark → Option Element

@@ -1,6 +1,6 @@
 -- Where an instant stands in a picture.
 use Rattle.std.specs.Prelude.{ℕ, ◌+◌, ◌-◌, ◌/◌, ◌≤◌, nat_lt, if◌then◌else◌, Bool, true, false}
-use Rattle.lens_svg.specs.declared.layout.{Pen.Pen, Side.{Side, TheVariants.{Before, Behind, Within}}, Span.Span}
+use Rattle.lens_svg.specs.declared.layout.{Pen.Pen, Side.{Side, TheVariants.{Before, Behind, Passed, Within}}, Span.Span}
 
 -- how many pixels wide a picture is at most
 abbrev pub widest : ℕ
@@ -22,6 +22,7 @@ side_of span time = if nat_lt time span.from then Before else if nat_lt span.to 
 abbrev pub is_within : Side → Bool
 is_within Before = false
 is_within Within = true
+is_within Passed = false
 is_within Behind = false
 
 abbrev pub holds : Span → ℕ → Bool

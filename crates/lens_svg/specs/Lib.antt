@@ -1,4 +1,5 @@
 pub mod Layout
+pub mod Views
 pub mod Marks
 pub mod Lanes
 pub mod Bodies

@@ -73,7 +73,7 @@ pub(crate) fn scene_of(network: &Network, body: &NoteBody) -> DeviceId
 }
 
 /// The row in which its mark stands: 0 is that of the events, and then there is one for each device.
-pub(crate) fn seat_of(network: &Network, body: &NoteBody) -> u64
+pub fn seat_of(network: &Network, body: &NoteBody) -> u64
     ensures { result ≡ seat_of network.now body.now }
 {
     match body {

@@ -2,7 +2,7 @@
 ghost use Rattle.std.specs.Prelude.{◌≡◌, ◌≤◌, ◌+◌, ◌++◌, length};
 ghost use Rattle.lens_svg.specs.Elements.{HasNames, band_text, bar_line, caption_line, element_line, gauge_line};
 ghost use Rattle.lens_svg.specs.Elements.{extent_text, gone_text, kind_text, name_part, opening_line, point_text, rail_line};
-ghost use Rattle.lens_svg.specs.Elements.{role_part, role_text, role_word, spread_bar, spread_line, spread_words};
+ghost use Rattle.lens_svg.specs.Elements.{lack_line, role_part, role_text, role_word, spread_bar, spread_line, spread_words};
 ghost use Rattle.lens_svg.specs.Elements.{tick_line, until_text, way_line, window_line};
 ghost use Rattle.{net_plan.specs.{Belonging.{HasDevice, device_name}, Ranges.IsInRange}, tte_io.specs.Line.line_limit};
 
@@ -50,6 +50,8 @@ pub enum Element {
     Spread(u64, u64, u64, u64),
     /// The window of a frame that was taken: its mark, and how far the tick stands in the box.
     Window(Point, u64),
+    /// That no record is drawn.
+    Lack,
 }
 
 /// Adds a place: at most 41 octets.
@@ -350,6 +352,15 @@ fn make_window(line: &mut LineText, point: Point, tick: u64)
     line.push(" 0 v16\"/></g>\n");
 }
 
+fn make_lack(line: &mut LineText)
+    ensures { line.new ≡ lack_line }
+{
+    line.clear();
+    line.push(
+        "<text class=\"note\" x=\"170\" y=\"140\">No such record lies in this part.</text>\n",
+    );
+}
+
 /// Makes the line of something that is drawn, ended by LF.
 pub fn make_element_line(line: &mut LineText, network: &Network, element: Element)
     requires range { IsInRange network.now }
@@ -368,5 +379,6 @@ pub fn make_element_line(line: &mut LineText, network: &Network, element: Elemen
         Element::Gauge(point, width, nanos) => make_gauge(line, point, width, nanos),
         Element::Spread(y, width, apart, most) => make_spread(line, y, width, apart, most),
         Element::Window(point, tick) => make_window(line, point, tick),
+        Element::Lack => make_lack(line),
     }
 }

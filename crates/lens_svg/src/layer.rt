@@ -1,7 +1,7 @@
 //! The layers of a picture below its marks.
 ghost use Rattle.std.specs.Prelude.{◌≡◌, ◌<◌, IfSome, length};
 ghost use Rattle.{lens_svg.specs.Elements.HasNames, net_plan.specs.Ranges.IsInRange};
-ghost use Rattle.lens_svg.specs.Layers.{is_gone, may_wait, on_lane, on_mark, opening_of, tick_of, turn_of};
+ghost use Rattle.lens_svg.specs.Layers.{is_gone, lack_of, may_wait, on_lane, on_mark, opening_of, tick_of, turn_of};
 ghost use Rattle.lens_svg.specs.Layers.{wait_between, wait_of, way_of};
 
 use crate::element::{Band, Element, Point};
@@ -37,6 +37,17 @@ pub fn opening_of(network: &Network, sketch: &Sketch) -> Element
     ensures { result ≡ opening_of network.now sketch.now }
 {
     Element::Opening(sketch.pen().right() + 20, bottom_of(network) + 70)
+}
+
+/// That no record is drawn, where that is so.
+pub fn lack_of(sketch: &Sketch) -> Option<Element>
+    ensures { result ≡ lack_of sketch.now }
+{
+    if sketch.marks().is_empty() {
+        Some(Element::Lack)
+    } else {
+        None
+    }
 }
 
 /// What is drawn of the device at this place.

@@ -21,6 +21,8 @@ pub struct Span {
 pub(crate) enum Side {
     Before,
     Within,
+    /// Within, but of a record that is not kept.
+    Passed,
     Behind,
 }
 
@@ -109,6 +111,7 @@ impl Span {
         match side_of(self, time) {
             Side::Before => false,
             Side::Within => true,
+            Side::Passed => false,
             Side::Behind => false,
         }
     }

@@ -1,13 +1,14 @@
 //! What is kept of the records while they stream by.
 ghost use Rattle.std.specs.Prelude.{◌≡◌, ◌≤◌, IfOk, OnOk, map, slice_get};
 ghost use Rattle.lens_svg.specs.{Lanes.start_of, Layout.{IsOnPaper, widest}, Sketching.{begun, drawn, fits, hue_of}};
-ghost use Rattle.lens_svg.specs.Sketching.{last_in, mark_at, mark_of, no_marks_in, seated, took, turned, with_hue};
+ghost use Rattle.lens_svg.specs.Sketching.{is_drawn, last_in, mark_at, mark_of, no_marks_in, noted, seated, side_in, took, turned};
 ghost use Rattle.net_plan.specs.Ranges.{IsInRange};
 
 use crate::bodies::{cause_of, look_of, own_hue, scene_of, seat_of};
+use crate::kept::side_if;
 use crate::lanes::{start_of, y_of};
 use crate::layout::{Side, side_of};
-use crate::{Ground, Hue, Look, Mark, Pen, Span};
+use crate::{Ground, Hue, Kept, Look, Mark, Pen, Span};
 use net_plan::{Device, Network};
 use run_law::{Note, NoteBody};
 use std::alloc::Global;
@@ -19,12 +20,15 @@ use tte_io::OutOfMemory;
 #[derive(Drop)]
 pub struct Sketch {
     span: Span,
+    kept: Kept,
     pen: Pen,
     /// How far to the right the last instant stands that is drawn, or 0.
     last: u64,
     /// How far to the right the last mark of each row stands, or 0: of the events, and of each device.
     seats: Vec<u64>,
     hues: Vec<Hue>,
+    /// How many marks there were before each record.
+    places: Vec<u64>,
     marks: Vec<Mark>,
     grounds: Vec<Ground>,
 }
@@ -35,11 +39,12 @@ impl Model for Sketch {
     ghost Value = { Plan };
 
     ghost view = { λ s. record {
-      span = s.span;
+      view = record { span = s.span; kept = s.kept };
       pen = s.pen;
       last = s.last;
       seats = s.seats.items;
       hues = s.hues.items;
+      places = s.places.items;
       marks = s.marks.items;
       grounds = s.grounds.items;
     } };
@@ -80,9 +85,14 @@ fn no_marks_in(alloc: Global, devices: &[Device]) -> Result<Vec<u64>, OutOfMemor
 }
 
 impl Sketch {
-    /// The sketch of this part of a run, before its first record.
-    pub fn new(alloc: Global, network: &Network, span: Span) -> Result<Sketch, OutOfMemory>
-        ensures { IfOk result (λ s. s ≡ begun network.now span) }
+    /// The sketch of these records in a part of a run, before its first record.
+    pub fn new(
+        alloc: Global,
+        network: &Network,
+        span: Span,
+        kept: Kept,
+    ) -> Result<Sketch, OutOfMemory>
+        ensures { IfOk result (λ s. s ≡ begun network.now (record { span = span; kept = kept })) }
     {
         let grounds = match starts_of(alloc, network.device.as_slice()) {
             Ok(grounds) => grounds,
@@ -94,10 +104,12 @@ impl Sketch {
         };
         Ok(Sketch {
             span,
+            kept,
             pen: Pen::new(span.from),
             last: 0,
             seats,
             hues: Vec::new(alloc),
+            places: Vec::new(alloc),
             marks: Vec::new(alloc),
             grounds,
         })
@@ -108,10 +120,29 @@ impl Sketch {
         requires { IsInRange network.now }
         ensures { OnOk result (self.new ≡ took network.now self.old note.now) }
     {
-        match side_of(self.span, note.time.0.unsigned_abs()) {
+        match self.side_in(note) {
             Side::Before => self.turn(network, &note.body),
             Side::Within => self.draw(network, note),
+            Side::Passed => self.note_down(&note.body),
             Side::Behind => Ok(()),
+        }
+    }
+
+    /// Where a record is to what is drawn.
+    fn side_in(&self, note: &Note) -> Side
+        ensures { result ≡ side_in self.now.view note.now }
+    {
+        let side = side_of(self.span, note.time.0.unsigned_abs());
+        side_if(self.kept.holds(note.number), side)
+    }
+
+    /// Is the record drawn?
+    pub fn draws(&self, note: &Note) -> bool
+        ensures { result ≡ is_drawn self.now.view note.now }
+    {
+        match self.side_in(note) {
+            Side::Within => true,
+            Side::Before | Side::Passed | Side::Behind => false,
         }
     }
 
@@ -119,7 +150,7 @@ impl Sketch {
     fn turn(&mut self, network: &Network, body: &NoteBody) -> Result<(), OutOfMemory>
         ensures { OnOk result (self.new ≡ turned network.now self.old body.now) }
     {
-        self.keep_hue(body)?;
+        self.note_down(body)?;
         match look_of(body) {
             Look::Turned(ground) => {
                 let place = scene_of(network, body).0 as usize;
@@ -132,12 +163,17 @@ impl Sketch {
         Ok(())
     }
 
-    /// Keeps the hue of a record.
-    fn keep_hue(&mut self, body: &NoteBody) -> Result<(), OutOfMemory>
-        ensures { OnOk result (self.new ≡ with_hue self.old body.now) }
+    /// Keeps the hue of a record, and how many marks there are before it.
+    fn note_down(&mut self, body: &NoteBody) -> Result<(), OutOfMemory>
+        ensures { OnOk result (self.new ≡ noted self.old body.now) }
     {
         let hue = self.hue_of(body);
+        let place = self.marks.len() as u64;
         match self.hues.push(hue) {
+            Ok(()) => (),
+            Err(_) => return Err(OutOfMemory),
+        }
+        match self.places.push(place) {
             Ok(()) => Ok(()),
             Err(_) => Err(OutOfMemory),
         }
@@ -150,7 +186,7 @@ impl Sketch {
     {
         let pen = self.pen.moved(note.time.0.unsigned_abs());
         let mark = self.mark_of(network, pen, note);
-        self.keep_hue(&note.body)?;
+        self.note_down(&note.body)?;
         match self.marks.push(mark) {
             Ok(()) => {
                 self.pen = pen.reached(mark.x);
@@ -221,19 +257,22 @@ impl Sketch {
         }
     }
 
-    /// The mark of the record of this number, if it is drawn. The numbers of marks follow each other.
+    /// The mark of the record of this number, if it is drawn.
     pub(crate) fn mark_at(&self, number: u64) -> Option<Mark>
-        ensures { result ≡ mark_at self.now.marks number }
+        ensures { result ≡ mark_at self.now number }
     {
-        let first = match self.marks.get(0) {
-            Some(mark) => mark.number,
+        let place = match self.places.get(number.saturating_sub(1) as usize) {
+            Some(place) => *place,
             None => return None,
         };
-        if number < first {
-            return None;
-        }
-        match self.marks.get((number - first) as usize) {
-            Some(mark) => Some(*mark),
+        match self.marks.get(place as usize) {
+            Some(mark) => {
+                if mark.number == number {
+                    Some(*mark)
+                } else {
+                    None
+                }
+            }
             None => None,
         }
     }
@@ -247,7 +286,7 @@ impl Sketch {
 
     /// The part of the run that is drawn.
     pub fn span(&self) -> Span
-        ensures { result ≡ self.now.span }
+        ensures { result ≡ self.now.view.span }
     {
         self.span
     }

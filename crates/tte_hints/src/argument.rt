@@ -1,6 +1,9 @@
 use std::fmt;
 use tte_forms::{cycles_spelled, number_up_to};
 
+/// How many octets a name has at most.
+const LONGEST_NAME: usize = 16;
+
 /// The greatest number of a cycle that is drawn.
 const GREATEST_CYCLE: u64 = 1 << 20;
 
@@ -43,6 +46,10 @@ pub enum Argument {
     From,
     /// Where it ends.
     To,
+    /// The name of a virtual link or of a device, which does not read as a time.
+    Name,
+    /// The same, or one that does.
+    AnyName,
 }
 
 impl Argument {
@@ -65,6 +72,7 @@ impl Argument {
             Argument::Cycle => "CYCLE",
             Argument::From => "FROM",
             Argument::To => "TO",
+            Argument::Name | Argument::AnyName => "NAME",
         }
     }
 
@@ -85,6 +93,10 @@ impl Argument {
                  leading zero and no other unit"
             }
             Argument::Link => "the name of a link",
+            Argument::Name => {
+                "the name of a virtual link or of a device, or a time, where FROM stands in the place of CYCLE"
+            }
+            Argument::AnyName => "the name of a virtual link or of a device",
             Argument::Way => "up or down",
             Argument::VirtualLink => "the name of a virtual link",
             Argument::Rule => "8, 9, 10, 11, 12, 13, 21 or 23, the rules that are inequalities",
@@ -107,6 +119,8 @@ impl Argument {
             Argument::Cycles => cycles_spelled(text).is_some(),
             Argument::Granule => is_from_one(GREATEST_GRANULE, text),
             Argument::Record => is_from_one(u64::MAX, text),
+            Argument::Name => is_name(text) && !reads_as_time(text),
+            Argument::AnyName => is_name(text),
             Argument::Way => text == "up" || text == "down",
             Argument::Rule => INEQUALITIES.iter().any(|rule| *rule == text),
             Argument::Frames
@@ -134,6 +148,23 @@ fn is_time(text: &str) -> bool {
         }
     }
     number_up_to(u64::MAX, text).is_some()
+}
+
+/// Whether the text is one of names.
+fn is_name(text: &str) -> bool {
+    let is_part = |octet: &u8| octet.is_ascii_lowercase()
+        || octet.is_ascii_digit()
+        || *octet == b'_';
+    !text.is_empty() && text.len() <= LONGEST_NAME && text.as_bytes().iter().all(is_part)
+}
+
+/// Whether there are digits, with the word of a unit behind them or without.
+fn reads_as_time(text: &str) -> bool {
+    let digits = UNITS
+        .iter()
+        .find_map(|(word, _)| text.strip_suffix(*word))
+        .unwrap_or(text);
+    !digits.is_empty() && digits.as_bytes().iter().all(|octet| octet.is_ascii_digit())
 }
 
 impl fmt::Display for Argument {

@@ -63,8 +63,27 @@ const LENS: &[Form] = &[
         &[
             Argument::Network,
             Argument::Report,
+            Argument::Cycle,
+            Argument::Name,
+        ],
+    ),
+    Form(
+        "draw",
+        &[
+            Argument::Network,
+            Argument::Report,
             Argument::From,
             Argument::To,
+        ],
+    ),
+    Form(
+        "draw",
+        &[
+            Argument::Network,
+            Argument::Report,
+            Argument::From,
+            Argument::To,
+            Argument::AnyName,
         ],
     ),
     Form("page", &[Argument::Network, Argument::Report]),

@@ -1,7 +1,7 @@
-use crate::Argument;
 use crate::hinting::Called;
 use crate::naming::text_of;
-use net_plan::{Link, VirtualLink};
+use crate::{Argument, Program};
+use net_plan::{Device, Link, VirtualLink};
 use std::alloc::Global;
 use std::fmt;
 use tte_forms::read_unjudged;
@@ -35,6 +35,20 @@ impl<'n> fmt::Display for VlNames<'n> {
     }
 }
 
+/// The names of devices, to be shown.
+#[derive(Drop)]
+struct DeviceNames<'n>(&'n [Device]);
+
+impl<'n> fmt::Display for DeviceNames<'n> {
+    fn fmt<W: fmt::Write>(&self, f: &mut fmt::Formatter<W>) -> fmt::Result {
+        for device in self.0 {
+            f.write_str(" ")?;
+            f.write_str(text_of(&device.name))?;
+        }
+        Ok(())
+    }
+}
+
 /// Which of the names of a call its network does not have, and which it has.
 pub(crate) fn unknown_name<A: Source>(
     alloc: Global,
@@ -43,6 +57,14 @@ pub(crate) fn unknown_name<A: Source>(
 ) -> Option<String> {
     let network = read_unjudged(alloc, first).ok()?;
     let path = called.first_path();
+    if called.program == Program::Lens {
+        let name = called.words.get(called.words.len().saturating_sub(1))?;
+        let vls = VlNames(network.vl.as_slice());
+        let devices = DeviceNames(network.device.as_slice());
+        return format!(in alloc;
+            "{path} has no virtual link and no device {name:?}; its virtual links are{vls}, and its devices{devices}"
+        ).ok();
+    }
     if called.argument(2) == Some(Argument::Link) {
         let link = called.words.get(3)?;
         let names = LinkNames(network.link.as_slice());

@@ -95,7 +95,8 @@ fn misfit_of<'a>(form: Form, words: &'a Words) -> Option<Misfit<'a>> {
 /// That a part of a run ends before it begins.
 fn backward_of<'a>(form: Form, words: &'a Words) -> Option<WordsFault<'a>> {
     match form.arguments() {
-        [_, _, Argument::From, Argument::To] => Some(WordsFault::Backward {
+        [_, _, Argument::From, Argument::To]
+        | [_, _, Argument::From, Argument::To, Argument::AnyName] => Some(WordsFault::Backward {
             from: words.get(3)?,
             to: words.get(4)?,
         }),

@@ -3,7 +3,7 @@ use Rattle.{lens.proofs.draw_lemmas.Runs.pictures_show_runs, lens_why.proofs.Tim
 use Rattle.{lens.specs.draw.Asking.IsAskable, report_text.specs.Ranges.IsBodyOf, run_law.specs.records.Order.IsIn, std.specs.List.cons_option}
 use Rattle.{lens_svg.specs.Bodies.{look_of, scene_of, struck_look}, std.proofs.lemmas.List.{Elements.{All-cons, All-nil, filter_map-append}, take_more}}
 use Rattle.{lens_svg.specs.{Laws.{AreMarksOf, IsMarkOf, shown}, declared.mark.Look.TheVariants.Taken}, std.specs.Prelude.{All, filter_map, if◌then◌else◌}}
-use Rattle.{lens_svg.specs.{Layout.holds, Sketching.{moment, plan_of}, declared.{layout.Span.Span, mark.Mark.Mark}}, net_plan.specs.declared.event.What.What}
+use Rattle.{lens_svg.specs.{Sketching.{is_drawn, plan_of}, Views.View, declared.mark.Mark.Mark}, net_plan.specs.declared.event.What.What}
 use Rattle.{net_plan.specs.Belonging.HasDevice, run_law.specs.declared.note.Note.Note, tte_reports.specs.Reports.IsReportOf}
 use Rattle.lens_why.specs.Records.{IsTimely}
 use Rattle.{net_plan.specs.declared.ids.{LinkId.LinkId, VlId.VlId}, run_law.specs.declared.note.NoteBody.NoteBody, tte_units.specs.declared.units.Units.Units}
@@ -62,17 +62,17 @@ all_askable network (m ∷ ms) [] are timely = absurd are
 all_askable network (m ∷ ms) (n ∷ ns) are timely =
     All-cons (IsAskable network) m ms (askable network m n are.0 (timely n (inl refl))) (all_askable network ms ns are.1 (λ k i. timely k (inr i)))
 
-pub in_shown : (span : Span) (ns : List Note) (n : Note) → IsIn n (shown span ns) → IsIn n ns
-in_shown span [] n i = absurd i
-in_shown span (m ∷ ns) n i = by (in_shown span ns n) (holds span (moment m)) i
+pub in_shown : (view : View) (ns : List Note) (n : Note) → IsIn n (shown view ns) → IsIn n ns
+in_shown view [] n i = absurd i
+in_shown view (m ∷ ns) n i = by (in_shown view ns n) (is_drawn view m) i
   where
-    by : (IsIn n (shown span ns) → IsIn n ns) → (b : Bool) → IsIn n (if b then m ∷ shown span ns else shown span ns) → IsIn n (m ∷ ns)
+    by : (IsIn n (shown view ns) → IsIn n ns) → (b : Bool) → IsIn n (if b then m ∷ shown view ns else shown view ns) → IsIn n (m ∷ ns)
     by rest true (inl same) = inl same
     by rest true (inr there) = inr (rest there)
     by rest false there = inr (rest there)
 
-pub report_askable : (network : Network) (span : Span) (octets : List ℕ) (ns : List Note) (end : Units) → IsReportOf network octets ns end
-    → All (IsAskable network) (plan_of network span ns).marks
-report_askable network span octets ns end of =
-    all_askable network (plan_of network span ns).marks (shown span ns) (pictures_show_runs network span octets ns end of).marks
-    (λ n i. timely_in network octets ns end of n (in_shown span ns n i))
+pub report_askable : (network : Network) (view : View) (octets : List ℕ) (ns : List Note) (end : Units) → IsReportOf network octets ns end
+    → All (IsAskable network) (plan_of network view ns).marks
+report_askable network view octets ns end of =
+    all_askable network (plan_of network view ns).marks (shown view ns) (pictures_show_runs network view octets ns end of).marks
+    (λ n i. timely_in network octets ns end of n (in_shown view ns n i))

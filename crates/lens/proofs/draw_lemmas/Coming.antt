@@ -9,7 +9,7 @@ use Rattle.{lens_svg.specs.{Bodies.{look_of, scene_of}, declared.mark.Mark.Mark}
 use Rattle.{lens_svg.specs.Clocks.share, net_plan.specs.Ranges.IsInRange}
 use Rattle.{lens_svg.specs.Laws.{AreMarksOf, IsMarkOf, shown}, net_plan.specs.declared.{ids.{DeviceId.DeviceId, LinkId.LinkId}, network.Network.Network}}
 use Rattle.{lens_svg.specs.Sketching.{moment, plan_of}, run_law.specs.scenario.Scenarios.Scenario, tte_units.specs.{Amount.amount, declared.units.Units.Units}}
-use Rattle.{lens_svg.specs.declared.{layout.Span.Span, mark.Look.TheVariants.Taken}, schedule_tables.specs.declared.{entry.Entry.Entry, window.Window.Window}}
+use Rattle.{lens_svg.specs.{Views.View, declared.mark.Look.TheVariants.Taken}, schedule_tables.specs.declared.{entry.Entry.Entry, window.Window.Window}}
 use Rattle.{net_plan.specs.declared.ids.VlId.VlId, run_law.specs.{declared.note.Note.Note, runs.DueRecords.IsCaused}, schedule_tables.specs.Rules.KeepsRules}
 use Rattle.{precision_law.proofs.traffic_lemmas.delivery.{Faultless.{TakesIn, finds_none}, Taken.never_control}, std.proofs.lemmas.List.Elements.filter-append}
 use Rattle.run_law.{proofs.runs.{NetworkRuns.same_notes, Places.{in_right, parted}}, specs.{declared.steps.Arrival.Arrival, device.States.adjustment_after}}
@@ -191,15 +191,15 @@ module _ (network : Network) (octets : List ℕ) (ns : List Note) (end : Units) 
         inside = tick.1;
       }
 
-  shows_window : (span : Span) (mark : Mark) (link : LinkId) (vl : VlId) → IsIn mark (plan_of network span ns).marks → mark.look ≡ Taken link vl
+  shows_window : (view : View) (mark : Mark) (link : LinkId) (vl : VlId) → IsIn mark (plan_of network view ns).marks → mark.look ≡ Taken link vl
       → ShowsWindow network link vl (clocks_of network ns mark.device mark.time) (came_of network mark (clocks_of network ns mark.device mark.time))
-  shows_window span mark link vl there look =
-      let by = shown_by network (plan_of network span ns).marks (shown span ns) mark (pictures_show_runs network span octets ns end of).marks there in
+  shows_window view mark link vl there look =
+      let by = shown_by network (plan_of network view ns).marks (shown view ns) mark (pictures_show_runs network view octets ns end of).marks there in
       let taken = taken_by network by.note.body link vl (sym by.is.look ∙ look) in
-      let has = come (scene_of network by.note.body) link vl by.note (in_shown span ns by.note by.there) taken in
+      let has = come (scene_of network by.note.body) link vl by.note (in_shown view ns by.note by.there) taken in
       drawn mark link vl (clocks_of network ns mark.device mark.time) look
       (subst (λ (d : DeviceId). HasCome network link vl (clocks_of network ns d mark.time)) (sym by.is.device)
       (subst (λ (t : ℕ). HasCome network link vl (clocks_of network ns (scene_of network by.note.body) t)) (sym by.is.time) has))
 
 pub pictures_show_windows : PicturesShowWindows
-pictures_show_windows network span octets ns end rules of mark link vl there look = shows_window network octets ns end rules of span mark link vl there look
+pictures_show_windows network view octets ns end rules of mark link vl there look = shows_window network octets ns end rules of view mark link vl there look

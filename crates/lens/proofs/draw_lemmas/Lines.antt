@@ -1,9 +1,9 @@
 -- A picture has the line of each thing that its plan draws.
 use Rattle.lens.specs.draw.LineLaws.{AreMarkLines, DrawsPlan, HasLineOf, MarksStandWhereTheirsDo, PicturesDrawPlans}
 use Rattle.lens.specs.draw.Picture.{back_lines, front_lines, layer_lines, lines_from, mark_lines, picture_lines, some_line, windows_of}
-use Rattle.lens_svg.{proofs.Arrows.taken_all, specs.{Clocks.{clocks_in, gauge_of, spread_of}, Laws.{AreMarksOf, shown}, Layers.{on_lane, on_mark}}}
-use Rattle.lens_svg.specs.{Elements.element_line, Layout.holds, Plan.Plan, Sketching.{begun, moment, plan_of}, Windows.box_of}
-use Rattle.lens_svg.specs.declared.{clock.Told.Told, element.Element.Element, layout.Span.Span, window.Came.Came}
+use Rattle.lens_svg.{proofs.Arrows.taken_all, specs.{Clocks.{clocks_in, gauge_of, spread_of}, Laws.{AreMarksOf, shown}, Layers.{lack_of, on_lane, on_mark}}}
+use Rattle.lens_svg.specs.{Elements.element_line, Plan.Plan, Sketching.{begun, is_drawn, plan_of}, Views.View, Windows.box_of}
+use Rattle.lens_svg.specs.declared.{clock.Told.Told, element.Element.Element, window.Came.Came}
 use Rattle.lens_svg.specs.declared.layer.{LaneLayer.{LaneLayer, TheVariants.{Grounds, Rails}}, MarkLayer.{MarkLayer, TheVariants.{Ticks, Turns, Waits, Ways}}}
 use Rattle.{lens.specs.declared.draw.putting.Layer.Layer, lens_svg.specs.declared.mark.Mark.Mark, net_plan.specs.declared.network.Network.Network}
 use Rattle.run_law.{proofs.runs.Places.{in_left, in_right}, specs.{declared.note.Note.Note, records.Order.IsIn}}
@@ -42,22 +42,22 @@ has_line : (network : Network) (lines : List (List ℕ)) (o : Option Element) �
 has_line network lines None each = tt
 has_line network lines (Some element) each = each (element_line network element) (inl refl)
 
-module _ (network : Network) (span : Span) (notes : List Note) where
+module _ (network : Network) (view : View) (notes : List Note) where
   abbrev plan : Plan
-  plan = plan_of network span notes
+  plan = plan_of network view notes
 
   abbrev windows : List Came
-  windows = windows_of network span notes
+  windows = windows_of network view notes
 
   abbrev lines : List (List ℕ)
-  lines = picture_lines network span notes
+  lines = picture_lines network view notes
 
   -- a layer's lines are the picture's
   in_layer : (layer : Layer) (n : ℕ) → slice_get pictures.layers n ≡ Some layer → (a : List ℕ)
-      → IsIn a (layer_lines network plan windows (clocks_in span notes) layer) → IsIn a lines
+      → IsIn a (layer_lines network plan windows (clocks_in view.span notes) layer) → IsIn a lines
   in_layer layer n there a i =
-      in_left a (front_lines network plan windows (clocks_in span notes)) (back_lines network span plan.marks notes)
-      (in_flat (λ l. layer_lines network plan windows (clocks_in span notes) l) pictures.layers layer a (in_at n layer pictures.layers there) i)
+      in_left a (front_lines network plan windows (clocks_in view.span notes)) (back_lines network view plan.marks notes)
+      (in_flat (λ l. layer_lines network plan windows (clocks_in view.span notes) l) pictures.layers layer a (in_at n layer pictures.layers there) i)
 
   lane_at : (layer : LaneLayer) (n : ℕ) → slice_get pictures.layers n ≡ Some (layers.Lanes layer) → (place : ℕ) → place < length network.device
       → HasLineOf network lines (on_lane layer network plan place)
@@ -86,41 +86,43 @@ module _ (network : Network) (span : Span) (notes : List Note) where
   window_line came of = has_line network lines (box_of came) (λ a i. in_layer layers.Windows 15 refl a
       (in_flat (λ c. some_line network (box_of c)) windows came a of i))
 
-  gauge_line : (told : Told) → IsIn told (clocks_in span notes).told → HasLineOf network lines (gauge_of network plan.pen (clocks_in span notes) told)
-  gauge_line told of = has_line network lines (gauge_of network plan.pen (clocks_in span notes) told) (λ a i. in_layer layers.Gauges 16 refl a
-      (in_flat (λ t. some_line network (gauge_of network plan.pen (clocks_in span notes) t)) (clocks_in span notes).told told a of i))
+  gauge_line : (told : Told) → IsIn told (clocks_in view.span notes).told → HasLineOf network lines (gauge_of network plan.pen (clocks_in view.span notes) told)
+  gauge_line told of = has_line network lines (gauge_of network plan.pen (clocks_in view.span notes) told) (λ a i. in_layer layers.Gauges 16 refl a
+      (in_flat (λ t. some_line network (gauge_of network plan.pen (clocks_in view.span notes) t)) (clocks_in view.span notes).told told a of i))
 
 pub pictures_draw_plans : PicturesDrawPlans
-pictures_draw_plans network span notes = record {
-  lanes = lane_line network span notes;
-  marks = mark_element network span notes;
-  windows = window_line network span notes;
-  gauges = gauge_line network span notes;
-  spread = has_line network (picture_lines network span notes) (spread_of network (clocks_in span notes))
-      (λ a i. in_layer network span notes layers.Spread 17 refl a i);
+pictures_draw_plans network view notes = record {
+  lanes = lane_line network view notes;
+  marks = mark_element network view notes;
+  windows = window_line network view notes;
+  gauges = gauge_line network view notes;
+  spread = has_line network (picture_lines network view notes) (spread_of network (clocks_in view.span notes))
+      (λ a i. in_layer network view notes layers.Spread 17 refl a i);
+  lack = has_line network (picture_lines network view notes) (lack_of (plan_of network view notes))
+      (λ a i. in_layer network view notes layers.Lack 18 refl a i);
 }
 
 -- ---- the marks
 
-mark_lines_of : (network : Network) (span : Span) (marks : List Mark) (notes : List Note) → AreMarksOf network marks (shown span notes)
-    → AreMarkLines network (mark_lines network span marks notes) marks (shown span notes)
-mark_lines_of network span [] [] are = tt
-mark_lines_of network span (mark ∷ marks) [] are = absurd are
-mark_lines_of network span marks (note ∷ notes) are = by (holds span (moment note)) refl marks are (λ ms. mark_lines_of network span ms notes)
+mark_lines_of : (network : Network) (view : View) (marks : List Mark) (notes : List Note) → AreMarksOf network marks (shown view notes)
+    → AreMarkLines network (mark_lines network view marks notes) marks (shown view notes)
+mark_lines_of network view [] [] are = tt
+mark_lines_of network view (mark ∷ marks) [] are = absurd are
+mark_lines_of network view marks (note ∷ notes) are = by (is_drawn view note) refl marks are (λ ms. mark_lines_of network view ms notes)
   where
-    by : (b : Bool) → holds span (moment note) ≡ b → (ms : List Mark) → AreMarksOf network ms (shown span (note ∷ notes))
-        → ((rest : List Mark) → AreMarksOf network rest (shown span notes)
-        → AreMarkLines network (mark_lines network span rest notes) rest (shown span notes))
-        → AreMarkLines network (mark_lines network span ms (note ∷ notes)) ms (shown span (note ∷ notes))
-    by true h [] these each = absurd (subst (λ (b : Bool). AreMarksOf network [] (if b then note ∷ shown span notes else shown span notes)) h these)
+    by : (b : Bool) → is_drawn view note ≡ b → (ms : List Mark) → AreMarksOf network ms (shown view (note ∷ notes))
+        → ((rest : List Mark) → AreMarksOf network rest (shown view notes)
+        → AreMarkLines network (mark_lines network view rest notes) rest (shown view notes))
+        → AreMarkLines network (mark_lines network view ms (note ∷ notes)) ms (shown view (note ∷ notes))
+    by true h [] these each = absurd (subst (λ (b : Bool). AreMarksOf network [] (if b then note ∷ shown view notes else shown view notes)) h these)
     by true h (mark ∷ ms) these each =
-        let are = subst (λ (b : Bool). AreMarksOf network (mark ∷ ms) (if b then note ∷ shown span notes else shown span notes)) h these in
+        let are = subst (λ (b : Bool). AreMarksOf network (mark ∷ ms) (if b then note ∷ shown view notes else shown view notes)) h these in
         rw h (refl, each ms are.1)
     by false h ms these each =
-        rw h (each ms (subst (λ (b : Bool). AreMarksOf network ms (if b then note ∷ shown span notes else shown span notes)) h these))
+        rw h (each ms (subst (λ (b : Bool). AreMarksOf network ms (if b then note ∷ shown view notes else shown view notes)) h these))
 
 pub marks_stand : MarksStandWhereTheirsDo
-marks_stand network span notes =
-    let taken = taken_all network (begun network span) notes in
-    mark_lines_of network span (plan_of network span notes).marks notes
-    (subst (λ (ms : List Mark). AreMarksOf network ms (shown span notes)) (sym taken.whole) taken.marks)
+marks_stand network view notes =
+    let taken = taken_all network (begun network view) notes in
+    mark_lines_of network view (plan_of network view notes).marks notes
+    (subst (λ (ms : List Mark). AreMarksOf network ms (shown view notes)) (sym taken.whole) taken.marks)

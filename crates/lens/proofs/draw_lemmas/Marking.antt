@@ -1,9 +1,9 @@
 -- The draft of a picture, and the marks of records put one after another.
 use Rattle.{lens.specs.{declared.draw.drawing.Draft.Draft, draw.Drafts.IsDraftOf}, std.proofs.lemmas.List.Sums.fold_push}
-use Rattle.{lens.proofs.draw_lemmas.Parts.{fails_before, fails_between}, lens_svg.specs.{Clocks.{Clocks, clocks_in, clocks_with, no_clocks}, declared.layout.Span.Span}}
+use Rattle.{lens.proofs.draw_lemmas.Parts.{fails_before, fails_between}, lens_svg.specs.{Clocks.{Clocks, clocks_in, clocks_with, no_clocks}, Views.View, declared.layout.Span.Span}}
 use Rattle.{lens.specs.draw.Answer.{back_answer, draw_answer, fitting_answer}, lens_svg.specs.{Plan.Plan, Sketching.{begun, fits, plan_behind, plan_of, took}}}
 use Rattle.lens.specs.draw.{Picture.{back_lines, front_lines, mark_lines, marks_behind, marks_of, picture_lines, windows_of}, Signs.close_line}
-use Rattle.{lens_svg.proofs.Painting.span_behind, std.{proofs.Common.{true, ℕ}, specs.List.concat}, tte_reports.specs.Reports.AreLeft}
+use Rattle.{lens_svg.proofs.Painting.view_behind, std.{proofs.Common.{true, ℕ}, specs.List.concat}, tte_reports.specs.Reports.AreLeft}
 use Rattle.{lens_svg.specs.declared.mark.Mark.Mark, run_law.specs.declared.note.Note.Note, std.proofs.lemmas.List.{Elements.All-head, append-nil}}
 use Rattle.{lens_svg.specs.declared.window.Came.Came, report_text.specs.Ranges.{IsNoteInRange, IsNoteOf}, std.specs.Prelude.{All, codes, fold, if◌then◌else◌}}
 use Rattle.{net_plan.specs.declared.network.Network.Network, tte_forms.{proofs.frames.Frames.Gives-behind, specs.declared.status.Status.Status}}
@@ -33,58 +33,58 @@ plan_more network plan (n ∷ before) note = plan_more network (took network pla
 
 -- what is taken of one more record
 pub drafted_more : (network : Network) (begin : Plan) (before : List Note) (old new : Draft) (note : Note) → IsDraftOf network begin before old
-    → new.sketch ≡ took network old.sketch note → new.clocks ≡ clocks_with new.sketch.span old.clocks note → IsDraftOf network begin (before ++ note ∷ []) new
+    → new.sketch ≡ took network old.sketch note → new.clocks ≡ clocks_with new.sketch.view.span old.clocks note → IsDraftOf network begin (before ++ note ∷ []) new
 drafted_more network begin before old new note so sketch clocks =
     let plan = sketch ∙ ap (λ (p : Plan). took network p note) so.sketch ∙ sym (plan_more network begin before note) in
-    let span = ap (λ (p : Plan). p.span) plan ∙ span_behind network begin (before ++ note ∷ []) in
+    let span = ap (λ (p : Plan). p.view.span) plan ∙ ap (λ (v : View). v.span) (view_behind network begin (before ++ note ∷ [])) in
     record {
       sketch = plan;
-      clocks = clocks ∙ ap (λ (s : Span). clocks_with s old.clocks note) span ∙ ap (λ (k : Clocks). clocks_with begin.span k note) so.clocks
-          ∙ sym (fold_push (clocks_with begin.span) no_clocks before note);
+      clocks = clocks ∙ ap (λ (s : Span). clocks_with s old.clocks note) span ∙ ap (λ (k : Clocks). clocks_with begin.view.span k note) so.clocks
+          ∙ sym (fold_push (clocks_with begin.view.span) no_clocks before note);
     }
 
 -- ---- the marks
 
 -- the marks of the first records were put, those of these are to come, and they have these marks
-pub record IsMarked (network : Network) (span : Span) (all : List Mark) (notes : List Note) (records : Records) (marks : List Mark) (old now : Shown)
+pub record IsMarked (network : Network) (view : View) (all : List Mark) (notes : List Note) (records : Records) (marks : List Mark) (old now : Shown)
     : Type 0 where
   pub rest : List Note
   pub left : AreLeft network records rest
   pub done : List (List ℕ)
   pub puts : PutsLines done old now
-  pub whole : mark_lines network span all notes ≡ done ++ mark_lines network span marks rest
+  pub whole : mark_lines network view all notes ≡ done ++ mark_lines network view marks rest
 
-pub marked_first : (network : Network) (span : Span) (all : List Mark) (notes : List Note) (records : Records) (s : Shown) → AreLeft network records notes
-    → IsMarked network span all notes records all s s
-marked_first network span all notes records s left = record { rest = notes; left = left; done = []; puts = PutsLines-none s; whole = refl }
+pub marked_first : (network : Network) (view : View) (all : List Mark) (notes : List Note) (records : Records) (s : Shown) → AreLeft network records notes
+    → IsMarked network view all notes records all s s
+marked_first network view all notes records s left = record { rest = notes; left = left; done = []; puts = PutsLines-none s; whole = refl }
 
-module _ (network : Network) (span : Span) (all : List Mark) (notes : List Note) (records : Records) (marks : List Mark) (old now : Shown)
-    (h : IsMarked network span all notes records marks old now) where
+module _ (network : Network) (view : View) (all : List Mark) (notes : List Note) (records : Records) (marks : List Mark) (old now : Shown)
+    (h : IsMarked network view all notes records marks old now) where
   -- the lines that are to come begin with those of the next record
   next_lines : (note : Note) (rest : List Note) → h.rest ≡ note ∷ rest
-      → mark_lines network span all notes ≡ h.done ++ (marks_of network span marks note ++ mark_lines network span (marks_behind span marks note) rest)
-  next_lines note rest next = h.whole ∙ ap (λ (ns : List Note). h.done ++ mark_lines network span marks ns) next
+      → mark_lines network view all notes ≡ h.done ++ (marks_of network view marks note ++ mark_lines network view (marks_behind view marks note) rest)
+  next_lines note rest next = h.whole ∙ ap (λ (ns : List Note). h.done ++ mark_lines network view marks ns) next
 
   pub marked_more : (after : Records) (note : Note) (rest : List Note) (behind : List Mark) (new : Shown) → h.rest ≡ note ∷ rest → AreLeft network after rest
-      → behind ≡ marks_behind span marks note → PutsLines (marks_of network span marks note) now new
-      → IsMarked network span all notes after behind old new
+      → behind ≡ marks_behind view marks note → PutsLines (marks_of network view marks note) now new
+      → IsMarked network view all notes after behind old new
   marked_more after note rest behind new next left moves puts =
-      let own = marks_of network span marks note in record {
+      let own = marks_of network view marks note in record {
         rest = rest;
         left = left;
         done = h.done ++ own;
         puts = PutsLines-append h.done own old now new h.puts puts;
         whole = next_lines note rest next
-            ∙ ap (λ (ms : List Mark). h.done ++ (own ++ mark_lines network span ms rest)) (sym moves)
-            ∙ sym (append_assoc h.done own (mark_lines network span behind rest));
+            ∙ ap (λ (ms : List Mark). h.done ++ (own ++ mark_lines network view ms rest)) (sym moves)
+            ∙ sym (append_assoc h.done own (mark_lines network view behind rest));
       }
 
-  pub marked_fails : (note : Note) (rest : List Note) (new : Shown) → h.rest ≡ note ∷ rest → PutFails (marks_of network span marks note) now new
-      → Gives (back_answer network span all notes) WriteFault old new
+  pub marked_fails : (note : Note) (rest : List Note) (new : Shown) → h.rest ≡ note ∷ rest → PutFails (marks_of network view marks note) now new
+      → Gives (back_answer network view all notes) WriteFault old new
   marked_fails note rest new next fails =
-      let own = marks_of network span marks note in
-      let others = mark_lines network span (marks_behind span marks note) rest in
-      let lines : back_lines network span all notes ≡ (h.done ++ (own ++ others)) ++ close_line ∷ [] =
+      let own = marks_of network view marks note in
+      let others = mark_lines network view (marks_behind view marks note) rest in
+      let lines : back_lines network view all notes ≡ (h.done ++ (own ++ others)) ++ close_line ∷ [] =
       ap (λ (ls : List (List ℕ)). ls ++ close_line ∷ []) (next_lines note rest next) in
       inr (inl (
         refl,
@@ -93,10 +93,10 @@ module _ (network : Network) (span : Span) (all : List Mark) (notes : List Note)
       ))
 
   pub marked_all : (status : Status) (new : Shown) → h.rest ≡ [] → Gives (line_answer Done close_line) status now new
-      → Gives (back_answer network span all notes) status old new
+      → Gives (back_answer network view all notes) status old new
   marked_all status new none gives =
-      let lines : back_lines network span all notes ≡ h.done ++ close_line ∷ [] = ap (λ (ls : List (List ℕ)). ls ++ close_line ∷ [])
-      (h.whole ∙ ap (λ (ns : List Note). h.done ++ mark_lines network span marks ns) none ∙ append-nil h.done) in
+      let lines : back_lines network view all notes ≡ h.done ++ close_line ∷ [] = ap (λ (ls : List (List ℕ)). ls ++ close_line ∷ [])
+      (h.whole ∙ ap (λ (ns : List Note). h.done ++ mark_lines network view marks ns) none ∙ append-nil h.done) in
       subst (λ (ls : List (List ℕ)). Gives (record { status = Done; lines = ls }) status old new) (sym lines)
       (Gives-behind h.done (line_answer Done close_line) status old now new h.puts gives)
 
@@ -116,26 +116,26 @@ next_in_range network records note notes rest left next =
 -- ---- the answer
 
 -- the plan is that of the picture, so the answer is of it
-pub wide_answer : (network : Network) (span : Span) (notes : List Note) (plan : Plan) (status : Status) (old new : Shown) → plan ≡ plan_of network span notes
-    → fits plan ≡ false → Ends TooLong status old new → Gives (draw_answer network span notes) status old new
-wide_answer network span notes plan status old new same wide ends =
-    let answer : draw_answer network span notes ≡ too_long_answer =
-    ap (λ (b : Bool). if b then record { status = Done; lines = picture_lines network span notes } else too_long_answer) (ap fits (sym same) ∙ wide) in
+pub wide_answer : (network : Network) (view : View) (notes : List Note) (plan : Plan) (status : Status) (old new : Shown) → plan ≡ plan_of network view notes
+    → fits plan ≡ false → Ends TooLong status old new → Gives (draw_answer network view notes) status old new
+wide_answer network view notes plan status old new same wide ends =
+    let answer : draw_answer network view notes ≡ too_long_answer =
+    ap (λ (b : Bool). if b then record { status = Done; lines = picture_lines network view notes } else too_long_answer) (ap fits (sym same) ∙ wide) in
     subst (λ (a : Answer). Gives a status old new) (sym answer) (Ends-gives [] TooLong status old old new (PutsLines-none old) ends)
 
-pub fit_answer : (network : Network) (span : Span) (notes : List Note) (plan : Plan) (windows : List Came) (clocks : Clocks) (status : Status) (old new : Shown)
-    → plan ≡ plan_of network span notes → windows ≡ windows_of network span notes → clocks ≡ clocks_in span notes → fits plan ≡ true
-    → Gives (fitting_answer network plan windows clocks notes) status old new → Gives (draw_answer network span notes) status old new
-fit_answer network span notes plan windows clocks status old new same came told fit gives =
-    let of_span : plan.span ≡ span = ap (λ (p : Plan). p.span) same ∙ span_behind network (begun network span) notes in
-    let whole = plan_of network span notes in
-    let lines : front_lines network plan windows clocks ++ back_lines network plan.span plan.marks notes ≡ picture_lines network span notes =
-    ap (λ (s : Span). front_lines network plan windows clocks ++ back_lines network s plan.marks notes) of_span
-    ∙ ap (λ (p : Plan). front_lines network p windows clocks ++ back_lines network span p.marks notes) same
-    ∙ ap (λ (w : List Came). front_lines network whole w clocks ++ back_lines network span whole.marks notes) came
-    ∙ ap (λ (c : Clocks). front_lines network whole (windows_of network span notes) c ++ back_lines network span whole.marks notes) told in
-    let answer : draw_answer network span notes ≡ fitting_answer network plan windows clocks notes =
-    ap (λ (b : Bool). if b then record { status = Done; lines = picture_lines network span notes } else too_long_answer) (ap fits (sym same) ∙ fit)
+pub fit_answer : (network : Network) (view : View) (notes : List Note) (plan : Plan) (windows : List Came) (clocks : Clocks) (status : Status) (old new : Shown)
+    → plan ≡ plan_of network view notes → windows ≡ windows_of network view notes → clocks ≡ clocks_in view.span notes → fits plan ≡ true
+    → Gives (fitting_answer network plan windows clocks notes) status old new → Gives (draw_answer network view notes) status old new
+fit_answer network view notes plan windows clocks status old new same came told fit gives =
+    let of_view : plan.view ≡ view = ap (λ (p : Plan). p.view) same ∙ view_behind network (begun network view) notes in
+    let whole = plan_of network view notes in
+    let lines : front_lines network plan windows clocks ++ back_lines network plan.view plan.marks notes ≡ picture_lines network view notes =
+    ap (λ (v : View). front_lines network plan windows clocks ++ back_lines network v plan.marks notes) of_view
+    ∙ ap (λ (p : Plan). front_lines network p windows clocks ++ back_lines network view p.marks notes) same
+    ∙ ap (λ (w : List Came). front_lines network whole w clocks ++ back_lines network view whole.marks notes) came
+    ∙ ap (λ (c : Clocks). front_lines network whole (windows_of network view notes) c ++ back_lines network view whole.marks notes) told in
+    let answer : draw_answer network view notes ≡ fitting_answer network plan windows clocks notes =
+    ap (λ (b : Bool). if b then record { status = Done; lines = picture_lines network view notes } else too_long_answer) (ap fits (sym same) ∙ fit)
     ∙ ap (λ (ls : List (List ℕ)). let a : Answer = record { status = Done; lines = ls } in a) (sym lines) in
     subst (λ (a : Answer). Gives a status old new) (sym answer) gives
 
@@ -143,13 +143,11 @@ fit_answer network span notes plan windows clocks status old new same came told 
 pub front_fails : (network : Network) (plan : Plan) (windows : List Came) (clocks : Clocks) (notes : List Note) (old new : Shown)
     → PutFails (front_lines network plan windows clocks) old new → Gives (fitting_answer network plan windows clocks notes) WriteFault old new
 front_fails network plan windows clocks notes old new fails =
-    inr (inl (refl, inl (fails_before (front_lines network plan windows clocks) (back_lines network plan.span plan.marks notes) old new fails)))
+    inr (inl (refl, inl (fails_before (front_lines network plan windows clocks) (back_lines network plan.view plan.marks notes) old new fails)))
 
 -- the lines below the marks were put, and then those from the marks on
-pub front_given : (network : Network) (plan : Plan) (windows : List Came) (clocks : Clocks) (notes : List Note) (span : Span) (marks : List Mark)
-    (status : Status) (old now new : Shown) → span ≡ plan.span → marks ≡ plan.marks → PutsLines (front_lines network plan windows clocks) old now
-    → Gives (back_answer network span marks notes) status now new → Gives (fitting_answer network plan windows clocks notes) status old new
-front_given network plan windows clocks notes span marks status old now new same all puts gives =
-    Gives-behind (front_lines network plan windows clocks) (back_answer network plan.span plan.marks notes) status old now new puts
-    (subst (λ (ms : List Mark). Gives (back_answer network plan.span ms notes) status now new) all
-    (subst (λ (s : Span). Gives (back_answer network s marks notes) status now new) same gives))
+pub front_given : (network : Network) (plan : Plan) (windows : List Came) (clocks : Clocks) (notes : List Note) (status : Status) (old now new : Shown)
+    → PutsLines (front_lines network plan windows clocks) old now → Gives (back_answer network plan.view plan.marks notes) status now new
+    → Gives (fitting_answer network plan windows clocks notes) status old new
+front_given network plan windows clocks notes status old now new puts gives =
+    Gives-behind (front_lines network plan windows clocks) (back_answer network plan.view plan.marks notes) status old now new puts gives

@@ -1,16 +1,16 @@
 -- Two reports with one picture have the same lines.
-use Rattle.{lens.proofs.draw_lemmas.Titles.titles_are, lens_svg.specs.{Sketching.{moment, plan_of}, Windows.box_of}, tte_units.specs.declared.units.Units.Units}
+use Rattle.{lens.proofs.draw_lemmas.Titles.titles_are, lens_svg.specs.{Sketching.{is_drawn, plan_of}, Windows.box_of}, tte_units.specs.declared.units.Units.Units}
 use Rattle.lens.specs.declared.draw.{signs.Sign.{Sign, TheVariants.{Arrows, Backdrop, Heading, MarkKey, Shapes, Style, WayKey}}}
 use Rattle.{lens.specs.declared.draw.putting.Layer.Layer, std.proofs.{Common.{suc, sym, take, true, zero, ℕ}, lemmas.Fmt.decimal_is_IsNumeral}}
 use Rattle.lens.specs.draw.{Laws.HaveTitles, Picture.{back_lines, front_lines, layer_lines, lines_from, mark_lines, picture_lines, some_line, windows_of}}
-use Rattle.{lens.specs.draw.{ReadingLaws.{PicturesAreOne, TitlesArePlain}, Signs.{close_line, sign_line}}, lens_svg.specs.Layers.{on_lane, on_mark, opening_of}}
+use Rattle.{lens.specs.draw.{ReadingLaws.{PicturesAreOne, TitlesArePlain}, Signs.{close_line, sign_line}}, lens_svg.specs.Layers.{lack_of, on_lane, on_mark, opening_of}}
 use Rattle.{lens_svg.proofs.Plain.note_plain, net_plan.specs.Ranges.IsInRange, report_text.specs.NoteLine.note_text, tte_reports.specs.Reports.IsReportOf}
 use Rattle.{lens_svg.specs.Clocks.{Clocks, clocks_in, gauge_of, spread_of}, std.proofs.lemmas.List.Elements.{All-cons, All-head, All-nil, All-tail, All-weaker}}
 use Rattle.lens_svg.specs.Elements.{bar_line, caption_line, element_line, gauge_line, opening_line, rail_line, spread_bar, tick_line, way_line, window_line}
 use Rattle.{lens_svg.specs.{Laws.shown, Plan.Plan}, std.specs.{Char.digit_value, Str.Parse.AllDigits}}
-use Rattle.{lens_svg.specs.{Layout.holds, declared.window.Came.Came}, run_law.specs.declared.note.Note.Note, std.proofs.lemmas.Bool.Decides.nat_tests}
+use Rattle.{lens_svg.specs.{Views.View, declared.window.Came.Came}, run_law.specs.declared.note.Note.Note, std.proofs.lemmas.Bool.Decides.nat_tests}
 use Rattle.{lens_svg.specs.Marking.{IsPlain, head_text, is_plain}, std.specs.Prelude.{◌==◌, All, bytes_eq, codes, decimal, flat_map, if◌then◌else◌, length}}
-use Rattle.lens_svg.specs.declared.{element.Element.{Element, TheVariants.{Bar, Caption, Gauge, Opening, Rail, Spread, Tick, Way, Window}}, layout.Span.Span}
+use Rattle.lens_svg.specs.declared.element.Element.{Element, TheVariants.{Bar, Caption, Gauge, Lack, Opening, Rail, Spread, Tick, Way, Window}}
 use Rattle.{net_plan.specs.declared.network.Network.Network, report_text.{proofs.Splits.{NonePasses, split_once}, specs.Ranges.{IsNoteInRange, IsNoteOf}}}
 use Rattle.std.proofs.Common.{◌++◌, ◌+◌, ◌<◌, ◌∙◌, ◌∷◌, ◌≡◌, Bool, List, None, Option, Some, [], ap, append_assoc, arith, drop, false, filter, map, refl, subst}
 use Rattle.lens.specs.declared.draw.putting.Layer.TheVariants as layers
@@ -50,6 +50,7 @@ no_element network (Way a b c d) = refl
 no_element network (Gauge a b c) = refl
 no_element network (Spread a b c d) = refl
 no_element network (Window a b) = refl
+no_element network Lack = refl
 
 no_sign : (sign : Sign) → is_mark (sign_line sign) ≡ false
 unfolding sign_line
@@ -69,7 +70,7 @@ none_layer : (network : Network) (plan : Plan) (windows : List Came) (clocks : C
     → NoneMarks (layer_lines network plan windows clocks layer)
 none_layer network plan windows clocks layers.Opening = (no_element network (opening_of network plan), tt)
 none_layer network plan windows clocks (layers.Shared sign) = (no_sign sign, tt)
-none_layer network plan windows clocks layers.Caption = (no_element network (Caption plan.span (length plan.marks)), tt)
+none_layer network plan windows clocks layers.Caption = (no_element network (Caption plan.view.span (length plan.marks)), tt)
 none_layer network plan windows clocks (layers.Lanes layer) =
     none_places (λ place. some_line network (on_lane layer network plan place)) (λ place. none_some network (on_lane layer network plan place)) 0
     (length network.device)
@@ -80,6 +81,7 @@ none_layer network plan windows clocks layers.Gauges =
     none_flat (λ told. some_line network (gauge_of network plan.pen clocks told)) (λ told. none_some network (gauge_of network plan.pen clocks told))
     clocks.told
 none_layer network plan windows clocks layers.Spread = none_some network (spread_of network clocks)
+none_layer network plan windows clocks layers.Lack = none_some network (lack_of plan)
 
 none_front : (network : Network) (plan : Plan) (windows : List Came) (clocks : Clocks) → NoneMarks (front_lines network plan windows clocks)
 none_front network plan windows clocks = none_flat (λ layer. layer_lines network plan windows clocks layer) (λ layer.
@@ -106,13 +108,13 @@ only_marks network (line ∷ lines) (note ∷ notes) titles =
     ap (λ (b : Bool). if b then line ∷ filter is_mark (lines ++ close_line ∷ []) else filter is_mark (lines ++ close_line ∷ [])) mark
     ∙ ap (λ (ls : List (List ℕ)). line ∷ ls) rest
 
-marks_of_picture : (network : Network) (span : Span) (notes : List Note)
-    → filter is_mark (picture_lines network span notes) ≡ mark_lines network span (plan_of network span notes).marks notes
-marks_of_picture network span notes =
-    without (front_lines network (plan_of network span notes) (windows_of network span notes) (clocks_in span notes))
-    (back_lines network span (plan_of network span notes).marks notes)
-    (none_front network (plan_of network span notes) (windows_of network span notes) (clocks_in span notes))
-    ∙ only_marks network (mark_lines network span (plan_of network span notes).marks notes) (shown span notes) (titles_are network span notes)
+marks_of_picture : (network : Network) (view : View) (notes : List Note)
+    → filter is_mark (picture_lines network view notes) ≡ mark_lines network view (plan_of network view notes).marks notes
+marks_of_picture network view notes =
+    without (front_lines network (plan_of network view notes) (windows_of network view notes) (clocks_in view.span notes))
+    (back_lines network view (plan_of network view notes).marks notes)
+    (none_front network (plan_of network view notes) (windows_of network view notes) (clocks_in view.span notes))
+    ∙ only_marks network (mark_lines network view (plan_of network view notes).marks notes) (shown view notes) (titles_are network view notes)
 
 -- ---- which titles they have
 
@@ -157,21 +159,21 @@ written : (network : Network) (note : Note) → IsInRange network → IsNoteOf n
     → NonePasses (λ c. c == 34) (decimal note.number) × IsPlain (note_text network note)
 written network note range of h = (no_quote (decimal note.number) ((decimal_is_IsNumeral note.number h.number).0).1, note_plain network note range of h)
 
-all_written : (network : Network) (span : Span) (notes : List Note) → IsInRange network → All (IsNoteOf network) notes → All IsNoteInRange notes
-    → AreWritten network (shown span notes)
-all_written network span [] range of h = tt
-all_written network span (note ∷ notes) range of h =
-    by (all_written network span notes range (All-tail (IsNoteOf network) note notes of) (All-tail IsNoteInRange note notes h)) (holds span (moment note))
+all_written : (network : Network) (view : View) (notes : List Note) → IsInRange network → All (IsNoteOf network) notes → All IsNoteInRange notes
+    → AreWritten network (shown view notes)
+all_written network view [] range of h = tt
+all_written network view (note ∷ notes) range of h =
+    by (all_written network view notes range (All-tail (IsNoteOf network) note notes of) (All-tail IsNoteInRange note notes h)) (is_drawn view note)
   where
-    by : AreWritten network (shown span notes) → (b : Bool) → AreWritten network (if b then note ∷ shown span notes else shown span notes)
+    by : AreWritten network (shown view notes) → (b : Bool) → AreWritten network (if b then note ∷ shown view notes else shown view notes)
     by rest true = (written network note range (All-head (IsNoteOf network) note notes of) (All-head IsNoteInRange note notes h), rest)
     by rest false = rest
 
-report_written : (network : Network) (span : Span) (octets : List ℕ) (notes : List Note) (end : Units) → IsReportOf network octets notes end
-    → AreWritten network (shown span notes)
-report_written network span octets notes end of =
+report_written : (network : Network) (view : View) (octets : List ℕ) (notes : List Note) (end : Units) → IsReportOf network octets notes end
+    → AreWritten network (shown view notes)
+report_written network view octets notes end of =
     let records = of.events.text.records in
-    all_written network span notes of.range records.of_network records.in_range
+    all_written network view notes of.range records.of_network records.in_range
 
 same_titles : (network other : Network) (lines : List (List ℕ)) (notes more : List Note) → HaveTitles network lines notes → HaveTitles other lines more
     → AreWritten network notes → AreWritten other more → map (note_text network) notes ≡ map (note_text other) more
@@ -187,16 +189,16 @@ same_titles network other (line ∷ lines) (n ∷ notes) (m ∷ more) p q a b =
     ∙ ap (λ (ts : List (List ℕ)). note_text other m ∷ ts) (same_titles network other lines notes more p.1 q.1 a.1 b.1)
 
 pub pictures_are_one : PicturesAreOne
-pictures_are_one network other span part octets report notes more end last of by same =
-    let marks : mark_lines network span (plan_of network span notes).marks notes ≡ mark_lines other part (plan_of other part more).marks more =
-    sym (marks_of_picture network span notes) ∙ ap (filter is_mark) same ∙ marks_of_picture other part more in
-    same_titles network other (mark_lines other part (plan_of other part more).marks more) (shown span notes) (shown part more)
-    (subst (λ (ls : List (List ℕ)). HaveTitles network ls (shown span notes)) marks (titles_are network span notes))
-    (titles_are other part more) (report_written network span octets notes end of) (report_written other part report more last by)
+pictures_are_one network other view part octets report notes more end last of by same =
+    let marks : mark_lines network view (plan_of network view notes).marks notes ≡ mark_lines other part (plan_of other part more).marks more =
+    sym (marks_of_picture network view notes) ∙ ap (filter is_mark) same ∙ marks_of_picture other part more in
+    same_titles network other (mark_lines other part (plan_of other part more).marks more) (shown view notes) (shown part more)
+    (subst (λ (ls : List (List ℕ)). HaveTitles network ls (shown view notes)) marks (titles_are network view notes))
+    (titles_are other part more) (report_written network view octets notes end of) (report_written other part report more last by)
 
 all_plain : (network : Network) (notes : List Note) → AreWritten network notes → All (λ note. IsPlain (note_text network note)) notes
 all_plain network [] a = All-nil (λ note. IsPlain (note_text network note))
 all_plain network (n ∷ notes) a = All-cons (λ note. IsPlain (note_text network note)) n notes a.0.1 (all_plain network notes a.1)
 
 pub titles_are_plain : TitlesArePlain
-titles_are_plain network span octets notes end of = all_plain network (shown span notes) (report_written network span octets notes end of)
+titles_are_plain network view octets notes end of = all_plain network (shown view notes) (report_written network view octets notes end of)

@@ -1,9 +1,9 @@
 -- The picture of a part of the run of a report shows it.
 use Rattle.{lens.proofs.draw_lemmas.Falls.never_fall, lens_svg.proofs.{Arrows.arrows_are_causes, Hues.marks_have_hues, Painting.lanes_are_states}, tte_audit.specs.Report.AreNumbered}
 use Rattle.{lens.proofs.draw_lemmas.Titles.titles_are, net_plan.specs.declared.network.Network.Network, tte_units.specs.declared.units.Units.Units}
-use Rattle.{lens.specs.draw.Laws.{PicturesShowRuns, ShowsRun}, lens_svg.specs.Laws.{NeverFall, NumbersFollow, grounds_after, painted_with, shown}}
+use Rattle.{lens.specs.draw.Laws.{PicturesShowRuns, ShowsRun}, lens_svg.specs.Laws.{NeverFall, NumbersFollow, grounds_after, painted_with, shown, told}}
 use Rattle.{lens_svg.proofs.Order.keeps_order, tte_reports.specs.Reports.IsReportOf}
-use Rattle.{lens_svg.specs.{Layout.holds, Sketching.{moment, plan_of}, declared.layout.Span.Span}, run_law.specs.declared.note.Note.Note}
+use Rattle.{lens_svg.specs.{Sketching.{is_drawn, plan_of}, Views.View}, run_law.specs.declared.note.Note.Note}
 use Rattle.std.{proofs.Common.{◌++◌, ◌+◌, ◌∙◌, ◌∷◌, ◌≡◌, List, [], append_assoc, length, length-append, refl, subst, sym, true, ℕ}, specs.Prelude.{fold, take}}
 
 -- ---- the numbers follow each other
@@ -24,24 +24,24 @@ module _ (network : Network) (octets : List ℕ) (notes : List Note) (end : Unit
   falls : NeverFall 0 notes
   falls = never_fall network octets notes end of
 
-  lanes : (span : Span) (front rest : List Note) (note : Note) → notes ≡ front ++ note ∷ rest → holds span (moment note) ≡ true
-      → fold painted_with (plan_of network span notes).grounds (take (length (shown span (front ++ note ∷ []))) (plan_of network span notes).marks)
-      ≡ grounds_after network (front ++ note ∷ [])
-  lanes span front rest note whole held =
-      subst (λ (ns : List Note). fold painted_with (plan_of network span ns).grounds
-      (take (length (shown span (front ++ note ∷ []))) (plan_of network span ns).marks) ≡ grounds_after network (front ++ note ∷ [])) (sym whole)
-      (lanes_are_states network span front rest note (subst (NeverFall 0) whole falls) held)
+  lanes : (view : View) (front rest : List Note) (note : Note) → notes ≡ front ++ note ∷ rest → is_drawn view note ≡ true
+      → fold painted_with (plan_of network view notes).grounds (take (length (shown view (front ++ note ∷ []))) (plan_of network view notes).marks)
+      ≡ grounds_after network (told view (front ++ note ∷ []))
+  lanes view front rest note whole held =
+      subst (λ (ns : List Note). fold painted_with (plan_of network view ns).grounds
+      (take (length (shown view (front ++ note ∷ []))) (plan_of network view ns).marks) ≡ grounds_after network (told view (front ++ note ∷ []))) (sym whole)
+      (lanes_are_states network view front rest note (subst (NeverFall 0) whole falls) held)
 
-  shows : (span : Span) → ShowsRun network span notes
-  shows span =
-      let arrows = arrows_are_causes network span notes numbers falls in record {
-        titles = titles_are network span notes;
-        order = keeps_order network span notes of.events.text.records.of_network falls;
+  shows : (view : View) → ShowsRun network view notes
+  shows view =
+      let arrows = arrows_are_causes network view notes numbers falls in record {
+        titles = titles_are network view notes;
+        order = keeps_order network view notes of.events.text.records.of_network falls;
         marks = arrows.0;
-        hues = marks_have_hues network span notes numbers falls;
+        hues = marks_have_hues network view notes numbers falls;
         arrows = arrows.1;
-        lanes = lanes span;
+        lanes = lanes view;
       }
 
 pub pictures_show_runs : PicturesShowRuns
-pictures_show_runs network span octets notes end of = shows network octets notes end of span
+pictures_show_runs network view octets notes end of = shows network octets notes end of view

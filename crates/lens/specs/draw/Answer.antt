@@ -1,32 +1,36 @@
 -- What `draw` answers for a report.
-use Rattle.std.specs.Prelude.{◌≡◌, ◌++◌, if◌then◌else◌, List}
+use Rattle.std.specs.Prelude.{◌≡◌, ◌++◌, if◌then◌else◌, List, None}
 use Rattle.{lens.specs.draw.Picture.{back_lines, front_lines, picture_lines}, lens_svg.specs.declared.layout.Span.Span}
 use Rattle.lens.specs.{declared.forms.Part.Part, draw.Spans.span_of}
 use Rattle.lens_svg.specs.{Clocks.Clocks, Sketching.{fits, plan_of}, declared.{mark.Mark.Mark, window.Came.Came}}
 use Rattle.{run_law.specs.declared.note.Note.Note, tte_forms.specs.Answering.Answer}
-use Rattle.lens_svg.specs.Plan.{Plan}
+use Rattle.lens_svg.specs.{Plan.Plan, Views.View}
 use Rattle.{net_plan.specs.declared.network.Network.Network, tte_units.specs.declared.units.Units.Units}
 use Rattle.tte_forms.specs.{declared.status.Status.TheVariants.Done, networks.Accepting.too_long_answer}
 
 -- the marks and the end of the picture, as an answer
-abbrev pub back_answer : Network → Span → List Mark → List Note → Answer
-back_answer network span marks notes = record { status = Done; lines = back_lines network span marks notes }
+abbrev pub back_answer : Network → View → List Mark → List Note → Answer
+back_answer network view marks notes = record { status = Done; lines = back_lines network view marks notes }
 
 -- the picture of this plan, these windows and these clocks, with the marks of these records, as an answer
 abbrev pub fitting_answer : Network → Plan → List Came → Clocks → List Note → Answer
 fitting_answer network plan windows clocks notes = record {
   status = Done;
-  lines = front_lines network plan windows clocks ++ back_lines network plan.span plan.marks notes;
+  lines = front_lines network plan windows clocks ++ back_lines network plan.view plan.marks notes;
 }
 
 -- the answer for the records of a report: their picture, where it is not too wide
-abbrev pub draw_answer : Network → Span → List Note → Answer
-draw_answer network span notes =
-    if fits (plan_of network span notes) then record { status = Done; lines = picture_lines network span notes }
+abbrev pub draw_answer : Network → View → List Note → Answer
+draw_answer network view notes =
+    if fits (plan_of network view notes) then record { status = Done; lines = picture_lines network view notes }
     else too_long_answer
 
+abbrev pub IsViewAnswer : View → Network → List Note → Units → Answer → Type 0
+IsViewAnswer view network notes end a = a ≡ draw_answer network view notes
+
+-- where all records of a part are drawn
 abbrev pub IsDrawAnswer : Span → Network → List Note → Units → Answer → Type 0
-IsDrawAnswer span network notes end a = a ≡ draw_answer network span notes
+IsDrawAnswer span network notes end a = IsViewAnswer (record { span = span; kept = None }) network notes end a
 
 -- the answer for a part of the run
 abbrev pub IsPartAnswer : Part → Network → List Note → Units → Answer → Type 0

@@ -7,4 +7,4 @@ use Rattle.std.specs.Prelude.{◌≡◌, List}
 -- what it has taken of these records: the plan that they leave behind this one, and what they tell of clocks
 pub record IsDraftOf (network : Network) (begin : Plan) (notes : List Note) (draft : Draft) : Type 0 where
   pub sketch : draft.sketch ≡ plan_behind network begin notes
-  pub clocks : draft.clocks ≡ clocks_in begin.span notes
+  pub clocks : draft.clocks ≡ clocks_in begin.view.span notes

@@ -1,16 +1,16 @@
 -- The lines of a picture.
 use Rattle.std.specs.Prelude.{ℕ, ℤ, zero, suc, ◌+◌, if◌then◌else◌, List, [], ◌∷◌, ◌++◌, Option}
 use Rattle.std.specs.Prelude.{Some, None, drop, flat_map, length}
-use Rattle.lens.specs.declared.draw.putting.Layer.TheVariants.{Caption, Gauges, Lanes, Marks, Opening, Shared, Spread}
+use Rattle.lens.specs.declared.draw.putting.Layer.TheVariants.{Caption, Gauges, Lack, Lanes, Marks, Opening, Shared, Spread}
 use Rattle.lens.specs.declared.draw.putting.Layer.{Layer, TheVariants.Windows}
 use Rattle.lens.specs.declared.draw.signs.Sign.TheVariants.{Arrows, Backdrop, Heading, MarkKey, Shapes, Style, WayKey}
 use Rattle.lens_svg.specs.declared.layer.LaneLayer.TheVariants.{Grounds, Rails}
 use Rattle.lens_svg.specs.declared.layer.MarkLayer.TheVariants.{Ticks, Turns, Waits, Ways}
 use Rattle.{lens.specs.draw.Signs.{close_line, sign_line}, run_law.specs.records.Happenings.happenings}
-use Rattle.lens_svg.specs.{Clocks.{Clocks, clocks_in, gauge_of, spread_of}, Layers.{on_lane, on_mark, opening_of}}
+use Rattle.lens_svg.specs.{Clocks.{Clocks, clocks_in, gauge_of, spread_of}, Layers.{lack_of, on_lane, on_mark, opening_of}}
 use Rattle.{lens_svg.specs.{Elements.element_line, Plan.Plan}, run_law.specs.declared.note.Note.Note}
-use Rattle.lens_svg.specs.{Layout.holds, Marking.mark_line, Windows.{box_of, windows_in}, declared.mark.Mark.Mark}
-use Rattle.lens_svg.specs.{Sketching.{moment, plan_of}, declared.{layout.{Pen.Pen, Span.Span}, window.Came.Came}}
+use Rattle.lens_svg.specs.{Marking.mark_line, Views.View, Windows.{box_of, windows_in}, declared.mark.Mark.Mark}
+use Rattle.lens_svg.specs.{Sketching.{is_drawn, plan_of}, declared.{layout.Pen.Pen, window.Came.Came}}
 use Rattle.lens_svg.specs.declared.{element.Element.Element, layer.{LaneLayer.LaneLayer, MarkLayer.MarkLayer}}
 use Rattle.{audit_sweep.specs.Indexing.clock_at, tte_audit.specs.Report.scenario_of}
 use Rattle.net_plan.specs.declared.{ids.DeviceId.DeviceId, network.Network.Network}
@@ -47,19 +47,20 @@ windows_lines network windows = flat_map (λ came. some_line network (box_of cam
 abbrev pub layer_lines : Network → Plan → List Came → Clocks → Layer → List (List ℕ)
 layer_lines network plan windows clocks Opening = element_line network (opening_of network plan) ∷ []
 layer_lines network plan windows clocks (Shared sign) = sign_line sign ∷ []
-layer_lines network plan windows clocks Caption = element_line network (elements.Caption plan.span (length plan.marks)) ∷ []
+layer_lines network plan windows clocks Caption = element_line network (elements.Caption plan.view.span (length plan.marks)) ∷ []
 layer_lines network plan windows clocks (Lanes layer) = lanes_lines network plan layer
 layer_lines network plan windows clocks (Marks layer) = marks_lines network plan layer
 layer_lines network plan windows clocks Windows = windows_lines network windows
 layer_lines network plan windows clocks Gauges = gauges_lines network plan.pen clocks
 layer_lines network plan windows clocks Spread = some_line network (spread_of network clocks)
+layer_lines network plan windows clocks Lack = some_line network (lack_of plan)
 
 -- the parts below the marks, in their order
 abbrev pub layers : List Layer
 layers =
     Opening ∷ Shared Style ∷ Shared Arrows ∷ Shared Shapes ∷ Shared Backdrop ∷ Shared Heading ∷ Shared MarkKey
     ∷ Shared WayKey ∷ Caption ∷ Lanes Grounds ∷ Marks Turns ∷ Marks Ticks ∷ Lanes Rails ∷ Marks Waits ∷ Marks Ways
-    ∷ Windows ∷ Gauges ∷ Spread ∷ []
+    ∷ Windows ∷ Gauges ∷ Spread ∷ Lack ∷ []
 
 -- all that is below the marks
 abbrev pub front_lines : Network → Plan → List Came → Clocks → List (List ℕ)
@@ -70,34 +71,34 @@ abbrev pub first_line : Network → List Mark → Note → List (List ℕ)
 first_line network [] note = []
 first_line network (mark ∷ marks) note = mark_line network mark note ∷ []
 
--- a record has a line where it is in the span
-abbrev pub marks_of : Network → Span → List Mark → Note → List (List ℕ)
-marks_of network span marks note = if holds span (moment note) then first_line network marks note else []
+-- a record has a line where it is drawn
+abbrev pub marks_of : Network → View → List Mark → Note → List (List ℕ)
+marks_of network view marks note = if is_drawn view note then first_line network marks note else []
 
 -- and the first of these marks is then its own
-abbrev pub marks_behind : Span → List Mark → Note → List Mark
-marks_behind span marks note = if holds span (moment note) then drop 1 marks else marks
+abbrev pub marks_behind : View → List Mark → Note → List Mark
+marks_behind view marks note = if is_drawn view note then drop 1 marks else marks
 
--- the lines of records, one after another, of which those in the span have these marks
-abbrev pub mark_lines : Network → Span → List Mark → List Note → List (List ℕ)
-mark_lines network span marks [] = []
-mark_lines network span marks (note ∷ notes) =
-    marks_of network span marks note ++ mark_lines network span (marks_behind span marks note) notes
+-- the lines of records, one after another, of which those that are drawn have these marks
+abbrev pub mark_lines : Network → View → List Mark → List Note → List (List ℕ)
+mark_lines network view marks [] = []
+mark_lines network view marks (note ∷ notes) =
+    marks_of network view marks note ++ mark_lines network view (marks_behind view marks note) notes
 
 -- the marks and the end of the picture
-abbrev pub back_lines : Network → Span → List Mark → List Note → List (List ℕ)
-back_lines network span marks notes = mark_lines network span marks notes ++ close_line ∷ []
+abbrev pub back_lines : Network → View → List Mark → List Note → List (List ℕ)
+back_lines network view marks notes = mark_lines network view marks notes ++ close_line ∷ []
 
 -- what the local clocks of a run show when something comes to a device at a time
 abbrev pub clocks_of : Network → List Note → DeviceId → ℕ → ℤ
 clocks_of network notes = clock_at (scenario_of network notes) (happenings network notes)
 
--- where in their windows the frames came that are taken in a part of a run
-abbrev pub windows_of : Network → Span → List Note → List Came
-windows_of network span notes = windows_in network (clocks_of network notes) (plan_of network span notes).marks
+-- where in their windows the frames came that are taken in what is drawn of a run
+abbrev pub windows_of : Network → View → List Note → List Came
+windows_of network view notes = windows_in network (clocks_of network notes) (plan_of network view notes).marks
 
--- the picture of a part of a run
-abbrev pub picture_lines : Network → Span → List Note → List (List ℕ)
-picture_lines network span notes =
-    front_lines network (plan_of network span notes) (windows_of network span notes) (clocks_in span notes)
-    ++ back_lines network span (plan_of network span notes).marks notes
+-- the picture of what is drawn of a run
+abbrev pub picture_lines : Network → View → List Note → List (List ℕ)
+picture_lines network view notes =
+    front_lines network (plan_of network view notes) (windows_of network view notes) (clocks_in view.span notes)
+    ++ back_lines network view (plan_of network view notes).marks notes

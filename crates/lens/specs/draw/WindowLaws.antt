@@ -3,7 +3,7 @@ use Rattle.std.specs.Prelude.{ℕ, ℤ, ◌≡◌, ◌*◌, ◌/◌, ◌-ℤ◌,
 use Rattle.{lens.specs.draw.Picture.clocks_of, tte_reports.specs.Reports.IsReportOf}
 use Rattle.{lens_svg.specs.{Sketching.plan_of, declared.mark.Mark.Mark}, schedule_tables.specs.Rules.KeepsRules}
 use Rattle.{lens_svg.specs.Windows.{came_of, window_by}, tte_units.specs.declared.units.Units.Units}
-use Rattle.{lens_svg.specs.declared.{layout.Span.Span, window.Came.Came}, net_plan.specs.declared.ids.LinkId.LinkId}
+use Rattle.{lens_svg.specs.{Views.View, declared.window.Came.Came}, net_plan.specs.declared.ids.LinkId.LinkId}
 use Rattle.{lens_svg.specs.declared.mark.Look.TheVariants.Taken, schedule_tables.specs.declared.window.Window.Window}
 use Rattle.{net_plan.specs.declared.ids.VlId.VlId, run_law.specs.{declared.note.Note.Note, records.Order.IsIn}}
 use Rattle.{net_plan.specs.declared.network.Network.Network, run_law.specs.device.Standpoints.offset_in_cycle}
@@ -29,9 +29,9 @@ pub record ShowsWindow (network : Network) (link : LinkId) (vl : VlId) (clock : 
 -- the box of its window, with the tick inside
 abbrev pub PicturesShowWindows : Type 0
 PicturesShowWindows =
-    (network : Network) (span : Span) (octets : List ℕ) (notes : List Note) (end : Units) → KeepsRules network
+    (network : Network) (view : View) (octets : List ℕ) (notes : List Note) (end : Units) → KeepsRules network
     → IsReportOf network octets notes end
-    → (mark : Mark) (link : LinkId) (vl : VlId) → IsIn mark (plan_of network span notes).marks
+    → (mark : Mark) (link : LinkId) (vl : VlId) → IsIn mark (plan_of network view notes).marks
     → mark.look ≡ Taken link vl
     → ShowsWindow network link vl (clocks_of network notes mark.device mark.time)
     (came_of network mark (clocks_of network notes mark.device mark.time))

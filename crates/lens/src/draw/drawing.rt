@@ -1,6 +1,6 @@
 ghost use Rattle.std.specs.Prelude.{◌≡◌, IfOk, List};
-ghost use Rattle.{lens.specs.draw.Answer.{IsDrawAnswer, draw_answer, fitting_answer}, lens.specs.draw.Drafts.IsDraftOf};
-ghost use Rattle.{lens_svg.specs.Sketching.{begun, plan_of}, lens_svg.specs.declared.layout.Span.{Span as SpanValue}};
+ghost use Rattle.{lens.specs.draw.Answer.{IsDrawAnswer, IsViewAnswer, draw_answer, fitting_answer}, lens.specs.draw.Drafts.IsDraftOf};
+ghost use Rattle.lens_svg.specs.{Sketching.{begun, plan_of}, Views.View};
 ghost use Rattle.{lens.specs.draw.Picture.windows_of, run_law.specs.declared.note.Note.{Note as NoteValue}};
 ghost use Rattle.{lens_svg.specs.Clocks.clocks_in, tte_reports.specs.Commands.IsRead};
 ghost use Rattle.{net_plan.specs.Ranges.IsInRange, tte_forms.specs.Putting.Over};
@@ -11,7 +11,7 @@ ghost use Rattle.tte_forms.specs.{Answering.{Gives, GivesAnswer}, Faults.{HasCau
 use crate::draw::marks::put_back;
 use crate::draw::putting::put_front;
 use crate::draw::windows::windows_of;
-use lens_svg::{Came, Clocks, Sketch, Span};
+use lens_svg::{Came, Clocks, Kept, Sketch, Span};
 use net_plan::Network;
 use run_law::Note;
 use std::alloc::Global;
@@ -35,27 +35,29 @@ impl<K: Sink> ReportCommand<K> for Draw {
     ghost audits = { λ command status is. is };
 
     fn put(&self, alloc: Global, network: &Network, report: &AuditedReport, out: &mut K) -> Status {
-        draw_known(alloc, network, report, self.span, out)
+        let kept = Kept { flags: None };
+        draw_known(alloc, network, report, self.span, kept, out)
     }
 }
 
-/// Draws a part of the run of an audited report.
-fn draw_known<K: Sink>(
+/// Draws these records of a part of the run of an audited report.
+pub(crate) fn draw_known<K: Sink>(
     alloc: Global,
     network: &Network,
     report: &AuditedReport,
     span: Span,
+    kept: Kept,
     out: &mut K,
 ) -> Status
     requires named { IsNamed network.now }
     requires read { IsRead network.now report.now }
     ensures gives { Over K.Sink out.old out.new (λ old new. (notes : List NoteValue) (end : UnitsValue)
         → IsReportOf network.now report.now.octets notes end
-        → GivesAnswer (IsDrawAnswer span network.now notes end) result old new) }
+        → GivesAnswer (IsViewAnswer (record { span = span; kept = kept }) network.now notes end) result old new) }
     ensures statuses { IsAuditStatus result }
     ensures cause { HasCause result ⊥ (PutFailed K.Sink out.old out.new) }
 {
-    let Draft { sketch, clocks } = match draft_of(alloc, network, span, report) {
+    let Draft { sketch, clocks } = match draft_of(alloc, network, span, kept, report) {
         Ok(draft) => draft,
         Err(_) => return Status::OutOfMemory,
     };
@@ -89,15 +91,16 @@ fn draft_of(
     alloc: Global,
     network: &Network,
     span: Span,
+    kept: Kept,
     report: &AuditedReport,
 ) -> Result<Draft, OutOfMemory>
     requires named { IsNamed network.now }
     requires report { IsSomeReport network.now report.now.octets }
     ensures { IfOk result (λ draft. (notes : List NoteValue) (end : UnitsValue)
         → IsReportOf network.now report.now.octets notes end
-        → IsDraftOf network.now (begun network.now span) notes draft) }
+        → IsDraftOf network.now (begun network.now (record { span = span; kept = kept })) notes draft) }
 {
-    let sketch = match Sketch::new(alloc, network, span) {
+    let sketch = match Sketch::new(alloc, network, span, kept) {
         Ok(sketch) => sketch,
         Err(_) => return Err(OutOfMemory),
     };
@@ -119,10 +122,10 @@ fn put_sketch<K: Sink>(
     requires range { IsInRange network.now }
     requires named { IsNamed network.now }
     requires left { (notes : List NoteValue) × AreLeft network.now records notes }
-    ensures gives { Over K.Sink out.old out.new (λ old new. (notes : List NoteValue) (span : SpanValue)
-        → AreLeft network.now records.entry notes → sketch.now ≡ plan_of network.now span notes
-        → windows.now ≡ windows_of network.now span notes → clocks.now ≡ clocks_in span notes
-        → Gives (draw_answer network.now span notes) result old new) }
+    ensures gives { Over K.Sink out.old out.new (λ old new. (notes : List NoteValue) (view : View)
+        → AreLeft network.now records.entry notes → sketch.now ≡ plan_of network.now view notes
+        → windows.now ≡ windows_of network.now view notes → clocks.now ≡ clocks_in view.span notes
+        → Gives (draw_answer network.now view notes) result old new) }
     ensures statuses { IsAuditStatus result }
     ensures cause { HasCause result ⊥ (PutFailed K.Sink out.old out.new) }
 {
@@ -156,12 +159,5 @@ fn put_fitting<K: Sink>(
         Ok(()) => (),
         Err(_) => return Status::WriteFault,
     }
-    put_back(
-        network,
-        sketch.span(),
-        sketch.marks(),
-        records,
-        &mut line,
-        out,
-    )
+    put_back(network, sketch, records, &mut line, out)
 }

@@ -7,18 +7,18 @@ ghost use Rattle.tte_reports.specs.{Answer.IsAuditStatus, Reports.AreLeft};
 ghost use Rattle.{report_text.specs.Ranges.{IsNoteInRange, IsNoteOf}, tte_forms.specs.Faults.{HasCause, PutFailed}};
 
 use crate::draw::signs::CLOSE;
-use lens_svg::{Mark, Span, make_mark_line};
+use lens_svg::{Mark, Sketch, make_mark_line};
 use net_plan::Network;
 use run_law::Note;
 use tte_forms::{Status, put_last};
 use tte_io::{LineText, Sink, SinkFailed};
 use tte_reports::Records;
 
-/// The marks behind that of a record, which has one if it is in the span.
-fn marks_behind<'a>(span: Span, marks: &'a [Mark], note: &Note) -> &'a [Mark]
-    ensures { result.now ≡ marks_behind span marks.now note.now }
+/// The marks behind that of a record, which has one if it is drawn.
+fn marks_behind<'a>(sketch: &Sketch, marks: &'a [Mark], note: &Note) -> &'a [Mark]
+    ensures { result.now ≡ marks_behind sketch.now.view marks.now note.now }
 {
-    if !span.holds(note.time.0.unsigned_abs()) {
+    if !sketch.draws(note) {
         return marks;
     }
     match marks.split_first() {
@@ -51,10 +51,10 @@ fn put_first<K: Sink>(
     }
 }
 
-/// Puts the mark of a record, which is the first of these, if the record is in the span.
+/// Puts the mark of a record, which is the first of these, if the record is drawn.
 fn put_mark<K: Sink>(
     network: &Network,
-    span: Span,
+    sketch: &Sketch,
     marks: &[Mark],
     note: &Note,
     line: &mut LineText,
@@ -63,22 +63,21 @@ fn put_mark<K: Sink>(
     requires range { IsInRange network.now }
     requires of_network { IsNoteOf network.now note.now }
     requires in_range { IsNoteInRange note.now }
-    ensures draws { Over K.Sink out.old out.new (Draws (marks_of network.now span marks.now note.now) result) }
+    ensures draws { Over K.Sink out.old out.new (Draws (marks_of network.now sketch.now.view marks.now note.now) result) }
     ensures faults { MatchResult result (λ _. K.faults out.new ≡ K.faults out.old)
         (λ _. PutFailed K.Sink out.old out.new) }
 {
-    if span.holds(note.time.0.unsigned_abs()) {
+    if sketch.draws(note) {
         put_first(network, marks, note, line, out)
     } else {
         Ok(())
     }
 }
 
-/// Puts these marks of the records in the span, and the end of the picture.
+/// Puts the marks of the records, and the end of the picture.
 pub(crate) fn put_back<K: Sink>(
     network: &Network,
-    span: Span,
-    all: &[Mark],
+    sketch: &Sketch,
     first: Records<'_>,
     line: &mut LineText,
     out: &mut K,
@@ -88,19 +87,19 @@ pub(crate) fn put_back<K: Sink>(
     requires left { (notes : List NoteValue) × AreLeft network.now first notes }
     ensures gives { Over K.Sink out.old out.new (λ old new. (notes : List NoteValue)
         → AreLeft network.now first.entry notes
-        → Gives (back_answer network.now span all.now notes) result old new) }
+        → Gives (back_answer network.now sketch.now.view sketch.now.marks notes) result old new) }
     ensures statuses { IsAuditStatus result }
     ensures cause { HasCause result ⊥ (PutFailed K.Sink out.old out.new) }
 {
     let mut records = first;
-    let mut marks = all;
+    let mut marks = sketch.marks();
     'records: loop {
         let note = match records.next(network) {
             Some(note) => note,
             None => return put_last(CLOSE.as_bytes(), Status::Done, out),
         };
-        match put_mark(network, span, marks, &note, line, out) {
-            Ok(()) => marks = marks_behind(span, marks, &note),
+        match put_mark(network, sketch, marks, &note, line, out) {
+            Ok(()) => marks = marks_behind(sketch, marks, &note),
             Err(_) => return Status::WriteFault,
         }
     }

@@ -7,8 +7,8 @@ ghost use Rattle.tte_forms.specs.Putting.{Over};
 
 use crate::draw::signs::Sign;
 use lens_svg::{
-    Came, Clocks, Element, LaneLayer, MarkLayer, Pen, Sketch, gauge_of, make_element_line, on_lane,
-    on_mark, opening_of, spread_of,
+    Came, Clocks, Element, LaneLayer, MarkLayer, Pen, Sketch, gauge_of, lack_of, make_element_line,
+    on_lane, on_mark, opening_of, spread_of,
 };
 use net_plan::Network;
 use tte_io::{LineText, Sink, SinkFailed};
@@ -32,10 +32,12 @@ pub(crate) enum Layer {
     Gauges,
     /// How far they are apart.
     Spread,
+    /// That no record is drawn.
+    Lack,
 }
 
 /// The parts below the marks, in their order.
-pub(crate) const LAYERS: [Layer; 18] = [
+pub(crate) const LAYERS: [Layer; 19] = [
     Layer::Opening,
     Layer::Shared(Sign::Style),
     Layer::Shared(Sign::Arrows),
@@ -54,6 +56,7 @@ pub(crate) const LAYERS: [Layer; 18] = [
     Layer::Windows,
     Layer::Gauges,
     Layer::Spread,
+    Layer::Lack,
 ];
 
 /// Puts the line of something that is drawn, if there is anything.
@@ -209,6 +212,7 @@ fn put_layer<K: Sink>(
         Layer::Windows => put_windows(network, windows, line, out),
         Layer::Gauges => put_gauges(network, sketch.pen(), clocks, line, out),
         Layer::Spread => put_some(network, spread_of(network, clocks), line, out),
+        Layer::Lack => put_some(network, lack_of(sketch), line, out),
     }
 }
 

@@ -85,7 +85,7 @@ fn period_spelled(text: &[u8]) -> Option<u32>
 
 /// Is the text a name: 1 to 16 lower-case ASCII letters, digits or `_`?
 #[tactic(auto, unfolding(crate::specs::messages::Values::is_name_text))]
-pub(crate) fn is_name_text(text: &[u8]) -> bool
+pub fn is_name_text(text: &[u8]) -> bool
     ensures value { result ≡ is_name_text text.now }
     ensures meaning { IsTrue result → IsNameText text.now }
 {

@@ -9,7 +9,8 @@ use worked_network::{call_of_one, words_of};
 
 const USAGE: &str =
     "usage: lens slack NETWORK [RULE] | least NETWORK | plan NETWORK MESSAGES | latency NETWORK [REPORT] | why NETWORK REPORT N | \
-        draw NETWORK REPORT [CYCLE] | draw NETWORK REPORT FROM TO | page NETWORK REPORT | flows NETWORK REPORT | events NETWORK SEED CYCLES\n";
+        draw NETWORK REPORT | draw NETWORK REPORT CYCLE [NAME] | draw NETWORK REPORT FROM TO [NAME] | \
+        page NETWORK REPORT | flows NETWORK REPORT | events NETWORK SEED CYCLES\n";
 
 const NO_FORMS: &[&[&str]] = &[
     &[],
@@ -53,6 +54,15 @@ const NO_FORMS: &[&[&str]] = &[
     &["draw", "a", "b", "05"],
     &["draw", "a", "b", "5", "4"],
     &["draw", "a", "b", "1ms", "999us"],
+    // A cycle with a unit before a name, names that are none, a word too many.
+    &["draw", "a", "b", "5us", "x"],
+    &["draw", "a", "b", "5", "X"],
+    &["draw", "a", "b", "5", ""],
+    &["draw", "a", "b", "5", "abcdefghijklmnopq"],
+    &["draw", "a", "b", "5", "7", "x-y"],
+    &["draw", "a", "b", "5", "x", "7"],
+    &["draw", "a", "b", "7", "5", "x"],
+    &["draw", "a", "b", "5", "7", "x", "y"],
     // Past 2^64 - 1 units.
     &["draw", "a", "b", "0", "18446744073709551616"],
     &["draw", "a", "b", "0", "281474977ms"],
@@ -121,49 +131,83 @@ const INEQUALITIES: &[(&str, Rule)] = &[
     ("23", Rule::Forwarding),
 ];
 
-// Words are read as this form.
-fn try_form(rt: &impl Abort, alloc: Global, texts: &[&str], form: Form) -> Result<(), Fail> {
+// Words are read as such a form.
+fn try_form(
+    rt: &impl Abort,
+    alloc: Global,
+    texts: &[&str],
+    is: impl Fn(&Form<'_>) -> bool,
+) -> Result<(), Fail> {
     let words = words_of(alloc, texts)?;
-    assert!(rt; read_form(&words) == Some(form));
+    assert!(rt; read_form(&words).is_some_and(|form| is(&form)));
     Ok(())
+}
+
+// The same, of what is asked of a report.
+fn try_question(
+    rt: &impl Abort,
+    alloc: Global,
+    texts: &[&str],
+    question: Question,
+) -> Result<(), Fail> {
+    try_form(
+        rt,
+        alloc,
+        texts,
+        |form| matches!(form, Form::Report(found) if *found == question),
+    )
 }
 
 #[test]
 fn words_of_slack_are_read(rt: HostRuntime) -> Result<(), Fail> {
     let alloc = rt.alloc();
-    try_form(&rt, alloc, &["slack", "a"], Form::Slack)?;
+    try_form(
+        &rt,
+        alloc,
+        &["slack", "a"],
+        |form| matches!(form, Form::Slack),
+    )?;
     for (number, rule) in INEQUALITIES {
-        try_form(&rt, alloc, &["slack", "a", number], Form::SlackOf(*rule))?;
+        let words = ["slack", "a", number];
+        try_form(
+            &rt,
+            alloc,
+            &words,
+            |form| matches!(form, Form::SlackOf(of) if of == rule),
+        )?;
     }
     Ok(())
 }
 
 #[test]
-fn words_of_least_are_read(rt: HostRuntime) -> Result<(), Fail> {
-    try_form(&rt, rt.alloc(), &["least", "a"], Form::Least)
-}
-
-#[test]
-fn words_of_plan_are_read(rt: HostRuntime) -> Result<(), Fail> {
-    try_form(&rt, rt.alloc(), &["plan", "a", "b"], Form::Plan)
-}
-
-#[test]
-fn words_of_latency_are_read(rt: HostRuntime) -> Result<(), Fail> {
+fn words_of_a_network_and_of_messages_are_read(rt: HostRuntime) -> Result<(), Fail> {
     let alloc = rt.alloc();
-    try_form(&rt, alloc, &["latency", "a"], Form::Latency)?;
-    let seen = Form::Report(Question::LatencySeen);
-    try_form(&rt, alloc, &["latency", "a", "b"], seen)
-}
-
-#[test]
-fn words_of_page_are_read(rt: HostRuntime) -> Result<(), Fail> {
     try_form(
         &rt,
-        rt.alloc(),
-        &["page", "a", "b"],
-        Form::Report(Question::Page),
+        alloc,
+        &["least", "a"],
+        |form| matches!(form, Form::Least),
+    )?;
+    try_form(
+        &rt,
+        alloc,
+        &["latency", "a"],
+        |form| matches!(form, Form::Latency),
+    )?;
+    try_form(
+        &rt,
+        alloc,
+        &["plan", "a", "b"],
+        |form| matches!(form, Form::Plan),
     )
+}
+
+#[test]
+fn words_of_whole_reports_are_read(rt: HostRuntime) -> Result<(), Fail> {
+    let alloc = rt.alloc();
+    try_question(&rt, alloc, &["latency", "a", "b"], Question::LatencySeen)?;
+    try_question(&rt, alloc, &["page", "a", "b"], Question::Page)?;
+    try_question(&rt, alloc, &["draw", "a", "b"], Question::DrawWhole)
 }
 
 // Numbers of records.
@@ -172,8 +216,8 @@ const NUMBERS: &[(&str, u64)] = &[("1", 1), ("98", 98), ("18446744073709551615",
 #[test]
 fn words_of_why_are_read(rt: HostRuntime) -> Result<(), Fail> {
     for (text, number) in NUMBERS {
-        let why = Form::Report(Question::Why { number: *number });
-        try_form(&rt, rt.alloc(), &["why", "a", "b", text], why)?;
+        let why = Question::Why { number: *number };
+        try_question(&rt, rt.alloc(), &["why", "a", "b", text], why)?;
     }
     Ok(())
 }
@@ -189,28 +233,65 @@ const TIMES: &[(&str, &str, u64, u64)] = &[
     ("1us", "281474976ms", 65_536_000, 18_446_744_027_136_000_000),
 ];
 
-// Without times the whole run is drawn, with a number a cycle, and with two times the part between them.
+// With a number a cycle is drawn, and with two times the part between them.
 #[test]
 fn words_of_draw_are_read(rt: HostRuntime) -> Result<(), Fail> {
     let alloc = rt.alloc();
-    try_form(
-        &rt,
-        alloc,
-        &["draw", "a", "b"],
-        Form::Report(Question::DrawWhole),
-    )?;
     for (cycle, number) in CYCLES {
         let part = Part::Cycle { number: *number };
-        let form = Form::Report(Question::Draw(part));
-        try_form(&rt, alloc, &["draw", "a", "b", cycle], form)?;
+        try_question(&rt, alloc, &["draw", "a", "b", cycle], Question::Draw(part))?;
     }
     for (first, last, from, to) in TIMES {
         let part = Part::Times {
             from: *from,
             to: *to,
         };
-        let form = Form::Report(Question::Draw(part));
-        try_form(&rt, alloc, &["draw", "a", "b", first, last], form)?;
+        try_question(
+            &rt,
+            alloc,
+            &["draw", "a", "b", first, last],
+            Question::Draw(part),
+        )?;
+    }
+    Ok(())
+}
+
+// A cycle and a name, and names behind two times, of which one reads as a time.
+const NAMED: &[(&[&str], Part, &str)] = &[
+    (
+        &["draw", "a", "b", "5", "x_1"],
+        Part::Cycle { number: 5 },
+        "x_1",
+    ),
+    (
+        &["draw", "a", "b", "5", "4s"],
+        Part::Cycle { number: 5 },
+        "4s",
+    ),
+    (
+        &["draw", "a", "b", "5", "ms"],
+        Part::Cycle { number: 5 },
+        "ms",
+    ),
+    (
+        &["draw", "a", "b", "0", "7", "x"],
+        Part::Times { from: 0, to: 7 },
+        "x",
+    ),
+    (
+        &["draw", "a", "b", "0", "7", "7us"],
+        Part::Times { from: 0, to: 7 },
+        "7us",
+    ),
+];
+
+#[test]
+fn words_of_draw_with_a_name_are_read(rt: HostRuntime) -> Result<(), Fail> {
+    for (words, wanted, text) in NAMED {
+        let is = |form: &Form<'_>| {
+            matches!(form, Form::DrawNamed { part, name } if part == wanted && name.text() == *text)
+        };
+        try_form(&rt, rt.alloc(), words, is)?;
     }
     Ok(())
 }
@@ -218,11 +299,10 @@ fn words_of_draw_are_read(rt: HostRuntime) -> Result<(), Fail> {
 #[test]
 fn words_of_events_are_read(rt: HostRuntime) -> Result<(), Fail> {
     for (texts, seed, cycles) in EVENTS {
-        let events = Form::Events {
-            seed: *seed,
-            cycles: *cycles,
+        let is = |form: &Form<'_>| {
+            matches!(form, Form::Events { seed: s, cycles: c } if s == seed && c == cycles)
         };
-        try_form(&rt, rt.alloc(), texts, events)?;
+        try_form(&rt, rt.alloc(), texts, is)?;
     }
     Ok(())
 }

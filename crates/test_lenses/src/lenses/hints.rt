@@ -27,7 +27,7 @@ const WRONG: &[(&[&str], &str)] = &[
     ),
     (
         &["draw", "a", "b", "2097152"],
-        "TO is missing in: draw NETWORK REPORT FROM TO",
+        "TO is missing in: draw NETWORK REPORT FROM TO NAME",
     ),
     (
         &["draw", "a", "b", "5", "4 ms"],
@@ -37,6 +37,14 @@ const WRONG: &[(&[&str], &str)] = &[
     (
         &["draw", "a", "b", "9us", "3"],
         "TO, 3, is less than FROM, 9us",
+    ),
+    (
+        &["draw", "a", "b", "9", "3", "x"],
+        "TO, 3, is less than FROM, 9",
+    ),
+    (
+        &["draw", "a", "b", "9", "30", "X"],
+        "NAME is \"X\"; it must be the name of a virtual link or of a device",
     ),
 ];
 

@@ -1,7 +1,9 @@
 use Rattle.{lens.proofs.TopAnswers.{no_usage_for, words_as}, tte_forms.{proofs.Facts.no_usage, specs.Putting.shown_by}}
-use Rattle.lens.specs.{Forms.form_of, Questions.EndsFor, declared.forms.Form.TheVariants.{Events, Latency, Least, Plan, Report, Slack, SlackOf}}
+use Rattle.lens.specs.{Forms.form_of, Questions.EndsFor, declared.forms.Form.TheVariants.{DrawNamed, Events, Latency, Least, Plan, Report, Slack, SlackOf}}
 use Rattle.lens_plan.specs.Answer.{IsPlanStatus}
-use Rattle.{std.proofs.Common.{◌≡◌, None, Some, rules}, tte_forms.specs.networks.Checking.IsCheckStatus}
+use Rattle.lens.{proofs.draw_lemmas.Naming.{named_completed, named_safely}, specs.{Top.{AnswersReports, AnswersSafely, FailsToRead, LeavesSecond}, declared.forms.Form.Form, draw.Naming.IsNamedStatus}}
+use Rattle.{std.specs.Prelude.Option, tte_forms.specs.Faults.HasCause}
+use Rattle.{std.proofs.Common.{◌≡◌, ◌⊎◌, None, Some, inl, inr, rules, subst}, tte_forms.specs.networks.Checking.IsCheckStatus}
 use Rattle.lens.proofs.top.lens.Goals as goal
 
 pub returns-in-Some-Slack-clause-general : goal.returns-in-Some-Slack-clause-general
@@ -59,6 +61,54 @@ returns-in-Some-Report-clause-general g c =
       no_usage (EndsFor c.in-Some-Report.question) c.answer_report.result (no_usage_for c.in-Some-Report.question) c.answer_report.ensures.statuses,
       c.answer_report.ensures.general,
     )
+
+pub returns-in-Some-DrawNamed-clause-general : goal.returns-in-Some-DrawNamed-clause-general
+returns-in-Some-DrawNamed-clause-general g c =
+    let same : Some (DrawNamed c.in-Some-DrawNamed.part c.in-Some-DrawNamed.name) ≡ form_of c.args.words.now = search rules in
+    let text = c.text.ensures in
+    let form : Some (DrawNamed c.in-Some-DrawNamed.part c.text.result.now) ≡ form_of c.args.words.now = cc in
+    words_as form _ _ _ _ _ (no_usage IsNamedStatus _ (λ none. none) c.draw_named.ensures.statuses, c.draw_named.ensures.general)
+
+pub returns-in-Some-DrawNamed-clause-safe : goal.returns-in-Some-DrawNamed-clause-safe
+returns-in-Some-DrawNamed-clause-safe g c =
+    let same : Some (DrawNamed c.in-Some-DrawNamed.part c.in-Some-DrawNamed.name) ≡ form_of c.args.words.now = search rules in
+    let text = c.text.ensures in
+    let form : Some (DrawNamed c.in-Some-DrawNamed.part c.text.result.now) ≡ form_of c.args.words.now = cc in
+    let first = g.A.Source.left c.args.first.now in
+    let second = g.B.Source.left c.args.second.now in
+    let shown = shown_by g.K.Sink in
+    subst (λ (f : Option Form). AnswersSafely f first second c.draw_named.result) form
+    (named_safely c.in-Some-DrawNamed.part c.text.result.now first second c.draw_named.result (shown c.args.out.now) (shown c.draw_named.new.out)
+    c.draw_named.ensures.general)
+
+pub returns-in-Some-DrawNamed-clause-faults : goal.returns-in-Some-DrawNamed-clause-faults
+returns-in-Some-DrawNamed-clause-faults g c =
+    let same : Some (DrawNamed c.in-Some-DrawNamed.part c.in-Some-DrawNamed.name) ≡ form_of c.args.words.now = search rules in
+    subst (λ (f : Option Form). HasCause c.draw_named.result (FailsToRead f _ _ _ _) _) same c.draw_named.ensures.faults
+
+pub returns-in-Some-DrawNamed-clause-second : goal.returns-in-Some-DrawNamed-clause-second
+returns-in-Some-DrawNamed-clause-second g c =
+    let same : Some (DrawNamed c.in-Some-DrawNamed.part c.in-Some-DrawNamed.name) ≡ form_of c.args.words.now = search rules in
+    let text = c.text.ensures in
+    let form : Some (DrawNamed c.in-Some-DrawNamed.part c.text.result.now) ≡ form_of c.args.words.now = cc in
+    subst (λ (f : Option Form). LeavesSecond f (g.A.Source.left c.args.first.now) _) form c.draw_named.ensures.second
+
+-- a read that failed raised one of the counts
+read_rose : {F U V T W : Type 0} → (F × U × V) ⊎ (T × W) → F ⊎ T
+read_rose (inl h) = inl h.0
+read_rose (inr h) = inr h.0
+
+pub returns-in-Some-DrawNamed-clause-complete : goal.returns-in-Some-DrawNamed-clause-complete
+returns-in-Some-DrawNamed-clause-complete g c =
+    let same : Some (DrawNamed c.in-Some-DrawNamed.part c.in-Some-DrawNamed.name) ≡ form_of c.args.words.now = search rules in
+    let text = c.text.ensures in
+    let form : Some (DrawNamed c.in-Some-DrawNamed.part c.text.result.now) ≡ form_of c.args.words.now = cc in
+    let first = g.A.Source.left c.args.first.now in
+    let second = g.B.Source.left c.args.second.now in
+    let shown = shown_by g.K.Sink in
+    subst (λ (f : Option Form). AnswersReports f first second _ _ c.draw_named.result) form
+    (named_completed c.in-Some-DrawNamed.part c.text.result.now first second c.draw_named.result (shown c.args.out.now) (shown c.draw_named.new.out) _ _
+    c.draw_named.ensures.general (λ e. read_rose (c.draw_named.ensures.faults.read e)) c.draw_named.ensures.faults.write)
 
 pub returns-in-Some-Events-clause-general : goal.returns-in-Some-Events-clause-general
 returns-in-Some-Events-clause-general g c =

@@ -15,7 +15,7 @@ windows_of-requires-clause-askable g c =
     let network = c.args.network.now in
     let r = c.requires.read.some in
     let draft = c.in-Ok.ensures r.0 r.1 r.2 in
-    subst (λ (p : Plan). All (IsAskable network) p.marks) (sym draft.sketch) (report_askable network c.args.span c.args.report.now.octets r.0 r.1 r.2)
+    subst (λ (p : Plan). All (IsAskable network) p.marks) (sym draft.sketch) (report_askable network _ c.args.report.now.octets r.0 r.1 r.2)
 
 pub put_sketch-requires-clause-left : goal.put_sketch-requires-clause-left
 put_sketch-requires-clause-left g c = let r = c.requires.read.some in (r.0, c.records.ensures c.args.network.now r.0 r.1 r.2)
@@ -27,7 +27,7 @@ returns-in-Ok-windows_of-clause-gives g c notes end of =
     let windows = c.deref.ensures.value ∙ c.in-Ok-windows_of.ensures (events_of notes) (happenings network notes) (c.requires.read.index notes end of)
     ∙ ap (λ (p : Plan). windows_in network (clocks_of network notes) p.marks) draft.sketch in
     inl (
-      draw_answer network c.args.span notes,
+      draw_answer network _ notes,
       refl,
-      c.put_sketch.ensures.gives notes c.args.span (c.records.ensures network notes end of) draft.sketch windows draft.clocks,
+      c.put_sketch.ensures.gives notes _ (c.records.ensures network notes end of) draft.sketch windows draft.clocks,
     )

@@ -9,6 +9,5 @@ returns-in-Err-clause-gives g c notes left =
 pub returns-clause-gives : goal.returns-clause-gives
 returns-clause-gives g c notes left =
     let shown = shown_by g.K.Sink in
-    front_given c.args.network.now c.args.sketch.now c.args.windows.now c.args.clocks.now notes c.span.result c.marks.result.now c.put_back.result
-    (shown c.args.out.now) (shown c.put_front.new.out) (shown c.put_back.new.out) c.span.ensures c.marks.ensures c.in-Ok.ensures.draws
-    (c.put_back.ensures.gives notes left)
+    front_given c.args.network.now c.args.sketch.now c.args.windows.now c.args.clocks.now notes c.put_back.result (shown c.args.out.now)
+    (shown c.put_front.new.out) (shown c.put_back.new.out) c.in-Ok.ensures.draws (c.put_back.ensures.gives notes left)

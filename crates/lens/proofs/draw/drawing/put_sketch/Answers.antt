@@ -2,14 +2,14 @@ use Rattle.{lens.proofs.draw_lemmas.Marking.{fit_answer, wide_answer}, std.proof
 use Rattle.lens.proofs.draw.drawing.put_sketch.Goals as goal
 
 pub returns-then-fits-clause-gives : goal.returns-then-fits-clause-gives
-returns-then-fits-clause-gives g c notes span left same came told =
+returns-then-fits-clause-gives g c notes view left same came told =
     let shown = shown_by g.K.Sink in
-    fit_answer c.args.network.now span notes c.args.sketch.now c.args.windows.now c.args.clocks.now c.put_fitting.result (shown c.args.out.now)
+    fit_answer c.args.network.now view notes c.args.sketch.now c.args.windows.now c.args.clocks.now c.put_fitting.result (shown c.args.out.now)
     (shown c.put_fitting.new.out) same came told
     (sym c.if-fits.ensures) (c.put_fitting.ensures.gives notes left)
 
 pub returns-else-fits-clause-gives : goal.returns-else-fits-clause-gives
-returns-else-fits-clause-gives g c notes span left same came told =
+returns-else-fits-clause-gives g c notes view left same came told =
     let shown = shown_by g.K.Sink in
-    wide_answer c.args.network.now span notes c.args.sketch.now c.end_with.result (shown c.args.out.now) (shown c.end_with.new.out) same
+    wide_answer c.args.network.now view notes c.args.sketch.now c.end_with.result (shown c.args.out.now) (shown c.end_with.new.out) same
     (sym c.if-fits.ensures) c.end_with.ensures.ends

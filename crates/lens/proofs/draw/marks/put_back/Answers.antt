@@ -1,11 +1,14 @@
-use Rattle.lens.proofs.draw_lemmas.Marking.{left_less, marked_all, marked_fails, marked_first, marked_more, next_in_range, next_of}
+use Rattle.lens.proofs.draw_lemmas.Marking.{IsMarked, left_less, marked_all, marked_fails, marked_first, marked_more, next_in_range, next_of}
 use Rattle.{lens.specs.draw.Signs.close_line, run_law.specs.declared.note.Note.Note, tte_forms.specs.Putting.shown_by, tte_reports.specs.Reports.AreLeft}
-use Rattle.{std.proofs.Common.{◌∙◌, ◌≡◌, List, refl, subst, ℕ}, tte_forms.specs.{Answering.{Gives, line_answer}, declared.status.Status.TheVariants.Done}}
+use Rattle.lens_svg.specs.declared.mark.Mark.{Mark}
+use Rattle.{std.proofs.Common.{◌∙◌, ◌≡◌, List, refl, subst, sym, ℕ}, tte_forms.specs.{Answering.{Gives, line_answer}, declared.status.Status.TheVariants.Done}}
 use Rattle.lens.proofs.draw.marks.put_back.Goals as goal
 
 pub records-init : goal.records-init
 records-init g c = record {
-  marked = λ notes left. marked_first c.args.network.now c.args.span c.args.all.now notes c.args.first (shown_by g.K.Sink c.args.out.now) left;
+  marked = λ notes left. subst (λ (ms : List Mark). IsMarked c.args.network.now c.args.sketch.now.view c.args.sketch.now.marks notes c.args.first ms
+      (shown_by g.K.Sink c.args.out.now) (shown_by g.K.Sink c.args.out.now)) (sym c.marks.ensures)
+      (marked_first c.args.network.now c.args.sketch.now.view c.args.sketch.now.marks notes c.args.first (shown_by g.K.Sink c.args.out.now) left);
   quiet = refl;
 }
 
@@ -39,7 +42,7 @@ records-preserved g c =
       marked =
           λ notes left. let h = c.records.invariant.marked notes left in
           let next = c.in-Some.ensures h.rest h.left in
-          marked_more c.args.network.now c.args.span c.args.all.now notes c.records.records c.records.marks.now (shown c.args.out.now) (shown c.records.out) h
+          marked_more c.args.network.now c.args.sketch.now.view c.args.sketch.now.marks notes c.records.records c.records.marks.now (shown c.args.out.now) (shown c.records.out) h
           c.next.new.self c.in-Some.note next.0 c.marks_behind-marks.result.now (shown c.put_mark.new.out) next.1 next.2 c.marks_behind-marks.ensures
           c.in-Ok.ensures.draws;
       quiet = c.in-Ok.ensures.faults ∙ c.records.invariant.quiet;
@@ -50,7 +53,7 @@ returns-in-Err-clause-gives g c notes left =
     let shown = shown_by g.K.Sink in
     let h = c.records.invariant.marked notes left in
     let next = c.in-Some.ensures h.rest h.left in
-    marked_fails c.args.network.now c.args.span c.args.all.now notes c.records.records c.records.marks.now (shown c.args.out.now) (shown c.records.out) h
+    marked_fails c.args.network.now c.args.sketch.now.view c.args.sketch.now.marks notes c.records.records c.records.marks.now (shown c.args.out.now) (shown c.records.out) h
     c.in-Some.note next.0 (shown c.put_mark.new.out) next.1 c.in-Err.ensures.draws
 
 pub returns-in-None-clause-gives : goal.returns-in-None-clause-gives
@@ -58,7 +61,7 @@ returns-in-None-clause-gives g c notes left =
     let shown = shown_by g.K.Sink in
     let h = c.records.invariant.marked notes left in
     let last : c.as_bytes.result.now ≡ close_line = c.as_bytes.ensures.value in
-    marked_all c.args.network.now c.args.span c.args.all.now notes c.records.records c.records.marks.now (shown c.args.out.now) (shown c.records.out) h c.put_last.result
+    marked_all c.args.network.now c.args.sketch.now.view c.args.sketch.now.marks notes c.records.records c.records.marks.now (shown c.args.out.now) (shown c.records.out) h c.put_last.result
     (shown c.put_last.new.out) (c.in-None.ensures h.rest h.left)
     (subst (λ (bytes : List ℕ). Gives (line_answer Done bytes) c.put_last.result (shown c.records.out) (shown c.put_last.new.out)) last
     c.put_last.ensures.gives)

@@ -8,6 +8,6 @@ decreases-records g l = length l.records.rest.now
 abbrev pub invariant-records : goal.invariant-records
 invariant-records g l = record {
   marked : (notes : List Note) → AreLeft l.network l.initial.records notes
-      → IsMarked l.network l.span l.all notes l.records l.marks (shown_by g.K.Sink l.fn.out) (shown_by g.K.Sink l.out);
+      → IsMarked l.network l.sketch.view l.sketch.marks notes l.records l.marks (shown_by g.K.Sink l.fn.out) (shown_by g.K.Sink l.out);
   quiet : g.K.Sink.faults l.out ≡ g.K.Sink.faults l.fn.out;
 }

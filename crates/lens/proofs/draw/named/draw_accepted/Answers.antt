@@ -1,0 +1,18 @@
+use Rattle.lens.proofs.draw_lemmas.Naming.{named_given, not_unknown, unknown_given}
+use Rattle.tte_forms.specs.Putting.{shown_by}
+use Rattle.lens.proofs.draw.named.draw_accepted.Goals as goal
+
+pub returns-in-Some-clause-gives : goal.returns-in-Some-clause-gives
+returns-in-Some-clause-gives g c =
+    let shown = shown_by g.K.Sink in
+    named_given c.args.part c.args.name.now c.args.accepted.now c.in-Some.subject (g.B.Source.left c.args.second.now) c.answer_accepted.result
+    (shown c.args.out.now) (shown c.answer_accepted.new.out) c.in-Some.ensures.some c.answer_accepted.ensures.gives
+
+pub returns-in-None-clause-gives : goal.returns-in-None-clause-gives
+returns-in-None-clause-gives g c =
+    let shown = shown_by g.K.Sink in
+    unknown_given c.args.part c.args.name.now c.args.accepted.now (g.B.Source.left c.args.second.now) c.put_unknown.result (shown c.args.out.now)
+    (shown c.put_unknown.new.out) c.in-None.ensures.none c.put_unknown.ensures.gives
+
+pub returns-in-Some-clause-unread : goal.returns-in-Some-clause-unread
+returns-in-Some-clause-unread g c unknown = absurd (not_unknown c.args.accepted.now c.args.name.now c.in-Some.subject c.in-Some.ensures.some unknown)

@@ -1,0 +1,231 @@
+-- What is answered where a name is given: how, safely, to its end, and once.
+use Rattle.lens.specs.draw.Keeping.{AreFlags, IsKept, Tells}
+use Rattle.lens.specs.draw.Naming.{AnswersNamed, CompletesNamed, IsKeptAnswer, IsNamedAnswer, IsUnknown, LeavesNamed, LeavesUnnamed, Names, unknown_answer}
+use Rattle.lens.specs.{declared.{draw.subject.Subject.{Subject, TheVariants.{Frames, Lane}}, forms.Part.Part}, draw.{Answer.draw_answer, Spans.span_of}}
+use Rattle.{lens_svg.specs.Views.{View, flag_at}, schedule_checker.specs.Refusals.RefusalIsOne}
+use Rattle.net_plan.specs.{Bearers.{HasNoBearer, IsFirstBearer, device_names, vl_names}, declared.network.Network.Network}
+use Rattle.net_plan.specs.declared.ids.{DeviceId.DeviceId, VlId.VlId}
+use Rattle.run_law.specs.{declared.note.Note.Note, records.Happenings.{Happening, happenings, numbered}}
+use Rattle.std.proofs.Common.{◌+◌, ◌<◌, ◌∙◌, ◌∷◌, ◌≡◌, ◌≢◌, ◌⊎◌, Bool, Err, List, None, Ok, Option, Result, Some, [], ap, arith, false, inl, inr, length, refl, subst, suc, sym, true, zero, ℕ}
+use Rattle.std.{proofs.lemmas.Bool.{cases_lt, false≢true}, specs.Prelude.{slice_get, unwrap_or}}
+use Rattle.tte_forms.proofs.{Octets.{for_all, for_more}, OneAnswers.answer_widened, networks.Answers.{accepted_alone, network_answer_one}}
+use Rattle.tte_forms.specs.Answering.{Answer, ForOctets, Gives, GivesAnswer}
+use Rattle.tte_forms.specs.{Putting.Shown, networks.Accepting.{IsNetworkAnswer, MeansAccepted}}
+use Rattle.tte_forms.specs.declared.status.Status.{Status, TheVariants.{Done, NameRefused, OutOfMemory, ReadFault, WriteFault}}
+use Rattle.tte_reports.proofs.{Reports.{report_alone, report_one}, Safely.files_safely, Sources.GivesFiles}
+use Rattle.tte_reports.specs.{Reports.{AnswersFor, IsOneFor, IsReportAnswer, IsReportOf}, Safely.AuditsSafely}
+use Rattle.tte_units.specs.declared.units.Units.{Units}
+
+-- ---- one name
+
+first_same : (names : List (List ℕ)) (name : List ℕ) (i k : ℕ) → IsFirstBearer names name i → IsFirstBearer names name k → i ≡ k
+first_same names name i k a b =
+    elim (cases_lt i k) [
+      | inl less ↦ absurd (b.first i less a.bears)
+      | inr ge ↦ elim (cases_lt k i) [
+        | inl less ↦ absurd (a.first k less b.bears)
+        | inr le ↦ omega (arith, ge, le)
+      ]
+    ]
+
+vl_made : (v : VlId) (n : ℕ) → v.0 ≡ n → v ≡ record { 0 = n }
+vl_made v n e = ap (λ (i : ℕ). let w : VlId = record { 0 = i } in w) e
+
+device_made : (d : DeviceId) (n : ℕ) → d.0 ≡ n → d ≡ record { 0 = n }
+device_made d n e = ap (λ (i : ℕ). let w : DeviceId = record { 0 = i } in w) e
+
+-- a name names one thing
+one_subject : (network : Network) (name : List ℕ) (a b : Subject) → Names network name a → Names network name b → a ≡ b
+one_subject network name (Frames v) (Frames w) p q =
+    ap Frames (vl_made v w.0 (first_same (vl_names network.vl) name v.0 w.0 p q))
+one_subject network name (Frames v) (Lane d) p q = absurd (q.0 v.0 p.bears)
+one_subject network name (Lane d) (Frames v) p q = absurd (p.0 v.0 q.bears)
+one_subject network name (Lane d) (Lane e) p q =
+    ap Lane (device_made d e.0 (first_same (device_names network.device) name d.0 e.0 p.1 q.1))
+
+-- what is named is not unknown
+pub not_unknown : (network : Network) (name : List ℕ) (subject : Subject) → Names network name subject → IsUnknown network name → ⊥
+not_unknown network name (Frames v) names unknown = unknown.0 v.0 names.bears
+not_unknown network name (Lane d) names unknown = unknown.1 d.0 names.1.bears
+
+-- ---- one picture
+
+bools_same : (xs ys : List Bool) → length xs ≡ length ys → ((i : ℕ) → i < length xs → unwrap_or (slice_get xs i) false ≡ unwrap_or (slice_get ys i) false)
+    → xs ≡ ys
+bools_same [] [] count each = refl
+bools_same [] (y ∷ ys) count each = absurd (omega (arith, count))
+bools_same (x ∷ xs) [] count each = absurd (omega (arith, count))
+bools_same (x ∷ xs) (y ∷ ys) count each =
+    ap (λ (b : Bool). b ∷ xs) (each 0 (omega arith))
+    ∙ ap (λ (bs : List Bool). y ∷ bs) (bools_same xs ys (omega (arith, count)) (λ i within. each (suc i) (omega (arith, within))))
+
+tells_same : (a b : Bool) (P : Type 0) → Tells a P → Tells b P → a ≡ b
+tells_same true b P p q = sym (q.told (p.holds refl))
+tells_same false false P p q = refl
+tells_same false true P p q = p.told (q.holds refl)
+
+there_at : (hs : List Happening) (i : ℕ) → i < length hs → (h : Happening) × (slice_get hs i ≡ Some h)
+there_at [] i within = absurd (omega (arith, within))
+there_at (h ∷ hs) zero within = (h, refl)
+there_at (h ∷ hs) (suc i) within = there_at hs i (omega (arith, within))
+
+one_flags : (network : Network) (subject : Subject) (hs : List Happening) (xs ys : List Bool) → AreFlags network subject hs xs → AreFlags network subject hs ys
+    → xs ≡ ys
+one_flags network subject hs xs ys p q =
+    let first = p.count in
+    let second = q.count in
+    bools_same xs ys (omega (arith, first, second)) (λ i within.
+    let at = there_at hs i (omega (arith, within, first)) in
+    tells_same (flag_at xs (suc i)) (flag_at ys (suc i)) (IsKept network subject hs at.0) (p.each (suc i) at.0 at.1) (q.each (suc i) at.0 at.1))
+
+kept_one : (part : Part) (subject : Subject) → IsOneFor (IsKeptAnswer part subject)
+kept_one part subject network octets ns end a b rules of p q =
+    let same = one_flags network subject (happenings network ns) p.flags q.flags p.are q.are in
+    p.is ∙ ap (λ (flags : List Bool). draw_answer network (record { span = span_of network part; kept = Some flags }) ns) same ∙ sym q.is
+
+-- ---- how it is given
+
+pub named_given : (part : Part) (name : List ℕ) (network : Network) (subject : Subject) (second : Option (List ℕ)) (status : Status) (old new : Shown)
+    → Names network name subject
+    → ForOctets second (λ report. GivesAnswer (IsReportAnswer (IsKeptAnswer part subject) report network) status old new)
+    → ForOctets second (λ report. GivesAnswer (IsNamedAnswer part name report network) status old new)
+named_given part name network subject second status old new names given =
+    for_more second (λ report. GivesAnswer (IsReportAnswer (IsKeptAnswer part subject) report network) status old new)
+    (λ report. GivesAnswer (IsNamedAnswer part name report network) status old new)
+    (λ report. answer_widened (IsReportAnswer (IsKeptAnswer part subject) report network) (IsNamedAnswer part name report network) status old new
+    (λ a is. inr (subject, names, is))) given
+
+pub unknown_given : (part : Part) (name : List ℕ) (network : Network) (second : Option (List ℕ)) (status : Status) (old new : Shown)
+    → IsUnknown network name → Gives unknown_answer status old new
+    → ForOctets second (λ report. GivesAnswer (IsNamedAnswer part name report network) status old new)
+unknown_given part name network second status old new unknown given =
+    for_all second (λ report. GivesAnswer (IsNamedAnswer part name report network) status old new)
+    (λ report. inl (unknown_answer, inl (unknown, refl), given))
+
+-- what is said of the network that was accepted is said of the one that the octets mean
+pub left_unnamed : (name : List ℕ) (first : Option (List ℕ)) (accepted : Network) (Unread : Type 0)
+    → ForOctets first (λ octets. MeansAccepted octets accepted) → LeavesNamed accepted name Unread → LeavesUnnamed name first Unread
+left_unnamed name None accepted Unread means leaves = tt
+left_unnamed name (Some octets) accepted Unread means leaves network other unknown =
+    leaves (subst (λ (n : Network). IsUnknown n name) (ok_same network accepted (sym other.read ∙ means.read)) unknown)
+  where
+    ok_same : {E : Type 0} (a b : Network) → Ok {E = E} a ≡ Ok b → a ≡ b
+    ok_same a b e = cc
+
+pub unread_unnamed : (name : List ℕ) (first : Option (List ℕ)) (Unread : Type 0) → Unread → LeavesUnnamed name first Unread
+unread_unnamed name None Unread unread = tt
+unread_unnamed name (Some octets) Unread unread = λ network other unknown. unread
+
+-- ---- safely
+
+-- the answers for the records, of whatever is named
+abbrev KeptOfAny : Part → AnswersFor
+KeptOfAny part network ns end a = (subject : Subject) × IsKeptAnswer part subject network ns end a
+
+report_of_any : (part : Part) (subject : Subject) (report : List ℕ) (network : Network) (a : Answer)
+    → IsReportAnswer (IsKeptAnswer part subject) report network a → IsReportAnswer (KeptOfAny part) report network a
+report_of_any part subject report network a (inl h) = inl h
+report_of_any part subject report network a (inr (inl h)) = inr (inl h)
+report_of_any part subject report network a (inr (inr h)) = inr (inr (h.0, h.1, h.2, (subject, h.3)))
+
+done_known : (part : Part) (name report : List ℕ) (network : Network) (a : Answer) → Done ≡ a.status → IsNamedAnswer part name report network a
+    → IsReportAnswer (KeptOfAny part) report network a
+done_known part name report network a done (inl h) =
+    let e : Done ≡ NameRefused = done ∙ ap (λ (x : Answer). x.status) h.1 in absurd cc
+done_known part name report network a done (inr h) = report_of_any part h.0 report network a h.2
+
+done_files : (part : Part) (name octets report : List ℕ) (a : Answer) → Done ≡ a.status → IsNetworkAnswer (IsNamedAnswer part name report) octets a
+    → IsNetworkAnswer (IsReportAnswer (KeptOfAny part) report) octets a
+done_files part name octets report a done (inl h) = inl h
+done_files part name octets report a done (inr (inl h)) = inr (inl h)
+done_files part name octets report a done (inr (inr (inl h))) = inr (inr (inl h))
+done_files part name octets report a done (inr (inr (inr h))) = inr (inr (inr (h.0, h.1, done_known part name report h.0 a done h.2)))
+
+done_given : (part : Part) (name octets report : List ℕ) (status : Status) (old new : Shown) → status ≡ Done
+    → GivesAnswer (IsNetworkAnswer (IsNamedAnswer part name report) octets) status old new
+    → GivesAnswer (IsNetworkAnswer (IsReportAnswer (KeptOfAny part) report) octets) status old new
+done_given part name octets report status old new done (inl (a, is, inl g)) =
+    inl (a, done_files part name octets report a (sym done ∙ g.0) is, inl g)
+done_given part name octets report status old new done (inl (a, is, inr (inl g))) = let e = g.0 in absurd cc
+done_given part name octets report status old new done (inl (a, is, inr (inr (inl r, p)))) = absurd cc
+done_given part name octets report status old new done (inl (a, is, inr (inr (inr m, p)))) = absurd cc
+done_given part name octets report status old new done (inr none) = inr none
+
+pub named_safely : (part : Part) (name : List ℕ) (first second : Option (List ℕ)) (status : Status) (old new : Shown)
+    → GivesFiles (λ report. IsNamedAnswer part name report) first second status old new → AuditsSafely first second status
+named_safely part name first second status old new given done =
+    files_safely (KeptOfAny part) first second status old new
+    (for_more first (λ octets. ForOctets second (λ report. GivesAnswer (IsNetworkAnswer (IsNamedAnswer part name report) octets) status old new))
+    (λ octets. ForOctets second (λ report. GivesAnswer (IsNetworkAnswer (IsReportAnswer (KeptOfAny part) report) octets) status old new))
+    (λ octets. for_more second (λ report. GivesAnswer (IsNetworkAnswer (IsNamedAnswer part name report) octets) status old new)
+    (λ report. GivesAnswer (IsNetworkAnswer (IsReportAnswer (KeptOfAny part) report) octets) status old new)
+    (λ report. done_given part name octets report status old new done)) given) done
+
+-- ---- to its end
+
+whole_unknown : (part : Part) (name report : List ℕ) (network : Network) (a : Answer) → IsUnknown network name → IsNamedAnswer part name report network a
+    → a.status ≡ NameRefused
+whole_unknown part name report network a unknown (inl h) = ap (λ (x : Answer). x.status) h.1
+whole_unknown part name report network a unknown (inr h) = absurd (not_unknown network name h.0 h.1 unknown)
+
+whole_named : (part : Part) (name octets report : List ℕ) (network : Network) (subject : Subject) (ns : List Note) (end : Units) (a : Answer)
+    → MeansAccepted octets network → Names network name subject → IsReportOf network report ns end → IsNamedAnswer part name report network a
+    → IsKeptAnswer part subject network ns end a
+whole_named part name octets report network subject ns end a means names of (inl h) = absurd (not_unknown network name subject names h.0)
+whole_named part name octets report network subject ns end a means names of (inr h) =
+    report_alone (IsKeptAnswer part subject) network report ns end means.rules of a
+    (subst (λ (s : Subject). IsReportAnswer (IsKeptAnswer part s) report network a) (one_subject network name h.0 subject h.1 names) h.2)
+
+module _ (part : Part) (name octets report : List ℕ) (status : Status) (old new : Shown) (SourceRose SinkRose : Type 0)
+    (read : status ≡ ReadFault → SourceRose) (write : status ≡ WriteFault → SinkRose) (quiet : SourceRose → ⊥) (calm : SinkRose → ⊥) where
+  -- the whole answer was given, or memory ran out
+  abbrev Whole : Type 0
+  Whole = (a : Answer) × IsNetworkAnswer (IsNamedAnswer part name report) octets a × (status ≡ a.status)
+
+  whole_or_less : GivesAnswer (IsNetworkAnswer (IsNamedAnswer part name report) octets) status old new → Whole ⊎ (status ≡ OutOfMemory)
+  whole_or_less (inl (a, is, inl g)) = inl (a, is, g.0)
+  whole_or_less (inl (a, is, inr (inl g))) = absurd (calm (write g.0))
+  whole_or_less (inl (a, is, inr (inr (inl f, p)))) = absurd (quiet (read f))
+  whole_or_less (inl (a, is, inr (inr (inr o, p)))) = inr o
+  whole_or_less (inr (inl f, p)) = absurd (quiet (read f))
+  whole_or_less (inr (inr o, p)) = inr o
+
+  answers_by : Whole ⊎ (status ≡ OutOfMemory) → AnswersNamed part name octets report status
+  answers_by (inr none) = record { unknown = λ network means unknown. inl none; named = λ network subject ns end means names of. inl none }
+  answers_by (inl w) = record {
+    unknown = λ network means unknown. inr (w.2 ∙ whole_unknown part name report network w.0 unknown
+        (accepted_alone (IsNamedAnswer part name report) octets network means w.0 w.1));
+    named = λ network subject ns end means names of. inr (
+      w.0,
+      whole_named part name octets report network subject ns end w.0 means names of
+          (accepted_alone (IsNamedAnswer part name report) octets network means w.0 w.1),
+      w.2,
+    );
+  }
+
+  answers_named : GivesAnswer (IsNetworkAnswer (IsNamedAnswer part name report) octets) status old new → AnswersNamed part name octets report status
+  answers_named given = answers_by (whole_or_less given)
+
+pub named_completed : (part : Part) (name : List ℕ) (first second : Option (List ℕ)) (status : Status) (old new : Shown) (SourceRose SinkRose : Type 0)
+    → GivesFiles (λ report. IsNamedAnswer part name report) first second status old new → (status ≡ ReadFault → SourceRose)
+    → (status ≡ WriteFault → SinkRose) → CompletesNamed part name first second SourceRose SinkRose status
+named_completed part name (Some octets) (Some report) status old new SourceRose SinkRose given read write = λ quiet calm.
+    answers_named part name octets report status old new SourceRose SinkRose read write quiet calm given
+named_completed part name (Some octets) None status old new SourceRose SinkRose given read write = tt
+named_completed part name None second status old new SourceRose SinkRose given read write = tt
+
+-- ---- once
+
+named_both : RefusalIsOne → (part : Part) (name report octets : List ℕ) (network : Network) → MeansAccepted octets network → (a b : Answer)
+    → IsNamedAnswer part name report network a → IsNamedAnswer part name report network b → a ≡ b
+named_both one part name report octets network means a b (inl p) (inl q) = p.1 ∙ sym q.1
+named_both one part name report octets network means a b (inl p) (inr q) = absurd (not_unknown network name q.0 q.1 p.0)
+named_both one part name report octets network means a b (inr p) (inl q) = absurd (not_unknown network name p.0 p.1 q.0)
+named_both one part name report octets network means a b (inr p) (inr q) =
+    let same = subst (λ (s : Subject). IsReportAnswer (IsKeptAnswer part s) report network b) (one_subject network name q.0 p.0 q.1 p.1) q.2 in
+    report_one one (IsKeptAnswer part p.0) (kept_one part p.0) octets report a b (inr (inr (inr (network, means, p.2)))) (inr (inr (inr (network, means, same))))
+
+pub named_one : RefusalIsOne → (part : Part) (name octets report : List ℕ) (a b : Answer) → IsNetworkAnswer (IsNamedAnswer part name report) octets a
+    → IsNetworkAnswer (IsNamedAnswer part name report) octets b → a ≡ b
+named_one one part name octets report a b p q =
+    network_answer_one one (IsNamedAnswer part name report) octets (λ network means. named_both one part name report octets network means) a b p q

@@ -1,0 +1,76 @@
+-- What a picture of one thing keeps.
+use Rattle.std.specs.{Option.option_map_or, Prelude.{suc, zero, ℕ, ◌+◌, ◌==◌, ◌||◌, ◌≡◌, Bool, List, Some, false}}
+use Rattle.std.specs.Prelude.{if◌then◌else◌, length, true}
+use Rattle.lens.specs.declared.draw.subject.Subject.{Subject, TheVariants.{Frames, Lane}}
+use Rattle.lens_svg.specs.{Bodies.seat_of, Sketching.with_at, Views.flag_at}
+use Rattle.net_plan.specs.declared.{ids.VlId.VlId, network.Network.Network}
+use Rattle.run_law.specs.{declared.note.{Note.Note, NoteBody.NoteBody}, records.Order.IsIn}
+use Rattle.run_law.specs.records.{Causes.{GoesBackTo, cause_of}, Happenings.{Happening, happenings, numbered}}
+use Rattle.tte_reports.specs.Places.{note_at}
+use Rattle.run_law.specs.declared.note.NoteBody.TheVariants as notes
+
+-- by the record a frame of the virtual link is sent
+abbrev pub IsSending : VlId → NoteBody → Type 0
+IsSending vl (notes.TtSent device link cause of cycle) = of.0 ≡ vl.0
+IsSending vl other = ⊥
+
+-- the record's causes go back to one by which a frame of the virtual link is sent
+pub record HasSending (hs : List Happening) (h : Happening) (vl : VlId) : Type 0 where
+  pub first : Happening
+  pub back : GoesBackTo hs h first
+  pub sends : IsSending vl first.note.body
+
+-- the record is of the thing: its causes go back to where a frame of the virtual link is sent, or it stands in the
+-- device's lane
+abbrev pub IsOf : Network → Subject → List Happening → Happening → Type 0
+IsOf network (Frames vl) hs h = HasSending hs h vl
+IsOf network (Lane device) hs h = seat_of network h.note.body ≡ device.0 + 1
+
+-- the record is kept: it is of the thing, or the causes of one that is go back to it
+pub record IsKept (network : Network) (subject : Subject) (hs : List Happening) (h : Happening) : Type 0 where
+  pub later : Happening
+  pub there : IsIn later hs
+  pub of : IsOf network subject hs later
+  pub back : GoesBackTo hs later h
+
+-- the flag says whether the fact holds
+pub record Tells (flag : Bool) (P : Type 0) : Type 0 where
+  pub holds : flag ≡ true → P
+  pub told : P → flag ≡ true
+
+-- there is a flag for each record, which says whether it is kept
+pub record AreFlags (network : Network) (subject : Subject) (hs : List Happening) (flags : List Bool) : Type 0 where
+  pub count : length flags ≡ length hs
+  pub each : (number : ℕ) (h : Happening) → numbered hs number ≡ Some h
+      → Tells (flag_at flags number) (IsKept network subject hs h)
+
+-- ---- how they are found
+
+-- is a frame of the virtual link sent by the record?
+abbrev pub is_sending : VlId → NoteBody → Bool
+is_sending vl (notes.TtSent device link cause of cycle) = of.0 == vl.0
+is_sending vl other = false
+
+-- is a record of the thing, by the flags of those before it?
+abbrev pub own_flag : Network → Subject → List Bool → NoteBody → Bool
+own_flag network (Frames vl) flags body = is_sending vl body || flag_at flags (cause_of body)
+own_flag network (Lane device) flags body = seat_of network body == device.0 + 1
+
+-- of all these records these first ones have flags, which say whether they are of the thing
+pub record AreOwn (network : Network) (subject : Subject) (ns before : List Note) (flags : List Bool) : Type 0 where
+  pub count : length flags ≡ length before
+  pub each : (number : ℕ) (h : Happening) → numbered (happenings network before) number ≡ Some h
+      → Tells (flag_at flags number) (IsOf network subject (happenings network ns) h)
+
+-- the flags with that of the record of this number
+abbrev pub with_flag : List Bool → ℕ → List Bool
+with_flag flags zero = flags
+with_flag flags (suc before) = with_at flags before true
+
+-- the cause of the record of this number, or 0
+abbrev pub cause_at : List Note → ℕ → ℕ
+cause_at ns number = option_map_or (λ note. cause_of note.body) (note_at ns number) 0
+
+-- the flags with that of the cause of the record of this number, where it has one itself
+abbrev pub passed_on : List Note → ℕ → List Bool → List Bool
+passed_on ns number flags = if flag_at flags number then with_flag flags (cause_at ns number) else flags

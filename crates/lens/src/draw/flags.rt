@@ -1,0 +1,114 @@
+//! Which records a picture of one thing keeps, as flags.
+ghost use Rattle.std.specs.Prelude.{◌++◌, ◌∷◌, ◌≡◌, IfOk, List, OnOk, []};
+ghost use Rattle.lens.specs.draw.Keeping.{AreFlags, AreOwn, passed_on, with_flag};
+ghost use Rattle.run_law.specs.{declared.note.Note.{Note as NoteValue}, records.Happenings.happenings};
+ghost use Rattle.{tte_audit.specs.Named.IsNamed, tte_units.specs.declared.units.Units.{Units as UnitsValue}};
+ghost use Rattle.lens.specs.declared.draw.subject.Subject.{Subject as SubjectValue};
+ghost use Rattle.tte_reports.specs.{Commands.IsRead, Reports.{IsReportOf, IsSomeReport}};
+
+use crate::draw::subject::{Subject, own_flag};
+use audit_sweep::unpaid::cause_of;
+use lens_svg::flag_at;
+use net_plan::Network;
+use run_law::Note;
+use std::alloc::Global;
+use tte_io::OutOfMemory;
+use tte_reports::{AuditedReport, RecordTaker, take_records};
+
+/// Which of the records so far are of a thing.
+#[derive(Drop)]
+struct Own {
+    subject: Subject,
+    flags: Vec<bool>,
+}
+
+impl RecordTaker for Own {
+    ghost holds = { λ network notes before begun own. (own.subject ≡ begun.subject)
+        × AreOwn network begun.subject notes before own.flags.items };
+
+    fn take(&mut self, network: &Network, note: &Note) -> Result<(), OutOfMemory> {
+        let flag = own_flag(network, self.subject, self.flags.as_slice(), &note.body);
+        push_flag(&mut self.flags, flag)?;
+        Ok(())
+    }
+}
+
+fn push_flag(flags: &mut Vec<bool>, flag: bool) -> Result<(), OutOfMemory>
+    ensures { OnOk result (flags.new.items ≡ flags.old.items ++ flag ∷ []) }
+{
+    match flags.push(flag) {
+        Ok(()) => Ok(()),
+        Err(_) => Err(OutOfMemory),
+    }
+}
+
+/// Which records of the report are of the thing.
+fn own_flags(
+    alloc: Global,
+    network: &Network,
+    report: &AuditedReport,
+    subject: Subject,
+) -> Result<Vec<bool>, OutOfMemory>
+    requires named { IsNamed network.now }
+    requires report { IsSomeReport network.now report.now.octets }
+    ensures { IfOk result (λ flags. (notes : List NoteValue) (end : UnitsValue)
+        → IsReportOf network.now report.now.octets notes end
+        → AreOwn network.now subject notes notes flags.items) }
+{
+    let flags = Vec::new(alloc);
+    let mut own = Own { subject, flags };
+    take_records(report, network, &mut own)?;
+    Ok(own.flags)
+}
+
+/// Flags the record of this number.
+fn set_flag(flags: &mut Vec<bool>, number: u64)
+    ensures { flags.new.items ≡ with_flag flags.old.items number }
+{
+    if number == 0 {
+        return;
+    }
+    let place = (number - 1) as usize;
+    if place < flags.len() {
+        flags[place] = true;
+    }
+}
+
+/// Flags the cause of the record of this number, where that has a flag.
+fn pass_on(network: &Network, report: &AuditedReport, number: u64, flags: &mut Vec<bool>)
+    requires named { IsNamed network.now }
+    requires read { IsRead network.now report.now }
+    ensures { (notes : List NoteValue) (end : UnitsValue) → IsReportOf network.now report.now.octets notes end
+        → flags.new.items ≡ passed_on notes number flags.old.items }
+{
+    if !flag_at(flags.as_slice(), number) {
+        return;
+    }
+    match report.record(network, number) {
+        Some(note) => set_flag(flags, cause_of(&note.body)),
+        None => (),
+    }
+}
+
+/// Which records of the report a picture of the thing keeps: those of it, and all their causes.
+pub(crate) fn kept_flags(
+    alloc: Global,
+    network: &Network,
+    report: &AuditedReport,
+    subject: Subject,
+) -> Result<Vec<bool>, OutOfMemory>
+    requires named { IsNamed network.now }
+    requires read { IsRead network.now report.now }
+    ensures { IfOk result (λ flags. (notes : List NoteValue) (end : UnitsValue)
+        → IsReportOf network.now report.now.octets notes end
+        → AreFlags network.now subject (happenings network.now notes) flags.items) }
+{
+    let mut flags = own_flags(alloc, network, report, subject)?;
+    // A cause is before what it causes.
+    let mut number = report.count();
+    'records: while number > 0 {
+        pass_on(network, report, number, &mut flags);
+        number -= 1;
+    }
+    Ok(flags)
+}
