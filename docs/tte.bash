@@ -25,7 +25,9 @@ _lens_forms=(
     'plan NETWORK MESSAGES'
     'latency NETWORK [REPORT]'
     'why NETWORK REPORT N'
-    'draw NETWORK REPORT [FROM TO]'
+    'draw NETWORK REPORT'
+    'draw NETWORK REPORT CYCLE [NAME]'
+    'draw NETWORK REPORT FROM TO [NAME]'
     'page NETWORK REPORT'
     'flows NETWORK REPORT'
     'events NETWORK SEED CYCLES'
@@ -96,6 +98,7 @@ _tte_by() {
             FILE | TRACE | REPORT | '[REPORT]' | MESSAGES) _tte_files ;;
             LINK) _tte_named child "$word" ;;
             VL) _tte_named sender "$word" ;;
+            '[NAME]') _tte_named '(sender|role)' "$word" ;;
             WAY) mapfile -t COMPREPLY < <(compgen -W 'up down' -- "$word") ;;
             '[RULE]') mapfile -t COMPREPLY < <(compgen -W '8 9 10 11 12 13 21 23' -- "$word") ;;
             DIR) mapfile -t COMPREPLY < <(compgen -d -- "$word") && compopt -o filenames 2>/dev/null ;;

@@ -1,6 +1,6 @@
 -- What is answered where a name is given: how, safely, to its end, and once.
 use Rattle.lens.specs.draw.Keeping.{AreFlags, IsKept, Tells}
-use Rattle.lens.specs.draw.Naming.{AnswersNamed, CompletesNamed, IsKeptAnswer, IsNamedAnswer, IsUnknown, LeavesNamed, LeavesUnnamed, Names, unknown_answer}
+use Rattle.lens.specs.draw.Naming.{AnswersNamed, CompletesNamed, IsKeptAnswer, IsNamedAnswer, IsNamedStatus, IsUnknown, LeavesNamed, LeavesUnnamed, Names, unknown_answer}
 use Rattle.lens.specs.{declared.{draw.subject.Subject.{Subject, TheVariants.{Frames, Lane}}, forms.Part.Part}, draw.{Answer.draw_answer, Spans.span_of}}
 use Rattle.{lens_svg.specs.Views.{View, flag_at}, schedule_checker.specs.Refusals.RefusalIsOne}
 use Rattle.net_plan.specs.{Bearers.{HasNoBearer, IsFirstBearer, device_names, vl_names}, declared.network.Network.Network}
@@ -13,8 +13,13 @@ use Rattle.tte_forms.specs.Answering.{Answer, ForOctets, Gives, GivesAnswer}
 use Rattle.tte_forms.specs.{Putting.Shown, networks.Accepting.{IsNetworkAnswer, MeansAccepted}}
 use Rattle.tte_forms.specs.declared.status.Status.{Status, TheVariants.{Done, NameRefused, OutOfMemory, ReadFault, WriteFault}}
 use Rattle.tte_reports.proofs.{Reports.{report_alone, report_one}, Safely.files_safely, Sources.GivesFiles}
-use Rattle.tte_reports.specs.{Reports.{AnswersFor, IsOneFor, IsReportAnswer, IsReportOf}, Safely.AuditsSafely}
+use Rattle.tte_reports.specs.{Answer.IsAuditStatus, Reports.{AnswersFor, IsOneFor, IsReportAnswer, IsReportOf}, Safely.AuditsSafely}
 use Rattle.tte_units.specs.declared.units.Units.{Units}
+
+-- it may end as an audit does
+pub named_audits : (status : Status) → IsAuditStatus status → IsNamedStatus status
+named_audits NameRefused h = tt
+named_audits other h = h
 
 -- ---- one name
 

@@ -1,5 +1,6 @@
 //! Which part of a run is drawn.
-ghost use Rattle.{lens.specs.draw.Spans.span_of, std.specs.Prelude.◌≡◌};
+ghost use Rattle.std.specs.Prelude.{◌≡◌};
+ghost use Rattle.lens.specs.draw.Spans.{span_of};
 
 use crate::forms::Part;
 use lens_svg::Span;

@@ -1,4 +1,4 @@
-use Rattle.lens.proofs.draw_lemmas.Naming.{named_given, not_unknown, unknown_given}
+use Rattle.lens.proofs.draw_lemmas.Naming.{named_audits, named_given, not_unknown, unknown_given}
 use Rattle.tte_forms.specs.Putting.{shown_by}
 use Rattle.lens.proofs.draw.named.draw_accepted.Goals as goal
 
@@ -16,3 +16,6 @@ returns-in-None-clause-gives g c =
 
 pub returns-in-Some-clause-unread : goal.returns-in-Some-clause-unread
 returns-in-Some-clause-unread g c unknown = absurd (not_unknown c.args.accepted.now c.args.name.now c.in-Some.subject c.in-Some.ensures.some unknown)
+
+pub returns-in-Some-clause-statuses : goal.returns-in-Some-clause-statuses
+returns-in-Some-clause-statuses g c = named_audits c.answer_accepted.result c.answer_accepted.ensures.statuses

@@ -1,4 +1,4 @@
-use Rattle.lens.proofs.draw_lemmas.Naming.{left_unnamed, unread_unnamed}
+use Rattle.lens.proofs.draw_lemmas.Naming.{left_unnamed, named_audits, unread_unnamed}
 use Rattle.lens.specs.draw.Naming.{IsNamedAnswer}
 use Rattle.std.proofs.Common.{List, ℕ, refl}
 use Rattle.tte_forms.specs.Putting.{shown_by}
@@ -25,3 +25,9 @@ returns-in-Ok-clause-second g c =
 
 pub returns-in-Err-clause-second : goal.returns-in-Err-clause-second
 returns-in-Err-clause-second g c = unread_unnamed c.args.name.now (g.A.Source.left c.args.first.now) _ refl
+
+pub returns-in-Err-clause-statuses : goal.returns-in-Err-clause-statuses
+returns-in-Err-clause-statuses g c =
+    let shown = shown_by g.K.Sink in
+    named_audits c.put_no_network.result
+    (no_network_status c.in-Err.cause c.put_no_network.result (shown c.args.out.now) (shown c.put_no_network.new.out) c.put_no_network.ensures.gives)
