@@ -1,10 +1,10 @@
--- There is a mark for each record of the span, and an arrow exactly where there is a cause.
+-- There is a mark for each record that is drawn, and an arrow exactly where there is a cause.
 use Rattle.lens_svg.specs.{Laws.{AreMarksOf, ArrowsAreCauses, ComesAcross, HasArrows, IsMarkOf, NeverFall, NumbersFollow, arrow, shown}, Plan.Plan}
 use Rattle.{lens_svg.specs.{Layers.{way_between, way_of}, Views.{View, is_kept, side_if}, declared.{layout.{Side.Side, Span.Span}, mark.Mark.Mark}}, run_law.specs.declared.note.Note.Note}
 use Rattle.lens_svg.specs.{Layout.{is_within, moved, side_of}, Sketching.{begun, drawn, if_of, mark_at, mark_of, moment, places_with, plan_behind, plan_of, side_in, took, took_at}}
 use Rattle.{lens_svg.specs.declared.element.Element.Element, std.specs.Prelude.{◌==◌, None, Option, Some, if◌then◌else◌, nat_lt, option_and_then, slice_get}}
 use Rattle.{lens_svg.specs.declared.layout.Side.TheVariants.{Before, Behind, Passed, Within}, std.proofs.Common.{length-append, refl, subst, suc, sym, true, zero, ℕ}}
-use Rattle.{net_plan.specs.declared.network.Network.Network, std.proofs.lemmas.{Bool.{eq-eqb, eqb-true, le-ltb, ltb-false, ltb-true}, List.append-nil}}
+use Rattle.{net_plan.specs.declared.network.Network.Network, std.proofs.lemmas.{Bool.{eq-eqb, eqb-true, ltb-false, ltb-true}, List.append-nil}}
 use Rattle.std.proofs.Common.{◌++◌, ◌+◌, ◌-◌, ◌<◌, ◌∙◌, ◌∷◌, ◌≡◌, ◌≢◌, ◌≤◌, ◌⊎◌, Bool, List, [], ap, append_assoc, arith, false, inl, inr, length}
 
 -- ---- sides
@@ -73,32 +73,32 @@ never_passed false true e = cc
 never_passed false false e = cc
 
 module _ (view : View) (note : Note) where
-  abbrev kept : Bool
-  kept = is_kept view.kept note.number
+  abbrev is_one : Bool
+  is_one = is_kept view.kept note.number
 
-  abbrev side : Side
-  side = side_of view.span (moment note)
+  abbrev its_side : Side
+  its_side = side_of view.span (moment note)
 
   pub drawn_before : side_in view note ≡ Before → moment note < view.span.from
-  drawn_before e = before_from view.span (moment note) (kept_before kept side e)
+  drawn_before e = before_from view.span (moment note) (kept_before is_one its_side e)
 
   pub drawn_within : side_in view note ≡ Within → (view.span.from ≤ moment note) × (moment note ≤ view.span.to)
-  drawn_within e = within_both view.span (moment note) (kept_within kept side e).0
+  drawn_within e = within_both view.span (moment note) (kept_within is_one its_side e).0
 
   pub drawn_kept : side_in view note ≡ Within → is_kept view.kept note.number ≡ true
-  drawn_kept e = (kept_within kept side e).1
+  drawn_kept e = (kept_within is_one its_side e).1
 
   pub drawn_behind : side_in view note ≡ Behind → view.span.to < moment note
-  drawn_behind e = behind_to view.span (moment note) (kept_behind kept side e)
+  drawn_behind e = behind_to view.span (moment note) (kept_behind is_one its_side e)
 
   -- what is passed over lies in the part, and is not kept
-  passed_by : (side ≡ Within) × (kept ≡ false) ⊎ (side ≡ Passed)
-      → (view.span.from ≤ moment note) × (kept ≡ false)
+  passed_by : (its_side ≡ Within) × (is_one ≡ false) ⊎ (its_side ≡ Passed)
+      → (view.span.from ≤ moment note) × (is_one ≡ false)
   passed_by (inl both) = ((within_both view.span (moment note) both.0).0, both.1)
   passed_by (inr e) = absurd (never_passed (nat_lt (moment note) view.span.from) (nat_lt view.span.to (moment note)) e)
 
   pub passed_over : side_in view note ≡ Passed → (view.span.from ≤ moment note) × (is_kept view.kept note.number ≡ false)
-  passed_over e = passed_by (kept_passed kept side e)
+  passed_over e = passed_by (kept_passed is_one its_side e)
 
 -- ---- marks are records
 

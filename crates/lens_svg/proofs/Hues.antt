@@ -2,7 +2,7 @@
 use Rattle.lens_svg.proofs.Arrows.{drawn_behind, drawn_within}
 use Rattle.lens_svg.specs.Laws.{HuesComeFromCauses, MarksHaveHues, NeverFall, NumbersFollow, hues_of}
 use Rattle.lens_svg.specs.{Layout.moved, Plan.Plan, Sketching.{begun, hue_of, hues_with, mark_of, moment, plan_behind, side_in, took, took_at}}
-use Rattle.lens_svg.specs.declared.{layout.{Side.{Side, TheVariants.{Before, Behind, Passed, Within}}}, mark.{Hue.Hue, Mark.Mark}}
+use Rattle.lens_svg.specs.declared.{layout.Side.{Side, TheVariants.{Before, Behind, Passed, Within}}, mark.{Hue.Hue, Mark.Mark}}
 use Rattle.{net_plan.specs.declared.network.Network.Network, run_law.specs.{declared.note.{Note.Note}, records.{Causes.cause_of, Order.IsIn}}}
 use Rattle.std.proofs.Common.{◌++◌, ◌+◌, ◌-◌, ◌<◌, ◌∙◌, ◌∷◌, ◌≡◌, ◌≤◌, ◌⊎◌, Bool, List, None, Option, Some, [], ap, append_assoc, arith, false, inl, inr, length, length-append, refl, subst, suc, sym, true, zero, ℕ}
 use Rattle.std.{proofs.lemmas.{Bool.Decides.nat_tests, List.{Sums.fold_push, append-nil}}, specs.Prelude.{◌==◌, if◌then◌else◌, slice_get, unwrap_or}}

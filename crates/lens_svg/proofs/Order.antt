@@ -5,7 +5,7 @@ use Rattle.lens_svg.specs.Layout.{IsOnPaper, capped, clamped, gap, moved, pen_at
 use Rattle.lens_svg.specs.{Bodies.seat_of, Sketching.{last_in, no_marks_in, with_at}, declared.layout.Side.{Side, TheVariants.{Before, Behind, Passed, Within}}}
 use Rattle.{lens_svg.specs.{Plan.Plan, declared.mark.Mark.Mark}, run_law.specs.declared.note.{Note.Note, NoteBody.NoteBody}}
 use Rattle.{net_plan.specs.declared.tables.Device.Device, report_text.specs.Ranges.{IsBodyOf, IsNoteOf}}
-use Rattle.{lens_svg.specs.declared.layout.{Pen.Pen, Span.Span}, net_plan.specs.declared.network.Network.Network, std.proofs.lemmas.Bool.Decides.nat_tests}
+use Rattle.{lens_svg.specs.declared.layout.Pen.Pen, net_plan.specs.declared.network.Network.Network, std.proofs.lemmas.Bool.Decides.nat_tests}
 use Rattle.std.proofs.Common.{◌++◌, ◌+◌, ◌-◌, ◌/◌, ◌<◌, ◌∙◌, ◌∷◌, ◌≡◌, ◌≢◌, ◌≤◌, ◌⊎◌, Bool, List, [], ap, arith, false, inl, inr, length, refl, subst, sym, true, ℕ}
 use Rattle.std.proofs.lemmas.{Bool.{eq-eqb, eqb-true}, List.{get_or-set_other, get_or-set_same, length-map, length-set}, Option.unwrap_or-slice_get}
 use Rattle.std.{proofs.lemmas.List.Elements.{All-append, All-cons, All-head, All-nil, All-tail, All-weaker}, specs.Prelude.{◌==◌, All, if◌then◌else◌, nat_le, nat_lt, slice_set}}

@@ -1,5 +1,6 @@
 //! Which records of a run are drawn.
-ghost use Rattle.{lens_svg.specs.Views.{flag_at, is_kept, side_if}, std.specs.Prelude.◌≡◌};
+ghost use Rattle.std.specs.Prelude.{◌≡◌};
+ghost use Rattle.lens_svg.specs.Views.{flag_at, is_kept, side_if};
 
 use crate::layout::Side;
 use std::marker::Model;

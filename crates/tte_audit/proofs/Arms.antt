@@ -1,6 +1,6 @@
 -- What a record says is an event, or words of a kind of record tell it.
 use Rattle.{net_plan.specs.{Belonging.{HasDevice, device_name}, declared.ids.DeviceId.DeviceId}, report_text.specs.Ranges.{IsShortCount, IsSignedUnits}}
-use Rattle.{report_text.specs.NoteLine.body_words, std.specs.{Fmt.signed_decimal, Prelude.{MatchOption, bytes_eq}}, tte_audit.specs.Report.saying}
+use Rattle.{report_text.specs.NoteLine.body_words, std.specs.{Fmt.signed_decimal, Prelude.{MatchOption, bytes_eq}}, tte_audit.specs.Report.{HasNoEvent, saying}}
 use Rattle.{report_text.specs.NoteWords.members_text, tte_audit.specs.declared.kind.KindWord.KindWord, tte_units.proofs.general_lemmas.Lists.differ}
 use Rattle.{run_law.specs.{declared.plain.bodies.PlainKind.PlainKind, plain.Bodies.body_of}, tte_units.specs.declared.frames.members.Members.Members}
 use Rattle.tte_audit.proofs.Words.{◌∷◌, ◌≡◌, IsTextOf, Judgement, List, Network, None, Note, NoteBody, Option, Some, State, Units, What, Words, [], ap}
@@ -38,29 +38,46 @@ IsOfNoPlain network text = (number : ℕ) (time : Units) (p : PlainKind) → IsT
 abbrev pub IsOfNoEvent : Network → List ℕ → Type 0
 IsOfNoEvent network text = (number : ℕ) (time : Units) (line : ℕ) (w : What) → IsTextOf network (saying number time (bodies.Event line w)) text → ⊥
 
-none_says : (network : Network) (text : List ℕ) → IsOfNoPlain network text → IsOfNoEvent network text → (number : ℕ) (time : Units) (b : NoteBody)
-    → IsTextOf network (saying number time b) text → ⊥
-none_says network text plain event n t (bodies.Event line w) h = event n t line w h
-none_says network text plain event n t (bodies.Arrived d l cause clock) h = plain n t (said.Arrived d l cause clock) h
-none_says network text plain event n t (bodies.Permanent d l cause point verdict) h = plain n t (said.Permanent d l cause point verdict) h
-none_says network text plain event n t (bodies.Compressed d opened at cycle m verdict) h = plain n t (said.Compressed d opened at cycle m verdict) h
-none_says network text plain event n t (bodies.Sent d cycle) h = plain n t (said.Sent d cycle) h
-none_says network text plain event n t (bodies.Corrected d cycle by adjustment) h = plain n t (said.Corrected d cycle by adjustment) h
-none_says network text plain event n t (bodies.State d new cause y) h = plain n t (said.State d new cause y) h
-none_says network text plain event n t (bodies.Left d l cause clock) h = plain n t (said.Left d l cause clock) h
-none_says network text plain event n t (bodies.Lost d l cause) h = plain n t (said.Lost d l cause) h
-none_says network text plain event n t (bodies.TtSent d l cause v cycle) h = plain n t (said.TtSent d l cause v cycle) h
-none_says network text plain event n t (bodies.Accepted d l cause v cycle) h = plain n t (said.Accepted d l cause v cycle) h
-none_says network text plain event n t (bodies.Delivered d l cause v cycle) h = plain n t (said.Delivered d l cause v cycle) h
-none_says network text plain event n t (bodies.Dropped d l cause r) h = plain n t (said.Dropped d l cause r) h
-none_says network text plain event n t (bodies.Clock d reading adjustment last) h = plain n t (said.Clock d reading adjustment last) h
+no_plain_says : (network : Network) (text : List ℕ) → IsOfNoPlain network text → (number : ℕ) (time : Units) (b : NoteBody)
+    → IsTextOf network (saying number time b) text → HasNoEvent b → ⊥
+no_plain_says network text plain n t (bodies.Event line w) h quiet = quiet
+no_plain_says network text plain n t (bodies.Arrived d l cause clock) h quiet = plain n t (said.Arrived d l cause clock) h
+no_plain_says network text plain n t (bodies.Permanent d l cause point verdict) h quiet = plain n t (said.Permanent d l cause point verdict) h
+no_plain_says network text plain n t (bodies.Compressed d opened at cycle m verdict) h quiet = plain n t (said.Compressed d opened at cycle m verdict) h
+no_plain_says network text plain n t (bodies.Sent d cycle) h quiet = plain n t (said.Sent d cycle) h
+no_plain_says network text plain n t (bodies.Corrected d cycle by adjustment) h quiet = plain n t (said.Corrected d cycle by adjustment) h
+no_plain_says network text plain n t (bodies.State d new cause y) h quiet = plain n t (said.State d new cause y) h
+no_plain_says network text plain n t (bodies.Left d l cause clock) h quiet = plain n t (said.Left d l cause clock) h
+no_plain_says network text plain n t (bodies.Lost d l cause) h quiet = plain n t (said.Lost d l cause) h
+no_plain_says network text plain n t (bodies.TtSent d l cause v cycle) h quiet = plain n t (said.TtSent d l cause v cycle) h
+no_plain_says network text plain n t (bodies.Accepted d l cause v cycle) h quiet = plain n t (said.Accepted d l cause v cycle) h
+no_plain_says network text plain n t (bodies.Delivered d l cause v cycle) h quiet = plain n t (said.Delivered d l cause v cycle) h
+no_plain_says network text plain n t (bodies.Dropped d l cause r) h quiet = plain n t (said.Dropped d l cause r) h
+no_plain_says network text plain n t (bodies.Clock d reading adjustment last) h quiet = plain n t (said.Clock d reading adjustment last) h
 
-pub none_read : (network : Network) (text : List ℕ) → IsOfNoPlain network text → IsOfNoEvent network text → (note : Note) → IsTextOf network note text → ⊥
-none_read network text plain event note h = none_says network text plain event note.number note.time note.body (record {
+no_event_says : (network : Network) (text : List ℕ) → IsOfNoEvent network text → (number : ℕ) (time : Units) (b : NoteBody)
+    → IsTextOf network (saying number time b) text → HasNoEvent b
+no_event_says network text event n t (bodies.Event line w) h = absurd (event n t line w h)
+no_event_says network text event n t other h = tt
+
+abbrev said_text : (network : Network) (text : List ℕ) (note : Note) → IsTextOf network note text
+    → IsTextOf network (saying note.number note.time note.body) text
+said_text network text note h = record {
   of_network = h.of_network;
   in_range = record { number = h.in_range.number; time = h.in_range.time; body = h.in_range.body };
   same = h.same;
-})
+}
+
+-- a text of no record without an event is not that of such a record
+pub no_plain_read : (network : Network) (text : List ℕ) → IsOfNoPlain network text → (note : Note) → IsTextOf network note text → HasNoEvent note.body → ⊥
+no_plain_read network text plain note h = no_plain_says network text plain note.number note.time note.body (said_text network text note h)
+
+-- and one of no record of an event is not that of any
+pub no_event_read : (network : Network) (text : List ℕ) → IsOfNoEvent network text → (note : Note) → IsTextOf network note text → HasNoEvent note.body
+no_event_read network text event note h = no_event_says network text event note.number note.time note.body (said_text network text note h)
+
+pub none_read : (network : Network) (text : List ℕ) → IsOfNoPlain network text → IsOfNoEvent network text → (note : Note) → IsTextOf network note text → ⊥
+none_read network text plain event note h = no_plain_read network text plain note h (no_event_read network text event note h)
 
 -- what holds where there is no answer may be put in other words
 pub with_none : {A : Type 0} {P Q : Type 0} (S : A → Type 0) (r : Option A) → (P → Q) → MatchOption r P S → MatchOption r Q S

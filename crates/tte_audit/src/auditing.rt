@@ -1,11 +1,12 @@
 ghost use Rattle.std.specs.Prelude.{◌<◌, ◌^◌, ◌≡◌, List, MatchResult, length, ℕ};
 ghost use Rattle.{audit_sweep.specs.Sweeping.SweepsSome, run_law.specs.declared.note.Note.{Note as NoteValue}};
 ghost use Rattle.{net_plan.specs.declared.network.Network.{Network as NetworkValue}, report_text.specs.Ranges.IsBodyOf};
-ghost use Rattle.tte_audit.specs.{Answers.IsRefusedBy, LineSwept.IsLineSwept, Passing.IsPassed, Report.IsNextLine};
-ghost use Rattle.tte_audit.specs.{Named.IsNamed, Telling.IsReadOf};
+ghost use Rattle.tte_audit.specs.{Answers.IsRefusedBy, LineSwept.IsLineSwept, Passing.IsPassed};
+ghost use Rattle.tte_audit.specs.{Named.IsNamed, Report.{HasNoEvent, IsNextLine}, Telling.IsReadOf};
 
+use crate::event_lines::EventRecord;
 use crate::hints::NameHints;
-use crate::lines::{numbered_record, plain_record};
+use crate::lines::{numbered_event, plain_record};
 use crate::named::keep_names_apart;
 use crate::swift::audited;
 use crate::{AuditRefusal, PassedReport, ReportEvents, read_events};
@@ -101,13 +102,13 @@ fn take_line<'r>(
             taken.read.note_in(note);
             judge(sweep, note, taken.left)
         }
-        None => take_other(sweep, network, number, octets),
+        None => take_event(sweep, network, number, octets),
     }
 }
 
-// The same, for any record.
+// The same, for a record of an event.
 #[inline(never)]
-pub(crate) fn take_other<'r>(
+pub(crate) fn take_event<'r>(
     sweep: &mut Sweep,
     network: &Network,
     number: u64,
@@ -116,10 +117,13 @@ pub(crate) fn take_other<'r>(
     requires named { IsNamed network.now }
     requires swept { SweepsSome sweep.old }
     requires same { sweep.old.network.now ≡ network.now }
+    requires event { (note : NoteValue) (left : List ℕ) → IsNextLine network.now number octets.now left note
+        → HasNoEvent note.body → ⊥ }
     ensures { IsLineSwept network.now number sweep.old sweep.new octets.now result }
 {
-    match numbered_record(network, number, octets) {
-        Some(taken) => judge(sweep, &taken.note, taken.left),
+    let mut read = EventRecord::none();
+    match numbered_event(network, number, octets, &mut read) {
+        Some(left) => judge(sweep, &read.into_note(), left),
         None => Err(AuditRefusal::Form(number)),
     }
 }

@@ -1,95 +1,105 @@
-//! The line of a record of an event. It is read first, and then compared with what it was read to.
+//! The line of a record of an event. It is read word by word, each just as it is written, into the place of another.
 
-ghost use Rattle.std.specs.Prelude.{◌↔◌, ◌≡◌, IfSome, IsTrue, MatchOption, Some, ℕ};
+ghost use Rattle.std.specs.{List.AllPass, Prelude.{◌↔◌, ◌≡◌, ◌≢◌, IfSome, IsTrue, None, ℕ}};
 ghost use Rattle.net_plan.specs.{Belonging.IsOfNetwork, declared.event.What.What as WhatValue};
-ghost use Rattle.report_text.specs.{NoteLine.note_text, Ranges.{IsNoteInRange, IsNoteOf}};
 ghost use Rattle.run_law.specs.declared.note.NoteBody.TheVariants as bodies;
-ghost use Rattle.trace_text.specs.{EventLine.what_words, Ranges.IsWhatInRange};
+ghost use Rattle.trace_text.specs.{EventLine.what_words, Ranges.IsWhatInRange, Steps.words};
 ghost use Rattle.tte_units.specs.declared.units.Units.{Units as UnitsValue};
-ghost use Rattle.tte_audit.specs.{Named.IsNamed, Report.{IsTextOf, saying}, Spellings.{behind_word, head_word}};
+ghost use Rattle.tte_audit.specs.{Named.IsNamed, Report.{IsTextOf, saying}, Spellings.is_no_capital};
 
-use crate::numbers::{exact_count, exact_units};
-use net_plan::{Network, What};
-use report_text::make_note_line;
+use crate::line_words::LineWords;
+use net_plan::{Event, Network, What};
 use run_law::{Note, NoteBody};
+use std::marker::Model;
 use trace_text::{Words, what_in};
-use tte_io::LineText;
+use tte_units::Units;
 
-// Takes the next word. It is empty where the line has ended.
-fn next<'a>(words: &mut Words<'a>) -> &'a [u8]
-    ensures word { result.now ≡ head_word words.old }
-    ensures rest { words.new ≡ behind_word words.old }
-{
-    match words.next_word() {
-        Some(word) => word,
-        None => &[],
+/// The record of an event, seen as the record. It is large, so that each is read into the place of another.
+#[derive(Drop)]
+pub(crate) struct EventRecord {
+    /// The number of the record, from 1.
+    pub(crate) number: u64,
+    /// The line of the trace that has the event, from 1.
+    pub(crate) line: u64,
+    pub(crate) event: Event,
+}
+
+impl Model for EventRecord {
+    ghost use Rattle.run_law.specs.declared.note.{Note.Note, NoteBody.TheVariants.Event};
+
+    ghost Value = { Note };
+
+    ghost view = { λ r. record { number = r.number; time = r.event.time; body = Event r.line r.event.what } };
+}
+
+impl EventRecord {
+    /// A record that was not read: one may be put in its place.
+    pub(crate) fn none() -> EventRecord {
+        EventRecord {
+            number: 0,
+            line: 0,
+            event: Event {
+                time: Units(0),
+                what: What::End,
+            },
+        }
+    }
+
+    /// The record.
+    pub(crate) fn into_note(self) -> Note
+        ensures { result ≡ self }
+    {
+        Note {
+            number: self.number,
+            time: self.event.time,
+            body: NoteBody::Event {
+                line: self.line,
+                what: self.event.what,
+            },
+        }
     }
 }
 
-fn event_what(network: &Network, words: &mut Words) -> Option<What>
-    requires { IsNamed network.now }
-    ensures back { (w : WhatValue) → IsOfNetwork network.now w → IsWhatInRange w
-        → words.old ≡ what_words network.now w → result ≡ Some w }
-    ensures of_network { IfSome result (IsOfNetwork network.now) }
-    ensures range { IfSome result IsWhatInRange }
+// Has it no capital letter? A frame's octets are read in digits of either case, and written without capitals.
+fn has_no_capital(text: &[u8]) -> bool
+    ensures { IsTrue result ↔ AllPass is_no_capital text.now }
 {
-    let mut what = What::End;
-    match what_in(network, words, &mut what) {
-        Ok(()) => Some(what),
+    text.iter().all(|octet| !octet.is_ascii_uppercase())
+}
+
+// Reads what befalls the network, where that is written just so, and puts it in the place of another.
+fn exact_what(network: &Network, text: &[u8], what: &mut What) -> Option<()>
+    requires { IsNamed network.now }
+    ensures is { (w : WhatValue) → IsOfNetwork network.now w → IsWhatInRange w
+        → words text.now ≡ what_words network.now w → result ≢ None }
+    ensures of_network { IfSome result (λ _. IsOfNetwork network.now what.new) }
+    ensures range { IfSome result (λ _. IsWhatInRange what.new) }
+    ensures text { IfSome result (λ _. words text.now ≡ what_words network.now what.new) }
+{
+    if !has_no_capital(text) {
+        return None;
+    }
+    let mut words = Words::of(text);
+    match what_in(network, &mut words, what) {
+        Ok(()) => Some(()),
         Err(_) => None,
     }
 }
 
-// The record of an event that the text was written for. What it answers for other texts is open.
-fn candidate(network: &Network, text: &[u8]) -> Option<Note>
-    requires { IsNamed network.now }
-    ensures back { (number : ℕ) (time : UnitsValue) (line : ℕ) (w : WhatValue)
-        → IsTextOf network.now (saying number time (bodies.Event line w)) text.now
-        → result ≡ Some (saying number time (bodies.Event line w)) }
-    ensures of_network { IfSome result (IsNoteOf network.now) }
-    ensures range { IfSome result IsNoteInRange }
-{
-    let mut words = Words::of(text);
-    let number = exact_count(next(&mut words));
-    let time = exact_units(next(&mut words));
-    next(&mut words);
-    let line = exact_count(next(&mut words));
-    let what = event_what(network, &mut words);
-    Some(Note {
-        number: number?,
-        time: time?,
-        body: NoteBody::Event {
-            line: line?,
-            what: what?,
-        },
-    })
-}
-
-// Is this the record's text, without the LF of its line?
-fn is_text_of(network: &Network, note: &Note, text: &[u8]) -> bool
-    requires named { IsNamed network.now }
-    requires of_network { IsNoteOf network.now note.now }
-    ensures { IsTrue result ↔ (text.now ≡ note_text network.now note.now) }
-{
-    let mut line = LineText::new();
-    make_note_line(&mut line, network, note);
-    let shown = line.as_slice();
-    shown.len() == text.len() + 1 && &shown[..text.len()] == text
-}
-
-/// The record of an event whose line, without its LF, the text is.
+/// Reads the line of a record of an event, without its LF, and puts the record in the place of another, which is of no
+/// use where the text is no such line.
 #[inline(never)]
-pub(crate) fn event_line(network: &Network, text: &[u8]) -> Option<Note>
+pub(crate) fn event_line(network: &Network, text: &[u8], read: &mut EventRecord) -> Option<()>
     requires { IsNamed network.now }
-    ensures { MatchOption result
-        ((number : ℕ) (time : UnitsValue) (line : ℕ) (w : WhatValue)
-        → IsTextOf network.now (saying number time (bodies.Event line w)) text.now → ⊥)
-        (λ note. IsTextOf network.now note text.now) }
+    ensures is { (number : ℕ) (time : UnitsValue) (line : ℕ) (w : WhatValue)
+        → IsTextOf network.now (saying number time (bodies.Event line w)) text.now → result ≢ None }
+    ensures text { IfSome result (λ _. IsTextOf network.now read.new text.now) }
 {
-    let note = candidate(network, text)?;
-    if is_text_of(network, &note, text) {
-        Some(note)
-    } else {
-        None
-    }
+    let mut words = LineWords::of(text, None);
+    read.number = words.count()?;
+    read.event.time = words.units()?;
+    words.fixed("event")?;
+    read.line = words.count()?;
+    exact_what(network, words.rest()?, &mut read.event.what)?;
+    Some(())
 }

@@ -1,13 +1,11 @@
 ghost use Rattle.std.specs.Prelude.{◌++◌, ◌<◌, ◌^◌, ◌↔◌, ◌∷◌, ◌≡◌, ◌≤ℤ◌, IfOk, IsTrue, List, MatchBool, [], pos};
 ghost use Rattle.net_plan.specs.{Belonging.IsOfNetwork, declared.event.Event.Event as EventValue};
 ghost use Rattle.net_plan.specs.declared.{event.What.TheVariants.End, network.Network.Network as NetworkValue};
-ghost use Rattle.report_text.specs.Ranges.{IsBodyOf};
-ghost use Rattle.tte_audit.specs.{Following.Follows, Named.IsNamed, Report.{MayBefall, MayCome, with_event}};
+ghost use Rattle.tte_audit.specs.{Following.Follows, Report.MayBefall};
 
 use audit_law::events::{EventHistory, OutOfMemory};
 use fault_hypothesis::Watch;
 use net_plan::{Event, What};
-use run_law::NoteBody;
 use schedule_tables::Accepted;
 use std::alloc::Global;
 use tte_units::Units;
@@ -48,8 +46,8 @@ impl<'a> Befallen<'a> {
         })
     }
 
-    // Takes the event of this line, where it may befall the network.
-    fn admit(&mut self, line: u64, event: &Event) -> Result<bool, OutOfMemory>
+    /// Takes the event of this line, where it may befall the network.
+    pub(crate) fn admit(&mut self, line: u64, event: &Event) -> Result<bool, OutOfMemory>
         requires few { self.old.count < 2 ^ 63 }
         requires follows { (network : NetworkValue) × (befallen : List EventValue)
             × Follows network self.old.watch self.old.history self.old.count self.old.end befallen
@@ -75,40 +73,6 @@ impl<'a> Befallen<'a> {
                 Ok(true)
             }
             Err(_) => Ok(false),
-        }
-    }
-
-    /// Takes the event of a record, where it has one and may come, given those before it. A record without an event may
-    /// always come.
-    pub(crate) fn take(&mut self, time: Units, body: NoteBody) -> Result<bool, OutOfMemory>
-        requires few { self.old.count < 2 ^ 63 }
-        requires follows { (network : NetworkValue) × (befallen : List EventValue)
-            × Follows network self.old.watch self.old.history self.old.count self.old.end befallen
-            × IsBodyOf network body }
-        ensures { (network : NetworkValue) (befallen : List EventValue)
-            → Follows network self.old.watch self.old.history self.old.count self.old.end befallen
-            → IsBodyOf network body
-            → IfOk result (λ taken. MatchBool taken
-            (MayCome network befallen time body
-            × Follows network self.new.watch self.new.history self.new.count self.new.end
-            (with_event befallen time body))
-            (MayCome network befallen time body → ⊥)) }
-    {
-        match body {
-            NoteBody::Event { line, what } => self.admit(line, &Event { time, what }),
-            NoteBody::Arrived { .. }
-            | NoteBody::Permanent { .. }
-            | NoteBody::Compressed { .. }
-            | NoteBody::Sent { .. }
-            | NoteBody::Corrected { .. }
-            | NoteBody::State { .. }
-            | NoteBody::Left { .. }
-            | NoteBody::Lost { .. }
-            | NoteBody::TtSent { .. }
-            | NoteBody::Accepted { .. }
-            | NoteBody::Delivered { .. }
-            | NoteBody::Dropped { .. }
-            | NoteBody::Clock { .. } => Ok(true),
         }
     }
 }

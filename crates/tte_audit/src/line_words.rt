@@ -78,6 +78,13 @@ impl<'a> LineWords<'a> {
         }
     }
 
+    /// What is left, as it stands in the line. It is None where the line has ended.
+    pub(crate) fn rest(&self) -> Option<&'a [u8]>
+        ensures { MatchOption result (self.now ≡ []) (λ text. self.now ≡ words text.now) }
+    {
+        self.left
+    }
+
     /// This word.
     pub(crate) fn fixed(&mut self, text: &str) -> Option<()>
         ensures is { first_word self.old ≡ Some text.now → result ≢ None }

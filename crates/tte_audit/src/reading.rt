@@ -1,10 +1,12 @@
 ghost use Rattle.std.specs.Prelude.{◌≢◌, IfSome, MatchOption, None, ℕ};
 ghost use Rattle.{net_plan.specs.Ranges.IsInRange, tte_audit.specs.Report.{HasNoEvent, IsTextOf, saying}};
-ghost use Rattle.run_law.specs.{declared.note.Note.{Note as NoteValue}, plain.Bodies.body_of};
+ghost use Rattle.{net_plan.specs.declared.event.What.What as WhatValue, run_law.specs.plain.Bodies.body_of};
+ghost use Rattle.run_law.specs.declared.note.Note.{Note as NoteValue};
+ghost use Rattle.run_law.specs.declared.note.NoteBody.TheVariants as bodies;
 ghost use Rattle.run_law.specs.declared.plain.bodies.PlainKind.{PlainKind as PlainValue};
 ghost use Rattle.{tte_audit.specs.Named.IsNamed, tte_units.specs.declared.units.Units.{Units as UnitsValue}};
 
-use crate::event_lines::event_line;
+use crate::event_lines::{EventRecord, event_line};
 use crate::hints::NameHints;
 use crate::line_words::LineWords;
 use crate::plain_bodies::plain_of;
@@ -37,6 +39,19 @@ pub(crate) fn plain_line(
     })
 }
 
+// The record of an event whose line the text is.
+fn event_note(network: &Network, text: &[u8]) -> Option<Note>
+    requires { IsNamed network.now }
+    ensures { MatchOption result
+        ((number : ℕ) (time : UnitsValue) (line : ℕ) (w : WhatValue)
+        → IsTextOf network.now (saying number time (bodies.Event line w)) text.now → ⊥)
+        (λ note. IsTextOf network.now note text.now) }
+{
+    let mut read = EventRecord::none();
+    event_line(network, text, &mut read)?;
+    Some(read.into_note())
+}
+
 /// The record whose line, without its LF, the text is. It is None exactly where it is that of no record of the
 /// network.
 ///
@@ -49,6 +64,6 @@ pub fn note_line(network: &Network, text: &[u8]) -> Option<Note>
 {
     match plain_line(network, None, text) {
         Some(read) => Some(read.note()),
-        None => event_line(network, text),
+        None => event_note(network, text),
     }
 }

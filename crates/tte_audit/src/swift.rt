@@ -5,10 +5,11 @@ ghost use Rattle.std.specs.Prelude.{◌++◌, ◌<◌, ◌^◌, ◌∷◌, ◌�
 ghost use Rattle.{audit_sweep.specs.Sweeping.SweepsSome, run_law.specs.declared.note.Note.{Note as NoteValue}};
 ghost use Rattle.tte_audit.specs.{Named.IsNamed, Passing.IsPassed, Swift.{IsBehind, IsGoneOn, IsSought, IsSoughtOn}};
 
-use crate::auditing::{judge, take_other};
+use crate::auditing::{judge, take_event};
+use crate::event_lines::EventRecord;
 use crate::events::Befallen;
 use crate::hints::NameHints;
-use crate::lines::{first_lf, first_record, plain_record};
+use crate::lines::{event_record, first_lf, plain_record};
 use crate::named::keep_names_apart;
 use crate::{AuditRefusal, PassedReport};
 use audit_sweep::Sweep;
@@ -53,9 +54,9 @@ impl<'a> Sought<'a> {
         }
     }
 
-    // Takes the record whose line comes first, where it may come.
+    // Takes the event of the record whose line comes first, where it may come.
     #[inline(never)]
-    fn take(&mut self, network: &Network, octets: &[u8]) -> Option<()>
+    fn take(&mut self, network: &Network, octets: &[u8], read: &mut EventRecord) -> Option<()>
         requires named { IsNamed network.now }
         requires few { self.old.befallen.count < 2 ^ 63 }
         requires sought { (report : List ℕ) × (notes : List NoteValue) × IsSought network.now report notes self.old }
@@ -63,23 +64,27 @@ impl<'a> Sought<'a> {
             → IsSought network.now report notes self.old
             → IfSome result (λ _. IsSoughtOn network.now report notes self.new) }
     {
-        let taken = match first_record(network, octets) {
-            Some(taken) => taken,
-            None => return None,
-        };
-        match self.befallen.take(taken.note.time, taken.note.body) {
+        event_record(network, octets, read)?;
+        match self.befallen.admit(read.line, &read.event) {
             Ok(true) => {}
             Ok(false) => return None,
             Err(_) => return None,
         }
         match self.places.push(octets.len()) {
-            Ok(()) => Some(()),
-            Err(_) => None,
+            Ok(()) => {}
+            Err(_) => return None,
         }
+        Some(())
     }
 
     // Takes the record whose line comes first, if that seems to be the line of an event.
-    fn look(&mut self, network: &Network, octets: &[u8], is_event: bool) -> Option<()>
+    fn look(
+        &mut self,
+        network: &Network,
+        octets: &[u8],
+        is_event: bool,
+        read: &mut EventRecord,
+    ) -> Option<()>
         requires named { IsNamed network.now }
         requires few { self.old.befallen.count < 2 ^ 63 }
         requires sought { (report : List ℕ) × (notes : List NoteValue) × IsSought network.now report notes self.old }
@@ -88,7 +93,7 @@ impl<'a> Sought<'a> {
             → IfSome result (λ _. IsSoughtOn network.now report notes self.new) }
     {
         if is_event {
-            self.take(network, octets)
+            self.take(network, octets, read)
         } else {
             Some(())
         }
@@ -105,6 +110,7 @@ fn seek<'a>(alloc: Global, accepted: &'a Accepted, report: &[u8]) -> Option<Soug
         Some(sought) => sought,
         None => return None,
     };
+    let mut read = EventRecord::none();
     let mut rest = report;
     let mut kind = 0;
     'lines: while !rest.is_empty() {
@@ -114,7 +120,7 @@ fn seek<'a>(alloc: Global, accepted: &'a Accepted, report: &[u8]) -> Option<Soug
         };
         kind = kind_place(line.text, kind);
         let is_event = seems_event(line.text, kind);
-        match sought.look(accepted.network(), rest, is_event) {
+        match sought.look(accepted.network(), rest, is_event, &mut read) {
             Some(()) => rest = line.behind,
             None => return None,
         }
@@ -194,7 +200,7 @@ fn take_line<'r, 'p>(
             with_places(judge(sweep, note, taken.left), left.places)
         }
         None => match behind_place(left.places, left.octets.len()) {
-            Some(places) => with_places(take_other(sweep, network, number, left.octets), places),
+            Some(places) => with_places(take_event(sweep, network, number, left.octets), places),
             None => None,
         },
     }

@@ -6,6 +6,6 @@ returns-in-Some c = subst (λ (n : Note). IsTextOf c.args.network.now n c.args.t
 
 pub returns-in-None : goal.returns-in-None
 returns-in-None c =
-    with_none _ c.event_line.result
+    with_none _ c.event_note.result
     (none_read c.args.network.now c.args.text.now (λ number time p h. c.plain_line.ensures.is number time p h c.in-None.is))
-    c.event_line.ensures
+    c.event_note.ensures

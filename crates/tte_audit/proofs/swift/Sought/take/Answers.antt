@@ -1,11 +1,18 @@
-use Rattle.tte_audit.proofs.{Befalling.match_true, Seeking.one_sought, Words.events_of}
+use Rattle.tte_audit.proofs.{Befalling.match_true, Seeking.one_sought, Words.{BeginsWithRecord, Note, events_of, subst, sym}}
+use Rattle.run_law.specs.declared.note.NoteBody.TheVariants.{Event}
 use Rattle.tte_audit.proofs.swift.Sought.take.Goals as goal
 
-pub returns-in-Ok : goal.returns-in-Ok
-returns-in-Ok c report front notes parts sought =
+pub returns : goal.returns
+returns c report front notes parts sought =
     let network = c.args.network.now in
-    let taken = c.in-Some.taken in
-    let more = match_true c.in-Ok-true.field-0 _ _ (c.in-Ok-true.ensures network (events_of notes) sought.follows c.in-Some.ensures.of_network)
+    let octets = c.args.octets.now in
+    let left = c.in_ok-event_record.field-0.now in
+    let note : Note = record {
+      number = c.read.inside.number;
+      time = c.read.inside.event.time;
+      body = Event c.read.inside.line c.read.inside.event.what;
+    } in
+    let begins = subst (λ (n : Note). BeginsWithRecord network n octets left) (sym c.read.view_is) c.in_ok-event_record.ensures in
+    let more = match_true c.in-Ok-true.field-0 _ _ (c.in-Ok-true.ensures network (events_of notes) sought.follows begins.of_network)
     c.in-Ok-true.field-0-test in
-    one_sought network report front c.args.octets.now taken.left.now notes taken.note c.args.self.now _ sought parts c.in-Some.ensures more.0 more.1
-    c.in-Ok.ensures.items
+    one_sought network report front octets left notes note c.args.self.now _ sought parts begins more.0 more.1 c.in-Ok.ensures.items
