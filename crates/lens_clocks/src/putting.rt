@@ -1,0 +1,88 @@
+//! The lines of a cycle, put one after another.
+
+ghost use Rattle.std.specs.Prelude.{◌≡◌, All, MatchResult, map};
+ghost use Rattle.lens_clocks.specs.{Lines.{clock_line, lines_between, told_lines}, Putting.Puts, Telling.IsWritable};
+ghost use Rattle.{device_rules.specs.Widths.IsLocal, net_plan.specs.Ranges.IsInRange};
+ghost use Rattle.{lens_clocks.specs.declared.spread.Ends.{Ends as EndsValue}, tte_forms.specs.Faults.PutFailed};
+ghost use Rattle.{std.specs.declared.option.Option.TheVariants.Some, tte_forms.specs.Putting.Over};
+
+use crate::lines::{make_clock_line, make_spread_line};
+use crate::spread::ends_of;
+use crate::{Clock, Ends};
+use net_plan::Network;
+use tte_io::{LineText, Sink, SinkFailed};
+
+/// Puts the line of each clock.
+fn put_clocks<K: Sink>(
+    network: &Network,
+    number: u64,
+    least: i128,
+    clocks: &[Clock],
+    line: &mut LineText,
+    out: &mut K,
+) -> Result<(), SinkFailed>
+    requires range { IsInRange network.now }
+    requires writable { All (IsWritable network.now) clocks.now }
+    requires least { IsLocal least }
+    ensures puts { Over K.Sink out.old out.new (Puts (map (clock_line network.now number least) clocks.now) result) }
+    ensures faults { MatchResult result (λ _. K.faults out.new ≡ K.faults out.old)
+        (λ _. PutFailed K.Sink out.old out.new) }
+{
+    'clocks: for clock in clocks {
+        make_clock_line(line, network, number, least, clock);
+        match out.put(line.as_slice()) {
+            Ok(()) => (),
+            Err(cause) => return Err(cause),
+        }
+    }
+    Ok(())
+}
+
+/// Puts the lines of clocks that lie between these ends.
+fn put_between<K: Sink>(
+    network: &Network,
+    number: u64,
+    ends: Ends,
+    clocks: &[Clock],
+    line: &mut LineText,
+    out: &mut K,
+) -> Result<(), SinkFailed>
+    requires range { IsInRange network.now }
+    requires writable { All (IsWritable network.now) clocks.now }
+    requires least { IsLocal ends.least }
+    requires greatest { IsLocal ends.greatest }
+    ensures puts { Over K.Sink out.old out.new
+        (Puts (lines_between network.now number (Some ends) clocks.now) result) }
+    ensures faults { MatchResult result (λ _. K.faults out.new ≡ K.faults out.old)
+        (λ _. PutFailed K.Sink out.old out.new) }
+{
+    match put_clocks(network, number, ends.least, clocks, line, out) {
+        Ok(()) => (),
+        Err(cause) => return Err(cause),
+    }
+    make_spread_line(line, network, number, Some(ends));
+    out.put(line.as_slice())
+}
+
+/// Puts the lines of these clocks at the end of the cycle of this number, counted from 1.
+pub(crate) fn put_told<K: Sink>(
+    network: &Network,
+    number: u64,
+    clocks: &[Clock],
+    line: &mut LineText,
+    out: &mut K,
+) -> Result<(), SinkFailed>
+    requires range { IsInRange network.now }
+    requires writable { All (IsWritable network.now) clocks.now }
+    ensures puts { Over K.Sink out.old out.new (Puts (told_lines network.now number clocks.now) result) }
+    ensures faults { MatchResult result (λ _. K.faults out.new ≡ K.faults out.old)
+        (λ _. PutFailed K.Sink out.old out.new) }
+{
+    match ends_of(clocks) {
+        Some(ends) => put_between(network, number, ends, clocks, line, out),
+        None => {
+            make_spread_line(line, network, number, None);
+            out.put(line.as_slice())
+        }
+    }
+}
