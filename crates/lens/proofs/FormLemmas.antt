@@ -1,5 +1,5 @@
 -- The form of words by their count and their first, and the numbers of forms.
-use Rattle.lens.specs.declared.forms.{Form.{Form, TheVariants.{DrawNamed, Events, Latency, Least, Plan, Report, Slack, SlackOf}}, Question.TheVariants.{Draw, DrawWhole, Flows, LatencySeen, Page, Why}}
+use Rattle.lens.specs.declared.forms.{Form.{Form, TheVariants.{DrawNamed, Events, Latency, Least, Plan, Report, Slack, SlackOf}}, Question.TheVariants.{Clocks, Draw, DrawWhole, Flows, LatencySeen, Page, Why}}
 use Rattle.{lens.specs.declared.forms.Part.{Part, TheVariants.{Cycle, Times}}, lens_plan.specs.messages.Values.{is_name_text, time_spelled}}
 use Rattle.lens_slack.specs.Inequalities.{IsInequality}
 use Rattle.lens.specs.Forms.{IsFormInRange, IsPartInRange, cycle_part, draw_form, events_form, five_words_form, form_of, four_words_form, greatest_cycle}
@@ -176,16 +176,17 @@ slack_of_by : (o : Option Rule) → IfSome o IsInequality → IfSome (option_map
 slack_of_by None is = tt
 slack_of_by (Some rule) is = is
 
-three_words_by : (slack plan draw page flows latency : Bool) (of : Option Form) → IfSome of IsFormInRange
+three_words_by : (slack plan draw page flows latency clocks : Bool) (of : Option Form) → IfSome of IsFormInRange
     → IfSome (if slack then of else if plan then Some Plan else if draw then Some (Report DrawWhole) else if page then Some (Report Page)
-    else if flows then Some (Report Flows) else if latency then Some (Report LatencySeen) else None) IsFormInRange
-three_words_by true plan draw page flows latency of h = h
-three_words_by false true draw page flows latency of h = tt
-three_words_by false false true page flows latency of h = tt
-three_words_by false false false true flows latency of h = tt
-three_words_by false false false false true latency of h = tt
-three_words_by false false false false false true of h = tt
-three_words_by false false false false false false of h = tt
+    else if flows then Some (Report Flows) else if latency then Some (Report LatencySeen) else if clocks then Some (Report Clocks) else None) IsFormInRange
+three_words_by true plan draw page flows latency clocks of h = h
+three_words_by false true draw page flows latency clocks of h = tt
+three_words_by false false true page flows latency clocks of h = tt
+three_words_by false false false true flows latency clocks of h = tt
+three_words_by false false false false true latency clocks of h = tt
+three_words_by false false false false false true clocks of h = tt
+three_words_by false false false false false false true of h = tt
+three_words_by false false false false false false false of h = tt
 
 five_words_by : (b : Bool) (draw : Option Form) → IfSome draw IsFormInRange → IfSome (if b then draw else None) IsFormInRange
 five_words_by true draw h = h
@@ -199,7 +200,8 @@ form_in_range (command ∷ []) = tt
 form_in_range (command ∷ network ∷ []) = network_by (bytes_eq command (codes "slack")) (bytes_eq command (codes "least")) (bytes_eq command (codes "latency"))
 form_in_range (command ∷ network ∷ third ∷ []) =
     three_words_by (bytes_eq command (codes "slack")) (bytes_eq command (codes "plan")) (bytes_eq command (codes "draw"))
-    (bytes_eq command (codes "page")) (bytes_eq command (codes "flows")) (bytes_eq command (codes "latency")) (slack_of_form third)
+    (bytes_eq command (codes "page")) (bytes_eq command (codes "flows")) (bytes_eq command (codes "latency"))
+    (bytes_eq command (codes "clocks")) (slack_of_form third)
     (slack_of_by (inequality_spelled third) (inequality_by third))
 form_in_range (command ∷ network ∷ third ∷ last ∷ []) =
     four_words_by (bytes_eq command (codes "why")) (bytes_eq command (codes "draw")) (bytes_eq command (codes "events")) (why_form last)

@@ -12,7 +12,7 @@ use Rattle.{lens_slack.proofs.least_lemmas.OneLeast.least_one, tte_forms.specs.d
 use Rattle.{lens_slack.specs.{Steps.{all_steps, rule_steps}, least.Answer.{IsLeastOf, with_late}}, tte_forms.proofs.networks.Answers.network_answer_one}
 use Rattle.lens.proofs.draw_lemmas.Naming.{named_one}
 use Rattle.{lens.specs.declared.forms.Form.TheVariants.{DrawNamed, Events, Latency, Least, Plan, Report, Slack, SlackOf}, lens.specs.declared.forms.Question.Question}
-use Rattle.{lens.specs.declared.forms.Form.Form, lens.specs.declared.forms.Question.TheVariants.{Draw, DrawWhole, Flows, LatencySeen, Page, Why}}
+use Rattle.{lens.specs.declared.forms.Form.Form, lens.specs.declared.forms.Question.TheVariants.{Clocks, Draw, DrawWhole, Flows, LatencySeen, Page, Why}}
 use Rattle.{lens_why.proofs.Whole.why_answer_one, tte_forms.specs.{Answering.Answer, Putting.Shown}}
 use Rattle.tte_reports.{proofs.Reports.report_one, specs.Reports.IsOneFor}
 
@@ -40,6 +40,7 @@ question_one (Draw part) = λ network text notes end x y rules of i j. i ∙ sym
 question_one Page = λ network text notes end x y rules of i j. i ∙ sym j
 question_one Flows = flows_answer_one
 question_one LatencySeen = latency_report_one
+question_one Clocks = λ network text notes end x y rules of i j. i ∙ sym j
 
 -- no question ends as words of no form do
 pub no_usage_for : (question : Question) → EndsFor question Usage → ⊥

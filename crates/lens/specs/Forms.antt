@@ -4,7 +4,7 @@ use Rattle.std.specs.Prelude.{◌&&◌, ◌-◌, ◌^◌, ◌||◌, ◌∷◌, �
 use Rattle.std.specs.Prelude.{length, nat_le, take, ℕ}
 use Rattle.lens.specs.declared.forms.{Form.{Form, TheVariants.{DrawNamed, Events, Latency, Least, Plan}}, Question.Question}
 use Rattle.lens.specs.declared.forms.Form.TheVariants.{Report, Slack, SlackOf}
-use Rattle.lens.specs.declared.forms.{Part.{Part, TheVariants.{Cycle, Times}}, Question.TheVariants.{Draw, DrawWhole}}
+use Rattle.lens.specs.declared.forms.{Part.{Part, TheVariants.{Cycle, Times}}, Question.TheVariants.{Clocks, Draw, DrawWhole}}
 use Rattle.{lens.specs.declared.forms.Question.TheVariants.{Flows, LatencySeen, Page, Why}, trace_text.specs.Numbers.number_up_to}
 use Rattle.lens_plan.specs.messages.Values.{is_name_text, time_spelled}
 use Rattle.lens_slack.specs.Inequalities.{IsInequality}
@@ -42,7 +42,7 @@ abbrev pub greatest_number : ℕ
 greatest_number = 2 ^ 64 - 1
 
 -- a command with three words: `slack NETWORK RULE`, `plan NETWORK MESSAGES`, `draw NETWORK REPORT`, `page NETWORK REPORT`,
--- `flows NETWORK REPORT` or `latency NETWORK REPORT`
+-- `flows NETWORK REPORT`, `latency NETWORK REPORT` or `clocks NETWORK REPORT`
 abbrev pub three_words_form : List ℕ → List ℕ → Option Form
 three_words_form command third =
     if bytes_eq command (codes "slack") then slack_of_form third
@@ -51,6 +51,7 @@ three_words_form command third =
     else if bytes_eq command (codes "page") then Some (Report Page)
     else if bytes_eq command (codes "flows") then Some (Report Flows)
     else if bytes_eq command (codes "latency") then Some (Report LatencySeen)
+    else if bytes_eq command (codes "clocks") then Some (Report Clocks)
     else None
 
 -- the number of a record, at least 1, in decimal without leading zeros
@@ -143,6 +144,7 @@ IsQuestionInRange (Draw part) = IsPartInRange part
 IsQuestionInRange Page = Unit {0}
 IsQuestionInRange Flows = Unit {0}
 IsQuestionInRange LatencySeen = Unit {0}
+IsQuestionInRange Clocks = Unit {0}
 
 -- the rule of the form is an inequality, and its numbers lie in their ranges
 abbrev pub IsFormInRange : Form → Type 0

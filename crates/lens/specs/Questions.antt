@@ -1,8 +1,8 @@
 -- What is answered for what is asked of a report.
 use Rattle.lens.specs.{declared.forms.Question.Question, draw.{Answer.IsPartAnswer, overview.Answer.IsOverviewAnswer}}
-use Rattle.lens.specs.declared.forms.Question.TheVariants.{Draw, DrawWhole, Flows, LatencySeen, Page, Why}
+use Rattle.lens.specs.declared.forms.Question.TheVariants.{Clocks, Draw, DrawWhole, Flows, LatencySeen, Page, Why}
 use Rattle.{lens_flows.specs.Answer.IsFlowsAnswer, lens_latency.specs.Answer.IsLatencyReport}
-use Rattle.lens_page.specs.Answer.{IsPageAnswer}
+use Rattle.{lens_clocks.specs.Answer.IsClocksAnswer, lens_page.specs.Answer.IsPageAnswer}
 use Rattle.tte_reports.specs.{Answer.IsAuditStatus, Reports.AnswersFor}
 use Rattle.{lens_why.specs.Answer.{IsWhyAnswer, IsWhyStatus, why_audits}, tte_forms.specs.declared.status.Status.Status}
 
@@ -14,6 +14,7 @@ IsQuestionAnswer (Draw part) = IsPartAnswer part
 IsQuestionAnswer Page = IsPageAnswer
 IsQuestionAnswer Flows = IsFlowsAnswer
 IsQuestionAnswer LatencySeen = IsLatencyReport
+IsQuestionAnswer Clocks = IsClocksAnswer
 
 -- the statuses with which it ends: only `why` may refuse a number
 abbrev pub EndsFor : Question → Status → Type 0

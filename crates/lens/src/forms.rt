@@ -60,6 +60,8 @@ pub enum Question {
     Flows,
     /// `latency NETWORK REPORT`.
     LatencySeen,
+    /// `clocks NETWORK REPORT`.
+    Clocks,
 }
 
 /// A part of a run.
@@ -130,6 +132,7 @@ fn three_words_form(command: &str, third: &str) -> Option<Form<'static>>
         "page" => Some(Form::Report(Question::Page)),
         "flows" => Some(Form::Report(Question::Flows)),
         "latency" => Some(Form::Report(Question::LatencySeen)),
+        "clocks" => Some(Form::Report(Question::Clocks)),
         _ => None,
     }
 }

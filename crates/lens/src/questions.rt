@@ -6,6 +6,7 @@ use crate::draw::Draw;
 use crate::draw::overview::DrawWhole;
 use crate::draw::spans::span_of;
 use crate::forms::Question;
+use lens_clocks::Clocks;
 use lens_flows::Flows;
 use lens_latency::Latency;
 use lens_page::Page;
@@ -34,6 +35,7 @@ impl<K: Sink> ReportCommand<K> for Question {
             Question::Page => Page.put(alloc, network, report, out),
             Question::Flows => Flows.put(alloc, network, report, out),
             Question::LatencySeen => Latency.put(alloc, network, report, out),
+            Question::Clocks => Clocks.put(alloc, network, report, out),
         }
     }
 }

@@ -19,11 +19,11 @@ use tte_reports::answer_report;
 const USAGE: &str =
     "usage: lens slack NETWORK [RULE] | least NETWORK | plan NETWORK MESSAGES | latency NETWORK [REPORT] | \
                      why NETWORK REPORT N | draw NETWORK REPORT | draw NETWORK REPORT CYCLE [NAME] | \
-                     draw NETWORK REPORT FROM TO [NAME] | page NETWORK REPORT | flows NETWORK REPORT | \
-                     events NETWORK SEED CYCLES\n";
+                     draw NETWORK REPORT FROM TO [NAME] | page NETWORK REPORT | clocks NETWORK REPORT | \
+                     flows NETWORK REPORT | events NETWORK SEED CYCLES\n";
 
 /// All that the program does: it answers the words, with `first` as the file that word 2 names and
-/// `second` as the one that word 3 of `plan`, `latency`, `why`, `draw`, `page` or `flows` names, and writes to `out`.
+/// `second` as the one that word 3 of `plan`, `latency`, `why`, `draw`, `page`, `clocks` or `flows` names, and writes to `out`.
 pub fn lens<A: Source, B: Source, K: Sink>(
     alloc: Global,
     words: &Words,

@@ -1,7 +1,8 @@
 //! Tests of the program `lens`: what is no form, what rules leave and want of networks, the least numbers that they
-//! admit, chains of records, the events of storms, and the run over them.
+//! admit, chains of records, clocks, the events of storms, and the run over them.
 
 mod chains;
+mod clocks;
 mod eventful;
 mod first;
 mod forms;

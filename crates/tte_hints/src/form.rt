@@ -87,6 +87,7 @@ const LENS: &[Form] = &[
         ],
     ),
     Form("page", &[Argument::Network, Argument::Report]),
+    Form("clocks", &[Argument::Network, Argument::Report]),
     Form("flows", &[Argument::Network, Argument::Report]),
     Form(
         "events",

@@ -10,7 +10,7 @@ use worked_network::{call_of_one, words_of};
 const USAGE: &str =
     "usage: lens slack NETWORK [RULE] | least NETWORK | plan NETWORK MESSAGES | latency NETWORK [REPORT] | why NETWORK REPORT N | \
         draw NETWORK REPORT | draw NETWORK REPORT CYCLE [NAME] | draw NETWORK REPORT FROM TO [NAME] | \
-        page NETWORK REPORT | flows NETWORK REPORT | events NETWORK SEED CYCLES\n";
+        page NETWORK REPORT | clocks NETWORK REPORT | flows NETWORK REPORT | events NETWORK SEED CYCLES\n";
 
 const NO_FORMS: &[&[&str]] = &[
     &[],
@@ -73,6 +73,9 @@ const NO_FORMS: &[&[&str]] = &[
     &["page", "a"],
     &["page", "a", "b", "c"],
     &["Page", "a", "b"],
+    &["clocks", "a"],
+    &["clocks", "a", "b", "c"],
+    &["Clocks", "a", "b"],
     &["events", "a"],
     &["events", "a", "1"],
     &["events", "a", "1", "2", "3"],
@@ -205,6 +208,7 @@ fn words_of_whole_reports_are_read(rt: HostRuntime) -> Result<(), Fail> {
     let alloc = rt.alloc();
     try_question(&rt, alloc, &["latency", "a", "b"], Question::LatencySeen)?;
     try_question(&rt, alloc, &["page", "a", "b"], Question::Page)?;
+    try_question(&rt, alloc, &["clocks", "a", "b"], Question::Clocks)?;
     try_question(&rt, alloc, &["draw", "a", "b"], Question::DrawWhole)
 }
 

@@ -40,3 +40,9 @@ returns-in-LatencySeen-clause-gives g c notes end of =
     let shown = shown_by g.K.Sink in
     subst (λ (q : Question). GivesAnswer (λ (a : Answer). IsQuestionAnswer q c.args.network.now notes end a) c.put-in-LatencySeen.result (shown c.args.out.now)
     (shown c.put-in-LatencySeen.new.out)) (sym c.in-LatencySeen.is) (c.put-in-LatencySeen.ensures.gives notes end of)
+
+pub returns-in-Clocks-clause-gives : goal.returns-in-Clocks-clause-gives
+returns-in-Clocks-clause-gives g c notes end of =
+    let shown = shown_by g.K.Sink in
+    subst (λ (q : Question). GivesAnswer (λ (a : Answer). IsQuestionAnswer q c.args.network.now notes end a) c.put-in-Clocks.result (shown c.args.out.now)
+    (shown c.put-in-Clocks.new.out)) (sym c.in-Clocks.is) (c.put-in-Clocks.ensures.gives notes end of)
