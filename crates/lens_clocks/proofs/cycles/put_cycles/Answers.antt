@@ -9,8 +9,11 @@ pub returns-in-Err-clause-gives : goal.returns-in-Err-clause-gives
 returns-in-Err-clause-gives g c befallen hs known =
     let s = scenario_under c.args.network.now befallen in
     let count = ap (λ (n : ℕ). c.args.until / n) c.amount-cycle.ensures.value in
-    inr (inr (inr refl, cycles_some s hs c.cycles.before (cycles_by s c.args.until) (shown_by g.K.Sink c.args.out.now) (shown_by g.K.Sink c.cycles.out)
-    (subst (λ (n : ℕ). c.cycles.before < n) count c.cycles-test.true) (c.cycles.invariant.puts befallen hs known)))
+    inr (inr (
+      inr refl,
+      cycles_some s hs c.cycles.before (cycles_by s c.args.until) (shown_by g.K.Sink c.args.out.now) (shown_by g.K.Sink c.cycles.out)
+          (subst (λ (n : ℕ). c.cycles.before < n) count c.cycles-test.true) (c.cycles.invariant.puts befallen hs known),
+    ))
 
 pub returns-in-Err-put_told-clause-gives : goal.returns-in-Err-put_told-clause-gives
 returns-in-Err-put_told-clause-gives g c befallen hs known =
@@ -21,9 +24,12 @@ returns-in-Err-put_told-clause-gives g c befallen hs known =
     let count = ap (λ (k : ℕ). c.args.until / k) c.amount-cycle.ensures.value in
     let clocks : c.as_slice.result.now ≡ clocks_at s hs ((n + 1) * _) =
     c.as_slice.ensures.value ∙ c.in-Ok.ensures.are befallen hs known ∙ ap (λ (k : ℕ). clocks_at s hs ((n + 1) * k)) c.amount-cycle.ensures.value in
-    inr (inl (refl, inl (cycles_fail s hs n (cycles_by s c.args.until) (shown_by g.K.Sink c.args.out.now) now new
-    (subst (λ (k : ℕ). n < k) count c.cycles-test.true) (c.cycles.invariant.puts befallen hs known)
-    (subst (λ (cs : List Clock). PutFails (told_lines c.args.network.now (n + 1) cs) now new) clocks c.in-Err-put_told.ensures.puts))))
+    inr (inl (
+      refl,
+      inl (cycles_fail s hs n (cycles_by s c.args.until) (shown_by g.K.Sink c.args.out.now) now new
+          (subst (λ (k : ℕ). n < k) count c.cycles-test.true) (c.cycles.invariant.puts befallen hs known)
+          (subst (λ (cs : List Clock). PutFails (told_lines c.args.network.now (n + 1) cs) now new) clocks c.in-Err-put_told.ensures.puts)),
+    ))
 
 pub cycles-preserved : goal.cycles-preserved
 cycles-preserved g c =

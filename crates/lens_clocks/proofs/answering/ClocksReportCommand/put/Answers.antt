@@ -33,6 +33,9 @@ returns-clause-gives g c notes end r =
     let hs = happenings network notes in
     let until = c.unsigned_abs-until.ensures.value ∙ ap (λ (z : ℤ). unsigned_abs z) (to_z-of_z w64 c.args.report.now.index.end.0 (search rules))
     ∙ ap (λ (u : Units). amount u) (sym (end_same network c.args.report.now.octets notes end c.args.report.now.index r shows)) in
-    inl (clocks_answer s hs (amount end), refl,
-    subst (λ (n : ℕ). Gives (clocks_answer s hs n) c.put_cycles.result (shown c.args.out.now) (shown c.put_cycles.new.out)) until
-    (c.put_cycles.ensures.gives (events_of notes) hs shows))
+    inl (
+      clocks_answer s hs (amount end),
+      refl,
+      subst (λ (n : ℕ). Gives (clocks_answer s hs n) c.put_cycles.result (shown c.args.out.now) (shown c.put_cycles.new.out)) until
+          (c.put_cycles.ensures.gives (events_of notes) hs shows),
+    )
