@@ -15,8 +15,8 @@ abbrev pub usage_line : List ℕ
 usage_line =
     codes "usage: lens slack NETWORK [RULE] | least NETWORK | plan NETWORK MESSAGES | latency NETWORK [REPORT] | "
     ++ codes "why NETWORK REPORT N | draw NETWORK REPORT | draw NETWORK REPORT CYCLE [NAME] | "
-    ++ codes "draw NETWORK REPORT FROM TO [NAME] | page NETWORK REPORT | clocks NETWORK REPORT | flows NETWORK REPORT | "
-    ++ codes "events NETWORK SEED CYCLES\n"
+    ++ codes "draw NETWORK REPORT FROM TO [NAME] | page NETWORK REPORT | clocks NETWORK REPORT | "
+    ++ codes "flows NETWORK REPORT | events NETWORK SEED CYCLES\n"
 
 -- the answer for words of no form: the usage line
 abbrev pub usage_answer : Answer

@@ -22,8 +22,8 @@ const USAGE: &str =
                      draw NETWORK REPORT FROM TO [NAME] | page NETWORK REPORT | clocks NETWORK REPORT | \
                      flows NETWORK REPORT | events NETWORK SEED CYCLES\n";
 
-/// All that the program does: it answers the words, with `first` as the file that word 2 names and
-/// `second` as the one that word 3 of `plan`, `latency`, `why`, `draw`, `page`, `clocks` or `flows` names, and writes to `out`.
+/// All that the program does: it answers the words, with `first` as the file that word 2 names and `second` as the one
+/// that word 3 of `plan`, `latency`, `why`, `draw`, `page`, `clocks` or `flows` names, and writes to `out`.
 pub fn lens<A: Source, B: Source, K: Sink>(
     alloc: Global,
     words: &Words,

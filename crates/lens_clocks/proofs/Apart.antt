@@ -1,5 +1,6 @@
 -- In a report no clocks are further apart than the precision.
-use Rattle.lens_clocks.{proofs.{Extremes.{ends_are_of_clocks, shown_by}, InStep.clocks_are_in_step, Passing.cycles_have_passed}, specs.{Laws.SpreadsAreWithin, Telling.clocks_at}}
+use Rattle.lens_clocks.proofs.{Extremes.{ends_are_of_clocks, shown_by}, InStep.clocks_are_in_step, Passing.cycles_have_passed}
+use Rattle.lens_clocks.specs.{Laws.SpreadsAreWithin, Telling.clocks_at}
 use Rattle.run_law.specs.{device.LocalClocks.local, records.Happenings.happenings}
 use Rattle.std.proofs.{Common.{◌*◌, ◌∙◌, ◌≡◌, arith, sym}, lemmas.Int.ints}
 use Rattle.{tte_audit.specs.Report.scenario_of, tte_reports.proofs.Safely.report_well, tte_units.specs.Amount.amount}

@@ -55,4 +55,5 @@ ends_fit cs ends fit e =
     let are = ends_are_of_clocks cs ends e in
     let low = shown_by cs ends.least are.least in
     let high = shown_by cs ends.greatest are.greatest in
-    (subst IsLocal low.2 (in_all (λ (c : Clock). IsLocal c.local) cs low.0 fit low.1), subst IsLocal high.2 (in_all (λ (c : Clock). IsLocal c.local) cs high.0 fit high.1))
+    let fits = in_all (λ (c : Clock). IsLocal c.local) cs in
+    (subst IsLocal low.2 (fits low.0 fit low.1), subst IsLocal high.2 (fits high.0 fit high.1))

@@ -4,9 +4,11 @@ use Rattle.lens_clocks.specs.{Laws.{ClocksAreInStep, IsTold}, Telling.{clock_of,
 use Rattle.net_plan.specs.declared.ids.DeviceId.{DeviceId}
 use Rattle.precision_law.proofs.law.Precision.{up_to_is}
 use Rattle.run_law.proofs.{device.States.is_in, runs.Places.{in_left, in_parts, in_right}}
-use Rattle.run_law.specs.{device.{LocalClocks.local, States.{adjustment_after, is_synchronised, state_after}}, records.{Happenings.{Happening, earlier, up_to}, Order.IsIn}}
+use Rattle.run_law.specs.{device.{LocalClocks.local, States.{adjustment_after, is_synchronised, state_after}}, records.Order.IsIn}
+use Rattle.run_law.specs.records.Happenings.{Happening, earlier, up_to}
 use Rattle.run_law.specs.scenario.Scenarios.{Scenario, is_broken}
-use Rattle.std.proofs.Common.{◌+◌, ◌<◌, ◌∙◌, ◌≡◌, ◌≤◌, Bool, List, None, Option, Some, [], ap, arith, false, inl, inr, length, refl, subst, suc, sym, true, zero, ℕ, ℤ}
+use Rattle.std.proofs.Common.{◌+◌, ◌<◌, ◌∙◌, ◌≡◌, ◌≤◌, Bool, List, None, Option, Some, [], ap, arith, false, inl, inr}
+use Rattle.std.proofs.Common.{length, refl, subst, suc, sym, true, zero, ℕ, ℤ}
 use Rattle.std.{proofs.lemmas.Bool.cases_lt, specs.{List.cons_option, Prelude.if◌then◌else◌}}
 use Rattle.sync_state.specs.declared.state.State.{State, TheVariants.Synchronised}
 use Rattle.tte_units.proofs.general_lemmas.Options.{one}

@@ -3,10 +3,11 @@ use Rattle.std.specs.{List.{All, Contains}, Prelude.{◌*◌, ◌-ℤ◌, ◌↔
 use Rattle.lens_clocks.specs.{Answer.cycles_by, Spread.{ends_of, locals_of}, Telling.clocks_at}
 use Rattle.lens_clocks.specs.declared.{spread.Ends.Ends, telling.Clock.Clock}
 use Rattle.net_plan.specs.{Belonging.HasDevice, Ranges.IsInRange, declared.ids.DeviceId.DeviceId}
-use Rattle.{net_plan.specs.declared.network.Network.Network, tte_units.specs.{Amount.amount, declared.units.Units.Units}}
+use Rattle.{net_plan.specs.declared.network.Network.Network, tte_units.specs.Amount.amount}
 use Rattle.run_law.specs.{declared.note.Note.Note, device.LocalClocks.local, law.Safety.IsInStep}
 use Rattle.run_law.specs.{records.{Happenings.{Happening, happenings}, Order.IsIn}, scenario.Scenarios.Scenario}
-use Rattle.{schedule_tables.specs.Rules.KeepsRules, tte_audit.specs.Report.scenario_of, tte_reports.specs.Reports.IsReportOf}
+use Rattle.{schedule_tables.specs.Rules.KeepsRules, tte_audit.specs.Report.scenario_of}
+use Rattle.{tte_reports.specs.Reports.IsReportOf, tte_units.specs.declared.units.Units.Units}
 
 -- the lines are those of each cycle from the first on that has passed by the time
 abbrev pub CyclesHavePassed : Type 0

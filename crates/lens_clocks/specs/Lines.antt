@@ -15,7 +15,8 @@ values_text least local = codes " " ++ signed_decimal local ++ codes " " ++ sign
 -- the line of a clock
 unfoldable pub clock_line : Network → ℕ → ℤ → Clock → List ℕ
 clock_line network k least clock =
-    codes "clock " ++ decimal k ++ codes " " ++ device_name network clock.device ++ values_text least clock.local ++ codes "\n"
+    codes "clock " ++ decimal k ++ codes " " ++ device_name network clock.device ++ values_text least clock.local
+    ++ codes "\n"
 
 -- how far the clocks are apart, if there are any
 unfoldable pub apart_text : Option Ends → List ℕ
@@ -25,7 +26,8 @@ apart_text (Some ends) = signed_decimal (ends.greatest -ℤ ends.least)
 -- the line of how far they are apart
 unfoldable pub spread_line : Network → ℕ → Option Ends → List ℕ
 spread_line network k ends =
-    codes "spread " ++ decimal k ++ codes " " ++ apart_text ends ++ codes " precision " ++ decimal (amount network.precision) ++ codes "\n"
+    codes "spread " ++ decimal k ++ codes " " ++ apart_text ends ++ codes " precision "
+    ++ decimal (amount network.precision) ++ codes "\n"
 
 -- the lines of the clocks and of how far they are apart, where they lie between these
 abbrev pub lines_between : Network → ℕ → Option Ends → List Clock → List (List ℕ)

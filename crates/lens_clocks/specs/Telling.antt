@@ -1,5 +1,6 @@
 -- The local clocks that are told of a time.
-use Rattle.std.specs.{List.cons_option, Prelude.{◌++◌, List, None, Option, Some, [], if◌then◌else◌, length, suc, zero, ℕ}}
+use Rattle.std.specs.List.{cons_option}
+use Rattle.std.specs.Prelude.{◌++◌, List, None, Option, Some, [], if◌then◌else◌, length, suc, zero, ℕ}
 use Rattle.{device_rules.specs.Widths.IsLocal, lens_clocks.specs.declared.telling.Clock.Clock}
 use Rattle.net_plan.specs.{Belonging.HasDevice, declared.{ids.DeviceId.DeviceId, network.Network.Network}}
 use Rattle.run_law.specs.device.{LocalClocks.local, States.{is_synchronised, state_after}}

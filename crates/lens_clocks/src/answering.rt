@@ -7,9 +7,9 @@ use tte_forms::Status;
 use tte_io::Sink;
 use tte_reports::{AuditedReport, ReportCommand};
 
-/// Tells, at each world time at which a cycle more has passed, up to the end of the run, what the local clock of each
-/// device shows that is correct and synchronised then, and how far these are apart. `clocks_law` says that they are never
-/// further apart than the precision.
+/// Tells, at each world time at which one more cycle has passed, up to the end of the run, what the local clock of each
+/// device shows that is correct and synchronised then, and how far these are apart. `clocks_law` says that they are
+/// never further apart than the precision.
 pub struct Clocks;
 
 impl<K: Sink> ReportCommand<K> for Clocks {
