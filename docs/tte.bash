@@ -29,6 +29,7 @@ _lens_forms=(
     'draw NETWORK REPORT CYCLE [NAME]'
     'draw NETWORK REPORT FROM TO [NAME]'
     'page NETWORK REPORT'
+    'clocks NETWORK REPORT'
     'flows NETWORK REPORT'
     'events NETWORK SEED CYCLES'
     'help'
