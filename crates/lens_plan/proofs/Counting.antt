@@ -5,7 +5,7 @@ use Rattle.std.proofs.lemmas.{Bool.{Decides.nat_tests, cases_Bool}, List.Sums.{s
 use Rattle.std.specs.{List.{count_by, filter_map, range_with_len}, Option.option_to_list, Prelude.{nat_lt, slice_get}}
 use Rattle.tte_units.proofs.general_lemmas.{Bools.{both_left, both_right}}
 
-abbrev one_if : Bool → ℕ
+abbrev pub one_if : Bool → ℕ
 one_if b = cond b 1 0
 
 weight : (a b : Bool) → (a ≡ true → b ≡ true) → cond a 1 0 ≤ cond b 1 0

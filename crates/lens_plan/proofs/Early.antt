@@ -8,15 +8,15 @@ use Rattle.{net_plan.specs.{Ranges.IsInRange, declared.network.Network.Network},
 use Rattle.std.proofs.{Common.{◌-◌, ◌∷◌, ◌≡◌, ◌≤◌, List, [], arith, ℕ}, Math.Nat.{le-max_left, le-max_right}, lemmas.List.Elements.{All-cons, All-nil}}
 
 -- the window of the row ends by its limit
-abbrev IsInTime : Trial → Placed → Type 0
+abbrev pub IsInTime : Trial → Placed → Type 0
 IsInTime trial p = p.end ≤ limit_of trial p.hop
 
 -- what is short by nothing began so, and each of its rows is in time
-record IsWhole (trial : Trial) (s : Score) (ps : List Placed) : Type 0 where
+pub record IsWhole (trial : Trial) (s : Score) (ps : List Placed) : Type 0 where
   pub before : s.short ≡ 0
   pub rows : All (IsInTime trial) ps
 
-whole : (trial : Trial) (ps : List Placed) (s : Score) → (fold (with_row trial) s ps).short ≡ 0 → IsWhole trial s ps
+pub whole : (trial : Trial) (ps : List Placed) (s : Score) → (fold (with_row trial) s ps).short ≡ 0 → IsWhole trial s ps
 whole trial [] s none = record { before = none; rows = All-nil (IsInTime trial) }
 whole trial (p ∷ ps) s none =
     let later = whole trial ps (with_row trial s p) none in
@@ -30,7 +30,7 @@ whole trial (p ∷ ps) s none =
 
 -- ---- of an attempt
 
-limit_by : (b : Bool) (by end : ℕ) → (if b then min by end else end) ≤ end
+pub limit_by : (b : Bool) (by end : ℕ) → (if b then min by end else end) ≤ end
 limit_by true by end = min-le_right by end
 limit_by false by end = omega arith
 

@@ -1,11 +1,10 @@
 -- What is told to be impossible is so.
-use Rattle.lens_plan.proofs.{Crowded.excess_is_impossible, Unserved.unfit_is_impossible}
+use Rattle.lens_plan.proofs.{Crowded.excess_is_impossible, Serving.tree_kept, Unserved.unfit_is_impossible}
 use Rattle.lens_plan.specs.{Answer.{IsJoinedAnswer, IsPlanAnswer, IsToldBy, MeansMessages}, Laws.{AreImpossible, ExcessIsTrue, ImpossibleIsTrue, IsImpossible}}
 use Rattle.lens_plan.specs.declared.places.{best.Attempt.Attempt, limits.Excess.{Excess, TheVariants.{Rows, RowsOf, VirtualLinks}}, planning.NoPlan.NoPlan}
 use Rattle.lens_plan.specs.declared.places.planning.NoPlan.TheVariants as plans
 use Rattle.lens_plan.specs.{messages.Message.Message, places.{Planning.IsNoPlan}, text.Refusals.{excess_line, short_line, short_line_at, short_row, short_row_text}}
-use Rattle.net_plan.{proofs.Shape.rules_give_trees, specs.{Paths.IsTree, declared.network.Network.Network}}
-use Rattle.schedule_checker.proofs.Trees.{tree_of}
+use Rattle.net_plan.{specs.{declared.network.Network.Network}}
 use Rattle.std.proofs.Common.{◌++◌, ◌∙◌, ◌∷◌, ◌≡◌, List, Option, Some, [], ap, None, append_assoc, arith, inl, inr, refl, sym, ℕ}
 use Rattle.std.proofs.lemmas.Option.{get_or_from_slice_get, slice_get_within}
 use Rattle.std.specs.{Fmt.decimal, Option.option_map_or, Prelude.{codes, slice_get}}
@@ -110,9 +109,6 @@ named network m a rest same =
           ∙ sym (append_assoc m.name (codes " ") more),
     )
 
-tree : (network : Network) (octets : List ℕ) → MeansAccepted octets network → IsTree network
-tree network octets accepted = tree_of rules_give_trees network (λ rule below. accepted.rules rule)
-
 module _ (octets text rest : List ℕ) (network : Network) (ms : List Message) (accepted : MeansAccepted octets network)
     (read : MeansMessages network text ms) where
   by_impossible : (cause : NoPlan) → IsNoPlan network ms cause → IsToldBy network ms cause (line_answer PlanRefused (codes "impossible " ++ rest))
@@ -135,7 +131,7 @@ module _ (octets text rest : List ℕ) (network : Network) (ms : List Message) (
         there = (place, slice_get_within ms place m unfit.there, get_or_from_slice_get ms place m m unfit.there);
         named = named network m a rest
             (line ∙ ap (λ (o : Option Message). option_map_or (λ x. short_line (codes "impossible") network x a) o []) unfit.there);
-        none = unfit_is_impossible network there ms place a (tree network octets accepted) are unfit;
+        none = unfit_is_impossible network there ms place a (tree_kept network accepted.rules) are unfit;
       }
 
   by_excess : (cause : NoPlan) → IsNoPlan network ms cause → IsToldBy network ms cause (line_answer PlanRefused (codes "rule " ++ rest))
@@ -146,7 +142,7 @@ module _ (octets text rest : List ℕ) (network : Network) (ms : List Message) (
     accepted = accepted;
     messages = ms;
     read = read;
-    none = excess_is_impossible network ms excess (tree network octets accepted) none;
+    none = excess_is_impossible network ms excess (tree_kept network accepted.rules) none;
   }
   by_excess (plans.Unplaced place a) none told =
       absurd (no_rule network (slice_get ms place) a rest

@@ -1,4 +1,5 @@
 -- The rows of a virtual link lead from its sender by the ways of the trees.
+use Rattle.lens_plan.proofs.PlacedWays.{after, after_more}
 use Rattle.lens_plan.proofs.WayLinks.{first_way, way_down, way_up}
 use Rattle.lens_plan.specs.{declared.places.{placing.Placed.Placed, ways.Hop.Hop}, places.Ways.{down_hops, hop_by, is_on, up_hops}}
 use Rattle.net_plan.proofs.Trees.{followed, paths_are_unique}
@@ -21,18 +22,9 @@ abbrev pub Behind : ℕ → List Placed → Type 0
 Behind from [] = Unit {0}
 Behind from (p ∷ ps) = (from ≤ p.offset) × Behind (p.end + 1) ps
 
--- where a row behind them may begin
-abbrev pub next_of : ℕ → List Placed → ℕ
-next_of from [] = from
-next_of from (p ∷ ps) = next_of (p.end + 1) ps
-
-behind_more : (from : ℕ) (ps : List Placed) (p : Placed) → Behind from ps → next_of from ps ≤ p.offset → Behind from (ps ++ p ∷ [])
+behind_more : (from : ℕ) (ps : List Placed) (p : Placed) → Behind from ps → after from ps ≤ p.offset → Behind from (ps ++ p ∷ [])
 behind_more from [] p behind late = (late, tt)
 behind_more from (q ∷ ps) p behind late = (behind.0, behind_more (q.end + 1) ps p behind.1 late)
-
-next_more : (from : ℕ) (ps : List Placed) (p : Placed) → next_of from (ps ++ p ∷ []) ≡ p.end + 1
-next_more from [] p = refl
-next_more from (q ∷ ps) p = next_more (q.end + 1) ps p
 
 zip_more : {A B : Type 0} (R : A → B → Type 0) (xs : List A) (ys : List B) (x : A) (y : B) → AllZip R xs ys → R x y → AllZip R (xs ++ x ∷ []) (ys ++ y ∷ [])
 zip_more R [] [] x y zip one = (one, tt)
@@ -67,7 +59,7 @@ no_switch network c device range end switch =
     let ranged = in_all IsDeviceInRange network.device device.0 o.0 range.devices o.1 in
     no_channel c o.0.channel (is_end_system o.0.role) ranged.switches o.2 there
 
-no_end : (network : Network) (device : DeviceId) → IsSwitch network device → IsEndSystem network device → ⊥
+pub no_end : (network : Network) (device : DeviceId) → IsSwitch network device → IsEndSystem network device → ⊥
 no_end network device switch end =
     let o = opened (λ (x : Device). is_end_system x.role ≡ false) (device_at network device) switch in
     let there = at_known (λ (x : Device). is_end_system x.role ≡ true) (device_at network device) o.0 o.1 end in
@@ -97,7 +89,7 @@ pub record Lead (network : Network) (vl : VlId) (start : ℕ) (hops : List Hop) 
   pub ps : List Placed
   pub rows : AllZip (IsRowBy network vl) hops ps
   pub behind : Behind start ps
-  pub next_is : next_of start ps ≡ next
+  pub next_is : after start ps ≡ next
 
 -- the virtual link goes by the trees of its network from an end system, and leaves it when the schedule has begun, no
 -- earlier than this
@@ -159,7 +151,7 @@ module _ (network : Network) (vl : VlId) (of_vl : VirtualLink) (start : ℕ) (go
         rows = subst (λ (hs : List Hop). AllZip (IsRowBy network vl) hs (lead.ps ++ p ∷ [])) at
             (zip_more (IsRowBy network vl) hops lead.ps (hop_by e.row.way e.row.link) p lead.rows (row_by place e is own));
         behind = behind_more start lead.ps p lead.behind (omega (arith, late, order));
-        next_is = next_more start lead.ps p;
+        next_is = after_more start lead.ps p;
       }
 
   -- the rows do not lead by the link of a row the other way

@@ -38,3 +38,15 @@ pub mod Unserved
 pub mod Counting
 pub mod Crowded
 pub mod Impossible
+pub mod Courses
+pub mod Seats
+pub mod PlannedRows
+pub mod PlannedEntries
+pub mod KeptRows
+pub mod KeptShape
+pub mod KeptCounts
+pub mod KeptAll
+pub mod Turns
+pub mod FreshIds
+pub mod Askable
+pub mod Sound

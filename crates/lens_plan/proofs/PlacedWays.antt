@@ -29,7 +29,7 @@ way_more trial start (h ∷ hops) ps hop p (q, others, at, rest, same) is = (
   ap (λ (qs : List Placed). qs ++ p ∷ []) same,
 )
 
-after_more : (start : ℕ) (ps : List Placed) (p : Placed) → after start (ps ++ p ∷ []) ≡ p.end + 1
+pub after_more : (start : ℕ) (ps : List Placed) (p : Placed) → after start (ps ++ p ∷ []) ≡ p.end + 1
 after_more start [] p = refl
 after_more start (q ∷ ps) p = after_more (q.end + 1) ps p
 

@@ -54,7 +54,7 @@ never_both attempts x y (inr both) (inl other) = let same = both.0 in omega (ari
 never_both attempts x y (inr one) (inr other) = let less = one.1 in let more = other.1 in omega (arith, less, more)
 
 -- what is in a list is its first, or in the rest
-in_rest : (x : ℕ) (xs : List ℕ) (z : ℕ) → Contains (x ∷ xs) z → (x ≡ z) ⊎ Contains xs z
+pub in_rest : (x : ℕ) (xs : List ℕ) (z : ℕ) → Contains (x ∷ xs) z → (x ≡ z) ⊎ Contains xs z
 in_rest x xs z (zero, within, is) = inl is
 in_rest x xs z (suc k, within, is) = inr (k, omega (arith, within), is)
 
@@ -302,7 +302,7 @@ module _ (network : Network) (ms : List Message) (tree : IsTree network) where
             )
       ]
 
-  order_kept : (rows : List Taken) (first : List ℕ) (moves count : ℕ) (order : List ℕ) → IsOrder count first
+  pub order_kept : (rows : List Taken) (first : List ℕ) (moves count : ℕ) (order : List ℕ) → IsOrder count first
       → IsMoved network ms rows first moves order → IsOrder count order
   order_kept rows first zero count order all is = subst (IsOrder count) (sym is) all
   order_kept rows first (suc moves) count order all (e, x, before, (unfit, is)) =

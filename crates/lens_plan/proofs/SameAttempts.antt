@@ -11,7 +11,7 @@ use Rattle.std.specs.Option.{unwrap_or}
 use Rattle.tte_units.specs.{Amount.amount, declared.frames.channel.Channel.{Channel, TheVariants.{A, B}}}
 
 -- trials of the same message in the same phase behind the same rows
-record AreAlike (t u : Trial) : Type 0 where
+pub record AreAlike (t u : Trial) : Type 0 where
   pub network : t.network.now ≡ u.network.now
   pub message : t.message.now ≡ u.message.now
   pub phase : t.phase ≡ u.phase
@@ -63,7 +63,7 @@ at_one t u from after hop p q alike same one other =
 
 -- ---- a way, a receiver, all
 
-way_rows_one : (t u : Trial) (from after : ℕ) (hops : List Hop) (ps qs : List Placed) → AreAlike t u → from ≡ after → IsPlacedWay t from hops ps
+pub way_rows_one : (t u : Trial) (from after : ℕ) (hops : List Hop) (ps qs : List Placed) → AreAlike t u → from ≡ after → IsPlacedWay t from hops ps
     → IsPlacedWay u after hops qs → ps ≡ qs
 way_rows_one t u from after [] ps qs alike same none also = none ∙ sym also
 way_rows_one t u from after (hop ∷ hops) ps qs alike same (p, rest, placed, way, is) (q, others, placed_too, also, too) =

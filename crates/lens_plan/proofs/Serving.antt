@@ -16,6 +16,10 @@ use Rattle.std.specs.{Option.{unwrap_or}, Prelude.{IfSome, IsSomeAnd, slice_get}
 use Rattle.tte_units.proofs.general_lemmas.Options.{closed, opened, some_same}
 use Rattle.tte_units.specs.{Amount.amount, Slip.slip_of, declared.frames.channel.Channel.{Channel, TheVariants.{A, B}}}
 
+-- an accepted network is a tree on each channel
+pub tree_kept : (network : Network) → KeepsRules network → IsTree network
+tree_kept network keeps = tree_of rules_give_trees network (λ rule below. keeps rule)
+
 -- ---- what the extended network has of the other
 
 module _ (network planned : Network) (extends : Extends network planned) where
@@ -90,7 +94,7 @@ module _ (network : Network) (m : Message) (planned : Network) (vl : VlId) (of_v
 
   goes : Goes planned vl of_vl (start_by network m)
   goes = record {
-    tree = tree_of rules_give_trees planned (λ rule below. s.keeps rule);
+    tree = tree_kept planned s.keeps;
     range = s.range;
     keeps = s.keeps;
     there = s.there;

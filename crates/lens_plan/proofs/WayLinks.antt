@@ -10,13 +10,13 @@ use Rattle.tte_units.{proofs.general_lemmas.{Naturals.eqb_same, Options.{opened}
 
 -- ---- is the link one of these?
 
-on_first : (link : LinkId) (path : List LinkId) → is_on (link ∷ path) link ≡ true
+pub on_first : (link : LinkId) (path : List LinkId) → is_on (link ∷ path) link ≡ true
 on_first link path = or_left (link.0 == link.0) (is_on path link) (eqb_same link.0)
 
 on_later : (first link : LinkId) (path : List LinkId) → is_on path link ≡ true → is_on (first ∷ path) link ≡ true
 on_later first link path on = or_right (first.0 == link.0) (is_on path link) on
 
-on_behind : (front : List LinkId) (link : LinkId) (path : List LinkId) → is_on path link ≡ true → is_on (front ++ path) link ≡ true
+pub on_behind : (front : List LinkId) (link : LinkId) (path : List LinkId) → is_on path link ≡ true → is_on (front ++ path) link ≡ true
 on_behind [] link path on = on
 on_behind (f ∷ front) link path on = on_later f link (front ++ path) (on_behind front link path on)
 
@@ -40,16 +40,16 @@ parted (first ∷ path) link on = parted_by (first.0 == link.0) first link path 
 -- ---- the hops of paths
 
 -- each of these links is one of the others
-abbrev AreOn : List LinkId → List LinkId → Type 0
+abbrev pub AreOn : List LinkId → List LinkId → Type 0
 AreOn other path = (link : LinkId) → is_on path link ≡ true → is_on other link ≡ true
 
-none_up : (other path : List LinkId) → AreOn other path → up_hops other path ≡ []
+pub none_up : (other path : List LinkId) → AreOn other path → up_hops other path ≡ []
 none_up other [] on = refl
 none_up other (link ∷ path) on =
     ap (λ (b : Bool). cond b (up_hops other path) (hop_by Up link ∷ up_hops other path)) (on link (on_first link path))
     ∙ none_up other path (λ l is. on l (on_later link l path is))
 
-none_down : (other path : List LinkId) → AreOn other path → down_hops other path ≡ []
+pub none_down : (other path : List LinkId) → AreOn other path → down_hops other path ≡ []
 none_down other [] on = refl
 none_down other (link ∷ path) on =
     ap (λ (b : Bool). cond b (down_hops other path) (down_hops other path ++ hop_by Down link ∷ [])) (on link (on_first link path))

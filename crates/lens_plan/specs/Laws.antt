@@ -1,6 +1,9 @@
 -- What the lines of `plan` have to do with the runs of the planned network.
 use Rattle.std.specs.{List.{Contains, concat}, Prelude.{◌++◌, ◌≡◌, ◌≤ℤ◌, IfSome, List, codes, pos, ℕ}}
-use Rattle.lens_plan.specs.{Answer.{IsPlanAnswer, MeansMessages}, joining.{Impossible.{NoneServes, NoneServesAll}, Joined.MeansPlanned, Served.IsServedBy}, messages.Message.Message}
+use Rattle.lens_plan.specs.{Answer.{IsPlanAnswer, MeansMessages}, joining.{Impossible.{NoneServes, NoneServesAll}, Joined.MeansPlanned, Planned.planned_network}, messages.Message.Message}
+use Rattle.lens_plan.specs.{declared.places.best.Attempt.Attempt, joining.Served.IsServedBy, places.Planning.IsPlan}
+use Rattle.lens_plan.specs.text.Ids.{AreIds, taken_ids}
+use Rattle.{net_plan.specs.Ranges.IsInRange, schedule_tables.specs.Rules.KeepsRules}
 use Rattle.tte_forms.specs.{Answering.{Answer, line_answer}, declared.status.Status.TheVariants.{Done, PlanRefused}}
 use Rattle.tte_forms.specs.networks.Accepting.{MeansAccepted}
 use Rattle.net_plan.specs.declared.{ids.{DeviceId.DeviceId, VlId.VlId}, network.Network.Network, tables.VirtualLink.VirtualLink}
@@ -71,3 +74,11 @@ abbrev pub ExcessIsTrue : Type 0
 ExcessIsTrue =
     (octets text rest : List ℕ) → IsPlanAnswer text octets (line_answer PlanRefused (codes "rule " ++ rest))
     → AreImpossible octets text
+
+-- the network of a plan, which its lines describe, keeps all rules
+abbrev pub PlanIsAccepted : Type 0
+PlanIsAccepted =
+    (octets text : List ℕ) (network : Network) (ms : List Message) (ids : List ℕ) (attempts : List Attempt)
+    → MeansAccepted octets network → IsInRange network → MeansMessages network text ms
+    → AreIds (taken_ids network ms) ms ids → IsPlan network ms attempts
+    → KeepsRules (planned_network network ms ids attempts)

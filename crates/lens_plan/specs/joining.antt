@@ -3,3 +3,4 @@ pub mod Extends
 pub mod Served
 pub mod Joined
 pub mod Impossible
+pub mod Planned

@@ -1,4 +1,4 @@
-ghost use Rattle.lens_plan.specs.Laws.{DoneIsPlanned, ExcessIsTrue, ImpossibleIsTrue, ServedComeInTime};
+ghost use Rattle.lens_plan.specs.Laws.{DoneIsPlanned, ExcessIsTrue, ImpossibleIsTrue, PlanIsAccepted, ServedComeInTime};
 
 /// What is put where a plan is done: with the network file it means an accepted network, which is that of the file with
 /// virtual links and rows added, and serves the messages. And in each run of it under events within the fault hypothesis
@@ -7,9 +7,12 @@ ghost use Rattle.lens_plan.specs.Laws.{DoneIsPlanned, ExcessIsTrue, ImpossibleIs
 /// Where a message is told to be impossible, no accepted network with virtual links and rows added to that of the file
 /// serves it, whatever they are; where the messages are told to want more than rule 1 or rule 24 lets be, none serves
 /// them all.
+///
+/// And where there is a plan, the network that its lines describe keeps all rules.
 pub fn plan_law()
     ensures planned { DoneIsPlanned }
     ensures time { ServedComeInTime }
     ensures impossible { ImpossibleIsTrue }
     ensures excess { ExcessIsTrue }
+    ensures accepted { PlanIsAccepted }
 {}

@@ -1,4 +1,4 @@
-use Rattle.lens_plan.proofs.{GoodPlans.done_is_planned, Impossible.{excess_is_true, impossible_is_true}, InTime.served_come_in_time}
+use Rattle.lens_plan.proofs.{GoodPlans.done_is_planned, Impossible.{excess_is_true, impossible_is_true}, InTime.served_come_in_time, Sound.plan_is_accepted}
 use Rattle.lens_plan.proofs.laws.plan_law.Goals as goal
 
 pub returns-clause-planned : goal.returns-clause-planned
@@ -12,3 +12,6 @@ returns-clause-impossible c = impossible_is_true
 
 pub returns-clause-excess : goal.returns-clause-excess
 returns-clause-excess c = excess_is_true
+
+pub returns-clause-accepted : goal.returns-clause-accepted
+returns-clause-accepted c = plan_is_accepted
