@@ -12,10 +12,12 @@ at_names network vl device cs few less (Some c, is, same) =
     let names : HasNames network c = record { vl = omega (arith, own, few); device = omega (arith, at, less) } in
     subst (All (HasNames network)) (sym same) (All-cons (HasNames network) c [] names (All-nil (HasNames network)))
 
+pub part_names : (network : Network) (vl : ℕ) (cs : List Coming) → vl < length network.vl → IsPartOf network vl cs → All (HasNames network) cs
+part_names network vl cs few part =
+    all_in_parts (IsPartAt network vl) (HasNames network) 0 (length network.device) cs
+    (λ device zs less at. at_names network vl device zs few (omega (arith, less)) at) part
+
 pub all_names : (network : Network) (cs : List Coming) → AreComings network cs → All (HasNames network) cs
 all_names network cs are =
     all_in_parts (IsPartOf network) (HasNames network) 0 (length network.vl) cs
-    (λ vl ys few part.
-    all_in_parts (IsPartAt network vl) (HasNames network) 0 (length network.device) ys
-    (λ device zs less at. at_names network vl device zs (omega (arith, few)) (omega (arith, less)) at) part)
-    are
+    (λ vl ys few part. part_names network vl ys (omega (arith, few)) part) are

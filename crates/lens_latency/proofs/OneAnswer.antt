@@ -47,10 +47,12 @@ part_once : (network : Network) (vl device : ℕ) (cs ds : List Coming) → IsPa
 part_once network vl device cs ds (c, is, same) (d, its, there) =
     same ∙ ap some_coming (coming_once network (record { 0 = vl }) (record { 0 = device }) c d is its) ∙ sym there
 
+pub comings_by_once : (network : Network) (vl : ℕ) (cs ds : List Coming) → IsPartOf network vl cs → IsPartOf network vl ds → cs ≡ ds
+comings_by_once network vl cs ds are its = parts_once (IsPartAt network vl) (part_once network vl) 0 (length network.device) cs ds are its
+
 pub comings_once : (network : Network) (cs ds : List Coming) → AreComings network cs → AreComings network ds → cs ≡ ds
 comings_once network cs ds are its =
-    parts_once (IsPartOf network) (λ vl ys zs p q. parts_once (IsPartAt network vl) (part_once network vl) 0 (length network.device) ys zs p q) 0
-    (length network.vl) cs ds are its
+    parts_once (IsPartOf network) (comings_by_once network) 0 (length network.vl) cs ds are its
 
 -- so there is one answer
 pub latency_one : (network : Network) (a b : Answer) → IsLatencyOf network a → IsLatencyOf network b → a ≡ b

@@ -1,7 +1,7 @@
 //! All virtual links with their receivers.
 ghost use Rattle.std.specs.Prelude.{◌++◌, ◌↔◌, ◌≡◌, All, IfOk, IsTrue, OnOk};
 ghost use Rattle.lens_latency.specs.Comings.{AreComings, HasNames, IsComing, IsPartOf, Pushes, some_coming};
-ghost use Rattle.net_plan.specs.{Places.IsEndSystem, Ranges.IsInRange};
+ghost use Rattle.net_plan.specs.{Belonging.HasVl, Places.IsEndSystem, Ranges.IsInRange};
 
 use crate::Trip;
 use crate::trips::trip_on;
@@ -20,7 +20,7 @@ pub struct Coming {
 }
 
 /// Is the device an end system?
-fn is_end_system(network: &Network, device: DeviceId) -> bool
+pub fn is_end_system(network: &Network, device: DeviceId) -> bool
     ensures { IsTrue result ↔ IsEndSystem network.now device }
 {
     match network.device.as_slice().get(device.0 as usize) {
@@ -72,6 +72,18 @@ fn push_comings(network: &Network, vl: VlId, comings: &mut Vec<Coming>) -> Resul
         }
     }
     Ok(())
+}
+
+/// How the frames of the virtual link come to each of its receivers, in the order of the devices.
+pub fn comings_by(alloc: Global, network: &Network, vl: VlId) -> Result<Vec<Coming>, OutOfMemory>
+    requires range { IsInRange network.now }
+    requires vl { HasVl network.now vl }
+    ensures are { IfOk result (λ comings. IsPartOf network.now vl.0 comings.items) }
+    ensures names { IfOk result (λ comings. All (HasNames network.now) comings.items) }
+{
+    let mut comings = Vec::new(alloc);
+    push_comings(network, vl, &mut comings)?;
+    Ok(comings)
 }
 
 /// The comings of each virtual link, in their order.

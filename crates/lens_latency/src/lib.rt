@@ -11,7 +11,8 @@ mod trips;
 
 pub use answering::{Latency, latency_of_network};
 pub use arrivals::Arrival;
-pub use comings::Coming;
+pub use comings::{Coming, comings_by, is_end_system};
 pub use laws::latency_law;
+pub use lines::push_names;
 pub use seeing::{Seen, Told};
 pub use trips::Trip;

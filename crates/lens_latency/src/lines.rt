@@ -10,7 +10,7 @@ use tte_io::LineText;
 
 /// Adds the names of the virtual link and of the device.
 #[tactic(auto, unfolding(crate::specs::Lines::names_text))]
-fn push_names(line: &mut LineText, network: &Network, coming: &Coming)
+pub fn push_names(line: &mut LineText, network: &Network, coming: &Coming)
     requires range { IsInRange network.now }
     requires names { HasNames network.now coming.now }
     requires room { length line.old + 60 ≤ 4096 }

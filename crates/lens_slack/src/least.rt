@@ -9,4 +9,5 @@ mod times;
 
 pub use answering::least_of_network;
 pub use laws::least_law;
+pub use parts::{greatest_start, longest_delay, slowest_port};
 pub use times::Times;

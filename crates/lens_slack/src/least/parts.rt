@@ -28,7 +28,7 @@ pub(crate) fn greater(one: u64, other: u64) -> u64
 }
 
 /// The longest delay of a path.
-pub(crate) fn longest_delay(network: &Network) -> u64
+pub fn longest_delay(network: &Network) -> u64
     requires range { IsInRange network.now }
     requires tree { IsTree network.now }
     ensures longest { IsLongest network.now result }
@@ -72,7 +72,7 @@ fn delay_from(network: &Network, device: DeviceId, channel: Channel) -> u64
 }
 
 /// The greatest start of a device.
-pub(crate) fn greatest_start(network: &Network) -> u64
+pub fn greatest_start(network: &Network) -> u64
     requires { IsInRange network.now }
     ensures greatest { IsGreatest (IsStartOf network.now) result }
     ensures bound { result ≤ 2 ^ 40 }
@@ -97,7 +97,7 @@ fn start_of(device: &Device) -> u64
 }
 
 /// How long a protocol control frame occupies the port of the slowest link.
-pub(crate) fn slowest_port(network: &Network) -> u64
+pub fn slowest_port(network: &Network) -> u64
     ensures greatest { IsGreatest (IsPortTimeOf network.now) result }
     ensures bound { result ≤ 2 ^ 30 }
 {
