@@ -1,0 +1,49 @@
+-- The lines of a sheet name what is the network's, and are put one after another.
+use Rattle.lens_latency.{proofs.{Names.part_names, Parts.all_in_parts}, specs.declared.comings.Coming.Coming}
+use Rattle.lens_sheet.specs.{Lines.numbers, Loading.HasLink, Sheet.{AreLinesOf, AreVlLines, IsWritable, line_text}}
+use Rattle.lens_sheet.specs.declared.{loads.Load.Load, sheet.{Number.Number, SheetLine.SheetLine}, weights.Weights.Weights}
+use Rattle.lens_sheet.specs.declared.sheet.SheetLine.TheVariants as lines
+use Rattle.net_plan.specs.declared.network.Network.{Network}
+use Rattle.std.proofs.Common.{◌++◌, ◌+◌, ◌<◌, ◌∙◌, ◌∷◌, ◌≡◌, List, [], ap, arith, drop, get_or, length, map, refl, subst, suc, sym, take, zero, ℕ}
+use Rattle.std.{proofs.lemmas.List.{Elements.{All-append, All-cons, All-map}, take_more}, specs.List.All}
+
+-- ---- names
+
+vl_names : (n : Network) (vl : ℕ) (ls : List SheetLine) → vl < length n.vl → AreLinesOf n vl ls → All (IsWritable n) ls
+vl_names n vl ls few are =
+    let comings = All-map (IsWritable n) (λ (c : Coming). lines.Coming c) are.comings (part_names n vl are.comings few are.come) in
+    subst (All (IsWritable n)) (sym are.is)
+    (All-cons (IsWritable n) (lines.Vl (record { 0 = vl }) are.hops) (map (λ (c : Coming). lines.Coming c) are.comings) few comings)
+
+vls_names : (n : Network) (ls : List SheetLine) → AreVlLines n ls → All (IsWritable n) ls
+vls_names n ls are =
+    all_in_parts (AreLinesOf n) (IsWritable n) 0 (length n.vl) ls (λ vl ys few part. vl_names n vl ys (omega (arith, few)) part) are
+
+pub sheet_names : (n : Network) (loads : List Load) (vls : List SheetLine) → All (HasLink n) loads → AreVlLines n vls
+    → All (IsWritable n) (map (λ (k : Number). lines.Number k) numbers ++ (map (λ (l : Load). lines.Load l) loads ++ vls))
+sheet_names n loads vls links are =
+    All-append (IsWritable n) (map (λ (k : Number). lines.Number k) numbers) (map (λ (l : Load). lines.Load l) loads ++ vls)
+    (All-map (IsWritable n) (λ (k : Number). lines.Number k) numbers (λ k d within. tt))
+    (All-append (IsWritable n) (map (λ (l : Load). lines.Load l) loads) vls (All-map (IsWritable n) (λ (l : Load). lines.Load l) loads links)
+    (vls_names n vls are))
+
+-- ---- puts
+
+drop_next : {X : Type 0} (xs : List X) (n : ℕ) (d : X) → n < length xs → drop n xs ≡ get_or xs n d ∷ drop (n + 1) xs
+drop_next [] n d lt = absurd (omega (arith, lt))
+drop_next (x ∷ xs) zero d lt = refl
+drop_next (x ∷ xs) (suc n) d lt =
+    let next : suc (n + 1) ≡ suc n + 1 = omega arith in
+    drop_next xs n d (omega (arith, lt)) ∙ ap (λ (k : ℕ). get_or xs n d ∷ drop k (x ∷ xs)) next
+
+-- the line of this number, and its text
+pub record IsNext (network : Network) (w : Weights) (all : List SheetLine) (n : ℕ) (text : List ℕ) : Type 0 where
+  pub told : SheetLine
+  pub line : text ≡ line_text network w told
+  pub front : take (n + 1) all ≡ take n all ++ told ∷ []
+  pub rest : drop n all ≡ told ∷ drop (n + 1) all
+
+pub next_line : (network : Network) (w : Weights) (all : List SheetLine) (d : SheetLine) (n : ℕ) (text : List ℕ) → n < length all
+    → text ≡ line_text network w (get_or all n d) → IsNext network w all n text
+next_line network w all d n text within is =
+    record { told = get_or all n d; line = is; front = take_more all n d within; rest = drop_next all n d within }

@@ -1,0 +1,48 @@
+use Rattle.lens_sheet.{proofs.Told.next_line, specs.{Sheet.line_text, declared.sheet.SheetLine.SheetLine}}
+use Rattle.std.proofs.Common.{◌++◌, ◌+◌, ◌∙◌, ◌∷◌, ◌≡◌, List, [], ap, drop, inl, inr, map, refl, subst, sym, take, ℕ}
+use Rattle.std.{proofs.lemmas.List.{map-append, take-append-drop}, specs.Io.KnownBytes.Appends}
+use Rattle.tte_forms.{proofs.Puts.{PutsLines-fails, PutsLines-more}, specs.Putting.{PutFails, PutsLines, shown_by}}
+use Rattle.tte_io.specs.Told.{AppendsFront}
+use Rattle.lens_sheet.proofs.answering.put_sheet.Goals as goal
+
+pub lines-preserved : goal.lines-preserved
+lines-preserved g c =
+    let shown = shown_by g.K.Sink in
+    let text = line_text c.args.network.now c.args.weights.now in
+    let all = c.args.sheet.now in
+    let n = c.lines.told-index in
+    let next = next_line c.args.network.now c.args.weights.now all _ n c.as_slice.result.now c.lines-test.true (c.as_slice.ensures
+    ∙ c.make_sheet_line.ensures) in
+    let f = next.told in
+    let lines = ap (λ (fs : List SheetLine). map text fs) next.front ∙ map-append text (take n all) (f ∷ []) in
+    let whole = subst (λ (bytes : List ℕ). Appends (g.K.Sink.written c.lines.out) (g.K.Sink.written c.put.new.self) bytes) next.line
+    c.in-Ok.ensures.all in
+    record {
+      puts =
+          subst (λ (ls : List (List ℕ)). PutsLines ls (shown c.args.out.now) (shown c.put.new.self)) (sym lines)
+          (PutsLines-more (map text (take n all)) (text f) (shown c.args.out.now) (shown c.lines.out) (shown c.put.new.self) c.lines.invariant.puts whole
+          c.put.ensures.counted);
+      quiet = c.in-Ok.ensures.ok_unchanged ∙ c.lines.invariant.quiet;
+    }
+
+pub returns-in-Err-clause-gives : goal.returns-in-Err-clause-gives
+returns-in-Err-clause-gives g c =
+    let shown = shown_by g.K.Sink in
+    let text = line_text c.args.network.now c.args.weights.now in
+    let all = c.args.sheet.now in
+    let n = c.lines.told-index in
+    let next = next_line c.args.network.now c.args.weights.now all _ n c.as_slice.result.now c.lines-test.true (c.as_slice.ensures
+    ∙ c.make_sheet_line.ensures) in
+    let f = next.told in
+    let rest = drop (n + 1) all in
+    let first = map text (take n all) in
+    let others = map text rest in
+    let split : all ≡ take n all ++ f ∷ rest = sym (take-append-drop n all) ∙ ap (λ (fs : List SheetLine). take n all ++ fs) next.rest in
+    let lines : map text all ≡ first ++ text f ∷ others =
+    ap (λ (fs : List SheetLine). map text fs) split ∙ map-append text (take n all) (f ∷ rest) in
+    let front = subst (λ (bytes : List ℕ). AppendsFront (g.K.Sink.written c.lines.out) (g.K.Sink.written c.put.new.self) bytes) next.line
+    c.in-Err.ensures.front in
+    let fails =
+    PutsLines-fails first (text f) others (shown c.args.out.now) (shown c.lines.out) (shown c.put.new.self) c.lines.invariant.puts front
+    c.put.ensures.counted in
+    inr (inl (refl, inl (subst (λ (ls : List (List ℕ)). PutFails ls (shown c.args.out.now) (shown c.put.new.self)) (sym lines) fails)))

@@ -1,0 +1,10 @@
+use Rattle.net_plan.{proofs.Greatest.greatest_of_channels, specs.{Bounds.{IsGreatest, IsOfPath}, declared.ids.LinkId.LinkId}}
+use Rattle.std.proofs.Common.{length, subst, sym, ℕ}
+use Rattle.lens_sheet.proofs.weights.most_links.Goals as goal
+
+pub returns-clause-greatest : goal.returns-clause-greatest
+returns-clause-greatest c =
+    let n = c.args.network.now in
+    subst (λ (k : ℕ). IsGreatest (IsOfPath n (length {A = LinkId})) k) (sym c.greater.ensures)
+    (greatest_of_channels n (length {A = LinkId}) c.most_links_on.result c.most_links_on-2.result c.most_links_on.ensures.greatest
+    c.most_links_on-2.ensures.greatest)

@@ -1,0 +1,10 @@
+pub mod Figures
+pub mod Weights
+pub mod Loads
+pub mod Loading
+pub mod Ways
+pub mod Going
+pub mod Lines
+pub mod Sheet
+pub mod Answer
+pub mod Laws
