@@ -1,5 +1,6 @@
 -- The answer for the words.
 use Rattle.lens_latency.{proofs.{OneAnswer.latency_one, OneReport.latency_report_one}, specs.Answer.IsLatencyOf}
+use Rattle.lens_sheet.{proofs.OneAnswer.sheet_one, specs.Answer.IsSheetOf}
 use Rattle.lens_plan.{proofs.OneAnswer.plan_one_for, specs.Answer.IsPlanFor}
 use Rattle.{net_plan.proofs.Shape.rules_give_trees, schedule_tables.proofs.Margins.shape_rules}
 use Rattle.{fault_hypothesis.proofs.storm_lemmas.OneStorm.one_storm, std.proofs.Common.{◌∙◌, ◌≡◌, ◌≤◌, List, None, Some, ap, subst, sym, ℕ}}
@@ -11,7 +12,7 @@ use Rattle.{lens_slack.proofs.OneSlack.{octets_one, slack_one}, tte_forms.specs.
 use Rattle.{lens_slack.proofs.least_lemmas.OneLeast.least_one, tte_forms.specs.declared.status.Status.TheVariants.{Done, Usage}}
 use Rattle.{lens_slack.specs.{Steps.{all_steps, rule_steps}, least.Answer.{IsLeastOf, with_late}}, tte_forms.proofs.networks.Answers.network_answer_one}
 use Rattle.lens.proofs.draw_lemmas.Naming.{named_one}
-use Rattle.{lens.specs.declared.forms.Form.TheVariants.{DrawNamed, Events, Latency, Least, Plan, Report, Slack, SlackOf}, lens.specs.declared.forms.Question.Question}
+use Rattle.{lens.specs.declared.forms.Form.TheVariants.{DrawNamed, Events, Latency, Least, Plan, Report, Sheet, Slack, SlackOf}, lens.specs.declared.forms.Question.Question}
 use Rattle.{lens.specs.declared.forms.Form.Form, lens.specs.declared.forms.Question.TheVariants.{Clocks, Draw, DrawWhole, Flows, LatencySeen, Page, Why}}
 use Rattle.{lens_why.proofs.Whole.why_answer_one, tte_forms.specs.{Answering.Answer, Putting.Shown}}
 use Rattle.tte_reports.{proofs.Reports.report_one, specs.Reports.IsOneFor}
@@ -54,6 +55,8 @@ answer_one one (Some Slack) range octets report a b p q = octets_one (IsSlackOf 
 answer_one one (Some (SlackOf rule)) range octets report a b p q = octets_one (IsSlackOf (rule_steps rule)) (slack_one (rule_steps rule)) octets a b p q
 answer_one one (Some Least) range octets report a b p q =
     octets_one (λ network. IsLeastOf (with_late network)) (λ network. least_one (with_late network)) octets a b p q
+answer_one one (Some Sheet) range octets report a b p q =
+    network_answer_one one IsSheetOf octets (λ network accepted. sheet_one network) a b p q
 answer_one one (Some Latency) range octets report a b p q =
     network_answer_one one IsLatencyOf octets (λ network accepted. latency_one network) a b p q
 answer_one one (Some Plan) range octets messages a b p q =

@@ -1,4 +1,5 @@
 -- What the program `lens` answers.
+use Rattle.{lens.specs.declared.forms.Form.TheVariants.Sheet, lens_sheet.specs.Answer.IsSheetAnswer}
 use Rattle.{lens_latency.specs.Answer.IsLatencyAnswer, lens_plan.specs.Answer.IsPlanAnswer}
 use Rattle.std.specs.Prelude.{◌++◌, ◌≡◌, ◌≢◌, ◌⊎◌, List, None, Option, Some, [], codes, ℕ}
 use Rattle.{lens.specs.{Forms.form_of, Questions.IsQuestionAnswer}, lens_slack.specs.least.Answer.IsLeastAnswer}
@@ -13,10 +14,10 @@ use Rattle.tte_reports.specs.{Commands.CompletesReport, Safely.AuditsSafely}
 -- the line for words of no form
 abbrev pub usage_line : List ℕ
 usage_line =
-    codes "usage: lens slack NETWORK [RULE] | least NETWORK | plan NETWORK MESSAGES | latency NETWORK [REPORT] | "
-    ++ codes "why NETWORK REPORT N | draw NETWORK REPORT | draw NETWORK REPORT CYCLE [NAME] | "
-    ++ codes "draw NETWORK REPORT FROM TO [NAME] | page NETWORK REPORT | clocks NETWORK REPORT | "
-    ++ codes "flows NETWORK REPORT | events NETWORK SEED CYCLES\n"
+    codes "usage: lens slack NETWORK [RULE] | least NETWORK | sheet NETWORK | plan NETWORK MESSAGES | "
+    ++ codes "latency NETWORK [REPORT] | why NETWORK REPORT N | draw NETWORK REPORT | "
+    ++ codes "draw NETWORK REPORT CYCLE [NAME] | draw NETWORK REPORT FROM TO [NAME] | page NETWORK REPORT | "
+    ++ codes "clocks NETWORK REPORT | flows NETWORK REPORT | events NETWORK SEED CYCLES\n"
 
 -- the answer for words of no form: the usage line
 abbrev pub usage_answer : Answer
@@ -27,6 +28,7 @@ abbrev pub IsFormAnswer : Form → List ℕ → List ℕ → Answer → Type 0
 IsFormAnswer Slack octets report a = IsSlackAnswer octets a
 IsFormAnswer (SlackOf rule) octets report a = IsSlackAnswerOf rule octets a
 IsFormAnswer Least octets report a = IsLeastAnswer octets a
+IsFormAnswer Sheet octets report a = IsSheetAnswer octets a
 IsFormAnswer Latency octets report a = IsLatencyAnswer octets a
 IsFormAnswer Plan octets messages a = IsPlanAnswer messages octets a
 IsFormAnswer (Report question) octets report a =

@@ -23,6 +23,8 @@ pub enum Form<'a> {
     SlackOf(Rule),
     /// `least NETWORK`.
     Least,
+    /// `sheet NETWORK`.
+    Sheet,
     /// `latency NETWORK`.
     Latency,
     /// `plan NETWORK MESSAGES`.
@@ -88,6 +90,7 @@ fn network_form(command: &str) -> Option<Form<'static>>
     match command {
         "slack" => Some(Form::Slack),
         "least" => Some(Form::Least),
+        "sheet" => Some(Form::Sheet),
         "latency" => Some(Form::Latency),
         _ => None,
     }

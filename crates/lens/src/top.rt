@@ -8,6 +8,7 @@ use crate::events::storm_events;
 use crate::forms::{Form, read_form};
 use lens_latency::latency_of_network;
 use lens_plan::plan_of_network;
+use lens_sheet::sheet_of_network;
 use lens_slack::least::least_of_network;
 use lens_slack::{slack_of_network, slack_of_rule};
 use schedule_checker::refusal_is_one;
@@ -17,10 +18,10 @@ use tte_io::{Sink, Source};
 use tte_reports::answer_report;
 
 const USAGE: &str =
-    "usage: lens slack NETWORK [RULE] | least NETWORK | plan NETWORK MESSAGES | latency NETWORK [REPORT] | \
-                     why NETWORK REPORT N | draw NETWORK REPORT | draw NETWORK REPORT CYCLE [NAME] | \
-                     draw NETWORK REPORT FROM TO [NAME] | page NETWORK REPORT | clocks NETWORK REPORT | \
-                     flows NETWORK REPORT | events NETWORK SEED CYCLES\n";
+    "usage: lens slack NETWORK [RULE] | least NETWORK | sheet NETWORK | plan NETWORK MESSAGES | \
+                     latency NETWORK [REPORT] | why NETWORK REPORT N | draw NETWORK REPORT | \
+                     draw NETWORK REPORT CYCLE [NAME] | draw NETWORK REPORT FROM TO [NAME] | page NETWORK REPORT | \
+                     clocks NETWORK REPORT | flows NETWORK REPORT | events NETWORK SEED CYCLES\n";
 
 /// All that the program does: it answers the words, with `first` as the file that word 2 names and `second` as the one
 /// that word 3 of `plan`, `latency`, `why`, `draw`, `page`, `clocks` or `flows` names, and writes to `out`.
@@ -49,6 +50,7 @@ pub fn lens<A: Source, B: Source, K: Sink>(
         Some(Form::Slack) => slack_of_network(alloc, first, out),
         Some(Form::SlackOf(rule)) => slack_of_rule(alloc, first, rule, out),
         Some(Form::Least) => least_of_network(alloc, first, out),
+        Some(Form::Sheet) => sheet_of_network(alloc, first, out),
         Some(Form::Latency) => latency_of_network(alloc, first, out),
         Some(Form::Plan) => plan_of_network(alloc, first, second, out),
         Some(Form::Report(question)) => answer_report(alloc, first, second, &question, out),

@@ -1,5 +1,5 @@
 //! Tests of the program `lens`: what is no form, what rules leave and want of networks, the least numbers that they
-//! admit, chains of records, clocks, the events of storms, and the run over them.
+//! admit, sheets, chains of records, clocks, the events of storms, and the run over them.
 
 mod chains;
 mod clocks;
@@ -11,6 +11,7 @@ mod latency;
 mod least;
 mod plan;
 mod seen;
+mod sheet;
 mod slack;
 mod summed;
 mod traces;

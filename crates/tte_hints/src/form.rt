@@ -46,6 +46,7 @@ const LENS: &[Form] = &[
     Form("slack", &[Argument::Network]),
     Form("slack", &[Argument::Network, Argument::Rule]),
     Form("least", &[Argument::Network]),
+    Form("sheet", &[Argument::Network]),
     Form("plan", &[Argument::Network, Argument::Messages]),
     Form("latency", &[Argument::Network]),
     Form("latency", &[Argument::Network, Argument::Report]),

@@ -8,8 +8,9 @@ use std::test::Fail;
 use worked_network::{call_of_one, words_of};
 
 const USAGE: &str =
-    "usage: lens slack NETWORK [RULE] | least NETWORK | plan NETWORK MESSAGES | latency NETWORK [REPORT] | why NETWORK REPORT N | \
-        draw NETWORK REPORT | draw NETWORK REPORT CYCLE [NAME] | draw NETWORK REPORT FROM TO [NAME] | \
+    "usage: lens slack NETWORK [RULE] | least NETWORK | sheet NETWORK | plan NETWORK MESSAGES | \
+        latency NETWORK [REPORT] | why NETWORK REPORT N | draw NETWORK REPORT | \
+        draw NETWORK REPORT CYCLE [NAME] | draw NETWORK REPORT FROM TO [NAME] | \
         page NETWORK REPORT | clocks NETWORK REPORT | flows NETWORK REPORT | events NETWORK SEED CYCLES\n";
 
 const NO_FORMS: &[&[&str]] = &[
@@ -18,6 +19,9 @@ const NO_FORMS: &[&[&str]] = &[
     &["slack"],
     &["least"],
     &["least", "a", "8"],
+    &["sheet"],
+    &["sheet", "a", "b"],
+    &["Sheet", "a"],
     &["plan", "a"],
     &["plan", "a", "b", "c"],
     &["Plan", "a", "b"],
@@ -194,6 +198,12 @@ fn words_of_a_network_and_of_messages_are_read(rt: HostRuntime) -> Result<(), Fa
         alloc,
         &["latency", "a"],
         |form| matches!(form, Form::Latency),
+    )?;
+    try_form(
+        &rt,
+        alloc,
+        &["sheet", "a"],
+        |form| matches!(form, Form::Sheet),
     )?;
     try_form(
         &rt,

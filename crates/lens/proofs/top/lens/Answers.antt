@@ -1,5 +1,5 @@
 use Rattle.{lens.proofs.TopAnswers.{no_usage_for, words_as}, tte_forms.{proofs.Facts.no_usage, specs.Putting.shown_by}}
-use Rattle.lens.specs.{Forms.form_of, Questions.EndsFor, declared.forms.Form.TheVariants.{DrawNamed, Events, Latency, Least, Plan, Report, Slack, SlackOf}}
+use Rattle.lens.specs.{Forms.form_of, Questions.EndsFor, declared.forms.Form.TheVariants.{DrawNamed, Events, Latency, Least, Plan, Report, Sheet, Slack, SlackOf}}
 use Rattle.lens_plan.specs.Answer.{IsPlanStatus}
 use Rattle.lens.{proofs.draw_lemmas.Naming.{named_completed, named_safely}, specs.{Top.{AnswersReports, AnswersSafely, FailsToRead, LeavesSecond}, declared.forms.Form.Form, draw.Naming.IsNamedStatus}}
 use Rattle.{std.specs.Prelude.Option, tte_forms.specs.Faults.HasCause}
@@ -32,6 +32,15 @@ returns-in-Some-Least-clause-general g c =
     let shown = shown_by g.K.Sink in
     words_as form first second c.least_of_network.result (shown c.args.out.now) (shown c.least_of_network.new.out)
     (no_usage IsCheckStatus c.least_of_network.result (λ none. none) c.least_of_network.ensures.statuses, c.least_of_network.ensures.general)
+
+pub returns-in-Some-Sheet-clause-general : goal.returns-in-Some-Sheet-clause-general
+returns-in-Some-Sheet-clause-general g c =
+    let form : Some Sheet ≡ form_of c.args.words.now = search rules in
+    let first = g.A.Source.left c.args.first.now in
+    let second = g.B.Source.left c.args.second.now in
+    let shown = shown_by g.K.Sink in
+    words_as form first second c.sheet_of_network.result (shown c.args.out.now) (shown c.sheet_of_network.new.out)
+    (no_usage IsCheckStatus c.sheet_of_network.result (λ none. none) c.sheet_of_network.ensures.statuses, c.sheet_of_network.ensures.general)
 
 pub returns-in-Some-Latency-clause-general : goal.returns-in-Some-Latency-clause-general
 returns-in-Some-Latency-clause-general g c =
