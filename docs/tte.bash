@@ -22,6 +22,7 @@ _tte_forms=(
 _lens_forms=(
     'slack NETWORK [RULE]'
     'least NETWORK'
+    'sheet NETWORK'
     'plan NETWORK MESSAGES'
     'latency NETWORK [REPORT]'
     'why NETWORK REPORT N'
