@@ -3,7 +3,7 @@ use Rattle.lens.specs.declared.forms.{Form.{Form, TheVariants.{DrawNamed, Events
 use Rattle.{lens.specs.declared.forms.Part.{Part, TheVariants.{Cycle, Times}}, lens_plan.specs.messages.Values.{is_name_text, time_spelled}}
 use Rattle.lens_slack.specs.Inequalities.{IsInequality}
 use Rattle.lens.specs.Forms.{IsFormInRange, IsPartInRange, cycle_part, draw_form, events_form, five_words_form, form_of, four_words_form, greatest_cycle}
-use Rattle.lens.specs.Forms.{greatest_number, inequality_spelled, named_by, named_form, network_form, part_between, reads_as_time, six_words_form}
+use Rattle.lens.specs.Forms.{greatest_number, inequality_spelled, named_form, network_form, part_between, reads_as_time, six_words_form}
 use Rattle.lens.specs.Forms.{slack_of_form, three_words_form, times_part, two_words_form, why_form}
 use Rattle.{schedule_tables.specs.declared.rule.Rule.Rule, std.proofs.Common.{◌∷◌, ◌≡◌, ◌≤◌, Bool, List, None, Some, [], arith, false, length, refl, true, ℕ}}
 use Rattle.{std.{proofs.lemmas.Bool.{Decides.nat_tests, and_parts}, specs.Str.Parse.digits_value}, trace_text.specs.Numbers.number_up_to}

@@ -103,7 +103,7 @@ is_number text = nat_le 1 (length text) && list_all is_ascii_digit text
 
 -- the word of a unit of time
 abbrev pub is_unit : List ℕ → Bool
-is_unit text = bytes_eq text (codes "ns") || (bytes_eq text (codes "us") || bytes_eq text (codes "ms"))
+is_unit text = bytes_eq text (codes "ns") || bytes_eq text (codes "us") || bytes_eq text (codes "ms")
 
 -- digits, or digits with the word of a unit right behind them
 unfoldable pub reads_as_time : List ℕ → Bool

@@ -1,8 +1,9 @@
 //! The words of the program `lens` and their forms.
 
 ghost use Rattle.std.specs.Prelude.{◌≡◌, ◌≤◌, IfSome};
+ghost use Rattle.std.specs.{Char.is_ascii_digit, List.list_all};
 ghost use Rattle.lens_slack.specs.Inequalities.{IsInequality};
-ghost use Rattle.lens.specs.Forms.{IsFormInRange, IsPartInRange, cycle_part, events_form, five_words_form, is_number};
+ghost use Rattle.lens.specs.Forms.{IsFormInRange, IsPartInRange, cycle_part, draw_form, events_form, five_words_form, is_number};
 ghost use Rattle.lens.specs.Forms.{is_unit, named_by, reads_as_time, six_words_form, times_part, two_words_form};
 ghost use Rattle.lens.specs.Forms.{form_of, four_words_form, inequality_spelled, network_form};
 ghost use Rattle.lens.specs.Forms.{number_spelled, slack_of_form, three_words_form, why_form};
@@ -72,7 +73,7 @@ pub enum Part {
     /// A cycle.
     Cycle {
         /// From 0 to 2^20.
-        number: u64,
+        number: u32,
     },
     /// From one time to another, both in units of 2^-16 ns.
     Times {
@@ -175,8 +176,17 @@ fn cycle_part(cycle: &str) -> Option<Part>
     ensures part { result ≡ cycle_part cycle.now }
     ensures range { IfSome result IsPartInRange }
 {
-    let number = number_up_to(GREATEST_CYCLE, cycle)?;
+    let number = number_up_to(GREATEST_CYCLE, cycle)? as u32;
     Some(Part::Cycle { number })
+}
+
+/// The form of a cycle of a run.
+fn cycle_form(cycle: &str) -> Option<Form<'static>>
+    ensures form { result ≡ draw_form (cycle_part cycle.now) }
+    ensures range { IfSome result IsFormInRange }
+{
+    let part = cycle_part(cycle)?;
+    Some(Form::Report(Question::Draw(part)))
 }
 
 /// The part between these times.
@@ -200,10 +210,7 @@ fn four_words_form(command: &str, third: &str, last: &str) -> Option<Form<'stati
 {
     match command {
         "why" => why_form(last),
-        "draw" => {
-            let part = cycle_part(last)?;
-            Some(Form::Report(Question::Draw(part)))
-        }
+        "draw" => cycle_form(last),
         "events" => events_form(third, last),
         _ => None,
     }
@@ -223,11 +230,18 @@ fn named_by(name: &str, part: Part) -> Option<Form<'_>>
     }
 }
 
+/// Are the octets all digits?
+fn has_digits(text: &[u8]) -> bool
+    ensures { result ≡ list_all is_ascii_digit text.now }
+{
+    text.iter().all(|octet| octet.is_ascii_digit())
+}
+
 /// Are there digits, and nothing else?
 fn is_number(text: &[u8]) -> bool
     ensures { result ≡ is_number text.now }
 {
-    !text.is_empty() && text.iter().all(|octet| octet.is_ascii_digit())
+    !text.is_empty() && has_digits(text)
 }
 
 /// Is it the word of a unit of time?

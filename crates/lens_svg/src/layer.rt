@@ -1,6 +1,7 @@
 //! The layers of a picture below its marks.
 ghost use Rattle.std.specs.Prelude.{◌≡◌, ◌<◌, IfSome, length};
 ghost use Rattle.{lens_svg.specs.Elements.HasNames, net_plan.specs.Ranges.IsInRange};
+ghost use Rattle.net_plan.specs.declared.network.Network.{Network as NetworkValue};
 ghost use Rattle.lens_svg.specs.Layers.{is_gone, lack_of, may_wait, on_lane, on_mark, opening_of, tick_of, turn_of};
 ghost use Rattle.lens_svg.specs.Layers.{wait_between, wait_of, way_of};
 
@@ -41,7 +42,8 @@ pub fn opening_of(network: &Network, sketch: &Sketch) -> Element
 
 /// That no record is drawn, where that is so.
 pub fn lack_of(sketch: &Sketch) -> Option<Element>
-    ensures { result ≡ lack_of sketch.now }
+    ensures value { result ≡ lack_of sketch.now }
+    ensures names { (network : NetworkValue) → IfSome result (HasNames network) }
 {
     if sketch.marks().is_empty() {
         Some(Element::Lack)

@@ -1,18 +1,18 @@
 -- Which records a picture of one thing keeps.
 use Rattle.audit_law.specs.law.Linked.{HasCause}
 use Rattle.lens_latency.proofs.Followings.{report_linked}
-use Rattle.lens_why.proofs.{Comings.comes_from_earlier, Notes.{founded_of, never_none, note_numbered}}
+use Rattle.lens_why.proofs.{Comings.comes_from_earlier, Notes.{founded_of, note_numbered}}
 use Rattle.lens.specs.draw.Keeping.{AreFlags, AreOwn, HasSending, IsKept, IsOf, IsSending, Tells, cause_at, is_sending, own_flag, passed_on, with_flag}
 use Rattle.lens.specs.declared.draw.subject.Subject.{Subject, TheVariants.{Frames, Lane}}
 use Rattle.lens_svg.specs.{Bodies.seat_of, Sketching.with_at, Views.flag_at}
 use Rattle.net_plan.specs.declared.{ids.VlId.VlId, network.Network.Network}
 use Rattle.run_law.proofs.{law.FirstPlaces.{by_number, number_is, numbered_front, numbered_in, numbered_within}, records.Happenings.as_many, runs.NetworkRuns.one_more}
-use Rattle.run_law.specs.{declared.note.{Note.Note, NoteBody.NoteBody}, records.{Causes.{IsChain, cause_of, last_from}, Order.IsIn, Ranks.place_of}}
+use Rattle.run_law.specs.{declared.note.{Note.Note, NoteBody.NoteBody}, records.{Causes.{IsChain, cause_of, last_from}, Ranks.place_of}}
 use Rattle.run_law.specs.{records.Happenings.{Happening, happening, happenings, numbered}, runs.{DueRecords.IsDue, Runs.IsFounded}}
-use Rattle.std.proofs.Common.{◌++◌, ◌+◌, ◌-◌, ◌<◌, ◌==◌, ◌∙◌, ◌∷◌, ◌≡◌, ◌≤◌, ◌⊎◌, Bool, List, None, Option, Some, [], ap, arith, false, if◌then◌else◌, inl, inr, length, length-append, refl, subst, suc, sym, true, zero, ℕ}
+use Rattle.std.proofs.Common.{◌++◌, ◌+◌, ◌-◌, ◌<◌, ◌==◌, ◌∙◌, ◌∷◌, ◌≡◌, ◌≤◌, ◌⊎◌, Bool, List, Option, Some, [], ap, arith, false, if◌then◌else◌, inl, inr, length, length-append, refl, subst, suc, sym, true, zero, ℕ}
 use Rattle.std.proofs.lemmas.{Bool.{Decides.nat_tests, eq-eqb, eqb-true, false≢true}, List.{get_or-set_other, get_or-set_same, length-set}, Option.unwrap_or-slice_get}
 use Rattle.std.specs.{Option.option_map_or, Prelude.{◌||◌, nat_lt, option_map, slice_get, slice_set, unwrap_or}}
-use Rattle.{tte_audit.proofs.UnderWay.happening_there, tte_reports.specs.Places.note_at}
+use Rattle.{tte_audit.proofs.UnderWay.happening_there}
 use Rattle.tte_audit.specs.{Named.IsNamed, Report.scenario_of}
 use Rattle.tte_reports.specs.{Folding.IsNextOf, Reports.IsReportOf}
 use Rattle.tte_units.{proofs.general_lemmas.Options.some_same, specs.declared.units.Units.Units}
@@ -296,16 +296,16 @@ module _ (network : Network) (subject : Subject) (octets : List ℕ) (ns : List 
 
     -- the cause is passed on of the record that has this number
     module _ (set : flag_at flags number ≡ true) (giving : Happening) (at : numbered hs number ≡ Some giving) where
-      abbrev cause : ℕ
-      cause = cause_of giving.note.body
+      abbrev its_cause : ℕ
+      its_cause = cause_of giving.note.body
 
       abbrev more : List Bool
-      more = with_flag flags cause
+      more = with_flag flags its_cause
 
       kept_more : (n : ℕ) (k : Happening) → numbered hs n ≡ Some k → flag_at more n ≡ true → IsKept network subject hs k
-      kept_more n k there now = by (set_only flags cause n now)
+      kept_more n k there now = by (set_only flags its_cause n now)
         where
-          by : (flag_at flags n ≡ true) ⊎ (n ≡ cause) → IsKept network subject hs k
+          by : (flag_at flags n ≡ true) ⊎ (n ≡ its_cause) → IsKept network subject hs k
           by (inl was) = h.kept n k there was
           by (inr same) =
               kept_back network subject hs giving k (h.kept number giving at set) (subst (λ (m : ℕ). numbered hs m ≡ Some k) same there)
@@ -315,18 +315,18 @@ module _ (network : Network) (subject : Subject) (octets : List ℕ) (ns : List 
       closed_more n k g past there now given = by (n == number) refl
         where
           -- a cause is before what it causes
-          before : (n ≡ cause) → number < n → ⊥
+          before : (n ≡ its_cause) → number < n → ⊥
           before same later =
               elim (comes_from_earlier (scenario_of network ns) hs founded number giving at) [
                 | inl none ↦ none_at_zero hs n k (same ∙ none) there
                 | inr earlier ↦ let less = earlier.2 in omega (arith, less, same, later)
               ]
 
-          here : (m : ℕ) → numbered hs m ≡ Some g → m ≡ cause → flag_at more m ≡ true
+          here : (m : ℕ) → numbered hs m ≡ Some g → m ≡ its_cause → flag_at more m ≡ true
           here m found same =
               let within = numbered_within hs m g found in
               let many = h.count in
-              subst (λ (i : ℕ). flag_at more i ≡ true) (sym same) (set_here flags cause (positive cause (subst (λ (i : ℕ). numbered hs i ≡ Some g) same found))
+              subst (λ (i : ℕ). flag_at more i ≡ true) (sym same) (set_here flags its_cause (positive its_cause (subst (λ (i : ℕ). numbered hs i ≡ Some g) same found))
               (omega (arith, within, many, same)))
             where
               positive : (i : ℕ) → numbered hs i ≡ Some g → 1 ≤ i
@@ -338,18 +338,18 @@ module _ (network : Network) (subject : Subject) (octets : List ℕ) (ns : List 
               let same : n ≡ number = eqb-true n number e in
               let one : k ≡ giving = some_same k giving (numbered hs number) (subst (λ (m : ℕ). numbered hs m ≡ Some k) same there) at in
               here (cause_of k.note.body) given (ap (λ (x : Happening). cause_of x.note.body) one)
-          by false e = behind (grind (arith, nat_tests, e, past, some)) (set_only flags cause n now)
+          by false e = behind (grind (arith, nat_tests, e, past, some)) (set_only flags its_cause n now)
             where
-              behind : number < n → (flag_at flags n ≡ true) ⊎ (n ≡ cause) → flag_at more (cause_of k.note.body) ≡ true
-              behind later (inl was) = set_still flags cause (cause_of k.note.body) (h.closed n k g later there was given)
+              behind : number < n → (flag_at flags n ≡ true) ⊎ (n ≡ its_cause) → flag_at more (cause_of k.note.body) ≡ true
+              behind later (inl was) = set_still flags its_cause (cause_of k.note.body) (h.closed n k g later there was given)
               behind later (inr same) = absurd (before same later)
 
       spread_set : IsSpread network subject ns (number - 1) more
       spread_set =
-          let long = with_long flags cause in
+          let long = with_long flags its_cause in
           let many = h.count in record {
             count = omega (arith, long, many);
-            own = λ n k there is. set_still flags cause n (h.own n k there is);
+            own = λ n k there is. set_still flags its_cause n (h.own n k there is);
             kept = kept_more;
             closed = closed_more;
           }

@@ -1,5 +1,5 @@
 -- A picture has the line of each thing that its plan draws.
-use Rattle.lens.specs.draw.LineLaws.{AreMarkLines, DrawsPlan, HasLineOf, MarksStandWhereTheirsDo, PicturesDrawPlans}
+use Rattle.lens.specs.draw.LineLaws.{AreMarkLines, HasLineOf, MarksStandWhereTheirsDo, PicturesDrawPlans}
 use Rattle.lens.specs.draw.Picture.{back_lines, front_lines, layer_lines, lines_from, mark_lines, picture_lines, some_line, windows_of}
 use Rattle.lens_svg.{proofs.Arrows.taken_all, specs.{Clocks.{clocks_in, gauge_of, spread_of}, Laws.{AreMarksOf, shown}, Layers.{lack_of, on_lane, on_mark}}}
 use Rattle.lens_svg.specs.{Elements.element_line, Plan.Plan, Sketching.{begun, is_drawn, plan_of}, Views.View, Windows.box_of}
@@ -7,7 +7,7 @@ use Rattle.lens_svg.specs.declared.{clock.Told.Told, element.Element.Element, wi
 use Rattle.lens_svg.specs.declared.layer.{LaneLayer.{LaneLayer, TheVariants.{Grounds, Rails}}, MarkLayer.{MarkLayer, TheVariants.{Ticks, Turns, Waits, Ways}}}
 use Rattle.{lens.specs.declared.draw.putting.Layer.Layer, lens_svg.specs.declared.mark.Mark.Mark, net_plan.specs.declared.network.Network.Network}
 use Rattle.run_law.{proofs.runs.Places.{in_left, in_right}, specs.{declared.note.Note.Note, records.Order.IsIn}}
-use Rattle.std.proofs.Common.{◌++◌, ◌+◌, ◌-◌, ◌<◌, ◌∷◌, ◌≡◌, ◌≤◌, ◌⊎◌, Bool, List, None, Option, Some, [], arith, false, inl, inr, length, refl, subst, suc, sym, true, zero, ℕ}
+use Rattle.std.proofs.Common.{◌+◌, ◌<◌, ◌∷◌, ◌≡◌, Bool, List, None, Option, Some, [], arith, false, inl, inr, length, refl, subst, suc, sym, true, zero, ℕ}
 use Rattle.std.specs.Prelude.{flat_map, if◌then◌else◌, slice_get}
 use Rattle.lens.specs.declared.draw.putting.Layer.TheVariants as layers
 use Rattle.lens.specs.draw.Picture as pictures

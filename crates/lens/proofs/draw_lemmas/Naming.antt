@@ -2,12 +2,12 @@
 use Rattle.lens.specs.draw.Keeping.{AreFlags, IsKept, Tells}
 use Rattle.lens.specs.draw.Naming.{AnswersNamed, CompletesNamed, IsKeptAnswer, IsNamedAnswer, IsNamedStatus, IsUnknown, LeavesNamed, LeavesUnnamed, Names, unknown_answer}
 use Rattle.lens.specs.{declared.{draw.subject.Subject.{Subject, TheVariants.{Frames, Lane}}, forms.Part.Part}, draw.{Answer.draw_answer, Spans.span_of}}
-use Rattle.{lens_svg.specs.Views.{View, flag_at}, schedule_checker.specs.Refusals.RefusalIsOne}
-use Rattle.net_plan.specs.{Bearers.{HasNoBearer, IsFirstBearer, device_names, vl_names}, declared.network.Network.Network}
+use Rattle.{lens_svg.specs.Views.flag_at, schedule_checker.specs.Refusals.RefusalIsOne}
+use Rattle.net_plan.specs.{Bearers.{IsFirstBearer, device_names, vl_names}, declared.network.Network.Network}
 use Rattle.net_plan.specs.declared.ids.{DeviceId.DeviceId, VlId.VlId}
-use Rattle.run_law.specs.{declared.note.Note.Note, records.Happenings.{Happening, happenings, numbered}}
-use Rattle.std.proofs.Common.{◌+◌, ◌<◌, ◌∙◌, ◌∷◌, ◌≡◌, ◌≢◌, ◌⊎◌, Bool, Err, List, None, Ok, Option, Result, Some, [], ap, arith, false, inl, inr, length, refl, subst, suc, sym, true, zero, ℕ}
-use Rattle.std.{proofs.lemmas.Bool.{cases_lt, false≢true}, specs.Prelude.{slice_get, unwrap_or}}
+use Rattle.run_law.specs.{declared.note.Note.Note, records.Happenings.{Happening, happenings}}
+use Rattle.std.proofs.Common.{◌<◌, ◌∙◌, ◌∷◌, ◌≡◌, ◌⊎◌, Bool, List, None, Ok, Option, Result, Some, [], ap, arith, false, inl, inr, length, refl, subst, suc, sym, true, zero, ℕ}
+use Rattle.std.{proofs.lemmas.Bool.cases_lt, specs.Prelude.{slice_get, unwrap_or}}
 use Rattle.tte_forms.proofs.{Octets.{for_all, for_more}, OneAnswers.answer_widened, networks.Answers.{accepted_alone, network_answer_one}}
 use Rattle.tte_forms.specs.Answering.{Answer, ForOctets, Gives, GivesAnswer}
 use Rattle.tte_forms.specs.{Putting.Shown, networks.Accepting.{IsNetworkAnswer, MeansAccepted}}
@@ -107,15 +107,17 @@ unknown_given part name network second status old new unknown given =
     for_all second (λ report. GivesAnswer (IsNamedAnswer part name report network) status old new)
     (λ report. inl (unknown_answer, inl (unknown, refl), given))
 
+-- what is read is one network
+same_read : {E : Type 0} (read : Result Network E) (n m : Network) → read ≡ Ok n → read ≡ Ok m → n ≡ m
+same_read read n m p q = cc
+
 -- what is said of the network that was accepted is said of the one that the octets mean
 pub left_unnamed : (name : List ℕ) (first : Option (List ℕ)) (accepted : Network) (Unread : Type 0)
     → ForOctets first (λ octets. MeansAccepted octets accepted) → LeavesNamed accepted name Unread → LeavesUnnamed name first Unread
 left_unnamed name None accepted Unread means leaves = tt
-left_unnamed name (Some octets) accepted Unread means leaves network other unknown =
-    leaves (subst (λ (n : Network). IsUnknown n name) (ok_same network accepted (sym other.read ∙ means.read)) unknown)
-  where
-    ok_same : {E : Type 0} (a b : Network) → Ok {E = E} a ≡ Ok b → a ≡ b
-    ok_same a b e = cc
+left_unnamed name (Some octets) accepted Unread means leaves = λ network other unknown.
+    let same : network ≡ accepted = same_read _ network accepted other.read means.read in
+    leaves (subst (λ (n : Network). IsUnknown n name) same unknown)
 
 pub unread_unnamed : (name : List ℕ) (first : Option (List ℕ)) (Unread : Type 0) → Unread → LeavesUnnamed name first Unread
 unread_unnamed name None Unread unread = tt

@@ -1,6 +1,6 @@
 -- Two reports with one picture have the same lines.
 use Rattle.{lens.proofs.draw_lemmas.Titles.titles_are, lens_svg.specs.{Sketching.{is_drawn, plan_of}, Windows.box_of}, tte_units.specs.declared.units.Units.Units}
-use Rattle.lens.specs.declared.draw.{signs.Sign.{Sign, TheVariants.{Arrows, Backdrop, Heading, MarkKey, Shapes, Style, WayKey}}}
+use Rattle.lens.specs.declared.draw.signs.Sign.{Sign, TheVariants.{Arrows, Backdrop, Heading, MarkKey, Shapes, Style, WayKey}}
 use Rattle.{lens.specs.declared.draw.putting.Layer.Layer, std.proofs.{Common.{suc, sym, take, true, zero, ℕ}, lemmas.Fmt.decimal_is_IsNumeral}}
 use Rattle.lens.specs.draw.{Laws.HaveTitles, Picture.{back_lines, front_lines, layer_lines, lines_from, mark_lines, picture_lines, some_line, windows_of}}
 use Rattle.{lens.specs.draw.{ReadingLaws.{PicturesAreOne, TitlesArePlain}, Signs.{close_line, sign_line}}, lens_svg.specs.Layers.{lack_of, on_lane, on_mark, opening_of}}

@@ -8,6 +8,6 @@ use Rattle.{net_plan.specs.declared.network.Network.Network, tte_units.specs.Amo
 abbrev pub span_of : Network → Part → Span
 span_of network (Cycle number) = record {
   from = min (number * amount network.cycle) last_time;
-  to = min ((number + 1) * amount network.cycle - 1) last_time;
+  to = min ((number + 1) * amount network.cycle) last_time - 1;
 }
 span_of network (Times from to) = record { from = from; to = to }

@@ -1,6 +1,6 @@
 //! Which records a picture of one thing keeps, as flags.
 ghost use Rattle.std.specs.Prelude.{◌++◌, ◌∷◌, ◌≡◌, IfOk, List, OnOk, []};
-ghost use Rattle.lens.specs.draw.Keeping.{AreFlags, AreOwn, passed_on, with_flag};
+ghost use Rattle.lens.specs.draw.Keeping.{AreFlags, AreOwn, cause_at, passed_on, with_flag};
 ghost use Rattle.run_law.specs.{declared.note.Note.{Note as NoteValue}, records.Happenings.happenings};
 ghost use Rattle.{tte_audit.specs.Named.IsNamed, tte_units.specs.declared.units.Units.{Units as UnitsValue}};
 ghost use Rattle.lens.specs.declared.draw.subject.Subject.{Subject as SubjectValue};
@@ -55,8 +55,10 @@ fn own_flags(
         → IsReportOf network.now report.now.octets notes end
         → AreOwn network.now subject notes notes flags.items) }
 {
-    let flags = Vec::new(alloc);
-    let mut own = Own { subject, flags };
+    let mut own = Own {
+        subject,
+        flags: Vec::new(alloc),
+    };
     take_records(report, network, &mut own)?;
     Ok(own.flags)
 }
@@ -74,6 +76,19 @@ fn set_flag(flags: &mut Vec<bool>, number: u64)
     }
 }
 
+/// The number of the cause of the record of this number, or 0.
+fn cause_at(network: &Network, report: &AuditedReport, number: u64) -> u64
+    requires named { IsNamed network.now }
+    requires read { IsRead network.now report.now }
+    ensures { (notes : List NoteValue) (end : UnitsValue) → IsReportOf network.now report.now.octets notes end
+        → result ≡ cause_at notes number }
+{
+    match report.record(network, number) {
+        Some(note) => cause_of(&note.body),
+        None => 0,
+    }
+}
+
 /// Flags the cause of the record of this number, where that has a flag.
 fn pass_on(network: &Network, report: &AuditedReport, number: u64, flags: &mut Vec<bool>)
     requires named { IsNamed network.now }
@@ -81,12 +96,9 @@ fn pass_on(network: &Network, report: &AuditedReport, number: u64, flags: &mut V
     ensures { (notes : List NoteValue) (end : UnitsValue) → IsReportOf network.now report.now.octets notes end
         → flags.new.items ≡ passed_on notes number flags.old.items }
 {
-    if !flag_at(flags.as_slice(), number) {
-        return;
-    }
-    match report.record(network, number) {
-        Some(note) => set_flag(flags, cause_of(&note.body)),
-        None => (),
+    if flag_at(flags.as_slice(), number) {
+        let cause = cause_at(network, report, number);
+        set_flag(flags, cause);
     }
 }
 

@@ -111,8 +111,7 @@ fn draw_accepted<B: Source, K: Sink>(
         (PutFailed K.Sink out.old out.new) }
     ensures unread { LeavesNamed accepted.now name.now (second.new ≡ second.old) }
 {
-    let network = accepted.network();
-    match subject_named(network, name) {
+    match subject_named(accepted.network(), name) {
         Some(subject) => {
             let command = DrawKept { part, subject };
             answer_accepted(alloc, accepted, second, &command, out)

@@ -12,10 +12,13 @@ pub(crate) fn span_of(network: &Network, part: Part) -> Span
 {
     match part {
         Part::Cycle { number } => {
+            let number = u64::from(number);
             let cycle = network.cycle.0.unsigned_abs();
-            let from = number.saturating_mul(cycle);
-            let to = from.saturating_add(cycle.saturating_sub(1));
-            Span { from, to }
+            let next = (number + 1).saturating_mul(cycle);
+            Span {
+                from: number.saturating_mul(cycle),
+                to: next.saturating_sub(1),
+            }
         }
         Part::Times { from, to } => Span { from, to },
     }

@@ -235,7 +235,7 @@ fn words_of_why_are_read(rt: HostRuntime) -> Result<(), Fail> {
 }
 
 // Cycles that are drawn.
-const CYCLES: &[(&str, u64)] = &[("0", 0), ("99", 99), ("1048576", 1_048_576)];
+const CYCLES: &[(&str, u32)] = &[("0", 0), ("99", 99), ("1048576", 1_048_576)];
 
 // Parts of runs, by their times: a millisecond is 1,000 us, and one of 65,536,000 units.
 const TIMES: &[(&str, &str, u64, u64)] = &[

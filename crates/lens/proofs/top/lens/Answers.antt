@@ -2,8 +2,8 @@ use Rattle.{lens.proofs.TopAnswers.{no_usage_for, words_as}, tte_forms.{proofs.F
 use Rattle.lens.specs.{Forms.form_of, Questions.EndsFor, declared.forms.Form.TheVariants.{DrawNamed, Events, Latency, Least, Plan, Report, Sheet, Slack, SlackOf}}
 use Rattle.lens_plan.specs.Answer.{IsPlanStatus}
 use Rattle.lens.{proofs.draw_lemmas.Naming.{named_completed, named_safely}, specs.{Top.{AnswersReports, AnswersSafely, FailsToRead, LeavesSecond}, declared.forms.Form.Form, draw.Naming.IsNamedStatus}}
-use Rattle.{std.specs.Prelude.Option, tte_forms.specs.Faults.HasCause}
-use Rattle.{std.proofs.Common.{◌≡◌, ◌⊎◌, None, Some, inl, inr, rules, subst}, tte_forms.specs.networks.Checking.IsCheckStatus}
+use Rattle.{std.specs.Prelude.Option, tte_forms.specs.{Faults.HasCause, declared.status.Status.Status}}
+use Rattle.{std.proofs.Common.{◌≡◌, ◌⊎◌, List, None, Some, inl, inr, rules, subst, ℕ}, tte_forms.specs.networks.Checking.IsCheckStatus}
 use Rattle.lens.proofs.top.lens.Goals as goal
 
 pub returns-in-Some-Slack-clause-general : goal.returns-in-Some-Slack-clause-general
@@ -71,6 +71,18 @@ returns-in-Some-Report-clause-general g c =
       c.answer_report.ensures.general,
     )
 
+-- what is said of the form is said of the words
+faults_as : {f form : Option Form} → f ≡ form → (status : Status) (A B U R P : Type 0) → HasCause status (FailsToRead f A B U R) P
+    → HasCause status (FailsToRead form A B U R) P
+faults_as {f} {form} same status A B U R P h = subst (λ (x : Option Form). HasCause status (FailsToRead x A B U R) P) same h
+
+second_as : {f form : Option Form} → f ≡ form → (first : Option (List ℕ)) (Unread : Type 0) → LeavesSecond f first Unread → LeavesSecond form first Unread
+second_as {f} {form} same first Unread h = subst (λ (x : Option Form). LeavesSecond x first Unread) same h
+
+reports_as : {f form : Option Form} → f ≡ form → (first second : Option (List ℕ)) (S K : Type 0) (status : Status)
+    → AnswersReports f first second S K status → AnswersReports form first second S K status
+reports_as {f} {form} same first second S K status h = subst (λ (x : Option Form). AnswersReports x first second S K status) same h
+
 pub returns-in-Some-DrawNamed-clause-general : goal.returns-in-Some-DrawNamed-clause-general
 returns-in-Some-DrawNamed-clause-general g c =
     let same : Some (DrawNamed c.in-Some-DrawNamed.part c.in-Some-DrawNamed.name) ≡ form_of c.args.words.now = search rules in
@@ -93,14 +105,14 @@ returns-in-Some-DrawNamed-clause-safe g c =
 pub returns-in-Some-DrawNamed-clause-faults : goal.returns-in-Some-DrawNamed-clause-faults
 returns-in-Some-DrawNamed-clause-faults g c =
     let same : Some (DrawNamed c.in-Some-DrawNamed.part c.in-Some-DrawNamed.name) ≡ form_of c.args.words.now = search rules in
-    subst (λ (f : Option Form). HasCause c.draw_named.result (FailsToRead f _ _ _ _) _) same c.draw_named.ensures.faults
+    faults_as same c.draw_named.result _ _ _ _ _ c.draw_named.ensures.faults
 
 pub returns-in-Some-DrawNamed-clause-second : goal.returns-in-Some-DrawNamed-clause-second
 returns-in-Some-DrawNamed-clause-second g c =
     let same : Some (DrawNamed c.in-Some-DrawNamed.part c.in-Some-DrawNamed.name) ≡ form_of c.args.words.now = search rules in
     let text = c.text.ensures in
     let form : Some (DrawNamed c.in-Some-DrawNamed.part c.text.result.now) ≡ form_of c.args.words.now = cc in
-    subst (λ (f : Option Form). LeavesSecond f (g.A.Source.left c.args.first.now) _) form c.draw_named.ensures.second
+    second_as form (g.A.Source.left c.args.first.now) _ c.draw_named.ensures.second
 
 -- a read that failed raised one of the counts
 read_rose : {F U V T W : Type 0} → (F × U × V) ⊎ (T × W) → F ⊎ T
@@ -115,7 +127,7 @@ returns-in-Some-DrawNamed-clause-complete g c =
     let first = g.A.Source.left c.args.first.now in
     let second = g.B.Source.left c.args.second.now in
     let shown = shown_by g.K.Sink in
-    subst (λ (f : Option Form). AnswersReports f first second _ _ c.draw_named.result) form
+    reports_as form first second _ _ c.draw_named.result
     (named_completed c.in-Some-DrawNamed.part c.text.result.now first second c.draw_named.result (shown c.args.out.now) (shown c.draw_named.new.out) _ _
     c.draw_named.ensures.general (λ e. read_rose (c.draw_named.ensures.faults.read e)) c.draw_named.ensures.faults.write)
 

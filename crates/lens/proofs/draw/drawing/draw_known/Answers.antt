@@ -1,6 +1,6 @@
 use Rattle.{lens.proofs.draw_lemmas.Asking.report_askable, run_law.specs.records.Happenings.happenings, std.proofs.Common.{◌∙◌, ap, inl, refl, subst, sym}}
 use Rattle.{lens.specs.draw.{Answer.draw_answer, Asking.IsAskable, Picture.clocks_of}, lens_svg.specs.Windows.windows_in, tte_audit.specs.Report.events_of}
-use Rattle.{lens_svg.specs.Plan.Plan, std.specs.Prelude.All}
+use Rattle.{lens_svg.specs.{Plan.Plan, Views.View}, std.specs.Prelude.All}
 use Rattle.lens.proofs.draw.drawing.draw_known.Goals as goal
 
 pub draft_of-requires-clause-report : goal.draft_of-requires-clause-report
@@ -14,8 +14,9 @@ pub windows_of-requires-clause-askable : goal.windows_of-requires-clause-askable
 windows_of-requires-clause-askable g c =
     let network = c.args.network.now in
     let r = c.requires.read.some in
+    let view : View = record { span = c.args.span; kept = c.args.kept } in
     let draft = c.in-Ok.ensures r.0 r.1 r.2 in
-    subst (λ (p : Plan). All (IsAskable network) p.marks) (sym draft.sketch) (report_askable network _ c.args.report.now.octets r.0 r.1 r.2)
+    subst (λ (p : Plan). All (IsAskable network) p.marks) (sym draft.sketch) (report_askable network view c.args.report.now.octets r.0 r.1 r.2)
 
 pub put_sketch-requires-clause-left : goal.put_sketch-requires-clause-left
 put_sketch-requires-clause-left g c = let r = c.requires.read.some in (r.0, c.records.ensures c.args.network.now r.0 r.1 r.2)
@@ -23,11 +24,12 @@ put_sketch-requires-clause-left g c = let r = c.requires.read.some in (r.0, c.re
 pub returns-in-Ok-windows_of-clause-gives : goal.returns-in-Ok-windows_of-clause-gives
 returns-in-Ok-windows_of-clause-gives g c notes end of =
     let network = c.args.network.now in
+    let view : View = record { span = c.args.span; kept = c.args.kept } in
     let draft = c.in-Ok.ensures notes end of in
     let windows = c.deref.ensures.value ∙ c.in-Ok-windows_of.ensures (events_of notes) (happenings network notes) (c.requires.read.index notes end of)
     ∙ ap (λ (p : Plan). windows_in network (clocks_of network notes) p.marks) draft.sketch in
     inl (
-      draw_answer network _ notes,
+      draw_answer network view notes,
       refl,
-      c.put_sketch.ensures.gives notes _ (c.records.ensures network notes end of) draft.sketch windows draft.clocks,
+      c.put_sketch.ensures.gives notes view (c.records.ensures network notes end of) draft.sketch windows draft.clocks,
     )

@@ -1,4 +1,3 @@
-use Rattle.lens.specs.draw.Keeping.{AreOwn}
 use Rattle.{lens.proofs.draw_lemmas.Keeping.IsSpread, run_law.specs.declared.note.Note.Note, std.proofs.Common.List}
 use Rattle.{tte_reports.specs.Reports.IsReportOf, tte_units.specs.declared.units.Units.Units}
 use Rattle.lens.proofs.draw.flags.kept_flags.Given as goal
@@ -8,4 +7,4 @@ decreases-records l = l.number
 
 abbrev pub invariant-records : goal.invariant-records
 invariant-records l =
-    (notes : List Note) (end : Units) → IsReportOf l.network l.report.octets notes end → IsSpread l.network l.subject notes l.number l.flags.items
+    (notes : List Note) (end : Units) → IsReportOf l.network l.report.octets notes end → IsSpread l.network l.fn.subject notes l.number l.flags.items

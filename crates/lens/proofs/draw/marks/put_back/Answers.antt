@@ -7,7 +7,7 @@ use Rattle.lens.proofs.draw.marks.put_back.Goals as goal
 pub records-init : goal.records-init
 records-init g c = record {
   marked = λ notes left. subst (λ (ms : List Mark). IsMarked c.args.network.now c.args.sketch.now.view c.args.sketch.now.marks notes c.args.first ms
-      (shown_by g.K.Sink c.args.out.now) (shown_by g.K.Sink c.args.out.now)) (sym c.marks.ensures)
+      (shown_by g.K.Sink c.args.out.now) (shown_by g.K.Sink c.args.out.now)) (sym c.marks-marks.ensures)
       (marked_first c.args.network.now c.args.sketch.now.view c.args.sketch.now.marks notes c.args.first (shown_by g.K.Sink c.args.out.now) left);
   quiet = refl;
 }

@@ -1,7 +1,7 @@
 use Rattle.{lens.{proofs.draw_lemmas.Parts.draws_one, specs.draw.Picture.first_line}, lens_svg.specs.Marking.mark_line, tte_forms.specs.Putting.shown_by}
 use Rattle.{lens.specs.draw.Putting.Draws, lens_svg.specs.declared.mark.Mark.Mark, net_plan.specs.declared.network.Network.Network}
 use Rattle.{run_law.specs.declared.note.Note.Note, std.specs.Prelude.slice_get}
-use Rattle.std.proofs.Common.{◌∙◌, ◌∷◌, ◌≡◌, List, Some, [], ap, refl, subst, sym, ℕ}
+use Rattle.std.proofs.Common.{◌∙◌, ◌∷◌, ◌≡◌, List, Some, [], ap, subst, sym, ℕ}
 use Rattle.lens.proofs.draw.marks.put_first.Goals as goal
 
 first_is : (network : Network) (marks : List Mark) (mark : Mark) (note : Note) → slice_get marks 0 ≡ Some mark

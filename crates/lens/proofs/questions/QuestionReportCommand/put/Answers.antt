@@ -21,7 +21,7 @@ returns-in-Draw-clause-gives g c notes end of =
     subst (λ (q : Question). GivesAnswer (λ (a : Answer). IsQuestionAnswer q c.args.network.now notes end a) c.put-in-Draw.result (shown c.args.out.now)
     (shown c.put-in-Draw.new.out)) (sym c.in-Draw.is)
     (subst (λ (s : Span). GivesAnswer (λ (a : Answer). IsDrawAnswer s c.args.network.now notes end a) c.put-in-Draw.result (shown c.args.out.now)
-    (shown c.put-in-Draw.new.out)) c.span_of.ensures (c.put-in-Draw.ensures.gives notes end of))
+    (shown c.put-in-Draw.new.out)) c.span_of-span.ensures (c.put-in-Draw.ensures.gives notes end of))
 
 pub returns-in-Page-clause-gives : goal.returns-in-Page-clause-gives
 returns-in-Page-clause-gives g c notes end of =
