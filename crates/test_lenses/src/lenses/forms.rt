@@ -136,15 +136,39 @@ const INEQUALITIES: &[(&str, Rule)] = &[
     ("23", Rule::Forwarding),
 ];
 
-// Words are read as such a form.
-fn try_form(
-    rt: &impl Abort,
-    alloc: Global,
-    texts: &[&str],
-    is: impl Fn(&Form<'_>) -> bool,
-) -> Result<(), Fail> {
+/// What words are read as, but for a name.
+#[derive(Drop, PartialEq)]
+enum Read {
+    Slack,
+    SlackOf(Rule),
+    Least,
+    Sheet,
+    Latency,
+    Plan,
+    Report(Question),
+    Named(Part),
+    Events(u64, u32),
+}
+
+fn read_of(form: &Form<'_>) -> Read {
+    match form {
+        Form::Slack => Read::Slack,
+        Form::SlackOf(rule) => Read::SlackOf(*rule),
+        Form::Least => Read::Least,
+        Form::Sheet => Read::Sheet,
+        Form::Latency => Read::Latency,
+        Form::Plan => Read::Plan,
+        Form::Report(question) => Read::Report(*question),
+        Form::DrawNamed { part, .. } => Read::Named(*part),
+        Form::Events { seed, cycles } => Read::Events(*seed, *cycles),
+    }
+}
+
+// Words are read so.
+fn try_form(rt: &impl Abort, alloc: Global, texts: &[&str], wanted: Read) -> Result<(), Fail> {
     let words = words_of(alloc, texts)?;
-    assert!(rt; read_form(&words).is_some_and(|form| is(&form)));
+    let form = read_form(&words).ok_or("the words have no form")?;
+    assert!(rt; read_of(&form) == wanted);
     Ok(())
 }
 
@@ -155,31 +179,26 @@ fn try_question(
     texts: &[&str],
     question: Question,
 ) -> Result<(), Fail> {
-    try_form(
-        rt,
-        alloc,
-        texts,
-        |form| matches!(form, Form::Report(found) if *found == question),
-    )
+    try_form(rt, alloc, texts, Read::Report(question))
+}
+
+// The name that is asked for.
+fn try_name(rt: &impl Abort, alloc: Global, texts: &[&str], wanted: &str) -> Result<(), Fail> {
+    let words = words_of(alloc, texts)?;
+    let named = match read_form(&words) {
+        Some(Form::DrawNamed { name, .. }) => name.text() == wanted,
+        Some(_) | None => false,
+    };
+    assert!(rt; named);
+    Ok(())
 }
 
 #[test]
 fn words_of_slack_are_read(rt: HostRuntime) -> Result<(), Fail> {
     let alloc = rt.alloc();
-    try_form(
-        &rt,
-        alloc,
-        &["slack", "a"],
-        |form| matches!(form, Form::Slack),
-    )?;
+    try_form(&rt, alloc, &["slack", "a"], Read::Slack)?;
     for (number, rule) in INEQUALITIES {
-        let words = ["slack", "a", number];
-        try_form(
-            &rt,
-            alloc,
-            &words,
-            |form| matches!(form, Form::SlackOf(of) if of == rule),
-        )?;
+        try_form(&rt, alloc, &["slack", "a", number], Read::SlackOf(*rule))?;
     }
     Ok(())
 }
@@ -187,30 +206,10 @@ fn words_of_slack_are_read(rt: HostRuntime) -> Result<(), Fail> {
 #[test]
 fn words_of_a_network_and_of_messages_are_read(rt: HostRuntime) -> Result<(), Fail> {
     let alloc = rt.alloc();
-    try_form(
-        &rt,
-        alloc,
-        &["least", "a"],
-        |form| matches!(form, Form::Least),
-    )?;
-    try_form(
-        &rt,
-        alloc,
-        &["latency", "a"],
-        |form| matches!(form, Form::Latency),
-    )?;
-    try_form(
-        &rt,
-        alloc,
-        &["sheet", "a"],
-        |form| matches!(form, Form::Sheet),
-    )?;
-    try_form(
-        &rt,
-        alloc,
-        &["plan", "a", "b"],
-        |form| matches!(form, Form::Plan),
-    )
+    try_form(&rt, alloc, &["least", "a"], Read::Least)?;
+    try_form(&rt, alloc, &["latency", "a"], Read::Latency)?;
+    try_form(&rt, alloc, &["sheet", "a"], Read::Sheet)?;
+    try_form(&rt, alloc, &["plan", "a", "b"], Read::Plan)
 }
 
 #[test]
@@ -299,11 +298,9 @@ const NAMED: &[(&[&str], Part, &str)] = &[
 
 #[test]
 fn words_of_draw_with_a_name_are_read(rt: HostRuntime) -> Result<(), Fail> {
-    for (words, wanted, text) in NAMED {
-        let is = |form: &Form<'_>| {
-            matches!(form, Form::DrawNamed { part, name } if part == wanted && name.text() == *text)
-        };
-        try_form(&rt, rt.alloc(), words, is)?;
+    for (words, part, name) in NAMED {
+        try_form(&rt, rt.alloc(), words, Read::Named(*part))?;
+        try_name(&rt, rt.alloc(), words, name)?;
     }
     Ok(())
 }
@@ -311,10 +308,7 @@ fn words_of_draw_with_a_name_are_read(rt: HostRuntime) -> Result<(), Fail> {
 #[test]
 fn words_of_events_are_read(rt: HostRuntime) -> Result<(), Fail> {
     for (texts, seed, cycles) in EVENTS {
-        let is = |form: &Form<'_>| {
-            matches!(form, Form::Events { seed: s, cycles: c } if s == seed && c == cycles)
-        };
-        try_form(&rt, rt.alloc(), texts, is)?;
+        try_form(&rt, rt.alloc(), texts, Read::Events(*seed, *cycles))?;
     }
     Ok(())
 }
