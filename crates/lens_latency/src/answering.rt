@@ -2,6 +2,7 @@ ghost use Rattle.std.specs.Prelude.{◌≡◌, ◌≢◌, All};
 ghost use Rattle.lens_latency.specs.Answer.{IsLatencyAnswer, IsLatencyOf, IsLatencyReport, latency_answer, told_answer};
 ghost use Rattle.{lens_latency.specs.Comings.HasNames, net_plan.specs.Ranges.IsInRange, tte_forms.specs.Putting.Over};
 ghost use Rattle.tte_forms.specs.{Answering.{AnswersOne, Gives, GivesAnswer}, networks.Checking.IsCheckStatus};
+ghost use Rattle.tte_forms.specs.{Taking.TakesUpTo, frames.Answer.file_limit};
 ghost use Rattle.tte_forms.specs.Faults.{HasCause, IsWanted, PutFailed, ReadFailed};
 ghost use Rattle.tte_reports.specs.Answer.{IsAuditStatus};
 
@@ -26,6 +27,7 @@ pub fn latency_of_network<A: Source, K: Sink>(alloc: Global, source: &mut A, out
     // Where the source failed, nothing was written.
     ensures faults { HasCause result (ReadFailed A.Source source.old source.new × (out.new ≡ out.old))
         (PutFailed K.Sink out.old out.new) }
+    ensures taken { TakesUpTo file_limit (A.left source.old) (A.left source.new) }
 {
     match accept(alloc, source) {
         Ok(accepted) => put_latency_of(alloc, &accepted, out),

@@ -6,7 +6,7 @@ ghost use Rattle.lens_plan.specs.{joining.Joined.joined, places.{Fitting.IsAsked
 ghost use Rattle.lens_plan.specs.text.Refusals.{HasExcess, excess_line, short_line};
 ghost use Rattle.tte_forms.specs.Answering.{ForOctets, Gives, GivesAnswer, line_answer};
 ghost use Rattle.tte_forms.specs.Faults.{HasCause, IsWanted, PutFailed, ReadFailed};
-ghost use Rattle.tte_forms.specs.{Putting.Over, frames.Answer.file_limit};
+ghost use Rattle.tte_forms.specs.{Putting.Over, Taking.TakesUpTo, frames.Answer.file_limit};
 ghost use Rattle.{lens_plan.specs.Reading.MeansItsText, tte_forms.specs.networks.Accepting.{ForAccepted, too_long_answer}};
 
 use crate::joining::{NoJoin, joined_octets, means_planned};
@@ -43,7 +43,9 @@ pub fn plan_of_network<A: Source, B: Source, K: Sink>(
         ⊎ (ReadFailed B.Source second.old second.new × (out.new ≡ out.old)))
         (PutFailed K.Sink out.old out.new) }
     // The messages are read only for an accepted network.
-    ensures second { (second.new ≡ second.old) ⊎ ForAccepted (A.left first.old) (λ network. IsInRange network) }
+    ensures takes { TakesUpTo file_limit (A.left first.old) (A.left first.new)
+        × ((second.new ≡ second.old) ⊎ ForAccepted (A.left first.old) (λ network.
+        TakesUpTo file_limit (B.left second.old) (B.left second.new))) }
 {
     match accept_text_of(alloc, first) {
         Ok(file) => plan_of_accepted(alloc, &file, second, out),
@@ -64,6 +66,7 @@ fn plan_of_accepted<B: Source, K: Sink>(
     ensures statuses { IsPlanStatus result }
     ensures cause { HasCause result (ReadFailed B.Source second.old second.new × (out.new ≡ out.old))
         (PutFailed K.Sink out.old out.new) }
+    ensures taken { TakesUpTo file_limit (B.left second.old) (B.left second.new) }
 {
     match messages_of(alloc, file.accepted.network(), second) {
         Ok(messages) => plan_of_messages(alloc, file, messages.as_slice(), out),

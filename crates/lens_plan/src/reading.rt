@@ -5,7 +5,7 @@ ghost use Rattle.lens_plan.specs.{Answer.IsPlanStatus, Reading.{IsNoMessages, Me
 ghost use Rattle.tte_forms.specs.Answering.{ForOctets, Gives};
 ghost use Rattle.tte_forms.specs.Faults.{HasCause, PutFailed, ReadFailed};
 ghost use Rattle.tte_forms.specs.{Putting.{Over, PutsNone}, frames.Answer.file_limit};
-ghost use Rattle.tte_forms.specs.networks.NoNetworks.{IsNoNetwork};
+ghost use Rattle.tte_forms.specs.{Taking.TakesUpTo, networks.NoNetworks.IsNoNetwork};
 
 use crate::text::make_line_refusal;
 use crate::{Message, NoMessages, RefusedLine, read_messages};
@@ -34,6 +34,7 @@ pub(crate) fn accept_text_of<A: Source>(
     ensures octets { IfOk result (λ file. ForOctets (A.left source.old) (λ octets. file.octets ≡ octets)) }
     ensures none { IfErr result (λ cause. ForOctets (A.left source.old) (λ octets. IsNoNetwork octets cause)) }
     ensures read { result ≡ Err NoNetwork.ReadFault → ReadFailed A.Source source.old source.new }
+    ensures taken { TakesUpTo file_limit (A.left source.old) (A.left source.new) }
 {
     match read_all(alloc, source, FILE_LIMIT) {
         Ok(octets) => accept_octets(alloc, octets),
@@ -81,6 +82,7 @@ pub(crate) fn messages_of<B: Source>(
     ensures asked { IfOk result (λ ms. All (IsAsked network.now) ms.items) }
     ensures none { IfErr result (λ cause. ForOctets (B.left source.old) (λ text. IsNoMessages network.now text cause)) }
     ensures fault { result ≡ Err NoMessageFile.ReadFault → ReadFailed B.Source source.old source.new }
+    ensures taken { TakesUpTo file_limit (B.left source.old) (B.left source.new) }
 {
     match read_all(alloc, source, FILE_LIMIT) {
         Ok(octets) => messages_in(alloc, network, octets.as_slice()),

@@ -3,6 +3,7 @@ ghost use Rattle.lens_sheet.specs.Answer.{IsSheetAnswer, IsSheetOf, sheet_answer
 ghost use Rattle.lens_sheet.specs.{Sheet.IsWritable, Weights.AreSmall};
 ghost use Rattle.{net_plan.specs.Ranges.IsInRange, tte_forms.specs.Putting.Over};
 ghost use Rattle.tte_forms.specs.{Answering.{AnswersOne, Gives, GivesAnswer}, networks.Checking.IsCheckStatus};
+ghost use Rattle.tte_forms.specs.{Taking.TakesUpTo, frames.Answer.file_limit};
 ghost use Rattle.tte_forms.specs.Faults.{HasCause, IsWanted, PutFailed, ReadFailed};
 
 use crate::lines::make_sheet_line;
@@ -25,6 +26,7 @@ pub fn sheet_of_network<A: Source, K: Sink>(alloc: Global, source: &mut A, out: 
     // Where the source failed, nothing was written.
     ensures faults { HasCause result (ReadFailed A.Source source.old source.new × (out.new ≡ out.old))
         (PutFailed K.Sink out.old out.new) }
+    ensures taken { TakesUpTo file_limit (A.left source.old) (A.left source.new) }
 {
     match accept(alloc, source) {
         Ok(accepted) => put_sheet_of(alloc, &accepted, out),

@@ -4,8 +4,9 @@ ghost use Rattle.lens_slack.specs.Answer.{IsFileAnswer, IsSlackAnswer, IsSlackAn
 ghost use Rattle.lens_slack.specs.{Answer.{ending_answer, ending_status, found_answer, told_of}, Finds.shorts_of};
 ghost use Rattle.lens_slack.specs.{Writing.{HasEndingPlace, HasPlace, IsWritable}, Inequalities.IsInequality};
 ghost use Rattle.{net_plan.specs.Ranges.IsInRange, tte_forms.specs.Faults.{HasCause, IsWanted, PutFailed, ReadFailed}};
-ghost use Rattle.tte_forms.specs.{Answering.{AnswersOne, Gives, GivesAnswer}, Putting.Over};
+ghost use Rattle.tte_forms.specs.{Answering.{AnswersOne, Gives, GivesAnswer}, Putting.Over, Taking.TakesUpTo};
 ghost use Rattle.tte_forms.specs.networks.{Checking.IsCheckStatus, NetworkLine.{network_refusal_line, rule_reason}};
+ghost use Rattle.tte_forms.specs.frames.Answer.{file_limit};
 
 use crate::Finding;
 use crate::lines::{make_finding_line, make_place_line, make_sum_line};
@@ -28,6 +29,7 @@ pub fn slack_of_network<A: Source, K: Sink>(alloc: Global, source: &mut A, out: 
     // Where the source failed, nothing was written.
     ensures faults { HasCause result (ReadFailed A.Source source.old source.new × (out.new ≡ out.old))
         (PutFailed K.Sink out.old out.new) }
+    ensures taken { TakesUpTo file_limit (A.left source.old) (A.left source.new) }
 {
     slack_by(alloc, source, &ALL, out)
 }
@@ -44,6 +46,7 @@ pub fn slack_of_rule<A: Source, K: Sink>(
     ensures statuses { IsCheckStatus result }
     ensures faults { HasCause result (ReadFailed A.Source source.old source.new × (out.new ≡ out.old))
         (PutFailed K.Sink out.old out.new) }
+    ensures taken { TakesUpTo file_limit (A.left source.old) (A.left source.new) }
 {
     slack_by(alloc, source, steps_of(rule), out)
 }
@@ -60,6 +63,7 @@ fn slack_by<A: Source, K: Sink>(
     ensures statuses { IsCheckStatus result }
     ensures faults { HasCause result (ReadFailed A.Source source.old source.new × (out.new ≡ out.old))
         (PutFailed K.Sink out.old out.new) }
+    ensures taken { TakesUpTo file_limit (A.left source.old) (A.left source.new) }
 {
     match read_unjudged(alloc, source) {
         Ok(network) => put_slack_of(alloc, &network, steps, out),

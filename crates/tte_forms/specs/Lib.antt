@@ -4,6 +4,7 @@ pub mod Faults
 pub mod Putting
 pub mod Answering
 pub mod Safely
+pub mod Taking
 pub mod Forms
 pub mod frames
 pub mod networks

@@ -2,7 +2,7 @@ ghost use Rattle.std.specs.Prelude.{◌≡◌, ◌≢◌, ◌≤◌, ◌⊎◌, 
 ghost use Rattle.net_plan.specs.Ranges.{IsInRange};
 ghost use Rattle.tte_forms.specs.{Answering.{ForOctets, Gives}, Putting.{Over, PutsNone}, frames.Answer.file_limit};
 ghost use Rattle.tte_forms.specs.{Faults.{PutFailed, ReadFailed}, networks.Accepting.{MeansAccepted, MeansNetwork}};
-ghost use Rattle.tte_forms.specs.networks.NoNetworks.{IsNoNetwork, IsUnread, no_network_answer};
+ghost use Rattle.tte_forms.specs.{Taking.TakesUpTo, networks.NoNetworks.{IsNoNetwork, IsUnread, no_network_answer}};
 
 pub(crate) mod network_line;
 
@@ -42,6 +42,7 @@ pub fn accept<A: Source>(alloc: Global, source: &mut A) -> Result<Accepted, NoNe
     ensures range { IfOk result IsInRange }
     ensures none { IfErr result (λ cause. ForOctets (A.left source.old) (λ octets. IsNoNetwork octets cause)) }
     ensures read { result ≡ Err NoNetwork.ReadFault → ReadFailed A.Source source.old source.new }
+    ensures taken { TakesUpTo file_limit (A.left source.old) (A.left source.new) }
 {
     match read_all(alloc, source, LIMIT) {
         Ok(octets) => accept_text(alloc, octets.as_slice()),
@@ -81,6 +82,7 @@ pub fn read_unjudged<A: Source>(alloc: Global, source: &mut A) -> Result<Network
     ensures range { IfOk result IsInRange }
     ensures none { IfErr result (λ cause. ForOctets (A.left source.old) (λ octets. IsUnread octets cause)) }
     ensures failed { result ≡ Err NoNetwork.ReadFault → ReadFailed A.Source source.old source.new }
+    ensures taken { TakesUpTo file_limit (A.left source.old) (A.left source.new) }
 {
     match read_all(alloc, source, LIMIT) {
         Ok(octets) => unjudged_text(alloc, octets.as_slice()),

@@ -1,5 +1,6 @@
 ghost use Rattle.std.specs.Prelude.{◌≡◌};
-ghost use Rattle.tte_forms.specs.{Answering.{AnswersOne, GivesAnswer}, Faults.{IsWanted, PutFailed, ReadFailed}};
+ghost use Rattle.tte_forms.specs.{Answering.{AnswersOne, GivesAnswer}, Taking.TakesUpTo, frames.Answer.file_limit};
+ghost use Rattle.tte_forms.specs.Faults.{HasCause, IsWanted, PutFailed, ReadFailed};
 ghost use Rattle.tte_forms.specs.{Putting.Over, networks.Checking.{IsAcceptance, IsCheckAnswer, IsCheckStatus}};
 
 use crate::Status;
@@ -15,9 +16,10 @@ use tte_io::{LineText, Sink, Source};
 pub fn check_network<A: Source, K: Sink>(alloc: Global, source: &mut A, out: &mut K) -> Status
     ensures general { Over K.Sink out.old out.new (AnswersOne IsCheckAnswer (A.left source.old) result) }
     ensures statuses { IsCheckStatus result }
-    ensures read { result ≡ Status.ReadFault → ReadFailed A.Source source.old source.new }
-    ensures unread { result ≡ Status.ReadFault → out.new ≡ out.old }
-    ensures write { result ≡ Status.WriteFault → PutFailed K.Sink out.old out.new }
+    // Where the source failed, nothing was written.
+    ensures faults { HasCause result (ReadFailed A.Source source.old source.new × (out.new ≡ out.old))
+        (PutFailed K.Sink out.old out.new) }
+    ensures taken { TakesUpTo file_limit (A.left source.old) (A.left source.new) }
 {
     match accept(alloc, source) {
         Ok(accepted) => put_acceptance(&accepted, out),

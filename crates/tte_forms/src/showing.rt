@@ -1,6 +1,7 @@
 ghost use Rattle.std.specs.Prelude.{◌*◌, ◌<◌, ◌^◌, ◌≡◌, ◌≢◌, ◌≤◌, length};
 ghost use Rattle.{pcf_codec.specs.Spelling.pcf_length, tte_forms.specs.{Answering.{Answers, Gives}, Putting.Over}};
-ghost use Rattle.tte_forms.specs.{Faults.{PutFailed, ReadFailed}, frames.{Answer.show_answer, Law.ShowsFrames}};
+ghost use Rattle.tte_forms.specs.Taking.{TakesUpTo};
+ghost use Rattle.tte_forms.specs.{Faults.{HasCause, PutFailed, ReadFailed}, frames.{Answer.show_answer, Law.ShowsFrames}};
 ghost use Rattle.tte_forms.specs.frames.Answer.{IsShowStatus, file_limit, frame_at, frame_count, frames_answer};
 
 mod frame_line;
@@ -21,9 +22,10 @@ use tte_io::{LineText, ReadAll, Sink, Source, read_all};
 pub fn show<A: Source, K: Sink>(alloc: Global, source: &mut A, out: &mut K) -> Status
     ensures general { Over K.Sink out.old out.new (Answers show_answer (A.left source.old) result) }
     ensures statuses { IsShowStatus result }
-    ensures read { result ≡ Status.ReadFault → ReadFailed A.Source source.old source.new }
-    ensures unread { result ≡ Status.ReadFault → out.new ≡ out.old }
-    ensures write { result ≡ Status.WriteFault → PutFailed K.Sink out.old out.new }
+    // Where the source failed, nothing was written.
+    ensures faults { HasCause result (ReadFailed A.Source source.old source.new × (out.new ≡ out.old))
+        (PutFailed K.Sink out.old out.new) }
+    ensures taken { TakesUpTo file_limit (A.left source.old) (A.left source.new) }
 {
     match read_all(alloc, source, LIMIT) {
         Ok(octets) => show_frames(octets.as_slice(), out),

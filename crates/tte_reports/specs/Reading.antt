@@ -1,12 +1,12 @@
 -- How much of a report was read.
-use Rattle.std.specs.{Io.KnownBytes.IsAtEnd, Prelude.{◌+◌, ◌≡◌, ◌⊎◌, List, Option, ℕ}}
+use Rattle.std.specs.{Io.KnownBytes.IsAtEnd, Prelude.{◌≡◌, ◌⊎◌, List, Option, ℕ}}
 use Rattle.tte_forms.specs.declared.status.Status.{Status, TheVariants.{AuditRefused, Done}}
-use Rattle.{tte_forms.specs.networks.Accepting.ForAccepted, tte_io.specs.Whole.{TakesAtMost, excess_limit}}
+use Rattle.tte_forms.specs.{Taking.TakesUpTo, networks.Accepting.ForAccepted}
 use Rattle.tte_reports.specs.Answer.{report_limit}
 
 -- octets of a report were taken, at most its limit and the excess; where it was judged, by this status, they are all
 pub record TakesReport (left after : Option (List ℕ)) (status : Status) : Type 0 where
-  pub some : TakesAtMost left after (report_limit + excess_limit)
+  pub some : TakesUpTo report_limit left after
   pub whole : (status ≡ Done) ⊎ (status ≡ AuditRefused) → IsAtEnd after
 
 -- octets of a report were taken, for an accepted network

@@ -1,7 +1,8 @@
 ghost use Rattle.std.specs.Prelude.{◌≡◌, ◌⊎◌};
 ghost use Rattle.tte_forms.specs.{Answering.{ForOctets, Gives, GivesAnswer}, networks.Accepting.IsNetworkAnswer};
 ghost use Rattle.tte_forms.specs.{Faults.{HasCause, IsWanted, PutFailed, ReadFailed}, Putting.Over};
-ghost use Rattle.tte_reports.specs.Answer.{IsAuditStatus, audited_answer};
+ghost use Rattle.{tte_forms.specs.{Taking.TakesUpTo, frames.Answer.file_limit}, tte_reports.specs.Answer.IsAuditStatus};
+ghost use Rattle.tte_reports.specs.Answer.{audited_answer};
 ghost use Rattle.tte_reports.specs.{Reading.ReadsReport, Reports.{IsAuditAnswer, IsAuditedAnswer}, Safely.AuditsSafely};
 
 use crate::audit_line::make_audited_line;
@@ -50,8 +51,9 @@ pub fn audit_report<A: Source, B: Source, K: Sink>(
         ((ReadFailed A.Source first.old first.new × (out.new ≡ out.old) × (second.new ≡ second.old))
         ⊎ (ReadFailed B.Source second.old second.new × (out.new ≡ out.old)))
         (PutFailed K.Sink out.old out.new) }
-    ensures taken { (second.new ≡ second.old)
-        ⊎ ReadsReport (A.left first.old) (B.left second.old) (B.left second.new) result }
+    ensures takes { TakesUpTo file_limit (A.left first.old) (A.left first.new)
+        × ((second.new ≡ second.old)
+        ⊎ ReadsReport (A.left first.old) (B.left second.old) (B.left second.new) result) }
 {
     answer_report(alloc, first, second, &Audit, out)
 }

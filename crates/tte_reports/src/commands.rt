@@ -5,7 +5,7 @@ ghost use Rattle.std.specs.Prelude.{◌≡◌, ◌⊎◌, List};
 ghost use Rattle.net_plan.specs.declared.network.Network.{Network as NetworkValue};
 ghost use Rattle.{tte_reports.specs.Answer.IsAuditStatus, tte_units.specs.declared.units.Units.{Units as UnitsValue}};
 ghost use Rattle.run_law.specs.declared.note.Note.{Note as NoteValue};
-ghost use Rattle.tte_forms.specs.networks.Accepting.{IsNetworkAnswer};
+ghost use Rattle.tte_forms.specs.{Taking.TakesUpTo, frames.Answer.file_limit, networks.Accepting.IsNetworkAnswer};
 ghost use Rattle.tte_forms.specs.{Answering.{ForOctets, GivesAnswer}, Faults.{HasCause, PutFailed, ReadFailed}};
 ghost use Rattle.tte_forms.specs.{Putting.Over, declared.status.Status.{Status as StatusValue}};
 ghost use Rattle.tte_reports.specs.{Commands.{CompletesReport, IsRead}, Reading.{ReadsReport, TakesReport}};
@@ -63,8 +63,9 @@ pub fn answer_report<A: Source, B: Source, K: Sink, C: ReportCommand<K>>(
         ((ReadFailed A.Source first.old first.new × (out.new ≡ out.old) × (second.new ≡ second.old))
         ⊎ (ReadFailed B.Source second.old second.new × (out.new ≡ out.old)))
         (PutFailed K.Sink out.old out.new) }
-    ensures taken { (second.new ≡ second.old)
-        ⊎ ReadsReport (A.left first.old) (B.left second.old) (B.left second.new) result }
+    ensures takes { TakesUpTo file_limit (A.left first.old) (A.left first.new)
+        × ((second.new ≡ second.old)
+        ⊎ ReadsReport (A.left first.old) (B.left second.old) (B.left second.new) result) }
     ensures complete { CompletesReport (C.answers command.now) (A.left first.old) (B.left second.old)
         (ReadFailed A.Source first.old first.new ⊎ ReadFailed B.Source second.old second.new)
         (PutFailed K.Sink out.old out.new) result }

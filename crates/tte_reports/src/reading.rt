@@ -1,7 +1,7 @@
-ghost use Rattle.std.specs.{Io.KnownBytes.IsAtEnd, Prelude.{◌+◌, ◌≡◌, ◌≢◌, ◌≤◌, Err, IfOk, List, MatchResult, length}};
+ghost use Rattle.std.specs.{Io.KnownBytes.IsAtEnd, Prelude.{◌≡◌, ◌≢◌, ◌≤◌, Err, IfOk, List, MatchResult, length}};
 ghost use Rattle.{net_plan.specs.declared.network.Network.{Network as NetworkValue}, tte_forms.specs.Faults.ReadFailed};
 ghost use Rattle.{run_law.specs.declared.note.Note.{Note as NoteValue}, tte_forms.specs.Answering.ForOctets};
-ghost use Rattle.{tte_io.specs.Whole.{TakesAtMost, excess_limit}, tte_reports.specs.Commands.IsRead};
+ghost use Rattle.{tte_forms.specs.Taking.TakesUpTo, tte_reports.specs.Commands.IsRead};
 ghost use Rattle.{tte_reports.specs.Answer.report_limit, tte_units.specs.declared.units.Units.{Units as UnitsValue}};
 ghost use Rattle.tte_reports.specs.{NoReports.{IfJudged, IsNoReport}, Places.note_at, Reports.{AreLeft, IsReportOf}};
 ghost use Rattle.tte_audit.specs.Named.{IsNamed};
@@ -89,7 +89,7 @@ pub fn read_report<B: Source>(
         (λ cause. IsNoReport accepted.now octets cause)) }
     ensures read { IfOk result (IsRead accepted.now) }
     ensures fault { result ≡ Err NoReport.ReadFault → ReadFailed B.Source second.old second.new }
-    ensures taken { TakesAtMost (B.left second.old) (B.left second.new) (report_limit + excess_limit) }
+    ensures taken { TakesUpTo report_limit (B.left second.old) (B.left second.new) }
     // Where the octets were judged, they are all.
     ensures whole { IfJudged result (IsAtEnd (B.left second.new)) }
 {

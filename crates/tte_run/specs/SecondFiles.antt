@@ -1,7 +1,8 @@
--- What the forms do with their second file.
-use Rattle.std.specs.Prelude.{◌≢◌, ◌⊎◌, List, Option, Some, [], ℕ}
-use Rattle.tte_forms.specs.{Answering.ForOctets, declared.form.Form.{Form, TheVariants.{Audit, Run, Stamp, Vote, Wire}}}
+-- What the forms do with their files.
+use Rattle.std.specs.Prelude.{◌≡◌, ◌≢◌, ◌⊎◌, List, None, Option, Some, [], ℕ}
+use Rattle.tte_forms.specs.{Answering.ForOctets, declared.form.Form.{Form, TheVariants.{Audit, Capture, Run, Stamp, Vote, Wire}}}
 use Rattle.tte_forms.specs.{Putting.Shown, declared.status.Status.{Status, TheVariants.GranuleRefused}}
+use Rattle.{tte_forms.specs.{Taking.TakesUpTo, frames.Answer.file_limit}, tte_observers.specs.captures.Answer.capture_limit}
 use Rattle.tte_observers.specs.stamps.Answer.{StampStops, StampTakesLittle}
 use Rattle.tte_observers.specs.votes.Streaming.{IsOfRun, VoteStops, VoteTakesLittle}
 use Rattle.tte_observers.specs.captures.wires.Streaming.{WireStops, WireTakesLittle}
@@ -42,6 +43,16 @@ FormStops (Some (Stamp granule)) first second left old new = StampStops granule 
 FormStops (Some (Wire link way)) first second left old new = WireStops link way first second left old new
 FormStops (Some (Vote one two three)) first second left old new = VoteStops first second left old new
 FormStops other first second left old new = Unit {0}
+
+-- how many octets the first file of a form has at most
+abbrev pub first_limit : Form → ℕ
+first_limit Capture = capture_limit
+first_limit other = file_limit
+
+-- of the first file its limit and a little more are taken at most; words of no form take nothing of it
+abbrev pub TakesFirst : Option Form → Option (List ℕ) → Option (List ℕ) → Type 0
+TakesFirst None left after = after ≡ left
+TakesFirst (Some form) left after = TakesUpTo (first_limit form) left after
 
 -- a trace is read, and by that little more of it than what was put is of; a report is read for an accepted network; and
 -- where there is neither, no second file is read

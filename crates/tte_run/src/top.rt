@@ -1,7 +1,7 @@
 ghost use Rattle.std.specs.Prelude.{◌≡◌, ◌⊎◌};
 ghost use Rattle.tte_forms.specs.{Answering.Gives, Faults.{HasCause, IsWanted, PutFailed, ReadFailed}, Forms.form_of};
 ghost use Rattle.{tte_forms.specs.Putting.Over, tte_reports.specs.Reading.ReadsReport};
-ghost use Rattle.tte_run.specs.SecondFiles.{FailsToRead, FormStops, FormTakesLittle, TakesSecond, second_of};
+ghost use Rattle.tte_run.specs.SecondFiles.{FailsToRead, FormStops, FormTakesLittle, TakesFirst, TakesSecond, second_of};
 ghost use Rattle.tte_run.specs.{Top.{AnswerIsOne, AnswersSafely, AnswersWords, usage_answer}, Whole.Completes};
 
 use crate::audit_report;
@@ -42,7 +42,8 @@ pub fn tte<A: Source, B: Source, K: Sink>(
         (Over K.Sink out.old out.new
         (FormStops (form_of words.now) (A.left first.old) (B.left second.old) (B.left second.new))))
         (PutFailed K.Sink out.old out.new) }
-    ensures second { TakesSecond (second_of (form_of words.now)) (second.new ≡ second.old)
+    ensures takes { TakesFirst (form_of words.now) (A.left first.old) (A.left first.new)
+        × TakesSecond (second_of (form_of words.now)) (second.new ≡ second.old)
         (Over K.Sink out.old out.new
         (FormTakesLittle (form_of words.now) (A.left first.old) (B.left second.old) (B.left second.new) result))
         (ReadsReport (A.left first.old) (B.left second.old) (B.left second.new) result) }

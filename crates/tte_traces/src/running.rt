@@ -1,6 +1,7 @@
 ghost use Rattle.std.specs.Prelude.{◌≡◌, ◌⊎◌};
 ghost use Rattle.tte_forms.specs.{Answering.{ForOctets, GivesAnswer}, Faults.{HasCause, PutFailed, ReadFailed}};
-ghost use Rattle.tte_forms.specs.{Putting.Over, networks.Accepting.IsNetworkAnswer};
+ghost use Rattle.tte_forms.specs.{Putting.Over, Taking.TakesUpTo, frames.Answer.file_limit};
+ghost use Rattle.tte_forms.specs.networks.Accepting.{IsNetworkAnswer};
 ghost use Rattle.tte_traces.specs.{Answer.{IsRunAnswer, IsRunStatus, report_lines}, Ending.RunEnds};
 ghost use Rattle.tte_traces.specs.{Safely.WritesSafely, Streaming.{RunStops, RunTakesLittle}};
 
@@ -30,8 +31,9 @@ pub fn run_trace<A: Source, B: Source, K: Sink>(
         ⊎ (ReadFailed B.Source second.old second.new
         × Over K.Sink out.old out.new (RunStops (A.left first.old) (B.left second.old) (B.left second.new))))
         (PutFailed K.Sink out.old out.new) }
-    ensures little { (second.new ≡ second.old)
-        ⊎ Over K.Sink out.old out.new (RunTakesLittle (A.left first.old) (B.left second.old) (B.left second.new)) }
+    ensures takes { TakesUpTo file_limit (A.left first.old) (A.left first.new)
+        × ((second.new ≡ second.old)
+        ⊎ Over K.Sink out.old out.new (RunTakesLittle (A.left first.old) (B.left second.old) (B.left second.new))) }
 {
     match accept(alloc, first) {
         Ok(accepted) => run_network(alloc, &accepted, second, out),

@@ -2,6 +2,7 @@ ghost use Rattle.std.specs.Prelude.{◌*◌, ◌+◌, ◌^◌, ◌≡◌, ◌≢
 ghost use Rattle.net_plan.specs.Ranges.{IsInRange};
 ghost use Rattle.tte_forms.specs.{Answering.{AnswersOne, Gives, GivesAnswer, line_answer, with_line}, Putting.Over};
 ghost use Rattle.tte_forms.specs.{Faults.{HasCause, IsWanted, PutFailed, ReadFailed}, networks.Checking.IsCheckStatus};
+ghost use Rattle.tte_forms.specs.{Taking.TakesUpTo, frames.Answer.file_limit};
 ghost use Rattle.lens_slack.specs.least.Answer.{IsLeastAnswer, IsLeastOf, room_of, times_answer, with_late};
 
 use crate::least::Times;
@@ -29,6 +30,7 @@ pub fn least_of_network<A: Source, K: Sink>(alloc: Global, source: &mut A, out: 
     // Where the source failed, nothing was written.
     ensures faults { HasCause result (ReadFailed A.Source source.old source.new × (out.new ≡ out.old))
         (PutFailed K.Sink out.old out.new) }
+    ensures taken { TakesUpTo file_limit (A.left source.old) (A.left source.new) }
 {
     match read_unjudged(alloc, source) {
         Ok(network) => put_least_of(&with_late(network), out),

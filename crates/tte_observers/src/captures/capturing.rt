@@ -3,6 +3,7 @@ ghost use Rattle.tte_observers.specs.captures.pcap.{Layout.head_length, Reading.
 ghost use Rattle.tte_forms.specs.{Answering.{Answers, Gives}, Faults.{HasCause, PutFailed, ReadFailed}, Putting.Over};
 ghost use Rattle.tte_observers.specs.captures.Answer.{IsCaptureStatus, capture_answer, capture_limit, opened_answer};
 ghost use Rattle.tte_observers.specs.captures.{Answer.packets_answer, Law.{ShowsOctets, ShowsPackets}};
+ghost use Rattle.tte_forms.specs.Taking.{TakesUpTo};
 
 use crate::captures::capture_line::{
     make_head_refusal_line, make_packet_line, make_packet_refusal_line,
@@ -27,6 +28,7 @@ pub fn capture_file<A: Source, K: Sink>(alloc: Global, source: &mut A, out: &mut
     ensures statuses { IsCaptureStatus result }
     ensures faults { HasCause result (ReadFailed A.Source source.old source.new × (out.new ≡ out.old))
         (PutFailed K.Sink out.old out.new) }
+    ensures taken { TakesUpTo capture_limit (A.left source.old) (A.left source.new) }
 {
     match read_all(alloc, source, LIMIT) {
         Ok(file) => show_file(file.as_slice(), out),

@@ -3,6 +3,7 @@ ghost use Rattle.tte_forms.specs.{Answering.{ForOctets, GivesAnswer}, Putting.Ov
 ghost use Rattle.tte_forms.specs.{Faults.{HasCause, PutFailed, ReadFailed}, networks.Accepting.IsNetworkAnswer};
 ghost use Rattle.tte_observers.specs.stamps.Answer.{IsStampAnswer, IsStampStatus, StampEnds, StampStops};
 ghost use Rattle.tte_observers.specs.stamps.{Answer.StampTakesLittle, Safely.StampsSafely};
+ghost use Rattle.tte_forms.specs.{Taking.TakesUpTo, frames.Answer.file_limit};
 
 use crate::stamps::granules::{Granule, least};
 use crate::stamps::refused_granule::put_refused_granule;
@@ -37,9 +38,10 @@ pub fn stamp_trace<A: Source, B: Source, K: Sink>(
         ⊎ (ReadFailed B.Source second.old second.new
         × Over K.Sink out.old out.new (StampStops granule (A.left first.old) (B.left second.old) (B.left second.new))))
         (PutFailed K.Sink out.old out.new) }
-    ensures little { (second.new ≡ second.old)
+    ensures takes { TakesUpTo file_limit (A.left first.old) (A.left first.new)
+        × ((second.new ≡ second.old)
         ⊎ ((result ≢ Status.GranuleRefused) × Over K.Sink out.old out.new
-        (StampTakesLittle granule (A.left first.old) (B.left second.old) (B.left second.new))) }
+        (StampTakesLittle granule (A.left first.old) (B.left second.old) (B.left second.new)))) }
 {
     match accept(alloc, first) {
         Ok(accepted) => stamp_network(alloc, &accepted, second, granule, out),

@@ -5,6 +5,7 @@ ghost use Rattle.tte_forms.specs.{Faults.{HasCause, PutFailed, ReadFailed}, netw
 ghost use Rattle.tte_observers.specs.votes.{Answer.{IsVoteAnswer, IsVoteStatus, the_names}, Voting.SeesVotes};
 ghost use Rattle.{tte_observers.specs.votes.Ending.{VoteEnds, VotesEnd}, world_drive.specs.exact.Worlds.StandsExact};
 ghost use Rattle.tte_observers.specs.votes.{Safely.VotesSafely, Streaming.{IsOfRun, VoteStops, VoteTakesLittle}};
+ghost use Rattle.tte_forms.specs.{Taking.TakesUpTo, frames.Answer.file_limit};
 
 use crate::votes::ballots::KeptVotes;
 use crate::votes::law::Voters;
@@ -45,9 +46,10 @@ pub fn vote_trace<A: Source, B: Source, K: Sink>(
         ⊎ (ReadFailed B.Source second.old second.new
         × Over K.Sink out.old out.new (VoteStops (A.left first.old) (B.left second.old) (B.left second.new))))
         (PutFailed K.Sink out.old out.new) }
-    ensures little { (second.new ≡ second.old)
+    ensures takes { TakesUpTo file_limit (A.left first.old) (A.left first.new)
+        × ((second.new ≡ second.old)
         ⊎ (IsOfRun result × Over K.Sink out.old out.new
-        (VoteTakesLittle (A.left first.old) (B.left second.old) (B.left second.new))) }
+        (VoteTakesLittle (A.left first.old) (B.left second.old) (B.left second.new)))) }
 {
     match accept(alloc, first) {
         Ok(accepted) => vote_network(alloc, &accepted, second, one, two, three, out),

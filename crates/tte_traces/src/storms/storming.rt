@@ -1,6 +1,7 @@
 ghost use Rattle.std.specs.Prelude.{◌≡◌, ◌≤◌, ◌⊎◌};
 ghost use Rattle.tte_forms.specs.{Answering.AnswersOne, Faults.{HasCause, IsWanted, PutFailed, ReadFailed}};
 ghost use Rattle.tte_forms.specs.{Putting.Over, networks.{Accepting.IsNetworkAnswer, Checking.IsCheckStatus}};
+ghost use Rattle.tte_forms.specs.{Taking.TakesUpTo, frames.Answer.file_limit};
 ghost use Rattle.tte_traces.specs.storms.{Answer.IsStormAnswer, Safely.SummarisesSafely, Storms.EndsStorm};
 
 use crate::storms::summing::{put_summary, summary_of};
@@ -27,6 +28,7 @@ pub fn storm_run<A: Source, K: Sink>(
     // Where the source failed, nothing was written.
     ensures faults { HasCause result (ReadFailed A.Source source.old source.new × (out.new ≡ out.old))
         (PutFailed K.Sink out.old out.new) }
+    ensures taken { TakesUpTo file_limit (A.left source.old) (A.left source.new) }
 {
     match accept(alloc, source) {
         Ok(accepted) => run_storm(alloc, &accepted, seed, cycles, out),

@@ -7,7 +7,8 @@ ghost use Rattle.tte_observers.specs.captures.wires.{Answer.{IsWireStatus, quiet
 ghost use Rattle.tte_observers.specs.captures.wires.{Safely.WiresSafely, Seeing.{SeesWay, sent_packets}};
 ghost use Rattle.tte_observers.specs.captures.wires.Streaming.{StopsAtLink, StopsHeaded, TakesLittleAtLink};
 ghost use Rattle.tte_observers.specs.captures.wires.Streaming.{TakesLittleHeaded, WireStops, WireTakesLittle};
-ghost use Rattle.world_drive.specs.{Observing.{start_by, told_by}, exact.Worlds.StandsExact};
+ghost use Rattle.{tte_forms.specs.{Taking.TakesUpTo, frames.Answer.file_limit}, world_drive.specs.exact.Worlds.StandsExact};
+ghost use Rattle.world_drive.specs.Observing.{start_by, told_by};
 
 use crate::captures::pcap::put_head;
 use crate::captures::wires::capture::Capture;
@@ -44,8 +45,9 @@ pub fn wire_trace<A: Source, B: Source, K: Sink>(
         ⊎ (ReadFailed B.Source second.old second.new × Over K.Sink out.old out.new
         (WireStops link.now way (A.left first.old) (B.left second.old) (B.left second.new))))
         (PutFailed K.Sink out.old out.new) }
-    ensures little { (second.new ≡ second.old) ⊎ Over K.Sink out.old out.new
-        (WireTakesLittle link.now way (A.left first.old) (B.left second.old) (B.left second.new)) }
+    ensures takes { TakesUpTo file_limit (A.left first.old) (A.left first.new)
+        × ((second.new ≡ second.old) ⊎ Over K.Sink out.old out.new
+        (WireTakesLittle link.now way (A.left first.old) (B.left second.old) (B.left second.new))) }
 {
     match accept(alloc, first) {
         Ok(accepted) => wire_network(alloc, &accepted, second, link, way, out),

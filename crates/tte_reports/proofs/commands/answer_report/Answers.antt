@@ -34,8 +34,9 @@ returns-in-Err-clause-statuses g c =
     (no_network_status c.in-Err.cause c.put_no_network.result (shown c.args.out.now) (shown c.put_no_network.new.out) c.put_no_network.ensures.gives)
 
 -- the network was accepted, so the second file may have been read
-pub returns-in-Ok-clause-taken : goal.returns-in-Ok-clause-taken
-returns-in-Ok-clause-taken g c = inr (c.in-Ok.accepted, c.in-Ok.ensures.accepted, c.answer_accepted.ensures.taken)
+pub returns-in-Ok-clause-takes : goal.returns-in-Ok-clause-takes
+returns-in-Ok-clause-takes g c =
+    (c.in-Ok.ensures.taken, inr (c.in-Ok.accepted, c.in-Ok.ensures.accepted, c.answer_accepted.ensures.taken))
 
 pub returns-in-Ok-clause-complete : goal.returns-in-Ok-clause-complete
 returns-in-Ok-clause-complete g c =

@@ -27,7 +27,7 @@ returns-in-Some-Show-clause-complete g c =
     let form : Some Show ≡ form_of c.args.words.now = search rules in
     let shown = shown_by g.K.Sink in
     whole_as form _ _ _ (shown c.args.out.now) (shown c.show.new.out) (as_one show_answer _ _ _ _ c.show.ensures.general) (λ e.
-    inl (c.show.ensures.read e)) c.show.ensures.write
+    inl (c.show.ensures.faults.read e).0) c.show.ensures.faults.write
 
 pub returns-in-Some-Check-clause-general : goal.returns-in-Some-Check-clause-general
 returns-in-Some-Check-clause-general g c =
@@ -39,7 +39,7 @@ returns-in-Some-Check-clause-complete g c =
     let form : Some Check ≡ form_of c.args.words.now = search rules in
     let shown = shown_by g.K.Sink in
     whole_as form _ _ _ (shown c.args.out.now) (shown c.check_network.new.out) c.check_network.ensures.general (λ e.
-    inl (c.check_network.ensures.read e)) c.check_network.ensures.write
+    inl (c.check_network.ensures.faults.read e).0) c.check_network.ensures.faults.write
 
 pub returns-in-Some-Run-clause-general : goal.returns-in-Some-Run-clause-general
 returns-in-Some-Run-clause-general g c =

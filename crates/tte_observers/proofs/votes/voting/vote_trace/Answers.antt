@@ -50,9 +50,12 @@ returns-in-Ok-clause-faults g c =
       write = c.vote_network.ensures.cause.write;
     }
 
-pub returns-in-Ok-clause-little : goal.returns-in-Ok-clause-little
-returns-in-Ok-clause-little g c =
+pub returns-in-Ok-clause-takes : goal.returns-in-Ok-clause-takes
+returns-in-Ok-clause-takes g c =
     let shown = shown_by g.K.Sink in
-    little_of (the_names c.args.one.now c.args.two.now c.args.three.now) c.in-Ok.accepted (g.B.Source.left c.args.second.now)
-    (g.B.Source.left c.vote_network.new.second) c.vote_network.result (shown c.args.out.now) (shown c.vote_network.new.out) (g.A.Source.left c.args.first.now)
-    c.in-Ok.ensures.accepted c.vote_network.ensures.ends
+    (
+      c.in-Ok.ensures.taken,
+      little_of (the_names c.args.one.now c.args.two.now c.args.three.now) c.in-Ok.accepted (g.B.Source.left c.args.second.now)
+          (g.B.Source.left c.vote_network.new.second) c.vote_network.result (shown c.args.out.now) (shown c.vote_network.new.out)
+          (g.A.Source.left c.args.first.now) c.in-Ok.ensures.accepted c.vote_network.ensures.ends,
+    )

@@ -34,8 +34,8 @@ returns-in-Ok-clause-faults g c = record {
   write = c.wire_network.ensures.cause.write;
 }
 
-pub returns-in-Ok-clause-little : goal.returns-in-Ok-clause-little
-returns-in-Ok-clause-little g c = elim c.wire_network.ensures.little [
-  | inl same ↦ inl same
-  | inr some ↦ inr (c.in-Ok.accepted, c.in-Ok.ensures.accepted, some)
+pub returns-in-Ok-clause-takes : goal.returns-in-Ok-clause-takes
+returns-in-Ok-clause-takes g c = elim c.wire_network.ensures.little [
+  | inl same ↦ (c.in-Ok.ensures.taken, inl same)
+  | inr some ↦ (c.in-Ok.ensures.taken, inr (c.in-Ok.accepted, c.in-Ok.ensures.accepted, some))
 ]
