@@ -4,6 +4,7 @@
 mod chains;
 mod clocks;
 mod eventful;
+mod faults;
 mod first;
 mod forms;
 mod hints;
@@ -12,6 +13,5 @@ mod least;
 mod plan;
 mod seen;
 mod sheet;
-mod slack;
 mod summed;
 mod traces;

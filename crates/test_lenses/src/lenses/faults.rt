@@ -1,0 +1,33 @@
+//! Calls in which a read or a put fails. What the programs answer where nothing fails is tested in `examples/cases`.
+
+use crate::calls::try_call;
+use lens::Status;
+use std::test::Fail;
+use worked_network::{CALM, Call, Fails, WORKED, call_of_two};
+
+// The words of a call over the worked network and the report of its first cycle, what fails, what is written, and the
+// status.
+type Fault = (&'static [&'static str], Fails, &'static str, Status);
+
+const SLACK: &[&str] = &["slack", "net.toml"];
+
+// The first two lines of what each rule leaves.
+const TWO_RULES: &str = "rule 8 at index 0 m1 a has 3276800000 wants 2692874272 room 583925728
+rule 9 at index 0 settled has 345000000 wants 340787544 room 4212456
+";
+
+const FAULTS: &[Fault] = &[
+    (SLACK, Fails::First(1), "", Status::ReadFault),
+    (SLACK, Fails::Put(3), TWO_RULES, Status::WriteFault),
+];
+
+#[test]
+fn a_fault_ends_a_call(rt: HostRuntime) -> Result<(), Fail> {
+    for (words, fails, text, status) in FAULTS {
+        let files = (WORKED.as_bytes(), CALM.as_bytes());
+        let call = call_of_two(words, files, text, *status);
+        let fails = *fails;
+        try_call(&rt, rt.alloc(), &Call { fails, ..call })?;
+    }
+    Ok(())
+}
