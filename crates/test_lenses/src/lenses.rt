@@ -9,7 +9,6 @@ mod first;
 mod forms;
 mod hints;
 mod latency;
-mod least;
 mod plan;
 mod seen;
 mod sheet;
