@@ -9,7 +9,6 @@ mod first;
 mod forms;
 mod hints;
 mod latency;
-mod plan;
 mod seen;
 mod sheet;
 mod summed;
