@@ -4,7 +4,7 @@ use std::process::Abort;
 use std::test::Fail;
 use tte_io::{MemorySink, OutOfMemory, SteadySource};
 use tte_traces::run_trace;
-use worked_network::{Call, Edit, WORKED, call_of_one, edited, ends_of};
+use worked_network::{Call, ends_of};
 
 // m1 breaks before it dispatches in cycle 1, and puts the frame of its virtual link on channel a 65536000 later than it
 // would have dispatched it.
@@ -46,19 +46,6 @@ pub(super) fn try_call(rt: &impl Abort, alloc: Global, call: &Call<'_>) -> Resul
     try_told(rt, call, status, out.written())?;
     is_passed_on(rt, status, &out);
     Ok(())
-}
-
-// What is told of the worked network with these edits.
-pub(super) fn try_edited<'x>(
-    rt: &impl Abort,
-    alloc: Global,
-    edits: &[Edit<'_>],
-    words: &'x [&'x str],
-    (text, status): (&'x str, Status),
-) -> Result<(), Fail> {
-    let network = edited(alloc, WORKED, edits)?;
-    let call = call_of_one(words, network.as_bytes(), text, status);
-    try_call(rt, alloc, &call)
 }
 
 // How a call of `run` ended, and its report.

@@ -13,6 +13,8 @@ const SLACK: &[&str] = &["slack", "net.toml"];
 
 const LEAST: &[&str] = &["least", "net.toml"];
 
+const LATENCY: &[&str] = &["latency", "net.toml", "net.report"];
+
 // The first two lines of what each rule leaves.
 const TWO_RULES: &str = "rule 8 at index 0 m1 a has 3276800000 wants 2692874272 room 583925728
 rule 9 at index 0 settled has 345000000 wants 340787544 room 4212456
@@ -23,6 +25,7 @@ const FAULTS: &[Fault] = &[
     (SLACK, Fails::Put(3), TWO_RULES, Status::WriteFault),
     (LEAST, Fails::First(1), "", Status::ReadFault),
     (LEAST, Fails::Put(1), "", Status::WriteFault),
+    (LATENCY, Fails::Second(1), "", Status::ReadFault),
 ];
 
 #[test]
