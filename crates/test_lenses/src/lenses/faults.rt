@@ -15,9 +15,16 @@ const LEAST: &[&str] = &["least", "net.toml"];
 
 const LATENCY: &[&str] = &["latency", "net.toml", "net.report"];
 
+const WHY: &[&str] = &["why", "net.toml", "net.report", "71"];
+
 // The first two lines of what each rule leaves.
 const TWO_RULES: &str = "rule 8 at index 0 m1 a has 3276800000 wants 2692874272 room 583925728
 rule 9 at index 0 settled has 345000000 wants 340787544 room 4212456
+";
+
+// The first two lines of the chain of record 71.
+const TWO_OF_CHAIN: &str = "71 139788288000 permanent m1 m1_a 61 point 139788288000 within
+ground point 139788288000 adj 0 expected 139788288000 off 0 precision 1048576000
 ";
 
 const FAULTS: &[Fault] = &[
@@ -26,6 +33,9 @@ const FAULTS: &[Fault] = &[
     (LEAST, Fails::First(1), "", Status::ReadFault),
     (LEAST, Fails::Put(1), "", Status::WriteFault),
     (LATENCY, Fails::Second(1), "", Status::ReadFault),
+    (WHY, Fails::Second(1), "", Status::ReadFault),
+    (WHY, Fails::Put(1), "", Status::WriteFault),
+    (WHY, Fails::Put(3), TWO_OF_CHAIN, Status::WriteFault),
 ];
 
 #[test]
