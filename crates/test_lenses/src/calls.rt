@@ -6,13 +6,6 @@ use tte_io::{MemorySink, OutOfMemory, SteadySource};
 use tte_traces::run_trace;
 use worked_network::{Call, ends_of};
 
-// m1 breaks before it dispatches in cycle 1, and puts the frame of its virtual link on channel a 65536000 later than it
-// would have dispatched it.
-pub(super) const FORGED: &str = "157000000000 break m1\n\
-157679616000 send m1_a 03040506000102000000001108000000000100000000000000000000000000000000000000000\
-0000000000000000000000000000000000000000000\n\
-262143999999 end\n";
-
 // How a call ended, and what it wrote.
 fn answered(alloc: Global, call: &Call<'_>) -> Result<(Status, MemorySink), OutOfMemory> {
     let (words, mut first, mut second, mut out) = ends_of(alloc, call)?;

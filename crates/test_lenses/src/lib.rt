@@ -4,8 +4,6 @@
 #[cfg(test)]
 mod calls;
 #[cfg(test)]
-mod flows;
-#[cfg(test)]
 mod lenses;
 #[cfg(test)]
 mod pages;

@@ -17,6 +17,8 @@ const LATENCY: &[&str] = &["latency", "net.toml", "net.report"];
 
 const WHY: &[&str] = &["why", "net.toml", "net.report", "71"];
 
+const FLOWS: &[&str] = &["flows", "net.toml", "net.report"];
+
 // The first two lines of what each rule leaves.
 const TWO_RULES: &str = "rule 8 at index 0 m1 a has 3276800000 wants 2692874272 room 583925728
 rule 9 at index 0 settled has 345000000 wants 340787544 room 4212456
@@ -36,6 +38,8 @@ const FAULTS: &[Fault] = &[
     (WHY, Fails::Second(1), "", Status::ReadFault),
     (WHY, Fails::Put(1), "", Status::WriteFault),
     (WHY, Fails::Put(3), TWO_OF_CHAIN, Status::WriteFault),
+    (FLOWS, Fails::Second(1), "", Status::ReadFault),
+    (FLOWS, Fails::Put(1), "", Status::WriteFault),
 ];
 
 #[test]

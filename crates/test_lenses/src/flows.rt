@@ -1,4 +1,0 @@
-//! Tests of what `lens flows` tells of reports.
-
-mod counted;
-mod refused;
