@@ -2,8 +2,7 @@ use lens::{Status, lens};
 use std::alloc::Global;
 use std::process::Abort;
 use std::test::Fail;
-use tte_io::{MemorySink, OutOfMemory, SteadySource};
-use tte_traces::run_trace;
+use tte_io::{MemorySink, OutOfMemory};
 use worked_network::{Call, ends_of};
 
 // How a call ended, and what it wrote.
@@ -39,31 +38,6 @@ pub(super) fn try_call(rt: &impl Abort, alloc: Global, call: &Call<'_>) -> Resul
     try_told(rt, call, status, out.written())?;
     is_passed_on(rt, status, &out);
     Ok(())
-}
-
-// How a call of `run` ended, and its report.
-fn reported(
-    alloc: Global,
-    network: &str,
-    trace: &str,
-) -> Result<(Status, MemorySink), OutOfMemory> {
-    let mut first = SteadySource::new(alloc, network.as_bytes())?;
-    let mut second = SteadySource::new(alloc, trace.as_bytes())?;
-    let mut report = MemorySink::new(alloc, 65536, &[])?;
-    let status = run_trace(alloc, &mut first, &mut second, &mut report);
-    Ok((status, report))
-}
-
-// The report of the run of the network under the lines of a trace.
-pub(super) fn report_of(
-    rt: &impl Abort,
-    alloc: Global,
-    network: &str,
-    trace: &str,
-) -> Result<MemorySink, Fail> {
-    let (status, report) = reported(alloc, network, trace)?;
-    try_ended(rt, status, Status::Done)?;
-    Ok(report)
 }
 
 /// A call ended as it should, if there was memory.

@@ -6,6 +6,4 @@ mod calls;
 #[cfg(test)]
 mod lenses;
 #[cfg(test)]
-mod pages;
-#[cfg(test)]
 mod pictures;
