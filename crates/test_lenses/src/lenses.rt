@@ -1,9 +1,6 @@
 //! Tests of the program `lens`: what is no form, what rules leave and want of networks, the least numbers that they
 //! admit, sheets, chains of records, clocks, the events of storms, and the run over them.
 
-mod eventful;
 mod faults;
 mod forms;
 mod hints;
-mod summed;
-mod traces;

@@ -19,6 +19,8 @@ const WHY: &[&str] = &["why", "net.toml", "net.report", "71"];
 
 const FLOWS: &[&str] = &["flows", "net.toml", "net.report"];
 
+const EVENTS: &[&str] = &["events", "net.toml", "42", "1"];
+
 // The first two lines of what each rule leaves.
 const TWO_RULES: &str = "rule 8 at index 0 m1 a has 3276800000 wants 2692874272 room 583925728
 rule 9 at index 0 settled has 345000000 wants 340787544 room 4212456
@@ -28,6 +30,9 @@ rule 9 at index 0 settled has 345000000 wants 340787544 room 4212456
 const TWO_OF_CHAIN: &str = "71 139788288000 permanent m1 m1_a 61 point 139788288000 within
 ground point 139788288000 adj 0 expected 139788288000 off 0 precision 1048576000
 ";
+
+// The first two events of the storm.
+const TWO_EVENTS: &str = "16384000000 rate m1 0\n32768000000 heal m4_b down\n";
 
 const FAULTS: &[Fault] = &[
     (SLACK, Fails::First(1), "", Status::ReadFault),
@@ -40,6 +45,10 @@ const FAULTS: &[Fault] = &[
     (WHY, Fails::Put(3), TWO_OF_CHAIN, Status::WriteFault),
     (FLOWS, Fails::Second(1), "", Status::ReadFault),
     (FLOWS, Fails::Put(1), "", Status::WriteFault),
+    (EVENTS, Fails::First(1), "", Status::ReadFault),
+    (EVENTS, Fails::First(5), "", Status::ReadFault),
+    (EVENTS, Fails::Put(1), "", Status::WriteFault),
+    (EVENTS, Fails::Put(3), TWO_EVENTS, Status::WriteFault),
 ];
 
 #[test]
