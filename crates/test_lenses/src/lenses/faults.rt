@@ -21,6 +21,14 @@ const FLOWS: &[&str] = &["flows", "net.toml", "net.report"];
 
 const EVENTS: &[&str] = &["events", "net.toml", "42", "1"];
 
+const DRAW: &[&str] = &[
+    "draw",
+    "net.toml",
+    "net.report",
+    "0",
+    "18446744073709551615",
+];
+
 // The first two lines of what each rule leaves.
 const TWO_RULES: &str = "rule 8 at index 0 m1 a has 3276800000 wants 2692874272 room 583925728
 rule 9 at index 0 settled has 345000000 wants 340787544 room 4212456
@@ -49,6 +57,7 @@ const FAULTS: &[Fault] = &[
     (EVENTS, Fails::First(5), "", Status::ReadFault),
     (EVENTS, Fails::Put(1), "", Status::WriteFault),
     (EVENTS, Fails::Put(3), TWO_EVENTS, Status::WriteFault),
+    (DRAW, Fails::Put(1), "", Status::WriteFault),
 ];
 
 #[test]
