@@ -1,5 +1,4 @@
-//! Tests of the program `lens`: what is no form, what rules leave and want of networks, the least numbers that they
-//! admit, sheets, chains of records, clocks, the events of storms, and the run over them.
+//! Tests of the program `lens`: what words are read as, its forms, and calls that a fault ends.
 
 mod faults;
 mod forms;

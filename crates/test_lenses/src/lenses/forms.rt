@@ -1,107 +1,9 @@
-use crate::calls::try_call;
-use lens::Status;
 use lens::forms::{Form, Part, Question, read_form};
 use schedule_tables::Rule;
 use std::alloc::Global;
 use std::process::Abort;
 use std::test::Fail;
-use worked_network::{call_of_one, words_of};
-
-const USAGE: &str =
-    "usage: lens slack NETWORK [RULE] | least NETWORK | sheet NETWORK | plan NETWORK MESSAGES | \
-        latency NETWORK [REPORT] | why NETWORK REPORT N | draw NETWORK REPORT | \
-        draw NETWORK REPORT CYCLE [NAME] | draw NETWORK REPORT FROM TO [NAME] | \
-        page NETWORK REPORT | clocks NETWORK REPORT | flows NETWORK REPORT | events NETWORK SEED CYCLES\n";
-
-const NO_FORMS: &[&[&str]] = &[
-    &[],
-    &["events"],
-    &["slack"],
-    &["least"],
-    &["least", "a", "8"],
-    &["sheet"],
-    &["sheet", "a", "b"],
-    &["Sheet", "a"],
-    &["plan", "a"],
-    &["plan", "a", "b", "c"],
-    &["Plan", "a", "b"],
-    &["latency"],
-    &["latency", "a", "b", "c"],
-    &["Latency", "a"],
-    &["Least", "a"],
-    // Rules that are no inequalities, and what is no rule.
-    &["slack", "a", "7"],
-    &["slack", "a", "14"],
-    &["slack", "a", "22"],
-    &["slack", "a", "24"],
-    &["slack", "a", "08"],
-    &["slack", "a", "8 "],
-    &["slack", "a", ""],
-    &["slack", "a", "8", "9"],
-    &["Slack", "a"],
-    &["why"],
-    &["why", "a"],
-    &["why", "a", "b"],
-    &["why", "a", "b", "1", "2"],
-    &["why", "a", "1", "b"],
-    &["Why", "a", "b", "1"],
-    // There is no record 0, and numbers have at most 64 bits.
-    &["why", "a", "b", "0"],
-    &["why", "a", "b", "18446744073709551616"],
-    &["why", "a", "b", "01"],
-    &["why", "a", "b", "+1"],
-    &["why", "a", "b", " 1"],
-    &["why", "a", "b", ""],
-    // A cycle past 2^20, one with a unit, and one with a leading zero.
-    &["draw", "a", "b", "1048577"],
-    &["draw", "a", "b", "5ms"],
-    &["draw", "a", "b", "05"],
-    &["draw", "a", "b", "5", "4"],
-    &["draw", "a", "b", "1ms", "999us"],
-    // A cycle with a unit before a name, names that are none, a word too many.
-    &["draw", "a", "b", "5us", "x"],
-    &["draw", "a", "b", "5", "X"],
-    &["draw", "a", "b", "5", ""],
-    &["draw", "a", "b", "5", "abcdefghijklmnopq"],
-    &["draw", "a", "b", "5", "7", "x-y"],
-    &["draw", "a", "b", "5", "x", "7"],
-    &["draw", "a", "b", "7", "5", "x"],
-    &["draw", "a", "b", "5", "7", "x", "y"],
-    // Past 2^64 - 1 units.
-    &["draw", "a", "b", "0", "18446744073709551616"],
-    &["draw", "a", "b", "0", "281474977ms"],
-    &["draw", "a", "b", "0", "01us"],
-    &["draw", "a", "b", "0", "1 us"],
-    &["draw", "a", "b", "0", "1.5us"],
-    &["draw", "a", "b", "0", "1US"],
-    &["page", "a"],
-    &["page", "a", "b", "c"],
-    &["Page", "a", "b"],
-    &["clocks", "a"],
-    &["clocks", "a", "b", "c"],
-    &["Clocks", "a", "b"],
-    &["events", "a"],
-    &["events", "a", "1"],
-    &["events", "a", "1", "2", "3"],
-    &["Events", "a", "1", "2"],
-    &["storm", "a", "1", "2"],
-    // Cycles below 1 and above 100,000, and one that is 1 in 32 bits.
-    &["events", "a", "1", "0"],
-    &["events", "a", "1", "100001"],
-    &["events", "a", "1", "4294967297"],
-    // Seeds of 65 and more bits.
-    &["events", "a", "18446744073709551616", "1"],
-    &["events", "a", "184467440737095516150", "1"],
-    // Leading zeros, signs, and what is no decimal number.
-    &["events", "a", "01", "1"],
-    &["events", "a", "1", "01"],
-    &["events", "a", "+1", "1"],
-    &["events", "a", "-1", "1"],
-    &["events", "a", "", "1"],
-    &["events", "a", "1", ""],
-    &["events", "a", "1 ", "1"],
-    &["events", "a", "one", "1"],
-];
+use worked_network::words_of;
 
 // The words of storms' events, with their seeds and cycles.
 const EVENTS: &[(&[&str], u64, u32)] = &[
@@ -113,16 +15,6 @@ const EVENTS: &[(&[&str], u64, u32)] = &[
         100_000,
     ),
 ];
-
-#[test]
-fn words_of_no_form_are_answered_by_the_usage(rt: HostRuntime) -> Result<(), Fail> {
-    let alloc = rt.alloc();
-    for words in NO_FORMS {
-        let call = call_of_one(words, &[], USAGE, Status::Usage);
-        try_call(&rt, alloc, &call)?;
-    }
-    Ok(())
-}
 
 // The inequalities by their numbers.
 const INEQUALITIES: &[(&str, Rule)] = &[

@@ -3,67 +3,9 @@ use std::alloc::Global;
 use std::process::Abort;
 use std::test::Fail;
 use std::{slice, str};
-use tte_hints::{Form, Program, forms_of, words_fault};
+use tte_hints::{Form, Program, forms_of};
 use tte_io::{MemorySink, SteadySource};
 use worked_network::words_of;
-
-// Words of no form of `lens`, and what is told of them.
-const WRONG: &[(&[&str], &str)] = &[
-    (
-        &["check", "a"],
-        "\"check\" is a command of tte: tte check NETWORK",
-    ),
-    (
-        &["slack", "a", "14"],
-        "RULE is \"14\"; it must be 8, 9, 10, 11, 12, 13, 21 or 23, the rules that are inequalities",
-    ),
-    (
-        &["slack", "a", "8", "9"],
-        "\"9\" is one argument too many; the command is: slack NETWORK RULE",
-    ),
-    (
-        &["why", "a", "b", "0"],
-        "N is \"0\"; it must be the number of a record, from 1, with no sign and no leading zero",
-    ),
-    (
-        &["draw", "a", "b", "2097152"],
-        "TO is missing in: draw NETWORK REPORT FROM TO NAME",
-    ),
-    (
-        &["draw", "a", "b", "5", "4 ms"],
-        "TO is \"4 ms\"; it must be a whole number of units of 2^-16 ns (65536000 to the microsecond), or of ns, us or \
-         ms with that word right behind it, with no sign and no leading zero",
-    ),
-    (
-        &["draw", "a", "b", "9us", "3"],
-        "TO, 3, is less than FROM, 9us",
-    ),
-    (
-        &["draw", "a", "b", "9", "3", "x"],
-        "TO, 3, is less than FROM, 9",
-    ),
-    (
-        &["draw", "a", "b", "9", "30", "X"],
-        "NAME is \"X\"; it must be the name of a virtual link or of a device",
-    ),
-];
-
-/// The words are of no form, and this is told of them.
-fn told(rt: &impl Abort, alloc: Global, words: &[&str], text: &str) -> Result<(), Fail> {
-    let words = words_of(alloc, words)?;
-    let fault = words_fault(Program::Lens, &words).ok_or("the words are of a form")?;
-    let found = format!(in alloc; "{fault}")?;
-    assert_eq!(rt; found.as_str(), text);
-    Ok(())
-}
-
-#[test]
-fn the_wrong_argument_is_told(rt: HostRuntime) -> Result<(), Fail> {
-    for (words, text) in WRONG {
-        told(&rt, rt.alloc(), words, text)?;
-    }
-    Ok(())
-}
 
 /// The usage line of the program, which answers no words.
 fn usage(rt: &impl Abort, alloc: Global) -> Result<MemorySink, Fail> {
