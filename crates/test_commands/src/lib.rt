@@ -6,7 +6,7 @@ mod calls;
 #[cfg(test)]
 mod captures;
 #[cfg(test)]
-mod checks;
+mod faults;
 #[cfg(test)]
 mod forms;
 #[cfg(test)]
