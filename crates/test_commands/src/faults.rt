@@ -1,11 +1,12 @@
 //! Calls in which a read or a put fails. What the program answers where nothing fails is tested in `examples/cases`.
 
 use crate::calls::try_call;
+use crate::frames::joined;
 use std::alloc::Global;
 use std::process::Abort;
 use std::test::Fail;
 use tte_run::Status;
-use worked_network::{Call, Fails, WORKED, call_of_two};
+use worked_network::{Call, FRAME, Fails, WORKED, call_of_two};
 
 // What fails, what is written before that, and the status.
 type Fault = (Fails, &'static str, Status);
@@ -61,4 +62,34 @@ fn a_failed_read_ends_a_check(rt: HostRuntime) -> Result<(), Fail> {
         try_faults(&rt, rt.alloc(), CHECK, (WORKED.as_bytes(), &[]), &faults)?;
     }
     Ok(())
+}
+
+const AUDITED: &[Fault] = &[
+    (Fails::Second(2), "", Status::ReadFault),
+    (Fails::Put(1), "", Status::WriteFault),
+];
+
+#[test]
+fn a_fault_ends_an_audit(rt: HostRuntime) -> Result<(), Fail> {
+    let words = ["audit", "net.toml", "net.report"];
+    let files: (&[u8], &[u8]) = (WORKED.as_bytes(), b"x\n");
+    try_faults(&rt, rt.alloc(), &words, files, AUDITED)
+}
+
+const SHOWN: &[Fault] = &[
+    (Fails::First(1), "", Status::ReadFault),
+    // In the middle of the file.
+    (Fails::First(5), "", Status::ReadFault),
+    (Fails::Put(1), "", Status::WriteFault),
+    (
+        Fails::Put(2),
+        "frame 1 IN cycle 7 members 00000001 priority 0 domain 0 clock 0 to 030000000001 from 020000000011\n",
+        Status::WriteFault,
+    ),
+];
+
+#[test]
+fn a_fault_ends_a_show(rt: HostRuntime) -> Result<(), Fail> {
+    let frames = joined(rt.alloc(), &[&FRAME, &FRAME])?;
+    try_faults(&rt, rt.alloc(), &["show", "file"], (&frames, &[]), SHOWN)
 }

@@ -1,6 +1,6 @@
 use crate::calls::answered;
 use crate::captures::reading::{BIG, LITTLE};
-use crate::frames::{frame_with, longer_frame};
+use crate::frames::{frame_with, joined, longer_frame};
 use std::alloc::Global;
 use std::process::Abort;
 use std::test::Fail;
@@ -45,15 +45,6 @@ fn head_with(offset: usize, octet: u8) -> [u8; 24] {
         head[offset] = octet;
     }
     head
-}
-
-/// The parts, one behind another.
-pub(super) fn joined(alloc: Global, parts: &[&[u8]]) -> Result<Vec<u8>, Fail> {
-    let mut file = Vec::new(alloc);
-    for part in parts {
-        file.extend_from_slice(part)?;
-    }
-    Ok(file)
 }
 
 // A capture in parts, what fails, and what is answered.

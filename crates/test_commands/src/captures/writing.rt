@@ -1,8 +1,8 @@
 ghost use Rattle.std.specs.Prelude.{◌≤◌, length};
 ghost use Rattle.tte_observers.specs.captures.pcap.Layout.{most_written};
 
-use crate::captures::capturing::joined;
 use crate::captures::reading::{comes, opens};
+use crate::frames::joined;
 use std::alloc::Global;
 use std::process::Abort;
 use std::test::Fail;
