@@ -1,6 +1,5 @@
 //! Tests of captures: read from files that another program made, and written as it would write them; and of the command
 //! that shows one.
 
-mod capturing;
 mod reading;
 mod writing;

@@ -6,7 +6,7 @@ use std::alloc::Global;
 use std::process::Abort;
 use std::test::Fail;
 use tte_run::Status;
-use worked_network::{Call, FRAME, Fails, WORKED, call_of_two};
+use worked_network::{Call, FRAME, Fails, HEAD, WORKED, call_of_two};
 
 // What fails, what is written before that, and the status.
 type Fault = (Fails, &'static str, Status);
@@ -92,4 +92,32 @@ const SHOWN: &[Fault] = &[
 fn a_fault_ends_a_show(rt: HostRuntime) -> Result<(), Fail> {
     let frames = joined(rt.alloc(), &[&FRAME, &FRAME])?;
     try_faults(&rt, rt.alloc(), &["show", "file"], (&frames, &[]), SHOWN)
+}
+
+// 60 octets at 2,000 microseconds.
+const STAMP: [u8; 16] = [
+    0x00, 0x00, 0x00, 0x00, 0xd0, 0x07, 0x00, 0x00, 0x3c, 0x00, 0x00, 0x00, 0x3c, 0x00, 0x00, 0x00,
+];
+
+const LINE: &str =
+    "packet 1 time 0 2000 IN cycle 7 members 00000001 priority 0 domain 0 clock 0 to 030000000001 from 020000000011\n";
+
+// Faults in a capture of two packets, and in one of one.
+const CAPTURED: &[Fault] = &[
+    (Fails::First(1), "", Status::ReadFault),
+    (Fails::First(2), "", Status::ReadFault),
+    (Fails::Put(1), "", Status::WriteFault),
+    (Fails::Put(2), LINE, Status::WriteFault),
+];
+
+const UNPASSED: &[Fault] = &[(Fails::Pass(1), LINE, Status::WriteFault)];
+
+#[test]
+fn a_fault_ends_a_capture(rt: HostRuntime) -> Result<(), Fail> {
+    let alloc = rt.alloc();
+    let words = ["capture", "file"];
+    let two = joined(alloc, &[&HEAD, &STAMP, &FRAME, &STAMP, &FRAME])?;
+    try_faults(&rt, alloc, &words, (&two, &[]), CAPTURED)?;
+    let one = joined(alloc, &[&HEAD, &STAMP, &FRAME])?;
+    try_faults(&rt, alloc, &words, (&one, &[]), UNPASSED)
 }
