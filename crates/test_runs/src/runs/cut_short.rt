@@ -1,10 +1,47 @@
 use crate::calls::try_call;
-use crate::runs::running::{CUTS, CUTS_REPORT, RATES, RATES_REPORT, try_silent, whole};
 use std::alloc::{AllocError, Global};
 use std::process::Abort;
 use std::test::Fail;
 use tte_run::Status;
-use worked_network::{CALM, Call, Fails, WORKED};
+use worked_network::{CALM, Call, Fails, WORKED, call_of_two, silent};
+
+const RUN: &[&str] = &["run", "net.toml", "net.trace"];
+
+/// A run over the worked network, in which nothing fails.
+fn whole<'a>(trace: &'a str, text: &'a str, status: Status) -> Call<'a> {
+    let files = (WORKED.as_bytes(), trace.as_bytes());
+    call_of_two(RUN, files, text, status)
+}
+
+/// A run over the worked network without traffic.
+fn try_silent(rt: &impl Abort, alloc: Global, run: &Call<'_>) -> Result<(), Fail> {
+    let first = silent().as_bytes();
+    try_call(rt, alloc, &Call { first, ..*run })
+}
+
+const RATES: &str = "0 rate m1 50000\n0 rate m2 -50000\n0 rate m3 1\n1500000000 end\n";
+
+const RATES_REPORT: &str = "1 0 event 1 rate m1 50000
+2 0 event 2 rate m2 -50000
+3 0 event 3 rate m3 1
+4 1500000000 event 4 end
+5 1500000000 clock m1 reading 1500075000 adj 0 state synchronised
+6 1500000000 clock m2 reading 1499925000 adj 0 state synchronised
+7 1500000000 clock m3 reading 1500000001 adj 0 state synchronised
+8 1500000000 clock m4 reading 1500000000 adj 0 state synchronised
+9 1500000000 clock c1 reading 1500000000 adj 0 state synchronised
+10 1500000000 clock ra reading 1500000000 adj 0 state synchronised
+11 1500000000 clock ca reading 1500000000 adj 0 state synchronised
+12 1500000000 clock rb reading 1500000000 adj 0 state synchronised
+13 1500000000 clock cb reading 1500000000 adj 0 state synchronised
+";
+
+const CUTS: &str = "1000 cut m1_a up\n2000 heal m1_a up\n3000 cut m1_b up\n4000 end\n";
+
+const CUTS_REPORT: &str = "1 1000 event 1 cut m1_a up
+2 2000 event 2 heal m1_a up
+outside line 3 condition 6
+";
 
 // The first lines of a text.
 fn first_lines(alloc: Global, text: &str, count: usize) -> Result<String, AllocError> {
@@ -169,65 +206,12 @@ fn a_run_stops_at_a_failed_read(rt: HostRuntime) -> Result<(), Fail> {
     try_failing_reads(&rt, alloc, &outside, CUTS, 4)
 }
 
-// The run of the rates without their last LF, and what it answers.
-fn try_unended<'x>(
-    rt: &impl Abort,
-    alloc: Global,
-    fails: Fails,
-    (text, status): (&'x str, Status),
-) -> Result<(), Fail> {
-    let run = whole(RATES.trim_end(), text, status);
-    try_where(rt, alloc, &run, fails)
-}
-
-// The fifth read gives nothing, so the end came whole, and no more is read. Where it fails instead,
-// the end has not come whole.
+// The fifth read gives nothing, so the end, which has no LF, came whole, and no more is read. Where it fails instead, the
+// end has not come whole.
 #[test]
-fn a_last_line_without_its_lf_is_run(rt: HostRuntime) -> Result<(), Fail> {
+fn a_last_line_without_its_lf_may_be_cut(rt: HostRuntime) -> Result<(), Fail> {
     let alloc = rt.alloc();
-    let rates = first_lines(alloc, RATES_REPORT, 3)?;
-    let cut = (rates.as_str(), Status::ReadFault);
-    try_unended(&rt, alloc, Fails::Second(5), cut)?;
-    let told = (RATES_REPORT, Status::Done);
-    try_unended(&rt, alloc, Fails::Second(6), told)
-}
-
-const DEVICES: &[&str] = &["m1", "m2", "m3", "m4", "c1", "ra", "ca", "rb", "cb"];
-
-fn push_heal(alloc: Global, report: &mut String, number: u32) -> Result<(), AllocError> {
-    let text = format!(in alloc; "{number} 0 event {number} heal m1_a up\n")?;
-    report.push_str(text.as_str())
-}
-
-fn push_clock(
-    alloc: Global,
-    report: &mut String,
-    number: u32,
-    device: &str,
-) -> Result<(), AllocError> {
-    let text = format!(in alloc; "{number} 0 clock {device} reading 0 adj 0 state synchronised\n")?;
-    report.push_str(text.as_str())
-}
-
-// The report of a run in which m1_a is healed twenty thousand times.
-fn report_of_heals(alloc: Global) -> Result<String, AllocError> {
-    let mut report = String::new(alloc);
-    for number in 1..20_001 {
-        push_heal(alloc, &mut report, number)?;
-    }
-    report.push_str("20001 0 event 20001 end\n")?;
-    for (number, device) in (20_002..20_011).zip(DEVICES) {
-        push_clock(alloc, &mut report, number, device)?;
-    }
-    Ok(report)
-}
-
-#[test]
-fn twenty_thousand_heals_are_run(rt: HostRuntime) -> Result<(), Fail> {
-    let alloc = rt.alloc();
-    let mut trace = "0 heal m1_a up\n".repeat(alloc, 20_000)?;
-    trace.push_str("0 end\n")?;
-    let report = report_of_heals(alloc)?;
-    let run = whole(trace.as_str(), report.as_str(), Status::Done);
-    try_silent(&rt, alloc, &run)
+    let run = whole(RATES.trim_end(), RATES_REPORT, Status::Done);
+    try_cut(&rt, alloc, &run, Fails::Second(5), (3, Status::ReadFault))?;
+    try_where(&rt, alloc, &run, Fails::Second(6))
 }
