@@ -3,4 +3,3 @@
 mod cut_short;
 mod followed;
 mod tracing;
-mod wires;
