@@ -1,4 +1,3 @@
 //! Tests of sparse global time: the granules of the worked network, and stamps in them.
 
 mod granules;
-mod stamping;

@@ -3,7 +3,7 @@
 use crate::calls::try_call;
 use std::test::Fail;
 use tte_run::Status;
-use worked_network::{Call, Edit, Fails, WORKED, call_of_two, edited};
+use worked_network::{Call, Edit, Fails, WORKED, call_of_two, edited, silent};
 
 // The virtual link of m1, and beside it one of m2 and one of m3, and the rows of the other two.
 const THREE: &[Edit<'_>] = &[(
@@ -34,4 +34,27 @@ fn a_failed_read_puts_no_vote(rt: HostRuntime) -> Result<(), Fail> {
     let vote = call_of_two(&words, files, "", Status::ReadFault);
     let fails = Fails::Second(3);
     try_call(&rt, alloc, &Call { fails, ..vote })
+}
+
+// The stamps of one line at time 0.
+const STAMPS: &str = "stamp 1 m1 0
+stamp 1 m2 0
+stamp 1 m3 0
+stamp 1 m4 0
+stamp 1 c1 0
+stamp 1 ra 0
+stamp 1 ca 0
+stamp 1 rb 0
+stamp 1 cb 0
+";
+
+// It is told where the lines that had come are stamped.
+#[test]
+fn a_failed_read_stands_behind_the_stamps(rt: HostRuntime) -> Result<(), Fail> {
+    let words = ["stamp", "net.toml", "net.trace", "4194304000"];
+    let trace = b"0 heal m1_a up\n4194304000 end\n";
+    let files: (&[u8], &[u8]) = (silent().as_bytes(), trace);
+    let stamp = call_of_two(&words, files, STAMPS, Status::ReadFault);
+    let fails = Fails::Second(2);
+    try_call(&rt, rt.alloc(), &Call { fails, ..stamp })
 }
