@@ -2,5 +2,3 @@
 
 mod audits;
 mod lines;
-mod reports;
-mod wrong_lines;
