@@ -1,4 +1,4 @@
-//! Tests of reports: the line of each record, what is no line, and the answers over whole reports.
+//! Tests of reports: the line of each record, and what their events have set.
 
 mod audits;
 mod lines;

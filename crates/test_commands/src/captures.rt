@@ -1,5 +1,4 @@
-//! Tests of captures: read from files that another program made, and written as it would write them; and of the command
-//! that shows one.
+//! Tests of captures: what packets are found in files that another program made, and what is written as it would write it.
 
 mod reading;
 mod writing;

@@ -1,5 +1,5 @@
-//! Tests of hints of which a call shows nothing: the forms of the usage line, and why a file can't be read. What standard
-//! error tells is tested in `examples/cases`.
+//! Tests of hints: the forms of the usage line, and why a file cannot be read. What standard error tells is tested in
+//! `examples/cases`.
 
 use crate::calls::try_call;
 use std::io::ErrorKind;

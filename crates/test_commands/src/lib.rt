@@ -1,4 +1,4 @@
-//! Tests of the commands of `tte` over one file, over the whole program.
+//! Tests of the commands of `tte` over one file: what words are read as, captures, and calls that a fault ends.
 #![tactic(auto)]
 
 #[cfg(test)]

@@ -1,4 +1,4 @@
-//! Tests of the commands of `tte` that follow a run, over the whole program.
+//! Tests of the commands of `tte` that follow a run: what cuts them short, granules and ballots.
 #![tactic(auto)]
 
 #[cfg(test)]

@@ -1,4 +1,4 @@
-//! Tests of `run`, over the whole program: what a trace gives, the report of its run, and what cuts it short.
+//! Tests of runs, and of commands that follow them, where a read, a put or a call to pass on fails.
 
 mod cut_short;
 mod followed;
