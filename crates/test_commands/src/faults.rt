@@ -16,11 +16,12 @@ fn try_faults(
     rt: &impl Abort,
     alloc: Global,
     words: &[&str],
-    files: (&[u8], &[u8]),
+    first: &[u8],
+    second: &[u8],
     faults: &[Fault],
 ) -> Result<(), Fail> {
     for (fails, text, status) in faults {
-        let call = call_of_two(words, files, text, *status);
+        let call = call_of_two(words, (first, second), text, *status);
         let fails = *fails;
         try_call(rt, alloc, &Call { fails, ..call })?;
     }
@@ -51,15 +52,15 @@ const REFUSED: &[Fault] = &[
 #[test]
 fn a_failed_put_ends_a_check(rt: HostRuntime) -> Result<(), Fail> {
     let alloc = rt.alloc();
-    try_faults(&rt, alloc, CHECK, (WORKED.as_bytes(), &[]), CHECKED)?;
-    try_faults(&rt, alloc, CHECK, (b"=", &[]), REFUSED)
+    try_faults(&rt, alloc, CHECK, WORKED.as_bytes(), &[], CHECKED)?;
+    try_faults(&rt, alloc, CHECK, b"=", &[], REFUSED)
 }
 
 #[test]
 fn a_failed_read_ends_a_check(rt: HostRuntime) -> Result<(), Fail> {
     for read in 1..=20 {
         let faults = [(Fails::First(read), "", Status::ReadFault)];
-        try_faults(&rt, rt.alloc(), CHECK, (WORKED.as_bytes(), &[]), &faults)?;
+        try_faults(&rt, rt.alloc(), CHECK, WORKED.as_bytes(), &[], &faults)?;
     }
     Ok(())
 }
@@ -72,8 +73,8 @@ const AUDITED: &[Fault] = &[
 #[test]
 fn a_fault_ends_an_audit(rt: HostRuntime) -> Result<(), Fail> {
     let words = ["audit", "net.toml", "net.report"];
-    let files: (&[u8], &[u8]) = (WORKED.as_bytes(), b"x\n");
-    try_faults(&rt, rt.alloc(), &words, files, AUDITED)
+    let network = WORKED.as_bytes();
+    try_faults(&rt, rt.alloc(), &words, network, b"x\n", AUDITED)
 }
 
 const SHOWN: &[Fault] = &[
@@ -91,7 +92,7 @@ const SHOWN: &[Fault] = &[
 #[test]
 fn a_fault_ends_a_show(rt: HostRuntime) -> Result<(), Fail> {
     let frames = joined(rt.alloc(), &[&FRAME, &FRAME])?;
-    try_faults(&rt, rt.alloc(), &["show", "file"], (&frames, &[]), SHOWN)
+    try_faults(&rt, rt.alloc(), &["show", "file"], &frames, &[], SHOWN)
 }
 
 // 60 octets at 2,000 microseconds.
@@ -117,7 +118,7 @@ fn a_fault_ends_a_capture(rt: HostRuntime) -> Result<(), Fail> {
     let alloc = rt.alloc();
     let words = ["capture", "file"];
     let two = joined(alloc, &[&HEAD, &STAMP, &FRAME, &STAMP, &FRAME])?;
-    try_faults(&rt, alloc, &words, (&two, &[]), CAPTURED)?;
+    try_faults(&rt, alloc, &words, &two, &[], CAPTURED)?;
     let one = joined(alloc, &[&HEAD, &STAMP, &FRAME])?;
-    try_faults(&rt, alloc, &words, (&one, &[]), UNPASSED)
+    try_faults(&rt, alloc, &words, &one, &[], UNPASSED)
 }

@@ -206,8 +206,8 @@ fn a_run_stops_at_a_failed_read(rt: HostRuntime) -> Result<(), Fail> {
     try_failing_reads(&rt, alloc, &outside, CUTS, 4)
 }
 
-// The fifth read gives nothing, so the end, which has no LF, came whole, and no more is read. Where it fails instead, the
-// end has not come whole.
+// The fifth read gives nothing, so the end, which has no LF, came whole, and no more is read. Where it fails instead,
+// the end has not come whole.
 #[test]
 fn a_last_line_without_its_lf_may_be_cut(rt: HostRuntime) -> Result<(), Fail> {
     let alloc = rt.alloc();

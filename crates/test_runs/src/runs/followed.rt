@@ -29,8 +29,8 @@ fn a_failed_read_puts_no_vote(rt: HostRuntime) -> Result<(), Fail> {
     let alloc = rt.alloc();
     let network = edited(alloc, WORKED, THREE)?;
     let words = ["vote", "net.toml", "net.trace", "v1", "v2", "v3"];
-    let trace = b"300000000000 heal m1_a up\n393215999999 end\n";
-    let files: (&[u8], &[u8]) = (network.as_bytes(), trace);
+    let trace = "300000000000 heal m1_a up\n393215999999 end\n";
+    let files = (network.as_bytes(), trace.as_bytes());
     let vote = call_of_two(&words, files, "", Status::ReadFault);
     let fails = Fails::Second(3);
     try_call(&rt, alloc, &Call { fails, ..vote })
@@ -52,8 +52,8 @@ stamp 1 cb 0
 #[test]
 fn a_failed_read_stands_behind_the_stamps(rt: HostRuntime) -> Result<(), Fail> {
     let words = ["stamp", "net.toml", "net.trace", "4194304000"];
-    let trace = b"0 heal m1_a up\n4194304000 end\n";
-    let files: (&[u8], &[u8]) = (silent().as_bytes(), trace);
+    let trace = "0 heal m1_a up\n4194304000 end\n";
+    let files = (silent().as_bytes(), trace.as_bytes());
     let stamp = call_of_two(&words, files, STAMPS, Status::ReadFault);
     let fails = Fails::Second(2);
     try_call(&rt, rt.alloc(), &Call { fails, ..stamp })
