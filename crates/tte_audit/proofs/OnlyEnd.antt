@@ -20,7 +20,7 @@ may_by network befallen time (notes.Event line what) event is may =
 may_by network befallen time body event is may = absurd cc
 
 -- each event of a report may befall the network, given those before it
-may_there : (network : Network) (ns : List Note) (front behind : List Event) (event : Event) → AreEventsRight network ns
+pub may_there : (network : Network) (ns : List Note) (front behind : List Event) (event : Event) → AreEventsRight network ns
     → events_of ns ≡ front ++ event ∷ behind → MayBefallThere network front event
 may_there network ns front behind event right parts =
     let at = told ns front behind event parts in

@@ -27,6 +27,13 @@ pub record HasOneAnswer (network : Network) (octets : List ℕ) : Type 0 where
 abbrev pub AnswerLaw : Type 0
 AnswerLaw = (network : Network) (octets : List ℕ) → IsNamed network → HasOneAnswer network octets
 
+-- over such a network there are no octets that are neither the report of a run nor refused
+abbrev pub NoneIsUnanswered : Type 0
+NoneIsUnanswered =
+    (network : Network) (octets : List ℕ) → IsNamed network
+    → ((refusal : AuditRefusal) → IsOfReport refusal → IsRefusedBy network octets refusal → ⊥)
+    → ((count : ℕ) → IsAudited network octets count → ⊥) → ⊥
+
 -- where the records of a report are all sound, one is first lacking at the time at which a debt is first unpaid
 abbrev pub ReportLackLaw : Type 0
 ReportLackLaw =
