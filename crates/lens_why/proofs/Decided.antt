@@ -11,7 +11,7 @@ use Rattle.{net_plan.specs.declared.tables.Way.Way, tte_units.specs.Amount.amoun
 use Rattle.lens_why.proofs.{Collected.ComeInOrder, Corrections.{clique_by, corrected_by, outnumbered_by}}
 use Rattle.lens_why.proofs.{Deciding.left_by, LastRecords.parted_there, Losing.cut_before}
 use Rattle.lens_why.proofs.Dropped.{early_so, gate_so, late_so}
-use Rattle.lens_why.proofs.Permanents.{joined_so, opened_so, outside_so, repeat_so, within_so}
+use Rattle.lens_why.proofs.{Permanents.{joined_so, opened_so, outside_so, repeat_so, within_so}, Since.since_so}
 use Rattle.lens_why.specs.{Decisions.{GroundsDecide, IsCutBefore, IsDecidedBy}, Grounds.{ground_by, lost_ground}}
 use Rattle.net_plan.specs.{Places.link_at}
 use Rattle.net_plan.specs.{declared.{ids.{DeviceId.DeviceId, LinkId.LinkId}, network.Network.Network, tables.{Link.Link, Way.TheVariants.{Down, Up}}}}
@@ -146,7 +146,7 @@ module _ (network : Network) (octets : List ℕ) (ns : List Note) (end : Units) 
       (of.run.founded p.before p.later h p.parts).1.cause in
       cut_before network octets ns end of number h there link (way_from network device link) (omega (arith, nine)) (way_is_cut device link cause lost)
 
-  by_body : (body : NoteBody) → h.note.body ≡ body → IsDecidedBy network all h body (ground_by own all h body)
+  by_body : (body : NoteBody) → h.note.body ≡ body → IsDecidedBy own all h body (ground_by own all h body)
   by_body (notes.Left device link cause clock) is = left_by network octets ns end of number h there device link cause clock is
   by_body (notes.Corrected device cycle by adjustment) is = corrected_by network octets ns end rules of number h there device cycle by adjustment is
   by_body (notes.State device state cause whys.SyncClique) is = clique_by network octets ns end rules of number h there device state cause is
@@ -167,6 +167,7 @@ module _ (network : Network) (octets : List ℕ) (ns : List Note) (end : Units) 
   by_body (notes.Dropped device link cause reasons.Early) is = early_so network octets ns end of number h there device link cause reasons.Early is refl
   by_body (notes.Dropped device link cause reasons.Late) is = late_so network octets ns end of number h there device link cause reasons.Late is refl
   by_body (notes.Dropped device link cause reasons.Gate) is = gate_so network octets ns end of number h there device link cause reasons.Gate is refl
+  by_body (notes.Dropped device link cause reasons.Unsynchronised) is = since_so network octets ns end of number h there device
   by_body (notes.Dropped device link cause reason) is = tt
   by_body other is = tt
 

@@ -26,3 +26,4 @@ pub mod Deciding
 pub mod Corrections
 pub mod Decided
 pub mod Dropped
+pub mod Since

@@ -3,21 +3,23 @@ use Rattle.std.specs.Prelude.{◌++◌, ◌+ℤ◌, ◌+◌, ◌-ℤ◌, ◌<ℤ
 use Rattle.std.specs.Prelude.{All, Bool, IfSome, IsSomeAnd, List, None, Option, Some, bit_and, false, filter_map}
 use Rattle.std.specs.Prelude.{neg_ℤ, not, option_map, pos, true, unwrap_or, ℕ, ℤ}
 use Rattle.{lens_why.specs.Grounds.{entry_given, ground_of}, net_plan.specs.declared.network.Network.Network}
-use Rattle.{lens_why.specs.{Records.clock_given, Seeking.cut_told}, std.specs.List.last_or}
+use Rattle.{lens_why.specs.{Records.clock_given, Seeking.{cut_told, turns}}, std.specs.List.last_or}
 use Rattle.lens_why.specs.declared.{collecting.Collection.Collection, ground.{Best.Best, Ground.Ground}}
 use Rattle.lens_why.specs.declared.ground.Ground.TheVariants.{Clique, Collected, Corrected, CutBy, Gate, Heard}
-use Rattle.lens_why.specs.declared.ground.Ground.TheVariants.{Held, Missed}
+use Rattle.lens_why.specs.declared.ground.Ground.TheVariants.{Held, Missed, Unsynchronised}
 use Rattle.net_plan.specs.declared.{ids.{DeviceId.DeviceId, LinkId.LinkId}, tables.Way.Way}
 use Rattle.run_law.specs.control.Hearing.{last_cycle}
 use Rattle.run_law.specs.declared.judgement.Judgement.{Judgement, TheVariants.{Joined, Opened, Outside, Repeat, Within}}
 use Rattle.run_law.specs.declared.judgement.{Reason.Reason, Why.{TheVariants.{AsyncClique, SyncClique}, Why}}
-use Rattle.run_law.specs.device.States.{cycle_in}
+use Rattle.run_law.specs.device.States.{cycle_in, state_with}
 use Rattle.run_law.specs.declared.note.{Note.Note, NoteBody.NoteBody}
 use Rattle.run_law.specs.records.Happenings.{Happening, happenings, numbered, time_of}
-use Rattle.run_law.specs.{scenario.{Devices.is_relay, Ways.way_from}, timed.Arrivals.occurs_in}
+use Rattle.run_law.specs.scenario.{Devices.{is_relay, start_of}, Scenarios.{Scenario, is_turned_on_at}, Ways.way_from}
+use Rattle.run_law.specs.timed.Arrivals.{occurs_in}
 use Rattle.schedule_tables.specs.{Rules.KeepsRules, declared.entry.Entry.Entry}
 use Rattle.sync_state.specs.{correction.Correction.correction_of}
-use Rattle.sync_state.specs.{membership.Members.count_of}
+use Rattle.sync_state.specs.{Standing.state_at_start, membership.Members.count_of}
+use Rattle.sync_state.specs.declared.state.State.{State, TheVariants.Integrating}
 use Rattle.{tte_audit.specs.Report.scenario_of, tte_reports.specs.Reports.IsReportOf}
 use Rattle.tte_units.specs.declared.units.Units.{Units}
 use Rattle.run_law.specs.declared.judgement.Reason.TheVariants as reasons
@@ -151,25 +153,45 @@ IsDroppedBy network device entry reasons.Late said =
 IsDroppedBy network device entry reasons.Gate said = is_relay network device ≡ true → IsShutBy said
 IsDroppedBy network device entry other said = Unit {0}
 
+-- ---- states
+
+-- the record `since` leaves the device in the state, and is of an earlier time
+pub record IsBroughtBy (hs : List Happening) (device : DeviceId) (t : ℕ) (state : State) (since : ℕ) : Type 0 where
+  pub bringing : Happening
+  pub there : numbered hs since ≡ Some bringing
+  pub earlier : time_of bringing < t
+  pub changes : turns device bringing.note.body ≡ true
+  pub leaves : (old : State) → state_with device old bringing.note.body ≡ state
+
+-- the state is that in which the device was when something came to it with the record: an event of the same time turned
+-- it on; or it was so from the start; or the record that is told brought it to this
+abbrev pub IsStateSince : Scenario → List Happening → Happening → DeviceId → Ground → Type 0
+IsStateSince s hs h device (Unsynchronised state since) =
+    ((is_turned_on_at s device (time_of h) ≡ true) × (state ≡ Integrating))
+    ⊎ (((since ≡ 0) × (state ≡ state_at_start (start_of s.network device)))
+    ⊎ IsBroughtBy hs device (time_of h) state since)
+IsStateSince s hs h device other = ⊥
+
 -- ---- all
 
 -- the record, which has this body, is so by its ground
-abbrev pub IsDecidedBy : Network → List Happening → Happening → NoteBody → Ground → Type 0
-IsDecidedBy network hs h (notes.Corrected device cycle by adjustment) said = IsCorrectedBy by said
-IsDecidedBy network hs h (notes.State device state cause why) said = IsStateBy why said
-IsDecidedBy network hs h (notes.Permanent device link cause point verdict) said =
+abbrev pub IsDecidedBy : Scenario → List Happening → Happening → NoteBody → Ground → Type 0
+IsDecidedBy s hs h (notes.Corrected device cycle by adjustment) said = IsCorrectedBy by said
+IsDecidedBy s hs h (notes.State device state cause why) said = IsStateBy why said
+IsDecidedBy s hs h (notes.Permanent device link cause point verdict) said =
     IsPermanentBy point (cycle_in h) verdict said
-IsDecidedBy network hs h (notes.Left device link cause clock) said = IsLeftBy hs cause (time_of h) clock said
-IsDecidedBy network hs h (notes.Lost device link cause) said =
-    IsCutBefore hs h link (way_from network device link) said
-IsDecidedBy network hs h (notes.Dropped device link cause reason) said =
-    IsDroppedBy network device (entry_given network device link (numbered hs cause)) reason said
-IsDecidedBy network hs h other said = Unit {0}
+IsDecidedBy s hs h (notes.Left device link cause clock) said = IsLeftBy hs cause (time_of h) clock said
+IsDecidedBy s hs h (notes.Lost device link cause) said =
+    IsCutBefore hs h link (way_from s.network device link) said
+IsDecidedBy s hs h (notes.Dropped device link cause reasons.Unsynchronised) said = IsStateSince s hs h device said
+IsDecidedBy s hs h (notes.Dropped device link cause reason) said =
+    IsDroppedBy s.network device (entry_given s.network device link (numbered hs cause)) reason said
+IsDecidedBy s hs h other said = Unit {0}
 
 -- each record of a report is so by its ground, in a network that keeps the rules
 abbrev pub GroundsDecide : Type 0
 GroundsDecide =
     (network : Network) (octets : List ℕ) (ns : List Note) (end : Units) (number : ℕ) (h : Happening)
     → KeepsRules network → IsReportOf network octets ns end → numbered (happenings network ns) number ≡ Some h
-    → IsDecidedBy network (happenings network ns) h h.note.body
+    → IsDecidedBy (scenario_of network ns) (happenings network ns) h h.note.body
     (ground_of (scenario_of network ns) (happenings network ns) h)

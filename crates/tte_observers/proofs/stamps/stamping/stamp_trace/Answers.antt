@@ -50,8 +50,7 @@ returns-in-Ok-clause-faults g c =
 
 pub returns-in-Ok-clause-takes : goal.returns-in-Ok-clause-takes
 returns-in-Ok-clause-takes g c =
-    let shown = shown_by g.K.Sink in
-    (
+    let shown = shown_by g.K.Sink in (
       c.in-Ok.ensures.taken,
       little_of c.args.granule c.in-Ok.accepted (g.B.Source.left c.args.second.now) (g.B.Source.left c.stamp_network.new.second) c.stamp_network.result
           (shown c.args.out.now) (shown c.stamp_network.new.out) (g.A.Source.left c.args.first.now) c.in-Ok.ensures.accepted c.stamp_network.ensures.ends,

@@ -52,8 +52,7 @@ returns-in-Ok-clause-faults g c =
 
 pub returns-in-Ok-clause-takes : goal.returns-in-Ok-clause-takes
 returns-in-Ok-clause-takes g c =
-    let shown = shown_by g.K.Sink in
-    (
+    let shown = shown_by g.K.Sink in (
       c.in-Ok.ensures.taken,
       little_of (the_names c.args.one.now c.args.two.now c.args.three.now) c.in-Ok.accepted (g.B.Source.left c.args.second.now)
           (g.B.Source.left c.vote_network.new.second) c.vote_network.result (shown c.args.out.now) (shown c.vote_network.new.out)
