@@ -1,4 +1,5 @@
 use crate::calls::try_call;
+use crate::runs::calm_cycles::CALM_CYCLES;
 use std::alloc::{AllocError, Global};
 use std::process::Abort;
 use std::test::Fail;
@@ -154,23 +155,31 @@ fn a_run_stops_at_a_failed_put(rt: HostRuntime) -> Result<(), Fail> {
     try_failing_puts(&rt, alloc, &outside, 3)
 }
 
-const CALM_TRACE: &str = "160000000000 end\n";
+const CYCLES_TRACE: &str = "524287999999 end\n";
 
-// The calm run over the whole network ends behind the lines before this put, where that fails.
-fn try_calm_put(rt: &impl Abort, alloc: Global, put: u32) -> Result<(), Fail> {
-    let text = first_lines(alloc, CALM, put.saturating_sub(1) as usize)?;
-    let run = whole(CALM_TRACE, text.as_str(), Status::WriteFault);
+// The calm run over three cycles of the whole network tells so many of its lines, where this put fails.
+fn try_calm_put(
+    rt: &impl Abort,
+    alloc: Global,
+    put: u32,
+    (lines, status): (usize, Status),
+) -> Result<(), Fail> {
+    let text = first_lines(alloc, CALM_CYCLES, lines)?;
+    let run = whole(CYCLES_TRACE, text.as_str(), status);
     let fails = Fails::Put(put);
     try_call(rt, alloc, &Call { fails, ..run })
 }
 
 #[test]
 fn a_calm_run_stops_at_each_put(rt: HostRuntime) -> Result<(), Fail> {
-    for put in 1..=109 {
-        try_calm_put(&rt, rt.alloc(), put)?;
+    for put in 1..=307 {
+        let cut = (put as usize - 1, Status::WriteFault);
+        try_calm_put(&rt, rt.alloc(), put, cut)?;
     }
-    Ok(())
+    try_calm_put(&rt, rt.alloc(), 308, (307, Status::Done))
 }
+
+const CALM_TRACE: &str = "160000000000 end\n";
 
 // The same where a read of the network fails, and so this is told.
 fn try_network_read(
