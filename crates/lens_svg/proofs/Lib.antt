@@ -6,3 +6,4 @@ pub mod Painting
 pub mod Plain
 pub mod Folds
 pub mod Windows
+pub mod TitleTexts

@@ -13,4 +13,5 @@ pub mod Clocks
 pub mod Layers
 pub mod Windows
 pub mod Marking
+pub mod Titles
 pub mod Laws

@@ -1,4 +1,5 @@
 ghost use Rattle.lens_svg.specs.Laws.{ArrowsAreCauses, HuesComeFromCauses, KeepsOrder, LanesAreStates, MarksHaveHues};
+ghost use Rattle.lens_svg.specs.Titles.{NoneOpens};
 
 /// In a picture that fits, the marks stand in the order of their instants, at least 26 pixels apart, and those of one
 /// instant and one row side by side, at least 14 pixels apart.
@@ -21,4 +22,9 @@ pub fn lanes_law()
 pub fn hues_law()
     ensures causes { HuesComeFromCauses }
     ensures marks { MarksHaveHues }
+{}
+
+/// Whatever the words of a call are, its title holds no `<`: no element of a picture begins in it.
+pub fn title_law()
+    ensures { NoneOpens }
 {}
