@@ -18,9 +18,9 @@ use Rattle.{lens_why.proofs.Whole.why_answer_one, tte_forms.specs.{Answering.Ans
 use Rattle.tte_reports.{proofs.Reports.report_one, specs.Reports.IsOneFor}
 
 -- what is answered for the form is answered for the words
-pub words_as : {f form : Option Form} → f ≡ form → (first second : Option (List ℕ)) (status : Status) (old new : Shown)
-    → AnswersWords f first second status old new → AnswersWords form first second status old new
-words_as {f} {form} same first second status old new a = subst (λ (x : Option Form). AnswersWords x first second status old new) same a
+pub words_as : (words : List (List ℕ)) {f form : Option Form} → f ≡ form → (first second : Option (List ℕ)) (status : Status) (old new : Shown)
+    → AnswersWords words f first second status old new → AnswersWords words form first second status old new
+words_as words {f} {form} same first second status old new a = subst (λ (x : Option Form). AnswersWords words x first second status old new) same a
 
 -- the events of a storm have one answer
 events_answer_one : (seed cycles : ℕ) (network : Network) → cycles ≤ 100000 → KeepsRules network → (a b : Answer) → IsEventsAnswer seed cycles network a
@@ -34,38 +34,38 @@ events_one : RefusalIsOne → (seed cycles : ℕ) → cycles ≤ 100000 → (oct
 events_one one seed cycles few octets a b p q =
     network_answer_one one (IsEventsAnswer seed cycles) octets (λ network accepted. events_answer_one seed cycles network few accepted.rules) a b p q
 
-question_one : (question : Question) → IsOneFor (IsQuestionAnswer question)
-question_one (Why number) = why_answer_one number
-question_one DrawWhole = λ network text notes end x y rules of i j. i ∙ sym j
-question_one (Draw part) = λ network text notes end x y rules of i j. i ∙ sym j
-question_one Page = λ network text notes end x y rules of i j. i ∙ sym j
-question_one Flows = flows_answer_one
-question_one LatencySeen = latency_report_one
-question_one Clocks = λ network text notes end x y rules of i j. i ∙ sym j
+question_one : (words : List (List ℕ)) (question : Question) → IsOneFor (IsQuestionAnswer words question)
+question_one words (Why number) = why_answer_one number
+question_one words DrawWhole = λ network text notes end x y rules of i j. i ∙ sym j
+question_one words (Draw part) = λ network text notes end x y rules of i j. i ∙ sym j
+question_one words Page = λ network text notes end x y rules of i j. i ∙ sym j
+question_one words Flows = flows_answer_one
+question_one words LatencySeen = latency_report_one
+question_one words Clocks = λ network text notes end x y rules of i j. i ∙ sym j
 
 -- no question ends as words of no form do
 pub no_usage_for : (question : Question) → EndsFor question Usage → ⊥
 no_usage_for (Why number) h = h
 no_usage_for other h = h
 
-answer_one : RefusalIsOne → (form : Option Form) → IfSome form IsFormInRange → (octets report : List ℕ) (a b : Answer) → IsAnswerBy form octets report a
-    → IsAnswerBy form octets report b → a ≡ b
-answer_one one None range octets report a b p q = p ∙ sym q
-answer_one one (Some Slack) range octets report a b p q = octets_one (IsSlackOf all_steps) (slack_one all_steps) octets a b p q
-answer_one one (Some (SlackOf rule)) range octets report a b p q = octets_one (IsSlackOf (rule_steps rule)) (slack_one (rule_steps rule)) octets a b p q
-answer_one one (Some Least) range octets report a b p q =
+answer_one : RefusalIsOne → (words : List (List ℕ)) (form : Option Form) → IfSome form IsFormInRange → (octets report : List ℕ) (a b : Answer)
+    → IsAnswerBy words form octets report a → IsAnswerBy words form octets report b → a ≡ b
+answer_one one words None range octets report a b p q = p ∙ sym q
+answer_one one words (Some Slack) range octets report a b p q = octets_one (IsSlackOf all_steps) (slack_one all_steps) octets a b p q
+answer_one one words (Some (SlackOf rule)) range octets report a b p q = octets_one (IsSlackOf (rule_steps rule)) (slack_one (rule_steps rule)) octets a b p q
+answer_one one words (Some Least) range octets report a b p q =
     octets_one (λ network. IsLeastOf (with_late network)) (λ network. least_one (with_late network)) octets a b p q
-answer_one one (Some Sheet) range octets report a b p q =
+answer_one one words (Some Sheet) range octets report a b p q =
     network_answer_one one IsSheetOf octets (λ network accepted. sheet_one network) a b p q
-answer_one one (Some Latency) range octets report a b p q =
+answer_one one words (Some Latency) range octets report a b p q =
     network_answer_one one IsLatencyOf octets (λ network accepted. latency_one network) a b p q
-answer_one one (Some Plan) range octets messages a b p q =
+answer_one one words (Some Plan) range octets messages a b p q =
     network_answer_one one (IsPlanFor messages octets) octets
     (λ network accepted. plan_one_for messages octets network (rules_give_trees network (shape_rules network accepted.rules))) a b p q
-answer_one one (Some (Report question)) range octets report a b p q =
-    report_one one (IsQuestionAnswer question) (question_one question) octets report a b p q
-answer_one one (Some (DrawNamed part name)) range octets report a b p q = named_one one part name octets report a b p q
-answer_one one (Some (Events seed cycles)) range octets report a b p q = events_one one seed cycles range.1 octets a b p q
+answer_one one words (Some (Report question)) range octets report a b p q =
+    report_one one (IsQuestionAnswer words question) (question_one words question) octets report a b p q
+answer_one one words (Some (DrawNamed part name)) range octets report a b p q = named_one one words part name octets report a b p q
+answer_one one words (Some (Events seed cycles)) range octets report a b p q = events_one one seed cycles range.1 octets a b p q
 
 pub one_answer : RefusalIsOne → AnswerIsOne
-one_answer one words octets report a b p q = answer_one one (form_of words) (form_in_range words) octets report a b p q
+one_answer one words octets report a b p q = answer_one one words (form_of words) (form_in_range words) octets report a b p q

@@ -1,4 +1,5 @@
 -- What is answered for what is asked of a report.
+use Rattle.std.specs.Prelude.{List, ℕ}
 use Rattle.lens.specs.{declared.forms.Question.Question, draw.{Answer.IsPartAnswer, overview.Answer.IsOverviewAnswer}}
 use Rattle.lens.specs.declared.forms.Question.TheVariants.{Clocks, Draw, DrawWhole, Flows, LatencySeen, Page, Why}
 use Rattle.{lens_flows.specs.Answer.IsFlowsAnswer, lens_latency.specs.Answer.IsLatencyReport}
@@ -6,15 +7,15 @@ use Rattle.{lens_clocks.specs.Answer.IsClocksAnswer, lens_page.specs.Answer.IsPa
 use Rattle.tte_reports.specs.{Answer.IsAuditStatus, Reports.AnswersFor}
 use Rattle.{lens_why.specs.Answer.{IsWhyAnswer, IsWhyStatus, why_audits}, tte_forms.specs.declared.status.Status.Status}
 
--- the answer for the records of a report
-abbrev pub IsQuestionAnswer : Question → AnswersFor
-IsQuestionAnswer (Why number) = IsWhyAnswer number
-IsQuestionAnswer DrawWhole = IsOverviewAnswer
-IsQuestionAnswer (Draw part) = IsPartAnswer part
-IsQuestionAnswer Page = IsPageAnswer
-IsQuestionAnswer Flows = IsFlowsAnswer
-IsQuestionAnswer LatencySeen = IsLatencyReport
-IsQuestionAnswer Clocks = IsClocksAnswer
+-- the answer for the records of a report, of which only a picture shows the words
+abbrev pub IsQuestionAnswer : List (List ℕ) → Question → AnswersFor
+IsQuestionAnswer words (Why number) = IsWhyAnswer number
+IsQuestionAnswer words DrawWhole = IsOverviewAnswer
+IsQuestionAnswer words (Draw part) = IsPartAnswer words part
+IsQuestionAnswer words Page = IsPageAnswer
+IsQuestionAnswer words Flows = IsFlowsAnswer
+IsQuestionAnswer words LatencySeen = IsLatencyReport
+IsQuestionAnswer words Clocks = IsClocksAnswer
 
 -- the statuses with which it ends: only `why` may refuse a number
 abbrev pub EndsFor : Question → Status → Type 0

@@ -23,29 +23,31 @@ usage_line =
 abbrev pub usage_answer : Answer
 usage_answer = line_answer Usage usage_line
 
--- an answer for a form and the octets of its files, of which only a plan and what is asked of a report have a second
-abbrev pub IsFormAnswer : Form → List ℕ → List ℕ → Answer → Type 0
-IsFormAnswer Slack octets report a = IsSlackAnswer octets a
-IsFormAnswer (SlackOf rule) octets report a = IsSlackAnswerOf rule octets a
-IsFormAnswer Least octets report a = IsLeastAnswer octets a
-IsFormAnswer Sheet octets report a = IsSheetAnswer octets a
-IsFormAnswer Latency octets report a = IsLatencyAnswer octets a
-IsFormAnswer Plan octets messages a = IsPlanAnswer messages octets a
-IsFormAnswer (Report question) octets report a =
-    IsNetworkAnswer (IsReportAnswer (IsQuestionAnswer question) report) octets a
-IsFormAnswer (DrawNamed part name) octets report a = IsNetworkAnswer (IsNamedAnswer part name report) octets a
-IsFormAnswer (Events seed cycles) octets report a = IsNetworkAnswer (IsEventsAnswer seed cycles) octets a
+-- an answer for the words, their form and the octets of its files, of which only a plan and what is asked of a report
+-- have a second
+abbrev pub IsFormAnswer : List (List ℕ) → Form → List ℕ → List ℕ → Answer → Type 0
+IsFormAnswer words Slack octets report a = IsSlackAnswer octets a
+IsFormAnswer words (SlackOf rule) octets report a = IsSlackAnswerOf rule octets a
+IsFormAnswer words Least octets report a = IsLeastAnswer octets a
+IsFormAnswer words Sheet octets report a = IsSheetAnswer octets a
+IsFormAnswer words Latency octets report a = IsLatencyAnswer octets a
+IsFormAnswer words Plan octets messages a = IsPlanAnswer messages octets a
+IsFormAnswer words (Report question) octets report a =
+    IsNetworkAnswer (IsReportAnswer (IsQuestionAnswer words question) report) octets a
+IsFormAnswer words (DrawNamed part name) octets report a =
+    IsNetworkAnswer (IsNamedAnswer words part name report) octets a
+IsFormAnswer words (Events seed cycles) octets report a = IsNetworkAnswer (IsEventsAnswer seed cycles) octets a
 
 -- an answer for the words and the octets of the files
-abbrev pub IsAnswerBy : Option Form → List ℕ → List ℕ → Answer → Type 0
-IsAnswerBy None octets report a = a ≡ usage_answer
-IsAnswerBy (Some form) octets report a = IsFormAnswer form octets report a
+abbrev pub IsAnswerBy : List (List ℕ) → Option Form → List ℕ → List ℕ → Answer → Type 0
+IsAnswerBy words None octets report a = a ≡ usage_answer
+IsAnswerBy words (Some form) octets report a = IsFormAnswer words form octets report a
 
 -- the words and the octets of the files have one answer
 abbrev pub AnswerIsOne : Type 0
 AnswerIsOne =
     (words : List (List ℕ)) (octets report : List ℕ) (a b : Answer)
-    → IsAnswerBy (form_of words) octets report a → IsAnswerBy (form_of words) octets report b → a ≡ b
+    → IsAnswerBy words (form_of words) octets report a → IsAnswerBy words (form_of words) octets report b → a ≡ b
 
 -- the fact holds for the octets of the second file, if the form has one
 abbrev pub ForSecond : Form → Option (List ℕ) → (List ℕ → Type 0) → Type 0
@@ -56,12 +58,13 @@ ForSecond other left P = P []
 
 -- words of no form are answered by usage, and no others are; to those of a form its answer was given, for the octets of
 -- the files
-abbrev pub AnswersWords : Option Form → Option (List ℕ) → Option (List ℕ) → Status → Shown → Shown → Type 0
-AnswersWords None first second status old new = Gives usage_answer status old new
-AnswersWords (Some form) first second status old new =
+abbrev pub AnswersWords : List (List ℕ) → Option Form → Option (List ℕ) → Option (List ℕ) → Status → Shown → Shown
+    → Type 0
+AnswersWords words None first second status old new = Gives usage_answer status old new
+AnswersWords words (Some form) first second status old new =
     (status ≢ Usage)
     × ForOctets first (λ octets.
-    ForSecond form second (λ report. GivesAnswer (IsFormAnswer form octets report) status old new))
+    ForSecond form second (λ report. GivesAnswer (IsFormAnswer words form octets report) status old new))
 
 -- where a report was asked and this is done, the report is that of a run that goes well, under events within the
 -- hypothesis
@@ -71,12 +74,13 @@ AnswersSafely (Some (DrawNamed part name)) first second status = AuditsSafely fi
 AnswersSafely other first second status = Unit {0}
 
 -- what is asked of the report of a run is answered to its end, where no count of faults rose, unless memory ran out
-abbrev pub AnswersReports : Option Form → Option (List ℕ) → Option (List ℕ) → Type 0 → Type 0 → Status → Type 0
-AnswersReports (Some (Report question)) first second SourceRose SinkRose status =
-    CompletesReport (IsQuestionAnswer question) first second SourceRose SinkRose status
-AnswersReports (Some (DrawNamed part name)) first second SourceRose SinkRose status =
-    CompletesNamed part name first second SourceRose SinkRose status
-AnswersReports other first second SourceRose SinkRose status = Unit {0}
+abbrev pub AnswersReports : List (List ℕ) → Option Form → Option (List ℕ) → Option (List ℕ) → Type 0 → Type 0 → Status
+    → Type 0
+AnswersReports words (Some (Report question)) first second SourceRose SinkRose status =
+    CompletesReport (IsQuestionAnswer words question) first second SourceRose SinkRose status
+AnswersReports words (Some (DrawNamed part name)) first second SourceRose SinkRose status =
+    CompletesNamed words part name first second SourceRose SinkRose status
+AnswersReports words other first second SourceRose SinkRose status = Unit {0}
 
 -- a read failed, and nothing was put: of the first file, and then the second was not read, or of the second
 abbrev pub FailsToRead : Option Form → Type 0 → Type 0 → Type 0 → Type 0 → Type 0

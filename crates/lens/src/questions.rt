@@ -13,24 +13,36 @@ use lens_page::Page;
 use lens_why::Why;
 use net_plan::Network;
 use std::alloc::Global;
-use tte_forms::Status;
+use tte_forms::{Status, Words};
 use tte_io::Sink;
 use tte_reports::{AuditedReport, ReportCommand};
 
-impl<K: Sink> ReportCommand<K> for Question {
-    ghost answers = { λ question network notes end answer. IsQuestionAnswer question network notes end answer };
+/// What these words ask of a report.
+#[derive(Drop)]
+pub(crate) struct Asked<'a> {
+    pub(crate) words: &'a Words,
+    pub(crate) question: Question,
+}
 
-    ghost ends = { λ question status. EndsFor question status };
+impl<'a, K: Sink> ReportCommand<K> for Asked<'a> {
+    ghost answers = { λ asked network notes end answer.
+        IsQuestionAnswer asked.words.now asked.question network notes end answer };
 
-    ghost audits = { λ question status is. ends_as_audit question status is };
+    ghost ends = { λ asked status. EndsFor asked.question status };
+
+    ghost audits = { λ asked status is. ends_as_audit asked.question status is };
 
     fn put(&self, alloc: Global, network: &Network, report: &AuditedReport, out: &mut K) -> Status {
-        match *self {
+        match self.question {
             Question::Why { number } => Why { number }.put(alloc, network, report, out),
             Question::DrawWhole => DrawWhole.put(alloc, network, report, out),
             Question::Draw(part) => {
                 let span = span_of(network, part);
-                Draw { span }.put(alloc, network, report, out)
+                let draw = Draw {
+                    span,
+                    words: self.words,
+                };
+                draw.put(alloc, network, report, out)
             }
             Question::Page => Page.put(alloc, network, report, out),
             Question::Flows => Flows.put(alloc, network, report, out),

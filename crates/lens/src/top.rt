@@ -6,6 +6,7 @@ ghost use Rattle.tte_forms.specs.{Answering.Gives, Faults.{HasCause, IsWanted, P
 use crate::draw::draw_named;
 use crate::events::storm_events;
 use crate::forms::{Form, read_form};
+use crate::questions::Asked;
 use lens_latency::latency_of_network;
 use lens_plan::plan_of_network;
 use lens_sheet::sheet_of_network;
@@ -33,7 +34,7 @@ pub fn lens<A: Source, B: Source, K: Sink>(
     out: &mut K,
 ) -> Status
     ensures general { Over K.Sink out.old out.new
-        (AnswersWords (form_of words.now) (A.left first.old) (B.left second.old) result) }
+        (AnswersWords words.now (form_of words.now) (A.left first.old) (B.left second.old) result) }
     ensures safe { AnswersSafely (form_of words.now) (A.left first.old) (B.left second.old) result }
     // Where a source failed, nothing was written.
     ensures faults { HasCause result
@@ -42,7 +43,7 @@ pub fn lens<A: Source, B: Source, K: Sink>(
         (out.new ≡ out.old) (second.new ≡ second.old))
         (PutFailed K.Sink out.old out.new) }
     ensures second { LeavesSecond (form_of words.now) (A.left first.old) (second.new ≡ second.old) }
-    ensures complete { AnswersReports (form_of words.now) (A.left first.old) (B.left second.old)
+    ensures complete { AnswersReports words.now (form_of words.now) (A.left first.old) (B.left second.old)
         (ReadFailed A.Source first.old first.new ⊎ ReadFailed B.Source second.old second.new)
         (PutFailed K.Sink out.old out.new) result }
 {
@@ -53,9 +54,12 @@ pub fn lens<A: Source, B: Source, K: Sink>(
         Some(Form::Sheet) => sheet_of_network(alloc, first, out),
         Some(Form::Latency) => latency_of_network(alloc, first, out),
         Some(Form::Plan) => plan_of_network(alloc, first, second, out),
-        Some(Form::Report(question)) => answer_report(alloc, first, second, &question, out),
+        Some(Form::Report(question)) => {
+            let asked = Asked { words, question };
+            answer_report(alloc, first, second, &asked, out)
+        }
         Some(Form::DrawNamed { part, name }) => {
-            draw_named(alloc, first, second, part, name.text(), out)
+            draw_named(alloc, first, second, words, part, name.text(), out)
         }
         Some(Form::Events { seed, cycles }) => storm_events(alloc, first, seed, cycles, out),
         None => put_usage(out),

@@ -2,10 +2,11 @@
 use Rattle.std.specs.Prelude.{suc, unwrap_or, zero, ℕ, Bool, List, None, Option, Some, false, slice_get, true}
 use Rattle.lens_svg.specs.declared.layout.{Side.{Side, TheVariants.{Passed, Within}}, Span.Span}
 
--- a part of it, and of that all records, or those whose numbers have this flag
+-- a part of it, of that all records, or those whose numbers have this flag, and the title
 pub record View : Type 0 where
   pub span : Span
   pub kept : Option (List Bool)
+  pub title : List ℕ
 
 -- the flag of the record of this number, from 1; 0 is the number of none
 abbrev pub flag_at : List Bool → ℕ → Bool

@@ -8,7 +8,7 @@ use crate::bodies::{cause_of, look_of, own_hue, scene_of, seat_of};
 use crate::kept::side_if;
 use crate::lanes::{start_of, y_of};
 use crate::layout::{Side, side_of};
-use crate::{Ground, Hue, Kept, Look, Mark, Pen, Span};
+use crate::{Ground, Hue, Kept, Look, Mark, Pen, Span, Title};
 use net_plan::{Device, Network};
 use run_law::{Note, NoteBody};
 use std::alloc::Global;
@@ -21,6 +21,7 @@ use tte_io::OutOfMemory;
 pub struct Sketch {
     span: Span,
     kept: Kept,
+    title: Title,
     pen: Pen,
     /// How far to the right the last instant stands that is drawn, or 0.
     last: u64,
@@ -39,7 +40,7 @@ impl Model for Sketch {
     ghost Value = { Plan };
 
     ghost view = { λ s. record {
-      view = record { span = s.span; kept = s.kept };
+      view = record { span = s.span; kept = s.kept; title = s.title };
       pen = s.pen;
       last = s.last;
       seats = s.seats.items;
@@ -91,8 +92,10 @@ impl Sketch {
         network: &Network,
         span: Span,
         kept: Kept,
+        title: Title,
     ) -> Result<Sketch, OutOfMemory>
-        ensures { IfOk result (λ s. s ≡ begun network.now (record { span = span; kept = kept })) }
+        ensures { IfOk result (λ s.
+            s ≡ begun network.now (record { span = span; kept = kept; title = title })) }
     {
         let grounds = match starts_of(alloc, network.device.as_slice()) {
             Ok(grounds) => grounds,
@@ -105,6 +108,7 @@ impl Sketch {
         Ok(Sketch {
             span,
             kept,
+            title,
             pen: Pen::new(span.from),
             last: 0,
             seats,
@@ -289,6 +293,13 @@ impl Sketch {
         ensures { result ≡ self.now.view.span }
     {
         self.span
+    }
+
+    /// The name of the picture.
+    pub fn title(&self) -> &Title
+        ensures { result.now ≡ self.now.view.title }
+    {
+        &self.title
     }
 
     /// The pen at the last instant that is drawn.

@@ -2,6 +2,7 @@
 use Rattle.lens.specs.draw.LineLaws.{AreMarkLines, HasLineOf, MarksStandWhereTheirsDo, PicturesDrawPlans}
 use Rattle.lens.specs.draw.Picture.{back_lines, front_lines, layer_lines, lines_from, mark_lines, picture_lines, some_line, windows_of}
 use Rattle.lens_svg.{proofs.Arrows.taken_all, specs.{Clocks.{clocks_in, gauge_of, spread_of}, Laws.{AreMarksOf, shown}, Layers.{lack_of, on_lane, on_mark}}}
+use Rattle.lens_svg.{proofs.Painting.view_behind, specs.Titles.{heading_line, title_line}}
 use Rattle.lens_svg.specs.{Elements.element_line, Plan.Plan, Sketching.{begun, is_drawn, plan_of}, Views.View, Windows.box_of}
 use Rattle.lens_svg.specs.declared.{clock.Told.Told, element.Element.Element, window.Came.Came}
 use Rattle.lens_svg.specs.declared.layer.{LaneLayer.{LaneLayer, TheVariants.{Grounds, Rails}}, MarkLayer.{MarkLayer, TheVariants.{Ticks, Turns, Waits, Ways}}}
@@ -68,8 +69,8 @@ module _ (network : Network) (view : View) (notes : List Note) where
       (subst (λ (k : ℕ). IsIn a (some_line network (on_lane layer network plan k))) first i)))
 
   lane_line : (layer : LaneLayer) (place : ℕ) → place < length network.device → HasLineOf network lines (on_lane layer network plan place)
-  lane_line Grounds = lane_at Grounds 9 refl
-  lane_line Rails = lane_at Rails 12 refl
+  lane_line Grounds = lane_at Grounds 10 refl
+  lane_line Rails = lane_at Rails 13 refl
 
   mark_at : (layer : MarkLayer) (n : ℕ) → slice_get pictures.layers n ≡ Some (layers.Marks layer) → (mark : Mark) → IsIn mark plan.marks
       → HasLineOf network lines (on_mark layer network plan mark)
@@ -77,17 +78,17 @@ module _ (network : Network) (view : View) (notes : List Note) where
       (in_flat (λ m. some_line network (on_mark layer network plan m)) plan.marks mark a of i))
 
   mark_element : (layer : MarkLayer) (mark : Mark) → IsIn mark plan.marks → HasLineOf network lines (on_mark layer network plan mark)
-  mark_element Turns = mark_at Turns 10 refl
-  mark_element Ticks = mark_at Ticks 11 refl
-  mark_element Waits = mark_at Waits 13 refl
-  mark_element Ways = mark_at Ways 14 refl
+  mark_element Turns = mark_at Turns 11 refl
+  mark_element Ticks = mark_at Ticks 12 refl
+  mark_element Waits = mark_at Waits 14 refl
+  mark_element Ways = mark_at Ways 15 refl
 
   window_line : (came : Came) → IsIn came windows → HasLineOf network lines (box_of came)
-  window_line came of = has_line network lines (box_of came) (λ a i. in_layer layers.Windows 15 refl a
+  window_line came of = has_line network lines (box_of came) (λ a i. in_layer layers.Windows 16 refl a
       (in_flat (λ c. some_line network (box_of c)) windows came a of i))
 
   gauge_line : (told : Told) → IsIn told (clocks_in view.span notes).told → HasLineOf network lines (gauge_of network plan.pen (clocks_in view.span notes) told)
-  gauge_line told of = has_line network lines (gauge_of network plan.pen (clocks_in view.span notes) told) (λ a i. in_layer layers.Gauges 16 refl a
+  gauge_line told of = has_line network lines (gauge_of network plan.pen (clocks_in view.span notes) told) (λ a i. in_layer layers.Gauges 17 refl a
       (in_flat (λ t. some_line network (gauge_of network plan.pen (clocks_in view.span notes) t)) (clocks_in view.span notes).told told a of i))
 
 pub pictures_draw_plans : PicturesDrawPlans
@@ -97,9 +98,13 @@ pictures_draw_plans network view notes = record {
   windows = window_line network view notes;
   gauges = gauge_line network view notes;
   spread = has_line network (picture_lines network view notes) (spread_of network (clocks_in view.span notes))
-      (λ a i. in_layer network view notes layers.Spread 17 refl a i);
+      (λ a i. in_layer network view notes layers.Spread 18 refl a i);
+  title = subst (λ (v : View). IsIn (title_line v.title) (picture_lines network view notes)) (view_behind network (begun network view) notes)
+      (in_layer network view notes layers.Title 1 refl (title_line (plan_of network view notes).view.title) (inl refl));
+  heading = subst (λ (v : View). IsIn (heading_line v.title) (picture_lines network view notes)) (view_behind network (begun network view) notes)
+      (in_layer network view notes layers.Heading 6 refl (heading_line (plan_of network view notes).view.title) (inl refl));
   lack = has_line network (picture_lines network view notes) (lack_of (plan_of network view notes))
-      (λ a i. in_layer network view notes layers.Lack 18 refl a i);
+      (λ a i. in_layer network view notes layers.Lack 19 refl a i);
 }
 
 -- ---- the marks

@@ -2,7 +2,7 @@
 use Rattle.lens.specs.draw.Keeping.{AreFlags, IsKept, Tells}
 use Rattle.lens.specs.draw.Naming.{AnswersNamed, CompletesNamed, IsKeptAnswer, IsNamedAnswer, IsNamedStatus, IsUnknown, LeavesNamed, LeavesUnnamed, Names, unknown_answer}
 use Rattle.lens.specs.{declared.{draw.subject.Subject.{Subject, TheVariants.{Frames, Lane}}, forms.Part.Part}, draw.{Answer.draw_answer, Spans.span_of}}
-use Rattle.{lens_svg.specs.Views.flag_at, schedule_checker.specs.Refusals.RefusalIsOne}
+use Rattle.{lens_svg.specs.{Titles.title_of, Views.flag_at}, schedule_checker.specs.Refusals.RefusalIsOne}
 use Rattle.net_plan.specs.{Bearers.{IsFirstBearer, device_names, vl_names}, declared.network.Network.Network}
 use Rattle.net_plan.specs.declared.ids.{DeviceId.DeviceId, VlId.VlId}
 use Rattle.run_law.specs.{declared.note.Note.Note, records.Happenings.{Happening, happenings}}
@@ -83,28 +83,28 @@ one_flags network subject hs xs ys p q =
     let at = there_at hs i (omega (arith, within, first)) in
     tells_same (flag_at xs (suc i)) (flag_at ys (suc i)) (IsKept network subject hs at.0) (p.each (suc i) at.0 at.1) (q.each (suc i) at.0 at.1))
 
-kept_one : (part : Part) (subject : Subject) → IsOneFor (IsKeptAnswer part subject)
-kept_one part subject network octets ns end a b rules of p q =
+kept_one : (words : List (List ℕ)) (part : Part) (subject : Subject) → IsOneFor (IsKeptAnswer words part subject)
+kept_one words part subject network octets ns end a b rules of p q =
     let same = one_flags network subject (happenings network ns) p.flags q.flags p.are q.are in
-    p.is ∙ ap (λ (flags : List Bool). draw_answer network (record { span = span_of network part; kept = Some flags }) ns) same ∙ sym q.is
+    p.is ∙ ap (λ (flags : List Bool). draw_answer network (record { span = span_of network part; kept = Some flags; title = title_of words }) ns) same ∙ sym q.is
 
 -- ---- how it is given
 
-pub named_given : (part : Part) (name : List ℕ) (network : Network) (subject : Subject) (second : Option (List ℕ)) (status : Status) (old new : Shown)
+pub named_given : (words : List (List ℕ)) (part : Part) (name : List ℕ) (network : Network) (subject : Subject) (second : Option (List ℕ)) (status : Status) (old new : Shown)
     → Names network name subject
-    → ForOctets second (λ report. GivesAnswer (IsReportAnswer (IsKeptAnswer part subject) report network) status old new)
-    → ForOctets second (λ report. GivesAnswer (IsNamedAnswer part name report network) status old new)
-named_given part name network subject second status old new names given =
-    for_more second (λ report. GivesAnswer (IsReportAnswer (IsKeptAnswer part subject) report network) status old new)
-    (λ report. GivesAnswer (IsNamedAnswer part name report network) status old new)
-    (λ report. answer_widened (IsReportAnswer (IsKeptAnswer part subject) report network) (IsNamedAnswer part name report network) status old new
+    → ForOctets second (λ report. GivesAnswer (IsReportAnswer (IsKeptAnswer words part subject) report network) status old new)
+    → ForOctets second (λ report. GivesAnswer (IsNamedAnswer words part name report network) status old new)
+named_given words part name network subject second status old new names given =
+    for_more second (λ report. GivesAnswer (IsReportAnswer (IsKeptAnswer words part subject) report network) status old new)
+    (λ report. GivesAnswer (IsNamedAnswer words part name report network) status old new)
+    (λ report. answer_widened (IsReportAnswer (IsKeptAnswer words part subject) report network) (IsNamedAnswer words part name report network) status old new
     (λ a is. inr (subject, names, is))) given
 
-pub unknown_given : (part : Part) (name : List ℕ) (network : Network) (second : Option (List ℕ)) (status : Status) (old new : Shown)
+pub unknown_given : (words : List (List ℕ)) (part : Part) (name : List ℕ) (network : Network) (second : Option (List ℕ)) (status : Status) (old new : Shown)
     → IsUnknown network name → Gives unknown_answer status old new
-    → ForOctets second (λ report. GivesAnswer (IsNamedAnswer part name report network) status old new)
-unknown_given part name network second status old new unknown given =
-    for_all second (λ report. GivesAnswer (IsNamedAnswer part name report network) status old new)
+    → ForOctets second (λ report. GivesAnswer (IsNamedAnswer words part name report network) status old new)
+unknown_given words part name network second status old new unknown given =
+    for_all second (λ report. GivesAnswer (IsNamedAnswer words part name report network) status old new)
     (λ report. inl (unknown_answer, inl (unknown, refl), given))
 
 -- what is read is one network
@@ -126,70 +126,70 @@ unread_unnamed name (Some octets) Unread unread = λ network other unknown. unre
 -- ---- safely
 
 -- the answers for the records, of whatever is named
-abbrev KeptOfAny : Part → AnswersFor
-KeptOfAny part network ns end a = (subject : Subject) × IsKeptAnswer part subject network ns end a
+abbrev KeptOfAny : List (List ℕ) → Part → AnswersFor
+KeptOfAny words part network ns end a = (subject : Subject) × IsKeptAnswer words part subject network ns end a
 
-report_of_any : (part : Part) (subject : Subject) (report : List ℕ) (network : Network) (a : Answer)
-    → IsReportAnswer (IsKeptAnswer part subject) report network a → IsReportAnswer (KeptOfAny part) report network a
-report_of_any part subject report network a (inl h) = inl h
-report_of_any part subject report network a (inr (inl h)) = inr (inl h)
-report_of_any part subject report network a (inr (inr h)) = inr (inr (h.0, h.1, h.2, (subject, h.3)))
+report_of_any : (words : List (List ℕ)) (part : Part) (subject : Subject) (report : List ℕ) (network : Network) (a : Answer)
+    → IsReportAnswer (IsKeptAnswer words part subject) report network a → IsReportAnswer (KeptOfAny words part) report network a
+report_of_any words part subject report network a (inl h) = inl h
+report_of_any words part subject report network a (inr (inl h)) = inr (inl h)
+report_of_any words part subject report network a (inr (inr h)) = inr (inr (h.0, h.1, h.2, (subject, h.3)))
 
-done_known : (part : Part) (name report : List ℕ) (network : Network) (a : Answer) → Done ≡ a.status → IsNamedAnswer part name report network a
-    → IsReportAnswer (KeptOfAny part) report network a
-done_known part name report network a done (inl h) =
+done_known : (words : List (List ℕ)) (part : Part) (name report : List ℕ) (network : Network) (a : Answer) → Done ≡ a.status → IsNamedAnswer words part name report network a
+    → IsReportAnswer (KeptOfAny words part) report network a
+done_known words part name report network a done (inl h) =
     let e : Done ≡ NameRefused = done ∙ ap (λ (x : Answer). x.status) h.1 in absurd cc
-done_known part name report network a done (inr h) = report_of_any part h.0 report network a h.2
+done_known words part name report network a done (inr h) = report_of_any words part h.0 report network a h.2
 
-done_files : (part : Part) (name octets report : List ℕ) (a : Answer) → Done ≡ a.status → IsNetworkAnswer (IsNamedAnswer part name report) octets a
-    → IsNetworkAnswer (IsReportAnswer (KeptOfAny part) report) octets a
-done_files part name octets report a done (inl h) = inl h
-done_files part name octets report a done (inr (inl h)) = inr (inl h)
-done_files part name octets report a done (inr (inr (inl h))) = inr (inr (inl h))
-done_files part name octets report a done (inr (inr (inr h))) = inr (inr (inr (h.0, h.1, done_known part name report h.0 a done h.2)))
+done_files : (words : List (List ℕ)) (part : Part) (name octets report : List ℕ) (a : Answer) → Done ≡ a.status → IsNetworkAnswer (IsNamedAnswer words part name report) octets a
+    → IsNetworkAnswer (IsReportAnswer (KeptOfAny words part) report) octets a
+done_files words part name octets report a done (inl h) = inl h
+done_files words part name octets report a done (inr (inl h)) = inr (inl h)
+done_files words part name octets report a done (inr (inr (inl h))) = inr (inr (inl h))
+done_files words part name octets report a done (inr (inr (inr h))) = inr (inr (inr (h.0, h.1, done_known words part name report h.0 a done h.2)))
 
-done_given : (part : Part) (name octets report : List ℕ) (status : Status) (old new : Shown) → status ≡ Done
-    → GivesAnswer (IsNetworkAnswer (IsNamedAnswer part name report) octets) status old new
-    → GivesAnswer (IsNetworkAnswer (IsReportAnswer (KeptOfAny part) report) octets) status old new
-done_given part name octets report status old new done (inl (a, is, inl g)) =
-    inl (a, done_files part name octets report a (sym done ∙ g.0) is, inl g)
-done_given part name octets report status old new done (inl (a, is, inr (inl g))) = let e = g.0 in absurd cc
-done_given part name octets report status old new done (inl (a, is, inr (inr (inl r, p)))) = absurd cc
-done_given part name octets report status old new done (inl (a, is, inr (inr (inr m, p)))) = absurd cc
-done_given part name octets report status old new done (inr none) = inr none
+done_given : (words : List (List ℕ)) (part : Part) (name octets report : List ℕ) (status : Status) (old new : Shown) → status ≡ Done
+    → GivesAnswer (IsNetworkAnswer (IsNamedAnswer words part name report) octets) status old new
+    → GivesAnswer (IsNetworkAnswer (IsReportAnswer (KeptOfAny words part) report) octets) status old new
+done_given words part name octets report status old new done (inl (a, is, inl g)) =
+    inl (a, done_files words part name octets report a (sym done ∙ g.0) is, inl g)
+done_given words part name octets report status old new done (inl (a, is, inr (inl g))) = let e = g.0 in absurd cc
+done_given words part name octets report status old new done (inl (a, is, inr (inr (inl r, p)))) = absurd cc
+done_given words part name octets report status old new done (inl (a, is, inr (inr (inr m, p)))) = absurd cc
+done_given words part name octets report status old new done (inr none) = inr none
 
-pub named_safely : (part : Part) (name : List ℕ) (first second : Option (List ℕ)) (status : Status) (old new : Shown)
-    → GivesFiles (λ report. IsNamedAnswer part name report) first second status old new → AuditsSafely first second status
-named_safely part name first second status old new given done =
-    files_safely (KeptOfAny part) first second status old new
-    (for_more first (λ octets. ForOctets second (λ report. GivesAnswer (IsNetworkAnswer (IsNamedAnswer part name report) octets) status old new))
-    (λ octets. ForOctets second (λ report. GivesAnswer (IsNetworkAnswer (IsReportAnswer (KeptOfAny part) report) octets) status old new))
-    (λ octets. for_more second (λ report. GivesAnswer (IsNetworkAnswer (IsNamedAnswer part name report) octets) status old new)
-    (λ report. GivesAnswer (IsNetworkAnswer (IsReportAnswer (KeptOfAny part) report) octets) status old new)
-    (λ report. done_given part name octets report status old new done)) given) done
+pub named_safely : (words : List (List ℕ)) (part : Part) (name : List ℕ) (first second : Option (List ℕ)) (status : Status) (old new : Shown)
+    → GivesFiles (λ report. IsNamedAnswer words part name report) first second status old new → AuditsSafely first second status
+named_safely words part name first second status old new given done =
+    files_safely (KeptOfAny words part) first second status old new
+    (for_more first (λ octets. ForOctets second (λ report. GivesAnswer (IsNetworkAnswer (IsNamedAnswer words part name report) octets) status old new))
+    (λ octets. ForOctets second (λ report. GivesAnswer (IsNetworkAnswer (IsReportAnswer (KeptOfAny words part) report) octets) status old new))
+    (λ octets. for_more second (λ report. GivesAnswer (IsNetworkAnswer (IsNamedAnswer words part name report) octets) status old new)
+    (λ report. GivesAnswer (IsNetworkAnswer (IsReportAnswer (KeptOfAny words part) report) octets) status old new)
+    (λ report. done_given words part name octets report status old new done)) given) done
 
 -- ---- to its end
 
-whole_unknown : (part : Part) (name report : List ℕ) (network : Network) (a : Answer) → IsUnknown network name → IsNamedAnswer part name report network a
+whole_unknown : (words : List (List ℕ)) (part : Part) (name report : List ℕ) (network : Network) (a : Answer) → IsUnknown network name → IsNamedAnswer words part name report network a
     → a.status ≡ NameRefused
-whole_unknown part name report network a unknown (inl h) = ap (λ (x : Answer). x.status) h.1
-whole_unknown part name report network a unknown (inr h) = absurd (not_unknown network name h.0 h.1 unknown)
+whole_unknown words part name report network a unknown (inl h) = ap (λ (x : Answer). x.status) h.1
+whole_unknown words part name report network a unknown (inr h) = absurd (not_unknown network name h.0 h.1 unknown)
 
-whole_named : (part : Part) (name octets report : List ℕ) (network : Network) (subject : Subject) (ns : List Note) (end : Units) (a : Answer)
-    → MeansAccepted octets network → Names network name subject → IsReportOf network report ns end → IsNamedAnswer part name report network a
-    → IsKeptAnswer part subject network ns end a
-whole_named part name octets report network subject ns end a means names of (inl h) = absurd (not_unknown network name subject names h.0)
-whole_named part name octets report network subject ns end a means names of (inr h) =
-    report_alone (IsKeptAnswer part subject) network report ns end means.rules of a
-    (subst (λ (s : Subject). IsReportAnswer (IsKeptAnswer part s) report network a) (one_subject network name h.0 subject h.1 names) h.2)
+whole_named : (words : List (List ℕ)) (part : Part) (name octets report : List ℕ) (network : Network) (subject : Subject) (ns : List Note) (end : Units) (a : Answer)
+    → MeansAccepted octets network → Names network name subject → IsReportOf network report ns end → IsNamedAnswer words part name report network a
+    → IsKeptAnswer words part subject network ns end a
+whole_named words part name octets report network subject ns end a means names of (inl h) = absurd (not_unknown network name subject names h.0)
+whole_named words part name octets report network subject ns end a means names of (inr h) =
+    report_alone (IsKeptAnswer words part subject) network report ns end means.rules of a
+    (subst (λ (s : Subject). IsReportAnswer (IsKeptAnswer words part s) report network a) (one_subject network name h.0 subject h.1 names) h.2)
 
-module _ (part : Part) (name octets report : List ℕ) (status : Status) (old new : Shown) (SourceRose SinkRose : Type 0)
+module _ (words : List (List ℕ)) (part : Part) (name octets report : List ℕ) (status : Status) (old new : Shown) (SourceRose SinkRose : Type 0)
     (read : status ≡ ReadFault → SourceRose) (write : status ≡ WriteFault → SinkRose) (quiet : SourceRose → ⊥) (calm : SinkRose → ⊥) where
   -- the whole answer was given, or memory ran out
   abbrev Whole : Type 0
-  Whole = (a : Answer) × IsNetworkAnswer (IsNamedAnswer part name report) octets a × (status ≡ a.status)
+  Whole = (a : Answer) × IsNetworkAnswer (IsNamedAnswer words part name report) octets a × (status ≡ a.status)
 
-  whole_or_less : GivesAnswer (IsNetworkAnswer (IsNamedAnswer part name report) octets) status old new → Whole ⊎ (status ≡ OutOfMemory)
+  whole_or_less : GivesAnswer (IsNetworkAnswer (IsNamedAnswer words part name report) octets) status old new → Whole ⊎ (status ≡ OutOfMemory)
   whole_or_less (inl (a, is, inl g)) = inl (a, is, g.0)
   whole_or_less (inl (a, is, inr (inl g))) = absurd (calm (write g.0))
   whole_or_less (inl (a, is, inr (inr (inl f, p)))) = absurd (quiet (read f))
@@ -197,42 +197,42 @@ module _ (part : Part) (name octets report : List ℕ) (status : Status) (old ne
   whole_or_less (inr (inl f, p)) = absurd (quiet (read f))
   whole_or_less (inr (inr o, p)) = inr o
 
-  answers_by : Whole ⊎ (status ≡ OutOfMemory) → AnswersNamed part name octets report status
+  answers_by : Whole ⊎ (status ≡ OutOfMemory) → AnswersNamed words part name octets report status
   answers_by (inr none) = record { unknown = λ network means unknown. inl none; named = λ network subject ns end means names of. inl none }
   answers_by (inl w) = record {
-    unknown = λ network means unknown. inr (w.2 ∙ whole_unknown part name report network w.0 unknown
-        (accepted_alone (IsNamedAnswer part name report) octets network means w.0 w.1));
+    unknown = λ network means unknown. inr (w.2 ∙ whole_unknown words part name report network w.0 unknown
+        (accepted_alone (IsNamedAnswer words part name report) octets network means w.0 w.1));
     named = λ network subject ns end means names of. inr (
       w.0,
-      whole_named part name octets report network subject ns end w.0 means names of
-          (accepted_alone (IsNamedAnswer part name report) octets network means w.0 w.1),
+      whole_named words part name octets report network subject ns end w.0 means names of
+          (accepted_alone (IsNamedAnswer words part name report) octets network means w.0 w.1),
       w.2,
     );
   }
 
-  answers_named : GivesAnswer (IsNetworkAnswer (IsNamedAnswer part name report) octets) status old new → AnswersNamed part name octets report status
+  answers_named : GivesAnswer (IsNetworkAnswer (IsNamedAnswer words part name report) octets) status old new → AnswersNamed words part name octets report status
   answers_named given = answers_by (whole_or_less given)
 
-pub named_completed : (part : Part) (name : List ℕ) (first second : Option (List ℕ)) (status : Status) (old new : Shown) (SourceRose SinkRose : Type 0)
-    → GivesFiles (λ report. IsNamedAnswer part name report) first second status old new → (status ≡ ReadFault → SourceRose)
-    → (status ≡ WriteFault → SinkRose) → CompletesNamed part name first second SourceRose SinkRose status
-named_completed part name (Some octets) (Some report) status old new SourceRose SinkRose given read write = λ quiet calm.
-    answers_named part name octets report status old new SourceRose SinkRose read write quiet calm given
-named_completed part name (Some octets) None status old new SourceRose SinkRose given read write = tt
-named_completed part name None second status old new SourceRose SinkRose given read write = tt
+pub named_completed : (words : List (List ℕ)) (part : Part) (name : List ℕ) (first second : Option (List ℕ)) (status : Status) (old new : Shown) (SourceRose SinkRose : Type 0)
+    → GivesFiles (λ report. IsNamedAnswer words part name report) first second status old new → (status ≡ ReadFault → SourceRose)
+    → (status ≡ WriteFault → SinkRose) → CompletesNamed words part name first second SourceRose SinkRose status
+named_completed words part name (Some octets) (Some report) status old new SourceRose SinkRose given read write = λ quiet calm.
+    answers_named words part name octets report status old new SourceRose SinkRose read write quiet calm given
+named_completed words part name (Some octets) None status old new SourceRose SinkRose given read write = tt
+named_completed words part name None second status old new SourceRose SinkRose given read write = tt
 
 -- ---- once
 
-named_both : RefusalIsOne → (part : Part) (name report octets : List ℕ) (network : Network) → MeansAccepted octets network → (a b : Answer)
-    → IsNamedAnswer part name report network a → IsNamedAnswer part name report network b → a ≡ b
-named_both one part name report octets network means a b (inl p) (inl q) = p.1 ∙ sym q.1
-named_both one part name report octets network means a b (inl p) (inr q) = absurd (not_unknown network name q.0 q.1 p.0)
-named_both one part name report octets network means a b (inr p) (inl q) = absurd (not_unknown network name p.0 p.1 q.0)
-named_both one part name report octets network means a b (inr p) (inr q) =
-    let same = subst (λ (s : Subject). IsReportAnswer (IsKeptAnswer part s) report network b) (one_subject network name q.0 p.0 q.1 p.1) q.2 in
-    report_one one (IsKeptAnswer part p.0) (kept_one part p.0) octets report a b (inr (inr (inr (network, means, p.2)))) (inr (inr (inr (network, means, same))))
+named_both : RefusalIsOne → (words : List (List ℕ)) (part : Part) (name report octets : List ℕ) (network : Network) → MeansAccepted octets network → (a b : Answer)
+    → IsNamedAnswer words part name report network a → IsNamedAnswer words part name report network b → a ≡ b
+named_both one words part name report octets network means a b (inl p) (inl q) = p.1 ∙ sym q.1
+named_both one words part name report octets network means a b (inl p) (inr q) = absurd (not_unknown network name q.0 q.1 p.0)
+named_both one words part name report octets network means a b (inr p) (inl q) = absurd (not_unknown network name p.0 p.1 q.0)
+named_both one words part name report octets network means a b (inr p) (inr q) =
+    let same = subst (λ (s : Subject). IsReportAnswer (IsKeptAnswer words part s) report network b) (one_subject network name q.0 p.0 q.1 p.1) q.2 in
+    report_one one (IsKeptAnswer words part p.0) (kept_one words part p.0) octets report a b (inr (inr (inr (network, means, p.2)))) (inr (inr (inr (network, means, same))))
 
-pub named_one : RefusalIsOne → (part : Part) (name octets report : List ℕ) (a b : Answer) → IsNetworkAnswer (IsNamedAnswer part name report) octets a
-    → IsNetworkAnswer (IsNamedAnswer part name report) octets b → a ≡ b
-named_one one part name octets report a b p q =
-    network_answer_one one (IsNamedAnswer part name report) octets (λ network means. named_both one part name report octets network means) a b p q
+pub named_one : RefusalIsOne → (words : List (List ℕ)) (part : Part) (name octets report : List ℕ) (a b : Answer) → IsNetworkAnswer (IsNamedAnswer words part name report) octets a
+    → IsNetworkAnswer (IsNamedAnswer words part name report) octets b → a ≡ b
+named_one one words part name octets report a b p q =
+    network_answer_one one (IsNamedAnswer words part name report) octets (λ network means. named_both one words part name report octets network means) a b p q

@@ -1,6 +1,6 @@
 -- Two reports with one picture have the same lines.
 use Rattle.{lens.proofs.draw_lemmas.Titles.titles_are, lens_svg.specs.{Sketching.{is_drawn, plan_of}, Windows.box_of}, tte_units.specs.declared.units.Units.Units}
-use Rattle.lens.specs.declared.draw.signs.Sign.{Sign, TheVariants.{Arrows, Backdrop, Heading, MarkKey, Shapes, Style, WayKey}}
+use Rattle.lens.specs.declared.draw.signs.Sign.{Sign, TheVariants.{Arrows, Backdrop, MarkKey, Shapes, Style, WayKey}}
 use Rattle.{lens.specs.declared.draw.putting.Layer.Layer, std.proofs.{Common.{suc, sym, take, true, zero, ℕ}, lemmas.Fmt.decimal_is_IsNumeral}}
 use Rattle.lens.specs.draw.{Laws.HaveTitles, Picture.{back_lines, front_lines, layer_lines, lines_from, mark_lines, picture_lines, some_line, windows_of}}
 use Rattle.{lens.specs.draw.{ReadingLaws.{PicturesAreOne, TitlesArePlain}, Signs.{close_line, sign_line}}, lens_svg.specs.Layers.{lack_of, on_lane, on_mark, opening_of}}
@@ -8,7 +8,7 @@ use Rattle.{lens_svg.proofs.Plain.note_plain, net_plan.specs.Ranges.IsInRange, r
 use Rattle.{lens_svg.specs.Clocks.{Clocks, clocks_in, gauge_of, spread_of}, std.proofs.lemmas.List.Elements.{All-cons, All-head, All-nil, All-tail, All-weaker}}
 use Rattle.lens_svg.specs.Elements.{bar_line, caption_line, element_line, gauge_line, opening_line, rail_line, spread_bar, tick_line, way_line, window_line}
 use Rattle.{lens_svg.specs.{Laws.shown, Plan.Plan}, std.specs.{Char.digit_value, Str.Parse.AllDigits}}
-use Rattle.{lens_svg.specs.{Views.View, declared.window.Came.Came}, run_law.specs.declared.note.Note.Note, std.proofs.lemmas.Bool.Decides.nat_tests}
+use Rattle.{lens_svg.specs.{Titles.{heading_line, title_line}, Views.View, declared.window.Came.Came}, run_law.specs.declared.note.Note.Note, std.proofs.lemmas.Bool.Decides.nat_tests}
 use Rattle.{lens_svg.specs.Marking.{IsPlain, head_text, is_plain}, std.specs.Prelude.{◌==◌, All, bytes_eq, codes, decimal, flat_map, if◌then◌else◌, length}}
 use Rattle.lens_svg.specs.declared.element.Element.{Element, TheVariants.{Bar, Caption, Gauge, Lack, Opening, Rail, Spread, Tick, Way, Window}}
 use Rattle.{net_plan.specs.declared.network.Network.Network, report_text.{proofs.Splits.{NonePasses, split_once}, specs.Ranges.{IsNoteInRange, IsNoteOf}}}
@@ -58,7 +58,6 @@ no_sign Style = refl
 no_sign Arrows = refl
 no_sign Shapes = refl
 no_sign Backdrop = refl
-no_sign Heading = refl
 no_sign MarkKey = refl
 no_sign WayKey = refl
 
@@ -66,10 +65,20 @@ none_some : (network : Network) (o : Option Element) → NoneMarks (some_line ne
 none_some network None = tt
 none_some network (Some e) = (no_element network e, tt)
 
+no_title : (title : List ℕ) → is_mark (title_line title) ≡ false
+unfolding title_line
+no_title title = refl
+
+no_heading : (title : List ℕ) → is_mark (heading_line title) ≡ false
+unfolding heading_line
+no_heading title = refl
+
 none_layer : (network : Network) (plan : Plan) (windows : List Came) (clocks : Clocks) (layer : Layer)
     → NoneMarks (layer_lines network plan windows clocks layer)
 none_layer network plan windows clocks layers.Opening = (no_element network (opening_of network plan), tt)
+none_layer network plan windows clocks layers.Title = (no_title plan.view.title, tt)
 none_layer network plan windows clocks (layers.Shared sign) = (no_sign sign, tt)
+none_layer network plan windows clocks layers.Heading = (no_heading plan.view.title, tt)
 none_layer network plan windows clocks layers.Caption = (no_element network (Caption plan.view.span (length plan.marks)), tt)
 none_layer network plan windows clocks (layers.Lanes layer) =
     none_places (λ place. some_line network (on_lane layer network plan place)) (λ place. none_some network (on_lane layer network plan place)) 0

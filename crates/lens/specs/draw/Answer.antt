@@ -1,10 +1,10 @@
 -- What `draw` answers for a report.
-use Rattle.std.specs.Prelude.{◌≡◌, ◌++◌, if◌then◌else◌, List, None}
+use Rattle.std.specs.Prelude.{◌≡◌, ◌++◌, if◌then◌else◌, List, None, ℕ}
 use Rattle.{lens.specs.draw.Picture.{back_lines, front_lines, picture_lines}, lens_svg.specs.declared.layout.Span.Span}
 use Rattle.lens.specs.{declared.forms.Part.Part, draw.Spans.span_of}
 use Rattle.lens_svg.specs.{Clocks.Clocks, Sketching.{fits, plan_of}, declared.{mark.Mark.Mark, window.Came.Came}}
 use Rattle.{run_law.specs.declared.note.Note.Note, tte_forms.specs.Answering.Answer}
-use Rattle.lens_svg.specs.{Plan.Plan, Views.View}
+use Rattle.lens_svg.specs.{Plan.Plan, Titles.title_of, Views.View}
 use Rattle.{net_plan.specs.declared.network.Network.Network, tte_units.specs.declared.units.Units.Units}
 use Rattle.tte_forms.specs.{declared.status.Status.TheVariants.Done, networks.Accepting.too_long_answer}
 
@@ -28,10 +28,11 @@ draw_answer network view notes =
 abbrev pub IsViewAnswer : View → Network → List Note → Units → Answer → Type 0
 IsViewAnswer view network notes end a = a ≡ draw_answer network view notes
 
--- where all records of a part are drawn
-abbrev pub IsDrawAnswer : Span → Network → List Note → Units → Answer → Type 0
-IsDrawAnswer span network notes end a = IsViewAnswer (record { span = span; kept = None }) network notes end a
+-- where all records of a part are drawn, for these words
+abbrev pub IsDrawAnswer : List (List ℕ) → Span → Network → List Note → Units → Answer → Type 0
+IsDrawAnswer words span network notes end a =
+    IsViewAnswer (record { span = span; kept = None; title = title_of words }) network notes end a
 
 -- the answer for a part of the run
-abbrev pub IsPartAnswer : Part → Network → List Note → Units → Answer → Type 0
-IsPartAnswer part network notes end a = IsDrawAnswer (span_of network part) network notes end a
+abbrev pub IsPartAnswer : List (List ℕ) → Part → Network → List Note → Units → Answer → Type 0
+IsPartAnswer words part network notes end a = IsDrawAnswer words (span_of network part) network notes end a

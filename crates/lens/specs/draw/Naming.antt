@@ -1,7 +1,7 @@
 -- What `draw` answers where a name is given.
 use Rattle.std.specs.Prelude.{◌≡◌, ◌⊎◌, Bool, List, None, Option, Some, codes, ℕ}
 use Rattle.lens.specs.{declared.{draw.subject.Subject.{Subject, TheVariants.{Frames, Lane}}, forms.Part.Part}, draw.Keeping.AreFlags}
-use Rattle.lens.specs.draw.{Answer.IsViewAnswer, Spans.span_of}
+use Rattle.{lens.specs.draw.{Answer.IsViewAnswer, Spans.span_of}, lens_svg.specs.Titles.title_of}
 use Rattle.net_plan.specs.Bearers.{HasNoBearer, IsFirstBearer, device_names, vl_names}
 use Rattle.net_plan.specs.declared.network.Network.{Network}
 use Rattle.run_law.specs.{declared.note.Note.Note, records.Happenings.happenings}
@@ -28,18 +28,18 @@ abbrev pub unknown_answer : Answer
 unknown_answer = line_answer NameRefused name_line
 
 -- the answer for the records of a report: the picture of those in the part that are kept
-pub record IsKeptAnswer (part : Part) (subject : Subject) (network : Network) (ns : List Note) (end : Units) (a : Answer)
-    : Type 0 where
+pub record IsKeptAnswer (words : List (List ℕ)) (part : Part) (subject : Subject) (network : Network) (ns : List Note)
+    (end : Units) (a : Answer) : Type 0 where
   pub flags : List Bool
   pub are : AreFlags network subject (happenings network ns) flags
-  pub is : IsViewAnswer (record { span = span_of network part; kept = Some flags }) network ns end a
+  pub is : IsViewAnswer (record { span = span_of network part; kept = Some flags; title = title_of words }) network ns end a
 
 -- the answer for an accepted network and the octets of a report, of which the name may be unknown
-abbrev pub IsNamedAnswer : Part → List ℕ → List ℕ → Network → Answer → Type 0
-IsNamedAnswer part name report network a =
+abbrev pub IsNamedAnswer : List (List ℕ) → Part → List ℕ → List ℕ → Network → Answer → Type 0
+IsNamedAnswer words part name report network a =
     (IsUnknown network name × (a ≡ unknown_answer))
     ⊎ ((subject : Subject) × Names network name subject
-    × IsReportAnswer (IsKeptAnswer part subject) report network a)
+    × IsReportAnswer (IsKeptAnswer words part subject) report network a)
 
 -- the statuses of `draw` with a name
 abbrev pub IsNamedStatus : Status → Type 0
@@ -58,15 +58,17 @@ LeavesUnnamed name (Some octets) Unread =
 
 -- an accepted network that has no such name is answered so, and the report of one that has is drawn to the end, unless
 -- memory ran out
-pub record AnswersNamed (part : Part) (name octets report : List ℕ) (status : Status) : Type 0 where
+pub record AnswersNamed (words : List (List ℕ)) (part : Part) (name octets report : List ℕ) (status : Status)
+    : Type 0 where
   pub unknown : (network : Network) → MeansAccepted octets network → IsUnknown network name
       → (status ≡ OutOfMemory) ⊎ (status ≡ NameRefused)
   pub named : (network : Network) (subject : Subject) (ns : List Note) (end : Units) → MeansAccepted octets network
       → Names network name subject → IsReportOf network report ns end
-      → (status ≡ OutOfMemory) ⊎ ((a : Answer) × IsKeptAnswer part subject network ns end a × (status ≡ a.status))
+      → (status ≡ OutOfMemory) ⊎ ((a : Answer) × IsKeptAnswer words part subject network ns end a × (status ≡ a.status))
 
 -- so it is, where the octets are told and no count of faults rose
-abbrev pub CompletesNamed : Part → List ℕ → Option (List ℕ) → Option (List ℕ) → Type 0 → Type 0 → Status → Type 0
-CompletesNamed part name (Some octets) (Some report) SourceRose SinkRose status =
-    (SourceRose → ⊥) → (SinkRose → ⊥) → AnswersNamed part name octets report status
-CompletesNamed part name first second SourceRose SinkRose status = Unit {0}
+abbrev pub CompletesNamed : List (List ℕ) → Part → List ℕ → Option (List ℕ) → Option (List ℕ) → Type 0 → Type 0 → Status
+    → Type 0
+CompletesNamed words part name (Some octets) (Some report) SourceRose SinkRose status =
+    (SourceRose → ⊥) → (SinkRose → ⊥) → AnswersNamed words part name octets report status
+CompletesNamed words part name first second SourceRose SinkRose status = Unit {0}

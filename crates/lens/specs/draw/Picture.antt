@@ -1,15 +1,16 @@
 -- The lines of a picture.
 use Rattle.std.specs.Prelude.{ℕ, ℤ, zero, suc, ◌+◌, if◌then◌else◌, List, [], ◌∷◌, ◌++◌, Option}
 use Rattle.std.specs.Prelude.{Some, None, drop, flat_map, length}
-use Rattle.lens.specs.declared.draw.putting.Layer.TheVariants.{Caption, Gauges, Lack, Lanes, Marks, Opening, Shared, Spread}
-use Rattle.lens.specs.declared.draw.putting.Layer.{Layer, TheVariants.Windows}
-use Rattle.lens.specs.declared.draw.signs.Sign.TheVariants.{Arrows, Backdrop, Heading, MarkKey, Shapes, Style, WayKey}
+use Rattle.lens.specs.declared.draw.putting.Layer.TheVariants.{Caption, Gauges, Heading, Lack, Lanes, Marks, Opening, Shared, Spread}
+use Rattle.lens.specs.declared.draw.putting.Layer.{Layer, TheVariants.{Title, Windows}}
+use Rattle.lens.specs.declared.draw.signs.Sign.TheVariants.{Arrows, Backdrop, MarkKey, Shapes, Style, WayKey}
 use Rattle.lens_svg.specs.declared.layer.LaneLayer.TheVariants.{Grounds, Rails}
 use Rattle.lens_svg.specs.declared.layer.MarkLayer.TheVariants.{Ticks, Turns, Waits, Ways}
 use Rattle.{lens.specs.draw.Signs.{close_line, sign_line}, run_law.specs.records.Happenings.happenings}
 use Rattle.lens_svg.specs.{Clocks.{Clocks, clocks_in, gauge_of, spread_of}, Layers.{lack_of, on_lane, on_mark, opening_of}}
 use Rattle.{lens_svg.specs.{Elements.element_line, Plan.Plan}, run_law.specs.declared.note.Note.Note}
-use Rattle.lens_svg.specs.{Marking.mark_line, Views.View, Windows.{box_of, windows_in}, declared.mark.Mark.Mark}
+use Rattle.lens_svg.specs.{Marking.mark_line, Titles.{heading_line, title_line}, Views.View, declared.mark.Mark.Mark}
+use Rattle.lens_svg.specs.Windows.{box_of, windows_in}
 use Rattle.lens_svg.specs.{Sketching.{is_drawn, plan_of}, declared.{layout.Pen.Pen, window.Came.Came}}
 use Rattle.lens_svg.specs.declared.{element.Element.Element, layer.{LaneLayer.LaneLayer, MarkLayer.MarkLayer}}
 use Rattle.{audit_sweep.specs.Indexing.clock_at, tte_audit.specs.Report.scenario_of}
@@ -46,7 +47,9 @@ windows_lines network windows = flat_map (λ came. some_line network (box_of cam
 -- a part of the picture
 abbrev pub layer_lines : Network → Plan → List Came → Clocks → Layer → List (List ℕ)
 layer_lines network plan windows clocks Opening = element_line network (opening_of network plan) ∷ []
+layer_lines network plan windows clocks Title = title_line plan.view.title ∷ []
 layer_lines network plan windows clocks (Shared sign) = sign_line sign ∷ []
+layer_lines network plan windows clocks Heading = heading_line plan.view.title ∷ []
 layer_lines network plan windows clocks Caption = element_line network (elements.Caption plan.view.span (length plan.marks)) ∷ []
 layer_lines network plan windows clocks (Lanes layer) = lanes_lines network plan layer
 layer_lines network plan windows clocks (Marks layer) = marks_lines network plan layer
@@ -58,7 +61,7 @@ layer_lines network plan windows clocks Lack = some_line network (lack_of plan)
 -- the parts below the marks, in their order
 abbrev pub layers : List Layer
 layers =
-    Opening ∷ Shared Style ∷ Shared Arrows ∷ Shared Shapes ∷ Shared Backdrop ∷ Shared Heading ∷ Shared MarkKey
+    Opening ∷ Title ∷ Shared Style ∷ Shared Arrows ∷ Shared Shapes ∷ Shared Backdrop ∷ Heading ∷ Shared MarkKey
     ∷ Shared WayKey ∷ Caption ∷ Lanes Grounds ∷ Marks Turns ∷ Marks Ticks ∷ Lanes Rails ∷ Marks Waits ∷ Marks Ways
     ∷ Windows ∷ Gauges ∷ Spread ∷ Lack ∷ []
 

@@ -1,6 +1,6 @@
 -- The lines that each picture has.
 use Rattle.std.specs.Prelude.{ℕ, ◌++◌, List, codes}
-use Rattle.lens.specs.declared.draw.signs.Sign.{Sign, TheVariants.{Arrows, Backdrop, Heading, MarkKey, Shapes, Style, WayKey}}
+use Rattle.lens.specs.declared.draw.signs.Sign.{Sign, TheVariants.{Arrows, Backdrop, MarkKey, Shapes, Style, WayKey}}
 
 -- the colours
 abbrev pub style : List ℕ
@@ -64,10 +64,6 @@ shapes =
 abbrev pub backdrop : List ℕ
 backdrop = codes "<rect width=\"100%\" height=\"100%\" fill=\"#f6f7f9\"/>\n"
 
--- the title
-abbrev pub heading : List ℕ
-heading = codes "<text class=\"top\" x=\"12\" y=\"24\">lens draw</text>\n"
-
 -- what the signs mean
 abbrev pub mark_key : List ℕ
 mark_key =
@@ -117,7 +113,6 @@ sign_line Style = style
 sign_line Arrows = arrows
 sign_line Shapes = shapes
 sign_line Backdrop = backdrop
-sign_line Heading = heading
 sign_line MarkKey = mark_key
 sign_line WayKey = way_key
 

@@ -11,11 +11,11 @@ ghost use Rattle.tte_forms.specs.{Answering.{Gives, GivesAnswer}, Faults.{HasCau
 use crate::draw::marks::put_back;
 use crate::draw::putting::put_front;
 use crate::draw::windows::windows_of;
-use lens_svg::{Came, Clocks, Kept, Sketch, Span};
+use lens_svg::{Came, Clocks, Kept, Sketch, Span, Title};
 use net_plan::Network;
 use run_law::Note;
 use std::alloc::Global;
-use tte_forms::{Status, end_with};
+use tte_forms::{Status, Words, end_with};
 use tte_io::{LineText, OutOfMemory, Sink};
 use tte_reports::{AuditedReport, RecordTaker, Records, ReportCommand, take_records};
 
@@ -23,12 +23,15 @@ use tte_reports::{AuditedReport, RecordTaker, Records, ReportCommand, take_recor
 ///
 /// The titles of the marks are the lines of the report's records there, so nothing of it is lost.
 #[derive(Drop)]
-pub struct Draw {
+pub struct Draw<'a> {
     pub span: Span,
+    /// The words of the call, which are the name of the picture.
+    pub words: &'a Words,
 }
 
-impl<K: Sink> ReportCommand<K> for Draw {
-    ghost answers = { λ command network notes end answer. IsDrawAnswer command.span network notes end answer };
+impl<'a, K: Sink> ReportCommand<K> for Draw<'a> {
+    ghost answers = { λ command network notes end answer.
+        IsDrawAnswer command.words.now command.span network notes end answer };
 
     ghost ends = { λ command status. IsAuditStatus status };
 
@@ -36,28 +39,31 @@ impl<K: Sink> ReportCommand<K> for Draw {
 
     fn put(&self, alloc: Global, network: &Network, report: &AuditedReport, out: &mut K) -> Status {
         let kept = Kept { flags: None };
-        draw_known(alloc, network, report, self.span, kept, out)
+        let title = Title::of(self.words);
+        draw_known(alloc, network, report, self.span, kept, title, out)
     }
 }
 
-/// Draws these records of a part of the run of an audited report.
+/// Draws these records of a part of the run of an audited report, under a title.
 pub(crate) fn draw_known<K: Sink>(
     alloc: Global,
     network: &Network,
     report: &AuditedReport,
     span: Span,
     kept: Kept,
+    title: Title,
     out: &mut K,
 ) -> Status
     requires named { IsNamed network.now }
     requires read { IsRead network.now report.now }
     ensures gives { Over K.Sink out.old out.new (λ old new. (notes : List NoteValue) (end : UnitsValue)
         → IsReportOf network.now report.now.octets notes end
-        → GivesAnswer (IsViewAnswer (record { span = span; kept = kept }) network.now notes end) result old new) }
+        → GivesAnswer (IsViewAnswer (record { span = span; kept = kept; title = title }) network.now notes end)
+        result old new) }
     ensures statuses { IsAuditStatus result }
     ensures cause { HasCause result ⊥ (PutFailed K.Sink out.old out.new) }
 {
-    let Draft { sketch, clocks } = match draft_of(alloc, network, span, kept, report) {
+    let Draft { sketch, clocks } = match draft_of(alloc, network, span, kept, title, report) {
         Ok(draft) => draft,
         Err(_) => return Status::OutOfMemory,
     };
@@ -92,15 +98,16 @@ fn draft_of(
     network: &Network,
     span: Span,
     kept: Kept,
+    title: Title,
     report: &AuditedReport,
 ) -> Result<Draft, OutOfMemory>
     requires named { IsNamed network.now }
     requires report { IsSomeReport network.now report.now.octets }
     ensures { IfOk result (λ draft. (notes : List NoteValue) (end : UnitsValue)
         → IsReportOf network.now report.now.octets notes end
-        → IsDraftOf network.now (begun network.now (record { span = span; kept = kept })) notes draft) }
+        → IsDraftOf network.now (begun network.now (record { span = span; kept = kept; title = title })) notes draft) }
 {
-    let sketch = match Sketch::new(alloc, network, span, kept) {
+    let sketch = match Sketch::new(alloc, network, span, kept, title) {
         Ok(sketch) => sketch,
         Err(_) => return Err(OutOfMemory),
     };

@@ -9,7 +9,7 @@ pub fn picture_law()
     ensures { PicturesShowRuns }
 {}
 
-/// A picture has the line of each thing that its plan draws: of each lane, of each record's arrow, bar and instant, of
+/// A picture has the lines of its title, and that of each thing that its plan draws: of each lane, of each record's arrow, bar and instant, of
 /// each window and of each clock; and the line of each record's mark, where that stands.
 pub fn lines_law()
     ensures plans { PicturesDrawPlans }

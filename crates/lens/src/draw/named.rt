@@ -12,31 +12,40 @@ use crate::draw::flags::kept_flags;
 use crate::draw::spans::span_of;
 use crate::draw::subject::{Subject, subject_named};
 use crate::forms::Part;
-use lens_svg::Kept;
+use lens_svg::{Kept, Title};
 use net_plan::Network;
 use schedule_tables::Accepted;
 use std::alloc::Global;
-use tte_forms::{Status, accept, put_last, put_no_network};
+use tte_forms::{Status, Words, accept, put_last, put_no_network};
 use tte_io::{Sink, Source};
 use tte_reports::{AuditedReport, ReportCommand, answer_accepted};
 
 /// Draws a part of the run of a report: of its records those of the thing and all their causes.
 #[derive(Drop)]
-struct DrawKept {
+struct DrawKept<'a> {
+    words: &'a Words,
     part: Part,
     subject: Subject,
 }
 
-impl<K: Sink> ReportCommand<K> for DrawKept {
+impl<'a, K: Sink> ReportCommand<K> for DrawKept<'a> {
     ghost answers = { λ command network notes end answer.
-        IsKeptAnswer command.part command.subject network notes end answer };
+        IsKeptAnswer command.words.now command.part command.subject network notes end answer };
 
     ghost ends = { λ command status. IsAuditStatus status };
 
     ghost audits = { λ command status is. is };
 
     fn put(&self, alloc: Global, network: &Network, report: &AuditedReport, out: &mut K) -> Status {
-        draw_kept(alloc, network, report, self.part, self.subject, out)
+        draw_kept(
+            alloc,
+            network,
+            report,
+            self.words,
+            self.part,
+            self.subject,
+            out,
+        )
     }
 }
 
@@ -45,6 +54,7 @@ fn draw_kept<K: Sink>(
     alloc: Global,
     network: &Network,
     report: &AuditedReport,
+    words: &Words,
     part: Part,
     subject: Subject,
     out: &mut K,
@@ -53,7 +63,7 @@ fn draw_kept<K: Sink>(
     requires read { IsRead network.now report.now }
     ensures gives { Over K.Sink out.old out.new (λ old new. (notes : List NoteValue) (end : UnitsValue)
         → IsReportOf network.now report.now.octets notes end
-        → GivesAnswer (IsKeptAnswer part subject network.now notes end) result old new) }
+        → GivesAnswer (IsKeptAnswer words.now part subject network.now notes end) result old new) }
     ensures statuses { IsAuditStatus result }
     ensures cause { HasCause result ⊥ (PutFailed K.Sink out.old out.new) }
 {
@@ -63,7 +73,8 @@ fn draw_kept<K: Sink>(
     };
     let span = span_of(network, part);
     let kept = Kept { flags: Some(flags) };
-    draw_known(alloc, network, report, span, kept, out)
+    let title = Title::of(words);
+    draw_known(alloc, network, report, span, kept, title, out)
 }
 
 /// Draws a part of the run that the report of the second file tells over the network of the first: of its records those
@@ -74,13 +85,14 @@ pub(crate) fn draw_named<A: Source, B: Source, K: Sink>(
     alloc: Global,
     first: &mut A,
     second: &mut B,
+    words: &Words,
     part: Part,
     name: &str,
     out: &mut K,
 ) -> Status
     ensures general { Over K.Sink out.old out.new (λ old new.
         ForOctets (A.left first.old) (λ octets. ForOctets (B.left second.old) (λ report.
-        GivesAnswer (IsNetworkAnswer (IsNamedAnswer part name.now report) octets) result old new))) }
+        GivesAnswer (IsNetworkAnswer (IsNamedAnswer words.now part name.now report) octets) result old new))) }
     ensures statuses { IsNamedStatus result }
     // Where a source failed, nothing was written.
     ensures faults { HasCause result
@@ -90,7 +102,7 @@ pub(crate) fn draw_named<A: Source, B: Source, K: Sink>(
     ensures second { LeavesUnnamed name.now (A.left first.old) (second.new ≡ second.old) }
 {
     match accept(alloc, first) {
-        Ok(accepted) => draw_accepted(alloc, &accepted, second, part, name, out),
+        Ok(accepted) => draw_accepted(alloc, &accepted, second, words, part, name, out),
         Err(cause) => put_no_network(cause, out),
     }
 }
@@ -100,12 +112,13 @@ fn draw_accepted<B: Source, K: Sink>(
     alloc: Global,
     accepted: &Accepted,
     second: &mut B,
+    words: &Words,
     part: Part,
     name: &str,
     out: &mut K,
 ) -> Status
     ensures gives { Over K.Sink out.old out.new (λ old new. ForOctets (B.left second.old) (λ report.
-        GivesAnswer (IsNamedAnswer part name.now report accepted.now) result old new)) }
+        GivesAnswer (IsNamedAnswer words.now part name.now report accepted.now) result old new)) }
     ensures statuses { IsNamedStatus result }
     ensures cause { HasCause result (ReadFailed B.Source second.old second.new × (out.new ≡ out.old))
         (PutFailed K.Sink out.old out.new) }
@@ -113,7 +126,11 @@ fn draw_accepted<B: Source, K: Sink>(
 {
     match subject_named(accepted.network(), name) {
         Some(subject) => {
-            let command = DrawKept { part, subject };
+            let command = DrawKept {
+                words,
+                part,
+                subject,
+            };
             answer_accepted(alloc, accepted, second, &command, out)
         }
         None => put_unknown(out),

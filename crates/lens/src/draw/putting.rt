@@ -3,12 +3,12 @@ ghost use Rattle.std.specs.Prelude.{◌≡◌, ◌<◌, ◌∷◌, [], IfSome, M
 ghost use Rattle.lens.specs.draw.Picture.{front_lines, gauges_lines, lanes_lines, layer_lines, marks_lines, some_line};
 ghost use Rattle.{lens.specs.draw.{Picture.windows_lines, Signs.sign_line}, lens_svg.specs.Elements.HasNames};
 ghost use Rattle.{lens.specs.draw.Putting.Draws, net_plan.specs.Ranges.IsInRange, tte_forms.specs.Faults.PutFailed};
-ghost use Rattle.tte_forms.specs.Putting.{Over};
+ghost use Rattle.{lens_svg.specs.Titles.{heading_line, title_line}, tte_forms.specs.Putting.Over};
 
 use crate::draw::signs::Sign;
 use lens_svg::{
     Came, Clocks, Element, LaneLayer, MarkLayer, Pen, Sketch, gauge_of, lack_of, make_element_line,
-    on_lane, on_mark, opening_of, spread_of,
+    make_heading_line, make_title_line, on_lane, on_mark, opening_of, spread_of,
 };
 use net_plan::Network;
 use tte_io::{LineText, Sink, SinkFailed};
@@ -18,8 +18,12 @@ use tte_io::{LineText, Sink, SinkFailed};
 pub(crate) enum Layer {
     /// The beginning of the picture.
     Opening,
+    /// The name of the picture.
+    Title,
     /// A line that each picture has.
     Shared(Sign),
+    /// The same at the head of the picture.
+    Heading,
     /// Which part of the run is drawn, how many records that are, and the precision.
     Caption,
     /// Something of each device.
@@ -37,13 +41,14 @@ pub(crate) enum Layer {
 }
 
 /// The parts below the marks, in their order.
-pub(crate) const LAYERS: [Layer; 19] = [
+pub(crate) const LAYERS: [Layer; 20] = [
     Layer::Opening,
+    Layer::Title,
     Layer::Shared(Sign::Style),
     Layer::Shared(Sign::Arrows),
     Layer::Shared(Sign::Shapes),
     Layer::Shared(Sign::Backdrop),
-    Layer::Shared(Sign::Heading),
+    Layer::Heading,
     Layer::Shared(Sign::MarkKey),
     Layer::Shared(Sign::WayKey),
     Layer::Caption,
@@ -88,6 +93,26 @@ fn put_shared<K: Sink>(sign: Sign, out: &mut K) -> Result<(), SinkFailed>
         (λ _. PutFailed K.Sink out.old out.new) }
 {
     out.put(sign.line().as_bytes())
+}
+
+/// Puts the line by which the picture is named.
+fn put_title<K: Sink>(sketch: &Sketch, line: &mut LineText, out: &mut K) -> Result<(), SinkFailed>
+    ensures draws { Over K.Sink out.old out.new (Draws (title_line sketch.now.view.title ∷ []) result) }
+    ensures faults { MatchResult result (λ _. K.faults out.new ≡ K.faults out.old)
+        (λ _. PutFailed K.Sink out.old out.new) }
+{
+    make_title_line(line, sketch.title());
+    out.put(line.as_slice())
+}
+
+/// Puts the name of the picture at its head.
+fn put_heading<K: Sink>(sketch: &Sketch, line: &mut LineText, out: &mut K) -> Result<(), SinkFailed>
+    ensures draws { Over K.Sink out.old out.new (Draws (heading_line sketch.now.view.title ∷ []) result) }
+    ensures faults { MatchResult result (λ _. K.faults out.new ≡ K.faults out.old)
+        (λ _. PutFailed K.Sink out.old out.new) }
+{
+    make_heading_line(line, sketch.title());
+    out.put(line.as_slice())
 }
 
 /// Puts something of each device.
@@ -201,7 +226,9 @@ fn put_layer<K: Sink>(
 {
     match layer {
         Layer::Opening => put_some(network, Some(opening_of(network, sketch)), line, out),
+        Layer::Title => put_title(sketch, line, out),
         Layer::Shared(sign) => put_shared(sign, out),
+        Layer::Heading => put_heading(sketch, line, out),
         Layer::Caption => {
             let records = sketch.marks().len() as u64;
             let caption = Element::Caption(sketch.span(), records);

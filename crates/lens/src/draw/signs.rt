@@ -13,8 +13,6 @@ pub(crate) enum Sign {
     Shapes,
     /// The background.
     Backdrop,
-    /// The title.
-    Heading,
     /// What the signs mean.
     MarkKey,
     /// What the arrows and the grounds mean.
@@ -69,8 +67,6 @@ const SHAPES: &str = "\
 
 const BACKDROP: &str = "<rect width=\"100%\" height=\"100%\" fill=\"#f6f7f9\"/>\n";
 
-const HEADING: &str = "<text class=\"top\" x=\"12\" y=\"24\">lens draw</text>\n";
-
 const MARK_KEY: &str = "\
     <g><g transform=\"translate(20 62)\"><use xlink:href=\"#sent\"/><text class=\"key\" x=\"10\" y=\"4\">sent</text>\
     </g><g transform=\"translate(72 62)\"><use xlink:href=\"#joined\"/><text class=\"key\" x=\"10\" y=\"4\">\
@@ -119,7 +115,6 @@ impl Sign {
             Sign::Arrows => ARROWS,
             Sign::Shapes => SHAPES,
             Sign::Backdrop => BACKDROP,
-            Sign::Heading => HEADING,
             Sign::MarkKey => MARK_KEY,
             Sign::WayKey => WAY_KEY,
         }

@@ -12,7 +12,7 @@ returns-in-Some-Slack-clause-general g c =
     let first = g.A.Source.left c.args.first.now in
     let second = g.B.Source.left c.args.second.now in
     let shown = shown_by g.K.Sink in
-    words_as form first second c.slack_of_network.result (shown c.args.out.now) (shown c.slack_of_network.new.out)
+    words_as c.args.words.now form first second c.slack_of_network.result (shown c.args.out.now) (shown c.slack_of_network.new.out)
     (no_usage IsCheckStatus c.slack_of_network.result (λ none. none) c.slack_of_network.ensures.statuses, c.slack_of_network.ensures.general)
 
 pub returns-in-Some-SlackOf-clause-general : goal.returns-in-Some-SlackOf-clause-general
@@ -21,7 +21,7 @@ returns-in-Some-SlackOf-clause-general g c =
     let first = g.A.Source.left c.args.first.now in
     let second = g.B.Source.left c.args.second.now in
     let shown = shown_by g.K.Sink in
-    words_as form first second c.slack_of_rule.result (shown c.args.out.now) (shown c.slack_of_rule.new.out)
+    words_as c.args.words.now form first second c.slack_of_rule.result (shown c.args.out.now) (shown c.slack_of_rule.new.out)
     (no_usage IsCheckStatus c.slack_of_rule.result (λ none. none) c.slack_of_rule.ensures.statuses, c.slack_of_rule.ensures.general)
 
 pub returns-in-Some-Least-clause-general : goal.returns-in-Some-Least-clause-general
@@ -30,7 +30,7 @@ returns-in-Some-Least-clause-general g c =
     let first = g.A.Source.left c.args.first.now in
     let second = g.B.Source.left c.args.second.now in
     let shown = shown_by g.K.Sink in
-    words_as form first second c.least_of_network.result (shown c.args.out.now) (shown c.least_of_network.new.out)
+    words_as c.args.words.now form first second c.least_of_network.result (shown c.args.out.now) (shown c.least_of_network.new.out)
     (no_usage IsCheckStatus c.least_of_network.result (λ none. none) c.least_of_network.ensures.statuses, c.least_of_network.ensures.general)
 
 pub returns-in-Some-Sheet-clause-general : goal.returns-in-Some-Sheet-clause-general
@@ -39,7 +39,7 @@ returns-in-Some-Sheet-clause-general g c =
     let first = g.A.Source.left c.args.first.now in
     let second = g.B.Source.left c.args.second.now in
     let shown = shown_by g.K.Sink in
-    words_as form first second c.sheet_of_network.result (shown c.args.out.now) (shown c.sheet_of_network.new.out)
+    words_as c.args.words.now form first second c.sheet_of_network.result (shown c.args.out.now) (shown c.sheet_of_network.new.out)
     (no_usage IsCheckStatus c.sheet_of_network.result (λ none. none) c.sheet_of_network.ensures.statuses, c.sheet_of_network.ensures.general)
 
 pub returns-in-Some-Latency-clause-general : goal.returns-in-Some-Latency-clause-general
@@ -48,7 +48,7 @@ returns-in-Some-Latency-clause-general g c =
     let first = g.A.Source.left c.args.first.now in
     let second = g.B.Source.left c.args.second.now in
     let shown = shown_by g.K.Sink in
-    words_as form first second c.latency_of_network.result (shown c.args.out.now) (shown c.latency_of_network.new.out)
+    words_as c.args.words.now form first second c.latency_of_network.result (shown c.args.out.now) (shown c.latency_of_network.new.out)
     (no_usage IsCheckStatus c.latency_of_network.result (λ none. none) c.latency_of_network.ensures.statuses, c.latency_of_network.ensures.general)
 
 pub returns-in-Some-Plan-clause-general : goal.returns-in-Some-Plan-clause-general
@@ -57,7 +57,7 @@ returns-in-Some-Plan-clause-general g c =
     let first = g.A.Source.left c.args.first.now in
     let second = g.B.Source.left c.args.second.now in
     let shown = shown_by g.K.Sink in
-    words_as form first second c.plan_of_network.result (shown c.args.out.now) (shown c.plan_of_network.new.out)
+    words_as c.args.words.now form first second c.plan_of_network.result (shown c.args.out.now) (shown c.plan_of_network.new.out)
     (no_usage IsPlanStatus c.plan_of_network.result (λ none. none) c.plan_of_network.ensures.statuses, c.plan_of_network.ensures.general)
 
 pub returns-in-Some-Report-clause-general : goal.returns-in-Some-Report-clause-general
@@ -66,7 +66,7 @@ returns-in-Some-Report-clause-general g c =
     let first = g.A.Source.left c.args.first.now in
     let second = g.B.Source.left c.args.second.now in
     let shown = shown_by g.K.Sink in
-    words_as form first second c.answer_report.result (shown c.args.out.now) (shown c.answer_report.new.out) (
+    words_as c.args.words.now form first second c.answer_report.result (shown c.args.out.now) (shown c.answer_report.new.out) (
       no_usage (EndsFor c.in-Some-Report.question) c.answer_report.result (no_usage_for c.in-Some-Report.question) c.answer_report.ensures.statuses,
       c.answer_report.ensures.general,
     )
@@ -79,16 +79,16 @@ faults_as {f} {form} same status A B U R P h = subst (λ (x : Option Form). HasC
 second_as : {f form : Option Form} → f ≡ form → (first : Option (List ℕ)) (Unread : Type 0) → LeavesSecond f first Unread → LeavesSecond form first Unread
 second_as {f} {form} same first Unread h = subst (λ (x : Option Form). LeavesSecond x first Unread) same h
 
-reports_as : {f form : Option Form} → f ≡ form → (first second : Option (List ℕ)) (S K : Type 0) (status : Status)
-    → AnswersReports f first second S K status → AnswersReports form first second S K status
-reports_as {f} {form} same first second S K status h = subst (λ (x : Option Form). AnswersReports x first second S K status) same h
+reports_as : (words : List (List ℕ)) {f form : Option Form} → f ≡ form → (first second : Option (List ℕ)) (S K : Type 0) (status : Status)
+    → AnswersReports words f first second S K status → AnswersReports words form first second S K status
+reports_as words {f} {form} same first second S K status h = subst (λ (x : Option Form). AnswersReports words x first second S K status) same h
 
 pub returns-in-Some-DrawNamed-clause-general : goal.returns-in-Some-DrawNamed-clause-general
 returns-in-Some-DrawNamed-clause-general g c =
     let same : Some (DrawNamed c.in-Some-DrawNamed.part c.in-Some-DrawNamed.name) ≡ form_of c.args.words.now = search rules in
     let text = c.text.ensures in
     let form : Some (DrawNamed c.in-Some-DrawNamed.part c.text.result.now) ≡ form_of c.args.words.now = cc in
-    words_as form _ _ _ _ _ (no_usage IsNamedStatus _ (λ none. none) c.draw_named.ensures.statuses, c.draw_named.ensures.general)
+    words_as c.args.words.now form _ _ _ _ _ (no_usage IsNamedStatus _ (λ none. none) c.draw_named.ensures.statuses, c.draw_named.ensures.general)
 
 pub returns-in-Some-DrawNamed-clause-safe : goal.returns-in-Some-DrawNamed-clause-safe
 returns-in-Some-DrawNamed-clause-safe g c =
@@ -99,7 +99,7 @@ returns-in-Some-DrawNamed-clause-safe g c =
     let second = g.B.Source.left c.args.second.now in
     let shown = shown_by g.K.Sink in
     subst (λ (f : Option Form). AnswersSafely f first second c.draw_named.result) form
-    (named_safely c.in-Some-DrawNamed.part c.text.result.now first second c.draw_named.result (shown c.args.out.now) (shown c.draw_named.new.out)
+    (named_safely c.args.words.now c.in-Some-DrawNamed.part c.text.result.now first second c.draw_named.result (shown c.args.out.now) (shown c.draw_named.new.out)
     c.draw_named.ensures.general)
 
 pub returns-in-Some-DrawNamed-clause-faults : goal.returns-in-Some-DrawNamed-clause-faults
@@ -127,8 +127,8 @@ returns-in-Some-DrawNamed-clause-complete g c =
     let first = g.A.Source.left c.args.first.now in
     let second = g.B.Source.left c.args.second.now in
     let shown = shown_by g.K.Sink in
-    reports_as form first second _ _ c.draw_named.result
-    (named_completed c.in-Some-DrawNamed.part c.text.result.now first second c.draw_named.result (shown c.args.out.now) (shown c.draw_named.new.out) _ _
+    reports_as c.args.words.now form first second _ _ c.draw_named.result
+    (named_completed c.args.words.now c.in-Some-DrawNamed.part c.text.result.now first second c.draw_named.result (shown c.args.out.now) (shown c.draw_named.new.out) _ _
     c.draw_named.ensures.general (λ e. read_rose (c.draw_named.ensures.faults.read e)) c.draw_named.ensures.faults.write)
 
 pub returns-in-Some-Events-clause-general : goal.returns-in-Some-Events-clause-general
@@ -137,7 +137,7 @@ returns-in-Some-Events-clause-general g c =
     let first = g.A.Source.left c.args.first.now in
     let second = g.B.Source.left c.args.second.now in
     let shown = shown_by g.K.Sink in
-    words_as form first second c.storm_events.result (shown c.args.out.now) (shown c.storm_events.new.out)
+    words_as c.args.words.now form first second c.storm_events.result (shown c.args.out.now) (shown c.storm_events.new.out)
     (no_usage IsCheckStatus c.storm_events.result (λ none. none) c.storm_events.ensures.statuses, c.storm_events.ensures.general)
 
 pub returns-in-None-clause-general : goal.returns-in-None-clause-general
@@ -146,5 +146,5 @@ returns-in-None-clause-general g c =
     let first = g.A.Source.left c.args.first.now in
     let second = g.B.Source.left c.args.second.now in
     let shown = shown_by g.K.Sink in
-    words_as form first second c.put_usage.result (shown c.args.out.now) (shown c.put_usage.new.out)
+    words_as c.args.words.now form first second c.put_usage.result (shown c.args.out.now) (shown c.put_usage.new.out)
     c.put_usage.ensures.gives

@@ -14,7 +14,7 @@ pub windows_of-requires-clause-askable : goal.windows_of-requires-clause-askable
 windows_of-requires-clause-askable g c =
     let network = c.args.network.now in
     let r = c.requires.read.some in
-    let view : View = record { span = c.args.span; kept = c.args.kept } in
+    let view : View = record { span = c.args.span; kept = c.args.kept; title = c.args.title } in
     let draft = c.in-Ok.ensures r.0 r.1 r.2 in
     subst (λ (p : Plan). All (IsAskable network) p.marks) (sym draft.sketch) (report_askable network view c.args.report.now.octets r.0 r.1 r.2)
 
@@ -24,7 +24,7 @@ put_sketch-requires-clause-left g c = let r = c.requires.read.some in (r.0, c.re
 pub returns-in-Ok-windows_of-clause-gives : goal.returns-in-Ok-windows_of-clause-gives
 returns-in-Ok-windows_of-clause-gives g c notes end of =
     let network = c.args.network.now in
-    let view : View = record { span = c.args.span; kept = c.args.kept } in
+    let view : View = record { span = c.args.span; kept = c.args.kept; title = c.args.title } in
     let draft = c.in-Ok.ensures notes end of in
     let windows = c.deref.ensures.value ∙ c.in-Ok-windows_of.ensures (events_of notes) (happenings network notes) (c.requires.read.index notes end of)
     ∙ ap (λ (p : Plan). windows_in network (clocks_of network notes) p.marks) draft.sketch in

@@ -10,14 +10,14 @@ subject_named-requires g c = subst IsInRange (sym c.network.ensures.value) c.net
 pub returns-in-Some-clause-gives : goal.returns-in-Some-clause-gives
 returns-in-Some-clause-gives g c =
     let shown = shown_by g.K.Sink in
-    named_given c.args.part c.args.name.now c.args.accepted.now c.in-Some.subject (g.B.Source.left c.args.second.now) c.answer_accepted.result
+    named_given c.args.words.now c.args.part c.args.name.now c.args.accepted.now c.in-Some.subject (g.B.Source.left c.args.second.now) c.answer_accepted.result
     (shown c.args.out.now) (shown c.answer_accepted.new.out)
     (subst (λ (n : Network). Names n c.args.name.now c.in-Some.subject) c.network.ensures.value c.in-Some.ensures.some) c.answer_accepted.ensures.gives
 
 pub returns-in-None-clause-gives : goal.returns-in-None-clause-gives
 returns-in-None-clause-gives g c =
     let shown = shown_by g.K.Sink in
-    unknown_given c.args.part c.args.name.now c.args.accepted.now (g.B.Source.left c.args.second.now) c.put_unknown.result (shown c.args.out.now)
+    unknown_given c.args.words.now c.args.part c.args.name.now c.args.accepted.now (g.B.Source.left c.args.second.now) c.put_unknown.result (shown c.args.out.now)
     (shown c.put_unknown.new.out) (subst (λ (n : Network). IsUnknown n c.args.name.now) c.network.ensures.value c.in-None.ensures.none)
     c.put_unknown.ensures.gives
 

@@ -8,14 +8,14 @@ use Rattle.lens.proofs.draw.named.draw_named.Goals as goal
 pub returns-in-Ok-clause-general : goal.returns-in-Ok-clause-general
 returns-in-Ok-clause-general g c =
     let shown = shown_by g.K.Sink in
-    files_accepted (λ (report : List ℕ). IsNamedAnswer c.args.part c.args.name.now report) (g.A.Source.left c.args.first.now)
+    files_accepted (λ (report : List ℕ). IsNamedAnswer c.args.words.now c.args.part c.args.name.now report) (g.A.Source.left c.args.first.now)
     (g.B.Source.left c.args.second.now) c.in-Ok.accepted c.draw_accepted.result (shown c.args.out.now) (shown c.draw_accepted.new.out)
     c.in-Ok.ensures.accepted c.draw_accepted.ensures.gives
 
 pub returns-in-Err-clause-general : goal.returns-in-Err-clause-general
 returns-in-Err-clause-general g c =
     let shown = shown_by g.K.Sink in
-    files_refused (λ (report : List ℕ). IsNamedAnswer c.args.part c.args.name.now report) (g.A.Source.left c.args.first.now)
+    files_refused (λ (report : List ℕ). IsNamedAnswer c.args.words.now c.args.part c.args.name.now report) (g.A.Source.left c.args.first.now)
     (g.B.Source.left c.args.second.now) c.in-Err.cause c.put_no_network.result (shown c.args.out.now) (shown c.put_no_network.new.out)
     c.in-Err.ensures.none c.put_no_network.ensures.gives c.put_no_network.ensures.unput
 
