@@ -1,0 +1,37 @@
+use Rattle.lens_schedule.{proofs.Limits.{all_in_range, most_links, most_rows}, specs.{Answer.{IsScheduleOf, picture_answer}, Picture.IsPicture}}
+use Rattle.lens_schedule.specs.declared.part.Part.{Part}
+use Rattle.net_plan.specs.{Ranges.IsInRange, declared.network.Network.Network}
+use Rattle.schedule_tables.specs.{Entries.IsEntryInRange, Rules.KeepsRules, declared.entry.Entry.Entry}
+use Rattle.std.{proofs.Common.{◌≤◌, List, inl, length, refl, subst, sym}, specs.List.All}
+use Rattle.tte_forms.specs.{Answering.{Gives, GivesAnswer}, Putting.shown_by}
+use Rattle.lens_schedule.proofs.answering.put_schedule_of.Goals as goal
+
+pub picture_of-requires-clause-links : goal.picture_of-requires-clause-links
+picture_of-requires-clause-links g c =
+    most_links c.network-network.result.now (subst KeepsRules (sym c.network-network.ensures.value) c.network-network.ensures.rules)
+
+pub picture_of-requires-clause-few : goal.picture_of-requires-clause-few
+picture_of-requires-clause-few g c =
+    let keeps = subst KeepsRules (sym c.network-network.ensures.value) c.network-network.ensures.rules in
+    subst (λ (es : List Entry). length es ≤ 1024) (sym c.as_slice.ensures.value)
+    (most_rows c.network-network.result.now c.in-Ok.entries.items keeps c.in-Ok.ensures)
+
+pub picture_of-requires-clause-rows : goal.picture_of-requires-clause-rows
+picture_of-requires-clause-rows g c =
+    let range = subst IsInRange (sym c.network-network.ensures.value) c.network-network.ensures.range in
+    subst (All (IsEntryInRange c.network-network.result.now)) (sym c.as_slice.ensures.value)
+    (all_in_range c.network-network.result.now c.in-Ok.entries.items c.entries_law.ensures.range range c.in-Ok.ensures)
+
+pub returns-in-Ok-picture_of-clause-gives : goal.returns-in-Ok-picture_of-clause-gives
+returns-in-Ok-picture_of-clause-gives g c =
+    let old = shown_by g.K.Sink c.args.out.now in
+    let new = shown_by g.K.Sink c.put_parts.new.out in
+    let status = c.put_parts.result in
+    let n = c.network-network.result.now in
+    let entries = c.in-Ok.entries.items in
+    let parts = c.in-Ok-picture_of.parts.items in
+    let picture = subst (λ (es : List Entry). IsPicture n es parts) c.as_slice.ensures.value c.in-Ok-picture_of.ensures in
+    let gives =
+    subst (λ (ps : List Part). Gives (picture_answer n ps) status old new) c.as_slice-in-Ok-picture_of.ensures.value c.put_parts.ensures.gives in
+    subst (λ (m : Network). GivesAnswer (IsScheduleOf m) status old new) c.network-network.ensures.value
+    (inl (picture_answer n parts, record { entries = entries; rows = c.in-Ok.ensures; parts = parts; picture = picture; is = refl }, gives))

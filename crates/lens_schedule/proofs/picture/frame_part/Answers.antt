@@ -1,0 +1,13 @@
+use Rattle.lens_schedule.specs.{Frames.frame_of, Lanes.column_by, Picture.lane_place, declared.part.Part.TheVariants.Frame}
+use Rattle.{lens_svg.specs.declared.element.Point.Point, std.proofs.Common.{◌∙◌, ap, ℕ}}
+use Rattle.lens_schedule.proofs.picture.frame_part.Goals as goal
+
+pub returns : goal.returns
+returns c =
+    let network = c.args.network.now in
+    let lanes = c.args.lanes.now in
+    let entry = c.args.entry.now in
+    let at = c.lane_place-at.ensures
+    ∙ ap (λ (x : ℕ). lane_place lanes c.args.top x c.port_number-port.result) c.column_by.ensures
+    ∙ ap (λ (n : ℕ). lane_place lanes c.args.top (column_by network entry.row.link) n) c.port_number-port.ensures.value in
+    ap Frame (c.frame_of.ensures ∙ ap (λ (p : Point). frame_of network c.args.scale p entry) at)

@@ -1,0 +1,9 @@
+pub mod Scale
+pub mod Lanes
+pub mod Tree
+pub mod Zones
+pub mod Frames
+pub mod Picture
+pub mod Lines
+pub mod Answer
+pub mod Laws
