@@ -8,7 +8,8 @@ use Rattle.lens.specs.declared.forms.Form.{Form, TheVariants.{DrawNamed, Events,
 use Rattle.lens.specs.{declared.forms.Form.TheVariants.SlackOf, draw.Naming.{CompletesNamed, IsNamedAnswer, LeavesUnnamed}}
 use Rattle.{lens_slack.specs.Answer.{IsSlackAnswer, IsSlackAnswerOf}, tte_forms.specs.Putting.Shown}
 use Rattle.tte_forms.specs.Answering.{Answer, ForOctets, Gives, GivesAnswer, line_answer}
-use Rattle.tte_forms.specs.{declared.status.Status.{Status, TheVariants.Usage}, networks.Accepting.IsNetworkAnswer}
+use Rattle.tte_forms.specs.{Taking.TakesUpTo, declared.status.Status.{Status, TheVariants.Usage}, frames.Answer.file_limit}
+use Rattle.tte_forms.specs.networks.Accepting.{ForAccepted, IsNetworkAnswer}
 use Rattle.tte_reports.specs.{Commands.CompletesReport, Safely.AuditsSafely}
 
 -- the line for words of no form
@@ -90,9 +91,20 @@ FailsToRead (Some (DrawNamed part name)) InFirst InSecond Unput Unread =
 FailsToRead (Some Plan) InFirst InSecond Unput Unread = (InFirst × Unput × Unread) ⊎ (InSecond × Unput)
 FailsToRead other InFirst InSecond Unput Unread = InFirst × Unput × Unread
 
--- only a plan and what is asked of a report read a second file, and where a name is given it is judged before that
-abbrev pub LeavesSecond : Option Form → Option (List ℕ) → Type 0 → Type 0
-LeavesSecond (Some (Report question)) first Unread = Unit {0}
-LeavesSecond (Some (DrawNamed part name)) first Unread = LeavesUnnamed name first Unread
-LeavesSecond (Some Plan) first Unread = Unit {0}
-LeavesSecond other first Unread = Unread
+-- of the first file its limit and 4,096 octets are taken at most; words of no form take none of it
+abbrev pub TakesFirst : Option Form → Option (List ℕ) → Option (List ℕ) → Type 0
+TakesFirst None left after = after ≡ left
+TakesFirst (Some form) left after = TakesUpTo file_limit left after
+
+-- only a plan and what is asked of a report read a second file, for an accepted network, and where a name is given it
+-- is judged before that
+abbrev pub TakesSecond : Option Form → Option (List ℕ) → Type 0 → Type 0 → Type 0 → Type 0
+TakesSecond (Some (Report question)) first Unread OfReport OfMessages = Unread ⊎ OfReport
+TakesSecond (Some (DrawNamed part name)) first Unread OfReport OfMessages =
+    LeavesUnnamed name first Unread × (Unread ⊎ OfReport)
+TakesSecond (Some Plan) first Unread OfReport OfMessages = Unread ⊎ OfMessages
+TakesSecond other first Unread OfReport OfMessages = Unread
+
+-- its limit and 4,096 octets are taken of messages at most, for an accepted network
+abbrev pub ReadsMessages : Option (List ℕ) → Option (List ℕ) → Option (List ℕ) → Type 0
+ReadsMessages first left after = ForAccepted first (λ network. TakesUpTo file_limit left after)

@@ -1,6 +1,7 @@
 ghost use Rattle.std.specs.Prelude.{◌≡◌, ◌⊎◌};
 ghost use Rattle.lens.specs.{Forms.form_of, Top.{AnswerIsOne, AnswersReports, AnswersSafely, AnswersWords}};
-ghost use Rattle.lens.specs.Top.{FailsToRead, LeavesSecond, usage_answer};
+ghost use Rattle.lens.specs.Top.{FailsToRead, ReadsMessages, TakesFirst, TakesSecond, usage_answer};
+ghost use Rattle.tte_reports.specs.Reading.{ReadsReport};
 ghost use Rattle.tte_forms.specs.{Answering.Gives, Faults.{HasCause, IsWanted, PutFailed, ReadFailed}, Putting.Over};
 
 use crate::draw::draw_named;
@@ -42,7 +43,10 @@ pub fn lens<A: Source, B: Source, K: Sink>(
         (ReadFailed A.Source first.old first.new) (ReadFailed B.Source second.old second.new)
         (out.new ≡ out.old) (second.new ≡ second.old))
         (PutFailed K.Sink out.old out.new) }
-    ensures second { LeavesSecond (form_of words.now) (A.left first.old) (second.new ≡ second.old) }
+    ensures takes { TakesFirst (form_of words.now) (A.left first.old) (A.left first.new)
+        × TakesSecond (form_of words.now) (A.left first.old) (second.new ≡ second.old)
+        (ReadsReport (A.left first.old) (B.left second.old) (B.left second.new) result)
+        (ReadsMessages (A.left first.old) (B.left second.old) (B.left second.new)) }
     ensures complete { AnswersReports words.now (form_of words.now) (A.left first.old) (B.left second.old)
         (ReadFailed A.Source first.old first.new ⊎ ReadFailed B.Source second.old second.new)
         (PutFailed K.Sink out.old out.new) result }

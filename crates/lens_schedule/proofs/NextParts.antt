@@ -11,15 +11,15 @@ drop_next (x ∷ xs) (suc n) d lt =
     drop_next xs n d (omega (arith, lt)) ∙ ap (λ (k : ℕ). get_or xs n d ∷ drop k (x ∷ xs)) next
 
 -- the part of this number, and its line
-pub record IsNext (network : Network) (all : List Part) (n : ℕ) (text : List ℕ) : Type 0 where
+pub record IsNext (network : Network) (title : List ℕ) (all : List Part) (n : ℕ) (text : List ℕ) : Type 0 where
   pub part : Part
-  pub line : text ≡ part_line network part
+  pub line : text ≡ part_line network title part
   pub front : take (n + 1) all ≡ take n all ++ part ∷ []
   pub rest : drop n all ≡ part ∷ drop (n + 1) all
 
-pub next_line : (network : Network) (all : List Part) (d : Part) (n : ℕ) (text : List ℕ) → n < length all
-    → text ≡ part_line network (get_or all n d) → IsNext network all n text
-next_line network all d n text within is =
+pub next_line : (network : Network) (title : List ℕ) (all : List Part) (d : Part) (n : ℕ) (text : List ℕ) → n < length all
+    → text ≡ part_line network title (get_or all n d) → IsNext network title all n text
+next_line network title all d n text within is =
     record { part = get_or all n d; line = is; front = take_more all n d within; rest = drop_next all n d within }
 
 -- one more of a list is added

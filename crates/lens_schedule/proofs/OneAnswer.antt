@@ -1,5 +1,6 @@
 -- A network has one answer of `draw`.
 use Rattle.lens_schedule.{proofs.TwigLists.twigs_once, specs.{Answer.{IsScheduleOf, picture_answer}, declared.part.Part.Part}}
+use Rattle.lens_svg.specs.Titles.{title_of}
 use Rattle.lens_schedule.specs.{Picture.{IsPicture, picture_of}, declared.tree.Twig.Twig}
 use Rattle.{net_plan.{proofs.Trees.paths_are_unique, specs.{Paths.IsTree, declared.network.Network.Network}}, tte_forms.specs.Answering.Answer}
 use Rattle.schedule_tables.specs.{Entries.{AreEntries, EntryIsOne}, declared.entry.Entry.Entry}
@@ -26,8 +27,8 @@ picture_once network entries ps qs tree p q =
     let b = twigs_once network B (length network.device) p.b q.b paths_are_unique tree p.of_b q.of_b in
     p.is ∙ ap (λ (ts : List Twig). picture_of network entries ts p.b) a ∙ ap (λ (ts : List Twig). picture_of network entries q.a ts) b ∙ sym q.is
 
-pub schedule_one : (network : Network) (a b : Answer) → EntryIsOne → IsTree network → IsScheduleOf network a → IsScheduleOf network b → a ≡ b
-schedule_one network a b one tree p q =
+pub schedule_one : (words : List (List ℕ)) (network : Network) (a b : Answer) → EntryIsOne → IsTree network → IsScheduleOf words network a → IsScheduleOf words network b → a ≡ b
+schedule_one words network a b one tree p q =
     let rows = entries_once network p.entries q.entries one p.rows q.rows in
     let first : IsPicture network q.entries p.parts = subst (λ (es : List Entry). IsPicture network es p.parts) rows p.picture in
-    p.is ∙ ap (picture_answer network) (picture_once network q.entries p.parts q.parts tree first q.picture) ∙ sym q.is
+    p.is ∙ ap (picture_answer network (title_of words)) (picture_once network q.entries p.parts q.parts tree first q.picture) ∙ sym q.is

@@ -3,7 +3,7 @@ use Rattle.lens_schedule.specs.Lanes.{column_by, lane_at, lane_of, lanes_below, 
 use Rattle.lens_schedule.specs.{Answer.IsScheduleOf, Laws.RowsAreShown, Lines.{lane_line, part_line}, Scale.scale_of}
 use Rattle.lens_schedule.specs.Picture.{cycle_parts, frame_part, front_parts, full_parts, lane_part, lane_place, picture_of, sheet_of, twig_part, zone_parts}
 use Rattle.lens_schedule.specs.declared.{lanes.Lane.Lane, part.Part.{Part, TheVariants.{Bare, Close}}, picture.Sheet.Sheet, tree.Twig.Twig}
-use Rattle.{lens_svg.specs.declared.element.Point.Point, tte_forms.specs.Answering.Answer}
+use Rattle.{lens_svg.specs.{Titles.title_of, declared.element.Point.Point}, tte_forms.specs.Answering.Answer}
 use Rattle.net_plan.specs.declared.{ids.LinkId.LinkId, network.Network.Network, tables.Way.{Way, TheVariants.{Down, Up}}}
 use Rattle.schedule_tables.{proofs.EntryLemmas.one_entry, specs.{Entries.{AreEntries, IsEntry}, declared.entry.Entry.Entry}}
 use Rattle.std.proofs.Common.{◌%◌, ◌*◌, ◌++◌, ◌+◌, ◌/◌, ◌<◌, ◌∙◌, ◌∷◌, ◌≡◌, Bool, List, [], ap, arith, false, get_or, inl, inr, length, map, refl, subst, suc, sym, true, zero, ℕ}
@@ -83,16 +83,16 @@ in_picture network entries a b part at =
     Contains-append_left (before ++ cycle) (Close ∷ []) part (Contains-append_right before cycle part at)
 
 -- a part of the picture has its line
-in_lines : (network : Network) (a : Answer) (of : IsScheduleOf network a) (part : Part)
-    → Contains (picture_of network of.entries of.picture.a of.picture.b) part → Contains a.lines (part_line network part)
-in_lines network a of part at =
+in_lines : (words : List (List ℕ)) (network : Network) (a : Answer) (of : IsScheduleOf words network a) (part : Part)
+    → Contains (picture_of network of.entries of.picture.a of.picture.b) part → Contains a.lines (part_line network (title_of words) part)
+in_lines words network a of part at =
     let whole = picture_of network of.entries of.picture.a of.picture.b in
-    let lines : a.lines ≡ map (part_line network) whole =
-    ap (λ (x : Answer). x.lines) of.is ∙ ap (λ (ps : List Part). map (part_line network) ps) of.picture.is in
-    subst (λ (ls : List (List ℕ)). Contains ls (part_line network part)) (sym lines) (map_in (part_line network) whole part at)
+    let lines : a.lines ≡ map (part_line network (title_of words)) whole =
+    ap (λ (x : Answer). x.lines) of.is ∙ ap (λ (ps : List Part). map (part_line network (title_of words)) ps) of.picture.is in
+    subst (λ (ls : List (List ℕ)). Contains ls (part_line network (title_of words) part)) (sym lines) (map_in (part_line network (title_of words)) whole part at)
 
 pub rows_shown : RowsAreShown
-rows_shown network a of k entry is =
+rows_shown words network a of k entry is =
     let entries = of.entries in
     let lanes = lanes_of network entries in
     let sheet = sheet_of network lanes of.picture.a of.picture.b in
@@ -112,8 +112,8 @@ rows_shown network a of k entry is =
     let railed =
     Contains-append_left (zones ++ rails) boxes (lane_part lanes sheet.top lane)
     (Contains-append_right zones rails (lane_part lanes sheet.top lane) (map_in (lane_part lanes sheet.top) lanes lane with)) in
-    let show : (part : Part) → Contains (full_parts network scale entries lanes sheet) part → Contains a.lines (part_line network part) =
-    λ part at. in_lines network a of part
+    let show : (part : Part) → Contains (full_parts network scale entries lanes sheet) part → Contains a.lines (part_line network (title_of words) part) =
+    λ part at. in_lines words network a of part
     (in_picture network entries of.picture.a of.picture.b part (in_cycle network entries lanes sheet entry part here at)) in
     let same : lane_place lanes sheet.top lane.column (port_number lane.link lane.way)
     ≡ lane_place lanes sheet.top (column_by network entry.row.link) port =

@@ -20,7 +20,7 @@ pub record IsShown (network : Network) (entries : List Entry) (lines : List (Lis
 -- so has each row of a network
 abbrev pub RowsAreShown : Type 0
 RowsAreShown =
-    (network : Network) (a : Answer) → (of : IsScheduleOf network a)
+    (words : List (List ℕ)) (network : Network) (a : Answer) → (of : IsScheduleOf words network a)
     → (k : ℕ) (entry : Entry) → IsEntry network k entry → IsShown network of.entries a.lines entry
 
 -- what comes later stands no farther to the left

@@ -4,16 +4,16 @@ use Rattle.std.specs.Prelude.{◌%◌, ◌++◌, ◌/◌, List, None, Option, So
 use Rattle.lens_schedule.specs.Frames.{height_of, seat_of}
 use Rattle.lens_schedule.specs.declared.{frames.{Frame.Frame, Stroke.Stroke}, lanes.Lane.Lane}
 use Rattle.lens_schedule.specs.declared.{part.Part.Part, tree.Twig.Twig, zones.{Stretch.Stretch, Zone.Zone}}
-use Rattle.lens_schedule.specs.declared.part.Part.TheVariants.{Bare, Caption, Close, Head, Opening}
+use Rattle.lens_schedule.specs.declared.part.Part.TheVariants.{Bare, Caption, Close, Head, Heading, Opening}
 use Rattle.lens_schedule.specs.declared.zones.Stretch.TheVariants.{Control, Late, Rest, Schedule}
-use Rattle.lens_svg.specs.{Elements.{opening_line, role_word}, Numbers.micros_text, declared.element.Point.Point}
+use Rattle.lens_svg.specs.{Elements.{opening_line, role_word}, Numbers.micros_text, Titles.{heading_line, title_line}, declared.element.Point.Point}
 use Rattle.net_plan.specs.{Belonging.{device_name, link_name, vl_name}, Places.device_at}
 use Rattle.net_plan.specs.declared.{ids.{DeviceId.DeviceId, LinkId.LinkId, VlId.VlId}, network.Network.Network}
 use Rattle.trace_text.specs.EventWords.{way_text}
 use Rattle.tte_units.specs.Amount.{amount}
 use Rattle.lens_schedule.specs.declared.part.Part.TheVariants as parts
 
--- the colours, the background and the titles
+-- the colours, the background and the names of the channels
 abbrev pub head_line : List ℕ
 head_line =
     codes "<style type=\"text/css\">text{font-family:sans-serif;font-size:9px;fill:#374151;stroke:none}"
@@ -28,7 +28,6 @@ head_line =
     ++ codes ".v4{fill:#c2185b;stroke:#c2185b}.v5{fill:#0e9aa7;stroke:#0e9aa7}"
     ++ codes ".v6{fill:#8c564b;stroke:#8c564b}.v7{fill:#6b7a10;stroke:#6b7a10}</style>"
     ++ codes "<rect width=\"100%\" height=\"100%\" fill=\"#f6f7f9\"/>"
-    ++ codes "<text class=\"top\" x=\"12\" y=\"24\">lens draw</text>"
     ++ codes "<text class=\"name\" x=\"12\" y=\"66\">channel a</text>"
     ++ codes "<text class=\"name\" x=\"962\" y=\"66\">channel b</text>\n"
 
@@ -185,13 +184,15 @@ frame_line network frame =
     group_text frame.vl frame.at ++ row_text network frame ++ times_text frame ++ boxes_text frame
 
 -- the line of a part
-abbrev pub part_line : Network → Part → List ℕ
-part_line network (Opening width height) = opening_line width height
-part_line network Head = head_line
-part_line network (Caption rows) = caption_line network rows
-part_line network (parts.Twig twig at above) = twig_line network twig at above
-part_line network (Bare y) = bare_line y
-part_line network (parts.Zone zone) = zone_line zone
-part_line network (parts.Lane lane at) = lane_line network lane at
-part_line network (parts.Frame frame) = frame_line network frame
-part_line network Close = codes "</svg>\n"
+abbrev pub part_line : Network → List ℕ → Part → List ℕ
+part_line network title (Opening width height) = opening_line width height
+part_line network title parts.Title = title_line title
+part_line network title Heading = heading_line title
+part_line network title Head = head_line
+part_line network title (Caption rows) = caption_line network rows
+part_line network title (parts.Twig twig at above) = twig_line network twig at above
+part_line network title (Bare y) = bare_line y
+part_line network title (parts.Zone zone) = zone_line zone
+part_line network title (parts.Lane lane at) = lane_line network lane at
+part_line network title (parts.Frame frame) = frame_line network frame
+part_line network title Close = codes "</svg>\n"

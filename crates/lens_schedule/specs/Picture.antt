@@ -4,7 +4,7 @@ use Rattle.lens_schedule.specs.{Frames.frame_of, Lanes.{column_by, column_of, la
 use Rattle.lens_schedule.specs.{Scale.scale_of, Tree.{AreTwigs, twigs_before}, Zones.{stretches, zone_of}}
 use Rattle.lens_schedule.specs.declared.{lanes.Lane.Lane, picture.Sheet.Sheet, scale.Scale.Scale, tree.Twig.Twig}
 use Rattle.lens_schedule.specs.declared.zones.Stretch.{Stretch}
-use Rattle.lens_schedule.specs.declared.part.Part.{Part, TheVariants.{Bare, Caption, Close, Head, Opening}}
+use Rattle.lens_schedule.specs.declared.part.Part.{Part, TheVariants.{Bare, Caption, Close, Head, Heading, Opening}}
 use Rattle.lens_svg.specs.declared.element.Point.{Point}
 use Rattle.{net_plan.specs.declared.network.Network.Network, schedule_tables.specs.declared.entry.Entry.Entry}
 use Rattle.tte_units.specs.declared.frames.channel.Channel.{Channel, TheVariants.{A, B}}
@@ -78,7 +78,7 @@ cycle_parts network entries lanes sheet =
 
 -- how wide and how high the picture is, what each picture has, and the numbers of the network
 abbrev pub front_parts : Sheet → ℕ → List Part
-front_parts sheet rows = Opening 1900 (sheet.bottom + 40) ∷ Head ∷ Caption rows ∷ []
+front_parts sheet rows = Opening 1900 (sheet.bottom + 40) ∷ parts.Title ∷ Head ∷ Heading ∷ Caption rows ∷ []
 
 -- the picture of the network with these rows, these lanes and these trees of its channels
 abbrev pub parts_of : Network → List Entry → List Lane → List Twig → List Twig → List Part

@@ -8,8 +8,12 @@ use lens_svg::Point;
 pub enum Part {
     /// The beginning of the picture: how wide and how high it is.
     Opening(u64, u64),
-    /// The colours, the background and the title.
+    /// The name of the picture.
+    Title,
+    /// The colours, the background and the names of the channels.
     Head,
+    /// The title at the head.
+    Heading,
     /// The numbers of the network, with the count of its rows.
     Caption(u64),
     /// A device in the tree of a channel: its place, and how far down its parent's is.

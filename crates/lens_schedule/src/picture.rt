@@ -225,7 +225,9 @@ fn push_front(parts: &mut Vec<Part>, sheet: Sheet, rows: u64) -> Result<(), Allo
     ensures { OnOk result (parts.new.items ≡ parts.old.items ++ front_parts sheet rows) }
 {
     parts.push(Part::Opening(1900, sheet.bottom + 40))?;
+    parts.push(Part::Title)?;
     parts.push(Part::Head)?;
+    parts.push(Part::Heading)?;
     parts.push(Part::Caption(rows))?;
     Ok(())
 }

@@ -12,7 +12,9 @@ ghost use Rattle.net_plan.specs.{Belonging.{device_name, link_name, vl_name}, Ra
 
 use crate::frames::{height_of, seat_of};
 use crate::{Frame, Lane, Part, Stretch, Stroke, Twig, Zone};
-use lens_svg::{Element, Point, make_element_line, push_micros};
+use lens_svg::{
+    Element, Point, Title, make_element_line, make_heading_line, make_title_line, push_micros,
+};
 use net_plan::{DeviceId, LinkId, Network, Role, VlId};
 use trace_text::way_text;
 use tte_io::LineText;
@@ -30,11 +32,10 @@ const HEAD: &str = "\
     .v4{fill:#c2185b;stroke:#c2185b}.v5{fill:#0e9aa7;stroke:#0e9aa7}\
     .v6{fill:#8c564b;stroke:#8c564b}.v7{fill:#6b7a10;stroke:#6b7a10}</style>\
     <rect width=\"100%\" height=\"100%\" fill=\"#f6f7f9\"/>\
-    <text class=\"top\" x=\"12\" y=\"24\">lens draw</text>\
     <text class=\"name\" x=\"12\" y=\"66\">channel a</text>\
     <text class=\"name\" x=\"962\" y=\"66\">channel b</text>\n";
 
-/// The line of the colours, the background and the titles.
+/// The line of the colours, the background and the names of the channels.
 fn head_text() -> &'static str
     ensures { result.now ≡ head_line }
 {
@@ -482,15 +483,17 @@ fn make_frame(line: &mut LineText, network: &Network, frame: &Frame)
     push_boxes(line, frame);
 }
 
-/// Makes the line of a part, ended by LF.
-pub(crate) fn make_part_line(line: &mut LineText, network: &Network, part: &Part)
+/// Makes the line of a part of the picture of this title, ended by LF.
+pub(crate) fn make_part_line(line: &mut LineText, network: &Network, title: &Title, part: &Part)
     requires { IsInRange network.now }
-    ensures { line.new ≡ part_line network.now part.now }
+    ensures { line.new ≡ part_line network.now title.now part.now }
 {
     match part {
         Part::Opening(width, height) => {
             make_element_line(line, network, Element::Opening(*width, *height));
         }
+        Part::Title => make_title_line(line, title),
+        Part::Heading => make_heading_line(line, title),
         Part::Head => {
             line.clear();
             line.push(head_text());

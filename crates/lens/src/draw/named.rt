@@ -4,7 +4,9 @@ ghost use Rattle.lens.specs.draw.Naming.{IsKeptAnswer, IsNamedAnswer, IsNamedSta
 ghost use Rattle.{run_law.specs.declared.note.Note.{Note as NoteValue}, tte_audit.specs.Named.IsNamed};
 ghost use Rattle.tte_forms.specs.{Answering.{ForOctets, Gives, GivesAnswer}, networks.Accepting.IsNetworkAnswer};
 ghost use Rattle.tte_forms.specs.{Faults.{HasCause, IsWanted, PutFailed, ReadFailed}, Putting.Over};
+ghost use Rattle.tte_forms.specs.{Taking.TakesUpTo, frames.Answer.file_limit};
 ghost use Rattle.tte_reports.specs.{Answer.IsAuditStatus, Commands.IsRead, Reports.IsReportOf};
+ghost use Rattle.tte_reports.specs.Reading.{ReadsReport, TakesReport};
 ghost use Rattle.tte_units.specs.declared.units.Units.{Units as UnitsValue};
 
 use crate::draw::drawing::draw_known;
@@ -99,7 +101,10 @@ pub(crate) fn draw_named<A: Source, B: Source, K: Sink>(
         ((ReadFailed A.Source first.old first.new × (out.new ≡ out.old) × (second.new ≡ second.old))
         ⊎ (ReadFailed B.Source second.old second.new × (out.new ≡ out.old)))
         (PutFailed K.Sink out.old out.new) }
-    ensures second { LeavesUnnamed name.now (A.left first.old) (second.new ≡ second.old) }
+    ensures takes { TakesUpTo file_limit (A.left first.old) (A.left first.new)
+        × LeavesUnnamed name.now (A.left first.old) (second.new ≡ second.old)
+        × ((second.new ≡ second.old)
+        ⊎ ReadsReport (A.left first.old) (B.left second.old) (B.left second.new) result) }
 {
     match accept(alloc, first) {
         Ok(accepted) => draw_accepted(alloc, &accepted, second, words, part, name, out),
@@ -123,6 +128,7 @@ fn draw_accepted<B: Source, K: Sink>(
     ensures cause { HasCause result (ReadFailed B.Source second.old second.new × (out.new ≡ out.old))
         (PutFailed K.Sink out.old out.new) }
     ensures unread { LeavesNamed accepted.now name.now (second.new ≡ second.old) }
+    ensures taken { (second.new ≡ second.old) ⊎ TakesReport (B.left second.old) (B.left second.new) result }
 {
     match subject_named(accepted.network(), name) {
         Some(subject) => {

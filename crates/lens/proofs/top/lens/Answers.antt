@@ -1,7 +1,7 @@
 use Rattle.{lens.proofs.TopAnswers.{no_usage_for, words_as}, tte_forms.{proofs.Facts.no_usage, specs.Putting.shown_by}}
 use Rattle.lens.specs.{Forms.form_of, Questions.EndsFor, declared.forms.Form.TheVariants.{DrawNamed, Events, Latency, Least, Plan, Report, Sheet, Slack, SlackOf}}
 use Rattle.lens_plan.specs.Answer.{IsPlanStatus}
-use Rattle.lens.{proofs.draw_lemmas.Naming.{named_completed, named_safely}, specs.{Top.{AnswersReports, AnswersSafely, FailsToRead, LeavesSecond}, declared.forms.Form.Form, draw.Naming.IsNamedStatus}}
+use Rattle.lens.{proofs.draw_lemmas.Naming.{named_completed, named_safely}, specs.{Top.{AnswersReports, AnswersSafely, FailsToRead, TakesFirst, TakesSecond}, declared.forms.Form.Form, draw.Naming.IsNamedStatus}}
 use Rattle.{std.specs.Prelude.Option, tte_forms.specs.{Faults.HasCause, declared.status.Status.Status}}
 use Rattle.{std.proofs.Common.{◌≡◌, ◌⊎◌, List, None, Some, inl, inr, rules, subst, ℕ}, tte_forms.specs.networks.Checking.IsCheckStatus}
 use Rattle.lens.proofs.top.lens.Goals as goal
@@ -76,8 +76,10 @@ faults_as : {f form : Option Form} → f ≡ form → (status : Status) (A B U R
     → HasCause status (FailsToRead form A B U R) P
 faults_as {f} {form} same status A B U R P h = subst (λ (x : Option Form). HasCause status (FailsToRead x A B U R) P) same h
 
-second_as : {f form : Option Form} → f ≡ form → (first : Option (List ℕ)) (Unread : Type 0) → LeavesSecond f first Unread → LeavesSecond form first Unread
-second_as {f} {form} same first Unread h = subst (λ (x : Option Form). LeavesSecond x first Unread) same h
+takes_as : {f form : Option Form} → f ≡ form → (first after : Option (List ℕ)) (U R M : Type 0) → TakesFirst f first after → TakesSecond f first U R M
+    → TakesFirst form first after × TakesSecond form first U R M
+takes_as {f} {form} same first after U R M one two =
+    subst (λ (x : Option Form). TakesFirst x first after × TakesSecond x first U R M) same (one, two)
 
 reports_as : (words : List (List ℕ)) {f form : Option Form} → f ≡ form → (first second : Option (List ℕ)) (S K : Type 0) (status : Status)
     → AnswersReports words f first second S K status → AnswersReports words form first second S K status
@@ -107,12 +109,22 @@ returns-in-Some-DrawNamed-clause-faults g c =
     let same : Some (DrawNamed c.in-Some-DrawNamed.part c.in-Some-DrawNamed.name) ≡ form_of c.args.words.now = search rules in
     faults_as same c.draw_named.result _ _ _ _ _ c.draw_named.ensures.faults
 
-pub returns-in-Some-DrawNamed-clause-second : goal.returns-in-Some-DrawNamed-clause-second
-returns-in-Some-DrawNamed-clause-second g c =
+pub returns-in-Some-DrawNamed-clause-takes : goal.returns-in-Some-DrawNamed-clause-takes
+returns-in-Some-DrawNamed-clause-takes g c =
     let same : Some (DrawNamed c.in-Some-DrawNamed.part c.in-Some-DrawNamed.name) ≡ form_of c.args.words.now = search rules in
     let text = c.text.ensures in
     let form : Some (DrawNamed c.in-Some-DrawNamed.part c.text.result.now) ≡ form_of c.args.words.now = cc in
-    second_as form (g.A.Source.left c.args.first.now) _ c.draw_named.ensures.second
+    takes_as form (g.A.Source.left c.args.first.now) _ _ _ _ c.draw_named.ensures.takes.0 c.draw_named.ensures.takes.1
+
+pub returns-in-Some-Report-clause-takes : goal.returns-in-Some-Report-clause-takes
+returns-in-Some-Report-clause-takes g c =
+    let form : Some (Report c.in-Some-Report.question) ≡ form_of c.args.words.now = search rules in
+    takes_as form (g.A.Source.left c.args.first.now) _ _ _ _ c.answer_report.ensures.takes.0 c.answer_report.ensures.takes.1
+
+pub returns-in-Some-Plan-clause-takes : goal.returns-in-Some-Plan-clause-takes
+returns-in-Some-Plan-clause-takes g c =
+    let form : Some Plan ≡ form_of c.args.words.now = search rules in
+    takes_as form (g.A.Source.left c.args.first.now) _ _ _ _ c.plan_of_network.ensures.takes.0 c.plan_of_network.ensures.takes.1
 
 -- a read that failed raised one of the counts
 read_rose : {F U V T W : Type 0} → (F × U × V) ⊎ (T × W) → F ⊎ T

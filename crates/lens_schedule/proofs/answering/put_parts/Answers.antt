@@ -9,17 +9,18 @@ pub parts-preserved : goal.parts-preserved
 parts-preserved g c =
     let shown = shown_by g.K.Sink in
     let network = c.args.network.now in
+    let title = c.args.title.now in
     let all = c.args.parts.now in
     let n = c.parts.part-index in
-    let next = next_line network all _ n c.as_slice.result.now c.parts-test.true (c.as_slice.ensures ∙ c.make_part_line.ensures) in
+    let next = next_line network title all _ n c.as_slice.result.now c.parts-test.true (c.as_slice.ensures ∙ c.make_part_line.ensures) in
     let f = next.part in
-    let lines = ap (λ (fs : List Part). map (part_line network) fs) next.front ∙ map-append (part_line network) (take n all) (f ∷ []) in
+    let lines = ap (λ (fs : List Part). map (part_line network title) fs) next.front ∙ map-append (part_line network title) (take n all) (f ∷ []) in
     let whole = subst (λ (bytes : List ℕ). Appends (g.K.Sink.written c.parts.out) (g.K.Sink.written c.put.new.self) bytes) next.line
     c.in-Ok.ensures.all in
     record {
       puts =
           subst (λ (ls : List (List ℕ)). PutsLines ls (shown c.args.out.now) (shown c.put.new.self)) (sym lines)
-          (PutsLines-more (map (part_line network) (take n all)) (part_line network f) (shown c.args.out.now) (shown c.parts.out)
+          (PutsLines-more (map (part_line network title) (take n all)) (part_line network title f) (shown c.args.out.now) (shown c.parts.out)
           (shown c.put.new.self) c.parts.invariant.puts whole c.put.ensures.counted);
       quiet = c.in-Ok.ensures.ok_unchanged ∙ c.parts.invariant.quiet;
     }
@@ -28,19 +29,20 @@ pub returns-in-Err-clause-gives : goal.returns-in-Err-clause-gives
 returns-in-Err-clause-gives g c =
     let shown = shown_by g.K.Sink in
     let network = c.args.network.now in
+    let title = c.args.title.now in
     let all = c.args.parts.now in
     let n = c.parts.part-index in
-    let next = next_line network all _ n c.as_slice.result.now c.parts-test.true (c.as_slice.ensures ∙ c.make_part_line.ensures) in
+    let next = next_line network title all _ n c.as_slice.result.now c.parts-test.true (c.as_slice.ensures ∙ c.make_part_line.ensures) in
     let f = next.part in
     let rest = drop (n + 1) all in
-    let first = map (part_line network) (take n all) in
-    let others = map (part_line network) rest in
+    let first = map (part_line network title) (take n all) in
+    let others = map (part_line network title) rest in
     let split : all ≡ take n all ++ f ∷ rest = sym (take-append-drop n all) ∙ ap (λ (fs : List Part). take n all ++ fs) next.rest in
-    let lines : map (part_line network) all ≡ first ++ part_line network f ∷ others =
-    ap (λ (fs : List Part). map (part_line network) fs) split ∙ map-append (part_line network) (take n all) (f ∷ rest) in
+    let lines : map (part_line network title) all ≡ first ++ part_line network title f ∷ others =
+    ap (λ (fs : List Part). map (part_line network title) fs) split ∙ map-append (part_line network title) (take n all) (f ∷ rest) in
     let front = subst (λ (bytes : List ℕ). AppendsFront (g.K.Sink.written c.parts.out) (g.K.Sink.written c.put.new.self) bytes) next.line
     c.in-Err.ensures.front in
     let fails =
-    PutsLines-fails first (part_line network f) others (shown c.args.out.now) (shown c.parts.out) (shown c.put.new.self) c.parts.invariant.puts
+    PutsLines-fails first (part_line network title f) others (shown c.args.out.now) (shown c.parts.out) (shown c.put.new.self) c.parts.invariant.puts
     front c.put.ensures.counted in
     inr (inl (refl, inl (subst (λ (ls : List (List ℕ)). PutFails ls (shown c.args.out.now) (shown c.put.new.self)) (sym lines) fails)))

@@ -3,6 +3,6 @@ use Rattle.lens_schedule.proofs.answering.put_parts.Given as goal
 
 abbrev pub invariant-parts : goal.invariant-parts
 invariant-parts g l = record {
-  puts : PutsLines (map (part_line l.network) (take l.part-index l.parts)) (shown_by g.K.Sink l.fn.out) (shown_by g.K.Sink l.out);
+  puts : PutsLines (map (part_line l.network l.title) (take l.part-index l.parts)) (shown_by g.K.Sink l.fn.out) (shown_by g.K.Sink l.out);
   quiet : g.K.Sink.faults l.out ≡ g.K.Sink.faults l.fn.out;
 }

@@ -2,7 +2,7 @@ use Rattle.lens_schedule.{proofs.Limits.{all_in_range, most_links, most_rows}, s
 use Rattle.lens_schedule.specs.declared.part.Part.{Part}
 use Rattle.net_plan.specs.{Ranges.IsInRange, declared.network.Network.Network}
 use Rattle.schedule_tables.specs.{Entries.IsEntryInRange, Rules.KeepsRules, declared.entry.Entry.Entry}
-use Rattle.std.{proofs.Common.{◌≤◌, List, inl, length, refl, subst, sym}, specs.List.All}
+use Rattle.{lens_svg.specs.Titles.title_of, std.{proofs.Common.{◌≤◌, List, inl, length, refl, subst, sym, ℕ}, specs.List.All}}
 use Rattle.tte_forms.specs.{Answering.{Gives, GivesAnswer}, Putting.shown_by}
 use Rattle.lens_schedule.proofs.answering.put_schedule_of.Goals as goal
 
@@ -30,8 +30,11 @@ returns-in-Ok-picture_of-clause-gives g c =
     let n = c.network-network.result.now in
     let entries = c.in-Ok.entries.items in
     let parts = c.in-Ok-picture_of.parts.items in
+    let title = title_of c.args.words.now in
     let picture = subst (λ (es : List Entry). IsPicture n es parts) c.as_slice.ensures.value c.in-Ok-picture_of.ensures in
     let gives =
-    subst (λ (ps : List Part). Gives (picture_answer n ps) status old new) c.as_slice-in-Ok-picture_of.ensures.value c.put_parts.ensures.gives in
-    subst (λ (m : Network). GivesAnswer (IsScheduleOf m) status old new) c.network-network.ensures.value
-    (inl (picture_answer n parts, record { entries = entries; rows = c.in-Ok.ensures; parts = parts; picture = picture; is = refl }, gives))
+    subst (λ (t : List ℕ). Gives (picture_answer n t parts) status old new) c.of-title.ensures
+    (subst (λ (ps : List Part). Gives (picture_answer n c.of-title.result ps) status old new) c.as_slice-in-Ok-picture_of.ensures.value
+    c.put_parts.ensures.gives) in
+    subst (λ (m : Network). GivesAnswer (IsScheduleOf c.args.words.now m) status old new) c.network-network.ensures.value
+    (inl (picture_answer n title parts, record { entries = entries; rows = c.in-Ok.ensures; parts = parts; picture = picture; is = refl }, gives))
