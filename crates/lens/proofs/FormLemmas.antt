@@ -1,5 +1,5 @@
 -- The form of words by their count and their first, and the numbers of forms.
-use Rattle.lens.specs.declared.forms.{Form.{Form, TheVariants.{DrawNamed, Events, Latency, Least, Plan, Report, Sheet, Slack, SlackOf}}, Question.TheVariants.{Clocks, Draw, DrawWhole, Flows, LatencySeen, Page, Why}}
+use Rattle.lens.specs.declared.forms.{Form.{Form, TheVariants.{DrawNamed, Events, Latency, Least, Plan, Report, Schedule, Sheet, Slack, SlackOf}}, Question.TheVariants.{Clocks, Draw, DrawWhole, Flows, LatencySeen, Page, Why}}
 use Rattle.{lens.specs.declared.forms.Part.{Part, TheVariants.{Cycle, Times}}, lens_plan.specs.messages.Values.{is_name_text, time_spelled}}
 use Rattle.lens_slack.specs.Inequalities.{IsInequality}
 use Rattle.lens.specs.Forms.{IsFormInRange, IsPartInRange, cycle_part, draw_form, events_form, five_words_form, form_of, four_words_form, greatest_cycle}
@@ -165,13 +165,15 @@ spelled_by false rule o is others = others
 inequality_by : (text : List ℕ) → IfSome (inequality_spelled text) IsInequality
 inequality_by text = grind (arith, spelled_by)
 
-network_by : (slack least sheet latency : Bool)
-    → IfSome (if slack then Some Slack else if least then Some Least else if sheet then Some Sheet else if latency then Some Latency else None) IsFormInRange
-network_by true least sheet latency = tt
-network_by false true sheet latency = tt
-network_by false false true latency = tt
-network_by false false false true = tt
-network_by false false false false = tt
+network_by : (slack least sheet latency draw : Bool)
+    → IfSome (if slack then Some Slack else if least then Some Least else if sheet then Some Sheet else if latency then Some Latency
+    else if draw then Some Schedule else None) IsFormInRange
+network_by true least sheet latency draw = tt
+network_by false true sheet latency draw = tt
+network_by false false true latency draw = tt
+network_by false false false true draw = tt
+network_by false false false false true = tt
+network_by false false false false false = tt
 
 slack_of_by : (o : Option Rule) → IfSome o IsInequality → IfSome (option_map (λ r. SlackOf r) o) IsFormInRange
 slack_of_by None is = tt
@@ -198,7 +200,9 @@ pub form_in_range : (words : List (List ℕ)) → IfSome (form_of words) IsFormI
 unfolding form_of
 form_in_range [] = tt
 form_in_range (command ∷ []) = tt
-form_in_range (command ∷ network ∷ []) = network_by (bytes_eq command (codes "slack")) (bytes_eq command (codes "least")) (bytes_eq command (codes "sheet")) (bytes_eq command (codes "latency"))
+form_in_range (command ∷ network ∷ []) =
+    network_by (bytes_eq command (codes "slack")) (bytes_eq command (codes "least")) (bytes_eq command (codes "sheet"))
+    (bytes_eq command (codes "latency")) (bytes_eq command (codes "draw"))
 form_in_range (command ∷ network ∷ third ∷ []) =
     three_words_by (bytes_eq command (codes "slack")) (bytes_eq command (codes "plan")) (bytes_eq command (codes "draw"))
     (bytes_eq command (codes "page")) (bytes_eq command (codes "flows")) (bytes_eq command (codes "latency"))

@@ -1,5 +1,6 @@
 -- The answer for the words.
 use Rattle.lens_latency.{proofs.{OneAnswer.latency_one, OneReport.latency_report_one}, specs.Answer.IsLatencyOf}
+use Rattle.{lens_schedule.{proofs.OneAnswer.schedule_one, specs.Answer.IsScheduleOf}, schedule_tables.proofs.EntryLemmas.one_entry}
 use Rattle.lens_sheet.{proofs.OneAnswer.sheet_one, specs.Answer.IsSheetOf}
 use Rattle.lens_plan.{proofs.OneAnswer.plan_one_for, specs.Answer.IsPlanFor}
 use Rattle.{net_plan.proofs.Shape.rules_give_trees, schedule_tables.proofs.Margins.shape_rules}
@@ -12,7 +13,7 @@ use Rattle.{lens_slack.proofs.OneSlack.{octets_one, slack_one}, tte_forms.specs.
 use Rattle.{lens_slack.proofs.least_lemmas.OneLeast.least_one, tte_forms.specs.declared.status.Status.TheVariants.{Done, Usage}}
 use Rattle.{lens_slack.specs.{Steps.{all_steps, rule_steps}, least.Answer.{IsLeastOf, with_late}}, tte_forms.proofs.networks.Answers.network_answer_one}
 use Rattle.lens.proofs.draw_lemmas.Naming.{named_one}
-use Rattle.{lens.specs.declared.forms.Form.TheVariants.{DrawNamed, Events, Latency, Least, Plan, Report, Sheet, Slack, SlackOf}, lens.specs.declared.forms.Question.Question}
+use Rattle.{lens.specs.declared.forms.Form.TheVariants.{DrawNamed, Events, Latency, Least, Plan, Report, Schedule, Sheet, Slack, SlackOf}, lens.specs.declared.forms.Question.Question}
 use Rattle.{lens.specs.declared.forms.Form.Form, lens.specs.declared.forms.Question.TheVariants.{Clocks, Draw, DrawWhole, Flows, LatencySeen, Page, Why}}
 use Rattle.{lens_why.proofs.Whole.why_answer_one, tte_forms.specs.{Answering.Answer, Putting.Shown}}
 use Rattle.tte_reports.{proofs.Reports.report_one, specs.Reports.IsOneFor}
@@ -59,6 +60,10 @@ answer_one one words (Some Sheet) range octets report a b p q =
     network_answer_one one IsSheetOf octets (λ network accepted. sheet_one network) a b p q
 answer_one one words (Some Latency) range octets report a b p q =
     network_answer_one one IsLatencyOf octets (λ network accepted. latency_one network) a b p q
+answer_one one words (Some Schedule) range octets report a b p q =
+    network_answer_one one (IsScheduleOf words) octets
+    (λ network accepted x y. schedule_one words network x y one_entry (rules_give_trees network (shape_rules network accepted.rules)))
+    a b p q
 answer_one one words (Some Plan) range octets messages a b p q =
     network_answer_one one (IsPlanFor messages octets) octets
     (λ network accepted. plan_one_for messages octets network (rules_give_trees network (shape_rules network accepted.rules))) a b p q

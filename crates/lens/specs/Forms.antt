@@ -3,7 +3,7 @@ use Rattle.std.specs.{Char.is_ascii_digit, List.list_all, Option.{option_and_the
 use Rattle.std.specs.Prelude.{◌&&◌, ◌-◌, ◌^◌, ◌||◌, ◌∷◌, ◌≤◌, Bool, List, None, Option, Some, [], codes, drop, if◌then◌else◌}
 use Rattle.std.specs.Prelude.{length, nat_le, take, ℕ}
 use Rattle.lens.specs.declared.forms.{Form.{Form, TheVariants.{DrawNamed, Events, Latency, Least, Plan}}, Question.Question}
-use Rattle.lens.specs.declared.forms.Form.TheVariants.{Report, Sheet, Slack, SlackOf}
+use Rattle.lens.specs.declared.forms.Form.TheVariants.{Report, Schedule, Sheet, Slack, SlackOf}
 use Rattle.lens.specs.declared.forms.{Part.{Part, TheVariants.{Cycle, Times}}, Question.TheVariants.{Clocks, Draw, DrawWhole}}
 use Rattle.{lens.specs.declared.forms.Question.TheVariants.{Flows, LatencySeen, Page, Why}, trace_text.specs.Numbers.number_up_to}
 use Rattle.lens_plan.specs.messages.Values.{is_name_text, time_spelled}
@@ -12,13 +12,14 @@ use Rattle.schedule_tables.specs.declared.rule.Rule.TheVariants.{Correction, Del
 use Rattle.schedule_tables.specs.declared.rule.Rule.{Rule, TheVariants.{ScheduleStart, Settling, Spacing, WindowEnds}}
 use Rattle.tte_forms.specs.Forms.{cycles_spelled, if_some, most_cycles, seed_spelled}
 
--- a network alone: `slack NETWORK`, `least NETWORK`, `sheet NETWORK` or `latency NETWORK`
+-- a network alone: `slack NETWORK`, `least NETWORK`, `sheet NETWORK`, `latency NETWORK` or `draw NETWORK`
 abbrev pub network_form : List ℕ → Option Form
 network_form command =
     if bytes_eq command (codes "slack") then Some Slack
     else if bytes_eq command (codes "least") then Some Least
     else if bytes_eq command (codes "sheet") then Some Sheet
     else if bytes_eq command (codes "latency") then Some Latency
+    else if bytes_eq command (codes "draw") then Some Schedule
     else None
 
 -- the rule of this number, if it is an inequality
@@ -154,6 +155,7 @@ IsFormInRange (SlackOf rule) = IsInequality rule
 IsFormInRange Least = Unit {0}
 IsFormInRange Sheet = Unit {0}
 IsFormInRange Latency = Unit {0}
+IsFormInRange Schedule = Unit {0}
 IsFormInRange Plan = Unit {0}
 IsFormInRange (Report question) = IsQuestionInRange question
 IsFormInRange (DrawNamed part name) = IsPartInRange part

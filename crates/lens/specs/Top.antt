@@ -1,5 +1,6 @@
 -- What the program `lens` answers.
 use Rattle.{lens.specs.declared.forms.Form.TheVariants.Sheet, lens_sheet.specs.Answer.IsSheetAnswer}
+use Rattle.{lens.specs.declared.forms.Form.TheVariants.Schedule, lens_schedule.specs.Answer.IsScheduleAnswer}
 use Rattle.{lens_latency.specs.Answer.IsLatencyAnswer, lens_plan.specs.Answer.IsPlanAnswer}
 use Rattle.std.specs.Prelude.{◌++◌, ◌≡◌, ◌≢◌, ◌⊎◌, List, None, Option, Some, [], codes, ℕ}
 use Rattle.{lens.specs.{Forms.form_of, Questions.IsQuestionAnswer}, lens_slack.specs.least.Answer.IsLeastAnswer}
@@ -16,7 +17,7 @@ use Rattle.tte_reports.specs.{Commands.CompletesReport, Safely.AuditsSafely}
 abbrev pub usage_line : List ℕ
 usage_line =
     codes "usage: lens slack NETWORK [RULE] | least NETWORK | sheet NETWORK | plan NETWORK MESSAGES | "
-    ++ codes "latency NETWORK [REPORT] | why NETWORK REPORT N | draw NETWORK REPORT | "
+    ++ codes "latency NETWORK [REPORT] | why NETWORK REPORT N | draw NETWORK [REPORT] | "
     ++ codes "draw NETWORK REPORT CYCLE [NAME] | draw NETWORK REPORT FROM TO [NAME] | page NETWORK REPORT | "
     ++ codes "clocks NETWORK REPORT | flows NETWORK REPORT | events NETWORK SEED CYCLES\n"
 
@@ -32,6 +33,7 @@ IsFormAnswer words (SlackOf rule) octets report a = IsSlackAnswerOf rule octets 
 IsFormAnswer words Least octets report a = IsLeastAnswer octets a
 IsFormAnswer words Sheet octets report a = IsSheetAnswer octets a
 IsFormAnswer words Latency octets report a = IsLatencyAnswer octets a
+IsFormAnswer words Schedule octets report a = IsScheduleAnswer words octets a
 IsFormAnswer words Plan octets messages a = IsPlanAnswer messages octets a
 IsFormAnswer words (Report question) octets report a =
     IsNetworkAnswer (IsReportAnswer (IsQuestionAnswer words question) report) octets a

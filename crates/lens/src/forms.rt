@@ -28,6 +28,8 @@ pub enum Form<'a> {
     Sheet,
     /// `latency NETWORK`.
     Latency,
+    /// `draw NETWORK`.
+    Schedule,
     /// `plan NETWORK MESSAGES`.
     Plan,
     /// A command, a network, a report, and what is asked of that.
@@ -93,6 +95,7 @@ fn network_form(command: &str) -> Option<Form<'static>>
         "least" => Some(Form::Least),
         "sheet" => Some(Form::Sheet),
         "latency" => Some(Form::Latency),
+        "draw" => Some(Form::Schedule),
         _ => None,
     }
 }

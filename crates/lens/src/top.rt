@@ -10,6 +10,7 @@ use crate::forms::{Form, read_form};
 use crate::questions::Asked;
 use lens_latency::latency_of_network;
 use lens_plan::plan_of_network;
+use lens_schedule::schedule_of_network;
 use lens_sheet::sheet_of_network;
 use lens_slack::least::least_of_network;
 use lens_slack::{slack_of_network, slack_of_rule};
@@ -21,7 +22,7 @@ use tte_reports::answer_report;
 
 const USAGE: &str =
     "usage: lens slack NETWORK [RULE] | least NETWORK | sheet NETWORK | plan NETWORK MESSAGES | \
-                     latency NETWORK [REPORT] | why NETWORK REPORT N | draw NETWORK REPORT | \
+                     latency NETWORK [REPORT] | why NETWORK REPORT N | draw NETWORK [REPORT] | \
                      draw NETWORK REPORT CYCLE [NAME] | draw NETWORK REPORT FROM TO [NAME] | page NETWORK REPORT | \
                      clocks NETWORK REPORT | flows NETWORK REPORT | events NETWORK SEED CYCLES\n";
 
@@ -57,6 +58,7 @@ pub fn lens<A: Source, B: Source, K: Sink>(
         Some(Form::Least) => least_of_network(alloc, first, out),
         Some(Form::Sheet) => sheet_of_network(alloc, first, out),
         Some(Form::Latency) => latency_of_network(alloc, first, out),
+        Some(Form::Schedule) => schedule_of_network(alloc, words, first, out),
         Some(Form::Plan) => plan_of_network(alloc, first, second, out),
         Some(Form::Report(question)) => {
             let asked = Asked { words, question };

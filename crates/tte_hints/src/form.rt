@@ -54,6 +54,7 @@ const LENS: &[Form] = &[
         "why",
         &[Argument::Network, Argument::Report, Argument::Record],
     ),
+    Form("draw", &[Argument::Network]),
     Form("draw", &[Argument::Network, Argument::Report]),
     Form(
         "draw",

@@ -36,6 +36,7 @@ enum Read {
     Least,
     Sheet,
     Latency,
+    Schedule,
     Plan,
     Report(Question),
     Named(Part),
@@ -49,6 +50,7 @@ fn read_of(form: &Form<'_>) -> Read {
         Form::Least => Read::Least,
         Form::Sheet => Read::Sheet,
         Form::Latency => Read::Latency,
+        Form::Schedule => Read::Schedule,
         Form::Plan => Read::Plan,
         Form::Report(question) => Read::Report(*question),
         Form::DrawNamed { part, .. } => Read::Named(*part),
@@ -101,6 +103,7 @@ fn words_of_a_network_and_of_messages_are_read(rt: HostRuntime) -> Result<(), Fa
     try_form(&rt, alloc, &["least", "a"], Read::Least)?;
     try_form(&rt, alloc, &["latency", "a"], Read::Latency)?;
     try_form(&rt, alloc, &["sheet", "a"], Read::Sheet)?;
+    try_form(&rt, alloc, &["draw", "a"], Read::Schedule)?;
     try_form(&rt, alloc, &["plan", "a", "b"], Read::Plan)
 }
 

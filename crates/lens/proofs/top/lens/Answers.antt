@@ -1,5 +1,5 @@
 use Rattle.{lens.proofs.TopAnswers.{no_usage_for, words_as}, tte_forms.{proofs.Facts.no_usage, specs.Putting.shown_by}}
-use Rattle.lens.specs.{Forms.form_of, Questions.EndsFor, declared.forms.Form.TheVariants.{DrawNamed, Events, Latency, Least, Plan, Report, Sheet, Slack, SlackOf}}
+use Rattle.lens.specs.{Forms.form_of, Questions.EndsFor, declared.forms.Form.TheVariants.{DrawNamed, Events, Latency, Least, Plan, Report, Schedule, Sheet, Slack, SlackOf}}
 use Rattle.lens_plan.specs.Answer.{IsPlanStatus}
 use Rattle.lens.{proofs.draw_lemmas.Naming.{named_completed, named_safely}, specs.{Top.{AnswersReports, AnswersSafely, FailsToRead, TakesFirst, TakesSecond}, declared.forms.Form.Form, draw.Naming.IsNamedStatus}}
 use Rattle.{std.specs.Prelude.Option, tte_forms.specs.{Faults.HasCause, declared.status.Status.Status}}
@@ -50,6 +50,15 @@ returns-in-Some-Latency-clause-general g c =
     let shown = shown_by g.K.Sink in
     words_as c.args.words.now form first second c.latency_of_network.result (shown c.args.out.now) (shown c.latency_of_network.new.out)
     (no_usage IsCheckStatus c.latency_of_network.result (λ none. none) c.latency_of_network.ensures.statuses, c.latency_of_network.ensures.general)
+
+pub returns-in-Some-Schedule-clause-general : goal.returns-in-Some-Schedule-clause-general
+returns-in-Some-Schedule-clause-general g c =
+    let form : Some Schedule ≡ form_of c.args.words.now = search rules in
+    let first = g.A.Source.left c.args.first.now in
+    let second = g.B.Source.left c.args.second.now in
+    let shown = shown_by g.K.Sink in
+    words_as c.args.words.now form first second c.schedule_of_network.result (shown c.args.out.now) (shown c.schedule_of_network.new.out)
+    (no_usage IsCheckStatus c.schedule_of_network.result (λ none. none) c.schedule_of_network.ensures.statuses, c.schedule_of_network.ensures.general)
 
 pub returns-in-Some-Plan-clause-general : goal.returns-in-Some-Plan-clause-general
 returns-in-Some-Plan-clause-general g c =

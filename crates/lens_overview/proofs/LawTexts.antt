@@ -1,0 +1,119 @@
+-- How the lines of a picture begin.
+use Rattle.lens_overview.specs.Lines.{bar_line, bar_part, caption_line, caption_part, piece_line, rail_part, ribbon_line, spread_line, stroke_part, tick_line, tick_part}
+use Rattle.lens_overview.specs.{Labels.label_word, Shades.shade_word, Signs.sign_line, declared.{grid.Pen.Pen, label.Label.Label, pieces.{Piece.Piece, Ribbon.Ribbon}, shade.Shade.Shade}}
+use Rattle.{lens_svg.specs.Elements.opening_line, net_plan.specs.declared.network.Network.Network}
+use Rattle.std.{proofs.{Common.{◌++◌, ◌≡◌, Bool, List, ap, arith, false, get_or, refl, true, ℕ}, lemmas.Bool.false≢true}, specs.Prelude.codes}
+use Rattle.lens_overview.specs.declared.label.Kind.TheVariants as kinds
+use Rattle.lens_overview.specs.declared.label.Label.TheVariants as labels
+use Rattle.lens_overview.specs.declared.pieces.Piece.TheVariants as pieces
+use Rattle.lens_overview.specs.declared.shade.Shade.TheVariants as shades
+use Rattle.lens_overview.specs.declared.signs.Sign.TheVariants as signs
+
+-- the octet at the place of a line
+abbrev octet_at : ℕ → List ℕ → ℕ
+octet_at n line = get_or line n 0
+
+-- the row is one of a virtual link's frames
+abbrev pub is_flow : Label → Bool
+is_flow (labels.Flow vl device) = true
+is_flow (labels.Flows vl count) = true
+is_flow label = false
+
+-- the beginning of the line of a stroke of such a row
+abbrev pub flow_stroke : List ℕ
+flow_stroke = codes "<path class=\"flow "
+
+-- a stroke whose line begins so is one of such a row
+flow_class : (network : Network) (label : Label) (y : ℕ) (shade : Shade) (from to : Pen) (rest : List ℕ)
+    → ribbon_line network (record { label = label; y = y; shade = shade; from = from; to = to }) ≡ flow_stroke ++ rest → is_flow label ≡ true
+unfolding stroke_part
+flow_class network (labels.Flow vl device) y shade from to rest same = refl
+flow_class network (labels.Flows vl count) y shade from to rest same = refl
+flow_class network (labels.Title group) y shade from to rest same = let octet = ap (octet_at 13) same in absurd (omega (arith, octet))
+flow_class network (labels.Count kinds.Event) y shade from to rest same = let octet = ap (octet_at 13) same in absurd (omega (arith, octet))
+flow_class network (labels.Count kinds.Lost) y shade from to rest same = let octet = ap (octet_at 13) same in absurd (omega (arith, octet))
+flow_class network (labels.Count kinds.Off) y shade from to rest same = let octet = ap (octet_at 13) same in absurd (omega (arith, octet))
+flow_class network (labels.Count kinds.ColdStart) y shade from to rest same = let octet = ap (octet_at 13) same in absurd (omega (arith, octet))
+flow_class network (labels.Count kinds.Domain) y shade from to rest same = let octet = ap (octet_at 13) same in absurd (omega (arith, octet))
+flow_class network (labels.Count kinds.Member) y shade from to rest same = let octet = ap (octet_at 13) same in absurd (omega (arith, octet))
+flow_class network (labels.Count kinds.Old) y shade from to rest same = let octet = ap (octet_at 13) same in absurd (omega (arith, octet))
+flow_class network (labels.Count kinds.Gate) y shade from to rest same = let octet = ap (octet_at 13) same in absurd (omega (arith, octet))
+flow_class network (labels.Count kinds.Cycle) y shade from to rest same = let octet = ap (octet_at 13) same in absurd (omega (arith, octet))
+flow_class network (labels.Count kinds.Unsynchronised) y shade from to rest same = let octet = ap (octet_at 13) same in absurd (omega (arith, octet))
+flow_class network (labels.Count kinds.Unknown) y shade from to rest same = let octet = ap (octet_at 13) same in absurd (omega (arith, octet))
+flow_class network (labels.Count kinds.Length) y shade from to rest same = let octet = ap (octet_at 13) same in absurd (omega (arith, octet))
+flow_class network (labels.Count kinds.Early) y shade from to rest same = let octet = ap (octet_at 13) same in absurd (omega (arith, octet))
+flow_class network (labels.Count kinds.Late) y shade from to rest same = let octet = ap (octet_at 13) same in absurd (omega (arith, octet))
+flow_class network (labels.Count kinds.Repeat) y shade from to rest same = let octet = ap (octet_at 13) same in absurd (omega (arith, octet))
+flow_class network (labels.Count kinds.Refused) y shade from to rest same = let octet = ap (octet_at 13) same in absurd (omega (arith, octet))
+flow_class network (labels.Lane device) y shade from to rest same = let octet = ap (octet_at 13) same in absurd (omega (arith, octet))
+flow_class network (labels.Others synchronised off) y shade from to rest same = let octet = ap (octet_at 13) same in absurd (omega (arith, octet))
+flow_class network (labels.Passage link way) y shade from to rest same = let octet = ap (octet_at 13) same in absurd (omega (arith, octet))
+
+-- and one whose line says that a frame is missing has that shade
+missing_class : (network : Network) (label : Label) (y : ℕ) (shade : Shade) (from to : Pen) (rest : List ℕ) → is_flow label ≡ true
+    → ribbon_line network (record { label = label; y = y; shade = shade; from = from; to = to }) ≡ codes "<path class=\"flow missing" ++ rest → shade ≡ shades.Missing
+unfolding stroke_part
+missing_class network (labels.Flow vl device) y shades.Blank from to rest flow same = let octet = ap (octet_at 18) same in absurd (omega (arith, octet))
+missing_class network (labels.Flow vl device) y shades.Both from to rest flow same = let octet = ap (octet_at 18) same in absurd (omega (arith, octet))
+missing_class network (labels.Flow vl device) y shades.AloneB from to rest flow same = let octet = ap (octet_at 18) same in absurd (omega (arith, octet))
+missing_class network (labels.Flow vl device) y shades.AloneA from to rest flow same = let octet = ap (octet_at 18) same in absurd (omega (arith, octet))
+missing_class network (labels.Flow vl device) y shades.Missing from to rest flow same = refl
+missing_class network (labels.Flow vl device) y shades.Off from to rest flow same = let octet = ap (octet_at 18) same in absurd (omega (arith, octet))
+missing_class network (labels.Flow vl device) y shades.Integrating from to rest flow same = let octet = ap (octet_at 18) same in absurd (omega (arith, octet))
+missing_class network (labels.Flow vl device) y shades.Joining from to rest flow same = let octet = ap (octet_at 18) same in absurd (omega (arith, octet))
+missing_class network (labels.Flow vl device) y shades.Synchronised from to rest flow same = let octet = ap (octet_at 18) same in absurd (omega (arith, octet))
+missing_class network (labels.Flow vl device) y shades.Broken from to rest flow same = let octet = ap (octet_at 18) same in absurd (omega (arith, octet))
+missing_class network (labels.Flow vl device) y shades.Cut from to rest flow same = let octet = ap (octet_at 18) same in absurd (omega (arith, octet))
+missing_class network (labels.Flow vl device) y shades.One from to rest flow same = let octet = ap (octet_at 18) same in absurd (omega (arith, octet))
+missing_class network (labels.Flow vl device) y shades.Two from to rest flow same = let octet = ap (octet_at 18) same in absurd (omega (arith, octet))
+missing_class network (labels.Flow vl device) y shades.Three from to rest flow same = let octet = ap (octet_at 18) same in absurd (omega (arith, octet))
+missing_class network (labels.Flow vl device) y shades.Many from to rest flow same = let octet = ap (octet_at 19) same in absurd (omega (arith, octet))
+missing_class network (labels.Flows vl count) y shades.Blank from to rest flow same = let octet = ap (octet_at 18) same in absurd (omega (arith, octet))
+missing_class network (labels.Flows vl count) y shades.Both from to rest flow same = let octet = ap (octet_at 18) same in absurd (omega (arith, octet))
+missing_class network (labels.Flows vl count) y shades.AloneB from to rest flow same = let octet = ap (octet_at 18) same in absurd (omega (arith, octet))
+missing_class network (labels.Flows vl count) y shades.AloneA from to rest flow same = let octet = ap (octet_at 18) same in absurd (omega (arith, octet))
+missing_class network (labels.Flows vl count) y shades.Missing from to rest flow same = refl
+missing_class network (labels.Flows vl count) y shades.Off from to rest flow same = let octet = ap (octet_at 18) same in absurd (omega (arith, octet))
+missing_class network (labels.Flows vl count) y shades.Integrating from to rest flow same = let octet = ap (octet_at 18) same in absurd (omega (arith, octet))
+missing_class network (labels.Flows vl count) y shades.Joining from to rest flow same = let octet = ap (octet_at 18) same in absurd (omega (arith, octet))
+missing_class network (labels.Flows vl count) y shades.Synchronised from to rest flow same = let octet = ap (octet_at 18) same in absurd (omega (arith, octet))
+missing_class network (labels.Flows vl count) y shades.Broken from to rest flow same = let octet = ap (octet_at 18) same in absurd (omega (arith, octet))
+missing_class network (labels.Flows vl count) y shades.Cut from to rest flow same = let octet = ap (octet_at 18) same in absurd (omega (arith, octet))
+missing_class network (labels.Flows vl count) y shades.One from to rest flow same = let octet = ap (octet_at 18) same in absurd (omega (arith, octet))
+missing_class network (labels.Flows vl count) y shades.Two from to rest flow same = let octet = ap (octet_at 18) same in absurd (omega (arith, octet))
+missing_class network (labels.Flows vl count) y shades.Three from to rest flow same = let octet = ap (octet_at 18) same in absurd (omega (arith, octet))
+missing_class network (labels.Flows vl count) y shades.Many from to rest flow same = let octet = ap (octet_at 19) same in absurd (omega (arith, octet))
+missing_class network (labels.Title group) y shade from to rest flow same = absurd (false≢true flow)
+missing_class network (labels.Count kind) y shade from to rest flow same = absurd (false≢true flow)
+missing_class network (labels.Lane device) y shade from to rest flow same = absurd (false≢true flow)
+missing_class network (labels.Others synchronised off) y shade from to rest flow same = absurd (false≢true flow)
+missing_class network (labels.Passage link way) y shade from to rest flow same = absurd (false≢true flow)
+
+-- a line that begins so is that of a stroke of such a row
+pub stroke_of : (network : Network) (piece : Piece) (rest : List ℕ) → piece_line network piece ≡ flow_stroke ++ rest
+    → (ribbon : Ribbon) × (piece ≡ pieces.Stroke ribbon) × (is_flow ribbon.label ≡ true)
+unfolding opening_line sign_line caption_line caption_part spread_line tick_line tick_part bar_line bar_part rail_part
+stroke_of network (pieces.Opening width height) rest same = let octet = ap (octet_at 1) same in absurd (omega (arith, octet))
+stroke_of network (pieces.Shared signs.Style) rest same = let octet = ap (octet_at 1) same in absurd (omega (arith, octet))
+stroke_of network (pieces.Shared signs.Backdrop) rest same = let octet = ap (octet_at 1) same in absurd (omega (arith, octet))
+stroke_of network (pieces.Shared signs.Heading) rest same = let octet = ap (octet_at 1) same in absurd (omega (arith, octet))
+stroke_of network (pieces.Shared signs.FrameKey) rest same = let octet = ap (octet_at 1) same in absurd (omega (arith, octet))
+stroke_of network (pieces.Shared signs.StateKey) rest same = let octet = ap (octet_at 1) same in absurd (omega (arith, octet))
+stroke_of network (pieces.Shared signs.Close) rest same = let octet = ap (octet_at 1) same in absurd (omega (arith, octet))
+stroke_of network (pieces.Caption grid) rest same = let octet = ap (octet_at 1) same in absurd (omega (arith, octet))
+stroke_of network (pieces.Spread greatest) rest same = let octet = ap (octet_at 1) same in absurd (omega (arith, octet))
+stroke_of network (pieces.Tick pen down) rest same = let octet = ap (octet_at 1) same in absurd (omega (arith, octet))
+stroke_of network (pieces.Bar pen width height apart) rest same = let octet = ap (octet_at 13) same in absurd (omega (arith, octet))
+stroke_of network (pieces.Name label y right) rest same = let octet = ap (octet_at 1) same in absurd (omega (arith, octet))
+stroke_of network (pieces.Stroke ribbon) rest same =
+    (ribbon, refl, flow_class network ribbon.label ribbon.y ribbon.shade ribbon.from ribbon.to rest same)
+
+-- a line of a stroke that says so
+pub missing_of : (network : Network) (ribbon : Ribbon) (rest : List ℕ) → is_flow ribbon.label ≡ true
+    → ribbon_line network ribbon ≡ codes "<path class=\"flow missing" ++ rest → ribbon.shade ≡ shades.Missing
+missing_of network ribbon rest flow same = missing_class network ribbon.label ribbon.y ribbon.shade ribbon.from ribbon.to rest flow same
+
+-- a line that says that a frame is missing begins as that of a stroke of frames
+pub missing_flow : (rest : List ℕ) → codes "<path class=\"flow missing" ++ rest ≡ flow_stroke ++ (codes "missing" ++ rest)
+missing_flow rest = refl

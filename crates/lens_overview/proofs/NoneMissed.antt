@@ -1,0 +1,23 @@
+-- Nothing that is owed is missing.
+use Rattle.{audit_law.specs.events.Readings.scenario_under, lens_overview.specs.{Cells.Missed, Missed.{AreMissed, IsMissed}}}
+use Rattle.{net_plan.specs.declared.network.Network.Network, run_law.specs.{declared.note.Note.Note, records.Happenings.happenings}}
+use Rattle.{schedule_tables.specs.Rules.KeepsRules, tte_audit.specs.Report.events_of, tte_reports.{proofs.Safely.report_well, specs.Reports.IsReportOf}}
+use Rattle.{std.proofs.Common.{◌∷◌, ◌≡◌, List, [], inl, refl, ℕ}, tte_units.specs.{Amount.amount, declared.units.Units.Units}}
+
+none_missed : (network : Network) (octets : List ℕ) (ns : List Note) (end : Units) (m : Missed) → KeepsRules network → IsReportOf network octets ns end
+    → IsMissed (scenario_under network (events_of ns)) (happenings network ns) (amount end) m → ⊥
+none_missed network octets ns end m rules r missed =
+    let d = (report_well network octets ns end rules r).safe.delivery m.vl missed.of_vl m.cycle m.device missed.owed in
+    missed.none d.delivery d.link d.cause d.there d.is
+
+-- so these are all
+pub missed_none : (network : Network) (octets : List ℕ) (ns : List Note) (end : Units) → KeepsRules network → IsReportOf network octets ns end
+    → AreMissed (scenario_under network (events_of ns)) (happenings network ns) (amount end) []
+missed_none network octets ns end rules r m = (λ there. absurd there, λ missed. absurd (none_missed network octets ns end m rules r missed))
+
+-- and no others
+pub none_are : (network : Network) (octets : List ℕ) (ns : List Note) (end : Units) (missed : List Missed) → KeepsRules network
+    → IsReportOf network octets ns end → AreMissed (scenario_under network (events_of ns)) (happenings network ns) (amount end) missed
+    → missed ≡ []
+none_are network octets ns end [] rules r are = refl
+none_are network octets ns end (m ∷ missed) rules r are = absurd (none_missed network octets ns end m rules r ((are m).0 (inl refl)))

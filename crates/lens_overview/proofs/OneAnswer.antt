@@ -1,0 +1,13 @@
+-- The answer for a report is one.
+use Rattle.lens_flows.{proofs.counts_lemmas.OneTold.flows_one, specs.declared.judge.flow.Flow.Flow}
+use Rattle.lens_overview.{proofs.NoneMissed.none_are, specs.{Answer.{IsOverviewAnswer, picture_for, pieces_answer}, Cells.Missed}}
+use Rattle.{lens_svg.specs.Titles.title_of, std.proofs.Common.{◌∙◌, List, [], ap, sym, ℕ}, tte_reports.specs.Reports.IsOneFor}
+
+-- for each network and its report there is one answer at most
+pub overview_answer_one : (words : List (List ℕ)) → IsOneFor (IsOverviewAnswer words)
+overview_answer_one words network octets ns end a b rules r p q =
+    p.is
+    ∙ ap (λ (missed : List Missed). pieces_answer network (title_of words) (picture_for network ns missed p.flows)) (none_are network octets ns end p.missed rules r p.each
+    ∙ sym (none_are network octets ns end q.missed rules r q.each))
+    ∙ ap (λ (flows : List Flow). pieces_answer network (title_of words) (picture_for network ns q.missed flows)) (flows_one network p.flows q.flows p.are q.are)
+    ∙ sym q.is

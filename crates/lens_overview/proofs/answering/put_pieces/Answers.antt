@@ -1,0 +1,48 @@
+use Rattle.lens_overview.{proofs.Listed.next_line, specs.{Lines.piece_line, declared.pieces.Piece.Piece}}
+use Rattle.std.proofs.Common.{◌++◌, ◌+◌, ◌∙◌, ◌∷◌, ◌≡◌, List, [], ap, drop, inl, inr, map, refl, subst, sym, take, ℕ}
+use Rattle.std.{proofs.lemmas.List.{map-append, take-append-drop}, specs.Io.KnownBytes.Appends}
+use Rattle.tte_forms.{proofs.Puts.{PutsLines-fails, PutsLines-more}, specs.Putting.{PutFails, PutsLines, shown_by}}
+use Rattle.tte_io.specs.Told.{AppendsFront}
+use Rattle.lens_overview.proofs.answering.put_pieces.Goals as goal
+
+pub pieces-preserved : goal.pieces-preserved
+pieces-preserved g c =
+    let shown = shown_by g.K.Sink in
+    let network = c.args.network.now in
+    let title = c.args.title.now in
+    let all = c.args.pieces.now in
+    let n = c.pieces.piece-index in
+    let next = next_line network title all _ n c.as_slice.result.now c.pieces-test.true (c.as_slice.ensures ∙ c.make_piece.ensures) in
+    let f = next.piece in
+    let lines = ap (λ (fs : List Piece). map (piece_line network title) fs) next.front ∙ map-append (piece_line network title) (take n all) (f ∷ []) in
+    let whole = subst (λ (bytes : List ℕ). Appends (g.K.Sink.written c.pieces.out) (g.K.Sink.written c.put.new.self) bytes) next.line
+    c.in-Ok.ensures.all in
+    record {
+      puts =
+          subst (λ (ls : List (List ℕ)). PutsLines ls (shown c.args.out.now) (shown c.put.new.self)) (sym lines)
+          (PutsLines-more (map (piece_line network title) (take n all)) (piece_line network title f) (shown c.args.out.now) (shown c.pieces.out)
+          (shown c.put.new.self) c.pieces.invariant.puts whole c.put.ensures.counted);
+      quiet = c.in-Ok.ensures.ok_unchanged ∙ c.pieces.invariant.quiet;
+    }
+
+pub returns-in-Err-clause-gives : goal.returns-in-Err-clause-gives
+returns-in-Err-clause-gives g c =
+    let shown = shown_by g.K.Sink in
+    let network = c.args.network.now in
+    let title = c.args.title.now in
+    let all = c.args.pieces.now in
+    let n = c.pieces.piece-index in
+    let next = next_line network title all _ n c.as_slice.result.now c.pieces-test.true (c.as_slice.ensures ∙ c.make_piece.ensures) in
+    let f = next.piece in
+    let rest = drop (n + 1) all in
+    let first = map (piece_line network title) (take n all) in
+    let others = map (piece_line network title) rest in
+    let split : all ≡ take n all ++ f ∷ rest = sym (take-append-drop n all) ∙ ap (λ (fs : List Piece). take n all ++ fs) next.rest in
+    let lines : map (piece_line network title) all ≡ first ++ piece_line network title f ∷ others =
+    ap (λ (fs : List Piece). map (piece_line network title) fs) split ∙ map-append (piece_line network title) (take n all) (f ∷ rest) in
+    let front = subst (λ (bytes : List ℕ). AppendsFront (g.K.Sink.written c.pieces.out) (g.K.Sink.written c.put.new.self) bytes) next.line
+    c.in-Err.ensures.front in
+    let fails =
+    PutsLines-fails first (piece_line network title f) others (shown c.args.out.now) (shown c.pieces.out) (shown c.put.new.self) c.pieces.invariant.puts
+    front c.put.ensures.counted in
+    inr (inl (refl, inl (subst (λ (ls : List (List ℕ)). PutFails ls (shown c.args.out.now) (shown c.put.new.self)) (sym lines) fails)))

@@ -1,0 +1,22 @@
+ghost use Rattle.lens_overview.specs.Laws.{BarsAreTrue, CellsAreDelivered, FlowsAreDrawn, NoneIsRed, StrokesAreOfFlows};
+ghost use Rattle.lens_overview.specs.Laws.{DevicesAreDrawn, WaysAreDrawn};
+
+/// In the picture of a report each flow of the network has a row: the line of its name, and along it the line of a stroke
+/// over each of its cells that is filled, of the cell's shade; and each stroke of frames is one of these. Where the network
+/// is accepted, a cell is filled exactly where a record delivers a frame of the flow in a cycle of the column, and no
+/// stroke says that a frame is owed and missing. Each bar is of the greatest spread of its column, within the precision.
+pub fn overview_law()
+    ensures missing { NoneIsRed }
+    ensures flows { FlowsAreDrawn }
+    ensures strokes { StrokesAreOfFlows }
+    ensures delivered { CellsAreDelivered }
+    ensures bars { BarsAreTrue }
+{}
+
+/// In the picture of a report each device has a row whose state a record changes, and each way that is cut; a device's
+/// cell has the state in which the records up to the end of the column leave it, and a way's is filled where it is cut at
+/// some time of the column.
+pub fn states_law()
+    ensures devices { DevicesAreDrawn }
+    ensures ways { WaysAreDrawn }
+{}
