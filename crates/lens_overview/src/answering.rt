@@ -77,12 +77,7 @@ fn drawn(
 }
 
 /// Puts the lines of the pieces, and passes them on.
-fn put_pieces<K: Sink>(
-    network: &Network,
-    title: &Title,
-    pieces: &[Piece],
-    out: &mut K,
-) -> Status
+fn put_pieces<K: Sink>(network: &Network, title: &Title, pieces: &[Piece], out: &mut K) -> Status
     requires { IsInRange network.now }
     ensures gives { Over K.Sink out.old out.new (Gives (pieces_answer network.now title.now pieces.now) result) }
     ensures status { IsWanted Status.Done result (PutFailed K.Sink out.old out.new) }
