@@ -13,6 +13,7 @@ use Rattle.{lens_slack.proofs.OneSlack.{octets_one, slack_one}, tte_forms.specs.
 use Rattle.{lens_slack.proofs.least_lemmas.OneLeast.least_one, tte_forms.specs.declared.status.Status.TheVariants.{Done, Usage}}
 use Rattle.{lens_slack.specs.{Steps.{all_steps, rule_steps}, least.Answer.{IsLeastOf, with_late}}, tte_forms.proofs.networks.Answers.network_answer_one}
 use Rattle.lens.proofs.draw_lemmas.Naming.{named_one}
+use Rattle.lens_overview.proofs.OneAnswer.{overview_answer_one}
 use Rattle.{lens.specs.declared.forms.Form.TheVariants.{DrawNamed, Events, Latency, Least, Plan, Report, Schedule, Sheet, Slack, SlackOf}, lens.specs.declared.forms.Question.Question}
 use Rattle.{lens.specs.declared.forms.Form.Form, lens.specs.declared.forms.Question.TheVariants.{Clocks, Draw, DrawWhole, Flows, LatencySeen, Page, Why}}
 use Rattle.{lens_why.proofs.Whole.why_answer_one, tte_forms.specs.{Answering.Answer, Putting.Shown}}
@@ -37,7 +38,7 @@ events_one one seed cycles few octets a b p q =
 
 question_one : (words : List (List ℕ)) (question : Question) → IsOneFor (IsQuestionAnswer words question)
 question_one words (Why number) = why_answer_one number
-question_one words DrawWhole = λ network text notes end x y rules of i j. i ∙ sym j
+question_one words DrawWhole = overview_answer_one words
 question_one words (Draw part) = λ network text notes end x y rules of i j. i ∙ sym j
 question_one words Page = λ network text notes end x y rules of i j. i ∙ sym j
 question_one words Flows = flows_answer_one

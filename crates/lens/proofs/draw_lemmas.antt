@@ -10,4 +10,3 @@ pub mod Clocks
 pub mod Reading
 pub mod Asking
 pub mod Coming
-pub mod overview_lemmas

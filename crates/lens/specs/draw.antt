@@ -12,4 +12,3 @@ pub mod ClockLaws
 pub mod ReadingLaws
 pub mod Asking
 pub mod WindowLaws
-pub mod overview

@@ -5,7 +5,6 @@ mod flags;
 mod laws;
 mod marks;
 mod named;
-pub mod overview;
 mod putting;
 mod signs;
 pub(crate) mod spans;

@@ -3,12 +3,12 @@
 ghost use Rattle.lens.specs.Questions.{EndsFor, IsQuestionAnswer, ends_as_audit};
 
 use crate::draw::Draw;
-use crate::draw::overview::DrawWhole;
 use crate::draw::spans::span_of;
 use crate::forms::Question;
 use lens_clocks::Clocks;
 use lens_flows::Flows;
 use lens_latency::Latency;
+use lens_overview::Overview;
 use lens_page::Page;
 use lens_why::Why;
 use net_plan::Network;
@@ -35,7 +35,10 @@ impl<'a, K: Sink> ReportCommand<K> for Asked<'a> {
     fn put(&self, alloc: Global, network: &Network, report: &AuditedReport, out: &mut K) -> Status {
         match self.question {
             Question::Why { number } => Why { number }.put(alloc, network, report, out),
-            Question::DrawWhole => DrawWhole.put(alloc, network, report, out),
+            Question::DrawWhole => {
+                let whole = Overview { words: self.words };
+                whole.put(alloc, network, report, out)
+            }
             Question::Draw(part) => {
                 let span = span_of(network, part);
                 let draw = Draw {

@@ -6,7 +6,7 @@ use Rattle.lens_overview.proofs.LawBars.{IsBarOf, IsGreatest, bar_greatest, bar_
 use Rattle.lens_overview.proofs.{LawClocks.{abs_close, by_apart}, NoneMissed.none_are}
 use Rattle.lens_overview.specs.{Bars.{bars_of, greatest_of}, Lines.piece_line, News.news_of, Pieces.{pieces_of, told_of}, Rows.rows_of}
 use Rattle.lens_overview.specs.declared.{grid.Pen.Pen, news.News.News, pieces.Piece.Piece}
-use Rattle.{lens_svg.specs.Sketching.moment, schedule_tables.specs.Rules.KeepsRules, tte_reports.{proofs.{Safely.report_well, Times.none_later}, specs.Reports.IsReportOf}}
+use Rattle.{lens_svg.specs.{Sketching.moment, Titles.title_of}, schedule_tables.specs.Rules.KeepsRules, tte_reports.{proofs.{Safely.report_well, Times.none_later}, specs.Reports.IsReportOf}}
 use Rattle.std.proofs.lemmas.Int.{ints}
 use Rattle.tte_units.specs.Amount.{amount}
 use Rattle.lens_overview.proofs.LawLanes.{lane_drawn, passage_drawn}
@@ -22,27 +22,27 @@ use Rattle.std.proofs.Common.{◌+◌, ◌++◌, ◌-◌, ◌∙◌, ◌∷◌, 
 use Rattle.{tte_audit.specs.Report.events_of, tte_forms.specs.Answering.Answer, tte_units.specs.declared.units.Units.Units}
 
 -- the lines of an answer
-answer_lines : (network : Network) (ns : List Note) (end : Units) (a : Answer) → (answer : IsOverviewAnswer network ns end a)
-    → a.lines ≡ lines network (news_by network ns ns) answer.missed answer.flows
-answer_lines network ns end a answer = ap (λ (x : Answer). x.lines) answer.is
+answer_lines : (words : List (List ℕ)) (network : Network) (ns : List Note) (end : Units) (a : Answer) → (answer : IsOverviewAnswer words network ns end a)
+    → a.lines ≡ lines network (title_of words) (news_by network ns ns) answer.missed answer.flows
+answer_lines words network ns end a answer = ap (λ (x : Answer). x.lines) answer.is
 
 pub none_is_red : NoneIsRed
-none_is_red network octets ns end a rules r answer line rest i e =
+none_is_red words network octets ns end a rules r answer line rest i e =
     let none = none_are network octets ns end answer.missed rules r answer.each in
-    let same = answer_lines network ns end a answer
-    ∙ ap (λ (missed : List Missed). lines network (news_by network ns ns) missed answer.flows) none in
-    none_red network (news_by network ns ns) answer.flows line rest (subst (λ (ls : List (List ℕ)). IsIn line ls) same i) e
+    let same = answer_lines words network ns end a answer
+    ∙ ap (λ (missed : List Missed). lines network (title_of words) (news_by network ns ns) missed answer.flows) none in
+    none_red network (title_of words) (news_by network ns ns) answer.flows line rest (subst (λ (ls : List (List ℕ)). IsIn line ls) same i) e
 
 pub flows_are_drawn : FlowsAreDrawn
-flows_are_drawn network ns end a answer flow is =
+flows_are_drawn words network ns end a answer flow is =
     subst (λ (ls : List (List ℕ)). HasRow network (grid_for network ns) ls flow (cells_for network ns answer.missed flow))
-    (sym (answer_lines network ns end a answer))
-    (flow_row network (news_by network ns ns) answer.missed answer.flows flow (answer.are.all flow is))
+    (sym (answer_lines words network ns end a answer))
+    (flow_row network (title_of words) (news_by network ns ns) answer.missed answer.flows flow (answer.are.all flow is))
 
 pub strokes_are_of_flows : StrokesAreOfFlows
-strokes_are_of_flows network ns end a answer line rest i e =
-    let same = answer_lines network ns end a answer in
-    let h = line_drawn network (news_by network ns ns) answer.missed answer.flows line rest (subst (λ (ls : List (List ℕ)). IsIn line ls) same i) e in
+strokes_are_of_flows words network ns end a answer line rest i e =
+    let same = answer_lines words network ns end a answer in
+    let h = line_drawn network (title_of words) (news_by network ns ns) answer.missed answer.flows line rest (subst (λ (ls : List (List ℕ)). IsIn line ls) same i) e in
     let drawn = h.3 in (
       drawn.flow,
       answer.are.each drawn.flow drawn.among,
@@ -71,7 +71,7 @@ come_filled network ns flow column come =
     subst (λ (k : ℕ). IsFilled network ns [] flow k) come.1 seen
 
 pub cells_are_delivered : CellsAreDelivered
-cells_are_delivered network octets ns end a rules r answer flow column =
+cells_are_delivered words network octets ns end a rules r answer flow column =
     let none = none_are network octets ns end answer.missed rules r answer.each in (
       λ seen. filled_come network ns flow column (subst (λ (m : List Missed). IsFilled network ns m flow column) none seen),
       λ come. subst (λ (m : List Missed). IsFilled network ns m flow column) (sym none) (come_filled network ns flow column come),
@@ -126,11 +126,11 @@ spread_told network ns column spread greatest = by greatest.is
     by (inr h) =
         from_news h.0 h.1 h.2 h.3 (told_note network (scenario_under network (events_of ns)) (happenings network ns) ns [] h.0 h.1)
 
-bar_true : (network : Network) (octets : List ℕ) (ns : List Note) (end : Units) (line : List ℕ) → KeepsRules network → IsReportOf network octets ns end
-    → (pen : Pen) (width height spread : ℕ) → line ≡ piece_line network (pieces.Bar pen width height spread)
+bar_true : (title : List ℕ) (network : Network) (octets : List ℕ) (ns : List Note) (end : Units) (line : List ℕ) → KeepsRules network → IsReportOf network octets ns end
+    → (pen : Pen) (width height spread : ℕ) → line ≡ piece_line network title (pieces.Bar pen width height spread)
     → IsBarOf (grid_for network ns) (bars_of (grid_for network ns) (news_by network ns ns)) 0 (pieces.Bar pen width height spread)
     → IsTrueBar network ns line
-bar_true network octets ns end line rules r pen width height spread is bar =
+bar_true title network octets ns end line rules r pen width height spread is bar =
     let grid = grid_for network ns in
     let greatest = spread_told network ns bar.column bar.spread (bar_greatest grid bar.column (news_by network ns ns) bar.spread bar.of) in
     let place : 0 + bar.column ≡ bar.column = omega arith in
@@ -139,35 +139,35 @@ bar_true network octets ns end line rules r pen width height spread is bar =
       height = bar.height;
       spread = bar.spread;
       is =
-          is ∙ ap (piece_line network) bar.is
-          ∙ ap (λ (k : ℕ). piece_line network (pieces.Bar (pen_at (grid_for network ns) k) ((grid_for network ns).pitch - 1) bar.height bar.spread)) place;
+          is ∙ ap (piece_line network title) bar.is
+          ∙ ap (λ (k : ℕ). piece_line network title (pieces.Bar (pen_at (grid_for network ns) k) ((grid_for network ns).pitch - 1) bar.height bar.spread)) place;
       low = bar.low;
       greatest = greatest;
       close = spread_close network octets ns end greatest.note bar.spread rules r greatest.there greatest.is;
     }
 
 pub bars_are_true : BarsAreTrue
-bars_are_true network octets ns end a rules r answer line rest i e =
-    let same = answer_lines network ns end a answer in
+bars_are_true words network octets ns end a rules r answer line rest i e =
+    let same = answer_lines words network ns end a answer in
     let news = news_by network ns ns in
     let grid = grid_for network ns in
     let all = pieces_of network news answer.missed answer.flows in
-    let at = piece_of network all line (subst (λ (ls : List (List ℕ)). IsIn line ls) same i) in
-    let bar = bar_of network at.0 rest (sym at.2 ∙ e) in
+    let at = piece_of network (title_of words) all line (subst (λ (ls : List (List ℕ)). IsIn line ls) same i) in
+    let bar = bar_of network (title_of words) at.0 rest (sym at.2 ∙ e) in
     let there : IsIn (pieces.Bar bar.0 bar.1 bar.2 bar.3) all = subst (λ (p : Piece). IsIn p all) bar.4 at.1 in
-    bar_true network octets ns end line rules r bar.0 bar.1 bar.2 bar.3 (at.2 ∙ ap (piece_line network) bar.4)
+    bar_true (title_of words) network octets ns end line rules r bar.0 bar.1 bar.2 bar.3 (at.2 ∙ ap (piece_line network (title_of words)) bar.4)
     (picture_bar bar.0 bar.1 bar.2 bar.3 grid (rows_of network (told_of news) answer.missed answer.flows) (bars_of grid news) (greatest_of news) there)
 
 -- ---- devices and ways
 
 pub devices_are_drawn : DevicesAreDrawn
-devices_are_drawn network ns end a answer device d note at i turn =
+devices_are_drawn words network ns end a answer device d note at i turn =
     subst (λ (ls : List (List ℕ)). HasCells network (grid_for network ns) ls (labels.Lane device)
-    (device_cell network (grid_for network ns) ns device (start_of d.start))) (sym (answer_lines network ns end a answer))
-    (lane_drawn network (scenario_under network (events_of ns)) (happenings network ns) ns answer.missed answer.flows device d note at i turn)
+    (device_cell network (grid_for network ns) ns device (start_of d.start))) (sym (answer_lines words network ns end a answer))
+    (lane_drawn network (scenario_under network (events_of ns)) (happenings network ns) ns (title_of words) answer.missed answer.flows device d note at i turn)
 
 pub ways_are_drawn : WaysAreDrawn
-ways_are_drawn network ns end a answer link way column there within seen =
+ways_are_drawn words network ns end a answer link way column there within seen =
     subst (λ (ls : List (List ℕ)). HasCells network (grid_for network ns) ls (labels.Passage link way)
-    (way_cell network (grid_for network ns) ns link way)) (sym (answer_lines network ns end a answer))
-    (passage_drawn network (scenario_under network (events_of ns)) (happenings network ns) ns answer.missed answer.flows link way column there within seen)
+    (way_cell network (grid_for network ns) ns link way)) (sym (answer_lines words network ns end a answer))
+    (passage_drawn network (scenario_under network (events_of ns)) (happenings network ns) ns (title_of words) answer.missed answer.flows link way column there within seen)

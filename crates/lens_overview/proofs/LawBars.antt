@@ -4,7 +4,7 @@ use Rattle.lens_overview.specs.{Bars.{bars_of, greater, greatest_of, raised}, Gr
 use Rattle.lens_overview.specs.Pieces.{bar_at, bar_height, bars_from, below, bottom_of, front, not_begun, picture_of, row_pieces, rows_from, stride_of, stroke_to, strokes_from, ticks, top}
 use Rattle.lens_overview.specs.{Rows.Row, Shades.{is_blank, is_same}, Signs.sign_line, declared.{grid.{Grid.Grid, Pen.Pen}, label.Label.Label, news.News.News}}
 use Rattle.lens_overview.specs.declared.{pieces.{Begun.Begun, Piece.Piece, Ribbon.Ribbon}, shade.Shade.Shade}
-use Rattle.{lens_svg.specs.{Elements.opening_line, Sketching.with_at}, net_plan.specs.declared.network.Network.Network}
+use Rattle.{lens_svg.specs.{Elements.opening_line, Sketching.with_at, Titles.title_line}, net_plan.specs.declared.network.Network.Network}
 use Rattle.run_law.{proofs.runs.Places.in_parts, specs.records.Order.IsIn}
 use Rattle.std.proofs.Common.{◌*◌, ◌+◌, ◌++◌, ◌-◌, ◌/◌, ◌<◌, ◌∙◌, ◌∷◌, ◌≡◌, ◌≤◌, ◌⊎◌, Bool, List, None, Option, Some, [], ap, arith, false, fold, get_or, if◌then◌else◌, inl, inr, length, refl, replicate, subst, suc, sym, true, zero, ℕ}
 use Rattle.std.proofs.lemmas.{Bool.{Decides.nat_tests, cases_lt}, List.{get_or-replicate, get_or-set_other, get_or-set_same, length-replicate, length-set}}
@@ -25,49 +25,50 @@ octet_at n line = get_or line n 0
 abbrev pub IsBar : Piece → Type 0
 IsBar piece = (pen : Pen) × (width : ℕ) × (height : ℕ) × (spread : ℕ) × (piece ≡ pieces.Bar pen width height spread)
 
-stroke_class : (network : Network) (label : Label) (y : ℕ) (shade : Shade) (from to : Pen) (rest : List ℕ)
-    → piece_line network (pieces.Stroke (record { label = label; y = y; shade = shade; from = from; to = to })) ≡ codes "<path class=\"bar" ++ rest → ⊥
+stroke_class : (network : Network) (title : List ℕ) (label : Label) (y : ℕ) (shade : Shade) (from to : Pen) (rest : List ℕ)
+    → piece_line network title (pieces.Stroke (record { label = label; y = y; shade = shade; from = from; to = to })) ≡ codes "<path class=\"bar" ++ rest → ⊥
 unfolding stroke_part
-stroke_class network (labels.Title group) y shade from to rest same = let octet = ap (octet_at 13) same in omega (arith, octet)
-stroke_class network (labels.Count kinds.Event) y shade from to rest same = let octet = ap (octet_at 13) same in omega (arith, octet)
-stroke_class network (labels.Count kinds.Lost) y shade from to rest same = let octet = ap (octet_at 13) same in omega (arith, octet)
-stroke_class network (labels.Count kinds.Off) y shade from to rest same = let octet = ap (octet_at 13) same in omega (arith, octet)
-stroke_class network (labels.Count kinds.ColdStart) y shade from to rest same = let octet = ap (octet_at 13) same in omega (arith, octet)
-stroke_class network (labels.Count kinds.Domain) y shade from to rest same = let octet = ap (octet_at 13) same in omega (arith, octet)
-stroke_class network (labels.Count kinds.Member) y shade from to rest same = let octet = ap (octet_at 13) same in omega (arith, octet)
-stroke_class network (labels.Count kinds.Old) y shade from to rest same = let octet = ap (octet_at 13) same in omega (arith, octet)
-stroke_class network (labels.Count kinds.Gate) y shade from to rest same = let octet = ap (octet_at 13) same in omega (arith, octet)
-stroke_class network (labels.Count kinds.Cycle) y shade from to rest same = let octet = ap (octet_at 13) same in omega (arith, octet)
-stroke_class network (labels.Count kinds.Unsynchronised) y shade from to rest same = let octet = ap (octet_at 13) same in omega (arith, octet)
-stroke_class network (labels.Count kinds.Unknown) y shade from to rest same = let octet = ap (octet_at 13) same in omega (arith, octet)
-stroke_class network (labels.Count kinds.Length) y shade from to rest same = let octet = ap (octet_at 13) same in omega (arith, octet)
-stroke_class network (labels.Count kinds.Early) y shade from to rest same = let octet = ap (octet_at 13) same in omega (arith, octet)
-stroke_class network (labels.Count kinds.Late) y shade from to rest same = let octet = ap (octet_at 13) same in omega (arith, octet)
-stroke_class network (labels.Count kinds.Repeat) y shade from to rest same = let octet = ap (octet_at 13) same in omega (arith, octet)
-stroke_class network (labels.Count kinds.Refused) y shade from to rest same = let octet = ap (octet_at 13) same in omega (arith, octet)
-stroke_class network (labels.Lane device) y shade from to rest same = let octet = ap (octet_at 13) same in omega (arith, octet)
-stroke_class network (labels.Others synchronised off) y shade from to rest same = let octet = ap (octet_at 13) same in omega (arith, octet)
-stroke_class network (labels.Passage link way) y shade from to rest same = let octet = ap (octet_at 13) same in omega (arith, octet)
-stroke_class network (labels.Flow vl device) y shade from to rest same = let octet = ap (octet_at 13) same in omega (arith, octet)
-stroke_class network (labels.Flows vl count) y shade from to rest same = let octet = ap (octet_at 13) same in omega (arith, octet)
+stroke_class network title (labels.Title group) y shade from to rest same = let octet = ap (octet_at 13) same in omega (arith, octet)
+stroke_class network title (labels.Count kinds.Event) y shade from to rest same = let octet = ap (octet_at 13) same in omega (arith, octet)
+stroke_class network title (labels.Count kinds.Lost) y shade from to rest same = let octet = ap (octet_at 13) same in omega (arith, octet)
+stroke_class network title (labels.Count kinds.Off) y shade from to rest same = let octet = ap (octet_at 13) same in omega (arith, octet)
+stroke_class network title (labels.Count kinds.ColdStart) y shade from to rest same = let octet = ap (octet_at 13) same in omega (arith, octet)
+stroke_class network title (labels.Count kinds.Domain) y shade from to rest same = let octet = ap (octet_at 13) same in omega (arith, octet)
+stroke_class network title (labels.Count kinds.Member) y shade from to rest same = let octet = ap (octet_at 13) same in omega (arith, octet)
+stroke_class network title (labels.Count kinds.Old) y shade from to rest same = let octet = ap (octet_at 13) same in omega (arith, octet)
+stroke_class network title (labels.Count kinds.Gate) y shade from to rest same = let octet = ap (octet_at 13) same in omega (arith, octet)
+stroke_class network title (labels.Count kinds.Cycle) y shade from to rest same = let octet = ap (octet_at 13) same in omega (arith, octet)
+stroke_class network title (labels.Count kinds.Unsynchronised) y shade from to rest same = let octet = ap (octet_at 13) same in omega (arith, octet)
+stroke_class network title (labels.Count kinds.Unknown) y shade from to rest same = let octet = ap (octet_at 13) same in omega (arith, octet)
+stroke_class network title (labels.Count kinds.Length) y shade from to rest same = let octet = ap (octet_at 13) same in omega (arith, octet)
+stroke_class network title (labels.Count kinds.Early) y shade from to rest same = let octet = ap (octet_at 13) same in omega (arith, octet)
+stroke_class network title (labels.Count kinds.Late) y shade from to rest same = let octet = ap (octet_at 13) same in omega (arith, octet)
+stroke_class network title (labels.Count kinds.Repeat) y shade from to rest same = let octet = ap (octet_at 13) same in omega (arith, octet)
+stroke_class network title (labels.Count kinds.Refused) y shade from to rest same = let octet = ap (octet_at 13) same in omega (arith, octet)
+stroke_class network title (labels.Lane device) y shade from to rest same = let octet = ap (octet_at 13) same in omega (arith, octet)
+stroke_class network title (labels.Others synchronised off) y shade from to rest same = let octet = ap (octet_at 13) same in omega (arith, octet)
+stroke_class network title (labels.Passage link way) y shade from to rest same = let octet = ap (octet_at 13) same in omega (arith, octet)
+stroke_class network title (labels.Flow vl device) y shade from to rest same = let octet = ap (octet_at 13) same in omega (arith, octet)
+stroke_class network title (labels.Flows vl count) y shade from to rest same = let octet = ap (octet_at 13) same in omega (arith, octet)
 
 -- a line that begins so is that of a bar
-pub bar_of : (network : Network) (piece : Piece) (rest : List ℕ) → piece_line network piece ≡ codes "<path class=\"bar" ++ rest → IsBar piece
-unfolding opening_line sign_line caption_line caption_part spread_line tick_line tick_part bar_line bar_part rail_part
-bar_of network (pieces.Opening width height) rest same = let octet = ap (octet_at 1) same in absurd (omega (arith, octet))
-bar_of network (pieces.Shared signs.Style) rest same = let octet = ap (octet_at 1) same in absurd (omega (arith, octet))
-bar_of network (pieces.Shared signs.Backdrop) rest same = let octet = ap (octet_at 1) same in absurd (omega (arith, octet))
-bar_of network (pieces.Shared signs.Heading) rest same = let octet = ap (octet_at 1) same in absurd (omega (arith, octet))
-bar_of network (pieces.Shared signs.FrameKey) rest same = let octet = ap (octet_at 1) same in absurd (omega (arith, octet))
-bar_of network (pieces.Shared signs.StateKey) rest same = let octet = ap (octet_at 1) same in absurd (omega (arith, octet))
-bar_of network (pieces.Shared signs.Close) rest same = let octet = ap (octet_at 1) same in absurd (omega (arith, octet))
-bar_of network (pieces.Caption grid) rest same = let octet = ap (octet_at 1) same in absurd (omega (arith, octet))
-bar_of network (pieces.Spread greatest) rest same = let octet = ap (octet_at 1) same in absurd (omega (arith, octet))
-bar_of network (pieces.Tick pen down) rest same = let octet = ap (octet_at 1) same in absurd (omega (arith, octet))
-bar_of network (pieces.Bar pen width height spread) rest same = (pen, width, height, spread, refl)
-bar_of network (pieces.Name label y right) rest same = let octet = ap (octet_at 1) same in absurd (omega (arith, octet))
-bar_of network (pieces.Stroke ribbon) rest same =
-    absurd (stroke_class network ribbon.label ribbon.y ribbon.shade ribbon.from ribbon.to rest same)
+pub bar_of : (network : Network) (title : List ℕ) (piece : Piece) (rest : List ℕ) → piece_line network title piece ≡ codes "<path class=\"bar" ++ rest → IsBar piece
+unfolding opening_line title_line sign_line caption_line caption_part spread_line tick_line tick_part bar_line bar_part rail_part
+bar_of network title (pieces.Opening width height) rest same = let octet = ap (octet_at 1) same in absurd (omega (arith, octet))
+bar_of network title pieces.Title rest same = let octet = ap (octet_at 1) same in absurd (omega (arith, octet))
+bar_of network title (pieces.Shared signs.Style) rest same = let octet = ap (octet_at 1) same in absurd (omega (arith, octet))
+bar_of network title (pieces.Shared signs.Backdrop) rest same = let octet = ap (octet_at 1) same in absurd (omega (arith, octet))
+bar_of network title (pieces.Shared signs.Heading) rest same = let octet = ap (octet_at 1) same in absurd (omega (arith, octet))
+bar_of network title (pieces.Shared signs.FrameKey) rest same = let octet = ap (octet_at 1) same in absurd (omega (arith, octet))
+bar_of network title (pieces.Shared signs.StateKey) rest same = let octet = ap (octet_at 1) same in absurd (omega (arith, octet))
+bar_of network title (pieces.Shared signs.Close) rest same = let octet = ap (octet_at 1) same in absurd (omega (arith, octet))
+bar_of network title (pieces.Caption grid) rest same = let octet = ap (octet_at 1) same in absurd (omega (arith, octet))
+bar_of network title (pieces.Spread greatest) rest same = let octet = ap (octet_at 1) same in absurd (omega (arith, octet))
+bar_of network title (pieces.Tick pen down) rest same = let octet = ap (octet_at 1) same in absurd (omega (arith, octet))
+bar_of network title (pieces.Bar pen width height spread) rest same = (pen, width, height, spread, refl)
+bar_of network title (pieces.Name label y right) rest same = let octet = ap (octet_at 1) same in absurd (omega (arith, octet))
+bar_of network title (pieces.Stroke ribbon) rest same =
+    absurd (stroke_class network title ribbon.label ribbon.y ribbon.shade ribbon.from ribbon.to rest same)
 
 -- ---- the bars of a picture
 
@@ -187,7 +188,8 @@ module _ (pen : Pen) (width height spread : ℕ) where
   no_front grid bottom greatest (inr (inr (inr (inr (inr (inl e)))))) = cc
   no_front grid bottom greatest (inr (inr (inr (inr (inr (inr (inl e))))))) = cc
   no_front grid bottom greatest (inr (inr (inr (inr (inr (inr (inr (inl e)))))))) = cc
-  no_front grid bottom greatest (inr (inr (inr (inr (inr (inr (inr (inr none)))))))) = none
+  no_front grid bottom greatest (inr (inr (inr (inr (inr (inr (inr (inr (inl e))))))))) = cc
+  no_front grid bottom greatest (inr (inr (inr (inr (inr (inr (inr (inr (inr none))))))))) = none
 
   no_end : IsIn bar (pieces.Shared signs.Close ∷ []) → ⊥
   no_end (inl e) = cc

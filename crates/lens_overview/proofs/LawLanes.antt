@@ -302,7 +302,7 @@ any_in p x (y ∷ ys) (inr i) passes = ap (λ (b : Bool). p y || b) (any_in p x 
     or_true true = refl
     or_true false = refl
 
-module _ (network : Network) (s : Scenario) (hs : List Happening) (ns : List Note) (missed : List Missed) (flows : List Flow) where
+module _ (network : Network) (s : Scenario) (hs : List Happening) (ns : List Note) (title : List ℕ) (missed : List Missed) (flows : List Flow) where
   abbrev news : List News
   news = news_in network s hs ns
 
@@ -312,22 +312,22 @@ module _ (network : Network) (s : Scenario) (hs : List Happening) (ns : List Not
   some_columns : 1 ≤ grid_here.columns
   some_columns = omega arith
 
-  upper_there : (row : Row) → is_flow row.label ≡ false → IsIn row (upper_rows network (told_of news)) → IsIn row (rows network news missed flows)
+  upper_there : (row : Row) → is_flow row.label ≡ false → IsIn row (upper_rows network (told_of news)) → IsIn row (rows network title news missed flows)
   upper_there row other i =
       let upper = with_flows (told_of news) missed (upper_rows network (told_of news)) flows in
       in_left row (upper ++ title_row groups.Losses) (count_rows (told_of news) losses)
       (in_left row upper (title_row groups.Losses) (other_kept (told_of news) missed flows (upper_rows network (told_of news)) row other i))
 
   -- a row whose cells are these is drawn
-  cells_drawn : (label : Label) (cells : List Shade) (cell : ℕ → Shade) → IsIn (record { label = label; cells = cells }) (rows network news missed flows)
+  cells_drawn : (label : Label) (cells : List Shade) (cell : ℕ → Shade) → IsIn (record { label = label; cells = cells }) (rows network title news missed flows)
       → length cells ≡ grid_here.columns → ((k : ℕ) → k < grid_here.columns → shade_at cells k ≡ cell k)
-      → HasCells network grid_here (lines network news missed flows) label cell
+      → HasCells network grid_here (lines network title news missed flows) label cell
   cells_drawn label cells cell i size is =
       let row : Row = record { label = label; cells = cells } in
-      let laid = picture_laid grid_here (rows network news missed flows) (bars_of grid_here news) (greatest_of news) row i in
+      let laid = picture_laid grid_here (rows network title news missed flows) (bars_of grid_here news) (greatest_of news) row i in
       record {
         y = laid.0;
-        name = name_there network news missed flows row laid.0 laid.1;
+        name = name_there network title news missed flows row laid.0 laid.1;
         each = λ column within seen.
             let own = is column within in
             let struck = all_struck grid_here label laid.0 cells not_begun 0 cells column (at_first grid_here label laid.0 cells size)
@@ -335,20 +335,20 @@ module _ (network : Network) (s : Scenario) (hs : List Happening) (ns : List Not
             drawn row laid.0 laid.1 column (cell column) own struck;
       }
     where
-      drawn : (row : Row) (y : ℕ) → IsLaid grid_here (all network news missed flows) row y → (column : ℕ) (shade : Shade) → shade_at row.cells column ≡ shade
+      drawn : (row : Row) (y : ℕ) → IsLaid grid_here (all network title news missed flows) row y → (column : ℕ) (shade : Shade) → shade_at row.cells column ≡ shade
           → IsStruck grid_here row.label y row.cells (strokes_from grid_here row.label y not_begun 0 row.cells) column
-          → HasStroke network grid_here (lines network news missed flows) row.label y column shade
+          → HasStroke network grid_here (lines network title news missed flows) row.label y column shade
       drawn row y laid column shade same struck =
           let stroke : Shade → Ribbon = λ x.
           (record { label = row.label; y = y; shade = x; from = pen_at grid_here struck.first; to = pen_at grid_here struck.last }) in
-          let there = line_in network (all network news missed flows) (pieces.Stroke (stroke (shade_at row.cells column)))
+          let there = line_in network title (all network title news missed flows) (pieces.Stroke (stroke (shade_at row.cells column)))
           (laid.all (pieces.Stroke (stroke (shade_at row.cells column))) (inr struck.there)) in
           record {
             first = struck.first;
             last = struck.last;
             begins = struck.begins;
             ends = struck.ends;
-            line = subst (λ (x : Shade). IsIn (ribbon_line network (stroke x)) (lines network news missed flows)) same there;
+            line = subst (λ (x : Shade). IsIn (ribbon_line network (stroke x)) (lines network title news missed flows)) same there;
           }
 
   -- ---- devices
@@ -367,7 +367,7 @@ module _ (network : Network) (s : Scenario) (hs : List Happening) (ns : List Not
       any_in (λ (x : News). is_turn device x.change) (news_of network s hs h.0 note) news h.1 (turn_is h.0 device note.body turn)
 
   pub lane_drawn : (device : DeviceId) (d : Device) (note : Note) → slice_get network.device device.0 ≡ Some d → IsIn note ns → IsTurn device note.body
-      → HasCells network grid_here (lines network news missed flows) (labels.Lane device) (device_cell network grid_here ns device (start_of d.start))
+      → HasCells network grid_here (lines network title news missed flows) (labels.Lane device) (device_cell network grid_here ns device (start_of d.start))
   lane_drawn device d note at i turn =
       let cells = cells_of grid_here news (labels.Lane device) (start_of d.start) in
       let row : Row = record { label = labels.Lane device; cells = cells } in
@@ -427,7 +427,7 @@ module _ (network : Network) (s : Scenario) (hs : List Happening) (ns : List Not
 
   pub passage_drawn : (link : LinkId) (way : Way) (k : ℕ) → link.0 < length network.link → k < grid_here.columns
       → is_blank (way_cell network grid_here ns link way k) ≡ false
-      → HasCells network grid_here (lines network news missed flows) (labels.Passage link way) (way_cell network grid_here ns link way)
+      → HasCells network grid_here (lines network title news missed flows) (labels.Passage link way) (way_cell network grid_here ns link way)
   passage_drawn link way k there within seen =
       let row : Row = record { label = labels.Passage link way; cells = cut_cells link way } in
       let here = cut_there link way (cut_any link way k within seen) in

@@ -12,16 +12,16 @@ use Rattle.std.specs.Prelude.{codes}
 use Rattle.lens_overview.specs.declared.pieces.Piece.TheVariants as pieces
 use Rattle.lens_overview.specs.declared.shade.Shade.TheVariants as shades
 
-pub line_in : (network : Network) (all : List Piece) (piece : Piece) → IsIn piece all → IsIn (piece_line network piece) (map (piece_line network) all)
-line_in network [] piece i = absurd i
-line_in network (p ∷ all) piece (inl is) = inl (ap (piece_line network) is)
-line_in network (p ∷ all) piece (inr i) = inr (line_in network all piece i)
+pub line_in : (network : Network) (title : List ℕ) (all : List Piece) (piece : Piece) → IsIn piece all → IsIn (piece_line network title piece) (map (piece_line network title) all)
+line_in network title [] piece i = absurd i
+line_in network title (p ∷ all) piece (inl is) = inl (ap (piece_line network title) is)
+line_in network title (p ∷ all) piece (inr i) = inr (line_in network title all piece i)
 
-pub piece_of : (network : Network) (all : List Piece) (line : List ℕ) → IsIn line (map (piece_line network) all)
-    → (piece : Piece) × IsIn piece all × (line ≡ piece_line network piece)
-piece_of network [] line i = absurd i
-piece_of network (p ∷ all) line (inl is) = (p, inl refl, is)
-piece_of network (p ∷ all) line (inr i) = let h = piece_of network all line i in (h.0, inr h.1, h.2)
+pub piece_of : (network : Network) (title : List ℕ) (all : List Piece) (line : List ℕ) → IsIn line (map (piece_line network title) all)
+    → (piece : Piece) × IsIn piece all × (line ≡ piece_line network title piece)
+piece_of network title [] line i = absurd i
+piece_of network title (p ∷ all) line (inl is) = (p, inl refl, is)
+piece_of network title (p ∷ all) line (inr i) = let h = piece_of network title all line i in (h.0, inr h.1, h.2)
 
 ribbon_in : Ribbon → Piece → Ribbon
 ribbon_in d (pieces.Stroke ribbon) = ribbon
@@ -31,7 +31,7 @@ one_ribbon : (a b : Ribbon) → pieces.Stroke a ≡ pieces.Stroke b → a ≡ b
 unfolding ribbon_in
 one_ribbon a b e = ap (ribbon_in a) e
 
-module _ (network : Network) (news : List News) (missed : List Missed) (flows : List Flow) where
+module _ (network : Network) (title : List ℕ) (news : List News) (missed : List Missed) (flows : List Flow) where
   abbrev pub grid : Grid
   grid = grid_of (last_cycle news)
 
@@ -39,7 +39,7 @@ module _ (network : Network) (news : List News) (missed : List Missed) (flows : 
   all = pieces_of network news missed flows
 
   abbrev pub lines : List (List ℕ)
-  lines = map (piece_line network) all
+  lines = map (piece_line network title) all
 
   abbrev pub rows : List Row
   rows = rows_of network (told_of news) missed flows
@@ -48,7 +48,7 @@ module _ (network : Network) (news : List News) (missed : List Missed) (flows : 
   cells flow = flow_cells grid news (last_cycle news) missed flow.vl flow.device
 
   pub name_there : (row : Row) (y : ℕ) → IsLaid grid all row y → IsIn (name_line network row.label y (right_of grid)) lines
-  name_there row y laid = line_in network all (pieces.Name row.label y (right_of grid)) (laid.all (pieces.Name row.label y (right_of grid)) (inl refl))
+  name_there row y laid = line_in network title all (pieces.Name row.label y (right_of grid)) (laid.all (pieces.Name row.label y (right_of grid)) (inl refl))
 
   -- each flow has its row
   pub flow_row : (flow : Flow) → IsIn flow flows → HasRow network grid lines flow (cells flow)
@@ -75,7 +75,7 @@ module _ (network : Network) (news : List News) (missed : List Missed) (flows : 
           → HasStroke network grid lines row.label y column shade
       drawn row y laid column shade same struck =
           let stroke : Shade → Ribbon = λ s. record { label = row.label; y = y; shade = s; from = pen_at grid struck.first; to = pen_at grid struck.last } in
-          let there = line_in network all (pieces.Stroke (stroke (shade_at row.cells column)))
+          let there = line_in network title all (pieces.Stroke (stroke (shade_at row.cells column)))
           (laid.all (pieces.Stroke (stroke (shade_at row.cells column))) (inr struck.there)) in
           record {
             first = struck.first;
@@ -128,9 +128,9 @@ module _ (network : Network) (news : List News) (missed : List Missed) (flows : 
   pub line_drawn : (line rest : List ℕ) → IsIn line lines → line ≡ flow_stroke ++ rest
       → (ribbon : Ribbon) × (is_flow ribbon.label ≡ true) × (line ≡ ribbon_line network ribbon) × IsDrawn line ribbon
   line_drawn line rest i e =
-      let at = piece_of network all line i in
-      let stroke = stroke_of network at.0 rest (sym at.2 ∙ e) in
-      let is : line ≡ ribbon_line network stroke.0 = at.2 ∙ ap (piece_line network) stroke.1 in (
+      let at = piece_of network title all line i in
+      let stroke = stroke_of network title at.0 rest (sym at.2 ∙ e) in
+      let is : line ≡ ribbon_line network stroke.0 = at.2 ∙ ap (piece_line network title) stroke.1 in (
         stroke.0,
         stroke.2,
         is,
@@ -138,10 +138,10 @@ module _ (network : Network) (news : List News) (missed : List Missed) (flows : 
       )
 
 -- no line says that a frame is missing, where none is
-pub none_red : (network : Network) (news : List News) (flows : List Flow) (line rest : List ℕ) → IsIn line (lines network news [] flows)
+pub none_red : (network : Network) (title : List ℕ) (news : List News) (flows : List Flow) (line rest : List ℕ) → IsIn line (lines network title news [] flows)
     → line ≡ codes "<path class=\"flow missing" ++ rest → ⊥
-none_red network news flows line rest i e =
-    let h = line_drawn network news [] flows line (codes "missing" ++ rest) i (e ∙ missing_flow rest) in
+none_red network title news flows line rest i e =
+    let h = line_drawn network title news [] flows line (codes "missing" ++ rest) i (e ∙ missing_flow rest) in
     let red = missing_of network h.0 rest h.1 (sym h.2 ∙ e) in
     let drawn = h.3 in
     let stroke = drawn.stroke in

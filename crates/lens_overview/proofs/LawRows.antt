@@ -116,7 +116,8 @@ no_front grid bottom greatest ribbon (inr (inr (inr (inr (inl e))))) = cc
 no_front grid bottom greatest ribbon (inr (inr (inr (inr (inr (inl e)))))) = cc
 no_front grid bottom greatest ribbon (inr (inr (inr (inr (inr (inr (inl e))))))) = cc
 no_front grid bottom greatest ribbon (inr (inr (inr (inr (inr (inr (inr (inl e)))))))) = cc
-no_front grid bottom greatest ribbon (inr (inr (inr (inr (inr (inr (inr (inr none)))))))) = absurd none
+no_front grid bottom greatest ribbon (inr (inr (inr (inr (inr (inr (inr (inr (inl e))))))))) = cc
+no_front grid bottom greatest ribbon (inr (inr (inr (inr (inr (inr (inr (inr (inr none))))))))) = absurd none
 
 module _ (grid : Grid) (rows : List Row) (bars : List (Option ℕ)) (greatest : Option ℕ) where
   abbrev bottom : ℕ

@@ -1,7 +1,7 @@
 -- How the lines of a picture begin.
 use Rattle.lens_overview.specs.Lines.{bar_line, bar_part, caption_line, caption_part, piece_line, rail_part, ribbon_line, spread_line, stroke_part, tick_line, tick_part}
 use Rattle.lens_overview.specs.{Labels.label_word, Shades.shade_word, Signs.sign_line, declared.{grid.Pen.Pen, label.Label.Label, pieces.{Piece.Piece, Ribbon.Ribbon}, shade.Shade.Shade}}
-use Rattle.{lens_svg.specs.Elements.opening_line, net_plan.specs.declared.network.Network.Network}
+use Rattle.{lens_svg.specs.{Elements.opening_line, Titles.title_line}, net_plan.specs.declared.network.Network.Network}
 use Rattle.std.{proofs.{Common.{◌++◌, ◌≡◌, Bool, List, ap, arith, false, get_or, refl, true, ℕ}, lemmas.Bool.false≢true}, specs.Prelude.codes}
 use Rattle.lens_overview.specs.declared.label.Kind.TheVariants as kinds
 use Rattle.lens_overview.specs.declared.label.Label.TheVariants as labels
@@ -91,22 +91,23 @@ missing_class network (labels.Others synchronised off) y shade from to rest flow
 missing_class network (labels.Passage link way) y shade from to rest flow same = absurd (false≢true flow)
 
 -- a line that begins so is that of a stroke of such a row
-pub stroke_of : (network : Network) (piece : Piece) (rest : List ℕ) → piece_line network piece ≡ flow_stroke ++ rest
+pub stroke_of : (network : Network) (title : List ℕ) (piece : Piece) (rest : List ℕ) → piece_line network title piece ≡ flow_stroke ++ rest
     → (ribbon : Ribbon) × (piece ≡ pieces.Stroke ribbon) × (is_flow ribbon.label ≡ true)
-unfolding opening_line sign_line caption_line caption_part spread_line tick_line tick_part bar_line bar_part rail_part
-stroke_of network (pieces.Opening width height) rest same = let octet = ap (octet_at 1) same in absurd (omega (arith, octet))
-stroke_of network (pieces.Shared signs.Style) rest same = let octet = ap (octet_at 1) same in absurd (omega (arith, octet))
-stroke_of network (pieces.Shared signs.Backdrop) rest same = let octet = ap (octet_at 1) same in absurd (omega (arith, octet))
-stroke_of network (pieces.Shared signs.Heading) rest same = let octet = ap (octet_at 1) same in absurd (omega (arith, octet))
-stroke_of network (pieces.Shared signs.FrameKey) rest same = let octet = ap (octet_at 1) same in absurd (omega (arith, octet))
-stroke_of network (pieces.Shared signs.StateKey) rest same = let octet = ap (octet_at 1) same in absurd (omega (arith, octet))
-stroke_of network (pieces.Shared signs.Close) rest same = let octet = ap (octet_at 1) same in absurd (omega (arith, octet))
-stroke_of network (pieces.Caption grid) rest same = let octet = ap (octet_at 1) same in absurd (omega (arith, octet))
-stroke_of network (pieces.Spread greatest) rest same = let octet = ap (octet_at 1) same in absurd (omega (arith, octet))
-stroke_of network (pieces.Tick pen down) rest same = let octet = ap (octet_at 1) same in absurd (omega (arith, octet))
-stroke_of network (pieces.Bar pen width height apart) rest same = let octet = ap (octet_at 13) same in absurd (omega (arith, octet))
-stroke_of network (pieces.Name label y right) rest same = let octet = ap (octet_at 1) same in absurd (omega (arith, octet))
-stroke_of network (pieces.Stroke ribbon) rest same =
+unfolding opening_line title_line sign_line caption_line caption_part spread_line tick_line tick_part bar_line bar_part rail_part
+stroke_of network title (pieces.Opening width height) rest same = let octet = ap (octet_at 1) same in absurd (omega (arith, octet))
+stroke_of network title pieces.Title rest same = let octet = ap (octet_at 1) same in absurd (omega (arith, octet))
+stroke_of network title (pieces.Shared signs.Style) rest same = let octet = ap (octet_at 1) same in absurd (omega (arith, octet))
+stroke_of network title (pieces.Shared signs.Backdrop) rest same = let octet = ap (octet_at 1) same in absurd (omega (arith, octet))
+stroke_of network title (pieces.Shared signs.Heading) rest same = let octet = ap (octet_at 1) same in absurd (omega (arith, octet))
+stroke_of network title (pieces.Shared signs.FrameKey) rest same = let octet = ap (octet_at 1) same in absurd (omega (arith, octet))
+stroke_of network title (pieces.Shared signs.StateKey) rest same = let octet = ap (octet_at 1) same in absurd (omega (arith, octet))
+stroke_of network title (pieces.Shared signs.Close) rest same = let octet = ap (octet_at 1) same in absurd (omega (arith, octet))
+stroke_of network title (pieces.Caption grid) rest same = let octet = ap (octet_at 1) same in absurd (omega (arith, octet))
+stroke_of network title (pieces.Spread greatest) rest same = let octet = ap (octet_at 1) same in absurd (omega (arith, octet))
+stroke_of network title (pieces.Tick pen down) rest same = let octet = ap (octet_at 1) same in absurd (omega (arith, octet))
+stroke_of network title (pieces.Bar pen width height apart) rest same = let octet = ap (octet_at 13) same in absurd (omega (arith, octet))
+stroke_of network title (pieces.Name label y right) rest same = let octet = ap (octet_at 1) same in absurd (omega (arith, octet))
+stroke_of network title (pieces.Stroke ribbon) rest same =
     (ribbon, refl, flow_class network ribbon.label ribbon.y ribbon.shade ribbon.from ribbon.to rest same)
 
 -- a line of a stroke that says so

@@ -30,21 +30,21 @@ cells_for network ns missed flow =
 -- in the picture of the report of an accepted network no line is a stroke that says that a frame is owed and missing
 abbrev pub NoneIsRed : Type 0
 NoneIsRed =
-    (network : Network) (octets : List ℕ) (ns : List Note) (end : Units) (a : Answer) → KeepsRules network
-    → IsReportOf network octets ns end → IsOverviewAnswer network ns end a → (line rest : List ℕ) → IsIn line a.lines
+    (words : List (List ℕ)) (network : Network) (octets : List ℕ) (ns : List Note) (end : Units) (a : Answer)
+    → KeepsRules network → IsReportOf network octets ns end → IsOverviewAnswer words network ns end a → (line rest : List ℕ) → IsIn line a.lines
     → line ≡ codes "<path class=\"flow missing" ++ rest → ⊥
 
 -- in each picture each flow of the network has its row
 abbrev pub FlowsAreDrawn : Type 0
 FlowsAreDrawn =
-    (network : Network) (ns : List Note) (end : Units) (a : Answer) → (answer : IsOverviewAnswer network ns end a)
+    (words : List (List ℕ)) (network : Network) (ns : List Note) (end : Units) (a : Answer) → (answer : IsOverviewAnswer words network ns end a)
     → (flow : Flow) → IsFlow network flow
     → HasRow network (grid_for network ns) a.lines flow (cells_for network ns answer.missed flow)
 
 -- and each line that is a stroke of frames is one of a flow's
 abbrev pub StrokesAreOfFlows : Type 0
 StrokesAreOfFlows =
-    (network : Network) (ns : List Note) (end : Units) (a : Answer) → (answer : IsOverviewAnswer network ns end a)
+    (words : List (List ℕ)) (network : Network) (ns : List Note) (end : Units) (a : Answer) → (answer : IsOverviewAnswer words network ns end a)
     → (line rest : List ℕ) → IsIn line a.lines → line ≡ codes "<path class=\"flow " ++ rest
     → (flow : Flow) × IsFlow network flow
     × IsStrokeOf network (grid_for network ns) a.lines flow (cells_for network ns answer.missed flow) line
@@ -53,8 +53,8 @@ StrokesAreOfFlows =
 -- it in a cycle of the column
 abbrev pub CellsAreDelivered : Type 0
 CellsAreDelivered =
-    (network : Network) (octets : List ℕ) (ns : List Note) (end : Units) (a : Answer) → KeepsRules network
-    → IsReportOf network octets ns end → (answer : IsOverviewAnswer network ns end a) → (flow : Flow) (column : ℕ)
+    (words : List (List ℕ)) (network : Network) (octets : List ℕ) (ns : List Note) (end : Units) (a : Answer)
+    → KeepsRules network → IsReportOf network octets ns end → (answer : IsOverviewAnswer words network ns end a) → (flow : Flow) (column : ℕ)
     → (is_blank (shade_at (cells_for network ns answer.missed flow) column) ≡ false)
     ↔ ((cycle : ℕ) × (column_of (grid_for network ns) cycle ≡ column) × IsDeliveredIn network ns flow cycle)
 
@@ -88,15 +88,15 @@ pub record IsTrueBar (network : Network) (ns : List Note) (line : List ℕ) : Ty
 -- each bar of the picture of the report of an accepted network is
 abbrev pub BarsAreTrue : Type 0
 BarsAreTrue =
-    (network : Network) (octets : List ℕ) (ns : List Note) (end : Units) (a : Answer) → KeepsRules network
-    → IsReportOf network octets ns end → IsOverviewAnswer network ns end a → (line rest : List ℕ) → IsIn line a.lines
+    (words : List (List ℕ)) (network : Network) (octets : List ℕ) (ns : List Note) (end : Units) (a : Answer)
+    → KeepsRules network → IsReportOf network octets ns end → IsOverviewAnswer words network ns end a → (line rest : List ℕ) → IsIn line a.lines
     → line ≡ codes "<path class=\"bar" ++ rest → IsTrueBar network ns line
 
 -- in each picture a device has its row whose state some record changes, and its cells show how the records up to their
 -- ends leave it
 abbrev pub DevicesAreDrawn : Type 0
 DevicesAreDrawn =
-    (network : Network) (ns : List Note) (end : Units) (a : Answer) → IsOverviewAnswer network ns end a
+    (words : List (List ℕ)) (network : Network) (ns : List Note) (end : Units) (a : Answer) → IsOverviewAnswer words network ns end a
     → (device : DeviceId) (d : Device) (note : Note) → slice_get network.device device.0 ≡ Some d → IsIn note ns
     → IsTurn device note.body
     → HasCells network (grid_for network ns) a.lines (Lane device)
@@ -105,7 +105,7 @@ DevicesAreDrawn =
 -- and a way has its row that is cut in a column
 abbrev pub WaysAreDrawn : Type 0
 WaysAreDrawn =
-    (network : Network) (ns : List Note) (end : Units) (a : Answer) → IsOverviewAnswer network ns end a
+    (words : List (List ℕ)) (network : Network) (ns : List Note) (end : Units) (a : Answer) → IsOverviewAnswer words network ns end a
     → (link : LinkId) (way : Way) (column : ℕ) → link.0 < length network.link → column < (grid_for network ns).columns
     → is_blank (way_cell network (grid_for network ns) ns link way column) ≡ false
     → HasCells network (grid_for network ns) a.lines (Passage link way)

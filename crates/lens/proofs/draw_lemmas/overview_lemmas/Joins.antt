@@ -1,6 +1,0 @@
--- Texts added to a line one after another.
-use Rattle.std.proofs.Common.{◌≡◌, ℕ, List, ◌++◌, append_assoc, ap, ◌∙◌}
-
--- one more
-pub joined : (o a b s t : List ℕ) → s ≡ o ++ a → t ≡ s ++ b → t ≡ o ++ (a ++ b)
-joined o a b s t p q = q ∙ ap (λ (x : List ℕ). x ++ b) p ∙ append_assoc o a b
