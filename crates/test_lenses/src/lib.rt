@@ -5,5 +5,3 @@
 mod calls;
 #[cfg(test)]
 mod lenses;
-#[cfg(test)]
-mod pictures;

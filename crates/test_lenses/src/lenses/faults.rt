@@ -21,6 +21,8 @@ const FLOWS: &[&str] = &["flows", "net.toml", "net.report"];
 
 const EVENTS: &[&str] = &["events", "net.toml", "42", "1"];
 
+const WHOLE: &[&str] = &["draw", "net.toml", "net.report"];
+
 const DRAW: &[&str] = &[
     "draw",
     "net.toml",
@@ -42,6 +44,12 @@ ground point 139788288000 adj 0 expected 139788288000 off 0 precision 1048576000
 // The first two events of the storm.
 const TWO_EVENTS: &str = "16384000000 rate m1 0\n32768000000 heal m4_b down\n";
 
+// The first line of the picture of the whole run.
+const OPENING: &str =
+    "<svg xmlns=\"http://www.w3.org/2000/svg\" xmlns:xlink=\"http://www.w3.org/1999/xlink\" width=\"960\" \
+        height=\"271\" viewBox=\"0 0 960 271\">
+";
+
 const FAULTS: &[Fault] = &[
     (SLACK, Fails::First(1), "", Status::ReadFault),
     (SLACK, Fails::Put(3), TWO_RULES, Status::WriteFault),
@@ -57,6 +65,8 @@ const FAULTS: &[Fault] = &[
     (EVENTS, Fails::First(5), "", Status::ReadFault),
     (EVENTS, Fails::Put(1), "", Status::WriteFault),
     (EVENTS, Fails::Put(3), TWO_EVENTS, Status::WriteFault),
+    (WHOLE, Fails::Put(1), "", Status::WriteFault),
+    (WHOLE, Fails::Put(2), OPENING, Status::WriteFault),
     (DRAW, Fails::Put(1), "", Status::WriteFault),
 ];
 
