@@ -26,7 +26,7 @@ _lens_forms=(
     'plan NETWORK MESSAGES'
     'latency NETWORK [REPORT]'
     'why NETWORK REPORT N'
-    'draw NETWORK REPORT'
+    'draw NETWORK [REPORT]'
     'draw NETWORK REPORT CYCLE [NAME]'
     'draw NETWORK REPORT FROM TO [NAME]'
     'page NETWORK REPORT'
