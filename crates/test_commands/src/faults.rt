@@ -12,13 +12,13 @@ use worked_network::{Call, FRAME, Fails, HEAD, WORKED, call_of_two};
 type Fault = (Fails, &'static str, Status);
 
 // A call over two files, with each of these faults.
-fn try_faults(
+fn try_faults<'a>(
     rt: &impl Abort,
     alloc: Global,
-    words: &[&str],
-    first: &[u8],
-    second: &[u8],
-    faults: &[Fault],
+    words: &'a [&'a str],
+    first: &'a [u8],
+    second: &'a [u8],
+    faults: &'a [Fault],
 ) -> Result<(), Fail> {
     for (fails, text, status) in faults {
         let call = call_of_two(words, (first, second), text, *status);

@@ -123,7 +123,8 @@ returns-in-Some-DrawNamed-clause-takes g c =
     let same : Some (DrawNamed c.in-Some-DrawNamed.part c.in-Some-DrawNamed.name) ≡ form_of c.args.words.now = search rules in
     let text = c.text.ensures in
     let form : Some (DrawNamed c.in-Some-DrawNamed.part c.text.result.now) ≡ form_of c.args.words.now = cc in
-    takes_as form (g.A.Source.left c.args.first.now) _ _ _ _ c.draw_named.ensures.takes.0 c.draw_named.ensures.takes.1
+    takes_as form (g.A.Source.left c.args.first.now) _ _ _ _ c.draw_named.ensures.takes.0
+    (c.draw_named.ensures.takes.1, c.draw_named.ensures.takes.2)
 
 pub returns-in-Some-Report-clause-takes : goal.returns-in-Some-Report-clause-takes
 returns-in-Some-Report-clause-takes g c =
