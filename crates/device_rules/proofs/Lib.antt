@@ -7,3 +7,4 @@ pub mod KeptRows
 pub mod Entered
 pub mod Takings
 pub mod AtPlace
+pub mod FirstKinds

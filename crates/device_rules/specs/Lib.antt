@@ -6,3 +6,4 @@ pub mod Arriving
 pub mod Headings
 pub mod Entering
 pub mod Intakes
+pub mod FirstKinds

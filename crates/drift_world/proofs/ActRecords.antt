@@ -1,19 +1,19 @@
 -- The records of an act are those of the law, and are put in.
 use Rattle.{drift_world.proofs.HiddenCauses.InOrder, run_law.specs.{declared.steps.Ripe.Ripe, machines.Nodes.dispatching, timed.Dispatching.HasAtHand}}
 use Rattle.{drift_world.proofs.Puts.{is_put_in, order_put}, run_law.specs.machines.Tasks.{IsFirstTask, doing}, world_law.specs.world.World.{AreStored, Stored}}
-use Rattle.drift_world.proofs.Words.{◌++◌, ◌==◌, ◌∙◌, ◌∷◌, ◌≡◌, ◌≤◌, ◌⊎◌, ArePutIn, Bool, DeviceId, Happening, HasItsOctets, Holding, IsBefore, IsIn, IsSomePut}
-use Rattle.drift_world.proofs.Words.{Joining, List, Network, Node, None, Off, Option, Scenario, Settled, Some, Units, [], act_place, amount, ap, arith, false}
-use Rattle.drift_world.proofs.Words.{if◌then◌else◌, in_parts, in_right, inl, inr, is_cut, map, moment_of, none_yet, octets_from, octets_of, option_map_or}
-use Rattle.drift_world.proofs.Words.{own_place, rank, refl, settled_as, settled_at, slice_get_within, stored_as, subst, sym, true, way_from, ℕ}
+use Rattle.drift_world.proofs.Words.{◌++◌, ◌==◌, ◌∙◌, ◌∷◌, ◌≡◌, ◌≤◌, ArePutIn, Bool, DeviceId, Happening, HasItsOctets, Holding, IsIn, IsSomePut}
+use Rattle.drift_world.proofs.Words.{Joining, List, Network, Node, None, Off, Option, Scenario, Settled, Some, Units, [], ap, arith, false}
+use Rattle.drift_world.proofs.Words.{if◌then◌else◌, inl, inr, is_cut, map, moment_of, octets_from, octets_of}
+use Rattle.drift_world.proofs.Words.{rank, refl, settled_as, settled_at, slice_get_within, stored_as, subst, sym, true, way_from, ℕ}
 use Rattle.{net_plan.specs.declared.ids.RowId.RowId, run_law.specs.{machines.Answers.IsActOf, records.Frames.tt_frame}, world_law.proofs.rows.AtHand.sender_or}
-use Rattle.{run_law.{proofs.runs.Places.in_left, specs.declared.steps.Act.Act}, schedule_tables.specs.Entries.IsEntry, world_law.specs.world.Moves.IsPutIn}
-use Rattle.{run_law.specs.records.Ranks.key, std.{proofs.lemmas.Bool.ne_eqb, specs.Option.option_map}, world_state.proofs.Made.made_octets}
+use Rattle.{run_law.{specs.declared.steps.Act.Act}, schedule_tables.specs.Entries.IsEntry, world_law.specs.world.Moves.IsPutIn}
+use Rattle.{std.{proofs.lemmas.Bool.ne_eqb, specs.Option.option_map}, world_state.proofs.Made.made_octets}
 use Rattle.{schedule_tables.specs.declared.entry.Entry.Entry, sync_state.specs.declared.answers.Verdict.Verdict, world_state.specs.declared.hands.AtHand.AtHand}
-use Rattle.sync_state.specs.declared.{answers.Verdict.TheVariants.{AsyncClique, Cleared, Corrected, SyncClique}, state.State.TheVariants.Synchronised}
+use Rattle.sync_state.specs.declared.{answers.Verdict.TheVariants.{AsyncClique, Cleared, Corrected, SyncClique}}
 use Rattle.{sync_state.specs.declared.state.State.{State as Standing}, world_state.specs.declared.{contents.Timed.TheVariants.Made, outcomes.Outcomes.Outcomes}}
-use Rattle.world_law.{proofs.steps_lemmas.acting.{Held.{IsHeldFrame, held_frame}, Stage.Stage}, specs.steps.Acting.{AreActBodies, first_bodies, joining_bodies}}
-use Rattle.world_state.specs.Acting.{AreOutcomes, IsHeldIn, bare, bodies_of, body_of, corrected_by, dispatched_by, first_by, joined_by}
-use Rattle.run_law.specs.declared.judgement.Why.TheVariants as whys
+use Rattle.world_law.{proofs.steps_lemmas.acting.{Held.{IsHeldFrame, held_frame}, Stage.StageAt}, specs.steps.Acting.{AreActBodies, first_bodies, joining_bodies}}
+use Rattle.world_state.specs.Acting.{AreOutcomes, IsHeldIn, bodies_of, body_of, corrected_by, dispatched_by, emitted_by, first_by, joined_by}
+use Rattle.{run_law.specs.declared.note.NoteBody.NoteBody, world_law.specs.world.Outcomes.judged_as}
 use Rattle.run_law.specs.declared.note.NoteBody.TheVariants as kinds
 use Rattle.run_law.specs.declared.steps.Act.TheVariants as acts
 use Rattle.run_law.specs.declared.steps.Ripe.TheVariants as ripe
@@ -54,37 +54,11 @@ module _ (other network : Network) (now : ℕ) (hs : List Happening) where
     one_by second mid new two (order_then (Some z) old mid one order) also,
   )
 
-  -- what is there after a record is put in
-  pub there_then : (o : Option Settled) (old new : List Settled) → IsSomePut o old new → InOrder (all_at old) → (h : Happening) → IsIn h (all_at new)
-      → IsIn h (all_at old) ⊎ ((z : Settled) × (o ≡ Some z) × (h ≡ settled_at network now z))
-  there_then None old new put order h there = inl (subst (λ (l : List Settled). IsIn h (all_at l)) put there)
-  there_then (Some z) old new put order h there =
-      let p = is_put_in network now z old new put.0 put.1 order in
-      elim (in_parts h p.front (settled_at network now z ∷ p.back) (subst (λ (l : List Happening). IsIn h l) p.is there)) [
-        | inl a ↦ inl (subst (λ (l : List Happening). IsIn h l) (sym p.was) (in_left h p.front p.back a))
-        | inr (inl e) ↦ inr (z, refl, e)
-        | inr (inr b) ↦ inl (subst (λ (l : List Happening). IsIn h l) (sym p.was) (in_right h p.front p.back b))
-      ]
+-- ---- they have their octets, and are of no lower rank than so
 
--- ---- they have their octets, and are not before the place of the act
-
-abbrev pub IsFine : ℕ → DeviceId → Option Settled → Type 0
-IsFine now device None = Unit {0}
-IsFine now device (Some z) = HasItsOctets z.body z.octets × (IsBefore (now ∷ own_place z) (act_place now device) → ⊥)
-
-later_rank : (now r d : ℕ) (key : List ℕ) → 5 ≤ r → IsBefore (now ∷ r ∷ key) (now ∷ 4 ∷ d ∷ []) → ⊥
-later_rank now r d key le (inl lt) = omega (arith, lt)
-later_rank now r d key le (inr (e, inl lt)) = omega (arith, le, lt)
-later_rank now r d key le (inr (e, inr (f, b))) = omega (arith, le, f)
-
-late : (now : ℕ) (device : DeviceId) (z : Settled) → 5 ≤ rank z.body → IsBefore (now ∷ own_place z) (act_place now device) → ⊥
-late now device z le = later_rank now (rank z.body) device.0 (key (option_map_or (λ frame. frame.members.0) z.frame 0) z.body) le
-
-own_rank : (now d : ℕ) (key : List ℕ) → IsBefore (now ∷ 4 ∷ d ∷ key) (now ∷ 4 ∷ d ∷ []) → ⊥
-own_rank now d key (inl lt) = omega (arith, lt)
-own_rank now d key (inr (e, inl lt)) = omega (arith, lt)
-own_rank now d key (inr (e, inr (f, inl lt))) = omega (arith, lt)
-own_rank now d key (inr (e, inr (f, inr (g, b)))) = b
+abbrev pub IsFine : ℕ → Option Settled → Type 0
+IsFine low None = Unit {0}
+IsFine low (Some z) = HasItsOctets z.body z.octets × (low ≤ rank z.body)
 
 -- the records of an act
 pub record AreProper (s : Scenario) (hs : List Happening) (now : ℕ) (device : DeviceId) (was : Standing) (adjustment : Units) (act : Act)
@@ -92,8 +66,8 @@ pub record AreProper (s : Scenario) (hs : List Happening) (now : ℕ) (device : 
   pub bodies : AreActBodies s hs now device was adjustment act (bodies_of outcomes)
   pub first : IsOwn s.network s.network now hs outcomes.first
   pub second : IsOwn s.network s.network now hs outcomes.second
-  pub first_fine : IsFine now device outcomes.first
-  pub second_fine : IsFine now device outcomes.second
+  pub first_fine : IsFine 4 outcomes.first
+  pub second_fine : IsFine 7 outcomes.second
 
 -- ---- frames of control
 
@@ -105,9 +79,9 @@ joining_own : (network : Network) (now : ℕ) (hs : List Happening) (device : De
 joining_own network now hs device ripe.Integrates = refl
 joining_own network now hs device other = tt
 
-joining_fine : (now : ℕ) (device : DeviceId) (heard : Ripe) → IsFine now device (joined_by device heard)
-joining_fine now device ripe.Integrates = (tt, late now device (bare (kinds.State device Joining none_yet whys.Frame)) (omega arith))
-joining_fine now device other = tt
+joining_fine : (device : DeviceId) (heard : Ripe) → IsFine 7 (joined_by device heard)
+joining_fine device ripe.Integrates = (tt, omega arith)
+joining_fine device other = tt
 
 -- ---- corrections
 
@@ -119,15 +93,15 @@ first_own : (network : Network) (now : ℕ) (hs : List Happening) (device : Devi
 first_own network now hs device Joining = refl
 first_own network now hs device other = tt
 
-first_fine : (now : ℕ) (device : DeviceId) (was : Standing) → IsFine now device (first_by device was)
-first_fine now device Joining = (tt, late now device (bare (kinds.State device Synchronised none_yet whys.Correction)) (omega arith))
-first_fine now device other = tt
+first_fine : (device : DeviceId) (was : Standing) → IsFine 7 (first_by device was)
+first_fine device Joining = (tt, omega arith)
+first_fine device other = tt
 
 of_correction : (s : Scenario) (hs : List Happening) (now : ℕ) (device : DeviceId) (was : Standing) (adjustment : Units) (cycle : ℕ) (verdict : Verdict)
     → AreProper s hs now device was adjustment (acts.Correct cycle verdict) (corrected_by device was cycle adjustment verdict)
-of_correction s hs now device was adjustment cycle (Corrected by) = grind (arith, first_is, first_own, first_fine, late)
-of_correction s hs now device was adjustment cycle SyncClique = grind (arith, first_fine, late)
-of_correction s hs now device was adjustment cycle AsyncClique = grind (arith, first_fine, late)
+of_correction s hs now device was adjustment cycle (Corrected by) = grind (arith, first_is, first_own, first_fine)
+of_correction s hs now device was adjustment cycle SyncClique = grind (arith, first_fine)
+of_correction s hs now device was adjustment cycle AsyncClique = grind (arith, first_fine)
 of_correction s hs now device was adjustment cycle Cleared = record { bodies = refl; first = tt; second = tt; first_fine = tt; second_fine = tt }
 
 -- ---- a dispatch
@@ -154,9 +128,9 @@ module _ (s : Scenario) (hs : List Happening) (now : ℕ) (device : DeviceId) (w
   told_own octets true = refl
   told_own octets false = ap (λ (l : List ℕ). let h : Happening = record (settled_at s.network now (told false)) { octets = l } in h) octets
 
-  told_fine : (b : Bool) → IsFine now device (Some (told b))
-  told_fine true = (tt, late now device (told true) (omega arith))
-  told_fine false = (tt, late now device (told false) (omega arith))
+  told_fine : (b : Bool) → IsFine 4 (Some (told b))
+  told_fine true = (tt, omega arith)
+  told_fine false = (tt, omega arith)
 
   of_dispatch : (outcomes : Outcomes) → IsEntry s.network row.0 entry → HasAtHand s.network hs device entry now hand.cause cycle
       → octets_of s.network hand.octets ≡ octets_now
@@ -175,8 +149,8 @@ module _ (s : Scenario) (hs : List Happening) (now : ℕ) (device : DeviceId) (w
         );
         first = subst (IsOwn s.network s.network now hs) (sym first) (told_own octets cut);
         second = subst (IsOwn s.network s.network now hs) (sym second) tt;
-        first_fine = subst (IsFine now device) (sym first) (told_fine cut);
-        second_fine = subst (IsFine now device) (sym second) tt;
+        first_fine = subst (IsFine 4) (sym first) (told_fine cut);
+        second_fine = subst (IsFine 7) (sym second) tt;
       }
 
 in_stored : (network : Network) (stored : List Holding) (e : Stored) → IsIn e (map (stored_as network) stored)
@@ -217,11 +191,11 @@ of_held s hs stored now device was adjustment row cycle entry outcomes (Some han
 -- a dispatch
 of_row : {M : Type 0} (stands : M → Network → DeviceId → Node → Type 0) (s : Scenario) (hs coming : List Happening) (mark cursor : List ℕ)
     (stored : List Holding) (now : ℕ) (device : DeviceId) (machine : M) (node : Node) (was : Standing) (adjustment : Units) (row : RowId) (cycle : ℕ)
-    (outcomes : Outcomes) → Stage stands s hs coming mark cursor now device machine node → AreStored hs (map (stored_as s.network) stored)
+    (outcomes : Outcomes) (r : ℕ) (more : List ℕ) → StageAt stands s hs coming mark cursor now device machine node r more → AreStored hs (map (stored_as s.network) stored)
     → IsFirstTask s.network device node (moment_of s device now).reading.0 (doing (dispatching row cycle))
     → AreOutcomes s stored now device was adjustment (acts.Dispatch row cycle) outcomes
     → AreProper s hs now device was adjustment (acts.Dispatch row cycle) outcomes
-of_row stands s hs coming mark cursor stored now device machine node was adjustment row cycle outcomes st are first is =
+of_row stands s hs coming mark cursor stored now device machine node was adjustment row cycle outcomes r more st are first is =
     let p = first.pending in
     let entry = p.1.own.1.entry in
     let d = is entry p.1.own.1.is in
@@ -234,7 +208,7 @@ of_row stands s hs coming mark cursor stored now device machine node was adjustm
           (d.0.is ∙ ap (λ (o : Option AtHand). option_map (dispatched_by cut device entry cycle) o) (d.0.of_hand.sender sender)) d.1
       | inr other ↦
           of_held s hs stored now device was adjustment row cycle entry outcomes d.0.hand p.1.own.1.is
-          (held_frame stands s hs coming mark cursor now device machine node row cycle (map (stored_as s.network) stored) st are p first.due other)
+          (held_frame stands s hs coming mark cursor now device machine node row cycle (map (stored_as s.network) stored) r more st are p first.due other)
           (d.0.of_hand.held other) d.0.is d.1
     ]
 
@@ -247,15 +221,22 @@ same_outcomes s hs now device was adjustment act a b same = subst (λ (o : Outco
 -- the records of an act of a device of a world that stands
 pub proper : {M : Type 0} (stands : M → Network → DeviceId → Node → Type 0) (s : Scenario) (hs coming : List Happening) (mark cursor : List ℕ)
     (stored : List Holding) (now : ℕ) (device : DeviceId) (machine : M) (node after : Node) (was : Standing) (adjustment : Units) (act : Act)
-    (outcomes : Outcomes) → Stage stands s hs coming mark cursor now device machine node → AreStored hs (map (stored_as s.network) stored)
-    → IsActOf s.network device node (moment_of s device now) act after → AreOutcomes s stored now device was adjustment act outcomes
+    (outcomes : Outcomes) (r : ℕ) (more : List ℕ) → StageAt stands s hs coming mark cursor now device machine node r more
+    → AreStored hs (map (stored_as s.network) stored) → IsActOf s.network device node (moment_of s device now) act after → AreOutcomes s stored now device was adjustment act outcomes
     → AreProper s hs now device was adjustment act outcomes
-proper stands s hs coming mark cursor stored now device machine node after was adjustment (acts.Send frame) outcomes st are acted is =
-    grind (arith, same_outcomes, settled_at, first_fine, late)
-proper stands s hs coming mark cursor stored now device machine node after was adjustment (acts.Emit sent heard) outcomes st are acted is =
-    grind (arith, same_outcomes, joining, joining_own, first_fine, own_rank, amount, joining_fine)
-proper stands s hs coming mark cursor stored now device machine node after was adjustment (acts.Correct cycle verdict) outcomes st are acted is =
+proper stands s hs coming mark cursor stored now device machine node after was adjustment (acts.Send frame) outcomes r more st are acted is =
+    grind (arith, same_outcomes, settled_at, first_fine)
+proper stands s hs coming mark cursor stored now device machine node after was adjustment (acts.Emit sent heard) outcomes r more st are acted is =
+    same_outcomes s hs now device was adjustment (acts.Emit sent heard) outcomes (emitted_by s.network device sent heard) is
+    (record {
+      bodies = ap (λ (l : List NoteBody). kinds.Compressed device sent.opened sent.at sent.cycle sent.members (judged_as heard) ∷ l) (joining device heard);
+      first = refl;
+      second = joining_own s.network now hs device heard;
+      first_fine = (tt, omega arith);
+      second_fine = joining_fine device heard;
+    })
+proper stands s hs coming mark cursor stored now device machine node after was adjustment (acts.Correct cycle verdict) outcomes r more st are acted is =
     same_outcomes s hs now device was adjustment (acts.Correct cycle verdict) outcomes (corrected_by device was cycle adjustment verdict) is
     (of_correction s hs now device was adjustment cycle verdict)
-proper stands s hs coming mark cursor stored now device machine node after was adjustment (acts.Dispatch row cycle) outcomes st are acted is =
-    of_row stands s hs coming mark cursor stored now device machine node was adjustment row cycle outcomes st are acted.0 is
+proper stands s hs coming mark cursor stored now device machine node after was adjustment (acts.Dispatch row cycle) outcomes r more st are acted is =
+    of_row stands s hs coming mark cursor stored now device machine node was adjustment row cycle outcomes r more st are acted.0 is

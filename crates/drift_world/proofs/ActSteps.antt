@@ -1,15 +1,68 @@
 -- A device acts once.
-use Rattle.drift_world.{proofs.ActRecords.{AreProper, IsFine, IsOwn, both_put, order_then, proper, there_then}, specs.Acting.{IsDueAt, IsIdle, act_cursor}}
-use Rattle.{drift_world.proofs.{Fits.{all_put_some, have_octets}, HiddenCauses.settled_in_order}, world_state.specs.declared.outcomes.Outcomes.Outcomes}
-use Rattle.{drift_world.proofs.Showings.shows_of, run_law.specs.{declared.steps.Act.Act, machines.{Answers.IsActOf, Calls.MayAct}}, std.specs.List.slice_get}
-use Rattle.drift_world.proofs.Words.{◌<◌, ◌≡◌, ◌⊎◌, ArePutIn, Bool, ComesFirst, DeviceId, Happening, HasActed, IsAt, IsBefore, IsDueNow, IsIn, IsOf, IsSomePut}
-use Rattle.drift_world.proofs.Words.{Kept, List, Moment, Network, Node, Note, Scenario, Settled, Some, Stands, StandsBehind, StandsFor, Units, act_place, false}
-use Rattle.drift_world.proofs.Words.{happenings, inl, inr, keeps, length, map, moment_of, place_of, refl, settled_at, slice_get_within, stored_as, subst, sym}
-use Rattle.{drift_world.{proofs.Words.{true, world_of, ℕ}, specs.declared.state.State.State}, world_law.specs.world.{Calls.{IsSet, IsStateOf}, World.AreStored}}
-use Rattle.{std.specs.Prelude.All, world_law.specs.steps.Acting.Acts}
+use Rattle.drift_world.proofs.{ActRecords.{AreProper, IsFine, IsOwn, both_put, order_then, proper}, Puts.is_put_in}
+use Rattle.drift_world.proofs.{AtSource.{at_rank, each_of}, HiddenCauses.{InOrder, settled_in_order}, Parts.{act_place_is, act_rank_is, left_no_sooner, part_most, part_least}, Showings.shows_of}
+use Rattle.drift_world.proofs.Sources.{made_of}
+use Rattle.drift_world.specs.{Acting.{AreAbove, IsDueAt, IsIdle, IsLeft, StandsFrom}, Parts.{IsFirstPart, IsNoSoonerLeft, part_place, part_rank}, declared.state.State.State}
+use Rattle.drift_world.specs.declared.part.{Part.Part, ToDo.{ToDo, TheVariants.{Give, Next, Now}}}
+use Rattle.{drift_world.proofs.Fits.{all_put_some, have_octets}, world_state.specs.declared.outcomes.Outcomes.Outcomes}
+use Rattle.{run_law.specs.{declared.steps.Act.Act, machines.{Answers.IsActOf, Calls.MayAct}}, std.specs.List.slice_get}
+use Rattle.drift_world.proofs.Words.{◌<◌, ◌≡◌, ◌≤◌, ArePutIn, ComesFirst, DeviceId, Happening, HasActed, IsAt, IsBefore, IsHeld, IsIn, IsOf, IsSomePut}
+use Rattle.drift_world.proofs.Words.{◌∙◌, ◌∷◌, IfSome, IsSomeAnd, Kept, List, Moment, Network, Node, None, Note, Option, Scenario, Settled, Some, Stands, StandsFor, Units, [], arith}
+use Rattle.drift_world.proofs.Words.{cases_lt, chain, false, happenings, in_parts, in_right, inl, inr, keeps, length, map, moment_of, pos, rank, refl, same_Some}
+use Rattle.drift_world.proofs.Words.{settled_at, slice_get_within, stored_as, subst, sym, true, world_of, ℕ}
+use Rattle.run_law.{proofs.runs.Places.{before_behind, in_left}, specs.records.Order.behind}
+use Rattle.world_law.proofs.{rows.Dispatching.lawful, steps_lemmas.growing.FromZero.kept_from_zero}
+use Rattle.world_law.specs.world.{Calls.{IsSet, IsStateOf}, World.{AreStored, IsKept, is_at_source}}
+use Rattle.{std.specs.Prelude.All, world_law.specs.{source.Sources.task_place, steps.Acting.{Acts, place_of_act, rank_of_act, task_of}}}
 use Rattle.{sync_state.specs.declared.state.State.{State as Standing}, world_state.specs.Acting.{AreOutcomes, HasItsRow, bodies_of}}
-use Rattle.world_law.proofs.steps_lemmas.{acting.{ActedSteps.{acted_step, last_acted_step}, Kept.may_act_now, Stage.{Stage, stage_of}}, steps.Passed.no_task}
+use Rattle.world_law.proofs.steps_lemmas.acting.{ActedSteps.acted_step, First.{act_more, act_rest, act_stands}, Kept.may_act_now}
+use Rattle.world_law.proofs.steps_lemmas.{acting.Stage.{StageAt, stage_of}, steps.Passed.no_task}
+use Rattle.world_law.specs.device.Left.{HasTaskBy}
 use Rattle.run_law.specs.declared.steps.Act.TheVariants as acts
+
+-- a place behind another of one device is not before where its part begins
+not_before_own : (now r d : ℕ) (more : List ℕ) → IsBefore (now ∷ r ∷ d ∷ more) (now ∷ r ∷ d ∷ []) → ⊥
+not_before_own now r d more (inl lt) = omega (arith, lt)
+not_before_own now r d more (inr (e, inl lt)) = omega (arith, lt)
+not_before_own now r d more (inr (e, inr (f, inl lt))) = omega (arith, lt)
+not_before_own now r d more (inr (e, inr (f, inr (g, b)))) = b
+
+-- of records in their order, where one is of a low rank the first is
+abbrev pub IsLowFirst : ℕ → List Settled → Type 0
+IsLowFirst high settled = (first : Settled) × (others : List Settled) × (settled ≡ first ∷ others) × (rank first.body ≤ high)
+
+low_first : (network : Network) (now high : ℕ) (settled : List Settled) (z : Settled) → InOrder (map (settled_at network now) settled)
+    → IsIn (settled_at network now z) (map (settled_at network now) settled) → rank z.body ≤ high → IsLowFirst high settled
+low_first network now high [] z order there le = absurd there
+low_first network now high (x ∷ xs) z order (inl e) le = (x, xs, refl, subst (λ (h : Happening). rank h.note.body ≤ high) e le)
+low_first network now high (x ∷ xs) z order (inr i) le = (
+  x,
+  xs,
+  refl,
+  elim (cases_lt (rank z.body) (rank x.body)) [
+    | inr ge ↦ omega (arith, ge, le)
+    | inl lt ↦ absurd (order.0 (settled_at network now z) i (inr (refl, inl lt)))
+  ],
+)
+
+-- a record that is put in is there, and those that were stay
+put_stays : (network : Network) (now : ℕ) (o : Option Settled) (old new : List Settled) → IsSomePut o old new → InOrder (map (settled_at network now) old)
+    → (h : Happening) → IsIn h (map (settled_at network now) old) → IsIn h (map (settled_at network now) new)
+put_stays network now None old new put order h there = subst (λ (l : List Settled). IsIn h (map (settled_at network now) l)) (sym put) there
+put_stays network now (Some z) old new put order h there =
+    let p = is_put_in network now z old new put.0 put.1 order in
+    subst (λ (l : List Happening). IsIn h l) (sym p.is)
+    (elim (in_parts h p.front p.back (subst (λ (l : List Happening). IsIn h l) p.was there)) [
+      | inl a ↦ in_left h p.front (settled_at network now z ∷ p.back) a
+      | inr b ↦ in_right h p.front (settled_at network now z ∷ p.back) (inr b)
+    ])
+
+put_there : (network : Network) (now : ℕ) (z : Settled) (old new : List Settled) → IsSomePut (Some z) old new → InOrder (map (settled_at network now) old)
+    → IsIn (settled_at network now z) (map (settled_at network now) new)
+put_there network now z old new put order =
+    let p = is_put_in network now z old new put.0 put.1 order in
+    subst (λ (l : List Happening). IsIn (settled_at network now z) l) (sym p.is)
+    (in_right (settled_at network now z) p.front (settled_at network now z ∷ p.back) (inl refl))
 
 -- what an act dispatches is a row of the network
 pub its_row : (network : Network) (device : DeviceId) (node : Node) (moment : Moment) (act : Act) (new : Node) → IsActOf network device node moment act new
@@ -19,70 +72,138 @@ its_row network device node moment (acts.Dispatch row cycle) new is =
     slice_get_within network.row row.0 frame.entry.row frame.is.row
 its_row network device node moment other new is = tt
 
-module _ {C M : Type 0} (reading : C → ℕ → ℕ) (stands : M → Network → DeviceId → Node → Type 0) (network : Network) (state : State C M) (device : DeviceId)
-    (machine : Kept M) (lt : device.0 < length network.device) (there : slice_get state.machines.items device.0 ≡ Some machine)
-    (due : IsDueAt reading stands network state device) where
+-- this is what the device has to do then
+abbrev pub IsLeftIn : {M : Type 0} → (M → Network → DeviceId → Node → Type 0) → Scenario → ℕ → DeviceId → Kept M → ToDo → Type 0
+IsLeftIn stands s now device machine Give = Unit {0}
+IsLeftIn stands s now device machine (Now part) =
+    (node : Node) → keeps stands machine s.network device node → IsFirstPart s.network device node (pos (s.reading device now)) part
+IsLeftIn stands s now device machine (Next due) = IsIdle stands s now device machine
+
+pub left_in : {C M : Type 0} (reading : C → ℕ → ℕ) (stands : M → Network → DeviceId → Node → Type 0) (network : Network) (state : State C M)
+    (device : DeviceId) (left : ToDo) → IsLeft reading stands network state device left → (s : Scenario) (machine : Kept M) → IsOf reading s network state
+    → slice_get state.machines.items device.0 ≡ Some machine → IsLeftIn stands s state.time device machine left
+left_in reading stands network state device Give left s machine of there = tt
+left_in reading stands network state device (Now part) left s machine of there = λ node is. left s machine node of there is
+left_in reading stands network state device (Next due) left s machine of there = left.1 s machine of there
+
+module _ {C M : Type 0} (reading : C → ℕ → ℕ) (stands : M → Network → DeviceId → Node → Type 0) (network : Network) (state : State C M) (part : Part)
+    (device : DeviceId) (machine : Kept M) (lt : device.0 < length network.device) (there : slice_get state.machines.items device.0 ≡ Some machine)
+    (due : IsDueAt reading stands network state part device) (above : AreAbove (part_rank part) state) where
   abbrev Old : Scenario → List Note → Type 0
   Old s notes = Stands reading (keeps stands) s (world_of network state) notes
 
-  abbrev First : (s : Scenario) (notes : List Note) → Old s notes → Type 0
-  First s notes old = ComesFirst reading (keeps stands) s (world_of network state) notes old (act_place state.time device)
+  abbrev First_ : (s : Scenario) (notes : List Note) → Old s notes → Type 0
+  First_ s notes old = ComesFirst reading (keeps stands) s (world_of network state) notes old (part_place part state.time device)
 
-  abbrev Staged : (s : Scenario) (notes : List Note) → Old s notes → Type 0
-  Staged s notes old = (node : Node)
-      × Stage (keeps stands) s (happenings s.network notes) old.coming old.mark old.cursor state.time device machine node
+  first_part : (s : Scenario) (notes : List Note) → Old s notes → (node : Node) → keeps stands machine s.network device node
+      → IsFirstPart s.network device node (pos (s.reading device state.time)) part
+  first_part s notes old node is = due s machine node (shows_of reading (keeps stands) s network state notes old) there is
 
-  staged : (s : Scenario) (notes : List Note) (old : Old s notes) → First s notes old → Staged s notes old
-  staged s notes old first =
-      stage_of reading (keeps stands) s (world_of network state) notes old device machine (subst (λ (n : Network). device.0 < length n.device) old.same lt)
-      first there (due s notes machine old there)
+  task_now : (s : Scenario) (notes : List Note) → Old s notes → (node : Node) → keeps stands machine s.network device node
+      → HasTaskBy s device node state.time
+  task_now s notes old node is = let f = (first_part s notes old node is).is in (f.task, f.pending, f.due)
+
+  -- it is not broken
+  kept_at : (s : Scenario) (notes : List Note) (old : Old s notes)
+      → IsKept (keeps stands) s (happenings s.network notes) old.coming old.cursor state.time device machine
+  kept_at s notes old =
+      let m = old.devices device (subst (λ (n : Network). device.0 < length n.device) old.same lt) in
+      let same : m.0 ≡ machine = same_Some m.0 machine (sym m.1 ∙ there) in
+      elim (subst (λ (x : Kept M). IsHeld (keeps stands) s (happenings s.network notes) old.coming old.cursor state.time device x) same m.2) [
+        | inl k ↦ k
+        | inr out ↦ let task = task_now s notes old out.node out.is in absurd (no_task s.network device out.node task.0 out.shows task.1)
+      ]
 
   -- it may act
-  pub asked_to_act : IsAt reading stands network state (act_place state.time device) → (moment : Moment)
+  pub asked_to_act : IsAt reading stands network state (part_place part state.time device) → (moment : Moment)
       → ((s : Scenario) → IsOf reading s network state → moment ≡ moment_of s device state.time)
       → StandsFor (keeps stands) machine (λ n d node. MayAct n d node moment)
   asked_to_act at moment reads =
-      let st = staged at.s at.notes at.is at.first in (
+      let k = kept_at at.s at.notes at.is in (
         at.s.network,
         device,
-        st.0,
-        st.1.is,
-        subst (MayAct at.s.network device st.0) (sym (reads at.s (shows_of reading (keeps stands) at.s network state at.notes at.is)))
-            (record { call = may_act_now at.s device st.0 state.time st.1.work.ready st.1.steady st.1.limit; due = λ has. st.1.task }),
+        k.node,
+        k.is,
+        subst (MayAct at.s.network device k.node) (sym (reads at.s (shows_of reading (keeps stands) at.s network state at.notes at.is)))
+            (record {
+              call = may_act_now at.s device k.node state.time k.ready (at.is.steady device) at.is.limit;
+              due = λ has. task_now at.s at.notes at.is k.node k.is;
+            }),
       )
 
-  -- it is not broken
-  pub never_broken : IsAt reading stands network state (act_place state.time device)
+  pub never_broken : IsAt reading stands network state (part_place part state.time device)
       → ((n : Network) (d : DeviceId) (node : Node) → keeps stands machine n d node → node.broken ≡ true) → ⊥
   never_broken at broken =
-      let st = staged at.s at.notes at.is at.first in
-      no_task at.s.network device st.0 st.1.task.0 (broken at.s.network device st.0 st.1.is) st.1.task.1
+      let k = kept_at at.s at.notes at.is in
+      let task = task_now at.s at.notes at.is k.node k.is in
+      no_task at.s.network device k.node task.0 (broken at.s.network device k.node k.is) task.1
 
   -- its act, at the node for which it stood
-  acted_at : (s : Scenario) (notes : List Note) (old : Old s notes) (first : First s notes old) (act : Act) (after : Kept M)
+  acted_at : (s : Scenario) (notes : List Note) (old : Old s notes) (act : Act) (after : Kept M)
       → HasActed (keeps stands) s.network device (moment_of s device state.time) act machine after
-      → (new : Node) × IsActOf s.network device (staged s notes old first).0 (moment_of s device state.time) act new × keeps stands after s.network device new
-  acted_at s notes old first act after acted =
-      let st = staged s notes old first in
-      acted st.0 st.1.is (may_act_now s device st.0 state.time st.1.work.ready st.1.steady st.1.limit) st.1.task
+      → (new : Node) × IsActOf s.network device (kept_at s notes old).node (moment_of s device state.time) act new × keeps stands after s.network device new
+  acted_at s notes old act after acted =
+      let k = kept_at s notes old in
+      acted k.node k.is (may_act_now s device k.node state.time k.ready (old.steady device) old.limit) (task_now s notes old k.node k.is)
 
-  pub row_within : (at : IsAt reading stands network state (act_place state.time device)) (act : Act) (after : Kept M)
+  -- it stands where its part does
+  of_part : (s : Scenario) (notes : List Note) (old : Old s notes) (act : Act) (after : Kept M)
+      → HasActed (keeps stands) s.network device (moment_of s device state.time) act machine after
+      → place_of_act state.time device act ≡ part_place part state.time device
+  of_part s notes old act after acted =
+      let k = kept_at s notes old in
+      let new = acted_at s notes old act after acted in
+      act_place_is s.network state.time device k.node (moment_of s device state.time) act new.0 part new.1 (first_part s notes old k.node k.is)
+
+  of_rank : (s : Scenario) (notes : List Note) (old : Old s notes) (act : Act) (after : Kept M)
+      → HasActed (keeps stands) s.network device (moment_of s device state.time) act machine after → rank_of_act act ≡ part_rank part
+  of_rank s notes old act after acted =
+      let k = kept_at s notes old in
+      let new = acted_at s notes old act after acted in
+      act_rank_is s.network device k.node (moment_of s device state.time) act new.0 part new.1 (first_part s notes old k.node k.is)
+
+  comes : (s : Scenario) (notes : List Note) (old : Old s notes) (act : Act) (after : Kept M) → First_ s notes old
+      → HasActed (keeps stands) s.network device (moment_of s device state.time) act machine after
+      → ComesFirst reading (keeps stands) s (world_of network state) notes old (place_of_act state.time device act)
+  comes s notes old act after first acted =
+      subst (ComesFirst reading (keeps stands) s (world_of network state) notes old) (sym (of_part s notes old act after acted)) first
+
+  -- all that is settled is of a higher rank than its
+  parted : (s : Scenario) (notes : List Note) (old : Old s notes) (act : Act) (after : Kept M)
+      → HasActed (keeps stands) s.network device (moment_of s device state.time) act machine after
+      → (z : Happening) → IsIn z (map (settled_at network state.time) state.settled.items) → rank_of_act act < rank z.note.body
+  parted s notes old act after acted z i =
+      let is = of_rank s notes old act after acted in
+      let made = made_of (settled_at network state.time) state.settled.items z i in
+      let high = each_of (λ (x : Settled). part_rank part < rank x.body) state.settled.items made.0 above made.1 in
+      subst (λ (h : Happening). rank_of_act act < rank h.note.body) made.2 (let lt : rank_of_act act < rank made.0.body = omega (arith, is, high) in lt)
+
+  pub row_within : (at : IsAt reading stands network state (part_place part state.time device)) (act : Act) (after : Kept M)
       → HasActed (keeps stands) at.s.network device (moment_of at.s device state.time) act machine after → HasItsRow (length network.row) act
   row_within at act after acted =
-      let new = acted_at at.s at.notes at.is at.first act after acted in
+      let new = acted_at at.s at.notes at.is act after acted in
       subst (λ (n : Network). HasItsRow (length n.row) act) (sym at.is.same)
-      (its_row at.s.network device (staged at.s at.notes at.is at.first).0 (moment_of at.s device state.time) act new.0 new.1)
+      (its_row at.s.network device (kept_at at.s at.notes at.is).node (moment_of at.s device state.time) act new.0 new.1)
+
+  staged : (s : Scenario) (notes : List Note) (old : Old s notes) → First_ s notes old → (act : Act) (after : Kept M)
+      → HasActed (keeps stands) s.network device (moment_of s device state.time) act machine after
+      → (node : Node) × StageAt (keeps stands) s (happenings s.network notes) old.coming old.mark old.cursor state.time device machine node
+      (rank_of_act act) (act_rest s.network device act)
+  staged s notes old first act after acted =
+      stage_of reading (keeps stands) s (world_of network state) notes old device machine after act
+      (subst (λ (n : Network). device.0 < length n.device) old.same lt)
+      (comes s notes old act after first acted) (parted s notes old act after acted) there (task_now s notes old) acted
 
   -- its records are those of the law
-  pub proper_at : (s : Scenario) (notes : List Note) (old : Old s notes) (first : First s notes old) (act : Act) (after : Kept M) (was : Standing)
+  pub proper_at : (s : Scenario) (notes : List Note) (old : Old s notes) (first : First_ s notes old) (act : Act) (after : Kept M) (was : Standing)
       (adjustment : Units) (outcomes : Outcomes) → HasActed (keeps stands) s.network device (moment_of s device state.time) act machine after
       → AreOutcomes s state.stored.items state.time device was adjustment act outcomes
       → AreProper s (happenings s.network notes) state.time device was adjustment act outcomes
   proper_at s notes old first act after was adjustment outcomes acted are =
-      let st = staged s notes old first in
-      let new = acted_at s notes old first act after acted in
+      let st = staged s notes old first act after acted in
+      let new = acted st.0 st.1.is (may_act_now s device st.0 state.time st.1.work.ready st.1.steady st.1.limit) st.1.task in
       proper (keeps stands) s (happenings s.network notes) old.coming old.mark old.cursor state.stored.items state.time device machine st.0 new.0 was adjustment
-      act outcomes st.1
+      act outcomes (rank_of_act act) (act_rest s.network device act) st.1
       (subst (λ (n : Network). AreStored (happenings s.network notes) (map (stored_as n) state.stored.items)) old.same old.stored) new.1 are
 
   -- what is settled stays fit
@@ -90,45 +211,95 @@ module _ {C M : Type 0} (reading : C → ℕ → ℕ) (stands : M → Network �
       → AreProper s hs state.time device was adjustment act outcomes → IsSomePut outcomes.first state.settled.items mid
       → IsSomePut outcomes.second mid new → All have_octets state.settled.items → All have_octets new
   octets_then s hs was adjustment act outcomes mid new own one two all =
-      all_put_some have_octets outcomes.second mid new two (λ z e. (subst (IsFine state.time device) e own.second_fine).0)
-      (all_put_some have_octets outcomes.first state.settled.items mid one (λ z e. (subst (IsFine state.time device) e own.first_fine).0) all)
+      all_put_some have_octets outcomes.second mid new two (λ z e. (subst (IsFine 7) e own.second_fine).0)
+      (all_put_some have_octets outcomes.first state.settled.items mid one (λ z e. (subst (IsFine 4) e own.first_fine).0) all)
 
-  -- and what comes to it is not before the place of the act
-  pub settles_from : (s : Scenario) (notes : List Note) (old : Old s notes) (was : Standing) (adjustment : Units) (act : Act) (outcomes : Outcomes)
-      (mid new : List Settled) → AreProper s (happenings s.network notes) state.time device was adjustment act outcomes
-      → IsSomePut outcomes.first state.settled.items mid → IsSomePut outcomes.second mid new → (h : Happening)
-      → IsIn h (map (settled_at network state.time) new)
-      → IsIn h (map (settled_at network state.time) state.settled.items) ⊎ (IsBefore (place_of h) (act_place state.time device) → ⊥)
-  settles_from s notes old was adjustment act outcomes mid new own one two h there =
-      let hs = happenings s.network notes in
-      let order = settled_in_order reading (keeps stands) s (world_of network state) notes old in
-      let then = order_then s.network network state.time hs outcomes.first state.settled.items mid one order in
-      elim (there_then s.network network state.time hs outcomes.second mid new two then h there) [
-        | inr (z, e, is) ↦
-            inr (subst (λ (k : Happening). IsBefore (place_of k) (act_place state.time device) → ⊥) (sym is)
-            (subst (IsFine state.time device) e own.second_fine).1)
-        | inl before ↦
-            elim (there_then s.network network state.time hs outcomes.first state.settled.items mid one order h before) [
-              | inr (z, e, is) ↦
-                  inr (subst (λ (k : Happening). IsBefore (place_of k) (act_place state.time device) → ⊥) (sym is)
-                  (subst (IsFine state.time device) e own.first_fine).1)
-              | inl was_there ↦ inl was_there
-            ]
-      ]
+  -- where the first of its records does not stand where it is done, all that is settled stays of a higher rank
+  pub above_then : (s : Scenario) (hs : List Happening) (was : Standing) (adjustment : Units) (act : Act) (outcomes : Outcomes) (mid new : List Settled)
+      → AreProper s hs state.time device was adjustment act outcomes → IfSome outcomes.first (λ z. 6 < rank z.body)
+      → IsSomePut outcomes.first state.settled.items mid → IsSomePut outcomes.second mid new → All (λ (z : Settled). part_rank part < rank z.body) new
+  above_then s hs was adjustment act outcomes mid new own late one two =
+      let most = part_most part in
+      all_put_some (λ (z : Settled). part_rank part < rank z.body) outcomes.second mid new two
+      (λ z e. let fine = (subst (IsFine 7) e own.second_fine).1 in omega (arith, fine, most))
+      (all_put_some (λ (z : Settled). part_rank part < rank z.body) outcomes.first state.settled.items mid one
+      (λ z e.
+      let high : 6 < rank z.body = subst (λ (o : Option Settled). IfSome o (λ x. 6 < rank x.body)) e late in
+      omega (arith, high, most)) above)
+
+  -- else the first of all that is settled then stands where its source does
+  pub own_then : (s : Scenario) (hs : List Happening) (was : Standing) (adjustment : Units) (act : Act) (outcomes : Outcomes) (mid new : List Settled)
+      → InOrder (map (settled_at network state.time) state.settled.items) → AreProper s hs state.time device was adjustment act outcomes
+      → IsSomeAnd outcomes.first (λ z. rank z.body ≤ 6) → IsSomePut outcomes.first state.settled.items mid → IsSomePut outcomes.second mid new
+      → (first : Settled) × (others : List Settled) × (new ≡ first ∷ others) × (is_at_source first.body ≡ true)
+  own_then s hs was adjustment act outcomes mid new order own early one two = by outcomes.first refl early
+    where
+      least : All (λ (z : Settled). 4 ≤ rank z.body) new
+      least =
+          all_put_some (λ (z : Settled). 4 ≤ rank z.body) outcomes.second mid new two
+          (λ z e. let fine = (subst (IsFine 7) e own.second_fine).1 in omega (arith, fine))
+          (all_put_some (λ (z : Settled). 4 ≤ rank z.body) outcomes.first state.settled.items mid one (λ z e. (subst (IsFine 4) e own.first_fine).1)
+          (λ k d lt. let high = above k d lt in let low = part_least part in omega (arith, high, low)))
+
+      by : (o : Option Settled) → outcomes.first ≡ o → IsSomeAnd o (λ z. rank z.body ≤ 6)
+          → (first : Settled) × (others : List Settled) × (new ≡ first ∷ others) × (is_at_source first.body ≡ true)
+      by None e early = absurd early
+      by (Some z) e early =
+          let put = subst (λ (o : Option Settled). IsSomePut o state.settled.items mid) e one in
+          let then = order_then s.network network state.time hs outcomes.first state.settled.items mid one order in
+          let last = order_then s.network network state.time hs outcomes.second mid new two then in
+          let there = put_stays network state.time outcomes.second mid new two then (settled_at network state.time z)
+          (put_there network state.time z state.settled.items mid put order) in
+          let f = low_first network state.time 6 new z last there early in
+          let four = each_of (λ (x : Settled). 4 ≤ rank x.body) new f.0 least (subst (λ (l : List Settled). IsIn f.0 l) (sym f.2) (inl refl)) in
+          let six = f.3 in
+          (f.0, f.1, f.2, at_rank f.0.body (record { least = omega (arith, four); no_change = λ e. omega (arith, e, six); either = inl (omega (arith, six)) }))
+
+  -- what the device has to do then is of no earlier part
+  no_sooner_then : (s : Scenario) (notes : List Note) (old : Old s notes) (act : Act) (after : Kept M) (new : Node)
+      → HasActed (keeps stands) s.network device (moment_of s device state.time) act machine after
+      → IsActOf s.network device (kept_at s notes old).node (moment_of s device state.time) act new → (left : Part)
+      → IsFirstPart s.network device new (pos (s.reading device state.time)) left → part_rank part ≤ part_rank left
+  no_sooner_then s notes old act after new acted is left first =
+      let k = kept_at s notes old in
+      let law = lawful reading (keeps stands) s (world_of network state) notes old device in
+      let same = of_rank s notes old act after acted in
+      let grows = left_no_sooner s.network device k.node (moment_of s device state.time) act new left old.range old.rules
+      (kept_from_zero (keeps stands) s (happenings s.network notes) old.coming old.cursor state.time device machine k law)
+      (may_act_now s device k.node state.time k.ready (old.steady device) old.limit) is first in
+      omega (arith, same, grows)
+
+  pub later_then : IsAt reading stands network state (part_place part state.time device) → (act : Act) (after : Kept M) (left : ToDo)
+      → ((s : Scenario) (notes : List Note) → Old s notes → HasActed (keeps stands) s.network device (moment_of s device state.time) act machine after)
+      → ((s : Scenario) (notes : List Note) → Old s notes → IsLeftIn stands s state.time device after left) → IsNoSoonerLeft part left
+  later_then at act after Give acted is = tt
+  later_then at act after (Next due) acted is = tt
+  later_then at act after (Now left) acted is =
+      let new = acted_at at.s at.notes at.is act after (acted at.s at.notes at.is) in
+      no_sooner_then at.s at.notes at.is act after new.0 (acted at.s at.notes at.is) new.1 left (is at.s at.notes at.is new.0 new.2)
 
   -- the world stands again
   pub acted_once : (after : Kept M) (was is : Standing) (before adjustment : Units) (act : Act) (outcomes : Outcomes) (mid new : List Settled)
-      (machines : List (Kept M)) (more : Bool) → IsSet device.0 after state.machines.items machines
+      (machines : List (Kept M)) → IsSet device.0 after state.machines.items machines
       → IsSomePut outcomes.first state.settled.items mid → IsSomePut outcomes.second mid new → (s : Scenario) (notes : List Note) (old : Old s notes)
-      → First s notes old → HasActed (keeps stands) s.network device (moment_of s device state.time) act machine after
+      → First_ s notes old → HasActed (keeps stands) s.network device (moment_of s device state.time) act machine after
       → IsStateOf (keeps stands) s.network device machine was before → IsStateOf (keeps stands) s.network device after is adjustment
       → AreOutcomes s state.stored.items state.time device was adjustment act outcomes
-      → (more ≡ true → IsDueNow (keeps stands) s.network device (moment_of s device state.time) after)
-      → (more ≡ false → IsIdle stands s state.time device after) → StandsBehind reading (keeps stands) s
+      → StandsFrom reading stands s
       (record (world_of network state) { early = false; machines = machines; settled = map (settled_at network state.time) new }) notes
-      (act_cursor more state.time device)
-  acted_once after was is before adjustment act outcomes mid new machines more set one two s notes old first acted stood stands_then are yes_it no_it =
-      by more yes_it no_it
+      (part_place part state.time device)
+  acted_once after was is before adjustment act outcomes mid new machines set one two s notes old first acted stood stands_then are =
+      let gone = acted_step reading (keeps stands) s (world_of network state) notes device after (bodies_of outcomes) machines
+      (map (settled_at network state.time) new) old acts_are set puts in
+      let place = task_place s.network state.time device (task_of act) in (
+        gone.0,
+        λ b.
+            not_before_own state.time (rank_of_act act) device.0 (act_more s.network act)
+            (chain (state.time ∷ rank_of_act act ∷ device.0 ∷ act_more s.network act) (behind place) (place_of_act state.time device act)
+            (subst (λ (q : List ℕ). IsBefore q (behind place)) (act_stands s.network state.time device act) (before_behind place))
+            (subst (λ (q : List ℕ). IsBefore (behind place) q) (sym (of_part s notes old act after acted))
+            (subst (λ (q : List ℕ). IsBefore q (part_place part state.time device)) gone.1 b))),
+      )
     where
       own : AreProper s (happenings s.network notes) state.time device was adjustment act outcomes
       own = proper_at s notes old first act after was adjustment outcomes acted are
@@ -136,11 +307,12 @@ module _ {C M : Type 0} (reading : C → ℕ → ℕ) (stands : M → Network �
       acts_are : Acts reading (keeps stands) s (world_of network state) notes old device after (bodies_of outcomes)
       acts_are = record {
         of_it = subst (λ (n : Network). device.0 < length n.device) old.same lt;
-        first = first;
+        act = act;
+        first = comes s notes old act after first acted;
+        apart = parted s notes old act after acted;
         machine = machine;
         there = there;
-        due = due s notes machine old there;
-        act = act;
+        due = task_now s notes old;
         acted = acted;
         was = was;
         before = before;
@@ -158,16 +330,3 @@ module _ {C M : Type 0} (reading : C → ℕ → ℕ) (stands : M → Network �
           (settled_in_order reading (keeps stands) s (world_of network state) notes old)
           (subst (λ (n : Network). IsOwn s.network n state.time (happenings s.network notes) outcomes.first) (sym old.same) own.first)
           (subst (λ (n : Network). IsOwn s.network n state.time (happenings s.network notes) outcomes.second) (sym old.same) own.second)
-
-      by : (b : Bool) → (b ≡ true → IsDueNow (keeps stands) s.network device (moment_of s device state.time) after)
-          → (b ≡ false → IsIdle stands s state.time device after) → StandsBehind reading (keeps stands) s
-          (record (world_of network state) { early = false; machines = machines; settled = map (settled_at network state.time) new }) notes
-          (act_cursor b state.time device)
-      by true yes_it no_it =
-          acted_step reading (keeps stands) s (world_of network state) notes device after (bodies_of outcomes) machines
-          (map (settled_at network state.time) new) old acts_are
-          (yes_it refl) set puts
-      by false yes_it no_it =
-          last_acted_step reading (keeps stands) s (world_of network state) notes device after (bodies_of outcomes) machines
-          (map (settled_at network state.time) new) old acts_are
-          (no_it refl) set puts

@@ -1,68 +1,124 @@
 -- A device acts again and again at one instant.
-use Rattle.drift_world.{proofs.{Fits.{have_octets, sound_same}, Words.{subst, sym, true, world_of, ℕ}}, specs.Acting.{IsDueAt, SettlesFrom, act_cursor}}
-use Rattle.drift_world.proofs.Words.{◌+◌, ◌<◌, ◌∙◌, ◌≡◌, ◌≤◌, Bool, ComesFirst, DeviceId, Happening, HasActed, IsAt, IsBefore, IsDueNow, IsIn, IsSound, Kept}
-use Rattle.drift_world.proofs.Words.{List, Network, NoSourceBefore, Node, Note, Scenario, Settled, Some, Stands, StandsBehind, World, act_place, ap, arith}
-use Rattle.drift_world.proofs.Words.{behind, false, happenings, inl, inr, keeps, length, length-map, map, moment_of, none_yet, place_of, refl, settled_at}
+use Rattle.drift_world.{proofs.{Fits.{have_octets, sound_same}, Words.{subst, sym, world_of, ℕ}}, specs.Acting.{AreAbove, IsDueAt, IsFrom, IsLeft, StandsFrom}}
+use Rattle.drift_world.proofs.{AtSource.each_of, Foremost.{higher, not_earlier}, Parts.{first_no_sooner, one_rank}, Showings.shows_of, Sources.made_of}
+use Rattle.drift_world.specs.{Parts.{IsLaterThan, IsNoSoonerLeft, part_place, part_rank}, declared.part.{Part.Part, ToDo.{ToDo, TheVariants.{Give, Next, Now}}}}
+use Rattle.drift_world.proofs.Words.{◌+◌, ◌<◌, ◌↔◌, ◌∙◌, ◌≡◌, ◌≤◌, Bool, ChangesOnly, ComesFirst, DeviceId, Happening, HasActed, IsAt, IsBefore, IsDueNow, IsHeld, IsIn, IsSound, Kept}
+use Rattle.drift_world.proofs.Words.{List, Network, NoSourceBefore, Node, Note, Scenario, Settled, Some, Stands, World, [], ap, arith, cases_eq, chain}
+use Rattle.drift_world.proofs.Words.{◌∷◌, false, happenings, inl, inr, keeps, length, length-map, map, moment_of, none_yet, option_map_or, own_place, place_of, rank}
+use Rattle.drift_world.proofs.Words.{refl, settled_at}
+use Rattle.run_law.specs.records.Ranks.{key}
 use Rattle.{drift_world.specs.declared.state.State.State, run_law.specs.declared.steps.Act.Act, world_law.proofs.giving.Given.some_same}
-use Rattle.std.specs.{List.slice_get, Prelude.All}
+use Rattle.{run_law.proofs.runs.Places.either_way, std.specs.{List.slice_get, Prelude.All}}
 use Rattle.world_law.{proofs.steps_lemmas.growing.Repeating.{acts_add_up, acts_are_bounded, no_act_yet}, specs.steps.Repeating.HasActedTimes}
 
 -- the state stands, and the device's acts come first, but that there may be no numbers
-pub record IsStill {C M : Type 0} (reading : C → ℕ → ℕ) (stands : M → Network → DeviceId → Node → Type 0) (network : Network) (device : DeviceId) (time : ℕ)
-    (now : State C M) (s : Scenario) (notes : List Note) : Type 0 where
+pub record IsStill {C M : Type 0} (reading : C → ℕ → ℕ) (stands : M → Network → DeviceId → Node → Type 0) (network : Network) (part : Part) (device : DeviceId)
+    (time : ℕ) (now : State C M) (s : Scenario) (notes : List Note) : Type 0 where
   pub new : Stands reading (keeps stands) s (world_of network now) notes
-  pub none : NoSourceBefore s (happenings s.network notes) new.cursor (act_place time device)
-  pub after : (z : Happening) → IsIn z (world_of network now).settled → IsBefore (place_of z) (act_place time device) → ⊥
+  pub none : NoSourceBefore s (happenings s.network notes) new.cursor (part_place part time device)
+  pub after : (z : Happening) → IsIn z (world_of network now).settled → IsBefore (place_of z) (part_place part time device) → ⊥
 
--- what a turn keeps, where the device has acted so often
+-- what a turn keeps, where the device has acted so often and has this to do
 pub record IsTurn {C M : Type 0} (last_step : C → ℕ) (reading : C → ℕ → ℕ) (stands : M → Network → DeviceId → Node → Type 0) (network : Network)
-    (device : DeviceId) (first now : State C M) (acts : ℕ) : Type 0 where
+    (part : Part) (device : DeviceId) (first now : State C M) (left : ToDo) (acts : ℕ) : Type 0 where
   pub few : acts ≤ 259
   pub sound : IsSound last_step network now
   pub same : now ≡ record first { machines = now.machines; early = now.early; settled = now.settled; spare = now.spare }
   pub machines : (i : ℕ) → (i ≡ device.0 → ⊥) → slice_get now.machines.items i ≡ slice_get first.machines.items i
-  pub due : IsDueAt reading stands network now device
+  pub is_left : IsLeft reading stands network now device left
+  pub later : IsNoSoonerLeft part left
+  pub above : AreAbove (part_rank part) now
+  pub begun : IsDueAt reading stands network now part device → IsDueAt reading stands network first part device
   pub still : (s : Scenario) (notes : List Note) (old : Stands reading (keeps stands) s (world_of network first) notes)
-      → ComesFirst reading (keeps stands) s (world_of network first) notes old (act_place first.time device)
-      → IsStill reading stands network device first.time now s notes
+      → ComesFirst reading (keeps stands) s (world_of network first) notes old (part_place part first.time device)
+      → IsStill reading stands network part device first.time now s notes
   pub times : (s : Scenario) (notes : List Note) (old : Stands reading (keeps stands) s (world_of network first) notes)
-      → ComesFirst reading (keeps stands) s (world_of network first) notes old (act_place first.time device) → (machine last : Kept M)
+      → ComesFirst reading (keeps stands) s (world_of network first) notes old (part_place part first.time device) → (machine last : Kept M)
       → slice_get first.machines.items device.0 ≡ Some machine → slice_get now.machines.items device.0 ≡ Some last
       → HasActedTimes (keeps stands) s.network device (moment_of s device first.time) acts machine last
 
 -- what an act ensures
 pub record IsActed {C M : Type 0} (last_step : C → ℕ) (reading : C → ℕ → ℕ) (stands : M → Network → DeviceId → Node → Type 0) (network : Network)
-    (device : DeviceId) (old new : State C M) (more : Bool) : Type 0 where
+    (part : Part) (device : DeviceId) (old new : State C M) : Type 0 where
   pub sound : IsSound last_step network new
   pub same : new ≡ record old { machines = new.machines; early = false; settled = new.settled; spare = new.spare }
   pub machines : (i : ℕ) → (i ≡ device.0 → ⊥) → slice_get new.machines.items i ≡ slice_get old.machines.items i
-  pub settled : SettlesFrom network device old new
+  pub above : AreAbove (part_rank part) new
   pub then_stands : (s : Scenario) (notes : List Note) (was : Stands reading (keeps stands) s (world_of network old) notes)
-      → ComesFirst reading (keeps stands) s (world_of network old) notes was (act_place old.time device)
-      → StandsBehind reading (keeps stands) s (world_of network new) notes (act_cursor more old.time device)
-  pub due : more ≡ true → IsDueAt reading stands network new device
+      → ComesFirst reading (keeps stands) s (world_of network old) notes was (part_place part old.time device)
+      → StandsFrom reading stands s (world_of network new) notes (part_place part old.time device)
+  pub later : (left : ToDo) → IsLeft reading stands network new device left → IsNoSoonerLeft part left
   pub acted : (s : Scenario) (notes : List Note) (machine : Kept M) → Stands reading (keeps stands) s (world_of network old) notes
       → slice_get old.machines.items device.0 ≡ Some machine → (act : Act) × (after : Kept M) × (slice_get new.machines.items device.0 ≡ Some after)
       × HasActed (keeps stands) s.network device (moment_of s device old.time) act machine after
 
-module _ {C M : Type 0} (last_step : C → ℕ) (reading : C → ℕ → ℕ) (stands : M → Network → DeviceId → Node → Type 0) (network : Network) (device : DeviceId)
+-- after one
+pub same_then : {C M : Type 0} (first now new : State C M)
+    → now ≡ record first { machines = now.machines; early = now.early; settled = now.settled; spare = now.spare }
+    → new ≡ record now { machines = new.machines; early = false; settled = new.settled; spare = new.spare }
+    → new ≡ record first { machines = new.machines; early = new.early; settled = new.settled; spare = new.spare }
+same_then {C} {M} first now new same is =
+    let early : new.early ≡ false = ap (λ (x : State C M). x.early) is in
+    is ∙ ap (λ (x : State C M). let y : State C M = record x { machines = new.machines; early = false; settled = new.settled; spare = new.spare } in y) same
+    ∙ ap (λ (b : Bool). let y : State C M = record first { machines = new.machines; early = b; settled = new.settled; spare = new.spare } in y) (sym early)
+
+-- nothing of other devices has changed
+pub others_then : {C M : Type 0} (device : ℕ) (first new : State C M)
+    → new ≡ record first { machines = new.machines; early = new.early; settled = new.settled; spare = new.spare }
+    → ((i : ℕ) → (i ≡ device → ⊥) → slice_get new.machines.items i ≡ slice_get first.machines.items i) → ChangesOnly device first new
+others_then {C} {M} device first new same machines = record {
+  clocks = ap (λ (x : State C M). x.clocks) same;
+  time = ap (λ (x : State C M). x.time) same;
+  ended = ap (λ (x : State C M). x.ended) same;
+  machines = machines;
+  waiting = λ w other.
+      subst (λ (x : State C M). IsIn w x.waiting.items ↔ IsIn w first.waiting.items) (sym same) ((λ there. there), (λ there. there));
+}
+
+module _ {C M : Type 0} (last_step : C → ℕ) (reading : C → ℕ → ℕ) (stands : M → Network → DeviceId → Node → Type 0) (network : Network) (part : Part) (device : DeviceId)
     (first : State C M) where
-  abbrev Turn : State C M → ℕ → Type 0
-  Turn now acts = IsTurn last_step reading stands network device first now acts
+  abbrev Turn : State C M → ToDo → ℕ → Type 0
+  Turn now left acts = IsTurn last_step reading stands network part device first now left acts
+
+  abbrev Due : State C M → Type 0
+  Due state = IsDueAt reading stands network state part device
 
   abbrev Old : Scenario → List Note → Type 0
   Old s notes = Stands reading (keeps stands) s (world_of network first) notes
 
   abbrev First : (s : Scenario) (notes : List Note) → Old s notes → Type 0
-  First s notes old = ComesFirst reading (keeps stands) s (world_of network first) notes old (act_place first.time device)
+  First s notes old = ComesFirst reading (keeps stands) s (world_of network first) notes old (part_place part first.time device)
 
-  pub turn_begun : IsSound last_step network first → IsDueAt reading stands network first device → Turn first 0
-  turn_begun sound due = record {
+  -- the node for which the machine stands
+  node_at : (s : Scenario) (notes : List Note) (old : Old s notes) (machine : Kept M)
+      → IsHeld (keeps stands) s (happenings s.network notes) old.coming old.cursor first.time device machine
+      → (node : Node) × keeps stands machine s.network device node
+  node_at s notes old machine (inl k) = (k.node, k.is)
+  node_at s notes old machine (inr out) = (out.node, out.is)
+
+  -- where nothing of an earlier part is due, what comes first is of none
+  from_then : (left : ToDo) → IsLeft reading stands network first device left → IsFrom reading stands network first part device
+      → IsAt reading stands network first (part_place part first.time device) → device.0 < length network.device → IsNoSoonerLeft part left
+  from_then Give is from at lt = tt
+  from_then (Next due) is from at lt = tt
+  from_then (Now other) is from at lt =
+      let m = at.is.devices device (subst (λ (n : Network). device.0 < length n.device) at.is.same lt) in
+      let of = shows_of reading (keeps stands) at.s network first at.notes at.is in
+      let node = node_at at.s at.notes at.is m.0 m.2 in
+      first_no_sooner at.s.network device node.0 _ other part (is at.s m.0 node.0 of m.1 node.1) (from at.s m.0 node.0 of m.1 node.1)
+
+  pub turn_begun : (left : ToDo) → IsSound last_step network first → IsLeft reading stands network first device left
+      → IsFrom reading stands network first part device → AreAbove (part_rank part) first
+      → IsAt reading stands network first (part_place part first.time device) → device.0 < length network.device → Turn first left 0
+  turn_begun left sound is from above at lt = record {
     few = omega arith;
     sound = sound;
     same = refl;
     machines = λ i ne. refl;
-    due = due;
+    is_left = is;
+    later = from_then left is from at lt;
+    above = above;
+    begun = λ due. due;
     still = λ s notes old f. record { new = old; none = f.none; after = f.after };
     times = λ s notes old f machine last there there_last.
         subst (HasActedTimes (keeps stands) s.network device (moment_of s device first.time) 0 machine) (some_same machine last _ there there_last)
@@ -79,12 +135,12 @@ module _ {C M : Type 0} (last_step : C → ℕ) (reading : C → ℕ → ℕ) (s
   -- a world stands, and the device's acts come first
   abbrev IsStillIn : Scenario → List Note → World C (Kept M) → Type 0
   IsStillIn s notes world = (new : Stands reading (keeps stands) s world notes)
-      × NoSourceBefore s (happenings s.network notes) new.cursor (act_place first.time device)
-      × ((z : Happening) → IsIn z world.settled → IsBefore (place_of z) (act_place first.time device) → ⊥)
+      × NoSourceBefore s (happenings s.network notes) new.cursor (part_place part first.time device)
+      × ((z : Happening) → IsIn z world.settled → IsBefore (place_of z) (part_place part first.time device) → ⊥)
 
   still_with : (s : Scenario) (notes : List Note) (now mid : State C M) → mid.settled.items ≡ now.settled.items
-      → IsStill reading stands network device first.time now s notes
-      → IsStill reading stands network device first.time (record now { settled = mid.settled; spare = mid.spare }) s notes
+      → IsStill reading stands network part device first.time now s notes
+      → IsStill reading stands network part device first.time (record now { settled = mid.settled; spare = mid.spare }) s notes
   still_with s notes now mid same was =
       let it = subst (IsStillIn s notes) (same_world now mid same) (was.new, was.none, was.after) in
       record { new = it.0; none = it.1; after = it.2 }
@@ -94,101 +150,116 @@ module _ {C M : Type 0} (last_step : C → ℕ) (reading : C → ℕ → ℕ) (s
   sound_with now mid same sound =
       sound_same last_step network now _ sound refl refl refl refl refl refl refl refl refl refl (subst (All have_octets) (sym same) sound.fit.octets)
 
-  pub turn_with : (now mid : State C M) (acts : ℕ) → mid ≡ record now { settled = mid.settled; spare = mid.spare }
-      → mid.settled.items ≡ now.settled.items → Turn now acts → Turn mid acts
-  turn_with now mid acts is same turn =
-      subst (λ (x : State C M). Turn x acts) (sym is)
+  left_with : (now mid : State C M) (left : ToDo) → mid.settled.items ≡ now.settled.items → IsLeft reading stands network now device left
+      → IsLeft reading stands network (record now { settled = mid.settled; spare = mid.spare }) device left
+  left_with now mid Give same is = record { first = is.first; others = is.others; whole = same ∙ is.whole; own = is.own }
+  left_with now mid (Now other) same is =
+      λ s machine node of there kept.
+      is s machine node (record { same = of.same; clocks = of.clocks; broken = of.broken; ways = of.ways }) there kept
+  left_with now mid (Next at) same is = (
+    is.0,
+    λ s machine of there. is.1 s machine (record { same = of.same; clocks = of.clocks; broken = of.broken; ways = of.ways }) there,
+  )
+
+  due_with : (now mid : State C M) → Due (record now { settled = mid.settled; spare = mid.spare }) → Due now
+  due_with now mid is =
+      λ s machine node of there kept.
+      is s machine node (record { same = of.same; clocks = of.clocks; broken = of.broken; ways = of.ways }) there kept
+
+  pub turn_with : (now mid : State C M) (left : ToDo) (acts : ℕ) → mid ≡ record now { settled = mid.settled; spare = mid.spare }
+      → mid.settled.items ≡ now.settled.items → Turn now left acts → Turn mid left acts
+  turn_with now mid left acts is same turn =
+      subst (λ (x : State C M). Turn x left acts) (sym is)
       (record {
         few = turn.few;
         sound = sound_with now mid same turn.sound;
         same = ap (λ (x : State C M). let y : State C M = record x { settled = mid.settled; spare = mid.spare } in y) turn.same;
         machines = turn.machines;
-        due = λ s notes machine old there.
-            turn.due s notes machine (subst (λ (w : World C (Kept M)). Stands reading (keeps stands) s w notes) (sym (same_world now mid same)) old) there;
+        is_left = left_with now mid left same turn.is_left;
+        later = turn.later;
+        above = subst (λ (l : List Settled). All (λ (z : Settled). part_rank part < rank z.body) l) (sym same) turn.above;
+        begun = λ due. turn.begun (due_with now mid due);
         still = λ s notes old f. still_with s notes now mid same (turn.still s notes old f);
         times = turn.times;
       })
 
   -- ---- an act
 
-  now_time : (now : State C M) (acts : ℕ) → Turn now acts → now.time ≡ first.time
-  now_time now acts turn = ap (λ (x : State C M). x.time) turn.same
+  now_time : (now : State C M) (left : ToDo) (acts : ℕ) → Turn now left acts → now.time ≡ first.time
+  now_time now left acts turn = ap (λ (x : State C M). x.time) turn.same
 
   -- where there are numbers, the device's acts come first
-  pub comes_first : (now : State C M) (acts : ℕ) (turn : Turn now acts) → now.given + length now.settled.items + 2 < none_yet
+  pub comes_first : (now : State C M) (left : ToDo) (acts : ℕ) (turn : Turn now left acts) → now.given + length now.settled.items + 2 < none_yet
       → (s : Scenario) (notes : List Note) (old : Old s notes) (f : First s notes old)
-      → ComesFirst reading (keeps stands) s (world_of network now) notes (turn.still s notes old f).new (act_place now.time device)
-  comes_first now acts turn numbers s notes old f =
+      → ComesFirst reading (keeps stands) s (world_of network now) notes (turn.still s notes old f).new (part_place part now.time device)
+  comes_first now left acts turn numbers s notes old f =
       let still = turn.still s notes old f in
       let given = still.new.given in
       let long = length-map now.settled.items (settled_at network now.time) in
-      subst (λ (t : ℕ). ComesFirst reading (keeps stands) s (world_of network now) notes still.new (act_place t device)) (sym (now_time now acts turn))
+      subst (λ (t : ℕ). ComesFirst reading (keeps stands) s (world_of network now) notes still.new (part_place part t device)) (sym (now_time now left acts turn))
       (record { none = still.none; after = still.after; room = omega (arith, numbers, given, long) })
 
-  pub comes_at : (now : State C M) (acts : ℕ) → Turn now acts → now.given + length now.settled.items + 2 < none_yet
-      → IsAt reading stands network first (act_place first.time device) → IsAt reading stands network now (act_place now.time device)
-  comes_at now acts turn numbers at = record {
+  pub comes_at : (now : State C M) (left : ToDo) (acts : ℕ) → Turn now left acts → now.given + length now.settled.items + 2 < none_yet
+      → IsAt reading stands network first (part_place part first.time device) → IsAt reading stands network now (part_place part now.time device)
+  comes_at now left acts turn numbers at = record {
     s = at.s;
     notes = at.notes;
     is = (turn.still at.s at.notes at.is at.first).new;
-    first = comes_first now acts turn numbers at.s at.notes at.is at.first;
+    first = comes_first now left acts turn numbers at.s at.notes at.is at.first;
   }
 
-  -- after the last
-  pub all_acted : (now new : State C M) (acts : ℕ) → Turn now acts → now.given + length now.settled.items + 2 < none_yet
-      → IsActed last_step reading stands network device now new false → (s : Scenario) (notes : List Note) (old : Old s notes) → First s notes old
-      → StandsBehind reading (keeps stands) s (world_of network new) notes (behind (act_place first.time device))
-  all_acted now new acts turn numbers acted s notes old f =
-      subst (λ (t : ℕ). StandsBehind reading (keeps stands) s (world_of network new) notes (behind (act_place t device))) (now_time now acts turn)
-      (acted.then_stands s notes (turn.still s notes old f).new (comes_first now acts turn numbers s notes old f))
-
-  -- and after one that is not
-  same_then : (now new : State C M) → now ≡ record first { machines = now.machines; early = now.early; settled = now.settled; spare = now.spare }
-      → new ≡ record now { machines = new.machines; early = false; settled = new.settled; spare = new.spare }
-      → new ≡ record first { machines = new.machines; early = new.early; settled = new.settled; spare = new.spare }
-  same_then now new same is =
-      let early : new.early ≡ false = ap (λ (x : State C M). x.early) is in
-      is ∙ ap (λ (x : State C M). let y : State C M = record x { machines = new.machines; early = false; settled = new.settled; spare = new.spare } in y) same
-      ∙ ap (λ (b : Bool). let y : State C M = record first { machines = new.machines; early = b; settled = new.settled; spare = new.spare } in y) (sym early)
-
-  still_then : (now new : State C M) (acts : ℕ) (turn : Turn now acts) → now.given + length now.settled.items + 2 < none_yet
-      → IsActed last_step reading stands network device now new true → (s : Scenario) (notes : List Note) (old : Old s notes) → First s notes old
-      → IsStill reading stands network device first.time new s notes
-  still_then now new acts turn numbers acted s notes old f =
+  still_then : (now new : State C M) (left : ToDo) (acts : ℕ) (turn : Turn now left acts)
+      → now.given + length now.settled.items + 2 < none_yet → IsActed last_step reading stands network part device now new → (s : Scenario)
+      (notes : List Note) (old : Old s notes) → First s notes old → IsStill reading stands network part device first.time new s notes
+  still_then now new left acts turn numbers acted s notes old f =
       let was = turn.still s notes old f in
-      let time = now_time now acts turn in
-      let then = subst (λ (t : ℕ). StandsBehind reading (keeps stands) s (world_of network new) notes (act_place t device)) time
-      (acted.then_stands s notes was.new (comes_first now acts turn numbers s notes old f)) in
+      let time = now_time now left acts turn in
+      let then = subst (λ (t : ℕ). StandsFrom reading stands s (world_of network new) notes (part_place part t device)) time
+      (acted.then_stands s notes was.new (comes_first now left acts turn numbers s notes old f)) in
+      let cursor = then.0.cursor in
       record {
         new = then.0;
-        none = λ w source not_yet before. not_yet (subst (IsBefore w) (sym then.1) before);
-        after = λ z there before. elim (acted.settled z there) [
-          | inl old_one ↦ was.after z old_one before
-          | inr late ↦ late (subst (λ (t : ℕ). IsBefore (place_of z) (act_place t device)) (sym time) before)
+        none = λ w source not_yet before. elim (either_way w cursor) [
+          | inl lt ↦ not_yet lt
+          | inr (inl e) ↦ then.1 (subst (λ (q : List ℕ). IsBefore q (part_place part first.time device)) e before)
+          | inr (inr gt) ↦ then.1 (chain cursor w (part_place part first.time device) gt before)
         ];
+        after = λ z there before.
+            let made = made_of (settled_at network new.time) new.settled.items z there in
+            let high = each_of (λ (x : Settled). part_rank part < rank x.body) new.settled.items made.0 acted.above made.1 in
+            let now_is : new.time ≡ first.time = ap (λ (x : State C M). x.time) acted.same ∙ time in
+            not_earlier new.time first.time (own_place made.0) (part_rank part ∷ device.0 ∷ []) (omega (arith, now_is))
+            (λ e. higher (rank made.0.body) (part_rank part) (key (option_map_or (λ frame. frame.members.0) made.0.frame 0) made.0.body) (device.0 ∷ []) high)
+            (subst (λ (h : Happening). IsBefore (place_of h) (part_place part first.time device)) (sym made.2) before);
       }
 
-  times_then : (now new : State C M) (acts : ℕ) (turn : Turn now acts) → IsActed last_step reading stands network device now new true
+  due_now : (now : State C M) (s : Scenario) (notes : List Note) (machine : Kept M) → Due now → Stands reading (keeps stands) s (world_of network now) notes
+      → slice_get now.machines.items device.0 ≡ Some machine → IsDueNow (keeps stands) s.network device (moment_of s device now.time) machine
+  due_now now s notes machine due old there = λ node is.
+      let f = (due s machine node (shows_of reading (keeps stands) s network now notes old) there is).is in (f.task, f.pending, f.due)
+
+  times_then : (now new : State C M) (left : ToDo) (acts : ℕ) (turn : Turn now left acts) → Due now
+      → IsActed last_step reading stands network part device now new
       → device.0 < length network.device → (s : Scenario) (notes : List Note) (old : Old s notes) (f : First s notes old) (machine last : Kept M)
       → slice_get first.machines.items device.0 ≡ Some machine → slice_get new.machines.items device.0 ≡ Some last
       → HasActedTimes (keeps stands) s.network device (moment_of s device first.time) (acts + 1) machine last
-  times_then now new acts turn acted lt s notes old f machine last there there_last =
+  times_then now new left acts turn due acted lt s notes old f machine last there there_last =
       let was = turn.still s notes old f in
-      let time = now_time now acts turn in
+      let time = now_time now left acts turn in
       let mid = was.new.devices device (subst (λ (n : Network). device.0 < length n.device) was.new.same lt) in
       let act = acted.acted s notes mid.0 was.new mid.1 in
       let same : act.1 ≡ last = some_same act.1 last (slice_get new.machines.items device.0) act.2 there_last in
       acts_add_up (keeps stands) s.network device (moment_of s device first.time) act.0 acts machine mid.0 last old.range old.rules
       (turn.times s notes old f machine mid.0 there mid.1)
-      (subst (λ (t : ℕ). IsDueNow (keeps stands) s.network device (moment_of s device t) mid.0) time (turn.due s notes mid.0 was.new mid.1))
+      (subst (λ (t : ℕ). IsDueNow (keeps stands) s.network device (moment_of s device t) mid.0) time (due_now now s notes mid.0 due was.new mid.1))
       (subst (λ (x : Kept M). HasActed (keeps stands) s.network device (moment_of s device first.time) act.0 mid.0 x) same
       (subst (λ (t : ℕ). HasActed (keeps stands) s.network device (moment_of s device t) act.0 mid.0 act.1) time act.3))
 
   -- it acts at most so often
-  few_then : (now new : State C M) (acts : ℕ) (turn : Turn now acts) → IsActed last_step reading stands network device now new true
-      → device.0 < length network.device → IsDueAt reading stands network first device → IsAt reading stands network first (act_place first.time device)
-      → acts + 1 ≤ 259
-  few_then now new acts turn acted lt due at =
+  few_then : (now new : State C M) (left : ToDo) (acts : ℕ) (turn : Turn now left acts) → Due now
+      → IsActed last_step reading stands network part device now new
+      → device.0 < length network.device → IsAt reading stands network first (part_place part first.time device) → acts + 1 ≤ 259
+  few_then now new left acts turn due acted lt at =
       let s = at.s in
       let own = subst (λ (n : Network). device.0 < length n.device) at.is.same lt in
       let machine = at.is.devices device own in
@@ -196,17 +267,31 @@ module _ {C M : Type 0} (last_step : C → ℕ) (reading : C → ℕ → ℕ) (s
       let mid = was.new.devices device own in
       let act = acted.acted s at.notes mid.0 was.new mid.1 in
       acts_are_bounded reading (keeps stands) s (world_of network first) at.notes device machine.0 act.1 (acts + 1) at.is own machine.1
-      (due s at.notes machine.0 at.is machine.1) (times_then now new acts turn acted lt s at.notes at.is at.first machine.0 act.1 machine.1 act.2)
+      (due_now first s at.notes machine.0 (turn.begun due) at.is machine.1)
+      (times_then now new left acts turn due acted lt s at.notes at.is at.first machine.0 act.1 machine.1 act.2)
 
-  pub turn_on : (now new : State C M) (acts : ℕ) → Turn now acts → now.given + length now.settled.items + 2 < none_yet
-      → IsActed last_step reading stands network device now new true → device.0 < length network.device → IsDueAt reading stands network first device
-      → IsAt reading stands network first (act_place first.time device) → Turn new (acts + 1)
-  turn_on now new acts turn numbers acted lt due at = record {
-    few = few_then now new acts turn acted lt due at;
+  pub turn_on : (now new : State C M) (left then_left : ToDo) (acts : ℕ) → Turn now left acts → Due now
+      → now.given + length now.settled.items + 2 < none_yet → IsActed last_step reading stands network part device now new
+      → IsLeft reading stands network new device then_left
+      → device.0 < length network.device → IsAt reading stands network first (part_place part first.time device) → Turn new then_left (acts + 1)
+  turn_on now new left then_left acts turn due numbers acted is_left lt at = record {
+    few = few_then now new left acts turn due acted lt at;
     sound = acted.sound;
-    same = same_then now new turn.same acted.same;
+    same = same_then first now new turn.same acted.same;
     machines = λ i ne. acted.machines i ne ∙ turn.machines i ne;
-    due = acted.due refl;
-    still = still_then now new acts turn numbers acted;
-    times = times_then now new acts turn acted lt;
+    is_left = is_left;
+    later = acted.later then_left is_left;
+    above = acted.above;
+    begun = λ more. turn.begun due;
+    still = still_then now new left acts turn numbers acted;
+    times = times_then now new left acts turn due acted lt;
   }
+
+-- where not this part comes first, what is left is of a later one
+pub left_later : (part : Part) (left : ToDo) → (left ≡ Now part → ⊥) → IsNoSoonerLeft part left → IsLaterThan part left
+left_later part Give not later = tt
+left_later part (Next at) not later = tt
+left_later part (Now other) not later = elim (cases_eq (part_rank part) (part_rank other)) [
+  | inr apart ↦ omega (arith, apart, later)
+  | inl same ↦ absurd (not (ap (λ (p : Part). Now p) (one_rank other part (sym same))))
+]

@@ -5,7 +5,6 @@ use Rattle.drift_world.proofs.Words.{◌++◌, ◌∷◌, ◌≡◌, ◌≤◌, 
 use Rattle.drift_world.{proofs.Words.{cases_lt, clock_after, inl, inr, le-leb, option_map_or, rate_steps, reading_of, refl, ℕ, ℤ}, specs.Running.clock_of}
 use Rattle.{run_law.proofs.scenario.Rated.{Holds, step_at}, std.proofs.lemmas.List.{Elements.{filter-append, filter_map-append}, Sums.fold-append}}
 use Rattle.{run_law.specs.scenario.Rates.step_by, std.{proofs.lemmas.Bool.lt-leb, specs.List.All}}
-use Rattle.net_plan.specs.declared.event.What.TheVariants as events
 
 -- ---- the steps of more events
 

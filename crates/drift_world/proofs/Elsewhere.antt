@@ -1,9 +1,10 @@
 -- An event leaves all devices as they were but one.
 use Rattle.{drift_world.{proofs.Timings.still_timed, specs.declared.state.State.State}, world_state.specs.Applying.{IsElsewhere, device_in}}
-use Rattle.drift_world.proofs.Words.{◌+◌, ◌<◌, ◌==◌, ◌↔◌, ◌∙◌, ◌∷◌, ◌≡◌, ◌≤◌, AreTimed, Bool, DeviceId, IfSome, IsIn, IsTimed, List, Network, Node, None}
+use Rattle.drift_world.proofs.Words.{◌+◌, ◌<◌, ◌==◌, ◌↔◌, ◌∙◌, ◌∷◌, ◌≡◌, AreTimed, Bool, DeviceId, IfSome, IsIn, IsTimed, List, Network, Node, None}
 use Rattle.drift_world.proofs.Words.{Option, Some, Units, Waits, What, [], amount, ap, arith, breaks_at, cases_eq, clock_after, eqb-true, false}
 use Rattle.drift_world.proofs.Words.{false_from_ne_true, filter, if◌then◌else◌, in_filter, inl, inr, length, not, option_map_or, refl, subst, sym, true, ℕ, ℤ}
-use Rattle.std.proofs.Common.{◌≢◌, All, slice_get}
+use Rattle.std.proofs.Common.{◌≢◌, slice_get}
+use Rattle.world_state.specs.{declared.timers.Timer.Timer, timers.Times.AreFrom}
 use Rattle.net_plan.specs.declared.event.What.TheVariants as events
 
 -- ---- what an event does to another device
@@ -49,12 +50,12 @@ pub timed_by_event : {C M : Type 0} (reading : C → ℕ → ℕ) (stands : M �
     → length new.timers ≡ length mid.timers → ((device : DeviceId) → device.0 < length network.device → IsElsewhere what device
     → (slice_get new.timers device.0 ≡ slice_get mid.timers device.0)
     × (slice_get new.timers (length network.device + device.0) ≡ slice_get mid.timers (length network.device + device.0)))
-    → (All (λ (time : ℕ). mid.time ≤ time) mid.timers → All (λ (time : ℕ). new.time ≤ time) new.timers) → AreTimed reading stands network new
+    → (AreFrom mid.time mid.timers → AreFrom new.time new.timers) → AreTimed reading stands network new
 timed_by_event {C} {M} reading stands network old mid new what are away timers time same own sized others later = record {
   sized = sized ∙ ap length timers ∙ are.sized;
   each = λ device there. each device there (device_in what) refl;
-  later = later (subst (λ (n : ℕ). All (λ (t : ℕ). n ≤ t) mid.timers) (sym time)
-      (subst (λ (l : List ℕ). All (λ (t : ℕ). old.time ≤ t) l) (sym timers) are.later));
+  later = later (subst (λ (n : ℕ). AreFrom n mid.timers) (sym time)
+      (subst (λ (l : List Timer). AreFrom old.time l) (sym timers) are.later));
 }
   where
     still : (device : DeviceId) → device.0 < length network.device → IsElsewhere what device → IsTimed reading stands network new.timers new device
@@ -66,8 +67,8 @@ timed_by_event {C} {M} reading stands network old mid new what are away timers t
         (ap (λ (s : State C M). slice_get s.machines.items device.0) same ∙ is.1)
         (λ w at. subst (λ (s : State C M). IsIn w s.waiting.items ↔ IsIn w old.waiting.items) (sym same) (is.2 w at))
         (let now = ap (λ (s : State C M). s.time) same in omega (arith, now, time))
-        (kept.0 ∙ ap (λ (l : List ℕ). slice_get l device.0) timers)
-        (kept.1 ∙ ap (λ (l : List ℕ). slice_get l (length network.device + device.0)) timers)
+        (kept.0 ∙ ap (λ (l : List Timer). slice_get l device.0) timers)
+        (kept.1 ∙ ap (λ (l : List Timer). slice_get l (length network.device + device.0)) timers)
 
     each : (device : DeviceId) → device.0 < length network.device → (o : Option DeviceId) → device_in what ≡ o
         → IsTimed reading stands network new.timers new device

@@ -2,7 +2,7 @@
 use Rattle.drift_world.proofs.Words.{◌+◌, ◌<◌, ◌∷◌, ◌≡◌, ◌≤◌, AreSettled, DeviceId, Happening, IsBefore, IsDue, IsIn, IsScenarioRun, List, Network, Node, Note}
 use Rattle.drift_world.proofs.Words.{Scenario, Stands, World, [], amount, ap, append-nil, arith, chain, happenings, inl, inr, never_self, place_of, refl, subst}
 use Rattle.{drift_world.proofs.Words.{sym, true, ℕ}, world_law.specs.world.World.IsWorkedOff}
-use Rattle.world_law.proofs.runs.{Next.none_due, Sourced.sourced, TaskPlaces.{acts_before, task_before}}
+use Rattle.world_law.proofs.runs.{Next.none_due, Sourced.sourced, TaskPlaces.placed_so}
 use Rattle.{net_plan.specs.declared.event.Event.Event, world_law.{proofs.runs.Firsts.source_before, specs.source.{Next.NoneDueBefore, Sources.IsSource}}}
 use Rattle.run_law.proofs.runs.Grow.{move_mark}
 
@@ -38,8 +38,10 @@ module _ {C M : Type 0} (reading : C → ℕ → ℕ) (stands : M → Network �
   worked w (IsSource.arriving t device link cause a) b = by_time t 2 (device.0 ∷ link.0 ∷ cause ∷ []) (omega arith) b
   worked w (IsSource.ripening t device link cause point r) b = by_time t 3 (device.0 ∷ amount point ∷ r.frame.members.0 ∷ link.0 ∷ cause ∷ []) (omega arith) b
   worked w (IsSource.acting t device task a) b =
-      task_before s.network t device task old.cursor
-      (by_time t 4 (device.0 ∷ []) (omega arith) (acts_before s.network t device task (world.now ∷ 2 ∷ []) b))
+      let p = placed_so s.network t device task in
+      let late = p.late in
+      subst (λ (q : List ℕ). IsBefore q old.cursor) (sym p.is)
+      (by_time t p.rank (device.0 ∷ p.rest) (omega (arith, late)) (subst (λ (q : List ℕ). IsBefore q (world.now ∷ 2 ∷ [])) p.is b))
   worked w (IsSource.departing t device link cause d) b = by_time t 8 (device.0 ∷ link.0 ∷ cause ∷ []) (omega arith) b
   worked w (IsSource.following t cause h it) b = by_time t 2 [] (omega arith) b
   worked w (IsSource.befalling time line what r) b = subst (λ (n : ℕ). IsBefore (n ∷ 1 ∷ []) old.cursor) (ap amount (sym r.at)) (told r.before r.event r.is)

@@ -1,11 +1,11 @@
 -- What comes first of all that a state has under way.
-use Rattle.{drift_world.proofs.Sources.{due_time, nothing_before, slot_high, slot_low}, world_state.specs.timers.Times.{IsFirst as IsFirstDue}}
+use Rattle.{drift_world.proofs.Sources.{due_ranks, due_time, nothing_before}, world_state.specs.{declared.timers.Timer.Timer, timers.Times.{AreFrom, IsFirst as IsFirstDue}}}
 use Rattle.drift_world.proofs.Words.{◌+◌, ◌-◌, ◌<◌, ◌^◌, ◌∙◌, ◌∷◌, ◌≡◌, ◌≤◌, ◌⊎◌, AreFirsts, AreTimed, AreUnderWay, AtPort, Content, DeviceId, Due, DueAt}
 use Rattle.drift_world.proofs.Words.{HasNothingBefore, IfSome, IsBefore, IsFirst, IsIn, IsRunning, IsWell, Kept, List, Network, Node, None, OnWire, Option}
 use Rattle.drift_world.proofs.Words.{Port, Some, Wire, [], ap, arith, at_port, both_ways, cases_lt, false, get_or_from_slice_get, inl, inr, is_given, keeps}
 use Rattle.drift_world.proofs.Words.{length, never, never_self, numbers_of, on_wire, rank_of, refl, slice_get-get_or, subst, sym, true, wire_at, wire_place, ℕ}
-use Rattle.{drift_world.specs.{Sourcing.{IsRipePlace, due_place}, declared.state.State.State}, world_state.specs.{Views.port_at, declared.queue.Entry.Entry}}
-use Rattle.{std.proofs.Common.{All, get_or, slice_get}, world_law.specs.world.World.port_place}
+use Rattle.{drift_world.specs.{Parts.part_rank, Sourcing.{IsRipePlace, device_of_slot, due_place}, declared.state.State.State}, world_state.specs.{Views.port_at, declared.queue.Entry.Entry}}
+use Rattle.{std.proofs.Common.{get_or, slice_get}, world_law.specs.world.World.port_place}
 
 -- ---- places of one time, or of a later one
 
@@ -31,11 +31,6 @@ of_run now rest le (inr (e, b)) = omega (arith, le, e)
 pub of_end : (until : ℕ) → until ≤ 2 ^ 60 + 1 → IsBefore ((2 ^ 60 + 1) ∷ []) (until ∷ []) → ⊥
 of_end until le (inl lt) = omega (arith, le, lt)
 of_end until le (inr (e, b)) = b
-
--- what a slot is for is due at the slot's time
-pub slot_time : (devices : ℕ) (due : Due) (p : List ℕ) → (IsBefore (due.time ∷ 3 ∷ due.slot ∷ []) p → ⊥)
-    → (IsBefore (due.time ∷ 4 ∷ (due.slot - devices) ∷ []) p → ⊥) → IsBefore (due_place devices due) p → ⊥
-slot_time devices due p low high b = grind (arith, cases_lt, slot_low, slot_high)
 
 -- ---- nothing under way, and no timer, is past
 
@@ -98,18 +93,19 @@ module _ {C M : Type 0} (reading : C → ℕ → ℕ) (stands : M → Network �
 
   -- where nothing is before a time, no timer is
   pub timers_later : (t : ℕ) → t ≤ never → AreTimed reading stands network state → HasNothingBefore reading stands network state (t ∷ [])
-      → All (λ (time : ℕ). t ≤ time) state.timers
+      → AreFrom t state.timers
   timers_later t most are has = λ k d lt.
       let slots = are.sized in
       let now = are.later k d lt in
       let at = slice_get-get_or state.timers k d lt in
-      elim (cases_lt (get_or state.timers k d) t) [
+      elim (cases_lt (get_or state.timers k d).time t) [
         | inr le ↦ le
         | inl sooner ↦
             elim (cases_lt k (length network.device)) [
               | inl low ↦
                   let timed = (are.each (record { 0 = k }) low).ripe in
-                  let is = get_or_from_slice_get state.timers k timed.ripe d timed.of_ripe in
+                  let is : (get_or state.timers k d).time ≡ timed.ripe = ap (λ (r : Timer). r.time)
+                  (get_or_from_slice_get state.timers k (record { time = timed.ripe; rank = 3 }) d timed.of_ripe) in
                   let w = timed.ripens.one (omega (arith, is, sooner, most)) in
                   absurd (has.waiting w.0 timed.clock w.1 (ap (λ (n : ℕ). slice_get state.clocks.items n) w.2 ∙ timed.of_clock) timed.ripe
                   (omega (arith, is, now)) w.3 (inl (omega (arith, is, sooner))))
@@ -118,7 +114,9 @@ module _ {C M : Type 0} (reading : C → ℕ → ℕ) (stands : M → Network �
                   let of_it : device.0 < length network.device = omega (arith, lt, slots, high) in
                   let timed = (are.each device of_it).act in
                   let slot : k ≡ length network.device + device.0 = omega (arith, high) in
-                  let is = get_or_from_slice_get state.timers k timed.act d (ap (λ (n : ℕ). slice_get state.timers n) slot ∙ timed.of_act) in
+                  let is : (get_or state.timers k d).time ≡ timed.act = ap (λ (r : Timer). r.time)
+                  (get_or_from_slice_get state.timers k (record { time = timed.act; rank = part_rank timed.part }) d
+                  (ap (λ (n : ℕ). slice_get state.timers n) slot ∙ timed.of_act)) in
                   let node = node_of device timed.machine of_it timed.of_machine in
                   let task = timed.acts.one (omega (arith, is, sooner, most)) node.0 node.1 in
                   absurd (has.acting device timed.machine timed.clock node.0 task.0 timed.of_machine timed.of_clock node.1 task.1 timed.act
@@ -146,12 +144,14 @@ pub record HasShape (devices : ℕ) (due : Due) (p : List ℕ) : Type 0 where
   pub rest : List ℕ
   pub is : p ≡ due.time ∷ rank ∷ rest
   pub least : 3 ≤ rank
-  pub most : rank ≤ 4
+  pub most : rank ≤ 6
 
 shape_of : {C M : Type 0} (reading : C → ℕ → ℕ) (network : Network) (state : State C M) (due : Due) (p : List ℕ)
-    → (p ≡ due_place (length network.device) due) ⊎ IsRipePlace reading network state due p → HasShape (length network.device) due p
-shape_of reading network state due p (inl e) = grind (arith, cases_lt, length, slot_low, slot_high)
-shape_of reading network state due p (inr r) = grind arith
+    → (3 ≤ due.rank) × (due.rank ≤ 6) → (p ≡ due_place (length network.device) due) ⊎ IsRipePlace reading network state due p
+    → HasShape (length network.device) due p
+shape_of reading network state due p ranks (inl e) =
+    record { rank = due.rank; rest = device_of_slot (length network.device) due.slot ∷ []; is = e; least = ranks.0; most = ranks.1 }
+shape_of reading network state due p ranks (inr r) = grind arith
 
 module _ {C M : Type 0} (last_step : C → ℕ) (reading : C → ℕ → ℕ) (stands : M → Network → DeviceId → Node → Type 0) (network : Network)
     (state : State C M) (place : Option DueAt) (due : Option Due) (well : IsWell last_step reading stands network state)
@@ -175,6 +175,9 @@ module _ {C M : Type 0} (last_step : C → ℕ) (reading : C → ℕ → ℕ) (s
   due_later : (d : Due) → due ≡ Some d → now ≤ d.time
   due_later d e = due_time reading stands network state d well.timed (from_some (λ x. IsFirstDue state.timers x) due d firsts.some_due e)
 
+  due_ranks_are : (d : Due) → due ≡ Some d → (3 ≤ d.rank) × (d.rank ≤ 6)
+  due_ranks_are d e = due_ranks reading stands network state d well.timed (from_some (λ x. IsFirstDue state.timers x) due d firsts.some_due e)
+
   -- none is before the place, where each is so
   are_not : (p : List ℕ) → (IsBefore ((2 ^ 60 + 1) ∷ []) p → ⊥)
       → ((q : DueAt) → place ≡ Some q → now ≤ q.at → (q.rank ≡ 2) ⊎ (q.rank ≡ 8) → IsBefore (numbers_of q) p → ⊥) → ((d : Due) → due ≡ Some d → now ≤ d.time
@@ -193,18 +196,15 @@ module _ {C M : Type 0} (last_step : C → ℕ) (reading : C → ℕ → ℕ) (s
       })
 
   -- a timer is not before what is of the present time and a lower rank
-  after_lower : (rank : ℕ) (rest : List ℕ) (d : Due) → rank < 3 → now ≤ d.time → IsBefore (due_place (length network.device) d) (now ∷ rank ∷ rest) → ⊥
-  after_lower rank rest d lt le =
-      slot_time (length network.device) d (now ∷ rank ∷ rest)
-      (not_earlier d.time now (3 ∷ d.slot ∷ []) (rank ∷ rest) le (λ e. higher 3 rank (d.slot ∷ []) rest lt))
-      (not_earlier d.time now (4 ∷ (d.slot - length network.device) ∷ []) (rank ∷ rest) le
-      (λ e. higher 4 rank ((d.slot - length network.device) ∷ []) rest (omega (arith, lt))))
+  after_lower : (rank : ℕ) (rest : List ℕ) (d : Due) → rank < 3 → 3 ≤ d.rank → now ≤ d.time → IsBefore (due_place (length network.device) d) (now ∷ rank ∷ rest) → ⊥
+  after_lower rank rest d lt high le =
+      not_earlier d.time now (d.rank ∷ device_of_slot (length network.device) d.slot ∷ []) (rank ∷ rest) le
+      (λ e. higher d.rank rank (device_of_slot (length network.device) d.slot ∷ []) rest (omega (arith, lt, high)))
 
   -- a timer of a later time is not before a place of the present time
   after_now : (more : List ℕ) (d : Due) → (d.time ≡ now → ⊥) → now ≤ d.time → IsBefore (due_place (length network.device) d) (now ∷ more) → ⊥
   after_now more d not le =
-      slot_time (length network.device) d (now ∷ more) (not_earlier d.time now (3 ∷ d.slot ∷ []) more le (λ e. absurd (not e)))
-      (not_earlier d.time now (4 ∷ (d.slot - length network.device) ∷ []) more le (λ e. absurd (not e)))
+      not_earlier d.time now (d.rank ∷ device_of_slot (length network.device) d.slot ∷ []) more le (λ e. absurd (not e))
 
   clocks_after : (rank : ℕ) (rest : List ℕ) → rank < 14 → IsBefore (now ∷ 14 ∷ state.shown ∷ []) (now ∷ rank ∷ rest) → ⊥
   clocks_after rank rest lt = not_earlier now now (14 ∷ state.shown ∷ []) (rank ∷ rest) (omega arith) (λ e. higher 14 rank (state.shown ∷ []) rest lt)
@@ -218,7 +218,7 @@ module _ {C M : Type 0} (last_step : C → ℕ) (reading : C → ℕ → ℕ) (s
       are_not (now ∷ 2 ∷ []) (of_run now (2 ∷ []) well.sound.sized.limit)
       (λ q e le rank. not_earlier q.at now (q.rank ∷ q.device ∷ q.link ∷ q.cause ∷ []) (2 ∷ []) le
       (λ same. not_first q.rank 2 (q.device ∷ q.link ∷ q.cause ∷ []) (elim rank [ inl two ↦ omega (arith, two) | inr eight ↦ omega (arith, eight) ])))
-      (λ d e le. inl (after_lower 2 [] d (omega arith) le))
+      (λ d e le. inl (after_lower 2 [] d (omega arith) (due_ranks_are d e).0 le))
       (λ yes. never_self (now ∷ 2 ∷ []))
       (λ ended more. clocks_after 2 [] (omega arith))
 
@@ -241,14 +241,14 @@ module _ {C M : Type 0} (last_step : C → ℕ) (reading : C → ℕ → ℕ) (s
   pub arrival_first : (q : DueAt) → state.pending ≡ false → place ≡ Some q → q.at ≡ state.time → q.rank ≡ 2
       → HasNothingBefore reading stands network state (numbers_of q)
   arrival_first q calm is at rank =
-      placed_first q 2 (omega arith) calm is at rank (λ d e le. after_lower 2 (q.device ∷ q.link ∷ q.cause ∷ []) d (omega arith) le)
+      placed_first q 2 (omega arith) calm is at rank (λ d e le. after_lower 2 (q.device ∷ q.link ∷ q.cause ∷ []) d (omega arith) (due_ranks_are d e).0 le)
 
   -- what is due by a timer now
   pub slot_first : (d : Due) (p : List ℕ) → state.pending ≡ false → IfSome place (λ q. q.at ≡ state.time → q.rank ≡ 2 → ⊥) → due ≡ Some d
       → d.time ≡ state.time → (p ≡ due_place (length network.device) d) ⊎ IsRipePlace reading network state d p
       → HasNothingBefore reading stands network state p
   slot_first d p calm no_arrival is at of_slot =
-      let shape = shape_of reading network state d p of_slot in
+      let shape = shape_of reading network state d p (due_ranks_are d is) of_slot in
       let rank = shape.rank in
       let least = shape.least in
       let most = shape.most in
@@ -333,8 +333,7 @@ module _ {C M : Type 0} (last_step : C → ℕ) (reading : C → ℕ → ℕ) (s
   none_before t most calm no_clock places dues =
       are_not (t ∷ []) (of_end t most)
       (λ q e le either. not_first q.at t (q.rank ∷ q.device ∷ q.link ∷ q.cause ∷ []) (from_some (λ (x : DueAt). t ≤ x.at) place q places e))
-      (λ d e le. inl (slot_time (length network.device) d (t ∷ [])
-      (not_first d.time t (3 ∷ d.slot ∷ []) (from_some (λ (x : Due). t ≤ x.time) due d dues e))
-      (not_first d.time t (4 ∷ (d.slot - length network.device) ∷ []) (from_some (λ (x : Due). t ≤ x.time) due d dues e))))
+      (λ d e le. inl (not_first d.time t (d.rank ∷ device_of_slot (length network.device) d.slot ∷ [])
+      (from_some (λ (x : Due). t ≤ x.time) due d dues e)))
       (none_befell (t ∷ []) calm)
       (λ ended more. absurd (no_clock ended more))

@@ -1,7 +1,7 @@
 -- The two timers of a device, each by itself.
 use Rattle.drift_world.proofs.Words.{◌+◌, ◌<◌, ◌∙◌, ◌≡◌, DeviceId, IsTimed, List, Network, Node, ap, arith, inl, inr, length, subst, sym, ℕ}
 use Rattle.drift_world.specs.{Stepping.{ActsAt, IsActTimed, IsRekeyed, IsRipeAt, IsRipeTimed, SetsOnly}, declared.state.State.State}
-use Rattle.std.proofs.Common.{slice_get}
+use Rattle.{std.proofs.Common.slice_get, world_state.specs.declared.timers.Timer.Timer}
 
 module _ {C M : Type 0} (reading : C → ℕ → ℕ) (stands : M → Network → DeviceId → Node → Type 0) (network : Network) (old new : State C M)
     (device : DeviceId) where
@@ -26,8 +26,9 @@ module _ {C M : Type 0} (reading : C → ℕ → ℕ) (stands : M → Network �
     machine = is.machine;
     of_machine = ap (λ (m : _). slice_get m.items device.0) machines ∙ is.of_machine;
     act = is.act;
+    part = is.part;
     of_act = slot ∙ is.of_act;
-    acts = subst (λ (n : ℕ). ActsAt reading stands network is.clock is.machine device n is.act) (sym time) is.acts;
+    acts = subst (λ (n : ℕ). ActsAt reading stands network is.clock is.machine device n is.act is.part) (sym time) is.acts;
   }
 
 module _ {C M : Type 0} (reading : C → ℕ → ℕ) (stands : M → Network → DeviceId → Node → Type 0) (network : Network) (old mid new : State C M)
@@ -60,7 +61,7 @@ module _ {C M : Type 0} (reading : C → ℕ → ℕ) (stands : M → Network �
     timed = record {
       ripe = ripe_stays reading stands network old new device was.ripe (ap (λ (t : State C M). t.clocks) sets.same ∙ clocks)
           (ap (λ (t : State C M). t.time) sets.same ∙ time) (ap (λ (t : State C M). t.waiting) sets.same ∙ waiting)
-          (sets.others device.0 (λ e. omega (arith, e, there)) ∙ ap (λ (l : List ℕ). slice_get l device.0) timers);
+          (sets.others device.0 (λ e. omega (arith, e, there)) ∙ ap (λ (l : List Timer). slice_get l device.0) timers);
       act = act;
     };
   }
@@ -75,6 +76,6 @@ module _ {C M : Type 0} (reading : C → ℕ → ℕ) (stands : M → Network �
       act = act_stays reading stands network old new device was.act (ap (λ (t : State C M). t.clocks) sets.same ∙ clocks)
           (ap (λ (t : State C M). t.time) sets.same ∙ time) (ap (λ (t : State C M). t.machines) sets.same ∙ machines)
           (sets.others (length network.device + device.0) (λ e. omega (arith, e, there))
-          ∙ ap (λ (l : List ℕ). slice_get l (length network.device + device.0)) timers);
+          ∙ ap (λ (l : List Timer). slice_get l (length network.device + device.0)) timers);
     };
   }

@@ -5,7 +5,7 @@ pub mod Agreements
 pub mod Alike
 pub mod Applies
 pub mod Arrivals
-pub mod AtOnce
+pub mod AtSource
 pub mod Awaits
 pub mod BefallenLaws
 pub mod Beginnings
@@ -33,6 +33,7 @@ pub mod Nearings
 pub mod Offs
 pub mod Onwards
 pub mod OwnPlaces
+pub mod Parts
 pub mod Puts
 pub mod Retries
 pub mod Ripenings
@@ -47,6 +48,7 @@ pub mod Steadiness
 pub mod Storings
 pub mod Suits
 pub mod Timings
+pub mod TurnSays
 pub mod TurnedOn
 pub mod Turning
 pub mod JustPut

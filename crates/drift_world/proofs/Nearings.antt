@@ -1,71 +1,81 @@
 -- A world comes nearer to a time, turn by turn.
 use Rattle.{drift_world.proofs.{Foremost.node_of, Showings.shows_of}, run_law.specs.machines.Tasks.IsPending, std.proofs.Math.Nat.mul-le-mul_right}
-use Rattle.drift_world.proofs.Words.{◌*◌, ◌+◌, ◌-◌, ◌<◌, ◌∙◌, ◌∷◌, ◌≡◌, ◌≤ℤ◌, ◌≤◌, AreTimed, Befallen, Bool, Content, DeviceId, Err, IsPutOn, IsRunning, IsWell}
-use Rattle.drift_world.proofs.Words.{Kept, List, Network, Node, None, Ok, OnOk, Option, Result, Settled, Some, Turn, WayState, [], ap, arith, cases_lt, false}
-use Rattle.drift_world.proofs.Words.{get_or_from_slice_get, if◌then◌else◌, inl, inr, ints, keeps, le-ltb, length, length_permutation, lt-ltb, nat_lt, pos}
-use Rattle.{drift_world.proofs.Words.{reading_for, refl, slice_get_within, subst, suc, sym, true, zero, ℕ}, world_state.specs.Befalling.AreSettledBy}
-use Rattle.{drift_world.specs.Nearing.{IsIdleAt, IsLess, IsNoFarther, Nears, acting, burden, come, distance}, world_state.specs.declared.queue.Entry.Entry}
+use Rattle.drift_world.proofs.Words.{◌*◌, ◌+◌, ◌-◌, ◌<◌, ◌∙◌, ◌∷◌, ◌≡◌, ◌≤ℤ◌, ◌≤◌, Befallen, Bool, Content, DeviceId, Err, IsPutOn, IsRunning, IsWell}
+use Rattle.drift_world.proofs.Words.{List, Network, Node, None, Ok, OnOk, Option, Result, Settled, Some, Turn, WayState, [], ap, arith, cases_lt, false}
+use Rattle.drift_world.proofs.Words.{if◌then◌else◌, in_all, inl, inr, ints, keeps, le-ltb, length, length_permutation, lt-ltb, nat_lt, pos}
+use Rattle.{drift_world.proofs.Words.{reading_for, refl, subst, suc, sym, true, zero, ℕ}, world_state.specs.Befalling.AreSettledBy}
+use Rattle.drift_world.specs.Nearing.{IsLess, IsNoFarther, Nears, acting, burden, distance, due_work}
+use Rattle.drift_world.{proofs.Parts.part_most, specs.{Acting.IsIdleAt, Parts.part_rank, declared.part.Part.Part}}
+use Rattle.world_state.specs.declared.{queue.Entry.Entry, timers.Timer.Timer}
 use Rattle.{drift_world.specs.Turns.IsActive, std.proofs.{Common.{drop, slice_get}, lemmas.List.length-drop}}
 use Rattle.{drift_world.specs.declared.{next.Turn.TheVariants.{Ends, Gives, GoesOn}, state.State.State}, world_law.proofs.giving.Given.some_same}
 
--- ---- times that have come
+-- ---- what is due at the times of timers
 
-come_later : (now t : ℕ) (ts : List ℕ) → now < t → come now (t ∷ ts) ≡ come now ts
-come_later now t ts lt = ap (λ (b : Bool). if b then come now ts else come now ts + 1) (lt-ltb now t lt)
+-- what one adds
+abbrev work_of : ℕ → Timer → ℕ
+work_of now t = if nat_lt now t.time then 0 else 7 - t.rank
 
-come_now : (now t : ℕ) (ts : List ℕ) → t ≤ now → come now (t ∷ ts) ≡ come now ts + 1
-come_now now t ts le = ap (λ (b : Bool). if b then come now ts else come now ts + 1) (le-ltb now t le)
+work_later : (now : ℕ) (t : Timer) → now < t.time → work_of now t ≡ 0
+work_later now t lt = ap (λ (b : Bool). if b then 0 else 7 - t.rank) (lt-ltb now t.time lt)
 
--- no more than there are
-pub come_most : (now : ℕ) (ts : List ℕ) → come now ts ≤ length ts
-come_most now [] = omega arith
-come_most now (t ∷ ts) = grind (arith, cases_lt, length, come_later, come_now, (come_most now ts))
+work_now : (now : ℕ) (t : Timer) → t.time ≤ now → work_of now t ≡ 7 - t.rank
+work_now now t le = ap (λ (b : Bool). if b then 0 else 7 - t.rank) (le-ltb now t.time le)
 
--- as many, where the times are the same
-come_same : (now : ℕ) (xs ys : List ℕ) → ((j : ℕ) → slice_get ys j ≡ slice_get xs j) → come now ys ≡ come now xs
-come_same now [] [] same = refl
-come_same now [] (y ∷ ys) same = let e : Some y ≡ None = same 0 in absurd cc
-come_same now (x ∷ xs) [] same = let e : None ≡ Some x = same 0 in absurd cc
-come_same now (x ∷ xs) (y ∷ ys) same =
+work_most : (now : ℕ) (t : Timer) → work_of now t ≤ 7
+work_most now t = elim (cases_lt now t.time) [
+  | inl lt ↦ let is = work_later now t lt in omega (arith, is)
+  | inr le ↦ let is = work_now now t le in omega (arith, is)
+]
+
+due_cons : (now : ℕ) (t : Timer) (ts : List Timer) → due_work now (t ∷ ts) ≡ work_of now t + due_work now ts
+due_cons now t ts = refl
+
+-- no more than so much for each
+pub due_most : (now : ℕ) (ts : List Timer) → due_work now ts ≤ 7 * length ts
+due_most now [] = omega arith
+due_most now (t ∷ ts) = grind (arith, length, due_cons, work_most, (due_most now ts))
+
+-- as much, where the timers are the same
+due_same : (now : ℕ) (xs ys : List Timer) → ((j : ℕ) → slice_get ys j ≡ slice_get xs j) → due_work now ys ≡ due_work now xs
+due_same now [] [] same = refl
+due_same now [] (y ∷ ys) same = let e : Some y ≡ None = same 0 in absurd cc
+due_same now (x ∷ xs) [] same = let e : None ≡ Some x = same 0 in absurd cc
+due_same now (x ∷ xs) (y ∷ ys) same =
     let head : y ≡ x = let e : Some y ≡ Some x = same 0 in cc in
-    ap (λ (t : ℕ). come now (t ∷ ys)) head ∙ ap (λ (n : ℕ). if nat_lt now x then n else n + 1) (come_same now xs ys (λ j. same (suc j)))
+    ap (λ (t : Timer). work_of now t + due_work now ys) head ∙ ap (λ (n : ℕ). work_of now x + n) (due_same now xs ys (λ j. same (suc j)))
 
--- one less, where one is later now that had come
-come_falls : (now : ℕ) (xs ys : List ℕ) (i a b : ℕ) → ((j : ℕ) → (j ≡ i → ⊥) → slice_get ys j ≡ slice_get xs j) → slice_get xs i ≡ Some a
-    → a ≤ now → slice_get ys i ≡ Some b → now < b → come now ys < come now xs
-come_falls now [] ys i a b same was le is lt = absurd cc
-come_falls now (x ∷ xs) [] i a b same was le is lt = absurd cc
-come_falls now (x ∷ xs) (y ∷ ys) zero a b same was le is lt =
-    let x_is : x ≡ a = let e : Some x ≡ Some a = was in cc in
-    let y_is : y ≡ b = let e : Some y ≡ Some b = is in cc in
-    let rest = come_same now xs ys (λ j. same (suc j) (λ e. omega (arith, e))) in
-    let before = come_now now x xs (omega (arith, x_is, le)) in
-    let after = come_later now y ys (omega (arith, y_is, lt)) in
-    subst (λ (n : ℕ). n < come now (x ∷ xs)) (sym (after ∙ rest)) (subst (λ (n : ℕ). come now xs < n) (sym before) (omega arith))
-come_falls now (x ∷ xs) (y ∷ ys) (suc i) a b same was le is lt =
-    let head : y ≡ x = let e : Some y ≡ Some x = same 0 (λ e. omega (arith, e)) in cc in
-    let rest = come_falls now xs ys i a b (λ j ne. same (suc j) (λ e. ne (omega (arith, e)))) was le is lt in
-    subst (λ (t : ℕ). come now (t ∷ ys) < come now (x ∷ xs)) (sym head) (elim (cases_lt now x) [
-      | inl later ↦
-          subst (λ (n : ℕ). n < come now (x ∷ xs)) (sym (come_later now x ys later))
-          (subst (λ (n : ℕ). come now ys < n) (sym (come_later now x xs later)) rest)
-      | inr come_so ↦
-          subst (λ (n : ℕ). n < come now (x ∷ xs)) (sym (come_now now x ys come_so))
-          (subst (λ (n : ℕ). come now ys + 1 < n) (sym (come_now now x xs come_so)) (omega (arith, rest)))
-    ])
+-- less, where one adds less
+due_falls : (now : ℕ) (xs ys : List Timer) (i : ℕ) (a b : Timer) → ((j : ℕ) → (j ≡ i → ⊥) → slice_get ys j ≡ slice_get xs j) → slice_get xs i ≡ Some a
+    → slice_get ys i ≡ Some b → work_of now b < work_of now a → due_work now ys < due_work now xs
+due_falls now [] ys i a b same was is lt = absurd cc
+due_falls now (x ∷ xs) [] i a b same was is lt = absurd cc
+due_falls now (x ∷ xs) (y ∷ ys) zero a b same was is lt =
+    let before = ap (work_of now) (let e : x ≡ a = (let f : Some x ≡ Some a = was in cc) in e) in
+    let after = ap (work_of now) (let e : y ≡ b = (let f : Some y ≡ Some b = is in cc) in e) in
+    let rest = due_same now xs ys (λ j. same (suc j) (λ e. omega (arith, e))) in
+    let old = due_cons now x xs in
+    let new = due_cons now y ys in
+    omega (arith, before, after, rest, lt, old, new)
+due_falls now (x ∷ xs) (y ∷ ys) (suc i) a b same was is lt =
+    let head = ap (work_of now) (let e : y ≡ x = (let f : Some y ≡ Some x = same 0 (λ e. omega (arith, e)) in cc) in e) in
+    let rest = due_falls now xs ys i a b (λ j ne. same (suc j) (λ e. ne (omega (arith, e)))) was is lt in
+    let old = due_cons now x xs in
+    let new = due_cons now y ys in
+    omega (arith, head, rest, old, new)
 
 get_drop : {X : Type 0} (n : ℕ) (xs : List X) (j : ℕ) → slice_get (drop n xs) j ≡ slice_get xs (n + j)
 get_drop zero xs j = let e : j ≡ zero + j = omega arith in ap (slice_get xs) e
 get_drop (suc n) [] j = refl
 get_drop (suc n) (x ∷ xs) j = let e : suc (n + j) ≡ suc n + j = omega arith in get_drop n xs j ∙ ap (slice_get (x ∷ xs)) e
 
--- the same, of the times behind the first so many
-pub come_falls_behind : (now n : ℕ) (xs ys : List ℕ) (i a b : ℕ) → ((slot : ℕ) → n ≤ slot → (slot ≡ n + i → ⊥) → slice_get ys slot ≡ slice_get xs slot)
-    → slice_get xs (n + i) ≡ Some a → a ≤ now → slice_get ys (n + i) ≡ Some b → now < b → come now (drop n ys) < come now (drop n xs)
-come_falls_behind now n xs ys i a b same was le is lt =
-    come_falls now (drop n xs) (drop n ys) i a b
-    (λ j ne. get_drop n ys j ∙ same (n + j) (omega arith) (λ e. ne (omega (arith, e))) ∙ sym (get_drop n xs j))
-    (get_drop n xs i ∙ was) le (get_drop n ys i ∙ is) lt
+-- the same, of the timers behind the first so many
+pub due_falls_behind : (now n : ℕ) (xs ys : List Timer) (i : ℕ) (a b : Timer)
+    → ((slot : ℕ) → (slot ≡ n + i → ⊥) → slice_get ys slot ≡ slice_get xs slot) → slice_get xs (n + i) ≡ Some a → slice_get ys (n + i) ≡ Some b
+    → work_of now b < work_of now a → due_work now (drop n ys) < due_work now (drop n xs)
+due_falls_behind now n xs ys i a b same was is lt =
+    due_falls now (drop n xs) (drop n ys) i a b
+    (λ j ne. get_drop n ys j ∙ same (n + j) (λ e. ne (omega (arith, e))) ∙ sym (get_drop n xs j)) (get_drop n xs i ∙ was) (get_drop n ys i ∙ is) lt
 
 -- ---- what is settled
 
@@ -85,26 +95,10 @@ settled_length network broken ups time (b ∷ befell) settled after entries then
 -- ---- steps
 
 module _ {C M : Type 0} (last_step : C → ℕ) (reading : C → ℕ → ℕ) (stands : M → Network → DeviceId → Node → Type 0) (network : Network) where
-  -- a device that is active is due by its timer
-  act_due : (device : DeviceId) (old : State C M) → IsWell last_step reading stands network old → IsActive reading stands network old device
-      → (act : ℕ) × (slice_get old.timers (length network.device + device.0) ≡ Some act) × (act ≤ old.time)
-  act_due device old well active =
-      let timed = (well.timed.each device active.of).act in
-      let node = node_of reading stands network old well.running device active.machine active.of active.there in
-      let due = active.due node.0 node.1 in
-      let machine_is = some_same _ _ _ active.there timed.of_machine in
-      let clock_is = some_same _ _ _ active.own timed.of_clock in (
-        timed.act,
-        timed.of_act,
-        timed.acts.none node.0 due.0 (subst (λ (k : Kept M). keeps stands k network device node.0) machine_is node.1) due.1 old.time (omega arith)
-            well.sound.sized.limit
-            (subst (λ (k : C). reading_for network node.0 due.0 ≤ℤ pos (reading k old.time)) clock_is due.2),
-      )
-
-  -- one that is idle is due later
+  -- the timer of one that is idle is later
   act_later : (device : DeviceId) (mid new : State C M) → device.0 < length network.device → IsRunning reading stands network mid
       → new ≡ record mid { timers = new.timers } → IsWell last_step reading stands network new → IsIdleAt reading stands network mid device
-      → (act : ℕ) × (slice_get new.timers (length network.device + device.0) ≡ Some act) × (new.time < act)
+      → (timer : Timer) × (slice_get new.timers (length network.device + device.0) ≡ Some timer) × (new.time < timer.time)
   act_later device mid new of_it running same well idle =
       let timed = (well.timed.each device of_it).act in
       let s = running.s in
@@ -117,12 +111,12 @@ module _ {C M : Type 0} (last_step : C → ℕ) (reading : C → ℕ → ℕ) (s
       let node = node_of reading stands network mid running device timed.machine of_it held in
       let own = running.is.clocks device (subst (λ (k : Network). device.0 < length k.device) running.is.same of_it) in
       let clock_is = some_same _ _ _ own.1 clocked in (
-        timed.act,
+        record { time = timed.act; rank = part_rank timed.part },
         timed.of_act,
         elim (cases_lt new.time timed.act) [
           | inl lt ↦ lt
           | inr le ↦
-              let from = not_past new timed.act (length network.device + device.0) well.timed timed.of_act in
+              let from : new.time ≤ timed.act = in_all (λ (t : Timer). new.time ≤ t.time) new.timers (length network.device + device.0) _ well.timed.later timed.of_act in
               let task = timed.acts.one (omega (arith, le, limit)) node.0 node.1 in
               let reads : reading timed.clock timed.act ≡ s.reading device mid.time =
               ap (λ (n : ℕ). reading timed.clock n) (omega (arith, le, from, time)) ∙ ap (λ (k : C). reading k mid.time) (sym clock_is)
@@ -135,37 +129,62 @@ module _ {C M : Type 0} (last_step : C → ℕ) (reading : C → ℕ → ℕ) (s
               absurd (omega (arith, ints, less, more))
         ],
       )
-    where
-      not_past : (state : State C M) (act slot : ℕ) → AreTimed reading stands network state → slice_get state.timers slot ≡ Some act → state.time ≤ act
-      not_past state act slot are at =
-          subst (λ (n : ℕ). state.time ≤ n) (get_or_from_slice_get state.timers slot act act at) (are.later slot act (slice_get_within _ _ _ at))
 
-  -- an act leaves as much to work off, and its device has no more to do
-  pub act_less : (device : DeviceId) (old mid new : State C M) → IsWell last_step reading stands network old → IsActive reading stands network old device
-      → mid ≡ record old { machines = mid.machines; early = mid.early; settled = mid.settled; spare = mid.spare } → IsRunning reading stands network mid
+  -- where its timer is set to one that adds less, and those of other devices stay, there is less to do
+  fewer_acts : (part : Part) (device : DeviceId) (old mid new : State C M) (timer : Timer) → IsActive reading stands network old part device
+      → mid ≡ record old { machines = mid.machines; early = mid.early; settled = mid.settled; spare = mid.spare }
       → new ≡ record mid { timers = new.timers }
-      → ((slot : ℕ) → (slot ≡ device.0 → ⊥) → (slot ≡ length network.device + device.0 → ⊥) → slice_get new.timers slot ≡ slice_get mid.timers slot)
-      → IsWell last_step reading stands network new → IsIdleAt reading stands network mid device → IsLess network old new
-  act_less device old mid new well active acted running same others well_new idle =
-      let of_it = active.of in
-      let due = act_due device old well active in
-      let later = act_later device mid new of_it running same well_new idle in
+      → ((slot : ℕ) → (slot ≡ length network.device + device.0 → ⊥) → slice_get new.timers slot ≡ slice_get mid.timers slot)
+      → slice_get new.timers (length network.device + device.0) ≡ Some timer → work_of old.time timer < 7 - part_rank part → IsLess network old new
+  fewer_acts part device old mid new timer active acted same others is less =
       let time : new.time ≡ old.time = ap (λ (t : State C M). t.time) same ∙ ap (λ (t : State C M). t.time) acted in
-      let timers : mid.timers ≡ old.timers = ap (λ (t : State C M). t.timers) acted in
+      let was : Timer = record { time = old.time; rank = part_rank part } in
+      let before : work_of old.time was ≡ 7 - part_rank part = work_now old.time was (let le : old.time ≤ old.time = omega arith in le) in
+      let falls = due_falls_behind old.time (length network.device) old.timers new.timers device.0 was timer
+      (λ slot ne. others slot ne ∙ ap (λ (l : List Timer). slice_get l slot) (ap (λ (t : State C M). t.timers) acted)) active.due is
+      (omega (arith, less, before)) in
       inr (
         ap (λ (t : State C M). burden network t) same ∙ ap (λ (t : State C M). burden network t) acted,
-        subst (λ (n : ℕ). come n (drop (length network.device) new.timers) < acting network old) (sym time)
-            (come_falls_behind old.time (length network.device) old.timers new.timers device.0 due.0 later.0
-            (λ slot high ne. others slot (λ e. omega (arith, e, high, of_it)) ne ∙ ap (λ (l : List ℕ). slice_get l slot) timers)
-            due.1 due.2 later.1 (subst (λ (n : ℕ). n < later.0) time later.2)),
+        subst (λ (n : ℕ). due_work n (drop (length network.device) new.timers) < acting network old) (sym time) falls,
       )
+
+  part_work : (part : Part) → 0 < 7 - part_rank part
+  part_work part = let most = part_most part in omega (arith, most)
+
+  -- what a device does leaves as much to work off, and the device has nothing more to do
+  pub act_less : (part : Part) (device : DeviceId) (old mid new : State C M) → IsActive reading stands network old part device
+      → mid ≡ record old { machines = mid.machines; early = mid.early; settled = mid.settled; spare = mid.spare } → IsRunning reading stands network mid
+      → new ≡ record mid { timers = new.timers }
+      → ((slot : ℕ) → (slot ≡ length network.device + device.0 → ⊥) → slice_get new.timers slot ≡ slice_get mid.timers slot)
+      → IsWell last_step reading stands network new → IsIdleAt reading stands network mid device → IsLess network old new
+  act_less part device old mid new active acted running same others well_new idle =
+      let time : new.time ≡ old.time = ap (λ (t : State C M). t.time) same ∙ ap (λ (t : State C M). t.time) acted in
+      let later = act_later device mid new active.of running same well_new idle in
+      let lt = later.2 in
+      let none = work_later old.time later.0 (omega (arith, lt, time)) in
+      let some = part_work part in
+      fewer_acts part device old mid new later.0 active acted same others later.1 (omega (arith, none, some))
+
+  -- or only what is of a later part, which it has put off
+  pub defer_less : (part other : Part) (device : DeviceId) (old mid new : State C M) → IsActive reading stands network old part device
+      → part_rank part < part_rank other
+      → mid ≡ record old { machines = mid.machines; early = mid.early; settled = mid.settled; spare = mid.spare }
+      → new ≡ record mid { timers = new.timers }
+      → ((slot : ℕ) → (slot ≡ length network.device + device.0 → ⊥) → slice_get new.timers slot ≡ slice_get mid.timers slot)
+      → slice_get new.timers (length network.device + device.0) ≡ Some (record { time = new.time; rank = part_rank other }) → IsLess network old new
+  defer_less part other device old mid new active later acted same others put =
+      let time : new.time ≡ old.time = ap (λ (t : State C M). t.time) same ∙ ap (λ (t : State C M). t.time) acted in
+      let put_off : Timer = record { time = new.time; rank = part_rank other } in
+      let is : work_of old.time put_off ≡ 7 - part_rank other = work_now old.time put_off (let le : new.time ≤ old.time = omega (arith, time) in le) in
+      let most = part_most other in
+      fewer_acts part device old mid new put_off active acted same others put (omega (arith, is, later, most))
 
   -- ---- the distance
 
-  -- no more devices act than there are
-  acting_most : (state : State C M) → IsWell last_step reading stands network state → acting network state ≤ length network.device
+  -- no more than so much for each device
+  acting_most : (state : State C M) → IsWell last_step reading stands network state → acting network state ≤ 7 * length network.device
   acting_most state well =
-      let most = come_most state.time (drop (length network.device) state.timers) in
+      let most = due_most state.time (drop (length network.device) state.timers) in
       let long = length-drop (length network.device) state.timers in
       let sized = well.timed.sized in
       omega (arith, most, long, sized)
@@ -180,7 +199,7 @@ module _ {C M : Type 0} (last_step : C → ℕ) (reading : C → ℕ → ℕ) (s
   pub less_nears : (until : ℕ) (old new : State C M) → IsWell last_step reading stands network new → new.time ≡ old.time → IsLess network old new
       → distance network until new < distance network until old
   less_nears until old new well time (inl lt) =
-      fewer ((until - new.time) + burden network new) ((until - old.time) + burden network old) (length network.device) (acting network new)
+      fewer ((until - new.time) + burden network new) ((until - old.time) + burden network old) (7 * length network.device) (acting network new)
       (acting network old) (sum_less until old new time lt) (acting_most new well)
     where
       sum_less : (until : ℕ) (old new : State C M) → new.time ≡ old.time → burden network new < burden network old
@@ -191,7 +210,7 @@ module _ {C M : Type 0} (last_step : C → ℕ) (reading : C → ℕ → ℕ) (s
           plus : (a b c d : ℕ) → a ≡ b → c < d → a + c < b + d
           plus a b c d e l = omega (arith, e, l)
   less_nears until old new well time (inr same) =
-      evenly (until - new.time) (until - old.time) (burden network new) (burden network old) (length network.device) (acting network new)
+      evenly (until - new.time) (until - old.time) (burden network new) (burden network old) (7 * length network.device) (acting network new)
       (acting network old) (ap (λ (t : ℕ). until - t) time) same.0 same.1
     where
       evenly : (a b c d n x y : ℕ) → a ≡ b → c ≡ d → x < y → (a + c) * (n + 1) + x < (b + d) * (n + 1) + y
@@ -202,7 +221,7 @@ module _ {C M : Type 0} (last_step : C → ℕ) (reading : C → ℕ → ℕ) (s
   pub passing_nears : (until time : ℕ) (early : Bool) (old new : State C M) → IsWell last_step reading stands network new
       → new ≡ record old { time = time; early = early } → old.time < time → time ≤ until → distance network until new < distance network until old
   passing_nears until time early old new well same later within =
-      fewer ((until - new.time) + burden network new) ((until - old.time) + burden network old) (length network.device) (acting network new)
+      fewer ((until - new.time) + burden network new) ((until - old.time) + burden network old) (7 * length network.device) (acting network new)
       (acting network old)
       (plus new.time (burden network new) (burden network old) (ap (λ (t : State C M). t.time) same) (ap (λ (t : State C M). burden network t) same))
       (acting_most new well)

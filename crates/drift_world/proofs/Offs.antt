@@ -6,7 +6,7 @@ use Rattle.drift_world.proofs.Words.{false_from_ne_true, if◌then◌else◌, in
 use Rattle.{drift_world.proofs.Words.{time_of, true, turns_on, ℕ, ℤ}, tte_units.specs.declared.frames.members.Members.Members, world_law.specs.device.Own.moves}
 use Rattle.{net_plan.specs.declared.event.Event.Event, run_law.specs.runs.DueRecords.IsEventRecord, sync_state.specs.declared.state.State.State}
 use Rattle.{net_plan.specs.declared.event.What.TheVariants.On, sync_state.specs.{Standing.{point_in, state_at_start}, declared.plan.SyncPlan.SyncPlan}}
-use Rattle.{net_plan.specs.declared.tables.Device.Device, run_law.specs.{declared.judgement.{Reason.Reason, Why.Why}, device.StateChanges.ChangesState}}
+use Rattle.{run_law.specs.{declared.judgement.{Reason.Reason, Why.Why}, device.StateChanges.ChangesState}}
 use Rattle.{precision_law.proofs.traffic_lemmas.spans.Forward.ripe_integrates, sync_state.specs.declared.answers.Verdict.TheVariants.Corrected}
 use Rattle.run_law.{proofs.{control.Verdicts.role_not, scenario.Devices.on_by}, specs.{control.{Emissions.Emits, Hearing.heard_as}, records.Happenings.earlier}}
 use Rattle.run_law.specs.{control.Collections.{master_of, observation_window, point_fault, points_of}, declared.judgement.Judgement.TheVariants.Integrates}

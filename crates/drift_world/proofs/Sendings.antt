@@ -5,7 +5,7 @@ use Rattle.drift_world.proofs.Words.{Launch, Left, Link, LinkId, List, None, Not
 use Rattle.drift_world.proofs.Words.{WayState, Wire, [], ap, control, delay_at, delay_by, given_of, in_permuted, inl, inr, is_given, launched, length, link_at}
 use Rattle.drift_world.proofs.Words.{map, octets_in, octets_of, on_wire, receiver_of, refl, same_Some, signal_as, slice_get_within, subst, sym, target_by}
 use Rattle.{drift_world.proofs.Words.{time_of, time_on_port, timed, way_as, way_from, wire_entry, ℕ}, world_state.specs.declared.queue.Entry.Entry}
-use Rattle.{run_law.specs.declared.note.NoteBody.TheVariants.{Event, Sent}, world_state.specs.declared.contents.Signal.{Signal as SignalSent}}
+use Rattle.{run_law.specs.declared.note.NoteBody.TheVariants.{Event}, world_state.specs.declared.contents.Signal.{Signal as SignalSent}}
 use Rattle.world_state.specs.declared.contents.Signal.TheVariants as signals
 
 pub link_within : (xs : List Link) (i : ℕ) (way : Way) (o : Option Link) (device : DeviceId) → slice_get xs i ≡ o → option_map (target_by way) o ≡ Some device

@@ -1,14 +1,17 @@
 -- What comes first of what a state has under way.
-use Rattle.world_law.proofs.runs.TaskPlaces.{acts_before}
+use Rattle.{device_rules.specs.FirstKinds.kind_of, drift_world.proofs.Parts.{part_least, part_most, placed_by}}
 use Rattle.drift_world.proofs.Words.{◌+◌, ◌-◌, ◌<◌, ◌^◌, ◌∙◌, ◌∷◌, ◌≡◌, ◌≤ℤ◌, ◌≤◌, ◌⊎◌, AreFirsts, AreNotBefore, AreTimed, AreUnderWay, Bool, Content, DeviceId}
 use Rattle.drift_world.proofs.Words.{Down, Due, DueAt, Happening, HasNothingBefore, IfNone, IfSome, IsBefore, IsDue, IsFirst, IsFounded, IsIn, IsInRange}
 use Rattle.drift_world.proofs.Words.{IsLinkInRange, IsSized, Kept, List, Network, Node, None, Note, Option, Scenario, Some, Stands, Up, Waiting, Waits, Way, []}
-use Rattle.drift_world.proofs.Words.{act_place, amount, ap, arith, at_port, cases_eq, cases_lt, chain, get_or_from_slice_get, given_of, happenings}
+use Rattle.drift_world.proofs.Words.{◌*◌, amount, ap, arith, at_port, cases_eq, cases_lt, chain, given_of, happenings}
 use Rattle.drift_world.proofs.Words.{if◌then◌else◌, in_all, inl, inr, keeps, le-ltb, length, lt-ltb, map, never, numbers_of, on_wire, place_of, pos}
-use Rattle.{drift_world.proofs.Words.{reading_for, refl, ripe_place, slice_get_within, subst, sym, waiting_as, world_of, ℕ}, std.proofs.Common.{All, slice_get}}
-use Rattle.{drift_world.specs.{Sourcing.{IsRipePlace, due_place}, declared.state.State.State}, tte_units.proofs.general_lemmas.Options.some_same}
+use Rattle.{drift_world.proofs.Words.{reading_for, refl, ripe_place, slice_get_within, subst, sym, waiting_as, world_of, ℕ}, std.proofs.Common.{slice_get}}
+use Rattle.drift_world.specs.{Parts.{IsNoSooner, part_of, part_rank}, Stepping.IsActTimed, declared.part.Part.Part}
+use Rattle.{drift_world.specs.Turns.IsActive}
+use Rattle.world_law.specs.source.Sources.{task_place}
+use Rattle.{drift_world.specs.{Sourcing.{IsRipePlace, device_of_slot, due_place}, declared.state.State.State}, tte_units.proofs.general_lemmas.Options.some_same}
 use Rattle.{run_law.{proofs.runs.Places.before_later, specs.machines.Tasks.{IsPending, Task}}, world_law.specs.world.World.IsWaitingFor}
-use Rattle.{world_law.proofs.frames.Proper.{IsReceiver, received}, world_state.specs.{declared.queue.Entry.Entry, timers.Times.{IsFirst as IsFirstDue}}}
+use Rattle.{world_law.proofs.frames.Proper.{IsReceiver, received}, world_state.specs.{declared.queue.Entry.Entry, timers.Times.{AreFrom, IsFirst as IsFirstDue}, declared.timers.Timer.Timer}}
 use Rattle.{world_law.{proofs.steps_lemmas.ripening.Ripens.come_of, specs.world.Moves.NothingBefore}, world_state.proofs.UnderWays.{port_numbers, wire_numbers}}
 
 -- what is not before the first is not before a place that the first is not before
@@ -29,37 +32,71 @@ in_run t rank rest p in_time b =
 
 -- ---- slots in the order of their places
 
-pub slot_low : (devices : ℕ) (due : Due) → due.slot < devices → due_place devices due ≡ due.time ∷ 3 ∷ due.slot ∷ []
-slot_low devices due lt = ap (λ (b : Bool). if b then due.time ∷ 3 ∷ due.slot ∷ [] else due.time ∷ 4 ∷ (due.slot - devices) ∷ []) (lt-ltb due.slot devices lt)
+slot_low : (devices slot : ℕ) → slot < devices → device_of_slot devices slot ≡ slot
+slot_low devices slot lt = ap (λ (b : Bool). if b then slot else slot - devices) (lt-ltb slot devices lt)
 
-pub slot_high : (devices : ℕ) (due : Due) → devices ≤ due.slot → due_place devices due ≡ due.time ∷ 4 ∷ (due.slot - devices) ∷ []
-slot_high devices due le = ap (λ (b : Bool). if b then due.time ∷ 3 ∷ due.slot ∷ [] else due.time ∷ 4 ∷ (due.slot - devices) ∷ []) (le-ltb due.slot devices le)
+pub slot_high : (devices slot : ℕ) → devices ≤ slot → device_of_slot devices slot ≡ slot - devices
+slot_high devices slot le = ap (λ (b : Bool). if b then slot else slot - devices) (le-ltb slot devices le)
 
--- no slot's time is less than that of the first, and that of a lower slot is greater
-least_slot : (times : List ℕ) (due : Due) (slot time : ℕ) → IsFirstDue times due → slice_get times slot ≡ Some time → due.time ≤ time
-least_slot times due slot time first at = grind (arith, slice_get_within, get_or_from_slice_get)
+slot_most : (devices slot : ℕ) → device_of_slot devices slot ≤ slot
+slot_most devices slot = elim (cases_lt slot devices) [
+  | inl lt ↦ let is = slot_low devices slot lt in omega (arith, is)
+  | inr le ↦ let is = slot_high devices slot le in omega (arith, is)
+]
 
-lower_slot : (times : List ℕ) (due : Due) (slot time : ℕ) → IsFirstDue times due → slice_get times slot ≡ Some time → slot < due.slot → due.time < time
-lower_slot times due slot time first at lower = grind (arith, get_or_from_slice_get)
+-- no timer is earlier than the first, and one of its rank and of a lower slot is later
+least_slot : (timers : List Timer) (due : Due) (slot : ℕ) (t : Timer) → IsFirstDue timers due → slice_get timers slot ≡ Some t → due.time ≤ t.time
+least_slot timers due slot t first at = elim (cases_lt t.time due.time) [
+  | inl lt ↦ absurd (first.least slot t at (inl lt))
+  | inr le ↦ le
+]
 
-two_places : (time rank slot first_time first_rank first_slot : ℕ) → first_time ≤ time → (rank < first_rank → first_time < time)
-    → (rank ≡ first_rank → slot < first_slot → first_time < time) → IsBefore (time ∷ rank ∷ slot ∷ []) (first_time ∷ first_rank ∷ first_slot ∷ []) → ⊥
-two_places time rank slot first_time first_rank first_slot le ranks slots (inl lt) = absurd (omega (arith, le, lt))
-two_places time rank slot first_time first_rank first_slot le ranks slots (inr (same, inl lt)) =
-    let later = ranks lt in absurd (omega (arith, same, later))
-two_places time rank slot first_time first_rank first_slot le ranks slots (inr (same, inr (one_rank, inl lt))) =
-    let later = slots one_rank lt in absurd (omega (arith, same, later))
-two_places time rank slot first_time first_rank first_slot le ranks slots (inr (same, inr (one_rank, inr (one_slot, b)))) = b
+lower_slot : (timers : List Timer) (due : Due) (slot : ℕ) (t : Timer) → IsFirstDue timers due → slice_get timers slot ≡ Some t → t.rank ≡ due.rank
+    → slot < due.slot → due.time < t.time
+lower_slot timers due slot t first at same lower = elim (cases_lt due.time t.time) [
+  | inl lt ↦ lt
+  | inr le ↦
+      let least = least_slot timers due slot t first at in absurd (first.least slot t at (inr (omega (arith, le, least), inr (same, inl lower))))
+]
+
+-- a place before another is before what is farther
+farther : (t r s u q d e : ℕ) → d ≤ e → IsBefore (t ∷ r ∷ s ∷ []) (u ∷ q ∷ d ∷ []) → IsBefore (t ∷ r ∷ s ∷ []) (u ∷ q ∷ e ∷ [])
+farther t r s u q d e le (inl lt) = inl lt
+farther t r s u q d e le (inr (a, inl lt)) = inr (a, inl lt)
+farther t r s u q d e le (inr (a, inr (b, inl lt))) = inr (a, inr (b, inl (omega (arith, lt, le))))
+farther t r s u q d e le (inr (a, inr (b, inr (c, x)))) = absurd x
 
 -- the frames that wait at a device, by its timer, are not due before the first
-ripe_slot : (devices : ℕ) (times : List ℕ) (due : Due) (slot time : ℕ) → IsFirstDue times due → slice_get times slot ≡ Some time → slot < devices
-    → IsBefore (time ∷ 3 ∷ slot ∷ []) (due_place devices due) → ⊥
-ripe_slot devices times due slot time first at low b = grind (arith, least_slot, lower_slot, cases_lt, two_places, slot_low, slot_high)
+ripe_slot : (devices : ℕ) (timers : List Timer) (due : Due) (slot time : ℕ) → IsFirstDue timers due
+    → slice_get timers slot ≡ Some (record { time = time; rank = 3 }) → IsBefore (time ∷ 3 ∷ slot ∷ []) (due_place devices due) → ⊥
+ripe_slot devices timers due slot time first at b =
+    first.least slot (record { time = time; rank = 3 }) at
+    (farther time 3 slot due.time due.rank (device_of_slot devices due.slot) due.slot (slot_most devices due.slot) b)
 
 -- the acts of a device neither
-act_slot : (devices : ℕ) (times : List ℕ) (due : Due) (device time : ℕ) → IsFirstDue times due → slice_get times (devices + device) ≡ Some time
-    → IsBefore (time ∷ 4 ∷ device ∷ []) (due_place devices due) → ⊥
-act_slot devices times due device time first at b = grind (arith, least_slot, lower_slot, cases_lt, two_places, slot_low, slot_high)
+higher_rank : (t r s u q d e f : ℕ) → q < r → IsBefore (t ∷ r ∷ s ∷ []) (u ∷ q ∷ d ∷ []) → IsBefore (t ∷ r ∷ e ∷ []) (u ∷ q ∷ f ∷ [])
+higher_rank t r s u q d e f low (inl lt) = inl lt
+higher_rank t r s u q d e f low (inr (a, inl lt)) = absurd (omega (arith, low, lt))
+higher_rank t r s u q d e f low (inr (a, inr (b, c))) = absurd (omega (arith, low, b))
+
+shifted : (t r s u q d n e : ℕ) → d + n ≡ e → IsBefore (t ∷ r ∷ s ∷ []) (u ∷ q ∷ d ∷ []) → IsBefore (t ∷ r ∷ (n + s) ∷ []) (u ∷ q ∷ e ∷ [])
+shifted t r s u q d n e is (inl lt) = inl lt
+shifted t r s u q d n e is (inr (a, inl lt)) = inr (a, inl lt)
+shifted t r s u q d n e is (inr (a, inr (b, inl lt))) = inr (a, inr (b, inl (omega (arith, lt, is))))
+shifted t r s u q d n e is (inr (a, inr (b, inr (c, x)))) = absurd x
+
+act_slot : (devices : ℕ) (timers : List Timer) (due : Due) (device time rank : ℕ) → IsFirstDue timers due → (due.slot < devices → due.rank ≡ 3) → 4 ≤ rank
+    → slice_get timers (devices + device) ≡ Some (record { time = time; rank = rank }) → IsBefore (time ∷ rank ∷ device ∷ []) (due_place devices due) → ⊥
+act_slot devices timers due device time rank first ripe high at b =
+    first.least (devices + device) (record { time = time; rank = rank }) at
+    (elim (cases_lt due.slot devices) [
+      | inl low ↦
+          let three = ripe low in
+          higher_rank time rank device due.time due.rank (device_of_slot devices due.slot) (devices + device) due.slot (omega (arith, three, high)) b
+      | inr le ↦
+          let is = slot_high devices due.slot le in
+          shifted time rank device due.time due.rank (device_of_slot devices due.slot) devices due.slot (omega (arith, is, le)) b
+    ])
 
 -- what parts the frames that are permanent at one device at one time
 abbrev pub parting : Waits → List ℕ
@@ -70,21 +107,22 @@ ripe_earlier : (t ripe device point : ℕ) (rest : List ℕ) → ripe ≤ t → 
 ripe_earlier t ripe device point rest le =
     elim (cases_lt ripe t) [ inl lt ↦ inl lt | inr ge ↦ inr (omega (arith, le, ge), inr (refl, inr (refl, tt))) ]
 
-act_earlier : (t act device : ℕ) (p : List ℕ) → act ≤ t → IsBefore (t ∷ 4 ∷ device ∷ []) p → IsBefore (act ∷ 4 ∷ device ∷ []) p
-act_earlier t act device p le b =
-    elim (cases_eq act t) [
-      | inl e ↦ subst (λ (n : ℕ). IsBefore (n ∷ 4 ∷ device ∷ []) p) (sym e) b
-      | inr ne ↦ chain (act ∷ 4 ∷ device ∷ []) (t ∷ 4 ∷ device ∷ []) p (inl (omega (arith, le, ne))) b
-    ]
+-- nor is one of a later time, or of its own rank and device, or of a higher rank
+not_sooner_than : (t act r rank device : ℕ) (rest : List ℕ) → act ≤ t → (t ≡ act → rank ≤ r)
+    → IsBefore (t ∷ r ∷ device ∷ rest) (act ∷ rank ∷ device ∷ []) → ⊥
+not_sooner_than t act r rank device rest le ranks (inl lt) = omega (arith, le, lt)
+not_sooner_than t act r rank device rest le ranks (inr (e, inl lt)) = let high = ranks e in omega (arith, high, lt)
+not_sooner_than t act r rank device rest le ranks (inr (e, inr (f, inl lt))) = omega (arith, lt)
+not_sooner_than t act r rank device rest le ranks (inr (e, inr (f, inr (g, b)))) = b
 
 -- where the timers are right, and the place is that of a frame that is permanent by the first
 same_time : (t time : ℕ) (rest more : List ℕ) → time ≤ t → IsBefore (t ∷ rest) (time ∷ more) → (t ≡ time) × IsBefore rest more
 same_time t time rest more le (inl lt) = absurd (omega (arith, le, lt))
 same_time t time rest more le (inr (e, b)) = (e, b)
 
-ranked_before : (rest more : List ℕ) → IsBefore (4 ∷ rest) (3 ∷ more) → ⊥
-ranked_before rest more (inl lt) = absurd (omega (arith, lt))
-ranked_before rest more (inr (e, b)) = absurd (omega (arith, e))
+ranked_before : (rank : ℕ) (rest more : List ℕ) → 4 ≤ rank → IsBefore (rank ∷ rest) (3 ∷ more) → ⊥
+ranked_before rank rest more le (inl lt) = absurd (omega (arith, le, lt))
+ranked_before rank rest more le (inr (e, b)) = absurd (omega (arith, le, e))
 
 same_slot : (device other : ℕ) (rest more : List ℕ) → other ≤ device → IsBefore (3 ∷ device ∷ rest) (3 ∷ other ∷ more) → device ≡ other
 same_slot device other rest more le (inl lt) = absurd (omega (arith, lt))
@@ -94,26 +132,34 @@ same_slot device other rest more le (inr (e, inr (same, b))) = same
 module _ {C M : Type 0} (last_step : C → ℕ) (reading : C → ℕ → ℕ) (stands : M → Network → DeviceId → Node → Type 0) (network : Network)
     (state : State C M) (sized : IsSized last_step network state) (are : AreTimed reading stands network state) (p : List ℕ)
     (in_time : IsBefore ((2 ^ 60 + 1) ∷ []) p → ⊥) where
+  -- what a frame that waits is for is of the lowest rank
+  ripe_rank : (due : Due) → IsFirstDue state.timers due → due.slot < length network.device → due.rank ≡ 3
+  ripe_rank due first low =
+      let timed = (are.each (record { 0 = due.slot }) low).ripe in ap (λ (t : Timer). t.rank) (some_same _ _ _ first.timer timed.of_ripe)
+
   -- a frame that waits, whose device's timer is at this time, is not before the place
-  waits_by : (due : Option Due) → IfSome due (λ d. IsFirstDue state.timers d) → IfNone due (All (λ (time : ℕ). never ≤ time) state.timers)
+  waits_by : (due : Option Due) → IfSome due (λ d. IsFirstDue state.timers d) → IfNone due (AreFrom never state.timers)
       → IfSome due (λ d. (IsBefore (due_place (length network.device) d) p → ⊥) ⊎ IsRipePlace reading network state d p)
       → (w : Waits) (clock : C) → IsIn w state.waiting.items → slice_get state.clocks.items w.device.0 ≡ Some clock
-      → w.device.0 < length network.device → (time : ℕ) → slice_get state.timers w.device.0 ≡ Some time → (t : ℕ) → time ≤ t → t ≤ 2 ^ 60
-      → w.point.0 ≤ℤ pos (reading clock t) → IsBefore (ripe_place t (waiting_as w)) p → ⊥
+      → w.device.0 < length network.device → (time : ℕ) → slice_get state.timers w.device.0 ≡ Some (record { time = time; rank = 3 }) → (t : ℕ) → time ≤ t
+      → t ≤ 2 ^ 60 → w.point.0 ≤ℤ pos (reading clock t) → IsBefore (ripe_place t (waiting_as w)) p → ⊥
   waits_by None first none not w clock there own of_it time at t le most reached b =
-      let past = in_all (λ (n : ℕ). never ≤ n) state.timers w.device.0 time none at in absurd (omega (arith, past, le, most))
+      let past : never ≤ time = in_all (λ (r : Timer). never ≤ r.time) state.timers w.device.0 (record { time = time; rank = 3 }) none at in
+      absurd (omega (arith, past, le, most))
   waits_by (Some d) first none (inl not) w clock there own of_it time at t le most reached b =
       not_sooner (time ∷ 3 ∷ w.device.0 ∷ []) (due_place (length network.device) d) p
-      (ripe_slot (length network.device) state.timers d w.device.0 time first at of_it) not
+      (ripe_slot (length network.device) state.timers d w.device.0 time first at) not
       (chain (time ∷ 3 ∷ w.device.0 ∷ []) (ripe_place t (waiting_as w)) p (ripe_earlier t time w.device.0 (amount w.point) (parting w) le) b)
   waits_by (Some d) first none (inr r) w clock there own of_it time at t le most reached b =
-      let least = least_slot state.timers d w.device.0 time first at in
+      let timer : Timer = record { time = time; rank = 3 } in
+      let least : d.time ≤ time = least_slot state.timers d w.device.0 timer first at in
       let by = same_time t d.time (3 ∷ w.device.0 ∷ amount w.point ∷ parting w) (3 ∷ r.one.device.0 ∷ amount r.one.point ∷ parting r.one)
       (omega (arith, least, le)) (subst (λ (q : List ℕ). IsBefore (ripe_place t (waiting_as w)) q) r.place b) in
       let now : t ≡ d.time = by.0 in
       let one = r.at in
       let low : r.one.device.0 ≤ w.device.0 = elim (cases_lt w.device.0 d.slot) [
-        | inl lt ↦ absurd (let later = lower_slot state.timers d w.device.0 time first at lt in omega (arith, later, le, now))
+        | inl lt ↦
+            let later : d.time < time = lower_slot state.timers d w.device.0 timer first at (sym (ripe_rank d first r.there)) lt in absurd (omega (arith, later, le, now))
         | inr ge ↦ omega (arith, ge, one)
       ] in
       let same : w.device.0 ≡ d.slot = same_slot w.device.0 r.one.device.0 (amount w.point ∷ parting w) (amount r.one.point ∷ parting r.one) low by.1
@@ -122,21 +168,45 @@ module _ {C M : Type 0} (last_step : C → ℕ) (reading : C → ℕ → ℕ) (s
       (subst (λ (n : ℕ). w.point.0 ≤ℤ pos (reading clock n)) now reached)
       (subst (λ (n : ℕ). IsBefore (ripe_place n (waiting_as w)) p) now b)
 
-  -- nor a device that acts, whose timer is at this time
-  acts_by : (due : Option Due) → IfSome due (λ d. IsFirstDue state.timers d) → IfNone due (All (λ (time : ℕ). never ≤ time) state.timers)
+  -- a task that is due is not before where the timer of its device stands
+  behind_timer : (device : DeviceId) (node : Node) (task : Task) (clock : C) (t act : ℕ) (part : Part) → act ≤ t → t ≤ 2 ^ 60
+      → (act < never → IsNoSooner network device node (pos (reading clock act)) part) → IsPending network device node task
+      → reading_for network node task ≤ℤ pos (reading clock t) → IsBefore (task_place network t device task) (act ∷ part_rank part ∷ device.0 ∷ []) → ⊥
+  behind_timer device node task clock t act part le most late pending reached b =
+      let q = placed_by network t device task in
+      let rank = part_rank (part_of (kind_of task)) in
+      not_sooner_than t act rank (part_rank part) device.0 q.0 le
+      (λ e. late (omega (arith, le, most)) task pending (subst (λ (n : ℕ). reading_for network node task ≤ℤ pos (reading clock n)) e reached))
+      (subst (λ (l : List ℕ). IsBefore l (act ∷ part_rank part ∷ device.0 ∷ [])) q.1 b)
+
+  -- nor is it before the place
+  acts_by : (due : Option Due) → IfSome due (λ d. IsFirstDue state.timers d) → IfNone due (AreFrom never state.timers)
       → IfSome due (λ d. (IsBefore (due_place (length network.device) d) p → ⊥) ⊎ IsRipePlace reading network state d p)
-      → (device : DeviceId) (time : ℕ) → slice_get state.timers (length network.device + device.0) ≡ Some time → (t : ℕ) → time ≤ t → t ≤ 2 ^ 60
-      → IsBefore (act_place t device) p → ⊥
-  acts_by None first none not device time at t le most b =
-      let past = in_all (λ (n : ℕ). never ≤ n) state.timers (length network.device + device.0) time none at in absurd (omega (arith, past, le, most))
-  acts_by (Some d) first none (inl not) device time at t le most b =
-      not_sooner (time ∷ 4 ∷ device.0 ∷ []) (due_place (length network.device) d) p
-      (act_slot (length network.device) state.timers d device.0 time first at) not (act_earlier t time device.0 p le b)
-  acts_by (Some d) first none (inr r) device time at t le most b =
-      let least = least_slot state.timers d (length network.device + device.0) time first at in
-      let by = same_time t d.time (4 ∷ device.0 ∷ []) (3 ∷ r.one.device.0 ∷ amount r.one.point ∷ parting r.one)
-      (omega (arith, least, le)) (subst (λ (q : List ℕ). IsBefore (act_place t device) q) r.place b) in
-      ranked_before (device.0 ∷ []) (r.one.device.0 ∷ amount r.one.point ∷ parting r.one) by.1
+      → (device : DeviceId) (node : Node) (task : Task) (t : ℕ) → state.time ≤ t → t ≤ 2 ^ 60
+      → (timed : IsActTimed reading stands network state.timers state device) → keeps stands timed.machine network device node
+      → IsPending network device node task → reading_for network node task ≤ℤ pos (reading timed.clock t)
+      → IsBefore (task_place network t device task) p → ⊥
+  acts_by None first none not device node task t from most timed kept pending reached b =
+      let le = timed.acts.none node task kept pending t from most reached in
+      let past : never ≤ timed.act = in_all (λ (r : Timer). never ≤ r.time) state.timers (length network.device + device.0) _ none timed.of_act in
+      absurd (omega (arith, past, le, most))
+  acts_by (Some d) first none (inl not) device node task t from most timed kept pending reached b =
+      let place : List ℕ = timed.act ∷ part_rank timed.part ∷ device.0 ∷ [] in
+      let le = timed.acts.none node task kept pending t from most reached in
+      not_sooner (task_place network t device task) place p
+      (behind_timer device node task timed.clock t timed.act timed.part le most (λ lt. timed.acts.late lt node kept) pending reached)
+      (not_sooner place (due_place (length network.device) d) p
+      (act_slot (length network.device) state.timers d device.0 timed.act (part_rank timed.part) first (ripe_rank d first) (part_least timed.part) timed.of_act)
+      not) b
+  acts_by (Some d) first none (inr r) device node task t from most timed kept pending reached b =
+      let q = placed_by network t device task in
+      let rank = part_rank (part_of (kind_of task)) in
+      let le = timed.acts.none node task kept pending t from most reached in
+      let least : d.time ≤ timed.act = least_slot state.timers d (length network.device + device.0) (record { time = timed.act; rank = part_rank timed.part }) first timed.of_act in
+      let by = same_time t d.time (rank ∷ device.0 ∷ q.0) (3 ∷ r.one.device.0 ∷ amount r.one.point ∷ parting r.one) (omega (arith, least, le))
+      (subst (λ (l : List ℕ). IsBefore l (ripe_place d.time (waiting_as r.one))) q.1
+      (subst (λ (l : List ℕ). IsBefore (task_place network t device task) l) r.place b)) in
+      ranked_before rank (device.0 ∷ q.0) (r.one.device.0 ∷ amount r.one.point ∷ parting r.one) (part_least (part_of (kind_of task))) by.1
 
   -- nor what is under way
   under_way_by : (place : Option DueAt) → IfSome place (λ q. IsFirst state.under_way.entries q) → IfNone place (state.under_way.entries ≡ [])
@@ -162,12 +232,13 @@ module _ {C M : Type 0} (last_step : C → ℕ) (reading : C → ℕ → ℕ) (s
         let sizes = sized.clocks in
         let of_it : device.0 < length network.device = omega (arith, few, sizes) in
         let timed = (are.each device of_it).act in
-        let most = in_run t 4 _ p in_time b in
+        let q = placed_by network t device task in
+        let most = in_run t (part_rank (part_of (kind_of task))) (device.0 ∷ q.0) p in_time (subst (λ (l : List ℕ). IsBefore l p) q.1 b) in
         let clock_is = some_same _ _ _ own timed.of_clock in
         let machine_is = some_same _ _ _ held timed.of_machine in
-        let le = timed.acts.none node task (subst (λ (k : Kept M). keeps stands k network device node) machine_is kept) pending t from most
-        (subst (λ (k : C). reading_for network node task ≤ℤ pos (reading k t)) clock_is reached) in
-        acts_by due firsts.some_due firsts.no_due not.timers device timed.act timed.of_act t le most b;
+        acts_by due firsts.some_due firsts.no_due not.timers device node task t from most timed
+        (subst (λ (k : Kept M). keeps stands k network device node) machine_is kept) pending
+        (subst (λ (k : C). reading_for network node task ≤ℤ pos (reading k t)) clock_is reached) b;
     befell = not.befell;
     clocks = not.clocks;
   }
@@ -198,14 +269,33 @@ module _ {C M : Type 0} (reading : C → ℕ → ℕ) (stands : M → Network �
     (due : Due) (are : AreTimed reading stands network state) (first : IsFirstDue state.timers due) where
   -- it is not past
   pub due_time : state.time ≤ due.time
-  due_time =
-      let inside = first.inside in
-      let le = are.later due.slot 0 inside in
-      let is = first.time in
-      omega (arith, le, is)
+  due_time = in_all (λ (t : Timer). state.time ≤ t.time) state.timers due.slot _ are.later first.timer
 
-  is_time : (time : ℕ) → slice_get state.timers due.slot ≡ Some time → time ≡ due.time
-  is_time time at = let is = get_or_from_slice_get state.timers due.slot time 0 at in let e = first.time in omega (arith, is, e)
+  -- where it is not for frames that wait, it is for a part of what a device does
+  pub due_part : length network.device ≤ due.slot → (part : Part) × (due.rank ≡ part_rank part) × (due.slot < 2 * length network.device)
+  due_part high =
+      let device : DeviceId = record { 0 = due.slot - length network.device } in
+      let inside = first.inside in
+      let slots = are.sized in
+      let timed = (are.each device (omega (arith, inside, slots, high))).act in
+      let slot : due.slot ≡ length network.device + device.0 = omega (arith, high) in (
+        timed.part,
+        ap (λ (t : Timer). t.rank) (some_same _ _ _ first.timer (ap (λ (n : ℕ). slice_get state.timers n) slot ∙ timed.of_act)),
+        omega (arith, inside, slots),
+      )
+
+  -- its rank is that of the frames that wait, or of a part
+  pub due_ranks : (3 ≤ due.rank) × (due.rank ≤ 6)
+  due_ranks = elim (cases_lt due.slot (length network.device)) [
+    | inl low ↦
+        let timed = (are.each (record { 0 = due.slot }) low).ripe in
+        let three : due.rank ≡ 3 = ap (λ (t : Timer). t.rank) (some_same _ _ _ first.timer timed.of_ripe) in
+        (omega (arith, three), omega (arith, three))
+    | inr high ↦ let is = due_part high in by is.0 is.1
+  ]
+    where
+      by : (part : Part) → due.rank ≡ part_rank part → (3 ≤ due.rank) × (due.rank ≤ 6)
+      by part is = let least = part_least part in let most = part_most part in (omega (arith, is, least), omega (arith, is, most))
 
   -- a frame that waits at its device is permanent then
   pub due_ripe : due.slot < length network.device → due.time < never → (clock : C) × (slice_get state.clocks.items due.slot ≡ Some clock)
@@ -213,37 +303,37 @@ module _ {C M : Type 0} (reading : C → ℕ → ℕ) (stands : M → Network �
   due_ripe of_it soon =
       let device : DeviceId = record { 0 = due.slot } in
       let timed = (are.each device of_it).ripe in
-      let is = is_time timed.ripe timed.of_ripe in
+      let is : timed.ripe ≡ due.time = ap (λ (t : Timer). t.time) (some_same _ _ _ timed.of_ripe first.timer) in
       let w = timed.ripens.one (omega (arith, is, soon)) in
       (timed.clock, timed.of_clock, (w.0, w.1, w.2, subst (λ (t : ℕ). w.0.point.0 ≤ℤ pos (reading timed.clock t)) is w.3))
 
-  -- its device acts then
-  pub due_acts : length network.device ≤ due.slot → due.time < never → (device : DeviceId) × (due.slot ≡ length network.device + device.0)
-      × (device.0 < length network.device) × (clock : C) × (slice_get state.clocks.items device.0 ≡ Some clock)
-      × ((machine : Kept M) × (slice_get state.machines.items device.0 ≡ Some machine)
-      × ((node : Node) → keeps stands machine network device node → (task : Task) × IsPending network device node task
-      × (reading_for network node task ≤ℤ pos (reading clock due.time))))
-  due_acts high soon =
-      let device : DeviceId = record { 0 = due.slot - length network.device } in
-      let inside = first.inside in
-      let slots = are.sized in
-      let of_it : device.0 < length network.device = omega (arith, inside, slots, high) in
-      let timed = (are.each device of_it).act in
-      let slot : due.slot ≡ length network.device + device.0 = omega (arith, high) in
-      let is = is_time timed.act (ap (λ (n : ℕ). slice_get state.timers n) slot ∙ timed.of_act) in (
-        device,
-        slot,
-        of_it,
-        timed.clock,
-        timed.of_clock,
-        (
-          timed.machine,
-          timed.of_machine,
-          λ node kept.
-              let task = timed.acts.one (omega (arith, is, soon)) node kept in
-              (task.0, task.1, subst (λ (t : ℕ). reading_for network node task.0 ≤ℤ pos (reading timed.clock t)) is task.2),
-        ),
-      )
+  -- the device has something to do of the part then
+  pub due_acts : (device : DeviceId) (part : Part) → due.time ≡ state.time → state.time ≤ 2 ^ 60 → due.slot ≡ length network.device + device.0
+      → device.0 < length network.device → due.rank ≡ part_rank part → IsActive reading stands network state part device
+  due_acts device part now soon slot of_it rank = record {
+    of = of_it;
+    due = ap (λ (n : ℕ). slice_get state.timers n) (sym slot) ∙ first.timer
+        ∙ ap (λ (n : ℕ). Some (let t : Timer = record { time = n; rank = due.rank } in t)) now
+        ∙ ap (λ (n : ℕ). Some (let t : Timer = record { time = state.time; rank = n } in t)) rank;
+    late = λ s machine node of there kept.
+        let timed = (are.each device of_it).act in
+        let timer = some_same _ _ _ first.timer (ap (λ (n : ℕ). slice_get state.timers n) slot ∙ timed.of_act) in
+        let time : due.time ≡ timed.act = ap (λ (t : Timer). t.time) timer in
+        let is : part_rank timed.part ≡ part_rank part = sym (ap (λ (t : Timer). t.rank) timer) ∙ rank in
+        let machine_is = some_same _ _ _ there timed.of_machine in
+        let own = of.clocks device (subst (λ (k : Network). device.0 < length k.device) of.same of_it) in
+        let clock_is = some_same _ _ _ own.1 timed.of_clock in
+        let act_now : timed.act ≡ state.time = sym time ∙ now in
+        let read : reading timed.clock timed.act ≡ s.reading device state.time = ap (reading timed.clock) act_now
+        ∙ ap (λ (k : C). reading k state.time) (sym clock_is) ∙ sym (own.2 state.time (omega arith)) in
+        subst (λ (k : Network). IsNoSooner k device node (pos (s.reading device state.time)) part) of.same
+        (subst (λ (n : ℕ). IsNoSooner network device node (pos n) part) read
+        (λ task pending reached.
+        let late = timed.acts.late (omega (arith, act_now, soon)) node
+        (subst (λ (k : Kept M). keeps stands k network device node) machine_is
+        (subst (λ (k : Network). keeps stands machine k device node) (sym of.same) kept)) task pending reached in
+        omega (arith, late, is)));
+  }
 
 -- ---- of the world of a state
 
@@ -263,7 +353,7 @@ waits_there s hs e range founded it =
         (in_all (IsLinkInRange s.network) s.network.link e.link.0 v.joint range.links v.there).child
 
 -- what is in a list of what a function makes of others is made of one
-made_of : {X Y : Type 0} (f : X → Y) (xs : List X) (y : Y) → IsIn y (map f xs) → (x : X) × IsIn x xs × (f x ≡ y)
+pub made_of : {X Y : Type 0} (f : X → Y) (xs : List X) (y : Y) → IsIn y (map f xs) → (x : X) × IsIn x xs × (f x ≡ y)
 made_of f [] y i = absurd i
 made_of f (x ∷ xs) y (inl e) = (x, inl refl, sym e)
 made_of f (x ∷ xs) y (inr i) = let more = made_of f xs y i in (more.0, inr more.1, more.2)
@@ -307,7 +397,8 @@ module _ {C M : Type 0} (last_step : C → ℕ) (reading : C → ℕ → ℕ) (s
         (subst (λ (k : Network). keeps stands machine k device node) (sym old.same) kept)
         (subst (λ (k : Network). IsPending k device node task) (sym old.same) pending) t from
         (subst (λ (k : Network). reading_for k node task ≤ℤ pos (reading own.0 t)) (sym old.same)
-        (subst (λ (n : ℕ). reading_for s.network node task ≤ℤ pos n) (own.2 t from) reached)) (acts_before s.network t device task p b);
+        (subst (λ (n : ℕ). reading_for s.network node task ≤ℤ pos n) (own.2 t from) reached))
+        (subst (λ (k : Network). IsBefore (task_place k t device task) p) (sym old.same) b);
     befell = has.befell;
     clocks = λ device of_it ended shown b.
         has.clocks ended

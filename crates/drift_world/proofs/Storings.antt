@@ -3,7 +3,7 @@ use Rattle.drift_world.proofs.Words.{◌&&◌, ◌==◌, ◌∙◌, ◌∷◌, �
 use Rattle.drift_world.proofs.Words.{HasItsOctets, Holding, IsIn, IsPermutation-sym, IsStoredBy, Left, List, Network, None, NoteBody, Option, Permanent, Some}
 use Rattle.drift_world.proofs.Words.{Timed, TtSent, VlId, [], ap, both_ways, eq-eqb, eqb-true, false, filter, if◌then◌else◌, in_permuted, inl, inr, is_mapped}
 use Rattle.{drift_world.proofs.Words.{map, not, octets_in, octets_of, refl, stored_as, subst, sym, true, ℕ}, run_law.proofs.records.Members.{from_map, in_kept}}
-use Rattle.{run_law.specs.declared.note.NoteBody.TheVariants.{Clock, Corrected, Sent}, world_state.specs.Storing.{IsHeldInstead, IsStoredFor, is_held_of}}
+use Rattle.{run_law.specs.declared.note.NoteBody.TheVariants.{Clock, Corrected}, world_state.specs.Storing.{IsHeldInstead, IsStoredFor, is_held_of}}
 use Rattle.{run_law.specs.timed.Dispatching.is_accepted, std.proofs.lemmas.Bool.{not-true, not_from_false}, world_law.specs.world.Moves.AreTaken}
 use Rattle.{std.proofs.Common.arith, world_law.specs.world.World.Stored}
 

@@ -1,9 +1,11 @@
 -- Timers that are right, and stay so.
-use Rattle.{drift_world.proofs.Fits.sized_so, std.proofs.Common.{All, slice_get}}
+use Rattle.{drift_world.proofs.Fits.sized_so, std.proofs.Common.slice_get}
+use Rattle.world_state.specs.{declared.timers.Timer.Timer, timers.Times.AreFrom}
 use Rattle.drift_world.proofs.Words.{◌*◌, ◌+◌, ◌<◌, ◌^◌, ◌↔◌, ◌∙◌, ◌≡◌, ◌≤ℤ◌, ◌≤◌, ◌⊎◌, AreTimed, Bool, ChangesOnly, DeviceId, IsIn, IsRunning, IsSized}
 use Rattle.drift_world.proofs.Words.{IsTimed, Kept, List, Network, Node, None, Option, Some, Units, Waits, ap, arith, cases_eq, cases_lt, inl, inr, ints, keeps}
 use Rattle.drift_world.{proofs.Words.{length, never, pos, refl, subst, sym, ℕ}, specs.Stepping.{ActsAt, IsRekeyed, IsRipeAt, MayRekey, SetsOnly}}
-use Rattle.{drift_world.specs.declared.state.State.State, run_law.specs.machines.Tasks.IsDueReading, world_state.specs.Timing.{IsLeastPoint, IsTimeFor}}
+use Rattle.drift_world.specs.{Parts.IsNoSooner, declared.part.Part.Part}
+use Rattle.{drift_world.specs.declared.state.State.State, run_law.specs.machines.{Calls.HasDue, Tasks.IsDueReading}, world_state.specs.Timing.{IsLeastPoint, IsTimeFor}}
 
 -- ---- a time at which a clock reads so much
 
@@ -52,17 +54,27 @@ ripe_timed reading clock waiting device now (Some point) time low least is = rec
 }
 
 pub acts_timed : {C M : Type 0} (reading : C → ℕ → ℕ) (stands : M → Network → DeviceId → Node → Type 0) (network : Network) (clock : C) (machine : Kept M)
-    (device : DeviceId) (now : ℕ) (due : Option Units) (time : ℕ)
+    (device : DeviceId) (now : ℕ) (due : Option Units) (time : ℕ) (part : Part)
     → IsLow reading clock now → ((node : Node) → keeps stands machine network device node → IsDueReading network device node due)
-    → IsTimeFor reading clock now due time → ActsAt reading stands network clock machine device now time
-acts_timed reading stands network clock machine device now None time low none is = grind arith
-acts_timed reading stands network clock machine device now (Some due) time low least is = record {
+    → IsTimeFor reading clock now due time
+    → ((node : Node) → keeps stands machine network device node → IsNoSooner network device node (pos (reading clock time)) part)
+    → ActsAt reading stands network clock machine device now time part
+acts_timed reading stands network clock machine device now None time part low none is late = record {
+  none = λ node task kept pending u from most reached. absurd (none node kept task pending);
+  one = λ true_time. absurd (omega (arith, is, true_time));
+  late = λ true_time. late;
+}
+acts_timed reading stands network clock machine device now (Some due) time part low least is late = record {
   none = λ node task kept pending u from most reached.
       let le = (least node kept).1 task pending in reads_less reading clock now due time u low is from most (omega (arith, ints, le, reached));
-  one = λ true_time node kept.
-      let first = (least node kept).0 in let at = first.2 in let reads = reads_so reading clock now due time is true_time in
-      (first.0, first.1, omega (arith, ints, at, reads));
+  one = one;
+  late = λ true_time. late;
 }
+  where
+    one : time < never → (node : Node) → keeps stands machine network device node → HasDue network device node (pos (reading clock time))
+    one true_time node kept =
+        let earliest = (least node kept).0 in let at = earliest.2 in let reads = reads_so reading clock now due time is true_time in
+        (earliest.0, earliest.1, omega (arith, ints, at, reads))
 
 -- ---- they stay so
 
@@ -91,10 +103,12 @@ still_timed reading stands network old new device is clocks machines waiting lat
     machine = is.act.machine;
     of_machine = machines ∙ is.act.of_machine;
     act = is.act.act;
+    part = is.act.part;
     of_act = act ∙ is.act.of_act;
     acts = record {
       none = λ node task kept pending u from most reached. is.act.acts.none node task kept pending u (omega (arith, later, from)) most reached;
       one = is.act.acts.one;
+      late = is.act.acts.late;
     };
   };
 }
@@ -121,14 +135,14 @@ module _ {C M : Type 0} (reading : C → ℕ → ℕ) (stands : M → Network �
               (λ w at. subst (λ (s : State C M). IsIn w s.waiting.items ↔ IsIn w old.waiting.items) (sym same)
               (waiting w (λ e. ne (sym at ∙ e)) (omega (arith, at, there))))
               (let now = ap (λ (s : State C M). s.time) same in omega (arith, now, time))
-              (keyed.sets.others other.0 (apart other.0 ne (λ e. omega (arith, e, there))) ∙ ap (λ (l : List ℕ). slice_get l other.0) timers)
+              (keyed.sets.others other.0 (apart other.0 ne (λ e. omega (arith, e, there))) ∙ ap (λ (l : List Timer). slice_get l other.0) timers)
               (keyed.sets.others (length network.device + other.0)
               (apart (length network.device + other.0) (λ e. omega (arith, e, of_it)) (λ e. ne (omega (arith, e))))
-              ∙ ap (λ (l : List ℕ). slice_get l (length network.device + other.0)) timers)
+              ∙ ap (λ (l : List Timer). slice_get l (length network.device + other.0)) timers)
         ];
     later = keyed.sets.later
-        (subst (λ (n : ℕ). All (λ (t : ℕ). n ≤ t) mid.timers) (sym time)
-        (subst (λ (l : List ℕ). All (λ (t : ℕ). old.time ≤ t) l) (sym timers) are.later));
+        (subst (λ (n : ℕ). AreFrom n mid.timers) (sym time)
+        (subst (λ (l : List Timer). AreFrom old.time l) (sym timers) are.later));
   }
     where
       apart : (slot : ℕ) → (slot ≡ device.0 → ⊥) → (slot ≡ length network.device + device.0 → ⊥)
@@ -151,10 +165,10 @@ module _ {C M : Type 0} (reading : C → ℕ → ℕ) (stands : M → Network �
         still_timed reading stands network old new device (are.each device there) (ap (λ (c : _). slice_get c.items device.0) clocks)
         (ap (λ (l : _). slice_get l device.0) machines)
         (λ w at. subst (λ (l : List Waits). IsIn w l ↔ IsIn w old.waiting.items) (sym waiting) ((λ i. i), (λ i. i)))
-        (omega (arith, time)) (ap (λ (l : List ℕ). slice_get l device.0) timers)
-        (ap (λ (l : List ℕ). slice_get l (length network.device + device.0)) timers);
-    later = subst (λ (n : ℕ). All (λ (t : ℕ). n ≤ t) new.timers) (sym time)
-        (subst (λ (l : List ℕ). All (λ (t : ℕ). old.time ≤ t) l) (sym timers) are.later);
+        (omega (arith, time)) (ap (λ (l : List Timer). slice_get l device.0) timers)
+        (ap (λ (l : List Timer). slice_get l (length network.device + device.0)) timers);
+    later = subst (λ (n : ℕ). AreFrom n new.timers) (sym time)
+        (subst (λ (l : List Timer). AreFrom old.time l) (sym timers) are.later);
   }
 
   -- a step of none of the devices
@@ -167,10 +181,10 @@ module _ {C M : Type 0} (reading : C → ℕ → ℕ) (stands : M → Network �
         still_timed reading stands network old new device (are.each device there) (ap (λ (k : _). slice_get k.items device.0) c.clocks)
         (c.machines device.0 (λ e. omega (arith, e, there, none)))
         (λ w at. c.waiting w (λ e. omega (arith, e, at, there, none)))
-        (omega (arith, time)) (ap (λ (l : List ℕ). slice_get l device.0) timers)
-        (ap (λ (l : List ℕ). slice_get l (length network.device + device.0)) timers);
-    later = subst (λ (n : ℕ). All (λ (t : ℕ). n ≤ t) new.timers) (sym c.time)
-        (subst (λ (l : List ℕ). All (λ (t : ℕ). old.time ≤ t) l) (sym timers) are.later);
+        (omega (arith, time)) (ap (λ (l : List Timer). slice_get l device.0) timers)
+        (ap (λ (l : List Timer). slice_get l (length network.device + device.0)) timers);
+    later = subst (λ (n : ℕ). AreFrom n new.timers) (sym c.time)
+        (subst (λ (l : List Timer). AreFrom old.time l) (sym timers) are.later);
   }
 
   pub unchanged : (old new : State C M) → AreTimed reading stands network old → ((device : ℕ) → ChangesOnly device old new) → new.timers ≡ old.timers
@@ -178,7 +192,7 @@ module _ {C M : Type 0} (reading : C → ℕ → ℕ) (stands : M → Network �
   unchanged old new are changes timers = aside (length network.device) old new are (omega arith) (changes (length network.device)) timers
 
   -- time passes, up to no timer's time
-  pub passed : (old : State C M) (t : ℕ) (early : Bool) → AreTimed reading stands network old → old.time ≤ t → All (λ (time : ℕ). t ≤ time) old.timers
+  pub passed : (old : State C M) (t : ℕ) (early : Bool) → AreTimed reading stands network old → old.time ≤ t → AreFrom t old.timers
       → AreTimed reading stands network (record old { time = t; early = early })
   passed old t early are later none = record {
     sized = are.sized;
@@ -195,7 +209,7 @@ pub record AreSetTo {C M : Type 0} (reading : C → ℕ → ℕ) (stands : M →
     (old state : State C M) : Type 0 where
   pub same : state ≡ record old { timers = state.timers }
   pub sized : length state.timers ≡ 2 * length network.device
-  pub later : All (λ (time : ℕ). old.time ≤ time) state.timers
+  pub later : AreFrom old.time state.timers
   pub each : (device : DeviceId) → device.0 < count → device.0 < length network.device → IsTimed reading stands network state.timers state device
 
 module _ {C M : Type 0} (last_step : C → ℕ) (reading : C → ℕ → ℕ) (stands : M → Network → DeviceId → Node → Type 0) (network : Network)
@@ -226,8 +240,8 @@ module _ {C M : Type 0} (reading : C → ℕ → ℕ) (stands : M → Network �
       record {
         same = same ∙ ap (λ (s : State C M). let k : State C M = record s { timers = new.timers } in k) are.same;
         sized = keyed.sets.sized ∙ are.sized;
-        later = subst (λ (n : ℕ). All (λ (time : ℕ). n ≤ time) new.timers) (now ∙ was)
-            (keyed.sets.later (subst (λ (n : ℕ). All (λ (time : ℕ). n ≤ time) mid.timers) (sym was) are.later));
+        later = subst (λ (n : ℕ). AreFrom n new.timers) (now ∙ was)
+            (keyed.sets.later (subst (λ (n : ℕ). AreFrom n mid.timers) (sym was) are.later));
         each = λ other less of_it.
             elim (cases_eq other.0 device.0) [
               | inl e ↦

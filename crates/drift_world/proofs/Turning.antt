@@ -1,14 +1,15 @@
 -- A turn of a world: what comes first, and what the steps keep.
 use Rattle.{drift_world.proofs.Fits.{sound_same, sound_timers}, world_law.proofs.{acts.NoActs.nothing_comes_before, runs.Worlds.nothing_settled_is_all}}
 use Rattle.{drift_world.proofs.{Foremost.timers_later, HiddenCauses.{InOrder, settled_in_order}}, world_law.proofs.steps_lemmas.steps.Passed.none_hidden}
-use Rattle.drift_world.{proofs.Sources.{of_world, sooner_too}, specs.{Stepping.IsRekeyed, declared.{source.Source.Source, state.State.State}}}
-use Rattle.drift_world.proofs.{Timings.{passed, rekeyed, unchanged}, Words.{numbers_of, own_place, place_of, refl, settled_at, subst, sym, true, world_of, ℕ}}
+use Rattle.drift_world.{proofs.{AtSource.{IsSourceRank, at_rank, own_gives, rank_most, ranks}, Sources.{of_world, sooner_too}}, specs.{Stepping.IsRekeyed, declared.{source.Source.Source, state.State.State}}}
+use Rattle.drift_world.proofs.{Timings.{passed, rekeyed, unchanged}, Words.{numbers_of, option_map_or, own_place, place_of, rank, refl, settled_at, subst, sym, true, world_of, ℕ}}
 use Rattle.drift_world.proofs.Words.{◌++◌, ◌+◌, ◌<◌, ◌^◌, ◌↔◌, ◌∙◌, ◌∷◌, ◌≡◌, ◌≤◌, AreFirsts, AreSettled, AreTimed, Bool, ChangesOnly, ComesFirst, DeviceId}
 use Rattle.drift_world.proofs.Words.{Due, DueAt, Err, Happening, HasItsOctets, HasNothingBefore, IsAt, IsBefore, IsIn, IsRunning, IsScenarioRun, IsSound}
-use Rattle.drift_world.proofs.Words.{IsWell, List, Network, NoSourceBefore, Node, Note, Ok, OnErr, OnOk, Option, Result, Scenario, Settled, Some, SourceFirst}
-use Rattle.drift_world.proofs.Words.{Stands, Turn, [], ap, append-nil, arith, chain, happenings, inl, inr, keeps, length, length-map, map, never_self}
-use Rattle.drift_world.specs.Turns.{HasRoom, IsAfter, IsAhead, IsForemost, IsKept, IsNow, IsPassed, IsStep, IsThere, MayWork, PassSays, TurnSays, given_in}
-use Rattle.drift_world.specs.{Turns.{own_numbers, source_place}, declared.source.Source.TheVariants.{Act, Arrival, Clock, Departure, Events, Later, Ripening}}
+use Rattle.drift_world.proofs.Words.{IsWell, List, Network, NoSourceBefore, Node, Note, Ok, OnErr, OnOk, Option, Result, Scenario, Settled, SourceFirst}
+use Rattle.run_law.specs.records.Ranks.{key}
+use Rattle.drift_world.proofs.Words.{Stands, Turn, [], ap, append-nil, arith, cases_lt, chain, happenings, inl, inr, keeps, length, length-map, map, never_self}
+use Rattle.drift_world.specs.Turns.{HasRoom, IsAfter, IsForemost, IsKept, IsNow, IsPassed, IsStep, IsThere, MayGive, MayWork, PassSays, SettledFirst, TurnSays, given_in}
+use Rattle.drift_world.specs.{Turns.{source_place, source_rank}, declared.source.Source.TheVariants.{Act, Arrival, Clock, Departure, Events, Later, Ripening}}
 use Rattle.{drift_world.specs.declared.next.Turn.TheVariants.{Ends, Gives, GoesOn}, run_law.proofs.runs.Places.{before_later, before_later_time}}
 use Rattle.std.proofs.Common.{All, slice_get}
 
@@ -23,54 +24,49 @@ ranked_at now rank place at is =
 
 -- the place of a source of the present instant
 pub record IsShaped (now : ℕ) (source : Source) : Type 0 where
-  pub numbers : List ℕ
-  pub own : own_numbers source ≡ Some numbers
-  pub place : source_place now source ≡ now ∷ numbers
+  pub rest : List ℕ
+  pub place : source_place now source ≡ now ∷ source_rank source ∷ rest
 
 pub shaped : {C M : Type 0} (reading : C → ℕ → ℕ) (stands : M → Network → DeviceId → Node → Type 0) (network : Network) (state : State C M)
     (source : Source) → IsThere reading stands network state source → IsNow source → IsShaped state.time source
-shaped reading stands network state Events there now = record { numbers = _; own = refl; place = refl }
-shaped reading stands network state (Arrival place) there now = record {
-  numbers = _;
-  own = refl;
-  place = sym (ranked_at state.time 2 place there.now there.rank_is);
-}
-shaped reading stands network state (Ripening w) there now = record { numbers = _; own = refl; place = refl }
-shaped reading stands network state (Act device) there now = record { numbers = _; own = refl; place = refl }
-shaped reading stands network state (Departure place) there now = record {
-  numbers = _;
-  own = refl;
-  place = sym (ranked_at state.time 8 place there.now there.rank_is);
-}
-shaped reading stands network state (Clock device) there now = record { numbers = _; own = refl; place = refl }
+shaped reading stands network state Events there now = record { rest = _; place = refl }
+shaped reading stands network state (Arrival place) there now = record { rest = _; place = sym (ranked_at state.time 2 place there.now there.rank_is) }
+shaped reading stands network state (Ripening w) there now = record { rest = _; place = refl }
+shaped reading stands network state (Act part device) there now = record { rest = _; place = refl }
+shaped reading stands network state (Departure place) there now = record { rest = _; place = sym (ranked_at state.time 8 place there.now there.rank_is) }
+shaped reading stands network state (Clock device) there now = record { rest = _; place = refl }
 shaped reading stands network state (Later time) there now = absurd now
 
-untimed : (now : ℕ) (p q : List ℕ) → IsBefore (now ∷ p) (now ∷ q) → IsBefore p q
-untimed now p q (inl lt) = absurd (omega (arith, lt))
-untimed now p q (inr h) = h.1
+-- what is of a higher rank than a source of the present instant is not before it
+higher_not : (now r q : ℕ) (xs ys : List ℕ) → q < r → IsBefore (now ∷ r ∷ xs) (now ∷ q ∷ ys) → ⊥
+higher_not now r q xs ys lt (inl b) = omega (arith, b)
+higher_not now r q xs ys lt (inr (e, inl b)) = omega (arith, lt, b)
+higher_not now r q xs ys lt (inr (e, inr (f, b))) = omega (arith, lt, f)
 
--- what is not ahead of a source of the present instant is not before it
-not_ahead : (network : Network) (now : ℕ) (source : Source) (first : Settled) → IsShaped now source → (IsAhead (own_numbers source) first → ⊥)
+not_ahead : (network : Network) (now : ℕ) (source : Source) (first : Settled) → IsShaped now source → source_rank source < rank first.body
     → IsBefore (place_of (settled_at network now first)) (source_place now source) → ⊥
-not_ahead network now source first shape not before =
-    not (subst (λ (o : Option (List ℕ)). IsAhead o first) (sym shape.own)
-    (untimed now (own_place first) shape.numbers (subst (λ (p : List ℕ). IsBefore (now ∷ own_place first) p) shape.place before)))
+not_ahead network now source first shape lt before =
+    higher_not now (rank first.body) (source_rank source) (key (option_map_or (λ frame. frame.members.0) first.frame 0) first.body) shape.rest lt
+    (subst (IsBefore (now ∷ own_place first)) shape.place before)
 
--- what is ahead of a source is before it
+-- what is of a lower rank than a source is before it
 pub ahead_before : {C M : Type 0} (reading : C → ℕ → ℕ) (stands : M → Network → DeviceId → Node → Type 0) (network : Network) (state : State C M)
-    (source : Source) (first : Settled) → IsThere reading stands network state source → IsAhead (own_numbers source) first
+    (source : Source) (first : Settled) → IsThere reading stands network state source → rank first.body < source_rank source
     → IsBefore (place_of (settled_at network state.time first)) (source_place state.time source)
-ahead_before reading stands network state (Arrival place) first there ahead =
-    subst (IsBefore (place_of (settled_at network state.time first))) (ranked_at state.time 2 place there.now there.rank_is) (inr (refl, ahead))
-ahead_before reading stands network state (Departure place) first there ahead =
-    subst (IsBefore (place_of (settled_at network state.time first))) (ranked_at state.time 8 place there.now there.rank_is) (inr (refl, ahead))
-ahead_before reading stands network state (Later time) first there ahead = inl there
-ahead_before reading stands network state other first there ahead = inr (refl, ahead)
+ahead_before reading stands network state (Later time) first there lt = inl there
+ahead_before reading stands network state Events first there lt = inr (refl, inl lt)
+ahead_before reading stands network state (Arrival place) first there lt =
+    subst (IsBefore (place_of (settled_at network state.time first))) (ranked_at state.time 2 place there.now there.rank_is) (inr (refl, inl lt))
+ahead_before reading stands network state (Ripening w) first there lt = inr (refl, inl lt)
+ahead_before reading stands network state (Act part device) first there lt = inr (refl, inl lt)
+ahead_before reading stands network state (Departure place) first there lt =
+    subst (IsBefore (place_of (settled_at network state.time first))) (ranked_at state.time 8 place there.now there.rank_is) (inr (refl, inl lt))
+ahead_before reading stands network state (Clock device) first there lt = inr (refl, inl lt)
 
 -- where something is settled, a source that comes first of it is not later
 pub none_settled : (settled : List Settled) (time : ℕ) → SourceFirst settled (Later time) → settled ≡ []
 none_settled [] time first = refl
-none_settled (z ∷ zs) time first = absurd (first z zs refl tt)
+none_settled (z ∷ zs) time first = let above = first z zs refl in let most = rank_most z.body in absurd (omega (arith, above, most))
 
 -- nothing that is settled is before what the first of it is not before
 none_sooner : (network : Network) (now : ℕ) (settled : List Settled) (w : List ℕ) → InOrder (map (settled_at network now) settled)
@@ -119,14 +115,29 @@ module _ {C M : Type 0} (last_step : C → ℕ) (reading : C → ℕ → ℕ) (s
       let run = may.well.running in
       record { s = run.s; notes = run.notes; is = run.is; first = comes_first state source run.s run.notes may now run.is }
 
-  -- nothing that is under way is before a record that is ahead of the first source
-  pub nothing_ahead : (state : State C M) (source : Source) (z : Settled) → IsForemost reading stands network state source → IsAhead (own_numbers source) z
-      → HasNothingBefore reading stands network state (place_of (settled_at network state.time z))
+  -- nothing that is under way is before a record of a lower rank than the first source
+  pub nothing_ahead : (state : State C M) (source : Source) (z : Settled) → IsForemost reading stands network state source
+      → rank z.body < source_rank source → HasNothingBefore reading stands network state (place_of (settled_at network state.time z))
   nothing_ahead state source z foremost ahead =
       let w = source_place state.time source in
       let p = place_of (settled_at network state.time z) in
       let before = ahead_before reading stands network state source z foremost.there ahead in
       sooner_too reading stands network state w p foremost.nothing (λ b. never_self p (chain p w p before b))
+
+  -- where what is settled comes first, it may be given: one of the rank of the source stands where its own does
+  pub may_give_first : (state : State C M) (source : Source) → IsForemost reading stands network state source → SettledFirst state.settled.items source
+      → MayGive reading stands network state
+  may_give_first state source foremost is = record {
+    first = is.first;
+    others = is.others;
+    whole = is.whole;
+    before = elim (cases_lt (rank is.first.body) (source_rank source)) [
+      | inl lt ↦ inl (nothing_ahead state source is.first foremost lt)
+      | inr le ↦
+          let least = is.ahead in
+          inr (at_rank is.first.body (subst IsSourceRank (let e : source_rank source ≡ rank is.first.body = omega (arith, le, least) in e) (ranks source)))
+    ];
+  }
 
   -- nothing comes before the first that is settled, where nothing that is under way is before it
   pub first_gives : (state : State C M) (z : Settled) (others : List Settled) (s : Scenario) (notes : List Note)
@@ -142,6 +153,15 @@ module _ {C M : Type 0} (last_step : C → ℕ) (reading : C → ℕ → ℕ) (s
     where
       first_is : (x : Settled) (rest : List Settled) → state.settled.items ≡ x ∷ rest → x ≡ z
       first_is x rest is = let e : x ∷ rest ≡ z ∷ others = sym is ∙ whole in cc
+
+  -- nor where it stands where its source does
+  pub gives_first : (state : State C M) (may : MayGive reading stands network state) (s : Scenario) (notes : List Note) → IsSound last_step network state
+      → (old : Stands reading (keeps stands) s (world_of network state) notes)
+      → NoSourceBefore s (happenings s.network notes) old.cursor (place_of (settled_at network state.time may.first))
+  gives_first state may s notes sound old = elim may.before [
+    | inl nothing ↦ first_gives state may.first may.others s notes sound nothing may.whole old
+    | inr source ↦ own_gives reading stands network state may.first may.others s notes source may.whole old
+  ]
 
   -- where nothing is settled, and nothing under way before a later time, the records are the run up to it
   pub whole_run : (state : State C M) (s : Scenario) (notes : List Note) (until : ℕ) → IsSound last_step network state
@@ -312,10 +332,6 @@ now_so other not = tt
 pub either_end : {A E : Type 0} (result : Result A E) (P Q R : Type 0) → OnOk result P → OnErr result Q → (P → R) → (Q → R) → R
 either_end (Ok a) P Q R ok err f g = f ok
 either_end (Err e) P Q R ok err f g = g err
-
--- where nothing is settled, a source comes first of it
-pub empty_first : (settled : List Settled) (source : Source) → settled ≡ [] → SourceFirst settled source
-empty_first settled source empty first others whole ahead = let e : first ∷ others ≡ [] = sym whole ∙ empty in absurd cc
 
 -- where a turn fails, it is not the time yet
 pub err_open : {C M : Type 0} (E : Type 0) (old new : State C M) (result : Result Turn E) (until : ℕ) → old.time < until

@@ -1,27 +1,44 @@
 -- What a device has to do, and where its acts lead.
-use Rattle.std.specs.Prelude.{◌<ℤ◌, ◌≡◌, ◌⊎◌, Bool, List, Option, Some, false, pos, slice_get, true, ℕ}
-use Rattle.{drift_world.specs.Views.world_of, run_law.specs.machines.Nodes.Node, world_state.specs.Keeping.keeps}
-use Rattle.{drift_world.specs.declared.state.State.State, world_law.specs.world.World.{Stands, act_place}}
-use Rattle.{net_plan.specs.declared.ids.DeviceId.DeviceId, world_law.specs.world.Calls.{IsDueNow, moment_of}}
-use Rattle.{net_plan.specs.declared.network.Network.Network, run_law.specs.records.Order.{IsBefore, IsIn, behind}}
-use Rattle.{run_law.specs.{declared.note.Note.Note, records.Ranks.place_of}, world_state.specs.declared.kept.Kept.Kept}
-use Rattle.run_law.specs.{machines.Tasks.{IsDueReading, IsPending, Task, reading_for}, records.Happenings.Happening}
+use Rattle.std.specs.Prelude.{◌<ℤ◌, ◌<◌, ◌∷◌, ◌≡◌, All, List, Option, Some, pos, slice_get, true, ℕ}
+use Rattle.drift_world.specs.{Parts.{IsFirstPart, IsNoSooner}, Showing.IsOf}
+use Rattle.drift_world.specs.declared.{part.{Part.Part, ToDo.{ToDo, TheVariants.{Give, Next, Now}}}, state.State.State}
+use Rattle.{run_law.specs.machines.Nodes.Node, world_state.specs.Keeping.keeps}
+use Rattle.{net_plan.specs.declared.ids.DeviceId.DeviceId, world_law.specs.world.World.{Stands, World, is_at_source}}
+use Rattle.{net_plan.specs.declared.network.Network.Network, run_law.specs.records.Order.IsBefore}
+use Rattle.{run_law.specs.{declared.note.Note.Note, records.Ranks.rank}, world_state.specs.declared.kept.Kept.Kept}
+use Rattle.{run_law.specs.machines.Tasks.{IsDueReading, IsPending, Task, reading_for}, world_state.specs.declared.contents.Settled.Settled}
 use Rattle.{run_law.specs.scenario.Scenarios.Scenario, tte_units.specs.declared.units.Units.Units}
 
--- in each scenario for which the state stands the device has something to do now
+-- in each scenario whose clocks, ways and broken devices the state shows, the device has something to do now, and the
+-- first of it is of the part
 abbrev pub IsDueAt : {C M : Type 0} → (C → ℕ → ℕ) → (M → Network → DeviceId → Node → Type 0) → Network → State C M
-    → DeviceId → Type 0
-IsDueAt reading stands network state device =
-    (s : Scenario) (notes : List Note) (machine : Kept _)
-    → Stands reading (keeps stands) s (world_of network state) notes
-    → slice_get state.machines.items device.0 ≡ Some machine
-    → IsDueNow (keeps stands) s.network device (moment_of s device state.time) machine
+    → Part → DeviceId → Type 0
+IsDueAt reading stands network state part device =
+    (s : Scenario) (machine : Kept _) (node : Node) → IsOf reading s network state
+    → slice_get state.machines.items device.0 ≡ Some machine → keeps stands machine s.network device node
+    → IsFirstPart s.network device node (pos (s.reading device state.time)) part
+
+-- and in each such scenario nothing that it has to do now is of an earlier part
+abbrev pub IsFrom : {C M : Type 0} → (C → ℕ → ℕ) → (M → Network → DeviceId → Node → Type 0) → Network → State C M
+    → Part → DeviceId → Type 0
+IsFrom reading stands network state part device =
+    (s : Scenario) (machine : Kept _) (node : Node) → IsOf reading s network state
+    → slice_get state.machines.items device.0 ≡ Some machine → keeps stands machine s.network device node
+    → IsNoSooner s.network device node (pos (s.reading device state.time)) part
 
 -- it has nothing to do now
 abbrev pub IsIdle : {M : Type 0} → (M → Network → DeviceId → Node → Type 0) → Scenario → ℕ → DeviceId → Kept M → Type 0
 IsIdle stands s now device machine =
     (node : Node) (task : Task) → keeps stands machine s.network device node → IsPending s.network device node task
     → pos (s.reading device now) <ℤ reading_for s.network node task
+
+-- and so in each such scenario
+abbrev pub IsIdleAt : {C M : Type 0} → (C → ℕ → ℕ) → (M → Network → DeviceId → Node → Type 0) → Network → State C M
+    → DeviceId → Type 0
+IsIdleAt reading stands network state device =
+    (s : Scenario) (machine : Kept _) → IsOf reading s network state
+    → slice_get state.machines.items device.0 ≡ Some machine
+    → IsIdle stands s state.time device machine
 
 -- the device acts by itself at this reading next, or never
 abbrev pub IsNextDue : {C M : Type 0} → (M → Network → DeviceId → Node → Type 0) → State C M → DeviceId → Option Units
@@ -31,13 +48,35 @@ IsNextDue stands state device due =
     → slice_get state.machines.items device.0 ≡ Some machine → keeps stands machine network d node
     → IsDueReading network d node due
 
--- where an act leaves the cursor, if more is due or not
-abbrev pub act_cursor : Bool → ℕ → DeviceId → List ℕ
-act_cursor true now device = act_place now device
-act_cursor false now device = behind (act_place now device)
+-- nothing that the device has to do at the time is of an earlier part
+abbrev pub IsPartAt : {C M : Type 0} → (C → ℕ → ℕ) → (M → Network → DeviceId → Node → Type 0) → State C M → DeviceId → ℕ
+    → Part → Type 0
+IsPartAt reading stands state device time part =
+    (clock : _) (machine : Kept _) (network : Network) (d : DeviceId) (node : Node)
+    → slice_get state.clocks.items device.0 ≡ Some clock → slice_get state.machines.items device.0 ≡ Some machine
+    → keeps stands machine network d node → IsNoSooner network d node (pos (reading clock time)) part
 
--- what is settled is what was, or is not before the place of the act
-abbrev pub SettlesFrom : {C M : Type 0} → Network → DeviceId → State C M → State C M → Type 0
-SettlesFrom network device old new =
-    (z : Happening) → IsIn z (world_of network new).settled
-    → IsIn z (world_of network old).settled ⊎ (IsBefore (place_of z) (act_place old.time device) → ⊥)
+-- all that is settled is of a higher rank than this
+abbrev pub AreAbove : {C M : Type 0} → ℕ → State C M → Type 0
+AreAbove low state = All (λ (z : Settled). low < rank z.body) state.settled.items
+
+-- the first that is settled stands where it was done
+pub record HasOwn {C M : Type 0} (state : State C M) : Type 0 where
+  pub first : Settled
+  pub others : List Settled
+  pub whole : state.settled.items ≡ first ∷ others
+  pub own : is_at_source first.body ≡ true
+
+-- this is what the device has to do
+abbrev pub IsLeft : {C M : Type 0} → (C → ℕ → ℕ) → (M → Network → DeviceId → Node → Type 0) → Network → State C M
+    → DeviceId → ToDo → Type 0
+IsLeft reading stands network state device Give = HasOwn state
+IsLeft reading stands network state device (Now part) = IsDueAt reading stands network state part device
+IsLeft reading stands network state device (Next due) =
+    IsNextDue stands state device due × IsIdleAt reading stands network state device
+
+-- the world stands, and the cursor is not before the place
+abbrev pub StandsFrom : {C M : Type 0} → (C → ℕ → ℕ) → (M → Network → DeviceId → Node → Type 0) → Scenario
+    → World C (Kept M) → List Note → List ℕ → Type 0
+StandsFrom reading stands s world notes p =
+    (new : Stands reading (keeps stands) s world notes) × (IsBefore new.cursor p → ⊥)

@@ -2,7 +2,7 @@
 use Rattle.std.specs.Prelude.{◌*◌, ◌≡◌, ◌≤◌, All, List, Some, [], false, length, map, replicate, slice_get, true, ℕ}
 use Rattle.{drift_world.specs.declared.state.State.State, run_law.specs.machines.Nodes.{Node, begun_node}}
 use Rattle.{net_plan.specs.declared.{ids.DeviceId.DeviceId, network.Network.Network}, tte_units.specs.Amount.amount}
-use Rattle.world_state.specs.{Beginning.first_way, Keeping.sound_one, timers.Times.never}
+use Rattle.world_state.specs.{Beginning.first_way, Keeping.sound_one, timers.Times.unset}
 
 -- there is a machine for each device, which has just begun
 pub record AreFresh {M : Type 0} (stands : M → Network → DeviceId → Node
@@ -25,7 +25,7 @@ pub record IsFirstState {C M : Type 0} (fresh : ℕ → C) (last_step : C → �
   pub stored : state.stored.items ≡ []
   pub befell : state.befell.items ≡ []
   pub settled : state.settled.items ≡ []
-  pub timers : state.timers ≡ replicate (2 * length network.device) never
+  pub timers : state.timers ≡ replicate (2 * length network.device) unset
   pub early : state.early ≡ true
   pub pending : state.pending ≡ false
   pub time : state.time ≡ 0

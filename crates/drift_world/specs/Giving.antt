@@ -1,5 +1,5 @@
 -- The frame of a record is given out.
-use Rattle.std.specs.Prelude.{◌+◌, ◌<◌, ◌^◌, ◌≡◌, ◌≤◌, IfNone, IfSome, List, None, Option, Some, [], length}
+use Rattle.std.specs.Prelude.{◌+◌, ◌<◌, ◌^◌, ◌≡◌, ◌≤◌, IfNone, IfSome, List, None, Option, Some, length}
 use Rattle.std.specs.Prelude.{slice_get, ℕ}
 use Rattle.{drift_world.specs.Views.with_first, run_law.specs.{machines.Nodes.Node, scenario.Scenarios.Scenario}}
 use Rattle.{drift_world.specs.declared.state.State.State, tte_units.specs.declared.frames.pcf.Pcf.Pcf}

@@ -5,6 +5,7 @@ pub mod Giving
 pub mod Later
 pub mod Locals
 pub mod Nearing
+pub mod Parts
 pub mod Ripening
 pub mod Running
 pub mod Showing

@@ -1,5 +1,5 @@
 -- Where a state stands, and what a step of it leaves.
-use Rattle.std.specs.Prelude.{◌*◌, ◌+◌, ◌<◌, ◌^◌, ◌↔◌, ◌≡◌, ◌≤ℤ◌, ◌≤◌, ◌⊎◌, All, IfSome, IsSomeAnd, List, Option}
+use Rattle.std.specs.Prelude.{◌*◌, ◌+◌, ◌<◌, ◌^◌, ◌↔◌, ◌≡◌, ◌≤ℤ◌, ◌≤◌, ◌⊎◌, IfSome, IsSomeAnd, List, Option}
 use Rattle.std.specs.Prelude.{Some, length, pos, slice_get, ℕ}
 use Rattle.net_plan.specs.declared.{ids.DeviceId.DeviceId, network.Network.Network}
 use Rattle.run_law.specs.{declared.note.Note.Note, records.Order.{IsIn, behind}}
@@ -7,8 +7,11 @@ use Rattle.run_law.specs.{machines.{Nodes.Node, Tasks.{IsPending, Task, reading_
 use Rattle.tte_units.specs.declared.units.Units.{Units}
 use Rattle.world_law.specs.world.{Moves.{ComesFirst, StandsBehind}, World.Stands}
 use Rattle.world_state.specs.Keeping.{keeps}
-use Rattle.world_state.specs.{declared.{contents.{Settled.Settled, Waits.Waits}, kept.Kept.Kept}, timers.Times.never}
-use Rattle.drift_world.specs.{Sound.IsSized, Views.{with_settled, world_of}, declared.state.State.State}
+use Rattle.world_state.specs.{declared.{contents.{Settled.Settled, Waits.Waits}, kept.Kept.Kept}, timers.Times.{AreFrom, never}}
+use Rattle.world_state.specs.declared.timers.Timer.{Timer}
+use Rattle.drift_world.specs.{Acting.IsPartAt, Parts.{IsNoSooner, part_rank}, Sound.IsSized, Views.{with_settled, world_of}}
+use Rattle.drift_world.specs.declared.state.State.{State}
+use Rattle.drift_world.specs.declared.part.Part.{Part}
 
 -- some scenario and records leave the state where it stands
 pub record IsRunning {C M : Type 0} (reading : C → ℕ → ℕ) (stands : M → Network → DeviceId → Node
@@ -53,39 +56,43 @@ pub record IsRipeAt {C : Type 0} (reading : C → ℕ
   pub one : time < never → (w : Waits) × IsIn w waiting × (w.device.0 ≡ device)
       × (w.point.0 ≤ℤ pos (reading clock time))
 
--- the device has nothing to do before the time, and where that is a time, something then
+-- the device has nothing to do before the time, and where that is a time, it has something to do then, and nothing of an
+-- earlier part
 pub record ActsAt {C M : Type 0} (reading : C → ℕ → ℕ) (stands : M → Network → DeviceId → Node
     → Type 0) (network : Network) (clock : C)
-    (machine : Kept M) (device : DeviceId) (now time : ℕ) : Type 0 where
+    (machine : Kept M) (device : DeviceId) (now time : ℕ) (part : Part) : Type 0 where
   pub none : (node : Node) (task : Task) → keeps stands machine network device node → IsPending network device node task
       → (u : ℕ) → now ≤ u → u ≤ 2 ^ 60 → reading_for network node task ≤ℤ pos (reading clock u) → time ≤ u
   pub one : time < never → (node : Node) → keeps stands machine network device node
       → (task : Task) × IsPending network device node task × (reading_for network node task ≤ℤ pos (reading clock time))
+  pub late : time < never → (node : Node) → keeps stands machine network device node
+      → IsNoSooner network device node (pos (reading clock time)) part
 
 -- the timer of the device for the frames that wait at it is right
-pub record IsRipeTimed {C M : Type 0} (reading : C → ℕ → ℕ) (timers : List ℕ) (state : State C M)
+pub record IsRipeTimed {C M : Type 0} (reading : C → ℕ → ℕ) (timers : List Timer) (state : State C M)
     (device : DeviceId) : Type 0 where
   pub clock : C
   pub of_clock : slice_get state.clocks.items device.0 ≡ Some clock
   pub ripe : ℕ
-  pub of_ripe : slice_get timers device.0 ≡ Some ripe
+  pub of_ripe : slice_get timers device.0 ≡ Some (record { time = ripe; rank = 3 })
   pub ripens : IsRipeAt reading clock state.waiting.items device.0 state.time ripe
 
--- its timer for what it does by itself is right
+-- that for what it does by itself is right
 pub record IsActTimed {C M : Type 0} (reading : C → ℕ → ℕ) (stands : M → Network → DeviceId → Node
-    → Type 0) (network : Network) (timers : List ℕ)
+    → Type 0) (network : Network) (timers : List Timer)
     (state : State C M) (device : DeviceId) : Type 0 where
   pub clock : C
   pub of_clock : slice_get state.clocks.items device.0 ≡ Some clock
   pub machine : Kept M
   pub of_machine : slice_get state.machines.items device.0 ≡ Some machine
   pub act : ℕ
-  pub of_act : slice_get timers (length network.device + device.0) ≡ Some act
-  pub acts : ActsAt reading stands network clock machine device state.time act
+  pub part : Part
+  pub of_act : slice_get timers (length network.device + device.0) ≡ Some (record { time = act; rank = part_rank part })
+  pub acts : ActsAt reading stands network clock machine device state.time act part
 
--- both timers of the device are right: one for the frames that wait at it, and one for what it does by itself
+-- both timers of the device are right: that for the frames that wait at it, and that for what it does by itself
 pub record IsTimed {C M : Type 0} (reading : C → ℕ → ℕ) (stands : M → Network → DeviceId → Node
-    → Type 0) (network : Network) (timers : List ℕ)
+    → Type 0) (network : Network) (timers : List Timer)
     (state : State C M) (device : DeviceId) : Type 0 where
   pub ripe : IsRipeTimed reading timers state device
   pub act : IsActTimed reading stands network timers state device
@@ -95,6 +102,7 @@ pub record MayRekey {C M : Type 0} (last_step : C → ℕ) (reading : C → ℕ 
     → Type 0) (network : Network) (state : State C M) (device : DeviceId) : Type 0 where
   pub sized : IsSized last_step network state
   pub there : device.0 < length network.device
+  pub few : length network.device < 2 ^ 32
   pub slots : length state.timers ≡ 2 * length network.device
   pub running : IsRunning reading stands network state
 
@@ -103,9 +111,9 @@ pub record SetsOnly {C M : Type 0} (IsSet : ℕ → Type 0) (old new : State C M
   pub same : new ≡ record old { timers = new.timers }
   pub sized : length new.timers ≡ length old.timers
   pub others : (slot : ℕ) → (IsSet slot → ⊥) → slice_get new.timers slot ≡ slice_get old.timers slot
-  pub later : All (λ (time : ℕ). old.time ≤ time) old.timers → All (λ (time : ℕ). new.time ≤ time) new.timers
+  pub later : AreFrom old.time old.timers → AreFrom new.time new.timers
 
--- both timers of the device are set, and they alone
+-- the timers of the device are set, and they alone
 pub record IsRekeyed {C M : Type 0} (reading : C → ℕ → ℕ) (stands : M → Network → DeviceId → Node
     → Type 0) (network : Network) (device : DeviceId) (old new : State C M) : Type 0 where
   pub sets : SetsOnly (λ slot. (slot ≡ device.0) ⊎ (slot ≡ length network.device + device.0)) old new
@@ -116,9 +124,21 @@ pub record IsDueBy {C : Type 0} (reading : C → ℕ → ℕ) (clock : C) (due :
   pub none : IfSome due (λ at. (u : ℕ) → now ≤ u → u ≤ 2 ^ 60 → at.0 ≤ℤ pos (reading clock u) → time ≤ u)
   pub one : time < never → IsSomeAnd due (λ at. at.0 ≤ℤ pos (reading clock time))
 
+-- so is a timer of one of the parts, but for the part
+pub record IsTimerBy {C : Type 0} (reading : C → ℕ → ℕ) (clock : C) (due : Option Units) (now : ℕ) (timer : Timer) : Type 0 where
+  pub by : IsDueBy reading clock due now timer.time
+  pub part : Part
+  pub rank_is : timer.rank ≡ part_rank part
+
 -- and so is that of the state
 abbrev pub IsDueTimed : {C M : Type 0} → (C → ℕ → ℕ) → Network → State C M → ℕ → Option Units → Type 0
 IsDueTimed reading network state device due =
-    (clock : _) (time : ℕ)
-    → slice_get state.clocks.items device ≡ Some clock
-    → slice_get state.timers (length network.device + device) ≡ Some time → IsDueBy reading clock due state.time time
+    (clock : _) (timer : Timer) → slice_get state.clocks.items device ≡ Some clock
+    → slice_get state.timers (length network.device + device) ≡ Some timer → IsTimerBy reading clock due state.time timer
+
+-- the timer is that of a part, and nothing that the device has to do at its time is of an earlier one
+abbrev pub KeepsPart : {C M : Type 0} → (C → ℕ → ℕ) → (M → Network → DeviceId → Node → Type 0) → Network → State C M → ℕ
+    → Type 0
+KeepsPart reading stands network state device =
+    (timer : Timer) (part : Part) → slice_get state.timers (length network.device + device) ≡ Some timer
+    → timer.rank ≡ part_rank part → IsPartAt reading stands state (record { 0 = device }) timer.time part

@@ -1,17 +1,18 @@
 -- How a world goes on, one source after the other.
-use Rattle.std.specs.Prelude.{◌++◌, ◌+◌, ◌-◌, ◌<◌, ◌^◌, ◌∷◌, ◌≡◌, ◌≤ℤ◌, ◌≤◌, ◌⊎◌, Err, List, None, Ok, Option, Result}
+use Rattle.std.specs.Prelude.{◌++◌, ◌+◌, ◌-◌, ◌<◌, ◌^◌, ◌∷◌, ◌≡◌, ◌≤ℤ◌, ◌≤◌, ◌⊎◌, Err, List, Ok, Result}
 use Rattle.std.specs.{Prelude.{Some, [], false, length, pos, slice_get, true, ℕ}, VecDeque.{deque_capacity, deque_len}}
-use Rattle.{drift_world.specs.{Nearing.{IsLess, Nears}, Views.world_of}, tte_units.specs.Amount.{amount, units_of}}
+use Rattle.{drift_world.specs.{Nearing.{IsLess, Nears}, Views.world_of}, tte_units.specs.Amount.units_of}
 use Rattle.drift_world.specs.{Sourcing.{HasNothingBefore, IsRipePlace, due_place}, declared.source.Source.Source}
 use Rattle.{drift_world.specs.{Wells.IsWell, declared.state.State.State}, world_state.specs.declared.queue.DueAt.DueAt}
 use Rattle.drift_world.specs.declared.{next.Turn.TheVariants.{Ends, Gives, GoesOn}, source.Source.TheVariants.Ripening}
-use Rattle.{drift_world.specs.declared.next.Turn.Turn, world_state.specs.declared.{kept.Kept.Kept, timers.Due.Due}}
+use Rattle.{drift_world.specs.declared.next.Turn.Turn, world_state.specs.declared.timers.Due.Due}
 use Rattle.drift_world.specs.declared.source.Source.TheVariants.{Act, Arrival, Clock, Departure, Events, Later}
 use Rattle.net_plan.specs.{Ranges.IsInRange, declared.{ids.DeviceId.DeviceId, network.Network.Network}}
-use Rattle.{run_law.specs.{declared.note.Note.Note, machines.Calls.HasDue}, world_state.specs.Places.own_place}
-use Rattle.{run_law.specs.machines.Nodes.Node, world_state.specs.{Frames.first_of, Keeping.keeps, Views.waiting_as}}
-use Rattle.run_law.specs.{records.Order.{IsBefore, IsIn}, runs.DueRecords.IsScenarioRun, scenario.Scenarios.Scenario}
-use Rattle.world_law.specs.world.World.{Stands, act_place, clock_place, ripe_place}
+use Rattle.{drift_world.specs.Acting.IsFrom, run_law.specs.{declared.note.Note.Note, records.Ranks.{place_of, rank}}}
+use Rattle.drift_world.specs.{Parts.{part_place, part_rank}, declared.part.Part.Part}
+use Rattle.{run_law.specs.machines.Nodes.Node, world_state.specs.{Frames.first_of, Keeping.keeps, Views.{settled_at, waiting_as}}}
+use Rattle.run_law.specs.{records.Order.IsIn, runs.DueRecords.IsScenarioRun, scenario.Scenarios.Scenario}
+use Rattle.world_law.specs.world.World.{Stands, clock_place, is_at_source, ripe_place}
 use Rattle.world_state.specs.{declared.contents.{Settled.Settled, Waits.Waits}, queue.Places.{IsFirst, numbers_of}}
 
 -- the place of a source, at the present time
@@ -19,7 +20,7 @@ abbrev pub source_place : ℕ → Source → List ℕ
 source_place now Events = now ∷ 2 ∷ []
 source_place now (Arrival place) = numbers_of place
 source_place now (Ripening w) = ripe_place now (waiting_as w)
-source_place now (Act device) = act_place now device
+source_place now (Act part device) = part_place part now device
 source_place now (Departure place) = numbers_of place
 source_place now (Clock device) = clock_place now device
 source_place now (Later time) = time ∷ []
@@ -42,17 +43,14 @@ pub record IsRipe {C M : Type 0} (reading : C → ℕ
   pub own : slice_get state.clocks.items w.device.0 ≡ Some clock
   pub reached : w.point.0 ≤ℤ pos (reading clock state.time)
 
--- the device has something to do now
+-- the timer of the device is due now for this part, and nothing that it has to do now is of an earlier one
 pub record IsActive {C M : Type 0} (reading : C → ℕ → ℕ) (stands : M → Network → DeviceId → Node
-    → Type 0) (network : Network) (state : State C M)
+    → Type 0) (network : Network) (state : State C M) (part : Part)
     (device : DeviceId) : Type 0 where
   pub of : device.0 < length network.device
-  pub clock : C
-  pub own : slice_get state.clocks.items device.0 ≡ Some clock
-  pub machine : Kept M
-  pub there : slice_get state.machines.items device.0 ≡ Some machine
-  pub due : (node : Node) → keeps stands machine network device node
-      → HasDue network device node (pos (reading clock state.time))
+  pub due : slice_get state.timers (length network.device + device.0)
+      ≡ Some (record { time = state.time; rank = part_rank part })
+  pub late : IsFrom reading stands network state part device
 
 -- the clock of the device is to be shown
 pub record IsToShow {C M : Type 0} (network : Network) (state : State C M) (device : DeviceId) : Type 0 where
@@ -66,16 +64,15 @@ abbrev pub IsThere : {C M : Type 0} → (C → ℕ → ℕ) → (M → Network �
 IsThere reading stands network state Events = state.pending ≡ true
 IsThere reading stands network state (Arrival place) = IsDueEntry network state 2 place
 IsThere reading stands network state (Ripening w) = IsRipe reading network state w
-IsThere reading stands network state (Act device) = IsActive reading stands network state device
+IsThere reading stands network state (Act part device) = IsActive reading stands network state part device
 IsThere reading stands network state (Departure place) = IsDueEntry network state 8 place
 IsThere reading stands network state (Clock device) = IsToShow network state device
 IsThere reading stands network state (Later time) = state.time < time
 
 -- the place is that of what a slot is for, which is due now: the first of the frames that wait at its device, or the
--- act of its device
-abbrev pub IsSlotPlace : {C M : Type 0} → (C → ℕ → ℕ) → Network → State C M → ℕ → List ℕ → Type 0
-IsSlotPlace reading network state slot p =
-    let due : Due = record { time = state.time; slot = slot } in
+-- acts of its device
+abbrev pub IsSlotPlace : {C M : Type 0} → (C → ℕ → ℕ) → Network → State C M → Due → List ℕ → Type 0
+IsSlotPlace reading network state due p =
     (p ≡ due_place (length network.device) due) ⊎ IsRipePlace reading network state due p
 
 -- it is of the present instant
@@ -88,42 +85,37 @@ abbrev pub IsWithin : ℕ → Source → Type 0
 IsWithin until (Later time) = time ≤ until
 IsWithin until other = Unit {0}
 
--- the numbers of its place behind the time, where it is of the present instant
-abbrev pub own_numbers : Source → Option (List ℕ)
-own_numbers Events = Some (2 ∷ [])
-own_numbers (Arrival place) = Some (2 ∷ place.device ∷ place.link ∷ place.cause ∷ [])
-own_numbers (Ripening w) = Some (3 ∷ w.device.0 ∷ amount w.point ∷ w.frame.members.0 ∷ w.link.0 ∷ w.cause ∷ [])
-own_numbers (Act device) = Some (4 ∷ device.0 ∷ [])
-own_numbers (Departure place) = Some (8 ∷ place.device ∷ place.link ∷ place.cause ∷ [])
-own_numbers (Clock device) = Some (14 ∷ device.0 ∷ [])
-own_numbers (Later time) = None
+-- its rank among those of the present instant: more than that of any record, where it is not of this
+abbrev pub source_rank : Source → ℕ
+source_rank Events = 2
+source_rank (Arrival place) = 2
+source_rank (Ripening w) = 3
+source_rank (Act part device) = part_rank part
+source_rank (Departure place) = 8
+source_rank (Clock device) = 14
+source_rank (Later time) = 15
 
--- the first of them: more than that of any record, where it is not of the present instant
-abbrev pub rank_in_order : Source → ℕ
-rank_in_order Events = 2
-rank_in_order (Arrival place) = 2
-rank_in_order (Ripening w) = 3
-rank_in_order (Act device) = 4
-rank_in_order (Departure place) = 8
-rank_in_order (Clock device) = 14
-rank_in_order (Later time) = 15
-
--- the record is before these numbers, if there are such
-abbrev pub IsAhead : Option (List ℕ) → Settled → Type 0
-IsAhead None z = Unit {0}
-IsAhead (Some numbers) z = IsBefore (own_place z) numbers
-
--- something is settled, of which the first is ahead of the source
+-- something is settled, of which the first is of no higher rank than the source
 pub record SettledFirst (settled : List Settled) (source : Source) : Type 0 where
   pub first : Settled
   pub others : List Settled
   pub whole : settled ≡ first ∷ others
-  pub ahead : IsAhead (own_numbers source) first
+  pub ahead : rank first.body ≤ source_rank source
 
--- or nothing that is settled is
+-- or all that is settled is of a higher rank
 abbrev pub SourceFirst : List Settled → Source → Type 0
 SourceFirst settled source = (first : Settled) (others : List Settled) → settled ≡ first ∷ others
-    → IsAhead (own_numbers source) first → ⊥
+    → source_rank source < rank first.body
+
+-- something is settled: the first of it is before all that is to come, or stands where its source does, which is worked
+-- off
+pub record MayGive {C M : Type 0} (reading : C → ℕ → ℕ) (stands : M → Network → DeviceId → Node
+    → Type 0) (network : Network) (state : State C M) : Type 0 where
+  pub first : Settled
+  pub others : List Settled
+  pub whole : state.settled.items ≡ first ∷ others
+  pub before : HasNothingBefore reading stands network state (place_of (settled_at network state.time first))
+      ⊎ (is_at_source first.body ≡ true)
 
 -- there is room for two more records that are settled, and there are numbers for them
 pub record HasRoom {C M : Type 0} (state : State C M) : Type 0 where
@@ -248,10 +240,3 @@ abbrev pub WorkSays : {C M : Type 0} → Network → State C M → State C M →
 WorkSays network old new note Gives = GivesAt old new note Gives
 WorkSays network old new note GoesOn = (new.time ≡ old.time) × (new.given ≡ old.given) × IsLess network old new
 WorkSays network old new note Ends = ⊥
-
--- nothing of the present instant that is to come stands before a place of a lower rank
-abbrev pub IsNextRank : {C M : Type 0} → (C → ℕ → ℕ) → (M → Network → DeviceId → Node → Type 0) → Network → State C M
-    → ℕ → Type 0
-IsNextRank reading stands network state next =
-    (rank : ℕ) (rest : List ℕ) → rank < next
-    → HasNothingBefore reading stands network state (state.time ∷ rank ∷ rest)

@@ -1,20 +1,25 @@
 ghost use Rattle.std.specs.Prelude.{◌+◌, ◌-◌, ◌<ℤ◌, ◌<◌, ◌^◌, ◌≡◌, ◌≤ℤ◌, ◌≤◌, IfOk, IfSome, IsFalse, IsSomeAnd, IsTrue};
-ghost use Rattle.std.specs.Prelude.{List, OnErr, OnOk, Some, false, length, slice_get, true, vec_capacity, ℕ};
+ghost use Rattle.std.specs.Prelude.{List, OnOk, Some, false, length, slice_get, true, vec_capacity, ℕ};
 ghost use Rattle.std.specs.VecDeque.{deque_capacity, deque_len};
-ghost use Rattle.drift_world.specs.{Acting.{IsDueAt, IsIdle, IsNextDue, SettlesFrom, act_cursor}, Views.world_of};
-ghost use Rattle.drift_world.specs.{Nearing.IsIdleAt, Sound.{IsSized, IsSound}, Stepping.{ChangesOnly, IsAt}};
-ghost use Rattle.{drift_world.specs.Showing.IsOf, world_state.specs.Keeping.keeps};
+ghost use Rattle.drift_world.specs.Acting.{AreAbove, HasOwn, IsDueAt, IsFrom, IsLeft, StandsFrom};
+ghost use Rattle.drift_world.specs.Parts.{IsLaterThan, IsNoSoonerLeft, part_place, part_rank};
+ghost use Rattle.drift_world.specs.{Sound.{IsSized, IsSound}, Stepping.{ChangesOnly, IsAt}, Views.world_of};
+ghost use Rattle.drift_world.specs.declared.part.ToDo.{ToDo as ToDoOf};
+ghost use Rattle.{drift_world.specs.Showing.IsOf, run_law.specs.records.Ranks.rank, world_state.specs.Keeping.keeps};
 ghost use Rattle.{net_plan.specs.Ranges.IsInRange, world_state.specs.declared.kept.Kept.{Kept as KeptValue}};
-ghost use Rattle.{net_plan.specs.declared.network.Network.Network, world_law.specs.world.World.{Stands, act_place}};
+ghost use Rattle.{net_plan.specs.declared.network.Network.Network, world_law.specs.world.World.Stands};
 ghost use Rattle.run_law.specs.{declared.{note.Note.Note, steps.Act.{Act as ActValue}}, scenario.Scenarios.Scenario};
-ghost use Rattle.{run_law.specs.records.Order.behind, world_state.specs.Acting.{AreOutcomes, HasItsRow, IsDispatched}};
+ghost use Rattle.world_state.specs.Acting.{AreOutcomes, HasItsRow, IsDispatched};
 ghost use Rattle.schedule_tables.specs.{Entries.IsEntry, declared.entry.Entry.{Entry as EntryValue}};
-ghost use Rattle.world_law.specs.world.{Calls.{HasActed, IsDueNow, moment_of}, Moves.{ComesFirst, StandsBehind}};
+ghost use Rattle.world_law.specs.world.{Calls.{HasActed, moment_of}, Moves.ComesFirst};
 
+use crate::part::{Part, ToDo, is_due};
 use crate::state::State;
+use device_rules::TellsKind;
 use drift_clock::Clock;
 use net_plan::{DeviceId, Network, RowId};
-use run_law::{Act, Machine, Moment};
+use run_law::plain::Rank;
+use run_law::{Act, Moment};
 use schedule_tables::entry_of;
 use std::mem::replace;
 use sync_state::State as Standing;
@@ -24,6 +29,7 @@ use world_state::contents::Settled;
 use world_state::hands::{at_hand, dispatched};
 use world_state::outcomes::{Outcomes, corrected, emitted, put_both, sent};
 use world_state::packets::MOST_OCTETS;
+use world_state::settled::rank_of;
 
 /// Takes the memory out.
 fn taken(room: &mut Vec<u8>) -> Vec<u8>
@@ -33,13 +39,15 @@ fn taken(room: &mut Vec<u8>) -> Vec<u8>
     replace(room, Vec::new(alloc))
 }
 
-/// What a device has to do after an act.
-#[derive(Clone, Copy)]
-struct ToDo {
-    /// Is more due at the instant?
-    more: bool,
-    /// The reading at which it acts next, if it does.
-    due: Option<Units>,
+/// Does the first record of an act stand where it is done?
+fn is_at_source(outcomes: &Outcomes) -> bool
+    ensures yes { IsTrue result → IsSomeAnd outcomes.now.first (λ z. rank z.body ≤ 6) }
+    ensures no { IsFalse result → IfSome outcomes.now.first (λ z. 6 < rank z.body) }
+{
+    match &outcomes.first {
+        Some(first) => rank_of(first) < Rank::State.number(),
+        None => false,
+    }
 }
 
 /// Is the reading that is due, if there is one, reached?
@@ -53,7 +61,7 @@ fn is_reached(due: Option<Units>, reading: Units) -> bool
     }
 }
 
-impl<C: Clock, M: Machine + Drop> State<C, M> {
+impl<C: Clock, M: TellsKind + Drop> State<C, M> {
     /// The present instant, as the device meets it.
     fn moment_at(&self, network: &Network, device: DeviceId) -> Moment
         requires sized { IsSized C.last_step network.now self.now }
@@ -119,39 +127,37 @@ impl<C: Clock, M: Machine + Drop> State<C, M> {
         }
     }
 
-    /// What the device has to do, now and next, at this moment.
+    /// What the device has to do at this moment.
     fn left_to_do(&self, network: &Network, device: DeviceId, moment: Moment) -> ToDo
         requires sized { IsSized C.last_step network.now self.now }
         requires there { device.0 < length network.now.device }
         requires moment { (s : Scenario) → IsOf C.reading s network.now self.now
             → moment ≡ moment_of s device self.now.time }
-        ensures next { IsNextDue M.stands self.now device result.due }
-        ensures yes { result.more ≡ true → (s : Scenario) (machine : KeptValue M)
-            → IsOf C.reading s network.now self.now
-            → slice_get self.now.machines.items device.0 ≡ Some machine
-            → IsDueNow (keeps M.stands) s.network device (moment_of s device self.now.time) machine }
-        ensures no { result.more ≡ false → (s : Scenario) (machine : KeptValue M)
-            → IsOf C.reading s network.now self.now
-            → slice_get self.now.machines.items device.0 ≡ Some machine
-            → IsIdle M.stands s self.now.time device machine }
+        ensures { IsLeft C.reading M.stands network.now self.now device result }
     {
-        let due = self.machines[device.0 as usize].due();
-        ToDo {
-            more: is_reached(due, moment.reading),
-            due,
+        let machine = &self.machines[device.0 as usize];
+        let due = machine.due();
+        if is_reached(due, moment.reading) {
+            ToDo::Now(Part::of(machine.first_kind(moment.reading)))
+        } else {
+            ToDo::Next(due)
         }
     }
 
-    /// The device does the first of all that is due. What has it to do then?
+    /// The device does the first of all that is due, which is of the part. Is the first that is settled then to be given,
+    /// as it stands where it was done?
     #[inline(always)]
-    fn act_once(&mut self, network: &Network, device: DeviceId) -> ToDo
+    fn act_once(&mut self, network: &Network, part: Part, device: DeviceId, moment: Moment) -> bool
         requires sound { IsSound C.last_step network.now self.old }
         requires range { IsInRange network.now }
         requires there { device.0 < length network.now.device }
+        requires moment { (s : Scenario) → IsOf C.reading s network.now self.old
+            → moment ≡ moment_of s device self.old.time }
         requires room { deque_len self.old.settled + 2 ≤ deque_capacity self.old.settled }
         requires spare { 1514 ≤ vec_capacity self.old.spare }
-        requires due { IsDueAt C.reading M.stands network.now self.old device }
-        requires comes { IsAt C.reading M.stands network.now self.old (act_place self.old.time device) }
+        requires due { IsDueAt C.reading M.stands network.now self.old part device }
+        requires above { AreAbove (part_rank part) self.old }
+        requires comes { IsAt C.reading M.stands network.now self.old (part_place part self.old.time device) }
         ensures sound { IsSound C.last_step network.now self.new }
         ensures same { self.new ≡ record self.old {
           machines = self.new.machines;
@@ -161,16 +167,16 @@ impl<C: Clock, M: Machine + Drop> State<C, M> {
         } }
         ensures machines { (i : ℕ) → (i ≡ device.0 → ⊥)
             → slice_get self.new.machines.items i ≡ slice_get self.old.machines.items i }
-        ensures settled { SettlesFrom network.now device self.old self.new }
+        ensures own { result ≡ true → HasOwn self.new }
+        ensures above { result ≡ false → AreAbove (part_rank part) self.new }
         ensures stands { (s : Scenario) (notes : List Note)
             → (old : Stands C.reading (keeps M.stands) s (world_of network.now self.old) notes)
             → ComesFirst C.reading (keeps M.stands) s (world_of network.now self.old) notes old
-            (act_place self.old.time device)
-            → StandsBehind C.reading (keeps M.stands) s (world_of network.now self.new) notes
-            (act_cursor result.more self.old.time device) }
-        ensures next { IsNextDue M.stands self.new device result.due }
-        ensures due { result.more ≡ true → IsDueAt C.reading M.stands network.now self.new device }
-        ensures idle { result.more ≡ false → IsIdleAt C.reading M.stands network.now self.new device }
+            (part_place part self.old.time device)
+            → StandsFrom C.reading M.stands s (world_of network.now self.new) notes
+            (part_place part self.old.time device) }
+        ensures later { (left : ToDoOf) → IsLeft C.reading M.stands network.now self.new device left
+            → IsNoSoonerLeft part left }
         ensures acted { (s : Scenario) (notes : List Note) (machine : KeptValue M)
             → Stands C.reading (keeps M.stands) s (world_of network.now self.old) notes
             → slice_get self.old.machines.items device.0 ≡ Some machine
@@ -178,21 +184,18 @@ impl<C: Clock, M: Machine + Drop> State<C, M> {
             × HasActed (keeps M.stands) s.network device (moment_of s device self.old.time) act machine after }
     {
         let index = device.0 as usize;
-        let moment = self.moment_at(network, device);
         let was = self.machines[index].shown();
         let Some(act) = self.machines[index].act(moment) else {
-            return ToDo {
-                more: false,
-                due: None,
-            };
+            return false;
         };
         let is = self.machines[index].shown();
         let mut room = taken(&mut self.spare);
         let outcomes = self.outcomes_of(network, device, was.state, is.adjustment, act, &mut room);
         self.spare = room;
-        put_both(&mut self.settled, outcomes);
         self.early = false;
-        self.left_to_do(network, device, moment)
+        let gives = is_at_source(&outcomes);
+        put_both(&mut self.settled, outcomes);
+        gives
     }
 
     /// Makes place for two more records, for which there are numbers, and takes memory for the octets of a frame.
@@ -221,19 +224,22 @@ impl<C: Clock, M: Machine + Drop> State<C, M> {
         Ok(())
     }
 
-    /// The device does all that is due at the present instant. The reading at which it acts next is answered.
+    /// The device does what is due of the part at the present instant, up to the first act whose record stands where it
+    /// is done. What is to be done then is answered: the record is to be given, or what is due is of a later part.
     ///
     /// On an error it may have done some of it, and more is due.
-    pub fn act_first(
+    pub fn act_part(
         &mut self,
         network: &Network,
+        part: Part,
         device: DeviceId,
-    ) -> Result<Option<Units>, OutOfMemory>
+    ) -> Result<ToDo, OutOfMemory>
         requires sound { IsSound C.last_step network.now self.old }
         requires range { IsInRange network.now }
         requires there { device.0 < length network.now.device }
-        requires due { IsDueAt C.reading M.stands network.now self.old device }
-        requires comes { IsAt C.reading M.stands network.now self.old (act_place self.old.time device) }
+        requires from { IsFrom C.reading M.stands network.now self.old part device }
+        requires above { AreAbove (part_rank part) self.old }
+        requires comes { IsAt C.reading M.stands network.now self.old (part_place part self.old.time device) }
         ensures sound { IsSound C.last_step network.now self.new }
         ensures same { self.new ≡ record self.old {
           machines = self.new.machines;
@@ -245,27 +251,26 @@ impl<C: Clock, M: Machine + Drop> State<C, M> {
         ensures stands { (s : Scenario) (notes : List Note)
             → (old : Stands C.reading (keeps M.stands) s (world_of network.now self.old) notes)
             → ComesFirst C.reading (keeps M.stands) s (world_of network.now self.old) notes old
-            (act_place self.old.time device)
-            → IfOk result (λ done. StandsBehind C.reading (keeps M.stands) s (world_of network.now self.new) notes
-            (behind (act_place self.old.time device))) }
-        ensures err { (s : Scenario) (notes : List Note)
-            → (old : Stands C.reading (keeps M.stands) s (world_of network.now self.old) notes)
-            → ComesFirst C.reading (keeps M.stands) s (world_of network.now self.old) notes old
-            (act_place self.old.time device)
-            → OnErr result (Stands C.reading (keeps M.stands) s (world_of network.now self.new) notes) }
-        ensures idle { OnOk result (IsIdleAt C.reading M.stands network.now self.new device) }
-        ensures next { IfOk result (IsNextDue M.stands self.new device) }
+            (part_place part self.old.time device)
+            → Stands C.reading (keeps M.stands) s (world_of network.now self.new) notes }
+        ensures left { IfOk result (λ left. IsLaterThan part left
+            × IsLeft C.reading M.stands network.now self.new device left) }
     {
+        let moment = self.moment_at(network, device);
+        let mut left = self.left_to_do(network, device, moment);
         let mut acts: u32 = 0;
         'acts: loop {
+            if !is_due(left, part) {
+                return Ok(left);
+            }
             match self.reserve_two() {
                 Ok(()) => (),
                 Err(_) => return Err(OutOfMemory),
             }
-            let left = self.act_once(network, device);
-            if !left.more {
-                return Ok(left.due);
+            if self.act_once(network, part, device, moment) {
+                return Ok(ToDo::Give);
             }
+            left = self.left_to_do(network, device, moment);
             acts += 1;
         }
     }

@@ -6,9 +6,9 @@ ghost use Rattle.{run_law.specs.scenario.Scenarios.Scenario, world_law.specs.sou
 use crate::next::Turn;
 use crate::ripen::is_judged;
 use crate::state::State;
+use device_rules::TellsKind;
 use drift_clock::Clock;
 use net_plan::Network;
-use run_law::Machine;
 use run_law::plain::{PlainNote, Rank};
 use world_state::OutOfMemory;
 use world_state::contents::{Settled, Waits};
@@ -19,7 +19,7 @@ use world_state::settled::{put_in, rank_of};
 use world_state::storing::taker;
 use world_state::waiting::waiter;
 
-impl<C: Clock, M: Machine + Drop> State<C, M> {
+impl<C: Clock, M: TellsKind + Drop> State<C, M> {
     ghost use Rattle.world_state.specs.{Giving.{HasItsOctets, changed_device}, Keeping.keeps, Places.IsPutAt};
     ghost use Rattle.world_state.specs.Views.{settled_at};
     ghost use Rattle.drift_world.specs.{Giving.IsRunningWith, Sound.IsSound, Stepping.ChangesOnly};

@@ -2,9 +2,7 @@
 #![tactic(auto)]
 
 mod act;
-mod ahead;
 mod applying;
-mod at_once;
 mod befalling;
 mod begin;
 mod give;
@@ -12,12 +10,14 @@ mod hear;
 mod in_turn;
 mod local;
 mod next;
+mod part;
 mod ripe;
 mod ripen;
 mod source;
 mod state;
 mod stepping;
 mod timing;
+mod working;
 mod world;
 
 pub use world::World;

@@ -3,12 +3,11 @@ ghost use Rattle.std.specs.Prelude.{IsTrue, List, OnErr, OnOk, Some, [], false, 
 ghost use Rattle.{net_plan.specs.Ranges.IsInRange, run_law.specs.scenario.Scenarios.Scenario};
 ghost use Rattle.run_law.specs.{declared.note.Note.{Note as NoteOf}, runs.DueRecords.IsScenarioRun};
 
-use crate::ahead::{is_ahead_in_all, rank_in_order};
 use crate::source::{Source, least_of};
 use crate::state::State;
+use device_rules::TellsKind;
 use drift_clock::Clock;
 use net_plan::Network;
-use run_law::Machine;
 use run_law::plain::{PlainBody, PlainKind, PlainNote};
 use world_state::OutOfMemory;
 use world_state::queue::DueAt;
@@ -16,7 +15,7 @@ use world_state::settled::rank_of;
 use world_state::timers::Due;
 
 /// The last time of a run.
-const LAST: u64 = 1 << 60;
+pub const LAST: u64 = 1 << 60;
 
 /// What one turn of a world comes to.
 #[derive(Clone, Copy)]
@@ -29,16 +28,15 @@ pub enum Turn {
     GoesOn,
 }
 
-impl<C: Clock, M: Machine + Drop> State<C, M> {
+impl<C: Clock, M: TellsKind + Drop> State<C, M> {
     ghost use Rattle.drift_world.specs.{Nearing.{IsNoFarther, Nears}, Sourcing.{AreFirsts, AreTimed, HasNothingBefore}};
     ghost use Rattle.{drift_world.specs.Running.{given_by, next_of}, world_law.specs.world.World.Stands};
     ghost use Rattle.{drift_world.specs.{Sound.IsSized, Wells.IsWell}, tte_units.specs.Amount.units_of};
     ghost use Rattle.drift_world.specs.{Stepping.{ChangesOnly, IsRunning}, declared.state.State.{State as StateOf}};
-    ghost use Rattle.drift_world.specs.Turns.{GivesAt, HasCome, HasRoom, IsCalm, IsKept, IsPassed, MayTurn};
+    ghost use Rattle.drift_world.specs.Turns.{GivesAt, HasCome, HasRoom, IsCalm, IsKept, IsPassed, MayGive, MayTurn};
     ghost use Rattle.drift_world.specs.{Turns.{SettledFirst, SourceFirst, TurnsTo, given_in}, Views.world_of};
-    ghost use Rattle.{run_law.specs.records.Ranks.place_of, world_state.specs.Giving.{ArrivedAt, changed_device}};
+    ghost use Rattle.world_state.specs.Giving.{ArrivedAt, changed_device};
     ghost use Rattle.world_state.specs.Keeping.{keeps};
-    ghost use Rattle.world_state.specs.{Views.settled_at, declared.contents.Settled.{Settled as SettledValue}};
 
     /// Puts the next record before a time in the place of another, if one is due before it: is one?
     ///
@@ -72,7 +70,8 @@ impl<C: Clock, M: Machine + Drop> State<C, M> {
         }
     }
 
-    /// One turn: what is settled first is given, or what comes first is worked off, or time passes.
+    /// One turn: the first that is settled is given, or what comes first of all that is under way is worked off, or time
+    /// passes.
     fn turn(
         &mut self,
         network: &Network,
@@ -87,11 +86,12 @@ impl<C: Clock, M: Machine + Drop> State<C, M> {
         if let Err(error) = self.make_places() {
             return Err(error);
         }
-        self.take_turn(network, until, note)
+        self.roomy_turn(network, until, note)
     }
 
     /// A turn, for which there is room.
-    fn take_turn(
+    #[inline(always)]
+    fn roomy_turn(
         &mut self,
         network: &Network,
         until: u64,
@@ -103,13 +103,12 @@ impl<C: Clock, M: Machine + Drop> State<C, M> {
         ensures turns { IfOk result (TurnsTo C.reading M.stands network.now until self.old self.new note.new) }
         ensures err { OnErr result (self.new.time < until) }
     {
-        if self.is_calm() {
-            return self.quick_turn(network, until, note);
+        let place = self.under_way.first();
+        let due = self.timers.first();
+        match self.pass_first(network, until, place, due) {
+            Turn::GoesOn => self.front_turn(network, until, place, due, note),
+            turn => Ok(turn),
         }
-        if self.is_first_next(network) {
-            return self.give_next(network, note);
-        }
-        self.full_turn(network, until, note)
     }
 
     /// Is nothing settled or pending, and has the end not come?
@@ -119,58 +118,31 @@ impl<C: Clock, M: Machine + Drop> State<C, M> {
         !self.pending && !self.ended && self.settled.is_empty()
     }
 
-    /// A turn, whatever is settled or to come.
-    #[inline(never)]
-    fn full_turn(
-        &mut self,
-        network: &Network,
-        until: u64,
-        note: &mut PlainNote,
-    ) -> Result<Turn, OutOfMemory>
-        requires may { MayTurn C.last_step C.reading M.stands network.now until self.old }
-        requires room { HasRoom self.old }
-        ensures kept { IsKept C.last_step C.reading M.stands network.now self.old self.new (given_in result note.new) }
-        ensures turns { IfOk result (TurnsTo C.reading M.stands network.now until self.old self.new note.new) }
-        ensures err { OnErr result (self.new.time ≡ self.old.time) }
-    {
-        let source = self.first_source(network, until);
-        if self.has_first(&source) {
-            return self.give_next(network, note);
-        }
-        if let Source::Later(time) = source {
-            return Ok(self.pass_on(network, time, until));
-        }
-        self.work_turn(network, source, note)
-    }
-
-    /// A turn where nothing is settled or pending, and the end has not come: time passes up to what comes first, and
-    /// this is worked off. Both queues are looked at once.
+    /// Where nothing is settled or pending, and the end has not come, time passes up to what comes first.
     #[inline(always)]
-    fn quick_turn(
+    fn pass_first(
         &mut self,
         network: &Network,
         until: u64,
-        note: &mut PlainNote,
-    ) -> Result<Turn, OutOfMemory>
+        place: Option<DueAt>,
+        due: Option<Due>,
+    ) -> Turn
         requires may { MayTurn C.last_step C.reading M.stands network.now until self.old }
-        requires room { HasRoom self.old }
-        requires calm { IsCalm self.old }
-        ensures kept { IsKept C.last_step C.reading M.stands network.now self.old self.new (given_in result note.new) }
-        ensures turns { IfOk result (TurnsTo C.reading M.stands network.now until self.old self.new note.new) }
-        ensures err { OnErr result (self.new.time < until) }
+        requires firsts { AreFirsts self.old place due }
+        ensures passed { IsPassed C.last_step C.reading M.stands network.now until self.old self.new result }
+        ensures nearer { IsNoFarther network.now until self.old self.new result }
     {
-        let place = self.under_way.first();
-        let due = self.timers.first();
+        if !self.is_calm() {
+            return Turn::GoesOn;
+        }
         let time = least_of(place, due, until);
-        match self.pass_up(network, time, until) {
-            Turn::GoesOn => self.source_turn(network, until, place, due, note),
-            turn => Ok(turn),
-        }
+        self.pass_up(network, time, until)
     }
 
-    /// What comes first of all that is under way is worked off, or time passes: nothing is settled.
+    /// The first of three fronts goes on: of what is settled, of what is under way, and of the timers. Their ranks tell
+    /// which it is. Where all are of a later time, this passes.
     #[inline(always)]
-    fn source_turn(
+    fn front_turn(
         &mut self,
         network: &Network,
         until: u64,
@@ -180,13 +152,15 @@ impl<C: Clock, M: Machine + Drop> State<C, M> {
     ) -> Result<Turn, OutOfMemory>
         requires may { MayTurn C.last_step C.reading M.stands network.now until self.old }
         requires room { HasRoom self.old }
-        requires empty { self.old.settled.items ≡ [] }
         requires firsts { AreFirsts self.old place due }
         ensures kept { IsKept C.last_step C.reading M.stands network.now self.old self.new (given_in result note.new) }
         ensures turns { IfOk result (TurnsTo C.reading M.stands network.now until self.old self.new note.new) }
-        ensures err { OnErr result (self.new.time ≡ self.old.time) }
+        ensures err { OnErr result (self.new.time < until) }
     {
         let source = self.source_by(network, until, place, due);
+        if self.has_first(&source) {
+            return self.give_next(network, note);
+        }
         if let Source::Later(time) = source {
             return Ok(self.pass_on(network, time, until));
         }
@@ -209,7 +183,7 @@ impl<C: Clock, M: Machine + Drop> State<C, M> {
         Ok(())
     }
 
-    /// Is something settled, of which the first is ahead of the source?
+    /// Is something settled, of which the first is of no higher rank than the source?
     fn has_first(&self, source: &Source) -> bool
         ensures yes { IsTrue result → SettledFirst self.now.settled.items source.now }
         ensures no { result ≡ false → SourceFirst self.now.settled.items source.now }
@@ -217,16 +191,10 @@ impl<C: Clock, M: Machine + Drop> State<C, M> {
         let Some(first) = self.settled.front() else {
             return false;
         };
-        let rank = rank_of(first);
-        let other = rank_in_order(source);
-        if rank == other {
-            is_ahead_in_all(first, source)
-        } else {
-            rank < other
-        }
+        rank_of(first) <= source.rank()
     }
 
-    /// The first that is settled is given, before which nothing is to come.
+    /// The first that is settled is given: nothing is to come before it, or it stands where it was done.
     pub fn give_next(
         &mut self,
         network: &Network,
@@ -234,10 +202,7 @@ impl<C: Clock, M: Machine + Drop> State<C, M> {
     ) -> Result<Turn, OutOfMemory>
         requires range { IsInRange network.now }
         requires well { IsWell C.last_step C.reading M.stands network.now self.old }
-        requires some { 0 < length self.old.settled.items }
-        requires nothing { (first : SettledValue) (others : List SettledValue)
-            → self.old.settled.items ≡ first ∷ others → HasNothingBefore C.reading M.stands network.now self.old
-            (place_of (settled_at network.now self.old.time first)) }
+        requires first { MayGive C.reading M.stands network.now self.old }
         ensures kept { IsKept C.last_step C.reading M.stands network.now self.old self.new (given_in result note.new) }
         ensures says { IfOk result (GivesAt self.old self.new note.new) }
         ensures err { OnErr result (self.new.time ≡ self.old.time) }

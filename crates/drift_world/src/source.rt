@@ -1,6 +1,8 @@
 ghost use Rattle.std.specs.Prelude.{◌+◌, ◌<◌, ◌^◌, ◌≡◌, ◌≤◌, IfNone, IfSome, Option, Some, ℕ};
-ghost use Rattle.{run_law.specs.plain.Places.number_of, world_state.specs.timers.Times.{IsFirst as IsFirstDue}};
+ghost use Rattle.{drift_world.specs.Turns.source_rank, run_law.specs.plain.Places.number_of};
+ghost use Rattle.world_state.specs.timers.Times.{IsFirst as IsFirstDue};
 
+use crate::part::Part;
 use crate::state::State;
 use drift_clock::Clock;
 use net_plan::{DeviceId, Network};
@@ -19,14 +21,30 @@ pub enum Source {
     Arrival(DueAt),
     /// A frame that waits is permanent: this one, at this index.
     Ripening(Waits),
-    /// A device does what is due.
-    Act(DeviceId),
+    /// A device does what is due of a part.
+    Act(Part, DeviceId),
     /// A frame at a port leaves.
     Departure(DueAt),
     /// The clock of a device is shown, at the end.
     Clock(DeviceId),
     /// Nothing is under way before this time, which is later.
     Later(u64),
+}
+
+impl Source {
+    /// The rank of its place: more than that of any record, where it is not of the present instant.
+    pub fn rank(&self) -> u8
+        ensures { result ≡ source_rank self.now }
+    {
+        match self {
+            Source::Events | Source::Arrival(_) => Rank::Arrived.number(),
+            Source::Ripening(_) => Rank::Permanent.number(),
+            Source::Act(part, _) => part.rank().number(),
+            Source::Departure(_) => Rank::Left.number(),
+            Source::Clock(_) => Rank::Clock.number(),
+            Source::Later(_) => Rank::BEYOND,
+        }
+    }
 }
 
 /// The place, if it is of this time and rank.
@@ -43,16 +61,12 @@ fn placed_at(place: Option<DueAt>, time: u64, rank: Rank) -> Option<DueAt>
 }
 
 /// The slot that is due, if it is at this time.
-fn slot_at(due: Option<Due>, time: u64) -> Option<usize>
-    ensures some { IfSome result (λ slot. due ≡ Some (record { time = time; slot = slot })) }
+fn slot_at(due: Option<Due>, time: u64) -> Option<Due>
+    ensures some { IfSome result (λ d. due ≡ Some (record { time = time; rank = d.rank; slot = d.slot })) }
     ensures none { IfNone result (IfSome due (λ d. d.time ≡ time → ⊥)) }
 {
     let due = due?;
-    if due.time == time {
-        Some(due.slot)
-    } else {
-        None
-    }
+    if due.time == time { Some(due) } else { None }
 }
 
 /// The least of the times of a place, of a timer and of this one.
@@ -77,21 +91,8 @@ impl<C: Clock, M: Machine + Drop> State<C, M> {
     ghost use Rattle.drift_world.specs.Sourcing.{AreFirsts, HasNothingBefore};
     ghost use Rattle.drift_world.specs.{Turns.{IsSlotPlace, IsThere, IsWithin, source_place}, Wells.IsWell};
 
-    /// What comes first of all that is under way before a time.
-    pub fn first_source(&self, network: &Network, until: u64) -> Source
-        requires well { IsWell C.last_step C.reading M.stands network.now self.now }
-        requires limit { until ≤ 2 ^ 60 + 1 }
-        requires open { self.now.time < until }
-        ensures there { IsThere C.reading M.stands network.now self.now result }
-        ensures within { IsWithin until result }
-        ensures nothing { HasNothingBefore C.reading M.stands network.now self.now (source_place self.now.time result) }
-    {
-        let place = self.under_way.first();
-        let due = self.timers.first();
-        self.source_by(network, until, place, due)
-    }
-
-    /// The same, where the place of the first that is under way and the first timer are known.
+    /// What comes first of all that is under way before a time, where the place of the first that is in the queue and the
+    /// first timer are these.
     #[inline(always)]
     pub fn source_by(
         &self,
@@ -114,8 +115,8 @@ impl<C: Clock, M: Machine + Drop> State<C, M> {
         if let Some(arrival) = placed_at(place, self.time, Rank::Arrived) {
             return Source::Arrival(arrival);
         }
-        if let Some(slot) = slot_at(due, self.time) {
-            return self.source_of_slot(network, slot);
+        if let Some(first) = slot_at(due, self.time) {
+            return self.source_of_slot(network, first.rank, first.slot);
         }
         if let Some(departure) = placed_at(place, self.time, Rank::Left) {
             return Source::Departure(departure);
@@ -126,14 +127,19 @@ impl<C: Clock, M: Machine + Drop> State<C, M> {
         Source::Later(least_of(place, due, until))
     }
 
-    /// The source of a slot that is due now: the first of the frames that wait at its device, or the device's act.
+    /// The source of a slot that is due now: the first of the frames that wait at its device, or a part of the device's
+    /// acts.
     #[inline(always)]
-    fn source_of_slot(&self, network: &Network, slot: usize) -> Source
+    fn source_of_slot(&self, network: &Network, rank: u8, slot: usize) -> Source
         requires well { IsWell C.last_step C.reading M.stands network.now self.now }
-        requires due { IsFirstDue self.now.timers (record { time = self.now.time; slot = slot }) }
+        requires due { IsFirstDue self.now.timers (record { time = self.now.time; rank = rank; slot = slot }) }
         ensures there { IsThere C.reading M.stands network.now self.now result }
         ensures within { (until : ℕ) → IsWithin until result }
-        ensures place { IsSlotPlace C.reading network.now self.now slot (source_place self.now.time result) }
+        ensures place { IsSlotPlace C.reading network.now self.now (record {
+          time = self.now.time;
+          rank = rank;
+          slot = slot;
+        }) (source_place self.now.time result) }
     {
         let devices = network.device.as_slice().len();
         if slot < devices {
@@ -141,6 +147,6 @@ impl<C: Clock, M: Machine + Drop> State<C, M> {
                 return Source::Ripening(one);
             }
         }
-        Source::Act(DeviceId((slot - devices) as u32))
+        Source::Act(Part::of_rank(rank), DeviceId((slot - devices) as u32))
     }
 }

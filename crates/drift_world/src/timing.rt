@@ -1,10 +1,13 @@
-ghost use Rattle.std.specs.Prelude.{◌*◌, ◌+◌, ◌<◌, ◌≡◌, ◌≤◌, All, IsTrue, length, ℕ};
-ghost use Rattle.net_plan.specs.Ranges.{IsInRange};
+ghost use Rattle.std.specs.Prelude.{◌*◌, ◌+◌, ◌<◌, ◌≡◌, IsTrue, Some, length, slice_get};
+ghost use Rattle.{net_plan.specs.Ranges.IsInRange, world_state.specs.timers.Times.AreFrom};
 
+use crate::next::LAST;
+use crate::part::Part;
 use crate::state::State;
+use device_rules::TellsKind;
 use drift_clock::Clock;
 use net_plan::Network;
-use run_law::Machine;
+use run_law::plain::Rank;
 use tte_units::Units;
 use world_state::timing::{least_point, time_for};
 
@@ -15,9 +18,10 @@ fn is_same(one: Option<Units>, other: Option<Units>) -> bool
     one == other
 }
 
-impl<C: Clock, M: Machine + Drop> State<C, M> {
-    ghost use Rattle.drift_world.specs.{Acting.IsNextDue, Sound.IsSized, Sourcing.AreTimed, Stepping.SetsOnly};
-    ghost use Rattle.drift_world.specs.Stepping.{IsActTimed, IsDueTimed, IsRekeyed, IsRipeTimed, IsRunning, MayRekey};
+impl<C: Clock, M: TellsKind + Drop> State<C, M> {
+    ghost use Rattle.drift_world.specs.{Acting.{IsDueAt, IsNextDue, IsPartAt}, Sound.IsSized, Sourcing.AreTimed};
+    ghost use Rattle.drift_world.specs.Stepping.{IsActTimed, IsDueTimed, IsRekeyed, IsRipeTimed, IsRunning};
+    ghost use Rattle.drift_world.specs.{Parts.part_rank, Stepping.{KeepsPart, MayRekey, SetsOnly}};
 
     /// The reading at which the machine of a device acts by itself next, if it does.
     #[inline(always)]
@@ -39,7 +43,23 @@ impl<C: Clock, M: Machine + Drop> State<C, M> {
         let index = device as usize;
         let point = least_point(&self.waiting, device);
         let ripe = time_for(&self.clocks[index], self.time, point);
-        self.timers.set(index, ripe);
+        self.timers.set(index, ripe, Rank::Permanent.number());
+    }
+
+    /// The part of the first of all that a device does at a time of the run from now on, if it does anything then; else
+    /// any.
+    #[inline(always)]
+    fn part_at(&self, network: &Network, device: u32, time: u64) -> Part
+        requires sized { IsSized C.last_step network.now self.now }
+        requires there { device < length network.now.device }
+        ensures { IsPartAt C.reading M.stands self.now (record { 0 = device }) time result }
+    {
+        if time < self.time || time > LAST {
+            return Part::Emissions;
+        }
+        let index = device as usize;
+        let reading = self.clocks[index].read(Units::from_amount(time));
+        Part::of(self.machines[index].first_kind(reading))
     }
 
     /// Sets the timer of a device for what it does by itself: at this reading, or never.
@@ -52,8 +72,25 @@ impl<C: Clock, M: Machine + Drop> State<C, M> {
     {
         let index = device as usize;
         let act = time_for(&self.clocks[index], self.time, due);
+        let part = self.part_at(network, device, act);
         let devices = network.device.as_slice().len();
-        self.timers.set(devices + index, act);
+        self.timers.set(devices + index, act, part.rank().number());
+    }
+
+    /// Puts off what a device does by itself to the part that comes first of it now, behind what other devices do before.
+    #[inline(always)]
+    pub fn defer(&mut self, network: &Network, device: u32, part: Part)
+        requires may { MayRekey C.last_step C.reading M.stands network.now self.old (record { 0 = device }) }
+        requires first { IsDueAt C.reading M.stands network.now self.old part (record { 0 = device }) }
+        ensures sets { SetsOnly (λ slot. slot ≡ length network.now.device + device) self.old self.new }
+        ensures timed { IsActTimed C.reading M.stands network.now self.new.timers self.new (record { 0 = device }) }
+        ensures put { slice_get self.new.timers (length network.now.device + device)
+            ≡ Some (record { time = self.new.time; rank = part_rank part }) }
+    {
+        let index = device as usize;
+        let devices = network.device.as_slice().len();
+        self.timers
+            .set(devices + index, self.time, part.rank().number());
     }
 
     /// Sets the timer of a device for what it does by itself, at the reading that its machine tells.
@@ -77,8 +114,23 @@ impl<C: Clock, M: Machine + Drop> State<C, M> {
         self.rekey_act(network, device);
     }
 
+    /// Is the timer of a device for what it does by itself of the right part, if its time is right?
+    #[inline(always)]
+    fn keeps_part(&self, network: &Network, device: u32) -> bool
+        requires may { MayRekey C.last_step C.reading M.stands network.now self.now (record { 0 = device }) }
+        ensures { IsTrue result → KeepsPart C.reading M.stands network.now self.now device }
+    {
+        let devices = network.device.as_slice().len();
+        let timer = self.timers.get(devices + device as usize);
+        if timer.rank == Part::Emissions.rank().number() {
+            return true;
+        }
+        let part = self.part_at(network, device, timer.time);
+        part.is_from(timer.rank)
+    }
+
     /// Sets the timer of a device for what it does by itself, if the reading that its machine tells is not this, for
-    /// which the timer is right.
+    /// which it is right but for the part.
     #[inline(always)]
     pub fn rekey_act_from(&mut self, network: &Network, device: u32, before: Option<Units>)
         requires may { MayRekey C.last_step C.reading M.stands network.now self.old (record { 0 = device }) }
@@ -87,14 +139,14 @@ impl<C: Clock, M: Machine + Drop> State<C, M> {
         ensures timed { IsActTimed C.reading M.stands network.now self.new.timers self.new (record { 0 = device }) }
     {
         let due = self.due_of(network, device);
-        if is_same(due, before) {
+        if is_same(due, before) && self.keeps_part(network, device) {
             return;
         }
         self.rekey_act_at(network, device, due);
     }
 
     /// Sets the timers of a device: for the frames that wait at it, and for what it does by itself, if the reading that
-    /// its machine tells is not this, for which the timer is right.
+    /// its machine tells is not this, for which that is right but for the part.
     #[inline(always)]
     pub fn rekey_from(&mut self, network: &Network, device: u32, before: Option<Units>)
         requires may { MayRekey C.last_step C.reading M.stands network.now self.old (record { 0 = device }) }
@@ -111,7 +163,7 @@ impl<C: Clock, M: Machine + Drop> State<C, M> {
         requires sized { IsSized C.last_step network.now self.old }
         requires slots { length self.old.timers ≡ 2 * length network.now.device }
         requires running { IsRunning C.reading M.stands network.now self.old }
-        requires later { All (λ (time : ℕ). self.old.time ≤ time) self.old.timers }
+        requires later { AreFrom self.old.time self.old.timers }
         ensures same { self.new ≡ record self.old { timers = self.new.timers } }
         ensures timed { AreTimed C.reading M.stands network.now self.new }
     {

@@ -10,6 +10,7 @@ mod on_wire;
 use crate::begin::fresh_state;
 use crate::local::local_of;
 use crate::state::State;
+use device_rules::TellsKind;
 use drift_clock::Clock;
 use net_plan::{DeviceId, Event};
 use run_law::plain::PlainNote;
@@ -40,7 +41,7 @@ impl<'a, C: Clock, M: Machine + Drop> Model for World<'a, C, M> {
     ghost invariant = { λ w. IsWell C.last_step C.reading M.stands w.accepted.now w.state };
 }
 
-impl<'a, C: Clock, M: Machine + Drop> World<'a, C, M> {
+impl<'a, C: Clock, M: TellsKind + Drop> World<'a, C, M> {
     ghost use Rattle.precision_law.specs.traffic.safety.Headline.{IsSafeFront};
     ghost use Rattle.drift_world.specs.{Beginning.AreFresh, Locals.{IsWide, MayShow, MayShowAt, MayShowBefore}};
     ghost use Rattle.drift_world.specs.Later.{ComesBehind, IsAtTime, IsOpenFrom, MayApply, MayApplyAgain, bounded};

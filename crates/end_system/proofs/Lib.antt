@@ -10,3 +10,4 @@ pub mod RowSearch
 pub mod RowNext
 pub mod OwnLemmas
 pub mod Words
+pub mod WhichFirst

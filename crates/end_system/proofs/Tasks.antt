@@ -225,7 +225,7 @@ le_lt_trans x y z r a b c = omega (arith, ints)
 abbrev NoSendingDue : Agenda → ℤ → Type 0
 NoSendingDue agenda reading = IfSome agenda.sending (λ next. reading <ℤ next.at.0)
 
-no_sending : (network : Network) (device : DeviceId) (node : Node) (agenda : Agenda) (reading : ℤ) (cycle : ℕ)
+pub no_sending : (network : Network) (device : DeviceId) (node : Node) (agenda : Agenda) (reading : ℤ) (cycle : ℕ)
     → IsAgenda network device node.standing node.changed node.done agenda → NoSendingDue agenda reading
     → IsAhead network device node.standing node.changed node.done (sending cycle) → (value_of network (sending cycle) -ℤ node.standing.adjustment.0) ≤ℤ reading
     → ⊥
@@ -233,7 +233,7 @@ no_sending network device node agenda reading cycle a none h here =
     let t = some_and agenda.sending _ _ (sending_some network device node.standing node.changed node.done agenda.sending cycle a.sending h) none in
     le_lt_trans reading _ _ reading t.1.1 t.1.0 here
 
-no_correction : (network : Network) (device : DeviceId) (node : Node) (agenda : Agenda) (reading : ℤ) (cycle : ℕ)
+pub no_correction : (network : Network) (device : DeviceId) (node : Node) (agenda : Agenda) (reading : ℤ) (cycle : ℕ)
     → IsAgenda network device node.standing node.changed node.done agenda → IfSome agenda.correction (λ next. reading <ℤ next.at.0)
     → IsAhead network device node.standing node.changed node.done (correcting cycle)
     → (value_of network (correcting cycle) -ℤ node.standing.adjustment.0) ≤ℤ reading → ⊥

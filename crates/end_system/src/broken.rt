@@ -2,6 +2,7 @@ ghost use Rattle.std.specs.Prelude.{◌≡◌, true};
 ghost use Rattle.{end_system.specs.Broken.StandsBroken, run_law.specs.machines.Nodes.Node};
 ghost use Rattle.net_plan.specs.declared.{ids.DeviceId.DeviceId, network.Network.Network};
 
+use device_rules::{TaskKind, TellsKind};
 use net_plan::LinkId;
 use run_law::{Act, Arrival, Machine, Moment, Reason, Ripe};
 use sync_state::{State, Verdict};
@@ -55,5 +56,11 @@ impl Machine for Broken {
 
     fn adjustment(&self) -> Units {
         self.adjustment
+    }
+}
+
+impl TellsKind for Broken {
+    fn first_kind(&self, _reading: Units) -> TaskKind {
+        TaskKind::Dispatch
     }
 }

@@ -11,7 +11,7 @@ use crate::agenda::{Agenda, Appointment, Due, agenda_from, in_next_cycle};
 use crate::control::{arrival, heard_as, local_at};
 use crate::own::Own;
 use crate::rows::{Dispatch, Rows};
-use device_rules::{Heading, Intake};
+use device_rules::{Heading, Intake, TaskKind, TellsKind};
 use net_plan::{DeviceId, LinkId, Network};
 use pcf_codec::{decode, is_pcf};
 use run_law::{Act, Arrival, Machine, Moment, Reason, Ripe};
@@ -273,5 +273,16 @@ impl Machine for EndSystem {
 
     fn adjustment(&self) -> Units {
         self.sync.adjustment()
+    }
+}
+
+impl TellsKind for EndSystem {
+    fn first_kind(&self, reading: Units) -> TaskKind {
+        match self.agenda.due(reading) {
+            Some(Due::Sending(_)) => TaskKind::Sending,
+            Some(Due::Correction(_)) => TaskKind::Correction,
+            Some(Due::Dispatch(_)) => TaskKind::Dispatch,
+            None => TaskKind::Dispatch,
+        }
     }
 }

@@ -3,7 +3,7 @@ ghost use Rattle.std.specs.Prelude.{◌++◌, ◌<◌, ◌≡◌, All, IfOk, OnO
 ghost use Rattle.lens_slack.specs.{Finds.{AreOf, IsFoundIn, some_found}, Writing.{HasEndingPlace, IsWritable}};
 ghost use Rattle.lens_slack.specs.Spots.{IsSpotOf, IsTightestOf, channel_of, spot_at, spots_of};
 ghost use Rattle.{lens_slack.specs.Taking.{Judges, Pushes, Takes}, schedule_checker.specs.Judging.{IsPlan, plan_rule}};
-ghost use Rattle.net_plan.specs.Ranges.{IsInRange};
+ghost use Rattle.net_plan.specs.{Ranges.{IsInRange}, declared.network.Network.{Network as NetworkValue}};
 
 use crate::bounds::tightest_at;
 use crate::step::Step;
@@ -151,7 +151,7 @@ fn push_spots(
     'spots: for number in 0..spots_of(plan.network, measure) {
         match push_some(
             findings,
-            tightest_at(plan, spot_at(plan.network, measure, number)),
+            tightest_at(plan, spot_at(measure, number)),
         ) {
             Ok(()) => (),
             Err(OutOfMemory) => return Err(OutOfMemory),
@@ -169,7 +169,7 @@ fn tightest_of(plan: &Plan<'_>, measure: Measure) -> Option<Finding>
     'spots: for number in 0..spots_of(plan.network, measure) {
         best = tighter_of(
             best,
-            tightest_at(plan, spot_at(plan.network, measure, number)),
+            tightest_at(plan, spot_at(measure, number)),
         );
     }
     best
@@ -192,11 +192,10 @@ fn spots_of(network: &Network, measure: Measure) -> u64
 }
 
 /// The spot of this number, of those that the measure looks at.
-fn spot_at(_network: &Network, measure: Measure, number: u64) -> Spot
-    requires range { IsInRange _network.now }
-    requires within { number < spots_of measure _network.now }
+fn spot_at(measure: Measure, number: u64) -> Spot
+    requires within { (network : NetworkValue) × IsInRange network × (number < spots_of measure network) }
     ensures value { result ≡ spot_at measure number }
-    ensures of_network { IsSpotOf _network.now result }
+    ensures of_network { (network : NetworkValue) → number < spots_of measure network → IsSpotOf network result }
 {
     match measure {
         Measure::Paths => Spot::Path(DeviceId((number / 2) as u32), channel_of(number % 2)),

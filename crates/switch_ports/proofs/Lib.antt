@@ -28,3 +28,4 @@ pub mod Awaiting
 pub mod Dispatching
 pub mod Words
 pub mod Reckoning
+pub mod WhichFirst

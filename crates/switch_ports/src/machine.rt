@@ -3,6 +3,7 @@ ghost use Rattle.{net_plan.specs.declared.ids.DeviceId.DeviceId, switch_ports.sp
 ghost use Rattle.{net_plan.specs.declared.network.Network.Network, run_law.specs.records.Frames.integration_frame};
 
 use crate::{Site, Switch};
+use device_rules::{TaskKind, TellsKind};
 use net_plan::LinkId;
 use pcf_codec::is_pcf;
 use run_law::{Act, Arrival, Machine, Moment, Ripe};
@@ -74,6 +75,18 @@ impl Machine for Switch {
 
     fn adjustment(&self) -> Units {
         self.sync.adjustment()
+    }
+}
+
+impl TellsKind for Switch {
+    fn first_kind(&self, reading: Units) -> TaskKind {
+        if is_reached(self.collector.due(), reading) {
+            return TaskKind::Emission;
+        }
+        if is_reached(self.corrects_at, reading) {
+            return TaskKind::Correction;
+        }
+        TaskKind::Dispatch
     }
 }
 

@@ -3,5 +3,6 @@ pub mod Acted
 pub mod Acting
 pub mod Ready
 pub mod Dispatched
+pub mod Dues
 pub mod NoActs
 pub mod Recorded

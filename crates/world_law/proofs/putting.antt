@@ -15,5 +15,4 @@ pub mod Bearing
 pub mod PutShown
 pub mod PutTwo
 pub mod StandsOn
-pub mod Coming
 pub mod PutAct

@@ -4,3 +4,4 @@ pub mod Ripening
 pub mod Acting
 pub mod Repeating
 pub mod Befalling
+pub mod Ending

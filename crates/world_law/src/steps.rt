@@ -4,5 +4,5 @@ mod laws;
 
 pub use laws::{
     acted_step, acts_add_up, acts_are_bounded, acts_bring_few, applied_step, befell_step, begun,
-    clock_step, heard_step, last_acted_step, left_step, passed_step, ripened_step,
+    clock_step, correction_ends, heard_step, left_step, passed_step, ripened_step,
 };

@@ -1,11 +1,13 @@
 ghost use Rattle.std.specs.Prelude.{◌≡◌, Bool, IfNone, IfOk, IfSome, map, true};
 ghost use Rattle.net_plan.specs.declared.{event.What.TheVariants.{Break, On}, network.Network.Network};
 ghost use Rattle.{net_plan.specs.declared.ids.DeviceId.DeviceId, sync_state.specs.declared.state.State.TheVariants.Off};
-ghost use Rattle.run_law.specs.machines.{Calls.{MayAct, MayHear, StandsFor}, Nodes.Node, Tasks.IsDueReading};
+ghost use Rattle.device_rules.specs.FirstKinds.{IsFirstKind};
+ghost use Rattle.run_law.specs.machines.{Calls.{HasDue, MayAct, MayHear, StandsFor}, Nodes.Node, Tasks.IsDueReading};
 ghost use Rattle.world_law.specs.world.{Calls.{HasActed, HasHeard, IsStateOf}, Outcomes.befallen_node};
 ghost use Rattle.world_state.specs.Keeping.{keeps, sound_one};
 
 use crate::OutOfMemory;
+use device_rules::{TaskKind, TellsKind};
 use net_plan::LinkId;
 use run_law::{Act, Arrival, Machine, Moment, Reason};
 use std::alloc::Global;
@@ -123,6 +125,19 @@ impl<M: Machine + Drop> Kept<M> {
             let state = if on { State::Off } else { machine.state() };
             let adjustment = machine.adjustment();
             *self = Kept::Out(state, adjustment);
+        }
+    }
+}
+
+impl<M: TellsKind + Drop> Kept<M> {
+    /// The kind of the first of all that is due at the reading. Where nothing is due, any kind.
+    pub fn first_kind(&self, reading: Units) -> TaskKind
+        ensures { (network : Network) (device : DeviceId) (node : Node) → keeps M.stands self.now network device node
+            → HasDue network device node reading.0 → IsFirstKind network device node reading.0 result }
+    {
+        match self {
+            Kept::Sound(machine) => machine.first_kind(reading),
+            Kept::Out(_, _) => TaskKind::Dispatch,
         }
     }
 }

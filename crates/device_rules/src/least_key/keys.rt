@@ -1,6 +1,6 @@
 //! A list of keys, of which the least is at hand.
 
-ghost use Rattle.std.specs.Prelude.{◌*◌, ◌<◌, ◌^◌, ◌≡◌, ◌≤◌, ◌⊎◌, All, IfOk, length, replicate, slice_set};
+ghost use Rattle.std.specs.Prelude.{◌*◌, ◌<◌, ◌^◌, ◌≡◌, ◌≤◌, ◌⊎◌, All, IfOk, length, replicate, slice_index, slice_set};
 ghost use Rattle.std.specs.List.{Contains};
 ghost use Rattle.device_rules.specs.least_key.Trees.{IsLesser, no_key};
 
@@ -57,6 +57,14 @@ impl Keys {
             }
             self.nodes[node] = least;
         }
+    }
+
+    /// The key of a place.
+    pub fn get(&self, place: usize) -> u128
+        requires { place < length self.now }
+        ensures { result ≡ slice_index self.now place }
+    {
+        self.nodes[self.places + place]
     }
 
     /// The least of all keys.

@@ -1,7 +1,7 @@
 //! The rows that a network has.
 ghost use Rattle.std.specs.Prelude.{◌≡◌, ◌≤◌, All, IfOk};
 ghost use Rattle.lens_plan.specs.places.{Offsets.AreSmall, There.{AreThere, taken_by}};
-ghost use Rattle.net_plan.specs.Ranges.{IsInRange};
+ghost use Rattle.net_plan.specs.{Ranges.{IsInRange}, declared.network.Network.{Network as NetworkValue}};
 ghost use Rattle.schedule_tables.specs.Entries.{IsEntryInRange};
 
 use crate::places::offsets::{Slot, Taken};
@@ -11,8 +11,8 @@ use std::alloc::Global;
 use tte_io::OutOfMemory;
 
 /// The row of an entry.
-fn taken_by(_network: &Network, entry: &Entry) -> Taken
-    requires { IsEntryInRange _network.now entry.now }
+fn taken_by(entry: &Entry) -> Taken
+    requires { (network : NetworkValue) × IsEntryInRange network entry.now }
     ensures value { result ≡ taken_by entry.now }
     ensures small { AreSmall result }
 {
@@ -38,7 +38,7 @@ pub(crate) fn rows_there(alloc: Global, network: &Network) -> Result<Vec<Taken>,
     let count = network.row.as_slice().len() as u32;
     'rows: for place in 0..count {
         let entry = entry_of(network, RowId(place));
-        match rows.push(taken_by(network, &entry)) {
+        match rows.push(taken_by(&entry)) {
             Ok(()) => (),
             Err(_) => return Err(OutOfMemory),
         }

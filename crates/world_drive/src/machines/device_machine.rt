@@ -1,3 +1,4 @@
+use device_rules::{TaskKind, TellsKind};
 use end_system::EndSystem;
 use net_plan::LinkId;
 use run_law::{Act, Arrival, Machine, Moment, Ripe};
@@ -66,6 +67,15 @@ impl Machine for DeviceMachine {
         match self {
             DeviceMachine::EndSystem(machine) => machine.adjustment(),
             DeviceMachine::Switch(machine) => machine.adjustment(),
+        }
+    }
+}
+
+impl TellsKind for DeviceMachine {
+    fn first_kind(&self, reading: Units) -> TaskKind {
+        match self {
+            DeviceMachine::EndSystem(machine) => machine.first_kind(reading),
+            DeviceMachine::Switch(machine) => machine.first_kind(reading),
         }
     }
 }

@@ -2,10 +2,12 @@
 use Rattle.{run_law.specs.machines.Tasks.{IsDeedOf, IsUndone}, tte_units.proofs.general_lemmas.Integers.{int_le-from, int_le-is, int_lt-is}}
 use Rattle.std.proofs.{Common.Contains, lemmas.Bool.and_from}
 use Rattle.world_law.proofs.Words.{◌+ℤ◌, ◌+◌, ◌-ℤ◌, ◌-◌, ◌<ℤ◌, ◌<◌, ◌∙◌, ◌≡◌, ◌≤ℤ◌, ◌≤◌, AreClusters, Bool, ClockTask, Compressed, DeviceId, Emits, Happening}
-use Rattle.world_law.proofs.Words.{HasDone, HasSent, HasTaskBy, Integrating, IsAtCorrection, IsLeft, IsStill, Joining, Judgement, List, Node, Off, Reaches}
+use Rattle.world_law.proofs.Words.{HasDone, HasSent, HasTaskAt, Integrating, IsAtCorrection, IsLeft, IsStill, Joining, Judgement, List, Node, Off, Reaches}
 use Rattle.world_law.proofs.Words.{Scenario, Sends, Some, State, Synchronised, Units, adjustment_before, and_parts, ap, arith, both_ways, cases_Bool}
 use Rattle.world_law.proofs.Words.{changed_at, correcting, correction_value, doing, earlier, emitting, false, has_cleared, if◌then◌else◌, inl, inr, int_lt}
 use Rattle.world_law.proofs.Words.{ints, is_broken, is_integration_cycle, is_timed, is_turned_on_at, local_at_change, never_both, next_cycle}
+use Rattle.world_law.specs.source.Sources.{task_numbers}
+use Rattle.world_law.proofs.Words.{◌∷◌, [], rows_place, task_place}
 use Rattle.world_law.proofs.Words.{observation_window, point_in, pos, recorded_cycle, refl, sending, state_before, subst, sym, true, value_of, ℕ, ℤ}
 use Rattle.world_law.proofs.devices.{OwnRecords.{adjustment_still, change_still, state_still}, Passes.{cleared_still, local_still, next_still, not_turned_on}}
 
@@ -53,7 +55,8 @@ undone_so s hs device t later node deed le has own c = record {
 -- ---- a master that sends
 
 pub sending_task : (s : Scenario) (hs : List Happening) (device : DeviceId) (t later : ℕ) (node : Node) (cycle : ℕ) → IsUnmoved s hs device t later
-    → IsLeft s hs device t node → HasDone s hs device t node → Sends s hs device later cycle → HasTaskBy s device node later
+    → IsLeft s hs device t node → HasDone s hs device t node → Sends s hs device later cycle
+    → HasTaskAt s device node later (task_place s.network later device (doing (sending cycle)))
 sending_task s hs device t later node cycle u left has sent =
     let c = comes_so s hs device t later node (value_of s.network (sending cycle)) u left sent.reached in
     let state : node.standing.state ≡ Synchronised = left.state ∙ not_turned_on s hs device t u.not_on ∙ sym (state_still s hs device t later u.le u.still)
@@ -65,12 +68,14 @@ sending_task s hs device t later node cycle u left has sent =
             (sent.master, state, sent.begun) c,
       ),
       c.reached,
+      refl,
     )
 
 -- ---- a compression master that emits
 
 pub emitting_task : (s : Scenario) (hs : List Happening) (device : DeviceId) (t later : ℕ) (node : Node) (sent : Compressed) (verdict : Judgement)
-    → IsUnmoved s hs device t later → IsLeft s hs device t node → HasSent s device t node → Emits s hs device later sent verdict → HasTaskBy s device node later
+    → IsUnmoved s hs device t later → IsLeft s hs device t node → HasSent s device t node → Emits s hs device later sent verdict
+    → HasTaskAt s device node later (task_place s.network later device (emitting sent))
 emitting_task s hs device t later node sent verdict u left has e = (
   emitting sent,
   (
@@ -88,6 +93,7 @@ emitting_task s hs device t later node sent verdict u left has e = (
     },
   ),
   e.reached.reached,
+  refl,
 )
 
 -- ---- a correction point
@@ -148,7 +154,8 @@ pub had_come_by : (s : Scenario) (hs : List Happening) (device : DeviceId) (t la
     → IsLeft s hs device t node → ((cycle : ℕ) → IsDeedOf s.network device node (correcting cycle) → node.changed <ℤ correction_value s.network cycle
     → Contains node.done (correcting cycle) → (x : ℕ) × (changed_at hs device t ≤ x) × (x < t)
     × ((correction_value s.network cycle -ℤ node.standing.adjustment.0) ≤ℤ pos (s.reading device x))) → is_timed node.standing.state ≡ true
-    → has_cleared s hs device t t ≡ false → has_cleared s hs device later later ≡ true → node.broken ≡ false → HasTaskBy s device node (later - 1)
+    → has_cleared s hs device t t ≡ false → has_cleared s hs device later later ≡ true → node.broken ≡ false
+    → HasTaskAt s device node (later - 1) (rows_place (later - 1) device)
 had_come_by s hs device t later node u left has timed not_yet cleared sound =
     let moved : has_cleared s hs device t later ≡ true = sym (cleared_still s hs device t later later u.le u.still) ∙ cleared in
     let joining = and_parts (is_integration_cycle (earlier t hs) device) _ moved in
@@ -171,12 +178,14 @@ had_come_by s hs device t later node u left has timed not_yet cleared sound =
         record { own = own; ahead = before; not_yet = grind (arith, own, before, both_ways, cleared_by_then, number, joining.0, came.0) },
       ),
       come_back v node.standing.adjustment.0 (s.reading device (later - 1)) (s.reading device (later - 1)) reached (omega arith),
+      refl,
     )
 
 -- the same of what it has done before the time
 pub had_come_before : (s : Scenario) (hs : List Happening) (device : DeviceId) (t later : ℕ) (node : Node) → IsUnmoved s hs device t later
     → IsLeft s hs device t node → HasDone s hs device t node → is_timed node.standing.state ≡ true
-    → has_cleared s hs device t t ≡ false → has_cleared s hs device later later ≡ true → node.broken ≡ false → HasTaskBy s device node (later - 1)
+    → has_cleared s hs device t t ≡ false → has_cleared s hs device later later ≡ true → node.broken ≡ false
+    → HasTaskAt s device node (later - 1) (rows_place (later - 1) device)
 had_come_before s hs device t later node u left has timed not_yet cleared sound =
     had_come_by s hs device t later node u left (λ cycle own ahead there. has.done (correcting cycle) there) timed not_yet cleared sound
 
@@ -185,14 +194,20 @@ later_still z r m le fell = omega (arith, ints, le, fell)
 
 had_come_task : (s : Scenario) (hs : List Happening) (device : DeviceId) (t later : ℕ) (node : Node) → IsUnmoved s hs device t later → IsLeft s hs device t node
     → HasDone s hs device t node → is_timed node.standing.state ≡ true
-    → has_cleared s hs device t t ≡ false → has_cleared s hs device later later ≡ true → node.broken ≡ false → HasTaskBy s device node later
+    → has_cleared s hs device t t ≡ false → has_cleared s hs device later later ≡ true → node.broken ≡ false
+    → HasTaskAt s device node later (rows_place later device)
 had_come_task s hs device t later node u left has timed not_yet cleared sound =
     let x = had_come_before s hs device t later node u left has timed not_yet cleared sound in
-    (x.0, x.1, later_still _ (s.reading device (later - 1)) (s.reading device later) x.2 (u.never_falls (later - 1) later (omega arith)))
+    let at : task_numbers s.network device x.0 ≡ 6 ∷ device.0 ∷ [] = let e = x.3 in cc in (
+      x.0,
+      x.1,
+      later_still _ (s.reading device (later - 1)) (s.reading device later) x.2 (u.never_falls (later - 1) later (omega arith)),
+      ap (λ (l : List ℕ). later ∷ l) at,
+    )
 
 -- a device that comes to its correction point has a task that is due
 pub correcting_task : (s : Scenario) (hs : List Happening) (device : DeviceId) (t later : ℕ) (node : Node) (cycle : ℕ) → IsUnmoved s hs device t later
-    → IsLeft s hs device t node → HasDone s hs device t node → IsAtCorrection s hs later device cycle → HasTaskBy s device node later
+    → IsLeft s hs device t node → HasDone s hs device t node → IsAtCorrection s hs later device cycle → HasTaskAt s device node later (rows_place later device)
 correcting_task s hs device t later node cycle u left has c =
     let point = point_number (state_before s hs device later) (next_cycle s hs device later) cycle c.next in
     let state : node.standing.state ≡ state_before s hs device later =
@@ -201,11 +216,11 @@ correcting_task s hs device t later node cycle u left has c =
     let timed : is_timed node.standing.state ≡ true = ap is_timed state ∙ point.0 in
     let sound = left.counted.broken ∙ sym u.not_broken ∙ c.correct in
     let here = comes_so s hs device t later node (correction_value s.network cycle) u left c.reached in
-    let as_before : has_cleared s hs device later later ≡ has_cleared s hs device t t → HasTaskBy s device node later = λ flag.
+    let as_before : has_cleared s hs device later later ≡ has_cleared s hs device t t → HasTaskAt s device node later (rows_place later device) = λ flag.
     let number : node.standing.number ≡ cycle = left.counted.number timed ∙ sym (next_still s hs device t later u.le u.still flag) ∙ point.1 in
     let own : point_in node.standing.state node.standing.number ≡ Some cycle = point_of_timed node.standing.state node.standing.number timed
     ∙ ap (λ (n : ℕ). Some n) number in
-    (doing (correcting cycle), (sound, undone_so s hs device t later node (correcting cycle) u.le has own here), here.reached) in
+    (doing (correcting cycle), (sound, undone_so s hs device t later node (correcting cycle) u.le has own here), here.reached, refl) in
     elim (cases_Bool (has_cleared s hs device t t)) [
       | inl did ↦ as_before (cleared_on s hs device t later u did ∙ sym did)
       | inr not_yet ↦

@@ -1,5 +1,6 @@
 -- A dispatch is told apart from other losses by its cause, and where a device has not acted no record to come tells of one.
-use Rattle.world_law.proofs.Words.{◌++◌, ◌+◌, ◌<◌, ◌∙◌, ◌∷◌, ◌≡◌, ◌⊎◌, AreSettled, Bool, DeviceId, Dispatches, Happening, IsBefore, IsDue, IsFounded, IsIn}
+use Rattle.schedule_tables.specs.Dispatches.{dispatch_order}
+use Rattle.world_law.proofs.Words.{◌++◌, ◌<◌, ◌∙◌, ◌∷◌, ◌≡◌, ◌⊎◌, AreSettled, DeviceId, Dispatches, Happening, IsBefore, IsDue, IsFounded, IsIn}
 use Rattle.world_law.proofs.Words.{IsOwnSource, IsSendLost, LinkId, List, None, NoteBody, Scenario, Some, VlId, [], act_place, ap, arith, by_number, cases_Bool}
 use Rattle.world_law.proofs.Words.{chain, dispatch_body, earlier, filter, in_filter, inl, inr, is_accepted, is_cut, last_in, members_in, numbered, parted}
 use Rattle.world_law.proofs.{Words.{place_of, plain_body, refl, subst, sym, time_of, way_from, ℕ}, runs.Agreement.in_earlier}
@@ -50,40 +51,33 @@ pub dispatch_told : (s : Scenario) (device : DeviceId) (now : ℕ) (link : LinkI
     ⊎ (body ≡ kinds.TtSent device link cause vl cycle)
 dispatch_told s device now link cause vl cycle body e = grind (arith, cases_Bool, is_cut, way_from, plain_lost, plain_tt)
 
--- where the acts of the device are neither worked off nor taken up, no record to come tells of a dispatch of it
+-- where no act of the device is worked off, no record to come tells of a dispatch of it
 pub no_dispatch_told : (s : Scenario) (hs coming : List Happening) (mark cursor : List ℕ) (now : ℕ) (device : DeviceId) → AreSettled s hs coming mark cursor now
-    → IsFounded place_of (IsDue s) (hs ++ coming) → (IsBefore (act_place now device) cursor → ⊥) → (act_place now device ≡ cursor → ⊥)
+    → IsFounded place_of (IsDue s) (hs ++ coming) → (IsBefore (act_place now device) cursor → ⊥)
     → (z : Happening) → IsIn z coming → (link : LinkId) (cause : ℕ) (vl : VlId) (cycle : ℕ) → Dispatches s (hs ++ coming) device now link cause vl cycle
     → plain_body z.note.body ≡ dispatch_body s device now link cause vl cycle → ⊥
-no_dispatch_told s hs coming mark cursor now device are founded waits not_at z i link cause vl cycle d e =
+no_dispatch_told s hs coming mark cursor now device are founded waits z i link cause vl cycle d e =
     let split = parted z coming i in
     let by = are.by split.0 split.1 z split.2 in
     let at = are.of_now z i in
-    let none : (w : List ℕ) → w ≡ act_place now device → (IsBefore w cursor ⊎ (w ≡ cursor)) → ⊥ = λ w is came. elim came [
-      | inl before ↦ waits (subst (λ (q : List ℕ). IsBefore q cursor) is before)
-      | inr here ↦ not_at (sym is ∙ here)
-    ] in
-    let came : IsBefore by.0 cursor ⊎ (by.0 ≡ cursor) = elim by.3 [ inl before ↦ inl before | inr up ↦ inr up.0 ] in
+    let none : (rest : List ℕ) → by.0 ≡ now ∷ 6 ∷ device.0 ∷ rest → ⊥ = λ rest is.
+    waits (chain (act_place now device) (now ∷ 6 ∷ device.0 ∷ rest) cursor (inr (refl, inl (omega arith)))
+    (subst (λ (q : List ℕ). IsBefore q cursor) is by.3)) in
     let whole : hs ++ coming ≡ (hs ++ split.0) ++ z ∷ split.1 =
     ap (λ (l : List Happening). hs ++ l) split.2 ∙ sym (Rattle.std.proofs.Common.append_assoc hs split.0 (z ∷ split.1)) in
     elim (dispatch_told s device now link cause vl cycle z.note.body e) [
       | inr sent ↦
           let own = subst (λ (b : NoteBody). IsOwnSource s (hs ++ split.0) (time_of z) (members_in z) b by.0) sent by.1 in
-          none by.0 (own ∙ ap (λ (n : ℕ). n ∷ 4 ∷ device.0 ∷ []) at) came
+          none _ (own.1 ∙ ap (λ (n : ℕ). n ∷ 6 ∷ device.0 ∷ dispatch_order s.network (record { 0 = own.0.place })) at)
       | inl lost ↦
           let own = subst (λ (b : NoteBody). IsOwnSource s (hs ++ split.0) (time_of z) (members_in z) b by.0) lost by.1 in
           elim own [
-            | inl leaves ↦ elim by.3 [
-              | inl before ↦
-                  let place : by.0 ≡ now ∷ 8 ∷ device.0 ∷ link.0 ∷ cause ∷ [] = leaves.0 ∙ ap (λ (n : ℕ). n ∷ 8 ∷ device.0 ∷ link.0 ∷ cause ∷ []) at in
-                  waits (chain (act_place now device) (now ∷ 8 ∷ device.0 ∷ link.0 ∷ cause ∷ []) cursor (inr (refl, inl (omega arith)))
-                  (subst (λ (q : List ℕ). IsBefore q cursor) place before))
-              | inr up ↦
-                  let place : time_of z ∷ 8 ∷ device.0 ∷ link.0 ∷ cause ∷ [] ≡ act_place (time_of z) up.1.0 = sym leaves.0 ∙ up.1.1 in
-                  (let bad : ◌≡◌ {A = ℕ} 8 4 = cc in omega (arith, bad))
-            ]
+            | inl leaves ↦
+                let place : by.0 ≡ now ∷ 8 ∷ device.0 ∷ link.0 ∷ cause ∷ [] = leaves.0 ∙ ap (λ (n : ℕ). n ∷ 8 ∷ device.0 ∷ link.0 ∷ cause ∷ []) at in
+                waits (chain (act_place now device) (now ∷ 8 ∷ device.0 ∷ link.0 ∷ cause ∷ []) cursor (inr (refl, inl (omega arith)))
+                (subst (λ (q : List ℕ). IsBefore q cursor) place by.3))
             | inr other ↦ elim other [
-              | inl acts ↦ none by.0 (acts.0 ∙ ap (λ (n : ℕ). n ∷ 4 ∷ device.0 ∷ []) at) came
+              | inl acts ↦ none _ (acts.4 ∙ ap (λ (n : ℕ). n ∷ 6 ∷ device.0 ∷ dispatch_order s.network (record { 0 = acts.2.place })) at)
               | inr sends ↦
                   send_apart s (hs ++ coming) (hs ++ split.0) device now link link cause vl cycle founded
                   (λ h there. subst (λ (l : List Happening). numbered l cause ≡ Some h) (sym whole)

@@ -1,20 +1,23 @@
 -- Where nothing that a world has under way is before a place, and nothing to come, no act of a device that is not worked off
 -- is before it.
-use Rattle.world_law.proofs.runs.TaskPlaces.{acts_before, task_before}
+use Rattle.world_law.proofs.runs.TaskPlaces.{acts_before, placed_so}
+use Rattle.world_law.proofs.acts.Dues.{IsPresent, act_due, came_not, done_or}
+use Rattle.world_law.proofs.Words.{◌+◌, ◌≤ℤ◌, HadComeTo, IsPending, before_later, hidden_body, is_at_source, key, members_in, task_place}
+use Rattle.world_law.proofs.devices.Working.{came_sooner}
 use Rattle.{net_plan.specs.declared.tables.Role.Role, sync_state.specs.Standing.state_at_start, world_law.proofs.putting.StandsOn.in_mapped}
 use Rattle.{run_law.specs.declared.judgement.Why.TheVariants.On, world_law.proofs.{devices.TurnedOn.{IsQuiet, quiet_rest}, lists.Lists.{behind_no, map_none}}}
-use Rattle.{run_law.specs.scenario.Devices.{has_role, start_of}, world_law.proofs.{devices.{Deeds.rests, OwnRecords.keeps_state}, putting.PutShown.hidden_rank}}
-use Rattle.world_law.proofs.Words.{◌++◌, ◌<◌, ◌∙◌, ◌∷◌, ◌≡◌, ◌≤◌, AreClusters, AreOfNetwork, Bool, Compressed, Device, DeviceId, Emits, Happening, HasDone}
-use Rattle.world_law.proofs.Words.{HasDoneFrom, HasSent, HasTaskBy, HasWorkedTo, HaveBefallen, Integrating, IsActing, IsBefore, IsHeld, IsIn, IsKept, IsLeft}
-use Rattle.world_law.proofs.Words.{Judgement, List, Network, Node, None, Note, NoteBody, Off, Point, Scenario, Some, Stands, State, Synchronised, Task, World}
+use Rattle.{run_law.specs.scenario.Devices.{has_role, start_of}, world_law.proofs.{devices.OwnRecords.keeps_state, putting.PutShown.hidden_rank}}
+use Rattle.world_law.proofs.Words.{◌++◌, ◌<◌, ◌∙◌, ◌∷◌, ◌≡◌, ◌≤◌, AreOfNetwork, Bool, Compressed, Device, DeviceId, Emits, Happening}
+use Rattle.world_law.proofs.Words.{HaveBefallen, Integrating, IsActing, IsBefore, IsHeld, IsIn, IsKept, IsLeft}
+use Rattle.world_law.proofs.Words.{Judgement, List, Network, Node, None, Note, NoteBody, Off, Scenario, Some, Stands, State, Synchronised, Task, World}
 use Rattle.world_law.proofs.Words.{[], act_place, after_last, ap, append-nil, append_assoc, arith, cases_Bool, cases_lt, chain, changed_at, device_at, earlier}
-use Rattle.world_law.proofs.Words.{emitting, ends_stretch, false, filter_map, frames_taken, happenings, hidden, if◌then◌else◌, in_filter, in_left, in_parts}
-use Rattle.world_law.proofs.Words.{in_right, inl, inr, ints, is_broken, is_turned_on_at, is_turning, length, map, moves, nat_lt, never_both, next_cycle}
-use Rattle.world_law.proofs.Words.{next_point, observation_window, option_map_or, place_of, point_by, point_in, points_of, pos, rank, reading_for, refl}
+use Rattle.world_law.proofs.Words.{ends_stretch, false, filter_map, frames_taken, happenings, hidden, if◌then◌else◌, in_filter, in_left, in_parts}
+use Rattle.world_law.proofs.Words.{in_right, inl, inr, is_broken, is_turned_on_at, is_turning, length, map, moves, nat_lt, next_cycle}
+use Rattle.world_law.proofs.Words.{option_map_or, place_of, point_by, point_in, points_of, pos, rank, reading_for, refl}
 use Rattle.world_law.proofs.Words.{slice_get_within}
 use Rattle.world_law.proofs.{Words.{state_after, state_before, state_with, subst, sym, time_of, true, ℕ}, devices.Resting.{IsPast, IsWorked, are_past, at_rest}}
-use Rattle.world_law.proofs.{acts.Acting.{IsUnmoved, correcting_task, sending_task}, runs.Foremost.{NoActBefore, acting_task, none_but_acts, not_on_after}}
-use Rattle.world_law.proofs.{giving.Given.no_later_breaks, runs.SourcesBack.{dispatches_back, earlier_still, of_high_rank, reaches_back, standing_in, up_back}}
+use Rattle.world_law.proofs.{acts.Acting.IsUnmoved, runs.Foremost.{NoActBefore, acting_task, none_but_acts, not_on_after}}
+use Rattle.world_law.proofs.{giving.Given.no_later_breaks, runs.SourcesBack.{earlier_still, of_high_rank}}
 use Rattle.world_law.proofs.lists.Orders.{cases_int}
 use Rattle.world_law.{proofs.rows.Dispatching.{IsLawful, dispatching_task, lawful}, specs.world.Moves.{NothingBefore, NothingComesBefore}}
 use Rattle.run_law.specs.declared.note.NoteBody.TheVariants as notes
@@ -106,129 +109,41 @@ looking_acts s hs device t task looking (IsActing.corrects cycle c) =
 looking_acts s hs device t task looking (IsActing.dispatches link cause vl cycle d) =
     absurd (let bad : Integrating ≡ Synchronised = sym looking ∙ d.up.synchronised in cc)
 
--- ---- at the present instant, what acts by the records given is a task, where what is to come leaves the device at rest
-
-emission_now : (s : Scenario) (hs zs : List Happening) (device : DeviceId) (t : ℕ) (node : Node) (sent : Compressed) (verdict : Judgement)
-    → points_of (hs ++ zs) device ≡ points_of hs device → IsLeft s (hs ++ zs) device t node → HasSent s device t node → Emits s hs device t sent verdict
-    → HasTaskBy s device node t
-emission_now s hs zs device t node sent verdict same left has e = (
-  emitting sent,
-  (
-    left.counted.broken ∙ e.correct,
-    record {
-      cm = e.cm;
-      clusters = e.clusters;
-      are = subst (λ (ps : List Point). AreClusters (observation_window s.network) ps e.clusters) (sym (left.points e.cm ∙ same)) e.are;
-      cluster = e.cluster;
-      there = e.there;
-      is = e.is;
-      not_yet = λ there. let x = has.sent sent there in never_both _ _ (e.reached.not_before x.0 (omega (arith, ints)) (omega (arith, ints, x.1))) x.2;
-    },
-  ),
-  e.reached.reached,
-)
-
--- the device is not turned on at the time, so its state is that of the records before
-deeds_now : (s : Scenario) (hs zs : List Happening) (device : DeviceId) (t : ℕ) (node : Node) (task : Task) → IsLawful s (hs ++ zs) device
-    → ((h : Happening) → IsIn h (hs ++ zs) → time_of h ≤ t) → node.taken ≡ frames_taken s (hs ++ zs) device → earlier t (hs ++ zs) ≡ earlier t hs
-    → points_of (hs ++ zs) device ≡ points_of hs device → ((x y : ℕ) → x ≤ y → s.reading device x ≤ s.reading device y)
-    → is_turned_on_at s device t ≡ false → IsLeft s (hs ++ zs) device t node → HasDone s (hs ++ zs) device t node → HasSent s device t node
-    → IsActing s hs t device task → HasTaskBy s device node t
-deeds_now s hs zs device t node task law past taken same points falls off left done sent a =
-    let js = hs ++ zs in
-    let u : IsUnmoved s js device t t = record {
-      le = omega arith;
-      still = λ h i from lt. absurd (omega (arith, from, lt));
-      not_on = off;
-      not_on_later = off;
-      not_broken = refl;
-      never_falls = falls;
-    } in
-    let back = sym same in
-    from task u back a
-  where
-    from : (task : Task) → IsUnmoved s (hs ++ zs) device t t → earlier t hs ≡ earlier t (hs ++ zs) → IsActing s hs t device task → HasTaskBy s device node t
-    from task u back (IsActing.emits emission verdict e) = emission_now s hs zs device t node emission verdict points left sent e
-    from task u back (IsActing.sends cycle d) =
-        sending_task s (hs ++ zs) device t t node cycle u left done
-        (record {
-          master = d.master;
-          up = up_back s hs (hs ++ zs) t device back d.up;
-          begun = d.begun;
-          reached = reaches_back s hs (hs ++ zs) t device _
-              back d.reached;
-        })
-    from task u back (IsActing.corrects cycle c) =
-        correcting_task s (hs ++ zs) device t t node cycle u left done
-        (record {
-          next = subst (λ (w : List Happening). next_point (standing_in s device t w) ≡ Some cycle) back c.next;
-          reached = reaches_back s hs (hs ++ zs)
-              t device _ back c.reached;
-          correct = c.correct;
-        })
-    from task u back (IsActing.dispatches link cause vl cycle d) =
-        dispatching_task s (hs ++ zs) device t t node link cause vl cycle u left done law past taken
-        (dispatches_back s hs (hs ++ zs) t device link cause vl cycle back d)
-
 -- ---- a device that is kept
-
-earlier_act : (now t : ℕ) (device : DeviceId) (p : List ℕ) → now ≤ t → IsBefore (act_place t device) p → IsBefore (act_place now device) p
-earlier_act now t device p le b = elim (cases_lt now t) [
-  | inl lt ↦ chain (act_place now device) (act_place t device) p (inl lt) b
-  | inr ge ↦ let same : t ≡ now = omega (arith, ge, le) in subst (λ (n : ℕ). IsBefore (act_place n device) p) same b
-]
 
 -- what is looked at: a task of the device is not due before the place
 abbrev IsIdleBefore : Scenario → DeviceId → ℕ → Node → List ℕ → Type 0
-IsIdleBefore s device now node p = (t : ℕ) → now ≤ t → HasTaskBy s device node t → IsBefore (act_place t device) p → ⊥
+IsIdleBefore s device now node p =
+    (t : ℕ) → now ≤ t → (task : Task) → IsPending s.network device node task → reading_for s.network node task ≤ℤ pos (s.reading device t)
+    → IsBefore (task_place s.network t device task) p → ⊥
 
--- and what is to come is behind all acts of the instant that are before it
-pub record IsBehind (coming : List Happening) (now : ℕ) (p : List ℕ) : Type 0 where
+-- and what is to come is behind all acts of the instant that are before it; and where what stands at its source is to come,
+-- no place that is not worked off is before it
+pub record IsBehind (coming : List Happening) (cursor : List ℕ) (now : ℕ) (p : List ℕ) : Type 0 where
   pub of_now : (z : Happening) → IsIn z coming → time_of z ≡ now
   pub late : (z : Happening) → IsIn z coming → (device : DeviceId) → IsBefore (act_place now device) p → 4 ≤ rank z.note.body
   pub none : (t : ℕ) (device : DeviceId) → now < t → IsBefore (act_place t device) p → coming ≡ []
+  pub lone : (z : Happening) → IsIn z coming → rank z.note.body ≡ 4 → (w : List ℕ) → (IsBefore w cursor → ⊥) → IsBefore w p → ⊥
 
-act_now : {M : Type 0} (stands : M → Network → DeviceId → Node → Type 0) (s : Scenario) (hs coming : List Happening) (cursor p : List ℕ) (now : ℕ)
-    (device : DeviceId) (machine : M) (k : IsKept stands s hs coming cursor now device machine) (task : Task) → IsLawful s (hs ++ coming) device
-    → IsBehind coming now p → IsPast hs now → k.up ≡ now
-    → HasWorkedTo s device k.node (changed_at (hs ++ coming) device k.up) k.up → IsActing s hs now device task
-    → IsBefore (act_place now device) p → HasTaskBy s device k.node now
-act_now stands s hs coming cursor p now device machine k task law behind_it past up worked a b =
-    let js = hs ++ coming in
-    let past_all : (h : Happening) → IsIn h js → time_of h ≤ now = λ h i. elim (in_parts h hs coming i) [
-      | inl given ↦ past.past h given
-      | inr fresh ↦ let at = behind_it.of_now h fresh in omega (arith, at)
-    ] in
-    let same : earlier now js ≡ earlier now hs = earlier_still now hs coming (λ z i. let at = behind_it.of_now z i in omega (arith, at)) in
-    let points : points_of js device ≡ points_of hs device = points_same coming hs device
-    (λ z i. (quiet_rest s device now z.note.body (k.still up z (in_right z hs coming i) (behind_it.of_now z i)), behind_it.late z i device b)) in
-    let left : IsLeft s js device now k.node = subst (λ (n : ℕ). IsLeft s js device n k.node) up k.left in
-    let done : HasDoneFrom s.network (s.reading device) device k.node (changed_at js device now) now now =
-    subst (λ (n : ℕ). HasDoneFrom s.network (s.reading device) device k.node (changed_at js device n) n n) up worked.done in
-    let has = rests s js device now (changed_at js device now) k.node done refl in
-    let sent : HasSent s device now k.node = record {
-      unsent = λ c w x lt. worked.sent.unsent c w x (omega (arith, lt, up));
-      sent = λ c there_is. let x = worked.sent.sent c there_is in (x.0, omega (arith, x.1, up), x.2);
-    } in
-    elim (cases_Bool (is_turned_on_at s device now)) [
-      | inr off ↦ deeds_now s hs coming device now k.node task law past_all k.taken same points law.steady.never_falls off left has sent a
-      | inl on ↦
-          let e = looking_acts s hs device now task (ap (λ (c : Bool). if c then Integrating else state_after s (earlier now hs) device) on) a in
-          emission_now s hs coming device now k.node e.0 e.1 points left sent e.2
-    ]
+-- how it is at the present instant
+pub present : {M : Type 0} (stands : M → Network → DeviceId → Node → Type 0) (s : Scenario) (hs coming : List Happening) (cursor : List ℕ) (now : ℕ)
+    (device : DeviceId) (machine : M) (k : IsKept stands s hs coming cursor now device machine) → k.up ≡ now → IsPresent s (hs ++ coming) now device k.node
+present stands s hs coming cursor now device machine k up =
+    record { left = subst (λ (n : ℕ). IsLeft s (hs ++ coming) device n k.node) up k.left; sound = k.sound }
 
 pub kept_no_act : {M : Type 0} (stands : M → Network → DeviceId → Node → Type 0) (s : Scenario) (hs coming : List Happening) (mark cursor p : List ℕ)
     (now t : ℕ) (device : DeviceId) (machine : M) (k : IsKept stands s hs coming cursor now device machine) (task : Task)
-    → IsLawful s (hs ++ coming) device → IsBehind coming now p → IsPast hs now → (IsBefore (now ∷ 2 ∷ []) p → IsWorked hs cursor now) → HaveBefallen s mark now
-    → now ≤ t → IsIdleBefore s device now k.node p → IsActing s hs t device task → (IsBefore (act_place t device) cursor → ⊥)
-    → IsBefore (act_place t device) p → ⊥
-kept_no_act {M} stands s hs coming mark cursor p now t device machine k task law behind_it past worked befallen le idle a not b =
+    → IsLawful s (hs ++ coming) device → IsBehind coming cursor now p → IsPast hs now → (IsBefore (now ∷ 2 ∷ []) p → IsWorked hs cursor now) → HaveBefallen s mark now
+    → ((q : List ℕ) → IsBefore q cursor → IsBefore q ((now + 1) ∷ [])) → now ≤ t → IsIdleBefore s device now k.node p → IsActing s hs t device task → (IsBefore (task_place s.network t device task) cursor → ⊥)
+    → IsBefore (task_place s.network t device task) p → ⊥
+kept_no_act {M} stands s hs coming mark cursor p now t device machine k task law behind_it past worked befallen later le idle a not b =
     elim (cases_lt now t) [
       | inr ge ↦ let same : t ≡ now =
           omega (arith, ge, le) in at_once (subst (λ (n : ℕ). IsActing s hs n device task) same a)
-          (subst (λ (n : ℕ). IsBefore (act_place n device) cursor → ⊥) same not) (subst (λ (n : ℕ). IsBefore (act_place n device) p) same b)
+          (subst (λ (n : ℕ). IsBefore (task_place s.network n device task) cursor → ⊥) same not)
+          (subst (λ (n : ℕ). IsBefore (task_place s.network n device task) p) same b)
       | inl lt ↦
-          let empty = behind_it.none t device lt b in
+          let empty = behind_it.none t device lt (acts_before s.network t device task p b) in
           let k0 : (x : IsKept stands s hs [] cursor now device machine)
           × (x.node ≡ k.node) = subst (λ (l : List Happening). (x : IsKept stands s hs l cursor now device machine) × (x.node ≡ k.node)) empty (k, refl)
           in
@@ -238,30 +153,54 @@ kept_no_act {M} stands s hs coming mark cursor p now t device machine k task law
           afterwards lt k0.0 idle0 law0
     ]
   where
-    at_once : IsActing s hs now device task → (IsBefore (act_place now device) cursor → ⊥) → IsBefore (act_place now device) p → ⊥
-    at_once a not b = elim k.worked [
-      | inr working ↦ idle now (omega arith) working.1.due b
-      | inl rests ↦ elim k.acted [
-        | inl yet ↦ idle now (omega arith) (act_now stands s hs coming cursor p now device machine k task law behind_it past yet.0 rests a b) b
-        | inr done ↦ elim (k.told done.0) [
-          | inl gone ↦ not gone
-          | inr just ↦
-              let same : earlier now (hs ++ coming) ≡ earlier now hs = earlier_still now hs coming (λ z i. let at = behind_it.of_now z i in omega (arith, at))
-              in
-              let looking : state_before s hs device now ≡ Integrating = ap (λ (w : List Happening). if is_turned_on_at s device now then Integrating
-              else state_after s w device) (sym same) ∙ just.looking in
-              let e = looking_acts s hs device now task looking a in
-              let bad : true ≡ false = sym e.2.cm ∙ just.other in cc
+    at_once : IsActing s hs now device task → (IsBefore (task_place s.network now device task) cursor → ⊥)
+        → IsBefore (task_place s.network now device task) p → ⊥
+    at_once a not b =
+        let js = hs ++ coming in
+        let past_all : (h : Happening) → IsIn h js → time_of h ≤ now = λ h i. elim (in_parts h hs coming i) [
+          | inl given ↦ past.past h given
+          | inr fresh ↦ let at = behind_it.of_now h fresh in omega (arith, at)
+        ] in
+        let same : earlier now js ≡ earlier now hs = earlier_still now hs coming (λ z i. let at = behind_it.of_now z i in omega (arith, at)) in
+        elim k.acted [
+          | inl yet ↦
+              let points : points_of js device ≡ points_of hs device = points_same coming hs device
+              (λ z i. (
+                quiet_rest s device now z.note.body (k.still yet.0 z (in_right z hs coming i) (behind_it.of_now z i)),
+                behind_it.late z i device (acts_before s.network now device task p b),
+              )) in
+              let w = present stands s hs coming cursor now device machine k yet.0 in
+              elim (done_or k.node task) [
+                | inr undone ↦
+                    let due = act_due s js hs now device k.node task w (record { taken = k.taken; past = past_all; lawful = law }) (sym same)
+                    (sym points) a undone in
+                    idle now (omega arith) task due.0 due.1 b
+                | inl did ↦
+                    came_not s js hs now device k.node task w (sym same) a
+                    (subst (λ (n : ℕ). HadComeTo s device k.node (changed_at js device n) now task) yet.0
+                    (came_sooner s device k.node (changed_at js device k.up) k.up now cursor k.worked task did not))
+              ]
+          | inr over ↦ elim (k.told over.0) [
+            | inl out ↦ not (out.all task a)
+            | inr (inr joining) ↦ behind_it.lone joining.by joining.there joining.sent (task_place s.network now device task) not b
+            | inr (inl just) ↦
+                let looking : state_before s hs device now ≡ Integrating = ap (λ (w : List Happening). if is_turned_on_at s device now then Integrating
+                else state_after s w device) (sym same) ∙ just.looking in
+                let e = looking_acts s hs device now task looking a in
+                let bad : true ≡ false = sym e.2.cm ∙ just.other in cc
+          ]
         ]
-      ]
-    ]
 
     afterwards : now < t → (k0 : IsKept stands s hs [] cursor now device machine) → IsIdleBefore s device now k0.node p → IsLawful s hs device → ⊥
     afterwards lt k0 idle0 law0 =
-        let rest = at_rest stands s hs mark cursor now device machine k0 befallen past (worked (chain (now ∷ 2 ∷ []) (act_place t device) p (inl lt) b))
-        (λ task pending. elim (cases_int (pos (s.reading device now)) (reading_for s.network k0.node task)) [
+        let sooner : (k : ℕ) (ws : List ℕ) → IsBefore (now ∷ k ∷ ws) p = λ k ws. chain (now ∷ k ∷ ws) (task_place s.network t device task) p (inl lt) b in
+        let rest = at_rest stands s hs mark cursor now device machine k0 befallen past (worked (sooner 2 []))
+        (record { later = later; falls = law0.steady.never_falls })
+        (λ other pending. elim (cases_int (pos (s.reading device now)) (reading_for s.network k0.node other)) [
           | inl less ↦ less
-          | inr ge ↦ absurd (idle0 now (omega arith) (task, pending, ge) (earlier_act now t device p le b))
+          | inr ge ↦
+              let at = placed_so s.network now device other in
+              absurd (idle0 now (omega arith) other pending ge (subst (λ (q : List ℕ). IsBefore q p) (sym at.is) (sooner at.rank (device.0 ∷ at.rest))))
         ]) in
         let few = rest.soon in
         let u : IsUnmoved s hs device rest.from t = record {
@@ -273,15 +212,23 @@ kept_no_act {M} stands s hs coming mark cursor p now t device machine k task law
           never_falls = law0.steady.never_falls;
         } in
         let taken = k0.taken ∙ ap (λ (l : List Happening). frames_taken s l device) (append-nil hs) in
-        idle0 t le (acting_task s hs device rest.from t k0.node task u rest.left rest.done rest.sent
+        let due = acting_task s hs device rest.from t k0.node task u rest.left rest.done rest.sent
         (λ link cause vl cycle d. dispatching_task s hs device rest.from t k0.node link cause vl cycle u rest.left rest.done law0
-        (λ h i. let early = past.past h i in omega (arith, early, le)) taken d) a) b
+        (λ h i. let early = past.past h i in omega (arith, early, le)) taken d) a in
+        idle0 t le due.0 due.1 due.2 (subst (λ (q : List ℕ). IsBefore q p) (sym due.3) b)
 
 -- ---- all devices
 
-behind_of : (given : ℕ) (coming settled : List Happening) (now : ℕ) (p : List ℕ) → settled ≡ map (hidden given) coming
-    → ((z : Happening) → IsIn z coming → time_of z ≡ now) → ((z : Happening) → IsIn z settled → IsBefore (place_of z) p → ⊥) → IsBehind coming now p
-behind_of given coming settled now p shows of after =
+frame_hidden : (given : ℕ) (z : Happening) (body : NoteBody) → z.note.body ≡ body → rank body ≡ 4 → place_of (hidden given z) ≡ place_of z
+frame_hidden given z (notes.State device state cause why) e four = absurd (omega (arith, four))
+frame_hidden given z body e four =
+    ap (λ (b : NoteBody). time_of z ∷ rank (hidden_body given b) ∷ key (members_in z) (hidden_body given b)) e
+    ∙ sym (ap (λ (b : NoteBody). time_of z ∷ rank b ∷ key (members_in z) b) e)
+
+behind_of : (given : ℕ) (coming settled : List Happening) (cursor : List ℕ) (now : ℕ) (p : List ℕ) → settled ≡ map (hidden given) coming
+    → ((z : Happening) → IsIn z coming → time_of z ≡ now) → ((z : Happening) → IsIn z coming → is_at_source z.note.body ≡ true → IsBefore (place_of z) cursor)
+    → ((z : Happening) → IsIn z settled → IsBefore (place_of z) p → ⊥) → IsBehind coming cursor now p
+behind_of given coming settled cursor now p shows of worked after =
     let seen : (z : Happening) → IsIn z coming → IsBefore (place_of (hidden given z)) p
     → ⊥ = λ z i. after (hidden given z) (subst (λ (l : List Happening). IsIn (hidden given z) l) (sym shows) (in_mapped (hidden given) coming z i)) in
     record {
@@ -294,8 +241,16 @@ behind_of given coming settled now p shows of after =
             absurd (seen z i (chain (place_of (hidden given z)) (act_place now device) p (inr (at, inl (omega (arith, low, same)))) b))
       ];
       none = λ t device lt b. from t device lt b coming of seen;
+      lone = λ z i four w not b.
+          let place = frame_hidden given z z.note.body refl four in
+          let gone = worked z i (frame_source z.note.body four) in
+          seen z i (chain (place_of (hidden given z)) w p (subst (λ (q : List ℕ). IsBefore q w) (sym place) (before_later (place_of z) w cursor gone not)) b);
     }
   where
+    frame_source : (body : NoteBody) → rank body ≡ 4 → is_at_source body ≡ true
+    frame_source (notes.Compressed device opened at cycle members verdict) e = refl
+    frame_source other e = absurd (omega (arith, e))
+
     from : (t : ℕ) (device : DeviceId) → now < t → IsBefore (act_place t device) p → (l : List Happening) → ((z : Happening) → IsIn z l → time_of z ≡ now)
         → ((z : Happening) → IsIn z l → IsBefore (place_of (hidden given z)) p → ⊥) → l ≡ []
     from t device lt b [] of_l seen = refl
@@ -304,12 +259,12 @@ behind_of given coming settled now p shows of after =
 
 held_no_act : {M : Type 0} (stands : M → Network → DeviceId → Node → Type 0) (s : Scenario) (hs coming : List Happening) (mark cursor p : List ℕ) (now t : ℕ)
     (device : DeviceId) (machine : M) (task : Task) → IsHeld stands s hs coming cursor now device machine
-    → IsLawful s (hs ++ coming) device → IsBehind coming now p → IsPast hs now → (IsBefore (now ∷ 2 ∷ []) p → IsWorked hs cursor now) → HaveBefallen s mark now
-    → now ≤ t → ((node : Node) → stands machine s.network device node → IsIdleBefore s device now node p)
-    → IsActing s hs t device task → (IsBefore (act_place t device) cursor → ⊥) → IsBefore (act_place t device) p → ⊥
-held_no_act stands s hs coming mark cursor p now t device machine task (inl k) law behind_it past worked befallen le idle a not b =
-    kept_no_act stands s hs coming mark cursor p now t device machine k task law behind_it past worked befallen le (idle k.node k.is) a not b
-held_no_act stands s hs coming mark cursor p now t device machine task (inr k) law behind_it past worked befallen le idle a not b =
+    → IsLawful s (hs ++ coming) device → IsBehind coming cursor now p → IsPast hs now → (IsBefore (now ∷ 2 ∷ []) p → IsWorked hs cursor now) → HaveBefallen s mark now
+    → ((q : List ℕ) → IsBefore q cursor → IsBefore q ((now + 1) ∷ [])) → now ≤ t → ((node : Node) → stands machine s.network device node → IsIdleBefore s device now node p)
+    → IsActing s hs t device task → (IsBefore (task_place s.network t device task) cursor → ⊥) → IsBefore (task_place s.network t device task) p → ⊥
+held_no_act stands s hs coming mark cursor p now t device machine task (inl k) law behind_it past worked befallen later le idle a not b =
+    kept_no_act stands s hs coming mark cursor p now t device machine k task law behind_it past worked befallen later le (idle k.node k.is) a not b
+held_no_act stands s hs coming mark cursor p now t device machine task (inr k) law behind_it past worked befallen later le idle a not b =
     broken_acts s hs device t task (no_later_breaks s mark now t device befallen le ∙ k.broken) a
 
 no_acts : {C M : Type 0} (reading : C → ℕ → ℕ) (stands : M → Network → DeviceId → Node → Type 0) (s : Scenario) (world : World C M) (notes : List Note)
@@ -318,17 +273,15 @@ no_acts : {C M : Type 0} (reading : C → ℕ → ℕ) (stands : M → Network �
     → NoActBefore s (happenings s.network notes) old.cursor p
 no_acts reading stands s world notes p old after none t device task a not b =
     let hs = happenings s.network notes in
-    let waits : IsBefore (act_place t device) old.cursor → ⊥ = λ x. not (task_before s.network t device task old.cursor x) in
     let over : (q : List ℕ) → IsBefore q (world.now ∷ []) → IsBefore q old.cursor = λ q x. old.ahead q (old.of_now q x) in
-    let le : world.now ≤ t = elim (cases_lt t world.now) [ inl lt ↦ absurd (waits (over (act_place t device) (inl lt))) | inr ge ↦ ge ] in
+    let le : world.now ≤ t = elim (cases_lt t world.now) [ inl lt ↦ absurd (not (over (task_place s.network t device task) (inl lt))) | inr ge ↦ ge ] in
     elim (cases_lt device.0 (length s.network.device)) [
       | inl lt ↦
           let m = old.devices device lt in
           held_no_act stands s hs old.coming old.mark old.cursor p world.now t device m.0 task m.2 (lawful reading stands s world notes old device)
-          (behind_of (length notes) old.coming world.settled world.now p old.settled old.are.of_now after) (are_past reading stands s world notes old)
-          (λ two. elim (cases_Bool world.pending) [ inr told ↦ old.untold.done told | inl open_ ↦ absurd (none.befell open_ two) ]) old.befallen le
-          (λ node is u from due before. none.acting device m.0 node due.0 m.1 is due.1 u from due.2 (task_before s.network u device due.0 p before)) a waits
-          (acts_before s.network t device task p b)
+          (behind_of (length notes) old.coming world.settled old.cursor world.now p old.settled old.are.of_now old.are.worked after) (are_past reading stands s world notes old)
+          (λ two. elim (cases_Bool world.pending) [ inr told ↦ old.untold.done told | inl open_ ↦ absurd (none.befell open_ two) ]) old.befallen old.not_later le
+          (λ node is u from other pending due before. none.acting device m.0 node other m.1 is pending u from due before) a not b
       | inr ge ↦ none_acts s hs device t task ge
           (record { unmoved = λ d far h i. old.known.unmoved d far h (in_left h hs old.coming i); never_on = old.known.never_on }) a
     ]

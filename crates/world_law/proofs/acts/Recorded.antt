@@ -1,30 +1,19 @@
 -- What the records of an instant tell of the acts of a device, while other records are put in and given.
-use Rattle.{net_plan.proofs.SameIds.self, std.proofs.Common.Contains, world_law.{proofs.acts.Acted.waiting_alike, specs.device.Deeds.HasSentFrom}}
-use Rattle.world_law.proofs.Words.{◌*◌, ◌++◌, ◌+◌, ◌-ℤ◌, ◌==◌, ◌∙◌, ◌∷◌, ◌≡◌, ◌≤ℤ◌, ◌≤◌, ◌⊎◌, AreClusters, Bool, ClockTask, Compressed, DeviceId, Dispatches}
-use Rattle.world_law.proofs.Words.{Happening, HasDoneFrom, IsIn, IsLeft, Judgement, LinkId, List, Node, NoteBody, Option, Point, Row, RowId, Scenario, Units}
+use Rattle.{net_plan.proofs.SameIds.self, std.proofs.Common.Contains}
+use Rattle.world_law.proofs.Words.{◌*◌, ◌++◌, ◌+◌, ◌-ℤ◌, ◌==◌, ◌∙◌, ◌∷◌, ◌≡◌, ◌≤ℤ◌, ◌≤◌, ◌⊎◌, Bool, ClockTask, DeviceId, Dispatches}
+use Rattle.world_law.proofs.Words.{Happening, HasDoneFrom, IsIn, IsLeft, LinkId, List, Node, NoteBody, Option, Row, RowId, Scenario, Units}
 use Rattle.world_law.proofs.Words.{VlId, [], adjustment_before, amount, ap, append_assoc, arith, bears_on, both_ways, changed_at, dispatch_body, dispatching}
-use Rattle.world_law.proofs.Words.{earlier, false, if◌then◌else◌, in_left, in_parts, in_right, inl, inr, ints, is_cut, never_both, observation_window}
-use Rattle.world_law.proofs.Words.{option_map_or, plain, plain_body, plains, pos, rank, refl, sending, subst, sym, time_of, true, value_of, way_from, ℕ, ℤ}
-use Rattle.world_law.{proofs.runs.SourcesBack.{dispatches_same, earlier_still, reaches_back, up_back}, specs.device.Recorded.{AreRecorded, IsShown}}
+use Rattle.world_law.proofs.Words.{earlier, false, if◌then◌else◌, in_left, in_parts, in_right, inl, inr, ints, is_cut, never_both}
+use Rattle.world_law.proofs.Words.{option_map_or, plain, plain_body, plains, pos, rank, refl, subst, sym, time_of, true, value_of, way_from, ℕ, ℤ}
+use Rattle.world_law.{proofs.runs.SourcesBack.{dispatches_same, earlier_still}, specs.device.Recorded.{AreRecorded, IsShown}}
 use Rattle.run_law.specs.declared.note.NoteBody.TheVariants as kinds
 
--- nothing is done at the instant yet
+-- nothing is dispatched at the instant yet
 pub first_recorded : (s : Scenario) (js coming : List Happening) (now : ℕ) (device : DeviceId) (node : Node) → IsLeft s js device now node
-    → HasDoneFrom s.network (s.reading device) device node (changed_at js device now) now now → HasSentFrom s device node now now
-    → ((z : Happening) → IsIn z coming → (cycle : ℕ) → plain_body z.note.body ≡ kinds.Sent device cycle → ⊥)
-    → ((z : Happening) → IsIn z coming → (c : Compressed) (verdict : Judgement)
-    → plain_body z.note.body ≡ kinds.Compressed device c.opened c.at c.cycle c.members verdict → ⊥) → ((z : Happening) → IsIn z coming → time_of z ≡ now)
+    → HasDoneFrom s.network (s.reading device) device node (changed_at js device now) now now → ((z : Happening) → IsIn z coming → time_of z ≡ now)
     → ((z : Happening) → IsIn z coming → (link : LinkId) (cause : ℕ) (vl : VlId) (cycle : ℕ) → Dispatches s js device now link cause vl cycle
     → plain_body z.note.body ≡ dispatch_body s device now link cause vl cycle → ⊥) → AreRecorded s js coming now device node
-first_recorded s js coming now device node left done sent none_sent none_emitted of none_dispatched = record {
-  sent = λ cycle there d.
-      let x = done.done (sending cycle) there in
-      let at = subst (λ (a : Units). (value_of s.network (sending cycle) -ℤ a.0) ≤ℤ pos (s.reading device x.0)) left.counted.adjustment x.3 in
-      absurd (never_both _ _ (d.reached.reach.not_before x.0 (omega (arith, ints, x.1)) (omega (arith, ints, x.2))) at);
-  emitted = λ c there r. let x = sent.sent c there in absurd (never_both _ _ (r.not_before x.0 (omega (arith, ints)) (omega (arith, ints, x.1))) x.2);
-  has_sent = λ z i cycle e. absurd (none_sent z i cycle e);
-  has_emitted = λ z i c verdict e. absurd (none_emitted z i c verdict e);
-  frames = λ z i c verdict e. absurd (none_emitted z i c verdict e);
+first_recorded s js coming now device node left done of none_dispatched = record {
   of_now = of;
   dispatched = λ link cause vl cycle d there.
       let row : RowId = record { 0 = d.place } in
@@ -35,36 +24,19 @@ first_recorded s js coming now device node left done sent none_sent none_emitted
       let here = subst (λ (v : ℤ). (v -ℤ (adjustment_before s js device now).0) ≤ℤ pos (s.reading device x.0)) value at in
       absurd (never_both _ _ (d.reached.reach.not_before x.0 (omega (arith, ints, x.1)) (omega (arith, ints, x.2))) here);
   has_dispatched = λ z i link cause vl cycle d e. absurd (none_dispatched z i link cause vl cycle d e);
-  ordered = λ z i c verdict e d w due. absurd (none_emitted z i c verdict e);
 }
 
 -- ---- another node
 
--- a node with the same deeds, emissions and points is told of alike
+-- a node with the same deeds is told of alike
 pub recorded_alike : (s : Scenario) (js coming : List Happening) (now : ℕ) (device : DeviceId) (node new : Node) → new.done ≡ node.done
-    → new.emitted ≡ node.emitted → new.points ≡ node.points → AreRecorded s js coming now device node → AreRecorded s js coming now device new
-recorded_alike s js coming now device node new done emitted points r = record {
-  sent = λ cycle there d. r.sent cycle (subst (λ (l : List ClockTask). Contains l (sending cycle)) done there) d;
-  emitted = λ c there reach. r.emitted c (subst (λ (l : List Compressed). Contains l c) emitted there) reach;
-  has_sent = λ z i cycle e. subst (λ (l : List ClockTask). Contains l (sending cycle)) (sym done) (r.has_sent z i cycle e);
-  has_emitted = λ z i c verdict e. subst (λ (l : List Compressed). Contains l c) (sym emitted) (r.has_emitted z i c verdict e);
-  frames = λ z i c verdict e.
-      let f = r.frames z i c verdict e in
-      record {
-        clusters = f.clusters;
-        are = subst (λ (ps : List Point). AreClusters (observation_window s.network) ps f.clusters) (sym points) f.are;
-        cluster = f.cluster;
-        there = f.there;
-        is = f.is;
-      };
+    → AreRecorded s js coming now device node → AreRecorded s js coming now device new
+recorded_alike s js coming now device node new done r = record {
   of_now = r.of_now;
   dispatched = λ link cause vl cycle d there.
       r.dispatched link cause vl cycle d (subst (λ (l : List ClockTask). Contains l (dispatching (record { 0 = d.place }) cycle)) done there);
   has_dispatched = λ z i link cause vl cycle d e.
       subst (λ (l : List ClockTask). Contains l (dispatching (record { 0 = d.place }) cycle)) (sym done) (r.has_dispatched z i link cause vl cycle d e);
-  ordered = λ z i c verdict e d waits due.
-      r.ordered z i c verdict e d
-      (waiting_alike s.network device node new d points (λ x there. subst (λ (l : List Compressed). Contains l x) (sym emitted) there) waits) due;
 }
 
 -- ---- other lists of records
@@ -76,13 +48,16 @@ is_sending device (kinds.Lost other link cause) = device.0 == other.0
 is_sending device (kinds.TtSent other link cause vl cycle) = device.0 == other.0
 is_sending device other = false
 
--- the device dispatches no row at the instant
-abbrev pub DispatchesNone : Scenario → List Happening → ℕ → DeviceId → Type 0
-DispatchesNone s js now device = (link : LinkId) (cause : ℕ) (vl : VlId) (cycle : ℕ) → Dispatches s js device now link cause vl cycle → ⊥
+-- the device has done each row that it dispatches at the instant
+abbrev pub DispatchesDone : Scenario → List Happening → ℕ → DeviceId → Node → Type 0
+DispatchesDone s js now device node =
+    (link : LinkId) (cause : ℕ) (vl : VlId) (cycle : ℕ) → (d : Dispatches s js device now link cause vl cycle)
+    → Contains node.done (dispatching (record { 0 = d.place }) cycle)
 
--- a record that is none of the device's acts
-abbrev pub IsNoAct : Scenario → List Happening → ℕ → DeviceId → NoteBody → Type 0
-IsNoAct s js now device body = (bears_on device body ≡ false) × ((is_sending device body ≡ false) ⊎ ((8 ≤ rank body) × DispatchesNone s js now device))
+-- a record that is none of the device's acts to come
+abbrev pub IsNoAct : Scenario → List Happening → ℕ → DeviceId → Node → NoteBody → Type 0
+IsNoAct s js now device node body =
+    (bears_on device body ≡ false) × ((is_sending device body ≡ false) ⊎ ((8 ≤ rank body) × DispatchesDone s js now device node))
 
 pub rank_plain : (body : NoteBody) → rank (plain_body body) ≡ rank body
 rank_plain (kinds.State other state cause why) = refl
@@ -114,40 +89,12 @@ dispatch_late s device now link cause vl cycle =
 pub recorded_on : (s : Scenario) (js gs coming new : List Happening) (now : ℕ) (device : DeviceId) (node : Node) → earlier now gs ≡ earlier now js
     → ((h : Happening) → IsIn h js → (g : Happening) × IsIn g gs × (plain_body g.note.body ≡ plain_body h.note.body) × (time_of g ≡ time_of h))
     → ((z : Happening) → IsIn z new → (((y : Happening) × IsIn y coming × (plain_body z.note.body ≡ plain_body y.note.body))
-    ⊎ IsNoAct s js now device z.note.body) × (time_of z ≡ now)) → AreRecorded s js coming now device node → AreRecorded s gs new now device node
+    ⊎ IsNoAct s js now device node z.note.body) × (time_of z ≡ now)) → AreRecorded s js coming now device node → AreRecorded s gs new now device node
 recorded_on s js gs coming new now device node same on back r =
     let still : (body : NoteBody) → IsShown js now body → IsShown gs now body = λ body x.
     let g = on x.by x.there in
     (let it : IsShown gs now body = record { by = g.0; there = g.1; at = g.3 ∙ x.at; is = g.2 ∙ x.is } in it) in
     record {
-      sent = λ cycle there d.
-          still _
-          (r.sent cycle there
-          (record {
-            master = d.master;
-            up = up_back s gs js now device same d.up;
-            begun = d.begun;
-            reached = reaches_back s gs js now device _ same d.reached;
-          }));
-      emitted = λ c there reach. let x = r.emitted c there reach in (x.0, still _ x.1);
-      has_sent = λ z i cycle e. elim (back z i).0 [
-        | inl y ↦ r.has_sent y.0 y.1 cycle (sym y.2 ∙ e)
-        | inr none ↦ elim none.1 [
-          | inl no_act ↦ absurd (both_ways _ (plain_sending device z.note.body ∙ no_act) (ap (is_sending device) e ∙ self device))
-          | inr late ↦
-              let high = late.0 in
-              let five : rank z.note.body ≡ 5 = sym (rank_plain z.note.body) ∙ ap rank e in
-              absurd (omega (arith, high, five))
-        ]
-      ];
-      has_emitted = λ z i c verdict e. elim (back z i).0 [
-        | inl y ↦ r.has_emitted y.0 y.1 c verdict (sym y.2 ∙ e)
-        | inr none ↦ absurd (both_ways _ (plain_bears device z.note.body ∙ none.0) (ap (bears_on device) e ∙ self device))
-      ];
-      frames = λ z i c verdict e. elim (back z i).0 [
-        | inl y ↦ r.frames y.0 y.1 c verdict (sym y.2 ∙ e)
-        | inr none ↦ absurd (both_ways _ (plain_bears device z.note.body ∙ none.0) (ap (bears_on device) e ∙ self device))
-      ];
       of_now = λ z i. (back z i).1;
       dispatched = λ link cause vl cycle d there.
           let x = dispatches_same s gs js now device link cause vl cycle same d in
@@ -162,25 +109,23 @@ recorded_on s js gs coming new now device node same on back r =
             | inr none ↦ elim none.1 [
               | inl no_act ↦
                   absurd (both_ways _ (plain_sending device z.note.body ∙ no_act) (ap (is_sending device) e ∙ dispatch_sends s device now link cause vl cycle))
-              | inr late ↦ absurd (late.1 link cause vl cycle x.0)
+              | inr late ↦
+                  subst (λ (n : ℕ). Contains node.done (dispatching (let row : RowId = record { 0 = n } in row) cycle)) x.1
+                  (late.1 link cause vl cycle x.0)
             ]
           ];
-      ordered = λ z i c verdict e d waits due. elim (back z i).0 [
-        | inl y ↦ r.ordered y.0 y.1 c verdict (sym y.2 ∙ e) d waits due
-        | inr none ↦ absurd (both_ways _ (plain_bears device z.note.body ∙ none.0) (ap (bears_on device) e ∙ self device))
-      ];
     }
 
 -- ---- lists that differ in a record
 
 -- what the records tell of its acts stays so while a record of the instant that is none of them is put in
 pub recorded_put : (s : Scenario) (hs front back new : List Happening) (now : ℕ) (device : DeviceId) (node : Node) (w : Happening)
-    → plains (front ++ w ∷ back) ≡ plains new → time_of w ≡ now → IsNoAct s (hs ++ (front ++ back)) now device w.note.body
+    → plains (front ++ w ∷ back) ≡ plains new → time_of w ≡ now → IsNoAct s (hs ++ (front ++ back)) now device node w.note.body
     → AreRecorded s (hs ++ (front ++ back)) (front ++ back) now device node → AreRecorded s (hs ++ new) new now device node
 recorded_put s hs front back new now device node w alike at none r =
     let js = hs ++ (front ++ back) in
     let each : (z : Happening) → IsIn z new → (((y : Happening) × IsIn y (front ++ back) × (plain_body z.note.body ≡ plain_body y.note.body))
-    ⊎ IsNoAct s js now device z.note.body) × (time_of z ≡ now) = λ z i.
+    ⊎ IsNoAct s js now device node z.note.body) × (time_of z ≡ now) = λ z i.
     let x = in_plains_of new (front ++ w ∷ back) z (sym alike) i in
     let times : time_of z ≡ time_of x.0 = ap (λ (h : Happening). time_of h) x.2 in
     elim (in_parts x.0 front (w ∷ back) x.1) [
@@ -234,8 +179,6 @@ recorded_given s hs rest z now device node r =
 
 -- where nothing is to come, and nothing is done at the time yet
 pub none_recorded : (s : Scenario) (hs : List Happening) (now : ℕ) (device : DeviceId) (node : Node) → IsLeft s (hs ++ []) device now node
-    → HasDoneFrom s.network (s.reading device) device node (changed_at (hs ++ []) device now) now now → HasSentFrom s device node now now
-    → AreRecorded s (hs ++ []) [] now device node
-none_recorded s hs now device node left done sent =
-    first_recorded s (hs ++ []) [] now device node left done sent (λ z i cycle e. absurd i) (λ z i c verdict e. absurd i) (λ z i. absurd i)
-    (λ z i link cause vl cycle d e. absurd i)
+    → HasDoneFrom s.network (s.reading device) device node (changed_at (hs ++ []) device now) now now → AreRecorded s (hs ++ []) [] now device node
+none_recorded s hs now device node left done =
+    first_recorded s (hs ++ []) [] now device node left done (λ z i. absurd i) (λ z i link cause vl cycle d e. absurd i)

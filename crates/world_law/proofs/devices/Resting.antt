@@ -1,7 +1,8 @@
--- A device that has nothing due at the present instant, where nothing is to come: it rests from this instant on, or from the
--- next.
+-- A device that has nothing due at the present instant, where nothing is to come: it rests from the next on.
+use Rattle.world_law.proofs.{acts.Acting.{IsUnmoved, cleared_on, had_come_by, point_number}, devices.{Passes.passes_if, Working.{done_by, sent_by}}}
+use Rattle.world_law.{proofs.Words.{◌-◌, IsAtRest, has_cleared}, specs.device.Recorded.HasCleared}
 use Rattle.{run_law.proofs.records.Order.time_before, world_law.proofs.{devices.Deeds.rests, giving.Given.no_later_breaks}}
-use Rattle.world_law.proofs.Words.{◌++◌, ◌+◌, ◌<ℤ◌, ◌∙◌, ◌∷◌, ◌≡◌, ◌≤ℤ◌, ◌≤◌, DeviceId, Happening, HasDone, HasDoneFrom, HasSent, HasWorkedTo}
+use Rattle.world_law.proofs.Words.{◌++◌, ◌+◌, ◌<ℤ◌, ◌∙◌, ◌∷◌, ◌≡◌, ◌≤ℤ◌, ◌≤◌, DeviceId, Happening, HasDone, HasSent}
 use Rattle.world_law.proofs.Words.{HaveBefallen, IsBefore, IsDue, IsFounded, IsIn, IsKept, IsLeft, IsOfThisTime, IsPending, IsTurnedOnBy, List, Network, Node}
 use Rattle.world_law.proofs.Words.{Note, Scenario, Stands, Task, World, [], ap, append-nil, arith, cases_Bool, cases_lt, changed_at, doing, emitting, false}
 use Rattle.world_law.proofs.Words.{happenings, in_right, inl, inr, ints, is_turned_on_at, key, members_in, moves, place_of, pos, rank, reading_for, refl, subst}
@@ -43,103 +44,135 @@ are_past reading stands s world notes old = record {
   in_time = in_time_of s (happenings s.network notes) old.run.founded;
 }
 
--- ---- from the instant on, or from the next
+-- ---- from the next instant on
 
-rests_now : {M : Type 0} (stands : M → Network → DeviceId → Node → Type 0) (s : Scenario) (hs : List Happening) (cursor : List ℕ) (now from : ℕ)
-    (device : DeviceId) (machine : M) (k : IsKept stands s hs [] cursor now device machine) → k.up ≡ from
-    → HasWorkedTo s device k.node (changed_at (hs ++ []) device k.up) k.up → now ≤ from → from ≤ now + 1
-    → is_turned_on_at s device from ≡ false → ((h : Happening) → IsIn h hs → from ≤ time_of h → moves device h.note.body ≡ false) → Rests s hs device now k.node
-rests_now stands s hs cursor now from device machine k up worked le soon off still =
-    let whole : hs ++ [] ≡ hs = append-nil hs in
-    let left : IsLeft s hs device from k.node = subst (λ (l : List Happening). IsLeft s l device from k.node) whole
-    (subst (λ (n : ℕ). IsLeft s (hs ++ []) device n k.node) up k.left) in
-    let done : HasDoneFrom s.network (s.reading device) device k.node (changed_at (hs ++ []) device from) from from =
-    subst (λ (n : ℕ). HasDoneFrom s.network (s.reading device) device k.node (changed_at (hs ++ []) device n) n n) up worked.done in
-    record {
-      from = from;
-      le = le;
-      soon = soon;
-      left = left;
-      done = rests s hs device from (changed_at (hs ++ []) device from) k.node done (sym (ap (λ (l : List Happening). changed_at l device from) whole));
-      sent = record {
-        unsent = λ c w x lt. worked.sent.unsent c w x (omega (arith, lt, up));
-        sent = λ c there_is. let x = worked.sent.sent c there_is in (x.0, omega (arith, x.1, up), x.2);
-      };
-      off = off;
-      still = still;
-    }
+-- it has not worked off anything of a later time, and its clock never falls
+pub record IsNoLater (s : Scenario) (device : DeviceId) (cursor : List ℕ) (now : ℕ) : Type 0 where
+  pub later : (p : List ℕ) → IsBefore p cursor → IsBefore p ((now + 1) ∷ [])
+  pub falls : (x y : ℕ) → x ≤ y → s.reading device x ≤ s.reading device y
 
--- it was turned on at the instant
-rests_on : {M : Type 0} (stands : M → Network → DeviceId → Node → Type 0) (s : Scenario) (hs : List Happening) (mark cursor : List ℕ) (now : ℕ)
-    (device : DeviceId) (machine : M) (k : IsKept stands s hs [] cursor now device machine) → k.up ≡ now
-    → HasWorkedTo s device k.node (changed_at (hs ++ []) device k.up) k.up → is_turned_on_at s device now ≡ true
-    → HaveBefallen s mark now → IsPast hs now → IsWorked hs cursor now
-    → ((task : Task) → IsPending s.network device k.node task → pos (s.reading device now) <ℤ reading_for s.network k.node task) → Rests s hs device now k.node
-rests_on stands s hs mark cursor now device machine k up rests on befallen past worked idle =
-    let whole : hs ++ [] ≡ hs = append-nil hs in
-    let was = k.turned on in
-    let turned : IsTurnedOnBy hs device now = subst (λ (l : List Happening). IsTurnedOnBy l device now) whole
-    (was.turned (worked was.number was.event was.befell)) in
-    let q : IsQuietInstant s hs device now = record {
-      past = past.past;
-      quiet = λ h i at. quiet_rest s device now h.note.body (k.still up h (subst (λ (l : List Happening). IsIn h l) (sym whole) i) at);
-      in_time = past.in_time;
-    } in
-    let left : IsLeft s hs device now k.node = subst (λ (l : List Happening). IsLeft s l device now k.node) whole
-    (subst (λ (n : ℕ). IsLeft s (hs ++ []) device n k.node) up k.left) in
+abbrev IsIdleAt : Scenario → DeviceId → Node → ℕ → Type 0
+IsIdleAt s device node now = (task : Task) → IsPending s.network device node task → pos (s.reading device now) <ℤ reading_for s.network node task
+
+-- where nothing of it is due at the instant, it stands at the next as it did
+left_next : (s : Scenario) (hs : List Happening) (mark : List ℕ) (device : DeviceId) (now : ℕ) (node : Node) → IsQuietInstant s hs device now
+    → ((h : Happening) → IsIn h hs → time_of h ≡ now → IsAtRest s device now h.note.body) → HaveBefallen s mark now → HasCleared node
+    → (is_turned_on_at s device now ≡ true → IsTurnedOnBy hs device now) → ((x y : ℕ) → x ≤ y → s.reading device x ≤ s.reading device y)
+    → node.broken ≡ false → IsIdleAt s device node now → IsLeft s hs device now node → IsLeft s hs device (now + 1) node
+left_next s hs mark device now node q still befallen r on_by falls sound idle left =
     let off = not_on_after s mark now (now + 1) device befallen (omega arith) in
     let same = no_later_breaks s mark now (now + 1) device befallen (omega arith) in
-    let sound : k.node.broken ≡ false = left.counted.broken ∙ k.sound in
-    let change : changed_at hs device (now + 1) ≡ changed_at (hs ++ []) device k.up = change_quiet s hs device now q
-    ∙ ap (λ (n : ℕ). changed_at hs device n) (sym up) ∙ ap (λ (l : List Happening). changed_at l device k.up) (sym whole) in
+    elim (cases_Bool (is_turned_on_at s device now)) [
+      | inl on ↦ left_after_on s hs device now node q on off same (on_by on) left
+      | inr not_on ↦
+          let u : IsUnmoved s hs device now (now + 1) = record {
+            le = omega arith;
+            still = λ h i from lt. unmoved_by s device now h.note.body not_on (still h i (omega (arith, from, lt)));
+            not_on = not_on;
+            not_on_later = off;
+            not_broken = same;
+            never_falls = falls;
+          } in
+          passes_if s hs device now (now + 1) node u.le u.still not_on off same (λ timed.
+          elim (cases_Bool (has_cleared s hs device now now)) [
+            | inl did ↦ cleared_on s hs device now (now + 1) u did ∙ sym did
+            | inr not_yet ↦
+                elim (cases_Bool (has_cleared s hs device (now + 1) (now + 1))) [
+                  | inr still_not ↦ still_not ∙ sym not_yet
+                  | inl cleared ↦
+                      let task = had_come_by s hs device now (now + 1) node u left (λ cycle own ahead there.
+                      let less = r cycle there in let number = (point_number node.standing.state node.standing.number cycle own).1 in absurd
+                      (omega (arith, less, number))) timed not_yet
+                      cleared sound in
+                      let here : now + 1 - 1 ≡ now = omega arith in
+                      absurd (never_both _ _ (idle task.0 task.1) (subst (λ (n : ℕ). reading_for s.network node task.0 ≤ℤ pos (s.reading device n)) here
+                      task.2))
+                ]
+          ]) left
+    ]
+  where
+    never_both : (a b : Rattle.std.proofs.Common.ℤ) → a <ℤ b → b ≤ℤ a → ⊥
+    never_both a b lt le = omega (arith, ints, lt, le)
+
+-- where the instant is over for it
+rests_over : {M : Type 0} (stands : M → Network → DeviceId → Node → Type 0) (s : Scenario) (hs : List Happening) (mark cursor : List ℕ) (now : ℕ)
+    (device : DeviceId) (machine : M) (k : IsKept stands s hs [] cursor now device machine) → k.up ≡ now + 1 → HaveBefallen s mark now → IsPast hs now
+    → IsNoLater s device cursor now → Rests s hs device now k.node
+rests_over stands s hs mark cursor now device machine k up befallen past no_later =
+    let whole : hs ++ [] ≡ hs = append-nil hs in
+    let le : now + 1 ≤ k.up = omega (arith, up) in
+    let change : changed_at (hs ++ []) device k.up ≡ changed_at hs device (now + 1) = ap (λ (n : ℕ). changed_at (hs ++ []) device n) up
+    ∙ ap (λ (l : List Happening). changed_at l device (now + 1)) whole in
+    let done = done_by s device k.node (changed_at (hs ++ []) device k.up) k.up now cursor k.worked no_later.later (now + 1) le in
     record {
       from = now + 1;
       le = omega arith;
       soon = omega arith;
-      left = left_after_on s hs device now k.node q on off same turned left;
+      left = subst (λ (l : List Happening). IsLeft s l device (now + 1) k.node) whole (subst (λ (n : ℕ). IsLeft s (hs ++ []) device n k.node) up k.left);
+      done = rests s hs device (now + 1) (changed_at (hs ++ []) device k.up) k.node done (sym change);
+      sent = record {
+        unsent = λ c w x lt. k.worked.unsent c w x (omega (arith, lt, up));
+        sent = (sent_by s device k.node (changed_at (hs ++ []) device k.up) k.up now cursor k.worked no_later.later (now + 1) le).sent;
+      };
+      off = not_on_after s mark now (now + 1) device befallen (omega arith);
+      still = λ h i from. let early = past.past h i in absurd (omega (arith, early, from));
+    }
+
+-- and where it is not, but nothing of it is due
+rests_next : {M : Type 0} (stands : M → Network → DeviceId → Node → Type 0) (s : Scenario) (hs : List Happening) (mark cursor : List ℕ) (now : ℕ)
+    (device : DeviceId) (machine : M) (k : IsKept stands s hs [] cursor now device machine) → k.up ≡ now → HaveBefallen s mark now → IsPast hs now
+    → IsWorked hs cursor now → IsNoLater s device cursor now → IsIdleAt s device k.node now → Rests s hs device now k.node
+rests_next stands s hs mark cursor now device machine k up befallen past worked no_later idle =
+    let whole : hs ++ [] ≡ hs = append-nil hs in
+    let inside : (h : Happening) → IsIn h hs → IsIn h (hs ++ []) = λ h i. subst (λ (l : List Happening). IsIn h l) (sym whole) i in
+    let still : (h : Happening) → IsIn h hs → time_of h ≡ now → IsAtRest s device now h.note.body = λ h i at. k.still up h (inside h i) at in
+    let q : IsQuietInstant s hs device now = record {
+      past = past.past;
+      quiet = λ h i at. quiet_rest s device now h.note.body (still h i at);
+      in_time = past.in_time;
+    } in
+    let left : IsLeft s hs device now k.node = subst (λ (l : List Happening). IsLeft s l device now k.node) whole
+    (subst (λ (n : ℕ). IsLeft s (hs ++ []) device n k.node) up k.left) in
+    let sound : k.node.broken ≡ false = left.counted.broken ∙ k.sound in
+    let change : changed_at hs device (now + 1) ≡ changed_at (hs ++ []) device k.up = change_quiet s hs device now q
+    ∙ ap (λ (n : ℕ). changed_at hs device n) (sym up) ∙ ap (λ (l : List Happening). changed_at l device k.up) (sym whole) in
+    let done = done_by s device k.node (changed_at (hs ++ []) device k.up) k.up now cursor k.worked no_later.later now (omega (arith, up)) in
+    record {
+      from = now + 1;
+      le = omega arith;
+      soon = omega arith;
+      left = left_next s hs mark device now k.node q still befallen k.cleared (λ on.
+          let was = k.turned on in
+          subst (λ (l : List Happening). IsTurnedOnBy l device now) whole (was.turned (worked was.number was.event was.befell))) no_later.falls sound idle left;
       done = record {
         undone = λ deed u x from lt. elim (cases_lt x now) [
-          | inl before ↦ rests.done.undone deed u x (omega (arith, from, change)) (omega (arith, before, up))
+          | inl before ↦ done.undone deed u x (omega (arith, from, change)) before
           | inr ge ↦ let at : x ≡ now =
               omega (arith, ge, lt) in subst (λ (n : ℕ). pos (s.reading device n) <ℤ reading_for s.network k.node (doing deed)) (sym at)
               (idle (doing deed) (sound, u))
         ];
-        done = λ deed there. let x = rests.done.done deed there in (x.0, omega (arith, x.1, change), omega (arith, x.2, up), x.3);
+        done = λ deed there. let x = done.done deed there in (x.0, omega (arith, x.1, change), x.2, x.3);
       };
       sent = record {
         unsent = λ c w x lt. elim (cases_lt x now) [
-          | inl before ↦ rests.sent.unsent c w x (omega (arith, before, up))
+          | inl before ↦ k.worked.unsent c w x (omega (arith, before, up))
           | inr ge ↦ let at : x ≡ now =
               omega (arith, ge, lt) in subst (λ (n : ℕ). pos (s.reading device n) <ℤ reading_for s.network k.node (emitting c)) (sym at)
               (idle (emitting c) (sound, w))
         ];
-        sent = λ c there. let x = rests.sent.sent c there in (x.0, omega (arith, x.1, up), x.2);
+        sent = (sent_by s device k.node (changed_at (hs ++ []) device k.up) k.up now cursor k.worked no_later.later now (omega (arith, up))).sent;
       };
-      off = off;
+      off = not_on_after s mark now (now + 1) device befallen (omega arith);
       still = λ h i from. let early = past.past h i in absurd (omega (arith, early, from));
     }
 
 -- where nothing of it is due at the instant
 pub at_rest : {M : Type 0} (stands : M → Network → DeviceId → Node → Type 0) (s : Scenario) (hs : List Happening) (mark cursor : List ℕ) (now : ℕ)
     (device : DeviceId) (machine : M) (k : IsKept stands s hs [] cursor now device machine) → HaveBefallen s mark now → IsPast hs now → IsWorked hs cursor now
+    → IsNoLater s device cursor now
     → ((task : Task) → IsPending s.network device k.node task → pos (s.reading device now) <ℤ reading_for s.network k.node task) → Rests s hs device now k.node
-at_rest stands s hs mark cursor now device machine k befallen past worked idle =
-    let inside : (h : Happening) → IsIn h hs → IsIn h (hs ++ []) = λ h i. subst (λ (l : List Happening). IsIn h l) (sym (append-nil hs)) i in
-    elim k.worked [
-      | inr working ↦ (let task = working.1.due in absurd (never_both _ _ (idle task.0 task.1) task.2))
-      | inl rests ↦ elim k.acted [
-        | inr over ↦
-            rests_now stands s hs cursor now (now + 1) device machine k over.0 rests (omega arith) (omega arith)
-            (not_on_after s mark now (now + 1) device befallen (omega arith))
-            (λ h i from. let early = past.past h i in absurd (omega (arith, early, from)))
-        | inl yet ↦ elim (cases_Bool (is_turned_on_at s device now)) [
-          | inl on ↦ rests_on stands s hs mark cursor now device machine k yet.0 rests on befallen past worked idle
-          | inr off ↦
-              rests_now stands s hs cursor now now device machine k yet.0 rests (omega arith) (omega arith) off
-              (λ h i from. let early = past.past h i in unmoved_by s device now h.note.body off (k.still yet.0 h (inside h i) (omega (arith, early, from))))
-        ]
-      ]
+at_rest stands s hs mark cursor now device machine k befallen past worked no_later idle =
+    elim k.acted [
+      | inr over ↦ rests_over stands s hs mark cursor now device machine k over.0 befallen past no_later
+      | inl yet ↦ rests_next stands s hs mark cursor now device machine k yet.0 befallen past worked no_later idle
     ]
-  where
-    never_both : (a b : Rattle.std.proofs.Common.ℤ) → a <ℤ b → b ≤ℤ a → ⊥
-    never_both a b lt le = omega (arith, ints, lt, le)

@@ -11,11 +11,15 @@ use Rattle.world_law.proofs.Words.{Option, Pcf, Scenario, Some, Units, Waiting, 
 use Rattle.world_law.proofs.Words.{before_next_time, behind, cases_Bool, changed_at, clock_place, device_at, earlier, false, frames_taken, happening}
 use Rattle.world_law.proofs.Words.{happenings, hidden, hidden_body, inl, inr, ints, is_broken, key, length, list_any, map, members_in, nat_le, never_self}
 use Rattle.world_law.proofs.Words.{none_yet, numbered, place_of, port_place, rank, refl, ripe_place, same_kept, slice_get, state_after, subst, suc, sym}
-use Rattle.world_law.proofs.Words.{task_place}
+use Rattle.world_law.proofs.Words.{◌⊎◌, AreClusters, Integrating, IsActedOut, IsActing, IsJoiningNow, None, Point, State, Synchronised, Task, before_behind, chain}
+use Rattle.world_law.proofs.Words.{ends_stretch, eqb-true, filter_map, if◌then◌else◌, is_joined_by, is_turned_on_at, next_cycle, no_cluster, observation_window}
+use Rattle.world_law.proofs.Words.{point_by, point_in, points_of, state_before, task_place}
+use Rattle.world_law.proofs.{lists.Lists.behind_yes, runs.SourcesBack.earlier_still}
 use Rattle.world_law.proofs.{Words.{time_of, true, units_of, up_to, wire_place, ℕ}, runs.Firsts.{arriving_more, departing_more, numbered_more, numbered_still}}
 use Rattle.world_law.{proofs.{acts.Recorded.recorded_given, giving.Storing.stored_then}, specs.world.Moves.{AreAwaited, AreGiven, ArePut, GivenStep, named}}
 use Rattle.world_law.proofs.giving.{GivenParts.{IsGiving, settled_then, up_to_place, worked_by_then}, Naming.{IsFollowing, named_right, shown_as}}
 use Rattle.world_law.proofs.runs.{SourcesBack.{acting_back, arrives_later, gives_rank, no_higher}, Worlds.{first_settled_is_next, length_is}}
+use Rattle.run_law.specs.declared.judgement.Judgement.TheVariants as judgements
 use Rattle.run_law.specs.declared.note.NoteBody.TheVariants as kinds
 
 -- ---- events so far
@@ -168,29 +172,103 @@ waiting_then s hs z rest mark cursor now number waiting new g is befallen are pu
 
 -- ---- devices
 
-acted_then : (s : Scenario) (hs : List Happening) (z : Happening) (rest : List Happening) (mark cursor : List ℕ) (now up : ℕ) (device : DeviceId)
-    → IsGiving s hs z rest mark cursor now → IsActedUpTo s hs now device cursor up → IsActedUpTo s (hs ++ z ∷ []) now device (behind (place_of z)) up
-acted_then s hs z rest mark cursor now up device g (inr over) = inr (over.0, λ p b. g.are.not_past z (inl refl) p (over.1 p b))
-acted_then s hs z rest mark cursor now up device g (inl still) =
+-- where the acts of the device are before what follows the record, what acts by the records with it, acts by those before
+act_back : (s : Scenario) (hs : List Happening) (z : Happening) (rest : List Happening) (mark cursor : List ℕ) (now : ℕ) (device : DeviceId)
+    → IsGiving s hs z rest mark cursor now → IsBefore (act_place now device) (behind (place_of z)) → (task : Task) → IsActing s (hs ++ z ∷ []) now device task
+    → IsActing s hs now device task
+act_back s hs z rest mark cursor now device g b task a =
     let at = g.are.of_now z (inl refl) in
+    elim (no_higher now 4 (time_of z) (rank z.note.body) (device.0 ∷ []) (key (members_in z) z.note.body)
+    (up_to_place (act_place now device) (place_of z) b)) [
+      | inl lt ↦ absurd (omega (arith, at, lt))
+      | inr same ↦
+          acting_back s hs (z ∷ []) now device task
+          (λ y i. elim i [ inl e ↦ let same_time : time_of y ≡ time_of z = ap time_of e in omega (arith, same_time, at) | inr none ↦ absurd none ])
+          (λ y i. elim i [
+            | inl e ↦ let same_rank : rank y.note.body ≡ rank z.note.body = ap (λ (h : Happening). rank h.note.body) e in omega (arith, same_rank, same.1)
+            | inr none ↦ absurd none
+          ]) a
+    ]
+
+acted_then : (s : Scenario) (hs : List Happening) (z : Happening) (rest : List Happening) (mark cursor : List ℕ) (now up : ℕ) (device : DeviceId) (node : Node)
+    → IsGiving s hs z rest mark cursor now → IsActedUpTo s hs now device node cursor up
+    → IsActedUpTo s (hs ++ z ∷ []) now device node (behind (place_of z)) up
+acted_then s hs z rest mark cursor now up device node g (inr over) = inr (over.0, λ p b. g.are.not_past z (inl refl) p (over.1 p b))
+acted_then s hs z rest mark cursor now up device node g (inl still) =
     inl (
       still.0,
       λ task b a.
-          elim (no_higher now 4 (time_of z) (rank z.note.body) (device.0 ∷ []) (key (members_in z) z.note.body)
-          (up_to_place (act_place now device) (place_of z) (acts_before s.network now device task (behind (place_of z)) b))) [
-            | inl lt ↦ omega (arith, at, lt)
-            | inr same ↦
-                still.1 task
-                (worked_by_then s hs z rest [] rest mark cursor now g refl (task_place s.network now device task) (IsSource.acting now device task a) b)
-                (acting_back s hs (z ∷ []) now device task
-                (λ y i. elim i [ inl e ↦ let same_time : time_of y ≡ time_of z = ap time_of e in omega (arith, same_time, at) | inr none ↦ absurd none ])
-                (λ y i. elim i [
-                  | inl e ↦ let same_rank : rank y.note.body ≡ rank z.note.body = ap (λ (h : Happening). rank h.note.body) e in omega
-                      (arith, same_rank, same.1)
-                  | inr none ↦ absurd none
-                ]) a)
-          ],
+          still.1 task
+          (worked_by_then s hs z rest [] rest mark cursor now g refl (task_place s.network now device task) (IsSource.acting now device task a) b)
+          (act_back s hs z rest mark cursor now device g (acts_before s.network now device task (behind (place_of z)) b) task a),
     )
+
+out_then : (s : Scenario) (hs : List Happening) (z : Happening) (rest : List Happening) (mark cursor : List ℕ) (now : ℕ) (device : DeviceId)
+    → IsGiving s hs z rest mark cursor now → IsActedOut s hs now device cursor → IsActedOut s (hs ++ z ∷ []) now device (behind (place_of z))
+out_then s hs z rest mark cursor now device g out =
+    let past = g.are.not_past z (inl refl) (act_place now device) out.past in
+    record {
+      past = past;
+      all = λ task a. g.are.not_past z (inl refl) _ (out.all task (act_back s hs z rest mark cursor now device g past task a));
+    }
+
+ends_joined : (device : DeviceId) (body : NoteBody) → is_joined_by device body ≡ true → ends_stretch device body ≡ true
+ends_joined device (kinds.State other state cause why) e = absurd cc
+ends_joined device body e = e
+
+joined_points : (hs : List Happening) (z : Happening) (device : DeviceId) → is_joined_by device z.note.body ≡ true → points_of (hs ++ z ∷ []) device ≡ []
+joined_points hs z device joins = ap (filter_map (λ h. point_by device h h.note.body))
+    (behind_yes (λ h. ends_stretch device h.note.body) hs z (ends_joined device z.note.body joins))
+
+joined_place : (z : Happening) (device : DeviceId) (now : ℕ) → time_of z ≡ now → (body : NoteBody) → z.note.body ≡ body → rank body ≡ 4
+    → is_joined_by device body ≡ true → IsBefore (act_place now device) (place_of z)
+joined_place z device now at (kinds.Compressed other opened out cycle members judgements.Integrates) e four joins =
+    subst (λ (l : List ℕ). IsBefore (act_place now device) l)
+    (sym (ap (λ (b : NoteBody). time_of z ∷ rank b ∷ key (members_in z) b) e
+    ∙ ap (λ (n : ℕ). n ∷ 4 ∷ other.0 ∷ key_rest (members_in z) (kinds.Compressed other opened out cycle members judgements.Integrates)) at))
+    (inr (refl, inr (refl, inr (eqb-true device.0 other.0 joins, tt))))
+  where
+    key_rest : ℕ → NoteBody → List ℕ
+    key_rest m (kinds.Compressed d o t c k v) =
+        amount o ∷ amount t ∷ c ∷ k.0 ∷ Rattle.run_law.specs.records.Ranks.sign o.0 ∷ Rattle.run_law.specs.records.Ranks.sign t.0 ∷ []
+    key_rest m other = []
+joined_place z device now at (kinds.Permanent other link cause point judgements.Integrates) e four joins = absurd (omega (arith, four))
+joined_place z device now at other e four joins = absurd (let bad : false ≡ true = joins in cc)
+
+-- a device that looked for the common time, and has no points, does not act
+gone_acts : (s : Scenario) (hs : List Happening) (device : DeviceId) (now : ℕ) (task : Task) → state_before s hs device now ≡ Integrating
+    → points_of hs device ≡ [] → IsActing s hs now device task → ⊥
+gone_acts s hs device now task looking none (IsActing.emits sent verdict e) =
+    no_cluster (observation_window s.network) e.clusters e.cluster
+    (subst (λ (ps : List Point). AreClusters (observation_window s.network) ps e.clusters) none e.are) e.there
+gone_acts s hs device now task looking none (IsActing.sends cycle d) = let bad : Integrating ≡ Synchronised = sym looking ∙ d.up.synchronised in cc
+gone_acts s hs device now task looking none (IsActing.corrects cycle c) =
+    let none : None ≡ Some cycle = sym (ap (λ (st : State). point_in st (next_cycle s hs device now)) looking) ∙ c.next in cc
+gone_acts s hs device now task looking none (IsActing.dispatches link cause vl cycle d) =
+    let bad : Integrating ≡ Synchronised = sym looking ∙ d.up.synchronised in cc
+
+-- a device whose own frame tells it the time has no frame left once the record of that is given
+joins_then : (s : Scenario) (hs : List Happening) (z : Happening) (rest : List Happening) (mark cursor : List ℕ) (now : ℕ) (device : DeviceId)
+    → IsGiving s hs z rest mark cursor now → IsJoiningNow s hs (z ∷ rest) device now
+    → IsActedOut s (hs ++ z ∷ []) now device (behind (place_of z))
+    ⊎ (IsJustTold s ((hs ++ z ∷ []) ++ rest) device now ⊎ IsJoiningNow s (hs ++ z ∷ []) rest device now)
+joins_then s hs z rest mark cursor now device g j =
+    let at = g.are.of_now z (inl refl) in
+    let same : earlier now (hs ++ z ∷ []) ≡ earlier now hs = earlier_still now hs (z ∷ [])
+    (λ y i. elim i [ inl e ↦ let same_time : time_of y ≡ time_of z = ap time_of e in omega (arith, same_time, at) | inr none ↦ absurd none ]) in
+    let looking : state_before s (hs ++ z ∷ []) device now ≡ Integrating = ap (λ (l : List Happening). if is_turned_on_at s device now then Integrating
+    else state_after s l device) same ∙ j.looking in
+    elim j.there [
+      | inr more ↦ inr (inr (record { looking = looking; by = j.by; there = more; sent = j.sent; joins = j.joins }))
+      | inl is_z ↦
+          let four : rank z.note.body ≡ 4 = ap (λ (h : Happening). rank h.note.body) (sym is_z) ∙ j.sent in
+          let joins : is_joined_by device z.note.body ≡ true = ap (λ (h : Happening). is_joined_by device h.note.body) (sym is_z) ∙ j.joins in
+          inl (record {
+            past = chain (act_place now device) (place_of z) (behind (place_of z)) (joined_place z device now at z.note.body refl four joins)
+                (before_behind (place_of z));
+            all = λ task a. absurd (gone_acts s (hs ++ z ∷ []) device now task looking (joined_points hs z device joins) a);
+          })
+    ]
 
 pub kept_then : {M : Type 0} (stands : M → Network → DeviceId → Node → Type 0) (s : Scenario) (hs : List Happening) (z : Happening) (rest : List Happening)
     (mark cursor : List ℕ) (now : ℕ) (device : DeviceId) (machine : M) → IsGiving s hs z rest mark cursor now
@@ -202,16 +280,16 @@ kept_then stands s hs z rest mark cursor now device machine g k =
       is = k.is;
       sound = k.sound;
       up = k.up;
-      acted = acted_then s hs z rest mark cursor now k.up device g k.acted;
+      acted = acted_then s hs z rest mark cursor now k.up device k.node g k.acted;
       told =
           λ over. elim (k.told over) [
-            | inl past ↦ inl (g.are.not_past z (inl refl) (act_place now device) past)
-            | inr just ↦ inr
-                (subst (λ (l : List Happening). IsJustTold s l device now) parts just)
+            | inl out ↦ inl (out_then s hs z rest mark cursor now device g out)
+            | inr (inl just) ↦ inr (inl (subst (λ (l : List Happening). IsJustTold s l device now) parts just))
+            | inr (inr joining) ↦ joins_then s hs z rest mark cursor now device g joining
           ];
       left = subst (λ (l : List Happening). IsLeft s l device k.up k.node) parts k.left;
       taken = k.taken ∙ ap (λ (l : List Happening). frames_taken s l device) parts;
-      worked = worked_on s device k.node _ _ k.up now cursor (behind (place_of z)) (ap (λ (l : List Happening). changed_at l device k.up) parts)
+      worked = worked_on s device k.node _ _ k.up cursor (behind (place_of z)) (ap (λ (l : List Happening). changed_at l device k.up) parts)
           (g.are.not_past z (inl refl)) k.worked;
       bare = k.bare;
       ready = k.ready;

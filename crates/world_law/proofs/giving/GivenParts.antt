@@ -1,10 +1,10 @@
 -- The first of what is to come is given: what is worked off, and what is settled then.
 use Rattle.{run_law.proofs.runs.Places.nothing_between, world_law.proofs.Words.{rank, refl, subst, suc, sym, time_of, true, ℕ}}
-use Rattle.world_law.proofs.runs.{SourcesBack.source_back, TaskPlaces.at_acts}
-use Rattle.world_law.proofs.Words.{◌++◌, ◌∙◌, ◌∷◌, ◌≡◌, ◌≤◌, ◌⊎◌, AllBefore, AreSettled, DeviceId, Happening, IsBefore, IsDue, IsForward, IsIn, IsSource}
-use Rattle.world_law.proofs.Words.{IsWorkedOff, List, NoSourceBefore, NoteBody, Scenario, [], act_place, ap, append_assoc, arith, before_behind, before_later}
+use Rattle.world_law.proofs.runs.{SourcesBack.source_back, TaskPlaces.{no_task_at, second}}
+use Rattle.world_law.proofs.Words.{◌++◌, ◌<◌, ◌∙◌, ◌∷◌, ◌≡◌, ◌≤◌, ◌⊎◌, AllBefore, AreSettled, Happening, IsBefore, IsDue, IsForward, IsIn, IsSource}
+use Rattle.world_law.proofs.Words.{IsWorkedOff, List, NoSourceBefore, NoteBody, Scenario, [], ap, append_assoc, arith, before_behind, before_later}
 use Rattle.world_law.proofs.Words.{before_or_not, behind, chain, either_way, in_left, inl, inr, is_at_source, key, length, members_in, never_self, place_of}
-use Rattle.world_law.{proofs.runs.Worlds.first_before, specs.world.World.IsTakenUp}
+use Rattle.world_law.proofs.runs.Worlds.{first_before}
 use Rattle.run_law.specs.declared.note.NoteBody.TheVariants as notes
 
 -- what is before the place just behind another is not behind that one
@@ -13,41 +13,39 @@ up_to_place w p b = elim (either_way w p) [ inl lt ↦ inr lt | inr (inl e) ↦ 
 
 -- ---- a source at the place of a record
 
-abbrev pub second : List ℕ → ℕ
-second [] = 0
-second (a ∷ []) = 0
-second (a ∷ b ∷ more) = b
-
 key_long : (members : ℕ) (body : NoteBody) → 1 ≤ length (key members body)
 key_long m (notes.Event line what) = omega arith
 key_long m other = omega arith
 
-act_key : (members : ℕ) (body : NoteBody) → rank body ≡ 4 → length (key members body) ≡ 7
-act_key m (notes.Compressed device opened at cycle members verdict) e = refl
-act_key m other e = absurd (omega (arith, e))
-
 abbrev IsNoSourceRank : ℕ → Type 0
-IsNoSourceRank r = (2 ≡ r → ⊥) × (3 ≡ r → ⊥) × (8 ≡ r → ⊥) × (14 ≡ r → ⊥)
+IsNoSourceRank r = (2 ≡ r → ⊥) × (3 ≡ r → ⊥) × (8 ≡ r → ⊥) × (14 ≡ r → ⊥) × ((r < 4) ⊎ (6 < r))
 
 source_kinds : (body : NoteBody) → (is_at_source body ≡ true) ⊎ IsNoSourceRank (rank body)
 source_kinds (notes.Arrived device link cause clock) = inl refl
 source_kinds (notes.Permanent device link cause point verdict) = inl refl
 source_kinds (notes.Left device link cause clock) = inl refl
 source_kinds (notes.Clock device reading adjustment state) = inl refl
-source_kinds (notes.Event line what) = inr (λ e. omega (arith, e), λ e. omega (arith, e), λ e. omega (arith, e), λ e. omega (arith, e))
-source_kinds (notes.Compressed device opened at cycle members verdict) =
-    inr (λ e. omega (arith, e), λ e. omega (arith, e), λ e. omega (arith, e), λ e. omega (arith, e))
-source_kinds other = inr (λ e. omega (arith, e), λ e. omega (arith, e), λ e. omega (arith, e), λ e. omega (arith, e))
+source_kinds (notes.Compressed device opened at cycle members verdict) = inl refl
+source_kinds (notes.Sent device cycle) = inl refl
+source_kinds (notes.Corrected device cycle by adjustment) = inl refl
+source_kinds (notes.Event line what) =
+    inr (λ e. omega (arith, e), λ e. omega (arith, e), λ e. omega (arith, e), λ e. omega (arith, e), inl (omega arith))
+source_kinds other = inr (λ e. omega (arith, e), λ e. omega (arith, e), λ e. omega (arith, e), λ e. omega (arith, e), inr (omega arith))
 
-no_act : (z : Happening) (t : ℕ) (device : DeviceId) → act_place t device ≡ place_of z → is_at_source z.note.body ≡ true
-no_act z t device e = grind (arith, rank, length, key, members_in, act_key)
+abbrev time_in : List ℕ → ℕ
+time_in [] = 0
+time_in (n ∷ ns) = n
 
 -- a source that stands at the place of a record stands so by the record's kind
 pub at_its_place : (s : Scenario) (hs : List Happening) (z : Happening) (w : List ℕ) → IsSource s hs w → w ≡ place_of z → is_at_source z.note.body ≡ true
 at_its_place s hs z w (IsSource.arriving t device link cause a) e = elim (source_kinds z.note.body) [ inl is ↦ is | inr other ↦ absurd (other.0 (ap second e)) ]
 at_its_place s hs z w (IsSource.ripening t device link cause point r) e =
     elim (source_kinds z.note.body) [ inl is ↦ is | inr other ↦ absurd (other.1 (ap second e)) ]
-at_its_place s hs z w (IsSource.acting t device task a) e = no_act z t device (sym (at_acts s.network t device task) ∙ e)
+at_its_place s hs z w (IsSource.acting t device task a) e = elim (source_kinds z.note.body) [
+  | inl is ↦ is
+  | inr other ↦ absurd (no_task_at s.network t device (rank z.note.body) (key (members_in z) z.note.body) other.4 task
+      (e ∙ ap (λ (n : ℕ). n ∷ rank z.note.body ∷ key (members_in z) z.note.body) (sym (ap time_in e))))
+]
 at_its_place s hs z w (IsSource.departing t device link cause d) e =
     elim (source_kinds z.note.body) [ inl is ↦ is | inr other ↦ absurd (other.2 (ap second e)) ]
 at_its_place s hs z w (IsSource.following t cause h it) e =
@@ -104,13 +102,6 @@ worked_by_then s hs z rest front back mark cursor now g e w source under =
 
 -- ---- what is settled then
 
--- what is taken up stays so as the cursor goes on
-pub taken_on : (y : Happening) (w cursor then_ : List ℕ) → ((p : List ℕ) → IsBefore p cursor → IsBefore p then_)
-    → (IsBefore w cursor ⊎ ((w ≡ cursor) × ((device : DeviceId) × (w ≡ act_place (time_of y) device))))
-    → IsBefore w then_ ⊎ ((w ≡ then_) × ((device : DeviceId) × (w ≡ act_place (time_of y) device)))
-taken_on y w cursor then_ on (inl yet) = inl (on w yet)
-taken_on y w cursor then_ on (inr up) = grind (arith, either_way, never_self)
-
 beyond : (p q : List ℕ) → (IsBefore q (behind p) → ⊥) → IsBefore p q
 beyond p q not = before_later p q (behind p) (before_behind p) not
 
@@ -124,14 +115,8 @@ settled_then s hs z rest mark cursor now g = record {
       (λ h i. was.0 h (inr i), subst (λ (l : List Happening). IsDue s l y) (sym (append_assoc hs (z ∷ []) front)) was.1);
   by = λ front back y e.
       let was = g.are.by (z ∷ front) back y (ap (λ (l : List Happening). z ∷ l) e) in
-      let off : IsTakenUp s (hs ++ z ∷ front) (behind (place_of z)) y = (
-        was.0,
-        was.1,
-        was.2,
-        taken_on y was.0 cursor (behind (place_of z))
-            (g.are.not_past z (inl refl)) was.3,
-      ) in
-      subst (λ (l : List Happening). IsTakenUp s l (behind (place_of z)) y) (sym (append_assoc hs (z ∷ []) front)) off;
+      let off : IsWorkedOff s (hs ++ z ∷ front) (behind (place_of z)) y = (was.0, was.1, was.2, g.are.not_past z (inl refl) was.0 was.3) in
+      subst (λ (l : List Happening). IsWorkedOff s l (behind (place_of z)) y) (sym (append_assoc hs (z ∷ []) front)) off;
   full = λ front back y e before none not due worked.
       let over = beyond (place_of z) (place_of y) not in
       let all : AllBefore place_of (z ∷ front) (place_of y) = λ h i. elim i

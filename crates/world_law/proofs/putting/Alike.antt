@@ -3,9 +3,10 @@ use Rattle.{run_law.specs.{device.States.is_off, records.{Frames.tt_frame, Happe
 use Rattle.world_law.proofs.Words.{◌&&◌, ◌==◌, ◌∙◌, ◌∷◌, ◌≡◌, ◌≤◌, Arrival, ArrivesAs, BecomesPermanent, Departs, Departure, DeviceId, Happening, Integrating}
 use Rattle.world_law.proofs.Words.{IsCaused, IsDropped, IsLost, IsOwnSource, IsSendLost, LinkId, List, Network, Note, NoteBody, Option, Pcf, Reason, Ripe}
 use Rattle.world_law.proofs.Words.{Scenario, Send, Signal, Standpoint, Units, VlId, [], adjustment_after, amount, ap, arith, arrival_of, before_permanence}
-use Rattle.world_law.proofs.Words.{cause_of, control, control_arrival, earlier, frame_by, happening, if◌then◌else◌, inl, inr, is_broken, is_turned_on_at}
-use Rattle.world_law.proofs.Words.{last_taken, not, numbered, option_and_then, option_map, option_map_or, plains, rank, refl, state_after, sym, timed}
-use Rattle.world_law.proofs.{Words.{timed_arrival, up_to, with_clock, ℕ}, putting.Renumbers.{judged_alike, timed_by}, runs.SourcesBack.dispatches_back}
+use Rattle.world_law.proofs.Words.{cause_of, control, control_arrival, dispatching, doing, earlier, frame_by, happening, if◌then◌else◌, inl, inr, is_broken}
+use Rattle.world_law.proofs.Words.{is_turned_on_at, last_taken, not, numbered, option_and_then, option_map, option_map_or, plains, rank, refl, state_after, sym}
+use Rattle.world_law.proofs.Words.{task_place, timed}
+use Rattle.world_law.proofs.{Words.{timed_arrival, up_to, with_clock, ℕ}, putting.Renumbers.{judged_alike, timed_by}, runs.SourcesBack.{dispatches_back, dispatches_same}}
 use Rattle.run_law.specs.declared.note.NoteBody.TheVariants as notes
 
 -- the records agree at the time: in those given, so many, in those of earlier times, in what was taken, in what judges a
@@ -98,10 +99,13 @@ pub own_alike : (s : Scenario) (t known members : ℕ) (js gs : List Happening) 
 own_alike s t known members js gs (notes.Left device link cause clock) w a late le o = o
 own_alike s t known members js gs (notes.Lost device link cause) w a late le (inl d) = inl (d.0, departs_alike s t known js gs device link cause _ a le d.1)
 own_alike s t known members js gs (notes.Lost device link cause) w a late le (inr (inl d)) =
-    inr (inl (d.0, (d.1.0, d.1.1, dispatches_back s js gs t device link cause d.1.0 d.1.1 a.before d.1.2, d.1.3)))
+    let e = dispatches_same s js gs t device link cause d.0 d.1 a.before d.2 in
+    inr (inl (d.0, d.1, e.0, d.3, d.4 ∙ ap (λ (n : ℕ). task_place s.network t device (doing (dispatching (record { 0 = n }) d.1))) (sym e.1)))
 own_alike s t known members js gs (notes.Lost device link cause) w a late le (inr (inr l)) =
     inr (inr (l.0, send_alike s t known js gs device link cause a le l.1))
-own_alike s t known members js gs (notes.TtSent device link cause vl cycle) w a late le o = o
+own_alike s t known members js gs (notes.TtSent device link cause vl cycle) w a late le o =
+    let e = dispatches_same s js gs t device link cause vl cycle a.before o.0 in
+    (e.0, o.1 ∙ ap (λ (n : ℕ). task_place s.network t device (doing (dispatching (record { 0 = n }) cycle))) (sym e.1))
 own_alike s t known members js gs (notes.Accepted device link cause vl cycle) w a late le o = o
 own_alike s t known members js gs (notes.Delivered device link cause vl cycle) w a late le o = o
 own_alike s t known members js gs (notes.Dropped device link cause reason) w a late le (inl x) =

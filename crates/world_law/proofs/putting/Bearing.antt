@@ -9,7 +9,8 @@ use Rattle.world_law.proofs.Words.{refl, state_after, state_before, state_with, 
 use Rattle.world_law.proofs.acts.Recorded.{is_sending, recorded_put}
 use Rattle.world_law.proofs.{devices.Borne.{left_alike, moves_no_other, tell_alike}, rows.Takings.{IsNoTaking, frames_plain, taken_parts, taken_same}}
 use Rattle.world_law.proofs.{devices.OwnRecords.{keeps_adjustment, keeps_state}, putting.Idle.{drop_one, fold_skip, up_to_plain}}
-use Rattle.world_law.proofs.putting.{Bumped.{bump_behind, in_placed, placed, placed_in, raised, raised_moves, raised_turning}, NearPut.plains_placed}
+use Rattle.world_law.proofs.putting.Bumped.{bump_behind, in_placed, placed, placed_in, raised, raised_joins, raised_moves, raised_rank, raised_turning}
+use Rattle.world_law.proofs.{Words.IsJoiningNow, putting.NearPut.plains_placed}
 
 -- ---- by lists
 
@@ -210,6 +211,19 @@ frames_aside s n hs front back w device misses takes =
 
 -- ---- the device
 
+joining_aside : (s : Scenario) (n : ℕ) (hs front back : List Happening) (w : Happening) (device : DeviceId) (now : ℕ)
+    → IsJoiningNow s hs (front ++ back) device now → IsJoiningNow s hs (placed n front w back) device now
+joining_aside s n hs front back w device now j = elim (in_parts j.by front back j.there) [
+  | inl f ↦ record { looking = j.looking; by = j.by; there = in_left j.by front (w ∷ map (bump_behind n) back) f; sent = j.sent; joins = j.joins }
+  | inr b ↦ record {
+    looking = j.looking;
+    by = bump_behind n j.by;
+    there = in_right (bump_behind n j.by) front (w ∷ map (bump_behind n) back) (inr (placed_in n back j.by b));
+    sent = raised_rank n j.by.note.body ∙ j.sent;
+    joins = raised_joins n device j.by.note.body ∙ j.joins;
+  }
+]
+
 pub kept_aside : {M : Type 0} (stands : M → Network → DeviceId → Node → Type 0) (s : Scenario) (n : ℕ) (hs front back : List Happening) (cursor : List ℕ)
     (now : ℕ) (device : DeviceId) (machine : M) (w : Happening) → bears_on device w.note.body ≡ false
     → is_sending device w.note.body ≡ false → time_of w ≡ now → frames_taken s (hs ++ (front ++ back)) device ≡ frames_taken s (hs ++ placed n front w back)
@@ -222,11 +236,12 @@ kept_aside stands s n hs front back cursor now device machine w misses sends at 
   acted = k.acted;
   told = λ over. elim (k.told over) [
     | inl past ↦ inl past
-    | inr just ↦ inr (record { looking = sym (before_aside s n hs front back w device now misses) ∙ just.looking; other = just.other })
+    | inr (inl just) ↦ inr (inl (record { looking = sym (before_aside s n hs front back w device now misses) ∙ just.looking; other = just.other }))
+    | inr (inr joining) ↦ inr (inr (joining_aside s n hs front back w device now joining))
   ];
   left = left_aside s n hs front back w device k.up k.node misses k.left;
   taken = k.taken ∙ frames;
-  worked = worked_on s device k.node _ _ k.up now cursor cursor (changed_aside s n hs front back w device k.up misses) (λ p b. b) k.worked;
+  worked = worked_on s device k.node _ _ k.up cursor cursor (changed_aside s n hs front back w device k.up misses) (λ p b. b) k.worked;
   bare = k.bare;
   ready = k.ready;
   still = λ same. still_aside s n hs front back now device w (moves_no_other device w.note.body misses) (k.still same);

@@ -1,13 +1,12 @@
 -- The cursor goes by a source of the present instant.
-use Rattle.world_law.proofs.devices.Working.{worked_on}
-use Rattle.world_law.proofs.runs.TaskPlaces.{at_acts}
+use Rattle.world_law.proofs.devices.Working.{out_on, worked_on}
 use Rattle.{std.proofs.Common.arith, world_law.specs.world.{Moves.IsWithout, World.IsOut}}
 use Rattle.world_law.proofs.Words.{◌++◌, ◌∙◌, ◌∷◌, ◌≡◌, ◌⊎◌, AllBefore, AreAtPorts, AreOnWires, AreSettled, AreWaiting, AtPort, DeviceId, Happening}
 use Rattle.world_law.proofs.Words.{HasTurnedOn, IsBefore, IsDue, IsForward, IsHeld, IsIn, IsKept, IsOwnSource, IsSource, List, Network, NoSourceBefore, Node}
-use Rattle.world_law.proofs.Words.{NoneBefore, OnWire, Pcf, Scenario, Waiting, [], act_place, amount, ap, append-nil, before_behind, before_later}
+use Rattle.world_law.proofs.Words.{NoneBefore, OnWire, Pcf, Scenario, Waiting, [], amount, ap, append-nil, before_behind, before_later}
 use Rattle.world_law.proofs.Words.{before_or_not, behind, chain, either_way, false, in_left, inl, inr, members_in, place_of, port_place, refl, ripe_place}
-use Rattle.world_law.proofs.Words.{task_place}
-use Rattle.world_law.proofs.{Words.{subst, sym, time_of, wire_place, ℕ}, giving.GivenParts.{taken_on, up_to_place}, runs.SourcesBack.source_back}
+use Rattle.world_law.proofs.Words.{Task, task_place}
+use Rattle.world_law.proofs.{Words.{subst, sym, time_of, wire_place, ℕ}, giving.GivenParts.up_to_place, runs.SourcesBack.source_back}
 
 -- what a step that works off the source at this place of the instant starts from
 pub record IsMoving (s : Scenario) (hs coming : List Happening) (mark cursor : List ℕ) (now r : ℕ) (more : List ℕ) : Type 0 where
@@ -64,8 +63,7 @@ settled_moves s hs coming mark cursor now r more m all = record {
   of_now = m.are.of_now;
   behind_mark = m.are.behind_mark;
   founded = m.are.founded;
-  by = λ front rest z e. let was = m.are.by front rest z e in
-      (was.0, was.1, was.2, taken_on z was.0 cursor (behind (now ∷ r ∷ more)) (stays s hs coming mark cursor now r more m) was.3);
+  by = λ front rest z e. let was = m.are.by front rest z e in (was.0, was.1, was.2, stays s hs coming mark cursor now r more m was.0 was.3);
   full = λ front back y e before none not due worked.
       elim (worked_or_here s hs coming front back mark cursor now r more m e worked.0 worked.2 worked.3) [
         | inl yet ↦ m.are.full front back y e before none not due (worked.0, worked.1, worked.2, yet)
@@ -191,8 +189,8 @@ turned_moves s hs coming mark cursor now r more device m it = record {
 
 pub kept_moves : {M : Type 0} (stands : M → Network → DeviceId → Node → Type 0) (s : Scenario) (hs coming : List Happening) (mark cursor : List ℕ) (now r : ℕ)
     (more : List ℕ) (device : DeviceId) (machine : M) → IsMoving s hs coming mark cursor now r more
-    → (act_place now device ≡ now ∷ r ∷ more → ⊥) → IsKept stands s hs coming cursor now device machine → IsKept stands s hs coming (behind (now ∷ r ∷ more))
-    now device machine
+    → ((task : Task) → task_place s.network now device task ≡ now ∷ r ∷ more → ⊥) → IsKept stands s hs coming cursor now device machine
+    → IsKept stands s hs coming (behind (now ∷ r ∷ more)) now device machine
 kept_moves stands s hs coming mark cursor now r more device machine m other k = record {
   node = k.node;
   is = k.is;
@@ -207,14 +205,17 @@ kept_moves stands s hs coming mark cursor now r more device machine m other k = 
               elim (by_given s hs coming mark cursor now r more m (task_place s.network now device task) (IsSource.acting now device task a)
               (up_to_place (task_place s.network now device task) (now ∷ r ∷ more) b)) [
                 | inl yet ↦ still.1 task yet a
-                | inr here ↦ other (sym (at_acts s.network now device task) ∙ here)
+                | inr here ↦ absurd (other task here)
               ],
         )
   ];
-  told = λ over. elim (k.told over) [ inl past ↦ inl (stays s hs coming mark cursor now r more m (act_place now device) past) | inr just ↦ inr just ];
+  told = λ over. elim (k.told over) [
+    | inl past ↦ inl (out_on s hs now device cursor (behind (now ∷ r ∷ more)) (stays s hs coming mark cursor now r more m) past)
+    | inr just ↦ inr just
+  ];
   left = k.left;
   taken = k.taken;
-  worked = worked_on s device k.node _ _ k.up now cursor (behind (now ∷ r ∷ more)) refl (stays s hs coming mark cursor now r more m) k.worked;
+  worked = worked_on s device k.node _ _ k.up cursor (behind (now ∷ r ∷ more)) refl (stays s hs coming mark cursor now r more m) k.worked;
   bare = k.bare;
   ready = k.ready;
   still = k.still;
@@ -231,8 +232,8 @@ out_moves stands s hs coming cursor then_ now device machine over k = grind arit
 
 pub held_moves : {M : Type 0} (stands : M → Network → DeviceId → Node → Type 0) (s : Scenario) (hs coming : List Happening) (mark cursor : List ℕ) (now r : ℕ)
     (more : List ℕ) (device : DeviceId) (machine : M) → IsMoving s hs coming mark cursor now r more
-    → (act_place now device ≡ now ∷ r ∷ more → ⊥) → IsHeld stands s hs coming cursor now device machine → IsHeld stands s hs coming (behind (now ∷ r ∷ more))
-    now device machine
+    → ((task : Task) → task_place s.network now device task ≡ now ∷ r ∷ more → ⊥) → IsHeld stands s hs coming cursor now device machine
+    → IsHeld stands s hs coming (behind (now ∷ r ∷ more)) now device machine
 held_moves stands s hs coming mark cursor now r more device machine m other (inl k) =
     inl (kept_moves stands s hs coming mark cursor now r more device machine m other k)
 held_moves stands s hs coming mark cursor now r more device machine m other (inr k) =

@@ -6,15 +6,16 @@ use Rattle.world_law.proofs.Words.{ComesToCorrection, Compressed, Departs, Depar
 use Rattle.world_law.proofs.Words.{IsCaused, IsDropped, IsDue, IsForward, IsFounded, IsIn, IsLost, IsOfThisTime, IsOwnSource, IsSendLost, IsSource, Joining}
 use Rattle.world_law.proofs.Words.{Judgement, LinkId, List, Network, None, Note, NoteBody, Option, Pcf, Reason, Ripe, Scenario, Signal, Some, Standing, State}
 use Rattle.world_law.proofs.Words.{Units, Verdict, VlId, Why, [], adjustment_after, adjustment_at_hearing, amount, ap, arith, arrival_of, bears_on}
-use Rattle.world_law.proofs.Words.{before_permanence, by_number, cases_lt, cases_order, cause_of, chain, control, control_arrival, correcting, doing, earlier}
-use Rattle.world_law.proofs.Words.{emitting, eq-eqb, false, filter, frame_by, heard_as, heard_since, if◌then◌else◌, in_filter, inl, inr, is_accepted}
-use Rattle.world_law.proofs.Words.{is_at_source, is_joined_by, is_turned_on_at, last_in, last_or, last_taken, length, members_in, next_point, not, numbered}
-use Rattle.world_law.proofs.Words.{numbered_within, observation_window, option_map, place_of, plan_of, points_of, rank, refl, sending, state_after}
-use Rattle.world_law.proofs.Words.{state_at_hearing, subst, suc, sym}
+use Rattle.world_law.proofs.Words.{before_permanence, by_number, cases_lt, cases_order, cause_of, chain, control, control_arrival, correcting, dispatching}
+use Rattle.world_law.proofs.Words.{doing, earlier, emitting, eq-eqb, false, filter, frame_by, heard_as, heard_since, if◌then◌else◌, in_filter, inl, inr}
+use Rattle.world_law.proofs.Words.{is_accepted, is_at_source, is_joined_by, is_turned_on_at, last_in, last_or, last_taken, length, members_in, next_point, not}
+use Rattle.world_law.proofs.Words.{numbered, numbered_within, observation_window, option_map, place_of, plan_of, points_of, rank, refl, sending, state_after}
+use Rattle.world_law.proofs.Words.{state_at_hearing, subst, suc, sym, task_place}
 use Rattle.world_law.proofs.{Words.{time_of, timed, timed_arrival, true, ℕ}, giving.Given.same_permanent, putting.PutIn.{at_place, late_source}}
 use Rattle.world_law.proofs.putting.{Alike.{frame_alike, octets_alike, standpoint_in}, Bumped.{raised_same, up_high, up_low, up_number}, Renumbers.timed_by}
 use Rattle.world_law.proofs.putting.Bumped.{bump_behind, down_high, down_low, down_number, lower_behind, lowered, raised, raised_joins, raised_low, raised_rank}
-use Rattle.world_law.proofs.runs.SourcesBack.{arrives_later, dispatches_back, earlier_still, gives_rank, numbered_parts, reaches_back, standing_in, up_back}
+use Rattle.world_law.proofs.runs.SourcesBack.{arrives_later, dispatches_back, dispatches_same, earlier_still, gives_rank, numbered_parts, reaches_back}
+use Rattle.world_law.proofs.runs.SourcesBack.{standing_in, up_back}
 use Rattle.run_law.specs.declared.judgement.Why.TheVariants as whys
 use Rattle.run_law.specs.declared.note.NoteBody.TheVariants as notes
 
@@ -206,7 +207,8 @@ pub own_near : (s : Scenario) (t n m : ℕ) (at : List ℕ) (put : NoteBody) (js
     → AreNear s t n at put js gs → cause_of body ≤ n → (IsBefore at p → ⊥) → IsOwnSource s js t m body p → IsOwnSource s gs t m body p
 own_near s t n m at put js gs (notes.Lost device link cause) p a le under (inl d) = inl (d.0, departs_near s js gs t device link cause _ (a.first cause le) d.1)
 own_near s t n m at put js gs (notes.Lost device link cause) p a le under (inr (inl d)) =
-    inr (inl (d.0, (d.1.0, d.1.1, dispatches_back s js gs t device link cause d.1.0 d.1.1 a.before d.1.2, d.1.3)))
+    let e = dispatches_same s js gs t device link cause d.0 d.1 a.before d.2 in
+    inr (inl (d.0, d.1, e.0, d.3, d.4 ∙ ap (λ (n : ℕ). task_place s.network t device (doing (dispatching (record { 0 = n }) d.1))) (sym e.1)))
 own_near s t n m at put js gs (notes.Lost device link cause) p a le under (inr (inr l)) =
     inr (inr (l.0, send_near s js gs t device link cause (a.first cause le) l.1))
 own_near s t n m at put js gs (notes.Dropped device link cause reason) p a le under (inl x) =
@@ -221,6 +223,9 @@ own_near s t n m at put js gs (notes.State device state cause whys.Frame) p a le
 own_near s t n m at put js gs (notes.State device state cause whys.Correction) p a le under o = o
 own_near s t n m at put js gs (notes.State device state cause whys.SyncClique) p a le under o = o
 own_near s t n m at put js gs (notes.State device state cause whys.AsyncClique) p a le under o = o
+own_near s t n m at put js gs (notes.TtSent device link cause vl cycle) p a le under o =
+    let e = dispatches_same s js gs t device link cause vl cycle a.before o.0 in
+    (e.0, o.1 ∙ ap (λ (n : ℕ). task_place s.network t device (doing (dispatching (record { 0 = n }) cycle))) (sym e.1))
 own_near s t n m at put js gs other p a le under o = o
 
 -- the own source of a record that is caused is a source
@@ -242,10 +247,10 @@ own_source s js time m (notes.State device state cause whys.On) p there c o = at
 own_source s js time m (notes.State device state cause whys.Frame) p there c o = at_place s js p _ o (IsSource.following (amount time) cause c.1.0 c.1.1)
 own_source s js time m (notes.State device state cause whys.Correction) p there c o = at_place s js p _ o (IsSource.following (amount time) cause c.2.3 c.2.4)
 own_source s js time m (notes.State device state cause whys.SyncClique) p there c o =
-    at_place s js p _ o (IsSource.acting (amount time) device (doing (correcting _))
+    at_place s js p _ o.1 (IsSource.acting (amount time) device (doing (correcting _))
     (IsActing.corrects c.2.0 (record { next = c.2.1.next; reached = c.2.1.reached; correct = c.2.1.correct })))
 own_source s js time m (notes.State device state cause whys.AsyncClique) p there c o =
-    at_place s js p _ o (IsSource.acting (amount time) device (doing (correcting _))
+    at_place s js p _ o.1 (IsSource.acting (amount time) device (doing (correcting _))
     (IsActing.corrects c.2.0 (record { next = c.2.1.next; reached = c.2.1.reached; correct = c.2.1.correct })))
 own_source s js time m (notes.Lost device link cause) p there c o = late_source s js time m (notes.Lost device link cause) p (omega arith) c o
 own_source s js time m (notes.TtSent device link cause vl cycle) p there c o =
@@ -342,7 +347,7 @@ known_near s hs zs time m r more (notes.Lost device link cause) p forward founde
     let high = rank_up_to (amount time) r 8 more (device.0 ∷ link.0 ∷ cause ∷ []) (subst (λ (q : List ℕ). IsBefore (amount time ∷ r ∷ more) q → ⊥) o.0 under) in
     departs_given s hs zs (amount time) r (amount time) device link cause _ from high o.1
 known_near s hs zs time m r more (notes.Lost device link cause) p forward founded from late there follows (inr (inl o)) under c =
-    dispatches_given s hs zs (amount time) r device link cause o.1.0 o.1.1 founded from o.1.2
+    dispatches_given s hs zs (amount time) r device link cause o.0 o.1 founded from o.2
 known_near s hs zs time m r more (notes.Lost device link cause) p forward founded from late there follows (inr (inr o)) under c =
     send_given s hs zs (amount time) r (amount time) device link cause from late o.1
 known_near s hs zs time m r more (notes.TtSent device link cause vl cycle) p forward founded from late there follows o under c =

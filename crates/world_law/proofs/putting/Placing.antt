@@ -1,10 +1,10 @@
 -- What is to come with a record put in at its place, whichever source of the instant it comes from.
 use Rattle.world_law.proofs.Words.{◌++◌, ◌+◌, ◌∙◌, ◌∷◌, ◌≡◌, ◌≤◌, ◌⊎◌, AllBefore, AreSettled, DeviceId, Happening, IsBefore, IsDue, IsForward, IsFounded, IsIn}
-use Rattle.world_law.proofs.Words.{IsOwnSource, IsSource, LinkId, List, NoneBefore, NoteBody, Scenario, VlId, [], act_place, ap, append_assoc, arith, bears_on}
+use Rattle.world_law.proofs.Words.{IsOwnSource, IsSource, LinkId, List, NoneBefore, NoteBody, Scenario, VlId, [], rows_place, ap, append_assoc, arith, bears_on}
 use Rattle.world_law.proofs.Words.{before_behind, before_later, behind, cases_Bool, cases_order, cause_of, chain, either_way, eqb-true, false, in_left}
 use Rattle.world_law.proofs.Words.{in_parts, in_right, inl, inr, is_at_source, is_taken_before, key, length, length-append, map, members_in, never_self}
 use Rattle.world_law.proofs.{Words.{place_of, rank, refl, subst, sym, time_of, true, ℕ}, putting.PutIn.{own_time, split_three, split_two}}
-use Rattle.world_law.proofs.{giving.GivenParts.{taken_on, up_to_place}, putting.NearPut.{IsPlaced, two_placed}, runs.SourcesBack.{at_least, no_higher}}
+use Rattle.world_law.proofs.{giving.GivenParts.up_to_place, putting.NearPut.{IsPlaced, two_placed}, runs.SourcesBack.{at_least, no_higher}}
 use Rattle.world_law.proofs.putting.Bumped.{bump_back, bump_behind, bump_equal, bump_mono, due_low, first_placed, in_placed, lower_behind, lowered}
 use Rattle.world_law.proofs.putting.{Bumped.{lowered_place, placed, placed_in, raised_source, split_placed}, Moving.{IsAllOfIt, IsMoving, worked_or_here}}
 use Rattle.world_law.proofs.putting.Near.{AreFrom, AreTwo, IsAsideOf, due_down, due_up, hears, is_follower, known_near, own_down, own_source, own_up}
@@ -13,24 +13,28 @@ use Rattle.run_law.specs.declared.note.NoteBody.TheVariants as notes
 
 -- ---- own sources
 
--- a record that may stand at its source does so
+-- a record that stands at its source does so
 pub own_here : (s : Scenario) (js : List Happening) (t m : ℕ) (body : NoteBody) (p : List ℕ) → is_at_source body ≡ true → IsOwnSource s js t m body p
     → p ≡ t ∷ rank body ∷ key m body
 own_here s js t m (notes.Arrived device link cause clock) p e o = o
 own_here s js t m (notes.Permanent device link cause point verdict) p e o = o
+own_here s js t m (notes.Compressed device opened at cycle members verdict) p e o = o
+own_here s js t m (notes.Sent device cycle) p e o = o
+own_here s js t m (notes.Corrected device cycle by adjustment) p e o = o
 own_here s js t m (notes.Left device link cause clock) p e o = o
 own_here s js t m (notes.Clock device reading adjustment state) p e o = o
 own_here s js t m other p e o = absurd cc
 
--- what a device hears at the instant bears only on what its own acts bring
-pub hears_source : (s : Scenario) (js : List Happening) (t m : ℕ) (device : DeviceId) (body : NoteBody) (p : List ℕ) → hears device body ≡ true
-    → IsOwnSource s js t m body p → p ≡ t ∷ 4 ∷ device.0 ∷ []
-hears_source s js t m device (notes.Compressed other opened at cycle members verdict) p e o =
-    o ∙ ap (λ (i : ℕ). t ∷ 4 ∷ i ∷ []) (sym (eqb-true device.0 other.0 e))
-hears_source s js t m device (notes.Corrected other cycle by adjustment) p e o = o ∙ ap (λ (i : ℕ). t ∷ 4 ∷ i ∷ []) (sym (eqb-true device.0 other.0 e))
-hears_source s js t m device (notes.State other state cause whys.SyncClique) p e o = o ∙ ap (λ (i : ℕ). t ∷ 4 ∷ i ∷ []) (sym (eqb-true device.0 other.0 e))
-hears_source s js t m device (notes.State other state cause whys.AsyncClique) p e o = o ∙ ap (λ (i : ℕ). t ∷ 4 ∷ i ∷ []) (sym (eqb-true device.0 other.0 e))
-hears_source s js t m device other p e o = absurd cc
+-- what a device hears at the instant bears, behind its source, only on what its own correction point brings
+pub hears_source : (s : Scenario) (js : List Happening) (t m : ℕ) (device : DeviceId) (body : NoteBody) (p : List ℕ) → is_at_source body ≡ false
+    → hears device body ≡ true → IsOwnSource s js t m body p → p ≡ t ∷ 6 ∷ device.0 ∷ []
+hears_source s js t m device (notes.Compressed other opened at cycle members verdict) p there e o = absurd cc
+hears_source s js t m device (notes.Corrected other cycle by adjustment) p there e o = absurd cc
+hears_source s js t m device (notes.State other state cause whys.SyncClique) p there e o =
+    o.1 ∙ ap (λ (i : ℕ). t ∷ 6 ∷ i ∷ []) (sym (eqb-true device.0 other.0 e))
+hears_source s js t m device (notes.State other state cause whys.AsyncClique) p there e o =
+    o.1 ∙ ap (λ (i : ℕ). t ∷ 6 ∷ i ∷ []) (sym (eqb-true device.0 other.0 e))
+hears_source s js t m device other p there e o = absurd cc
 
 pub at_or_behind : (at q : List ℕ) → (IsBefore q at → ⊥) → (at ≡ q) ⊎ IsBefore at q
 at_or_behind at q not = elim (either_way at q) [ inl lt ↦ inr lt | inr (inl e) ↦ inl e | inr (inr gt) ↦ absurd (not gt) ]
@@ -67,7 +71,7 @@ well_of s hs coming mark cursor now r more m =
       stands = m.are.founded;
       by = λ f rest z e.
           let was = m.are.by f rest z e in
-          (was.0, was.1, was.2, elim (taken_on z was.0 cursor at (λ p b. before_later p at cursor b m.waits) was.3) [ inl lt ↦ inl lt | inr up ↦ inr up.0 ]);
+          (was.0, was.1, was.2, inl (before_later was.0 at cursor was.3 m.waits));
       full = λ f rest y e before none not due now_is p own source under.
           elim (worked_or_here s hs coming f rest mark cursor now r more m e p source (chain p at (behind at) under (before_behind at))) [
             | inl yet ↦ inl (m.are.full f rest y e before none not due (p, own, source, yet))
@@ -78,7 +82,8 @@ well_of s hs coming mark cursor now r more m =
 -- ---- a record that is put in
 
 -- the record is due at its place among those to come, not before the source, and taken up; no arrival up to the source
--- comes after it; and it bears on no device of which an act is due before it, nor of which one is to come behind it
+-- comes after it; and it bears on no device whose correction point is before it, nor on one of which what that brings is to
+-- come behind it
 pub record IsPlacing (s : Scenario) (hs front back : List Happening) (mark : List ℕ) (now r : ℕ) (more : List ℕ) (w : Happening) : Type 0 where
   pub forward : IsForward s
   pub late : 2 ≤ r
@@ -93,7 +98,7 @@ pub record IsPlacing (s : Scenario) (hs front back : List Happening) (mark : Lis
   pub taken : ComesUpTo s (hs ++ front) (now ∷ r ∷ more) w
   pub takes : (device : DeviceId) (vl : VlId) (link : LinkId) (cause : ℕ) → (IsBefore (now ∷ r ∷ more) (now ∷ 2 ∷ device.0 ∷ link.0 ∷ cause ∷ []) → ⊥)
       → is_taken_before device vl now link cause (time_of w) w.note.body ≡ false
-  pub apart : (device : DeviceId) → IsBefore (act_place now device) (now ∷ r ∷ more) → bears_on device w.note.body ≡ false
+  pub apart : (device : DeviceId) → IsBefore (rows_place now device) (now ∷ r ∷ more) → bears_on device w.note.body ≡ false
   pub aside : (x : Happening) → IsIn x back → (device : DeviceId) → hears device x.note.body ≡ true → bears_on device w.note.body ≡ false
 
 -- so many stand before it
@@ -145,7 +150,7 @@ two_at s hs front back c d mark now r more w Yet well p e =
     (append_assoc hs front (w ∷ map (bump_behind n) c)) two)
 
 -- what is behind it does not stand at a source up to this one
-not_at_source : (s : Scenario) (js : List Happening) (now r : ℕ) (more : List ℕ) (w y : Happening) (q : List ℕ)
+pub not_at_source : (s : Scenario) (js : List Happening) (now r : ℕ) (more : List ℕ) (w y : Happening) (q : List ℕ)
     → (IsBefore (place_of w) (now ∷ r ∷ more) → ⊥) → IsBefore (place_of w) (place_of y) → (IsBefore (now ∷ r ∷ more) q → ⊥)
     → IsOwnSource s js (time_of y) (members_in y) y.note.body q → is_at_source y.note.body ≡ false
 not_at_source s js now r more w y q least over under own = elim (cases_Bool (is_at_source y.note.body)) [
@@ -244,8 +249,8 @@ aside_new s hs front back c d mark now r more w y q Yet well p e over now_is bef
     record {
       not_there = not_there;
       free = λ device yes_it.
-          let act = hears_source s (hs ++ put_at hs front w c) (time_of y) (members_in y) device y.note.body q yes_it own
-          ∙ ap (λ (t : ℕ). t ∷ 4 ∷ device.0 ∷ []) now_is in
+          let act = hears_source s (hs ++ put_at hs front w c) (time_of y) (members_in y) device y.note.body q not_there yes_it own
+          ∙ ap (λ (t : ℕ). t ∷ 6 ∷ device.0 ∷ []) now_is in
           p.apart device (subst (λ (u : List ℕ). IsBefore u at) act before);
       few = few_at s hs front (put_at hs front w c) now r more y q p.forward p.late p.given from now_is not_there under own due;
       own = own;
@@ -429,51 +434,14 @@ placed_well s hs front back mark now r more w Yet Then well p carry = record {
   full = full_at s hs front back mark now r more w Yet Then well p carry;
 }
 
--- ---- and so it is settled, as the cursor comes to the source
+-- ---- and so it is settled, as the cursor goes by the source
 
 of_the_instant : (s : Scenario) (js : List Happening) (mark : List ℕ) (now r : ℕ) (more : List ℕ) (y : Happening) (q : List ℕ)
     → ((p : List ℕ) → IsBefore p (now ∷ []) → IsBefore p mark) → IsOwnSource s js (time_of y) (members_in y) y.note.body q
     → IsBefore q (now ∷ r ∷ more) → (IsBefore (place_of y) mark → ⊥) → time_of y ≡ now
 of_the_instant s js mark now r more y q marked own under not = grind (arith, own_time, time_of, members_in, no_higher, place_of)
 
--- the cursor is at the source: a device that acts there has more to do
-pub settled_at : (s : Scenario) (hs coming : List Happening) (mark : List ℕ) (now r : ℕ) (more : List ℕ) (device : DeviceId)
-    → now ∷ r ∷ more ≡ act_place now device → IsWell s hs coming mark now r more (λ y. ⊥)
-    → ((p : List ℕ) → IsBefore p (now ∷ []) → IsBefore p mark) → (IsBefore (now ∷ r ∷ more) mark → ⊥) → IsBefore (now ∷ 2 ∷ []) (now ∷ r ∷ more)
-    → ((z : Happening) → IsIn z coming → is_at_source z.note.body ≡ true → IsBefore (place_of z) (now ∷ r ∷ more))
-    → AreSettled s hs coming mark (now ∷ r ∷ more) now
-settled_at s hs coming mark now r more device acts well marked up_to begun worked =
-    let at = now ∷ r ∷ more in
-    record {
-      of_now = well.of_now;
-      behind_mark = λ z i lt. elim (at_or_behind at (place_of z) (well.after z i)) [
-        | inl e ↦ up_to (subst (λ (q : List ℕ). IsBefore q mark) (sym e) lt)
-        | inr far ↦ up_to (chain at (place_of z) mark far lt)
-      ];
-      founded = well.stands;
-      by = λ f rest z e.
-          let was = well.by f rest z e in
-          let now_is = well.of_now z (subst (λ (l : List Happening). IsIn z l) (sym e) (in_right z f (z ∷ rest) (inl refl))) in (
-            was.0,
-            was.1,
-            was.2,
-            elim was.3 [
-              | inl lt ↦ inl lt
-              | inr same ↦ inr (same, (device, same ∙ acts ∙ ap (λ (t : ℕ). act_place t device) (sym now_is)))
-            ],
-          );
-      full = λ f rest y e before none not due off.
-          elim (well.full f rest y e before none not due (of_the_instant s (hs ++ f) mark now r more y off.0 marked off.1 off.3 not) off.0 off.1 off.2 off.3)
-          [ inl found ↦ found | inr never ↦ absurd never ];
-      not_past = λ z i q lt. elim (at_or_behind at (place_of z) (well.after z i)) [
-        | inl e ↦ chain q (place_of z) (behind (place_of z)) (subst (λ (u : List ℕ). IsBefore q u) e lt) (before_behind (place_of z))
-        | inr far ↦ chain q (place_of z) (behind (place_of z)) (chain q at (place_of z) lt far) (before_behind (place_of z))
-      ];
-      worked = worked;
-      begun = λ z i. begun;
-    }
-
--- or it goes by: then all that is due from the source itself is there too
+-- all that is due from the source itself is there too
 pub settled_by : (s : Scenario) (hs coming : List Happening) (mark : List ℕ) (now r : ℕ) (more : List ℕ) → IsWell s hs coming mark now r more (λ y. ⊥)
     → ((p : List ℕ) → IsBefore p (now ∷ []) → IsBefore p mark) → (IsBefore (now ∷ r ∷ more) mark → ⊥) → IsBefore (now ∷ 2 ∷ []) (now ∷ r ∷ more)
     → ((z : Happening) → IsIn z coming → is_at_source z.note.body ≡ true → IsBefore (place_of z) (behind (now ∷ r ∷ more)))
@@ -492,10 +460,10 @@ settled_by s hs coming mark now r more well marked up_to begun worked all =
             was.0,
             was.1,
             was.2,
-            inl (elim was.3 [
+            elim was.3 [
               | inl lt ↦ chain was.0 at (behind at) lt (before_behind at)
               | inr same ↦ subst (λ (q : List ℕ). IsBefore q (behind at)) (sym same) (before_behind at)
-            ]),
+            ],
           );
       full = λ f rest y e before none not due off. elim (up_to_place off.0 at off.3) [
         | inl here ↦ all f rest y e before none due

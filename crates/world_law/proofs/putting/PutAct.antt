@@ -1,9 +1,10 @@
 -- A device acts: what is to come with its records.
-use Rattle.world_law.proofs.runs.TaskPlaces.{at_acts}
-use Rattle.world_law.proofs.Words.{◌++◌, ◌+◌, ◌<◌, ◌∙◌, ◌∷◌, ◌≡◌, ◌≤◌, ◌⊎◌, AllBefore, ChangesState, DeviceId, Happening, IsActing, IsBefore, IsCaused, IsDue}
-use Rattle.world_law.proofs.Words.{IsFounded, IsIn, IsOfThisTime, IsOwnSource, IsSource, List, NoneBefore, NoteBody, Scenario, Some, State, Task, Units, Why}
-use Rattle.world_law.proofs.Words.{[], act_place, amount, ap, append_assoc, arith, in_left, in_right, inl, inr, is_joined_by, key, length, members_in}
+use Rattle.schedule_tables.specs.Dispatches.{dispatch_order}
+use Rattle.world_law.proofs.Words.{◌++◌, ◌+◌, ◌<◌, ◌∙◌, ◌∷◌, ◌≡◌, ◌≤◌, ◌⊎◌, AllBefore, ChangesState, DeviceId, Happening, IsBefore, IsCaused, IsDue}
+use Rattle.world_law.proofs.Words.{IsFounded, IsIn, IsOfThisTime, IsOwnSource, IsSource, List, NoneBefore, NoteBody, Scenario, Some, State, Units, Why}
+use Rattle.world_law.proofs.Words.{[], rows_place, amount, ap, append_assoc, arith, in_left, in_right, inl, inr, is_joined_by, key, length, members_in}
 use Rattle.world_law.proofs.Words.{never_self, numbered, numbered_within, parted, place_of, rank, refl, subst, suc, sym, true, units_of, ℕ}
+use Rattle.world_law.proofs.runs.TaskPlaces.{second}
 use Rattle.run_law.{proofs.runs.Determined.due_is_determined, specs.records.Causes.device_of}
 use Rattle.world_law.proofs.putting.{Bumped.AsState, Moving.IsMoving, Near.hears, Placing.before_it, PutOne.{IsOne, at_number}}
 use Rattle.world_law.proofs.{putting.{PutShown.{IsShownPair, due_of, record_of}, PutTwo.IsPair}, runs.SourcesBack.{at_least, numbered_parts}}
@@ -12,17 +13,10 @@ use Rattle.run_law.specs.declared.note.NoteBody.TheVariants as notes
 
 -- ---- no record stands before its own source
 
-before_end : (d : ℕ) (more : List ℕ) → IsBefore (d ∷ more) (d ∷ []) → ⊥
-before_end d more (inl lt) = omega (arith, lt)
-before_end d more (inr b) = b.1
-
 higher : (t k r : ℕ) (ks rs : List ℕ) → r < k → IsBefore (t ∷ k ∷ ks) (t ∷ r ∷ rs) → ⊥
 higher t k r ks rs lt (inl b) = omega (arith, b)
 higher t k r ks rs lt (inr (e, inl b)) = omega (arith, lt, b)
 higher t k r ks rs lt (inr (e, inr b)) = let f = b.0 in omega (arith, lt, f)
-
-same_end : (t k d e : ℕ) (more q : List ℕ) → q ≡ t ∷ k ∷ d ∷ [] → IsBefore (t ∷ k ∷ d ∷ more) q → ⊥
-same_end t k d e more q o b = grind (arith, before_end)
 
 above : (t k r : ℕ) (ks rs q : List ℕ) → r < k → q ≡ t ∷ r ∷ rs → IsBefore (t ∷ k ∷ ks) q → ⊥
 above t k r ks rs q lt o b = higher t k r ks rs lt (subst (λ (p : List ℕ). IsBefore (t ∷ k ∷ ks) p) o b)
@@ -37,20 +31,21 @@ none_below t k ks q o b = grind arith
 pub least_of_own : (s : Scenario) (js : List Happening) (t m : ℕ) (body : NoteBody) (q : List ℕ) → IsOwnSource s js t m body q
     → IsBefore (t ∷ rank body ∷ key m body) q → ⊥
 least_of_own s js t m (notes.Event line what) q o b = none_below t 1 (line ∷ []) q o b
-least_of_own s js t m (notes.Compressed device opened at cycle members verdict) q o b = same_end t 4 device.0 0 _ q o b
-least_of_own s js t m (notes.Sent device cycle) q o b = above t 5 4 (device.0 ∷ cycle ∷ []) (device.0 ∷ []) q (omega arith) o b
-least_of_own s js t m (notes.Corrected device cycle by adjustment) q o b = above t 6 4 (device.0 ∷ []) (device.0 ∷ []) q (omega arith) o b
+least_of_own s js t m (notes.Compressed device opened at cycle members verdict) q o b = same_place _ q o b
+least_of_own s js t m (notes.Sent device cycle) q o b = same_place _ q o b
+least_of_own s js t m (notes.Corrected device cycle by adjustment) q o b = same_place _ q o b
 least_of_own s js t m (notes.State device state cause whys.On) q o b = above t 7 2 (device.0 ∷ cause ∷ []) [] q (omega arith) o b
 least_of_own s js t m (notes.State device state cause whys.Frame) q o b = above t 7 2 (device.0 ∷ cause ∷ []) [] q (omega arith) o b
 least_of_own s js t m (notes.State device state cause whys.Correction) q o b = above t 7 2 (device.0 ∷ cause ∷ []) [] q (omega arith) o b
-least_of_own s js t m (notes.State device state cause whys.SyncClique) q o b = above t 7 4 (device.0 ∷ cause ∷ []) (device.0 ∷ []) q (omega arith) o b
-least_of_own s js t m (notes.State device state cause whys.AsyncClique) q o b = above t 7 4 (device.0 ∷ cause ∷ []) (device.0 ∷ []) q (omega arith) o b
+least_of_own s js t m (notes.State device state cause whys.SyncClique) q o b = above t 7 6 (device.0 ∷ cause ∷ []) (device.0 ∷ []) q (omega arith) o.1 b
+least_of_own s js t m (notes.State device state cause whys.AsyncClique) q o b = above t 7 6 (device.0 ∷ cause ∷ []) (device.0 ∷ []) q (omega arith) o.1 b
 least_of_own s js t m (notes.Lost device link cause) q (inl o) b =
     above t 9 8 (device.0 ∷ link.0 ∷ cause ∷ []) (device.0 ∷ link.0 ∷ cause ∷ []) q (omega arith) o.0 b
-least_of_own s js t m (notes.Lost device link cause) q (inr (inl o)) b = above t 9 4 (device.0 ∷ link.0 ∷ cause ∷ []) (device.0 ∷ []) q (omega arith) o.0 b
+least_of_own s js t m (notes.Lost device link cause) q (inr (inl o)) b =
+    above t 9 6 (device.0 ∷ link.0 ∷ cause ∷ []) (device.0 ∷ dispatch_order s.network (record { 0 = o.2.place })) q (omega arith) o.4 b
 least_of_own s js t m (notes.Lost device link cause) q (inr (inr o)) b = above t 9 2 (device.0 ∷ link.0 ∷ cause ∷ []) [] q (omega arith) o.0 b
 least_of_own s js t m (notes.TtSent device link cause vl cycle) q o b =
-    above t 10 4 (device.0 ∷ link.0 ∷ cause ∷ vl.0 ∷ cycle ∷ []) (device.0 ∷ []) q (omega arith) o b
+    above t 10 6 (device.0 ∷ link.0 ∷ cause ∷ vl.0 ∷ cycle ∷ []) (device.0 ∷ dispatch_order s.network (record { 0 = o.0.place })) q (omega arith) o.1 b
 least_of_own s js t m (notes.Accepted device link cause vl cycle) q o b =
     above t 11 2 (device.0 ∷ link.0 ∷ cause ∷ []) (device.0 ∷ link.0 ∷ cause ∷ []) q (omega arith) o b
 least_of_own s js t m (notes.Delivered device link cause vl cycle) q o b =
@@ -86,33 +81,37 @@ there_already s hs front back mark cursor now r more w y m due none i same =
 
 -- ---- the record of an act
 
--- the device acts at the source that comes first, and this record is due of it, which is not among those to come; and no
--- record of its own that rests on what it hears is to come behind it
-pub record IsActSo (s : Scenario) (hs front back : List Happening) (mark cursor : List ℕ) (now : ℕ) (device : DeviceId) (body : NoteBody) : Type 0 where
-  pub moving : IsMoving s hs (front ++ back) mark cursor now 4 (device.0 ∷ [])
+-- the device acts at the source that comes first, at this place, and this record is due of it, which is not among those to
+-- come; and no record of its own that rests on what it hears is to come behind it, where that is its correction point
+pub record IsActSo (s : Scenario) (hs front back : List Happening) (mark cursor : List ℕ) (now r : ℕ) (more : List ℕ) (device : DeviceId)
+    (body : NoteBody) : Type 0 where
+  pub moving : IsMoving s hs (front ++ back) mark cursor now r more
+  pub late : 4 ≤ r
+  pub low : r ≤ 6
+  pub acts : (6 ≡ r → now ∷ r ∷ more ≡ rows_place now device)
   pub marked : (p : List ℕ) → IsBefore p (now ∷ []) → IsBefore p mark
   pub given : IsFounded place_of (IsDue s) hs
   pub cause : IsCaused s (hs ++ front) (units_of now) body
-  pub own : (m : ℕ) → IsOwnSource s (hs ++ front) now m body (act_place now device)
-  pub task : Task
-  pub acts : IsActing s (hs ++ front) now device task
+  pub own : (m : ℕ) → IsOwnSource s (hs ++ front) now m body (now ∷ r ∷ more)
+  pub here : IsSource s (hs ++ front) (now ∷ r ∷ more)
   pub before : AllBefore place_of front (place_of (record_of s.network hs front now body))
   pub none : NoneBefore place_of back (place_of (record_of s.network hs front now body))
   pub new : IsIn (record_of s.network hs front now body) back → ⊥
   pub aside : (x : Happening) → IsIn x back → hears device x.note.body ≡ true → ⊥
 
-same_acts : (now : ℕ) (device other : DeviceId) → act_place now device ≡ act_place now other → other ≡ device
-same_acts now device other e =
+same_rows : (now : ℕ) (device other : DeviceId) → rows_place now device ≡ rows_place now other → other ≡ device
+same_rows now device other e =
     let n : other.0 ≡ device.0 = cc in ap (λ (k : ℕ). let d : DeviceId = record { 0 = k } in d) n
 
-pub act_one : (s : Scenario) (hs front back : List Happening) (mark cursor : List ℕ) (now : ℕ) (device : DeviceId) (body : NoteBody)
-    → IsActSo s hs front back mark cursor now device body → IsOne s hs front back mark cursor now 4 (device.0 ∷ []) (record_of s.network hs front now body)
-act_one s hs front back mark cursor now device body a =
+pub act_one : (s : Scenario) (hs front back : List Happening) (mark cursor : List ℕ) (now r : ℕ) (more : List ℕ) (device : DeviceId) (body : NoteBody)
+    → IsActSo s hs front back mark cursor now r more device body → IsOne s hs front back mark cursor now r more (record_of s.network hs front now body)
+act_one s hs front back mark cursor now r more device body a =
     let w = record_of s.network hs front now body in
     let due = due_of s hs front now body a.cause in
+    let late = a.late in
     record {
       moving = a.moving;
-      later = inr (refl, inl (omega arith));
+      later = inr (refl, inl (omega (arith, late)));
       marked = a.marked;
       given = a.given;
       at = refl;
@@ -121,12 +120,13 @@ act_one s hs front back mark cursor now device body a =
       none = a.none;
       fresh = λ y i same.
           a.new (subst (λ (h : Happening). IsIn h back)
-          (sym (there_already s hs front back mark cursor now 4 (device.0 ∷ []) w y a.moving due a.none i same)) i);
-      least = least_of_own s (hs ++ front) now (members_in w) body (act_place now device) (a.own (members_in w));
+          (sym (there_already s hs front back mark cursor now r more w y a.moving due a.none i same)) i);
+      least = least_of_own s (hs ++ front) now (members_in w) body (now ∷ r ∷ more) (a.own (members_in w));
       mine = a.own (members_in w);
-      here = subst (λ (q : List ℕ). IsSource s (hs ++ front) q) (at_acts s.network now device a.task) (IsSource.acting now device a.task a.acts);
+      here = a.here;
       aside = λ x i other e yes_it.
-          a.aside x i (subst (λ (d : DeviceId). hears d x.note.body ≡ true) (same_acts now device other e) yes_it);
+          let six : 6 ≡ r = sym (ap second e) in
+          a.aside x i (subst (λ (d : DeviceId). hears d x.note.body ≡ true) (same_rows now device other (sym (a.acts six) ∙ e)) yes_it);
     }
 
 -- ---- where a change of state follows it
@@ -168,17 +168,18 @@ causes_of_device s hs coming mark cursor now r more device m some joins corrects
     (subst (λ (b : NoteBody). IsCaused s (hs ++ split.0) z.note.time b) it.is due.cause))
 
 -- the two records of an act, the second a change of state that follows the first
-pub act_pair : (s : Scenario) (hs coming settled : List Happening) (mark cursor : List ℕ) (now : ℕ) (device : DeviceId) (body : NoteBody) (state : State)
+pub act_pair : (s : Scenario) (hs coming settled : List Happening) (mark cursor : List ℕ) (now r : ℕ) (more : List ℕ) (device : DeviceId) (body : NoteBody)
+    (state : State)
     (why : Why) → (shown : IsShownPair s.network hs now body device state why coming settled)
-    → IsActSo s hs shown.front shown.back mark cursor now device body → (rank body ≡ 1 → ⊥) → device_of body ≡ Some device
+    → IsActSo s hs shown.front shown.back mark cursor now r more device body → (rank body ≡ 1 → ⊥) → device_of body ≡ Some device
     → (why ≡ whys.Frame) ⊎ (why ≡ whys.Correction)
     → ((h : Happening) → IsOfThisTime (hs ++ shown.front2) now (before_it hs shown.front + 1) h → h.note.body ≡ body
     → ChangesState s (hs ++ shown.front2) device now state (before_it hs shown.front + 1) why)
     → ((x : Happening) → IsIn x shown.back2 → hears device x.note.body ≡ true → ⊥)
-    → IsPair s hs shown.front shown.back shown.front2 shown.back2 mark cursor now 4 (device.0 ∷ [])
+    → IsPair s hs shown.front shown.back shown.front2 shown.back2 mark cursor now r more
     (record_of s.network hs shown.front now body)
     (record_of s.network hs shown.front2 now (notes.State device state (before_it hs shown.front + 1) why)) device state why
-act_pair s hs coming settled mark cursor now device body state why shown a no_event of_it follows changes aside =
+act_pair s hs coming settled mark cursor now r more device body state why shown a no_event of_it follows changes aside =
     let n = before_it hs shown.front in
     let w = record_of s.network hs shown.front now body in
     let far = shown.far in
@@ -188,10 +189,10 @@ act_pair s hs coming settled mark cursor now device body state why shown a no_ev
     ∙ at_number hs shown.front shown.back w in
     let next : suc n ≡ n + 1 = omega arith in
     record {
-      one = act_one s hs shown.front shown.back mark cursor now device body a;
+      one = act_one s hs shown.front shown.back mark cursor now r more device body a;
       no_event = no_event;
-      low = omega arith;
-      acts = λ four. refl;
+      low = a.low;
+      acts = a.acts;
       is_of = of_it;
       parts = shown.parts2;
       far = shown.far;

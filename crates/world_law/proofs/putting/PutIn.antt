@@ -147,13 +147,13 @@ own_time s hs t m (notes.Corrected device cycle by adjustment) w o = (_, _, o, o
 own_time s hs t m (notes.State device state cause whys.On) w o = (_, _, o, omega arith)
 own_time s hs t m (notes.State device state cause whys.Frame) w o = (_, _, o, omega arith)
 own_time s hs t m (notes.State device state cause whys.Correction) w o = (_, _, o, omega arith)
-own_time s hs t m (notes.State device state cause whys.SyncClique) w o = (_, _, o, omega arith)
-own_time s hs t m (notes.State device state cause whys.AsyncClique) w o = (_, _, o, omega arith)
+own_time s hs t m (notes.State device state cause whys.SyncClique) w o = (_, _, o.1, omega arith)
+own_time s hs t m (notes.State device state cause whys.AsyncClique) w o = (_, _, o.1, omega arith)
 own_time s hs t m (notes.Left device link cause clock) w o = (_, _, o, omega arith)
 own_time s hs t m (notes.Lost device link cause) w (inl o) = (_, _, o.0, omega arith)
-own_time s hs t m (notes.Lost device link cause) w (inr (inl o)) = (_, _, o.0, omega arith)
+own_time s hs t m (notes.Lost device link cause) w (inr (inl o)) = (_, _, o.4, omega arith)
 own_time s hs t m (notes.Lost device link cause) w (inr (inr o)) = (_, _, o.0, omega arith)
-own_time s hs t m (notes.TtSent device link cause vl cycle) w o = (_, _, o, omega arith)
+own_time s hs t m (notes.TtSent device link cause vl cycle) w o = (_, _, o.1, omega arith)
 own_time s hs t m (notes.Accepted device link cause vl cycle) w o = (_, _, o, omega arith)
 own_time s hs t m (notes.Delivered device link cause vl cycle) w o = (_, _, o, omega arith)
 own_time s hs t m (notes.Dropped device link cause reason) w (inl o) = (_, _, o.0, omega arith)
@@ -173,10 +173,12 @@ late_source s js time m (notes.Lost device link cause) w high c (inl o) =
     at_place s js w _ o.0
     (IsSource.departing (amount time) device link cause (record { giving = o.1.giving; there = o.1.there; gives = o.1.gives; held = o.1.held }))
 late_source s js time m (notes.Lost device link cause) w high c (inr (inl o)) =
-    at_place s js w _ o.0 (IsSource.acting (amount time) device (doing (dispatching _ _)) (IsActing.dispatches link cause o.1.0 o.1.1 o.1.2))
+    at_place s js w _ o.4
+    (IsSource.acting (amount time) device (doing (dispatching (record { 0 = o.2.place }) o.1)) (IsActing.dispatches link cause o.0 o.1 o.2))
 late_source s js time m (notes.Lost device link cause) w high c (inr (inr o)) = at_place s js w _ o.0 (IsSource.following (amount time) cause o.1.event o.1.is)
 late_source s js time m (notes.TtSent device link cause vl cycle) w high c o =
-    at_place s js w _ o (IsSource.acting (amount time) device (doing (dispatching _ _)) (IsActing.dispatches link cause vl cycle c.dispatches))
+    at_place s js w _ o.1
+    (IsSource.acting (amount time) device (doing (dispatching (record { 0 = o.0.place }) cycle)) (IsActing.dispatches link cause vl cycle o.0))
 late_source s js time m (notes.Accepted device link cause vl cycle) w high c o =
     at_place s js w _ o
     (IsSource.arriving (amount time) device link cause (record { putting = c.putting; there = c.there; signal = c.signal; arrives = c.arrives }))

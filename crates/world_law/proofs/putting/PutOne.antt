@@ -3,12 +3,12 @@ use Rattle.{run_law.specs.timed.Receptions.comes_before, tte_units.proofs.genera
 use Rattle.std.proofs.lemmas.Bool.{and_left}
 use Rattle.world_law.proofs.Words.{◌&&◌, ◌++◌, ◌+◌, ◌==◌, ◌||◌, ◌∙◌, ◌∷◌, ◌≡◌, ◌≤◌, ◌⊎◌, AllBefore, AreSettled, Bool, ChangesState, DeviceId, Happening}
 use Rattle.world_law.proofs.Words.{Integrating, IsBefore, IsCaused, IsDue, IsFounded, IsIn, IsOwnSource, IsSource, Joining, LinkId, List, NoneBefore, NoteBody}
-use Rattle.world_law.proofs.Words.{Scenario, Some, State, Units, VlId, What, Why, [], act_place, and_right, ap, append_assoc, arith, bears_on, before_behind}
+use Rattle.world_law.proofs.Words.{Scenario, Some, State, Units, VlId, What, Why, [], rows_place, and_right, before_later, ap, append_assoc, arith, bears_on, before_behind}
 use Rattle.world_law.proofs.Words.{behind, cases_Bool, cases_lt, cases_order, cause_of, eqb-true, false, false_from_ne_true, if◌then◌else◌, inl, inr}
 use Rattle.world_law.proofs.Words.{is_at_source, is_joined_by, is_taken_before, is_turned_on_at, le-ltb, map, members_in, nat_lt, never_self, numbered}
 use Rattle.world_law.proofs.{Words.{place_of, rank, refl, state_after, state_before, subst, suc, sym, time_of, true, ℕ}, runs.SourcesBack.earlier_still}
 use Rattle.world_law.proofs.{giving.Given.some_same, putting.{Bumped.{AsState, bump_behind, numbered_here, seven}, Moving.{IsAllOfIt, IsMoving, stays}}}
-use Rattle.world_law.proofs.putting.Placing.{IsCarried, IsPlacing, IsWell, before_it, hears_source, placed_well, put_at, settled_at, settled_by, well_of}
+use Rattle.world_law.proofs.putting.Placing.{IsCarried, IsPlacing, IsWell, before_it, hears_source, placed_well, put_at, settled_by, well_of}
 use Rattle.run_law.specs.declared.judgement.Judgement.TheVariants as judgements
 use Rattle.run_law.specs.declared.judgement.Why.TheVariants as whys
 use Rattle.run_law.specs.declared.note.NoteBody.TheVariants as notes
@@ -33,18 +33,18 @@ takes_not s js now m (notes.Delivered other by from of_vl cycle) at o device vl 
     none_before now device other vl of_vl link by cause from (subst (λ (q : List ℕ). IsBefore q (now ∷ 2 ∷ device.0 ∷ link.0 ∷ cause ∷ []) → ⊥) o under)
 takes_not s js now m other at o device vl link cause under = refl
 
--- it bears on no device that acts before its source
+-- it bears on no device whose correction point is before its source
 apart_of : (s : Scenario) (js : List Happening) (now m r : ℕ) (more : List ℕ) (body : NoteBody) → IsOwnSource s js now m body (now ∷ r ∷ more)
-    → (now ∷ 2 ∷ [] ≡ now ∷ r ∷ more → ⊥) → (device : DeviceId) → IsBefore (act_place now device) (now ∷ r ∷ more) → bears_on device body ≡ false
+    → (now ∷ 2 ∷ [] ≡ now ∷ r ∷ more → ⊥) → (device : DeviceId) → IsBefore (rows_place now device) (now ∷ r ∷ more) → bears_on device body ≡ false
 apart_of s js now m r more (notes.Permanent other link cause point verdict) o longer device b = absurd
     (let three : r ≡ 3 = cc in elim b [ inl lt ↦ omega (arith, lt) | inr (e, inl lt) ↦ omega (arith, lt, three) | inr (e, inr f) ↦ omega (arith, f.0, three) ])
-apart_of s js now m r more (notes.Compressed other opened at cycle members verdict) o longer device b =
-    grind (arith, false_from_ne_true, never_self, act_place, eqb-true)
-apart_of s js now m r more (notes.Corrected other cycle by adjustment) o longer device b = grind (arith, false_from_ne_true, never_self, act_place, eqb-true)
+apart_of s js now m r more (notes.Compressed other opened at cycle members verdict) o longer device b = absurd
+    (let four : r ≡ 4 = cc in elim b [ inl lt ↦ omega (arith, lt) | inr (e, inl lt) ↦ omega (arith, lt, four) | inr (e, inr f) ↦ omega (arith, f.0, four) ])
+apart_of s js now m r more (notes.Corrected other cycle by adjustment) o longer device b = grind (arith, false_from_ne_true, never_self, rows_place, eqb-true)
 apart_of s js now m r more (notes.State other state cause whys.SyncClique) o longer device b =
-    grind (arith, false_from_ne_true, never_self, act_place, eqb-true)
+    grind (arith, false_from_ne_true, never_self, rows_place, eqb-true)
 apart_of s js now m r more (notes.State other state cause whys.AsyncClique) o longer device b =
-    grind (arith, false_from_ne_true, never_self, act_place, eqb-true)
+    grind (arith, false_from_ne_true, never_self, rows_place, eqb-true)
 apart_of s js now m r more (notes.State other state cause whys.On) o longer device b = absurd (longer (sym o))
 apart_of s js now m r more (notes.State other state cause whys.Frame) o longer device b = absurd (longer (sym o))
 apart_of s js now m r more (notes.State other state cause whys.Correction) o longer device b = absurd (longer (sym o))
@@ -130,7 +130,7 @@ at_number hs front c w =
 -- ---- one record
 
 -- the first source of the instant is worked off, and brings a record that is due at its place among those to come. No
--- record of its own device that rests on what that hears is to come behind it, if the source is the device's own act
+-- record of its own device that rests on what that hears is to come behind it, if the source is the device's correction point
 pub record IsOne (s : Scenario) (hs front back : List Happening) (mark cursor : List ℕ) (now r : ℕ) (more : List ℕ) (w : Happening) : Type 0 where
   pub moving : IsMoving s hs (front ++ back) mark cursor now r more
   pub later : IsBefore (now ∷ 2 ∷ []) (now ∷ r ∷ more)
@@ -144,7 +144,7 @@ pub record IsOne (s : Scenario) (hs front back : List Happening) (mark cursor : 
   pub least : IsBefore (place_of w) (now ∷ r ∷ more) → ⊥
   pub mine : IsOwnSource s (hs ++ front) (time_of w) (members_in w) w.note.body (now ∷ r ∷ more)
   pub here : IsSource s (hs ++ front) (now ∷ r ∷ more)
-  pub aside : (x : Happening) → IsIn x back → (device : DeviceId) → now ∷ r ∷ more ≡ act_place now device → hears device x.note.body ≡ true → ⊥
+  pub aside : (x : Happening) → IsIn x back → (device : DeviceId) → now ∷ r ∷ more ≡ rows_place now device → hears device x.note.body ≡ true → ⊥
 
 from_two : (now r : ℕ) (more : List ℕ) → IsBefore (now ∷ 2 ∷ []) (now ∷ r ∷ more) → 2 ≤ r
 from_two now r more (inl lt) = absurd (omega (arith, lt))
@@ -158,11 +158,17 @@ unmarked s hs coming mark cursor now r more m b = m.waits (m.ahead (now ∷ r �
 -- what hears at the instant is aside of what comes from another source
 hears_aside : (s : Scenario) (hs coming f rest : List Happening) (mark cursor : List ℕ) (now r : ℕ) (more : List ℕ) (x : Happening) (device : DeviceId)
     → IsMoving s hs coming mark cursor now r more → coming ≡ f ++ x ∷ rest → hears device x.note.body ≡ true
-    → IsBefore (act_place now device) (now ∷ r ∷ more) ⊎ (now ∷ r ∷ more ≡ act_place now device)
+    → IsBefore (rows_place now device) (now ∷ r ∷ more) ⊎ (now ∷ r ∷ more ≡ rows_place now device)
 hears_aside s hs coming f rest mark cursor now r more x device m e yes_it =
     let by = (well_of s hs coming mark cursor now r more m).by f rest x e in
     let now_is = m.are.of_now x (subst (λ (l : List Happening). IsIn x l) (sym e) (Rattle.run_law.proofs.runs.Places.in_right x f (x ∷ rest) (inl refl))) in
-    let act = hears_source s (hs ++ f) (time_of x) (members_in x) device x.note.body by.0 yes_it by.1 ∙ ap (λ (t : ℕ). t ∷ 4 ∷ device.0 ∷ []) now_is in
+    let i : IsIn x coming = subst (λ (l : List Happening). IsIn x l) (sym e) (Rattle.run_law.proofs.runs.Places.in_right x f (x ∷ rest) (inl refl)) in
+    let not_there : is_at_source x.note.body ≡ false = elim (cases_Bool (is_at_source x.note.body)) [
+      | inr no_it ↦ no_it
+      | inl is ↦ absurd (m.after x i (before_later (place_of x) (now ∷ r ∷ more) cursor (m.are.worked x i is) m.waits))
+    ] in
+    let act = hears_source s (hs ++ f) (time_of x) (members_in x) device x.note.body by.0 not_there yes_it by.1
+    ∙ ap (λ (t : ℕ). t ∷ 6 ∷ device.0 ∷ []) now_is in
     elim by.3 [
       | inl lt ↦ inl (subst (λ (q : List ℕ). IsBefore q (now ∷ r ∷ more)) act lt)
       | inr same ↦ inr (sym same ∙ act)
@@ -271,15 +277,3 @@ one_by s hs front back mark cursor now r more w p last stands all =
     (unmarked s hs (front ++ back) mark cursor now r more p.moving) p.later
     (worked_then s hs front back mark cursor (behind at) now r more w p (stays s hs (front ++ back) mark cursor now r more p.moving)
     (λ is. subst (λ (q : List ℕ). IsBefore q (behind at)) (sym (stands is)) (before_behind at))) all
-
--- THE RECORD OF AN ACT IS PUT IN, AND THE CURSOR IS AT ITS SOURCE: the device has more to do at the instant
-pub one_at : (s : Scenario) (hs front back : List Happening) (mark cursor : List ℕ) (now : ℕ) (device : DeviceId) (w : Happening)
-    → IsOne s hs front back mark cursor now 4 (device.0 ∷ []) w → IsUnfollowed s hs now w.note.body → is_at_source w.note.body ≡ false
-    → AreSettled s hs (put_at hs front w back) mark (act_place now device) now
-one_at s hs front back mark cursor now device w p last no_source =
-    settled_at s hs (put_at hs front w back) mark now 4 (device.0 ∷ []) device refl
-    (one_well s hs front back mark cursor now 4 (device.0 ∷ []) w p last) p.marked
-    (unmarked s hs (front ++ back) mark cursor now 4 (device.0 ∷ []) p.moving) p.later
-    (worked_then s hs front back mark cursor (act_place now device) now 4 (device.0 ∷ []) w p
-    (λ q b. Rattle.run_law.proofs.runs.Places.before_later q (act_place now device) cursor b p.moving.waits)
-    (λ is. absurd (let bad : false ≡ true = sym no_source ∙ is in cc)))

@@ -257,7 +257,7 @@ two_shown network hs now body device state why coming old settled room few under
           (key (members_in y) (hidden_body given y.note.body)) (device.0 ∷ none_yet ∷ [])
           (λ e. back_keys given n (members_in y) device y.note.body room (sole1 y (inside y there)) e) b));
       fresh2 = λ y there e.
-          let of_rank : rank y.note.body ≡ 7 = sym (ap Rattle.world_law.proofs.giving.GivenParts.second e) in
+          let of_rank : rank y.note.body ≡ 7 = sym (ap Rattle.world_law.proofs.runs.TaskPlaces.second e) in
           elim (seven y.note.body) [
             | inr none ↦ none of_rank
             | inl it ↦

@@ -1,13 +1,13 @@
 -- A record and the change of state that follows it are put in.
 use Rattle.{net_plan.proofs.SameIds.one_device, run_law.{proofs.law.FirstPlaces.numbered_front, specs.records.Causes.device_of}}
 use Rattle.world_law.proofs.Words.{◌++◌, ◌+◌, ◌<◌, ◌==◌, ◌∙◌, ◌∷◌, ◌≡◌, ◌≤◌, ◌⊎◌, AllBefore, AreSettled, ChangesState, DeviceId, Happening, IsBefore, IsDue}
-use Rattle.world_law.proofs.Words.{IsIn, IsOwnSource, IsSource, List, NoneBefore, NoteBody, Scenario, Some, State, Why, [], act_place, amount, ap, append_assoc}
-use Rattle.world_law.proofs.Words.{arith, bears_on, before_behind, behind, cases_lt, cause_of, eqb-true, false, false_from_ne_true, in_left, in_parts, in_right}
+use Rattle.world_law.proofs.Words.{IsIn, IsOwnSource, IsSource, List, NoneBefore, NoteBody, Scenario, Some, State, Why, [], rows_place, amount, ap, append_assoc}
+use Rattle.world_law.proofs.Words.{arith, bears_on, before_behind, behind, cases_lt, chain, cause_of, eqb-true, false, false_from_ne_true, in_left, in_parts, in_right}
 use Rattle.world_law.proofs.Words.{inl, inr, is_at_source, is_joined_by, is_taken_before, key, map, members_in, never_self, numbered, parted, place_of, rank}
 use Rattle.world_law.proofs.{Words.{refl, subst, suc, sym, time_of, true, ℕ}, giving.Given.some_same, putting.Moving.{IsAllOfIt, stays}}
 use Rattle.world_law.proofs.putting.Bumped.{bump_behind, down_high, down_low, down_number, in_placed, lowered_rank, raised_source, seven}
 use Rattle.world_law.proofs.putting.{Idle.numbered_prefix, PutOne.{Follows, IsOne, at_number, due_follows, placing_one, source_raised, unmarked, worked_then}}
-use Rattle.world_law.proofs.putting.{Near.hears, Placing.{IsCarried, IsPlacing, IsWell, before_it, hears_source, placed_well, put_at, settled_by, well_of}}
+use Rattle.world_law.proofs.putting.{Near.hears, Placing.{IsCarried, IsPlacing, IsWell, before_it, hears_source, not_at_source, placed_well, put_at, settled_by, well_of}}
 use Rattle.run_law.specs.declared.judgement.Judgement.TheVariants as judgements
 use Rattle.run_law.specs.declared.judgement.Why.TheVariants as whys
 use Rattle.run_law.specs.declared.note.NoteBody.TheVariants as notes
@@ -44,8 +44,8 @@ pub record IsPair (s : Scenario) (hs front back front2 back2 : List Happening) (
     (device : DeviceId) (state : State) (why : Why) : Type 0 where
   pub one : IsOne s hs front back mark cursor now r more w
   pub no_event : rank w.note.body ≡ 1 → ⊥
-  pub low : r ≤ 4
-  pub acts : (4 ≡ r → now ∷ r ∷ more ≡ act_place now device)
+  pub low : r ≤ 6
+  pub acts : (6 ≡ r → now ∷ r ∷ more ≡ rows_place now device)
   pub is_of : device_of w.note.body ≡ Some device
   pub parts : put_at hs front w back ≡ front2 ++ back2
   pub far : before_it hs front < before_it hs front2
@@ -56,7 +56,7 @@ pub record IsPair (s : Scenario) (hs front back front2 back2 : List Happening) (
   pub before : AllBefore place_of front2 (place_of v)
   pub none : NoneBefore place_of back2 (place_of v)
   pub fresh : (y : Happening) → IsIn y back2 → place_of v ≡ place_of y → ⊥
-  pub aside : (x : Happening) → IsIn x back2 → now ∷ r ∷ more ≡ act_place now device → hears device x.note.body ≡ true → ⊥
+  pub aside : (x : Happening) → IsIn x back2 → now ∷ r ∷ more ≡ rows_place now device → hears device x.note.body ≡ true → ⊥
 
 state_rank : (v : Happening) (device : DeviceId) (state : State) (cause : ℕ) (why : Why) → v.note.body ≡ notes.State device state cause why
     → rank v.note.body ≡ 7
@@ -162,8 +162,8 @@ change_takes : (device other : DeviceId) (vl : _) (t : ℕ) (link : _) (cause at
     → body ≡ notes.State other state from why → is_taken_before device vl t link cause at body ≡ false
 change_takes device other vl t link cause at body state from why e = ap (is_taken_before device vl t link cause at) e
 
-four_or_less : (r : ℕ) → r ≤ 4 → (4 ≡ r) ⊎ (r < 4)
-four_or_less r le = elim (cases_lt r 4) [ inl lt ↦ inr lt | inr ge ↦ inl (omega (arith, le, ge)) ]
+six_or_less : (r : ℕ) → r ≤ 6 → (6 ≡ r) ⊎ (r < 6)
+six_or_less r le = elim (cases_lt r 6) [ inl lt ↦ inr lt | inr ge ↦ inl (omega (arith, le, ge)) ]
 
 placing_two : (s : Scenario) (hs front back front2 back2 : List Happening) (mark cursor : List ℕ) (now r : ℕ) (more : List ℕ) (w v : Happening)
     (device : DeviceId) (state : State) (why : Why) → IsPair s hs front back front2 back2 mark cursor now r more w v device state why
@@ -181,6 +181,11 @@ placing_two s hs front back front2 back2 mark cursor now r more w v device state
     (subst (λ (t : ℕ). IsOwnSource s (hs ++ front2) (time_of v) (members_in v) (notes.State device state (n + 1) why) (t ∷ 2 ∷ [])) p.at
     (own_of_change s (hs ++ front2) (time_of v) (members_in v) device state (n + 1) why p.follows)) in
     let source : IsSource s (hs ++ front2) (now ∷ 2 ∷ []) = IsSource.following now (suc n) w (record { there = whole; same_time = p.one.at }) in
+    let least : IsBefore (place_of v) at → ⊥ = λ b. elim b [
+      | inl lt ↦ let e = p.at in omega (arith, lt, e)
+      | inr (e, inl lt) ↦ omega (arith, lt, seven_it, low)
+      | inr (e, inr f) ↦ let g = f.0 in omega (arith, g, seven_it, low)
+    ] in
     record {
       forward = first.forward;
       late = first.late;
@@ -191,18 +196,14 @@ placing_two s hs front back front2 back2 mark cursor now r more w v device state
       before = p.before;
       none = p.none;
       fresh = p.fresh;
-      least = λ b. elim b [
-        | inl lt ↦ let e = p.at in omega (arith, lt, e)
-        | inr (e, inl lt) ↦ omega (arith, lt, seven_it, low)
-        | inr (e, inr f) ↦ let g = f.0 in omega (arith, g, seven_it, low)
-      ];
+      least = least;
       taken = (now ∷ 2 ∷ [], own, source, inl p.one.later);
       takes = λ other vl link cause under. change_takes other device vl now link cause (time_of v) v.note.body state (n + 1) why p.body;
       apart = λ other b.
-          ap (bears_on other) p.body ∙ elim (four_or_less r p.low) [
-            | inl four ↦ false_from_ne_true (other.0 == device.0) (λ e.
-                absurd (never_self (act_place now device) (subst (λ (q : List ℕ). IsBefore q (act_place now device))
-                (ap (λ (i : ℕ). now ∷ 4 ∷ i ∷ []) (eqb-true other.0 device.0 e)) (subst (λ (q : List ℕ). IsBefore (act_place now other) q) (p.acts four) b))))
+          ap (bears_on other) p.body ∙ elim (six_or_less r p.low) [
+            | inl six ↦ false_from_ne_true (other.0 == device.0) (λ e.
+                absurd (never_self (rows_place now device) (subst (λ (q : List ℕ). IsBefore q (rows_place now device))
+                (ap (λ (i : ℕ). now ∷ 6 ∷ i ∷ []) (eqb-true other.0 device.0 e)) (subst (λ (q : List ℕ). IsBefore (rows_place now other) q) (p.acts six) b))))
             | inr less ↦ absurd (elim b [
               | inl lt ↦ omega (arith, lt)
               | inr (e, inl lt) ↦ omega (arith, lt, less)
@@ -215,11 +216,17 @@ placing_two s hs front back front2 back2 mark cursor now r more w v device state
           ∙ sym (append_assoc front2 split.0 (x ∷ split.1)) in
           let by = well.by (front2 ++ split.0) split.1 x all in
           let now_is = well.of_now x (in_right x front2 back2 i) in
-          let act = hears_source s (hs ++ (front2 ++ split.0)) (time_of x) (members_in x) other x.note.body by.0 yes_it by.1
-          ∙ ap (λ (t : ℕ). t ∷ 4 ∷ other.0 ∷ []) now_is in
-          ap (bears_on other) p.body ∙ elim (four_or_less r p.low) [
-            | inl four ↦ false_from_ne_true (other.0 == device.0) (λ e.
-                absurd (p.aside x i (p.acts four) (subst (λ (d : DeviceId). hears d x.note.body ≡ true)
+          let over : IsBefore (place_of v) (place_of x) = elim (Rattle.run_law.proofs.runs.Places.either_way (place_of v) (place_of x))
+          [ inl lt ↦ lt | inr (inl e) ↦ absurd (p.fresh x i e) | inr (inr gt) ↦ absurd (p.none x i gt) ] in
+          let not_there = not_at_source s (hs ++ (front2 ++ split.0)) now r more v x by.0 least over (λ lt. elim by.3 [
+            | inl yet ↦ never_self at (chain at by.0 at lt yet)
+            | inr up ↦ never_self at (subst (λ (q : List ℕ). IsBefore at q) up lt)
+          ]) by.1 in
+          let act = hears_source s (hs ++ (front2 ++ split.0)) (time_of x) (members_in x) other x.note.body by.0 not_there yes_it by.1
+          ∙ ap (λ (t : ℕ). t ∷ 6 ∷ other.0 ∷ []) now_is in
+          ap (bears_on other) p.body ∙ elim (six_or_less r p.low) [
+            | inl six ↦ false_from_ne_true (other.0 == device.0) (λ e.
+                absurd (p.aside x i (p.acts six) (subst (λ (d : DeviceId). hears d x.note.body ≡ true)
                 (sym (one_device other device e)) yes_it)))
             | inr less ↦ absurd (elim by.3 [
               | inl lt ↦ elim (subst (λ (q : List ℕ). IsBefore q at) act lt) [
@@ -228,8 +235,8 @@ placing_two s hs front back front2 back2 mark cursor now r more w v device state
                 | inr (e, inr f) ↦ let g = f.0 in omega (arith, g, less)
               ]
               | inr same ↦
-                  let both : act_place now other ≡ at = sym act ∙ same in
-                  let g : 4 ≡ r = ap Rattle.world_law.proofs.giving.GivenParts.second both in omega (arith, g, less)
+                  let both : rows_place now other ≡ at = sym act ∙ same in
+                  let g : 6 ≡ r = ap Rattle.world_law.proofs.runs.TaskPlaces.second both in omega (arith, g, less)
             ])
           ];
     }

@@ -1,18 +1,20 @@
 -- What is settled once a record that bears on nothing else is put in, and the cursor goes by its source.
 use Rattle.world_law.proofs.devices.Working.{worked_on}
+use Rattle.std.proofs.Common.{Contains}
+use Rattle.world_law.proofs.Words.{IsJoiningNow, RowId, task_place}
 use Rattle.world_law.proofs.Words.{◌++◌, ◌+◌, ◌∙◌, ◌∷◌, ◌≡◌, ◌≤◌, ◌⊎◌, AllBefore, AreOfNetwork, AreSettled, DeviceId, Happening, HasTurnedOn}
 use Rattle.world_law.proofs.Words.{Integrating, IsActing, IsAtRest, IsBefore, IsDue, IsFounded, IsHeld, IsIn, IsKept, IsLeft, IsOwnSource, IsSource}
-use Rattle.world_law.proofs.Words.{IsWorkedOff, List, Network, Node, NoneBefore, NoteBody, Scenario, State, [], act_place, adjustment_after, ap, append_assoc}
+use Rattle.world_law.proofs.Words.{IsWorkedOff, List, Network, Node, NoneBefore, NoteBody, Scenario, State, [], adjustment_after, ap, append_assoc}
 use Rattle.world_law.proofs.Words.{arith, bears_on, before_behind, behind, cause_of, chain, changed_at, dispatching, doing, earlier, either_way, frames_taken}
 use Rattle.world_law.proofs.Words.{if◌then◌else◌, in_left, in_parts, in_right, inl, inr, is_at_source, is_turned_on_at, is_turning, key, length, length-append}
 use Rattle.world_law.proofs.Words.{length-map, map, members_in, moves, never_self, place_of, rank, refl, state_after, state_before, subst, sym, time_of, true}
 use Rattle.world_law.proofs.Words.{up_to, ℕ}
-use Rattle.world_law.proofs.{acts.Recorded.{DispatchesNone, recorded_put}, devices.Borne.moves_no_other, giving.GivenParts.{taken_on, up_to_place}}
+use Rattle.world_law.proofs.{acts.Recorded.{DispatchesDone, recorded_put}, devices.Borne.moves_no_other, giving.GivenParts.up_to_place}
 use Rattle.world_law.proofs.putting.{Alike.{AreAlike, alike_back, caused_alike, happening_alike, own_alike}, Idle.{in_bumped, left_put, plains_put, stated_put}}
 use Rattle.world_law.proofs.putting.Idle.{IsIdle, IsPut, adjusted_put, alike_put, bump, bumped_in, changed_put, earlier_state_put, idle_bears, idle_rank}
-use Rattle.world_law.proofs.{putting.Moving.{IsMoving, stays, worked_or_here}, runs.SourcesBack.{at_least, dispatches_back, earlier_still, no_higher}}
+use Rattle.world_law.proofs.{putting.Moving.{IsMoving, stays, worked_or_here}, runs.SourcesBack.{at_least, dispatches_same, earlier_still, no_higher}}
 use Rattle.world_law.proofs.putting.{Placing.at_or_behind, PutIn.{first_bumped, known_cause, late_source, own_time, split_bumped, split_three, split_two}}
-use Rattle.world_law.{proofs.rows.Takings.frames_idle, specs.{device.Plain.renumbered, world.World.IsTakenUp}}
+use Rattle.world_law.{proofs.rows.Takings.frames_idle, specs.device.Plain.renumbered}
 
 -- what a step that puts in a record starts from: the record is due at its place among those to come, and whatever comes
 -- from the source is at that place
@@ -278,16 +280,16 @@ full_put s hs front back mark cursor now r more w p f rest y e before none not d
 -- each comes from a source that is worked off
 worked_put : (s : Scenario) (hs front back : List Happening) (mark cursor : List ℕ) (now r : ℕ) (more : List ℕ) (w : Happening)
     → IsPutting s hs front back mark cursor now r more w
-    → (f rest : List Happening) (y : Happening) → put_list front w back ≡ f ++ y ∷ rest → IsTakenUp s (hs ++ f) (behind (now ∷ r ∷ more)) y
+    → (f rest : List Happening) (y : Happening) → put_list front w back ≡ f ++ y ∷ rest → IsWorkedOff s (hs ++ f) (behind (now ∷ r ∷ more)) y
 worked_put s hs front back mark cursor now r more w p f rest y e =
     let cursor2 = behind (now ∷ r ∷ more) in
     elim (split_three front (map bump back) w f rest y e) [
       | inl it ↦
           let was = p.moving.are.by f (it.0 ++ back) y (ap (λ (l : List Happening). l ++ back) it.1 ∙ append_assoc f (y ∷ it.0) back) in
-          (was.0, was.1, was.2, taken_on y was.0 cursor cursor2 (stays s hs (front ++ back) mark cursor now r more p.moving) was.3)
+          (was.0, was.1, was.2, stays s hs (front ++ back) mark cursor now r more p.moving was.0 was.3)
       | inr (inl it) ↦
-          let off : IsTakenUp s (hs ++ front) cursor2 w = (now ∷ r ∷ more, p.mine, p.here, inl (before_behind (now ∷ r ∷ more))) in
-          subst (λ (h : Happening). IsTakenUp s (hs ++ f) cursor2 h) it.1 (subst (λ (l : List Happening). IsTakenUp s (hs ++ l) cursor2 w) it.0 off)
+          let off : IsWorkedOff s (hs ++ front) cursor2 w = (now ∷ r ∷ more, p.mine, p.here, before_behind (now ∷ r ∷ more)) in
+          subst (λ (h : Happening). IsWorkedOff s (hs ++ f) cursor2 h) it.1 (subst (λ (l : List Happening). IsWorkedOff s (hs ++ l) cursor2 w) it.0 off)
       | inr (inr it) ↦
           let parts = split_bumped back it.0 (y ∷ rest) it.2 in
           let c = parts.0 in
@@ -310,10 +312,10 @@ worked_put s hs front back mark cursor now r more w p f rest y e =
           let own = own_alike s (time_of x.0) (length hs) (members_in x.0) (hs ++ (front ++ c)) (hs ++ put_list front w c) x.0.note.body was.0 a one.1 few was.1
           in
           let source = late_source s (hs ++ put_list front w c) x.0.note.time (members_in x.0) x.0.note.body was.0 one.1 due.cause own in
-          let off : IsTakenUp s (hs ++ put_list front w c) cursor2 (bump x.0) =
-          (was.0, own, source, taken_on x.0 was.0 cursor cursor2 (stays s hs (front ++ back) mark cursor now r more p.moving) was.3) in
-          subst (λ (h : Happening). IsTakenUp s (hs ++ f) cursor2 h) (sym x.3)
-          (subst (λ (l : List Happening). IsTakenUp s (hs ++ l) cursor2 (bump x.0)) list off)
+          let off : IsWorkedOff s (hs ++ put_list front w c) cursor2 (bump x.0) =
+          (was.0, own, source, stays s hs (front ++ back) mark cursor now r more p.moving was.0 was.3) in
+          subst (λ (h : Happening). IsWorkedOff s (hs ++ f) cursor2 h) (sym x.3)
+          (subst (λ (l : List Happening). IsWorkedOff s (hs ++ l) cursor2 (bump x.0)) list off)
     ]
 
 pub settled_put : (s : Scenario) (hs front back : List Happening) (mark cursor : List ℕ) (now r : ℕ) (more : List ℕ) (w : Happening)
@@ -449,19 +451,35 @@ before_put : (s : Scenario) (hs front back : List Happening) (w : Happening) →
 before_put s hs front back w idle device now =
     ap (λ (state : State). if is_turned_on_at s device now then Integrating else state) (still_before s hs front back w idle device now)
 
+joining_put : (s : Scenario) (hs front back : List Happening) (w : Happening) (device : DeviceId) (now : ℕ) → IsJoiningNow s hs (front ++ back) device now
+    → IsJoiningNow s hs (put_list front w back) device now
+joining_put s hs front back w device now j = elim (in_parts j.by front back j.there) [
+  | inl f ↦ record { looking = j.looking; by = j.by; there = in_left j.by front (w ∷ map bump back) f; sent = j.sent; joins = j.joins }
+  | inr b ↦ record {
+    looking = j.looking;
+    by = bump j.by;
+    there = in_right (bump j.by) front (w ∷ map bump back) (inr (bumped_in back j.by b));
+    sent = j.sent;
+    joins = j.joins;
+  }
+]
+
 pub kept_put : {M : Type 0} (stands : M → Network → DeviceId → Node → Type 0) (s : Scenario) (hs front back : List Happening) (cursor : List ℕ) (now : ℕ)
-    (device : DeviceId) (machine : M) (w : Happening) → IsIdle w.note.body → time_of w ≡ now → IsBefore (act_place now device) cursor
+    (device : DeviceId) (machine : M) (w : Happening) → IsIdle w.note.body → time_of w ≡ now → IsBefore (now ∷ 8 ∷ []) cursor
     → IsKept stands s hs (front ++ back) cursor now device machine → IsKept stands s hs (put_list front w back) cursor now device machine
 kept_put stands s hs front back cursor now device machine w idle at past k =
     let old = append_assoc hs front back in
     let new = append_assoc hs front (w ∷ map bump back) in
-    let none_now : k.up ≡ now → DispatchesNone s (hs ++ (front ++ back)) now device = λ same link cause vl cycle d.
+    let done_now : k.up ≡ now → DispatchesDone s (hs ++ (front ++ back)) now device k.node = λ same link cause vl cycle d.
     elim k.acted [
-      | inr over ↦ (let bad = over.0 in omega (arith, bad, same))
+      | inr over ↦ absurd (let bad = over.0 in omega (arith, bad, same))
       | inl yet ↦
-          let e = dispatches_back s (hs ++ (front ++ back)) hs now device link cause vl cycle
+          let e = dispatches_same s (hs ++ (front ++ back)) hs now device link cause vl cycle
           (earlier_still now hs (front ++ back) (λ z i. let t = (k.recorded same).of_now z i in omega (arith, t))) d in
-          yet.1 (doing (dispatching (record { 0 = e.place }) cycle)) past (IsActing.dispatches link cause vl cycle e)
+          let place = task_place s.network now device (doing (dispatching (record { 0 = e.0.place }) cycle)) in
+          subst (λ (n : ℕ). Contains k.node.done (dispatching (let row : RowId = record { 0 = n } in row) cycle)) e.1
+          (yet.1 (doing (dispatching (record { 0 = e.0.place }) cycle)) (chain place (now ∷ 8 ∷ []) cursor (inr (refl, inl (omega arith))) past)
+          (IsActing.dispatches link cause vl cycle e.0))
     ] in
     record {
       node = k.node;
@@ -470,14 +488,17 @@ kept_put stands s hs front back cursor now device machine w idle at past k =
       up = k.up;
       acted = k.acted;
       told =
-          λ over. elim (k.told over)
-          [ inl past ↦ inl past | inr just ↦ inr (record { looking = sym (before_put s hs front back w idle device now) ∙ just.looking; other = just.other }) ];
+          λ over. elim (k.told over) [
+            | inl past ↦ inl past
+            | inr (inl just) ↦ inr (inl (record { looking = sym (before_put s hs front back w idle device now) ∙ just.looking; other = just.other }))
+            | inr (inr joining) ↦ inr (inr (joining_put s hs front back w device now joining))
+          ];
       left = subst (λ (l : List Happening). IsLeft s l device k.up k.node) new
           (left_put s (hs ++ front) back w idle device k.up k.node (subst (λ (l : List Happening). IsLeft s l device k.up k.node) (sym old) k.left));
       taken =
           k.taken ∙ ap (λ (l : List Happening). frames_taken s l device) (sym old) ∙ frames_idle s (hs ++ front) back w idle device
           ∙ ap (λ (l : List Happening). frames_taken s l device) new;
-      worked = worked_on s device k.node _ _ k.up now cursor cursor
+      worked = worked_on s device k.node _ _ k.up cursor cursor
           (ap (λ (l : List Happening). changed_at l device k.up) (sym old) ∙ changed_put s (hs ++ front) back w idle device k.up
           ∙ ap (λ (l : List Happening). changed_at l device k.up) new) (λ p b. b) k.worked;
       bare = k.bare;
@@ -487,12 +508,12 @@ kept_put stands s hs front back cursor now device machine w idle at past k =
           (still_before s hs front back w idle device now);
       cleared = k.cleared;
       recorded = λ same. recorded_put s hs front back (put_list front w back) now device k.node w (sym (plains_put front back w)) at
-          (idle_bears device w.note.body idle, inr (idle_rank w.note.body idle, none_now same)) (k.recorded same);
+          (idle_bears device w.note.body idle, inr (idle_rank w.note.body idle, done_now same)) (k.recorded same);
       phase = k.phase;
     }
 
 pub held_put : {M : Type 0} (stands : M → Network → DeviceId → Node → Type 0) (s : Scenario) (hs front back : List Happening) (cursor : List ℕ) (now : ℕ)
-    (device : DeviceId) (machine : M) (w : Happening) → IsIdle w.note.body → time_of w ≡ now → IsBefore (act_place now device) cursor
+    (device : DeviceId) (machine : M) (w : Happening) → IsIdle w.note.body → time_of w ≡ now → IsBefore (now ∷ 8 ∷ []) cursor
     → IsHeld stands s hs (front ++ back) cursor now device machine → IsHeld stands s hs (put_list front w back) cursor now device machine
 held_put stands s hs front back cursor now device machine w idle at past (inl k) =
     inl (kept_put stands s hs front back cursor now device machine w idle at past k)

@@ -1,5 +1,6 @@
 -- A dispatch is a task of the device's node whose reading is reached.
-use Rattle.world_law.proofs.Words.{◌*◌, ◌++◌, ◌+◌, ◌∙◌, ◌∷◌, ◌≡◌, ◌≤◌, AllBefore, AreSettled, DeviceId, Dispatches, Happening, HasAtHand, HasDone, HasTaskBy}
+use Rattle.world_law.proofs.Words.{◌*◌, ◌++◌, ◌+◌, ◌∙◌, ◌∷◌, ◌≡◌, ◌≤◌, AllBefore, AreSettled, DeviceId, Dispatches, Happening, HasAtHand, HasDone, HasTaskAt, task_place}
+use Rattle.world_law.proofs.Words.{IsBefore}
 use Rattle.world_law.proofs.Words.{IsDue, IsFounded, IsIn, IsInRange, IsLeft, IsSteady, KeepsRules, LinkId, List, Network, Node, Note, Reaches, RowId, Scenario}
 use Rattle.world_law.proofs.Words.{Stands, Synchronised, VlId, World, amount, before_later, dispatching, doing, frames_taken, happenings, in_parts, in_right}
 use Rattle.world_law.proofs.{Words.{inl, inr, place_of, pos, refl, subst, sym, time_of, value_of, ℕ, ℤ}, rows.AtHand.{IsReaching, at_hand, has_frame, value_is}}
@@ -8,22 +9,27 @@ use Rattle.run_law.specs.{machines.Tasks.HasFrame, timed.Dispatching.IsUp}
 
 -- ---- the records given and those to come
 
--- they are founded together
-pub whole_founded : (s : Scenario) (hs coming : List Happening) (mark cursor : List ℕ) (now : ℕ) → IsFounded place_of (IsDue s) hs → AllBefore place_of hs mark
-    → AreSettled s hs coming mark cursor now → IsFounded place_of (IsDue s) (hs ++ coming)
-whole_founded s hs coming mark cursor now founded within are ps qs x e =
+-- they are founded together, where those to come stand after those before them, behind the mark, and are due given them
+pub founded_with : (s : Scenario) (hs coming : List Happening) (mark : List ℕ) → IsFounded place_of (IsDue s) hs → AllBefore place_of hs mark
+    → ((front rest : List Happening) (z : Happening) → coming ≡ front ++ z ∷ rest → AllBefore place_of front (place_of z) × IsDue s (hs ++ front) z)
+    → ((z : Happening) → IsIn z coming → IsBefore (place_of z) mark → ⊥) → IsFounded place_of (IsDue s) (hs ++ coming)
+founded_with s hs coming mark founded within stands behind_mark ps qs x e =
     elim (split_two ps qs x hs coming (sym e)) [
       | inr old ↦ founded ps old.0 x old.1
       | inl new ↦
-          let it = are.founded new.0 qs x new.2 in
+          let it = stands new.0 qs x new.2 in
           let there : IsIn x coming = subst (λ (l : List Happening). IsIn x l) (sym new.2) (in_right x new.0 (x ∷ qs) (inl refl)) in (
             λ y i. elim (in_parts y hs new.0 (subst (λ (l : List Happening). IsIn y l) new.1 i)) [
-              | inl given ↦ before_later (place_of y) (place_of x) mark (within y given) (are.behind_mark x there)
+              | inl given ↦ before_later (place_of y) (place_of x) mark (within y given) (behind_mark x there)
               | inr fresh ↦ it.0 y fresh
             ],
             subst (λ (l : List Happening). IsDue s l x) (sym new.1) it.1,
           )
     ]
+
+pub whole_founded : (s : Scenario) (hs coming : List Happening) (mark cursor : List ℕ) (now : ℕ) → IsFounded place_of (IsDue s) hs → AllBefore place_of hs mark
+    → AreSettled s hs coming mark cursor now → IsFounded place_of (IsDue s) (hs ++ coming)
+whole_founded s hs coming mark cursor now founded within are = founded_with s hs coming mark founded within are.founded are.behind_mark
 
 -- the network is in range and keeps its rules, the device's clock is steady, and the records are founded
 pub record IsLawful (s : Scenario) (hs : List Happening) (device : DeviceId) : Type 0 where
@@ -51,8 +57,8 @@ row_at place = record { 0 = place }
 -- a device that dispatches a row's frame has the task to do so
 pub dispatching_task : (s : Scenario) (hs : List Happening) (device : DeviceId) (t later : ℕ) (node : Node) (link : LinkId) (cause : ℕ) (vl : VlId) (cycle : ℕ)
     → IsUnmoved s hs device t later → IsLeft s hs device t node → HasDone s hs device t node → IsLawful s hs device
-    → ((h : Happening) → IsIn h hs → time_of h ≤ later) → node.taken ≡ frames_taken s hs device → Dispatches s hs device later link cause vl cycle
-    → HasTaskBy s device node later
+    → ((h : Happening) → IsIn h hs → time_of h ≤ later) → node.taken ≡ frames_taken s hs device → (d : Dispatches s hs device later link cause vl cycle)
+    → HasTaskAt s device node later (task_place s.network later device (doing (dispatching (record { 0 = d.place }) cycle)))
 dispatching_task s hs device t later node link cause vl cycle u left has law past taken d =
     let row = row_at d.place in
     let value = value_is s.network row d.entry cycle d.row in
@@ -79,6 +85,7 @@ dispatching_task s hs device t later node link cause vl cycle u left has law pas
         undone_so s hs device t later node (dispatching row cycle) u.le has (state, frame) c,
       ),
       c.reached,
+      refl,
     )
 
 -- ---- and back

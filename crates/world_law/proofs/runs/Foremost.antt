@@ -2,7 +2,8 @@
 use Rattle.{drift_clock.proofs.Reaches.one_reach, std.specs.Prelude.unsigned_abs}
 use Rattle.{run_law.proofs.law.FirstPlaces.numbered_in, world_law.proofs.{giving.Given.{in_get, no_later_breaks, some_same}, runs.SourcesBack.arrives_later}}
 use Rattle.{run_law.specs.scenario.Scenarios.turns_on, world_law.specs.{source.Sources.IsRipening, world.{Moves.NothingBefore, World.IsWaitingFor}}}
-use Rattle.world_law.proofs.Words.{◌&&◌, ◌+◌, ◌<◌, ◌==◌, ◌||◌, ◌∙◌, ◌∷◌, ◌≡◌, ◌≤◌, Bool, DeviceId, Dispatches, Happening, HasDone, HasSent, HasTaskBy}
+use Rattle.world_law.proofs.Words.{dispatching, doing, task_place}
+use Rattle.world_law.proofs.Words.{◌&&◌, ◌+◌, ◌<◌, ◌==◌, ◌||◌, ◌∙◌, ◌∷◌, ◌≡◌, ◌≤◌, Bool, DeviceId, Dispatches, Happening, HasDone, HasSent, HasTaskAt}
 use Rattle.world_law.proofs.Words.{HaveBefallen, IsActing, IsAtRest, IsBefore, IsIn, IsLeft, IsReach, IsSource, LinkId, List, Network, Node, Note, NoteBody}
 use Rattle.world_law.proofs.Words.{Scenario, Stands, Task, Units, VlId, Waiting, World, [], amount, ap, arith, cases_Bool, cases_lt, chain, clock_place}
 use Rattle.world_law.proofs.Words.{eqb-true, false, false_from_ne_true, happenings, inl, inr, is_turned_on_at, list_any, moves, place_of, pos, refl, ripe_place}
@@ -88,8 +89,9 @@ none_but_acts reading stands s world notes p old none acts w (IsSource.ending ti
 -- the source by which a device acts is a task of its node, where nothing has moved it since the time of that
 pub acting_task : (s : Scenario) (hs : List Happening) (device : DeviceId) (t later : ℕ) (node : Node) (task : Task) → IsUnmoved s hs device t later
     → IsLeft s hs device t node → HasDone s hs device t node → HasSent s device t node
-    → ((link : LinkId) (cause : ℕ) (vl : VlId) (cycle : ℕ) → Dispatches s hs device later link cause vl cycle → HasTaskBy s device node later)
-    → IsActing s hs later device task → HasTaskBy s device node later
+    → ((link : LinkId) (cause : ℕ) (vl : VlId) (cycle : ℕ) → (d : Dispatches s hs device later link cause vl cycle)
+    → HasTaskAt s device node later (task_place s.network later device (doing (dispatching (record { 0 = d.place }) cycle))))
+    → IsActing s hs later device task → HasTaskAt s device node later (task_place s.network later device task)
 acting_task s hs device t later node task u left has sent rows (IsActing.sends cycle d) = sending_task s hs device t later node cycle u left has d
 acting_task s hs device t later node task u left has sent rows (IsActing.emits emission verdict e) =
     emitting_task s hs device t later node emission verdict u left sent e

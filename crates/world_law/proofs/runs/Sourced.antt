@@ -43,15 +43,15 @@ by_state s hs t device state cause whys.On m c more = (t ∷ 2 ∷ [], refl, IsS
 by_state s hs t device state cause whys.Frame m c more = (t ∷ 2 ∷ [], refl, IsSource.following t cause c.1.0 c.1.1, inr (inr (refl, inl (omega arith))))
 by_state s hs t device state cause whys.Correction m c more = (t ∷ 2 ∷ [], refl, IsSource.following t cause c.2.3 c.2.4, inr (inr (refl, inl (omega arith))))
 by_state s hs t device state cause whys.SyncClique m c more = (
-  t ∷ 4 ∷ device.0 ∷ [],
-  refl,
-  IsSource.acting t device (doing (correcting _)) (IsActing.corrects c.2.0 (point_of_it s hs t device c.2.0 _ c.2.1)),
+  t ∷ 6 ∷ device.0 ∷ [],
+  (c.2.0, refl),
+  IsSource.acting t device (doing (correcting c.2.0)) (IsActing.corrects c.2.0 (point_of_it s hs t device c.2.0 _ c.2.1)),
   inr (inr (refl, inl (omega arith))),
 )
 by_state s hs t device state cause whys.AsyncClique m c more = (
-  t ∷ 4 ∷ device.0 ∷ [],
-  refl,
-  IsSource.acting t device (doing (correcting _)) (IsActing.corrects c.2.0 (point_of_it s hs t device c.2.0 _ c.2.1)),
+  t ∷ 6 ∷ device.0 ∷ [],
+  (c.2.0, refl),
+  IsSource.acting t device (doing (correcting c.2.0)) (IsActing.corrects c.2.0 (point_of_it s hs t device c.2.0 _ c.2.1)),
   inr (inr (refl, inl (omega arith))),
 )
 
@@ -61,7 +61,7 @@ by_loss s hs t device link cause m (inl departs) more =
     (_, inl (refl, departs), IsSource.departing t device link cause (departure_of_it s hs t device link cause _ departs), inr (inr (refl, inl (omega arith))))
 by_loss s hs t device link cause m (inr (inl d)) more =
     let source = IsSource.acting t device (doing (dispatching (record { 0 = d.2.place }) d.1)) (IsActing.dispatches link cause d.0 d.1 d.2) in
-    (_, inr (inl (refl, (d.0, d.1, d.2, d.3))), source, inr (inr (refl, inl (omega arith))))
+    (_, inr (inl (d.0, d.1, d.2, d.3, refl)), source, inr (inr (refl, inl (omega arith))))
 by_loss s hs t device link cause m (inr (inr send)) more =
     (_, inr (inr (refl, send)), IsSource.following t cause send.event send.is, inr (inr (refl, inl (omega arith))))
 
@@ -100,14 +100,14 @@ by_body s hs time members (notes.Permanent device link cause point verdict) m c 
       inl (ap (λ (k : ℕ). amount time ∷ 3 ∷ device.0 ∷ amount point ∷ k ∷ link.0 ∷ cause ∷ []) same),
     )
 by_body s hs time members (notes.Compressed device opened at cycle of_masters verdict) m c =
-    (_, refl, IsSource.acting (amount time) device (emitting _) (IsActing.emits _ verdict c), inr (inr (refl, inr (refl, inr (refl, tt)))))
+    (_, refl, IsSource.acting (amount time) device (emitting _) (IsActing.emits _ verdict c), inl refl)
 by_body s hs time members (notes.Sent device cycle) m c =
-    (_, refl, IsSource.acting (amount time) device (doing (sending cycle)) (IsActing.sends cycle c), inr (inr (refl, inl (omega arith))))
+    (_, refl, IsSource.acting (amount time) device (doing (sending cycle)) (IsActing.sends cycle c), inl refl)
 by_body s hs time members (notes.Corrected device cycle by adjustment) m c = (
   _,
   refl,
   IsSource.acting (amount time) device (doing (correcting cycle)) (IsActing.corrects cycle (point_of_it s hs (amount time) device cycle _ c.corrected)),
-  inr (inr (refl, inl (omega arith))),
+  inl refl,
 )
 by_body s hs time members (notes.State device state cause why) m c = by_state s hs (amount time) device state cause why members c (device.0 ∷ cause ∷ [])
 by_body s hs time members (notes.Left device link cause clock) m c =
@@ -116,7 +116,7 @@ by_body s hs time members (notes.Lost device link cause) m c = by_loss s hs (amo
 by_body s hs time members (notes.TtSent device link cause vl cycle) m c =
     let source = IsSource.acting (amount time) device (doing (dispatching (record { 0 = c.dispatches.place }) cycle))
     (IsActing.dispatches link cause vl cycle c.dispatches) in
-    (_, refl, source, inr (inr (refl, inl (omega arith))))
+    (_, (c.dispatches, refl), source, inr (inr (refl, inl (omega arith))))
 by_body s hs time members (notes.Accepted device link cause vl cycle) m c =
     (_, refl, IsSource.arriving (amount time) device link cause (arrival_of_it s hs (amount time) device link cause _ c), inr (inr (refl, inl (omega arith))))
 by_body s hs time members (notes.Delivered device link cause vl cycle) m c =

@@ -1,5 +1,6 @@
 -- What is to come brings no source that is not behind it.
-use Rattle.world_law.proofs.runs.TaskPlaces.{at_acts}
+use Rattle.world_law.proofs.runs.TaskPlaces.{placed_so}
+use Rattle.world_law.proofs.Words.{sym}
 use Rattle.world_law.proofs.Words.{◌++◌, ◌<◌, ◌∙◌, ◌∷◌, ◌≡◌, ◌≤◌, ◌⊎◌, AreClusters, Arrives, DeviceId, Dispatches, Emits, Gives, Happening, Integrating}
 use Rattle.world_law.proofs.Words.{IsActing, IsBefore, IsForward, IsIn, IsSource, LinkId, List, Network, None, NoneBefore, NoteBody, Point, Reaches, Scenario}
 use Rattle.world_law.proofs.Words.{Signal, Some, Standing, Task, [], adjustment_after, adjustment_at_hearing, after_last, ap, append-nil, append_assoc, arith}
@@ -189,12 +190,13 @@ source_back s hs zs now r more forward of none w (IsSource.ripening t device lin
           elim (no_higher t 3 now r _ more le) [ inl lt ↦ absurd (omega (arith, ints, from, at, lt)) | inr same ↦ absurd (omega (arith, low, two, same.1)) ]
     ]
 source_back s hs zs now r more forward of none w (IsSource.acting t device task a) le =
-    let act = at_acts s.network t device task in
-    elim (no_higher t 4 now r (device.0 ∷ []) more (subst (λ (q : List ℕ). (q ≡ now ∷ r ∷ more) ⊎ IsBefore q (now ∷ r ∷ more)) act le)) [
-      | inl lt ↦ inr (inl (inl lt))
+    let p = placed_so s.network t device task in
+    let late = p.late in
+    elim (no_higher t p.rank now r (device.0 ∷ p.rest) more (subst (λ (q : List ℕ). (q ≡ now ∷ r ∷ more) ⊎ IsBefore q (now ∷ r ∷ more)) p.is le)) [
+      | inl lt ↦ inr (inl (subst (λ (q : List ℕ). IsBefore q (now ∷ [])) (sym p.is) (inl lt)))
       | inr same ↦
           inl (IsSource.acting t device task (acting_back s hs zs t device task (λ z i. let at = of z i in omega (arith, at, same.0))
-          (λ z i. let low = at_least z now r more (of z i) (none z i) in omega (arith, low, same.1)) a))
+          (λ z i. let low = at_least z now r more (of z i) (none z i) in omega (arith, low, same.1, late)) a))
     ]
 source_back s hs zs now r more forward of none w (IsSource.departing t device link cause d) le =
     elim (numbered_parts hs zs d.giving cause d.there) [

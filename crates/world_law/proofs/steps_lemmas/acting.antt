@@ -2,7 +2,6 @@
 pub mod ActedSteps
 pub mod AllOfIt
 pub mod Clearing
-pub mod Clusters
 pub mod Complete
 pub mod CorrectStep
 pub mod CorrectSteps
@@ -12,8 +11,9 @@ pub mod Dispatches
 pub mod Dispatching
 pub mod EmitSteps
 pub mod Emitting
+pub mod Ends
+pub mod First
 pub mod FirstStep
-pub mod FromZero
 pub mod GoesOn
 pub mod Held
 pub mod JoinStep

@@ -31,22 +31,10 @@ dispatch_body s device now link cause vl cycle =
     if is_cut s link (way_from s.network device link) now then notes.Lost device link cause
     else notes.TtSent device link cause vl cycle
 
--- what the device has done at the present instant is in the records, and what is to come of it, of the instant, it has
--- done; of its frames those to come are of its collections, and none that is due opens before one of them
+-- what the device has dispatched at the present instant is in the records, and what is to come of it, of the instant, it
+-- has dispatched
 pub record AreRecorded (s : Scenario) (js coming : List Happening) (now : ℕ) (device : DeviceId)
     (node : Node) : Type 0 where
-  pub sent : (cycle : ℕ) → Contains node.done (sending cycle) → Sends s js device now cycle
-      → IsShown js now (notes.Sent device cycle)
-  pub emitted : (c : Compressed) → Contains node.emitted c → IsReach (s.reading device) (pos 0) c.at.0 (pos now)
-      → (verdict : Judgement) × IsShown js now (notes.Compressed device c.opened c.at c.cycle c.members verdict)
-  pub has_sent : (z : Happening) → IsIn z coming → (cycle : ℕ) → plain_body z.note.body ≡ notes.Sent device cycle
-      → Contains node.done (sending cycle)
-  pub has_emitted : (z : Happening) → IsIn z coming → (c : Compressed) (verdict : Judgement)
-      → plain_body z.note.body ≡ notes.Compressed device c.opened c.at c.cycle c.members verdict
-      → Contains node.emitted c
-  pub frames : (z : Happening) → IsIn z coming → (c : Compressed) (verdict : Judgement)
-      → plain_body z.note.body ≡ notes.Compressed device c.opened c.at c.cycle c.members verdict
-      → IsFrameOf s.network node c
   pub of_now : (z : Happening) → IsIn z coming → time_of z ≡ now
   pub dispatched : (link : LinkId) (cause : ℕ) (vl : VlId) (cycle : ℕ)
       → (d : Dispatches s js device now link cause vl cycle)
@@ -56,9 +44,6 @@ pub record AreRecorded (s : Scenario) (js coming : List Happening) (now : ℕ) (
       → (d : Dispatches s js device now link cause vl cycle) → plain_body z.note.body ≡ dispatch_body s device now link
       cause vl cycle
       → Contains node.done (dispatching (record { 0 = d.place }) cycle)
-  pub ordered : (z : Happening) → IsIn z coming → (c : Compressed) (verdict : Judgement)
-      → plain_body z.note.body ≡ notes.Compressed device c.opened c.at c.cycle c.members verdict → (d : Compressed)
-      → IsWaiting s.network device node d → d.at.0 ≤ℤ pos (s.reading device now) → amount c.opened ≤ amount d.opened
 
 -- of its correction points it has cleared only earlier ones than its next
 abbrev pub HasCleared : Node → Type 0

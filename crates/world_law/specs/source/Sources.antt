@@ -7,7 +7,7 @@ use Rattle.run_law.specs.machines.{Nodes.{correcting, dispatching, sending}, Tas
 use Rattle.{net_plan.specs.declared.{event.What.What, ids.VlId.VlId}, run_law.specs.control.Losses.IsSendLost}
 use Rattle.{net_plan.specs.declared.ids.LinkId.LinkId, tte_units.specs.declared.{frames.pcf.Pcf.Pcf, units.Units.Units}}
 use Rattle.{net_plan.specs.declared.tables.Device.Device, run_law.specs.control.Wires.{Arrives, Signal}}
-use Rattle.run_law.specs.{control.Corrections.{correction_value, standing_before}, records.Ranks.{members_in, place_of}}
+use Rattle.run_law.specs.{control.Corrections.{correction_value, standing_before}, records.Ranks.{members_in, place_of, sign}}
 use Rattle.{run_law.specs.{control.Emissions.Emits, records.Order.IsBefore}, sync_state.specs.Standing.next_point}
 use Rattle.run_law.specs.{control.Leaving.{Departs, Gives, on_cut_way, too_old}, timed.Dispatching.{Dispatches, Sends}}
 use Rattle.run_law.specs.{control.Permanence.{BecomesPermanent, IsPermanent}, scenario.Ways.{hold_at, is_cut, way_from}}
@@ -15,6 +15,7 @@ use Rattle.run_law.specs.declared.judgement.{Judgement.Judgement, Why.TheVariant
 use Rattle.run_law.specs.{declared.note.NoteBody.NoteBody, runs.DueRecords.{EndsAt, IsDue, IsEventRecord}}
 use Rattle.run_law.specs.{device.LocalClocks.Reaches, records.Causes.IsOfThisTime, timed.Receptions.ArrivesAs}
 use Rattle.run_law.specs.{records.Happenings.{Happening, numbered, time_of}, scenario.Scenarios.{Scenario, is_broken}}
+use Rattle.schedule_tables.specs.Dispatches.{dispatch_order}
 use Rattle.run_law.specs.declared.note.NoteBody.TheVariants as notes
 use Rattle.run_law.specs.declared.steps.Arrival.TheVariants as arrivals
 use Rattle.run_law.specs.declared.steps.Ripe.TheVariants as ripe
@@ -47,10 +48,15 @@ pub record IsAtCorrection (s : Scenario) (hs : List Happening) (t : ℕ) (device
   pub reached : Reaches s hs device (correction_value s.network cycle) t
   pub correct : is_broken s device t ≡ false
 
--- where a task of the device stands among what is of its time
+-- where a task of the device stands among what is of its time: an emission, a sending and a correction where their
+-- records do, and a dispatch behind what else the device does, by its row
 abbrev pub task_numbers : Network → DeviceId → Task → List ℕ
-task_numbers network device (emitting sent) = 4 ∷ device.0 ∷ []
-task_numbers network device (doing deed) = 4 ∷ device.0 ∷ []
+task_numbers network device (emitting sent) =
+    4 ∷ device.0 ∷ amount sent.opened ∷ amount sent.at ∷ sent.cycle ∷ sent.members.0 ∷ sign sent.opened.0
+    ∷ sign sent.at.0 ∷ []
+task_numbers network device (doing (sending cycle)) = 5 ∷ device.0 ∷ cycle ∷ []
+task_numbers network device (doing (correcting cycle)) = 6 ∷ device.0 ∷ []
+task_numbers network device (doing (dispatching row cycle)) = 6 ∷ device.0 ∷ dispatch_order network row
 
 -- where it stands, if it is done at this time
 abbrev pub task_place : Network → ℕ → DeviceId → Task → List ℕ
@@ -96,16 +102,21 @@ IsOwnSource s hs t members (notes.Compressed device opened at cycle of_masters v
 IsOwnSource s hs t members (notes.Sent device cycle) w = w ≡ task_place s.network t device (doing (sending cycle))
 IsOwnSource s hs t members (notes.Corrected device cycle by adjustment) w =
     w ≡ task_place s.network t device (doing (correcting cycle))
-IsOwnSource s hs t members (notes.State device state cause SyncClique) w = w ≡ t ∷ 4 ∷ device.0 ∷ []
-IsOwnSource s hs t members (notes.State device state cause AsyncClique) w = w ≡ t ∷ 4 ∷ device.0 ∷ []
+IsOwnSource s hs t members (notes.State device state cause SyncClique) w =
+    (cycle : ℕ) × (w ≡ task_place s.network t device (doing (correcting cycle)))
+IsOwnSource s hs t members (notes.State device state cause AsyncClique) w =
+    (cycle : ℕ) × (w ≡ task_place s.network t device (doing (correcting cycle)))
 IsOwnSource s hs t members (notes.State device state cause why) w = w ≡ t ∷ 2 ∷ []
 IsOwnSource s hs t members (notes.Left device link cause clock) w = w ≡ t ∷ 8 ∷ device.0 ∷ link.0 ∷ cause ∷ []
 IsOwnSource s hs t members (notes.Lost device link cause) w =
     ((w ≡ t ∷ 8 ∷ device.0 ∷ link.0 ∷ cause ∷ []) × Departs s hs device t link cause on_cut_way)
-    ⊎ (((w ≡ t ∷ 4 ∷ device.0 ∷ []) × ((vl : VlId) × (cycle : ℕ) × Dispatches s hs device t link cause vl cycle
-    × (is_cut s link (way_from s.network device link) t ≡ true)))
+    ⊎ (((vl : VlId) × (cycle : ℕ) × (d : Dispatches s hs device t link cause vl cycle)
+    × (is_cut s link (way_from s.network device link) t ≡ true)
+    × (w ≡ task_place s.network t device (doing (dispatching (record { 0 = d.place }) cycle))))
     ⊎ ((w ≡ t ∷ 2 ∷ []) × IsSendLost s hs device t link cause))
-IsOwnSource s hs t members (notes.TtSent device link cause vl cycle) w = w ≡ t ∷ 4 ∷ device.0 ∷ []
+IsOwnSource s hs t members (notes.TtSent device link cause vl cycle) w =
+    (d : Dispatches s hs device t link cause vl cycle)
+    × (w ≡ task_place s.network t device (doing (dispatching (record { 0 = d.place }) cycle)))
 IsOwnSource s hs t members (notes.Accepted device link cause vl cycle) w = w ≡ t ∷ 2 ∷ device.0 ∷ link.0 ∷ cause ∷ []
 IsOwnSource s hs t members (notes.Delivered device link cause vl cycle) w = w ≡ t ∷ 2 ∷ device.0 ∷ link.0 ∷ cause ∷ []
 IsOwnSource s hs t members (notes.Dropped device link cause reason) w =

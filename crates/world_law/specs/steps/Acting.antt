@@ -1,11 +1,13 @@
 -- A machine acts.
-use Rattle.std.specs.Prelude.{if◌then◌else◌, ◌<ℤ◌, ◌<◌, ◌∷◌, ◌≡◌, List, Some, [], false, length, pos, slice_get, ℕ}
+use Rattle.std.specs.Prelude.{if◌then◌else◌, ◌<◌, ◌∷◌, ◌≡◌, List, Some, [], false, length, slice_get, ℕ}
 use Rattle.{net_plan.specs.declared.{ids.DeviceId.DeviceId, network.Network.Network}, run_law.specs.machines.Nodes.Node}
-use Rattle.{run_law.specs.declared.note.Note.Note, world_law.specs.world.World.{Stands, World, act_place, none_yet}}
+use Rattle.{run_law.specs.declared.note.Note.Note, world_law.specs.world.World.{Stands, World, none_yet}}
+use Rattle.run_law.specs.machines.{Nodes.{correcting, dispatching, sending}, Tasks.{Task, doing, emitting}}
+use Rattle.{run_law.specs.records.{Order.{IsIn, behind}, Ranks.rank}, world_law.specs.source.Sources.task_place}
 use Rattle.run_law.specs.{declared.note.NoteBody.NoteBody, scenario.{Scenarios.Scenario, Ways.{is_cut, way_from}}}
-use Rattle.{run_law.specs.{declared.steps.Act.Act, records.Order.behind}, schedule_tables.specs.Entries.IsEntry}
+use Rattle.{run_law.specs.declared.steps.Act.Act, schedule_tables.specs.Entries.IsEntry}
 use Rattle.{run_law.specs.declared.steps.Ripe.Ripe, world_law.specs.world.Moves.{ArePutIn, ComesFirst, StandsBehind}}
-use Rattle.run_law.specs.{machines.Tasks.{IsPending, Task, reading_for}, records.Happenings.{Happening, happenings}}
+use Rattle.run_law.specs.records.Happenings.{Happening, happenings}
 use Rattle.{run_law.specs.timed.Dispatching.HasAtHand, tte_units.specs.declared.units.Units.Units}
 use Rattle.{schedule_tables.specs.declared.entry.Entry.Entry, sync_state.specs.declared.answers.Verdict.Verdict}
 use Rattle.sync_state.specs.declared.state.State.{State, TheVariants.{Integrating, Joining, Synchronised}}
@@ -50,16 +52,36 @@ AreActBodies s hs now device was adjustment (acts.Dispatch row cycle) bodies =
     then kinds.Lost device entry.row.link cause else kinds.TtSent device entry.row.link cause entry.row.vl cycle)
     ∷ [])
 
--- the answers of a step by which the device acts, at the source that comes first
+-- the rank of an act: that of the place of its task
+abbrev pub rank_of_act : Act → ℕ
+rank_of_act (acts.Emit sent heard) = 4
+rank_of_act (acts.Send frame) = 5
+rank_of_act (acts.Correct cycle verdict) = 6
+rank_of_act (acts.Dispatch row cycle) = 6
+
+-- where the acts of its rank begin: the act stands at this place, or behind it
+abbrev pub place_of_act : ℕ → DeviceId → Act → List ℕ
+place_of_act now device act = now ∷ rank_of_act act ∷ device.0 ∷ []
+
+-- the task that it does
+abbrev pub task_of : Act → Task
+task_of (acts.Emit sent heard) = emitting sent
+task_of (acts.Send frame) = doing (sending frame.cycle)
+task_of (acts.Correct cycle verdict) = doing (correcting cycle)
+task_of (acts.Dispatch row cycle) = doing (dispatching row cycle)
+
+-- the answers of a step by which the device acts, where its acts of this rank come first, and all that is settled is of
+-- a higher rank
 pub record Acts {C M : Type 0} (reading : C → ℕ → ℕ) (stands : M → Network → DeviceId → Node → Type 0) (s : Scenario)
     (world : World C M) (notes : List Note) (old : Stands reading stands s world notes) (device : DeviceId) (after : M)
     (bodies : List NoteBody) : Type 0 where
   pub of_it : device.0 < length s.network.device
-  pub first : ComesFirst reading stands s world notes old (act_place world.now device)
+  pub act : Act
+  pub first : ComesFirst reading stands s world notes old (place_of_act world.now device act)
+  pub apart : (z : Happening) → IsIn z world.settled → rank_of_act act < rank z.note.body
   pub machine : M
   pub there : slice_get world.machines device.0 ≡ Some machine
   pub due : IsDueNow stands s.network device (moment_of s device world.now) machine
-  pub act : Act
   pub acted : HasActed stands s.network device (moment_of s device world.now) act machine after
   pub was : State
   pub before : Units
@@ -69,27 +91,13 @@ pub record Acts {C M : Type 0} (reading : C → ℕ → ℕ) (stands : M → Net
   pub stands_then : IsStateOf stands s.network device after is adjustment
   pub are : AreActBodies s (happenings s.network notes) world.now device was adjustment act bodies
 
--- it acts, and more is due at this instant: the cursor stays at its place
+-- it acts: the cursor goes behind the place of what it does
 abbrev pub ActedStep : {C M : Type 0} → (C → ℕ → ℕ) → (M → Network → DeviceId → Node → Type 0) → Type 0
 ActedStep {C} {M} reading stands =
     (s : Scenario) (world : World C M) (notes : List Note) (device : DeviceId) (after : M) (bodies : List NoteBody)
     (machines : List M) (settled : List Happening)
-    (old : Stands reading stands s world notes) → Acts reading stands s world notes old device after bodies
-    → IsDueNow stands s.network device (moment_of s device world.now) after
+    (old : Stands reading stands s world notes) → (a : Acts reading stands s world notes old device after bodies)
     → IsSet device.0 after world.machines machines → ArePutIn s.network (happenings s.network notes) world.now bodies
     world.settled settled
     → StandsBehind reading stands s (record world { early = false; machines = machines; settled = settled }) notes
-    (act_place world.now device)
-
--- it acts, and nothing more is due at this instant: the cursor goes by
-abbrev pub LastActedStep : {C M : Type 0} → (C → ℕ → ℕ) → (M → Network → DeviceId → Node → Type 0) → Type 0
-LastActedStep {C} {M} reading stands =
-    (s : Scenario) (world : World C M) (notes : List Note) (device : DeviceId) (after : M) (bodies : List NoteBody)
-    (machines : List M) (settled : List Happening)
-    (old : Stands reading stands s world notes) → Acts reading stands s world notes old device after bodies
-    → ((node : Node) (task : Task) → stands after s.network device node → IsPending s.network device node task
-    → pos (s.reading device world.now) <ℤ reading_for s.network node task)
-    → IsSet device.0 after world.machines machines → ArePutIn s.network (happenings s.network notes) world.now bodies
-    world.settled settled
-    → StandsBehind reading stands s (record world { early = false; machines = machines; settled = settled }) notes
-    (behind (act_place world.now device))
+    (behind (task_place s.network world.now device (task_of a.act)))

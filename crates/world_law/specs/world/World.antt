@@ -13,15 +13,16 @@ use Rattle.{run_law.specs.control.{Leaving.Gives, Permanence.waits_for}, tte_uni
 use Rattle.run_law.specs.{control.Wires.{Arrives, Signal}, scenario.Scenarios.{Scenario, is_broken, is_turned_on_at}}
 use Rattle.run_law.specs.{declared.judgement.Why.TheVariants.On, runs.DueRecords.{EndsAt, IsDue, IsScenarioRun}}
 use Rattle.run_law.specs.{declared.note.Note.Note, machines.Nodes.{Node, Phase, acting, arriving, ripening, turning_on}}
-use Rattle.run_law.specs.{declared.note.NoteBody.NoteBody, device.States.{adjustment_after, state_after, state_before}}
-use Rattle.{run_law.specs.device.LocalClocks.changed_at, world_law.specs.device.Left.{HasTaskBy, IsLeft}}
+use Rattle.{run_law.specs.declared.note.NoteBody.NoteBody, world_law.specs.device.Left.IsLeft}
+use Rattle.run_law.specs.device.States.{adjustment_after, is_joined_by, state_after, state_before}
+use Rattle.run_law.specs.device.LocalClocks.{changed_at}
 use Rattle.run_law.specs.records.Happenings.{Happening, earlier, happenings, numbered, time_of, up_to}
-use Rattle.run_law.specs.records.{Order.{AllBefore, IsBefore, IsIn, NoneBefore, behind}, Ranks.{members_in, place_of}}
+use Rattle.run_law.specs.records.{Order.{AllBefore, IsBefore, IsIn, NoneBefore, behind}, Ranks.{members_in, place_of, rank}}
 use Rattle.run_law.specs.scenario.{Devices.{is_cm, is_end}, Ways.{delay_at, hold_at, is_cut, receiver_of, way_from}}
 use Rattle.{run_law.specs.timed.Dispatching.is_accepted, tte_units.specs.{Amount.amount, declared.frames.pcf.Pcf.Pcf}}
-use Rattle.world_law.specs.device.{Deeds.{HasDoneFrom, HasSentFrom, HasWorkedTo}, Own.moves}
+use Rattle.world_law.specs.device.{Deeds.{HasDoneTask, HasWorkedTo}, Own.moves}
 use Rattle.world_law.specs.device.Recorded.{AreRecorded, HasCleared}
-use Rattle.run_law.specs.machines.Tasks.{Task}
+use Rattle.run_law.specs.machines.Tasks.{IsPending, Task, reading_for}
 use Rattle.world_law.specs.source.Sources.{IsActing, IsArriving, IsDeparting, IsOwnSource, IsRipening, IsSource}
 use Rattle.world_law.specs.source.Sources.{task_place}
 use Rattle.net_plan.specs.declared.event.What.TheVariants as events
@@ -115,9 +116,13 @@ port_place e = e.at ∷ 8 ∷ e.device.0 ∷ e.link.0 ∷ e.cause ∷ []
 abbrev pub ripe_place : ℕ → Waiting → List ℕ
 ripe_place t e = t ∷ 3 ∷ e.device.0 ∷ amount e.point ∷ e.frame.members.0 ∷ e.link.0 ∷ e.cause ∷ []
 
--- where a device acts by itself at the time
+-- a place before all that a device does by itself at the time
 abbrev pub act_place : ℕ → DeviceId → List ℕ
 act_place t device = t ∷ 4 ∷ device.0 ∷ []
+
+-- where it corrects its clock; and each of its dispatches stands behind this place by its row
+abbrev pub rows_place : ℕ → DeviceId → List ℕ
+rows_place t device = t ∷ 6 ∷ device.0 ∷ []
 
 -- where a device's clock is shown, at the end
 abbrev pub clock_place : ℕ → DeviceId → List ℕ
@@ -231,14 +236,19 @@ pub record AreStored (hs : List Happening) (stored : List Stored) : Type 0 where
 
 -- ---- a device
 
--- the time up to which the device has acted: it acts at the present instant, where its acts are worked off only if it
--- had none; or that instant is over for it, where it has acted, or a frame has told it the time, so that no frame
+-- the time up to which the device has acted: the present instant, at which it has done each of its acts that is worked
+-- off; or that instant is over for it, where it has corrected its clock, or a frame has told it the time, so that no frame
 -- arrives any more
-abbrev pub IsActedUpTo : Scenario → List Happening → ℕ → DeviceId → List ℕ → ℕ → Type 0
-IsActedUpTo s hs now device cursor up =
+abbrev pub IsActedUpTo : Scenario → List Happening → ℕ → DeviceId → Node → List ℕ → ℕ → Type 0
+IsActedUpTo s hs now device node cursor up =
     ((up ≡ now) × ((task : Task) → IsBefore (task_place s.network now device task) cursor
-    → IsActing s hs now device task → ⊥))
+    → IsActing s hs now device task → HasDoneTask node task))
     ⊎ ((up ≡ now + 1) × ((p : List ℕ) → IsBefore p (now ∷ 3 ∷ []) → IsBefore p cursor))
+
+-- its acts of the instant are worked off
+pub record IsActedOut (s : Scenario) (hs : List Happening) (now : ℕ) (device : DeviceId) (cursor : List ℕ) : Type 0 where
+  pub past : IsBefore (act_place now device) cursor
+  pub all : (task : Task) → IsActing s hs now device task → IsBefore (task_place s.network now device task) cursor
 
 -- the kind of call as the rank of its source
 abbrev pub rank_of_call : Phase → ℕ
@@ -284,33 +294,37 @@ abbrev pub IsCalledBy : Node → List ℕ → ℕ → Type 0
 IsCalledBy node cursor now =
     node.last.time.0 ≡ pos now → (p : List ℕ) → IsBefore p (now ∷ rank_of_call node.phase ∷ []) → IsBefore p cursor
 
--- the device is at work at the present instant: its acts are taken up, and a task of it is due
-pub record IsWorking (s : Scenario) (device : DeviceId) (node : Node) (changed now : ℕ) (cursor : List ℕ) : Type 0 where
-  pub taken_up : (p : List ℕ) → IsBefore p (act_place now device) → IsBefore p cursor
-  pub due : HasTaskBy s device node now
-  pub done : HasDoneFrom s.network (s.reading device) device node changed now (now + 1)
-  pub sent : HasSentFrom s device node now (now + 1)
+-- a task of it that stands at the place is due at the time
+abbrev pub HasTaskAt : Scenario → DeviceId → Node → ℕ → List ℕ → Type 0
+HasTaskAt s device node t place =
+    (task : Task) × IsPending s.network device node task
+    × (reading_for s.network node task ≤ℤ pos (s.reading device t)) × (task_place s.network t device task ≡ place)
 
--- it rests at the time up to which it has acted, or is at work
-abbrev pub HasWorked : Scenario → DeviceId → Node → ℕ → ℕ → ℕ → List ℕ → Type 0
-HasWorked s device node changed up now cursor =
-    HasWorkedTo s device node changed up ⊎ ((up ≡ now) × IsWorking s device node changed now cursor)
+-- it looked for the common time, and a frame of its own has told it the time, whose record is to come: by that its points
+-- are gone
+pub record IsJoiningNow (s : Scenario) (hs coming : List Happening) (device : DeviceId) (now : ℕ) : Type 0 where
+  pub looking : state_before s hs device now ≡ Integrating
+  pub by : Happening
+  pub there : IsIn by coming
+  pub sent : rank by.note.body ≡ 4
+  pub joins : is_joined_by device by.note.body ≡ true
 
 -- the machine of a sound device stands for a node that the records, those given and those to come, leave it; it has
 -- taken what they say, it has done and sent what its clock had come to, and it may be called from now on. Only a
--- compression master has points, and sends for them. Where it has not acted, no record of the instant moves it but that
--- it was turned on; where it has, its acts are worked off, or it had none, as a frame told it the time
+-- compression master has points, and sends for them. While the instant is not over for it, no record of the instant moves
+-- it but that it was turned on; once it is, its acts are worked off, or it had none, as a frame told it the time
 pub record IsKept {M : Type 0} (stands : M → Network → DeviceId → Node → Type 0) (s : Scenario)
     (hs coming : List Happening) (cursor : List ℕ) (now : ℕ) (device : DeviceId) (machine : M) : Type 0 where
   pub node : Node
   pub is : stands machine s.network device node
   pub sound : is_broken s device now ≡ false
   pub up : ℕ
-  pub acted : IsActedUpTo s hs now device cursor up
-  pub told : up ≡ now + 1 → IsBefore (act_place now device) cursor ⊎ IsJustTold s (hs ++ coming) device now
+  pub acted : IsActedUpTo s hs now device node cursor up
+  pub told : up ≡ now + 1 → IsActedOut s hs now device cursor
+      ⊎ (IsJustTold s (hs ++ coming) device now ⊎ IsJoiningNow s hs coming device now)
   pub left : IsLeft s (hs ++ coming) device up node
   pub taken : node.taken ≡ frames_taken s (hs ++ coming) device
-  pub worked : HasWorked s device node (changed_at (hs ++ coming) device up) up now cursor
+  pub worked : HasWorkedTo s device node (changed_at (hs ++ coming) device up) up cursor
   pub bare : is_cm s.network device ≡ false → (node.points ≡ []) × (node.emitted ≡ [])
   pub ready : IsReadyAt (s.reading device) s.network device node now
   pub still : up ≡ now → (h : Happening) → IsIn h (hs ++ coming) → time_of h ≡ now → IsAtRest s device now h.note.body
@@ -345,31 +359,27 @@ abbrev pub IsWorkedOff : Scenario → List Happening → List ℕ → Happening 
 IsWorkedOff s hs cursor y =
     (w : List ℕ) × IsOwnSource s hs (time_of y) (members_in y) y.note.body w × IsSource s hs w × IsBefore w cursor
 
--- or it is taken up: the cursor is at it, as a device acts there that has more to do at this instant
-abbrev pub IsTakenUp : Scenario → List Happening → List ℕ → Happening → Type 0
-IsTakenUp s hs cursor y =
-    (w : List ℕ) × IsOwnSource s hs (time_of y) (members_in y) y.note.body w × IsSource s hs w
-    × (IsBefore w cursor ⊎ ((w ≡ cursor) × ((device : DeviceId) × (w ≡ act_place (time_of y) device))))
-
--- may a source stand at the very place of such a record?
+-- does such a record stand at the very place of its source?
 abbrev pub is_at_source : NoteBody → Bool
 is_at_source (notes.Arrived device link cause clock) = true
 is_at_source (notes.Permanent device link cause point verdict) = true
+is_at_source (notes.Compressed device opened at cycle members verdict) = true
+is_at_source (notes.Sent device cycle) = true
+is_at_source (notes.Corrected device cycle by adjustment) = true
 is_at_source (notes.Left device link cause clock) = true
 is_at_source (notes.Clock device reading adjustment state) = true
 is_at_source other = false
 
 -- the records that are to come, with the numbers that they will have, are together with those given the run of the
--- sources that are worked off: each stands after those before it, is due given them, and comes from such a source, or
--- from one that is taken up; each that is due by a source that is worked off has a record at its place; and none is far
--- behind the cursor
+-- sources that are worked off: each stands after those before it, is due given them, and comes from such a source; each
+-- that is due by a source that is worked off has a record at its place; and none is far behind the cursor
 pub record AreSettled (s : Scenario) (hs coming : List Happening) (mark cursor : List ℕ) (now : ℕ) : Type 0 where
   pub of_now : (z : Happening) → IsIn z coming → time_of z ≡ now
   pub behind_mark : (z : Happening) → IsIn z coming → IsBefore (place_of z) mark → ⊥
   pub founded : (front rest : List Happening) (z : Happening) → coming ≡ front ++ z ∷ rest
       → AllBefore place_of front (place_of z) × IsDue s (hs ++ front) z
   pub by : (front rest : List Happening) (z : Happening) → coming ≡ front ++ z ∷ rest
-      → IsTakenUp s (hs ++ front) cursor z
+      → IsWorkedOff s (hs ++ front) cursor z
   pub full : (front back : List Happening) (y : Happening) → coming ≡ front ++ back
       → AllBefore place_of front (place_of y) → NoneBefore place_of back (place_of y) → (IsBefore (place_of y) mark → ⊥)
       → IsDue s (hs ++ front) y → IsWorkedOff s (hs ++ front) cursor y → (z : Happening) × IsIn z coming

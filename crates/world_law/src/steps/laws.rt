@@ -1,6 +1,6 @@
-ghost use Rattle.world_law.specs.steps.{Acting.{ActedStep, LastActedStep}, Arriving.HeardStep, Befalling.BefellStep};
+ghost use Rattle.world_law.specs.steps.{Acting.ActedStep, Arriving.HeardStep, Befalling.BefellStep};
 ghost use Rattle.world_law.specs.steps.Repeating.{ActsAddUp, ActsAreBounded, ActsBringFew, NoActYet};
-ghost use Rattle.world_law.specs.steps.{Ripening.RipenedStep};
+ghost use Rattle.world_law.specs.steps.{Ending.CorrectionEnds, Ripening.RipenedStep};
 ghost use Rattle.world_law.specs.steps.Steps.{AppliedStep, Begun, ClockStep, LeftStep, PassedStep};
 
 use drift_clock::Clock;
@@ -47,15 +47,14 @@ pub fn ripened_step<C: Clock, M: Machine + Drop>()
     ensures { RipenedStep C.reading M.stands }
 {}
 
-/// Where a world stands and a device acts that has more to do at the instant, it stands again, and the device may
-/// act again.
+/// Where a world stands and a device acts, it stands again, behind the place of what the device did.
 pub fn acted_step<C: Clock, M: Machine + Drop>()
     ensures { ActedStep C.reading M.stands }
 {}
 
-/// Where a world stands and a device acts that has nothing more to do at the instant, it stands again.
-pub fn last_acted_step<C: Clock, M: Machine + Drop>()
-    ensures { LastActedStep C.reading M.stands }
+/// Where a device has come to its correction point, nothing more is due of it at the instant.
+pub fn correction_ends<C: Clock, M: Machine + Drop>()
+    ensures { CorrectionEnds C.reading M.stands }
 {}
 
 /// A machine that acts again and again at one moment: how often it has acted.

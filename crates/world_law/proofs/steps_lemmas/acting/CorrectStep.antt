@@ -1,7 +1,7 @@
 -- The step by which a device comes to its correction point, whatever it comes to: the instant is over for it.
-use Rattle.std.proofs.Common.{arith}
-use Rattle.world_law.proofs.steps_lemmas.Words.{◌≡◌, AsyncClique, Cleared, Corrected, DeviceId, Happening, Integrating, Joining, List, Network, Node, Note, Off}
-use Rattle.world_law.proofs.steps_lemmas.Words.{Scenario, Stands, StandsBehind, State, SyncClique, Synchronised, Units, Verdict, World, act_place, ap, behind}
+use Rattle.run_law.specs.declared.steps.Act.TheVariants as acts
+use Rattle.world_law.proofs.steps_lemmas.Words.{◌∙◌, ◌≡◌, AsyncClique, Cleared, Corrected, DeviceId, Happening, Integrating, Joining, List, Network, Node, Note, Off}
+use Rattle.world_law.proofs.steps_lemmas.Words.{Scenario, Stands, StandsBehind, State, SyncClique, Synchronised, Units, Verdict, World, ap, behind, rows_place}
 use Rattle.world_law.proofs.steps_lemmas.{Words.{false, is_timed, point_number, true, ℕ}, acting.{FirstStep.first_goes_by, Kept.may_act_now, Stage.stage_of}}
 use Rattle.world_law.proofs.steps_lemmas.acting.CorrectSteps.{IsCorrecting, alone_goes_by, cleared_goes_by, corrected_goes_by, outnumbered_goes_by}
 
@@ -11,13 +11,17 @@ was_timed : {C M : Type 0} (reading : C → ℕ → ℕ) (stands : M → Network
     (machines : List M) (settled : List Happening)
     → IsCorrecting reading stands s world notes old device machine after cycle verdict was adjustment machines settled → is_timed was ≡ true
 was_timed reading stands s world notes old device machine after cycle verdict was adjustment machines settled x =
-    grind (arith, stage_of, may_act_now, is_timed, point_number)
+    let stage = stage_of reading stands s world notes old device machine after (acts.Correct cycle verdict) x.of_it x.first x.apart x.there x.due x.acted in
+    let node = stage.0 in
+    let st = stage.1 in
+    let act = x.acted node st.is (may_act_now s device node world.now st.work.ready st.steady st.limit) st.task in
+    ap is_timed (x.stood node st.is).0 ∙ (point_number node.standing.state node.standing.number cycle act.1.0.pending.1.own).0
 
 pub correct_goes_by : {C M : Type 0} (reading : C → ℕ → ℕ) (stands : M → Network → DeviceId → Node → Type 0) (s : Scenario) (world : World C M)
     (notes : List Note) (old : Stands reading stands s world notes) (device : DeviceId) (machine after : M) (cycle : ℕ) (verdict : Verdict) (was : State)
     (adjustment : Units) (machines : List M) (settled : List Happening)
     → IsCorrecting reading stands s world notes old device machine after cycle verdict was adjustment machines settled
-    → StandsBehind reading stands s (record world { early = false; machines = machines; settled = settled }) notes (behind (act_place world.now device))
+    → StandsBehind reading stands s (record world { early = false; machines = machines; settled = settled }) notes (behind (rows_place world.now device))
 correct_goes_by reading stands s world notes old device machine after cycle Cleared was adjustment machines settled x =
     cleared_goes_by reading stands s world notes old device machine after cycle was adjustment machines settled x
 correct_goes_by reading stands s world notes old device machine after cycle SyncClique was adjustment machines settled x =

@@ -1,19 +1,22 @@
 -- The steps by which a device comes to its correction point.
 use Rattle.{run_law.specs.machines.Answers.after_correction, world_law.proofs.steps_lemmas.acting.Sending.{as_put, room_for, taken_then, turned_then}}
-use Rattle.world_law.{proofs.putting.{Moving.settled_moves, StandsOn.shown_still}, specs.{steps.Acting.correction_bodies, world.Calls.IsStateOf}}
+use Rattle.world_law.{proofs.putting.{Moving.{settled_moves, stays}, StandsOn.shown_still}, specs.{steps.Acting.{correction_bodies, place_of_act}, world.Calls.IsStateOf}}
 use Rattle.world_law.proofs.{putting.PutOne.corrected_unfollowed, steps_lemmas.Words.{waiting_moves, wire_place, wires_move, with_clique, ℕ}}
 use Rattle.world_law.proofs.steps_lemmas.Words.{◌++◌, ◌+ℤ◌, ◌+◌, ◌<◌, ◌∙◌, ◌∷◌, ◌≡◌, ◌≤◌, ArePutIn, AsyncClique, Cleared, ComesFirst, Corrected, DeviceId}
 use Rattle.world_law.proofs.steps_lemmas.Words.{Happening, HasActed, HasCleared, Integrating, IsBefore, IsDueNow, IsHeld, IsIn, IsNoTaking, IsReadyAt, IsSet}
 use Rattle.world_law.proofs.steps_lemmas.Words.{IsShownPut, IsUnfollowed, Joining, List, Network, Node, Note, NoteBody, Scenario, Some, Stands, StandsBehind}
-use Rattle.world_law.proofs.steps_lemmas.Words.{State, Summary, SyncClique, Synchronised, Units, Verdict, Why, World, [], act_place, acting, adjustment_by}
+use Rattle.world_law.proofs.steps_lemmas.Words.{State, Summary, SyncClique, Synchronised, Units, Verdict, Why, World, [], acting, adjustment_by}
 use Rattle.world_law.proofs.steps_lemmas.Words.{all_without, ap, arith, before_it, behind, called, cases_eq, correcting, doing, earlier_still, ends_stretch}
 use Rattle.world_law.proofs.steps_lemmas.Words.{false, happenings, held_moves, hidden, if◌then◌else◌, in_right, inl, inr, is_turned_on_at, length, length_is}
 use Rattle.world_law.proofs.steps_lemmas.Words.{map, moment_of, none_in, none_yet, one_shown, place_of, point_number, port_place, ports_move, put_at, rank}
 use Rattle.world_law.proofs.steps_lemmas.Words.{record_of, refl, slice_get, stands_on, state_after, state_by, subst, sym, told_wires, true, turned_moves}
-use Rattle.world_law.proofs.steps_lemmas.acting.{AllOfIt.{HasOutcome, IsAtPoint, all_point, grown_none, grown_one}, Correcting.{clique_over, corrected_over}}
-use Rattle.world_law.proofs.steps_lemmas.acting.{Clearing.{cleared_more, cleared_over}, Kept.{IsBare, bare_act, kept_over, may_act_now, ready_after}}
-use Rattle.world_law.proofs.steps_lemmas.acting.{Moves.IsCorrectedSo, Over.IsOver, Stage.{IsActRecord, Stage, one_goes_by, others_so, stage_of}}
+use Rattle.world_law.proofs.steps_lemmas.acting.{AllOfIt.{HasOutcome, IsAtPoint, all_point, grown_none, grown_one}, Correcting.{clique_change, clique_over, corrected_over, still_now}}
+use Rattle.world_law.proofs.steps_lemmas.acting.{Clearing.{cleared_more, cleared_over}, Kept.{IsBare, bare_act, kept_over, may_act_now, out_by_acts, ready_after}}
+use Rattle.world_law.proofs.steps_lemmas.acting.{Moves.IsCorrectedSo, Over.IsOver, OneAct.still_came, Stage.{IsActRecordAt, StageAt, one_goes_by, others_so, stage_of}}
 use Rattle.world_law.proofs.steps_lemmas.acting.Points.{IsClique, at_point, clique_record, corrected_record, no_frames, none_at_point, not_on}
+use Rattle.world_law.proofs.steps_lemmas.Words.{◌⊎◌, Bool, ClockTask, Compressed, Contains-push_cases, HadComeTo, HasDoneTask, Moment, Task, before_behind}
+use Rattle.world_law.proofs.steps_lemmas.Words.{change_still, changed_at, emitting, is_synchronised, rows_place, task_place}
+use Rattle.std.proofs.Common.{Contains}
 use Rattle.run_law.specs.declared.judgement.Why.TheVariants as whys
 use Rattle.run_law.specs.declared.note.NoteBody.TheVariants as kinds
 use Rattle.run_law.specs.declared.steps.Act.TheVariants as acts
@@ -23,7 +26,8 @@ pub record IsCorrecting {C M : Type 0} (reading : C → ℕ → ℕ) (stands : M
     (notes : List Note) (old : Stands reading stands s world notes) (device : DeviceId) (machine after : M) (cycle : ℕ) (verdict : Verdict) (was : State)
     (adjustment : Units) (machines : List M) (settled : List Happening) : Type 0 where
   pub of_it : device.0 < length s.network.device
-  pub first : ComesFirst reading stands s world notes old (act_place world.now device)
+  pub first : ComesFirst reading stands s world notes old (place_of_act world.now device (acts.Correct cycle verdict))
+  pub apart : (z : Happening) → IsIn z world.settled → 6 < rank z.note.body
   pub there : slice_get world.machines device.0 ≡ Some machine
   pub due : IsDueNow stands s.network device (moment_of s device world.now) machine
   pub acted : HasActed stands s.network device (moment_of s device world.now) (acts.Correct cycle verdict) machine after
@@ -45,22 +49,24 @@ pub record IsThen {M : Type 0} (stands : M → Network → DeviceId → Node →
   pub taken : after.taken ≡ node.taken
   pub bare : IsBare s.network device after
   pub phase : after.phase ≡ acting
+  pub worked : (task : Task) → HasDoneTask after task
+      → HadComeTo s device after (changed_at (hs ++ new) device (now + 1)) now task ⊎ IsBefore (task_place s.network now device task) (behind (rows_place now device))
 
 -- ---- with one record
 
 one_point_step : {C M : Type 0} (reading : C → ℕ → ℕ) (stands : M → Network → DeviceId → Node → Type 0) (s : Scenario) (world : World C M) (notes : List Note)
     (old : Stands reading stands s world notes) (device : DeviceId) (machine after : M) (node then_ : Node) (machines : List M) (settled : List Happening)
     (body : NoteBody) (cycle : ℕ) (heard : Summary) (verdict : Verdict)
-    → Stage stands s (happenings s.network notes) old.coming old.mark old.cursor world.now device machine node
+    → StageAt stands s (happenings s.network notes) old.coming old.mark old.cursor world.now device machine node 6 (device.0 ∷ [])
     → (p : IsShownPut s.network (happenings s.network notes) world.now body old.coming settled)
     → length notes + length old.coming + 2 < none_yet → 5 ≤ rank body
-    → IsActRecord s (happenings s.network notes) p.front p.back world.now device body → IsNoTaking device body
+    → IsActRecordAt s (happenings s.network notes) p.front p.back world.now device body (rows_place world.now device) → IsNoTaking device body
     → IsAtPoint s device world.now node cycle heard verdict
     → HasOutcome (put_at (happenings s.network notes) p.front (record_of s.network (happenings s.network notes) p.front world.now body) p.back) world.now device
     verdict → IsThen stands s (happenings s.network notes) (put_at (happenings s.network notes) p.front
     (record_of s.network (happenings s.network notes) p.front world.now body) p.back) world.now device after node then_
     → IsSet device.0 after world.machines machines
-    → StandsBehind reading stands s (record world { early = false; machines = machines; settled = settled }) notes (behind (act_place world.now device))
+    → StandsBehind reading stands s (record world { early = false; machines = machines; settled = settled }) notes (behind (rows_place world.now device))
 one_point_step reading stands s world notes old device machine after node then_ machines settled body cycle heard verdict st p room late a takes point out it
     set =
     let hs = happenings s.network notes in
@@ -69,18 +75,73 @@ one_point_step reading stands s world notes old device machine after node then_ 
     let w = record_of s.network hs p.front now body in
     let new = put_at hs p.front w p.back in
     let shows : settled ≡ map (hidden (length notes)) new = p.shows ∙ ap (λ (n : ℕ). map (hidden n) new) (sym same_length) in
-    let st2 : Stage stands s hs (p.front ++ p.back) old.mark old.cursor now device machine node =
-    subst (λ (l : List Happening). Stage stands s hs l old.mark old.cursor now device machine node) p.parts st in
+    let st2 : StageAt stands s hs (p.front ++ p.back) old.mark old.cursor now device machine node 6 (device.0 ∷ []) =
+    subst (λ (l : List Happening). StageAt stands s hs l old.mark old.cursor now device machine node 6 (device.0 ∷ [])) p.parts st in
     let put = as_put hs p.front p.back now w refl (omega (arith, late)) in
-    let here = behind (act_place now device) in
-    one_goes_by reading stands s world notes old device machine after node machines settled body st p shows (omega (arith, room)) a
-    (all_point s hs (p.front ++ p.back) new now device node cycle heard verdict st2.work st2.recorded point
-    (grown_one s hs p.front p.back new now device node w st2.work put late) out
-    (none_at_point s hs (p.front ++ p.back) now device node cycle old.range old.rules st2.steady st2.work point.pending point.due) st2.before) set
-    (kept_over stands s hs new now device after then_ it.is st2.work.sound it.over it.ready it.cleared
-    (it.taken ∙ taken_then stands s hs p.front p.back old.mark old.cursor now device machine node w st2 refl takes) it.bare
-    (turned_then stands s hs p.front p.back old.mark old.cursor now device machine node w here st2 put
-    (λ t. turned_moves s hs (p.front ++ p.back) old.mark old.cursor now 4 (device.0 ∷ []) device st2.moving t)) it.phase)
+    let here = behind (rows_place now device) in
+    let none = none_at_point s hs (p.front ++ p.back) now device node cycle old.range old.rules st2.steady st2.work point.pending point.due in
+    one_goes_by reading stands s world notes old device machine after node machines settled body 6 (device.0 ∷ []) st p shows (omega (arith, room)) a
+    (all_point s hs (p.front ++ p.back) new now device node cycle heard verdict st2.work point
+    (grown_one s hs p.front p.back new now device node w st2.work put late) out) set
+    (kept_over stands s hs new here now device after then_ it.is st2.work.sound it.over it.ready it.cleared
+    (it.taken ∙ taken_then stands s hs p.front p.back old.mark old.cursor now device machine node w 6 (device.0 ∷ []) st2 refl takes) it.bare
+    (turned_then stands s hs p.front p.back old.mark old.cursor now device machine node w here 6 (device.0 ∷ []) st2 put
+    (λ t. turned_moves s hs (p.front ++ p.back) old.mark old.cursor now 6 (device.0 ∷ []) device st2.moving t)) it.phase st.calm.falls it.worked st.reach
+    (inl (out_by_acts s hs now device none)))
+
+-- ---- what it has done then
+
+kept_of : {X : Type 0} (b : Bool) (xs : List X) (x : X) → Contains (if b then xs else []) x → Contains xs x
+kept_of true xs x has = has
+kept_of false xs x has = absurd (none_in x has)
+
+-- a correction leaves what it sent of its points
+pub corrected_done : (node : Node) (moment : Moment) (heard : Summary) (by : Units) (task : Task)
+    → HasDoneTask (called moment acting (after_correction node moment heard 0 (Corrected by))) task
+    → (c : Compressed) × (task ≡ emitting c) × Contains node.emitted c
+corrected_done node moment heard by (emitting c) has = (c, refl, kept_of (is_synchronised node.standing.state) node.emitted c has)
+corrected_done node moment heard by (doing deed) has = absurd (none_in deed has)
+
+-- so it had come to it sooner, or that is worked off
+pub corrected_worked : {M : Type 0} (stands : M → Network → DeviceId → Node → Type 0) (s : Scenario) (hs coming : List Happening) (mark cursor : List ℕ)
+    (now : ℕ) (device : DeviceId) (machine : M) (node after : Node) (heard : Summary) (by : Units) (changed : ℕ)
+    → StageAt stands s hs coming mark cursor now device machine node 6 (device.0 ∷ [])
+    → after ≡ called (moment_of s device now) acting (after_correction node (moment_of s device now) heard 0 (Corrected by)) → (task : Task)
+    → HasDoneTask after task
+    → HadComeTo s device after changed now task ⊎ IsBefore (task_place s.network now device task) (behind (rows_place now device))
+corrected_worked stands s hs coming mark cursor now device machine node after heard by changed st is task has =
+    let x = corrected_done node (moment_of s device now) heard by task (subst (λ (n : Node). HasDoneTask n task) is has) in
+    subst (λ (t : Task). HadComeTo s device after changed now t ⊎ IsBefore (task_place s.network now device t) (behind (rows_place now device))) (sym x.1)
+    (elim (st.worked (emitting x.0) x.2) [
+      | inl sooner ↦ inl sooner
+      | inr gone ↦ inr (stays s hs coming mark cursor now 6 (device.0 ∷ []) st.moving (task_place s.network now device (emitting x.0)) gone)
+    ])
+
+-- a device that clears what it has heard, has done that too
+cleared_done : (s : Scenario) (now : ℕ) (device : DeviceId) (node : Node) (moment : Moment) (heard : Summary) (cycle : ℕ) (task : Task)
+    → HasDoneTask (called moment acting (after_correction node moment heard cycle Cleared)) task
+    → HasDoneTask node task ⊎ (task_place s.network now device task ≡ rows_place now device)
+cleared_done s now device node moment heard cycle (emitting c) has = inl has
+cleared_done s now device node moment heard cycle (doing deed) has = elim (Contains-push_cases node.done (correcting cycle) deed has) [
+  | inl old ↦ inl old
+  | inr e ↦ inr (ap (λ (d : ClockTask). task_place s.network now device (doing d)) (sym e))
+]
+
+-- one that finds itself outside the others had done what it has
+clique_done : (node : Node) (moment : Moment) (heard : Summary) (verdict : Verdict) (task : Task)
+    → HasDoneTask (called moment acting (with_clique node heard verdict)) task → HasDoneTask node task
+clique_done node moment heard verdict (emitting c) has = absurd (none_in c has)
+clique_done node moment heard verdict (doing deed) has = has
+
+-- what it had done is so still
+still_worked : {M : Type 0} (stands : M → Network → DeviceId → Node → Type 0) (s : Scenario) (hs coming : List Happening) (mark cursor : List ℕ) (now : ℕ)
+    (device : DeviceId) (machine : M) (node after : Node) (changed : ℕ) → StageAt stands s hs coming mark cursor now device machine node 6 (device.0 ∷ [])
+    → after.standing.adjustment ≡ node.standing.adjustment → changed_at (hs ++ coming) device now ≡ changed → (task : Task) → HasDoneTask node task
+    → HadComeTo s device after changed now task ⊎ IsBefore (task_place s.network now device task) (behind (rows_place now device))
+still_worked stands s hs coming mark cursor now device machine node after changed st adjustment same task has = elim (st.worked task has) [
+  | inl sooner ↦ inl (still_came s device node after (changed_at (hs ++ coming) device now) changed now task adjustment same sooner)
+  | inr gone ↦ inr (stays s hs coming mark cursor now 6 (device.0 ∷ []) st.moving (task_place s.network now device task) gone)
+]
 
 -- ---- with none: a joiner clears what it has heard
 
@@ -88,11 +149,11 @@ pub cleared_goes_by : {C M : Type 0} (reading : C → ℕ → ℕ) (stands : M �
     (notes : List Note)
     (old : Stands reading stands s world notes) (device : DeviceId) (machine after : M) (cycle : ℕ) (was : State) (adjustment : Units) (machines : List M)
     (settled : List Happening) → IsCorrecting reading stands s world notes old device machine after cycle Cleared was adjustment machines settled
-    → StandsBehind reading stands s (record world { early = false; machines = machines; settled = settled }) notes (behind (act_place world.now device))
+    → StandsBehind reading stands s (record world { early = false; machines = machines; settled = settled }) notes (behind (rows_place world.now device))
 cleared_goes_by {C} {M} reading stands s world notes old device machine after cycle was adjustment machines settled x =
     let hs = happenings s.network notes in
     let now = world.now in
-    let stage = stage_of reading stands s world notes old device machine x.of_it x.first x.there x.due in
+    let stage = stage_of reading stands s world notes old device machine after (acts.Correct cycle Cleared) x.of_it x.first x.apart x.there x.due x.acted in
     let node = stage.0 in
     let st = stage.1 in
     let may = may_act_now s device node now st.work.ready st.steady st.limit in
@@ -116,17 +177,24 @@ cleared_goes_by {C} {M} reading stands s world notes old device machine after cy
     let cleared : HasCleared act.0 = subst HasCleared (sym is)
     (cleared_more node cycle (moment_of s device now) heard (point_number node.standing.state node.standing.number cycle first.pending.1.own).1 st.cleared) in
     let more = device.0 ∷ [] in
-    let here = now ∷ 4 ∷ more in
+    let here = now ∷ 6 ∷ more in
     let later : IsBefore (now ∷ 2 ∷ []) here = inr (refl, inl (omega arith)) in
-    let kept = kept_over stands s hs old.coming now device after act.0 act.2 st.work.sound over ready cleared (ap (λ (n : Node). n.taken) is ∙ st.taken)
+    let none = none_at_point s hs old.coming now device node cycle old.range old.rules st.steady st.work first.pending first.due in
+    let kept = kept_over stands s hs old.coming (behind here) now device after act.0 act.2 st.work.sound over ready cleared (ap (λ (n : Node). n.taken) is ∙ st.taken)
     (bare_act s.network device node (moment_of s device now) (acts.Correct cycle Cleared) act.0 act.1 st.bare)
-    (λ on. turned_moves s hs old.coming old.mark old.cursor now 4 more device st.moving (st.turned on)) (ap (λ (n : Node). n.phase) is) in
-    stands_on reading stands s world notes old 4 more here machines world.wires world.ports world.waiting settled old.coming world.shown st.moving refl
+    (λ on. turned_moves s hs old.coming old.mark old.cursor now 6 more device st.moving (st.turned on)) (ap (λ (n : Node). n.phase) is) st.calm.falls
+    (λ task has. elim (cleared_done s now device node (moment_of s device now) heard cycle task (subst (λ (n : Node). HasDoneTask n task) is has)) [
+      | inl did ↦ still_worked stands s hs old.coming old.mark old.cursor now device machine node act.0 (changed_at (hs ++ old.coming) device (now + 1)) st
+          (ap (λ (n : Node). n.standing.adjustment) is)
+          (sym (change_still (hs ++ old.coming) device now (now + 1) (omega arith) (still_now s hs old.coming now device node st.work off))) task did
+      | inr at ↦ inr (subst (λ (q : List ℕ). IsBefore q (behind here)) (sym at) (before_behind here))
+    ])
+    st.reach (inl (out_by_acts s hs now device none)) in
+    stands_on reading stands s world notes old 6 more here machines world.wires world.ports world.waiting settled old.coming world.shown st.moving refl
     (x.put ∙ old.settled) old.room
-    (settled_moves s hs old.coming old.mark old.cursor now 4 more st.moving
-    (all_point s hs old.coming old.coming now device node cycle heard Cleared st.work st.recorded point
-    (grown_none s hs old.coming now device (λ z i. (st.work.of_now z i).0)) tt
-    (none_at_point s hs old.coming now device node cycle old.range old.rules st.steady st.work first.pending first.due) st.before))
+    (settled_moves s hs old.coming old.mark old.cursor now 6 more st.moving
+    (all_point s hs old.coming old.coming now device node cycle heard Cleared st.work point
+    (grown_none s hs old.coming now device (λ z i. (st.work.of_now z i).0)) tt))
     old.known
     (λ other lt. elim (cases_eq other.0 device.0) [
       | inl e ↦
@@ -137,17 +205,17 @@ cleared_goes_by {C} {M} reading stands s world notes old device machine after cy
           let m = old.devices other lt in (
             m.0,
             others_so device other after m.0 world.machines machines x.set not m.1,
-            held_moves stands s hs old.coming old.mark old.cursor now 4 more other m.0 st.moving (λ same. not (let f : other.0 ≡ device.0 = cc in f)) m.2,
+            held_moves stands s hs old.coming old.mark old.cursor now 6 more other m.0 st.moving (λ task same. not (st.own other task same)) m.2,
           )
     ])
     later
-    (wires_move s hs old.coming old.mark old.cursor now 4 more world.wires world.wires st.moving
-    (told_wires reading stands s world notes old 4 more st.moving later)
-    (all_without wire_place here world.wires (λ e same. (let two : ◌≡◌ {A = ℕ} 2 4 = cc in omega (arith, two)))))
-    (ports_move s hs old.coming old.mark old.cursor now 4 more world.ports world.ports st.moving old.ports
-    (all_without port_place here world.ports (λ e same. (let two : ◌≡◌ {A = ℕ} 8 4 = cc in omega (arith, two)))))
-    (waiting_moves s hs old.coming old.mark old.cursor now 4 more world.waiting st.moving (λ three. omega (arith, three)) old.waiting)
-    (shown_still reading stands s world notes old 4 more (omega arith) st.moving)
+    (wires_move s hs old.coming old.mark old.cursor now 6 more world.wires world.wires st.moving
+    (told_wires reading stands s world notes old 6 more st.moving later)
+    (all_without wire_place here world.wires (λ e same. (let two : ◌≡◌ {A = ℕ} 2 6 = cc in omega (arith, two)))))
+    (ports_move s hs old.coming old.mark old.cursor now 6 more world.ports world.ports st.moving old.ports
+    (all_without port_place here world.ports (λ e same. (let two : ◌≡◌ {A = ℕ} 8 6 = cc in omega (arith, two)))))
+    (waiting_moves s hs old.coming old.mark old.cursor now 6 more world.waiting st.moving (λ three. omega (arith, three)) old.waiting)
+    (shown_still reading stands s world notes old 6 more (omega arith) st.moving)
 
 -- ---- it finds itself outside the others
 
@@ -162,12 +230,12 @@ clique_step : {C M : Type 0} (reading : C → ℕ → ℕ) (stands : M → Netwo
     → then_ ≡ called (moment_of s device world.now) acting (with_clique node heard verdict))
     → ((x : State) → state_by x verdict ≡ Integrating) → ((a : Units) → adjustment_by a verdict ≡ a)
     → ends_stretch device (kinds.State device Integrating 0 why) ≡ true
-    → StandsBehind reading stands s (record world { early = false; machines = machines; settled = settled }) notes (behind (act_place world.now device))
+    → StandsBehind reading stands s (record world { early = false; machines = machines; settled = settled }) notes (behind (rows_place world.now device))
 clique_step reading stands s world notes old device machine after cycle was adjustment machines settled verdict why x clique put outcome node_is lost kept ends
     =
     let hs = happenings s.network notes in
     let now = world.now in
-    let stage = stage_of reading stands s world notes old device machine x.of_it x.first x.there x.due in
+    let stage = stage_of reading stands s world notes old device machine after (acts.Correct cycle verdict) x.of_it x.first x.apart x.there x.due x.acted in
     let node = stage.0 in
     let st = stage.1 in
     let may = may_act_now s device node now st.work.ready st.steady st.limit in
@@ -182,18 +250,19 @@ clique_step reading stands s world notes old device machine after cycle was adju
     let ready = ready_after s device node act.0 now (acts.Correct cycle verdict) st.work.ready st.steady st.precise st.wide may act.1
     (ap (λ (n : Node). n.last) is) in
     let same_length = length_is s notes in
-    let room = room_for reading stands s world notes old (act_place now device) x.first in
+    let room = room_for reading stands s world notes old (rows_place now device) x.first in
     let body = kinds.State device Integrating 0 why in
     let p : IsShownPut s.network hs now body old.coming settled = subst (λ (l : List Happening). IsShownPut s.network hs now body old.coming l) (sym put.2)
     (one_shown s.network hs now body old.coming world.settled put.0 (omega (arith, same_length, room)) (omega arith)
     (old.settled ∙ ap (λ (n : ℕ). map (hidden n) old.coming) same_length) put.1) in
     let w = record_of s.network hs p.front now body in
     let new = put_at hs p.front w p.back in
-    let st2 : Stage stands s hs (p.front ++ p.back) old.mark old.cursor now device machine node =
-    subst (λ (l : List Happening). Stage stands s hs l old.mark old.cursor now device machine node) p.parts st in
+    let st2 : StageAt stands s hs (p.front ++ p.back) old.mark old.cursor now device machine node 6 (device.0 ∷ []) =
+    subst (λ (l : List Happening). StageAt stands s hs l old.mark old.cursor now device machine node 6 (device.0 ∷ [])) p.parts st in
+    let as_it = as_put hs p.front p.back now w refl (omega arith) in
     let over : IsOver s (hs ++ new) now device act.0 = subst (λ (n : Node). IsOver s (hs ++ new) now device n) (sym is)
     (clique_over s hs p.front p.back new now device node w 0 why (moment_of s device now) heard verdict st2.work off st2.calm.off st2.calm.broken
-    (as_put hs p.front p.back now w refl (omega arith)) p.none (lost node.standing.state) (kept node.standing.adjustment) refl ends) in
+    as_it p.none (lost node.standing.state) (kept node.standing.adjustment) refl ends) in
     let cleared : HasCleared act.0 = subst HasCleared (sym is) (λ n there. let less = st.cleared n there in omega (arith, less)) in
     one_point_step reading stands s world notes old device machine after node act.0 machines settled body cycle heard verdict st p room (omega arith)
     (clique_record stands s hs p.front p.back old.mark old.cursor now device machine node cycle heard verdict why st2 off point clique p.none) (λ at. refl)
@@ -207,13 +276,18 @@ clique_step reading stands s world notes old device machine after cycle was adju
       taken = ap (λ (n : Node). n.taken) is;
       bare = bare_act s.network device node (moment_of s device now) (acts.Correct cycle verdict) act.0 act.1 st.bare;
       phase = ap (λ (n : Node). n.phase) is;
+      worked = λ task has.
+          still_worked stands s hs (p.front ++ p.back) old.mark old.cursor now device machine node act.0 (changed_at (hs ++ new) device (now + 1)) st2
+          (ap (λ (n : Node). n.standing.adjustment) is ∙ kept node.standing.adjustment)
+          (sym (clique_change s hs p.front p.back new now device node w 0 why st2.work off as_it p.none refl)) task
+          (clique_done node (moment_of s device now) heard verdict task (subst (λ (n : Node). HasDoneTask n task) is has));
     }) x.set
 
 pub alone_goes_by : {C M : Type 0} (reading : C → ℕ → ℕ) (stands : M → Network → DeviceId → Node → Type 0) (s : Scenario) (world : World C M)
     (notes : List Note)
     (old : Stands reading stands s world notes) (device : DeviceId) (machine after : M) (cycle : ℕ) (was : State) (adjustment : Units) (machines : List M)
     (settled : List Happening) → IsCorrecting reading stands s world notes old device machine after cycle SyncClique was adjustment machines settled
-    → StandsBehind reading stands s (record world { early = false; machines = machines; settled = settled }) notes (behind (act_place world.now device))
+    → StandsBehind reading stands s (record world { early = false; machines = machines; settled = settled }) notes (behind (rows_place world.now device))
 alone_goes_by reading stands s world notes old device machine after cycle was adjustment machines settled x =
     clique_step reading stands s world notes old device machine after cycle was adjustment machines settled SyncClique whys.SyncClique x IsClique.alone x.put
     (λ new z i e. (z, i, e)) (λ node then_ heard e. e) (λ y. refl) (λ a. refl) (Rattle.std.proofs.lemmas.Bool.eq-eqb device.0 device.0 refl)
@@ -222,7 +296,7 @@ pub outnumbered_goes_by : {C M : Type 0} (reading : C → ℕ → ℕ) (stands :
     (notes : List Note) (old : Stands reading stands s world notes) (device : DeviceId) (machine after : M) (cycle : ℕ) (was : State) (adjustment : Units)
     (machines : List M) (settled : List Happening)
     → IsCorrecting reading stands s world notes old device machine after cycle AsyncClique was adjustment machines settled
-    → StandsBehind reading stands s (record world { early = false; machines = machines; settled = settled }) notes (behind (act_place world.now device))
+    → StandsBehind reading stands s (record world { early = false; machines = machines; settled = settled }) notes (behind (rows_place world.now device))
 outnumbered_goes_by reading stands s world notes old device machine after cycle was adjustment machines settled x =
     clique_step reading stands s world notes old device machine after cycle was adjustment machines settled AsyncClique whys.AsyncClique x IsClique.outnumbered
     x.put
@@ -237,11 +311,11 @@ pub corrected_goes_by : {C M : Type 0} (reading : C → ℕ → ℕ) (stands : M
     (notes : List Note) (old : Stands reading stands s world notes) (device : DeviceId) (machine after : M) (cycle : ℕ) (by adjustment : Units)
     (machines : List M) (settled : List Happening)
     → IsCorrecting reading stands s world notes old device machine after cycle (Corrected by) Synchronised adjustment machines settled
-    → StandsBehind reading stands s (record world { early = false; machines = machines; settled = settled }) notes (behind (act_place world.now device))
+    → StandsBehind reading stands s (record world { early = false; machines = machines; settled = settled }) notes (behind (rows_place world.now device))
 corrected_goes_by reading stands s world notes old device machine after cycle by adjustment machines settled x =
     let hs = happenings s.network notes in
     let now = world.now in
-    let stage = stage_of reading stands s world notes old device machine x.of_it x.first x.there x.due in
+    let stage = stage_of reading stands s world notes old device machine after (acts.Correct cycle (Corrected by)) x.of_it x.first x.apart x.there x.due x.acted in
     let node = stage.0 in
     let st = stage.1 in
     let may = may_act_now s device node now st.work.ready st.steady st.limit in
@@ -259,15 +333,15 @@ corrected_goes_by reading stands s world notes old device machine after cycle by
     let ready = ready_after s device node act.0 now (acts.Correct cycle (Corrected by)) st.work.ready st.steady st.precise st.wide may act.1
     (ap (λ (n : Node). n.last) is) in
     let same_length = length_is s notes in
-    let room = room_for reading stands s world notes old (act_place now device) x.first in
+    let room = room_for reading stands s world notes old (rows_place now device) x.first in
     let body = kinds.Corrected device cycle by adjustment in
     let p : IsShownPut s.network hs now body old.coming settled = subst (λ (l : List Happening). IsShownPut s.network hs now body old.coming l) (sym x.put.2)
     (one_shown s.network hs now body old.coming world.settled x.put.0 (omega (arith, same_length, room)) (omega arith)
     (old.settled ∙ ap (λ (n : ℕ). map (hidden n) old.coming) same_length) x.put.1) in
     let w = record_of s.network hs p.front now body in
     let new = put_at hs p.front w p.back in
-    let st2 : Stage stands s hs (p.front ++ p.back) old.mark old.cursor now device machine node =
-    subst (λ (l : List Happening). Stage stands s hs l old.mark old.cursor now device machine node) p.parts st in
+    let st2 : StageAt stands s hs (p.front ++ p.back) old.mark old.cursor now device machine node 6 (device.0 ∷ []) =
+    subst (λ (l : List Happening). StageAt stands s hs l old.mark old.cursor now device machine node 6 (device.0 ∷ [])) p.parts st in
     let so : IsCorrectedSo s device (now + 1) node w cycle by adjustment (moment_of s device now) =
     record { body = refl; before = omega arith; timed = point_is.0; number = point_is.1; sum = sym sum_is; reads = refl } in
     let quiet = no_frames s device now node cycle heard (Corrected by) first.pending.0 point in
@@ -291,4 +365,6 @@ corrected_goes_by reading stands s world notes old device machine after cycle by
       taken = ap (λ (n : Node). n.taken) is;
       bare = bare_act s.network device node (moment_of s device now) (acts.Correct cycle (Corrected by)) act.0 act.1 st.bare;
       phase = ap (λ (n : Node). n.phase) is;
+      worked = corrected_worked stands s hs (p.front ++ p.back) old.mark old.cursor now device machine node act.0 heard by
+          (changed_at (hs ++ new) device (now + 1)) st2 is;
     }) x.set

@@ -242,6 +242,24 @@ no_deed network device node (sending cycle) is own = no_longer (sym is ∙ own.1
 no_deed network device node (correcting cycle) is own = no_point node.standing.state node.standing.number cycle is own
 no_deed network device node (dispatching row cycle) is own = no_longer (sym is ∙ own.0)
 
+-- its adjustment changed last when it did before
+pub clique_change : (s : Scenario) (hs front back new : List Happening) (now : ℕ) (device : DeviceId) (node : Node) (w : Happening) (cause : ℕ) (why : Why)
+    → IsAtWork s hs (front ++ back) now device node → is_turned_on_at s device now ≡ false → IsPutAs now front back new w
+    → NoneBefore place_of back (place_of w) → w.note.body ≡ kinds.State device Integrating cause why
+    → changed_at (hs ++ new) device (now + 1) ≡ changed_at (hs ++ (front ++ back)) device now
+clique_change s hs front back new now device node w cause why work off p none e =
+    let old = hs ++ (front ++ back) in
+    let five : 5 ≤ rank w.note.body = subst (λ (b : NoteBody). 5 ≤ rank b) (sym e) (omega arith) in
+    let bears = none_bear s hs front back now device node w work off p.at five none in
+    let lt : time_of w < now + 1 = let at = p.at in omega (arith, at) in
+    sym (change_in_it s (old ++ w ∷ []) (hs ++ (front ++ w ∷ back)) (hs ++ new) device (now + 1) (borne_in hs front back device w bears)
+    (behind_given hs (front ++ w ∷ back) new p.same))
+    ∙ ap (Rattle.world_law.specs.device.Told.change_in device) (one_earlier (now + 1) old w lt)
+    ∙ ap (λ (l : List Happening). Rattle.std.specs.Option.option_map_or time_of (Rattle.std.specs.List.last_or None l) 0)
+    (Rattle.world_law.proofs.lists.Lists.filter_no (λ g. Rattle.run_law.specs.device.LocalClocks.changes_adjustment device g.note.body)
+    (earlier (now + 1) old) w (ap (Rattle.run_law.specs.device.LocalClocks.changes_adjustment device) e))
+    ∙ change_still old device now (now + 1) (omega arith) (still_now s hs (front ++ back) now device node work off)
+
 pub clique_over : (s : Scenario) (hs front back new : List Happening) (now : ℕ) (device : DeviceId) (node : Node) (w : Happening) (cause : ℕ) (why : Why)
     (moment : Moment) (heard : Summary) (verdict : Verdict)
     → IsAtWork s hs (front ++ back) now device node → is_turned_on_at s device now ≡ false → is_turned_on_at s device (now + 1) ≡ false
@@ -256,14 +274,7 @@ clique_over s hs front back new now device node w cause why moment heard verdict
     let five : 5 ≤ rank w.note.body = subst (λ (b : NoteBody). 5 ≤ rank b) (sym e) (omega arith) in
     let bears = none_bear s hs front back now device node w work off p.at five none in
     let lt : time_of w < now + 1 = let at = p.at in omega (arith, at) in
-    let change : changed_at (hs ++ new) device (now + 1) ≡ changed_at old device now =
-    sym (change_in_it s (old ++ w ∷ []) (hs ++ (front ++ w ∷ back)) (hs ++ new) device (now + 1) (borne_in hs front back device w bears)
-    (behind_given hs (front ++ w ∷ back) new p.same))
-    ∙ ap (Rattle.world_law.specs.device.Told.change_in device) (one_earlier (now + 1) old w lt)
-    ∙ ap (λ (l : List Happening). Rattle.std.specs.Option.option_map_or time_of (Rattle.std.specs.List.last_or None l) 0)
-    (Rattle.world_law.proofs.lists.Lists.filter_no (λ g. Rattle.run_law.specs.device.LocalClocks.changes_adjustment device g.note.body)
-    (earlier (now + 1) old) w (ap (Rattle.run_law.specs.device.LocalClocks.changes_adjustment device) e))
-    ∙ change_still old device now (now + 1) (omega arith) (still_now s hs (front ++ back) now device node work off) in
+    let change = clique_change s hs front back new now device node w cause why work off p none e in
     record {
       left = left_called s (hs ++ new) device (now + 1) (with_clique node heard verdict) moment
           (moved_in s (old ++ w ∷ []) (hs ++ (front ++ w ∷ back)) (hs ++ new) device (now + 1) (with_clique node heard verdict)

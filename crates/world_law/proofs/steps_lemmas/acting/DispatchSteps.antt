@@ -1,8 +1,9 @@
 -- The step by which a device dispatches a row's frame.
+use Rattle.world_law.proofs.steps_lemmas.Words.{◌<◌, ComesFirst, IsIn, ap, dispatching, rank}
 use Rattle.world_law.proofs.steps_lemmas.Words.{◌∷◌, ArePutIn, DeviceId, Entry, Happening, HasActed, HasAtHand, IsSet, List, Network, Node, Note, NoteBody}
 use Rattle.world_law.proofs.steps_lemmas.Words.{RowId, Scenario, Stands, World, [], arith, dispatch_body, dispatch_late, happenings, moment_of, ℕ}
-use Rattle.world_law.proofs.steps_lemmas.acting.{Dispatches.told_dispatches, Dispatching.{dispatch_cause, dispatching_record, hand_within, has_dispatched_it}}
-use Rattle.world_law.{proofs.steps_lemmas.acting.{Kept.may_act_now, OneAct.IsOneAct, Stage.stage_of}, specs.steps.Acting.Acts}
+use Rattle.world_law.proofs.steps_lemmas.acting.{Sending.{did_deed, room_for}, Dispatching.{dispatch_cause, dispatching_record, hand_within, has_dispatched_it}}
+use Rattle.world_law.{proofs.steps_lemmas.acting.{Kept.may_act_now, OneAct.IsOneAct, Stage.stage_of}, specs.steps.Acting.{Acts, place_of_act}}
 use Rattle.schedule_tables.specs.Entries.{IsEntry}
 use Rattle.run_law.specs.declared.steps.Act.TheVariants as acts
 
@@ -11,14 +12,16 @@ pub dispatches_one : {C M : Type 0} (reading : C → ℕ → ℕ) (stands : M �
     → Type 0) (s : Scenario) (world : World C M) (notes : List Note)
     (old : Stands reading stands s world notes) (device : DeviceId) (after : M) (bodies : List NoteBody) (machines : List M) (settled : List Happening)
     (row : RowId) (cycle : ℕ) (entry : Entry) (cause : ℕ) → (a : Acts reading stands s world notes old device after bodies)
+    → ComesFirst reading stands s world notes old (place_of_act world.now device (acts.Dispatch row cycle))
+    → ((z : Happening) → IsIn z world.settled → 6 < rank z.note.body)
     → HasActed stands s.network device (moment_of s device world.now) (acts.Dispatch row cycle) a.machine after → IsEntry s.network row.0 entry
     → HasAtHand s.network (happenings s.network notes) device entry world.now cause cycle → IsSet device.0 after world.machines machines
     → ArePutIn s.network (happenings s.network notes) world.now (dispatch_body s device world.now entry.row.link cause entry.row.vl cycle ∷ [])
-    world.settled settled → IsOneAct reading stands s world notes old device a.machine after machines settled
-dispatches_one reading stands s world notes old device after bodies machines settled row cycle entry cause a acted is hand set put =
+    world.settled settled → IsOneAct reading stands s world notes old device a.machine after machines settled (acts.Dispatch row cycle)
+dispatches_one reading stands s world notes old device after bodies machines settled row cycle entry cause a first_of above acted is hand set put =
     let hs = happenings s.network notes in
     let now = world.now in
-    let stage = stage_of reading stands s world notes old device a.machine a.of_it a.first a.there a.due in
+    let stage = stage_of reading stands s world notes old device a.machine after (acts.Dispatch row cycle) a.of_it first_of above a.there a.due acted in
     let node = stage.0 in
     let st = stage.1 in
     let may = may_act_now s device node now st.work.ready st.steady st.limit in
@@ -28,13 +31,17 @@ dispatches_one reading stands s world notes old device after bodies machines set
     let of_cause = dispatch_cause s device now entry.row.link cause entry.row.vl cycle in
     let within = hand_within s hs device entry now cause cycle st.given hand in
     record {
-      first = a.first;
+      room = room_for reading stands s world notes old (place_of_act now device (acts.Dispatch row cycle)) first_of;
       node = node;
       then_ = act.0;
+      stood = act.2;
       st = st;
-      act = acts.Dispatch row cycle;
+      apart = λ x. x;
       acted = act.1;
+      adjustment = ap (λ (n : Node). n.standing.adjustment) act.1.1;
+      did = λ task has. did_deed s now device node act.0 (moment_of s device now) (dispatching row cycle) task act.1.1 has;
       body = dispatch_body s device now entry.row.link cause entry.row.vl cycle;
+      at_place = λ low front. absurd (omega (arith, low));
       late = omega (arith, high);
       causes = omega (arith, of_cause, within);
       set = set;
@@ -44,8 +51,7 @@ dispatches_one reading stands s world notes old device after bodies machines set
           act.1.1 act.2 is hand in
           record {
             so = dispatching_record stands s hs front back old.mark old.cursor now device a.machine node row entry cause cycle st2 first.pending first.due
-                is hand none;
+                is hand;
             it = it;
-            told = λ law. told_dispatches s hs _ now device act.0 it.work it.recorded law it.taken;
           };
     }

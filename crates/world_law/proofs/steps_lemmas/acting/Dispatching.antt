@@ -2,18 +2,21 @@
 use Rattle.{net_plan.proofs.SameIds.{same_link, same_vl}, run_law.proofs.law.FirstPlaces.in_filter, schedule_tables.specs.Windows.OccursIn}
 use Rattle.{run_law.proofs.timed.Rows.at_hand_by, std.proofs.Common.{◌*◌, Contains}}
 use Rattle.{schedule_tables.{proofs.EntryLemmas.one_entry, specs.Entries.{IsEntry, source_of}}, world_law.proofs.rows.OneRow.{one_told, told_alike}}
+use Rattle.schedule_tables.specs.Dispatches.{dispatch_order}
+use Rattle.world_law.proofs.steps_lemmas.Words.{task_place}
+use Rattle.world_law.proofs.steps_lemmas.Words.{IsSource}
 use Rattle.world_law.proofs.steps_lemmas.Words.{◌++◌, ◌+◌, ◌∙◌, ◌∷◌, ◌≡◌, ◌≤ℤ◌, ◌≤◌, AreRecorded, Bool, Contains-append_left, Contains-push}
 use Rattle.world_law.proofs.steps_lemmas.Words.{Contains-push_cases, DeviceId, Dispatches, Entry, Happening, HasAtHand, HasCleared, Hearing, IsActOf, IsActing}
 use Rattle.world_law.proofs.steps_lemmas.Words.{IsDue, IsFirstTask, IsFounded, IsIn, IsLawful, IsPending, IsReadyAt, LinkId, List, Moment, Network, Node, None}
-use Rattle.world_law.proofs.steps_lemmas.Words.{NoneBefore, NoteBody, Option, Reaches, RowId, Scenario, VlId, [], acting, amount, ap, append-nil, arith}
-use Rattle.world_law.proofs.steps_lemmas.Words.{by_number, called, cases_lt, cause_of, changed_at, changed_before, correcting, dispatch_body, dispatch_late}
+use Rattle.world_law.proofs.steps_lemmas.Words.{NoteBody, Option, Reaches, RowId, Scenario, VlId, [], acting, amount, ap, append-nil, arith}
+use Rattle.world_law.proofs.steps_lemmas.Words.{by_number, called, cause_of, changed_at, changed_before, correcting, dispatch_body, dispatch_late}
 use Rattle.world_law.proofs.steps_lemmas.Words.{dispatches_same, dispatching, doing, earlier, false, filter, hearing_by, if◌then◌else◌, in_left, in_right, inl}
 use Rattle.world_law.proofs.steps_lemmas.Words.{inr, is_accepted, is_cut, key, last_in, last_unfollowed, length, members_in, moment_of, moves, nat_lt, ne_eqb}
 use Rattle.world_law.proofs.steps_lemmas.Words.{numbered_within, option_to_list, place_of, plain_body, pos, put_at, rank, reaches_back, reading_for, record_of}
-use Rattle.world_law.proofs.steps_lemmas.Words.{refl, same_device, sending, subst, sym, time_of, true, up_back, value_is, waiting_alike, way_from, with_done, ℕ}
-use Rattle.world_law.proofs.steps_lemmas.{Words.ℤ, acting.{Sending.{HasSentIt, as_put, nothing_aside, taken_then}, Work.{IsAtWork, all_earlier, reaches}}}
+use Rattle.world_law.proofs.steps_lemmas.Words.{refl, same_device, subst, sym, time_of, true, up_back, value_is, way_from, with_done, ℕ}
+use Rattle.world_law.proofs.steps_lemmas.{Words.ℤ, acting.{Sending.{HasSentIt, as_put, taken_then}, Work.{IsAtWork, all_earlier, reaches}}}
 use Rattle.world_law.proofs.steps_lemmas.acting.GoesOn.{IsPutAs, body_plain, does, earlier_put, goes_on, left_on, one_of, put_now, sent_alike, shown_now}
-use Rattle.world_law.proofs.steps_lemmas.acting.{GoesOn.shown_still, Kept.{may_act_now, ready_after}, Stage.{IsActRecord, Stage}}
+use Rattle.world_law.proofs.steps_lemmas.acting.{GoesOn.shown_still, Kept.{may_act_now, ready_after}, Stage.{IsActRecordAt, StageAt}}
 use Rattle.run_law.specs.declared.note.NoteBody.TheVariants as kinds
 use Rattle.run_law.specs.declared.steps.Act.TheVariants as acts
 
@@ -111,69 +114,61 @@ pub plain_dispatch : (s : Scenario) (device : DeviceId) (now : ℕ) (link : Link
 plain_dispatch s device now link cause vl cycle = grind (arith, is_cut, way_from, plain_body)
 
 -- what is asked of the record but for its body
-record IsRowRecord (s : Scenario) (hs front back : List Happening) (now : ℕ) (device : DeviceId) (link : LinkId) (cause : ℕ) (vl : VlId) (cycle : ℕ)
-    (body : NoteBody) : Type 0 where
+record IsRowRecord (s : Scenario) (hs front back : List Happening) (now : ℕ) (device : DeviceId) (row : RowId) (link : LinkId) (cause : ℕ) (vl : VlId)
+    (cycle : ℕ) (body : NoteBody) : Type 0 where
   pub dispatches : Dispatches s (hs ++ front) device now link cause vl cycle
+  pub place : dispatches.place ≡ row.0
   pub new : (y : Happening) → IsIn y back → y.note.body ≡ body → ⊥
-  pub late : (y : Happening) → IsIn y back → 5 ≤ rank y.note.body
-  pub rests : (y : Happening) → IsIn y back → Rattle.world_law.specs.world.World.IsAtRest s device now y.note.body
 
-row_record : (s : Scenario) (hs front back : List Happening) (now : ℕ) (device : DeviceId) (link : LinkId) (cause : ℕ) (vl : VlId) (cycle : ℕ) (cut : Bool)
-    → is_cut s link (way_from s.network device link) now ≡ cut
-    → IsRowRecord s hs front back now device link cause vl cycle (body_by cut device link cause vl cycle)
-    → IsActRecord s hs front back now device (body_by cut device link cause vl cycle)
-row_record s hs front back now device link cause vl cycle true is r = record {
-  own = λ m. inr (inl (refl, (vl, cycle, r.dispatches, is)));
-  task = doing (dispatching (record { 0 = r.dispatches.place }) cycle);
-  acts = IsActing.dispatches link cause vl cycle r.dispatches;
-  caused = inr (inl (vl, cycle, r.dispatches, is));
-  fresh = λ y i e. r.new y i (body_at true device link cause vl cycle now (time_of y) (members_in y) y.note.body e);
-  aside = λ y i e. nothing_aside s device now y.note.body (r.late y i) (r.rests y i) e;
-  least = λ b. elim b [ inl lt ↦ omega (arith, lt) | inr c ↦ elim c.1 [ inl lt ↦ omega (arith, lt) | inr d2 ↦ let f = d2.0 in omega (arith, f) ] ];
-  apart = λ other not. (refl, ne_eqb other.0 device.0 not, λ at. refl);
-  lone = last_unfollowed s hs now (kinds.Lost device link cause) refl;
-  no_source = refl;
-}
-row_record s hs front back now device link cause vl cycle false is r = record {
-  own = λ m. refl;
-  task = doing (dispatching (record { 0 = r.dispatches.place }) cycle);
-  acts = IsActing.dispatches link cause vl cycle r.dispatches;
-  caused = record { dispatches = r.dispatches; whole = is };
-  fresh = λ y i e. r.new y i (body_at false device link cause vl cycle now (time_of y) (members_in y) y.note.body e);
-  aside = λ y i e. nothing_aside s device now y.note.body (r.late y i) (r.rests y i) e;
-  least = λ b. elim b [ inl lt ↦ omega (arith, lt) | inr c ↦ elim c.1 [ inl lt ↦ omega (arith, lt) | inr d2 ↦ let f = d2.0 in omega (arith, f) ] ];
-  apart = λ other not. (refl, ne_eqb other.0 device.0 not, λ at. refl);
-  lone = last_unfollowed s hs now (kinds.TtSent device link cause vl cycle) refl;
-  no_source = refl;
-}
+row_record : (s : Scenario) (hs front back : List Happening) (now : ℕ) (device : DeviceId) (row : RowId) (link : LinkId) (cause : ℕ) (vl : VlId) (cycle : ℕ)
+    (cut : Bool) → is_cut s link (way_from s.network device link) now ≡ cut
+    → IsRowRecord s hs front back now device row link cause vl cycle (body_by cut device link cause vl cycle)
+    → IsActRecordAt s hs front back now device (body_by cut device link cause vl cycle) (task_place s.network now device (doing (dispatching row cycle)))
+row_record s hs front back now device row link cause vl cycle true is r =
+    let at = λ (n : ℕ). let place : RowId = record { 0 = n } in task_place s.network now device (doing (dispatching place cycle)) in
+    record {
+      own = λ m. inr (inl (vl, cycle, r.dispatches, is, ap at (sym r.place)));
+      here = subst (λ (n : ℕ). IsSource s (hs ++ front) (at n)) r.place
+          (IsSource.acting now device (doing (dispatching (record { 0 = r.dispatches.place }) cycle)) (IsActing.dispatches link cause vl cycle r.dispatches));
+      caused = inr (inl (vl, cycle, r.dispatches, is));
+      fresh = λ y i e. r.new y i (body_at true device link cause vl cycle now (time_of y) (members_in y) y.note.body e);
+      apart = λ other not. (refl, ne_eqb other.0 device.0 not, λ at. refl);
+      lone = last_unfollowed s hs now (kinds.Lost device link cause) refl;
+    }
+row_record s hs front back now device row link cause vl cycle false is r =
+    let at = λ (n : ℕ). let place : RowId = record { 0 = n } in task_place s.network now device (doing (dispatching place cycle)) in
+    record {
+      own = λ m. (r.dispatches, ap at (sym r.place));
+      here = subst (λ (n : ℕ). IsSource s (hs ++ front) (at n)) r.place
+          (IsSource.acting now device (doing (dispatching (record { 0 = r.dispatches.place }) cycle)) (IsActing.dispatches link cause vl cycle r.dispatches));
+      caused = record { dispatches = r.dispatches; whole = is };
+      fresh = λ y i e. r.new y i (body_at false device link cause vl cycle now (time_of y) (members_in y) y.note.body e);
+      apart = λ other not. (refl, ne_eqb other.0 device.0 not, λ at. refl);
+      lone = last_unfollowed s hs now (kinds.TtSent device link cause vl cycle) refl;
+    }
 
 pub dispatching_record : {M : Type 0} (stands : M → Network → DeviceId → Node → Type 0) (s : Scenario) (hs front back : List Happening) (mark cursor : List ℕ)
     (now : ℕ) (device : DeviceId) (machine : M) (node : Node) (row : RowId) (entry : Entry) (cause cycle : ℕ)
-    → Stage stands s hs (front ++ back) mark cursor now device machine node → IsPending s.network device node (doing (dispatching row cycle))
+    → StageAt stands s hs (front ++ back) mark cursor now device machine node 6 (device.0 ∷ dispatch_order s.network row)
+    → IsPending s.network device node (doing (dispatching row cycle))
     → reading_for s.network node (doing (dispatching row cycle)) ≤ℤ pos (s.reading device now) → IsEntry s.network row.0 entry
     → HasAtHand s.network hs device entry now cause cycle
-    → NoneBefore place_of back (place_of (record_of s.network hs front now (dispatch_body s device now entry.row.link cause entry.row.vl cycle)))
-    → IsActRecord s hs front back now device (dispatch_body s device now entry.row.link cause entry.row.vl cycle)
-dispatching_record stands s hs front back mark cursor now device machine node row entry cause cycle st pending due is hand none =
+    → IsActRecordAt s hs front back now device (dispatch_body s device now entry.row.link cause entry.row.vl cycle)
+    (task_place s.network now device (doing (dispatching row cycle)))
+dispatching_record stands s hs front back mark cursor now device machine node row entry cause cycle st pending due is hand =
     let link = entry.row.link in
     let vl = entry.row.vl in
     let here = dispatches_it s hs (front ++ back) front now device node row entry cause cycle st.work (λ z i. (st.work.of_now z (in_left z front back i)).0)
     pending due is hand in
     let whole = dispatches_it s hs (front ++ back) (front ++ back) now device node row entry cause cycle st.work (λ z i. (st.work.of_now z i).0)
     pending due is hand in
-    let high = dispatch_late s device now link cause vl cycle in
-    row_record s hs front back now device link cause vl cycle (is_cut s link (way_from s.network device link) now) refl (record {
+    row_record s hs front back now device row link cause vl cycle (is_cut s link (way_from s.network device link) now) refl (record {
       dispatches = here.0;
+      place = here.1;
       new = λ y i e.
           pending.1.not_yet (subst (λ (n : ℕ). Contains node.done (dispatching (let r : RowId = record { 0 = n } in r) cycle)) whole.1
           (st.recorded.has_dispatched y (in_right y front back i) link cause vl cycle whole.0
           (ap plain_body e ∙ plain_dispatch s device now link cause vl cycle)));
-      late = λ y i.
-          let at = st.work.of_now y (in_right y front back i) in
-          elim (cases_lt (rank y.note.body) 5) [ inr ge ↦ ge | inl lt ↦ absurd (none y i (inr (at.0, inl (omega (arith, lt, high))))) ];
-      rests = λ y i.
-          let there = in_right y front back i in
-          st.work.still y (in_right y hs (front ++ back) there) (st.work.of_now y there).0;
     })
 
 -- ---- how it stands then
@@ -223,38 +218,7 @@ dispatched_recorded s hs front back new now device node w row link cause vl cycl
     let tells : plain_body w.note.body ≡ dispatch_body s device now link cause vl cycle = ap plain_body e ∙ plain_dispatch s device now link cause vl cycle in
     let high = dispatch_late s device now link cause vl cycle in
     let add = dispatching row cycle ∷ [] in
-    let never_five : (body : NoteBody) (z : Happening) → rank body ≤ 5 → Rattle.world_law.specs.device.Plain.plain z ≡ Rattle.world_law.specs.device.Plain.plain
-    w → plain_body z.note.body ≡ body → ⊥ = λ body z low here is.
-    let same_rank : rank (dispatch_body s device now link cause vl cycle) ≡ rank body = ap rank (sym tells ∙ sym (body_plain z w here) ∙ is) in
-    omega (arith, same_rank, low, high) in
     record {
-      sent = λ c there d. elim (Contains-push_cases node.done (dispatching row cycle) (sending c) there) [
-        | inl before ↦
-            shown_still hs front back new now w (kinds.Sent device c) p
-            (r.sent c before
-            (record {
-              master = d.master;
-              up = up_back s (hs ++ new) old now device (sym same) d.up;
-              begun = d.begun;
-              reached = reaches_back s (hs ++ new) old now device _ (sym same) d.reached;
-            }))
-        | inr is ↦ absurd cc
-      ];
-      emitted = λ c there reach. let x = r.emitted c there reach in (x.0, shown_still hs front back new now w _ p x.1);
-      has_sent = λ z i c is. elim (one_of now front back new w z p i) [
-        | inl y ↦ Contains-append_left node.done add (sending c) (r.has_sent y.0 y.1 c (sym (body_plain z y.0 y.2) ∙ is))
-        | inr here ↦ absurd (never_five (kinds.Sent device c) z (omega arith) here is)
-      ];
-      has_emitted = λ z i c verdict is. elim (one_of now front back new w z p i) [
-        | inl y ↦ r.has_emitted y.0 y.1 c verdict (sym (body_plain z y.0 y.2) ∙ is)
-        | inr here ↦ absurd (never_five (kinds.Compressed device c.opened c.at c.cycle c.members verdict) z (omega arith) here is)
-      ];
-      frames = λ z i c verdict is. elim (one_of now front back new w z p i) [
-        | inl y ↦
-            let f = r.frames y.0 y.1 c verdict (sym (body_plain z y.0 y.2) ∙ is) in
-            record { clusters = f.clusters; are = f.are; cluster = f.cluster; there = f.there; is = f.is }
-        | inr here ↦ absurd (never_five (kinds.Compressed device c.opened c.at c.cycle c.members verdict) z (omega arith) here is)
-      ];
       of_now = λ z i. (put_now s hs front back new now device node w work p z i).0;
       dispatched = λ other from with number d there.
           let x = dispatches_same s (hs ++ new) old now device other from with number (sym same) d in
@@ -281,11 +245,6 @@ dispatched_recorded s hs front back new now device node w row link cause vl cycl
                 subst (λ (n : ℕ). Contains (node.done ++ add) (dispatching (let q : RowId = record { 0 = n } in q) number)) at
                 (subst (λ (n : ℕ). Contains (node.done ++ add) (dispatching row n)) one.1 (Contains-push node.done (dispatching row cycle)))
           ];
-      ordered = λ z i c verdict is d waits due. elim (one_of now front back new w z p i) [
-        | inl y ↦
-            r.ordered y.0 y.1 c verdict (sym (body_plain z y.0 y.2) ∙ is) d (waiting_alike s.network device node after d refl (λ x there. there) waits) due
-        | inr here ↦ absurd (never_five (kinds.Compressed device c.opened c.at c.cycle c.members verdict) z (omega arith) here is)
-      ];
     }
   where
     row_of : (row : RowId) (place m n : ℕ) → dispatching row m ≡ dispatching (record { 0 = place }) n → row.0 ≡ place
@@ -294,7 +253,7 @@ dispatched_recorded s hs front back new now device node w row link cause vl cycl
 -- the node that has dispatched, among the records with its own
 pub has_dispatched_it : {M : Type 0} (stands : M → Network → DeviceId → Node → Type 0) (s : Scenario) (hs front back : List Happening) (mark cursor : List ℕ)
     (now : ℕ) (device : DeviceId) (machine then_ : M) (node after : Node) (row : RowId) (entry : Entry) (cause cycle : ℕ)
-    → Stage stands s hs (front ++ back) mark cursor now device machine node
+    → StageAt stands s hs (front ++ back) mark cursor now device machine node 6 (device.0 ∷ dispatch_order s.network row)
     → IsFirstTask s.network device node (moment_of s device now).reading.0 (doing (dispatching row cycle))
     → IsActOf s.network device node (moment_of s device now) (acts.Dispatch row cycle) after
     → after ≡ called (moment_of s device now) acting (with_done node (dispatching row cycle)) → stands then_ s.network device after
@@ -331,6 +290,6 @@ has_dispatched_it stands s hs front back mark cursor now device machine then_ no
       recorded = subst (λ (n : Node). AreRecorded s (hs ++ new) new now device n) (sym is) told;
       cleared = subst HasCleared (sym is) cleared;
       taken = ap (λ (n : Node). n.taken) is
-          ∙ taken_then stands s hs front back mark cursor now device machine node w st refl (none_taken s device device now link cause vl cycle);
+          ∙ taken_then stands s hs front back mark cursor now device machine node w 6 (device.0 ∷ dispatch_order s.network row) st refl (none_taken s device device now link cause vl cycle);
       phase = ap (λ (n : Node). n.phase) is;
     }

@@ -1,14 +1,14 @@
 -- A compression master that has emitted, and has not joined by its own frame, is at work still.
 use Rattle.{run_law.specs.machines.Answers.{after_emission, hearings}, world_law.proofs.steps_lemmas.acting.{Stays.{IsSameBut, heard_by_these}, Work.IsAtWork}}
 use Rattle.{run_law.specs.{records.Frames.integration_frame, scenario.Devices.channel_of}, std.proofs.Common.Contains}
-use Rattle.world_law.proofs.steps_lemmas.Words.{◌++◌, ◌+◌, ◌<ℤ◌, ◌∙◌, ◌∷◌, ◌≡◌, ◌≤ℤ◌, ◌≤◌, AreClusters, AreRecorded, Bool, Channel, Compressed}
-use Rattle.world_law.proofs.steps_lemmas.Words.{Contains-append_left, Contains-push, Contains-push_cases, DeviceId, Happening, HasDoneFrom, Hearing, IsAlike}
-use Rattle.world_law.proofs.steps_lemmas.Words.{IsFirstTask, IsFrameOf, IsIn, IsReadyAt, Judgement, List, Moment, Network, Node, None, Option, Pcf, RowId}
-use Rattle.world_law.proofs.steps_lemmas.Words.{Scenario, Some, Units, [], acting, amount, ap, append-nil, arith, called, cases_lt, changed_at, cons_option}
-use Rattle.world_law.proofs.steps_lemmas.Words.{dispatch_body, dispatch_late, dispatches_same, dispatching, emitting, false, hearing_by, if◌then◌else◌, inl}
-use Rattle.world_law.proofs.steps_lemmas.Words.{inr, moves, observation_window, option_map, option_map_or, option_to_list, plain_body, pos, rank, reaches_back}
-use Rattle.world_law.proofs.steps_lemmas.Words.{refl, ripe_as, self, sending, subst, sym, true, undone_alike, up_back, value_of, waiting_alike, ℕ, ℤ}
-use Rattle.world_law.proofs.steps_lemmas.acting.GoesOn.{IsPutAs, body_plain, earlier_put, goes_on, left_on, one_of, put_now, shown_now, shown_still}
+use Rattle.world_law.proofs.steps_lemmas.Words.{◌++◌, ◌+◌, ◌<ℤ◌, ◌∙◌, ◌∷◌, ◌≡◌, ◌≤ℤ◌, AreRecorded, Bool, Channel, Compressed}
+use Rattle.world_law.proofs.steps_lemmas.Words.{Contains-append_left, Contains-push_cases, DeviceId, Happening, HasDoneFrom, Hearing, IsAlike}
+use Rattle.world_law.proofs.steps_lemmas.Words.{IsIn, IsReadyAt, Judgement, List, Moment, Network, Node, None, Option, Pcf, RowId}
+use Rattle.world_law.proofs.steps_lemmas.Words.{Scenario, Some, Units, [], acting, ap, append-nil, arith, called, changed_at, cons_option}
+use Rattle.world_law.proofs.steps_lemmas.Words.{dispatch_body, dispatch_late, dispatches_same, dispatching, false, hearing_by, if◌then◌else◌, inl}
+use Rattle.world_law.proofs.steps_lemmas.Words.{inr, moves, option_map, option_map_or, option_to_list, plain_body, pos, rank}
+use Rattle.world_law.proofs.steps_lemmas.Words.{refl, ripe_as, self, subst, sym, true, undone_alike, value_of, waiting_alike, ℕ, ℤ}
+use Rattle.world_law.proofs.steps_lemmas.acting.GoesOn.{IsPutAs, body_plain, earlier_put, goes_on, left_on, one_of, put_now, shown_still}
 use Rattle.run_law.specs.declared.judgement.Judgement.TheVariants as judgements
 use Rattle.run_law.specs.declared.note.NoteBody.TheVariants as kinds
 
@@ -119,70 +119,17 @@ emits_on s hs front back new now device node after w sent work p x none due read
       ];
     }) ready
 
-one_compressed : (a b : Compressed) → a.opened ≡ b.opened → a.at ≡ b.at → a.cycle ≡ b.cycle → a.members ≡ b.members → a ≡ b
-one_compressed a b o t c m = grind arith
-
-pub same_compressed : (device : DeviceId) (a b : Compressed) (v u : Judgement)
-    → kinds.Compressed device a.opened a.at a.cycle a.members v ≡ kinds.Compressed device b.opened b.at b.cycle b.members u → a ≡ b
-same_compressed device a b v u e = grind (arith, one_compressed)
-
 -- and the records tell what it has emitted
 pub emitted_recorded : (s : Scenario) (hs front back new : List Happening) (now : ℕ) (device : DeviceId) (node after : Node) (w : Happening) (sent : Compressed)
     (v : Judgement)
     → IsAtWork s hs (front ++ back) now device node → AreRecorded s (hs ++ (front ++ back)) (front ++ back) now device node → IsPutAs now front back new w
     → IsEmitted s.network device node after w sent → w.note.body ≡ kinds.Compressed device sent.opened sent.at sent.cycle sent.members v
-    → IsFirstTask s.network device node (pos (s.reading device now)) (emitting sent) → AreRecorded s (hs ++ new) new now device after
-emitted_recorded s hs front back new now device node after w sent v work r p x e first =
+    → AreRecorded s (hs ++ new) new now device after
+emitted_recorded s hs front back new now device node after w sent v work r p x e =
     let old = hs ++ (front ++ back) in
     let same = earlier_put s hs front back new now device node w work p in
     let tells : plain_body w.note.body ≡ kinds.Compressed device sent.opened sent.at sent.cycle sent.members v = ap plain_body e in
     record {
-      sent = λ c there d.
-          shown_still hs front back new now w (kinds.Sent device c) p
-          (r.sent c (subst (λ l. Contains l (sending c)) x.done there)
-          (record {
-            master = d.master;
-            up = up_back s (hs ++ new) old now device (sym same) d.up;
-            begun = d.begun;
-            reached = reaches_back s (hs ++ new) old now device _ (sym same) d.reached;
-          }));
-      emitted = λ c there reach. elim (Contains-push_cases node.emitted sent c (subst (λ l. Contains l c) x.emitted there)) [
-        | inl before ↦ let y = r.emitted c before reach in (y.0, shown_still hs front back new now w _ p y.1)
-        | inr is ↦ (
-          v,
-          shown_now hs front back new now w (kinds.Compressed device c.opened c.at c.cycle c.members v) p
-              (tells ∙ ap (λ (d : Compressed). kinds.Compressed device d.opened d.at d.cycle d.members v) is),
-        )
-      ];
-      has_sent = λ z i c is. elim (one_of now front back new w z p i) [
-        | inl y ↦ subst (λ l. Contains l (sending c)) (sym x.done) (r.has_sent y.0 y.1 c (sym (body_plain z y.0 y.2) ∙ is))
-        | inr here ↦
-            let bodies : kinds.Compressed device sent.opened sent.at sent.cycle sent.members v ≡ kinds.Sent device c = sym tells ∙ sym (body_plain z w here)
-            ∙ is in
-            absurd cc
-      ];
-      has_emitted = λ z i c verdict is. subst (λ l. Contains l c) (sym x.emitted) (elim (one_of now front back new w z p i) [
-        | inl y ↦ Contains-append_left node.emitted (sent ∷ []) c (r.has_emitted y.0 y.1 c verdict (sym (body_plain z y.0 y.2) ∙ is))
-        | inr here ↦
-            let one = same_compressed device sent c v verdict (sym tells ∙ sym (body_plain z w here) ∙ is) in
-            subst (λ (d : Compressed). Contains (node.emitted ++ sent ∷ []) d) one (Contains-push node.emitted sent)
-      ]);
-      frames = λ z i c verdict is.
-          let of_points : IsFrameOf s.network node c = elim (one_of now front back new w z p i) [
-            | inl y ↦ r.frames y.0 y.1 c verdict (sym (body_plain z y.0 y.2) ∙ is)
-            | inr here ↦
-                let one = same_compressed device sent c v verdict (sym tells ∙ sym (body_plain z w here) ∙ is) in
-                let q = first.pending.1 in
-                subst (λ (d : Compressed). IsFrameOf s.network node d) one
-                (let f : IsFrameOf s.network node sent = record { clusters = q.clusters; are = q.are; cluster = q.cluster; there = q.there; is = q.is } in f)
-          ] in
-          record {
-            clusters = of_points.clusters;
-            are = subst (λ ps. AreClusters (observation_window s.network) ps of_points.clusters) (sym x.but.points) of_points.are;
-            cluster = of_points.cluster;
-            there = of_points.there;
-            is = of_points.is;
-          };
       of_now = λ z i. (put_now s hs front back new now device node w work p z i).0;
       dispatched = λ link cause vl c d there.
           let q = dispatches_same s (hs ++ new) old now device link cause vl c (sym same) d in
@@ -200,18 +147,5 @@ emitted_recorded s hs front back new now device node after w sent v work r p x e
                 let high = dispatch_late s device now link cause vl c in
                 let four : rank (dispatch_body s device now link cause vl c) ≡ 4 = ap rank (sym is ∙ body_plain z w here ∙ tells) in
                 absurd (omega (arith, high, four))
-          ];
-      ordered = λ z i c verdict is d waits due.
-          let waited = waiting_alike s.network device node after d x.but.points (λ y there. subst (λ l. Contains l y) (sym x.emitted)
-          (Contains-append_left node.emitted (sent ∷ []) y there)) waits in
-          elim (one_of now front back new w z p i) [
-            | inl y ↦ r.ordered y.0 y.1 c verdict (sym (body_plain z y.0 y.2) ∙ is) d waited due
-            | inr here ↦
-                let one = same_compressed device sent c v verdict (sym tells ∙ sym (body_plain z w here) ∙ is) in
-                let le : amount sent.opened ≤ amount d.opened = elim (cases_lt (amount d.opened) (amount sent.opened)) [
-                  | inr ge ↦ ge
-                  | inl lt ↦ absurd (first.first (emitting d) (first.pending.0, waited) due (inr (refl, inl lt)))
-                ] in
-                subst (λ (k : Compressed). amount k.opened ≤ amount d.opened) one le
           ];
     }

@@ -1,12 +1,12 @@
 -- A device that has acted, and has more to do at the instant, is at work still.
 use Rattle.{std.proofs.Common.Contains, world_law.proofs.acts.Acted.done_more}
-use Rattle.world_law.proofs.steps_lemmas.Words.{◌++◌, ◌+◌, ◌-ℤ◌, ◌∙◌, ◌∷◌, ◌≡◌, ◌≤ℤ◌, ◌≤◌, ◌⊎◌, AreRecorded, ClockTask, Contains-append_left, Contains-push}
+use Rattle.world_law.proofs.steps_lemmas.Words.{◌++◌, ◌+◌, ◌-ℤ◌, ◌∙◌, ◌∷◌, ◌≡◌, ◌≤ℤ◌, ◌≤◌, ◌⊎◌, AreRecorded, ClockTask, Contains-append_left}
 use Rattle.world_law.proofs.steps_lemmas.Words.{Contains-push_cases, DeviceId, Happening, HasDoneFrom, HasSentFrom, Hearing, IsAtRest, IsIn, IsLeft, IsReadyAt}
 use Rattle.world_law.proofs.steps_lemmas.Words.{IsShown, List, Moment, Network, Node, None, NoteBody, Option, RowId, Scenario, [], acting, ap, append-nil}
 use Rattle.world_law.proofs.steps_lemmas.Words.{arith, called, changed_at, changed_before, dispatch_body, dispatch_late, dispatches_same, dispatching, doing}
 use Rattle.world_law.proofs.steps_lemmas.Words.{earlier, false, heard_since, hearing_by, in_left, in_parts, in_right, inl, inr, is_turning, moves}
-use Rattle.world_law.proofs.steps_lemmas.Words.{option_to_list, plain, plain_body, plains, plains_parts, pos, rank, rank_plain, reaches_back, reading_for, refl}
-use Rattle.world_law.proofs.steps_lemmas.Words.{sending, subst, sym, time_of, told_by_others, undone_alike, up_back, value_of, waiting_alike, with_done, ℕ}
+use Rattle.world_law.proofs.steps_lemmas.Words.{option_to_list, plain, plain_body, plains, plains_parts, pos, rank, rank_plain, reading_for, refl}
+use Rattle.world_law.proofs.steps_lemmas.Words.{sending, subst, sym, time_of, told_by_others, undone_alike, value_of, waiting_alike, with_done, ℕ}
 use Rattle.world_law.proofs.steps_lemmas.acting.{Stays.{IsSameBut, heard_by_these, heard_put, in_plains, left_now, points_put}, Work.{IsAtWork, all_earlier}}
 use Rattle.run_law.specs.declared.note.NoteBody.TheVariants as kinds
 
@@ -188,71 +188,29 @@ pub sent_recorded : (s : Scenario) (hs front back new : List Happening) (now : �
     → IsAtWork s hs (front ++ back) now device node → AreRecorded s (hs ++ (front ++ back)) (front ++ back) now device node → IsPutAs now front back new w
     → w.note.body ≡ kinds.Sent device cycle → AreRecorded s (hs ++ new) new now device (called moment acting (with_done node (sending cycle)))
 sent_recorded s hs front back new now device node w cycle moment work r p e =
-    let after = called moment acting (with_done node (sending cycle)) in
     let old = hs ++ (front ++ back) in
     let same = earlier_put s hs front back new now device node w work p in
     let tells : plain_body w.note.body ≡ kinds.Sent device cycle = ap plain_body e in
     record {
-      sent = λ c there d. elim (Contains-push_cases node.done (sending cycle) (sending c) there) [
-        | inl before ↦
-            shown_still hs front back new now w (kinds.Sent device c) p
-            (r.sent c before
-            (record {
-              master = d.master;
-              up = up_back s (hs ++ new) old now device (sym same) d.up;
-              begun = d.begun;
-              reached = reaches_back s (hs ++ new) old now device _ (sym same) d.reached;
-            }))
-        | inr is ↦
-            let one : cycle ≡ c = cc in
-            shown_now hs front back new now w (kinds.Sent device c) p (tells ∙ ap (kinds.Sent device) one)
-      ];
-      emitted = λ c there reach. let x = r.emitted c there reach in (x.0, shown_still hs front back new now w _ p x.1);
-      has_sent = λ z i c is. elim (one_of now front back new w z p i) [
-        | inl y ↦ Contains-append_left node.done (sending cycle ∷ []) (sending c) (r.has_sent y.0 y.1 c (sym (body_plain z y.0 y.2) ∙ is))
-        | inr here ↦
-            let bodies : kinds.Sent device c ≡ kinds.Sent device cycle = sym is ∙ body_plain z w here ∙ tells in
-            let one : c ≡ cycle = cc in
-            subst (λ (n : ℕ). Contains (node.done ++ sending cycle ∷ []) (sending n)) (sym one) (Contains-push node.done (sending cycle))
-      ];
-      has_emitted = λ z i c verdict is. elim (one_of now front back new w z p i) [
-        | inl y ↦ r.has_emitted y.0 y.1 c verdict (sym (body_plain z y.0 y.2) ∙ is)
-        | inr here ↦
-            let bodies : kinds.Compressed device c.opened c.at c.cycle c.members verdict ≡ kinds.Sent device cycle = sym is ∙ body_plain z w here ∙ tells in
-            absurd cc
-      ];
-      frames = λ z i c verdict is. elim (one_of now front back new w z p i) [
-        | inl y ↦
-            let f = r.frames y.0 y.1 c verdict (sym (body_plain z y.0 y.2) ∙ is) in
-            record { clusters = f.clusters; are = f.are; cluster = f.cluster; there = f.there; is = f.is }
-        | inr here ↦
-            let bodies : kinds.Compressed device c.opened c.at c.cycle c.members verdict ≡ kinds.Sent device cycle = sym is ∙ body_plain z w here ∙ tells in
-            absurd cc
-      ];
       of_now = λ z i. (put_now s hs front back new now device node w work p z i).0;
       dispatched = λ link cause vl c d there.
-          let x = dispatches_same s (hs ++ new) old now device link cause vl c (sym same) d in
-          let before : Contains node.done (dispatching (record { 0 = d.place }) c) =
-          elim (Contains-push_cases node.done (sending cycle) (dispatching (record { 0 = d.place }) c) there) [ inl b ↦ b | inr is ↦ absurd cc ] in
-          shown_still hs front back new now w _ p (r.dispatched link cause vl c x.0
-          (subst (λ (n : ℕ). Contains node.done (dispatching (let row : RowId = record { 0 = n } in row) c)) (sym x.1) before));
+          let q = dispatches_same s (hs ++ new) old now device link cause vl c (sym same) d in
+          elim (Contains-push_cases node.done (sending cycle) (dispatching (record { 0 = d.place }) c) there) [
+            | inl before ↦
+                shown_still hs front back new now w _ p (r.dispatched link cause vl c q.0
+                (subst (λ (n : ℕ). Contains node.done (dispatching (let row : RowId = record { 0 = n } in row) c)) (sym q.1) before))
+            | inr is ↦ absurd cc
+          ];
       has_dispatched = λ z i link cause vl c d is.
-          let x = dispatches_same s (hs ++ new) old now device link cause vl c (sym same) d in
+          let q = dispatches_same s (hs ++ new) old now device link cause vl c (sym same) d in
           elim (one_of now front back new w z p i) [
             | inl y ↦
                 Contains-append_left node.done (sending cycle ∷ []) (dispatching (record { 0 = d.place }) c)
-                (subst (λ (n : ℕ). Contains node.done (dispatching (let row : RowId = record { 0 = n } in row) c)) x.1
-                (r.has_dispatched y.0 y.1 link cause vl c x.0 (sym (body_plain z y.0 y.2) ∙ is)))
+                (subst (λ (n : ℕ). Contains node.done (dispatching (let row : RowId = record { 0 = n } in row) c)) q.1
+                (r.has_dispatched y.0 y.1 link cause vl c q.0 (sym (body_plain z y.0 y.2) ∙ is)))
             | inr here ↦
                 let high = dispatch_late s device now link cause vl c in
                 let five : rank (dispatch_body s device now link cause vl c) ≡ 5 = ap rank (sym is ∙ body_plain z w here ∙ tells) in
                 absurd (omega (arith, high, five))
           ];
-      ordered = λ z i c verdict is d waits due. elim (one_of now front back new w z p i) [
-        | inl y ↦
-            r.ordered y.0 y.1 c verdict (sym (body_plain z y.0 y.2) ∙ is) d (waiting_alike s.network device node after d refl (λ x there. there) waits) due
-        | inr here ↦
-            let bodies : kinds.Compressed device c.opened c.at c.cycle c.members verdict ≡ kinds.Sent device cycle = sym is ∙ body_plain z w here ∙ tells in
-            absurd cc
-      ];
     }

@@ -1,6 +1,6 @@
 -- A frame that a switch dispatches is stored: it is that of the last record by which the switch took one.
 use Rattle.{run_law.{proofs.law.FirstPlaces.in_filter, specs.machines.Tasks.HasFrame}, std.proofs.Common.◌*◌}
-use Rattle.{run_law.specs.records.Happenings.octets_from, world_law.proofs.{rows.Reached.IsForwarded, steps_lemmas.acting.{Stage.Stage, Work.reaches}}}
+use Rattle.{run_law.specs.records.Happenings.octets_from, world_law.proofs.{rows.Reached.IsForwarded, steps_lemmas.acting.{Stage.StageAt, Work.reaches}}}
 use Rattle.{run_law.specs.timed.Dispatching.{HasAccepted, last_accepted}, world_law.proofs.rows.AtHand.{IsReaching, at_hand, filter_earlier, taken_sooner}}
 use Rattle.world_law.proofs.steps_lemmas.Words.{◌++◌, ◌+◌, ◌≡◌, ◌≤ℤ◌, ◌≤◌, Bool, DeviceId, Entry, Happening, HasAtHand, IsIn, IsPending, List, Network, Node}
 use Rattle.world_law.proofs.steps_lemmas.Words.{None, Reaches, RowId, Scenario, Some, VlId, amount, ap, arith, by_number, dispatching, doing, earlier}
@@ -26,11 +26,11 @@ stored_of hs stored device vl taking e are last there of_device of_vl = grind ar
 
 -- a switch that has to dispatch a row of which it is not the sender holds its frame
 pub held_frame : {M : Type 0} (stands : M → Network → DeviceId → Node → Type 0) (s : Scenario) (hs coming : List Happening) (mark cursor : List ℕ) (now : ℕ)
-    (device : DeviceId) (machine : M) (node : Node) (row : RowId) (cycle : ℕ) (stored : List Stored)
-    → Stage stands s hs coming mark cursor now device machine node → AreStored hs stored → (p : IsPending s.network device node (doing (dispatching row cycle)))
+    (device : DeviceId) (machine : M) (node : Node) (row : RowId) (cycle : ℕ) (stored : List Stored) (r : ℕ) (more : List ℕ)
+    → StageAt stands s hs coming mark cursor now device machine node r more → AreStored hs stored → (p : IsPending s.network device node (doing (dispatching row cycle)))
     → reading_for s.network node (doing (dispatching row cycle)) ≤ℤ pos (s.reading device now)
     → (p.1.own.1.entry.vl.sender ≡ device → ⊥) → IsHeldFrame s hs stored now device p.1.own.1.entry cycle
-held_frame stands s hs coming mark cursor now device machine node row cycle stored st are p due other =
+held_frame stands s hs coming mark cursor now device machine node row cycle stored r more st are p due other =
     let has : HasFrame s.network device node row cycle = p.1.own.1 in
     let entry = has.entry in
     let reached : Reaches s (hs ++ coming) device (pos (cycle * amount s.network.cycle + amount entry.row.offset)) now =

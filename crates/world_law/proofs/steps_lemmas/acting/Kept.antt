@@ -3,11 +3,14 @@ use Rattle.world_law.proofs.acts.Acted.{acted}
 use Rattle.world_law.{proofs.{acts.Ready.acting_last, putting.Idle.drop_one, steps_lemmas.acting.{Over.IsOver, Work.IsAtWork}}, specs.device.Takings.taken_by}
 use Rattle.world_law.proofs.{rows.Takings.{frames_plain, taken_parts, taken_same}, steps_lemmas.Words.{time_of, true, unsigned_abs, whole, ℕ, ℤ}}
 use Rattle.world_law.proofs.steps_lemmas.Words.{◌++◌, ◌+ℤ◌, ◌+◌, ◌<ℤ◌, ◌^◌, ◌∙◌, ◌∷◌, ◌≡◌, ◌≤ℤ◌, ◌≤◌, Act, AreRecorded, AsyncClique, Bool, Cleared, Corrected}
-use Rattle.world_law.proofs.steps_lemmas.Words.{DeviceId, Happening, HasCleared, HasTaskBy, HasTurnedOn, IsActOf, IsBefore, IsIn, IsKept, IsNoTaking, IsReadyAt}
+use Rattle.world_law.proofs.steps_lemmas.Words.{DeviceId, Happening, HasCleared, HasTurnedOn, IsActOf, IsBefore, IsIn, IsKept, IsNoTaking, IsReadyAt}
 use Rattle.world_law.proofs.steps_lemmas.Words.{IsSteady, List, MayCall, Moment, Network, Node, Scenario, SyncClique, TakenFrame, [], act_place, acting}
-use Rattle.world_law.proofs.steps_lemmas.Words.{acts_before, adjustment_after, amount, ap, append_assoc, arith, before_behind, behind, both_ways, bump_behind}
+use Rattle.world_law.proofs.steps_lemmas.Words.{◌<◌, ◌⊎◌, Dispatches, HadComeTo, HasDoneFrom, HasDoneTask, HasSentFrom, HasWorkedTo, IsActedOut, IsActing}
+use Rattle.world_law.proofs.steps_lemmas.Words.{IsJoiningNow, Task, append-nil, changed_at, changed_before, doing, emitting, rows_place, task_place}
+use Rattle.world_law.proofs.steps_lemmas.acting.Starts.{changed_soon}
+use Rattle.world_law.proofs.steps_lemmas.Words.{adjustment_after, amount, ap, append_assoc, arith, before_behind, behind, both_ways, bump_behind}
 use Rattle.world_law.proofs.steps_lemmas.Words.{chain, earlier, false, frames_taken, if◌then◌else◌, inl, inr, ints, is_broken, is_cm, is_synchronised}
-use Rattle.world_law.proofs.steps_lemmas.Words.{is_turned_on_at, le-ltb, local_before, map, moment_of, nat_lt, never_self, placed, plains, pos, reading_for}
+use Rattle.world_law.proofs.steps_lemmas.Words.{is_turned_on_at, le-ltb, local_before, map, moment_of, nat_lt, placed, plains, pos, reading_for}
 use Rattle.world_law.proofs.steps_lemmas.Words.{refl, subst, sym}
 use Rattle.run_law.specs.declared.steps.Act.TheVariants as acts
 
@@ -92,64 +95,119 @@ bare_act network device node moment (acts.Dispatch row cycle) new is bare = subs
 no_step : (now : ℕ) → now ≡ now + 1 → ⊥
 no_step now e = omega (arith, e)
 
--- while it has more to do at the instant
-pub kept_at_work : {M : Type 0} (stands : M → Network → DeviceId → Node → Type 0) (s : Scenario) (hs new : List Happening) (now : ℕ) (device : DeviceId)
-    (machine : M) (after : Node) → stands machine s.network device after → IsAtWork s hs new now device after
+-- where it has done so by the times, and what it has done at the instant is before the frontier
+pub to_worked : (s : Scenario) (device : DeviceId) (node : Node) (changed up now : ℕ) (frontier : List ℕ)
+    → HasDoneFrom s.network (s.reading device) device node changed up (now + 1) → HasSentFrom s device node up (now + 1)
+    → ((task : Task) → HasDoneTask node task → HadComeTo s device node changed now task ⊎ IsBefore (task_place s.network now device task) frontier)
+    → changed ≤ now → ((x y : ℕ) → x ≤ y → s.reading device x ≤ s.reading device y) → IsBefore (act_place now device) frontier
+    → HasWorkedTo s device node changed up frontier
+to_worked s device node changed up now frontier done sent worked le falls past =
+    let over : (x : ℕ) (task : Task) → x < now → IsBefore (task_place s.network x device task) frontier = λ x task lt.
+    chain (task_place s.network x device task) (act_place now device) frontier (inl lt) past in
+    record {
+      undone = done.undone;
+      done = λ deed there. elim (worked (doing deed) there) [
+        | inl sooner ↦ (sooner.0, sooner.1, over sooner.0 (doing deed) sooner.2, sooner.3)
+        | inr gone ↦
+            let x = done.done deed there in
+            let fell = falls x.0 now (omega (arith, x.2)) in
+            (now, le, gone, omega (arith, ints, x.3, fell))
+      ];
+      unsent = sent.unsent;
+      sent = λ c there. elim (worked (emitting c) there) [
+        | inl sooner ↦ (sooner.0, over sooner.0 (emitting c) sooner.1, sooner.2)
+        | inr gone ↦
+            let x = sent.sent c there in
+            let fell = falls x.0 now (omega (arith, x.1)) in
+            (now, gone, omega (arith, ints, x.2, fell))
+      ];
+    }
+
+-- the last call of its machine was not later than such a frontier
+pub acted_phase : (node : Node) (device : DeviceId) (now : ℕ) (cursor : List ℕ) → node.phase ≡ acting → IsBefore (act_place now device) cursor
+    → (p : List ℕ) → IsBefore p (now ∷ Rattle.world_law.specs.world.World.rank_of_call node.phase ∷ []) → IsBefore p cursor
+acted_phase node device now cursor phase past p b =
+    chain p (act_place now device) cursor
+    (chain p (now ∷ 4 ∷ []) (act_place now device)
+    (subst (λ (f : _). IsBefore p (now ∷ Rattle.world_law.specs.world.World.rank_of_call f ∷ [])) phase b) (inr (refl, inr (refl, tt)))) past
+
+-- while the instant is not over for it
+pub kept_on : {M : Type 0} (stands : M → Network → DeviceId → Node → Type 0) (s : Scenario) (hs new : List Happening) (cursor : List ℕ) (now : ℕ)
+    (device : DeviceId) (machine : M) (after : Node) → stands machine s.network device after → IsAtWork s hs new now device after
     → AreRecorded s (hs ++ new) new now device after → HasCleared after → after.taken ≡ frames_taken s (hs ++ new) device
-    → IsBare s.network device after → HasTaskBy s device after now
-    → (is_turned_on_at s device now ≡ true → HasTurnedOn s hs new (act_place now device) device now) → after.phase ≡ acting
-    → IsKept stands s hs new (act_place now device) now device machine
-kept_at_work stands s hs new now device machine after is work recorded cleared taken bare task turned phase = record {
+    → IsBare s.network device after
+    → (is_turned_on_at s device now ≡ true → HasTurnedOn s hs new cursor device now) → after.phase ≡ acting → IsBefore (act_place now device) cursor
+    → ((x y : ℕ) → x ≤ y → s.reading device x ≤ s.reading device y)
+    → ((task : Task) → IsBefore (task_place s.network now device task) cursor → IsActing s hs now device task → HasDoneTask after task)
+    → ((task : Task) → HasDoneTask after task
+    → HadComeTo s device after (changed_at (hs ++ new) device now) now task ⊎ IsBefore (task_place s.network now device task) cursor)
+    → IsKept stands s hs new cursor now device machine
+kept_on stands s hs new cursor now device machine after is work recorded cleared taken bare turned phase past falls did worked = record {
   node = after;
   is = is;
   sound = work.sound;
   up = now;
-  acted = inl (refl, λ t b. absurd (never_self (act_place now device) (acts_before s.network now device t (act_place now device) b)));
+  acted = inl (refl, did);
   told = λ over. absurd (no_step now over);
   left = work.left;
   taken = taken;
   bare = bare;
-  worked = inr (refl, record { taken_up = λ p b. b; due = task; done = work.done; sent = work.sent });
+  worked = to_worked s device after (changed_at (hs ++ new) device now) now now cursor work.done work.sent worked (changed_before (hs ++ new) device now) falls
+      past;
   ready = work.ready;
   still = λ same. work.still;
   turned = turned;
   cleared = cleared;
   recorded = λ same. recorded;
-  phase = λ at p b.
-      chain p (now ∷ 4 ∷ []) (act_place now device)
-      (subst (λ (f : _). IsBefore p (now ∷ Rattle.world_law.specs.world.World.rank_of_call f ∷ [])) phase b) (inr (refl, inr (refl, tt)));
+  phase = λ at. acted_phase after device now cursor phase past;
 }
 
--- and where the instant is over for it
-pub kept_over : {M : Type 0} (stands : M → Network → DeviceId → Node → Type 0) (s : Scenario) (hs new : List Happening) (now : ℕ) (device : DeviceId)
-    (machine : M) (after : Node) → stands machine s.network device after → is_broken s device now ≡ false → IsOver s (hs ++ new) now device after
-    → IsReadyAt (s.reading device) s.network device after now → HasCleared after → after.taken ≡ frames_taken s (hs ++ new) device
-    → IsBare s.network device after → (is_turned_on_at s device now ≡ true → HasTurnedOn s hs new (behind (act_place now device)) device now)
-    → after.phase ≡ acting → IsKept stands s hs new (behind (act_place now device)) now device machine
-kept_over stands s hs new now device machine after is sound over ready cleared taken bare turned phase =
-    let here = act_place now device in
-    record {
-      node = after;
-      is = is;
-      sound = sound;
-      up = now + 1;
-      acted = inr (refl, λ p b. chain p here (behind here) (under p b) (before_behind here));
-      told = λ same. inl (before_behind here);
-      left = over.left;
-      taken = taken;
-      worked = inl (record { done = over.done; sent = over.sent });
-      bare = bare;
-      ready = ready;
-      still = λ same. absurd (no_step now (sym same));
-      turned = turned;
-      cleared = cleared;
-      recorded = λ same. absurd (no_step now (sym same));
-      phase = λ at p b.
-          chain p here (behind here)
-          (chain p (now ∷ 4 ∷ []) here (subst (λ (f : _). IsBefore p (now ∷ Rattle.world_law.specs.world.World.rank_of_call f ∷ [])) phase b)
-          (inr (refl, inr (refl, tt))))
-          (before_behind here);
-    }
+-- no row of it is dispatched at the instant
+abbrev pub NoneDispatched : Scenario → List Happening → ℕ → DeviceId → Type 0
+NoneDispatched s hs now device =
+    (other : List Happening) → ((z : Happening) → IsIn z other → time_of z ≡ now) → (link : _) (cause : ℕ) (vl : _) (cycle : ℕ)
+    → Dispatches s (hs ++ other) device now link cause vl cycle → ⊥
+
+-- so its acts are worked off behind its correction point
+pub out_by_acts : (s : Scenario) (hs : List Happening) (now : ℕ) (device : DeviceId) → NoneDispatched s hs now device
+    → IsActedOut s hs now device (behind (rows_place now device))
+out_by_acts s hs now device none = record { past = inr (refl, inl (omega arith)); all = all_of }
   where
-    under : (p : List ℕ) → IsBefore p (now ∷ 3 ∷ []) → IsBefore p (act_place now device)
-    under p b = chain p (now ∷ 3 ∷ []) (act_place now device) b (inr (refl, inl (omega arith)))
+    all_of : (task : Task) → IsActing s hs now device task → IsBefore (task_place s.network now device task) (behind (rows_place now device))
+    all_of task (IsActing.emits sent verdict e) = inr (refl, inl (omega arith))
+    all_of task (IsActing.sends cycle d) = inr (refl, inl (omega arith))
+    all_of task (IsActing.corrects cycle c) = before_behind (rows_place now device)
+    all_of task (IsActing.dispatches link cause vl cycle d) =
+        absurd (none [] (λ z i. absurd i) link cause vl cycle
+        (subst (λ (l : List Happening). Dispatches s l device now link cause vl cycle) (sym (append-nil hs)) d))
+
+-- and where it is over: its acts are worked off, or its own frame tells it the time
+pub kept_over : {M : Type 0} (stands : M → Network → DeviceId → Node → Type 0) (s : Scenario) (hs new : List Happening) (cursor : List ℕ) (now : ℕ)
+    (device : DeviceId) (machine : M) (after : Node) → stands machine s.network device after → is_broken s device now ≡ false
+    → IsOver s (hs ++ new) now device after → IsReadyAt (s.reading device) s.network device after now → HasCleared after
+    → after.taken ≡ frames_taken s (hs ++ new) device → IsBare s.network device after
+    → (is_turned_on_at s device now ≡ true → HasTurnedOn s hs new cursor device now)
+    → after.phase ≡ acting → ((x y : ℕ) → x ≤ y → s.reading device x ≤ s.reading device y)
+    → ((task : Task) → HasDoneTask after task
+    → HadComeTo s device after (changed_at (hs ++ new) device (now + 1)) now task ⊎ IsBefore (task_place s.network now device task) cursor)
+    → IsBefore (act_place now device) cursor → IsActedOut s hs now device cursor ⊎ IsJoiningNow s hs new device now
+    → IsKept stands s hs new cursor now device machine
+kept_over stands s hs new cursor now device machine after is sound over ready cleared taken bare turned phase falls worked past out = record {
+  node = after;
+  is = is;
+  sound = sound;
+  up = now + 1;
+  acted = inr (refl, λ p b. chain p (act_place now device) cursor (chain p (now ∷ 3 ∷ []) (act_place now device) b (inr (refl, inl (omega arith)))) past);
+  told = λ same. elim out [ inl all ↦ inl all | inr joining ↦ inr (inr joining) ];
+  left = over.left;
+  taken = taken;
+  worked = to_worked s device after (changed_at (hs ++ new) device (now + 1)) (now + 1) now cursor over.done over.sent worked
+      (changed_soon (hs ++ new) device now) falls past;
+  bare = bare;
+  ready = ready;
+  still = λ same. absurd (no_step now (sym same));
+  turned = turned;
+  cleared = cleared;
+  recorded = λ same. absurd (no_step now (sym same));
+  phase = λ at. acted_phase after device now cursor phase past;
+}

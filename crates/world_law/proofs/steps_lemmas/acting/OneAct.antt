@@ -1,110 +1,209 @@
--- A device acts, and puts one record: how it stands then, where the cursor stays and where it goes by.
-use Rattle.world_law.proofs.steps_lemmas.Words.{◌++◌, ◌+◌, ◌<ℤ◌, ◌<◌, ◌∙◌, ◌∷◌, ◌≡◌, ◌≤◌, Act, ArePutIn, ComesFirst, DeviceId, Happening, HasTaskBy}
-use Rattle.world_law.proofs.steps_lemmas.Words.{HasTurnedOn, IsActOf, IsBefore, IsDueNow, IsLawful, IsPending, IsSet, IsShownPut, List, Network, Node}
-use Rattle.world_law.proofs.steps_lemmas.Words.{NoneBefore, Note, NoteBody, Scenario, Stands, StandsBehind, Task, World, [], act_place, ap, arith}
-use Rattle.world_law.proofs.steps_lemmas.Words.{before_behind, behind, cause_of, chain, false, happenings, hidden, inl, inr, is_turned_on_at, length, length_is}
-use Rattle.world_law.proofs.steps_lemmas.Words.{map, moment_of, one_shown, place_of, pos, put_at, rank, reading_for, record_of, refl, subst, sym, true}
-use Rattle.world_law.proofs.steps_lemmas.{Words.{turned_comes, turned_moves, ℕ}, acting.Over.is_over}
-use Rattle.world_law.proofs.steps_lemmas.acting.{AllOfIt.{DispatchesTold, all_idle}, Sending.{HasSentIt, as_put, calm_then, room_for, turned_then}}
-use Rattle.world_law.proofs.steps_lemmas.acting.{Kept.{bare_act, kept_at_work, kept_over}, Stage.{IsActRecord, Stage, lawful_then, one_goes_by, one_stays}}
+-- A device acts, and puts one record: how it stands then, as the cursor goes by.
+use Rattle.world_law.proofs.acts.Dues.{IsDueTask, act_due, done_or}
+use Rattle.world_law.proofs.growing.Standing.{IsCorrection, what_is_left}
+use Rattle.world_law.proofs.putting.{Bumped.bump_behind, Moving.stays, Placing.own_here}
+use Rattle.{run_law.proofs.runs.Places.nothing_between, schedule_tables.specs.Dispatches.dispatch_order}
+use Rattle.world_law.proofs.steps_lemmas.Words.{◌++◌, ◌+◌, ◌-ℤ◌, ◌<◌, ◌∙◌, ◌∷◌, ◌≡◌, ◌≤ℤ◌, ◌≤◌, ◌⊎◌, Act, ArePutIn, DeviceId, HadComeTo, Happening}
+use Rattle.world_law.proofs.steps_lemmas.Words.{HasDoneTask, HasTaskAt, HasTurnedOn, IsActOf, IsActing, IsAllOfIt, IsBefore, IsIn, IsLawful, IsOwnSource}
+use Rattle.world_law.proofs.steps_lemmas.Words.{IsSet, IsShownPut, List, Network, Node, NoneBefore, Note, NoteBody, Scenario, Stands, StandsBehind, Task, Units}
+use Rattle.world_law.proofs.steps_lemmas.Words.{World, [], ap, arith, before_behind, before_it, behind, cause_of, changed_at, doing, earlier}
+use Rattle.world_law.proofs.steps_lemmas.Words.{earlier_still, emitting, happenings, hidden, in_right, inl, inr, is_at_source, is_turned_on_at, length, length_is}
+use Rattle.world_law.proofs.steps_lemmas.Words.{map, members_in, moment_of, none_yet, one_shown, place_of, points_of, points_same, pos, put_at, quiet_rest, rank}
+use Rattle.world_law.proofs.steps_lemmas.Words.{record_of, refl, second, subst, sym, task_place, time_of, true, turned_moves, value_of, ℕ}
+use Rattle.world_law.specs.{device.Told.change_in, steps.Acting.{rank_of_act, task_of}}
+use Rattle.world_law.proofs.steps_lemmas.acting.{Dispatches.all_row, First.{act_rest, act_stands}, GoesOn.earlier_put, Kept.{bare_act, kept_on, may_act_now}}
+use Rattle.world_law.proofs.steps_lemmas.acting.{Sending.{HasSentIt, as_put, turned_then}, Stage.{IsActRecordAt, StageOf, lawful_then, one_goes_by}}
+use Rattle.world_law.proofs.steps_lemmas.Words.{IsDeedOf, Option, RowId, amount, dispatching, false, option_map_or}
+use Rattle.net_plan.specs.declared.tables.Row.{Row}
+use Rattle.run_law.specs.declared.judgement.Why.TheVariants as whys
+use Rattle.run_law.specs.declared.note.NoteBody.TheVariants as kinds
+use Rattle.run_law.specs.declared.steps.Act.TheVariants as acts
 
 -- what the act makes of the device, where its record is put between these
 pub record IsMadeSo {M : Type 0} (stands : M → Network → DeviceId → Node → Type 0) (s : Scenario) (hs front back : List Happening) (now : ℕ)
-    (device : DeviceId) (after : M) (node then_ : Node) (body : NoteBody) : Type 0 where
-  pub so : IsActRecord s hs front back now device body
+    (device : DeviceId) (after : M) (node then_ : Node) (body : NoteBody) (at : List ℕ) : Type 0 where
+  pub so : IsActRecordAt s hs front back now device body at
   pub it : HasSentIt stands s hs (put_at hs front (record_of s.network hs front now body) back) now device after node then_
-  pub told : IsLawful s (hs ++ put_at hs front (record_of s.network hs front now body) back) device
-      → DispatchesTold s hs (put_at hs front (record_of s.network hs front now body) back) now device then_
 
--- what a step starts from by which the device acts, and puts one record
+-- what a step starts from by which the device acts so, and puts one record
 pub record IsOneAct {C M : Type 0} (reading : C → ℕ → ℕ) (stands : M → Network → DeviceId → Node → Type 0) (s : Scenario) (world : World C M)
     (notes : List Note) (old : Stands reading stands s world notes) (device : DeviceId) (machine after : M) (machines : List M)
-    (settled : List Happening) : Type 0 where
-  pub first : ComesFirst reading stands s world notes old (act_place world.now device)
+    (settled : List Happening) (act : Act) : Type 0 where
+  pub room : length notes + length old.coming + 2 < none_yet
   pub node : Node
   pub then_ : Node
-  pub st : Stage stands s (happenings s.network notes) old.coming old.mark old.cursor world.now device machine node
-  pub act : Act
+  pub stood : stands after s.network device then_
+  pub st : StageOf stands s (happenings s.network notes) old.coming old.mark old.cursor world.now device machine node act
+  pub apart : IsCorrection (task_of act) → ⊥
   pub acted : IsActOf s.network device node (moment_of s device world.now) act then_
+  pub adjustment : then_.standing.adjustment ≡ node.standing.adjustment
+  pub did : (task : Task) → HasDoneTask then_ task → HasDoneTask node task
+      ⊎ (task_place s.network world.now device task ≡ world.now ∷ rank_of_act act ∷ act_rest s.network device act)
   pub body : NoteBody
+  pub at_place : rank_of_act act ≤ 5 → (front : List Happening)
+      → place_of (record_of s.network (happenings s.network notes) front world.now body) ≡ world.now ∷ rank_of_act act ∷ act_rest s.network device act
   pub late : 4 ≤ rank body
   pub causes : cause_of body ≤ length (happenings s.network notes)
   pub set : IsSet device.0 after world.machines machines
   pub put : ArePutIn s.network (happenings s.network notes) world.now (body ∷ []) world.settled settled
   pub makes : (front back : List Happening) → old.coming ≡ front ++ back
-      → Stage stands s (happenings s.network notes) (front ++ back) old.mark old.cursor world.now device machine node
+      → StageOf stands s (happenings s.network notes) (front ++ back) old.mark old.cursor world.now device machine node act
       → NoneBefore place_of back (place_of (record_of s.network (happenings s.network notes) front world.now body))
       → IsMadeSo stands s (happenings s.network notes) front back world.now device after node then_ body
+      (world.now ∷ rank_of_act act ∷ act_rest s.network device act)
 
 shown_act : {C M : Type 0} (reading : C → ℕ → ℕ) (stands : M → Network → DeviceId → Node → Type 0) (s : Scenario) (world : World C M) (notes : List Note)
-    (old : Stands reading stands s world notes) (device : DeviceId) (machine after : M) (machines : List M) (settled : List Happening)
-    → (x : IsOneAct reading stands s world notes old device machine after machines settled)
+    (old : Stands reading stands s world notes) (device : DeviceId) (machine after : M) (machines : List M) (settled : List Happening) (act : Act)
+    → (x : IsOneAct reading stands s world notes old device machine after machines settled act)
     → IsShownPut s.network (happenings s.network notes) world.now x.body old.coming settled
-shown_act reading stands s world notes old device machine after machines settled x =
+shown_act reading stands s world notes old device machine after machines settled act x =
     let hs = happenings s.network notes in
     let now = world.now in
     let same_length = length_is s notes in
-    let room = room_for reading stands s world notes old (act_place now device) x.first in
+    let room = x.room in
     subst (λ (l : List Happening). IsShownPut s.network hs now x.body old.coming l) (sym x.put.2)
     (one_shown s.network hs now x.body old.coming world.settled x.put.0 (omega (arith, same_length, room)) x.causes
     (old.settled ∙ ap (λ (n : ℕ). map (hidden n) old.coming) same_length) x.put.1)
 
--- it acts, and the cursor stays
-pub act_stays : {C M : Type 0} (reading : C → ℕ → ℕ) (stands : M → Network → DeviceId → Node → Type 0) (s : Scenario) (world : World C M) (notes : List Note)
-    (old : Stands reading stands s world notes) (device : DeviceId) (machine after : M) (machines : List M) (settled : List Happening)
-    → IsOneAct reading stands s world notes old device machine after machines settled → IsDueNow stands s.network device (moment_of s device world.now) after
-    → StandsBehind reading stands s (record world { early = false; machines = machines; settled = settled }) notes (act_place world.now device)
-act_stays reading stands s world notes old device machine after machines settled x due =
-    let hs = happenings s.network notes in
-    let now = world.now in
-    let same_length = length_is s notes in
-    let room = room_for reading stands s world notes old (act_place now device) x.first in
-    let p = shown_act reading stands s world notes old device machine after machines settled x in
-    let w = record_of s.network hs p.front now x.body in
-    let new = put_at hs p.front w p.back in
-    let shows : settled ≡ map (hidden (length notes)) new = p.shows ∙ ap (λ (n : ℕ). map (hidden n) new) (sym same_length) in
-    let st2 : Stage stands s hs (p.front ++ p.back) old.mark old.cursor now device machine x.node =
-    subst (λ (l : List Happening). Stage stands s hs l old.mark old.cursor now device machine x.node) p.parts x.st in
-    let made = x.makes p.front p.back p.parts st2 p.none in
-    let it = made.it in
-    let task : HasTaskBy s device x.then_ now = due x.then_ it.is in
-    one_stays reading stands s world notes old device machine after x.node machines settled x.body x.st p shows (omega (arith, room)) made.so x.set
-    (kept_at_work stands s hs new now device after x.then_ it.is it.work it.recorded it.cleared it.taken
-    (bare_act s.network device x.node (moment_of s device now) x.act x.then_ x.acted x.st.bare) task
-    (turned_then stands s hs p.front p.back old.mark old.cursor now device machine x.node w (act_place now device) st2
-    (as_put hs p.front p.back now w refl x.late)
-    (λ t. turned_comes s hs (p.front ++ p.back) old.mark old.cursor now 4 (device.0 ∷ []) device st2.moving t)) it.phase)
+-- ---- all that is due at its place is to come
+
+at_time : (now t k : ℕ) (more ws : List ℕ) (r : ℕ) → now ∷ r ∷ more ≡ t ∷ k ∷ ws → r ≡ k
+at_time now t k more ws r e = ap second e
+
+-- what comes from an emission or a sending is of its kind
+of_its_kind : (s : Scenario) (js : List Happening) (t m now r : ℕ) (more : List ℕ) (body : NoteBody) → IsOwnSource s js t m body (now ∷ r ∷ more) → 4 ≤ r
+    → r ≤ 5 → is_at_source body ≡ true
+of_its_kind s js t m now r more (kinds.Compressed device opened at cycle members verdict) o late low = refl
+of_its_kind s js t m now r more (kinds.Sent device cycle) o late low = refl
+of_its_kind s js t m now r more (kinds.Corrected device cycle by adjustment) o late low = refl
+of_its_kind s js t m now r more (kinds.Arrived device link cause clock) o late low = refl
+of_its_kind s js t m now r more (kinds.Permanent device link cause point verdict) o late low = refl
+of_its_kind s js t m now r more (kinds.Left device link cause clock) o late low = refl
+of_its_kind s js t m now r more (kinds.Clock device reading adjustment state) o late low = refl
+of_its_kind s js t m now r more (kinds.Event line what) o late low = absurd (let e = at_time now t 1 more _ r o in omega (arith, e, late))
+of_its_kind s js t m now r more (kinds.State device state cause whys.SyncClique) o late low =
+    absurd (let e = at_time now t 6 more _ r o.1 in omega (arith, e, low))
+of_its_kind s js t m now r more (kinds.State device state cause whys.AsyncClique) o late low =
+    absurd (let e = at_time now t 6 more _ r o.1 in omega (arith, e, low))
+of_its_kind s js t m now r more (kinds.State device state cause whys.On) o late low = absurd (let e = at_time now t 2 more _ r o in omega (arith, e, late))
+of_its_kind s js t m now r more (kinds.State device state cause whys.Frame) o late low = absurd (let e = at_time now t 2 more _ r o in omega (arith, e, late))
+of_its_kind s js t m now r more (kinds.State device state cause whys.Correction) o late low =
+    absurd (let e = at_time now t 2 more _ r o in omega (arith, e, late))
+of_its_kind s js t m now r more (kinds.Lost device link cause) (inl o) late low = absurd (let e = at_time now t 8 more _ r o.0 in omega (arith, e, low))
+of_its_kind s js t m now r more (kinds.Lost device link cause) (inr (inl o)) late low =
+    absurd (let e = at_time now t 6 more _ r o.4 in omega (arith, e, low))
+of_its_kind s js t m now r more (kinds.Lost device link cause) (inr (inr o)) late low =
+    absurd (let e = at_time now t 2 more _ r o.0 in omega (arith, e, late))
+of_its_kind s js t m now r more (kinds.TtSent device link cause vl cycle) o late low = absurd (let e = at_time now t 6 more _ r o.1 in omega (arith, e, low))
+of_its_kind s js t m now r more (kinds.Accepted device link cause vl cycle) o late low = absurd (let e = at_time now t 2 more _ r o in omega (arith, e, late))
+of_its_kind s js t m now r more (kinds.Delivered device link cause vl cycle) o late low = absurd (let e = at_time now t 2 more _ r o in omega (arith, e, late))
+of_its_kind s js t m now r more (kinds.Dropped device link cause reason) (inl o) late low =
+    absurd (let e = at_time now t 2 more _ r o.0 in omega (arith, e, late))
+of_its_kind s js t m now r more (kinds.Dropped device link cause reason) (inr (inl o)) late low =
+    absurd (let e = at_time now t 3 more _ r o.2 in omega (arith, e, late))
+of_its_kind s js t m now r more (kinds.Dropped device link cause reason) (inr (inr o)) late low =
+    absurd (let e = at_time now t 8 more _ r o.0 in omega (arith, e, low))
+
+-- so its record is all of it
+pub all_one : (s : Scenario) (hs new : List Happening) (now r : ℕ) (more : List ℕ) (w : Happening) → 4 ≤ r → r ≤ 5 → IsIn w new
+    → place_of w ≡ now ∷ r ∷ more → IsAllOfIt s hs new (now ∷ r ∷ more)
+all_one s hs new now r more w late low there at front back y e all none due own =
+    let is = of_its_kind s (hs ++ front) (time_of y) (members_in y) now r more y.note.body own late low in
+    (w, there, at ∙ own_here s (hs ++ front) (time_of y) (members_in y) y.note.body (now ∷ r ∷ more) is own)
+
+row_long : (network : Network) (device : DeviceId) (node : Node) (row : RowId) (cycle : ℕ) → IsDeedOf network device node (dispatching row cycle)
+    → 1 ≤ length (dispatch_order network row)
+row_long network device node row cycle own =
+    let three : length (dispatch_order network row) ≡ 3 =
+    ap (λ (o : Option Row). length (option_map_or (λ (r : Row). amount r.offset ∷ r.link.0 ∷ row.0 ∷ []) o [])) own.1.is.row in
+    omega (arith, three)
+
+all_of_act : {M : Type 0} (stands : M → Network → DeviceId → Node → Type 0) (s : Scenario) (hs new : List Happening) (now : ℕ) (device : DeviceId)
+    (after : M) (node then_ : Node) (act : Act) (w : Happening)
+    → IsActOf s.network device node (moment_of s device now) act then_ → HasSentIt stands s hs new now device after node then_ → IsLawful s (hs ++ new) device
+    → (HasTaskAt s device then_ now (now ∷ rank_of_act act ∷ act_rest s.network device act) → ⊥)
+    → ((h : Happening) → IsIn h hs → IsBefore (place_of h) (now ∷ rank_of_act act ∷ act_rest s.network device act)) → (IsCorrection (task_of act) → ⊥)
+    → IsIn w new → (rank_of_act act ≤ 5 → place_of w ≡ now ∷ rank_of_act act ∷ act_rest s.network device act)
+    → IsAllOfIt s hs new (now ∷ rank_of_act act ∷ act_rest s.network device act)
+all_of_act stands s hs new now device after node then_ (acts.Dispatch row cycle) w acted it law none before apart there at =
+    all_row s hs new now device then_ (dispatch_order s.network row) it.work it.recorded law it.taken none before
+    (row_long s.network device node row cycle acted.0.pending.1.own)
+all_of_act stands s hs new now device after node then_ (acts.Send frame) w acted it law none before apart there at =
+    all_one s hs new now 5 (act_rest s.network device (acts.Send frame)) w (omega arith) (omega arith) there (at (omega arith))
+all_of_act stands s hs new now device after node then_ (acts.Emit sent heard) w acted it law none before apart there at =
+    all_one s hs new now 4 (act_rest s.network device (acts.Emit sent heard)) w (omega arith) (omega arith) there (at (omega arith))
+all_of_act stands s hs new now device after node then_ (acts.Correct cycle verdict) w acted it law none before apart there at = absurd (apart tt)
+
+-- ---- what it has done
+
+-- its clock had come to a task as before
+pub still_came : (s : Scenario) (device : DeviceId) (node then_ : Node) (changed again now : ℕ) (task : Task) → then_.standing.adjustment ≡ node.standing.adjustment
+    → changed ≡ again → HadComeTo s device node changed now task → HadComeTo s device then_ again now task
+still_came s device node then_ changed again now (emitting sent) adjustment same x = x
+still_came s device node then_ changed again now (doing deed) adjustment same x = (
+  x.0,
+  subst (λ (n : ℕ). n ≤ x.0) same x.1,
+  x.2,
+  subst (λ (a : Units). (value_of s.network deed -ℤ a.0) ≤ℤ pos (s.reading device x.0)) (sym adjustment) x.3,
+)
+
+-- ---- the steps
 
 -- it acts, and the cursor goes by
 pub act_goes_by : {C M : Type 0} (reading : C → ℕ → ℕ) (stands : M → Network → DeviceId → Node → Type 0) (s : Scenario) (world : World C M) (notes : List Note)
-    (old : Stands reading stands s world notes) (device : DeviceId) (machine after : M) (machines : List M) (settled : List Happening)
-    → IsOneAct reading stands s world notes old device machine after machines settled
-    → ((node : Node) (task : Task) → stands after s.network device node → IsPending s.network device node task
-    → pos (s.reading device world.now) <ℤ reading_for s.network node task)
-    → StandsBehind reading stands s (record world { early = false; machines = machines; settled = settled }) notes (behind (act_place world.now device))
-act_goes_by reading stands s world notes old device machine after machines settled x idle =
+    (old : Stands reading stands s world notes) (device : DeviceId) (machine after : M) (machines : List M) (settled : List Happening) (act : Act)
+    → IsOneAct reading stands s world notes old device machine after machines settled act
+    → StandsBehind reading stands s (record world { early = false; machines = machines; settled = settled }) notes
+    (behind (world.now ∷ rank_of_act act ∷ act_rest s.network device act))
+act_goes_by {C} {M} reading stands s world notes old device machine after machines settled act x =
     let hs = happenings s.network notes in
     let now = world.now in
     let same_length = length_is s notes in
-    let room = room_for reading stands s world notes old (act_place now device) x.first in
-    let p = shown_act reading stands s world notes old device machine after machines settled x in
+    let room = x.room in
+    let r = rank_of_act act in
+    let more = act_rest s.network device act in
+    let at = now ∷ r ∷ more in
+    let here = behind at in
+    let p = shown_act reading stands s world notes old device machine after machines settled act x in
     let w = record_of s.network hs p.front now x.body in
     let new = put_at hs p.front w p.back in
     let shows : settled ≡ map (hidden (length notes)) new = p.shows ∙ ap (λ (n : ℕ). map (hidden n) new) (sym same_length) in
-    let st2 : Stage stands s hs (p.front ++ p.back) old.mark old.cursor now device machine x.node =
-    subst (λ (l : List Happening). Stage stands s hs l old.mark old.cursor now device machine x.node) p.parts x.st in
+    let st2 : StageOf stands s hs (p.front ++ p.back) old.mark old.cursor now device machine x.node act =
+    subst (λ (l : List Happening). StageOf stands s hs l old.mark old.cursor now device machine x.node act) p.parts x.st in
     let made = x.makes p.front p.back p.parts st2 p.none in
     let it = made.it in
-    let here = behind (act_place now device) in
-    let later : IsBefore (now ∷ 2 ∷ []) here = chain (now ∷ 2 ∷ []) (act_place now device) here (inr (refl, inl (omega arith)))
-    (before_behind (act_place now device)) in
+    let put = as_put hs p.front p.back now w refl x.late in
+    let earlier_same = earlier_put s hs p.front p.back new now device x.node w st2.work put in
+    let law = lawful_then stands s hs p.front p.back old.mark old.cursor now device machine x.node x.body r more st2 p.before p.none made.so old.run.within in
+    let may = may_act_now s device x.node now x.st.work.ready x.st.steady x.st.limit in
+    let none_due : (task : Task) → IsDueTask s device x.then_ now task → IsBefore (task_place s.network now device task) here → ⊥ = λ task due b.
+    let far = what_is_left s.network now device x.node x.then_ (moment_of s device now) act task old.range old.rules x.st.zero may x.acted x.apart due.0 due.1
+    in
+    nothing_between at (task_place s.network now device task)
+    (subst (λ (q : List ℕ). IsBefore q (task_place s.network now device task)) (act_stands s.network now device act) far) b in
     let turned : is_turned_on_at s device now ≡ true → HasTurnedOn s hs new here device now =
-    turned_then stands s hs p.front p.back old.mark old.cursor now device machine x.node w here st2 (as_put hs p.front p.back now w refl x.late)
-    (λ t. turned_moves s hs (p.front ++ p.back) old.mark old.cursor now 4 (device.0 ∷ []) device st2.moving t) in
-    let calm = calm_then stands s hs p.front p.back old.mark old.cursor here now device machine x.node new st2 turned later in
-    let still = λ (task : Task) (pending : IsPending s.network device x.then_ task). idle x.then_ task it.is pending in
-    let law = lawful_then stands s hs p.front p.back old.mark old.cursor now device machine x.node x.body st2 p.before p.none made.so old.run.within in
-    one_goes_by reading stands s world notes old device machine after x.node machines settled x.body x.st p shows (omega (arith, room)) made.so
-    (all_idle s hs new now device x.then_ it.work it.recorded it.cleared still (made.told law) st2.before) x.set
-    (kept_over stands s hs new now device after x.then_ it.is it.work.sound (is_over s hs new now device x.then_ it.work it.cleared calm still)
-    it.work.ready it.cleared it.taken (bare_act s.network device x.node (moment_of s device now) x.act x.then_ x.acted x.st.bare) turned it.phase)
+    turned_then stands s hs p.front p.back old.mark old.cursor now device machine x.node w here r more st2 put
+    (λ t. turned_moves s hs (p.front ++ p.back) old.mark old.cursor now r more device st2.moving t) in
+    let same : earlier now hs ≡ earlier now (hs ++ new) = sym (earlier_still now hs new (λ z i. let t = (it.work.of_now z i).0 in omega (arith, t))) in
+    let points : points_of hs device ≡ points_of (hs ++ new) device = sym (points_same new hs device (λ z i. let t = it.work.of_now z i in
+    (quiet_rest s device now z.note.body (it.work.still z (in_right z hs new i) t.0), t.1))) in
+    let due_of_act : (task : Task) → IsActing s hs now device task → (HasDoneTask x.then_ task → ⊥) → IsDueTask s device x.then_ now task = λ task a not.
+    act_due s (hs ++ new) hs now device x.then_ task (record { left = it.work.left; sound = it.work.sound })
+    (record { taken = it.taken; past = it.work.past; lawful = law }) same points a not in
+    let worked : (task : Task) → HasDoneTask x.then_ task
+    → HadComeTo s device x.then_ (changed_at (hs ++ new) device now) now task ⊎ IsBefore (task_place s.network now device task) here = λ task has.
+    elim (x.did task has) [
+      | inr e ↦ inr (subst (λ (q : List ℕ). IsBefore q here) (sym e) (before_behind at))
+      | inl before ↦ elim (st2.worked task before) [
+        | inl sooner ↦ inl (still_came s device x.node x.then_ _ _ now task x.adjustment (ap (change_in device) earlier_same) sooner)
+        | inr gone ↦ inr (stays s hs (p.front ++ p.back) old.mark old.cursor now r more st2.moving _ gone)
+      ]
+    ] in
+    let there : IsIn w new = in_right w p.front (w ∷ map (bump_behind (before_it hs p.front)) p.back) (inl refl) in
+    one_goes_by reading stands s world notes old device machine after x.node machines settled x.body r more x.st p shows (omega (arith, room)) made.so
+    (all_of_act stands s hs new now device after x.node x.then_ act w x.acted it law
+    (λ t. none_due t.0 (t.1, t.2) (subst (λ (q : List ℕ). IsBefore q here) (sym t.3) (before_behind at))) st2.before x.apart there (λ low. x.at_place low p.front))
+    x.set
+    (kept_on stands s hs new here now device after x.then_ it.is it.work it.recorded it.cleared it.taken
+    (bare_act s.network device x.node (moment_of s device now) act x.then_ x.acted x.st.bare) turned it.phase x.st.reach x.st.calm.falls
+    (λ task b a. elim (done_or x.then_ task) [ inl did ↦ did | inr not ↦ absurd (none_due task (due_of_act task a not) b) ]) worked)

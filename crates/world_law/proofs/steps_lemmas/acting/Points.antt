@@ -1,14 +1,16 @@
 -- A device comes to its correction point: what its record is.
 use Rattle.{run_law.specs.runs.DueRecords.IsCorrectedRecord, world_law.proofs.rows.Apart.no_row_at_correction}
+use Rattle.world_law.proofs.steps_lemmas.acting.Kept.{NoneDispatched}
+use Rattle.world_law.proofs.steps_lemmas.Words.{IsSource}
 use Rattle.world_law.proofs.steps_lemmas.Words.{◌++◌, ◌+ℤ◌, ◌<ℤ◌, ◌∙◌, ◌∷◌, ◌≡◌, ◌≤ℤ◌, ◌≤◌, AsyncClique, Cleared, ComesTo, Compressed, Corrected}
 use Rattle.world_law.proofs.steps_lemmas.Words.{DeviceId, Happening, Hearing, Integrating, IsActing, IsAtRest, IsFirstTask, IsIn, IsInRange, IsPending}
 use Rattle.world_law.proofs.steps_lemmas.Words.{IsSteady, IsUnfollowed, IsWaiting, KeepsRules, List, Network, Node, NoneBefore, NoteBody, Scenario}
-use Rattle.world_law.proofs.steps_lemmas.Words.{Summary, SyncClique, Units, Verdict, Why, [], adjustment_after, adjustment_before, amount, ap, append-nil}
+use Rattle.world_law.proofs.steps_lemmas.Words.{Summary, SyncClique, Units, Verdict, Why, [], rows_place, adjustment_after, adjustment_before, amount, ap, append-nil}
 use Rattle.world_law.proofs.steps_lemmas.Words.{arith, both_ways, cases_Bool, cases_int, correcting, doing, earlier, emitting, eq-eqb, false, heard_since}
-use Rattle.world_law.proofs.steps_lemmas.Words.{in_left, in_right, inl, inr, is_timed, is_turned_on_at, is_turning, key, last_unfollowed, members_in, moves}
-use Rattle.world_law.proofs.steps_lemmas.Words.{ne_eqb, place_of, pos, rank, reading_for, record_of, refl, sending, state_after, sym, time_of, true, ℕ}
-use Rattle.world_law.proofs.steps_lemmas.acting.{AllOfIt.{IsAtPoint, NoneDispatched, late_none, no_less}, Work.{IsAtWork, all_earlier, at_correction, comes}}
-use Rattle.world_law.proofs.steps_lemmas.acting.{Emitting.none_heard, Sending.nothing_aside, Stage.{IsActRecord, Stage}, Stays.{heard_by_these, heard_more}}
+use Rattle.world_law.proofs.steps_lemmas.Words.{in_left, in_right, inl, inr, is_timed, is_turned_on_at, key, last_unfollowed, members_in, moves}
+use Rattle.world_law.proofs.steps_lemmas.Words.{ne_eqb, place_of, pos, rank, reading_for, record_of, refl, state_after, sym, time_of, true, ℕ}
+use Rattle.world_law.proofs.steps_lemmas.acting.{AllOfIt.{IsAtPoint, late_none, no_less}, Work.{IsAtWork, all_earlier, at_correction, comes}}
+use Rattle.world_law.proofs.steps_lemmas.acting.{Emitting.none_heard, Stage.{IsActRecordAt, StageAt, fresh_above}, Stays.{heard_by_these, heard_more}}
 use Rattle.run_law.specs.declared.judgement.Why.TheVariants as whys
 use Rattle.run_law.specs.declared.note.NoteBody.TheVariants as kinds
 
@@ -24,10 +26,6 @@ at_point s device now node cycle heard verdict first to = record {
   no_frame = λ c p. elim (cases_int (pos (s.reading device now)) c.at.0) [
     | inl lt ↦ lt
     | inr due ↦ absurd (first.first (emitting c) p due (inl (omega arith)))
-  ];
-  no_sending = λ n p. elim (cases_int (pos (s.reading device now)) (reading_for s.network node (doing (sending n)))) [
-    | inl lt ↦ lt
-    | inr due ↦ absurd (first.first (doing (sending n)) p due (inl (omega arith)))
   ];
 }
 
@@ -69,23 +67,6 @@ heard_before s hs front back now device node w work at late none =
 
 -- ---- what stands where its record does, is one of it
 
-corrected_at : (t u m d : ℕ) (body : NoteBody) → t ∷ 6 ∷ d ∷ [] ≡ u ∷ rank body ∷ key m body → (device : DeviceId) → d ≡ device.0
-    → (moves device body ≡ true) × (is_turning device body ≡ false)
-corrected_at t u m d (kinds.Corrected other n by adjustment) e device is = (let a : d ≡ other.0 = cc in eq-eqb device.0 other.0 (sym is ∙ a), refl)
-corrected_at t u m d (kinds.Event line what) e device is = absurd (let bad : ◌≡◌ {A = ℕ} 6 1 = cc in omega (arith, bad))
-corrected_at t u m d (kinds.Arrived other link cause clock) e device is = absurd (let bad : ◌≡◌ {A = ℕ} 6 2 = cc in omega (arith, bad))
-corrected_at t u m d (kinds.Permanent other link cause point verdict) e device is = absurd (let bad : ◌≡◌ {A = ℕ} 6 3 = cc in omega (arith, bad))
-corrected_at t u m d (kinds.Compressed other opened at n members verdict) e device is = absurd (let bad : ◌≡◌ {A = ℕ} 6 4 = cc in omega (arith, bad))
-corrected_at t u m d (kinds.Sent other n) e device is = absurd (let bad : ◌≡◌ {A = ℕ} 6 5 = cc in omega (arith, bad))
-corrected_at t u m d (kinds.State other state cause why) e device is = absurd (let bad : ◌≡◌ {A = ℕ} 6 7 = cc in omega (arith, bad))
-corrected_at t u m d (kinds.Left other link cause clock) e device is = absurd (let bad : ◌≡◌ {A = ℕ} 6 8 = cc in omega (arith, bad))
-corrected_at t u m d (kinds.Lost other link cause) e device is = absurd (let bad : ◌≡◌ {A = ℕ} 6 9 = cc in omega (arith, bad))
-corrected_at t u m d (kinds.TtSent other link cause vl n) e device is = absurd (let bad : ◌≡◌ {A = ℕ} 6 10 = cc in omega (arith, bad))
-corrected_at t u m d (kinds.Accepted other link cause vl n) e device is = absurd (let bad : ◌≡◌ {A = ℕ} 6 11 = cc in omega (arith, bad))
-corrected_at t u m d (kinds.Delivered other link cause vl n) e device is = absurd (let bad : ◌≡◌ {A = ℕ} 6 12 = cc in omega (arith, bad))
-corrected_at t u m d (kinds.Dropped other link cause reason) e device is = absurd (let bad : ◌≡◌ {A = ℕ} 6 13 = cc in omega (arith, bad))
-corrected_at t u m d (kinds.Clock other reading adjustment state) e device is = absurd (let bad : ◌≡◌ {A = ℕ} 6 14 = cc in omega (arith, bad))
-
 state_at : (t u m d c : ℕ) (body : NoteBody) → t ∷ 7 ∷ d ∷ c ∷ [] ≡ u ∷ rank body ∷ key m body → (device : DeviceId) → d ≡ device.0 → moves device body ≡ true
 state_at t u m d c (kinds.State other state cause why) e device is = let a : d ≡ other.0 = cc in eq-eqb device.0 other.0 (sym is ∙ a)
 state_at t u m d c (kinds.Corrected other n by adjustment) e device is = absurd (let bad : ◌≡◌ {A = ℕ} 7 6 = cc in omega (arith, bad))
@@ -108,18 +89,12 @@ pub not_moved : (s : Scenario) (device : DeviceId) (now : ℕ) (body : NoteBody)
 not_moved s device now body off (inl still) e = both_ways _ still e
 not_moved s device now body off (inr on) e = let bad : false ≡ true = sym off ∙ on.1 in cc
 
--- nothing behind the record rests on what the device hears
-pub aside_of : (s : Scenario) (hs front back : List Happening) (now : ℕ) (device : DeviceId) (node : Node) (w : Happening)
-    → IsAtWork s hs (front ++ back) now device node → time_of w ≡ now → 5 ≤ rank w.note.body → NoneBefore place_of back (place_of w)
-    → (y : Happening) → IsIn y back → Rattle.world_law.proofs.putting.Near.hears device y.note.body ≡ true → ⊥
-aside_of s hs front back now device node w work at late none y i e = grind (arith, in_right, no_less, time_of, rank, key, members_in, nothing_aside)
-
 -- ---- the records
 
 -- what causes it
 pub corrected_cause : {M : Type 0} (stands : M → Network → DeviceId → Node → Type 0) (s : Scenario) (hs front back : List Happening) (mark cursor : List ℕ)
     (now : ℕ) (device : DeviceId) (machine : M) (node : Node) (cycle : ℕ) (heard : Summary) (by adjustment : Units)
-    → Stage stands s hs (front ++ back) mark cursor now device machine node
+    → StageAt stands s hs (front ++ back) mark cursor now device machine node 6 (device.0 ∷ [])
     → IsAtPoint s device now node cycle heard (Corrected by) → adjustment.0 ≡ (node.standing.adjustment.0 +ℤ by.0)
     → NoneBefore place_of back (place_of (record_of s.network hs front now (kinds.Corrected device cycle by adjustment)))
     → IsCorrectedRecord s (hs ++ front) device now cycle by adjustment
@@ -139,10 +114,10 @@ corrected_cause stands s hs front back mark cursor now device machine node cycle
 -- a correction
 pub corrected_record : {M : Type 0} (stands : M → Network → DeviceId → Node → Type 0) (s : Scenario) (hs front back : List Happening) (mark cursor : List ℕ)
     (now : ℕ) (device : DeviceId) (machine : M) (node : Node) (cycle : ℕ) (heard : Summary) (by adjustment : Units)
-    → Stage stands s hs (front ++ back) mark cursor now device machine node → is_turned_on_at s device now ≡ false
+    → StageAt stands s hs (front ++ back) mark cursor now device machine node 6 (device.0 ∷ []) → is_turned_on_at s device now ≡ false
     → IsAtPoint s device now node cycle heard (Corrected by) → adjustment.0 ≡ (node.standing.adjustment.0 +ℤ by.0)
     → NoneBefore place_of back (place_of (record_of s.network hs front now (kinds.Corrected device cycle by adjustment)))
-    → IsUnfollowed s hs now (kinds.Corrected device cycle by adjustment) → IsActRecord s hs front back now device (kinds.Corrected device cycle by adjustment)
+    → IsUnfollowed s hs now (kinds.Corrected device cycle by adjustment) → IsActRecordAt s hs front back now device (kinds.Corrected device cycle by adjustment) (rows_place now device)
 corrected_record stands s hs front back mark cursor now device machine node cycle heard by adjustment st off p sum none lone =
     let body = kinds.Corrected device cycle by adjustment in
     let w = record_of s.network hs front now body in
@@ -155,19 +130,12 @@ corrected_record stands s hs front back mark cursor now device machine node cycl
     ∙ ap (λ (l : List Happening). adjustment_after s l device) same in
     record {
       own = λ m. refl;
-      task = doing (correcting cycle);
-      acts = IsActing.corrects cycle (at_correction s hs (front ++ back) front now device node cycle st.work also p.pending p.due);
+      here = IsSource.acting now device (doing (correcting cycle))
+          (IsActing.corrects cycle (at_correction s hs (front ++ back) front now device node cycle st.work also p.pending p.due));
       caused = record { corrected = c; sum = sum ∙ ap (λ (a : Units). a.0 +ℤ by.0) stood };
-      fresh = λ y i e.
-          let there = in_right y front back i in
-          let at = st.work.of_now y there in
-          let x = corrected_at now (time_of y) (members_in y) device.0 y.note.body e device refl in
-          not_moved s device now y.note.body off (st.work.still y (in_right y hs (front ++ back) there) at.0) x.0;
-      aside = aside_of s hs front back now device node w st.work refl six none;
-      least = λ b. elim b [ inl lt ↦ omega (arith, lt) | inr c2 ↦ elim c2.1 [ inl lt ↦ omega (arith, lt) | inr d2 ↦ let f = d2.0 in omega (arith, f) ] ];
+      fresh = fresh_above stands s hs front back mark cursor now device machine node 6 (device.0 ∷ []) st w (omega arith);
       apart = λ other not. (ne_eqb other.0 device.0 not, refl, λ at. refl);
       lone = lone;
-      no_source = refl;
     }
 
 -- the verdict of a clique, and the reason that it gives
@@ -177,10 +145,10 @@ pub data IsClique : Verdict → Why → Type 0 where
 
 pub clique_record : {M : Type 0} (stands : M → Network → DeviceId → Node → Type 0) (s : Scenario) (hs front back : List Happening) (mark cursor : List ℕ)
     (now : ℕ) (device : DeviceId) (machine : M) (node : Node) (cycle : ℕ) (heard : Summary) (verdict : Verdict) (why : Why)
-    → Stage stands s hs (front ++ back) mark cursor now device machine node → is_turned_on_at s device now ≡ false
+    → StageAt stands s hs (front ++ back) mark cursor now device machine node 6 (device.0 ∷ []) → is_turned_on_at s device now ≡ false
     → IsAtPoint s device now node cycle heard verdict → IsClique verdict why
     → NoneBefore place_of back (place_of (record_of s.network hs front now (kinds.State device Integrating 0 why)))
-    → IsActRecord s hs front back now device (kinds.State device Integrating 0 why)
+    → IsActRecordAt s hs front back now device (kinds.State device Integrating 0 why) (rows_place now device)
 clique_record stands s hs front back mark cursor now device machine node cycle heard SyncClique whys.SyncClique st off p IsClique.alone none =
     let body = kinds.State device Integrating 0 whys.SyncClique in
     let w = record_of s.network hs front now body in
@@ -189,20 +157,17 @@ clique_record stands s hs front back mark cursor now device machine node cycle h
     let c = comes s hs (front ++ back) front now device node cycle heard SyncClique st.work also
     (heard_before s hs front back now device node w st.work refl six none) p.pending p.due p.to in
     record {
-      own = λ m. refl;
-      task = doing (correcting cycle);
-      acts = IsActing.corrects cycle (at_correction s hs (front ++ back) front now device node cycle st.work also p.pending p.due);
+      own = λ m. (cycle, refl);
+      here = IsSource.acting now device (doing (correcting cycle))
+          (IsActing.corrects cycle (at_correction s hs (front ++ back) front now device node cycle st.work also p.pending p.due));
       caused = (refl, refl, (cycle, c));
       fresh = λ y i e.
           let there = in_right y front back i in
           let at = st.work.of_now y there in
           not_moved s device now y.note.body off (st.work.still y (in_right y hs (front ++ back) there) at.0)
           (state_at now (time_of y) (members_in y) device.0 0 y.note.body e device refl);
-      aside = aside_of s hs front back now device node w st.work refl six none;
-      least = λ b. elim b [ inl lt ↦ omega (arith, lt) | inr c2 ↦ elim c2.1 [ inl lt ↦ omega (arith, lt) | inr d2 ↦ let f = d2.0 in omega (arith, f) ] ];
       apart = λ other not. (ne_eqb other.0 device.0 not, refl, λ at. refl);
       lone = last_unfollowed s hs now body refl;
-      no_source = refl;
     }
 clique_record stands s hs front back mark cursor now device machine node cycle heard AsyncClique whys.AsyncClique st off p IsClique.outnumbered none =
     let body = kinds.State device Integrating 0 whys.AsyncClique in
@@ -212,20 +177,17 @@ clique_record stands s hs front back mark cursor now device machine node cycle h
     let c = comes s hs (front ++ back) front now device node cycle heard AsyncClique st.work also
     (heard_before s hs front back now device node w st.work refl six none) p.pending p.due p.to in
     record {
-      own = λ m. refl;
-      task = doing (correcting cycle);
-      acts = IsActing.corrects cycle (at_correction s hs (front ++ back) front now device node cycle st.work also p.pending p.due);
+      own = λ m. (cycle, refl);
+      here = IsSource.acting now device (doing (correcting cycle))
+          (IsActing.corrects cycle (at_correction s hs (front ++ back) front now device node cycle st.work also p.pending p.due));
       caused = (refl, refl, (cycle, c));
       fresh = λ y i e.
           let there = in_right y front back i in
           let at = st.work.of_now y there in
           not_moved s device now y.note.body off (st.work.still y (in_right y hs (front ++ back) there) at.0)
           (state_at now (time_of y) (members_in y) device.0 0 y.note.body e device refl);
-      aside = aside_of s hs front back now device node w st.work refl six none;
-      least = λ b. elim b [ inl lt ↦ omega (arith, lt) | inr c2 ↦ elim c2.1 [ inl lt ↦ omega (arith, lt) | inr d2 ↦ let f = d2.0 in omega (arith, f) ] ];
       apart = λ other not. (ne_eqb other.0 device.0 not, refl, λ at. refl);
       lone = last_unfollowed s hs now body refl;
-      no_source = refl;
     }
 clique_record stands s hs front back mark cursor now device machine node cycle heard (Corrected by) why st off p x none = elim x [ ]
 clique_record stands s hs front back mark cursor now device machine node cycle heard Cleared why st off p x none = elim x [ ]

@@ -1,31 +1,26 @@
 -- The steps by which a device sends the frame of a cycle.
-use Rattle.world_law.{proofs.rows.Apart.no_row_at_sending, specs.steps.Acting.Acts}
-use Rattle.world_law.proofs.steps_lemmas.Words.{◌++◌, ◌∷◌, ◌≡◌, ◌≤ℤ◌, ArePutIn, DeviceId, Happening, HasActed, IsInRange, IsPending, IsSet, IsSteady}
-use Rattle.world_law.proofs.steps_lemmas.Words.{KeepsRules, List, Network, Node, Note, NoteBody, Pcf, Scenario, Stands, World, [], amount, ap, arith, doing}
-use Rattle.world_law.proofs.steps_lemmas.{Words.{happenings, moment_of, pos, reading_for, sending, subst, ℕ}, acting.Sending.{has_sent_it, sending_record}}
-use Rattle.world_law.proofs.steps_lemmas.acting.{AllOfIt.{NoneDispatched, none_told}, Kept.may_act_now, OneAct.IsOneAct, Stage.stage_of, Work.{IsAtWork, sends}}
+use Rattle.world_law.specs.steps.Acting.{Acts, place_of_act}
+use Rattle.world_law.proofs.steps_lemmas.Words.{◌<◌, ◌∙◌, ComesFirst, IsIn, inl, inr, rank, sym}
+use Rattle.world_law.proofs.steps_lemmas.Words.{◌++◌, ◌∷◌, ◌≡◌, ArePutIn, DeviceId, Happening, HasActed, IsSet}
+use Rattle.world_law.proofs.steps_lemmas.Words.{List, Network, Node, Note, NoteBody, Pcf, Scenario, Stands, World, [], ap, arith}
+use Rattle.world_law.proofs.steps_lemmas.{Words.{happenings, moment_of, sending, subst, ℕ}, acting.Sending.{has_sent_it, sending_record}}
+use Rattle.world_law.proofs.steps_lemmas.acting.{Kept.may_act_now, OneAct.IsOneAct, Sending.{did_deed, room_for}, Stage.{IsActRecordAt, StageAt, stage_of}}
 use Rattle.run_law.specs.declared.note.NoteBody.TheVariants as kinds
 use Rattle.run_law.specs.declared.steps.Act.TheVariants as acts
-
--- no row is dispatched at the instant
-none_with : (s : Scenario) (hs coming : List Happening) (now : ℕ) (device : DeviceId) (node : Node) (cycle : ℕ) → IsInRange s.network → KeepsRules s.network
-    → IsSteady (s.reading device) (amount s.network.precision) → IsAtWork s hs coming now device node
-    → IsPending s.network device node (doing (sending cycle)) → reading_for s.network node (doing (sending cycle)) ≤ℤ pos (s.reading device now)
-    → NoneDispatched s hs now device
-none_with s hs coming now device node cycle range rules steady w pending due other also link cause vl n d =
-    no_row_at_sending s (hs ++ other) device now cycle link cause vl n range rules steady (sends s hs coming other now device node cycle w also pending due) d
 
 -- the device sends
 pub sends_one : {C M : Type 0} (reading : C → ℕ → ℕ) (stands : M → Network → DeviceId → Node → Type 0) (s : Scenario) (world : World C M) (notes : List Note)
     (old : Stands reading stands s world notes) (device : DeviceId) (after : M) (bodies : List NoteBody) (machines : List M) (settled : List Happening)
     (frame : Pcf) → (a : Acts reading stands s world notes old device after bodies)
+    → ComesFirst reading stands s world notes old (place_of_act world.now device (acts.Send frame))
+    → ((z : Happening) → IsIn z world.settled → 5 < rank z.note.body)
     → HasActed stands s.network device (moment_of s device world.now) (acts.Send frame) a.machine after → IsSet device.0 after world.machines machines
     → ArePutIn s.network (happenings s.network notes) world.now (kinds.Sent device frame.cycle ∷ []) world.settled settled
-    → IsOneAct reading stands s world notes old device a.machine after machines settled
-sends_one reading stands s world notes old device after bodies machines settled frame a acted set put =
+    → IsOneAct reading stands s world notes old device a.machine after machines settled (acts.Send frame)
+sends_one reading stands s world notes old device after bodies machines settled frame a first_of apart acted set put =
     let hs = happenings s.network notes in
     let now = world.now in
-    let stage = stage_of reading stands s world notes old device a.machine a.of_it a.first a.there a.due in
+    let stage = stage_of reading stands s world notes old device a.machine after (acts.Send frame) a.of_it first_of apart a.there a.due acted in
     let node = stage.0 in
     let st = stage.1 in
     let may = may_act_now s device node now st.work.ready st.steady st.limit in
@@ -34,21 +29,30 @@ sends_one reading stands s world notes old device after bodies machines settled 
     let first = act.1.1 in
     let same_cycle : frame.cycle ≡ cycle = ap (λ (f : Pcf). f.cycle) act.1.2 in
     record {
-      first = a.first;
+      room = room_for reading stands s world notes old (place_of_act now device (acts.Send frame)) first_of;
       node = node;
       then_ = act.0;
+      stood = act.2;
       st = st;
-      act = acts.Send frame;
+      apart = λ x. x;
       acted = act.1;
+      adjustment = ap (λ (n : Node). n.standing.adjustment) act.1.3;
+      did = λ task has. elim (did_deed s now device node act.0 (moment_of s device now) (sending cycle) task act.1.3 has) [
+        | inl old ↦ inl old
+        | inr e ↦ inr (e ∙ ap (λ (n : ℕ). now ∷ 5 ∷ device.0 ∷ n ∷ []) (sym same_cycle))
+      ];
+      at_place = λ low front. ap (λ (n : ℕ). now ∷ 5 ∷ device.0 ∷ n ∷ []) (sym same_cycle);
       body = kinds.Sent device cycle;
       late = omega arith;
       causes = omega arith;
       set = set;
       put = subst (λ (n : ℕ). ArePutIn s.network hs now (kinds.Sent device n ∷ []) world.settled settled) same_cycle put;
-      makes = λ front back parts st2 none. record {
-        so = sending_record stands s hs front back old.mark old.cursor now device a.machine node cycle st2 first.pending first.due none;
-        it = has_sent_it stands s hs front back old.mark old.cursor now device a.machine after node act.0 frame cycle st2 first act.1 act.1.3 act.2;
-        told = λ law. none_told s hs _ now device act.0 (none_with s hs (front ++ back) now device node cycle old.range old.rules st2.steady st2.work
-            first.pending first.due);
-      };
+      makes = λ front back parts st2 none.
+          let st3 : StageAt stands s hs (front ++ back) old.mark old.cursor now device a.machine node 5 (device.0 ∷ cycle ∷ []) =
+          subst (λ (n : ℕ). StageAt stands s hs (front ++ back) old.mark old.cursor now device a.machine node 5 (device.0 ∷ n ∷ [])) same_cycle st2 in
+          record {
+            so = subst (λ (n : ℕ). IsActRecordAt s hs front back now device (kinds.Sent device cycle) (now ∷ 5 ∷ device.0 ∷ n ∷ [])) (sym same_cycle)
+                (sending_record stands s hs front back old.mark old.cursor now device a.machine node cycle st3 first.pending first.due);
+            it = has_sent_it stands s hs front back old.mark old.cursor now device a.machine after node act.0 frame cycle st3 first act.1 act.1.3 act.2;
+          };
     }

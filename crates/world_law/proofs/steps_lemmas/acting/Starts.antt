@@ -1,11 +1,12 @@
 -- A device that is kept and has something due at the present instant is at work.
-use Rattle.world_law.proofs.steps_lemmas.Words.{◌++◌, ◌+◌, ◌∙◌, ◌∷◌, ◌≡◌, ◌≤ℤ◌, ◌≤◌, AreSettled, Compressed, DeviceId, Happening, HasDoneFrom, HasSentFrom}
-use Rattle.world_law.proofs.steps_lemmas.Words.{HasTaskBy, IsActing, IsBefore, IsIn, IsKept, IsLawful, IsLeft, IsOwnSource, IsPending, Judgement, List, Network}
-use Rattle.world_law.proofs.steps_lemmas.Words.{Node, None, NoteBody, RowId, Scenario, Task, [], act_place, ap, append-nil, arith, changed_at}
+use Rattle.world_law.proofs.steps_lemmas.Words.{◌++◌, ◌+◌, ◌∙◌, ◌∷◌, ◌≡◌, ◌≤ℤ◌, ◌≤◌, DeviceId, Happening, HasDoneFrom}
+use Rattle.world_law.proofs.steps_lemmas.Words.{HasTaskBy, IsActing, IsBefore, IsIn, IsKept, IsLawful, IsLeft, IsPending, List, Network}
+use Rattle.world_law.proofs.steps_lemmas.Words.{Node, None, RowId, Scenario, Task, [], ap, append-nil, arith, changed_at}
 use Rattle.world_law.proofs.steps_lemmas.Words.{changes_adjustment, correcting, dispatches_same, dispatching, doing, earlier, earlier_still, emitting, filter}
-use Rattle.world_law.proofs.steps_lemmas.Words.{frames_taken, inl, inr, members_in, parted, plain_body, pos, rank, reading_for, refl, sending, subst, sym}
-use Rattle.world_law.proofs.steps_lemmas.Words.{task_before, task_place, time_of, ℕ}
+use Rattle.world_law.proofs.steps_lemmas.Words.{frames_taken, inl, inr, pos, rank, reading_for, refl, sending, subst, sym}
+use Rattle.world_law.proofs.steps_lemmas.Words.{HasDoneTask, task_place, time_of, ℕ}
 use Rattle.{run_law.proofs.law.FirstPlaces.in_filter, world_law.proofs.runs.Agreement.{in_earlier, last_within}}
+use Rattle.world_law.proofs.devices.Working.{done_by, sent_by}
 use Rattle.world_law.proofs.{rows.Dispatching.dispatches_so, steps_lemmas.acting.Work.{IsAtWork, at_correction, emits, not_over, own_judgement, reaches, sends}}
 use Rattle.run_law.specs.declared.note.NoteBody.TheVariants as kinds
 
@@ -17,59 +18,37 @@ changed_soon hs device now =
 
 -- how a device stands that is kept, and has something due, is not that its instant is over
 pub up_now : {M : Type 0} (stands : M → Network → DeviceId → Node → Type 0) (s : Scenario) (hs coming : List Happening) (cursor : List ℕ) (now : ℕ)
-    (device : DeviceId) (machine : M) (k : IsKept stands s hs coming cursor now device machine) → HasTaskBy s device k.node now
-    → (k.up ≡ now) × ((task : Task) → IsBefore (task_place s.network now device task) cursor → IsActing s hs now device task → ⊥)
-up_now stands s hs coming cursor now device machine k due = elim k.acted [
+    (device : DeviceId) (machine : M) (k : IsKept stands s hs coming cursor now device machine)
+    → ((p : List ℕ) → IsBefore p cursor → IsBefore p ((now + 1) ∷ [])) → HasTaskBy s device k.node now
+    → (k.up ≡ now)
+    × ((task : Task) → IsBefore (task_place s.network now device task) cursor → IsActing s hs now device task → HasDoneTask k.node task)
+up_now stands s hs coming cursor now device machine k later due = elim k.acted [
   | inl yet ↦ yet
   | inr over ↦
-      elim k.worked [
-        | inr working ↦ absurd (let at = working.0 in omega (arith, at, over.0))
-        | inl rests ↦
-            absurd (not_over s (hs ++ coming) device now (now + 1) k.node
-            (subst (λ (n : ℕ). HasDoneFrom s.network (s.reading device) device k.node (changed_at (hs ++ coming) device n) n n) over.0 rests.done)
-            (subst (λ (n : ℕ). HasSentFrom s device k.node n n) over.0 rests.sent)
-            (changed_soon (hs ++ coming) device now) due)
-      ]
+      let changed = changed_at (hs ++ coming) device k.up in
+      let le : now + 1 ≤ k.up = omega (arith, over.0) in
+      absurd (not_over s (hs ++ coming) device now (now + 1) k.node
+      (subst (λ (n : ℕ). HasDoneFrom s.network (s.reading device) device k.node (changed_at (hs ++ coming) device n) (now + 1) (now + 1)) over.0
+      (done_by s device k.node changed k.up now cursor k.worked later (now + 1) le))
+      (sent_by s device k.node changed k.up now cursor k.worked later (now + 1) le)
+      (changed_soon (hs ++ coming) device now) due)
 ]
-
--- ---- own records
-
-pub plain_sent : (device : DeviceId) (cycle : ℕ) (body : NoteBody) → plain_body body ≡ kinds.Sent device cycle → body ≡ kinds.Sent device cycle
-plain_sent device cycle (kinds.State other state cause why) e = absurd cc
-plain_sent device cycle body e = e
-
-pub plain_compressed : (device : DeviceId) (c : Compressed) (verdict : Judgement) (body : NoteBody)
-    → plain_body body ≡ kinds.Compressed device c.opened c.at c.cycle c.members verdict → body ≡ kinds.Compressed device c.opened c.at c.cycle c.members verdict
-plain_compressed device c verdict (kinds.State other state cause why) e = absurd cc
-plain_compressed device c verdict body e = e
-
--- no such record is to come where the acts of the device are neither worked off nor taken up
-pub none_of_it : (s : Scenario) (hs coming : List Happening) (mark cursor : List ℕ) (now : ℕ) (device : DeviceId) → AreSettled s hs coming mark cursor now
-    → (IsBefore (act_place now device) cursor → ⊥) → (act_place now device ≡ cursor → ⊥) → (z : Happening) → IsIn z coming → (body : NoteBody)
-    → z.note.body ≡ body → ((hs : List Happening) (t members : ℕ) (w : List ℕ) → IsOwnSource s hs t members body w → w ≡ t ∷ 4 ∷ device.0 ∷ []) → ⊥
-none_of_it s hs coming mark cursor now device are waits not_at z i body e source = grind (arith, parted, time_of, members_in, act_place)
 
 -- ---- it is at work
 
 pub at_work : {M : Type 0} (stands : M → Network → DeviceId → Node → Type 0) (s : Scenario) (hs coming : List Happening) (cursor : List ℕ) (now : ℕ)
-    (device : DeviceId) (machine : M) (k : IsKept stands s hs coming cursor now device machine) → ((z : Happening) → IsIn z coming → time_of z ≡ now)
+    (device : DeviceId) (machine : M) (k : IsKept stands s hs coming cursor now device machine)
+    → ((p : List ℕ) → IsBefore p cursor → IsBefore p ((now + 1) ∷ [])) → ((z : Happening) → IsIn z coming → time_of z ≡ now)
     → ((h : Happening) → IsIn h (hs ++ coming) → time_of h ≤ now) → ((z : Happening) → IsIn z coming → 4 ≤ rank z.note.body)
     → k.up ≡ now → IsAtWork s hs coming now device k.node
-at_work stands s hs coming cursor now device machine k of past late up =
+at_work stands s hs coming cursor now device machine k later of past late up =
     let js = hs ++ coming in
-    let done : HasDoneFrom s.network (s.reading device) device k.node (changed_at js device now) now (now + 1) = elim k.worked [
-      | inr working ↦ subst (λ (n : ℕ). HasDoneFrom s.network (s.reading device) device k.node (changed_at js device n) now (now + 1)) up working.1.done
-      | inl rests ↦
-          let was = subst (λ (n : ℕ). HasDoneFrom s.network (s.reading device) device k.node (changed_at js device n) n n) up rests.done in
-          record { undone = was.undone; done = λ deed there. let x = was.done deed there in (x.0, x.1, omega (arith, x.2), x.3) }
-    ] in
-    let sent : HasSentFrom s device k.node now (now + 1) = elim k.worked [
-      | inr working ↦ working.1.sent
-      | inl rests ↦ record {
-        unsent = λ c w x lt. rests.sent.unsent c w x (omega (arith, lt, up));
-        sent = λ c there. let x = rests.sent.sent c there in (x.0, omega (arith, x.1, up), x.2);
-      }
-    ] in
+    let changed = changed_at js device k.up in
+    let le : now ≤ k.up = omega (arith, up) in
+    let done : HasDoneFrom s.network (s.reading device) device k.node (changed_at js device now) now (now + 1) =
+    subst (λ (n : ℕ). HasDoneFrom s.network (s.reading device) device k.node (changed_at js device n) now (now + 1)) up
+    (done_by s device k.node changed k.up now cursor k.worked later now le) in
+    let sent = sent_by s device k.node changed k.up now cursor k.worked later now le in
     record {
       left = subst (λ (n : ℕ). IsLeft s js device n k.node) up k.left;
       done = done;
@@ -109,13 +88,19 @@ task_acts s hs coming now device node (doing (dispatching row cycle)) law taken 
     (ap (λ (n : ℕ). let r : RowId = record { 0 = n } in r) (e.1 ∙ d.2.1))
     (IsActing.dispatches frame.entry.row.link d.0 frame.entry.row.vl cycle e.0)
 
--- so the acts of the device are not worked off
+-- what is done is not to be done
+pub undone_task : (network : Network) (device : DeviceId) (node : Node) (task : Task) → IsPending network device node task → HasDoneTask node task → ⊥
+undone_task network device node (emitting sent) p did = p.1.not_yet did
+undone_task network device node (doing deed) p did = p.1.not_yet did
+
+-- so a task that is due is not worked off
 pub acts_wait : {M : Type 0} (stands : M → Network → DeviceId → Node → Type 0) (s : Scenario) (hs coming : List Happening) (cursor : List ℕ) (now : ℕ)
     (device : DeviceId) (machine : M) (k : IsKept stands s hs coming cursor now device machine) (task : Task) → IsLawful s (hs ++ coming) device
-    → ((z : Happening) → IsIn z coming → time_of z ≡ now)
+    → ((p : List ℕ) → IsBefore p cursor → IsBefore p ((now + 1) ∷ [])) → ((z : Happening) → IsIn z coming → time_of z ≡ now)
     → ((h : Happening) → IsIn h (hs ++ coming) → time_of h ≤ now) → ((z : Happening) → IsIn z coming → 4 ≤ rank z.note.body)
-    → IsPending s.network device k.node task → reading_for s.network k.node task ≤ℤ pos (s.reading device now) → IsBefore (act_place now device) cursor → ⊥
-acts_wait stands s hs coming cursor now device machine k task law of past late pending due b =
-    let up = up_now stands s hs coming cursor now device machine k (task, pending, due) in
-    up.1 task (task_before s.network now device task cursor b)
-    (task_acts s hs coming now device k.node task law k.taken (at_work stands s hs coming cursor now device machine k of past late up.0) pending due)
+    → IsPending s.network device k.node task → reading_for s.network k.node task ≤ℤ pos (s.reading device now)
+    → IsBefore (task_place s.network now device task) cursor → ⊥
+acts_wait stands s hs coming cursor now device machine k task law later of past late pending due b =
+    let up = up_now stands s hs coming cursor now device machine k later (task, pending, due) in
+    undone_task s.network device k.node task pending
+    (up.1 task b (task_acts s hs coming now device k.node task law k.taken (at_work stands s hs coming cursor now device machine k later of past late up.0) pending due))

@@ -2,6 +2,7 @@
 use Rattle.sync_state.specs.{Verdicts.HasVerdict, membership.Summary.Summarizes}
 use Rattle.{run_law.specs.timed.Dispatching.Sends, world_law.{proofs.runs.SourcesBack.standing_in, specs.source.Sources.IsAtCorrection}}
 use Rattle.{sync_state.specs.Standing.{Standing, next_point}, world_law.proofs.{devices.TurnedOn.quiet_joins, steps_lemmas.Words.{up_back, value_of, ℕ, ℤ}}}
+use Rattle.world_law.proofs.acts.Dues.{same_standing}
 use Rattle.world_law.proofs.steps_lemmas.Words.{◌++◌, ◌+◌, ◌-ℤ◌, ◌<ℤ◌, ◌||◌, ◌∙◌, ◌∷◌, ◌≡◌, ◌≤ℤ◌, ◌≤◌, AreClusters, Bool, ClockTask, ComesTo, ComesToCorrection}
 use Rattle.world_law.proofs.steps_lemmas.Words.{Compressed, DeviceId, Emits, Happening, HasDoneFrom, HasSentFrom, HasTaskBy, Integrating, IsAtRest, IsIn}
 use Rattle.world_law.proofs.steps_lemmas.Words.{IsLeft, IsPending, IsReadyAt, IsUndone, Joining, Judgement, List, Network, Node, Point, Reaches, Scenario, Some}
@@ -72,10 +73,6 @@ sends s hs coming other now device node cycle w also pending due =
     }
 
 -- ---- corrections
-
-pub same_standing : (s : Scenario) (hs : List Happening) (device : DeviceId) (t : ℕ) (node : Node) → IsLeft s hs device t node
-    → is_timed node.standing.state ≡ true → node.standing ≡ standing_before s hs device t
-same_standing s hs device t node left is = grind (arith, plan_of, state_before, adjustment_before)
 
 -- a device that has its correction point before it is at it
 pub at_correction : (s : Scenario) (hs coming other : List Happening) (now : ℕ) (device : DeviceId) (node : Node) (cycle : ℕ)

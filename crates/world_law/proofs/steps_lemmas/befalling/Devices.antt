@@ -1,10 +1,11 @@
 -- Each device when the outcomes of the events of an instant are settled.
-use Rattle.world_law.proofs.devices.Working.{rested}
+use Rattle.world_law.proofs.devices.Working.{rested, worked_by}
+use Rattle.world_law.proofs.steps_lemmas.Words.{before_behind, chain}
 use Rattle.{net_plan.proofs.SameIds.alike, world_law.proofs.acts.Recorded.first_recorded}
 use Rattle.world_law.proofs.{acts.Dispatched.{dispatch_told, send_apart}, steps_lemmas.befalling.{CalmTakings.taken_calm, UnderWay.{IsTelling, goes_on}}}
-use Rattle.world_law.proofs.steps_lemmas.Words.{◌++◌, ◌==◌, ◌∙◌, ◌∷◌, ◌≡◌, ◌≤◌, AreOfNetwork, Befell, Compressed, DeviceId, Dispatches, Happening, HasDoneFrom}
-use Rattle.world_law.proofs.steps_lemmas.Words.{HasSentFrom, IsAtRest, IsBefore, IsDue, IsFounded, IsHeld, IsIn, IsKept, IsLeft, IsOfThisTime, IsSendLost}
-use Rattle.world_law.proofs.steps_lemmas.Words.{IsTurnedOnBy, Judgement, LinkId, List, Network, Node, None, NoteBody, Scenario, VlId, [], act_place}
+use Rattle.world_law.proofs.steps_lemmas.Words.{◌++◌, ◌==◌, ◌∙◌, ◌∷◌, ◌≡◌, ◌≤◌, AreOfNetwork, Befell, DeviceId, Dispatches, Happening, HasDoneFrom}
+use Rattle.world_law.proofs.steps_lemmas.Words.{IsAtRest, IsBefore, IsDue, IsFounded, IsHeld, IsIn, IsKept, IsLeft, IsOfThisTime, IsSendLost}
+use Rattle.world_law.proofs.steps_lemmas.Words.{IsTurnedOnBy, LinkId, List, Network, Node, None, NoteBody, Scenario, VlId, [], act_place}
 use Rattle.world_law.proofs.steps_lemmas.Words.{acts_before, adjustment_after, ap, append-nil, arith, behind, cases_Bool, cause_of, changed_at}
 use Rattle.world_law.proofs.steps_lemmas.Words.{changes_adjustment, dispatch_body, dispatches_back, earlier, earlier_still, false, filter, frames_taken}
 use Rattle.world_law.proofs.steps_lemmas.Words.{in_parts, in_right, inl, inr, is_broken, is_turned_on_at, last_or, moves, never_self, numbered_in}
@@ -92,17 +93,6 @@ no_dispatch s hs now device link cause vl cycle body founded (IsOutcome.losing d
 
 -- ---- a sound device
 
--- it is none of its sendings, and none of its frames
-no_sending : (s : Scenario) (hs : List Happening) (now : ℕ) (device : DeviceId) (cycle : ℕ) (body : NoteBody) → IsOutcome s hs now body
-    → plain_body body ≡ kinds.Sent device cycle → ⊥
-no_sending s hs now device cycle body (IsOutcome.losing d link n it) e = absurd cc
-no_sending s hs now device cycle body (IsOutcome.turning d n line h sound it is) e = absurd cc
-
-no_frame : (s : Scenario) (hs : List Happening) (now : ℕ) (device : DeviceId) (c : Compressed) (verdict : Judgement) (body : NoteBody)
-    → IsOutcome s hs now body → plain_body body ≡ kinds.Compressed device c.opened c.at c.cycle c.members verdict → ⊥
-no_frame s hs now device c verdict body (IsOutcome.losing d link n it) e = absurd cc
-no_frame s hs now device c verdict body (IsOutcome.turning d n line h sound it is) e = absurd cc
-
 not_past_acts : (now : ℕ) (device : DeviceId) → IsBefore (act_place now device) (behind (now ∷ 2 ∷ [])) → ⊥
 not_past_acts now device (inl lt) = omega (arith, lt)
 not_past_acts now device (inr (e, inl lt)) = omega (arith, lt)
@@ -130,8 +120,9 @@ kept_told stands s hs coming cursor now befell device machine m k =
     let left_so : IsLeft s (hs ++ coming) device k.up k.node =
     left_all_calm s hs coming device k.up k.node (λ z i. let of = m.at z i in omega (arith, of, at_now))
     (λ z i. calm_outcome s hs now z.note.body (m.out z i)) (subst (λ (l : List Happening). IsLeft s l device k.up k.node) (append-nil hs) k.left) in
-    let rests = rested s device k.node _ k.up now cursor k.worked
-    (λ up_to. early_not hs cursor now befell m.telling (up_to (now ∷ 2 ∷ []) (inr (refl, inl (omega arith))))) in
+    let rests = rested s device k.node (changed_at (hs ++ []) device k.up) k.up now cursor k.worked (omega (arith, at_now))
+    (λ b. not_past_acts now device (chain (act_place now device) (now ∷ 2 ∷ []) (behind (now ∷ 2 ∷ []))
+    (m.telling.untold.early refl (act_place now device) b) (before_behind (now ∷ 2 ∷ [])))) in
     let done_so : HasDoneFrom s.network (s.reading device) device k.node (changed_at (hs ++ coming) device k.up) k.up k.up =
     subst (λ (n : ℕ). HasDoneFrom s.network (s.reading device) device k.node n k.up k.up)
     (ap (λ (l : List Happening). option_map_or time_of (last_or None (filter (λ h. changes_adjustment device h.note.body) l)) 0) (same k.up up_le))
@@ -141,10 +132,11 @@ kept_told stands s hs coming cursor now befell device machine m k =
       is = k.is;
       sound = k.sound;
       up = k.up;
-      acted = inl (at_now, λ task b a. not_past_acts now device (acts_before s.network now device task (behind (now ∷ 2 ∷ [])) b));
+      acted = inl (at_now, λ task b a. absurd (not_past_acts now device (acts_before s.network now device task (behind (now ∷ 2 ∷ [])) b)));
       told = λ over. absurd (omega (arith, at_now, over));
       left = left_so;
-      worked = inl (record { done = done_so; sent = rests.sent });
+      worked = worked_by s device k.node (changed_at (hs ++ coming) device k.up) k.up (behind (now ∷ 2 ∷ [])) (record { done = done_so; sent = rests.sent })
+          (λ x task lt. inl (omega (arith, lt, at_now)));
       taken =
           k.taken ∙ ap (λ (l : List Happening). frames_taken s l device) (append-nil hs)
           ∙ sym (taken_calm s hs coming device now (past_told hs cursor now befell m.telling)
@@ -169,9 +161,7 @@ kept_told stands s hs coming cursor now befell device machine m k =
       recorded = λ same_up.
           first_recorded s (hs ++ coming) coming now device k.node (subst (λ (n : ℕ). IsLeft s (hs ++ coming) device n k.node) at_now left_so)
           (subst (λ (n : ℕ). HasDoneFrom s.network (s.reading device) device k.node (changed_at (hs ++ coming) device n) n n) at_now done_so)
-          (subst (λ (n : ℕ). HasSentFrom s device k.node n n) at_now rests.sent)
-          (λ z i cycle e. no_sending s hs now device cycle z.note.body (m.out z i) e)
-          (λ z i c verdict e. no_frame s hs now device c verdict z.note.body (m.out z i) e) m.at
+          m.at
           (λ z i link cause vl cycle d e.
           no_dispatch s hs now device link cause vl cycle z.note.body m.founded (m.out z i)
           (dispatches_back s (hs ++ coming) hs now device link cause vl cycle
@@ -186,4 +176,17 @@ pub held_told : {M : Type 0} (stands : M → Network → DeviceId → Node → T
     → IsHeld stands s hs [] cursor now device machine → IsHeld stands s hs coming (behind (now ∷ 2 ∷ [])) now device machine
 held_told stands s hs coming cursor now befell device machine m (inl k) = inl (kept_told stands s hs coming cursor now befell device machine m k)
 held_told stands s hs coming cursor now befell device machine m (inr k) =
-    grind (arith, moves, out_unmoved, state_after, up_to, append-nil, state_unmoved, adjustment_after, adjustment_unmoved, goes_on)
+    let none : (z : Happening) → IsIn z coming → moves device z.note.body ≡ false = λ z i. out_unmoved s hs now device z.note.body k.broken (m.out z i) in
+    let whole = append-nil hs in
+    inr (record {
+      node = k.node;
+      is = k.is;
+      broken = k.broken;
+      shows = k.shows;
+      state =
+          k.state ∙ ap (λ (l : List Happening). state_after s (up_to now l) device) whole ∙ sym (state_unmoved s hs coming device now none);
+      adjustment =
+          k.adjustment ∙ ap (λ (l : List Happening). adjustment_after s (up_to now l) device) whole ∙ sym (adjustment_unmoved s hs coming device now none);
+      ready = k.ready;
+      phase = λ at p b. goes_on hs cursor now befell m.telling p (k.phase at p b);
+    })

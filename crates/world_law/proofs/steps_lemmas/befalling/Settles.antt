@@ -1,5 +1,5 @@
 -- The outcomes of the events of an instant are all that is due by them.
-use Rattle.world_law.{proofs.runs.Applies.{event_cause, event_place}, specs.{device.Plain.renumbered, world.World.{IsTakenUp, IsWorkedOff}}}
+use Rattle.world_law.{proofs.runs.Applies.{event_cause, event_place}, specs.{device.Plain.renumbered, world.World.IsWorkedOff}}
 use Rattle.world_law.proofs.steps_lemmas.Words.{◌++◌, ◌+◌, ◌∙◌, ◌∷◌, ◌≡◌, ◌≤◌, ◌⊎◌, AreSettled, Befell, Bool, DeviceId, Happening, HaveBefallen, Integrating}
 use Rattle.world_law.proofs.steps_lemmas.Words.{IsBefore, IsCaused, IsDue, IsEventBody, IsIn, IsOfThisTime, IsOwnSource, IsRun, IsSendLost, IsSource, Link}
 use Rattle.world_law.proofs.steps_lemmas.Words.{LinkId, List, NoteBody, Option, Scenario, Some, Units, Up, What, [], amount, ap, arith, before_behind, behind}
@@ -155,7 +155,7 @@ came s hs front mark cursor now befell settled time ms (notes.Lost d link n) m c
       )
     ]
 came s hs front mark cursor now befell settled time ms (notes.Lost d link n) m calm at (inl o) c = absurd (not_two 8 o.0 (λ e. omega (arith, e)))
-came s hs front mark cursor now befell settled time ms (notes.Lost d link n) m calm at (inr (inl o)) c = absurd (not_two 4 o.0 (λ e. omega (arith, e)))
+came s hs front mark cursor now befell settled time ms (notes.Lost d link n) m calm at (inr (inl o)) c = absurd (not_two 6 o.4 (λ e. omega (arith, e)))
 came s hs front mark cursor now befell settled time ms (notes.Event line what) m calm at o c = absurd (not_two 1 o (λ e. omega (arith, e)))
 came s hs front mark cursor now befell settled time ms (notes.Arrived d link n clock) m calm at o c = absurd (not_longer d.0 o)
 came s hs front mark cursor now befell settled time ms (notes.Permanent d link n point verdict) m calm at o c = absurd (not_two 3 o (λ e. omega (arith, e)))
@@ -170,7 +170,11 @@ came s hs front mark cursor now befell settled time ms (notes.Dropped d link n r
 came s hs front mark cursor now befell settled time ms (notes.Dropped d link n reason) m calm at (inr (inr o)) c =
     absurd (not_two 8 o.0 (λ e. omega (arith, e)))
 came s hs front mark cursor now befell settled time ms (notes.Clock d reading adjustment state) m calm at o c = absurd (not_two 14 o (λ e. omega (arith, e)))
-came s hs front mark cursor now befell settled time ms other m calm at o c = absurd (not_two 4 o (λ e. omega (arith, e)))
+came s hs front mark cursor now befell settled time ms (notes.State d st n whys.SyncClique) m calm at o c = absurd (not_two 6 o.1 (λ e. omega (arith, e)))
+came s hs front mark cursor now befell settled time ms (notes.State d st n whys.AsyncClique) m calm at o c = absurd (not_two 6 o.1 (λ e. omega (arith, e)))
+came s hs front mark cursor now befell settled time ms (notes.TtSent d link n vl cycle) m calm at o c = absurd (not_two 6 o.1 (λ e. omega (arith, e)))
+came s hs front mark cursor now befell settled time ms (notes.Sent d cycle) m calm at o c = absurd (not_two 5 o (λ e. omega (arith, e)))
+came s hs front mark cursor now befell settled time ms (notes.Corrected d cycle by adjustment) m calm at o c = absurd (not_two 6 o (λ e. omega (arith, e)))
 
 -- ---- a record that is due by a source up to there
 
@@ -222,7 +226,7 @@ settled_told s hs mark cursor now befell settled m =
       by = λ front rest z e.
           let it = one z (subst (λ (l : List Happening). IsIn z l) (sym e) (in_here front rest z)) in
           let off = worked_one s hs front now it.number it.body it.out in
-          subst (λ (x : Happening). IsTakenUp s (hs ++ front) (behind (now ∷ 2 ∷ [])) x) (sym it.is) (off.0, off.1, off.2, inl off.3);
+          subst (λ (x : Happening). IsWorkedOff s (hs ++ front) (behind (now ∷ 2 ∷ [])) x) (sym it.is) off;
       full = λ front back y e before none not due worked.
           let calm : (z : Happening) → IsIn z front → is_calm z.note.body ≡ true = λ z i.
           let it = one z (subst (λ (l : List Happening). IsIn z l) (sym e) (in_left z front back i)) in

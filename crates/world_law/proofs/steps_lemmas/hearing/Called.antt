@@ -1,16 +1,13 @@
 -- A device that is called, and takes nothing by it, is kept as before.
 use Rattle.world_law.proofs.{acts.Recorded.recorded_alike, steps_lemmas.ripening.Called.left_called}
-use Rattle.world_law.proofs.steps_lemmas.Words.{◌++◌, ◌+◌, ◌∷◌, ◌≡◌, ◌≤ℤ◌, DeviceId, Happening, HasDoneFrom, HasSentFrom, HasTaskBy, IsAlike, IsBefore, IsKept}
+use Rattle.world_law.proofs.steps_lemmas.Words.{◌++◌, ◌∷◌, ◌≡◌, DeviceId, Happening, IsAlike, IsBefore, IsKept}
 use Rattle.world_law.proofs.steps_lemmas.Words.{IsOut, IsPending, IsReadyAt, List, Moment, Network, Node, Phase, Scenario, Task, [], arith, called, doing}
-use Rattle.world_law.proofs.steps_lemmas.Words.{emitting, inl, inr, ints, moment_of, pos, rank_of_call, reading_for, refl, subst, sym, undone_alike}
-use Rattle.world_law.proofs.steps_lemmas.Words.{waiting_alike, ℕ, ℤ}
+use Rattle.world_law.proofs.steps_lemmas.Words.{emitting, ints, moment_of, rank_of_call, reading_for, refl, undone_alike}
+use Rattle.world_law.proofs.steps_lemmas.Words.{waiting_alike, ℕ}
 
 -- the called device, and the device before the call, are alike
 to_called : (node : Node) (moment : Moment) (phase : Phase) → IsAlike node (called moment phase node)
 to_called node moment phase = record { standing = refl; broken = refl; changed = refl; taken = refl; done = λ d there. there }
-
-from_called : (node : Node) (moment : Moment) (phase : Phase) → IsAlike (called moment phase node) node
-from_called node moment phase = record { standing = refl; broken = refl; changed = refl; taken = refl; done = λ d there. there }
 
 -- what the called device has still to do, it had before
 was_pending : (network : Network) (device : DeviceId) (node : Node) (moment : Moment) (phase : Phase) (task : Task)
@@ -20,26 +17,6 @@ was_pending network device node moment phase (emitting sent) p =
     ((p.0, waiting_alike network device node (called moment phase node) sent refl (λ c there. there) p.1), refl)
 was_pending network device node moment phase (doing deed) p =
     ((p.0, undone_alike network device node (called moment phase node) deed (to_called node moment phase) p.1), refl)
-
-is_pending : (network : Network) (device : DeviceId) (node : Node) (moment : Moment) (phase : Phase) (task : Task) → IsPending network device node task
-    → IsPending network device (called moment phase node) task
-is_pending network device node moment phase (emitting sent) p =
-    (p.0, waiting_alike network device (called moment phase node) node sent refl (λ c there. there) p.1)
-is_pending network device node moment phase (doing deed) p =
-    (p.0, undone_alike network device (called moment phase node) node deed (from_called node moment phase) p.1)
-
-same_reading : (network : Network) (node : Node) (moment : Moment) (phase : Phase) (task : Task)
-    → reading_for network (called moment phase node) task ≡ reading_for network node task
-same_reading network node moment phase (emitting sent) = refl
-same_reading network node moment phase (doing deed) = refl
-
-has_task_called : (s : Scenario) (device : DeviceId) (node : Node) (moment : Moment) (phase : Phase) (t : ℕ) → HasTaskBy s device node t
-    → HasTaskBy s device (called moment phase node) t
-has_task_called s device node moment phase t (task, p, due) = (
-  task,
-  is_pending s.network device node moment phase task p,
-  subst (λ (z : ℤ). z ≤ℤ pos (s.reading device t)) (sym (same_reading s.network node moment phase task)) due,
-)
 
 -- a called device is ready at the instant of the call
 pub ready_called : (s : Scenario) (now : ℕ) (device : DeviceId) (node : Node) (phase : Phase) → IsReadyAt (s.reading device) s.network device node now
@@ -72,43 +49,23 @@ kept_called stands s hs coming cursor now device machine after phase k come =
       told = k.told;
       left = left_called s (hs ++ coming) device k.up k.node m phase k.left;
       taken = k.taken;
-      worked = elim k.worked [
-        | inl rests ↦ inl (record { done = done_called _ k.up k.up rests.done; sent = sent_called k.up k.up rests.sent })
-        | inr working ↦ inr (
-          working.0,
-          record {
-            taken_up = working.1.taken_up;
-            due = has_task_called s device k.node m phase now working.1.due;
-            done = done_called _ now (now + 1) working.1.done;
-            sent = sent_called now (now + 1) working.1.sent;
-          },
-        )
-      ];
+      worked = record {
+        undone = λ deed u x from lt.
+            k.worked.undone deed
+            (undone_alike s.network device k.node (called (moment_of s device now) phase k.node) deed (to_called k.node (moment_of s device now) phase) u) x from
+            lt;
+        done = k.worked.done;
+        unsent = λ sent w x lt.
+            k.worked.unsent sent (waiting_alike s.network device k.node (called (moment_of s device now) phase k.node) sent refl (λ c there. there) w) x lt;
+        sent = k.worked.sent;
+      };
       bare = k.bare;
       ready = ready_called s now device k.node phase k.ready;
       still = k.still;
       turned = k.turned;
       cleared = k.cleared;
-      recorded = λ same. recorded_alike s (hs ++ coming) coming now device k.node (called m phase k.node) refl refl refl (k.recorded same);
+      recorded = λ same. recorded_alike s (hs ++ coming) coming now device k.node (called m phase k.node) refl (k.recorded same);
       phase = λ at p b. come p b;
-    }
-  where
-    done_called : (changed low high : ℕ) → HasDoneFrom s.network (s.reading device) device k.node changed low high
-        → HasDoneFrom s.network (s.reading device) device (called (moment_of s device now) phase k.node) changed low high
-    done_called changed low high has = record {
-      undone = λ deed u x from lt.
-          has.undone deed
-          (undone_alike s.network device k.node (called (moment_of s device now) phase k.node) deed (to_called k.node (moment_of s device now) phase) u) x from
-          lt;
-      done = has.done;
-    }
-
-    sent_called : (low high : ℕ) → HasSentFrom s device k.node low high
-        → HasSentFrom s device (called (moment_of s device now) phase k.node) low high
-    sent_called low high has = record {
-      unsent = λ sent w x lt.
-          has.unsent sent (waiting_alike s.network device k.node (called (moment_of s device now) phase k.node) sent refl (λ c there. there) w) x lt;
-      sent = has.sent;
     }
 
 -- and so is a broken one, where the cursor goes on

@@ -1,10 +1,11 @@
 -- A frame arrives at its device: it is judged as the records say, and each device is kept behind it.
 use Rattle.world_law.proofs.devices.Working.{rested}
+use Rattle.world_law.proofs.steps_lemmas.Words.{changed_at}
 use Rattle.{run_law.specs.machines.{Answers.after_arrival, Calls.MayArrive}, world_law.specs.world.Calls.HasHeard}
 use Rattle.world_law.proofs.{putting.Moving.kept_moves, steps_lemmas.Words.{place_of, placed, pos, rank, refl, signal_of, subst, sym, taken_in, time_of, ℕ, ℤ}}
-use Rattle.world_law.proofs.steps_lemmas.Words.{◌++◌, ◌+◌, ◌==◌, ◌^◌, ◌∙◌, ◌∷◌, ◌≡◌, ◌≤ℤ◌, ◌≤◌, Arrival, Bool, DeviceId, Happening, IsBefore, IsHeld, IsKept}
+use Rattle.world_law.proofs.steps_lemmas.Words.{no_task_at, ◌++◌, ◌+◌, ◌==◌, ◌^◌, ◌∙◌, ◌∷◌, ◌≡◌, ◌≤ℤ◌, ◌≤◌, Arrival, Bool, DeviceId, Happening, IsBefore, IsHeld, IsKept}
 use Rattle.world_law.proofs.steps_lemmas.Words.{IsMoving, IsNoTaking, IsOut, IsSteady, LinkId, List, Network, Node, OnWire, Scenario, Signal, TakenFrame, VlId}
-use Rattle.world_law.proofs.steps_lemmas.Words.{[], act_place, amount, ap, arith, arrival_at, arrival_body, arrival_of, arriving, bears_on, behind, called}
+use Rattle.world_law.proofs.steps_lemmas.Words.{[], amount, ap, arith, arrival_at, arrival_body, arrival_of, arriving, bears_on, behind, called}
 use Rattle.world_law.proofs.steps_lemmas.Words.{chain, eq-eqb, false, held_aside, if◌then◌else◌, in_parts, in_right, inl, inr, is_end, is_sending, moment_of}
 use Rattle.world_law.proofs.steps_lemmas.hearing.{Called.{After, kept_by, kept_called, out_called}, Timed.{IsAfterGiven, given_by_now, kept_judges, no_taking}}
 use Rattle.world_law.proofs.steps_lemmas.hearing.{Calling.may_call, Judging.{broken_drops, out_drops}, Putting.IsReceiving, Receptions.placed_at}
@@ -105,8 +106,11 @@ quiet_for stands s hs front back mark cursor now e is w a r device = record {
 
 -- ---- the device that heard it
 
-pub four_not : (now : ℕ) (device : DeviceId) (more : List ℕ) → act_place now device ≡ now ∷ 2 ∷ more → ⊥
-four_not now device more same = let four : ◌≡◌ {A = ℕ} 4 2 = cc in omega (arith, four)
+-- no act is before what follows an arrival
+four_after : (now d : ℕ) (more : List ℕ) → IsBefore (now ∷ 4 ∷ d ∷ []) (now ∷ 2 ∷ more) → ⊥
+four_after now d more (inl lt) = omega (arith, lt)
+four_after now d more (inr (e, inl lt)) = omega (arith, lt)
+four_after now d more (inr (e, inr (f, b))) = omega (arith, f)
 
 -- it takes nothing
 plain_there : {M : Type 0} (stands : M → Network → DeviceId → Node → Type 0) (s : Scenario) (n : ℕ) (hs front back : List Happening) (mark cursor : List ℕ)
@@ -118,7 +122,8 @@ plain_there : {M : Type 0} (stands : M → Network → DeviceId → Node → Typ
 plain_there stands s n hs front back mark cursor now e machine heard w moving quiet at none k is =
     let more = e.device.0 ∷ e.link.0 ∷ e.cause ∷ [] in
     let by = After stands heard (called (moment_of s e.device now) arriving) in
-    let on = kept_moves by s hs (front ++ back) mark cursor now 2 more e.device machine moving (four_not now e.device more)
+    let on = kept_moves by s hs (front ++ back) mark cursor now 2 more e.device machine moving
+    (no_task_at s.network now e.device 2 more (inl (omega arith)))
     (kept_by stands by s hs (front ++ back) cursor now e.device machine k is) in
     held_aside stands s n hs front back (behind (now ∷ 2 ∷ more)) now e.device heard w quiet.bears quiet.sends at
     (frames_aside s n hs front back w e.device quiet none)
@@ -143,14 +148,15 @@ taken_there stands s n hs front back mark cursor now e machine heard w vl cycle 
     let more = e.device.0 ∷ e.link.0 ∷ e.cause ∷ [] in
     let over = e.link.0 ∷ e.cause ∷ 0 ∷ [] in
     let by = After stands heard (took (moment_of s e.device now) vl cycle) in
-    let on = kept_moves by s hs (front ++ back) mark cursor now 2 more e.device machine moving (four_not now e.device more)
+    let on = kept_moves by s hs (front ++ back) mark cursor now 2 more e.device machine moving
+    (no_task_at s.network now e.device 2 more (inl (omega arith)))
     (kept_by stands by s hs (front ++ back) cursor now e.device machine k is) in
     let up : on.up ≡ now = elim on.acted [
       | inl still ↦ still.0
       | inr gone ↦ absurd (not_over now e.device.0 over (gone.1 (now ∷ 2 ∷ (e.device.0 + 1) ∷ []) (inr (refl, inl (omega arith)))))
     ] in
-    let rests = rested s e.device on.node _ on.up now (behind (now ∷ 2 ∷ more)) on.worked
-    (λ up_to. not_over now e.device.0 over (up_to (now ∷ 2 ∷ (e.device.0 + 1) ∷ []) (inr (refl, inl (omega arith))))) in
+    let rests = rested s e.device on.node (changed_at (hs ++ (front ++ back)) e.device on.up) on.up now (behind (now ∷ 2 ∷ more)) on.worked (omega (arith, up))
+    (four_after now e.device.0 (e.device.0 ∷ over)) in
     inl (kept_taking stands s n hs front back w (behind (now ∷ 2 ∷ more)) now e.device machine heard vl cycle taking steady precise (after_here s now e) on up
     rests)
 

@@ -1,12 +1,13 @@
 -- A frame on a wire arrives, and its device's machine hears it.
-use Rattle.world_law.proofs.steps_lemmas.Words.{◌++◌, ◌==◌, ◌∙◌, ◌∷◌, ◌≡◌, AreOfNetwork, ArePutIn, AreSettled, Arrival, DeviceId, Happening, IsAllOfIt}
+use Rattle.world_law.proofs.steps_lemmas.Words.{arith, no_task_at, ◌++◌, ◌==◌, ◌∙◌, ◌∷◌, ◌≡◌, AreOfNetwork, ArePutIn, AreSettled, Arrival, DeviceId, Happening, IsAllOfIt}
 use Rattle.world_law.proofs.steps_lemmas.Words.{IsBefore, IsHeld, IsOne, LinkId, List, Network, Node, OnWire, Scenario, Some, [], ap, arrival_body, arrival_of}
 use Rattle.world_law.proofs.steps_lemmas.Words.{behind, cases_Bool, chain, eq-eqb, eqb-true, false, happenings, held_aside, held_moves, hidden, inl, inr}
 use Rattle.world_law.proofs.steps_lemmas.Words.{is_at_source, is_last, known_aside, last_unfollowed, length, map, moves_no_other, never_self, one_by, place_of}
 use Rattle.world_law.proofs.steps_lemmas.Words.{placed, refl, same_device, slice_get, some_same, subst, sym, taken_in, true, ℕ}
-use Rattle.world_law.proofs.steps_lemmas.hearing.{Heard.{IsHearingIt, four_not, held_answers, held_there, others_take, quiet_for}, Quiet.frames_aside}
+use Rattle.world_law.proofs.steps_lemmas.hearing.{Heard.{IsHearingIt, held_answers, held_there, others_take, quiet_for}, Quiet.frames_aside}
 use Rattle.world_law.proofs.steps_lemmas.hearing.{Hearing.{arriving_first, heard_behind, heard_put}, Receptions.{body_ranks, device_there, placed_at}}
 use Rattle.world_law.proofs.steps_lemmas.hearing.{Putting.IsReceiving, Ranked.rank_is, Settling.{all_of_arrival, put_known}, Timed.{IsAfterGiven, heard_as_all}}
+use Rattle.world_law.proofs.steps_lemmas.Words.{correcting, doing}
 use Rattle.world_law.specs.steps.Arriving.{HeardStep}
 use Rattle.run_law.specs.declared.steps.Arrival.TheVariants as arrivals
 
@@ -39,7 +40,7 @@ arrival_put s hs front back mark cursor now e is w p =
       ];
       mine = p.mine;
       here = p.here;
-      aside = λ x i device same hears. four_not now device more (sym same);
+      aside = λ x i device same hears. no_task_at s.network now device 2 more (inl (omega arith)) (doing (correcting 0)) (sym same);
     } in
     let at_place : is_at_source w.note.body ≡ true → place_of w ≡ here = λ source. elim (body_ranks e.device e.link e.cause is) [
       | inl two ↦ placed_at now e is w p.at p.body ∙ ap (λ (k : ℕ). now ∷ k ∷ more) two.0
@@ -109,7 +110,8 @@ heard_step {C} {M} reading stands s world notes e machine heard octets result ma
             held_aside stands s n hs r.front r.back (behind here) now device k.0 r.w (quiet device).bears (quiet device).sends r.it.at
                 (frames_aside s n hs r.front r.back r.w device (quiet device)
                 (λ z. ap (taken_in device z) r.it.body ∙ others_take device e.device e.link e.cause is other z))
-                (held_moves stands s hs (r.front ++ r.back) old.mark old.cursor now 2 more device k.0 r.it.moving (four_not now device more)
+                (held_moves stands s hs (r.front ++ r.back) old.mark old.cursor now 2 more device k.0 r.it.moving
+                (no_task_at s.network now device 2 more (inl (omega arith)))
                 (subst (λ (l : List Happening). IsHeld stands s hs l old.cursor now device k.0) r.whole k.2)),
           )
     ])

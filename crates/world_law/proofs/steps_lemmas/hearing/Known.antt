@@ -31,7 +31,7 @@ corrected_from : (s : Scenario) (device : DeviceId) (cycle : ℕ) (by adjustment
     → (now t members : ℕ) (more : List ℕ) (js : List Happening) (w : List ℕ) → now ≡ t → IsOwnSource s js t members body w
     → (w ≡ now ∷ 2 ∷ more) ⊎ IsBefore (now ∷ 2 ∷ more) w
 corrected_from s device cycle by adjustment body is now t m more js w e o =
-    higher now t 4 more _ w e (omega arith) (subst (λ (b : NoteBody). IsOwnSource s js t m b w) is o)
+    higher now t 6 more _ w e (omega arith) (subst (λ (b : NoteBody). IsOwnSource s js t m b w) is o)
 
 cause_known : (hs zs : List Happening) (t cause : ℕ) (h : Happening) → IsOfThisTime (hs ++ zs) t cause h → (IsIn h zs → ⊥) → cause ≤ length hs
 cause_known hs zs t cause h it none = elim (numbered_parts hs zs h cause it.there) [

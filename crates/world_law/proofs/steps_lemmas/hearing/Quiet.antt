@@ -1,8 +1,8 @@
 -- A record that bears on no device is put in among those of its instant: what each device took, and the device that took a frame by it.
-use Rattle.world_law.proofs.Words.{HasWorkedTo}
+use Rattle.world_law.proofs.devices.Working.{HasRested, worked_by}
 use Rattle.{run_law.specs.machines.Nodes.local_at, std.proofs.Common.arith, world_law.proofs.rows.Takings.{frames_by_others, frames_put, frames_with}}
 use Rattle.world_law.proofs.{acts.Recorded.{recorded_alike, recorded_put}, steps_lemmas.hearing.Took.{done_took, left_took, ready_took, sent_took, took}}
-use Rattle.world_law.proofs.{putting.Bearing.{before_aside, changed_aside, earlier_aside, left_aside, still_aside}, steps_lemmas.hearing.Called.After}
+use Rattle.world_law.proofs.{putting.Bearing.{changed_aside, earlier_aside, left_aside, still_aside}, steps_lemmas.hearing.Called.After}
 use Rattle.world_law.proofs.steps_lemmas.Words.{◌++◌, ◌+ℤ◌, ◌∙◌, ◌∷◌, ◌≡◌, ◌≤ℤ◌, ◌≤◌, DeviceId, Happening, HasDoneFrom, IsBefore, IsIn, IsKept, IsLeft}
 use Rattle.world_law.proofs.steps_lemmas.Words.{IsNoTaking, IsSteady, List, Network, Node, Scenario, TakenFrame, Units, VlId, [], amount, ap, append_assoc}
 use Rattle.world_law.proofs.steps_lemmas.Words.{bears_on, bump_behind, changed_at, false, frames_taken, inl, is_sending, local_before, map, moment_of}
@@ -44,7 +44,7 @@ pub kept_taking : {M : Type 0} (stands : M → Network → DeviceId → Node →
     (now : ℕ) (device : DeviceId) (machine after : M) (vl : VlId) (cycle : ℕ) → IsTakingBy s hs front back now w device vl cycle
     → IsSteady (s.reading device) (amount s.network.precision) → pos 0 ≤ℤ s.network.precision.0 → ((p : List ℕ) → IsBefore p (now ∷ 2 ∷ []) → IsBefore p cursor)
     → (k : IsKept (After stands after (took (moment_of s device now) vl cycle)) s hs (front ++ back) cursor now device machine) → k.up ≡ now
-    → HasWorkedTo s device k.node (changed_at (hs ++ (front ++ back)) device k.up) k.up
+    → HasRested s device k.node (changed_at (hs ++ (front ++ back)) device k.up) k.up
     → IsKept stands s hs (placed n front w back) cursor now device after
 kept_taking stands s n hs front back w cursor now device machine after vl cycle t steady precise come k up rests =
     let m = moment_of s device now in
@@ -74,14 +74,14 @@ kept_taking stands s n hs front back w cursor now device machine after vl cycle 
       sound = k.sound;
       up = k.up;
       acted = k.acted;
-      told = grind (arith, before_aside, none);
+      told = λ over. absurd (omega (arith, over, up));
       left = left_took s (hs ++ placed n front w back) device k.up k.node m vl cycle (left_aside s n hs front back w device k.up k.node none k.left);
       taken = took_it;
-      worked = inl (record {
+      worked = worked_by s device (took m vl cycle k.node) (changed_at (hs ++ placed n front w back) device k.up) k.up cursor (record {
         done = subst (λ (c : ℕ). HasDoneFrom s.network (s.reading device) device (took m vl cycle k.node) c k.up k.up)
             (changed_aside s n hs front back w device k.up none) done_then;
         sent = sent_took s now device k.node vl cycle k.up k.up rests.sent;
-      });
+      }) (λ x task lt. come _ (inl (omega (arith, lt, up))));
       bare = k.bare;
       ready = ready_took s now device k.node vl cycle steady precise k.ready;
       still = λ same. still_aside s n hs front back now device w (moves_no_other device w.note.body none) (k.still same);
@@ -90,6 +90,6 @@ kept_taking stands s n hs front back w cursor now device machine after vl cycle 
       recorded = λ same.
           recorded_put s hs front back (placed n front w back) now device (took m vl cycle k.node) w (plains_placed n front back w) t.at
           (none, inl t.quiet.sends)
-          (recorded_alike s (hs ++ (front ++ back)) (front ++ back) now device k.node (took m vl cycle k.node) refl refl refl (k.recorded same));
+          (recorded_alike s (hs ++ (front ++ back)) (front ++ back) now device k.node (took m vl cycle k.node) refl (k.recorded same));
       phase = λ same p b. come p b;
     }

@@ -152,7 +152,7 @@ comes_as s js now e t m (kinds.Dropped device link cause reason) (inl o) time is
 comes_as s js now e t m (kinds.Dropped device link cause reason) (inr (inl o)) time is c = absurd (wrong 3 (ap second o.2) (inr (omega arith)))
 comes_as s js now e t m (kinds.Dropped device link cause reason) (inr (inr o)) time is c = absurd (wrong 8 (ap second o.0) (inr (omega arith)))
 comes_as s js now e t m (kinds.Lost device link cause) (inl o) time is c = absurd (wrong 8 (ap second o.0) (inr (omega arith)))
-comes_as s js now e t m (kinds.Lost device link cause) (inr (inl o)) time is c = absurd (wrong 4 (ap second o.0) (inr (omega arith)))
+comes_as s js now e t m (kinds.Lost device link cause) (inr (inl o)) time is c = absurd (wrong 6 (ap second o.4) (inr (omega arith)))
 comes_as s js now e t m (kinds.Lost device link cause) (inr (inr o)) time is c = absurd (longer now t e.device.0 e.link.0 e.cause o.0)
 comes_as s js now e t m (kinds.Event line what) o time is c = absurd (wrong 1 (ap second o) (inl (omega arith)))
 comes_as s js now e t m (kinds.Permanent device link cause point verdict) o time is c = absurd (wrong 3 (ap second o) (inr (omega arith)))
@@ -161,7 +161,12 @@ comes_as s js now e t m (kinds.State device state cause whys.Frame) o time is c 
 comes_as s js now e t m (kinds.State device state cause whys.Correction) o time is c = absurd (longer now t e.device.0 e.link.0 e.cause o)
 comes_as s js now e t m (kinds.Left device link cause clock) o time is c = absurd (wrong 8 (ap second o) (inr (omega arith)))
 comes_as s js now e t m (kinds.Clock device reading adjustment state) o time is c = absurd (wrong 14 (ap second o) (inr (omega arith)))
-comes_as s js now e t m other o time is c = absurd (wrong 4 (ap second o) (inr (omega arith)))
+comes_as s js now e t m (kinds.State device state cause whys.SyncClique) o time is c = absurd (wrong 6 (ap second o.1) (inr (omega arith)))
+comes_as s js now e t m (kinds.State device state cause whys.AsyncClique) o time is c = absurd (wrong 6 (ap second o.1) (inr (omega arith)))
+comes_as s js now e t m (kinds.TtSent device link cause vl cycle) o time is c = absurd (wrong 6 (ap second o.1) (inr (omega arith)))
+comes_as s js now e t m (kinds.Compressed device opened read cycle members verdict) o time is c = absurd (wrong 4 (ap second o) (inr (omega arith)))
+comes_as s js now e t m (kinds.Sent device cycle) o time is c = absurd (wrong 5 (ap second o) (inr (omega arith)))
+comes_as s js now e t m (kinds.Corrected device cycle by adjustment) o time is c = absurd (wrong 6 (ap second o) (inr (omega arith)))
 
 -- what is judged so by the same records is at the same place
 pub outcome_at : (s : Scenario) (hs zs : List Happening) (now : ℕ) (e : OnWire) (is : Arrival) → IsOnWire s hs e → e.at ≡ now

@@ -6,7 +6,7 @@ use Rattle.world_law.proofs.steps_lemmas.Words.{NoneBefore, NoteBody, OnWire, Sc
 use Rattle.world_law.proofs.steps_lemmas.Words.{arrival_at, arrival_of, before_later, cases_Bool, cases_lt, chain, comes_before, control, eqb-true, false}
 use Rattle.world_law.proofs.steps_lemmas.Words.{filter, filter-append, if◌then◌else◌, in_left, in_parts, in_right, inl, inr, is_end, is_taken_before, key}
 use Rattle.world_law.proofs.steps_lemmas.Words.{last_or, last_taken, last_taken_by, members_in, moment_of, nat_lt, option_and_then, parted, place_of, rank}
-use Rattle.world_law.proofs.steps_lemmas.Words.{refl, second, standpoint, subst, sym, taken_cycle, time_of, timed, timed_arrival, true, ℕ}
+use Rattle.world_law.proofs.steps_lemmas.Words.{refl, standpoint, subst, sym, taken_cycle, time_of, timed, timed_arrival, true, ℕ}
 use Rattle.world_law.proofs.steps_lemmas.hearing.{Called.not_yet_acted, Putting.{IsHeardAs, least_rank}, Ranked.{control_still, standpoint_still}}
 use Rattle.world_law.proofs.steps_lemmas.hearing.{Judging.{control_judged, same_standpoint}, Takings.{IsBefore2, IsSooner, taken_last, taking_is}}
 use Rattle.run_law.specs.declared.note.NoteBody.TheVariants as notes
@@ -63,11 +63,8 @@ coming_sooner s hs coming mark cursor now e a z i other by from source same =
     let off = a.moving.are.by split.0 split.1 z split.2 in
     let w_is = source (hs ++ split.0) off.0 off.1 in
     let at = a.moving.are.of_now z i in
-    elim off.3 [
-      | inr up ↦ absurd (let four : 2 ≡ 4 = ap second (sym w_is ∙ up.1.1) in omega (arith, four))
-      | inl yet ↦ source_sooner now (time_of z) e.device.0 other.0 e.link.0 by.0 e.cause from at (ap (λ (d : DeviceId). d.0) (sym same))
-          (subst (λ (q : List ℕ). IsBefore q here) w_is (before_later off.0 here cursor yet a.moving.waits))
-    ]
+    source_sooner now (time_of z) e.device.0 other.0 e.link.0 by.0 e.cause from at (ap (λ (d : DeviceId). d.0) (sym same))
+    (subst (λ (q : List ℕ). IsBefore q here) w_is (before_later off.0 here cursor off.3 a.moving.waits))
 
 come_sooner : (s : Scenario) (hs coming : List Happening) (mark cursor : List ℕ) (now : ℕ) (e : OnWire) → IsAfterGiven s hs coming mark cursor now e
     → (z : Happening) → IsIn z coming → (body : NoteBody) → z.note.body ≡ body → IsSooner e.device now e.link e.cause z body

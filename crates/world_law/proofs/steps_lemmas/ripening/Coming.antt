@@ -1,6 +1,7 @@
 -- What is to come where the first frame that waits is permanent.
+use Rattle.world_law.proofs.steps_lemmas.Words.{◌<◌}
 use Rattle.world_law.proofs.acts.NoActs.{turning_stretch}
-use Rattle.world_law.proofs.steps_lemmas.Words.{◌++◌, ◌+◌, ◌∙◌, ◌∷◌, ◌≡◌, ◌≤◌, ChangesState, DeviceId, Happening, IsAtRest, IsBefore, IsCaused, IsIn, IsMoving}
+use Rattle.world_law.proofs.steps_lemmas.Words.{◌++◌, ◌∙◌, ◌∷◌, ◌≡◌, ◌≤◌, ChangesState, DeviceId, Happening, IsAtRest, IsBefore, IsCaused, IsIn, IsMoving}
 use Rattle.world_law.proofs.steps_lemmas.Words.{IsOfThisTime, IsOwnSource, List, NoteBody, Scenario, State, Why, [], amount, ap, arith, before_later}
 use Rattle.world_law.proofs.steps_lemmas.Words.{ends_stretch, false, inl, inr, key, members_in, no_higher, numbered_in, numbered_parts, numbered_within}
 use Rattle.world_law.proofs.steps_lemmas.{Words.{place_of, rank, refl, subst, sym, time_of, true, ℕ}, ripening.Merely.{IsMere, mere_joins}}
@@ -27,8 +28,11 @@ given_low s hs coming mark cursor now more m within h i at =
       | inr same ↦ same.1
     ]
 
-not_late : (t now : ℕ) (ws more w0 : List ℕ) → w0 ≡ t ∷ 4 ∷ ws → t ≡ now → IsBefore w0 (now ∷ 3 ∷ more) → ⊥
-not_late t now ws more w0 e at b = grind (arith, no_higher)
+not_late : (t now k : ℕ) (ws more w0 : List ℕ) → w0 ≡ t ∷ k ∷ ws → t ≡ now → 3 < k → IsBefore w0 (now ∷ 3 ∷ more) → ⊥
+not_late t now k ws more w0 e at late b = elim (subst (λ (q : List ℕ). IsBefore q (now ∷ 3 ∷ more)) e b) [
+  | inl lt ↦ omega (arith, lt, at)
+  | inr c ↦ elim c.1 [ inl lt ↦ omega (arith, lt, late) | inr d ↦ let same = d.0 in omega (arith, same, late) ]
+]
 
 -- of records before it, those to come are of the same kinds
 corrected_none : (s : Scenario) (hs front : List Happening) (t now cause cycle : ℕ) (device : DeviceId) (by adjustment : _) (h : Happening)
@@ -51,15 +55,15 @@ late_kind : (s : Scenario) (hs front : List Happening) (now t members : ℕ) (mo
 late_kind s hs front now t m more time (kinds.Permanent device link cause point verdict) w0 low late at same own c b not =
     not (subst (λ (q : List ℕ). IsBefore q (now ∷ 3 ∷ more)) own b)
 late_kind s hs front now t m more time (kinds.Compressed device opened at_ cycle of_masters verdict) w0 low late at same own c b not =
-    not_late t now (device.0 ∷ []) more w0 own at b
+    not_late t now 4 _ more w0 own at (omega arith) b
 late_kind s hs front now t m more time (kinds.Corrected device cycle by adjustment) w0 low late at same own c b not =
-    not_late t now (device.0 ∷ []) more w0 own at b
+    not_late t now 6 _ more w0 own at (omega arith) b
 late_kind s hs front now t m more time (kinds.State device state cause whys.Correction) w0 low late at same own c b not =
     corrected_none s hs front (amount time) now cause c.2.0 device c.2.1 c.2.2 c.2.3 low late (same ∙ at) c.2.4 c.2.5
 late_kind s hs front now t m more time (kinds.State device state cause whys.SyncClique) w0 low late at same own c b not =
-    not_late t now (device.0 ∷ []) more w0 own at b
+    not_late t now 6 _ more w0 own.1 at (omega arith) b
 late_kind s hs front now t m more time (kinds.State device state cause whys.AsyncClique) w0 low late at same own c b not =
-    not_late t now (device.0 ∷ []) more w0 own at b
+    not_late t now 6 _ more w0 own.1 at (omega arith) b
 late_kind s hs front now t m more time other w0 low late at same own c b not = tt
 
 late_one : (s : Scenario) (hs coming front rest : List Happening) (z : Happening) (mark cursor : List ℕ) (now : ℕ) (more : List ℕ)
@@ -72,12 +76,7 @@ late_one s hs coming front rest z mark cursor now more m within late e =
     let due = (m.are.founded front rest z e).1 in
     late_kind s hs front now (time_of z) (members_in z) more z.note.time z.note.body by.0 (given_low s hs coming mark cursor now more m within) late
     (m.are.of_now z inside) refl
-    by.1 due.cause (elim by.3 [
-      | inl b ↦ before_later by.0 (now ∷ 3 ∷ more) cursor b m.waits
-      | inr here ↦
-          let at = m.are.of_now z inside in
-          absurd (m.waits (subst (λ (q : List ℕ). IsBefore (now ∷ 3 ∷ more) q) (sym here.1.1 ∙ here.0) (inr (sym at, inl (omega arith)))))
-    ]) (m.after z inside)
+    by.1 due.cause (before_later by.0 (now ∷ 3 ∷ more) cursor by.3 m.waits) (m.after z inside)
 
 -- up to any of them
 late_up_to : (s : Scenario) (hs coming front rest : List Happening) (mark cursor : List ℕ) (now : ℕ) (more : List ℕ)

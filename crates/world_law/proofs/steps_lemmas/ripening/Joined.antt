@@ -137,19 +137,22 @@ kept_joined stands s hs coming zs mark cursor now e machine after w r k is other
       sound = k.sound;
       up = now + 1;
       acted = inr (refl, λ p b. chain p here (behind here) (before_place p now (ripe_more e) b) (before_behind here));
-      told = grind (arith, is_turned_on_at, device, state_after, same);
+      told = λ over.
+          inr (inl (record {
+            looking = ap (λ (l : List Happening). if is_turned_on_at s device now then Integrating else state_after s l device) same ∙ looking;
+            other = other;
+          }));
       left = left_joined s hs zs device now w e.link e.cause e.point e.frame k.node moment ripening j refl k.left.counted.plan sound off other;
       taken = k.taken ∙ frames;
-      worked = inl (record {
-        done = record {
-          undone = λ deed u x from lt.
-              let now_is : x ≡ now = omega (arith, from, lt, changed) in
-              let ahead = u.ahead in
-              subst (λ (n : ℕ). pos (s.reading device n) <ℤ (value_of s.network deed -ℤ new.standing.adjustment.0)) (sym now_is) (omega (arith, ints, ahead));
-          done = λ deed there. absurd (none_in deed there);
-        };
-        sent = grind (arith, both_ways, is_cm, device, none_in);
-      });
+      worked = record {
+        undone = λ deed u x from lt.
+            let now_is : x ≡ now = omega (arith, from, lt, changed) in
+            let ahead = u.ahead in
+            subst (λ (n : ℕ). pos (s.reading device n) <ℤ (value_of s.network deed -ℤ new.standing.adjustment.0)) (sym now_is) (omega (arith, ints, ahead));
+        done = λ deed there. absurd (none_in deed there);
+        unsent = λ sent waits x lt. absurd (both_ways (is_cm s.network device) other waits.cm);
+        sent = λ sent there. absurd (none_in sent there);
+      };
       bare = λ not_cm. (refl, refl);
       ready = record {
         time = omega (arith, ints);

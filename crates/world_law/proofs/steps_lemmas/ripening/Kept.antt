@@ -1,10 +1,11 @@
 -- The device of a frame that is permanent, and tells it no time, is kept.
-use Rattle.world_law.proofs.devices.Working.{rested}
-use Rattle.world_law.proofs.Words.{HasWorkedTo}
-use Rattle.world_law.proofs.steps_lemmas.Words.{◌++◌, ◌+ℤ◌, ◌+◌, ◌-ℤ◌, ◌<ℤ◌, ◌<◌, ◌||◌, ◌∙◌, ◌∷◌, ◌≡◌, ◌≤ℤ◌, ◌≤◌, ◌⊎◌, AllByRecursion, AreClusters, Bool}
+use Rattle.world_law.proofs.devices.Working.{HasRested, rested}
+use Rattle.world_law.specs.world.World.{is_at_source}
+use Rattle.run_law.specs.records.Ranks.{place_of}
+use Rattle.world_law.proofs.steps_lemmas.Words.{HasDoneTask, no_task_at, ◌++◌, ◌+ℤ◌, ◌+◌, ◌-ℤ◌, ◌<ℤ◌, ◌<◌, ◌||◌, ◌∙◌, ◌∷◌, ◌≡◌, ◌≤ℤ◌, ◌≤◌, ◌⊎◌, AllByRecursion, AreClusters, Bool}
 use Rattle.world_law.proofs.steps_lemmas.Words.{ClockTask, Compressed, DeviceId, Happening, HasDoneFrom, HasSentFrom, HasTurnedOn, IsAlike, IsAtRest, IsBefore}
 use Rattle.world_law.proofs.steps_lemmas.Words.{IsIn, IsKept, IsLeft, IsMoving, IsNoTaking, IsPending, IsSource, IsWaiting, Judgement, List, Network, Node}
-use Rattle.world_law.proofs.steps_lemmas.Words.{NoteBody, Point, Scenario, Task, Units, Waiting, [], act_place, after_permanence, amount, ap, arith, at_acts}
+use Rattle.world_law.proofs.steps_lemmas.Words.{NoteBody, Point, Scenario, Task, Units, Waiting, [], act_place, after_permanence, amount, ap, arith}
 use Rattle.world_law.proofs.steps_lemmas.Words.{before_behind, behind, both_ways, called, chain, changed_at, changes_adjustment, channel_of_link, correcting}
 use Rattle.world_law.proofs.steps_lemmas.Words.{dispatch_body, dispatches_back, doing, earlier, earlier_still, emitting, false, frames_taken, has_cleared}
 use Rattle.world_law.proofs.steps_lemmas.Words.{if◌then◌else◌, inl, inr, ints, is_cm, is_joined_by, is_timed, is_turned_on_at, length, master_of, moment_of}
@@ -16,7 +17,7 @@ use Rattle.{std.proofs.Common.Contains, sync_state.specs.Standing.Standing, worl
 use Rattle.world_law.proofs.{acts.Dispatched.{dispatch_told, no_dispatch_told}, steps_lemmas.{hearing.Quiet.frames_placed, ripening.Merely.own_skip}}
 use Rattle.world_law.proofs.putting.{Bearing.{before_aside, changed_aside, earlier_aside, left_aside, placed_back, still_aside}, Moving.{stays, worked_or_here}}
 use Rattle.world_law.proofs.steps_lemmas.{Words.{true, turned_aside, undone_alike, value_of, waiting_alike, ℕ, ℤ}, ripening.Clustered.{old_or_open, open_later}}
-use Rattle.world_law.proofs.steps_lemmas.{acting.Starts.{none_of_it, plain_compressed, plain_sent}, ripening.{Judged.{Hears, cleared_told}, JustTold.IsTold}}
+use Rattle.world_law.proofs.steps_lemmas.{ripening.{Judged.{Hears, cleared_told}, JustTold.IsTold}}
 use Rattle.world_law.proofs.steps_lemmas.ripening.{Coming.{all_late, late_mere, rest_ends}, Ripens.{IsRipe, in_time, not_beyond, ripe_more, sooner_of}}
 use Rattle.world_law.proofs.steps_lemmas.ripening.Grown.{IsByRole, IsFirst, IsSame, is_grown, left_grown, points_by_role, points_not, same_by_role}
 use Rattle.run_law.specs.declared.note.NoteBody.TheVariants as kinds
@@ -33,16 +34,51 @@ under_act now d more = inr (refl, inl (omega arith))
 pub is_yet : {M : Type 0} (stands : M → Network → DeviceId → Node → Type 0) (s : Scenario) (hs coming : List Happening) (mark cursor : List ℕ) (now : ℕ)
     (e : Waiting) (machine : M)
     → IsRipe s hs coming mark cursor now e → (k : IsKept stands s hs coming cursor now e.device machine) → IsYet s hs coming mark cursor now k.up e
-is_yet stands s hs coming mark cursor now e machine r k = grind (arith, ripe_more, act_place, chain, under_act)
+is_yet stands s hs coming mark cursor now e machine r k =
+    let here = now ∷ 3 ∷ ripe_more e in
+    let not_acted : IsBefore (act_place now e.device) cursor → ⊥ = λ b.
+    r.moving.waits (chain here (act_place now e.device) cursor (under_act now e.device.0 (ripe_more e)) b) in
+    record {
+      stands = elim k.acted [
+        | inl yet ↦ inl (yet.0, not_acted)
+        | inr over ↦ elim (k.told over.0) [
+          | inl out ↦ absurd (not_acted out.past)
+          | inr (inl just) ↦ inr (
+            over.0,
+            record {
+              ripe = r;
+              over = over.1;
+              just = just;
+              turned = λ on. let was = k.turned on in was.turned (over.1 (now ∷ 2 ∷ []) (inr (refl, inl (omega arith))));
+            },
+          )
+          | inr (inr joining) ↦ absurd (r.moving.waits (chain here (place_of joining.by) cursor
+              (frame_later now e joining.by (r.moving.are.of_now joining.by joining.there) joining.sent)
+              (r.moving.are.worked joining.by joining.there (frame_source joining.by.note.body joining.sent))))
+        ]
+      ];
+    }
+  where
+    frame_later : (now : ℕ) (e : Waiting) (h : Happening) → time_of h ≡ now → rank h.note.body ≡ 4 → IsBefore (now ∷ 3 ∷ ripe_more e) (place_of h)
+    frame_later now e h at four = inr (sym at, inl (omega (arith, four)))
+
+    frame_source : (body : NoteBody) → rank body ≡ 4 → is_at_source body ≡ true
+    frame_source (kinds.Compressed other opened out cycle members verdict) four = refl
+    frame_source other four = absurd (omega (arith, four))
 
 -- and rests
 pub rests_yet : {M : Type 0} (stands : M → Network → DeviceId → Node → Type 0) (s : Scenario) (hs coming : List Happening) (mark cursor : List ℕ) (now : ℕ)
     (e : Waiting) (machine : M)
     → IsRipe s hs coming mark cursor now e → (k : IsKept stands s hs coming cursor now e.device machine)
-    → HasWorkedTo s e.device k.node (changed_at (hs ++ coming) e.device k.up) k.up
+    → HasRested s e.device k.node (changed_at (hs ++ coming) e.device k.up) k.up
 rests_yet stands s hs coming mark cursor now e machine r k =
-    rested s e.device k.node (changed_at (hs ++ coming) e.device k.up) k.up now cursor k.worked
-    (λ up_to. r.moving.waits (up_to (now ∷ 3 ∷ ripe_more e) (under_act now e.device.0 (ripe_more e))))
+    let le : now ≤ k.up = elim k.acted [ inl yet ↦ (let same = yet.0 in omega (arith, same)) | inr over ↦ (let next = over.0 in omega (arith, next)) ] in
+    rested s e.device k.node (changed_at (hs ++ coming) e.device k.up) k.up now cursor k.worked le
+    (λ b. r.moving.waits (chain (now ∷ 3 ∷ ripe_more e) (act_place now e.device) cursor (under_act now e.device.0 (ripe_more e)) b))
+
+done_alike : (node new : Node) (task : Task) → new.done ≡ node.done → new.emitted ≡ node.emitted → HasDoneTask node task → HasDoneTask new task
+done_alike node new (emitting sent) done emitted did = subst (λ (l : List Compressed). Contains l sent) (sym emitted) did
+done_alike node new (doing deed) done emitted did = subst (λ (l : List ClockTask). Contains l deed) (sym done) did
 
 -- ---- its tasks
 
@@ -72,17 +108,6 @@ before_place (x ∷ y ∷ ys) now more (inr (e, inr b)) = absurd b.1
 -- a record of this body tells of no act by which a device sends
 abbrev pub IsNoOwnAct : NoteBody → Type 0
 IsNoOwnAct body = (rank body < 4) ⊎ (10 < rank body)
-
-no_own_sent : (device : DeviceId) (cycle : ℕ) (body : NoteBody) → IsNoOwnAct body → plain_body body ≡ kinds.Sent device cycle → ⊥
-no_own_sent device cycle body other e =
-    let five : rank body ≡ 5 = ap rank (plain_sent device cycle body e) in
-    elim other [ inl low ↦ omega (arith, five, low) | inr high ↦ omega (arith, five, high) ]
-
-no_own_frame : (device : DeviceId) (c : Compressed) (verdict : Judgement) (body : NoteBody) → IsNoOwnAct body
-    → plain_body body ≡ kinds.Compressed device c.opened c.at c.cycle c.members verdict → ⊥
-no_own_frame device c verdict body other e =
-    let four : rank body ≡ 4 = ap rank (plain_compressed device c verdict body e) in
-    elim other [ inl low ↦ omega (arith, four, low) | inr high ↦ omega (arith, four, high) ]
 
 no_own_dispatch : (s : Scenario) (device : DeviceId) (now : ℕ) (link : _) (cause : ℕ) (vl : _) (cycle : ℕ) (body : NoteBody) → IsNoOwnAct body
     → plain_body body ≡ dispatch_body s device now link cause vl cycle → ⊥
@@ -149,7 +174,6 @@ kept_next stands s hs coming coming2 mark cursor now e machine after base r k is
     let not_acted : IsBefore (act_place now e.device) cursor → ⊥ = λ b. m.waits (chain here (act_place now e.device) cursor (under_act now e.device.0 more) b)
     in
     let times : (z : Happening) → IsIn z coming2 → time_of z ≡ now = λ z i. elim (n.back z i) [ inl y ↦ y.3 ∙ m.are.of_now y.0 y.1 | inr none ↦ none.1 ] in
-    let not_at : act_place now e.device ≡ cursor → ⊥ = λ at. m.waits (subst (λ (q : List ℕ). IsBefore here q) at (under_act now e.device.0 more)) in
     let done_so : HasDoneFrom s.network (s.reading e.device) e.device new (changed_at (hs ++ coming2) e.device k.up) k.up k.up = record {
       undone = λ deed u x from lt.
           subst (λ (z : Units). pos (s.reading e.device x) <ℤ (value_of s.network deed -ℤ z.0)) (sym adjusted)
@@ -174,6 +198,7 @@ kept_next stands s hs coming coming2 mark cursor now e machine after base r k is
       ];
       sent = λ sent there. rests.sent.sent sent (subst (λ (l : List Compressed). Contains l sent) c.same.emitted there);
     } in
+    let did_then : (task : Task) → HasDoneTask k.node task → HasDoneTask new task = λ task. done_alike k.node new task c.same.done c.same.emitted in
     record {
       node = new;
       is = is;
@@ -188,21 +213,31 @@ kept_next stands s hs coming coming2 mark cursor now e machine after base r k is
                   elim (worked_or_here s hs coming [] coming mark cursor now 3 more m refl (task_place s.network now e.device task)
                   (subst (λ (l : List Happening). IsSource s l (task_place s.network now e.device task)) (sym (Rattle.std.proofs.lemmas.List.append-nil hs))
                   (IsSource.acting now e.device task acts)) b) [
-                    | inl was ↦ still.1 task was acts
-                    | inr at ↦ (
-                        let act : act_place now e.device ≡ now ∷ 3 ∷ more = sym (at_acts s.network now e.device task) ∙ at in
-                        let four : ◌≡◌ {A = ℕ} 4 3 = cc in omega (arith, four)
-                        )
+                    | inl was ↦ did_then task (still.1 task was acts)
+                    | inr at ↦ absurd (no_task_at s.network now e.device 3 more (inl (omega arith)) task at)
                   ],
             )
       ];
-      told = λ over. elim (k.told over) [
-        | inl past ↦ inl (stays s hs coming mark cursor now 3 more m (act_place now e.device) past)
-        | inr just ↦ inr (record { looking = sym n.before ∙ just.looking; other = just.other })
+      told = λ over. elim yet.stands [
+        | inl still ↦ (let same = still.0 in absurd (omega (arith, same, over)))
+        | inr told ↦ inr (inl (record { looking = sym n.before ∙ told.1.just.looking; other = told.1.just.other }))
       ];
       left = n.left;
       taken = c.same.taken ∙ k.taken ∙ n.frames;
-      worked = inl (record { done = done_so; sent = sent_so });
+      worked = record {
+        undone = done_so.undone;
+        done = λ deed there.
+            let x = k.worked.done deed (subst (λ (l : List ClockTask). Contains l deed) c.same.done there) in (
+              x.0,
+              omega (arith, x.1, change),
+              stays s hs coming mark cursor now 3 more m (task_place s.network x.0 e.device (doing deed)) x.2,
+              subst (λ (z : Units). (value_of s.network deed -ℤ z.0) ≤ℤ pos (s.reading e.device x.0)) (sym adjusted) x.3,
+            );
+        unsent = sent_so.unsent;
+        sent = λ sent there.
+            let x = k.worked.sent sent (subst (λ (l : List Compressed). Contains l sent) c.same.emitted there) in
+            (x.0, stays s hs coming mark cursor now 3 more m (task_place s.network x.0 e.device (emitting sent)) x.1, x.2);
+      };
       bare = λ other. (c.bare other ∙ (k.bare other).0, c.same.emitted ∙ (k.bare other).1);
       ready = record {
         time = omega (arith, ints);
@@ -225,26 +260,12 @@ kept_next stands s hs coming coming2 mark cursor now e machine after base r k is
       recorded = λ up.
           first_recorded s (hs ++ coming2) coming2 now e.device new (subst (λ (n : ℕ). IsLeft s (hs ++ coming2) e.device n new) up n.left)
           (subst (λ (n : ℕ). HasDoneFrom s.network (s.reading e.device) e.device new (changed_at (hs ++ coming2) e.device n) n n) up done_so)
-          (subst (λ (n : ℕ). HasSentFrom s e.device new n n) up sent_so)
-          (λ z i cycle is_sent. elim (n.back z i) [
-            | inr none ↦ no_own_sent e.device cycle z.note.body none.0 is_sent
-            | inl y ↦
-                none_of_it s hs coming mark cursor now e.device m.are not_acted not_at y.0 y.1 (kinds.Sent e.device cycle)
-                (plain_sent e.device cycle y.0.note.body (sym y.2 ∙ is_sent)) (λ gs t q w own. own)
-          ])
-          (λ z i d verdict is_sent. elim (n.back z i) [
-            | inr none ↦ no_own_frame e.device d verdict z.note.body none.0 is_sent
-            | inl y ↦
-                none_of_it s hs coming mark cursor now e.device m.are not_acted not_at y.0 y.1
-                (kinds.Compressed e.device d.opened d.at d.cycle d.members verdict)
-                (plain_compressed e.device d verdict y.0.note.body (sym y.2 ∙ is_sent)) (λ gs t q w own. own)
-          ])
           times
           (λ z i link cause vl cycle d tells. elim (n.back z i) [
             | inr none ↦ no_own_dispatch s e.device now link cause vl cycle z.note.body none.0 tells
             | inl y ↦
                 no_dispatch_told s hs coming mark cursor now e.device m.are (whole_founded s hs coming mark cursor now r.run.founded r.run.within m.are)
-                not_acted not_at y.0 y.1 link cause vl cycle
+                not_acted y.0 y.1 link cause vl cycle
                 (dispatches_back s (hs ++ coming2) (hs ++ coming) now e.device link cause vl cycle
                 (earlier_still now hs coming2 (λ x j. let t = times x j in omega (arith, t))
                 ∙ sym (earlier_still now hs coming (λ x j. let t = m.are.of_now x j in omega (arith, t)))) d)

@@ -1,7 +1,7 @@
 -- What comes of the source of a frame that is permanent: one record, at its place.
 use Rattle.world_law.proofs.steps_lemmas.Words.{◌++◌, ◌<◌, ◌∙◌, ◌∷◌, ◌≡◌, ◌⊎◌, DeviceId, Happening, IsAllOfIt, IsBefore, IsIn, IsOwnSource}
 use Rattle.world_law.proofs.steps_lemmas.Words.{IsPermanenceOutcomeAt, IsPermanent, Judgement, LinkId, List, Node, NoteBody, Pcf, Reason, Ripe, Scenario, Units}
-use Rattle.world_law.proofs.steps_lemmas.Words.{Waiting, [], act_place, amount, ap, arith, before_later, in_left, inl, inr, key, members_in, no_higher}
+use Rattle.world_law.proofs.steps_lemmas.Words.{Waiting, [], amount, ap, arith, before_later, in_left, inl, inr, key, members_in, no_higher}
 use Rattle.world_law.proofs.steps_lemmas.Words.{numbered_front, parted, place_of, rank, refl, ripe_as, some_same, subst, sym, time_of, ℕ}
 use Rattle.world_law.proofs.steps_lemmas.ripening.{Judged.{Hears, becomes_now}, Ripens.{IsRipe, ripe_more}}
 use Rattle.run_law.{proofs.{control.Verdicts.never_dropped, runs.SameSteps.{no_launch, same_ripening}}, specs.control.Permanence.BecomesPermanent}
@@ -47,15 +47,15 @@ kind_at s js t m now (kinds.Dropped device link cause reason) more (inr (inl o))
 kind_at s js t m now (kinds.Dropped device link cause reason) more (inr (inr o)) = absurd (wrong 8 (rank_at now t 8 more _ o.0) (inr (omega arith)))
 kind_at s js t m now (kinds.Event line what) more o = absurd (wrong 1 (rank_at now t 1 more _ o) (inl (omega arith)))
 kind_at s js t m now (kinds.Compressed device opened read cycle of_masters verdict) more o = absurd (wrong 4 (rank_at now t 4 more _ o) (inr (omega arith)))
-kind_at s js t m now (kinds.Sent device cycle) more o = absurd (wrong 4 (rank_at now t 4 more _ o) (inr (omega arith)))
-kind_at s js t m now (kinds.Corrected device cycle by adjustment) more o = absurd (wrong 4 (rank_at now t 4 more _ o) (inr (omega arith)))
-kind_at s js t m now (kinds.State device state cause whys.SyncClique) more o = absurd (wrong 4 (rank_at now t 4 more _ o) (inr (omega arith)))
-kind_at s js t m now (kinds.State device state cause whys.AsyncClique) more o = absurd (wrong 4 (rank_at now t 4 more _ o) (inr (omega arith)))
+kind_at s js t m now (kinds.Sent device cycle) more o = absurd (wrong 5 (rank_at now t 5 more _ o) (inr (omega arith)))
+kind_at s js t m now (kinds.Corrected device cycle by adjustment) more o = absurd (wrong 6 (rank_at now t 6 more _ o) (inr (omega arith)))
+kind_at s js t m now (kinds.State device state cause whys.SyncClique) more o = absurd (wrong 6 (rank_at now t 6 more _ o.1) (inr (omega arith)))
+kind_at s js t m now (kinds.State device state cause whys.AsyncClique) more o = absurd (wrong 6 (rank_at now t 6 more _ o.1) (inr (omega arith)))
 kind_at s js t m now (kinds.Left device link cause clock) more o = absurd (wrong 8 (rank_at now t 8 more _ o) (inr (omega arith)))
 kind_at s js t m now (kinds.Lost device link cause) more (inl o) = absurd (wrong 8 (rank_at now t 8 more _ o.0) (inr (omega arith)))
-kind_at s js t m now (kinds.Lost device link cause) more (inr (inl o)) = absurd (wrong 4 (rank_at now t 4 more _ o.0) (inr (omega arith)))
+kind_at s js t m now (kinds.Lost device link cause) more (inr (inl o)) = absurd (wrong 6 (rank_at now t 6 more _ o.4) (inr (omega arith)))
 kind_at s js t m now (kinds.Lost device link cause) more (inr (inr o)) = absurd (wrong 2 (rank_at now t 2 more _ o.0) (inl (omega arith)))
-kind_at s js t m now (kinds.TtSent device link cause vl cycle) more o = absurd (wrong 4 (rank_at now t 4 more _ o) (inr (omega arith)))
+kind_at s js t m now (kinds.TtSent device link cause vl cycle) more o = absurd (wrong 6 (rank_at now t 6 more _ o.1) (inr (omega arith)))
 kind_at s js t m now (kinds.Clock device reading adjustment state) more o = absurd (wrong 14 (rank_at now t 14 more _ o) (inr (omega arith)))
 kind_at s js t m now other more o = absurd (wrong 2 (rank_at now t 2 more _ o) (inl (omega arith)))
 
@@ -155,10 +155,7 @@ drop_fresh s hs coming mark cursor now e r permanent y i at =
     let part = parted y coming i in
     let by = r.moving.are.by part.0 part.1 y part.2 in
     let y_now = r.moving.are.of_now y i in
-    let under : IsBefore by.0 here ⊎ ((by.0 ≡ cursor) × ((d : DeviceId) × (by.0 ≡ act_place now d))) = elim by.3 [
-      | inl b ↦ inl (before_later by.0 here cursor b r.moving.waits)
-      | inr at_act ↦ inr (at_act.0, (at_act.1.0, at_act.1.1 ∙ ap (λ (t : ℕ). act_place t at_act.1.0) y_now))
-    ] in
+    let under : IsBefore by.0 here = before_later by.0 here cursor by.3 r.moving.waits in
     let own = subst (λ (t : ℕ). IsOwnSource s (hs ++ part.0) t (members_in y) (kinds.Dropped e.device e.link e.cause of.3) by.0) y_now
     (subst (λ (b : NoteBody). IsOwnSource s (hs ++ part.0) (time_of y) (members_in y) b by.0) body by.1) in
     elim own [
@@ -170,14 +167,6 @@ drop_fresh s hs coming mark cursor now e r permanent y i at =
           let both = same_place s (hs ++ part.0) now e.device e.link e.cause p.1.frame e.frame p.0 e.point p.1.permanent (permanent part.0) in
           let is_here : by.0 ≡ here = p.2 ∙ ap (λ (u : Units). now ∷ 3 ∷ e.device.0 ∷ amount u ∷ p.1.frame.members.0 ∷ e.link.0 ∷ e.cause ∷ []) both.1
           ∙ ap (λ (f : Pcf). now ∷ 3 ∷ e.device.0 ∷ amount e.point ∷ f.members.0 ∷ e.link.0 ∷ e.cause ∷ []) both.0 in
-          elim by.3 [
-            | inl b ↦ r.moving.waits (subst (λ (q : List ℕ). IsBefore q cursor) is_here b)
-            | inr at_act ↦
-                let bad : now ∷ 3 ∷ ripe_more e ≡ time_of y ∷ 4 ∷ at_act.1.0.0 ∷ [] = sym is_here ∙ at_act.1.1 in
-                wrong 4 (rank_at now (time_of y) 4 (ripe_more e) _ bad) (inr (omega arith))
-          ]
+          r.moving.waits (subst (λ (q : List ℕ). IsBefore q cursor) is_here by.3)
       | inr (inr d) ↦ grind (arith, under, no_higher, ripe_more, here)
     ]
-  where
-    eight_four : (now d l c x : ℕ) → now ∷ 8 ∷ d ∷ l ∷ c ∷ [] ≡ now ∷ 4 ∷ x ∷ [] → ⊥
-    eight_four now d l c x e = let r : ◌≡◌ {A = ℕ} 8 4 = cc in omega (arith, r)

@@ -3,7 +3,7 @@ use Rattle.{net_plan.specs.Ranges.IsLinkInRange, run_law.proofs.runs.Determined.
 use Rattle.{run_law.{proofs.law.FirstPlaces.numbered_next, specs.records.Happenings.frame_from}, tte_units.proofs.general_lemmas.Lists.in_all}
 use Rattle.world_law.proofs.{frames.{Masters.of_master, Proper.{IsReceiver, received}}, putting.{PutTwo.{IsPair, two_by}, StandsOn.shown_still}}
 use Rattle.world_law.proofs.{putting.Moving.{stays, worked_or_here}, steps_lemmas.{hearing.Quiet.frames_placed, ripening.Grown.IsByRole}}
-use Rattle.world_law.proofs.steps_lemmas.Words.{◌++◌, ◌+◌, ◌<◌, ◌∙◌, ◌∷◌, ◌≡◌, ◌≤ℤ◌, ◌≤◌, ◌⊎◌, AllBefore, AreOfNetwork, ArePutIn, AreSettled, AreWaiting, Bool}
+use Rattle.world_law.proofs.steps_lemmas.Words.{no_task_at, ◌++◌, ◌+◌, ◌<◌, ◌∙◌, ◌∷◌, ◌≡◌, ◌≤ℤ◌, ◌≤◌, ◌⊎◌, AllBefore, AreOfNetwork, ArePutIn, AreSettled, AreWaiting, Bool}
 use Rattle.world_law.proofs.steps_lemmas.Words.{ComesFirst, DeviceId, Down, Happening, IsBefore, IsDue, IsFounded, IsHeld, IsIn, IsInRange, IsKept, IsOfMaster}
 use Rattle.world_law.proofs.steps_lemmas.Words.{IsOne, IsParentOf, IsPermanent, IsSet, IsSource, IsWaitingFor, IsWithout, Joining, Judgement, LinkId, List}
 use Rattle.world_law.proofs.steps_lemmas.Words.{Network, Node, NoneBefore, Note, NoteBody, Option, Pcf, Reason, Ripe, Scenario, Some, Stands, StandsBehind}
@@ -153,7 +153,7 @@ ripened_behind reading stands s world notes e after machines waiting settled com
             k.0,
             set.same device.0 ne ∙ k.1,
             others device k.0 ne (held_moves stands s hs old.coming old.mark old.cursor now 3 more device k.0 m
-                (λ same. omega (arith, rank_at _ _ _ _ _ (sym same))) k.2),
+                (no_task_at s.network now device 3 more (inl (omega arith))) k.2),
           )
     ])
     over

@@ -1,4 +1,5 @@
 -- An event befalls before all else of its instant: each device then.
+use Rattle.world_law.proofs.devices.Working.{worked_by}
 use Rattle.world_law.proofs.devices.Working.{rested}
 use Rattle.world_law.proofs.{acts.Recorded.none_recorded, devices.Befalls.{is_turned_on, stands_still}, rows.Takings.{frames_alike, frames_end}}
 use Rattle.world_law.{proofs.devices.{Borne.other_comes, TurnedOn.fold_still}, specs.{steps.Steps.FitsWorld, world.{Outcomes.befallen_node, World.IsCalledBy}}}
@@ -201,8 +202,8 @@ kept_less stands network f g past event hs cursor now number ev device machine a
     let js = hs ++ ev ∷ [] in
     let up : k.up ≡ now = elim k.acted [ inl yet ↦ yet.0 | inr over ↦ never_there now cursor m.early (over.1 (now ∷ 2 ∷ []) (inr (refl, inl (omega arith)))) ]
     in
-    let rests = rested (scenario network f past) device k.node _ k.up now cursor k.worked
-    (λ up_to. never_there now cursor m.early (up_to (now ∷ 2 ∷ []) (inr (refl, inl (omega arith))))) in
+    let rests = rested (scenario network f past) device k.node (changed_at (hs ++ []) device k.up) k.up now cursor k.worked (omega (arith, up))
+    (λ b. late_act now device (m.early (act_place now device) b)) in
     let change : changed_at (js ++ []) device now ≡ changed_at (hs ++ []) device k.up =
     ap (λ (l : List Happening). option_map_or time_of (last_or None (filter (λ h. changes_adjustment device h.note.body) l)) 0)
     (same_earlier hs now ev m.events ∙ sym (ap (earlier now) (append-nil hs))) ∙ ap (λ (n : ℕ). changed_at (hs ++ []) device n) (sym up) in
@@ -237,7 +238,7 @@ kept_less stands network f g past event hs cursor now number ev device machine a
       is = is;
       sound = sound;
       up = now;
-      acted = inl (refl, λ task b acts. late_act now device (acts_before network now device task (now ∷ 2 ∷ []) b));
+      acted = inl (refl, λ task b acts. absurd (late_act now device (acts_before network now device task (now ∷ 2 ∷ []) b)));
       told = λ over. absurd (let bad : now ≡ now + 1 = over in omega (arith, bad));
       left = left_so;
       taken =
@@ -246,7 +247,7 @@ kept_less stands network f g past event hs cursor now number ev device machine a
           ∙ sym (ap (λ (l : List Happening). frames_taken r l device) (append-nil js)
           ∙ frames_end r hs ev device (event_takes device ev.note.body m.events.is)
           (λ h i. let early = past_all h i in let at = m.events.at in omega (arith, early, at)));
-      worked = inl (record { done = done_so; sent = sent_so });
+      worked = worked_by r device new (changed_at (js ++ []) device now) now (now ∷ 2 ∷ []) (record { done = done_so; sent = sent_so }) (λ x task lt. inl lt);
       bare = λ other. (a.points ∙ (k.bare other).0, a.emitted ∙ (k.bare other).1);
       ready = ready_less network f g device now k.node new (m.reads device) k.ready a.last (λ task p. pending_less network device k.node new task a p);
       still = λ same h i at. elim (only h i) [ inl lt ↦ absurd (omega (arith, lt, at)) | inr it ↦ inl (event_moves device h.note.body it.1) ];
@@ -260,7 +261,7 @@ kept_less stands network f g past event hs cursor now number ev device machine a
       cleared =
           λ cycle there. subst (λ (n : ℕ). cycle < n) (sym a.number)
           (k.cleared cycle (subst (λ (l : List ClockTask). Contains l (correcting cycle)) a.done there));
-      recorded = λ same. none_recorded r js now device new left_so done_so sent_so;
+      recorded = λ same. none_recorded r js now device new left_so done_so;
       phase =
           λ at p b. m.early p (k.phase (ap (λ (w : _). w.time.0) (sym a.last) ∙ at) p (subst (λ (c : _). IsBefore p (now ∷ rank_of_call c ∷ [])) a.phase b));
     }

@@ -3,7 +3,7 @@ use Rattle.{run_law.{proofs.{records.Happenings.none_numbered, runs.Grow.empty_r
 use Rattle.world_law.proofs.steps_lemmas.Words.{◌++◌, ◌+ℤ◌, ◌+◌, ◌-ℤ◌, ◌<ℤ◌, ◌^◌, ◌∙◌, ◌∷◌, ◌≡◌, ◌≤ℤ◌, ◌≤◌, DeviceId, Happening, IsBefore, IsDue, IsIn, IsKept}
 use Rattle.world_law.proofs.steps_lemmas.Words.{IsLeft, IsPending, IsSource, List, Network, Node, Scenario, Task, Units, [], acts_before, amount, ap, arith}
 use Rattle.world_law.proofs.steps_lemmas.Words.{chain, correcting, dispatching, doing, emitting, false, inl, inr, ints, no_cluster, none_in, observation_window}
-use Rattle.world_law.proofs.steps_lemmas.Words.{place_of, pos, reading_for, refl, scenario, sending, subst, sym, true, value_of, ℕ, ℤ}
+use Rattle.world_law.proofs.steps_lemmas.Words.{place_of, pos, reading_for, refl, scenario, subst, sym, true, value_of, ℕ, ℤ}
 
 -- nothing of the run is before the first source
 low_rank : (t k : ℕ) (ws : List ℕ) → 1 ≤ k → IsBefore (t ∷ k ∷ ws) (0 ∷ 1 ∷ []) → ⊥
@@ -49,14 +49,16 @@ kept_fresh stands network f device machine zero_first le is = record {
   is = is;
   sound = refl;
   up = 0;
-  acted = inl (refl, λ task b a. low_rank 0 4 (device.0 ∷ []) (omega arith) (acts_before network 0 device task (0 ∷ 1 ∷ []) b));
+  acted = inl (refl, λ task b a. absurd (low_rank 0 4 (device.0 ∷ []) (omega arith) (acts_before network 0 device task (0 ∷ 1 ∷ []) b)));
   told = λ over. absurd cc;
   left = left_fresh network f device 0 zero_first;
   taken = refl;
-  worked = inl (record {
-    done = record { undone = λ deed u x from lt. absurd (omega (arith, lt)); done = λ deed there. absurd (none_in deed there) };
-    sent = record { unsent = λ sent w x lt. absurd (omega (arith, lt)); sent = λ sent there. absurd (none_in sent there) };
-  });
+  worked = record {
+    undone = λ deed u x from lt. absurd (omega (arith, lt));
+    done = λ deed there. absurd (none_in deed there);
+    unsent = λ sent w x lt. absurd (omega (arith, lt));
+    sent = λ sent there. absurd (none_in sent there);
+  };
   bare = λ other. (refl, refl);
   ready = record {
     time = omega (arith, ints);
@@ -69,15 +71,9 @@ kept_fresh stands network f device machine zero_first le is = record {
   turned = λ on. absurd cc;
   cleared = λ cycle there. absurd (none_in (correcting cycle) there);
   recorded = λ same. record {
-    sent = λ cycle there d. absurd (none_in (sending cycle) there);
-    emitted = λ c there r. absurd (none_in c there);
-    has_sent = λ z i cycle e. absurd i;
-    has_emitted = λ z i c verdict e. absurd i;
-    frames = λ z i c verdict e. absurd i;
     of_now = λ z i. absurd i;
     dispatched = λ link cause vl cycle d there. absurd (none_in (dispatching (record { 0 = d.place }) cycle) there);
     has_dispatched = λ z i link cause vl cycle d e. absurd i;
-    ordered = λ z i c verdict e d w due. absurd i;
   };
   phase = λ at p b. b;
 }

@@ -2,7 +2,7 @@
 use Rattle.world_law.proofs.{devices.Shown.{all_past, held_shows}, giving.GivenParts.up_to_place, putting.Putting.{IsPutting, held_put, known_put, settled_put}}
 use Rattle.world_law.{proofs.{giving.Given.device_in, putting.StandsOn.source_told}, specs.steps.Steps.ClockStep}
 use Rattle.world_law.proofs.steps_lemmas.Words.{◌++◌, ◌+◌, ◌<◌, ◌↔◌, ◌∙◌, ◌∷◌, ◌≡◌, ◌≤◌, AreOfNetwork, ArePutIn, DeviceId, Happening, IsBefore, IsDue, IsHeld}
-use Rattle.world_law.proofs.steps_lemmas.Words.{IsMoving, IsOwnSource, IsSource, List, Network, Node, Note, NoteBody, Scenario, [], act_place, adjustment_after}
+use Rattle.world_law.proofs.steps_lemmas.Words.{IsMoving, IsOwnSource, IsSource, List, Network, Node, Note, NoteBody, Scenario, [], no_task_at, adjustment_after}
 use Rattle.world_law.proofs.steps_lemmas.Words.{all_without, ap, arith, at_least, before_behind, behind, cases_lt, chain, clock_place, comes_first, either_way}
 use Rattle.world_law.proofs.steps_lemmas.Words.{happening, happenings, held_moves, hidden, inl, inr, ints, is_at_source, key, length, map, members_in, place_of}
 use Rattle.world_law.proofs.steps_lemmas.Words.{port_place, ports_move, put_list, rank, refl, settled_as, some_same, stands_on, state_after, subst, sym}
@@ -20,15 +20,15 @@ clock_own s js t m (kinds.Clock other reading adjustment state) device now o = (
 clock_own s js t m (kinds.Event line what) device now o = absurd (no_rank 1 14 o (omega arith))
 clock_own s js t m (kinds.Permanent d link cause point verdict) device now o = absurd (no_rank 3 14 o (omega arith))
 clock_own s js t m (kinds.Compressed d opened at cycle of_masters verdict) device now o = absurd (no_rank 4 14 o (omega arith))
-clock_own s js t m (kinds.Sent d cycle) device now o = absurd (no_rank 4 14 o (omega arith))
-clock_own s js t m (kinds.Corrected d cycle by adjustment) device now o = absurd (no_rank 4 14 o (omega arith))
-clock_own s js t m (kinds.State d state cause whys.SyncClique) device now o = absurd (no_rank 4 14 o (omega arith))
-clock_own s js t m (kinds.State d state cause whys.AsyncClique) device now o = absurd (no_rank 4 14 o (omega arith))
+clock_own s js t m (kinds.Sent d cycle) device now o = absurd (no_rank 5 14 o (omega arith))
+clock_own s js t m (kinds.Corrected d cycle by adjustment) device now o = absurd (no_rank 6 14 o (omega arith))
+clock_own s js t m (kinds.State d state cause whys.SyncClique) device now o = absurd (no_rank 6 14 o.1 (omega arith))
+clock_own s js t m (kinds.State d state cause whys.AsyncClique) device now o = absurd (no_rank 6 14 o.1 (omega arith))
 clock_own s js t m (kinds.Left d link cause clock) device now o = absurd (no_rank 8 14 o (omega arith))
 clock_own s js t m (kinds.Lost d link cause) device now (inl o) = absurd (no_rank 8 14 o.0 (omega arith))
-clock_own s js t m (kinds.Lost d link cause) device now (inr (inl o)) = absurd (no_rank 4 14 o.0 (omega arith))
+clock_own s js t m (kinds.Lost d link cause) device now (inr (inl o)) = absurd (no_rank 6 14 o.4 (omega arith))
 clock_own s js t m (kinds.Lost d link cause) device now (inr (inr o)) = absurd (no_rank 2 14 o.0 (omega arith))
-clock_own s js t m (kinds.TtSent d link cause vl cycle) device now o = absurd (no_rank 4 14 o (omega arith))
+clock_own s js t m (kinds.TtSent d link cause vl cycle) device now o = absurd (no_rank 6 14 o.1 (omega arith))
 clock_own s js t m (kinds.Dropped d link cause reason) device now (inl o) = absurd (no_rank 2 14 o.0 (omega arith))
 clock_own s js t m (kinds.Dropped d link cause reason) device now (inr (inl o)) = absurd (no_rank 3 14 o.2 (omega arith))
 clock_own s js t m (kinds.Dropped d link cause reason) device now (inr (inr o)) = absurd (no_rank 8 14 o.0 (omega arith))
@@ -131,8 +131,8 @@ clock_step {C} {M} reading stands s world notes device machine state adjustment 
       k.0,
       k.1,
       held_put stands s hs [] [] (behind here) now d k.0 w tt refl
-          (chain (act_place now d) here (behind here) (inr (refl, inl (omega arith))) (before_behind here))
-          (held_moves stands s hs [] old.mark old.cursor now 14 more d k.0 moving (λ same. (let four : ◌≡◌ {A = ℕ} 4 14 = cc in omega (arith, four)))
+          (chain (now ∷ 8 ∷ []) here (behind here) (inr (refl, inl (omega arith))) (before_behind here))
+          (held_moves stands s hs [] old.mark old.cursor now 14 more d k.0 moving (no_task_at s.network now d 14 more (inr (omega arith)))
           (subst (λ (l : List Happening). IsHeld stands s hs l old.cursor now d k.0) empty k.2)),
     ))
     (inr (refl, inl (omega arith))) (wires_move s hs old.coming old.mark old.cursor now 14 more world.wires world.wires m

@@ -3,11 +3,11 @@ use Rattle.world_law.proofs.putting.{Alike.happening_alike, Moving.settled_moves
 use Rattle.world_law.{proofs.putting.HiddenLists.{bumped_hidden, late_place, map_parts, put_length, split_hidden}, specs.steps.Steps.{LeftStep, departure_now}}
 use Rattle.world_law.proofs.steps_lemmas.Words.{◌++◌, ◌+◌, ◌<◌, ◌∙◌, ◌∷◌, ◌≡◌, ◌≤◌, ◌⊎◌, AllBefore, AreOfNetwork, ArePutIn, AreSettled, AtPort, Bool}
 use Rattle.world_law.proofs.steps_lemmas.Words.{ComesFirst, DeviceId, Happening, IsBefore, IsDue, IsHeld, IsIn, IsMoving, IsSource, IsWithout, List, Network}
-use Rattle.world_law.proofs.steps_lemmas.Words.{Node, NoneBefore, Note, NoteBody, Scenario, Stands, StandsBehind, World, [], act_place, all_without, ap}
+use Rattle.world_law.proofs.steps_lemmas.Words.{Node, NoneBefore, Note, NoteBody, Scenario, Stands, StandsBehind, World, [], all_without, no_task_at, ap}
 use Rattle.world_law.proofs.steps_lemmas.Words.{append_assoc, arith, at_least, before_behind, behind, both_ways, bump, cases_Bool, cause_of, chain, comes_first}
 use Rattle.world_law.proofs.steps_lemmas.Words.{false, happening, happenings, held_moves, hidden, if◌then◌else◌, in_left, in_mapped, in_right, inl, inr, ints}
 use Rattle.world_law.proofs.steps_lemmas.Words.{is_at_source, is_broken, length, length-map, map, members_in, none_yet, numbered, numbered_prefix, parted}
-use Rattle.world_law.proofs.steps_lemmas.Words.{place_of, port_place, ports_move, put_list, rank, refl, second, settled_as, stands_on, subst, sym, time_of}
+use Rattle.world_law.proofs.steps_lemmas.Words.{place_of, port_place, ports_move, put_list, rank, refl, settled_as, stands_on, subst, sym, time_of}
 use Rattle.world_law.{proofs.steps_lemmas.Words.{told_wires, true, units_of, waiting_moves, wire_place, wires_move, ℕ}, specs.world.Outcomes.departure_body}
 use Rattle.world_law.proofs.steps_lemmas.steps.Outcomes.{body_cause, body_caused, body_idle, body_key, body_own, body_ranks, body_shown, departs_now, few_cause}
 use Rattle.world_law.proofs.steps_lemmas.steps.Outcomes.{nothing_of_broken, outcome_at, own_there}
@@ -50,7 +50,7 @@ left_behind reading stands s world notes e ports settled coming old i at first w
       k.0,
       k.1,
       kept device k.0 (held_moves stands s hs old.coming old.mark old.cursor world.now 8 more device k.0 m
-          (λ same. (let four : ◌≡◌ {A = ℕ} 4 8 = cc in omega (arith, four))) k.2),
+          (no_task_at s.network world.now device 8 more (inr (omega arith))) k.2),
     ))
     (inr (refl, inl (omega arith))) (wires_move s hs old.coming old.mark old.cursor world.now 8 more world.wires world.wires m
     (told_wires reading stands s world notes old 8 more m (inr (refl, inl (omega arith))))
@@ -151,12 +151,7 @@ gone_out reading stands s world notes e ports settled old i at first without sou
           (λ z inside. let z_now = moving.are.of_now z
           (subst (λ (l : List Happening). IsIn z l) (sym whole) (in_left z (front ++ split.0) (y ∷ split.1) inside)) in omega (arith, y_now, z_now)) same
           by.1 in
-          elim by.3 [
-            | inl yet ↦ moving.waits (subst (λ (q : List ℕ). IsBefore q old.cursor) from yet)
-            | inr up ↦
-                let act = sym from ∙ up.1.1 in
-                let bad : 8 ≡ 4 = ap second act in absurd (omega (arith, bad))
-          ];
+          moving.waits (subst (λ (q : List ℕ). IsBefore q old.cursor) from by.3);
       least = least;
       mine = body_own s (hs ++ front) now (members_in w) e is departs;
       here =
@@ -181,7 +176,7 @@ gone_out reading stands s world notes e ports settled old i at first without sou
     (settled_put s hs front back old.mark old.cursor now 8 more w p)
     (known_put s hs front back w idle (subst (λ (l : List Happening). AreOfNetwork s (hs ++ l)) parts.2 old.known))
     (λ device machine k. held_put stands s hs front back (behind here) now device machine w idle refl
-    (chain (act_place now device) here (behind here) (inr (refl, inl (omega arith))) (before_behind here))
+    (chain (now ∷ 8 ∷ []) here (behind here) (inr (refl, inr (refl, tt))) (before_behind here))
     (subst (λ (l : List Happening). IsHeld stands s hs l (behind here) now device machine) parts.2 k))
 
 pub left_step : {C M : Type 0} (reading : C → ℕ → ℕ) (stands : M → Network → DeviceId → Node → Type 0) → LeftStep reading stands

@@ -1,8 +1,8 @@
 -- What becomes of a frame that leaves: the one record of it.
 use Rattle.{run_law.proofs.law.FirstPlaces.in_filter, world_law.{proofs.putting.Idle.IsIdle, specs.{steps.Steps.departure_now, world.World.IsAtPort}}}
-use Rattle.run_law.specs.control.{Leaving.{Departs, Departure, departure, leaves, on_cut_way, too_old}, Permanence.waits_for}
+use Rattle.run_law.specs.control.{Leaving.{Departs, Departure, leaves, on_cut_way, too_old}, Permanence.waits_for}
 use Rattle.world_law.{proofs.{frames.Masters.parent_true, steps_lemmas.Words.{time_of, true, way_from, ℕ}}, specs.world.Outcomes.departure_body}
-use Rattle.world_law.proofs.steps_lemmas.Words.{◌++◌, ◌+◌, ◌<◌, ◌||◌, ◌∙◌, ◌∷◌, ◌≡◌, ◌≤◌, ◌⊎◌, AtPort, Bool, DeviceId, Dispatches, Gives, Happening, IsCaused}
+use Rattle.world_law.proofs.steps_lemmas.Words.{◌++◌, ◌<◌, ◌||◌, ◌∙◌, ◌∷◌, ◌≡◌, ◌≤◌, ◌⊎◌, AtPort, Bool, DeviceId, Dispatches, Gives, Happening, IsCaused}
 use Rattle.world_law.proofs.steps_lemmas.Words.{IsDue, IsFounded, IsOwnSource, Launch, LinkId, List, None, NoteBody, Scenario, Some, Units, [], amount, ap}
 use Rattle.world_law.proofs.steps_lemmas.Words.{arith, by_number, cause_of, earlier, earlier_still, false, filter, hidden_body, inl, inr, is_accepted}
 use Rattle.world_law.proofs.steps_lemmas.Words.{is_at_source, is_broken, is_cut, is_parent_of, is_relay, key, last_in, last_or, launched, length, link_at}
@@ -104,7 +104,7 @@ outcome_at s hs zs now e m it at sound t members (kinds.Lost device link cause) 
     (moved s (hs ++ zs) e now t device link cause _ p o.1) in
     ap (λ (x : Departure). now ∷ rank (departure_body e x) ∷ key m (departure_body e x)) so ∙ ap (ranked 9) (sym here ∙ o.0)
 outcome_at s hs zs now e m it at sound t members (kinds.Lost device link cause) w here (inr (inl o)) time is c =
-    absurd (wrong 4 (ap second (sym here ∙ o.0)) (inl (omega arith)))
+    absurd (wrong 6 (ap second (sym here ∙ o.4)) (inl (omega arith)))
 outcome_at s hs zs now e m it at sound t members (kinds.Lost device link cause) w here (inr (inr o)) time is c =
     absurd (wrong 2 (ap second (sym here ∙ o.0)) (inl (omega arith)))
 outcome_at s hs zs now e m it at sound t members (kinds.Dropped device link cause reason) w here (inl o) time is c =
@@ -120,9 +120,9 @@ outcome_at s hs zs now e m it at sound t members (kinds.Permanent device link ca
     absurd (wrong 3 (ap second (sym here ∙ o)) (inl (omega arith)))
 outcome_at s hs zs now e m it at sound t members (kinds.Compressed device opened read cycle of_masters verdict) w here o time is c =
     absurd (wrong 4 (ap second (sym here ∙ o)) (inl (omega arith)))
-outcome_at s hs zs now e m it at sound t members (kinds.Sent device cycle) w here o time is c = absurd (wrong 4 (ap second (sym here ∙ o)) (inl (omega arith)))
+outcome_at s hs zs now e m it at sound t members (kinds.Sent device cycle) w here o time is c = absurd (wrong 5 (ap second (sym here ∙ o)) (inl (omega arith)))
 outcome_at s hs zs now e m it at sound t members (kinds.Corrected device cycle by adjustment) w here o time is c =
-    absurd (wrong 4 (ap second (sym here ∙ o)) (inl (omega arith)))
+    absurd (wrong 6 (ap second (sym here ∙ o)) (inl (omega arith)))
 outcome_at s hs zs now e m it at sound t members (kinds.State device state cause whys.On) w here o time is c =
     absurd (wrong 2 (ap second (sym here ∙ o)) (inl (omega arith)))
 outcome_at s hs zs now e m it at sound t members (kinds.State device state cause whys.Frame) w here o time is c =
@@ -130,11 +130,11 @@ outcome_at s hs zs now e m it at sound t members (kinds.State device state cause
 outcome_at s hs zs now e m it at sound t members (kinds.State device state cause whys.Correction) w here o time is c =
     absurd (wrong 2 (ap second (sym here ∙ o)) (inl (omega arith)))
 outcome_at s hs zs now e m it at sound t members (kinds.State device state cause whys.SyncClique) w here o time is c =
-    absurd (wrong 4 (ap second (sym here ∙ o)) (inl (omega arith)))
+    absurd (wrong 6 (ap second (sym here ∙ o.1)) (inl (omega arith)))
 outcome_at s hs zs now e m it at sound t members (kinds.State device state cause whys.AsyncClique) w here o time is c =
-    absurd (wrong 4 (ap second (sym here ∙ o)) (inl (omega arith)))
+    absurd (wrong 6 (ap second (sym here ∙ o.1)) (inl (omega arith)))
 outcome_at s hs zs now e m it at sound t members (kinds.TtSent device link cause vl cycle) w here o time is c =
-    absurd (wrong 4 (ap second (sym here ∙ o)) (inl (omega arith)))
+    absurd (wrong 6 (ap second (sym here ∙ o.1)) (inl (omega arith)))
 outcome_at s hs zs now e m it at sound t members (kinds.Accepted device link cause vl cycle) w here o time is c =
     absurd (wrong 2 (ap second (sym here ∙ o)) (inl (omega arith)))
 outcome_at s hs zs now e m it at sound t members (kinds.Delivered device link cause vl cycle) w here o time is c =
@@ -148,7 +148,7 @@ pub nothing_of_broken : (s : Scenario) (js : List Happening) (now t members : �
 nothing_of_broken s js now t members e (kinds.Left device link cause clock) w broken here o time is c = grind (arith, same_port, moved)
 nothing_of_broken s js now t members e (kinds.Lost device link cause) w broken here (inl o) time is c = grind (arith, same_port, moved)
 nothing_of_broken s js now t members e (kinds.Lost device link cause) w broken here (inr (inl o)) time is c =
-    wrong 4 (ap second (sym here ∙ o.0)) (inl (omega arith))
+    wrong 6 (ap second (sym here ∙ o.4)) (inl (omega arith))
 nothing_of_broken s js now t members e (kinds.Lost device link cause) w broken here (inr (inr o)) time is c =
     wrong 2 (ap second (sym here ∙ o.0)) (inl (omega arith))
 nothing_of_broken s js now t members e (kinds.Dropped device link cause reason) w broken here (inl o) time is c =
@@ -166,9 +166,9 @@ nothing_of_broken s js now t members e (kinds.Permanent device link cause point 
     wrong 3 (ap second (sym here ∙ o)) (inl (omega arith))
 nothing_of_broken s js now t members e (kinds.Compressed device opened read cycle of_masters verdict) w broken here o time is c =
     wrong 4 (ap second (sym here ∙ o)) (inl (omega arith))
-nothing_of_broken s js now t members e (kinds.Sent device cycle) w broken here o time is c = wrong 4 (ap second (sym here ∙ o)) (inl (omega arith))
+nothing_of_broken s js now t members e (kinds.Sent device cycle) w broken here o time is c = wrong 5 (ap second (sym here ∙ o)) (inl (omega arith))
 nothing_of_broken s js now t members e (kinds.Corrected device cycle by adjustment) w broken here o time is c =
-    wrong 4 (ap second (sym here ∙ o)) (inl (omega arith))
+    wrong 6 (ap second (sym here ∙ o)) (inl (omega arith))
 nothing_of_broken s js now t members e (kinds.State device state cause whys.On) w broken here o time is c =
     wrong 2 (ap second (sym here ∙ o)) (inl (omega arith))
 nothing_of_broken s js now t members e (kinds.State device state cause whys.Frame) w broken here o time is c =
@@ -176,11 +176,11 @@ nothing_of_broken s js now t members e (kinds.State device state cause whys.Fram
 nothing_of_broken s js now t members e (kinds.State device state cause whys.Correction) w broken here o time is c =
     wrong 2 (ap second (sym here ∙ o)) (inl (omega arith))
 nothing_of_broken s js now t members e (kinds.State device state cause whys.SyncClique) w broken here o time is c =
-    wrong 4 (ap second (sym here ∙ o)) (inl (omega arith))
+    wrong 6 (ap second (sym here ∙ o.1)) (inl (omega arith))
 nothing_of_broken s js now t members e (kinds.State device state cause whys.AsyncClique) w broken here o time is c =
-    wrong 4 (ap second (sym here ∙ o)) (inl (omega arith))
+    wrong 6 (ap second (sym here ∙ o.1)) (inl (omega arith))
 nothing_of_broken s js now t members e (kinds.TtSent device link cause vl cycle) w broken here o time is c =
-    wrong 4 (ap second (sym here ∙ o)) (inl (omega arith))
+    wrong 6 (ap second (sym here ∙ o.1)) (inl (omega arith))
 nothing_of_broken s js now t members e (kinds.Accepted device link cause vl cycle) w broken here o time is c =
     wrong 2 (ap second (sym here ∙ o)) (inl (omega arith))
 nothing_of_broken s js now t members e (kinds.Delivered device link cause vl cycle) w broken here o time is c =
@@ -256,7 +256,7 @@ own_there s hs zs now m e is it founded t members (kinds.Lost device link cause)
     let p = same_port e now t device link cause at in
     elim o [
       | inl d ↦ d.0 ∙ sym at
-      | inr (inl d) ↦ absurd (not_dispatched s hs zs e it t device link cause d.1.0 d.1.1 founded late p.by p.on p.from d.1.2)
+      | inr (inl d) ↦ absurd (not_dispatched s hs zs e it t device link cause d.0 d.1 founded late p.by p.on p.from d.2)
       | inr (inr l) ↦
           let giving = is_giving s hs zs e it cause l.1.event p.from l.1.is.there in
           absurd (subst (λ (b : NoteBody). Gives s.network b device link) l.1.sends (gives_it s hs e it l.1.event device link giving p.by p.on))

@@ -1,4 +1,5 @@
 -- Time passes where nothing is to come.
+use Rattle.world_law.proofs.devices.Working.{worked_by}
 use Rattle.world_law.proofs.{acts.{Acting.{IsUnmoved, cleared_on, had_come_before}, NoActs.nothing_comes_before}, devices.Resting.{IsPast, IsWorked, at_rest}}
 use Rattle.world_law.{proofs.{acts.Recorded.none_recorded, giving.Given.no_later_events, runs.Worlds.nothing_settled_is_all}, specs.source.First.NoSourceBefore}
 use Rattle.world_law.{proofs.devices.Passes.passes_if, specs.{device.Own.IsStill, steps.Steps.PassedStep, world.{Moves.NothingBefore, World.way_now}}}
@@ -174,11 +175,11 @@ no_task network device node (doing deed) broken p = let bad : true ≡ false = s
 pub device_passes : {M : Type 0} (stands : M → Network → DeviceId → Node → Type 0) (s : Scenario) (hs : List Happening) (mark cursor : List ℕ) (now t : ℕ)
     (device : DeviceId) (machine : M) (k : IsKept stands s hs [] cursor now device machine)
     → now < t → IsSteady (s.reading device) (amount s.network.precision) → pos 0 ≤ℤ s.network.precision.0 → HaveBefallen s mark now → IsPast hs now
-    → IsWorked hs cursor now
+    → IsWorked hs cursor now → ((p : List ℕ) → IsBefore p cursor → IsBefore p ((now + 1) ∷ []))
     → ((task : Task) → IsPending s.network device k.node task → (x : ℕ) → now ≤ x → x < t → pos (s.reading device x) <ℤ reading_for s.network k.node task)
     → IsKept stands s hs [] (t ∷ []) t device machine
-device_passes stands s hs mark cursor now t device machine k lt steady precise befallen past worked idle =
-    let rest = at_rest stands s hs mark cursor now device machine k befallen past worked (λ task p. idle task p now (omega arith) lt) in
+device_passes stands s hs mark cursor now t device machine k lt steady precise befallen past worked later idle =
+    let rest = at_rest stands s hs mark cursor now device machine k befallen past worked (record { later = later; falls = steady.never_falls }) (λ task p. idle task p now (omega arith) lt) in
     let from = rest.from in
     let few = rest.soon in
     let le : from ≤ t = omega (arith, lt, few) in
@@ -227,22 +228,22 @@ device_passes stands s hs mark cursor now t device machine k lt steady precise b
       is = k.is;
       sound = no_later_breaks s mark now t device befallen (omega (arith, lt)) ∙ k.sound;
       up = t;
-      acted = inl (refl, λ task b a. not_now t device (acts_before s.network t device task (t ∷ []) b));
+      acted = inl (refl, λ task b a. absurd (not_now t device (acts_before s.network t device task (t ∷ []) b)));
       told = λ over. absurd (too_soon t over);
       left = subst (λ (l : List Happening). IsLeft s l device t k.node) whole left;
       taken = k.taken;
-      worked = inl (record {
-        done = subst (λ (l : List Happening). HasDoneFrom s.network (s.reading device) device k.node (changed_at l device t) t t) whole done;
-        sent = sent;
-      });
+      worked = worked_by s device k.node (changed_at (hs ++ []) device t) t (t ∷ [])
+          (record {
+            done = subst (λ (l : List Happening). HasDoneFrom s.network (s.reading device) device k.node (changed_at l device t) t t) whole done;
+            sent = sent;
+          }) (λ x task early. inl early);
       bare = k.bare;
       ready = ready_later s device k.node now t k.ready steady wide lt undone;
       turned = λ on. absurd (let bad : false ≡ true = sym off_later ∙ on in cc);
       still = λ same h i at. let early = past.past h (subst (λ (l : List Happening). IsIn h l) (sym whole) i) in absurd (omega (arith, early, at, lt));
       cleared = k.cleared;
       recorded = λ same. none_recorded s hs t device k.node (subst (λ (l : List Happening). IsLeft s l device t k.node) whole left)
-          (subst (λ (l : List Happening). HasDoneFrom s.network (s.reading device) device k.node (changed_at l device t) t t) whole done)
-          sent;
+          (subst (λ (l : List Happening). HasDoneFrom s.network (s.reading device) device k.node (changed_at l device t) t t) whole done);
       phase = λ at. let early = k.ready.time in absurd (too_late _ now t at early lt);
     }
   where
@@ -261,12 +262,12 @@ out_passes stands s hs mark cursor now t device machine k lt befallen past =
 held_passes : {M : Type 0} (stands : M → Network → DeviceId → Node → Type 0) (s : Scenario) (hs : List Happening) (mark cursor : List ℕ) (now t : ℕ)
     (device : DeviceId) (machine : M) → IsHeld stands s hs [] cursor now device machine
     → now < t → IsSteady (s.reading device) (amount s.network.precision) → pos 0 ≤ℤ s.network.precision.0 → HaveBefallen s mark now → IsPast hs now
-    → IsWorked hs cursor now
+    → IsWorked hs cursor now → ((p : List ℕ) → IsBefore p cursor → IsBefore p ((now + 1) ∷ []))
     → ((node : Node) → stands machine s.network device node → (task : Task) → IsPending s.network device node task → (x : ℕ) → now ≤ x → x < t
     → pos (s.reading device x) <ℤ reading_for s.network node task) → IsHeld stands s hs [] (t ∷ []) t device machine
-held_passes stands s hs mark cursor now t device machine (inl k) lt steady precise befallen past worked idle =
-    inl (device_passes stands s hs mark cursor now t device machine k lt steady precise befallen past worked (idle k.node k.is))
-held_passes stands s hs mark cursor now t device machine (inr k) lt steady precise befallen past worked idle =
+held_passes stands s hs mark cursor now t device machine (inl k) lt steady precise befallen past worked later idle =
+    inl (device_passes stands s hs mark cursor now t device machine k lt steady precise befallen past worked later (idle k.node k.is))
+held_passes stands s hs mark cursor now t device machine (inr k) lt steady precise befallen past worked later idle =
     inr (out_passes stands s hs mark cursor now t device machine k lt befallen past)
 
 pub passed_step : {C M : Type 0} (reading : C → ℕ → ℕ) (stands : M → Network → DeviceId → Node → Type 0) → PassedStep reading stands
@@ -281,7 +282,7 @@ passed_step {C} {M} reading stands s world notes t old settled lt few running no
       m.1,
       held_passes stands s hs old.mark old.cursor world.now t device m.0
           (subst (λ (l : List Happening). IsHeld stands s hs l old.cursor world.now device m.0) empty m.2) lt (old.steady device) old.precise old.befallen
-          (are_past reading stands s world notes old) (old.untold.done told)
+          (are_past reading stands s world notes old) (old.untold.done told) old.not_later
           (λ node is task p x from before. elim (cases_int (pos (s.reading device x)) (reading_for s.network node task)) [
             | inl less ↦ less
             | inr ge ↦ absurd (none.acting device m.0 node task m.1 is p x from ge (inl before))

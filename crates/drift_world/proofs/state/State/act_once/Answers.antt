@@ -1,7 +1,8 @@
-use Rattle.drift_world.proofs.{ActRecords.AreProper, ActSteps.{acted_once, asked_to_act, never_broken, octets_then, proper_at, row_within, settles_from}}
+use Rattle.drift_world.proofs.{ActRecords.AreProper, ActSteps.{above_then, acted_once, asked_to_act, later_then, left_in, never_broken, octets_then, own_then}}
+use Rattle.drift_world.proofs.{ActSteps.{proper_at, row_within}, HiddenCauses.{InOrder, settled_in_order}}
 use Rattle.{drift_world.proofs.{Fits.sized_so, Showings.shows_of}, world_law.{proofs.giving.Given.some_same, specs.world.Calls.IsStateOf}}
 use Rattle.drift_world.proofs.Words.{◌≡◌, HasActed, Kept, List, Moment, Note, Scenario, Some, Stands, arith, happenings, is_set, keeps, length, length-set}
-use Rattle.drift_world.proofs.{Words.{moment_of, refl, slice_get_read, slice_set, subst, world_of}, state.State.act_once.Goals.After-outcomes_of-outcomes}
+use Rattle.drift_world.proofs.{Words.{map, moment_of, refl, settled_at, slice_get_read, slice_set, subst, world_of}, state.State.act_once.Goals.After-outcomes_of-outcomes}
 use Rattle.std.proofs.Common.{slice_get}
 use Rattle.drift_world.proofs.state.State.act_once.Given as given
 use Rattle.drift_world.proofs.state.State.act_once.Goals as goal
@@ -20,9 +21,8 @@ act-requires g c =
     let many = c.requires.sound.sized.machines in
     let read = slice_get_read c.args.self.now.machines.items (length c.args.self.now.machines.items) c.args.device.0 c.index_mut.result.now refl
     (omega (arith, lt, many)) c.index_mut.ensures.value in
-    asked_to_act g.C.Clock.reading g.M.Machine.stands c.args.network.now c.args.self.now c.args.device c.index_mut.result.now c.requires.there read
-    c.requires.due c.requires.comes c.moment_at-moment.result
-    c.moment_at-moment.ensures
+    asked_to_act g.C.Clock.reading g.M.Machine.stands c.args.network.now c.args.self.now c.args.part c.args.device c.index_mut.result.now c.requires.there read
+    c.requires.due c.requires.above c.requires.comes c.args.moment c.requires.moment
 
 pub returns-in_default : goal.returns-in_default
 returns-in_default g c =
@@ -30,8 +30,8 @@ returns-in_default g c =
     let many = c.requires.sound.sized.machines in
     let read = slice_get_read c.args.self.now.machines.items (length c.args.self.now.machines.items) c.args.device.0 c.index_mut.result.now refl
     (omega (arith, lt, many)) c.index_mut.ensures.value in
-    absurd (never_broken g.C.Clock.reading g.M.Machine.stands c.args.network.now c.args.self.now c.args.device c.index_mut.result.now c.requires.there read
-    c.requires.due c.requires.comes
+    absurd (never_broken g.C.Clock.reading g.M.Machine.stands c.args.network.now c.args.self.now c.args.part c.args.device c.index_mut.result.now c.requires.there read
+    c.requires.due c.requires.above c.requires.comes
     c.in_default.ensures.none)
 
 -- it has acted
@@ -41,7 +41,7 @@ acted_at : (g : given.Over) (c : After-outcomes_of-outcomes g) (s : Scenario) (n
     c.act.new.self
 acted_at g c s notes old =
     subst (λ (m : Moment). HasActed (keeps g.M.Machine.stands) s.network c.args.device m c.in-Some.act c.index_mut.result.now c.act.new.self)
-    (c.moment_at-moment.ensures s (shows_of g.C.Clock.reading (keeps g.M.Machine.stands) s c.args.network.now c.args.self.now notes old))
+    (c.requires.moment s (shows_of g.C.Clock.reading (keeps g.M.Machine.stands) s c.args.network.now c.args.self.now notes old))
     (c.in-Some.ensures.acted s.network c.args.device)
 
 pub outcomes_of-outcomes-requires-clause-row : goal.outcomes_of-outcomes-requires-clause-row
@@ -51,10 +51,10 @@ outcomes_of-outcomes-requires-clause-row g c =
     let read = slice_get_read c.args.self.now.machines.items (length c.args.self.now.machines.items) c.args.device.0 c.index_mut.result.now refl
     (omega (arith, lt, many)) c.index_mut.ensures.value in
     let at = c.requires.comes in
-    row_within g.C.Clock.reading g.M.Machine.stands c.args.network.now c.args.self.now c.args.device c.index_mut.result.now c.requires.there read c.requires.due
-    at c.in-Some.act c.act.new.self
+    row_within g.C.Clock.reading g.M.Machine.stands c.args.network.now c.args.self.now c.args.part c.args.device c.index_mut.result.now c.requires.there read c.requires.due
+    c.requires.above at c.in-Some.act c.act.new.self
     (subst (λ (m : Moment). HasActed (keeps g.M.Machine.stands) at.s.network c.args.device m c.in-Some.act c.index_mut.result.now c.act.new.self)
-    (c.moment_at-moment.ensures at.s (shows_of g.C.Clock.reading (keeps g.M.Machine.stands) at.s c.args.network.now c.args.self.now at.notes at.is))
+    (c.requires.moment at.s (shows_of g.C.Clock.reading (keeps g.M.Machine.stands) at.s c.args.network.now c.args.self.now at.notes at.is))
     (c.in-Some.ensures.acted at.s.network c.args.device))
 
 -- its records are those of the law
@@ -64,8 +64,8 @@ own : (g : given.Over) (c : After-outcomes_of-outcomes g) → let at = c.require
 own g c =
     let at = c.requires.comes in
     let of = shows_of g.C.Clock.reading (keeps g.M.Machine.stands) at.s c.args.network.now c.args.self.now at.notes at.is in
-    proper_at g.C.Clock.reading g.M.Machine.stands c.args.network.now c.args.self.now c.args.device c.index_mut.result.now c.requires.there (held g c)
-    c.requires.due at.s at.notes at.is at.first c.in-Some.act
+    proper_at g.C.Clock.reading g.M.Machine.stands c.args.network.now c.args.self.now c.args.part c.args.device c.index_mut.result.now c.requires.there (held g c)
+    c.requires.due c.requires.above at.s at.notes at.is at.first c.in-Some.act
     c.act.new.self c.shown-was.result.state c.shown-is.result.adjustment c.outcomes_of-outcomes.result (acted_at g c at.s at.notes at.is)
     (c.outcomes_of-outcomes.ensures at.s (record { same = of.same; clocks = of.clocks; broken = of.broken; ways = of.ways }))
 
@@ -80,8 +80,8 @@ returns-clause-sound g c =
       fit = record {
         ups = fit.ups;
         downs = fit.downs;
-        octets = octets_then g.C.Clock.reading g.M.Machine.stands c.args.network.now c.args.self.now c.args.device c.index_mut.result.now c.requires.there
-            (held g (goal.at.returns-clause-sound g c).After-outcomes_of-outcomes) c.requires.due c.requires.comes.s _
+        octets = octets_then g.C.Clock.reading g.M.Machine.stands c.args.network.now c.args.self.now c.args.part c.args.device c.index_mut.result.now c.requires.there
+            (held g (goal.at.returns-clause-sound g c).After-outcomes_of-outcomes) c.requires.due c.requires.above c.requires.comes.s _
             c.shown-was.result.state c.shown-is.result.adjustment c.in-Some.act c.outcomes_of-outcomes.result put.0 c.put_both.new.settled.items
             (own g (goal.at.returns-clause-sound g c).After-outcomes_of-outcomes)
             put.1 put.2 fit.octets;
@@ -97,14 +97,48 @@ returns-clause-machines g c =
     let many = c.requires.sound.sized.machines in
     (is_set c.args.self.now.machines.items c.args.device.0 c.act.new.self (omega (arith, lt, many))).same
 
-pub returns-clause-settled : goal.returns-clause-settled
-returns-clause-settled g c =
+-- all that is settled is in its order
+sorted : (g : given.Over) (c : After-outcomes_of-outcomes g)
+    → InOrder (map (settled_at c.args.network.now c.args.self.now.time) c.args.self.now.settled.items)
+sorted g c =
     let at = c.requires.comes in
+    settled_in_order g.C.Clock.reading (keeps g.M.Machine.stands) at.s (world_of c.args.network.now c.args.self.now) at.notes at.is
+
+pub returns-clause-own : goal.returns-clause-own
+returns-clause-own g c = λ yes.
     let put = c.put_both.ensures in
-    settles_from g.C.Clock.reading g.M.Machine.stands c.args.network.now c.args.self.now c.args.device c.index_mut.result.now c.requires.there
-    (held g (goal.at.returns-clause-settled g c).After-outcomes_of-outcomes) c.requires.due at.s at.notes at.is
-    c.shown-was.result.state c.shown-is.result.adjustment c.in-Some.act c.outcomes_of-outcomes.result put.0 c.put_both.new.settled.items
-    (own g (goal.at.returns-clause-settled g c).After-outcomes_of-outcomes) put.1 put.2
+    let here = (goal.at.returns-clause-own g c).After-outcomes_of-outcomes in
+    let f = own_then g.C.Clock.reading g.M.Machine.stands c.args.network.now c.args.self.now c.args.part c.args.device c.index_mut.result.now c.requires.there
+    (held g here) c.requires.due c.requires.above c.requires.comes.s _ c.shown-was.result.state c.shown-is.result.adjustment c.in-Some.act
+    c.outcomes_of-outcomes.result put.0 c.put_both.new.settled.items (sorted g here) (own g here) (c.is_at_source-gives.ensures.yes yes) put.1 put.2 in
+    record { first = f.0; others = f.1; whole = f.2; own = f.3 }
+
+pub returns-clause-above : goal.returns-clause-above
+returns-clause-above g c = λ no.
+    let put = c.put_both.ensures in
+    let here = (goal.at.returns-clause-above g c).After-outcomes_of-outcomes in
+    above_then g.C.Clock.reading g.M.Machine.stands c.args.network.now c.args.self.now c.args.part c.args.device c.index_mut.result.now c.requires.there
+    (held g here) c.requires.due c.requires.above c.requires.comes.s _ c.shown-was.result.state c.shown-is.result.adjustment c.in-Some.act
+    c.outcomes_of-outcomes.result put.0 c.put_both.new.settled.items (own g here) (c.is_at_source-gives.ensures.no no) put.1 put.2
+
+pub returns-clause-later : goal.returns-clause-later
+returns-clause-later g c = λ left is_left.
+    let w = c.args.self.now in
+    let lt = c.requires.there in
+    let many = c.requires.sound.sized.machines in
+    let network = c.args.network.now in
+    let device = c.args.device in
+    let K = g.C.Clock in
+    let stands = g.M.Machine.stands in
+    let after = c.act.new.self in
+    let here = (goal.at.returns-clause-later g c).After-outcomes_of-outcomes in
+    let set = is_set w.machines.items device.0 after (omega (arith, lt, many)) in
+    later_then K.reading stands network w c.args.part device c.index_mut.result.now lt (held g here) c.requires.due c.requires.above c.requires.comes
+    c.in-Some.act after left (acted_at g here)
+    (λ s notes old.
+    let of = shows_of K.reading (keeps stands) s network w notes old in
+    left_in K.reading stands network _ device left is_left s after
+    (record { same = of.same; clocks = of.clocks; broken = of.broken; ways = of.ways }) set.there)
 
 pub returns-clause-stands : goal.returns-clause-stands
 returns-clause-stands g c = λ s notes old first.
@@ -127,17 +161,15 @@ returns-clause-stands g c = λ s notes old first.
     let now_is : c.index-2.result.now ≡ after = some_same _ _ _
     (slice_get_read (slice_set w.machines.items device.0 after) (length (slice_set w.machines.items device.0 after)) device.0
     c.index-2.result.now refl (omega (arith, lt, many, longer)) c.index-2.ensures) set.there in
-    acted_once K.reading stands network w device machine lt read c.requires.due after c.shown-was.result.state c.shown-is.result.state
+    acted_once K.reading stands network w c.args.part device machine lt read c.requires.due c.requires.above after c.shown-was.result.state c.shown-is.result.state
     c.shown-was.result.adjustment c.shown-is.result.adjustment c.in-Some.act
-    c.outcomes_of-outcomes.result put.0 c.put_both.new.settled.items _ c.left_to_do.result.more set put.1 put.2 s notes old first
+    c.outcomes_of-outcomes.result put.0 c.put_both.new.settled.items _ set put.1 put.2 s notes old first
     (acted_at g (goal.at.returns-clause-stands g c).After-outcomes_of-outcomes s notes old)
     (subst (λ (m : Kept _). IsStateOf (keeps stands) s.network device m c.shown-was.result.state c.shown-was.result.adjustment) same
     (c.shown-was.ensures s.network device))
     (subst (λ (m : Kept _). IsStateOf (keeps stands) s.network device m c.shown-is.result.state c.shown-is.result.adjustment) now_is
     (c.shown-is.ensures s.network device))
     (c.outcomes_of-outcomes.ensures s (record { same = of.same; clocks = of.clocks; broken = of.broken; ways = of.ways }))
-    (λ more. c.left_to_do.ensures.yes more s after (record { same = of.same; clocks = of.clocks; broken = of.broken; ways = of.ways }) set.there)
-    (λ none. c.left_to_do.ensures.no none s after (record { same = of.same; clocks = of.clocks; broken = of.broken; ways = of.ways }) set.there)
 
 pub returns-clause-acted : goal.returns-clause-acted
 returns-clause-acted g c = λ s notes machine old there.
@@ -156,6 +188,3 @@ returns-clause-acted g c = λ s notes machine old there.
       subst (λ (m : Kept _). HasActed (keeps stands) s.network device (moment_of s device w.time) c.in-Some.act m after) same
           (acted_at g (goal.at.returns-clause-acted g c).After-outcomes_of-outcomes s notes old),
     )
-
-pub left_to_do-requires-clause-moment : goal.left_to_do-requires-clause-moment
-left_to_do-requires-clause-moment g c = λ s of. c.moment_at-moment.ensures s (record { same = of.same; clocks = of.clocks; broken = of.broken; ways = of.ways })

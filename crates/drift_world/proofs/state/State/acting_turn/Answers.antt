@@ -1,25 +1,17 @@
-use Rattle.drift_world.proofs.{AtOnce.gives_then, Turning.{err_then, kept_then, step_kept}, Words.OutOfMemory}
+use Rattle.drift_world.proofs.{TurnSays.gives_then, Turning.{err_then, kept_then, step_kept}, Words.{OutOfMemory, inr}}
 use Rattle.drift_world.proofs.state.State.acting_turn.Goals as goal
 
 pub give_next-requires : goal.give_next-requires
-give_next-requires g c = record {
-  range = c.requires.may.range;
-  well = c.act.ensures.step.well;
-  some = c.is_first_next.ensures.some c.if-is_first_next.true;
-  nothing = c.is_first_next.ensures.nothing c.if-is_first_next.true;
-}
-
-pub returns-in-Err : goal.returns-in-Err
-returns-in-Err g c =
-    let step = c.act.ensures.step in
+give_next-requires g c =
+    let own = c.in-Ok-true.ensures.own c.in-Ok-true.field-0-test in
     record {
-      kept = step_kept g.C.Clock.last_step g.C.Clock.reading g.M.Machine.stands c.args.network.now c.args.self.now c.act.new.self step;
-      says = tt;
-      err = step.time;
+      range = c.requires.may.range;
+      well = c.act.ensures.step.well;
+      first = record { first = own.first; others = own.others; whole = own.whole; before = inr own.own };
     }
 
-pub returns-then-is_first_next : goal.returns-then-is_first_next
-returns-then-is_first_next g c =
+pub returns-in-Ok-true : goal.returns-in-Ok-true
+returns-in-Ok-true g c =
     let step = c.act.ensures.step in
     let mid = c.act.new.self in
     let new = c.give_next.new.self in
@@ -31,11 +23,20 @@ returns-then-is_first_next g c =
       err = err_then OutOfMemory c.args.self.now mid new c.give_next.result step.time gave.err;
     }
 
-pub returns : goal.returns
-returns g c =
+pub returns-in-Ok-false : goal.returns-in-Ok-false
+returns-in-Ok-false g c =
     let step = c.act.ensures.step in
     record {
       kept = step_kept g.C.Clock.last_step g.C.Clock.reading g.M.Machine.stands c.args.network.now c.args.self.now c.act.new.self step;
-      says = (step.time, step.given, c.in_default.ensures.less);
+      says = (step.time, step.given, c.in-Ok-false.ensures.less c.in-Ok-false.field-0-test);
       err = tt;
+    }
+
+pub returns-in-Err : goal.returns-in-Err
+returns-in-Err g c =
+    let step = c.act.ensures.step in
+    record {
+      kept = step_kept g.C.Clock.last_step g.C.Clock.reading g.M.Machine.stands c.args.network.now c.args.self.now c.act.new.self step;
+      says = tt;
+      err = step.time;
     }

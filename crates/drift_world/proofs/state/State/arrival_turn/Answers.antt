@@ -3,7 +3,7 @@ use Rattle.drift_world.proofs.{Fits.{all_put, have_octets, sound_same}, Timings.
 use Rattle.drift_world.proofs.Words.{world_of, ℕ}
 use Rattle.drift_world.{proofs.{Halves.set_act, OwnPlaces.{changes_both, none_ahead, runs_first, stands_first}}, specs.Turns.given_in}
 use Rattle.drift_world.{proofs.Turning.{comes_first, is_at, kept_timers, rekeyed_step, runs_on, step_kept}, specs.declared.source.Source.TheVariants.Arrival}
-use Rattle.drift_world.proofs.Words.{◌++◌, ◌∙◌, ◌∷◌, ◌≡◌, ChangesOnly, DeviceId, IsPutAt, IsSound, List, Note, Scenario, Settled, Stands, [], ap, arith, keeps}
+use Rattle.drift_world.proofs.Words.{◌++◌, ◌∙◌, ◌∷◌, ◌≡◌, ChangesOnly, DeviceId, IsPutAt, IsSound, List, Note, Scenario, Settled, Stands, ap, arith, keeps}
 use Rattle.drift_world.proofs.state.State.arrival_turn.Given as given
 use Rattle.drift_world.proofs.state.State.arrival_turn.Goals as goal
 
@@ -61,6 +61,7 @@ rekey_from-requires g c =
       may = record {
         sized = give.sound.sized;
         there = may.foremost.there.device;
+        few = may.range.few_devices;
         slots = ap length timers ∙ may.well.timed.sized;
         running = record { s = run.s; notes = _; is = given_so g (goal.at.rekey_from-requires g c).After-give_in_turn-turn run.s run.notes run.is };
       };
@@ -127,6 +128,7 @@ rekey_act_from-requires g c =
       may = record {
         sized = (sound_after g (goal.at.rekey_act_from-requires g c).After-put_in).sized;
         there = may.foremost.there.device;
+        few = may.range.few_devices;
         slots = ap length timers ∙ may.well.timed.sized;
         running = runs_on g.C.Clock.last_step g.C.Clock.reading g.M.Machine.stands c.args.network.now c.args.self.now after may.well.running
             (still g (goal.at.rekey_act_from-requires g c).After-put_in);

@@ -1,7 +1,7 @@
 use Rattle.drift_world.{proofs.Fits.{all_put, have_octets, sound_same}, specs.declared.{source.Source.TheVariants.Departure, state.State.State}}
 use Rattle.drift_world.proofs.{OwnPlaces.{changes_both, none_ahead, runs_first, stands_first}, Turning.{comes_first, kept_timers, plain_step, step_kept}}
 use Rattle.drift_world.proofs.{Timings.aside, Words.ℕ}
-use Rattle.drift_world.proofs.Words.{◌∙◌, ◌∷◌, ◌≡◌, ChangesOnly, IsPutAt, List, Settled, [], ap, arith, changed_device, place_of, rank, refl, settled_at, subst}
+use Rattle.drift_world.proofs.Words.{◌∙◌, ◌∷◌, ◌≡◌, ChangesOnly, IsPutAt, List, Settled, ap, arith, changed_device, place_of, rank, refl, settled_at, subst}
 use Rattle.drift_world.proofs.Words.{sym}
 use Rattle.drift_world.proofs.state.State.departure_turn.Goals as goal
 

@@ -1,28 +1,17 @@
-use Rattle.drift_world.{proofs.{Turning.{first_gives, kept_timers, plain_step, step_kept}, state.State.give_next.Goals.In-Ok}, specs.declared.state.State.State}
-use Rattle.drift_world.proofs.Words.{◌++◌, ◌<◌, ◌∙◌, ◌∷◌, ◌≡◌, ChangesOnly, List, Note, NoteBody, Scenario, Settled, Stands, World, [], ap, arith}
-use Rattle.drift_world.proofs.Words.{changed_device, keeps, length, note_of, refl, settled_at, subst, sym, units_of, world_of}
+use Rattle.drift_world.{proofs.{Turning.{gives_first, kept_timers, plain_step, step_kept}, state.State.give_next.Goals.In-Ok}, specs.declared.state.State.State}
+use Rattle.drift_world.proofs.Words.{◌++◌, ◌∙◌, ◌∷◌, ◌≡◌, ChangesOnly, List, Note, NoteBody, Scenario, Stands, World, [], ap, arith}
+use Rattle.drift_world.proofs.Words.{changed_device, keeps, note_of, settled_at, subst, sym, units_of, world_of}
 use Rattle.drift_world.proofs.state.State.give_next.Given as given
 use Rattle.drift_world.proofs.state.State.give_next.Goals as goal
 
--- something is settled
-record IsFirstOf (settled : List Settled) : Type 0 where
-  first : Settled
-  others : List Settled
-  whole : settled ≡ first ∷ others
-
-some_first : (settled : List Settled) → 0 < length settled → IsFirstOf settled
-some_first [] lt = absurd (omega (arith, lt))
-some_first (z ∷ zs) lt = record { first = z; others = zs; whole = refl }
-
 given_so : (g : given.Over) (c : In-Ok g) (s : Scenario) (notes : List Note)
     → Stands g.C.Clock.reading (keeps g.M.Machine.stands) s (world_of c.args.network.now c.args.self.now) notes
-    → (c.give.new.note ≡ note_of notes (settled_at c.args.network.now c.args.self.now.time (some_first c.args.self.now.settled.items c.requires.some).first))
+    → (c.give.new.note ≡ note_of notes (settled_at c.args.network.now c.args.self.now.time c.requires.first.first))
     × Stands g.C.Clock.reading (keeps g.M.Machine.stands) s (world_of c.args.network.now c.give.new.self) (notes ++ c.give.new.note ∷ [])
 given_so g c s notes old =
-    let f = some_first c.args.self.now.settled.items c.requires.some in
+    let f = c.requires.first in
     let step = c.in-Ok.ensures.stands s notes f.first f.others f.whole old
-    (first_gives g.C.Clock.last_step g.C.Clock.reading g.M.Machine.stands c.args.network.now c.args.self.now f.first f.others s notes c.requires.well.sound
-    (c.requires.nothing f.first f.others f.whole) f.whole old) in
+    (gives_first g.C.Clock.last_step g.C.Clock.reading g.M.Machine.stands c.args.network.now c.args.self.now f s notes c.requires.well.sound old) in
     (step.0, step.1.0)
 
 pub rekey_after-requires-clause-running : goal.rekey_after-requires-clause-running

@@ -1,41 +1,47 @@
-use Rattle.drift_world.proofs.Words.{◌<ℤ◌, ◌≡◌, Kept, Moment, ap, arith, keeps, pos, reading_for, slice_get_read, subst, sym, ℤ}
-use Rattle.{run_law.specs.machines.Calls.HasDue, world_law.proofs.giving.Given.some_same, world_state.proofs.Acts.{none_due, some_due}}
+use Rattle.drift_world.proofs.Words.{◌<ℤ◌, ◌≡◌, Kept, Moment, Scenario, Some, ap, arith, keeps, pos, reading_for, slice_get_read, subst, sym, ℤ}
+use Rattle.{device_rules.specs.FirstKinds.IsFirstKind, drift_world.specs.Showing.IsOf, std.specs.List.slice_get}
+use Rattle.drift_world.proofs.state.State.left_to_do.Goals.{After-is_reached}
+use Rattle.{drift_world.proofs.state.State.left_to_do.Given.Over, world_law.proofs.giving.Given.some_same, world_state.proofs.Acts.{none_due, some_due}}
 use Rattle.drift_world.proofs.state.State.left_to_do.Goals as goal
 
-pub returns-clause-yes : goal.returns-clause-yes
-returns-clause-yes g c = λ yes_it s machine of there node is.
+-- the machine of the device
+held : (g : Over) (c : After-is_reached g) (machine : Kept _) → slice_get c.args.self.now.machines.items c.args.device.0 ≡ Some machine
+    → c.index-machine.result.now ≡ machine
+held g c machine there =
     let w = c.args.self.now in
     let lt = c.requires.there in
     let many = c.requires.sized.machines in
     let held = w.machines.ok.0 in
-    let same : c.index.result.now ≡ machine = some_same _ _ _
-    (slice_get_read w.machines.items w.machines.len c.args.device.0 c.index.result.now w.machines.ok.0 (omega (arith, many, lt, held)) c.index.ensures) there in
-    let due = c.due-due.ensures s.network c.args.device node
-    (subst (λ (m : Kept _). keeps g.M.Machine.stands m s.network c.args.device node) (sym same) is) in
-    let read : c.args.moment.reading.0 ≡ pos (s.reading c.args.device w.time) = ap (λ (m : Moment). m.reading.0) (c.requires.moment s of) in
-    subst (HasDue s.network c.args.device node) read
-    (some_due s.network c.args.device node c.due-due.result c.args.moment.reading.0 due (c.is_reached.ensures.reached yes_it))
+    some_same _ _ _
+    (slice_get_read w.machines.items w.machines.len c.args.device.0 c.index-machine.result.now w.machines.ok.0 (omega (arith, many, lt, held))
+    c.index-machine.ensures) there
 
-pub returns-clause-no : goal.returns-clause-no
-returns-clause-no g c = λ no_it s machine of there node task is pending.
-    let w = c.args.self.now in
-    let lt = c.requires.there in
-    let many = c.requires.sized.machines in
-    let held = w.machines.ok.0 in
-    let same : c.index.result.now ≡ machine = some_same _ _ _
-    (slice_get_read w.machines.items w.machines.len c.args.device.0 c.index.result.now w.machines.ok.0 (omega (arith, many, lt, held)) c.index.ensures) there in
-    let due = c.due-due.ensures s.network c.args.device node
-    (subst (λ (m : Kept _). keeps g.M.Machine.stands m s.network c.args.device node) (sym same) is) in
-    let read : c.args.moment.reading.0 ≡ pos (s.reading c.args.device w.time) = ap (λ (m : Moment). m.reading.0) (c.requires.moment s of) in
-    subst (λ (z : ℤ). z <ℤ reading_for s.network node task) read
-    (none_due s.network c.args.device node c.due-due.result c.args.moment.reading.0 due (c.is_reached.ensures.later no_it) task pending)
+-- the reading
+read : (g : Over) (c : After-is_reached g) (s : Scenario) → IsOf g.C.Clock.reading s c.args.network.now c.args.self.now
+    → c.args.moment.reading.0 ≡ pos (s.reading c.args.device c.args.self.now.time)
+read g c s of = ap (λ (m : Moment). m.reading.0) (c.requires.moment s of)
 
-pub returns-clause-next : goal.returns-clause-next
-returns-clause-next g c = λ machine network d node at is.
-    let w = c.args.self.now in
-    let lt = c.requires.there in
-    let many = c.requires.sized.machines in
-    let held = w.machines.ok.0 in
-    let same = some_same _ _ _ at
-    (slice_get_read w.machines.items w.machines.len c.args.device.0 c.index.result.now w.machines.ok.0 (omega (arith, many, lt, held)) c.index.ensures) in
-    c.due-due.ensures network d node (subst (λ (m : Kept _). keeps g.M.Machine.stands m network d node) same is)
+pub returns-then-is_reached : goal.returns-then-is_reached
+returns-then-is_reached g c = λ s machine node of there is.
+    let here = (goal.at.returns-then-is_reached g c).After-is_reached in
+    let kept = subst (λ (m : Kept _). keeps g.M.Machine.stands m s.network c.args.device node) (sym (held g here machine there)) is in
+    let due = some_due s.network c.args.device node c.due-due.result c.args.moment.reading.0 (c.due-due.ensures s.network c.args.device node kept)
+    (c.is_reached.ensures.reached c.if-is_reached.true) in
+    record {
+      kind = c.first_kind.result;
+      is = subst (λ (z : ℤ). IsFirstKind s.network c.args.device node z c.first_kind.result) (read g here s of)
+          (c.first_kind.ensures s.network c.args.device node kept due);
+      of_part = sym c.of.ensures;
+    }
+
+pub returns-else-is_reached : goal.returns-else-is_reached
+returns-else-is_reached g c =
+    let here = (goal.at.returns-else-is_reached g c).After-is_reached in (
+      λ machine network d node at is.
+          c.due-due.ensures network d node (subst (λ (m : Kept _). keeps g.M.Machine.stands m network d node) (sym (held g here machine at)) is),
+      λ s machine of there node task is pending.
+          let kept = subst (λ (m : Kept _). keeps g.M.Machine.stands m s.network c.args.device node) (sym (held g here machine there)) is in
+          subst (λ (z : ℤ). z <ℤ reading_for s.network node task) (read g here s of)
+          (none_due s.network c.args.device node c.due-due.result c.args.moment.reading.0 (c.due-due.ensures s.network c.args.device node kept)
+          (c.is_reached.ensures.later c.if-is_reached.false) task pending),
+    )

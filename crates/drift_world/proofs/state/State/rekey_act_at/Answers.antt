@@ -1,15 +1,22 @@
 use Rattle.{drift_world.proofs.{Timings.{IsLow, acts_timed, not_past}, Words.{sym, ℕ}}, tte_units.proofs.general_lemmas.Lists.{set_aside, set_same}}
 use Rattle.drift_world.proofs.Words.{◌+◌, ◌<◌, ◌∙◌, ◌≡◌, ◌≤◌, DeviceId, List, Network, ap, arith, length, length-set, refl, slice_get_read, slice_set, subst}
 use Rattle.{drift_world.proofs.state.State.rekey_act_at.Given.Over, std.proofs.lemmas.List.Elements.All-set, world_law.proofs.giving.Given.some_same}
-use Rattle.{std.proofs.Common.{All, slice_get}, world_state.specs.Timing.IsTimeFor}
+use Rattle.{drift_world.specs.Parts.part_rank, std.proofs.Common.slice_get, world_state.specs.Timing.IsTimeFor}
+use Rattle.world_state.specs.{declared.timers.Timer.Timer, timers.Times.AreFrom}
 use Rattle.drift_world.proofs.state.State.rekey_act_at.Goals as goal
 
--- the slots, as they are set
+-- the timer, as it is set
+abbrev timer : (g : Over) (c : goal.After-set g) → Timer
+timer g c = record { time = c.time_for-act.result; rank = part_rank c.part_at-part.result }
+
 timers_are : (g : Over) (c : goal.After-set g)
-    → c.set.new.self ≡ slice_set c.args.self.now.timers (length c.args.network.now.device + c.args.device) c.time_for-act.result
+    → c.set.new.self ≡ slice_set c.args.self.now.timers (length c.args.network.now.device + c.args.device) (timer g c)
 timers_are g c =
+    let w = c.args.self.now in
     c.set.ensures
-    ∙ ap (λ (n : ℕ). slice_set c.args.self.now.timers (n + c.args.device) c.time_for-act.result) (ap length c.as_slice-devices.ensures)
+    ∙ ap (λ (r : ℕ). slice_set w.timers (length c.as_slice-devices.result.now + c.args.device)
+    (let t : Timer = record { time = c.time_for-act.result; rank = r } in t)) (c.number.ensures ∙ c.rank.ensures)
+    ∙ ap (λ (n : ℕ). slice_set w.timers (n + c.args.device) (timer g c)) (ap length c.as_slice-devices.ensures)
 
 pub returns-clause-timed : goal.returns-clause-timed
 returns-clause-timed g c =
@@ -37,11 +44,13 @@ returns-clause-timed g c =
       machine = has.0;
       of_machine = has.1;
       act = c.time_for-act.result;
-      of_act = ap (λ (l : List ℕ). slice_get l (length network.device + c.args.device)) (timers_are g c)
-          ∙ set_same w.timers (length network.device + c.args.device) c.time_for-act.result (omega (arith, slots, there));
-      acts = acts_timed K.reading g.M.Machine.stands network clock has.0 device w.time c.args.due c.time_for-act.result low
+      part = c.part_at-part.result;
+      of_act = ap (λ (l : List Timer). slice_get l (length network.device + c.args.device)) (timers_are g c)
+          ∙ set_same w.timers (length network.device + c.args.device) (timer g c) (omega (arith, slots, there));
+      acts = acts_timed K.reading g.M.Machine.stands network clock has.0 device w.time c.args.due c.time_for-act.result c.part_at-part.result low
           (λ node is. c.requires.due has.0 network device node has.1 is)
-          (subst (λ k. IsTimeFor K.reading k w.time c.args.due c.time_for-act.result) (sym same) c.time_for-act.ensures);
+          (subst (λ k. IsTimeFor K.reading k w.time c.args.due c.time_for-act.result) (sym same) c.time_for-act.ensures)
+          (λ node kept. c.part_at-part.ensures clock has.0 network device node own.1 has.1 kept);
     }
 
 pub returns-clause-sets : goal.returns-clause-sets
@@ -52,9 +61,9 @@ returns-clause-sets g c =
     let same = timers_are g c in
     record {
       same = refl;
-      sized = ap length same ∙ length-set w.timers slot act;
-      others = λ other apart. ap (λ (l : List ℕ). slice_get l other) same ∙ set_aside w.timers slot other act apart;
-      later = λ all. subst (All (λ (time : ℕ). w.time ≤ time)) (sym same)
-          (All-set (λ (time : ℕ). w.time ≤ time) w.timers slot act
+      sized = ap length same ∙ length-set w.timers slot (timer g c);
+      others = λ other apart. ap (λ (l : List Timer). slice_get l other) same ∙ set_aside w.timers slot other (timer g c) apart;
+      later = λ all. subst (AreFrom w.time) (sym same)
+          (All-set (λ (t : Timer). w.time ≤ t.time) w.timers slot (timer g c)
           (not_past g.C.Clock.reading c.index.result.now w.time c.args.due act c.requires.may.sized.limit c.time_for-act.ensures) all);
     }

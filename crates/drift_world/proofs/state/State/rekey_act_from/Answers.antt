@@ -1,9 +1,10 @@
-use Rattle.drift_world.proofs.{Dues.acts_by, Words.{◌+◌, ◌<◌, DeviceId, Network, Option, arith, length, refl, slice_get-get_or, subst}}
-use Rattle.{run_law.specs.machines.Tasks.IsDueReading, std.proofs.Common.get_or, tte_units.specs.declared.units.Units.Units}
+use Rattle.drift_world.proofs.{Dues.acts_by, Words.{◌+◌, ◌<◌, ◌∙◌, ◌≡◌, DeviceId, Network, Option, Some, ap, arith, length, refl, slice_get-get_or, subst, ℕ}}
+use Rattle.{run_law.specs.machines.Tasks.IsDueReading, std.proofs.Common.{get_or, slice_get}}
+use Rattle.{tte_units.specs.declared.units.Units.Units, world_state.specs.{declared.timers.Timer.Timer, timers.Times.unset}}
 use Rattle.drift_world.proofs.state.State.rekey_act_from.Goals as goal
 
-pub returns-then-is_same : goal.returns-then-is_same
-returns-then-is_same g c =
+pub returns-then-keeps_part : goal.returns-then-keeps_part
+returns-then-keeps_part g c =
     let w = c.args.self.now in
     let K = g.C.Clock in
     let S = g.M.Machine.stands in
@@ -18,7 +19,9 @@ returns-then-is_same g c =
     let own = old.clocks device of_it in
     let has = old.devices device of_it in
     let slot = length network.device + c.args.device in
-    let at = slice_get-get_or w.timers slot 0 (omega (arith, slots, there)) in
+    let timer : Timer = get_or w.timers slot unset in
+    let at : slice_get w.timers slot ≡ Some timer = slice_get-get_or w.timers slot unset (omega (arith, slots, there)) in
+    let before = c.requires.before own.0 timer own.1 at in
     record {
       sets = record { same = refl; sized = refl; others = λ slot apart. refl; later = λ all. all };
       timed = record {
@@ -26,11 +29,13 @@ returns-then-is_same g c =
         of_clock = own.1;
         machine = has.0;
         of_machine = has.1;
-        act = get_or w.timers slot 0;
-        of_act = at;
-        acts = acts_by K.reading S network own.0 has.0 device w.time (get_or w.timers slot 0) c.args.before
+        act = timer.time;
+        part = before.part;
+        of_act = at ∙ ap (λ (r : ℕ). Some (let t : Timer = record { time = timer.time; rank = r } in t)) before.rank_is;
+        acts = acts_by K.reading S network own.0 has.0 device w.time timer.time before.part c.args.before
             (λ node is. subst (λ (d : Option Units). IsDueReading network device node d) (c.is_same.ensures c.if-is_same.true)
             (c.due_of-due.ensures has.0 network device node has.1 is))
-            (c.requires.before own.0 (get_or w.timers slot 0) own.1 at);
+            before.by
+            (λ node kept. c.keeps_part.ensures c.if-keeps_part.true timer before.part at before.rank_is own.0 has.0 network device node own.1 has.1 kept);
       };
     }

@@ -12,6 +12,7 @@ rekey-requires g c =
       may = record {
         sized = sized_with K.last_step K.reading S c.args.network.now c.args.self.now c.loop-device.self before.same c.requires.sized;
         there = omega (arith, more, len);
+        few = c.requires.range.few_devices;
         slots = before.sized;
         running = running_with K.last_step K.reading S c.args.network.now c.args.self.now c.loop-device.self before.same c.requires.running;
       };

@@ -15,6 +15,7 @@ rekey-requires g c = record {
   may = record {
     sized = c.requires.sized;
     there = there c.args.network.now c.args.what.now c.in-Some.device c.requires.there (sym c.in-Some.ensures);
+    few = c.requires.range.few_devices;
     slots = c.requires.slots;
     running = c.requires.running;
   };

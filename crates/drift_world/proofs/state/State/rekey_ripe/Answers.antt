@@ -1,8 +1,19 @@
 use Rattle.{drift_world.proofs.Timings.{IsLow, not_past, ripe_timed}, tte_units.proofs.general_lemmas.Lists.{set_aside, set_same}}
 use Rattle.drift_world.proofs.Words.{◌<◌, ◌∙◌, ◌≡◌, ◌≤◌, DeviceId, Network, ap, arith, length, length-set, refl, slice_get_read, subst, sym, ℕ}
-use Rattle.std.proofs.Common.{All, List, slice_get}
+use Rattle.std.proofs.Common.{List, slice_get, slice_set}
 use Rattle.{std.proofs.lemmas.List.Elements.All-set, world_law.proofs.giving.Given.some_same, world_state.specs.Timing.{IsLeastPoint, IsTimeFor}}
+use Rattle.{drift_world.proofs.state.State.rekey_ripe.Given.Over, world_state.specs.{declared.timers.Timer.Timer, timers.Times.AreFrom}}
+use Rattle.drift_world.proofs.state.State.rekey_ripe.Goals.{After-set}
 use Rattle.drift_world.proofs.state.State.rekey_ripe.Goals as goal
+
+-- the timer, as it is set
+abbrev timer : (g : Over) (c : After-set g) → Timer
+timer g c = record { time = c.time_for-ripe.result; rank = 3 }
+
+timers_are : (g : Over) (c : After-set g) → c.set.new.self ≡ slice_set c.args.self.now.timers c.args.device (timer g c)
+timers_are g c =
+    c.set.ensures
+    ∙ ap (λ (r : ℕ). slice_set c.args.self.now.timers c.args.device (let t : Timer = record { time = c.time_for-ripe.result; rank = r } in t)) c.number.ensures
 
 pub returns-clause-timed : goal.returns-clause-timed
 returns-clause-timed g c =
@@ -28,8 +39,8 @@ returns-clause-timed g c =
       clock = clock;
       of_clock = own.1;
       ripe = c.time_for-ripe.result;
-      of_ripe = ap (λ (l : List ℕ). slice_get l c.args.device) c.set.ensures
-          ∙ set_same w.timers c.args.device c.time_for-ripe.result (omega (arith, slots, there));
+      of_ripe = ap (λ (l : List Timer). slice_get l c.args.device) (timers_are g (goal.at.returns-clause-timed g c).After-set)
+          ∙ set_same w.timers c.args.device (timer g (goal.at.returns-clause-timed g c).After-set) (omega (arith, slots, there));
       ripens = ripe_timed K.reading clock w.waiting.items c.args.device w.time c.least_point-point.result c.time_for-ripe.result low point
           (subst (λ k. IsTimeFor K.reading k w.time c.least_point-point.result c.time_for-ripe.result) (sym same) c.time_for-ripe.ensures);
     }
@@ -37,13 +48,14 @@ returns-clause-timed g c =
 pub returns-clause-sets : goal.returns-clause-sets
 returns-clause-sets g c =
     let w = c.args.self.now in
+    let here = (goal.at.returns-clause-sets g c).After-set in
     let ripe = c.time_for-ripe.result in
-    let same = c.set.ensures in
+    let same = timers_are g here in
     record {
       same = refl;
-      sized = ap length same ∙ length-set w.timers c.args.device ripe;
-      others = λ other apart. ap (λ (l : List ℕ). slice_get l other) same ∙ set_aside w.timers c.args.device other ripe apart;
-      later = λ all. subst (All (λ (time : ℕ). w.time ≤ time)) (sym same)
-          (All-set (λ (time : ℕ). w.time ≤ time) w.timers c.args.device ripe
+      sized = ap length same ∙ length-set w.timers c.args.device (timer g here);
+      others = λ other apart. ap (λ (l : List Timer). slice_get l other) same ∙ set_aside w.timers c.args.device other (timer g here) apart;
+      later = λ all. subst (AreFrom w.time) (sym same)
+          (All-set (λ (t : Timer). w.time ≤ t.time) w.timers c.args.device (timer g here)
           (not_past g.C.Clock.reading c.index.result.now w.time c.least_point-point.result ripe c.requires.may.sized.limit c.time_for-ripe.ensures) all);
     }

@@ -4,7 +4,7 @@ use Rattle.{drift_world.{proofs.Fits.{have_octets, sound_same}, specs.declared.s
 use Rattle.{drift_world.{proofs.Timings.rekeyed_by, specs.Stepping.StandsPast}, run_law.specs.declared.steps.Ripe.Ripe, world_law.proofs.giving.Given.some_same}
 use Rattle.drift_world.{proofs.Turning.{comes_first, is_at, kept_timers, rekeyed_step, runs_on, step_kept}, specs.declared.source.Source.TheVariants.Ripening}
 use Rattle.drift_world.proofs.Words.{◌++◌, ◌∙◌, ◌∷◌, ◌≡◌, ◌≤ℤ◌, ChangesOnly, DeviceId, IsPutAt, IsSound, List, Network, Node, Note, Scenario, Settled, Some}
-use Rattle.drift_world.proofs.Words.{Stands, Waits, [], ap, arith, changed_device, keeps, length, place_of, pos, refl, ripe_place, settled_at, subst, sym}
+use Rattle.drift_world.proofs.Words.{Stands, Waits, ap, arith, changed_device, keeps, length, place_of, pos, refl, ripe_place, settled_at, subst, sym}
 use Rattle.drift_world.proofs.Words.{waiting_as}
 use Rattle.{drift_world.{proofs.Words.{world_of, ℕ}, specs.Ripening.IsJudged}, std.proofs.Common.{is_some, slice_get}, world_state.specs.Frames.first_of}
 use Rattle.drift_world.{proofs.state.State.ripening_turn.Goals.{After-give_in_turn-turn, After-settle_ripe}, specs.Turns.{IsRipe, MayWork, given_in}}
@@ -121,6 +121,7 @@ rekey_from-requires g c =
       may = record {
         sized = give.sound.sized;
         there = may.foremost.there.of;
+        few = may.range.few_devices;
         slots = ap length timers ∙ may.well.timed.sized;
         running = record { s = run.s; notes = _; is = given_so g (goal.at.rekey_from-requires g c).After-give_in_turn-turn run.s run.notes run.is };
       };
@@ -199,6 +200,7 @@ rekey_from-requires-2 g c =
       may = record {
         sized = (sound_after g (goal.at.rekey_from-requires-2 g c).After-settle_ripe).sized;
         there = may.foremost.there.of;
+        few = may.range.few_devices;
         slots = ap length timers ∙ may.well.timed.sized;
         running = runs_on g.C.Clock.last_step g.C.Clock.reading g.M.Machine.stands c.args.network.now c.args.self.now after may.well.running
             (still g (goal.at.rekey_from-requires-2 g c).After-settle_ripe);

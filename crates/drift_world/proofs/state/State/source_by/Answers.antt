@@ -28,7 +28,8 @@ returns-in-Some-clause-nothing g c =
 
 pub returns-in-Some-slot_at-clause-nothing : goal.returns-in-Some-slot_at-clause-nothing
 returns-in-Some-slot_at-clause-nothing g c =
-    let d : Due = record { time = c.args.self.now.time; slot = c.in-Some-slot_at.slot } in
+    let first = c.in-Some-slot_at.first in
+    let d : Due = record { time = c.args.self.now.time; rank = first.rank; slot = first.slot } in
     slot_first g.C.Clock.last_step g.C.Clock.reading g.M.Machine.stands c.args.network.now c.args.self.now c.args.place c.args.due c.requires.well
     c.requires.firsts d _ c.if-self.false c.in_default.ensures.none c.in-Some-slot_at.ensures.some refl c.source_of_slot.ensures.place
 

@@ -1,4 +1,4 @@
-use Rattle.drift_world.{proofs.{AtOnce.turns_then, Nearings.no_more}, specs.{Nearing.distance, Turns.IsStep, declared.state.State.State}}
+use Rattle.drift_world.{proofs.{TurnSays.turns_then, Nearings.no_more}, specs.{Nearing.distance, Turns.IsStep, declared.state.State.State}}
 use Rattle.drift_world.proofs.{Turning.{kept_then, roomier, step_kept}, Words.{◌∙◌, OutOfMemory, ap, arith, sym}, state.State.turn.Goals.After-make_places}
 use Rattle.drift_world.proofs.state.State.turn.Given as given
 use Rattle.drift_world.proofs.state.State.turn.Goals as goal
@@ -20,10 +20,10 @@ returns-in-Err g c =
       err = omega (arith, time, early);
     }
 
-pub take_turn-requires : goal.take_turn-requires
-take_turn-requires g c =
+pub roomy_turn-requires : goal.roomy_turn-requires
+roomy_turn-requires g c =
     let may = c.requires.may in
-    let step = made g (goal.at.take_turn-requires g c).After-make_places in
+    let step = made g (goal.at.roomy_turn-requires g c).After-make_places in
     let time = step.time in
     let early = may.early in
     record {
@@ -41,12 +41,12 @@ pub returns : goal.returns
 returns g c =
     let step = made g (goal.at.returns g c).After-make_places in
     let mid = c.make_places.new.self in
-    let new = c.take_turn.new.self in
-    let turn = c.take_turn.ensures in
+    let new = c.roomy_turn.new.self in
+    let turn = c.roomy_turn.ensures in
     record {
       kept = kept_then g.C.Clock.last_step g.C.Clock.reading g.M.Machine.stands c.args.network.now c.args.self.now mid new _ step.after step.still turn.kept;
       turns = turns_then g.C.Clock.last_step g.C.Clock.reading g.M.Machine.stands c.args.network.now OutOfMemory c.args.self.now mid new c.args.until
-          c.take_turn.new.note c.take_turn.result step.given step.after.ended step.still
+          c.roomy_turn.new.note c.roomy_turn.result step.given step.after.ended step.still
           (no_more _ _ (ap (λ (t : State _ _). distance c.args.network.now c.args.until t) c.make_places.ensures.same)) turn.turns;
       err = turn.err;
     }

@@ -1,0 +1,99 @@
+-- Records that stand where their sources do.
+use Rattle.{drift_world.proofs.{FirstSettled.first_of, HiddenCauses.{InOrder, settled_in_order}, Parts.{part_least, part_most}}, run_law.proofs.records.Order.all_of}
+use Rattle.drift_world.proofs.Words.{◌<◌, ◌∙◌, ◌∷◌, ◌≡◌, ◌≤◌, ◌⊎◌, DeviceId, Happening, IsBefore, IsIn, List, Network, NoSourceBefore, Node, Note, NoteBody, Scenario, Settled, []}
+use Rattle.drift_world.proofs.Words.{Stands, ap, arith, cases_lt, chain, false, happenings, inl, inr, is_mapped, keeps, length, map, place_of, rank, refl, settled_at, subst, sym, time_of}
+use Rattle.{drift_world.proofs.Words.{suc, true, world_of, zero, ℕ}, std.proofs.Common.All}
+use Rattle.drift_world.specs.{Acting.AreAbove, Turns.source_rank, declared.{source.Source.Source, state.State.State}}
+use Rattle.run_law.specs.records.Ranks.{key, members_in}
+use Rattle.drift_world.specs.declared.source.Source.TheVariants.{Act, Arrival, Clock, Departure, Events, Later, Ripening}
+use Rattle.world_law.specs.world.World.{hidden_body, is_at_source}
+use Rattle.run_law.specs.declared.note.NoteBody.TheVariants as kinds
+
+-- ---- the ranks of sources
+
+-- no source is of rank 1, or of that of changes of state, or of those of what becomes of frames
+pub record IsSourceRank (r : ℕ) : Type 0 where
+  pub least : 2 ≤ r
+  pub no_change : r ≡ 7 → ⊥
+  pub either : (r ≤ 8) ⊎ (14 ≤ r)
+
+pub ranks : (source : Source) → IsSourceRank (source_rank source)
+ranks Events = record { least = omega arith; no_change = λ e. omega (arith, e); either = inl (omega arith) }
+ranks (Arrival place) = record { least = omega arith; no_change = λ e. omega (arith, e); either = inl (omega arith) }
+ranks (Ripening w) = record { least = omega arith; no_change = λ e. omega (arith, e); either = inl (omega arith) }
+ranks (Act part device) =
+    let least = part_least part in
+    let most = part_most part in
+    record { least = omega (arith, least); no_change = λ e. omega (arith, e, most); either = inl (omega (arith, most)) }
+ranks (Departure place) = record { least = omega arith; no_change = λ e. omega (arith, e); either = inl (omega arith) }
+ranks (Clock device) = record { least = omega arith; no_change = λ e. omega (arith, e); either = inr (omega arith) }
+ranks (Later time) = record { least = omega arith; no_change = λ e. omega (arith, e); either = inr (omega arith) }
+
+none : (r : ℕ) → 8 < r → r < 14 → (r ≤ 8) ⊎ (14 ≤ r) → ⊥
+none r low high (inl le) = omega (arith, low, le)
+none r low high (inr ge) = omega (arith, high, ge)
+
+-- a record of such a rank stands where its source does
+pub at_rank : (body : NoteBody) → IsSourceRank (rank body) → is_at_source body ≡ true
+at_rank (kinds.Event line what) r = let least = r.least in absurd (omega (arith, least))
+at_rank (kinds.State device state cause why) r = absurd (r.no_change refl)
+at_rank (kinds.Lost device link cause) r = absurd (none 9 (omega arith) (omega arith) r.either)
+at_rank (kinds.TtSent device link cause vl cycle) r = absurd (none 10 (omega arith) (omega arith) r.either)
+at_rank (kinds.Accepted device link cause vl cycle) r = absurd (none 11 (omega arith) (omega arith) r.either)
+at_rank (kinds.Delivered device link cause vl cycle) r = absurd (none 12 (omega arith) (omega arith) r.either)
+at_rank (kinds.Dropped device link cause reason) r = absurd (none 13 (omega arith) (omega arith) r.either)
+at_rank other r = refl
+
+pub rank_most : (body : NoteBody) → rank body ≤ 14
+rank_most (kinds.Event line what) = omega arith
+rank_most other = omega arith
+
+-- ---- it may be given
+
+-- its cause is not hidden
+shown_source : (given : ℕ) (body : NoteBody) → is_at_source (hidden_body given body) ≡ true → hidden_body given body ≡ body
+shown_source given (kinds.State device state cause why) is = absurd (let bad : false ≡ true = is in cc)
+shown_source given other is = refl
+
+-- its source is worked off, so no other stands before it that is not
+pub own_gives : {C M : Type 0} (reading : C → ℕ → ℕ) (stands : M → Network → DeviceId → Node → Type 0) (network : Network) (state : State C M)
+    (z : Settled) (others : List Settled) (s : Scenario) (notes : List Note) → is_at_source z.body ≡ true → state.settled.items ≡ z ∷ others
+    → (old : Stands reading (keeps stands) s (world_of network state) notes)
+    → NoSourceBefore s (happenings s.network notes) old.cursor (place_of (settled_at network state.time z))
+own_gives reading stands network state z others s notes source whole old =
+    let shown = settled_at network state.time z in
+    let of = first_of (length notes) old.coming shown (map (settled_at network state.time) others)
+    (ap (map (settled_at network state.time)) (sym whole) ∙ old.settled) in
+    let there : IsIn of.first old.coming = subst (λ (l : List Happening). IsIn of.first l) (sym of.whole) (inl refl) in
+    let at : is_at_source (hidden_body (length notes) of.first.note.body) ≡ true = ap (λ (h : Happening). is_at_source h.note.body) (sym of.shows)
+    ∙ source in
+    let same = shown_source (length notes) of.first.note.body at in
+    let place : place_of shown ≡ place_of of.first = ap place_of of.shows
+    ∙ ap (λ (b : NoteBody). time_of of.first ∷ rank b ∷ key (members_in of.first) b) same in
+    let before = old.are.worked of.first there (ap is_at_source (sym same) ∙ at) in
+    λ w of_w not_yet b. not_yet (chain w (place_of of.first) old.cursor (subst (IsBefore w) place b) before)
+
+-- what holds of all holds of each
+pub each_of : {X : Type 0} (P : X → Type 0) (xs : List X) (x : X) → All P xs → IsIn x xs → P x
+each_of P [] x all i = absurd i
+each_of P (y ∷ ys) x all (inl same) = subst P (sym same) (all zero y (omega arith))
+each_of P (y ∷ ys) x all (inr i) = each_of P ys x (λ k d within. all (suc k) d (omega (arith, within))) i
+
+-- where the first of what is settled is of a higher rank, all is
+each_above : (network : Network) (now low : ℕ) (settled : List Settled) → InOrder (map (settled_at network now) settled)
+    → ((z : Settled) (others : List Settled) → settled ≡ z ∷ others → low < rank z.body) → (y : Settled) → IsIn y settled → low < rank y.body
+each_above network now low [] order first y i = absurd i
+each_above network now low (x ∷ xs) order first y (inl e) = subst (λ (z : Settled). low < rank z.body) (sym e) (first x xs refl)
+each_above network now low (x ∷ xs) order first y (inr i) =
+    let lt = first x xs refl in
+    elim (cases_lt (rank y.body) (rank x.body)) [
+      | inr ge ↦ omega (arith, lt, ge)
+      | inl less ↦ absurd (order.0 (settled_at network now y) (is_mapped (settled_at network now) xs y i) (inr (refl, inl less)))
+    ]
+
+pub all_above : {C M : Type 0} (reading : C → ℕ → ℕ) (stands : M → Network → DeviceId → Node → Type 0) (network : Network) (state : State C M) (low : ℕ)
+    (s : Scenario) (notes : List Note) → Stands reading (keeps stands) s (world_of network state) notes
+    → ((z : Settled) (others : List Settled) → state.settled.items ≡ z ∷ others → low < rank z.body) → AreAbove low state
+all_above reading stands network state low s notes old first =
+    all_of (λ (z : Settled). low < rank z.body) state.settled.items
+    (each_above network state.time low state.settled.items (settled_in_order reading (keeps stands) s (world_of network state) notes old) first)

@@ -1,8 +1,0 @@
-use Rattle.drift_world.proofs.{ActTurns.IsTurn, Words.◌-◌}
-use Rattle.drift_world.proofs.state.State.act_first.Given as goal
-
-abbrev pub invariant-acts : goal.invariant-acts
-invariant-acts g l = IsTurn g.C.Clock.last_step g.C.Clock.reading g.M.Machine.stands l.fn.network l.fn.device l.fn.self l.self l.acts
-
-abbrev pub decreases-acts : goal.decreases-acts
-decreases-acts g l = 260 - l.acts

@@ -1,0 +1,34 @@
+use Rattle.{device_rules.specs.FirstKinds.{kind_of}, run_law.specs.machines.Calls.HasDue, world_law.proofs.giving.Given.some_same}
+use Rattle.drift_world.{proofs.Parts.{none_sooner, part_least}, specs.Parts.{IsNoSooner, part_of}}
+use Rattle.drift_world.proofs.Words.{◌∙◌, ◌≡◌, ◌≤ℤ◌, Kept, Units, amount, ap, arith, keeps, pos, reading_for, slice_get_read, subst, sym, ℤ}
+use Rattle.drift_world.proofs.state.State.part_at.Goals as goal
+
+pub returns-then-time-self : goal.returns-then-time-self
+returns-then-time-self g c = λ clock machine network d node own at kept task pending due. part_least (part_of (kind_of task))
+
+pub returns : goal.returns
+returns g c = λ clock machine network d node own at kept task pending reached.
+    let w = c.args.self.now in
+    let K = g.C.Clock in
+    let there = c.requires.there in
+    let clocks = c.requires.sized.clocks in
+    let machines = c.requires.sized.machines in
+    let held = w.clocks.ok.0 in
+    let kept_ok = w.machines.ok.0 in
+    let clock_is : c.index.result.now ≡ clock = some_same _ _ _
+    (slice_get_read w.clocks.items w.clocks.len c.args.device c.index.result.now w.clocks.ok.0 (omega (arith, clocks, there, held)) c.index.ensures) own in
+    let machine_is : c.index-2.result.now ≡ machine = some_same _ _ _
+    (slice_get_read w.machines.items w.machines.len c.args.device c.index-2.result.now w.machines.ok.0 (omega (arith, machines, there, kept_ok))
+    c.index-2.ensures) at in
+    let reads : c.read-reading.result.0 ≡ pos (K.reading clock c.args.time) = c.read-reading.ensures
+    ∙ ap (λ (t : Units). pos (K.reading c.index.result.now (amount t))) c.from_amount.ensures.value
+    ∙ ap (λ (k : _). pos (K.reading k c.args.time)) clock_is in
+    let due : HasDue network d node c.read-reading.result.0 = (task, pending, subst (λ (z : ℤ). reading_for network node task ≤ℤ z) (sym reads) reached) in
+    subst (λ (z : ℤ). IsNoSooner network d node z c.of.result) reads
+    (none_sooner network d node c.read-reading.result.0 c.of.result
+    (record {
+      kind = c.first_kind.result;
+      is = c.first_kind.ensures network d node (subst (λ (m : Kept _). keeps g.M.Machine.stands m network d node) (sym machine_is) kept) due;
+      of_part = sym c.of.ensures;
+    }))
+    task pending reached
