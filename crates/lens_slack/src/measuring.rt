@@ -149,10 +149,7 @@ fn push_spots(
     ensures { OnOk result (Pushes plan.now.network.now measure findings.old.items findings.new.items) }
 {
     'spots: for number in 0..spots_of(plan.network, measure) {
-        match push_some(
-            findings,
-            tightest_at(plan, spot_at(measure, number)),
-        ) {
+        match push_some(findings, tightest_at(plan, spot_at(measure, number))) {
             Ok(()) => (),
             Err(OutOfMemory) => return Err(OutOfMemory),
         }
@@ -167,10 +164,7 @@ fn tightest_of(plan: &Plan<'_>, measure: Measure) -> Option<Finding>
 {
     let mut best = None;
     'spots: for number in 0..spots_of(plan.network, measure) {
-        best = tighter_of(
-            best,
-            tightest_at(plan, spot_at(measure, number)),
-        );
+        best = tighter_of(best, tightest_at(plan, spot_at(measure, number)));
     }
     best
 }

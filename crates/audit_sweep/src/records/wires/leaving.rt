@@ -38,10 +38,10 @@ pub fn departure_due(
         → ((device : DeviceIdValue) → giver network.now link kept.now.kept ≡ Some device → HasDevice network.now device)
         → IsLeavingBy (scenario_under network.now befallen) hs until cause link result }
 {
-    let _frame = match kept.frame {
-        Some(frame) => frame,
-        None => return None,
-    };
+    // What arrives and is no control frame is not passed on.
+    if kept.frame.is_none() {
+        return None;
+    }
     let device = match giver(network, link, kept.kept) {
         Some(device) => device,
         None => return None,
