@@ -5,7 +5,7 @@ use Rattle.lens_sheet.{proofs.OneAnswer.sheet_one, specs.Answer.IsSheetOf}
 use Rattle.lens_plan.{proofs.OneAnswer.plan_one_for, specs.Answer.IsPlanFor}
 use Rattle.{net_plan.proofs.Shape.rules_give_trees, schedule_tables.proofs.Margins.shape_rules}
 use Rattle.{fault_hypothesis.proofs.storm_lemmas.OneStorm.one_storm, std.proofs.Common.{◌∙◌, ◌≡◌, ◌≤◌, List, None, Some, ap, subst, sym, ℕ}}
-use Rattle.lens.specs.{Forms.{IsFormInRange, form_of}, Top.{AnswerIsOne, AnswersWords, IsAnswerBy}, events.Answer.{IsEventsAnswer, event_lines}}
+use Rattle.lens.specs.{Forms.{IsFormInRange, form_of}, Limit.report_limit, Top.{AnswerIsOne, AnswersWords, IsAnswerBy}, events.Answer.{IsEventsAnswer, event_lines}}
 use Rattle.{lens.specs.Questions.{EndsFor, IsQuestionAnswer}, lens_slack.specs.Answer.IsSlackOf, std.specs.Prelude.{IfSome, Option}}
 use Rattle.{lens_flows.proofs.OneAnswer.flows_answer_one, net_plan.specs.declared.network.Network.Network, schedule_checker.specs.Refusals.RefusalIsOne}
 use Rattle.{lens.proofs.FormLemmas.form_in_range, net_plan.specs.declared.event.Event.Event, schedule_tables.specs.Rules.KeepsRules}
@@ -69,7 +69,7 @@ answer_one one words (Some Plan) range octets messages a b p q =
     network_answer_one one (IsPlanFor messages octets) octets
     (λ network accepted. plan_one_for messages octets network (rules_give_trees network (shape_rules network accepted.rules))) a b p q
 answer_one one words (Some (Report question)) range octets report a b p q =
-    report_one one (IsQuestionAnswer words question) (question_one words question) octets report a b p q
+    report_one one report_limit (IsQuestionAnswer words question) (question_one words question) octets report a b p q
 answer_one one words (Some (DrawNamed part name)) range octets report a b p q = named_one one words part name octets report a b p q
 answer_one one words (Some (Events seed cycles)) range octets report a b p q = events_one one seed cycles range.1 octets a b p q
 

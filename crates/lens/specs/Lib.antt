@@ -1,3 +1,4 @@
+pub mod Limit
 pub mod draw
 pub mod events
 pub mod Forms

@@ -3,7 +3,7 @@ use Rattle.{lens.specs.declared.forms.Form.TheVariants.Sheet, lens_sheet.specs.A
 use Rattle.{lens.specs.declared.forms.Form.TheVariants.Schedule, lens_schedule.specs.Answer.IsScheduleAnswer}
 use Rattle.{lens_latency.specs.Answer.IsLatencyAnswer, lens_plan.specs.Answer.IsPlanAnswer}
 use Rattle.std.specs.Prelude.{◌++◌, ◌≡◌, ◌≢◌, ◌⊎◌, List, None, Option, Some, [], codes, ℕ}
-use Rattle.{lens.specs.{Forms.form_of, Questions.IsQuestionAnswer}, lens_slack.specs.least.Answer.IsLeastAnswer}
+use Rattle.{lens.specs.{Forms.form_of, Limit.report_limit, Questions.IsQuestionAnswer}, lens_slack.specs.least.Answer.IsLeastAnswer}
 use Rattle.{lens.specs.events.Answer.IsEventsAnswer, tte_reports.specs.Reports.IsReportAnswer}
 use Rattle.lens.specs.declared.forms.Form.{Form, TheVariants.{DrawNamed, Events, Latency, Least, Plan, Report, Slack}}
 use Rattle.lens.specs.{declared.forms.Form.TheVariants.SlackOf, draw.Naming.{CompletesNamed, IsNamedAnswer, LeavesUnnamed}}
@@ -36,7 +36,7 @@ IsFormAnswer words Latency octets report a = IsLatencyAnswer octets a
 IsFormAnswer words Schedule octets report a = IsScheduleAnswer words octets a
 IsFormAnswer words Plan octets messages a = IsPlanAnswer messages octets a
 IsFormAnswer words (Report question) octets report a =
-    IsNetworkAnswer (IsReportAnswer (IsQuestionAnswer words question) report) octets a
+    IsNetworkAnswer (IsReportAnswer report_limit (IsQuestionAnswer words question) report) octets a
 IsFormAnswer words (DrawNamed part name) octets report a =
     IsNetworkAnswer (IsNamedAnswer words part name report) octets a
 IsFormAnswer words (Events seed cycles) octets report a = IsNetworkAnswer (IsEventsAnswer seed cycles) octets a
@@ -80,7 +80,7 @@ AnswersSafely other first second status = Unit {0}
 abbrev pub AnswersReports : List (List ℕ) → Option Form → Option (List ℕ) → Option (List ℕ) → Type 0 → Type 0 → Status
     → Type 0
 AnswersReports words (Some (Report question)) first second SourceRose SinkRose status =
-    CompletesReport (IsQuestionAnswer words question) first second SourceRose SinkRose status
+    CompletesReport report_limit (IsQuestionAnswer words question) first second SourceRose SinkRose status
 AnswersReports words (Some (DrawNamed part name)) first second SourceRose SinkRose status =
     CompletesNamed words part name first second SourceRose SinkRose status
 AnswersReports words other first second SourceRose SinkRose status = Unit {0}

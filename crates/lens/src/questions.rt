@@ -17,6 +17,9 @@ use tte_forms::{Status, Words};
 use tte_io::Sink;
 use tte_reports::{AuditedReport, ReportCommand};
 
+/// How many octets a report has at most of which anything is asked.
+pub(crate) const REPORT_LIMIT: u32 = 268_435_456;
+
 /// What these words ask of a report.
 #[derive(Drop)]
 pub(crate) struct Asked<'a> {

@@ -1,5 +1,5 @@
 ghost use Rattle.std.specs.Prelude.{◌≡◌, ◌⊎◌};
-ghost use Rattle.lens.specs.{Forms.form_of, Top.{AnswerIsOne, AnswersReports, AnswersSafely, AnswersWords}};
+ghost use Rattle.lens.specs.{Forms.form_of, Limit.report_limit, Top.{AnswerIsOne, AnswersReports, AnswersSafely, AnswersWords}};
 ghost use Rattle.lens.specs.Top.{FailsToRead, ReadsMessages, TakesFirst, TakesSecond, usage_answer};
 ghost use Rattle.tte_reports.specs.Reading.{ReadsReport};
 ghost use Rattle.tte_forms.specs.{Answering.Gives, Faults.{HasCause, IsWanted, PutFailed, ReadFailed}, Putting.Over};
@@ -7,7 +7,7 @@ ghost use Rattle.tte_forms.specs.{Answering.Gives, Faults.{HasCause, IsWanted, P
 use crate::draw::draw_named;
 use crate::events::storm_events;
 use crate::forms::{Form, read_form};
-use crate::questions::Asked;
+use crate::questions::{Asked, REPORT_LIMIT};
 use lens_latency::latency_of_network;
 use lens_plan::plan_of_network;
 use lens_schedule::schedule_of_network;
@@ -46,7 +46,7 @@ pub fn lens<A: Source, B: Source, K: Sink>(
         (PutFailed K.Sink out.old out.new) }
     ensures takes { TakesFirst (form_of words.now) (A.left first.old) (A.left first.new)
         × TakesSecond (form_of words.now) (A.left first.old) (second.new ≡ second.old)
-        (ReadsReport (A.left first.old) (B.left second.old) (B.left second.new) result)
+        (ReadsReport report_limit (A.left first.old) (B.left second.old) (B.left second.new) result)
         (ReadsMessages (A.left first.old) (B.left second.old) (B.left second.new)) }
     ensures complete { AnswersReports words.now (form_of words.now) (A.left first.old) (B.left second.old)
         (ReadFailed A.Source first.old first.new ⊎ ReadFailed B.Source second.old second.new)
@@ -62,7 +62,7 @@ pub fn lens<A: Source, B: Source, K: Sink>(
         Some(Form::Plan) => plan_of_network(alloc, first, second, out),
         Some(Form::Report(question)) => {
             let asked = Asked { words, question };
-            answer_report(alloc, first, second, &asked, out)
+            answer_report(alloc, first, second, REPORT_LIMIT, &asked, out)
         }
         Some(Form::DrawNamed { part, name }) => {
             draw_named(alloc, first, second, words, part, name.text(), out)

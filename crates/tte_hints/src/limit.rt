@@ -1,11 +1,14 @@
-use crate::Argument;
 use crate::hinting::{Called, FILE_LIMIT};
+use crate::{Argument, Program};
 use std::alloc::Global;
 use thiserror::Error;
 use tte_io::{ReadAll, Source, read_all};
 
-/// How many octets a report and a capture have at most.
-const REPORT_LIMIT: u64 = 16_777_216;
+/// How many octets a capture has at most, and a report for `tte`.
+const CAPTURE_LIMIT: u64 = 16_777_216;
+
+/// How many octets a report has at most for `lens`.
+const LENS_LIMIT: u64 = 268_435_456;
 
 /// Which limit a call passed.
 #[derive(Debug, Drop, Error)]
@@ -18,14 +21,23 @@ enum Limit<'x> {
     Picture,
     #[error("{path} with the text of its plan would have more than {most} octets")]
     Plan { path: &'x str, most: u64 },
-    #[error("more than is read: 262144 octets, 16777216 of a report or a capture, or 2^32 lines of a trace")]
-    OneOf,
+    #[error("more than is read: 262144 octets, {report} of a report, 16777216 of a capture, or 2^32 lines of a trace")]
+    OneOf { report: u64 },
 }
 
-/// How many octets the file that an argument names has at most.
-fn most_octets(argument: Option<Argument>) -> u64 {
+/// How many octets a report has at most for the program.
+fn report_limit(program: Program) -> u64 {
+    match program {
+        Program::Tte => CAPTURE_LIMIT,
+        Program::Lens => LENS_LIMIT,
+    }
+}
+
+/// How many octets the file that an argument of the program names has at most.
+fn most_octets(program: Program, argument: Option<Argument>) -> u64 {
     match argument {
-        Some(Argument::Report | Argument::Capture) => REPORT_LIMIT,
+        Some(Argument::Report) => report_limit(program),
+        Some(Argument::Capture) => CAPTURE_LIMIT,
         Some(_) | None => FILE_LIMIT,
     }
 }
@@ -46,7 +58,7 @@ fn second_limit<'x, B: Source>(alloc: Global, called: Called<'x>, second: &mut B
     if argument == Some(Argument::Trace) {
         return Limit::Lines { path };
     }
-    let most = most_octets(argument);
+    let most = most_octets(called.program, argument);
     match exceeds(alloc, most, second) {
         Some(true) => Limit::Octets { path, most },
         Some(false) if argument == Some(Argument::Messages) => Limit::Plan {
@@ -54,7 +66,9 @@ fn second_limit<'x, B: Source>(alloc: Global, called: Called<'x>, second: &mut B
             most: FILE_LIMIT,
         },
         Some(false) => Limit::Picture,
-        None => Limit::OneOf,
+        None => Limit::OneOf {
+            report: report_limit(called.program),
+        },
     }
 }
 
@@ -65,14 +79,16 @@ pub(crate) fn passed_limit<A: Source, B: Source>(
     first: &mut A,
     second: &mut B,
 ) -> Option<String> {
-    let most = most_octets(called.argument(0));
+    let most = most_octets(called.program, called.argument(0));
     let limit = match exceeds(alloc, most, first) {
         Some(true) => Limit::Octets {
             path: called.first_path(),
             most,
         },
         Some(false) => second_limit(alloc, called, second),
-        None => Limit::OneOf,
+        None => Limit::OneOf {
+            report: report_limit(called.program),
+        },
     };
     format!(in alloc; "{limit}").ok()
 }

@@ -1,12 +1,12 @@
 -- The answer for a network under the octets of a report: that it is one, and how it is given.
-use Rattle.{net_plan.specs.Ranges.IsInRange, std.proofs.Common.{◌<◌, ◌∙◌, ◌≡◌, ◌⊎◌, Err, List, Ok, Result, inl, inr, length, refl, subst, sym, ℕ}}
+use Rattle.{net_plan.specs.Ranges.IsInRange, std.proofs.Common.{◌<◌, ◌∙◌, ◌≡◌, ◌≤◌, ◌⊎◌, Err, List, Ok, Result, inl, inr, length, refl, subst, sym, ℕ}}
 use Rattle.{net_plan.specs.declared.network.Network.Network, schedule_tables.specs.declared.rule.Rule.TheVariants.{DevicesDiffer, LinksDiffer, VlNamesDiffer}}
 use Rattle.tte_forms.specs.{Answering.{Answer, Gives, GivesAnswer}, declared.status.Status.Status}
 use Rattle.{schedule_tables.specs.Rules.KeepsRules, tte_forms.{proofs.OneAnswers.unput_answer, specs.Putting.{PutsNone, Shown}}}
 use Rattle.tte_audit.specs.Named.{IsNamed}
 use Rattle.{tte_audit.specs.declared.refusal.AuditRefusal.AuditRefusal, tte_forms.specs.declared.status.Status.TheVariants.{AuditRefused, Done, WriteFault}}
 use Rattle.tte_forms.specs.{declared.accepting.NoNetwork.NoNetwork, networks.{Accepting.too_long_answer, NoNetworks.no_network_answer}}
-use Rattle.tte_reports.specs.Answer.{FailsAudit, IsAuditStatus, report_limit, report_refused_answer}
+use Rattle.tte_reports.specs.Answer.{FailsAudit, IsAuditStatus, report_refused_answer}
 use Rattle.tte_reports.specs.{NoReports.{IfJudged, IsNoReport, no_report_answer}, declared.{no_report.NoReport.NoReport, reading.AuditedReport.AuditedReport}}
 use Rattle.tte_reports.specs.declared.no_report.NoReport.TheVariants as causes
 use Rattle.tte_forms.specs.declared.accepting.NoNetwork.TheVariants as networks
@@ -19,16 +19,17 @@ kept_apart network rules range =
 -- ---- how it is given
 
 -- that there is no report is told so by each command that takes one
-pub no_report_given : (Is : Answer → Type 0) (network : Network) (octets : List ℕ) (cause : NoReport) (status : Status) (old new : Shown)
-    → (report_limit < length octets → Is too_long_answer) → ((refusal : AuditRefusal) → FailsAudit network octets refusal → Is (report_refused_answer refusal))
-    → IsNoReport network octets cause → Gives (no_report_answer cause) status old new
+pub no_report_given : (limit : ℕ) (Is : Answer → Type 0) (network : Network) (octets : List ℕ) (cause : NoReport) (status : Status) (old new : Shown)
+    → (limit < length octets → Is too_long_answer)
+    → ((refusal : AuditRefusal) → length octets ≤ limit → FailsAudit network octets refusal → Is (report_refused_answer refusal))
+    → IsNoReport limit network octets cause → Gives (no_report_answer cause) status old new
     → ((cause ≡ causes.ReadFault) ⊎ (cause ≡ causes.OutOfMemory) → (status ≡ WriteFault → ⊥) × PutsNone old new) → GivesAnswer Is status old new
-no_report_given Is network octets causes.ReadFault status old new long refused h g unput =
+no_report_given limit Is network octets causes.ReadFault status old new long refused h g unput =
     unput_answer Is (no_report_answer causes.ReadFault) status old new (inl refl) (unput (inl refl)) g
-no_report_given Is network octets causes.TooLong status old new long refused h g unput = inl (too_long_answer, long h, g)
-no_report_given Is network octets causes.OutOfMemory status old new long refused h g unput =
+no_report_given limit Is network octets causes.TooLong status old new long refused h g unput = inl (too_long_answer, long h, g)
+no_report_given limit Is network octets causes.OutOfMemory status old new long refused h g unput =
     unput_answer Is (no_report_answer causes.OutOfMemory) status old new (inr refl) (unput (inr refl)) g
-no_report_given Is network octets (causes.Refused refusal) status old new long refused h g unput = inl (report_refused_answer refusal, refused refusal h, g)
+no_report_given limit Is network octets (causes.Refused refusal) status old new long refused h g unput = inl (report_refused_answer refusal, refused refusal h.0 h.1, g)
 
 -- no other status than that of a judgement tells one
 not_judged : (a : Answer) (status : Status) (old new : Shown) → Gives a status old new → (a.status ≡ Done → ⊥) → (a.status ≡ AuditRefused → ⊥)

@@ -41,15 +41,15 @@ told a b done same = done ∙ ap (λ (x : Answer). x.status) same
 
 -- ---- whatever is answered for the records
 
-module _ (IsAnswerFor : AnswersFor) where
+module _ (limit : ℕ) (IsAnswerFor : AnswersFor) where
   -- what is answered by done for an accepted network is the report of such a run
-  done_safely : (octets report : List ℕ) (network : Network) (a : Answer) → MeansAccepted octets network → IsReportAnswer IsAnswerFor report network a
+  done_safely : (octets report : List ℕ) (network : Network) (a : Answer) → MeansAccepted octets network → IsReportAnswer limit IsAnswerFor report network a
       → Done ≡ a.status → ReportsSafeRun octets report
   done_safely octets report network a accepted (inl h) done = let e = told a _ done h.1 in absurd cc
-  done_safely octets report network a accepted (inr (inl h)) done = absurd (not_done h.0 (told a _ done h.2))
-  done_safely octets report network a accepted (inr (inr h)) done = safe_run octets report network h.0 h.1 accepted h.2
+  done_safely octets report network a accepted (inr (fits, inl h)) done = absurd (not_done h.0 (told a _ done h.2))
+  done_safely octets report network a accepted (inr (fits, inr h)) done = safe_run octets report network h.0 h.1 accepted h.2
 
-  answered_safely : (octets report : List ℕ) (a : Answer) → IsNetworkAnswer (IsReportAnswer IsAnswerFor report) octets a → Done ≡ a.status
+  answered_safely : (octets report : List ℕ) (a : Answer) → IsNetworkAnswer (IsReportAnswer limit IsAnswerFor report) octets a → Done ≡ a.status
       → ReportsSafeRun octets report
   answered_safely octets report a (inl h) done = let e = told a _ done h.1 in absurd cc
   answered_safely octets report a (inr (inl h)) done = let e = told a _ done h.2 in absurd cc
@@ -57,7 +57,7 @@ module _ (IsAnswerFor : AnswersFor) where
   answered_safely octets report a (inr (inr (inr h))) done = done_safely octets report h.0 a h.1 h.2 done
 
   given_safely : (octets report : List ℕ) (status : Status) (old new : Shown) → status ≡ Done
-      → GivesAnswer (IsNetworkAnswer (IsReportAnswer IsAnswerFor report) octets) status old new → ReportsSafeRun octets report
+      → GivesAnswer (IsNetworkAnswer (IsReportAnswer limit IsAnswerFor report) octets) status old new → ReportsSafeRun octets report
   given_safely octets report status old new done (inl (a, is, inl g)) = answered_safely octets report a is (sym done ∙ g.0)
   given_safely octets report status old new done (inl (a, is, inr (inl g))) = let e = g.0 in absurd cc
   given_safely octets report status old new done (inl (a, is, inr (inr (inl r, p)))) = absurd cc
@@ -65,12 +65,12 @@ module _ (IsAnswerFor : AnswersFor) where
   given_safely octets report status old new done (inr (inl r, p)) = absurd cc
   given_safely octets report status old new done (inr (inr m, p)) = absurd cc
 
-  pub files_safely : (first second : Option (List ℕ)) (status : Status) (old new : Shown) → GivesFiles (IsReportAnswer IsAnswerFor) first second status old new
+  pub files_safely : (first second : Option (List ℕ)) (status : Status) (old new : Shown) → GivesFiles (IsReportAnswer limit IsAnswerFor) first second status old new
       → AuditsSafely first second status
   files_safely first second status old new g done =
-      for_more first (λ octets. ForOctets second (λ report. GivesAnswer (IsNetworkAnswer (IsReportAnswer IsAnswerFor report) octets) status old new))
+      for_more first (λ octets. ForOctets second (λ report. GivesAnswer (IsNetworkAnswer (IsReportAnswer limit IsAnswerFor report) octets) status old new))
       (λ octets. ForOctets second (λ report. ReportsSafeRun octets report))
-      (λ octets h. for_more second (λ report. GivesAnswer (IsNetworkAnswer (IsReportAnswer IsAnswerFor report) octets) status old new)
+      (λ octets h. for_more second (λ report. GivesAnswer (IsNetworkAnswer (IsReportAnswer limit IsAnswerFor report) octets) status old new)
       (λ report. ReportsSafeRun octets report) (λ report. given_safely octets report status old new done) h) g
 
 -- the run that a report tells goes well up to its end

@@ -1,5 +1,5 @@
 -- What `audit` answers for the octets of a network file and of a report.
-use Rattle.std.specs.Prelude.{◌≤◌, List, [], codes, length, ℕ}
+use Rattle.std.specs.Prelude.{List, [], codes, ℕ}
 use Rattle.{net_plan.specs.Ranges.IsInRange, tte_audit.specs.Laws.IsOfReport}
 use Rattle.{net_plan.specs.declared.network.Network.Network, tte_audit.specs.declared.refusal.AuditRefusal.AuditRefusal}
 use Rattle.tte_audit.specs.Answers.{IsRefusedBy}
@@ -8,14 +8,13 @@ use Rattle.tte_forms.specs.declared.status.Status.{Status, TheVariants.{AuditRef
 use Rattle.tte_reports.specs.AuditLine.{audited_line, lack_line, record_refusal_line}
 use Rattle.tte_audit.specs.declared.refusal.AuditRefusal.TheVariants as refusals
 
--- how many octets a report has at most
-abbrev pub report_limit : ℕ
-report_limit = 16777216
+-- how many octets a report has at most for `audit`
+abbrev pub audit_limit : ℕ
+audit_limit = 16777216
 
--- the octets, which are not too many, are refused by this as a report of the network, whose numbers lie in their ranges
+-- the octets are refused by this as a report of the network, whose numbers lie in their ranges
 pub record FailsAudit (network : Network) (octets : List ℕ) (refusal : AuditRefusal) : Type 0 where
   pub range : IsInRange network
-  pub fits : length octets ≤ report_limit
   pub of_report : IsOfReport refusal
   pub refused : IsRefusedBy network octets refusal
 

@@ -1,5 +1,5 @@
 -- A command over a report: what it is given, and what each one does with its two files.
-use Rattle.std.specs.Prelude.{◌≡◌, ◌⊎◌, List, None, Option, Some, length, ℕ}
+use Rattle.std.specs.Prelude.{◌≡◌, ◌≤◌, ◌⊎◌, List, None, Option, Some, length, ℕ}
 use Rattle.{audit_sweep.specs.Indexing.IsIndex, tte_reports.specs.Reports.{AnswersFor, IsReportOf, IsSomeReport}}
 use Rattle.{run_law.specs.records.Happenings.happenings, tte_reports.specs.declared.reading.AuditedReport.AuditedReport}
 use Rattle.{tte_audit.specs.Report.events_of, tte_reports.specs.Places.ArePlaces}
@@ -17,15 +17,15 @@ pub record IsRead (network : Network) (report : AuditedReport) : Type 0 where
   pub index : (notes : List Note) (end : Units) → IsReportOf network report.octets notes end
       → IsIndex network (events_of notes) (happenings network notes) report.index
 
--- a report of an accepted network was answered to its end, unless memory ran out
-abbrev pub AnswersWhole : AnswersFor → List ℕ → List ℕ → Status → Type 0
-AnswersWhole IsAnswerFor octets report status =
-    (network : Network) (notes : List Note) (end : Units) → MeansAccepted octets network
+-- a report of an accepted network, with at most so many octets, was answered to its end, unless memory ran out
+abbrev pub AnswersWhole : ℕ → AnswersFor → List ℕ → List ℕ → Status → Type 0
+AnswersWhole limit IsAnswerFor octets report status =
+    (network : Network) (notes : List Note) (end : Units) → MeansAccepted octets network → length report ≤ limit
     → IsReportOf network report notes end
     → (status ≡ OutOfMemory) ⊎ ((a : Answer) × IsAnswerFor network notes end a × (status ≡ a.status))
 
 -- so it was, where the octets are told and no count of faults rose
-abbrev pub CompletesReport : AnswersFor → Option (List ℕ) → Option (List ℕ) → Type 0 → Type 0 → Status → Type 0
-CompletesReport IsAnswerFor (Some octets) (Some report) SourceRose SinkRose status =
-    (SourceRose → ⊥) → (SinkRose → ⊥) → AnswersWhole IsAnswerFor octets report status
-CompletesReport IsAnswerFor first second SourceRose SinkRose status = Unit {0}
+abbrev pub CompletesReport : ℕ → AnswersFor → Option (List ℕ) → Option (List ℕ) → Type 0 → Type 0 → Status → Type 0
+CompletesReport limit IsAnswerFor (Some octets) (Some report) SourceRose SinkRose status =
+    (SourceRose → ⊥) → (SinkRose → ⊥) → AnswersWhole limit IsAnswerFor octets report status
+CompletesReport limit IsAnswerFor first second SourceRose SinkRose status = Unit {0}

@@ -1,17 +1,18 @@
 -- What is answered where there is no report.
-use Rattle.std.specs.Prelude.{◌<◌, Err, List, Ok, Result, [], length, ℕ}
+use Rattle.std.specs.Prelude.{◌<◌, ◌≤◌, Err, List, Ok, Result, [], length, ℕ}
 use Rattle.{net_plan.specs.declared.network.Network.Network, tte_forms.specs.networks.Accepting.too_long_answer}
 use Rattle.tte_forms.specs.{Answering.Answer, declared.status.Status.TheVariants.{OutOfMemory, ReadFault}}
 use Rattle.tte_reports.specs.declared.{no_report.NoReport.NoReport, reading.AuditedReport.AuditedReport}
-use Rattle.tte_reports.specs.Answer.{FailsAudit, report_limit, report_refused_answer}
+use Rattle.tte_reports.specs.Answer.{FailsAudit, report_refused_answer}
 use Rattle.tte_reports.specs.declared.no_report.NoReport.TheVariants as causes
 
--- the octets give no report of the network, for this cause; a read may fail and memory may run out at any
-abbrev pub IsNoReport : Network → List ℕ → NoReport → Type 0
-IsNoReport network octets causes.ReadFault = Unit {0}
-IsNoReport network octets causes.TooLong = report_limit < length octets
-IsNoReport network octets causes.OutOfMemory = Unit {0}
-IsNoReport network octets (causes.Refused refusal) = FailsAudit network octets refusal
+-- the octets give no report of the network with at most so many, for this cause; a read may fail and memory may run
+-- out at any
+abbrev pub IsNoReport : ℕ → Network → List ℕ → NoReport → Type 0
+IsNoReport limit network octets causes.ReadFault = Unit {0}
+IsNoReport limit network octets causes.TooLong = limit < length octets
+IsNoReport limit network octets causes.OutOfMemory = Unit {0}
+IsNoReport limit network octets (causes.Refused refusal) = (length octets ≤ limit) × FailsAudit network octets refusal
 
 -- what is answered
 abbrev pub no_report_answer : NoReport → Answer

@@ -7,13 +7,12 @@ use Rattle.{run_law.specs.declared.note.Note.Note, tte_units.specs.declared.unit
 use Rattle.tte_audit.specs.{Report.{IsOfEvents, behind_time, events_of}, declared.refusal.AuditRefusal.AuditRefusal}
 use Rattle.{tte_forms.specs.networks.Accepting.too_long_answer, tte_reports.specs.declared.records.Records.Records}
 use Rattle.schedule_tables.specs.Rules.{KeepsRules}
-use Rattle.tte_reports.specs.Answer.{FailsAudit, audited_answer, report_limit, report_refused_answer}
+use Rattle.tte_reports.specs.Answer.{FailsAudit, audit_limit, audited_answer, report_refused_answer}
 
--- the octets, which are not too many, are the report of these records of the network, whose numbers lie in their
--- ranges: that of the run under the events that they tell, up to this end
+-- the octets are the report of these records of the network, whose numbers lie in their ranges: that of the run under
+-- the events that they tell, up to this end
 pub record IsReportOf (network : Network) (octets : List ℕ) (notes : List Note) (end : Units) : Type 0 where
   pub range : IsInRange network
-  pub fits : length octets ≤ report_limit
   pub events : IsOfEvents network octets notes end
   pub run : IsRunOf network (clock_reading network (events_of notes)) (events_of notes) (behind_time end) notes
 
@@ -21,12 +20,17 @@ pub record IsReportOf (network : Network) (octets : List ℕ) (notes : List Note
 abbrev pub AnswersFor : Type 1
 AnswersFor = Network → List Note → Units → Answer → Type 0
 
--- the answer for an accepted network and the octets of a report, where that for the records of the report is given
-abbrev pub IsReportAnswer : AnswersFor → List ℕ → Network → Answer → Type 0
-IsReportAnswer IsAnswerFor octets network a =
-    ((report_limit < length octets) × (a ≡ too_long_answer))
-    ⊎ ((refusal : AuditRefusal) × FailsAudit network octets refusal × (a ≡ report_refused_answer refusal))
+-- the answer for an accepted network and the octets of a report that is judged, where that for its records is given
+abbrev pub IsJudgedAnswer : AnswersFor → List ℕ → Network → Answer → Type 0
+IsJudgedAnswer IsAnswerFor octets network a =
+    ((refusal : AuditRefusal) × FailsAudit network octets refusal × (a ≡ report_refused_answer refusal))
     ⊎ ((notes : List Note) × (end : Units) × IsReportOf network octets notes end × IsAnswerFor network notes end a)
+
+-- the answer where a report is judged that has at most so many octets
+abbrev pub IsReportAnswer : ℕ → AnswersFor → List ℕ → Network → Answer → Type 0
+IsReportAnswer limit IsAnswerFor octets network a =
+    ((limit < length octets) × (a ≡ too_long_answer))
+    ⊎ ((length octets ≤ limit) × IsJudgedAnswer IsAnswerFor octets network a)
 
 -- the answer of an audit for the records of a report: how many they are
 abbrev pub IsAuditedAnswer : AnswersFor
@@ -34,7 +38,7 @@ IsAuditedAnswer network notes end a = a ≡ audited_answer (length notes)
 
 -- the answer of an audit for an accepted network and the octets of a report
 abbrev pub IsAuditAnswer : List ℕ → Network → Answer → Type 0
-IsAuditAnswer octets network a = IsReportAnswer IsAuditedAnswer octets network a
+IsAuditAnswer octets network a = IsReportAnswer audit_limit IsAuditedAnswer octets network a
 
 -- for each network and its report there is one answer at most
 abbrev pub IsOneFor : AnswersFor → Type 0

@@ -2,7 +2,7 @@ ghost use Rattle.std.specs.Prelude.{◌≡◌, ◌⊎◌};
 ghost use Rattle.tte_forms.specs.{Answering.{ForOctets, Gives, GivesAnswer}, networks.Accepting.IsNetworkAnswer};
 ghost use Rattle.tte_forms.specs.{Faults.{HasCause, IsWanted, PutFailed, ReadFailed}, Putting.Over};
 ghost use Rattle.{tte_forms.specs.{Taking.TakesUpTo, frames.Answer.file_limit}, tte_reports.specs.Answer.IsAuditStatus};
-ghost use Rattle.tte_reports.specs.Answer.{audited_answer};
+ghost use Rattle.tte_reports.specs.Answer.{audit_limit, audited_answer};
 ghost use Rattle.tte_reports.specs.{Reading.ReadsReport, Reports.{IsAuditAnswer, IsAuditedAnswer}, Safely.AuditsSafely};
 
 use crate::audit_line::make_audited_line;
@@ -11,6 +11,9 @@ use net_plan::Network;
 use std::alloc::Global;
 use tte_forms::{Status, put_last};
 use tte_io::{LineText, Sink, Source};
+
+/// How many octets a report has at most for it.
+const AUDIT_LIMIT: u32 = 16_777_216;
 
 /// The command that says no more of a report than how many records it has.
 pub struct Audit;
@@ -53,9 +56,9 @@ pub fn audit_report<A: Source, B: Source, K: Sink>(
         (PutFailed K.Sink out.old out.new) }
     ensures takes { TakesUpTo file_limit (A.left first.old) (A.left first.new)
         × ((second.new ≡ second.old)
-        ⊎ ReadsReport (A.left first.old) (B.left second.old) (B.left second.new) result) }
+        ⊎ ReadsReport audit_limit (A.left first.old) (B.left second.old) (B.left second.new) result) }
 {
-    answer_report(alloc, first, second, &Audit, out)
+    answer_report(alloc, first, second, AUDIT_LIMIT, &Audit, out)
 }
 
 fn put_audited<K: Sink>(count: u64, out: &mut K) -> Status

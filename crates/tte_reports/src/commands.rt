@@ -45,17 +45,19 @@ pub trait ReportCommand<K: Sink> {
 
 /// Answers the command for the finished report of the second file over the network of the first.
 ///
-/// The second file is read only where the network is accepted, and whole, and is audited before anything is put.
+/// The second file is read only where the network is accepted, and whole, and is audited before anything is put. It has
+/// at most `limit` octets.
 pub fn answer_report<A: Source, B: Source, K: Sink, C: ReportCommand<K>>(
     alloc: Global,
     first: &mut A,
     second: &mut B,
+    limit: u32,
     command: &C,
     out: &mut K,
 ) -> Status
     ensures general { Over K.Sink out.old out.new (λ old new.
         ForOctets (A.left first.old) (λ octets. ForOctets (B.left second.old) (λ report.
-        GivesAnswer (IsNetworkAnswer (IsReportAnswer (C.answers command.now) report) octets) result old new))) }
+        GivesAnswer (IsNetworkAnswer (IsReportAnswer limit (C.answers command.now) report) octets) result old new))) }
     ensures safe { AuditsSafely (A.left first.old) (B.left second.old) result }
     ensures statuses { C.ends command.now result }
     // Where a source failed, nothing was written.
@@ -65,13 +67,13 @@ pub fn answer_report<A: Source, B: Source, K: Sink, C: ReportCommand<K>>(
         (PutFailed K.Sink out.old out.new) }
     ensures takes { TakesUpTo file_limit (A.left first.old) (A.left first.new)
         × ((second.new ≡ second.old)
-        ⊎ ReadsReport (A.left first.old) (B.left second.old) (B.left second.new) result) }
-    ensures complete { CompletesReport (C.answers command.now) (A.left first.old) (B.left second.old)
+        ⊎ ReadsReport limit (A.left first.old) (B.left second.old) (B.left second.new) result) }
+    ensures complete { CompletesReport limit (C.answers command.now) (A.left first.old) (B.left second.old)
         (ReadFailed A.Source first.old first.new ⊎ ReadFailed B.Source second.old second.new)
         (PutFailed K.Sink out.old out.new) result }
 {
     match accept(alloc, first) {
-        Ok(accepted) => answer_accepted(alloc, &accepted, second, command, out),
+        Ok(accepted) => answer_accepted(alloc, &accepted, second, limit, command, out),
         Err(cause) => put_no_network(cause, out),
     }
 }
@@ -81,17 +83,18 @@ pub fn answer_accepted<B: Source, K: Sink, C: ReportCommand<K>>(
     alloc: Global,
     accepted: &Accepted,
     second: &mut B,
+    limit: u32,
     command: &C,
     out: &mut K,
 ) -> Status
     ensures gives { Over K.Sink out.old out.new (λ old new. ForOctets (B.left second.old) (λ report.
-        GivesAnswer (IsReportAnswer (C.answers command.now) report accepted.now) result old new)) }
+        GivesAnswer (IsReportAnswer limit (C.answers command.now) report accepted.now) result old new)) }
     ensures statuses { C.ends command.now result }
     ensures cause { HasCause result (ReadFailed B.Source second.old second.new × (out.new ≡ out.old))
         (PutFailed K.Sink out.old out.new) }
-    ensures taken { TakesReport (B.left second.old) (B.left second.new) result }
+    ensures taken { TakesReport limit (B.left second.old) (B.left second.new) result }
 {
-    match read_report(alloc, accepted, second) {
+    match read_report(alloc, accepted, second, limit) {
         Ok(report) => answer_read(alloc, accepted, &report, command, out),
         Err(cause) => put_no_report(cause, out),
     }

@@ -1,9 +1,10 @@
-ghost use Rattle.std.specs.{Io.KnownBytes.IsAtEnd, Prelude.{◌≡◌, ◌≢◌, ◌≤◌, Err, IfOk, List, MatchResult, length}};
+ghost use Rattle.std.specs.{Io.KnownBytes.IsAtEnd, Prelude.{◌<◌, ◌^◌, ◌≡◌, ◌≢◌, ◌≤◌, Err, IfOk, List, MatchResult, length, ℕ}};
 ghost use Rattle.{net_plan.specs.declared.network.Network.{Network as NetworkValue}, tte_forms.specs.Faults.ReadFailed};
 ghost use Rattle.{run_law.specs.declared.note.Note.{Note as NoteValue}, tte_forms.specs.Answering.ForOctets};
 ghost use Rattle.{tte_forms.specs.Taking.TakesUpTo, tte_reports.specs.Commands.IsRead};
-ghost use Rattle.{tte_reports.specs.Answer.report_limit, tte_units.specs.declared.units.Units.{Units as UnitsValue}};
-ghost use Rattle.tte_reports.specs.{NoReports.{IfJudged, IsNoReport}, Places.note_at, Reports.{AreLeft, IsReportOf}};
+ghost use Rattle.tte_units.specs.declared.units.Units.{Units as UnitsValue};
+ghost use Rattle.tte_reports.specs.{NoReports.{IfJudged, IsNoReport}, Places.note_at};
+ghost use Rattle.tte_reports.specs.Reports.{AreLeft, IsReportOf, IsSomeReport};
 ghost use Rattle.tte_audit.specs.Named.{IsNamed};
 
 use crate::places::places_of;
@@ -15,9 +16,6 @@ use schedule_tables::Accepted;
 use std::alloc::Global;
 use tte_audit::{AuditRefusal, audit};
 use tte_io::{Bytes, ReadAll, Source, read_all};
-
-/// How many octets a report has at most.
-const REPORT_LIMIT: u64 = 16_777_216;
 
 /// The octets of a report that was audited: those of a run.
 #[derive(Drop)]
@@ -77,23 +75,23 @@ impl AuditedReport {
     }
 }
 
-/// Reads the second file whole and audits it. It takes at most 16,777,216 octets.
+/// Reads the second file whole, which is at most `limit` octets, and audits it.
 pub fn read_report<B: Source>(
     alloc: Global,
     accepted: &Accepted,
     second: &mut B,
+    limit: u32,
 ) -> Result<AuditedReport, NoReport>
     ensures judged { ForOctets (B.left second.old) (λ octets. MatchResult result
-        (λ report. (notes : List NoteValue) × (end : UnitsValue) × IsReportOf accepted.now octets notes end
-        × (report.octets ≡ octets))
-        (λ cause. IsNoReport accepted.now octets cause)) }
+        (λ report. (length octets ≤ limit) × (report.octets ≡ octets) × IsSomeReport accepted.now octets)
+        (λ cause. IsNoReport limit accepted.now octets cause)) }
     ensures read { IfOk result (IsRead accepted.now) }
     ensures fault { result ≡ Err NoReport.ReadFault → ReadFailed B.Source second.old second.new }
-    ensures taken { TakesUpTo report_limit (B.left second.old) (B.left second.new) }
+    ensures taken { TakesUpTo limit (B.left second.old) (B.left second.new) }
     // Where the octets were judged, they are all.
     ensures whole { IfJudged result (IsAtEnd (B.left second.new)) }
 {
-    match read_all(alloc, second, REPORT_LIMIT) {
+    match read_all(alloc, second, u64::from(limit)) {
         Ok(octets) => audit_octets(alloc, accepted, octets),
         Err(ReadAll::Fault) => Err(NoReport::ReadFault),
         Err(ReadAll::TooLong) => Err(NoReport::TooLong),
@@ -106,11 +104,10 @@ fn audit_octets(
     accepted: &Accepted,
     octets: Bytes,
 ) -> Result<AuditedReport, NoReport>
-    requires { length octets ≤ report_limit }
-    ensures judged { MatchResult result
-        (λ report. (notes : List NoteValue) × (end : UnitsValue) × IsReportOf accepted.now octets notes end
-        × (report.octets ≡ octets))
-        (λ cause. IsNoReport accepted.now octets cause) }
+    requires { length octets < 2 ^ 32 }
+    ensures judged { (limit : ℕ) → length octets ≤ limit → MatchResult result
+        (λ report. (length octets ≤ limit) × (report.octets ≡ octets) × IsSomeReport accepted.now octets)
+        (λ cause. IsNoReport limit accepted.now octets cause) }
     ensures read { IfOk result (IsRead accepted.now) }
     ensures fault { result ≢ Err NoReport.ReadFault }
 {

@@ -1,7 +1,7 @@
 -- The answer for the words.
 use Rattle.{net_plan.specs.Bounds.BetaIsUnique, std.specs.Prelude.IfSome, tte_forms.specs.Putting.Shown}
 use Rattle.{net_plan.specs.declared.event.Event.Event, tte_forms.specs.Forms.{IsFormInRange, form_of}, tte_traces.specs.storms.Answer.IsStormAnswer}
-use Rattle.{tte_reports.proofs.Reports.{audit_done, report_one}, tte_reports.specs.Reports.{IsAuditAnswer, IsAuditedAnswer}}
+use Rattle.tte_reports.{proofs.Reports.{audit_done, report_one}, specs.{Answer.audit_limit, Reports.{IsAuditAnswer, IsAuditedAnswer}}}
 use Rattle.{net_plan.specs.declared.network.Network.Network, tte_forms.specs.networks.Checking.IsAcceptance, tte_run.specs.Whole.{Completes, MeansRun}}
 use Rattle.{tte_traces.specs.Along.IsAllAdmitted, tte_traces.specs.Answer.IsRunAnswer}
 use Rattle.{schedule_checker.specs.Refusals.RefusalIsOne, tte_forms.proofs.frames.Answers.shows_frames, tte_traces.proofs.Completes.{run_done, run_one}}
@@ -89,7 +89,7 @@ form_one unique one (Some Check) range octets trace a b p q = network_answer_one
 form_one unique one (Some Run) range octets trace a b p q = run_one one octets trace a b p q
 form_one unique one (Some (Storm seed cycles)) range octets trace a b p q = storm_one one seed cycles range.1 octets a b p q
 form_one unique one (Some (Stamp granule)) range octets trace a b p q = stamp_one one granule octets trace a b p q
-form_one unique one (Some Audit) range octets trace a b p q = report_one one IsAuditedAnswer (λ network text notes end x y rules of i j. i ∙ sym j) octets trace a b p q
+form_one unique one (Some Audit) range octets trace a b p q = report_one one audit_limit IsAuditedAnswer (λ network text notes end x y rules of i j. i ∙ sym j) octets trace a b p q
 form_one unique one (Some Capture) range octets trace a b p q = p ∙ sym q
 form_one unique one (Some (Wire link way)) range octets trace a b p q = wire_one one link way octets trace a b p q
 form_one unique one (Some (Vote x y z)) range octets trace a b p q = vote_one one (the_names x y z) octets trace a b p q

@@ -5,7 +5,7 @@ use Rattle.{net_plan.specs.declared.ids.LinkId.LinkId, world_drive.specs.exact.R
 use Rattle.{net_plan.specs.declared.network.Network.Network, tte_forms.specs.declared.status.Status.Status}
 use Rattle.{pcf_codec.specs.Sequence.SpellsAll, tte_audit.specs.Answers.IsAudited, tte_forms.specs.Answering.IsDone}
 use Rattle.tte_forms.specs.declared.form.Form.TheVariants.{Audit, Capture, Check, Run, Show, Stamp, Storm, Vote, Wire}
-use Rattle.{tte_forms.specs.{declared.form.Form.Form, frames.Answer.file_limit}, tte_reports.specs.Answer.report_limit}
+use Rattle.{tte_forms.specs.{declared.form.Form.Form, frames.Answer.file_limit}, tte_reports.specs.Answer.audit_limit}
 use Rattle.{tte_forms.specs.networks.Accepting.MeansAccepted, tte_traces.specs.Lines.{AreAdmitted, behind_lines}}
 use Rattle.tte_observers.specs.{captures.Law.{IsFile, StandFrom}, stamps.granules.Granules.least_granule}
 use Rattle.tte_observers.specs.{captures.pcap.Layout.{IsHead, head_length}, declared.votes.law.voters.Voters.Voters}
@@ -46,7 +46,7 @@ StampsWhole granule octets trace status =
 -- a report that is that of a run of an accepted network is audited
 abbrev pub AuditsWhole : List ℕ → List ℕ → Status → Type 0
 AuditsWhole octets report status =
-    (network : Network) (count : ℕ) → MeansAccepted octets network → length report ≤ report_limit
+    (network : Network) (count : ℕ) → MeansAccepted octets network → length report ≤ audit_limit
     → IsAudited network report count → IsDone status
 
 -- a header and then these packets stand in the file, and nothing behind them

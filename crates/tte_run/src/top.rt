@@ -1,6 +1,6 @@
 ghost use Rattle.std.specs.Prelude.{◌≡◌, ◌⊎◌};
 ghost use Rattle.tte_forms.specs.{Answering.Gives, Faults.{HasCause, IsWanted, PutFailed, ReadFailed}, Forms.form_of};
-ghost use Rattle.{tte_forms.specs.Putting.Over, tte_reports.specs.Reading.ReadsReport};
+ghost use Rattle.{tte_forms.specs.Putting.Over, tte_reports.specs.{Answer.audit_limit, Reading.ReadsReport}};
 ghost use Rattle.tte_run.specs.SecondFiles.{FailsToRead, FormStops, FormTakesLittle, TakesFirst, TakesSecond, second_of};
 ghost use Rattle.tte_run.specs.{Top.{AnswerIsOne, AnswersSafely, AnswersWords, usage_answer}, Whole.Completes};
 
@@ -46,7 +46,7 @@ pub fn tte<A: Source, B: Source, K: Sink>(
         × TakesSecond (second_of (form_of words.now)) (second.new ≡ second.old)
         (Over K.Sink out.old out.new
         (FormTakesLittle (form_of words.now) (A.left first.old) (B.left second.old) (B.left second.new) result))
-        (ReadsReport (A.left first.old) (B.left second.old) (B.left second.new) result) }
+        (ReadsReport audit_limit (A.left first.old) (B.left second.old) (B.left second.new) result) }
     ensures complete { Completes (form_of words.now) (A.left first.old) (B.left second.old)
         (ReadFailed A.Source first.old first.new ⊎ ReadFailed B.Source second.old second.new)
         (PutFailed K.Sink out.old out.new) result }

@@ -1,12 +1,12 @@
 -- What is answered where a name is given: how, safely, to its end, and once.
-use Rattle.lens.specs.draw.Keeping.{AreFlags, IsKept, Tells}
+use Rattle.lens.specs.{Limit.report_limit, draw.Keeping.{AreFlags, IsKept, Tells}}
 use Rattle.lens.specs.draw.Naming.{AnswersNamed, CompletesNamed, IsKeptAnswer, IsNamedAnswer, IsNamedStatus, IsUnknown, LeavesNamed, LeavesUnnamed, Names, unknown_answer}
 use Rattle.lens.specs.{declared.{draw.subject.Subject.{Subject, TheVariants.{Frames, Lane}}, forms.Part.Part}, draw.{Answer.draw_answer, Spans.span_of}}
 use Rattle.{lens_svg.specs.{Titles.title_of, Views.flag_at}, schedule_checker.specs.Refusals.RefusalIsOne}
 use Rattle.net_plan.specs.{Bearers.{IsFirstBearer, device_names, vl_names}, declared.network.Network.Network}
 use Rattle.net_plan.specs.declared.ids.{DeviceId.DeviceId, VlId.VlId}
 use Rattle.run_law.specs.{declared.note.Note.Note, records.Happenings.{Happening, happenings}}
-use Rattle.std.proofs.Common.{◌<◌, ◌∙◌, ◌∷◌, ◌≡◌, ◌⊎◌, Bool, List, None, Ok, Option, Result, Some, [], ap, arith, false, inl, inr, length, refl, subst, suc, sym, true, zero, ℕ}
+use Rattle.std.proofs.Common.{◌<◌, ◌∙◌, ◌∷◌, ◌≡◌, ◌≤◌, ◌⊎◌, Bool, List, None, Ok, Option, Result, Some, [], ap, arith, false, inl, inr, length, refl, subst, suc, sym, true, zero, ℕ}
 use Rattle.std.{proofs.lemmas.Bool.cases_lt, specs.Prelude.{slice_get, unwrap_or}}
 use Rattle.tte_forms.proofs.{Octets.{for_all, for_more}, OneAnswers.answer_widened, networks.Answers.{accepted_alone, network_answer_one}}
 use Rattle.tte_forms.specs.Answering.{Answer, ForOctets, Gives, GivesAnswer}
@@ -92,12 +92,12 @@ kept_one words part subject network octets ns end a b rules of p q =
 
 pub named_given : (words : List (List ℕ)) (part : Part) (name : List ℕ) (network : Network) (subject : Subject) (second : Option (List ℕ)) (status : Status) (old new : Shown)
     → Names network name subject
-    → ForOctets second (λ report. GivesAnswer (IsReportAnswer (IsKeptAnswer words part subject) report network) status old new)
+    → ForOctets second (λ report. GivesAnswer (IsReportAnswer report_limit (IsKeptAnswer words part subject) report network) status old new)
     → ForOctets second (λ report. GivesAnswer (IsNamedAnswer words part name report network) status old new)
 named_given words part name network subject second status old new names given =
-    for_more second (λ report. GivesAnswer (IsReportAnswer (IsKeptAnswer words part subject) report network) status old new)
+    for_more second (λ report. GivesAnswer (IsReportAnswer report_limit (IsKeptAnswer words part subject) report network) status old new)
     (λ report. GivesAnswer (IsNamedAnswer words part name report network) status old new)
-    (λ report. answer_widened (IsReportAnswer (IsKeptAnswer words part subject) report network) (IsNamedAnswer words part name report network) status old new
+    (λ report. answer_widened (IsReportAnswer report_limit (IsKeptAnswer words part subject) report network) (IsNamedAnswer words part name report network) status old new
     (λ a is. inr (subject, names, is))) given
 
 pub unknown_given : (words : List (List ℕ)) (part : Part) (name : List ℕ) (network : Network) (second : Option (List ℕ)) (status : Status) (old new : Shown)
@@ -130,19 +130,19 @@ abbrev KeptOfAny : List (List ℕ) → Part → AnswersFor
 KeptOfAny words part network ns end a = (subject : Subject) × IsKeptAnswer words part subject network ns end a
 
 report_of_any : (words : List (List ℕ)) (part : Part) (subject : Subject) (report : List ℕ) (network : Network) (a : Answer)
-    → IsReportAnswer (IsKeptAnswer words part subject) report network a → IsReportAnswer (KeptOfAny words part) report network a
+    → IsReportAnswer report_limit (IsKeptAnswer words part subject) report network a → IsReportAnswer report_limit (KeptOfAny words part) report network a
 report_of_any words part subject report network a (inl h) = inl h
-report_of_any words part subject report network a (inr (inl h)) = inr (inl h)
-report_of_any words part subject report network a (inr (inr h)) = inr (inr (h.0, h.1, h.2, (subject, h.3)))
+report_of_any words part subject report network a (inr (fits, inl h)) = inr (fits, inl h)
+report_of_any words part subject report network a (inr (fits, inr h)) = inr (fits, inr (h.0, h.1, h.2, (subject, h.3)))
 
 done_known : (words : List (List ℕ)) (part : Part) (name report : List ℕ) (network : Network) (a : Answer) → Done ≡ a.status → IsNamedAnswer words part name report network a
-    → IsReportAnswer (KeptOfAny words part) report network a
+    → IsReportAnswer report_limit (KeptOfAny words part) report network a
 done_known words part name report network a done (inl h) =
     let e : Done ≡ NameRefused = done ∙ ap (λ (x : Answer). x.status) h.1 in absurd cc
 done_known words part name report network a done (inr h) = report_of_any words part h.0 report network a h.2
 
 done_files : (words : List (List ℕ)) (part : Part) (name octets report : List ℕ) (a : Answer) → Done ≡ a.status → IsNetworkAnswer (IsNamedAnswer words part name report) octets a
-    → IsNetworkAnswer (IsReportAnswer (KeptOfAny words part) report) octets a
+    → IsNetworkAnswer (IsReportAnswer report_limit (KeptOfAny words part) report) octets a
 done_files words part name octets report a done (inl h) = inl h
 done_files words part name octets report a done (inr (inl h)) = inr (inl h)
 done_files words part name octets report a done (inr (inr (inl h))) = inr (inr (inl h))
@@ -150,7 +150,7 @@ done_files words part name octets report a done (inr (inr (inr h))) = inr (inr (
 
 done_given : (words : List (List ℕ)) (part : Part) (name octets report : List ℕ) (status : Status) (old new : Shown) → status ≡ Done
     → GivesAnswer (IsNetworkAnswer (IsNamedAnswer words part name report) octets) status old new
-    → GivesAnswer (IsNetworkAnswer (IsReportAnswer (KeptOfAny words part) report) octets) status old new
+    → GivesAnswer (IsNetworkAnswer (IsReportAnswer report_limit (KeptOfAny words part) report) octets) status old new
 done_given words part name octets report status old new done (inl (a, is, inl g)) =
     inl (a, done_files words part name octets report a (sym done ∙ g.0) is, inl g)
 done_given words part name octets report status old new done (inl (a, is, inr (inl g))) = let e = g.0 in absurd cc
@@ -161,11 +161,11 @@ done_given words part name octets report status old new done (inr none) = inr no
 pub named_safely : (words : List (List ℕ)) (part : Part) (name : List ℕ) (first second : Option (List ℕ)) (status : Status) (old new : Shown)
     → GivesFiles (λ report. IsNamedAnswer words part name report) first second status old new → AuditsSafely first second status
 named_safely words part name first second status old new given done =
-    files_safely (KeptOfAny words part) first second status old new
+    files_safely report_limit (KeptOfAny words part) first second status old new
     (for_more first (λ octets. ForOctets second (λ report. GivesAnswer (IsNetworkAnswer (IsNamedAnswer words part name report) octets) status old new))
-    (λ octets. ForOctets second (λ report. GivesAnswer (IsNetworkAnswer (IsReportAnswer (KeptOfAny words part) report) octets) status old new))
+    (λ octets. ForOctets second (λ report. GivesAnswer (IsNetworkAnswer (IsReportAnswer report_limit (KeptOfAny words part) report) octets) status old new))
     (λ octets. for_more second (λ report. GivesAnswer (IsNetworkAnswer (IsNamedAnswer words part name report) octets) status old new)
-    (λ report. GivesAnswer (IsNetworkAnswer (IsReportAnswer (KeptOfAny words part) report) octets) status old new)
+    (λ report. GivesAnswer (IsNetworkAnswer (IsReportAnswer report_limit (KeptOfAny words part) report) octets) status old new)
     (λ report. done_given words part name octets report status old new done)) given) done
 
 -- ---- to its end
@@ -176,12 +176,12 @@ whole_unknown words part name report network a unknown (inl h) = ap (λ (x : Ans
 whole_unknown words part name report network a unknown (inr h) = absurd (not_unknown network name h.0 h.1 unknown)
 
 whole_named : (words : List (List ℕ)) (part : Part) (name octets report : List ℕ) (network : Network) (subject : Subject) (ns : List Note) (end : Units) (a : Answer)
-    → MeansAccepted octets network → Names network name subject → IsReportOf network report ns end → IsNamedAnswer words part name report network a
+    → MeansAccepted octets network → Names network name subject → length report ≤ report_limit → IsReportOf network report ns end → IsNamedAnswer words part name report network a
     → IsKeptAnswer words part subject network ns end a
-whole_named words part name octets report network subject ns end a means names of (inl h) = absurd (not_unknown network name subject names h.0)
-whole_named words part name octets report network subject ns end a means names of (inr h) =
-    report_alone (IsKeptAnswer words part subject) network report ns end means.rules of a
-    (subst (λ (s : Subject). IsReportAnswer (IsKeptAnswer words part s) report network a) (one_subject network name h.0 subject h.1 names) h.2)
+whole_named words part name octets report network subject ns end a means names fits of (inl h) = absurd (not_unknown network name subject names h.0)
+whole_named words part name octets report network subject ns end a means names fits of (inr h) =
+    report_alone report_limit (IsKeptAnswer words part subject) network report ns end means.rules fits of a
+    (subst (λ (s : Subject). IsReportAnswer report_limit (IsKeptAnswer words part s) report network a) (one_subject network name h.0 subject h.1 names) h.2)
 
 module _ (words : List (List ℕ)) (part : Part) (name octets report : List ℕ) (status : Status) (old new : Shown) (SourceRose SinkRose : Type 0)
     (read : status ≡ ReadFault → SourceRose) (write : status ≡ WriteFault → SinkRose) (quiet : SourceRose → ⊥) (calm : SinkRose → ⊥) where
@@ -198,13 +198,13 @@ module _ (words : List (List ℕ)) (part : Part) (name octets report : List ℕ)
   whole_or_less (inr (inr o, p)) = inr o
 
   answers_by : Whole ⊎ (status ≡ OutOfMemory) → AnswersNamed words part name octets report status
-  answers_by (inr none) = record { unknown = λ network means unknown. inl none; named = λ network subject ns end means names of. inl none }
+  answers_by (inr none) = record { unknown = λ network means unknown. inl none; named = λ network subject ns end means names fits of. inl none }
   answers_by (inl w) = record {
     unknown = λ network means unknown. inr (w.2 ∙ whole_unknown words part name report network w.0 unknown
         (accepted_alone (IsNamedAnswer words part name report) octets network means w.0 w.1));
-    named = λ network subject ns end means names of. inr (
+    named = λ network subject ns end means names fits of. inr (
       w.0,
-      whole_named words part name octets report network subject ns end w.0 means names of
+      whole_named words part name octets report network subject ns end w.0 means names fits of
           (accepted_alone (IsNamedAnswer words part name report) octets network means w.0 w.1),
       w.2,
     );
@@ -229,8 +229,8 @@ named_both one words part name report octets network means a b (inl p) (inl q) =
 named_both one words part name report octets network means a b (inl p) (inr q) = absurd (not_unknown network name q.0 q.1 p.0)
 named_both one words part name report octets network means a b (inr p) (inl q) = absurd (not_unknown network name p.0 p.1 q.0)
 named_both one words part name report octets network means a b (inr p) (inr q) =
-    let same = subst (λ (s : Subject). IsReportAnswer (IsKeptAnswer words part s) report network b) (one_subject network name q.0 p.0 q.1 p.1) q.2 in
-    report_one one (IsKeptAnswer words part p.0) (kept_one words part p.0) octets report a b (inr (inr (inr (network, means, p.2)))) (inr (inr (inr (network, means, same))))
+    let same = subst (λ (s : Subject). IsReportAnswer report_limit (IsKeptAnswer words part s) report network b) (one_subject network name q.0 p.0 q.1 p.1) q.2 in
+    report_one one report_limit (IsKeptAnswer words part p.0) (kept_one words part p.0) octets report a b (inr (inr (inr (network, means, p.2)))) (inr (inr (inr (network, means, same))))
 
 pub named_one : RefusalIsOne → (words : List (List ℕ)) (part : Part) (name octets report : List ℕ) (a b : Answer) → IsNetworkAnswer (IsNamedAnswer words part name report) octets a
     → IsNetworkAnswer (IsNamedAnswer words part name report) octets b → a ≡ b

@@ -1,7 +1,7 @@
 -- What `draw` answers where a name is given.
-use Rattle.std.specs.Prelude.{◌≡◌, ◌⊎◌, Bool, List, None, Option, Some, codes, ℕ}
+use Rattle.std.specs.Prelude.{◌≡◌, ◌≤◌, ◌⊎◌, Bool, List, None, Option, Some, codes, length, ℕ}
 use Rattle.lens.specs.{declared.{draw.subject.Subject.{Subject, TheVariants.{Frames, Lane}}, forms.Part.Part}, draw.Keeping.AreFlags}
-use Rattle.{lens.specs.draw.{Answer.IsViewAnswer, Spans.span_of}, lens_svg.specs.Titles.title_of}
+use Rattle.{lens.specs.{Limit.report_limit, draw.{Answer.IsViewAnswer, Spans.span_of}}, lens_svg.specs.Titles.title_of}
 use Rattle.net_plan.specs.Bearers.{HasNoBearer, IsFirstBearer, device_names, vl_names}
 use Rattle.net_plan.specs.declared.network.Network.{Network}
 use Rattle.run_law.specs.{declared.note.Note.Note, records.Happenings.happenings}
@@ -39,7 +39,7 @@ abbrev pub IsNamedAnswer : List (List ℕ) → Part → List ℕ → List ℕ �
 IsNamedAnswer words part name report network a =
     (IsUnknown network name × (a ≡ unknown_answer))
     ⊎ ((subject : Subject) × Names network name subject
-    × IsReportAnswer (IsKeptAnswer words part subject) report network a)
+    × IsReportAnswer report_limit (IsKeptAnswer words part subject) report network a)
 
 -- the statuses of `draw` with a name
 abbrev pub IsNamedStatus : Status → Type 0
@@ -56,14 +56,14 @@ LeavesUnnamed name None Unread = Unit {0}
 LeavesUnnamed name (Some octets) Unread =
     (network : Network) → MeansAccepted octets network → LeavesNamed network name Unread
 
--- an accepted network that has no such name is answered so, and the report of one that has is drawn to the end, unless
--- memory ran out
+-- an accepted network that has no such name is answered so, and the report of one that has, if it isn't too long, is
+-- drawn to the end, unless memory ran out
 pub record AnswersNamed (words : List (List ℕ)) (part : Part) (name octets report : List ℕ) (status : Status)
     : Type 0 where
   pub unknown : (network : Network) → MeansAccepted octets network → IsUnknown network name
       → (status ≡ OutOfMemory) ⊎ (status ≡ NameRefused)
   pub named : (network : Network) (subject : Subject) (ns : List Note) (end : Units) → MeansAccepted octets network
-      → Names network name subject → IsReportOf network report ns end
+      → Names network name subject → length report ≤ report_limit → IsReportOf network report ns end
       → (status ≡ OutOfMemory) ⊎ ((a : Answer) × IsKeptAnswer words part subject network ns end a × (status ≡ a.status))
 
 -- so it is, where the octets are told and no count of faults rose

@@ -1,5 +1,6 @@
 //! A part of the run of a report as a picture of one thing.
 ghost use Rattle.std.specs.Prelude.{◌≡◌, ◌⊎◌, List};
+ghost use Rattle.lens.specs.Limit.{report_limit};
 ghost use Rattle.lens.specs.draw.Naming.{IsKeptAnswer, IsNamedAnswer, IsNamedStatus, LeavesNamed, LeavesUnnamed, unknown_answer};
 ghost use Rattle.{run_law.specs.declared.note.Note.{Note as NoteValue}, tte_audit.specs.Named.IsNamed};
 ghost use Rattle.tte_forms.specs.{Answering.{ForOctets, Gives, GivesAnswer}, networks.Accepting.IsNetworkAnswer};
@@ -14,6 +15,7 @@ use crate::draw::flags::kept_flags;
 use crate::draw::spans::span_of;
 use crate::draw::subject::{Subject, subject_named};
 use crate::forms::Part;
+use crate::questions::REPORT_LIMIT;
 use lens_svg::{Kept, Title};
 use net_plan::Network;
 use schedule_tables::Accepted;
@@ -104,7 +106,7 @@ pub(crate) fn draw_named<A: Source, B: Source, K: Sink>(
     ensures takes { TakesUpTo file_limit (A.left first.old) (A.left first.new)
         × LeavesUnnamed name.now (A.left first.old) (second.new ≡ second.old)
         × ((second.new ≡ second.old)
-        ⊎ ReadsReport (A.left first.old) (B.left second.old) (B.left second.new) result) }
+        ⊎ ReadsReport report_limit (A.left first.old) (B.left second.old) (B.left second.new) result) }
 {
     match accept(alloc, first) {
         Ok(accepted) => draw_accepted(alloc, &accepted, second, words, part, name, out),
@@ -128,7 +130,7 @@ fn draw_accepted<B: Source, K: Sink>(
     ensures cause { HasCause result (ReadFailed B.Source second.old second.new × (out.new ≡ out.old))
         (PutFailed K.Sink out.old out.new) }
     ensures unread { LeavesNamed accepted.now name.now (second.new ≡ second.old) }
-    ensures taken { (second.new ≡ second.old) ⊎ TakesReport (B.left second.old) (B.left second.new) result }
+    ensures taken { (second.new ≡ second.old) ⊎ TakesReport report_limit (B.left second.old) (B.left second.new) result }
 {
     match subject_named(accepted.network(), name) {
         Some(subject) => {
@@ -137,7 +139,7 @@ fn draw_accepted<B: Source, K: Sink>(
                 part,
                 subject,
             };
-            answer_accepted(alloc, accepted, second, &command, out)
+            answer_accepted(alloc, accepted, second, REPORT_LIMIT, &command, out)
         }
         None => put_unknown(out),
     }

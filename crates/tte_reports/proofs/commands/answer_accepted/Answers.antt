@@ -4,13 +4,13 @@ use Rattle.tte_reports.proofs.commands.answer_accepted.Goals as goal
 pub returns-in-Ok-clause-gives : goal.returns-in-Ok-clause-gives
 returns-in-Ok-clause-gives g c =
     let shown = shown_by g.K.Sink in
-    report_given (g.C.ReportCommand.answers c.args.command.now) c.args.accepted.now (g.B.Source.left c.args.second.now) c.in-Ok.report.octets
+    report_given c.args.limit (g.C.ReportCommand.answers c.args.command.now) c.args.accepted.now (g.B.Source.left c.args.second.now) c.in-Ok.report.octets
     c.answer_read.result (shown c.args.out.now) (shown c.answer_read.new.out) c.in-Ok.ensures.judged c.answer_read.ensures.gives
 
 pub returns-in-Err-clause-gives : goal.returns-in-Err-clause-gives
 returns-in-Err-clause-gives g c =
     let shown = shown_by g.K.Sink in
-    no_report_answered (g.C.ReportCommand.answers c.args.command.now) c.args.accepted.now (g.B.Source.left c.args.second.now) c.in-Err.cause
+    no_report_answered c.args.limit (g.C.ReportCommand.answers c.args.command.now) c.args.accepted.now (g.B.Source.left c.args.second.now) c.in-Err.cause
     c.put_no_report.result (shown c.args.out.now) (shown c.put_no_report.new.out) c.in-Err.ensures.judged c.put_no_report.ensures.gives
     c.put_no_report.ensures.unput
 
