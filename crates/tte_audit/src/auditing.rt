@@ -7,7 +7,7 @@ ghost use Rattle.tte_audit.specs.{Named.IsNamed, Report.{HasNoEvent, IsNextLine}
 use crate::event_lines::EventRecord;
 use crate::hints::NameHints;
 use crate::lines::{numbered_event, plain_record};
-use crate::named::keep_names_apart;
+use crate::named::named_network;
 use crate::swift::audited;
 use crate::{AuditRefusal, PassedReport, ReportEvents, read_events};
 use audit_sweep::Sweep;
@@ -29,16 +29,17 @@ pub fn audit(
     report: &[u8],
 ) -> Result<PassedReport, AuditRefusal>
     requires { length report.now < 2 ^ 32 }
-    ensures { MatchResult result
+    ensures judged { MatchResult result
         (IsPassed accepted.now report.now)
         (λ refusal. IsRefusedBy accepted.now report.now refusal) }
+    ensures named { IsNamed accepted.now }
 {
-    keep_names_apart(accepted);
+    let network = named_network(accepted);
     if let Some(passed) = audited(alloc, accepted, report) {
         return Ok(passed);
     }
     match read_events(alloc, accepted, report) {
-        Ok(read) => audit_records(alloc, accepted.network(), report, read),
+        Ok(read) => audit_records(alloc, network, report, read),
         Err(refusal) => Err(refusal),
     }
 }

@@ -10,7 +10,7 @@ use crate::event_lines::EventRecord;
 use crate::events::Befallen;
 use crate::hints::NameHints;
 use crate::lines::{event_record, first_lf, plain_record};
-use crate::named::keep_names_apart;
+use crate::named::named_network;
 use crate::{AuditRefusal, PassedReport};
 use audit_sweep::Sweep;
 use net_plan::Network;
@@ -24,9 +24,9 @@ pub(crate) fn audited(alloc: Global, accepted: &Accepted, report: &[u8]) -> Opti
     requires { length report.now < 2 ^ 32 }
     ensures { IfSome result (IsPassed accepted.now report.now) }
 {
-    keep_names_apart(accepted);
+    let network = named_network(accepted);
     match seek(alloc, accepted, report) {
-        Some(sought) => swept(alloc, accepted.network(), report, sought),
+        Some(sought) => swept(alloc, network, report, sought),
         None => None,
     }
 }
@@ -105,7 +105,7 @@ fn seek<'a>(alloc: Global, accepted: &'a Accepted, report: &[u8]) -> Option<Soug
     requires { length report.now < 2 ^ 32 }
     ensures { IfSome result (λ sought. (notes : List NoteValue) × IsSought accepted.now report.now notes sought) }
 {
-    keep_names_apart(accepted);
+    let network = named_network(accepted);
     let mut sought = match Sought::new(alloc, accepted) {
         Some(sought) => sought,
         None => return None,
@@ -120,7 +120,7 @@ fn seek<'a>(alloc: Global, accepted: &'a Accepted, report: &[u8]) -> Option<Soug
         };
         kind = kind_place(line.text, kind);
         let is_event = seems_event(line.text, kind);
-        match sought.look(accepted.network(), rest, is_event, &mut read) {
+        match sought.look(network, rest, is_event, &mut read) {
             Some(()) => rest = line.behind,
             None => return None,
         }

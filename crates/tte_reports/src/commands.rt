@@ -16,7 +16,7 @@ use crate::{AuditedReport, put_no_report, read_report};
 use net_plan::Network;
 use schedule_tables::Accepted;
 use std::alloc::Global;
-use tte_audit::keep_names_apart;
+use tte_audit::named_network;
 use tte_forms::{Status, accept, put_no_network};
 use tte_io::{Sink, Source};
 
@@ -115,6 +115,5 @@ fn answer_read<K: Sink, C: ReportCommand<K>>(
     ensures statuses { C.ends command.now result }
     ensures cause { HasCause result ⊥ (PutFailed K.Sink out.old out.new) }
 {
-    keep_names_apart(accepted);
-    command.put(alloc, accepted.network(), report, out)
+    command.put(alloc, named_network(accepted), report, out)
 }

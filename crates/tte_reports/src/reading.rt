@@ -111,8 +111,6 @@ fn audit_octets(
     ensures read { IfOk result (IsRead accepted.now) }
     ensures fault { result ≢ Err NoReport.ReadFault }
 {
-    // The checker has to meet the network here.
-    let _network = accepted.network();
     match audit(alloc, accepted, octets.as_slice()) {
         Ok(passed) => match places_of(alloc, octets.as_slice()) {
             Ok(places) => Ok(AuditedReport {

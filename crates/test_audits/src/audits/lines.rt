@@ -16,7 +16,7 @@ use std::process::Abort;
 use std::test::Fail;
 use sync_state::State;
 use sync_state::State::{Integrating, Joining, Off, Synchronised};
-use tte_audit::{keep_names_apart, note_line};
+use tte_audit::{named_network, note_line};
 use tte_io::{LineText, MemorySink, SinkFailed};
 use tte_units::{Ppb, Units};
 use worked_network::{accepted_of, silent};
@@ -108,8 +108,7 @@ fn is_line_of(
 // Is the text the line of a record of this body, whose number and time stand before it? It is read so, and what is read
 // is written so, in one put.
 fn is_line(alloc: Global, network: &Accepted, text: &str, body: &NoteBody) -> Result<bool, Fail> {
-    keep_names_apart(network);
-    match note_line(network.network(), text.as_bytes()) {
+    match note_line(named_network(network), text.as_bytes()) {
         Some(read) => is_line_of(alloc, network, text, &read, body),
         None => Ok(false),
     }
@@ -538,9 +537,8 @@ fn each_reason_has_its_word(rt: HostRuntime) -> Result<(), Fail> {
 fn a_failed_put_is_told(rt: HostRuntime) -> Result<(), Fail> {
     let alloc = rt.alloc();
     let network = with_second(alloc)?;
-    keep_names_apart(&network);
     let line = b"1 0 lost m1 m1_b 18446744073709551615\n".as_slice();
-    let lost = note_line(network.network(), &line[..37]).ok_or("no record")?;
+    let lost = note_line(named_network(&network), &line[..37]).ok_or("no record")?;
     let mut sink = MemorySink::new(alloc, 4096, &[2])?;
     let mut text = LineText::new();
     let put = [

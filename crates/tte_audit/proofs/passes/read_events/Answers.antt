@@ -11,14 +11,14 @@ lines-init c = record {
 pub take_line-requires-clause-told : goal.take_line-requires-clause-told
 take_line-requires-clause-told c =
     let old = c.lines.invariant.begun in
-    (old.0, subst (λ (n : Network). AreTold n old.0 c.lines.told) (sym c.network-in-lines.ensures.value) old.2)
+    (old.0, subst (λ (n : Network). AreTold n old.0 c.lines.told) (sym c.named_network-network.ensures.value) old.2)
 
 pub lines-preserved : goal.lines-preserved
 lines-preserved c =
     let network = c.args.accepted.now in
     let left = c.in-Ok-take_line.left.now in
     let old = c.lines.invariant.begun in
-    let line = subst (λ (n : Network). IsLineTold n c.lines.told c.take_line.new.self c.lines.rest.now c.take_line.result) c.network-in-lines.ensures.value
+    let line = subst (λ (n : Network). IsLineTold n c.lines.told c.take_line.new.self c.lines.rest.now c.take_line.result) c.named_network-network.ensures.value
     c.take_line.ensures in
     let h = subst (λ r. IsLineTold network c.lines.told c.take_line.new.self c.lines.rest.now r) c.in-Ok-take_line.is line in
     let note = h.0 in
