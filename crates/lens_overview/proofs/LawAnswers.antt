@@ -9,12 +9,16 @@ use Rattle.lens_overview.specs.declared.{grid.Pen.Pen, news.News.News, pieces.Pi
 use Rattle.{lens_svg.specs.{Sketching.moment, Titles.title_of}, schedule_tables.specs.Rules.KeepsRules, tte_reports.{proofs.{Safely.report_well, Times.none_later}, specs.Reports.IsReportOf}}
 use Rattle.std.proofs.lemmas.Int.{ints}
 use Rattle.tte_units.specs.Amount.{amount}
-use Rattle.lens_overview.proofs.LawLanes.{lane_drawn, passage_drawn}
-use Rattle.lens_overview.specs.{LawStates.{HasCells, device_cell, way_cell}, Rows.start_of}
+use Rattle.lens_overview.proofs.{LawLanes.{lane_drawn, passage_drawn}, LawStates.{lane_true, passage_true}}
+use Rattle.lens_overview.specs.Lines.{ribbon_line}
+use Rattle.lens_overview.specs.declared.pieces.Ribbon.{Ribbon}
+use Rattle.net_plan.specs.declared.{ids.DeviceId.DeviceId, tables.Device.Device}
+use Rattle.std.specs.Prelude.{slice_get}
+use Rattle.lens_overview.specs.{LawStates.{HasCells, IsStrokeAlong, device_cell, way_cell}, Rows.start_of}
 use Rattle.lens_overview.specs.declared.label.Label.TheVariants as labels
 use Rattle.lens_overview.specs.declared.pieces.Piece.TheVariants as pieces
 use Rattle.lens_overview.specs.{Answer.IsOverviewAnswer, Cells.{Missed, shade_at}, Grids.{column_of, pen_at}, LawParts.{HasRow, IsDeliveredIn, IsStrokeOf}, Shades.is_blank}
-use Rattle.lens_overview.specs.Laws.{BarsAreTrue, CellsAreDelivered, DevicesAreDrawn, FlowsAreDrawn, IsGreatestIn, IsTrueBar, NoneIsRed, StrokesAreOfFlows, WaysAreDrawn, cells_for, grid_for, spread_of}
+use Rattle.lens_overview.specs.Laws.{BarsAreTrue, CellsAreDelivered, DeviceStrokesAreTrue, DevicesAreDrawn, FlowsAreDrawn, IsGreatestIn, IsTrueBar, NoneIsRed, StrokesAreOfFlows, WayStrokesAreTrue, WaysAreDrawn, cells_for, grid_for, spread_of}
 use Rattle.lens_overview.specs.Telling.{news_by}
 use Rattle.net_plan.specs.declared.network.Network.{Network}
 use Rattle.run_law.specs.{declared.note.Note.Note, records.{Happenings.happenings, Order.IsIn}}
@@ -171,3 +175,23 @@ ways_are_drawn words network ns end a answer link way column there within seen =
     subst (λ (ls : List (List ℕ)). HasCells network (grid_for network ns) ls (labels.Passage link way)
     (way_cell network (grid_for network ns) ns link way)) (sym (answer_lines words network ns end a answer))
     (passage_drawn network (scenario_under network (events_of ns)) (happenings network ns) ns (title_of words) answer.missed answer.flows link way column there within seen)
+
+pub device_strokes_are_true : DeviceStrokesAreTrue
+device_strokes_are_true words network ns end a answer line rest i e =
+    let same = answer_lines words network ns end a answer in
+    subst (λ (ls : List (List ℕ)). ((device : DeviceId) × (d : Device) × (slice_get network.device device.0 ≡ Some d)
+    × IsStrokeAlong network (grid_for network ns) ls (labels.Lane device) (device_cell network (grid_for network ns) ns device (start_of d.start)) line)
+    ⊎ ((ribbon : Ribbon) × (synchronised : ℕ) × (off : ℕ) × (ribbon.label ≡ labels.Others synchronised off) × (line ≡ ribbon_line network ribbon)))
+    (sym same) (lane_true network (scenario_under network (events_of ns)) (happenings network ns) ns (title_of words) answer.missed answer.flows line rest
+    (subst (λ (ls : List (List ℕ)). IsIn line ls) same i) e)
+
+pub way_strokes_are_true : WayStrokesAreTrue
+way_strokes_are_true words network ns end a answer line rest i e =
+    let same = answer_lines words network ns end a answer in
+    let h = passage_true network (scenario_under network (events_of ns)) (happenings network ns) ns (title_of words) answer.missed answer.flows line rest
+    (subst (λ (ls : List (List ℕ)). IsIn line ls) same i) e in (
+      h.0,
+      h.1,
+      subst (λ (ls : List (List ℕ)). IsStrokeAlong network (grid_for network ns) ls (labels.Passage h.0 h.1)
+          (way_cell network (grid_for network ns) ns h.0 h.1) line) (sym same) h.2,
+    )

@@ -27,7 +27,7 @@ ribbon_in : Ribbon → Piece → Ribbon
 ribbon_in d (pieces.Stroke ribbon) = ribbon
 ribbon_in d piece = d
 
-one_ribbon : (a b : Ribbon) → pieces.Stroke a ≡ pieces.Stroke b → a ≡ b
+pub one_ribbon : (a b : Ribbon) → pieces.Stroke a ≡ pieces.Stroke b → a ≡ b
 unfolding ribbon_in
 one_ribbon a b e = ap (ribbon_in a) e
 

@@ -118,3 +118,106 @@ missing_of network ribbon rest flow same = missing_class network ribbon.label ri
 -- a line that says that a frame is missing begins as that of a stroke of frames
 pub missing_flow : (rest : List ℕ) → codes "<path class=\"flow missing" ++ rest ≡ flow_stroke ++ (codes "missing" ++ rest)
 missing_flow rest = refl
+
+-- the row is one of devices
+abbrev pub is_lane : Label → Bool
+is_lane (labels.Lane device) = true
+is_lane (labels.Others synchronised off) = true
+is_lane label = false
+
+lane_class : (network : Network) (label : Label) (y : ℕ) (shade : Shade) (from to : Pen) (rest : List ℕ)
+    → ribbon_line network (record { label = label; y = y; shade = shade; from = from; to = to }) ≡ codes "<path class=\"lane " ++ rest → is_lane label ≡ true
+unfolding stroke_part
+lane_class network (labels.Title group) y shade from to rest same = let octet = ap (octet_at 13) same in absurd (omega (arith, octet))
+lane_class network (labels.Count kinds.Event) y shade from to rest same = let octet = ap (octet_at 13) same in absurd (omega (arith, octet))
+lane_class network (labels.Count kinds.Lost) y shade from to rest same = let octet = ap (octet_at 13) same in absurd (omega (arith, octet))
+lane_class network (labels.Count kinds.Off) y shade from to rest same = let octet = ap (octet_at 13) same in absurd (omega (arith, octet))
+lane_class network (labels.Count kinds.ColdStart) y shade from to rest same = let octet = ap (octet_at 13) same in absurd (omega (arith, octet))
+lane_class network (labels.Count kinds.Domain) y shade from to rest same = let octet = ap (octet_at 13) same in absurd (omega (arith, octet))
+lane_class network (labels.Count kinds.Member) y shade from to rest same = let octet = ap (octet_at 13) same in absurd (omega (arith, octet))
+lane_class network (labels.Count kinds.Old) y shade from to rest same = let octet = ap (octet_at 13) same in absurd (omega (arith, octet))
+lane_class network (labels.Count kinds.Gate) y shade from to rest same = let octet = ap (octet_at 13) same in absurd (omega (arith, octet))
+lane_class network (labels.Count kinds.Cycle) y shade from to rest same = let octet = ap (octet_at 13) same in absurd (omega (arith, octet))
+lane_class network (labels.Count kinds.Unsynchronised) y shade from to rest same = let octet = ap (octet_at 13) same in absurd (omega (arith, octet))
+lane_class network (labels.Count kinds.Unknown) y shade from to rest same = let octet = ap (octet_at 13) same in absurd (omega (arith, octet))
+lane_class network (labels.Count kinds.Length) y shade from to rest same = let octet = ap (octet_at 13) same in absurd (omega (arith, octet))
+lane_class network (labels.Count kinds.Early) y shade from to rest same = let octet = ap (octet_at 13) same in absurd (omega (arith, octet))
+lane_class network (labels.Count kinds.Late) y shade from to rest same = let octet = ap (octet_at 13) same in absurd (omega (arith, octet))
+lane_class network (labels.Count kinds.Repeat) y shade from to rest same = let octet = ap (octet_at 13) same in absurd (omega (arith, octet))
+lane_class network (labels.Count kinds.Refused) y shade from to rest same = let octet = ap (octet_at 13) same in absurd (omega (arith, octet))
+lane_class network (labels.Lane device) y shade from to rest same = refl
+lane_class network (labels.Others synchronised off) y shade from to rest same = refl
+lane_class network (labels.Passage link way) y shade from to rest same = let octet = ap (octet_at 13) same in absurd (omega (arith, octet))
+lane_class network (labels.Flow vl device) y shade from to rest same = let octet = ap (octet_at 13) same in absurd (omega (arith, octet))
+lane_class network (labels.Flows vl count) y shade from to rest same = let octet = ap (octet_at 13) same in absurd (omega (arith, octet))
+
+-- a line that begins so is that of a stroke of such a row
+pub lane_of : (network : Network) (title : List ℕ) (piece : Piece) (rest : List ℕ) → piece_line network title piece ≡ codes "<path class=\"lane " ++ rest
+    → (ribbon : Ribbon) × (piece ≡ pieces.Stroke ribbon) × (is_lane ribbon.label ≡ true)
+unfolding opening_line title_line sign_line caption_line caption_part spread_line tick_line tick_part bar_line bar_part rail_part
+lane_of network title (pieces.Opening width height) rest same = let octet = ap (octet_at 1) same in absurd (omega (arith, octet))
+lane_of network title pieces.Title rest same = let octet = ap (octet_at 1) same in absurd (omega (arith, octet))
+lane_of network title (pieces.Shared signs.Style) rest same = let octet = ap (octet_at 1) same in absurd (omega (arith, octet))
+lane_of network title (pieces.Shared signs.Backdrop) rest same = let octet = ap (octet_at 1) same in absurd (omega (arith, octet))
+lane_of network title (pieces.Shared signs.Heading) rest same = let octet = ap (octet_at 1) same in absurd (omega (arith, octet))
+lane_of network title (pieces.Shared signs.FrameKey) rest same = let octet = ap (octet_at 1) same in absurd (omega (arith, octet))
+lane_of network title (pieces.Shared signs.StateKey) rest same = let octet = ap (octet_at 1) same in absurd (omega (arith, octet))
+lane_of network title (pieces.Shared signs.Close) rest same = let octet = ap (octet_at 1) same in absurd (omega (arith, octet))
+lane_of network title (pieces.Caption grid) rest same = let octet = ap (octet_at 1) same in absurd (omega (arith, octet))
+lane_of network title (pieces.Spread greatest) rest same = let octet = ap (octet_at 1) same in absurd (omega (arith, octet))
+lane_of network title (pieces.Tick pen down) rest same = let octet = ap (octet_at 1) same in absurd (omega (arith, octet))
+lane_of network title (pieces.Bar pen width height apart) rest same = let octet = ap (octet_at 13) same in absurd (omega (arith, octet))
+lane_of network title (pieces.Name label y right) rest same = let octet = ap (octet_at 1) same in absurd (omega (arith, octet))
+lane_of network title (pieces.Stroke ribbon) rest same =
+    (ribbon, refl, lane_class network ribbon.label ribbon.y ribbon.shade ribbon.from ribbon.to rest same)
+
+-- the row is one of a way
+abbrev pub is_passage : Label → Bool
+is_passage (labels.Passage link way) = true
+is_passage label = false
+
+passage_class : (network : Network) (label : Label) (y : ℕ) (shade : Shade) (from to : Pen) (rest : List ℕ)
+    → ribbon_line network (record { label = label; y = y; shade = shade; from = from; to = to }) ≡ codes "<path class=\"passage " ++ rest → is_passage label ≡ true
+unfolding stroke_part
+passage_class network (labels.Title group) y shade from to rest same = let octet = ap (octet_at 13) same in absurd (omega (arith, octet))
+passage_class network (labels.Count kinds.Event) y shade from to rest same = let octet = ap (octet_at 13) same in absurd (omega (arith, octet))
+passage_class network (labels.Count kinds.Lost) y shade from to rest same = let octet = ap (octet_at 13) same in absurd (omega (arith, octet))
+passage_class network (labels.Count kinds.Off) y shade from to rest same = let octet = ap (octet_at 13) same in absurd (omega (arith, octet))
+passage_class network (labels.Count kinds.ColdStart) y shade from to rest same = let octet = ap (octet_at 13) same in absurd (omega (arith, octet))
+passage_class network (labels.Count kinds.Domain) y shade from to rest same = let octet = ap (octet_at 13) same in absurd (omega (arith, octet))
+passage_class network (labels.Count kinds.Member) y shade from to rest same = let octet = ap (octet_at 13) same in absurd (omega (arith, octet))
+passage_class network (labels.Count kinds.Old) y shade from to rest same = let octet = ap (octet_at 13) same in absurd (omega (arith, octet))
+passage_class network (labels.Count kinds.Gate) y shade from to rest same = let octet = ap (octet_at 13) same in absurd (omega (arith, octet))
+passage_class network (labels.Count kinds.Cycle) y shade from to rest same = let octet = ap (octet_at 13) same in absurd (omega (arith, octet))
+passage_class network (labels.Count kinds.Unsynchronised) y shade from to rest same = let octet = ap (octet_at 13) same in absurd (omega (arith, octet))
+passage_class network (labels.Count kinds.Unknown) y shade from to rest same = let octet = ap (octet_at 13) same in absurd (omega (arith, octet))
+passage_class network (labels.Count kinds.Length) y shade from to rest same = let octet = ap (octet_at 13) same in absurd (omega (arith, octet))
+passage_class network (labels.Count kinds.Early) y shade from to rest same = let octet = ap (octet_at 13) same in absurd (omega (arith, octet))
+passage_class network (labels.Count kinds.Late) y shade from to rest same = let octet = ap (octet_at 13) same in absurd (omega (arith, octet))
+passage_class network (labels.Count kinds.Repeat) y shade from to rest same = let octet = ap (octet_at 13) same in absurd (omega (arith, octet))
+passage_class network (labels.Count kinds.Refused) y shade from to rest same = let octet = ap (octet_at 13) same in absurd (omega (arith, octet))
+passage_class network (labels.Lane device) y shade from to rest same = let octet = ap (octet_at 13) same in absurd (omega (arith, octet))
+passage_class network (labels.Others synchronised off) y shade from to rest same = let octet = ap (octet_at 13) same in absurd (omega (arith, octet))
+passage_class network (labels.Passage link way) y shade from to rest same = refl
+passage_class network (labels.Flow vl device) y shade from to rest same = let octet = ap (octet_at 13) same in absurd (omega (arith, octet))
+passage_class network (labels.Flows vl count) y shade from to rest same = let octet = ap (octet_at 13) same in absurd (omega (arith, octet))
+
+-- a line that begins so is that of a stroke of such a row
+pub passage_of : (network : Network) (title : List ℕ) (piece : Piece) (rest : List ℕ) → piece_line network title piece ≡ codes "<path class=\"passage " ++ rest
+    → (ribbon : Ribbon) × (piece ≡ pieces.Stroke ribbon) × (is_passage ribbon.label ≡ true)
+unfolding opening_line title_line sign_line caption_line caption_part spread_line tick_line tick_part bar_line bar_part rail_part
+passage_of network title (pieces.Opening width height) rest same = let octet = ap (octet_at 1) same in absurd (omega (arith, octet))
+passage_of network title pieces.Title rest same = let octet = ap (octet_at 1) same in absurd (omega (arith, octet))
+passage_of network title (pieces.Shared signs.Style) rest same = let octet = ap (octet_at 1) same in absurd (omega (arith, octet))
+passage_of network title (pieces.Shared signs.Backdrop) rest same = let octet = ap (octet_at 1) same in absurd (omega (arith, octet))
+passage_of network title (pieces.Shared signs.Heading) rest same = let octet = ap (octet_at 1) same in absurd (omega (arith, octet))
+passage_of network title (pieces.Shared signs.FrameKey) rest same = let octet = ap (octet_at 1) same in absurd (omega (arith, octet))
+passage_of network title (pieces.Shared signs.StateKey) rest same = let octet = ap (octet_at 1) same in absurd (omega (arith, octet))
+passage_of network title (pieces.Shared signs.Close) rest same = let octet = ap (octet_at 1) same in absurd (omega (arith, octet))
+passage_of network title (pieces.Caption grid) rest same = let octet = ap (octet_at 1) same in absurd (omega (arith, octet))
+passage_of network title (pieces.Spread greatest) rest same = let octet = ap (octet_at 1) same in absurd (omega (arith, octet))
+passage_of network title (pieces.Tick pen down) rest same = let octet = ap (octet_at 1) same in absurd (omega (arith, octet))
+passage_of network title (pieces.Bar pen width height apart) rest same = let octet = ap (octet_at 13) same in absurd (omega (arith, octet))
+passage_of network title (pieces.Name label y right) rest same = let octet = ap (octet_at 1) same in absurd (omega (arith, octet))
+passage_of network title (pieces.Stroke ribbon) rest same =
+    (ribbon, refl, passage_class network ribbon.label ribbon.y ribbon.shade ribbon.from ribbon.to rest same)

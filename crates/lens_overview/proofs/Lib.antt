@@ -17,4 +17,5 @@ pub mod LawLines
 pub mod LawBars
 pub mod LawClocks
 pub mod LawLanes
+pub mod LawStates
 pub mod LawAnswers

@@ -1,6 +1,7 @@
 -- What the lines of a picture show of devices and ways, and what the records tell of them.
-use Rattle.std.specs.Prelude.{◌<◌, ◌==◌, ◌≡◌, ◌⊎◌, List, false, fold, if◌then◌else◌, nat_le, nat_lt, ℕ}
-use Rattle.lens_overview.specs.{Cells.is_same_way, Grids.{column_of, right_of}, LawParts.HasStroke, Lines.name_line, News.cycle_of}
+use Rattle.std.specs.Prelude.{◌<◌, ◌==◌, ◌≡◌, ◌≤◌, ◌⊎◌, List, false, fold, if◌then◌else◌, nat_le, nat_lt, ℕ}
+use Rattle.lens_overview.specs.{Cells.is_same_way, Grids.{column_of, pen_at, right_of}, LawParts.HasStroke}
+use Rattle.lens_overview.specs.{Lines.{name_line, ribbon_line}, News.cycle_of}
 use Rattle.lens_overview.specs.{Shades.{is_blank, shade_of}, declared.{grid.Grid.Grid, label.Label.Label, shade.Shade.Shade}}
 use Rattle.net_plan.specs.declared.{ids.{DeviceId.DeviceId, LinkId.LinkId}, network.Network.Network, tables.Way.Way}
 use Rattle.run_law.specs.{declared.{judgement.Why.Why, note.{Note.Note, NoteBody.NoteBody}}, records.Order.IsIn}
@@ -16,6 +17,26 @@ pub record HasCells (network : Network) (grid : Grid) (lines : List (List ℕ)) 
   pub name : IsIn (name_line network label y (right_of grid)) lines
   pub each : (column : ℕ) → column < grid.columns → is_blank (cell column) ≡ false
       → HasStroke network grid lines label y column (cell column)
+
+-- the line is that of a stroke along the row, whose name is one of these lines; each of the cells that it goes over has
+-- its shade, which is not blank, and it goes over some
+pub record IsStrokeAlong (network : Network) (grid : Grid) (lines : List (List ℕ)) (label : Label) (cell : ℕ → Shade)
+    (line : List ℕ) : Type 0 where
+  pub y : ℕ
+  pub name : IsIn (name_line network label y (right_of grid)) lines
+  pub first : ℕ
+  pub last : ℕ
+  pub shade : Shade
+  pub is : line ≡ ribbon_line network (record {
+    label = label;
+    y = y;
+    shade = shade;
+    from = pen_at grid first;
+    to = pen_at grid last;
+  })
+  pub some : first < last
+  pub seen : is_blank shade ≡ false
+  pub each : (column : ℕ) → first ≤ column → column < last → cell column ≡ shade
 
 -- the shade of a device behind a record, which says that it breaks, or in which state it is from now on
 abbrev pub device_after : DeviceId → NoteBody → Shade → Shade

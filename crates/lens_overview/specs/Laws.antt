@@ -1,15 +1,15 @@
 -- What holds of the lines of the picture of a report.
-use Rattle.std.specs.Prelude.{◌++◌, ◌-◌, ◌<◌, ◌↔◌, ◌≡◌, ◌≤◌, List, Option, Some, codes, false, length, slice_get, ℕ}
+use Rattle.std.specs.Prelude.{◌++◌, ◌-◌, ◌<◌, ◌↔◌, ◌≡◌, ◌≤◌, ◌⊎◌, List, Option, Some, codes, false, length, slice_get, ℕ}
 use Rattle.audit_law.specs.events.Readings.{scenario_under}
 use Rattle.lens_flows.specs.{declared.judge.flow.Flow.Flow, judge.Flows.IsFlow}
 use Rattle.lens_overview.specs.{Answer.IsOverviewAnswer, Cells.{Missed, flow_cells, shade_at}, Grids.{column_of, grid_of, pen_at}}
-use Rattle.lens_overview.specs.{LawParts.{HasRow, IsDeliveredIn, IsStrokeOf}, Lines.bar_line, Shades.is_blank}
+use Rattle.lens_overview.specs.{LawParts.{HasRow, IsDeliveredIn, IsStrokeOf}, Lines.{bar_line, ribbon_line}, Shades.is_blank}
 use Rattle.lens_overview.specs.{News.{cycle_of, last_cycle}, Spreads.spread_by}
 use Rattle.lens_svg.specs.Sketching.{moment}
-use Rattle.lens_overview.specs.{LawStates.{HasCells, IsTurn, device_cell, way_cell}, Rows.start_of}
-use Rattle.lens_overview.specs.declared.label.Label.TheVariants.{Lane, Passage}
+use Rattle.lens_overview.specs.{LawStates.{HasCells, IsStrokeAlong, IsTurn, device_cell, way_cell}, Rows.start_of}
+use Rattle.lens_overview.specs.declared.label.Label.TheVariants.{Lane, Others, Passage}
 use Rattle.net_plan.specs.declared.{ids.{DeviceId.DeviceId, LinkId.LinkId}, tables.{Device.Device, Way.Way}}
-use Rattle.lens_overview.specs.{Telling.news_by, declared.{grid.Grid.Grid, shade.Shade.Shade}}
+use Rattle.lens_overview.specs.{Telling.news_by, declared.{grid.Grid.Grid, pieces.Ribbon.Ribbon, shade.Shade.Shade}}
 use Rattle.{net_plan.specs.declared.network.Network.Network, run_law.specs.declared.note.Note.Note}
 use Rattle.{run_law.specs.records.{Happenings.happenings, Order.IsIn}, schedule_tables.specs.Rules.KeepsRules}
 use Rattle.tte_audit.specs.Report.{events_of}
@@ -110,3 +110,25 @@ WaysAreDrawn =
     → is_blank (way_cell network (grid_for network ns) ns link way column) ≡ false
     → HasCells network (grid_for network ns) a.lines (Passage link way)
     (way_cell network (grid_for network ns) ns link way)
+
+-- each line that is a stroke of a device's row is one of such cells, or belongs to the row of the devices whose state no
+-- record changes
+abbrev pub DeviceStrokesAreTrue : Type 0
+DeviceStrokesAreTrue =
+    (words : List (List ℕ)) (network : Network) (ns : List Note) (end : Units) (a : Answer)
+    → IsOverviewAnswer words network ns end a → (line rest : List ℕ) → IsIn line a.lines
+    → line ≡ codes "<path class=\"lane " ++ rest
+    → ((device : DeviceId) × (d : Device) × (slice_get network.device device.0 ≡ Some d)
+    × IsStrokeAlong network (grid_for network ns) a.lines (Lane device)
+    (device_cell network (grid_for network ns) ns device (start_of d.start)) line)
+    ⊎ ((ribbon : Ribbon) × (synchronised : ℕ) × (off : ℕ) × (ribbon.label ≡ Others synchronised off)
+    × (line ≡ ribbon_line network ribbon))
+
+-- and each that is a stroke of a way's row is one of columns in which it is cut
+abbrev pub WayStrokesAreTrue : Type 0
+WayStrokesAreTrue =
+    (words : List (List ℕ)) (network : Network) (ns : List Note) (end : Units) (a : Answer)
+    → IsOverviewAnswer words network ns end a → (line rest : List ℕ) → IsIn line a.lines
+    → line ≡ codes "<path class=\"passage " ++ rest
+    → (link : LinkId) × (way : Way) × IsStrokeAlong network (grid_for network ns) a.lines (Passage link way)
+    (way_cell network (grid_for network ns) ns link way) line

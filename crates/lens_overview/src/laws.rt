@@ -1,5 +1,5 @@
 ghost use Rattle.lens_overview.specs.Laws.{BarsAreTrue, CellsAreDelivered, FlowsAreDrawn, NoneIsRed, StrokesAreOfFlows};
-ghost use Rattle.lens_overview.specs.Laws.{DevicesAreDrawn, WaysAreDrawn};
+ghost use Rattle.lens_overview.specs.Laws.{DeviceStrokesAreTrue, DevicesAreDrawn, WayStrokesAreTrue, WaysAreDrawn};
 
 /// In the picture of a report each flow of the network has a row: the line of its name, and along it the line of a stroke
 /// over each of its cells that is filled, of the cell's shade; and each stroke of frames is one of these. Where the network
@@ -15,8 +15,10 @@ pub fn overview_law()
 
 /// In the picture of a report each device has a row whose state a record changes, and each way that is cut; a device's
 /// cell has the state in which the records up to the end of the column leave it, and a way's is filled where it is cut at
-/// some time of the column.
+/// some time of the column. Each stroke of such a row is one of these cells.
 pub fn states_law()
     ensures devices { DevicesAreDrawn }
+    ensures device_strokes { DeviceStrokesAreTrue }
     ensures ways { WaysAreDrawn }
+    ensures way_strokes { WayStrokesAreTrue }
 {}
