@@ -1,6 +1,6 @@
 -- Cells that are filled one by one, and cells that are alike.
 use Rattle.lens_overview.specs.{Cells.is_alike, Shades.is_same, declared.shade.Shade.Shade}
-use Rattle.std.proofs.{Common.{◌&&◌, ◌+◌, ◌++◌, ◌<◌, ◌∙◌, ◌∷◌, ◌≡◌, ◌≤◌, Bool, List, [], add-one, ap, append_assoc, arith, drop, false, get_or, length, refl, replicate, set, subst, suc, sym, take, true, ℕ}, Math.Seq.set-append_seam}
+use Rattle.std.proofs.{Common.{◌&&◌, ◌+◌, ◌++◌, ◌<◌, ◌∙◌, ◌∷◌, ◌≡◌, Bool, List, [], add-one, ap, append_assoc, arith, drop, false, get_or, length, refl, replicate, set, suc, sym, take, true, ℕ}, Math.Seq.set-append_seam}
 use Rattle.std.proofs.Common.{drop-cons, length-append, length-take}
 use Rattle.std.proofs.lemmas.List.{length-replicate, replicate_more}
 

@@ -1,7 +1,7 @@
 -- A flow that joins a row, and flows that do so one after another.
 use Rattle.lens_flows.specs.declared.judge.flow.Flow.{Flow}
 use Rattle.lens_overview.specs.{Cells.{Missed, flow_cells}, Rows.{Row, Told, is_like, joined, raised, with_flows}, declared.shade.Shade.Shade}
-use Rattle.std.proofs.{Common.{◌+◌, ◌++◌, ◌<◌, ◌∙◌, ◌∷◌, ◌≡◌, ◌≤◌, Bool, List, ap, arith, drop, get_or, if◌then◌else◌, length, set, suc, sym, take, true, ℕ}, Math.Seq.{drop-cons, set-append_seam}}
+use Rattle.std.proofs.{Common.{◌+◌, ◌++◌, ◌<◌, ◌∙◌, ◌∷◌, ◌≡◌, Bool, List, ap, arith, drop, get_or, if◌then◌else◌, length, set, suc, sym, take, true, ℕ}, Math.Seq.{drop-cons, set-append_seam}}
 use Rattle.std.proofs.{Common.[], lemmas.List.{Sums.fold-append, length-take-le, take-append-drop, take_more}}
 
 set_at : {X : Type 0} (xs : List X) (p : ℕ) (d y : X) → p < length xs → set xs p y ≡ take p xs ++ y ∷ drop (suc p) xs

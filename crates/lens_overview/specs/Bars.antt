@@ -1,5 +1,5 @@
 -- The strip of the greatest spread of each column.
-use Rattle.std.specs.Prelude.{List, None, Option, Some, fold, if◌then◌else◌, length, max, nat_lt, replicate, slice_get, unwrap_or, ℕ}
+use Rattle.std.specs.Prelude.{List, None, Option, Some, fold, max, replicate, slice_get, unwrap_or, ℕ}
 use Rattle.lens_overview.specs.{Grids.column_of, declared.{grid.Grid.Grid, news.News.News}}
 use Rattle.lens_svg.specs.Sketching.{with_at}
 

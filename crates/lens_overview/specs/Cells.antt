@@ -1,6 +1,6 @@
 -- The cells of a row.
-use Rattle.std.specs.Prelude.{◌&&◌, ◌*◌, ◌+◌, ◌-◌, ◌==◌, ◌++◌, ◌∷◌, Bool, List, Option, [], drop, false, fold}
-use Rattle.std.specs.Prelude.{if◌then◌else◌, length, map, min, not, replicate, slice_get, take, true, unwrap_or, ℕ}
+use Rattle.std.specs.Prelude.{◌&&◌, ◌*◌, ◌+◌, ◌-◌, ◌==◌, ◌++◌, ◌∷◌, Bool, List, [], drop, false, fold}
+use Rattle.std.specs.Prelude.{if◌then◌else◌, length, not, replicate, slice_get, take, true, unwrap_or, ℕ}
 use Rattle.std.specs.List.{list_any}
 use Rattle.lens_overview.specs.{Grids.column_of, Labels.is_kind, Ranges.each_below}
 use Rattle.lens_overview.specs.Shades.{delivered, is_blank, is_same, more, repeated, worse}

@@ -1,5 +1,5 @@
 -- The line of each piece of a picture.
-use Rattle.std.specs.Prelude.{◌+◌, ◌++◌, ◌/◌, List, None, Option, Some, codes, decimal, unsigned_abs, ℕ}
+use Rattle.std.specs.Prelude.{◌++◌, ◌/◌, List, None, Option, Some, codes, decimal, ℕ}
 use Rattle.lens_overview.specs.{Labels.{group_word, kind_word, label_word}, Shades.shade_word, Signs.sign_line}
 use Rattle.lens_overview.specs.declared.{grid.{Grid.Grid, Pen.Pen}, label.Label.Label, pieces.{Piece.Piece, Ribbon.Ribbon}}
 use Rattle.lens_svg.specs.{Elements.opening_line, Numbers.micros_text, Titles.title_line}

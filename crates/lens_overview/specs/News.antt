@@ -1,8 +1,8 @@
 -- What each record tells of the rows.
-use Rattle.std.specs.Prelude.{◌++◌, ◌-◌, ◌/◌, ◌==◌, ◌∷◌, List, None, Option, Some, [], fold, max, option_map}
-use Rattle.std.specs.Prelude.{if◌then◌else◌, slice_get, suc, zero, ℕ}
+use Rattle.std.specs.Prelude.{◌++◌, ◌/◌, ◌∷◌, List, None, Option, Some, [], fold, max, option_map}
+use Rattle.std.specs.Prelude.{slice_get, suc, zero, ℕ}
 use Rattle.lens_overview.specs.{Shades.shade_of, Spreads.spread_by, declared.label.Kind.Kind}
-use Rattle.lens_overview.specs.declared.news.{Change.Change, Copied.Copied, News.News}
+use Rattle.lens_overview.specs.declared.news.{Change.Change, News.News}
 use Rattle.net_plan.specs.declared.{event.What.What, ids.{DeviceId.DeviceId, LinkId.LinkId}, network.Network.Network}
 use Rattle.run_law.specs.{declared.note.{Note.Note, NoteBody.NoteBody}, records.Happenings.Happening}
 use Rattle.run_law.specs.{declared.judgement.Reason.Reason, scenario.{Devices.channel_of_link, Scenarios.Scenario}}

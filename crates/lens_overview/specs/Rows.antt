@@ -1,13 +1,13 @@
 -- The rows of a picture, from the top.
 use Rattle.std.specs.{List.list_any, Option.option_map_or}
 use Rattle.std.specs.Prelude.{◌&&◌, ◌+◌, ◌++◌, ◌-◌, ◌==◌, ◌∷◌, Bool, List, None, Option, Some, [], false, flat_map, fold}
-use Rattle.std.specs.Prelude.{if◌then◌else◌, length, map, not, replicate, slice_get, suc, zero, ℕ}
+use Rattle.std.specs.Prelude.{if◌then◌else◌, length, replicate, slice_get, suc, zero, ℕ}
 use Rattle.lens_flows.specs.declared.judge.flow.Flow.{Flow}
 use Rattle.lens_overview.specs.Cells.{Missed, cells_of, flow_cells, is_alike, is_any}
 use Rattle.lens_overview.specs.{Labels.{is_of_vl, with_receiver}, Ranges.all_below}
 use Rattle.lens_overview.specs.declared.{grid.Grid.Grid, label.{Group.Group, Kind.Kind, Label.Label}, news.{Change.Change, News.News}}
 use Rattle.lens_overview.specs.declared.{cells.Run.Run, rows.Calm.Calm, shade.Shade.Shade}
-use Rattle.net_plan.specs.declared.{ids.{DeviceId.DeviceId, VlId.VlId}, network.Network.Network, tables.Device.Device}
+use Rattle.net_plan.specs.declared.{ids.{DeviceId.DeviceId, VlId.VlId}, network.Network.Network}
 use Rattle.tte_units.specs.declared.units.Units.{Units}
 use Rattle.lens_overview.specs.declared.label.Group.TheVariants as groups
 use Rattle.lens_overview.specs.declared.label.Kind.TheVariants as kinds

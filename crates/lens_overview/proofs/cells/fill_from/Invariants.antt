@@ -1,4 +1,4 @@
-use Rattle.std.proofs.Common.{◌++◌, ◌-◌, ◌≡◌, ◌≤◌, drop, length, replicate, take}
+use Rattle.std.proofs.Common.{◌++◌, ◌-◌, ◌≡◌, drop, replicate, take}
 use Rattle.lens_overview.proofs.cells.fill_from.Given as goal
 
 abbrev pub invariant-cells : goal.invariant-cells

@@ -1,4 +1,4 @@
-use Rattle.{audit_law.specs.events.Readings.scenario_under, lens_overview.proofs.Standing.{local_broken, local_in_step, local_other, shows_up_to}}
+use Rattle.{audit_law.specs.events.Readings.scenario_under, lens_overview.proofs.Standing.{local_in_step, local_other, shows_up_to}}
 use Rattle.run_law.specs.{device.States.adjustment_after, records.Happenings.up_to}
 use Rattle.std.{proofs.{Common.{◌+ℤ◌, ◌∙◌, ◌≡◌, Some, ap, pos, rules, sym, ℕ, ℤ}, lemmas.Int.to_z-of_z}, specs.Int.w128}
 use Rattle.sync_state.specs.declared.state.State.TheVariants.{Synchronised}

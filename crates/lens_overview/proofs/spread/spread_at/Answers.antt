@@ -1,5 +1,5 @@
 use Rattle.{audit_law.specs.events.Readings.scenario_under, lens_overview.specs.{Spreads.{apart, ends_at}, declared.spread.Ends.Ends}}
-use Rattle.std.{proofs.Common.{◌∙◌, ◌≡◌, Option, Some, ap, arith, length, rules, sym, ℕ}, specs.Prelude.option_map}
+use Rattle.std.{proofs.Common.{◌∙◌, ◌≡◌, Option, Some, ap, arith, length, sym, ℕ}, specs.Prelude.option_map}
 use Rattle.lens_overview.proofs.spread.spread_at.Goals as goal
 
 pub returns-in-Some : goal.returns-in-Some
