@@ -2,12 +2,12 @@
 use Rattle.lens_overview.specs.{Bars.{bars_of, greatest_of}, Grids.grid_of, News.last_cycle, Pieces.{picture_of, pieces_of}, Rows.rows_of}
 use Rattle.lens_overview.specs.declared.{grid.Grid.Grid, news.News.News, pieces.Piece.Piece}
 use Rattle.{lens_flows.specs.declared.judge.flow.Flow.Flow, net_plan.specs.declared.network.Network.Network}
-use Rattle.std.proofs.Common.{◌∙◌, ◌≡◌, List, [], ap, ℕ}
+use Rattle.std.proofs.Common.{◌∙◌, ◌≡◌, List, [], ap, length, ℕ}
 
 -- the picture of these columns and this last cycle
 abbrev pub picture_by : Network → Grid → ℕ → List News → List Flow → List Piece
 picture_by network grid last all flows =
-    picture_of grid (rows_of network (record { news = all; last = last; grid = grid }) [] flows) (bars_of grid all) (greatest_of all)
+    picture_of grid (rows_of network (record { news = all; last = last; grid = grid }) [] flows) (bars_of grid all) (greatest_of all) (length all)
 
 -- is that of the records, where they are theirs
 pub picture_same : (network : Network) (grid : Grid) (last : ℕ) (told all : List News) (flows fs : List Flow)

@@ -1,7 +1,7 @@
 -- The laws of the picture of a report.
 use Rattle.audit_law.specs.events.Readings.{scenario_under}
 use Rattle.lens_flows.specs.declared.judge.flow.Flow.{Flow}
-use Rattle.lens_overview.proofs.{LawColumns.{brought_cell, cell_brought}, LawLines.{flow_row, line_drawn, lines, none_red, piece_of}, LawNews.{IsTold, brought_delivered, delivered_brought, note_told, told_note}}
+use Rattle.lens_overview.proofs.{LawColumns.{brought_cell, cell_brought}, LawLines.{flow_row, line_drawn, line_in, lines, none_red, piece_of}, LawNews.{IsTold, brought_delivered, delivered_brought, note_told, told_long, told_note}}
 use Rattle.lens_overview.proofs.LawBars.{IsBarOf, IsGreatest, bar_greatest, bar_of, picture_bar}
 use Rattle.lens_overview.proofs.{LawClocks.{abs_close, by_apart}, NoneMissed.none_are}
 use Rattle.lens_overview.specs.{Bars.{bars_of, greatest_of}, Lines.piece_line, News.news_of, Pieces.{pieces_of, told_of}, Rows.rows_of}
@@ -10,7 +10,7 @@ use Rattle.{lens_svg.specs.{Sketching.moment, Titles.title_of}, schedule_tables.
 use Rattle.std.proofs.lemmas.Int.{ints}
 use Rattle.tte_units.specs.Amount.{amount}
 use Rattle.lens_overview.proofs.{LawLanes.{lane_drawn, passage_drawn}, LawStates.{lane_true, passage_true}}
-use Rattle.lens_overview.specs.Lines.{ribbon_line}
+use Rattle.lens_overview.specs.Lines.{extent_line, ribbon_line}
 use Rattle.lens_overview.specs.declared.pieces.Ribbon.{Ribbon}
 use Rattle.net_plan.specs.declared.{ids.DeviceId.DeviceId, tables.Device.Device}
 use Rattle.std.specs.Prelude.{slice_get}
@@ -18,17 +18,39 @@ use Rattle.lens_overview.specs.{LawStates.{HasCells, IsStrokeAlong, device_cell,
 use Rattle.lens_overview.specs.declared.label.Label.TheVariants as labels
 use Rattle.lens_overview.specs.declared.pieces.Piece.TheVariants as pieces
 use Rattle.lens_overview.specs.{Answer.IsOverviewAnswer, Cells.{Missed, shade_at}, Grids.{column_of, pen_at}, LawParts.{HasRow, IsDeliveredIn, IsStrokeOf}, Shades.is_blank}
-use Rattle.lens_overview.specs.Laws.{BarsAreTrue, CellsAreDelivered, DeviceStrokesAreTrue, DevicesAreDrawn, FlowsAreDrawn, IsGreatestIn, IsTrueBar, NoneIsRed, StrokesAreOfFlows, WayStrokesAreTrue, WaysAreDrawn, cells_for, grid_for, spread_of}
+use Rattle.lens_overview.specs.Laws.{BarsAreTrue, CellsAreDelivered, DeviceStrokesAreTrue, DevicesAreDrawn, FlowsAreDrawn, HeadIsDrawn, IsGreatestIn, IsTrueBar, NoneIsRed, StrokesAreOfFlows, WayStrokesAreTrue, WaysAreDrawn, cells_for, grid_for, spread_of}
 use Rattle.lens_overview.specs.Telling.{news_by}
 use Rattle.net_plan.specs.declared.network.Network.{Network}
 use Rattle.run_law.specs.{declared.note.Note.Note, records.{Happenings.happenings, Order.IsIn}}
-use Rattle.std.proofs.Common.{◌+◌, ◌++◌, ◌-◌, ◌∙◌, ◌∷◌, ◌≡◌, ◌≤◌, ◌⊎◌, List, None, Some, [], ap, arith, false, inl, inr, subst, sym, ℕ}
+use Rattle.std.proofs.Common.{◌+◌, ◌++◌, ◌-◌, ◌∙◌, ◌∷◌, ◌≡◌, ◌≤◌, ◌⊎◌, List, None, Some, [], ap, arith, false, inl, inr, length, refl, subst, sym, ℕ}
 use Rattle.{tte_audit.specs.Report.events_of, tte_forms.specs.Answering.Answer, tte_units.specs.declared.units.Units.Units}
 
 -- the lines of an answer
 answer_lines : (words : List (List ℕ)) (network : Network) (ns : List Note) (end : Units) (a : Answer) → (answer : IsOverviewAnswer words network ns end a)
     → a.lines ≡ lines network (title_of words) (news_by network ns ns) answer.missed answer.flows
 answer_lines words network ns end a answer = ap (λ (x : Answer). x.lines) answer.is
+
+-- a piece of the picture has its line
+line_there : (words : List (List ℕ)) (network : Network) (ns : List Note) (end : Units) (a : Answer) → (answer : IsOverviewAnswer words network ns end a)
+    → (piece : Piece) → IsIn piece (pieces_of network (news_by network ns ns) answer.missed answer.flows)
+    → IsIn (piece_line network (title_of words) piece) a.lines
+line_there words network ns end a answer piece i =
+    subst (λ (ls : List (List ℕ)). IsIn (piece_line network (title_of words) piece) ls) (sym (answer_lines words network ns end a answer))
+    (line_in network (title_of words) (pieces_of network (news_by network ns ns) answer.missed answer.flows) piece i)
+
+pub head_is_drawn : HeadIsDrawn
+head_is_drawn words network ns end a answer =
+    let there = line_there words network ns end a answer in
+    let records = length (news_by network ns ns) in
+    let long = told_long network (scenario_under network (events_of ns)) (happenings network ns) ns [] in
+    let many : records ≡ length ns = omega (arith, long) in
+    record {
+      title = there pieces.Title (inr (inl refl));
+      heading = there pieces.Heading (inr (inr (inr (inr (inl refl)))));
+      extent =
+          subst (λ (n : ℕ). IsIn (extent_line network n) a.lines) many
+          (there (pieces.Extent records) (inr (inr (inr (inr (inr (inl refl)))))));
+    }
 
 pub none_is_red : NoneIsRed
 none_is_red words network octets ns end a rules r answer line rest i e =
@@ -160,7 +182,7 @@ bars_are_true words network octets ns end a rules r answer line rest i e =
     let bar = bar_of network (title_of words) at.0 rest (sym at.2 ∙ e) in
     let there : IsIn (pieces.Bar bar.0 bar.1 bar.2 bar.3) all = subst (λ (p : Piece). IsIn p all) bar.4 at.1 in
     bar_true (title_of words) network octets ns end line rules r bar.0 bar.1 bar.2 bar.3 (at.2 ∙ ap (piece_line network (title_of words)) bar.4)
-    (picture_bar bar.0 bar.1 bar.2 bar.3 grid (rows_of network (told_of news) answer.missed answer.flows) (bars_of grid news) (greatest_of news) there)
+    (picture_bar bar.0 bar.1 bar.2 bar.3 grid (rows_of network (told_of news) answer.missed answer.flows) (bars_of grid news) (greatest_of news) (length news) there)
 
 -- ---- devices and ways
 

@@ -1,10 +1,10 @@
 -- The bars of the strip.
 use Rattle.lens_overview.proofs.LawRows.{in_each}
-use Rattle.lens_overview.specs.{Bars.{bars_of, greater, greatest_of, raised}, Grids.{column_of, pen_at}, Lines.{bar_line, bar_part, caption_line, caption_part, piece_line, rail_part, spread_line, stroke_part, tick_line, tick_part}}
+use Rattle.lens_overview.specs.{Bars.{bars_of, greater, greatest_of, raised}, Grids.{column_of, pen_at}, Lines.{bar_line, bar_part, caption_line, caption_part, extent_line, piece_line, rail_part, spread_line, stroke_part, tick_line, tick_part}}
 use Rattle.lens_overview.specs.Pieces.{bar_at, bar_height, bars_from, below, bottom_of, front, not_begun, picture_of, row_pieces, rows_from, stride_of, stroke_to, strokes_from, ticks, top}
 use Rattle.lens_overview.specs.{Rows.Row, Shades.{is_blank, is_same}, Signs.sign_line, declared.{grid.{Grid.Grid, Pen.Pen}, label.Label.Label, news.News.News}}
 use Rattle.lens_overview.specs.declared.{pieces.{Begun.Begun, Piece.Piece, Ribbon.Ribbon}, shade.Shade.Shade}
-use Rattle.{lens_svg.specs.{Elements.opening_line, Sketching.with_at, Titles.title_line}, net_plan.specs.declared.network.Network.Network}
+use Rattle.{lens_svg.specs.{Elements.opening_line, Sketching.with_at, Titles.{heading_line, title_line}}, net_plan.specs.declared.network.Network.Network}
 use Rattle.run_law.{proofs.runs.Places.in_parts, specs.records.Order.IsIn}
 use Rattle.std.proofs.Common.{◌*◌, ◌+◌, ◌++◌, ◌-◌, ◌/◌, ◌<◌, ◌∙◌, ◌∷◌, ◌≡◌, ◌≤◌, ◌⊎◌, Bool, List, None, Option, Some, [], ap, arith, false, fold, get_or, if◌then◌else◌, inl, inr, length, refl, replicate, subst, suc, sym, true, zero, ℕ}
 use Rattle.std.proofs.lemmas.{Bool.{Decides.nat_tests, cases_lt}, List.{get_or-replicate, get_or-set_other, get_or-set_same, length-replicate, length-set}}
@@ -53,12 +53,13 @@ stroke_class network title (labels.Flows vl count) y shade from to rest same = l
 
 -- a line that begins so is that of a bar
 pub bar_of : (network : Network) (title : List ℕ) (piece : Piece) (rest : List ℕ) → piece_line network title piece ≡ codes "<path class=\"bar" ++ rest → IsBar piece
-unfolding opening_line title_line sign_line caption_line caption_part spread_line tick_line tick_part bar_line bar_part rail_part
+unfolding opening_line title_line heading_line extent_line sign_line caption_line caption_part spread_line tick_line tick_part bar_line bar_part rail_part
 bar_of network title (pieces.Opening width height) rest same = let octet = ap (octet_at 1) same in absurd (omega (arith, octet))
 bar_of network title pieces.Title rest same = let octet = ap (octet_at 1) same in absurd (omega (arith, octet))
+bar_of network title pieces.Heading rest same = let octet = ap (octet_at 1) same in absurd (omega (arith, octet))
+bar_of network title (pieces.Extent records) rest same = let octet = ap (octet_at 1) same in absurd (omega (arith, octet))
 bar_of network title (pieces.Shared signs.Style) rest same = let octet = ap (octet_at 1) same in absurd (omega (arith, octet))
 bar_of network title (pieces.Shared signs.Backdrop) rest same = let octet = ap (octet_at 1) same in absurd (omega (arith, octet))
-bar_of network title (pieces.Shared signs.Heading) rest same = let octet = ap (octet_at 1) same in absurd (omega (arith, octet))
 bar_of network title (pieces.Shared signs.FrameKey) rest same = let octet = ap (octet_at 1) same in absurd (omega (arith, octet))
 bar_of network title (pieces.Shared signs.StateKey) rest same = let octet = ap (octet_at 1) same in absurd (omega (arith, octet))
 bar_of network title (pieces.Shared signs.Close) rest same = let octet = ap (octet_at 1) same in absurd (omega (arith, octet))
@@ -179,32 +180,33 @@ module _ (pen : Pen) (width height spread : ℕ) where
       other : (at : Pen) (down : ℕ) → bar ≡ pieces.Tick at down → ⊥
       other at down e = cc
 
-  no_front : (grid : Grid) (bottom : ℕ) (greatest : Option ℕ) → IsIn bar (front grid bottom greatest) → ⊥
-  no_front grid bottom greatest (inl e) = cc
-  no_front grid bottom greatest (inr (inl e)) = cc
-  no_front grid bottom greatest (inr (inr (inl e))) = cc
-  no_front grid bottom greatest (inr (inr (inr (inl e)))) = cc
-  no_front grid bottom greatest (inr (inr (inr (inr (inl e))))) = cc
-  no_front grid bottom greatest (inr (inr (inr (inr (inr (inl e)))))) = cc
-  no_front grid bottom greatest (inr (inr (inr (inr (inr (inr (inl e))))))) = cc
-  no_front grid bottom greatest (inr (inr (inr (inr (inr (inr (inr (inl e)))))))) = cc
-  no_front grid bottom greatest (inr (inr (inr (inr (inr (inr (inr (inr (inl e))))))))) = cc
-  no_front grid bottom greatest (inr (inr (inr (inr (inr (inr (inr (inr (inr none))))))))) = none
+  no_front : (grid : Grid) (bottom : ℕ) (greatest : Option ℕ) (records : ℕ) → IsIn bar (front grid bottom greatest records) → ⊥
+  no_front grid bottom greatest records (inl e) = cc
+  no_front grid bottom greatest records (inr (inl e)) = cc
+  no_front grid bottom greatest records (inr (inr (inl e))) = cc
+  no_front grid bottom greatest records (inr (inr (inr (inl e)))) = cc
+  no_front grid bottom greatest records (inr (inr (inr (inr (inl e))))) = cc
+  no_front grid bottom greatest records (inr (inr (inr (inr (inr (inl e)))))) = cc
+  no_front grid bottom greatest records (inr (inr (inr (inr (inr (inr (inl e))))))) = cc
+  no_front grid bottom greatest records (inr (inr (inr (inr (inr (inr (inr (inl e)))))))) = cc
+  no_front grid bottom greatest records (inr (inr (inr (inr (inr (inr (inr (inr (inl e))))))))) = cc
+  no_front grid bottom greatest records (inr (inr (inr (inr (inr (inr (inr (inr (inr (inl e)))))))))) = cc
+  no_front grid bottom greatest records (inr (inr (inr (inr (inr (inr (inr (inr (inr (inr none)))))))))) = none
 
   no_end : IsIn bar (pieces.Shared signs.Close ∷ []) → ⊥
   no_end (inl e) = cc
   no_end (inr i) = i
 
   -- each bar of a picture is one of the strip
-  pub picture_bar : (grid : Grid) (rows : List Row) (bars : List (Option ℕ)) (greatest : Option ℕ) → IsIn bar (picture_of grid rows bars greatest)
+  pub picture_bar : (grid : Grid) (rows : List Row) (bars : List (Option ℕ)) (greatest : Option ℕ) (records : ℕ) → IsIn bar (picture_of grid rows bars greatest records)
       → IsBarOf grid bars 0 bar
-  picture_bar grid rows bars greatest i =
+  picture_bar grid rows bars greatest records i =
       let bottom = bottom_of top rows in
       let end : List Piece = pieces.Shared signs.Close ∷ [] in
       let below_bars = rows_from grid top rows ++ end in
       let below_ticks = bars_from grid greatest 0 bars ++ below_bars in
-      elim (in_parts bar (front grid bottom greatest) (ticks grid bottom ++ below_ticks) i) [
-        | inl first ↦ absurd (no_front grid bottom greatest first)
+      elim (in_parts bar (front grid bottom greatest records) (ticks grid bottom ++ below_ticks) i) [
+        | inl first ↦ absurd (no_front grid bottom greatest records first)
         | inr more ↦ elim (in_parts bar (ticks grid bottom) below_ticks more) [
           | inl tick ↦ absurd (no_ticks grid bottom tick)
           | inr rest ↦ elim (in_parts bar (bars_from grid greatest 0 bars) below_bars rest) [

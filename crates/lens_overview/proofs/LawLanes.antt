@@ -324,7 +324,7 @@ module _ (network : Network) (s : Scenario) (hs : List Happening) (ns : List Not
       → HasCells network grid_here (lines network title news missed flows) label cell
   cells_drawn label cells cell i size is =
       let row : Row = record { label = label; cells = cells } in
-      let laid = picture_laid grid_here (rows network title news missed flows) (bars_of grid_here news) (greatest_of news) row i in
+      let laid = picture_laid grid_here (rows network title news missed flows) (bars_of grid_here news) (greatest_of news) (length news) row i in
       record {
         y = laid.0;
         name = name_there network title news missed flows row laid.0 laid.1;

@@ -55,7 +55,7 @@ module _ (network : Network) (title : List ℕ) (news : List News) (missed : Lis
   flow_row flow i =
       let has = flow_has network (told_of news) missed flows flow i in
       let row = has.row in
-      let laid = picture_laid grid rows (bars_of grid news) (greatest_of news) row has.there in
+      let laid = picture_laid grid rows (bars_of grid news) (greatest_of news) (length news) row has.there in
       let size : length row.cells ≡ grid.columns = ap length has.cells ∙ long_flow network (told_of news) missed flow in
       record {
         label = row.label;
@@ -96,7 +96,7 @@ module _ (network : Network) (title : List ℕ) (news : List News) (missed : Lis
   pub stroke_drawn : (ribbon : Ribbon) (line : List ℕ) → IsIn (pieces.Stroke ribbon) all → is_flow ribbon.label ≡ true
       → line ≡ ribbon_line network ribbon → IsDrawn line ribbon
   stroke_drawn ribbon line i frames is =
-      let of = picture_stroke grid rows (bars_of grid news) (greatest_of news) ribbon i in
+      let of = picture_stroke grid rows (bars_of grid news) (greatest_of news) (length news) ribbon i in
       let label = stroke_label grid of.row.label of.y not_begun 0 of.row.cells ribbon of.stroke in
       let some = row_is network (told_of news) missed flows of.row of.there (ap is_flow (sym label) ∙ frames) in
       let size : length of.row.cells ≡ grid.columns = ap length some.cells ∙ long_flow network (told_of news) missed some.flow in

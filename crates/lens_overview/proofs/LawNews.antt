@@ -6,7 +6,7 @@ use Rattle.lens_flows.specs.declared.judge.flow.Flow.{Flow}
 use Rattle.net_plan.specs.declared.{event.What.What, ids.{DeviceId.DeviceId, LinkId.LinkId, VlId.VlId}, network.Network.Network}
 use Rattle.run_law.{proofs.runs.Places.{in_left, in_parts, in_right}, specs.records.{Happenings.Happening, Order.IsIn}}
 use Rattle.run_law.specs.{declared.note.{Note.Note, NoteBody.NoteBody}, scenario.{Devices.channel_of_link, Scenarios.Scenario}}
-use Rattle.std.proofs.Common.{◌++◌, ◌∙◌, ◌∷◌, ◌≡◌, ◌⊎◌, List, None, Option, Some, [], ap, fold, inl, inr, refl, subst, sym, ℕ}
+use Rattle.std.proofs.Common.{◌+◌, ◌++◌, ◌∙◌, ◌∷◌, ◌≡◌, ◌⊎◌, List, None, Option, Some, [], ap, arith, fold, inl, inr, length, length-append, refl, subst, sym, ℕ}
 use Rattle.tte_units.specs.declared.frames.channel.Channel.{Channel}
 use Rattle.lens_overview.specs.declared.news.Change.TheVariants as changes
 use Rattle.net_plan.specs.declared.event.What.TheVariants as events
@@ -68,6 +68,14 @@ module _ (network : Network) (s : Scenario) (hs : List Happening) where
   told_stays [] before news i = i
   told_stays (note ∷ ns) before news i =
       told_stays ns (before ++ news_of network s hs before note ∷ []) news (in_left news before (news_of network s hs before note ∷ []) i)
+
+  -- as many as there are records
+  pub told_long : (ns : List Note) (before : List News) → length (told_from before ns) ≡ length before + length ns
+  told_long [] before = omega arith
+  told_long (note ∷ ns) before =
+      let rest = told_long ns (before ++ news_of network s hs before note ∷ []) in
+      let more = length-append before (news_of network s hs before note ∷ []) in
+      omega (arith, rest, more)
 
   -- each record tells something
   pub note_told : (ns : List Note) (before : List News) (note : Note) → IsIn note ns

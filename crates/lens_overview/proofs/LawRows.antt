@@ -107,19 +107,20 @@ no_ticks grid bottom ribbon i =
     other : (pen : Pen) (down : ℕ) → pieces.Stroke ribbon ≡ pieces.Tick pen down → ⊥
     other pen down e = cc
 
-no_front : (grid : Grid) (bottom : ℕ) (greatest : Option ℕ) (ribbon : Ribbon) → IsIn (pieces.Stroke ribbon) (front grid bottom greatest) → ⊥
-no_front grid bottom greatest ribbon (inl e) = cc
-no_front grid bottom greatest ribbon (inr (inl e)) = cc
-no_front grid bottom greatest ribbon (inr (inr (inl e))) = cc
-no_front grid bottom greatest ribbon (inr (inr (inr (inl e)))) = cc
-no_front grid bottom greatest ribbon (inr (inr (inr (inr (inl e))))) = cc
-no_front grid bottom greatest ribbon (inr (inr (inr (inr (inr (inl e)))))) = cc
-no_front grid bottom greatest ribbon (inr (inr (inr (inr (inr (inr (inl e))))))) = cc
-no_front grid bottom greatest ribbon (inr (inr (inr (inr (inr (inr (inr (inl e)))))))) = cc
-no_front grid bottom greatest ribbon (inr (inr (inr (inr (inr (inr (inr (inr (inl e))))))))) = cc
-no_front grid bottom greatest ribbon (inr (inr (inr (inr (inr (inr (inr (inr (inr none))))))))) = absurd none
+no_front : (grid : Grid) (bottom : ℕ) (greatest : Option ℕ) (records : ℕ) (ribbon : Ribbon) → IsIn (pieces.Stroke ribbon) (front grid bottom greatest records) → ⊥
+no_front grid bottom greatest records ribbon (inl e) = cc
+no_front grid bottom greatest records ribbon (inr (inl e)) = cc
+no_front grid bottom greatest records ribbon (inr (inr (inl e))) = cc
+no_front grid bottom greatest records ribbon (inr (inr (inr (inl e)))) = cc
+no_front grid bottom greatest records ribbon (inr (inr (inr (inr (inl e))))) = cc
+no_front grid bottom greatest records ribbon (inr (inr (inr (inr (inr (inl e)))))) = cc
+no_front grid bottom greatest records ribbon (inr (inr (inr (inr (inr (inr (inl e))))))) = cc
+no_front grid bottom greatest records ribbon (inr (inr (inr (inr (inr (inr (inr (inl e)))))))) = cc
+no_front grid bottom greatest records ribbon (inr (inr (inr (inr (inr (inr (inr (inr (inl e))))))))) = cc
+no_front grid bottom greatest records ribbon (inr (inr (inr (inr (inr (inr (inr (inr (inr (inl e)))))))))) = cc
+no_front grid bottom greatest records ribbon (inr (inr (inr (inr (inr (inr (inr (inr (inr (inr none)))))))))) = absurd none
 
-module _ (grid : Grid) (rows : List Row) (bars : List (Option ℕ)) (greatest : Option ℕ) where
+module _ (grid : Grid) (rows : List Row) (bars : List (Option ℕ)) (greatest : Option ℕ) (records : ℕ) where
   abbrev bottom : ℕ
   bottom = bottom_of top rows
 
@@ -129,11 +130,11 @@ module _ (grid : Grid) (rows : List Row) (bars : List (Option ℕ)) (greatest : 
   abbrev lower : List Piece
   lower = bars_from grid greatest 0 bars ++ (rows_from grid top rows ++ end)
 
-  pub picture_laid : (row : Row) → IsIn row rows → (y : ℕ) × IsLaid grid (picture_of grid rows bars greatest) row y
+  pub picture_laid : (row : Row) → IsIn row rows → (y : ℕ) × IsLaid grid (picture_of grid rows bars greatest records) row y
   picture_laid row i =
       let h = row_laid grid top rows row i in (
         h.0,
-        laid_right grid (front grid bottom greatest) (ticks grid bottom ++ lower) row h.0
+        laid_right grid (front grid bottom greatest records) (ticks grid bottom ++ lower) row h.0
             (laid_right grid (ticks grid bottom) lower row h.0 (laid_right grid (bars_from grid greatest 0 bars) (rows_from grid top rows ++ end) row h.0
             (laid_left grid (rows_from grid top rows) end row h.0 h.1))),
       )
@@ -150,9 +151,9 @@ module _ (grid : Grid) (rows : List Row) (bars : List (Option ℕ)) (greatest : 
     | inr more ↦ in_rows ribbon more
   ]
 
-  in_picture : (ribbon : Ribbon) → IsIn (pieces.Stroke ribbon) (picture_of grid rows bars greatest) → IsIn (pieces.Stroke ribbon) (rows_from grid top rows)
-  in_picture ribbon i = elim (in_parts (pieces.Stroke ribbon) (front grid bottom greatest) (ticks grid bottom ++ lower) i) [
-    | inl first ↦ absurd (no_front grid bottom greatest ribbon first)
+  in_picture : (ribbon : Ribbon) → IsIn (pieces.Stroke ribbon) (picture_of grid rows bars greatest records) → IsIn (pieces.Stroke ribbon) (rows_from grid top rows)
+  in_picture ribbon i = elim (in_parts (pieces.Stroke ribbon) (front grid bottom greatest records) (ticks grid bottom ++ lower) i) [
+    | inl first ↦ absurd (no_front grid bottom greatest records ribbon first)
     | inr more ↦ elim (in_parts (pieces.Stroke ribbon) (ticks grid bottom) lower more) [
       | inl tick ↦ absurd (no_ticks grid bottom ribbon tick)
       | inr rest ↦ in_lower ribbon rest
@@ -160,8 +161,8 @@ module _ (grid : Grid) (rows : List Row) (bars : List (Option ℕ)) (greatest : 
   ]
 
   -- each stroke is one of a row
-  pub picture_stroke : (ribbon : Ribbon) → IsIn (pieces.Stroke ribbon) (picture_of grid rows bars greatest)
-      → IsOfRow grid (picture_of grid rows bars greatest) rows ribbon
+  pub picture_stroke : (ribbon : Ribbon) → IsIn (pieces.Stroke ribbon) (picture_of grid rows bars greatest records)
+      → IsOfRow grid (picture_of grid rows bars greatest records) rows ribbon
   picture_stroke ribbon i =
       let s = stroke_of_row grid top rows ribbon (in_picture ribbon i) in
       record {
@@ -169,7 +170,7 @@ module _ (grid : Grid) (rows : List Row) (bars : List (Option ℕ)) (greatest : 
         y = s.y;
         there = s.there;
         laid =
-            laid_right grid (front grid bottom greatest) (ticks grid bottom ++ lower) s.row s.y
+            laid_right grid (front grid bottom greatest records) (ticks grid bottom ++ lower) s.row s.y
             (laid_right grid (ticks grid bottom) lower s.row s.y (laid_right grid (bars_from grid greatest 0 bars) (rows_from grid top rows ++ end) s.row s.y
             (laid_left grid (rows_from grid top rows) end s.row s.y s.laid)));
         stroke = s.stroke;

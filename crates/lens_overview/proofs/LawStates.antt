@@ -194,7 +194,7 @@ module _ (network : Network) (s : Scenario) (hs : List Happening) (ns : List Not
       let stroke = lane_of network title at.0 rest (sym at.2 ∙ e) in
       let ribbon = stroke.0 in
       let is : line ≡ ribbon_line network ribbon = at.2 ∙ ap (piece_line network title) stroke.1 in
-      let of = picture_stroke grid_here (rows network title news missed flows) (bars_of grid_here news) (greatest_of news) ribbon
+      let of = picture_stroke grid_here (rows network title news missed flows) (bars_of grid_here news) (greatest_of news) (length news) ribbon
       (subst (λ (p : Piece). IsIn p (all network title news missed flows)) stroke.1 at.1) in
       by ribbon is of (lane_label ribbon.label stroke.2)
     where
@@ -229,7 +229,7 @@ module _ (network : Network) (s : Scenario) (hs : List Happening) (ns : List Not
       let stroke = passage_of network title at.0 rest (sym at.2 ∙ e) in
       let ribbon = stroke.0 in
       let is : line ≡ ribbon_line network ribbon = at.2 ∙ ap (piece_line network title) stroke.1 in
-      let of = picture_stroke grid_here (rows network title news missed flows) (bars_of grid_here news) (greatest_of news) ribbon
+      let of = picture_stroke grid_here (rows network title news missed flows) (bars_of grid_here news) (greatest_of news) (length news) ribbon
       (subst (λ (p : Piece). IsIn p (all network title news missed flows)) stroke.1 at.1) in
       let named = passage_label ribbon.label stroke.2 in
       let own : of.row.label ≡ labels.Passage named.0 named.1 =

@@ -3,9 +3,9 @@ use Rattle.std.specs.Prelude.{◌++◌, ◌-◌, ◌<◌, ◌↔◌, ◌≡◌, 
 use Rattle.audit_law.specs.events.Readings.{scenario_under}
 use Rattle.lens_flows.specs.{declared.judge.flow.Flow.Flow, judge.Flows.IsFlow}
 use Rattle.lens_overview.specs.{Answer.IsOverviewAnswer, Cells.{Missed, flow_cells, shade_at}, Grids.{column_of, grid_of, pen_at}}
-use Rattle.lens_overview.specs.{LawParts.{HasRow, IsDeliveredIn, IsStrokeOf}, Lines.{bar_line, ribbon_line}, Shades.is_blank}
+use Rattle.lens_overview.specs.{LawParts.{HasRow, IsDeliveredIn, IsStrokeOf}, Lines.{bar_line, extent_line, ribbon_line}, Shades.is_blank}
 use Rattle.lens_overview.specs.{News.{cycle_of, last_cycle}, Spreads.spread_by}
-use Rattle.lens_svg.specs.Sketching.{moment}
+use Rattle.lens_svg.specs.{Sketching.moment, Titles.{heading_line, title_line, title_of}}
 use Rattle.lens_overview.specs.{LawStates.{HasCells, IsStrokeAlong, IsTurn, device_cell, way_cell}, Rows.start_of}
 use Rattle.lens_overview.specs.declared.label.Label.TheVariants.{Lane, Others, Passage}
 use Rattle.net_plan.specs.declared.{ids.{DeviceId.DeviceId, LinkId.LinkId}, tables.{Device.Device, Way.Way}}
@@ -16,6 +16,19 @@ use Rattle.tte_audit.specs.Report.{events_of}
 use Rattle.tte_units.specs.Amount.{amount}
 use Rattle.{tte_forms.specs.Answering.Answer, tte_reports.specs.Reports.IsReportOf}
 use Rattle.tte_units.specs.declared.units.Units.{Units}
+
+-- these lines name the picture by the words of the call, show them at its head too, and below them that it is of the whole
+-- run, how many records this has, and the precision
+pub record HasHead (words : List (List ℕ)) (network : Network) (ns : List Note) (lines : List (List ℕ)) : Type 0 where
+  pub title : IsIn (title_line (title_of words)) lines
+  pub heading : IsIn (heading_line (title_of words)) lines
+  pub extent : IsIn (extent_line network (length ns)) lines
+
+-- so do those of each picture
+abbrev pub HeadIsDrawn : Type 0
+HeadIsDrawn =
+    (words : List (List ℕ)) (network : Network) (ns : List Note) (end : Units) (a : Answer)
+    → IsOverviewAnswer words network ns end a → HasHead words network ns a.lines
 
 -- the columns of the picture of these records
 abbrev pub grid_for : Network → List Note → Grid

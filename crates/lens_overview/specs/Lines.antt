@@ -2,7 +2,7 @@
 use Rattle.std.specs.Prelude.{◌++◌, ◌/◌, List, None, Option, Some, codes, decimal, ℕ}
 use Rattle.lens_overview.specs.{Labels.{group_word, kind_word, label_word}, Shades.shade_word, Signs.sign_line}
 use Rattle.lens_overview.specs.declared.{grid.{Grid.Grid, Pen.Pen}, label.Label.Label, pieces.{Piece.Piece, Ribbon.Ribbon}}
-use Rattle.lens_svg.specs.{Elements.opening_line, Numbers.micros_text, Titles.title_line}
+use Rattle.lens_svg.specs.{Elements.opening_line, Numbers.micros_text, Titles.{heading_line, title_line}}
 use Rattle.net_plan.specs.{Belonging.{device_name, link_name, vl_name}, declared.network.Network.Network}
 use Rattle.{trace_text.specs.EventWords.way_text, tte_units.specs.Amount.amount}
 use Rattle.lens_overview.specs.declared.label.Label.TheVariants as labels
@@ -19,10 +19,16 @@ label_text network (labels.Passage link way) = link_name network link ++ codes "
 label_text network (labels.Flow vl device) = vl_name network vl ++ codes " to " ++ device_name network device
 label_text network (labels.Flows vl count) = vl_name network vl ++ codes " to " ++ decimal count ++ codes " receivers"
 
+-- of what the picture is, of how many records, and the precision
+unfoldable pub extent_line : Network → ℕ → List ℕ
+extent_line network records =
+    codes "<text class=\"note\" x=\"12\" y=\"39\">the whole run, records " ++ decimal records ++ codes ", precision "
+    ++ micros_text (amount network.precision) ++ codes " us</text>\n"
+
 -- how many columns there are, and of how many cycles
 unfoldable pub caption_part : Grid → List ℕ
 caption_part grid =
-    codes "<text class=\"note\" x=\"12\" y=\"56\">columns " ++ decimal grid.columns ++ codes ", of cycles "
+    codes "<text class=\"note\" x=\"12\" y=\"84\">columns " ++ decimal grid.columns ++ codes ", of cycles "
     ++ decimal grid.cycles
 
 -- the same, and how long a cycle is
@@ -43,15 +49,15 @@ greatest_text None = codes "no spread of clocks"
 -- it and the precision
 unfoldable pub spread_line : Network → Option ℕ → List ℕ
 spread_line network greatest =
-    codes "<g><text class=\"name lane\" x=\"192\" y=\"76\">" ++ greatest_text greatest
-    ++ codes "</text><text class=\"name title\" x=\"192\" y=\"90\">of precision "
+    codes "<g><text class=\"name lane\" x=\"192\" y=\"104\">" ++ greatest_text greatest
+    ++ codes "</text><text class=\"name title\" x=\"192\" y=\"118\">of precision "
     ++ apart_text (amount network.precision) ++ codes "</text></g>\n"
 
 -- a line between two columns, down to here, and the number of the cycle that begins there, above
 unfoldable pub tick_part : Pen → ℕ → List ℕ
 tick_part pen down =
-    codes "<g><path class=\"tick\" d=\"M" ++ decimal pen.x ++ codes " 118 V" ++ decimal down
-    ++ codes "\"/><text class=\"time\" x=\"" ++ decimal pen.x ++ codes "\" y=\"114\">" ++ decimal pen.cycle
+    codes "<g><path class=\"tick\" d=\"M" ++ decimal pen.x ++ codes " 146 V" ++ decimal down
+    ++ codes "\"/><text class=\"time\" x=\"" ++ decimal pen.x ++ codes "\" y=\"142\">" ++ decimal pen.cycle
 
 -- the same, and the number below
 unfoldable pub tick_line : Pen → ℕ → List ℕ
@@ -62,7 +68,7 @@ tick_line pen down =
 -- a bar so wide and so high
 unfoldable pub bar_part : Pen → ℕ → ℕ → List ℕ
 bar_part pen width height =
-    codes "<path class=\"bar\" d=\"M" ++ decimal pen.x ++ codes " 102 h" ++ decimal width ++ codes " v-"
+    codes "<path class=\"bar\" d=\"M" ++ decimal pen.x ++ codes " 130 h" ++ decimal width ++ codes " v-"
     ++ decimal height ++ codes " h-" ++ decimal width
 
 -- the same, and what it says
@@ -117,6 +123,8 @@ ribbon_line network ribbon = stroke_part ribbon ++ title_part network ribbon
 abbrev pub piece_line : Network → List ℕ → Piece → List ℕ
 piece_line network title (pieces.Opening width height) = opening_line width height
 piece_line network title pieces.Title = title_line title
+piece_line network title pieces.Heading = heading_line title
+piece_line network title (pieces.Extent records) = extent_line network records
 piece_line network title (pieces.Shared sign) = sign_line sign
 piece_line network title (pieces.Caption grid) = caption_line network grid
 piece_line network title (pieces.Spread greatest) = spread_line network greatest

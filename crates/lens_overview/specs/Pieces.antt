@@ -1,6 +1,6 @@
 -- What a picture is made of, and where it stands.
 use Rattle.std.specs.Prelude.{◌*◌, ◌+◌, ◌++◌, ◌-◌, ◌/◌, ◌∷◌, ◌^◌, List, Option, Some, [], fold, if◌then◌else◌}
-use Rattle.std.specs.Prelude.{min, nat_le, ℕ}
+use Rattle.std.specs.Prelude.{length, min, nat_le, ℕ}
 use Rattle.lens_flows.specs.declared.judge.flow.Flow.{Flow}
 use Rattle.lens_overview.specs.{Bars.{bars_of, greatest_of}, Cells.Missed, Grids.{grid_of, pen_at, right_of, width_of}}
 use Rattle.lens_overview.specs.{Labels.height_of, News.last_cycle, Ranges.each_below, Rows.{Row, Told, rows_of}}
@@ -13,7 +13,7 @@ use Rattle.lens_overview.specs.declared.signs.Sign.TheVariants as signs
 
 -- how far down the first row is, but for its height
 abbrev pub top : ℕ
-top = 122
+top = 150
 
 -- no row is further down
 abbrev pub deepest : ℕ
@@ -27,12 +27,13 @@ below y label = min (y + height_of label) deepest
 abbrev pub bottom_of : ℕ → List Row → ℕ
 bottom_of y rows = fold (λ y row. below y row.label) y rows
 
--- what each picture begins with, down to here
-abbrev pub front : Grid → ℕ → Option ℕ → List Piece
-front grid bottom greatest =
+-- what each picture of so many records begins with, down to here
+abbrev pub front : Grid → ℕ → Option ℕ → ℕ → List Piece
+front grid bottom greatest records =
     pieces.Opening (width_of grid) (bottom + 30)
-    ∷ pieces.Title ∷ pieces.Shared signs.Style ∷ pieces.Shared signs.Backdrop ∷ pieces.Shared signs.Heading
-    ∷ pieces.Shared signs.FrameKey ∷ pieces.Shared signs.StateKey ∷ pieces.Caption grid ∷ pieces.Spread greatest ∷ []
+    ∷ pieces.Title ∷ pieces.Shared signs.Style ∷ pieces.Shared signs.Backdrop ∷ pieces.Heading
+    ∷ pieces.Extent records ∷ pieces.Shared signs.FrameKey ∷ pieces.Shared signs.StateKey ∷ pieces.Caption grid
+    ∷ pieces.Spread greatest ∷ []
 
 -- every how many columns the scale has a number
 abbrev pub stride_of : ℕ → ℕ
@@ -95,10 +96,10 @@ rows_from grid y [] = []
 rows_from grid y (row ∷ rows) =
     row_pieces grid row (below y row.label) ++ rows_from grid (below y row.label) rows
 
--- the picture of these rows and bars
-abbrev pub picture_of : Grid → List Row → List (Option ℕ) → Option ℕ → List Piece
-picture_of grid rows bars greatest =
-    front grid (bottom_of top rows) greatest
+-- the picture of these rows and bars, of so many records
+abbrev pub picture_of : Grid → List Row → List (Option ℕ) → Option ℕ → ℕ → List Piece
+picture_of grid rows bars greatest records =
+    front grid (bottom_of top rows) greatest records
     ++ (ticks grid (bottom_of top rows)
     ++ (bars_from grid greatest 0 bars ++ (rows_from grid top rows ++ pieces.Shared signs.Close ∷ [])))
 
@@ -110,4 +111,4 @@ told_of all = record { news = all; last = last_cycle all; grid = grid_of (last_c
 abbrev pub pieces_of : Network → List News → List Missed → List Flow → List Piece
 pieces_of network all missed flows =
     let grid = grid_of (last_cycle all) in
-    picture_of grid (rows_of network (told_of all) missed flows) (bars_of grid all) (greatest_of all)
+    picture_of grid (rows_of network (told_of all) missed flows) (bars_of grid all) (greatest_of all) (length all)

@@ -1,6 +1,6 @@
 -- The lines that each picture has.
 use Rattle.std.specs.Prelude.{◌++◌, List, codes, ℕ}
-use Rattle.lens_overview.specs.declared.signs.Sign.{Sign, TheVariants.{Backdrop, Close, FrameKey, Heading, StateKey, Style}}
+use Rattle.lens_overview.specs.declared.signs.Sign.{Sign, TheVariants.{Backdrop, Close, FrameKey, StateKey, Style}}
 
 -- the colours
 abbrev pub style : List ℕ
@@ -25,25 +25,21 @@ style =
 abbrev pub backdrop : List ℕ
 backdrop = codes "<rect width=\"100%\" height=\"100%\" fill=\"#fafafa\"/>\n"
 
--- the title
-abbrev pub heading : List ℕ
-heading = codes "<text class=\"top\" x=\"12\" y=\"24\">lens draw</text>\n"
-
 -- what the colours of frames mean
 abbrev pub frame_key : List ℕ
 frame_key =
-    codes "<g><g transform=\"translate(200 20)\"><path class=\"flow both\" d=\"M0 0 H12\"/>"
+    codes "<g><g transform=\"translate(200 50)\"><path class=\"flow both\" d=\"M0 0 H12\"/>"
     ++ codes "<text class=\"key\" x=\"17\" y=\"4\">by both channels</text></g>"
-    ++ codes "<g transform=\"translate(320 20)\">"
+    ++ codes "<g transform=\"translate(320 50)\">"
     ++ codes "<path class=\"flow alone_a\" d=\"M0 0 H12\"/><text class=\"key\" x=\"17\" y=\"4\">"
     ++ codes "by a alone</text></g>"
-    ++ codes "<g transform=\"translate(410 20)\"><path class=\"flow alone_b\" d=\"M0 0 H12\"/>"
-    ++ codes "<text class=\"key\" x=\"17\" y=\"4\">by b alone</text></g><g transform=\"translate(500 20)\">"
+    ++ codes "<g transform=\"translate(410 50)\"><path class=\"flow alone_b\" d=\"M0 0 H12\"/>"
+    ++ codes "<text class=\"key\" x=\"17\" y=\"4\">by b alone</text></g><g transform=\"translate(500 50)\">"
     ++ codes "<path class=\"flow missing\" d=\"M0 0 H12\"/><text class=\"key\" x=\"17\" y=\"4\">"
     ++ codes "owed and by none</text></g>"
-    ++ codes "<g transform=\"translate(626 20)\"><path class=\"refused many\" d=\"M0 0 H12\"/>"
+    ++ codes "<g transform=\"translate(626 50)\"><path class=\"refused many\" d=\"M0 0 H12\"/>"
     ++ codes "<text class=\"key\" x=\"17\" y=\"4\">lost or refused</text></g>"
-    ++ codes "<g transform=\"translate(728 20)\">"
+    ++ codes "<g transform=\"translate(728 50)\">"
     ++ codes "<path class=\"spared many\" d=\"M0 0 H12\"/><text class=\"key\" x=\"17\" y=\"4\">"
     ++ codes "second copy or not taken</text>"
     ++ codes "</g></g>\n"
@@ -51,17 +47,17 @@ frame_key =
 -- what the other colours mean
 abbrev pub state_key : List ℕ
 state_key =
-    codes "<g><g transform=\"translate(200 37)\"><path class=\"lane synchronised\" d=\"M0 0 H12\"/>"
-    ++ codes "<text class=\"key\" x=\"17\" y=\"4\">synchronised</text></g><g transform=\"translate(320 37)\">"
+    codes "<g><g transform=\"translate(200 66)\"><path class=\"lane synchronised\" d=\"M0 0 H12\"/>"
+    ++ codes "<text class=\"key\" x=\"17\" y=\"4\">synchronised</text></g><g transform=\"translate(320 66)\">"
     ++ codes "<path class=\"lane joining\" d=\"M0 0 H12\"/><text class=\"key\" x=\"17\" y=\"4\">joining</text>"
     ++ codes "</g>"
-    ++ codes "<g transform=\"translate(410 37)\"><path class=\"lane integrating\" d=\"M0 0 H12\"/>"
-    ++ codes "<text class=\"key\" x=\"17\" y=\"4\">integrating</text></g><g transform=\"translate(500 37)\">"
+    ++ codes "<g transform=\"translate(410 66)\"><path class=\"lane integrating\" d=\"M0 0 H12\"/>"
+    ++ codes "<text class=\"key\" x=\"17\" y=\"4\">integrating</text></g><g transform=\"translate(500 66)\">"
     ++ codes "<path class=\"lane off\" d=\"M0 0 H12\"/><text class=\"key\" x=\"17\" y=\"4\">off</text></g>"
-    ++ codes "<g transform=\"translate(562 37)\"><path class=\"lane broken\" d=\"M0 0 H12\"/>"
-    ++ codes "<text class=\"key\" x=\"17\" y=\"4\">broken</text></g><g transform=\"translate(626 37)\">"
+    ++ codes "<g transform=\"translate(562 66)\"><path class=\"lane broken\" d=\"M0 0 H12\"/>"
+    ++ codes "<text class=\"key\" x=\"17\" y=\"4\">broken</text></g><g transform=\"translate(626 66)\">"
     ++ codes "<path class=\"passage cut\" d=\"M0 0 H12\"/><text class=\"key\" x=\"17\" y=\"4\">cut</text></g>"
-    ++ codes "<g transform=\"translate(728 37)\"><path class=\"event many\" d=\"M0 0 H12\"/>"
+    ++ codes "<g transform=\"translate(728 66)\"><path class=\"event many\" d=\"M0 0 H12\"/>"
     ++ codes "<text class=\"key\" x=\"17\" y=\"4\">events</text></g></g>\n"
 
 -- the last line
@@ -72,7 +68,6 @@ close_line = codes "</svg>\n"
 unfoldable pub sign_line : Sign → List ℕ
 sign_line Style = style
 sign_line Backdrop = backdrop
-sign_line Heading = heading
 sign_line FrameKey = frame_key
 sign_line StateKey = state_key
 sign_line Close = close_line

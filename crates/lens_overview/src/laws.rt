@@ -1,5 +1,12 @@
 ghost use Rattle.lens_overview.specs.Laws.{BarsAreTrue, CellsAreDelivered, FlowsAreDrawn, NoneIsRed, StrokesAreOfFlows};
-ghost use Rattle.lens_overview.specs.Laws.{DeviceStrokesAreTrue, DevicesAreDrawn, WayStrokesAreTrue, WaysAreDrawn};
+ghost use Rattle.lens_overview.specs.Laws.{DeviceStrokesAreTrue, DevicesAreDrawn, HeadIsDrawn, WayStrokesAreTrue};
+ghost use Rattle.lens_overview.specs.Laws.{WaysAreDrawn};
+
+/// The picture of a report is named by the words of the call. These stand at its head too, and below them that it is of the
+/// whole run, how many records this has, and the precision.
+pub fn head_law()
+    ensures { HeadIsDrawn }
+{}
 
 /// In the picture of a report each flow of the network has a row: the line of its name, and along it the line of a stroke
 /// over each of its cells that is filled, of the cell's shade; and each stroke of frames is one of these. Where the network

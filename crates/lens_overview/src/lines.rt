@@ -1,7 +1,7 @@
 //! The line of each piece of a picture.
 ghost use Rattle.std.specs.Prelude.{◌+◌, ◌++◌, ◌≡◌, ◌≤◌, length};
 ghost use Rattle.lens_overview.specs.Lines.{apart_text, bar_line, bar_part, caption_line, caption_part, class_part, cycles_part};
-ghost use Rattle.lens_overview.specs.Lines.{greatest_text, label_text, name_line, name_part, piece_line, rail_part};
+ghost use Rattle.lens_overview.specs.Lines.{extent_line, greatest_text, label_text, name_line, name_part, piece_line, rail_part};
 ghost use Rattle.lens_overview.specs.Lines.{ribbon_line, shade_part, spread_line, stroke_part, tick_line, tick_part};
 ghost use Rattle.lens_overview.specs.Lines.{title_part};
 ghost use Rattle.net_plan.specs.{Belonging.{device_name, link_name, vl_name}, Ranges.IsInRange};
@@ -12,7 +12,9 @@ use crate::label::{Label, group_word, kind_word, label_word};
 use crate::pieces::{Piece, Ribbon};
 use crate::shade::shade_word;
 use itoa::Buffer;
-use lens_svg::{Element, Title, make_element_line, make_title_line, push_micros};
+use lens_svg::{
+    Element, Title, make_element_line, make_heading_line, make_title_line, push_micros,
+};
 use net_plan::{DeviceId, LinkId, Network, VlId};
 use trace_text::way_text;
 use tte_io::LineText;
@@ -91,6 +93,20 @@ fn push_label(line: &mut LineText, network: &Network, label: Label)
     }
 }
 
+/// Makes the line that says of what the picture is, of how many records, and the precision.
+#[tactic(auto, unfolding(crate::specs::Lines::extent_line))]
+fn make_extent(line: &mut LineText, network: &Network, records: u64)
+    requires { IsInRange network.now }
+    ensures { line.new ≡ extent_line network.now records }
+{
+    line.clear();
+    line.push("<text class=\"note\" x=\"12\" y=\"39\">the whole run, records ");
+    line.push_decimal(records);
+    line.push(", precision ");
+    push_micros(line, network.precision.amount());
+    line.push(" us</text>\n");
+}
+
 /// Makes how many columns there are, and of how many cycles: at most 120 octets.
 #[tactic(auto, unfolding(crate::specs::Lines::caption_part))]
 fn make_caption_part(line: &mut LineText, grid: Grid)
@@ -98,7 +114,7 @@ fn make_caption_part(line: &mut LineText, grid: Grid)
     ensures short { length line.new ≤ 120 }
 {
     line.clear();
-    line.push("<text class=\"note\" x=\"12\" y=\"56\">columns ");
+    line.push("<text class=\"note\" x=\"12\" y=\"84\">columns ");
     line.push_decimal(grid.columns);
     line.push(", of cycles ");
     line.push_decimal(grid.cycles);
@@ -151,9 +167,9 @@ fn make_spread(line: &mut LineText, network: &Network, greatest: Option<u128>)
     ensures { line.new ≡ spread_line network.now greatest }
 {
     line.clear();
-    line.push("<g><text class=\"name lane\" x=\"192\" y=\"76\">");
+    line.push("<g><text class=\"name lane\" x=\"192\" y=\"104\">");
     push_greatest(line, greatest);
-    line.push("</text><text class=\"name title\" x=\"192\" y=\"90\">of precision ");
+    line.push("</text><text class=\"name title\" x=\"192\" y=\"118\">of precision ");
     push_apart(line, u128::from(network.precision.0.unsigned_abs()));
     line.push("</text></g>\n");
 }
@@ -167,11 +183,11 @@ fn make_tick_part(line: &mut LineText, pen: Pen, down: u64)
     line.clear();
     line.push("<g><path class=\"tick\" d=\"M");
     line.push_decimal(pen.x);
-    line.push(" 118 V");
+    line.push(" 146 V");
     line.push_decimal(down);
     line.push("\"/><text class=\"time\" x=\"");
     line.push_decimal(pen.x);
-    line.push("\" y=\"114\">");
+    line.push("\" y=\"142\">");
     line.push_decimal(pen.cycle);
 }
 
@@ -199,7 +215,7 @@ fn make_bar_part(line: &mut LineText, pen: Pen, width: u64, height: u64)
     line.clear();
     line.push("<path class=\"bar\" d=\"M");
     line.push_decimal(pen.x);
-    line.push(" 102 h");
+    line.push(" 130 h");
     line.push_decimal(width);
     line.push(" v-");
     line.push_decimal(height);
@@ -346,6 +362,8 @@ pub(crate) fn make_piece(line: &mut LineText, network: &Network, title: &Title, 
             make_element_line(line, network, Element::Opening(width, height));
         }
         Piece::Title => make_title_line(line, title),
+        Piece::Heading => make_heading_line(line, title),
+        Piece::Extent(records) => make_extent(line, network, records),
         Piece::Shared(sign) => {
             line.clear();
             line.push(sign.line());

@@ -1,5 +1,5 @@
 //! What a picture is made of, and where it stands.
-ghost use Rattle.std.specs.Prelude.{◌++◌, ◌≡◌, ◌≤◌, ◌∷◌, IfOk, OnOk, []};
+ghost use Rattle.std.specs.Prelude.{◌++◌, ◌≡◌, ◌≤◌, ◌∷◌, IfOk, OnOk, [], length};
 ghost use Rattle.lens_overview.specs.{Bars.{bars_of, greatest_of}, Grids.IsNarrow, Rows.{rows_of, told_by}};
 ghost use Rattle.lens_overview.specs.Pieces.{bar_at, bar_height, bars_from, below, bottom_of, deepest, front};
 ghost use Rattle.lens_overview.specs.Pieces.{not_begun, picture_of, rows_from, stride_of, stroke_to, strokes_from, ticks};
@@ -36,6 +36,10 @@ pub enum Piece {
     Opening(u64, u64),
     /// The name of the picture.
     Title,
+    /// The same, at its head.
+    Heading,
+    /// Of how many records the picture is.
+    Extent(u64),
     /// A line that each picture has.
     Shared(Sign),
     /// How many columns there are, and of how many cycles.
@@ -52,7 +56,7 @@ pub enum Piece {
 }
 
 /// How far down the first row is, but for its height.
-const TOP: u64 = 122;
+const TOP: u64 = 150;
 
 /// No row is further down.
 const DEEPEST: u64 = 1 << 40;
@@ -88,22 +92,24 @@ fn bottom_of(rows: &[Row]) -> u64
     bottom
 }
 
-/// Adds what each picture begins with.
+/// Adds what each picture of so many records begins with.
 fn push_front(
     pieces: &mut Vec<Piece>,
     grid: Grid,
     bottom: u64,
     greatest: Option<u128>,
+    records: u64,
 ) -> Result<(), OutOfMemory>
     requires narrow { IsNarrow grid }
     requires limit { bottom ≤ deepest }
-    ensures { OnOk result (pieces.new.items ≡ pieces.old.items ++ front grid bottom greatest) }
+    ensures { OnOk result (pieces.new.items ≡ pieces.old.items ++ front grid bottom greatest records) }
 {
     push(pieces, Piece::Opening(grid.width(), bottom + 30))?;
     push(pieces, Piece::Title)?;
     push(pieces, Piece::Shared(Sign::Style))?;
     push(pieces, Piece::Shared(Sign::Backdrop))?;
-    push(pieces, Piece::Shared(Sign::Heading))?;
+    push(pieces, Piece::Heading)?;
+    push(pieces, Piece::Extent(records))?;
     push(pieces, Piece::Shared(Sign::FrameKey))?;
     push(pieces, Piece::Shared(Sign::StateKey))?;
     push(pieces, Piece::Caption(grid))?;
@@ -265,14 +271,15 @@ pub(crate) fn pieces_of(
     requires narrow { IsNarrow run.grid }
     ensures { IfOk result (λ all. all.items
         ≡ picture_of run.entry.grid (rows_of network.now (told_by run.entry) [] flows.now) (bars_of run.entry.grid run.entry.news.now)
-        (greatest_of run.entry.news.now)) }
+        (greatest_of run.entry.news.now) (length run.entry.news.now)) }
 {
     let rows = rows_of(alloc, network, run, flows)?;
     let bars = bars_of(alloc, run)?;
     let greatest = greatest_of(run.news);
     let bottom = bottom_of(&rows);
+    let records = run.news.len() as u64;
     let mut pieces = Vec::new(alloc);
-    push_front(&mut pieces, run.grid, bottom, greatest)?;
+    push_front(&mut pieces, run.grid, bottom, greatest, records)?;
     push_ticks(&mut pieces, run.grid, bottom)?;
     push_bars(&mut pieces, run.grid, &bars, greatest)?;
     push_rows(&mut pieces, run.grid, &rows)?;

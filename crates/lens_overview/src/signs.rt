@@ -9,8 +9,6 @@ pub enum Sign {
     Style,
     /// The background.
     Backdrop,
-    /// The title.
-    Heading,
     /// What the colours of frames mean.
     FrameKey,
     /// What the other colours mean.
@@ -33,31 +31,29 @@ const STYLE: &str = "\
 
 const BACKDROP: &str = "<rect width=\"100%\" height=\"100%\" fill=\"#fafafa\"/>\n";
 
-const HEADING: &str = "<text class=\"top\" x=\"12\" y=\"24\">lens draw</text>\n";
-
 const FRAME_KEY: &str = "\
-    <g><g transform=\"translate(200 20)\"><path class=\"flow both\" d=\"M0 0 H12\"/>\
-    <text class=\"key\" x=\"17\" y=\"4\">by both channels</text></g><g transform=\"translate(320 20)\">\
+    <g><g transform=\"translate(200 50)\"><path class=\"flow both\" d=\"M0 0 H12\"/>\
+    <text class=\"key\" x=\"17\" y=\"4\">by both channels</text></g><g transform=\"translate(320 50)\">\
     <path class=\"flow alone_a\" d=\"M0 0 H12\"/><text class=\"key\" x=\"17\" y=\"4\">by a alone</text></g>\
-    <g transform=\"translate(410 20)\"><path class=\"flow alone_b\" d=\"M0 0 H12\"/>\
-    <text class=\"key\" x=\"17\" y=\"4\">by b alone</text></g><g transform=\"translate(500 20)\">\
+    <g transform=\"translate(410 50)\"><path class=\"flow alone_b\" d=\"M0 0 H12\"/>\
+    <text class=\"key\" x=\"17\" y=\"4\">by b alone</text></g><g transform=\"translate(500 50)\">\
     <path class=\"flow missing\" d=\"M0 0 H12\"/><text class=\"key\" x=\"17\" y=\"4\">owed and by none</text></g>\
-    <g transform=\"translate(626 20)\"><path class=\"refused many\" d=\"M0 0 H12\"/>\
-    <text class=\"key\" x=\"17\" y=\"4\">lost or refused</text></g><g transform=\"translate(728 20)\">\
+    <g transform=\"translate(626 50)\"><path class=\"refused many\" d=\"M0 0 H12\"/>\
+    <text class=\"key\" x=\"17\" y=\"4\">lost or refused</text></g><g transform=\"translate(728 50)\">\
     <path class=\"spared many\" d=\"M0 0 H12\"/><text class=\"key\" x=\"17\" y=\"4\">second copy or not taken</text>\
     </g></g>\n";
 
 const STATE_KEY: &str = "\
-    <g><g transform=\"translate(200 37)\"><path class=\"lane synchronised\" d=\"M0 0 H12\"/>\
-    <text class=\"key\" x=\"17\" y=\"4\">synchronised</text></g><g transform=\"translate(320 37)\">\
+    <g><g transform=\"translate(200 66)\"><path class=\"lane synchronised\" d=\"M0 0 H12\"/>\
+    <text class=\"key\" x=\"17\" y=\"4\">synchronised</text></g><g transform=\"translate(320 66)\">\
     <path class=\"lane joining\" d=\"M0 0 H12\"/><text class=\"key\" x=\"17\" y=\"4\">joining</text></g>\
-    <g transform=\"translate(410 37)\"><path class=\"lane integrating\" d=\"M0 0 H12\"/>\
-    <text class=\"key\" x=\"17\" y=\"4\">integrating</text></g><g transform=\"translate(500 37)\">\
+    <g transform=\"translate(410 66)\"><path class=\"lane integrating\" d=\"M0 0 H12\"/>\
+    <text class=\"key\" x=\"17\" y=\"4\">integrating</text></g><g transform=\"translate(500 66)\">\
     <path class=\"lane off\" d=\"M0 0 H12\"/><text class=\"key\" x=\"17\" y=\"4\">off</text></g>\
-    <g transform=\"translate(562 37)\"><path class=\"lane broken\" d=\"M0 0 H12\"/>\
-    <text class=\"key\" x=\"17\" y=\"4\">broken</text></g><g transform=\"translate(626 37)\">\
+    <g transform=\"translate(562 66)\"><path class=\"lane broken\" d=\"M0 0 H12\"/>\
+    <text class=\"key\" x=\"17\" y=\"4\">broken</text></g><g transform=\"translate(626 66)\">\
     <path class=\"passage cut\" d=\"M0 0 H12\"/><text class=\"key\" x=\"17\" y=\"4\">cut</text></g>\
-    <g transform=\"translate(728 37)\"><path class=\"event many\" d=\"M0 0 H12\"/>\
+    <g transform=\"translate(728 66)\"><path class=\"event many\" d=\"M0 0 H12\"/>\
     <text class=\"key\" x=\"17\" y=\"4\">events</text></g></g>\n";
 
 const CLOSE: &str = "</svg>\n";
@@ -72,7 +68,6 @@ impl Sign {
         match self {
             Sign::Style => STYLE,
             Sign::Backdrop => BACKDROP,
-            Sign::Heading => HEADING,
             Sign::FrameKey => FRAME_KEY,
             Sign::StateKey => STATE_KEY,
             Sign::Close => CLOSE,
