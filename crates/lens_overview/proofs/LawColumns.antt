@@ -251,14 +251,22 @@ module _ (all : List News) (vl : VlId) (device : DeviceId) where
         (at.0, at.1, come_brought vl device at.0 all shades.Blank refl some)
   ]
 
-  -- and where one does, the cell is not
-  pub brought_cell : (c : ℕ) (news : News) → IsIn news all → Brings vl device c news.change
-      → (column_of grid c < grid.columns) × (is_blank (shade_at cells (column_of grid c)) ≡ false)
-  brought_cell c news i brings =
+  -- and where one does, the frame has come, and its column's cell is none that is better
+  pub brought_code : (c : ℕ) (news : News) → IsIn news all → Brings vl device c news.change
+      → (1 ≤ code_of (frame c)) × (column_of grid c < grid.columns) × (code_of (frame c) ≤ code_of (shade_at cells (column_of grid c)))
+  brought_code c news i brings =
       let come = brought_come vl device c all shades.Blank news (omega arith) i brings in
       let named : named_cycle news.change ≡ brings.copied.cycle = ap named_cycle brings.is in
       let own : brings.copied.cycle ≡ c = cycle_of_copy vl device c brings.copied brings.copy in
       let last = last_most all 0 news i in
       let high = frame_most c (omega (arith, named, own, last)) in
-      let code = high.1 in
-      (high.0, code_seen (shade_at cells (column_of grid c)) (omega (arith, come, code)))
+      (come, high.0, high.1)
+
+  -- so it is not blank
+  pub brought_cell : (c : ℕ) (news : News) → IsIn news all → Brings vl device c news.change
+      → (column_of grid c < grid.columns) × (is_blank (shade_at cells (column_of grid c)) ≡ false)
+  brought_cell c news i brings =
+      let high = brought_code c news i brings in
+      let come = high.0 in
+      let code = high.2 in
+      (high.1, code_seen (shade_at cells (column_of grid c)) (omega (arith, come, code)))

@@ -119,29 +119,37 @@ module _ (network : Network) (s : Scenario) (hs : List Happening) where
     abbrev all : List News
     all = news_in network s hs ns
 
+    -- a record that tells of a delivery is one of it
+    pub brings_delivered : (before : List News) (note : Note) → IsIn note ns
+        → (brings : Brings flow.vl flow.device cycle (change_of network before note.body))
+        → (d : IsDeliveredIn network ns flow cycle) × (d.channel ≡ brings.channel)
+    brings_delivered before note there brings =
+        let h = telling network before note.body brings.copied brings.is in
+        let own = flow_of_copy flow.vl flow.device cycle brings.copied brings.copy in
+        let at = cycle_of_copy flow.vl flow.device cycle brings.copied brings.copy in (
+          record {
+            note = note;
+            there = there;
+            link = h.link;
+            cause = h.cause;
+            is =
+                h.is ∙ ap (λ (d : DeviceId). notes.Delivered d h.link h.cause brings.copied.vl brings.copied.cycle) own.1
+                ∙ ap (λ (v : VlId). notes.Delivered flow.device h.link h.cause v brings.copied.cycle) own.0
+                ∙ ap (λ (c : ℕ). notes.Delivered flow.device h.link h.cause flow.vl c) at;
+            channel = brings.channel;
+            by = sym h.by ∙ brings.by;
+          },
+          refl,
+        )
+
     pub brought_delivered : (news : News) → IsIn news all → Brings flow.vl flow.device cycle news.change → IsDeliveredIn network ns flow cycle
     brought_delivered news i brings = by (told_note ns [] news i)
       where
         by : IsIn news [] ⊎ IsTold ns news → IsDeliveredIn network ns flow cycle
         by (inl none) = absurd none
         by (inr told) =
-            let change : change_of network told.before told.note.body ≡ changes.Delivers brings.copied =
-            sym (ap (λ (n : News). n.change) told.is) ∙ brings.is in
-            let h = telling network told.before told.note.body brings.copied change in
-            let own = flow_of_copy flow.vl flow.device cycle brings.copied brings.copy in
-            let at = cycle_of_copy flow.vl flow.device cycle brings.copied brings.copy in
-            record {
-              note = told.note;
-              there = told.there;
-              link = h.link;
-              cause = h.cause;
-              is =
-                  h.is ∙ ap (λ (d : DeviceId). notes.Delivered d h.link h.cause brings.copied.vl brings.copied.cycle) own.1
-                  ∙ ap (λ (v : VlId). notes.Delivered flow.device h.link h.cause v brings.copied.cycle) own.0
-                  ∙ ap (λ (c : ℕ). notes.Delivered flow.device h.link h.cause flow.vl c) at;
-              channel = brings.channel;
-              by = sym h.by ∙ brings.by;
-            }
+            (brings_delivered told.before told.note told.there
+            (subst (λ (n : News). Brings flow.vl flow.device cycle n.change) told.is brings)).0
 
     pub delivered_brought : IsDeliveredIn network ns flow cycle → (news : News) × IsIn news all × Brings flow.vl flow.device cycle news.change
     delivered_brought d =

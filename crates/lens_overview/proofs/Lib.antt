@@ -18,4 +18,6 @@ pub mod LawBars
 pub mod LawClocks
 pub mod LawLanes
 pub mod LawStates
+pub mod LawCopies
+pub mod LawColours
 pub mod LawAnswers

@@ -16,3 +16,4 @@ pub mod Answer
 pub mod LawParts
 pub mod LawStates
 pub mod Laws
+pub mod LawColours

@@ -1,3 +1,4 @@
+ghost use Rattle.lens_overview.specs.LawColours.{BlueIsByA, GreenIsByBoth, VioletIsByB};
 ghost use Rattle.lens_overview.specs.Laws.{BarsAreTrue, CellsAreDelivered, FlowsAreDrawn, NoneIsRed, StrokesAreOfFlows};
 ghost use Rattle.lens_overview.specs.Laws.{DeviceStrokesAreTrue, DevicesAreDrawn, HeadIsDrawn, WayStrokesAreTrue};
 ghost use Rattle.lens_overview.specs.Laws.{WaysAreDrawn};
@@ -28,4 +29,14 @@ pub fn states_law()
     ensures device_strokes { DeviceStrokesAreTrue }
     ensures ways { WaysAreDrawn }
     ensures way_strokes { WayStrokesAreTrue }
+{}
+
+/// In the picture of the report of an accepted network a flow's cell is green exactly where a frame of the column is
+/// delivered, and each that is comes by both channels; blue exactly where one comes by channel a alone; and violet exactly
+/// where one comes by channel b alone, and none by a alone. A frame comes by a channel where a record delivers it by one of
+/// the channel's links, or drops a second copy behind its delivery, which is one of the cycle that it was sent for.
+pub fn colours_law()
+    ensures green { GreenIsByBoth }
+    ensures blue { BlueIsByA }
+    ensures violet { VioletIsByB }
 {}

@@ -19,7 +19,7 @@ mod telling;
 pub use answering::Overview;
 pub use grid::{Grid, Pen};
 pub use label::{Group, Kind, Label};
-pub use laws::{head_law, overview_law, states_law};
+pub use laws::{colours_law, head_law, overview_law, states_law};
 pub use news::{Change, Copied, News};
 pub use pieces::{Piece, Ribbon};
 pub use shade::Shade;
