@@ -1,7 +1,6 @@
 //! Tests of what keeps the common time: clocks, their correction, membership, compression and the synchronisation
 // state.
 
-mod collected;
 mod collecting;
 mod correction;
 mod drift;

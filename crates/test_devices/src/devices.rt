@@ -1,6 +1,4 @@
-//! Tests of devices: the laws of runs, the rules, end systems and switches.
+//! Tests of devices: the laws of runs, and what a switch has to send.
 
-mod ends;
-mod rules;
 mod runs;
 mod switches;

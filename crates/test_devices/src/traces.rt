@@ -1,4 +1,4 @@
-//! Tests of traces: their text, and the hypothesis that their events keep.
+//! Tests of traces: how an event is printed, and the hypothesis that events keep.
 
 mod hypothesis;
-mod text;
+mod printing;

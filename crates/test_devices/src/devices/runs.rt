@@ -1,29 +1,8 @@
 use run_law::{
-    Outside, broken_are_still, deliveries_begin, earlier_run_is_front, hypothesis_is_decided,
-    run_goes_on, run_is_one, sent_frames_come, spread,
+    broken_are_still, deliveries_begin, earlier_run_is_front, hypothesis_is_decided, run_goes_on,
+    run_is_one, sent_frames_come, spread,
 };
 use tte_units::Units;
-
-const NUMBERS: &[(Outside, u8)] = &[
-    (Outside::Order, 1),
-    (Outside::Late, 2),
-    (Outside::Rate, 3),
-    (Outside::Wire, 4),
-    (Outside::Hold, 5),
-    (Outside::Channel, 6),
-    (Outside::NotMaster, 7),
-    (Outside::SecondBreak, 8),
-    (Outside::TooFewMasters, 9),
-    (Outside::NotBroken, 10),
-    (Outside::NotOff, 11),
-];
-
-#[test]
-fn the_conditions_are_numbered_as_they_are_judged(rt: HostRuntime) {
-    for (condition, number) in NUMBERS {
-        assert!(rt; condition.number() == *number, "for {number}");
-    }
-}
 
 #[test]
 fn the_laws_hold(_rt: HostRuntime) {

@@ -1,12 +1,9 @@
 ghost use Rattle.std.specs.Prelude.{◌≡◌, IfOk, IfSome, ◌^◌};
-ghost use Rattle.net_plan.specs.Ranges.{IsWithin};
 ghost use Rattle.switch_ports.specs.{Leaving.{IsFit, IsHeldFit}, Standpoints.IsSiteInRange};
 
-use device_rules::EnteringRow;
 use device_rules::least_key::{Keys, NO_KEY};
-use net_plan::{LinkId, RowId, VlId, Way};
+use net_plan::{LinkId, RowId, VlId};
 use run_law::{Arrival, Reason};
-use schedule_tables::Window;
 use std::alloc::{AllocError, Global};
 use std::process::Abort;
 use std::test::Fail;
@@ -19,16 +16,16 @@ const DMAX: i64 = 3_276_800_000;
 
 const PRECISION: i64 = 1_048_576_000;
 
-// The worked network as it is seen from a relay: link 0 leads down to the master with member number
-// 0, link 1 to a client, link 2 to a switch, and link 3 up to the compression master.
+// A relay of the worked network whose link 0 leads down to a client.
 fn relay(alloc: Global) -> Result<Site, AllocError>
     ensures { IfOk result IsSiteInRange }
 {
     let mut ports = Vec::new(alloc);
-    ports.push(port(Peer::Master(Members(1))))?;
-    ports.push(port(Peer::Client))?;
-    ports.push(port(Peer::Switch))?;
-    ports.push(port(Peer::Parent))?;
+    ports.push(Port {
+        peer: Peer::Client,
+        wire: Units(32_768_000),
+        channel: Some(Channel::A),
+    })?;
     Ok(Site {
         is_relay: true,
         channel: Channel::A,
@@ -50,86 +47,26 @@ fn relay(alloc: Global) -> Result<Site, AllocError>
     })
 }
 
-fn port(peer: Peer) -> Port
-    ensures { IsWithin 0 (2 ^ 40) result.wire }
-{
-    Port {
-        peer,
-        wire: Units(32_768_000),
-        channel: Some(Channel::A),
-    }
-}
-
-fn frame(cycle: u32, members: u32) -> Pcf {
-    Pcf {
+#[test]
+fn no_control_frame_comes_from_a_client(rt: HostRuntime) -> Result<(), Fail> {
+    let at = Standpoint {
+        state: State::Synchronised,
+        reading: Units(131_072_000_000),
+        adjustment: Units(0),
+    };
+    let frame = Pcf {
         destination: Mac::from_number(0x0300_0000_0001),
-        source: Mac::from_number(0x0200_0000_0011),
-        cycle,
-        members: Members(members),
+        source: Mac::from_number(0x0200_0000_0015),
+        cycle: 1,
+        members: Members(1),
         priority: 0,
         domain: 0,
         kind: PcfKind::Integration,
         clock: 0,
-    }
-}
-
-// What becomes of a frame of cycle 1 that comes to the relay so long behind the beginning of that cycle.
-fn becomes(rt: &impl Abort, site: &Site, late: u16, link: u32, members: u32, wanted: Arrival)
-    requires { IsSiteInRange site.now }
-{
-    let at = Standpoint {
-        state: State::Synchronised,
-        reading: Units(131_072_000_000 + i64::from(late) * 1_000_000),
-        adjustment: Units(0),
     };
-    assert!(rt; site.frame_arrival(&at, LinkId(link), &frame(1, members)) == wanted);
-}
-
-#[test]
-fn a_relay_passes_a_master_s_frame_up(rt: HostRuntime) -> Result<(), Fail> {
-    let site = relay(rt.alloc())?;
-    let grown = Pcf {
-        clock: 32_768_000,
-        ..frame(1, 1)
-    };
-    becomes(&rt, &site, 0, 0, 1, Arrival::Passes(grown, Way::Up));
-    becomes(&rt, &site, 0, 0, 2, Arrival::Dropped(Reason::Member));
-    becomes(&rt, &site, 0, 1, 1, Arrival::Dropped(Reason::Member));
-    becomes(&rt, &site, 60_000, 0, 1, Arrival::Dropped(Reason::Gate));
+    let found = relay(rt.alloc())?.frame_arrival(&at, LinkId(0), &frame);
+    assert!(rt; found == Arrival::Dropped(Reason::Member));
     Ok(())
-}
-
-// How a row of the cycles 1, 3, 5 .. with a window from 100 to 300 judges a frame.
-fn judged(length: usize, cycle: u64, place: i128, last: Option<u32>) -> Option<Reason> {
-    let row = EnteringRow {
-        vl: VlId(0),
-        length: 200,
-        period: 2,
-        phase: 1,
-        window: Window {
-            from: Units(100),
-            to: Units(300),
-        },
-    };
-    row.fault(length, cycle, place, last)
-}
-
-#[test]
-fn a_row_judges_frames(rt: HostRuntime) {
-    for (length, cycle, place, last, fault) in [
-        (200, 3, 100, None, None),
-        (200, 3, 300, Some(1), None),
-        (201, 3, 200, None, Some(Reason::Length)),
-        (200, 2, 200, None, Some(Reason::Early)),
-        (200, 3, 99, None, Some(Reason::Early)),
-        (200, 3, 301, None, Some(Reason::Late)),
-        (200, 3, 200, Some(3), Some(Reason::Repeat)),
-    ] {
-        assert!(rt;
-            judged(length, cycle, place, last) == fault,
-            "at {place} in {cycle}"
-        );
-    }
 }
 
 // A row that leaves by a link and has a place, with what it holds and what it awaits.

@@ -1,6 +1,6 @@
 ghost use Rattle.std.specs.Prelude.{◌<◌, ◌^◌, length};
 
-use pcf_codec::{PcfReader, PcfRefusal, TtRefusal, decode, decode_tt, encode, is_pcf};
+use pcf_codec::{PcfReader, PcfRefusal, TtRefusal, decode_tt, is_pcf};
 use std::process::Abort;
 use tte_units::frames::{Mac, Members, Pcf, PcfKind, TtHead};
 
@@ -23,45 +23,6 @@ fn value() -> Pcf {
         kind: PcfKind::Integration,
         clock: 0,
     }
-}
-
-#[test]
-fn a_frame_is_read_and_written(rt: HostRuntime) {
-    assert!(rt; decode(&FRAME) == Ok(value()));
-    let mut octets = [0xff; 60];
-    encode(&value(), &mut octets);
-    assert!(rt; octets == FRAME);
-    let clock = Pcf {
-        clock: 32_768_000,
-        ..value()
-    };
-    encode(&clock, &mut octets);
-    assert!(rt; octets[34..42] == [0, 0, 0, 0, 0x01, 0xf4, 0, 0]);
-}
-
-#[test]
-fn the_fault_of_the_least_offset_is_answered(rt: HostRuntime) {
-    let faults = [
-        (13, 0x1c, PcfRefusal::EtherType),
-        (22, 1, PcfRefusal::Reserved(22)),
-        (28, 0x12, PcfRefusal::Kind(0x12)),
-        (30, 1, PcfRefusal::Reserved(30)),
-    ];
-    let mut octets = FRAME;
-    for (offset, octet, refusal) in faults.iter().rev() {
-        octets[*offset] = *octet;
-        assert!(rt; decode(&octets) == Err(*refusal), "at {offset}");
-    }
-}
-
-#[test]
-fn a_frame_has_sixty_octets_and_any_padding(rt: HostRuntime) {
-    assert!(rt; decode(&FRAME[..59]) == Err(PcfRefusal::Length(59)));
-    let mut octets = [0; 61];
-    octets[..60].copy_from_slice(&FRAME);
-    assert!(rt; decode(&octets) == Err(PcfRefusal::Length(61)));
-    octets[42..].fill(0xff);
-    assert!(rt; decode(&octets[..60]) == Ok(value()));
 }
 
 fn takes_in(rt: &impl Abort, reader: &mut PcfReader, octets: &[u8], count: usize)
