@@ -17,7 +17,7 @@ const GREATEST_GRANULE: u64 = 1 << 60;
 const INEQUALITIES: [&str; 8] = ["8", "9", "10", "11", "12", "13", "21", "23"];
 
 /// An argument behind a command.
-#[derive(Clone, Copy, Debug, PartialEq, Eq)]
+#[derive(Clone, Copy)]
 pub enum Argument {
     /// A file of protocol control frames.
     Frames,

@@ -1,14 +1,22 @@
-use std::str;
-use thiserror::Error;
+use std::{fmt, str};
 
 /// Where octets stop being UTF-8.
-#[derive(Clone, Copy, Debug, PartialEq, Eq, Error)]
-#[error("octet {octet}, in line {line}, is not UTF-8")]
+#[derive(Clone, Copy)]
 pub(crate) struct NotText {
     /// Which octet, from 1.
     octet: u64,
     /// The line where it stands, from 1.
     line: u64,
+}
+
+impl fmt::Display for NotText {
+    fn fmt<W: fmt::Write>(&self, f: &mut fmt::Formatter<W>) -> fmt::Result {
+        write!(
+            f,
+            "octet {}, in line {}, is not UTF-8",
+            self.octet, self.line
+        )
+    }
 }
 
 /// Where octets stop being UTF-8. None where they are a text.

@@ -2,7 +2,7 @@ use crate::{Argument, Program};
 use std::fmt;
 
 /// A command and the arguments behind it.
-#[derive(Clone, Copy, Debug, PartialEq, Eq)]
+#[derive(Clone, Copy)]
 pub struct Form(&'static str, &'static [Argument]);
 
 /// The forms of `tte`.

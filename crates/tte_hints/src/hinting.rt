@@ -5,7 +5,8 @@ use crate::names::unknown_name;
 use crate::network::refused_network;
 use crate::trace::refused_trace;
 use crate::vote::refused_vote;
-use crate::{Argument, Program, forms_of, words_fault};
+use crate::wording::words_fault;
+use crate::{Argument, Program, forms_of};
 use std::alloc::Global;
 use tte_forms::{Status, Words};
 use tte_io::Source;
@@ -46,7 +47,7 @@ impl<'x> Called<'x> {
 
     /// Whether its answer itself tells what rules want of a network.
     pub(crate) fn tells_rules(self) -> bool {
-        self.program == Program::Lens && matches!(self.command(), "slack" | "least")
+        matches!(self.program, Program::Lens) && matches!(self.command(), "slack" | "least")
     }
 }
 
@@ -68,10 +69,7 @@ pub fn hint<A: Source, B: Source>(
         → (first.new ≡ first.old) × (second.new ≡ second.old) }
 {
     match status {
-        Status::Usage => {
-            let fault = words_fault(called.program, called.words)?;
-            format!(in alloc; "{fault}").ok()
-        }
+        Status::Usage => words_fault(alloc, called.program, called.words),
         Status::NetworkRefused => refused_network(alloc, called, first),
         Status::TraceRefused | Status::OutsideHypothesis => {
             refused_trace(alloc, called, first, second)

@@ -72,7 +72,7 @@ fn keys_of(table: TableName) -> &'static [KeyName] {
 }
 
 /// A table of a document.
-#[derive(Clone, Copy, Debug)]
+#[derive(Clone, Copy)]
 pub(crate) struct Place {
     pub(crate) table: TableName,
     /// Its place in its array, from 0.
@@ -121,7 +121,7 @@ pub(crate) fn unknown_key(document: &Value, place: Place) -> Option<&str> {
 }
 
 /// A key that a table has, or is to have.
-#[derive(Clone, Copy, Debug)]
+#[derive(Clone, Copy)]
 pub(crate) struct Wanted(Spot);
 
 impl Wanted {

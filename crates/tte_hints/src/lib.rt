@@ -28,4 +28,3 @@ pub use hinting::{Called, hint};
 pub use program::Program;
 pub use running::{Answers, run_program};
 pub use unread::Unread;
-pub use wording::{WordsFault, words_fault};

@@ -1,7 +1,6 @@
 use crate::hinting::{Called, FILE_LIMIT};
 use crate::{Argument, Program};
 use std::alloc::Global;
-use thiserror::Error;
 use tte_io::{ReadAll, Source, read_all};
 
 /// How many octets a capture has at most, and a report for `tte`.
@@ -9,21 +8,6 @@ const CAPTURE_LIMIT: u64 = 16_777_216;
 
 /// How many octets a report has at most for `lens`.
 const LENS_LIMIT: u64 = 268_435_456;
-
-/// Which limit a call passed.
-#[derive(Debug, Drop, Error)]
-enum Limit<'x> {
-    #[error("{path} has more than {most} octets")]
-    Octets { path: &'x str, most: u64 },
-    #[error("{path} has 2^32 lines or more")]
-    Lines { path: &'x str },
-    #[error("the picture would be wider than 65536 pixels; draw a part of the run")]
-    Picture,
-    #[error("{path} with the text of its plan would have more than {most} octets")]
-    Plan { path: &'x str, most: u64 },
-    #[error("more than is read: 262144 octets, {report} of a report, 16777216 of a capture, or 2^32 lines of a trace")]
-    OneOf { report: u64 },
-}
 
 /// How many octets a report has at most for the program.
 fn report_limit(program: Program) -> u64 {
@@ -51,24 +35,44 @@ fn exceeds<S: Source>(alloc: Global, most: u64, source: &mut S) -> Option<bool> 
     }
 }
 
+/// That a file has more octets than that.
+fn too_many_octets(alloc: Global, path: &str, most: u64) -> Option<String> {
+    format!(in alloc; "{path} has more than {most} octets").ok()
+}
+
+/// The limits, where none of them is known to be passed.
+fn one_of_the_limits(alloc: Global, program: Program) -> Option<String> {
+    let report = report_limit(program);
+    format!(in alloc;
+        "more than is read: 262144 octets, {report} of a report, 16777216 of a capture, or 2^32 lines of a trace"
+    ).ok()
+}
+
+/// That a network with the text of its plan has too many octets.
+fn too_long_a_plan(alloc: Global, path: &str) -> Option<String> {
+    format!(in alloc;
+        "{path} with the text of its plan would have more than {FILE_LIMIT} octets"
+    ).ok()
+}
+
 /// The limit of its second file that a call passed, or that of its plan or its picture.
-fn second_limit<'x, B: Source>(alloc: Global, called: Called<'x>, second: &mut B) -> Limit<'x> {
+fn second_limit<B: Source>(alloc: Global, called: Called<'_>, second: &mut B) -> Option<String> {
     let path = called.second_path();
     let argument = called.argument(1);
-    if argument == Some(Argument::Trace) {
-        return Limit::Lines { path };
+    if matches!(argument, Some(Argument::Trace)) {
+        return format!(in alloc; "{path} has 2^32 lines or more").ok();
     }
     let most = most_octets(called.program, argument);
     match exceeds(alloc, most, second) {
-        Some(true) => Limit::Octets { path, most },
-        Some(false) if argument == Some(Argument::Messages) => Limit::Plan {
-            path: called.first_path(),
-            most: FILE_LIMIT,
-        },
-        Some(false) => Limit::Picture,
-        None => Limit::OneOf {
-            report: report_limit(called.program),
-        },
+        Some(true) => too_many_octets(alloc, path, most),
+        Some(false) if matches!(argument, Some(Argument::Messages)) => {
+            too_long_a_plan(alloc, called.first_path())
+        }
+        Some(false) => {
+            let wide = "the picture would be wider than 65536 pixels; draw a part of the run";
+            String::from_str(alloc, wide).ok()
+        }
+        None => one_of_the_limits(alloc, called.program),
     }
 }
 
@@ -80,15 +84,9 @@ pub(crate) fn passed_limit<A: Source, B: Source>(
     second: &mut B,
 ) -> Option<String> {
     let most = most_octets(called.program, called.argument(0));
-    let limit = match exceeds(alloc, most, first) {
-        Some(true) => Limit::Octets {
-            path: called.first_path(),
-            most,
-        },
+    match exceeds(alloc, most, first) {
+        Some(true) => too_many_octets(alloc, called.first_path(), most),
         Some(false) => second_limit(alloc, called, second),
-        None => Limit::OneOf {
-            report: report_limit(called.program),
-        },
-    };
-    format!(in alloc; "{limit}").ok()
+        None => one_of_the_limits(alloc, called.program),
+    }
 }

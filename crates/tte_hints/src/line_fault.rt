@@ -2,53 +2,16 @@ ghost use Rattle.net_plan.specs.Ranges.{IsInRange};
 
 use crate::part::{Part, parts_of};
 use net_plan::Network;
+use std::alloc::Global;
 use std::fmt;
-use thiserror::Error;
 use trace_text::Words;
-
-/// Why a line of a trace has no event.
-#[derive(Debug, Drop, Error)]
-pub(crate) enum LineFault<'t> {
-    #[error("it ends with CR LF; a line of a trace ends with LF alone")]
-    CarriageReturn,
-    #[error("it begins with a byte order mark; a trace has none")]
-    ByteOrderMark,
-    #[error("it is empty; a trace has no blank line")]
-    Blank,
-    #[error("it has a comment; a trace has none")]
-    Comment,
-    #[error("it has a tab; one space stands between two words")]
-    Tab,
-    #[error("a space too many stands before word {place}; one space stands between two words, none at either end")]
-    Space {
-        place: u32,
-    },
-    #[error("a space stands at its end")]
-    SpaceBehind,
-    #[error("word {place}, {part}, is missing; it must be {must_be}", must_be = .part.must_be())]
-    Missing {
-        place: u32,
-        part: Part,
-    },
-    #[error("word {place} is {word}; {part} must be {must_be}", must_be = .part.must_be())]
-    Wrong {
-        place: u32,
-        word: Quote<'t>,
-        part: Part,
-    },
-    #[error("word {place}, {word}, is one too many")]
-    Surplus {
-        place: u32,
-        word: Quote<'t>,
-    },
-}
 
 /// How many octets of a word are shown.
 const SHOWN: usize = 32;
 
 /// A word, to be shown in quotes: its first octets, those that are no letters of ASCII by their numbers.
-#[derive(Clone, Copy, Debug)]
-pub(crate) struct Quote<'t>(&'t [u8]);
+#[derive(Clone, Copy)]
+struct Quote<'t>(&'t [u8]);
 
 impl<'t> fmt::Display for Quote<'t> {
     fn fmt<W: fmt::Write>(&self, f: &mut fmt::Formatter<W>) -> fmt::Result {
@@ -66,43 +29,55 @@ const MOST_WORDS: u32 = 8;
 const BYTE_ORDER_MARK: &[u8] = &[0xef, 0xbb, 0xbf];
 
 /// What is wrong with a line whatever its words are.
-fn layout_fault<'t>(text: &'t [u8]) -> Option<LineFault<'t>> {
+fn layout_fault(text: &[u8]) -> Option<&'static str> {
     if text.starts_with(BYTE_ORDER_MARK) {
-        Some(LineFault::ByteOrderMark)
+        Some("it begins with a byte order mark; a trace has none")
     } else if text.last() == Some(&b'\r') {
-        Some(LineFault::CarriageReturn)
+        Some("it ends with CR LF; a line of a trace ends with LF alone")
     } else if text.is_empty() {
-        Some(LineFault::Blank)
+        Some("it is empty; a trace has no blank line")
     } else if text.first() == Some(&b'#') {
-        Some(LineFault::Comment)
+        Some(COMMENT)
     } else if text.contains(&b'\t') {
-        Some(LineFault::Tab)
+        Some("it has a tab; one space stands between two words")
     } else {
         None
     }
 }
 
+const COMMENT: &str = "it has a comment; a trace has none";
+
+/// That no word stands for a part.
+fn missing_word(alloc: Global, place: u32, part: Part) -> Option<String> {
+    format!(in alloc;
+        "word {place}, {part}, is missing; it must be {}",
+        part.must_be()
+    )
+    .ok()
+}
+
 /// What is wrong with a word that may not stand for a part.
-fn wrong_word<'t>(place: u32, part: Part, word: &'t [u8]) -> LineFault<'t> {
+fn wrong_word(alloc: Global, place: u32, part: Part, word: &[u8]) -> Option<String> {
     if word.is_empty() {
-        return LineFault::Space { place };
+        return format!(in alloc;
+            "a space too many stands before word {place}; one space stands between two words, none at either end"
+        ).ok();
     }
-    LineFault::Wrong {
-        place,
-        word: Quote(word),
-        part,
-    }
+    let quote = Quote(word);
+    format!(in alloc;
+        "word {place} is {quote}; {part} must be {}",
+        part.must_be()
+    )
+    .ok()
 }
 
 /// What is wrong with a word behind the last one of an event.
-fn surplus_word<'t>(place: u32, word: &'t [u8]) -> LineFault<'t> {
+fn surplus_word(alloc: Global, place: u32, word: &[u8]) -> Option<String> {
+    let quote = Quote(word);
     match word.first() {
-        None => LineFault::SpaceBehind,
-        Some(b'#') => LineFault::Comment,
-        Some(_) => LineFault::Surplus {
-            place,
-            word: Quote(word),
-        },
+        None => String::from_str(alloc, "a space stands at its end").ok(),
+        Some(b'#') => String::from_str(alloc, COMMENT).ok(),
+        Some(_) => format!(in alloc; "word {place}, {quote}, is one too many").ok(),
     }
 }
 
@@ -113,14 +88,15 @@ fn event_of<'t>(text: &'t [u8]) -> &'t [u8] {
     words.next_word().unwrap_or(b"")
 }
 
-/// Why a line of a trace over a network has no event, by its leftmost wrong word. None where it has one.
+/// Why a line of a trace over a network has no event, by its leftmost wrong word. None where it has one, or where
+/// memory runs out.
 ///
 /// The network is in its ranges.
-pub(crate) fn line_fault<'t>(network: &Network, text: &'t [u8]) -> Option<LineFault<'t>>
+pub(crate) fn line_fault(alloc: Global, network: &Network, text: &[u8]) -> Option<String>
     requires { IsInRange network.now }
 {
     if let Some(fault) = layout_fault(text) {
-        return Some(fault);
+        return String::from_str(alloc, fault).ok();
     }
     let mut words = Words::of(text);
     let mut behind = 1;
@@ -128,10 +104,9 @@ pub(crate) fn line_fault<'t>(network: &Network, text: &'t [u8]) -> Option<LineFa
         let part = *part;
         match words.next_word() {
             Some(word) if part.admits(network, word) => behind = place.saturating_add(1),
-            Some(word) => return Some(wrong_word(place, part, word)),
-            None => return Some(LineFault::Missing { place, part }),
+            Some(word) => return wrong_word(alloc, place, part, word),
+            None => return missing_word(alloc, place, part),
         }
     }
-    let word = words.next_word()?;
-    Some(surplus_word(behind, word))
+    surplus_word(alloc, behind, words.next_word()?)
 }

@@ -57,7 +57,7 @@ pub(crate) fn unknown_name<A: Source>(
 ) -> Option<String> {
     let network = read_unjudged(alloc, first).ok()?;
     let path = called.first_path();
-    if called.program == Program::Lens {
+    if matches!(called.program, Program::Lens) {
         let name = called.words.get(called.words.len().saturating_sub(1))?;
         let vls = VlNames(network.vl.as_slice());
         let devices = DeviceNames(network.device.as_slice());
@@ -65,7 +65,7 @@ pub(crate) fn unknown_name<A: Source>(
             "{path} has no virtual link and no device {name:?}; its virtual links are{vls}, and its devices{devices}"
         ).ok();
     }
-    if called.argument(2) == Some(Argument::Link) {
+    if matches!(called.argument(2), Some(Argument::Link)) {
         let link = called.words.get(3)?;
         let names = LinkNames(network.link.as_slice());
         return format!(in alloc; "{path} has no link {link:?}; its links are{names}").ok();

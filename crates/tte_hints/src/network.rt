@@ -9,24 +9,8 @@ use net_plan::Network;
 use schedule_checker::{Unfit, check};
 use std::alloc::Global;
 use std::str;
-use thiserror::Error;
 use toml::Value;
 use tte_io::{Source, read_all};
-
-/// Why a network's file gives no network, beside what the answer says of it.
-#[derive(Debug, Drop, Error)]
-enum NetworkFault<'x> {
-    #[error("{0} is missing; it must be {must_be}", must_be = .0.must_be())]
-    Missing(Wanted),
-    #[error("{0} must be {must_be}", must_be = .0.must_be())]
-    Value(Wanted),
-    #[error("{wanted} must be {must_be}, and {name:?} is none", must_be = .wanted.must_be())]
-    Name { wanted: Wanted, name: &'x str },
-    #[error("{place}no such table has the key {key:?}")]
-    Key { place: Place, key: &'x str },
-    #[error("{place}only a master has a member, and only a switch a channel")]
-    Role { place: Place },
-}
 
 /// Reads the text of a document, which is one.
 fn document_of(alloc: Global, octets: &[u8]) -> Option<Value> {
@@ -34,10 +18,20 @@ fn document_of(alloc: Global, octets: &[u8]) -> Option<Value> {
     Some(Value::Table(toml::table_from_str(alloc, text).ok()?))
 }
 
-/// The text of a fault of a network's file.
-fn told(alloc: Global, called: Called<'_>, fault: NetworkFault<'_>) -> Option<String> {
+/// Which key is missing.
+fn missing(alloc: Global, called: Called<'_>, wanted: Wanted) -> Option<String> {
     let path = called.first_path();
-    format!(in alloc; "{path}: {fault}").ok()
+    format!(in alloc;
+        "{path}: {wanted} is missing; it must be {}",
+        wanted.must_be()
+    )
+    .ok()
+}
+
+/// Which key has no such value as it must have.
+fn no_value(alloc: Global, called: Called<'_>, wanted: Wanted) -> Option<String> {
+    let path = called.first_path();
+    format!(in alloc; "{path}: {wanted} must be {}", wanted.must_be()).ok()
 }
 
 /// Where a network's file is found to be no TOML.
@@ -54,18 +48,25 @@ fn no_toml(alloc: Global, called: Called<'_>, octets: &[u8]) -> Option<String>
 /// Which key of a table is unknown.
 fn no_key(alloc: Global, called: Called<'_>, octets: &[u8], place: Place) -> Option<String> {
     let document = document_of(alloc, octets)?;
-    let fault = match unknown_key(&document, place) {
-        Some(key) => NetworkFault::Key { place, key },
-        None => NetworkFault::Role { place },
-    };
-    told(alloc, called, fault)
+    let path = called.first_path();
+    match unknown_key(&document, place) {
+        Some(key) => format!(in alloc; "{path}: {place}no such table has the key {key:?}").ok(),
+        None => format!(in alloc;
+            "{path}: {place}only a master has a member, and only a switch a channel"
+        ).ok(),
+    }
 }
 
 /// Which name is unknown.
 fn no_name(alloc: Global, called: Called<'_>, octets: &[u8], wanted: Wanted) -> Option<String> {
     let document = document_of(alloc, octets)?;
     let name = wanted.text_in(&document)?;
-    told(alloc, called, NetworkFault::Name { wanted, name })
+    let path = called.first_path();
+    format!(in alloc;
+        "{path}: {wanted} must be {}, and {name:?} is none",
+        wanted.must_be()
+    )
+    .ok()
 }
 
 /// Which rule a network breaks.
@@ -94,11 +95,9 @@ fn no_network(
 {
     match refusal {
         FileRefusal::NotToml => no_toml(alloc, called, octets),
-        FileRefusal::Missing(spot) => {
-            told(alloc, called, NetworkFault::Missing(Wanted::at(spot)))
-        }
+        FileRefusal::Missing(spot) => missing(alloc, called, Wanted::at(spot)),
         FileRefusal::Kind(spot) | FileRefusal::Range(spot) => {
-            told(alloc, called, NetworkFault::Value(Wanted::at(spot)))
+            no_value(alloc, called, Wanted::at(spot))
         }
         FileRefusal::Unknown(table, index) => {
             no_key(alloc, called, octets, Place { table, index })

@@ -12,7 +12,7 @@ const LATEST: u64 = 1 << 60;
 const FASTEST: u64 = 1_000_000_000;
 
 /// What a word of an event's line is.
-#[derive(Clone, Copy, Debug, PartialEq, Eq)]
+#[derive(Clone, Copy)]
 pub(crate) enum Part {
     Time,
     /// The word that says what befalls the network.

@@ -1,35 +1,15 @@
-ghost use Rattle.net_plan.specs.Ranges.{IsInRange};
-
-use crate::breach::Breach;
-use crate::line_fault::{LineFault, line_fault};
-use crate::naming::{channel_of, device_at, device_text, letter_of, link_at, link_text};
+use crate::breach::{hold, late, not_broken, not_master, rate, wire};
+use crate::line_fault::line_fault;
+use crate::naming::{channel_of, device_at, device_text, letter_of, link_text};
 use fault_hypothesis::{Outside, Watch};
 use net_plan::{DeviceId, Event, LinkId, Network, Role, What};
 use schedule_tables::Accepted;
-use thiserror::Error;
+use std::alloc::Global;
 use trace_text::line;
 use tte_units::Units;
 
 /// The most devices of a network that keeps the rules.
 const MOST_DEVICES: usize = 64;
-
-/// The most cycles of a run.
-const MOST_CYCLES: i64 = 1 << 20;
-
-/// Why a trace is refused.
-#[derive(Debug, Drop, Error)]
-pub(crate) enum TraceFault<'n, 't> {
-    #[error("no line is the end, as in: 1048576000000 end")]
-    NoEnd,
-    #[error("line {line} stands behind line {end}, the end")]
-    After { line: u32, end: u32 },
-    #[error("line {line} has more than 4096 octets")]
-    Long { line: u32 },
-    #[error("line {line}: {fault}")]
-    Line { line: u32, fault: LineFault<'t> },
-    #[error("line {line}: {breach}")]
-    Event { line: u32, breach: Breach<'n> },
-}
 
 /// What the event of a line was about.
 #[derive(Clone, Copy)]
@@ -41,6 +21,7 @@ struct Since<T> {
 /// The events of a trace's lines so far, as far as later ones are judged by them.
 #[derive(Drop)]
 pub(crate) struct Past<'n> {
+    alloc: Global,
     accepted: &'n Accepted,
     watch: Watch<'n>,
     /// The time of the last event.
@@ -56,8 +37,9 @@ pub(crate) struct Past<'n> {
 
 impl<'n> Past<'n> {
     /// No line.
-    pub(crate) fn new(accepted: &'n Accepted) -> Past<'n> {
+    pub(crate) fn new(alloc: Global, accepted: &'n Accepted) -> Past<'n> {
         Past {
+            alloc,
             accepted,
             watch: Watch::new(accepted),
             last: None,
@@ -68,37 +50,40 @@ impl<'n> Past<'n> {
         }
     }
 
-    /// Takes the next line, and answers why the trace is refused there, if it is.
-    pub(crate) fn take<'t>(&mut self, number: u32, text: &'t [u8]) -> Option<TraceFault<'n, 't>> {
+    /// Takes the next line. Where the trace is refused there, answers why, as far as memory goes.
+    pub(crate) fn take(&mut self, number: u32, text: &[u8]) -> Result<(), Option<String>> {
         if let Some(end) = self.end {
-            return Some(TraceFault::After { line: number, end });
+            return Err(format!(in self.alloc;
+                "line {number} stands behind line {end}, the end"
+            ).ok());
         }
         let network = self.accepted.network();
-        let Ok(event) = line(network, text) else {
-            let fault = line_fault(network, text)?;
-            return Some(TraceFault::Line {
-                line: number,
-                fault,
-            });
-        };
-        match self.watch.admit(&event) {
-            Ok(()) => {
-                self.keep(number, &event);
-                None
-            }
-            Err(outside) => Some(TraceFault::Event {
-                line: number,
-                breach: self.breach(&event, outside)?,
-            }),
+        match line(network, text) {
+            Ok(event) => self.admit(number, &event),
+            Err(_) => Err(self.of_line(number, line_fault(self.alloc, network, text))),
         }
     }
 
-    /// Why a trace that ends here is refused, if it is.
-    pub(crate) fn finish(&self) -> Option<TraceFault<'n, 'static>> {
-        match self.end {
-            Some(_) => None,
-            None => Some(TraceFault::NoEnd),
+    /// The text of a line's fault.
+    fn of_line(&self, number: u32, fault: Option<String>) -> Option<String> {
+        let fault = fault?;
+        format!(in self.alloc; "line {number}: {fault}").ok()
+    }
+
+    /// Takes the event of a line.
+    fn admit(&mut self, number: u32, event: &Event) -> Result<(), Option<String>> {
+        match self.watch.admit(event) {
+            Ok(()) => {
+                self.keep(number, event);
+                Ok(())
+            }
+            Err(outside) => Err(self.of_line(number, self.breach(event, outside))),
         }
+    }
+
+    /// Whether a line was the end.
+    pub(crate) fn has_ended(&self) -> bool {
+        self.end.is_some()
     }
 
     /// Keeps of the event of a line what later ones are judged by.
@@ -138,159 +123,125 @@ impl<'n> Past<'n> {
     }
 
     /// How the event breaks a condition of the fault hypothesis.
-    fn breach(&self, event: &Event, outside: Outside) -> Option<Breach<'n>> {
-        let network = self.accepted.network();
+    fn breach(&self, event: &Event, outside: Outside) -> Option<String> {
         match outside {
-            Outside::Order => self.early(event),
-            Outside::Late => Some(Breach::Late {
-                time: event.time.0,
-                end: network.cycle.0.saturating_mul(MOST_CYCLES),
-            }),
-            Outside::Rate => rate_breach(network, &event.what),
-            Outside::Wire => wire_breach(network, &event.what),
-            Outside::Hold => hold_breach(network, &event.what),
-            Outside::Channel => self.channel_breach(network, &event.what),
-            Outside::NotMaster => not_master(network, &event.what),
-            Outside::SecondBreak => self.second_break(network, &event.what),
-            Outside::TooFewMasters => self.too_few_masters(network, &event.what),
-            Outside::NotBroken => not_broken(network, &event.what),
-            Outside::NotOff => self.not_off(network, &event.what),
+            Outside::Order => self.early(event.time),
+            Outside::Late => late(self.alloc, self.accepted.network(), event.time),
+            Outside::Rate
+            | Outside::Wire
+            | Outside::Hold
+            | Outside::Channel
+            | Outside::NotMaster
+            | Outside::SecondBreak
+            | Outside::TooFewMasters
+            | Outside::NotBroken
+            | Outside::NotOff => self.breach_of(&event.what, outside),
         }
     }
 
-    fn early(&self, event: &Event) -> Option<Breach<'n>> {
-        let last = self.last?;
-        Some(Breach::Early {
-            time: event.time.0,
-            line: last.line,
-            last: last.what.0,
-        })
+    /// How an event of its kind breaks a condition, whenever it comes.
+    fn breach_of(&self, what: &What, outside: Outside) -> Option<String> {
+        let network = self.accepted.network();
+        match what {
+            What::Rate(device, amount) => rate(self.alloc, network, *device, *amount),
+            What::Wire(link, _, delay) => wire(self.alloc, network, *link, *delay),
+            What::Hold(link, _, delay) => hold(self.alloc, network, *link, *delay),
+            What::Cut(link, _) => self.other_channel(*link),
+            What::Break(device) => self.wrong_break(*device, outside),
+            What::Send(link, _) => not_broken(self.alloc, network, *link),
+            What::On(device) => self.not_off(*device),
+            What::Heal(_, _) | What::End => None,
+        }
     }
 
-    fn channel_breach(&self, network: &'n Network, what: &What) -> Option<Breach<'n>> {
-        let What::Cut(link, _) = what else {
-            return None;
-        };
-        let channel = letter_of(channel_of(network, *link)?);
+    fn early(&self, time: Units) -> Option<String> {
+        let time = time.0;
+        let before = self.last?;
+        let line = before.line;
+        let last = before.what.0;
+        format!(in self.alloc; "it comes at {time}, earlier than line {line} at {last}").ok()
+    }
+
+    fn other_channel(&self, link: LinkId) -> Option<String> {
+        let network = self.accepted.network();
+        let channel = letter_of(channel_of(network, link)?);
         let faulty = letter_of(self.watch.faulty()?);
-        let link = link_text(network, *link);
+        let link = link_text(network, link);
         match self.cut {
-            Some(first) => Some(Breach::OtherChannel {
-                link,
-                channel,
-                line: first.line,
-                first: link_text(network, first.what),
-                faulty,
-            }),
-            None => Some(Breach::OffChannel {
-                link,
-                channel,
-                faulty,
-            }),
+            Some(first) => {
+                let line = first.line;
+                let first = link_text(network, first.what);
+                format!(in self.alloc;
+                    "it cuts {link} of channel {channel}; line {line} cuts {first}, so channel {faulty} is the faulty one"
+                ).ok()
+            }
+            None => format!(in self.alloc;
+                "it cuts {link} of channel {channel}; a switch of channel {faulty} begins off, so that is the faulty one"
+            ).ok(),
         }
     }
 
-    fn second_break(&self, network: &'n Network, what: &What) -> Option<Breach<'n>> {
-        let What::Break(device) = what else {
-            return None;
-        };
-        let first = self.broken?;
-        Some(Breach::SecondBreak {
-            device: device_text(network, *device),
-            line: first.line,
-            first: device_text(network, first.what),
-        })
+    fn wrong_break(&self, device: DeviceId, outside: Outside) -> Option<String> {
+        match outside {
+            Outside::NotMaster => not_master(self.alloc, self.accepted.network(), device),
+            Outside::SecondBreak => self.second_break(device),
+            Outside::TooFewMasters => self.too_few_masters(device),
+            Outside::Order
+            | Outside::Late
+            | Outside::Rate
+            | Outside::Wire
+            | Outside::Hold
+            | Outside::Channel
+            | Outside::NotBroken
+            | Outside::NotOff => None,
+        }
     }
 
-    fn too_few_masters(&self, network: &'n Network, what: &What) -> Option<Breach<'n>> {
-        let What::Break(device) = what else {
-            return None;
-        };
-        let masters = network
-            .device
-            .as_slice()
-            .iter()
-            .filter(|found| found.role == Role::Master && found.start.is_some())
-            .count();
-        let began_on = device_at(network, *device)?.start.is_some();
-        Some(Breach::TooFewMasters {
-            device: device_text(network, *device),
-            left: masters.saturating_sub(usize::from(began_on)),
-            threshold: network.sync_threshold,
-        })
+    fn second_break(&self, device: DeviceId) -> Option<String> {
+        let network = self.accepted.network();
+        let broken = self.broken?;
+        let line = broken.line;
+        let first = device_text(network, broken.what);
+        let device = device_text(network, device);
+        format!(in self.alloc;
+            "it breaks {device}; line {line} breaks {first}, and no second device may break"
+        ).ok()
     }
 
-    fn not_off(&self, network: &'n Network, what: &What) -> Option<Breach<'n>> {
-        let What::On(id) = what else {
-            return None;
-        };
-        let device = device_text(network, *id);
-        match self.broken {
-            Some(broken) if broken.what == *id => Some(Breach::IsBroken {
-                device,
-                line: broken.line,
-            }),
-            Some(_) | None => match self.turned_on.get(id.0 as usize) {
-                Some(0) | None => Some(Breach::BeginsOn { device }),
-                Some(line) => Some(Breach::TurnedOn {
-                    device,
-                    line: *line,
-                }),
-            },
+    fn too_few_masters(&self, device: DeviceId) -> Option<String> {
+        let network = self.accepted.network();
+        let began_on = device_at(network, device)?.start.is_some();
+        let left = masters_on(network).saturating_sub(usize::from(began_on));
+        let threshold = network.sync_threshold;
+        let device = device_text(network, device);
+        format!(in self.alloc;
+            "it breaks {device}, which leaves {left} masters that began on; sync_threshold asks for {threshold}"
+        ).ok()
+    }
+
+    fn not_off(&self, id: DeviceId) -> Option<String> {
+        let device = device_text(self.accepted.network(), id);
+        if let Some(broken) = self.broken.filter(|broken| broken.what == id) {
+            let line = broken.line;
+            return format!(in self.alloc; "it turns on {device}, which line {line} breaks").ok();
+        }
+        match self.turned_on.get(id.0 as usize) {
+            Some(0) | None => {
+                format!(in self.alloc; "it turns on {device}, which begins on").ok()
+            }
+            Some(line) => {
+                format!(in self.alloc; "it turns on {device}, which line {line} turned on").ok()
+            }
         }
     }
 }
 
-fn rate_breach<'n>(network: &'n Network, what: &What) -> Option<Breach<'n>> {
-    let What::Rate(device, rate) = what else {
-        return None;
-    };
-    Some(Breach::Rate {
-        device: device_text(network, *device),
-        rate: rate.0,
-        rho: network.rho,
-    })
-}
-
-fn wire_breach<'n>(network: &'n Network, what: &What) -> Option<Breach<'n>> {
-    let What::Wire(link, _, delay) = what else {
-        return None;
-    };
-    let found = link_at(network, *link)?;
-    Some(Breach::Wire {
-        link: link_text(network, *link),
-        delay: delay.0,
-        least: found.wire.0,
-        most: found.wire.0.saturating_add(found.jitter.0),
-    })
-}
-
-fn hold_breach<'n>(network: &'n Network, what: &What) -> Option<Breach<'n>> {
-    let What::Hold(link, _, delay) = what else {
-        return None;
-    };
-    Some(Breach::Hold {
-        link: link_text(network, *link),
-        delay: delay.0,
-        most: link_at(network, *link)?.hold.0,
-    })
-}
-
-fn not_master<'n>(network: &'n Network, what: &What) -> Option<Breach<'n>> {
-    let What::Break(device) = what else {
-        return None;
-    };
-    Some(Breach::NotMaster {
-        device: device_text(network, *device),
-    })
-}
-
-fn not_broken<'n>(network: &'n Network, what: &What) -> Option<Breach<'n>> {
-    let What::Send(link, _) = what else {
-        return None;
-    };
-    Some(Breach::NotBroken {
-        link: link_text(network, *link),
-        device: device_text(network, link_at(network, *link)?.child),
-    })
+/// How many masters of the network begin on.
+fn masters_on(network: &Network) -> usize {
+    network
+        .device
+        .as_slice()
+        .iter()
+        .filter(|found| found.role == Role::Master && found.start.is_some())
+        .count()
 }

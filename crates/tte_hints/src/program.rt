@@ -1,7 +1,7 @@
 use std::fmt;
 
 /// Which of the two programs was called.
-#[derive(Clone, Copy, Debug, PartialEq, Eq)]
+#[derive(Clone, Copy)]
 pub enum Program {
     Tte,
     Lens,

@@ -1,35 +1,30 @@
 use crate::hinting::Called;
-use crate::past::{Past, TraceFault};
+use crate::past::Past;
 use schedule_tables::Accepted;
 use std::alloc::Global;
 use tte_forms::accept;
 use tte_io::{LineReader, LineTaken, Source};
 
-/// The text of a fault of the trace that a call names.
-fn told(alloc: Global, called: Called<'_>, fault: Option<TraceFault<'_, '_>>) -> Option<String> {
-    let fault = fault?;
-    let path = called.second_path();
-    format!(in alloc; "{path}, {fault}").ok()
-}
-
-/// Why the trace of a call is refused, by its first line that is.
-fn trace_hint<B: Source>(
-    alloc: Global,
-    called: Called<'_>,
-    accepted: &Accepted,
-    second: &mut B,
-) -> Option<String> {
+/// Why the trace is refused, by its first line that is, as far as memory goes.
+fn trace_fault<B: Source>(alloc: Global, accepted: &Accepted, second: &mut B) -> Option<String> {
     let mut reader = LineReader::new();
-    let mut past = Past::new(accepted);
+    let mut past = Past::new(alloc, accepted);
     for number in 1..u32::MAX {
-        let fault = match reader.next_line(second) {
-            Ok(LineTaken::Whole) => past.take(number, reader.text()),
-            Ok(LineTaken::Long) => Some(TraceFault::Long { line: number }),
-            Ok(LineTaken::End) => return told(alloc, called, past.finish()),
+        match reader.next_line(second) {
+            Ok(LineTaken::Whole) => {
+                if let Err(fault) = past.take(number, reader.text()) {
+                    return fault;
+                }
+            }
+            Ok(LineTaken::Long) => {
+                return format!(in alloc; "line {number} has more than 4096 octets").ok();
+            }
+            Ok(LineTaken::End) if past.has_ended() => return None,
+            Ok(LineTaken::End) => {
+                let no_end = "no line is the end, as in: 1048576000000 end";
+                return String::from_str(alloc, no_end).ok();
+            }
             Err(_) => return None,
-        };
-        if fault.is_some() {
-            return told(alloc, called, fault);
         }
     }
     None
@@ -43,5 +38,7 @@ pub(crate) fn refused_trace<A: Source, B: Source>(
     second: &mut B,
 ) -> Option<String> {
     let accepted = accept(alloc, first).ok()?;
-    trace_hint(alloc, called, &accepted, second)
+    let fault = trace_fault(alloc, &accepted, second)?;
+    let path = called.second_path();
+    format!(in alloc; "{path}, {fault}").ok()
 }

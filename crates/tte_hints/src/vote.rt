@@ -2,20 +2,19 @@ use crate::hinting::Called;
 use crate::naming::{device_text, text_of};
 use net_plan::{Network, VirtualLink};
 use std::alloc::Global;
-use thiserror::Error;
 use tte_forms::read_unjudged;
 use tte_io::Source;
 
 /// Why two virtual links can't be voted on.
-#[derive(Debug, Drop, Error)]
+#[derive(Clone, Copy)]
 enum VoteFault<'n> {
-    #[error("{one} and {two} have one sender, {sender}")]
+    /// They have one sender.
     Sender {
         one: &'n str,
         two: &'n str,
         sender: &'n str,
     },
-    #[error("the {key} of {one} is {of_one}, and that of {two} is {of_two}")]
+    /// The number of this key is another.
     Number {
         key: &'static str,
         one: &'n str,
@@ -23,6 +22,24 @@ enum VoteFault<'n> {
         two: &'n str,
         of_two: u32,
     },
+}
+
+/// The text of a fault.
+fn told(alloc: Global, fault: VoteFault<'_>) -> Option<String> {
+    match fault {
+        VoteFault::Sender { one, two, sender } => {
+            format!(in alloc; "{one} and {two} have one sender, {sender}").ok()
+        }
+        VoteFault::Number {
+            key,
+            one,
+            of_one,
+            two,
+            of_two,
+        } => {
+            format!(in alloc; "the {key} of {one} is {of_one}, and that of {two} is {of_two}").ok()
+        }
+    }
 }
 
 /// The numbers in which virtual links must agree, by their keys.
@@ -79,5 +96,5 @@ pub(crate) fn refused_vote<A: Source>(
     let fault = fault_of(&network, one, two)
         .or_else(|| fault_of(&network, one, three))
         .or_else(|| fault_of(&network, two, three))?;
-    format!(in alloc; "{fault}").ok()
+    told(alloc, fault)
 }

@@ -1,49 +1,11 @@
 use crate::{Argument, Form, Program, forms_of};
+use std::alloc::Global;
 use std::fmt;
-use thiserror::Error;
 use tte_forms::Words;
 
-/// Why the words of a command line are of no form.
-#[derive(Debug, Drop, Error)]
-pub enum WordsFault<'a> {
-    #[error("no command is given; {0}")]
-    NoCommand(Commands),
-    #[error("{word:?} is a command of {program}: {program} {form}")]
-    OtherProgram {
-        word: &'a str,
-        program: Program,
-        form: Form,
-    },
-    #[error("{word:?} is no command; {commands}")]
-    NoSuchCommand {
-        word: &'a str,
-        commands: Commands,
-    },
-    #[error("{argument} is missing in: {form}")]
-    Missing {
-        argument: Argument,
-        form: Form,
-    },
-    #[error("{word:?} is one argument too many; the command is: {form}")]
-    Surplus {
-        word: &'a str,
-        form: Form,
-    },
-    #[error("{argument} is {word:?}; it must be {must_be}", must_be = .argument.must_be())]
-    Wrong {
-        argument: Argument,
-        word: &'a str,
-    },
-    #[error("TO, {to}, is less than FROM, {from}")]
-    Backward {
-        from: &'a str,
-        to: &'a str,
-    },
-}
-
 /// The commands of a program.
-#[derive(Clone, Copy, Debug, PartialEq, Eq)]
-pub struct Commands(Program);
+#[derive(Clone, Copy)]
+struct Commands(Program);
 
 impl fmt::Display for Commands {
     fn fmt<W: fmt::Write>(&self, f: &mut fmt::Formatter<W>) -> fmt::Result {
@@ -60,11 +22,34 @@ impl fmt::Display for Commands {
 }
 
 /// Where words first differ from a form, and how.
-#[derive(Drop)]
+#[derive(Clone, Copy)]
 struct Misfit<'a> {
+    form: Form,
     /// Which argument, from 0.
     place: u32,
-    fault: WordsFault<'a>,
+    fault: Fault<'a>,
+}
+
+#[derive(Clone, Copy)]
+enum Fault<'a> {
+    Missing(Argument),
+    Wrong(Argument, &'a str),
+    /// A word behind the last argument.
+    Surplus(&'a str),
+}
+
+/// The text of a misfit.
+fn told(alloc: Global, misfit: Misfit<'_>) -> Option<String> {
+    let form = misfit.form;
+    match misfit.fault {
+        Fault::Missing(argument) => format!(in alloc; "{argument} is missing in: {form}").ok(),
+        Fault::Wrong(argument, word) => {
+            format!(in alloc; "{argument} is {word:?}; it must be {}", argument.must_be()).ok()
+        }
+        Fault::Surplus(word) => {
+            format!(in alloc; "{word:?} is one argument too many; the command is: {form}").ok()
+        }
+    }
 }
 
 /// The most arguments of a form.
@@ -80,52 +65,52 @@ fn misfit_of<'a>(form: Form, words: &'a Words) -> Option<Misfit<'a>> {
                 behind = place.saturating_add(1);
                 continue;
             }
-            Some(word) => WordsFault::Wrong { argument, word },
-            None => WordsFault::Missing { argument, form },
+            Some(word) => Fault::Wrong(argument, word),
+            None => Fault::Missing(argument),
         };
-        return Some(Misfit { place, fault });
+        return Some(Misfit { form, place, fault });
     }
-    let word = words.get(behind)?;
+    let fault = Fault::Surplus(words.get(behind)?);
     Some(Misfit {
+        form,
         place: behind,
-        fault: WordsFault::Surplus { word, form },
+        fault,
     })
 }
 
 /// That a part of a run ends before it begins.
-fn backward_of<'a>(form: Form, words: &'a Words) -> Option<WordsFault<'a>> {
+fn backward(alloc: Global, form: Form, words: &Words) -> Option<String> {
     match form.arguments() {
         [_, _, Argument::From, Argument::To]
-        | [_, _, Argument::From, Argument::To, Argument::AnyName] => Some(WordsFault::Backward {
-            from: words.get(3)?,
-            to: words.get(4)?,
-        }),
+        | [_, _, Argument::From, Argument::To, Argument::AnyName] => {
+            let from = words.get(3)?;
+            let to = words.get(4)?;
+            format!(in alloc; "TO, {to}, is less than FROM, {from}").ok()
+        }
         _ => None,
     }
 }
 
 /// Why the words behind a command of the program are of none of its forms: by the form that agrees with most of them.
-fn arguments_fault<'a>(
+fn arguments_fault(
+    alloc: Global,
     program: Program,
     command: &str,
-    words: &'a Words,
-) -> Option<WordsFault<'a>> {
-    let mut nearest: Option<Misfit<'a>> = None;
+    words: &Words,
+) -> Option<String> {
+    let mut nearest: Option<Misfit<'_>> = None;
     for form in forms_of(program) {
         if form.command() != command {
             continue;
         }
         let Some(misfit) = misfit_of(*form, words) else {
-            return backward_of(*form, words);
+            return backward(alloc, *form, words);
         };
-        if nearest
-            .as_ref()
-            .is_none_or(|near| near.place <= misfit.place)
-        {
+        if nearest.is_none_or(|near| near.place <= misfit.place) {
             nearest = Some(misfit);
         }
     }
-    nearest.map(|misfit| misfit.fault)
+    told(alloc, nearest?)
 }
 
 /// The first form of a command of the program, if it has the command.
@@ -136,24 +121,19 @@ fn form_of(program: Program, command: &str) -> Option<Form> {
         .copied()
 }
 
-/// Why the words of a command line are of no form of the program. None where they are of one.
-pub fn words_fault<'a>(program: Program, words: &'a Words) -> Option<WordsFault<'a>> {
+/// Why the words of a command line are of no form of the program. None where they are of one, or where memory runs
+/// out.
+pub(crate) fn words_fault(alloc: Global, program: Program, words: &Words) -> Option<String> {
+    let commands = Commands(program);
     let Some(word) = words.get(0) else {
-        return Some(WordsFault::NoCommand(Commands(program)));
+        return format!(in alloc; "no command is given; {commands}").ok();
     };
     if form_of(program, word).is_some() {
-        return arguments_fault(program, word, words);
+        return arguments_fault(alloc, program, word, words);
     }
     let other = program.other();
     match form_of(other, word) {
-        Some(form) => Some(WordsFault::OtherProgram {
-            word,
-            program: other,
-            form,
-        }),
-        None => Some(WordsFault::NoSuchCommand {
-            word,
-            commands: Commands(program),
-        }),
+        Some(form) => format!(in alloc; "{word:?} is a command of {other}: {other} {form}").ok(),
+        None => format!(in alloc; "{word:?} is no command; {commands}").ok(),
     }
 }
