@@ -37,7 +37,7 @@ pub report_given : (limit : ℕ) (IsAnswerFor : AnswersFor) (network : Network) 
 report_given limit IsAnswerFor network left report status old new h given =
     for_more left (λ octets. (length octets ≤ limit) × (report ≡ octets) × IsSomeReport network octets)
     (λ octets. GivesAnswer (IsReportAnswer limit IsAnswerFor octets network) status old new)
-    (λ octets (fits, same, notes, end, of).
+    (λ octets (fits, same, (notes, end, of)).
     answer_widened (IsAnswerFor network notes end) (IsReportAnswer limit IsAnswerFor octets network) status old new
     (λ a is. inr (fits, inr (notes, end, of, is))) (given notes end (subst (λ xs. IsReportOf network xs notes end) (sym same) of))) h
 

@@ -5,7 +5,7 @@ use Rattle.tte_reports.proofs.reading.audit_octets.Goals as goal
 pub returns-in-Ok-places_of-clause-judged : goal.returns-in-Ok-places_of-clause-judged
 returns-in-Ok-places_of-clause-judged c limit fits =
     let a = subst (λ xs. IsAudited c.args.accepted.now xs c.in-Ok.passed.count) c.as_slice.ensures c.in-Ok.ensures.judged.audited in
-    (fits, refl, a.notes, a.time, record { range = c.audit.ensures.named.in_range; events = a.events; run = a.run })
+    (fits, refl, (a.notes, a.time, record { range = c.audit.ensures.named.in_range; events = a.events; run = a.run }))
 
 pub returns-in-Ok-places_of-clause-read : goal.returns-in-Ok-places_of-clause-read
 returns-in-Ok-places_of-clause-read c =
