@@ -48,7 +48,7 @@ head_is_drawn words network ns end a answer =
       title = there pieces.Title (inr (inl refl));
       heading = there pieces.Heading (inr (inr (inr (inr (inl refl)))));
       extent =
-          subst (λ (n : ℕ). IsIn (extent_line network n) a.lines) many
+          subst (λ (n : ℕ). IsIn (extent_line n (amount network.precision)) a.lines) many
           (there (pieces.Extent records) (inr (inr (inr (inr (inr (inl refl)))))));
     }
 

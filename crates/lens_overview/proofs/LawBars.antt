@@ -1,6 +1,6 @@
 -- The bars of the strip.
 use Rattle.lens_overview.proofs.LawRows.{in_each}
-use Rattle.lens_overview.specs.{Bars.{bars_of, greater, greatest_of, raised}, Grids.{column_of, pen_at}, Lines.{bar_line, bar_part, caption_line, caption_part, extent_line, piece_line, rail_part, spread_line, stroke_part, tick_line, tick_part}}
+use Rattle.lens_overview.specs.{Bars.{bars_of, greater, greatest_of, raised}, Grids.{column_of, pen_at}, Lines.{bar_line, bar_part, caption_line, caption_part, extent_line, piece_line, rail_part, records_part, spread_line, stroke_part, tick_line, tick_part}}
 use Rattle.lens_overview.specs.Pieces.{bar_at, bar_height, bars_from, below, bottom_of, front, not_begun, picture_of, row_pieces, rows_from, stride_of, stroke_to, strokes_from, ticks, top}
 use Rattle.lens_overview.specs.{Rows.Row, Shades.{is_blank, is_same}, Signs.sign_line, declared.{grid.{Grid.Grid, Pen.Pen}, label.Label.Label, news.News.News}}
 use Rattle.lens_overview.specs.declared.{pieces.{Begun.Begun, Piece.Piece, Ribbon.Ribbon}, shade.Shade.Shade}
@@ -53,7 +53,7 @@ stroke_class network title (labels.Flows vl count) y shade from to rest same = l
 
 -- a line that begins so is that of a bar
 pub bar_of : (network : Network) (title : List ℕ) (piece : Piece) (rest : List ℕ) → piece_line network title piece ≡ codes "<path class=\"bar" ++ rest → IsBar piece
-unfolding opening_line title_line heading_line extent_line sign_line caption_line caption_part spread_line tick_line tick_part bar_line bar_part rail_part
+unfolding opening_line title_line heading_line extent_line records_part sign_line caption_line caption_part spread_line tick_line tick_part bar_line bar_part rail_part
 bar_of network title (pieces.Opening width height) rest same = let octet = ap (octet_at 1) same in absurd (omega (arith, octet))
 bar_of network title pieces.Title rest same = let octet = ap (octet_at 1) same in absurd (omega (arith, octet))
 bar_of network title pieces.Heading rest same = let octet = ap (octet_at 1) same in absurd (omega (arith, octet))

@@ -1,5 +1,5 @@
 -- How the lines of a picture begin.
-use Rattle.lens_overview.specs.Lines.{bar_line, bar_part, caption_line, caption_part, extent_line, piece_line, rail_part, ribbon_line, spread_line, stroke_part, tick_line, tick_part}
+use Rattle.lens_overview.specs.Lines.{bar_line, bar_part, caption_line, caption_part, extent_line, piece_line, rail_part, records_part, ribbon_line, spread_line, stroke_part, tick_line, tick_part}
 use Rattle.lens_overview.specs.{Labels.label_word, Shades.shade_word, Signs.sign_line, declared.{grid.Pen.Pen, label.Label.Label, pieces.{Piece.Piece, Ribbon.Ribbon}, shade.Shade.Shade}}
 use Rattle.{lens_svg.specs.{Elements.opening_line, Titles.{heading_line, title_line}}, net_plan.specs.declared.network.Network.Network}
 use Rattle.std.{proofs.{Common.{◌++◌, ◌≡◌, Bool, List, ap, arith, false, get_or, refl, true, ℕ}, lemmas.Bool.false≢true}, specs.Prelude.codes}
@@ -93,7 +93,7 @@ missing_class network (labels.Passage link way) y shade from to rest flow same =
 -- a line that begins so is that of a stroke of such a row
 pub stroke_of : (network : Network) (title : List ℕ) (piece : Piece) (rest : List ℕ) → piece_line network title piece ≡ flow_stroke ++ rest
     → (ribbon : Ribbon) × (piece ≡ pieces.Stroke ribbon) × (is_flow ribbon.label ≡ true)
-unfolding opening_line title_line heading_line extent_line sign_line caption_line caption_part spread_line tick_line tick_part bar_line bar_part rail_part
+unfolding opening_line title_line heading_line extent_line records_part sign_line caption_line caption_part spread_line tick_line tick_part bar_line bar_part rail_part
 stroke_of network title (pieces.Opening width height) rest same = let octet = ap (octet_at 1) same in absurd (omega (arith, octet))
 stroke_of network title pieces.Title rest same = let octet = ap (octet_at 1) same in absurd (omega (arith, octet))
 stroke_of network title pieces.Heading rest same = let octet = ap (octet_at 1) same in absurd (omega (arith, octet))
@@ -155,7 +155,7 @@ lane_class network (labels.Flows vl count) y shade from to rest same = let octet
 -- a line that begins so is that of a stroke of such a row
 pub lane_of : (network : Network) (title : List ℕ) (piece : Piece) (rest : List ℕ) → piece_line network title piece ≡ codes "<path class=\"lane " ++ rest
     → (ribbon : Ribbon) × (piece ≡ pieces.Stroke ribbon) × (is_lane ribbon.label ≡ true)
-unfolding opening_line title_line heading_line extent_line sign_line caption_line caption_part spread_line tick_line tick_part bar_line bar_part rail_part
+unfolding opening_line title_line heading_line extent_line records_part sign_line caption_line caption_part spread_line tick_line tick_part bar_line bar_part rail_part
 lane_of network title (pieces.Opening width height) rest same = let octet = ap (octet_at 1) same in absurd (omega (arith, octet))
 lane_of network title pieces.Title rest same = let octet = ap (octet_at 1) same in absurd (omega (arith, octet))
 lane_of network title pieces.Heading rest same = let octet = ap (octet_at 1) same in absurd (omega (arith, octet))
@@ -207,7 +207,7 @@ passage_class network (labels.Flows vl count) y shade from to rest same = let oc
 -- a line that begins so is that of a stroke of such a row
 pub passage_of : (network : Network) (title : List ℕ) (piece : Piece) (rest : List ℕ) → piece_line network title piece ≡ codes "<path class=\"passage " ++ rest
     → (ribbon : Ribbon) × (piece ≡ pieces.Stroke ribbon) × (is_passage ribbon.label ≡ true)
-unfolding opening_line title_line heading_line extent_line sign_line caption_line caption_part spread_line tick_line tick_part bar_line bar_part rail_part
+unfolding opening_line title_line heading_line extent_line records_part sign_line caption_line caption_part spread_line tick_line tick_part bar_line bar_part rail_part
 passage_of network title (pieces.Opening width height) rest same = let octet = ap (octet_at 1) same in absurd (omega (arith, octet))
 passage_of network title pieces.Title rest same = let octet = ap (octet_at 1) same in absurd (omega (arith, octet))
 passage_of network title pieces.Heading rest same = let octet = ap (octet_at 1) same in absurd (omega (arith, octet))

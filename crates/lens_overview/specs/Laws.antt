@@ -22,7 +22,7 @@ use Rattle.tte_units.specs.declared.units.Units.{Units}
 pub record HasHead (words : List (List ℕ)) (network : Network) (ns : List Note) (lines : List (List ℕ)) : Type 0 where
   pub title : IsIn (title_line (title_of words)) lines
   pub heading : IsIn (heading_line (title_of words)) lines
-  pub extent : IsIn (extent_line network (length ns)) lines
+  pub extent : IsIn (extent_line (length ns) (amount network.precision)) lines
 
 -- so do those of each picture
 abbrev pub HeadIsDrawn : Type 0

@@ -19,11 +19,14 @@ label_text network (labels.Passage link way) = link_name network link ++ codes "
 label_text network (labels.Flow vl device) = vl_name network vl ++ codes " to " ++ device_name network device
 label_text network (labels.Flows vl count) = vl_name network vl ++ codes " to " ++ decimal count ++ codes " receivers"
 
--- of what the picture is, of how many records, and the precision
-unfoldable pub extent_line : Network → ℕ → List ℕ
-extent_line network records =
-    codes "<text class=\"note\" x=\"12\" y=\"39\">the whole run, records " ++ decimal records ++ codes ", precision "
-    ++ micros_text (amount network.precision) ++ codes " us</text>\n"
+-- of what the picture is, and of how many records
+unfoldable pub records_part : ℕ → List ℕ
+records_part records = codes "<text class=\"note\" x=\"12\" y=\"39\">the whole run, records " ++ decimal records
+
+-- the same, and the precision
+unfoldable pub extent_line : ℕ → ℕ → List ℕ
+extent_line records precision =
+    records_part records ++ codes ", precision " ++ micros_text precision ++ codes " us</text>\n"
 
 -- how many columns there are, and of how many cycles
 unfoldable pub caption_part : Grid → List ℕ
@@ -124,7 +127,7 @@ abbrev pub piece_line : Network → List ℕ → Piece → List ℕ
 piece_line network title (pieces.Opening width height) = opening_line width height
 piece_line network title pieces.Title = title_line title
 piece_line network title pieces.Heading = heading_line title
-piece_line network title (pieces.Extent records) = extent_line network records
+piece_line network title (pieces.Extent records) = extent_line records (amount network.precision)
 piece_line network title (pieces.Shared sign) = sign_line sign
 piece_line network title (pieces.Caption grid) = caption_line network grid
 piece_line network title (pieces.Spread greatest) = spread_line network greatest

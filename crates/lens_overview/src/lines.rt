@@ -1,7 +1,7 @@
 //! The line of each piece of a picture.
 ghost use Rattle.std.specs.Prelude.{◌+◌, ◌++◌, ◌≡◌, ◌≤◌, length};
 ghost use Rattle.lens_overview.specs.Lines.{apart_text, bar_line, bar_part, caption_line, caption_part, class_part, cycles_part};
-ghost use Rattle.lens_overview.specs.Lines.{extent_line, greatest_text, label_text, name_line, name_part, piece_line, rail_part};
+ghost use Rattle.lens_overview.specs.Lines.{extent_line, greatest_text, label_text, name_line, name_part, piece_line, rail_part, records_part};
 ghost use Rattle.lens_overview.specs.Lines.{ribbon_line, shade_part, spread_line, stroke_part, tick_line, tick_part};
 ghost use Rattle.lens_overview.specs.Lines.{title_part};
 ghost use Rattle.net_plan.specs.{Belonging.{device_name, link_name, vl_name}, Ranges.IsInRange};
@@ -93,17 +93,25 @@ fn push_label(line: &mut LineText, network: &Network, label: Label)
     }
 }
 
-/// Makes the line that says of what the picture is, of how many records, and the precision.
-#[tactic(auto, unfolding(crate::specs::Lines::extent_line))]
-fn make_extent(line: &mut LineText, network: &Network, records: u64)
-    requires { IsInRange network.now }
-    ensures { line.new ≡ extent_line network.now records }
+/// Makes of what the picture is, and of how many records: at most 120 octets.
+#[tactic(auto, unfolding(crate::specs::Lines::records_part))]
+fn make_records_part(line: &mut LineText, records: u64)
+    ensures text { line.new ≡ records_part records }
+    ensures short { length line.new ≤ 120 }
 {
     line.clear();
     line.push("<text class=\"note\" x=\"12\" y=\"39\">the whole run, records ");
     line.push_decimal(records);
+}
+
+/// Makes the line that says of what the picture is, of how many records, and the precision.
+#[tactic(auto, unfolding(crate::specs::Lines::extent_line))]
+fn make_extent(line: &mut LineText, records: u64, precision: u64)
+    ensures { line.new ≡ extent_line records precision }
+{
+    make_records_part(line, records);
     line.push(", precision ");
-    push_micros(line, network.precision.amount());
+    push_micros(line, precision);
     line.push(" us</text>\n");
 }
 
@@ -363,7 +371,7 @@ pub(crate) fn make_piece(line: &mut LineText, network: &Network, title: &Title, 
         }
         Piece::Title => make_title_line(line, title),
         Piece::Heading => make_heading_line(line, title),
-        Piece::Extent(records) => make_extent(line, network, records),
+        Piece::Extent(records) => make_extent(line, records, network.precision.amount()),
         Piece::Shared(sign) => {
             line.clear();
             line.push(sign.line());
