@@ -47,7 +47,7 @@ const TWO_EVENTS: &str = "16384000000 rate m1 0\n32768000000 heal m4_b down\n";
 // The first line of the picture of the whole run.
 const OPENING: &str =
     "<svg xmlns=\"http://www.w3.org/2000/svg\" xmlns:xlink=\"http://www.w3.org/1999/xlink\" width=\"960\" \
-        height=\"271\" viewBox=\"0 0 960 271\">
+        height=\"299\" viewBox=\"0 0 960 299\">
 ";
 
 const FAULTS: &[Fault] = &[
