@@ -163,6 +163,7 @@ impl<'a> LineWords<'a> {
     }
 
     /// The name of a device.
+    #[inline(always)]
     pub(crate) fn device(&mut self, network: &Network) -> Option<DeviceId>
         requires { IsInRange network.now }
         ensures is { (d : DeviceIdValue) → HasDevice network.now d
@@ -180,6 +181,7 @@ impl<'a> LineWords<'a> {
     }
 
     /// The name of a link.
+    #[inline(always)]
     pub(crate) fn link(&mut self, network: &Network) -> Option<LinkId>
         requires { IsInRange network.now }
         ensures is { (l : LinkIdValue) → HasLink network.now l

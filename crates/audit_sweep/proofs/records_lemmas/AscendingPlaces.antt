@@ -1,7 +1,7 @@
 -- Rows of places in ascending order.
 use Rattle.{audit_sweep.specs.records.places.Placing.{AreAscending, HasRecordAt}, std.specs.List.{Sorted.{IsPartitionPoint, IsPartitionedBy}, last_or}}
 use Rattle.run_law.{proofs.{records.Order.{before_is, is_there}, runs.Places.{chain, never_self}}, specs.records.Order.{IsBefore, IsIn, is_before}}
-use Rattle.{run_law.specs.records.{Happenings.Happening, Ranks.place_of}, std.{proofs.{Common.{true, zero, ℕ}, lemmas.Bool.cases_lt}, specs.Prelude.slice_get}}
+use Rattle.{run_law.specs.records.{Happenings.Happening, Ranks.place_of}, std.{proofs.{Common.{true, zero, ℕ}, lemmas.Bool.cases_lt}, specs.Prelude.{slice_get, take}}}
 use Rattle.std.proofs.Common.{◌++◌, ◌<◌, ◌∙◌, ◌∷◌, ◌≡◌, ◌≤◌, ◌⊎◌, List, None, Some, [], ap, arith, false, get_or, inl, inr, length, map, refl, subst, suc, sym}
 
 -- ---- what is in a row
@@ -20,6 +20,12 @@ pub of_map : (p : List ℕ) (hs : List Happening) → IsIn p (map place_of hs) �
 of_map p [] i = absurd i
 of_map p (x ∷ hs) (inl e) = (x, inl refl, sym e)
 of_map p (x ∷ hs) (inr i) = let r = of_map p hs i in (r.0, inr r.1, r.2)
+
+pub in_take : {X : Type 0} (n : ℕ) (xs : List X) (x : X) → IsIn x (take n xs) → IsIn x xs
+in_take zero xs x i = absurd i
+in_take (suc n) [] x i = absurd i
+in_take (suc n) (y ∷ xs) x (inl e) = inl e
+in_take (suc n) (y ∷ xs) x (inr i) = inr (in_take n xs x i)
 
 -- ---- rows in ascending order
 

@@ -1,11 +1,14 @@
 ghost use Rattle.std.specs.List.Sorted.{IsPartitionPoint};
-ghost use Rattle.std.specs.Prelude.{◌++◌, ◌↔◌, ◌∷◌, ◌≡◌, ◌≤◌, IsTrue, List, OnErr, OnOk, [], false, length, true};
-ghost use Rattle.run_law.specs.records.{Happenings.Happening, Order.{AllBefore, is_before}, Ranks.place_of};
+ghost use Rattle.std.specs.Prelude.{◌++◌, ◌↔◌, ◌∷◌, ◌≡◌, ◌≤◌, IsTrue, List, OnErr, OnOk, [], false, length, true, ℕ};
+ghost use Rattle.run_law.specs.records.{Happenings.Happening, Order.{AllBefore, IsIn, is_before}, Ranks.place_of};
 ghost use Rattle.audit_sweep.specs.records.places.Placing.{AreAscending, ArePlacesOf, HasRecordAt};
 
 use run_law::plain::Place;
 use std::alloc::{AllocError, Global};
 use std::marker::Model;
+
+/// How many records behind another are looked at first.
+const NEAR: usize = 16;
 
 /// The places of records that are in order.
 #[derive(Drop)]
@@ -63,6 +66,25 @@ impl Places {
         }
     }
 
+    /// Does a record stand at the place? It is sought first among the records just behind that of this number.
+    pub fn has_behind(&self, number: u64, place: &Place) -> bool
+        ensures { (hs : List Happening) → ArePlacesOf hs self.now → IsTrue result ↔ HasRecordAt hs place.now }
+    {
+        if is_among(self.next_places(number), place) {
+            return true;
+        }
+        self.has(place)
+    }
+
+    // The places of the records just behind that of this number.
+    fn next_places(&self, number: u64) -> &[Place]
+        ensures { (place : List ℕ) → IsIn place result.now → IsIn place self.now }
+    {
+        let (_, behind) = self.places.split_at(self.places.len().min(number as usize));
+        let (near, _) = behind.split_at(behind.len().min(NEAR));
+        near
+    }
+
     // How many of them are before the place.
     fn count_before(&self, place: &Place) -> usize
         ensures bound { result ≤ length self.now }
@@ -71,5 +93,16 @@ impl Places {
             ≡ false) self.now result }
     {
         self.places.partition_point(|found| found.is_before(place))
+    }
+}
+
+// Is the place one of these? It may be missed where they are in no order.
+fn is_among(places: &[Place], place: &Place) -> bool
+    ensures { IsTrue result → IsIn place.now places.now }
+{
+    let count = places.partition_point(|found| found.is_before(place));
+    match places.get(count) {
+        Some(found) => found.is_same(place),
+        None => false,
     }
 }

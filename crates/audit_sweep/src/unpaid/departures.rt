@@ -75,10 +75,6 @@ impl Debtor<'_> {
             Some(leaving) => leaving,
             None => return None,
         };
-        // It is none later: the checker has to meet this here.
-        if self.until < leaving.time {
-            return None;
-        }
         let Leaving { device, time, .. } = leaving;
         let departed = match departure(self.network, self.history, kept, device, link, time) {
             Some(departed) => departed,
@@ -111,7 +107,7 @@ impl Debtor<'_> {
                     cause,
                     clock,
                 };
-                self.places.has(&Place::of(time, 0, &left))
+                self.places.has_behind(number, &Place::of(time, 0, &left))
             }
             Departed::OnCutWay => {
                 let lost = NoteBody::Lost {
@@ -119,7 +115,7 @@ impl Debtor<'_> {
                     link,
                     cause,
                 };
-                self.places.has(&Place::of(time, 0, &lost))
+                self.places.has_behind(number, &Place::of(time, 0, &lost))
             }
             Departed::TooOld => {
                 let reason = Reason::Old;
@@ -129,7 +125,8 @@ impl Debtor<'_> {
                     cause,
                     reason,
                 };
-                self.places.has(&Place::of(time, 0, &dropped))
+                self.places
+                    .has_behind(number, &Place::of(time, 0, &dropped))
             }
         }
     }

@@ -1,6 +1,6 @@
 //! When control frames leave devices, and what becomes of them.
 
-ghost use Rattle.std.specs.Prelude.{◌+◌, ◌-◌, ◌^◌, ◌↔◌, ◌≡◌, ◌≤◌, IsTrue, List, Some, ℕ};
+ghost use Rattle.std.specs.Prelude.{◌+◌, ◌-◌, ◌^◌, ◌↔◌, ◌≡◌, ◌≤◌, IfSome, IsTrue, List, Some, ℕ};
 ghost use Rattle.audit_law.specs.events.{Readings.scenario_under, Remembering.{Remembers, RemembersSome}};
 ghost use Rattle.{audit_sweep.specs.records.Keeping.record_of, net_plan.specs.Ranges.IsInRange};
 ghost use Rattle.audit_sweep.specs.records.wires.Departings.{IsDeparted, IsLeavingBy, giver, is_child_of, passes};
@@ -33,10 +33,11 @@ pub fn departure_due(
     until: u64,
 ) -> Option<Leaving>
     requires { IsInRange network.now }
-    ensures { (befallen : List EventValue) (hs : List Happening) (h : Happening) (cause : ℕ)
+    ensures leaves { (befallen : List EventValue) (hs : List Happening) (h : Happening) (cause : ℕ)
         → Remembers network.now befallen history.now → numbered hs cause ≡ Some h → kept.now ≡ record_of h
         → ((device : DeviceIdValue) → giver network.now link kept.now.kept ≡ Some device → HasDevice network.now device)
         → IsLeavingBy (scenario_under network.now befallen) hs until cause link result }
+    ensures within { IfSome result (λ leaving. leaving.time ≤ until) }
 {
     // What arrives and is no control frame is not passed on.
     if kept.frame.is_none() {
@@ -59,6 +60,7 @@ pub fn departure_due(
 
 /// What becomes at its leaving by the device at the time, up to 2^60, of the frame of the record of the number `cause`
 /// that was given to the link. It is None exactly where it does not leave then.
+#[inline(always)]
 pub fn departure(
     network: &Network,
     history: &EventHistory,
@@ -135,6 +137,7 @@ fn is_giver(network: &Network, link: LinkId, kept: Kept, device: DeviceId) -> bo
 }
 
 /// The device that gives the frame of the record to the link, if one does.
+#[inline(always)]
 fn giver(network: &Network, link: LinkId, kept: Kept) -> Option<DeviceId>
     ensures { result ≡ giver network.now link kept }
 {
@@ -155,6 +158,7 @@ fn giver(network: &Network, link: LinkId, kept: Kept) -> Option<DeviceId>
 }
 
 /// Does the relay pass a frame that came by the one link on by the other?
+#[inline(always)]
 fn passes(network: &Network, device: DeviceId, by: LinkId, link: LinkId) -> bool
     ensures { result ≡ passes network.now device by link }
 {
@@ -164,6 +168,7 @@ fn passes(network: &Network, device: DeviceId, by: LinkId, link: LinkId) -> bool
 }
 
 /// Is the device the child of the link?
+#[inline(always)]
 fn is_child_of(network: &Network, device: DeviceId, link: LinkId) -> bool
     ensures { result ≡ is_child_of network.now device link }
 {

@@ -3,8 +3,8 @@ use Rattle.tte_units.proofs.general_lemmas.Options.{some_of}
 use Rattle.audit_sweep.proofs.records_lemmas.wires_lemmas.{Givers.given_within, LeavingTimes.{broken, giver_is, later, leaving}}
 use Rattle.audit_sweep.proofs.records.wires.leaving.departure_due.Goals as goal
 
-pub returns-then-from-time : goal.returns-then-from-time
-returns-then-from-time c befallen hs h cause rem there k known o =
+pub returns-then-from-time-clause-leaves : goal.returns-then-from-time-clause-leaves
+returns-then-from-time-clause-leaves c befallen hs h cause rem there k known o =
     let s = scenario_under c.args.network.now befallen in
     let by = sym c.giver.ensures ∙ c.in-Some.is in
     let has = given_within c.args.network.now h.note.body c.in-Some.device c.args.link
@@ -12,8 +12,8 @@ returns-then-from-time c befallen hs h cause rem there k known o =
     later s hs h c.args.kept.now c.args.until cause c.leaving_time-time.result c.args.link c.in-Some.device there k by
     (c.leaving_time-time.ensures.value befallen rem has) (subst (λ (n : ℕ). n < c.leaving_time-time.result) c.from.ensures c.if-from-time.true) o
 
-pub returns-then-is_broken : goal.returns-then-is_broken
-returns-then-is_broken c befallen hs h cause rem there k known o =
+pub returns-then-is_broken-clause-leaves : goal.returns-then-is_broken-clause-leaves
+returns-then-is_broken-clause-leaves c befallen hs h cause rem there k known o =
     let s = scenario_under c.args.network.now befallen in
     let by = sym c.giver.ensures ∙ c.in-Some.is in
     let has = given_within c.args.network.now h.note.body c.in-Some.device c.args.link
@@ -22,8 +22,8 @@ returns-then-is_broken c befallen hs h cause rem there k known o =
     (c.leaving_time-time.ensures.value befallen rem has)
     (sym (c.is_broken.ensures c.args.network.now befallen rem (known c.in-Some.device by)) ∙ c.if-is_broken.true) o
 
-pub returns : goal.returns
-returns c befallen hs h cause rem there k known =
+pub returns-clause-leaves : goal.returns-clause-leaves
+returns-clause-leaves c befallen hs h cause rem there k known =
     let s = scenario_under c.args.network.now befallen in
     let by = sym c.giver.ensures ∙ c.in-Some.is in
     let has = given_within c.args.network.now h.note.body c.in-Some.device c.args.link
@@ -33,3 +33,6 @@ returns c befallen hs h cause rem there k known =
     framed.1 by (c.leaving_time-time.ensures.value befallen rem has)
     (sym (c.is_broken.ensures c.args.network.now befallen rem (known c.in-Some.device by)) ∙ c.if-is_broken.false)
     (subst (λ (n : ℕ). c.leaving_time-time.result ≤ n) c.from.ensures c.if-from-time.false)
+
+pub returns-clause-within : goal.returns-clause-within
+returns-clause-within c = subst (λ (n : ℕ). c.leaving_time-time.result ≤ n) c.from.ensures c.if-from-time.false

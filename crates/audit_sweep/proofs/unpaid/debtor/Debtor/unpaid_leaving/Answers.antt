@@ -4,6 +4,9 @@ use Rattle.audit_sweep.proofs.unpaid_lemmas.Words.{◌∙◌, DeviceId, arith, b
 use Rattle.net_plan.specs.Belonging.{HasDevice}
 use Rattle.audit_sweep.proofs.unpaid.debtor.Debtor.unpaid_leaving.Goals as goal
 
+pub departure-requires-clause-limit : goal.departure-requires-clause-limit
+departure-requires-clause-limit c = let within = c.in-Some.ensures.within in omega (arith, within, c.requires.limit)
+
 pub returns-in-None : goal.returns-in-None
 returns-in-None c befallen hs h known there kept owed =
     let s = scenario_of c.args.self.now befallen in
@@ -12,22 +15,7 @@ returns-in-None c befallen hs h known there kept owed =
     let n = c.args.number in
     let link = c.args.link in
     let giver = giver_there s hs n h c.args.kept.now link there kept known.devices in
-    absurd (c.in-None.ensures befallen hs h n known.remembers there kept giver owed)
-
-pub returns-then-self-leaving : goal.returns-then-self-leaving
-returns-then-self-leaving c befallen hs h known there kept owed =
-    let s = scenario_of c.args.self.now befallen in
-    let network = c.args.self.now.network.now in
-    let until = c.args.self.now.until in
-    let n = c.args.number in
-    let link = c.args.link in
-    let giver = giver_there s hs n h c.args.kept.now link there kept known.devices in
-    let leaving = c.in-Some.leaving in
-    let l = c.in-Some.ensures befallen hs h n known.remembers there kept giver in
-    let o = l.owed in
-    let timely = o.timely in
-    let at = l.time in
-    absurd (omega (arith, timely, at, c.if-self-leaving.true))
+    absurd (c.in-None.ensures.leaves befallen hs h n known.remembers there kept giver owed)
 
 pub returns-in-None-departure : goal.returns-in-None-departure
 returns-in-None-departure c befallen hs h known there kept owed =
@@ -38,7 +26,7 @@ returns-in-None-departure c befallen hs h known there kept owed =
     let link = c.args.link in
     let giver = giver_there s hs n h c.args.kept.now link there kept known.devices in
     let leaving = c.in-Some.leaving in
-    let l = c.in-Some.ensures befallen hs h n known.remembers there kept giver in
+    let l = c.in-Some.ensures.leaves befallen hs h n known.remembers there kept giver in
     let o = l.owed in
     let has = subst (HasDevice network) (sym l.device) (known.devices o.giving o.device (numbered_in hs n o.giving o.there)
     (gives_named network o.giving.note.body o.device link o.gives)) in
@@ -57,7 +45,7 @@ returns-then-has_departure c befallen hs h known there kept owed =
     let link = c.args.link in
     let giver = giver_there s hs n h c.args.kept.now link there kept known.devices in
     let leaving = c.in-Some.leaving in
-    let l = c.in-Some.ensures befallen hs h n known.remembers there kept giver in
+    let l = c.in-Some.ensures.leaves befallen hs h n known.remembers there kept giver in
     let o = l.owed in
     let has = subst (HasDevice network) (sym l.device) (known.devices o.giving o.device (numbered_in hs n o.giving o.there)
     (gives_named network o.giving.note.body o.device link o.gives)) in
@@ -75,7 +63,7 @@ returns c befallen hs h known there kept =
     let link = c.args.link in
     let giver = giver_there s hs n h c.args.kept.now link there kept known.devices in
     let leaving = c.in-Some.leaving in
-    let l = c.in-Some.ensures befallen hs h n known.remembers there kept giver in
+    let l = c.in-Some.ensures.leaves befallen hs h n known.remembers there kept giver in
     let o = l.owed in
     let has = subst (HasDevice network) (sym l.device) (known.devices o.giving o.device (numbered_in hs n o.giving o.there)
     (gives_named network o.giving.note.body o.device link o.gives)) in

@@ -1,0 +1,8 @@
+use Rattle.{audit_sweep.proofs.records_lemmas.AscendingPlaces.of_map, run_law.specs.records.Order.IsIn, std.proofs.Common.{List, refl, subst, ℕ}}
+use Rattle.audit_sweep.proofs.records.places.Places.has_behind.Goals as goal
+
+pub returns-then-is_among : goal.returns-then-is_among
+returns-then-is_among c = λ hs are.
+    let p = c.args.place.now in
+    let there : IsIn p c.args.self.now = c.next_places.ensures p (c.is_among.ensures c.if-is_among.true) in
+    (λ is. of_map p hs (subst (λ (xs : List (List ℕ)). IsIn p xs) are.same there), λ has. refl)
