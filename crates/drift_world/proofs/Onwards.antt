@@ -1,13 +1,13 @@
 -- A world goes on by an event.
 use Rattle.drift_world.{proofs.{Agreements.{clock_more, reads_same, reads_value}, EventRuns.run_behind_events}, specs.Running.{HoldsATime, IsOpenTo, clock_of}}
 use Rattle.{drift_world.{proofs.{Forwards.forward, Steadiness.steady, Suits.suits}, specs.Following.Follows}, std.proofs.lemmas.List.Elements.All-push}
-use Rattle.drift_world.proofs.Words.{◌++◌, ◌<◌, ◌∙◌, ◌∷◌, ◌≡◌, ◌≤ℤ◌, ◌≤◌, DeviceId, DeviceState, Err, FitsWorld, IfOk, IsIn, IsLawful, IsOfNetwork, IsRunOf}
+use Rattle.drift_world.proofs.Words.{◌++◌, ◌<◌, ◌∙◌, ◌∷◌, ◌≡◌, ◌≤ℤ◌, ◌≤◌, DeviceId, Err, FitsWorld, IfOk, IsIn, IsLawful, IsOfNetwork, IsRunOf}
 use Rattle.drift_world.proofs.Words.{IsWithinHypothesis, Kept, List, Network, Node, Note, Ok, OnOk, OutOfMemory, Result, Some, Stands, StandsUnder, World, []}
-use Rattle.drift_world.proofs.Words.{amount, ap, arith, begins_at_zero, behind_events, clock_after, in_get, in_parts, inl, inr, ints, keeps, keeps_clock_laws}
+use Rattle.drift_world.proofs.Words.{amount, ap, arith, begins_at_zero, behind_events, clock_after, happenings, in_get, in_parts, inl, inr, ints, keeps, keeps_clock_laws}
 use Rattle.drift_world.proofs.Words.{length, one, pos, reading_of, refl, scenario, slice_get_within, subst, sym, true, unsigned_abs, world_of, ℕ, ℤ}
-use Rattle.{drift_world.specs.declared.state.State.State, net_plan.specs.declared.event.What.TheVariants.On, world_law.specs.source.Applying.note_of_event}
+use Rattle.{drift_world.specs.declared.state.State.State, world_law.specs.source.Applying.note_of_event}
 use Rattle.{net_plan.specs.declared.event.Event.Event, run_law.{proofs.scenario.Devices.all_within, specs.law.FirstLaws.IsEventInRange}}
-use Rattle.{std.proofs.Common.slice_get, world_state.specs.Applying.IsShown}
+use Rattle.std.proofs.Common.{slice_get}
 
 -- an event of a time from 0 on, with a hold from 0 on, is in range
 in_range : (event : Event) (time : ℕ) → event.time.0 ≡ pos time → HoldsATime event.what → IsEventInRange event
@@ -84,13 +84,12 @@ module _ {C M E : Type 0} (fresh : ℕ → C) (after_step : C → ℕ → ℤ �
     (law : IsLawful fresh after_step reading grain count) (stands : M → Network → DeviceId → Node → Type 0) (network : Network) (state new : State C M)
     (event : Event) (result : Result Note E) (many : length state.clocks.items ≡ length network.device) (early : state.early ≡ true)
     (time : event.time.0 ≡ pos state.time) (hold : HoldsATime event.what) (of_network : IsOfNetwork network event.what)
-    (shown : (device : DeviceId) → event.what ≡ On device → (is : DeviceState) × IsShown (keeps stands) network state.machines.items device is)
     (still : (new.time ≡ state.time) × (new.early ≡ state.early))
     (clocks : OnOk result ((device : DeviceId) (clock : C) → slice_get state.clocks.items device.0 ≡ Some clock
     → slice_get new.clocks.items device.0 ≡ Some (clock_after after_step device event.time event.what clock)))
     (step : (f h : DeviceId → ℕ → ℕ) (past : List Event) (notes : List Note)
     → (old : Stands reading (keeps stands) (scenario network f past) (world_of network state) notes) → Follows after_step reading network f h past event state
-    → FitsWorld (keeps stands) network (world_of network state) event.what → IfOk result (λ note. (note ≡ note_of_event notes past event)
+    → FitsWorld (scenario network f past) (happenings network notes) state.time event.what → IfOk result (λ note. (note ≡ note_of_event notes past event)
     × Stands reading (keeps stands) (scenario network h (past ++ event ∷ [])) (world_of network new) (notes ++ note ∷ []))) where
   pub goes_on : (events : List Event) (notes : List Note) → StandsUnder fresh after_step reading stands network (world_of network state) events notes
       → IsWithinHypothesis network events event
@@ -98,9 +97,8 @@ module _ {C M E : Type 0} (fresh : ℕ → C) (after_step : C → ℕ → ℤ �
   goes_on events notes under within =
       let f = reading_of fresh after_step reading network events in
       let h = reading_of fresh after_step reading network (events ++ event ∷ []) in
-      let fits = suits reading (keeps stands) network f events (world_of network state) notes under.is early event within event.what refl under.within
-      of_network
-      shown in
+      let fits = suits reading (keeps stands) network f events (world_of network state) notes under.is event within event.what refl under.within
+      of_network in
       let goes = followed fresh after_step reading grain count law stands network state events notes event under time hold within many in
       more_ok (λ (note : Note). (note ≡ note_of_event notes events event)
       × Stands reading (keeps stands) (scenario network h (events ++ event ∷ [])) (world_of network new) (notes ++ note ∷ []))
@@ -151,14 +149,12 @@ module _ {C M : Type 0} (fresh : ℕ → C) (after_step : C → ℕ → ℤ → 
     (world : World C (Kept M)) (view : world_of network state ≡ world) (event : Event) (note : Note)
     (many : length state.clocks.items ≡ length network.device) (open_to : IsOpenTo world event) (hold : HoldsATime event.what)
     (of_network : IsOfNetwork world.network event.what)
-    (shown : (n : Network) (device : DeviceId) → event.what ≡ On device → (is : DeviceState) × IsShown (keeps stands) n
-    state.machines.items device is)
     (still : (new.time ≡ state.time) × (new.early ≡ state.early))
     (clocks : (device : DeviceId) (clock : C) → slice_get state.clocks.items device.0 ≡ Some clock
     → slice_get new.clocks.items device.0 ≡ Some (clock_after after_step device event.time event.what clock))
     (step : (f h : DeviceId → ℕ → ℕ) (past : List Event) (notes : List Note)
     → (old : Stands reading (keeps stands) (scenario network f past) (world_of network state) notes) → Follows after_step reading network f h past event state
-    → FitsWorld (keeps stands) network (world_of network state) event.what → (note ≡ note_of_event notes past event)
+    → FitsWorld (scenario network f past) (happenings network notes) state.time event.what → (note ≡ note_of_event notes past event)
     × Stands reading (keeps stands) (scenario network h (past ++ event ∷ [])) (world_of network new) (notes ++ note ∷ [])) where
   -- it stands again, and the records are the run behind the events of the instant
   pub befalls : (n : Network) (events : List Event) (notes : List Note) → StandsUnder fresh after_step reading stands n world events notes
@@ -169,15 +165,11 @@ module _ {C M : Type 0} (fresh : ℕ → C) (after_step : C → ℕ → ℤ → 
       let early : state.early ≡ true = ap (λ (w : World C (Kept M)). w.early) view ∙ open_to.early in
       let time : event.time.0 ≡ pos state.time = open_to.time ∙ ap (λ (w : World C (Kept M)). pos w.now) (sym view) in
       let own = subst (λ (w : World C (Kept M)). IsOfNetwork w.network event.what) (sym view) of_network in
-      let answer : Result Note OutOfMemory = Ok note in
-      let shows : (device : DeviceId) → event.what ≡ On device → (is : DeviceState) × IsShown (keeps stands) network state.machines.items device is =
-      λ device on. shown network device on in (
-        goes_on_there fresh after_step reading grain count law stands network state new event answer many early time hold own shows still clocks step n events
-            notes
-            here within,
+      let answer : Result Note OutOfMemory = Ok note in (
+        goes_on_there fresh after_step reading grain count law stands network state new event answer many early time hold own still clocks step n events
+            notes here within,
         subst (λ (w : World C (Kept M)). IsRunOf n (reading_of fresh after_step reading n (events ++ event ∷ [])) (events ++ event ∷ [])
             (behind_events w.now) (notes ++ note ∷ [])) view
-            (runs_on_there fresh after_step reading grain count law stands network state new event answer many early time hold own shows still clocks step n
-            events
-            notes here within),
+            (runs_on_there fresh after_step reading grain count law stands network state new event answer many early time hold own still clocks step n
+            events notes here within),
       )

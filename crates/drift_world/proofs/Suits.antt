@@ -1,13 +1,13 @@
--- An event within the hypothesis suits the world: it turns on only a device that is off, and has octets sent only by an
--- end system.
-use Rattle.{drift_world.proofs.EventRuns.none_coming, net_plan.specs.declared.event.Event.Event, schedule_tables.proofs.Margins.master_ends}
+-- An event within the hypothesis suits the world: it turns on only a device that is off and not broken, and has octets sent
+-- only by an end system.
+use Rattle.{net_plan.specs.declared.event.Event.Event, schedule_tables.proofs.Margins.master_ends}
 use Rattle.{drift_world.proofs.Offs.{begins_off, stays_off}, run_law.{proofs.scenario.Devices.broken_by, specs.scenario.Faults.{Breaks, IsBroken, TurnsOn}}}
-use Rattle.drift_world.proofs.Words.{◌++◌, ◌<◌, ◌∙◌, ◌≡◌, AreWithinHypothesis, DeviceId, FitsWorld, Happening, IsHeld, IsOfNetwork, IsSomeAnd}
+use Rattle.drift_world.proofs.Words.{◌<◌, ◌∙◌, ◌≡◌, AreWithinHypothesis, DeviceId, FitsWorld, IsOfNetwork, IsSomeAnd}
 use Rattle.drift_world.proofs.Words.{IsWithinHypothesis, Link, LinkId, List, Network, Node, None, Note, Off, Option, Some, Stands, What, World, amount, any_in}
-use Rattle.drift_world.proofs.Words.{ap, append-nil, breaks_at, false, happenings, in_filter, inl, inr, is_broken, length, link_at, nat_le, option_map_or}
+use Rattle.drift_world.proofs.Words.{breaks_at, false, false_from_ne_true, happenings, in_filter, inl, inr, is_broken, length, link_at, nat_le, option_map_or}
 use Rattle.{drift_world.proofs.Words.{parted, refl, scenario, subst, sym, true, ℕ}, net_plan.specs.Places.{device_at, is_end_system, is_master}}
-use Rattle.{net_plan.specs.declared.tables.Device.Device, precision_law.proofs.Plain.{any_is, any_of_in}, sync_state.specs.declared.state.State.State}
-use Rattle.{run_law.specs.scenario.Devices.is_end, std.proofs.lemmas.Bool.cases_Bool, world_law.specs.world.World.IsFromEnd, world_state.specs.Applying.IsShown}
+use Rattle.{net_plan.specs.declared.tables.Device.Device, precision_law.proofs.Plain.{any_is, any_of_in}, run_law.specs.device.States.state_before}
+use Rattle.{run_law.specs.scenario.Devices.is_end, std.proofs.lemmas.Bool.cases_Bool, world_law.specs.world.World.IsFromEnd}
 use Rattle.net_plan.specs.declared.event.What.TheVariants as events
 use Rattle.run_law.specs.declared.outside.Outside.TheVariants as outside
 
@@ -45,14 +45,11 @@ sends_end network past event link octets within here what there = from (link_at 
       }))
     ]
 
--- ---- a device that is turned on is off
+-- ---- a device that is turned on is off, and not broken
 
 module _ {C M : Type 0} (reading : C → ℕ → ℕ) (stands : M → Network → DeviceId → Node → Type 0) (network : Network) (f : DeviceId → ℕ → ℕ)
     (past : List Event) (world : World C M) (notes : List Note) (old : Stands reading stands (scenario network f past) world notes)
-    (early : world.early ≡ true) (event : Event) (within : IsWithinHypothesis network past event) where
-  hs : List Happening
-  hs = happenings network notes
-
+    (event : Event) (within : IsWithinHypothesis network past event) where
   not_broken : (device : DeviceId) → event.what ≡ events.On device → is_broken (scenario network f past) device world.now ≡ true → ⊥
   not_broken device what broken =
       let it = any_in (λ e. breaks_at device.0 e.what) (Rattle.run_law.specs.scenario.Scenarios.events_up_to (scenario network f past) world.now) broken in
@@ -63,33 +60,17 @@ module _ {C M : Type 0} (reading : C → ℕ → ℕ) (stands : M → Network �
             (broken_by device it.0.what it.2)));
       })
 
-  held_off : (device : DeviceId) (machine : M) → event.what ≡ events.On device
-      → IsHeld stands (scenario network f past) (happenings network notes) old.coming old.cursor world.now device machine
-      → (node : Node) × stands machine network device node × (node.standing.state ≡ Off)
-  held_off device machine what (inr k) = absurd (not_broken device what k.broken)
-  held_off device machine what (inl k) =
+  off_before : (device : DeviceId) → event.what ≡ events.On device
+      → state_before (scenario network f past) (happenings network notes) device world.now ≡ Off
+  off_before device what =
       let s = scenario network f past in
-      let whole : happenings network notes ++ old.coming ≡ happenings network notes =
-      ap (λ (l : List Happening). happenings network notes ++ l) (none_coming reading stands s world notes old early) ∙ append-nil (happenings network notes) in
-      let off = stays_off s device (begins_off s device (λ begins. within outside.NotOff (record { device = device; what = what; known = inl begins })))
+      stays_off s device (begins_off s device (λ begins. within outside.NotOff (record { device = device; what = what; known = inl begins })))
       (λ e i on. within outside.NotOff (record { device = device; what = what; known = inr (inl (any_of_in (TurnsOn device) e past i on)) }))
-      (happenings network notes ++ old.coming)
-      (λ front rest z e. (old.run.founded front rest z (sym whole ∙ e)).1) k.up in (
-        k.node,
-        k.is,
-        k.left.state ∙ off,
-      )
+      (happenings network notes) (λ front rest z e. (old.run.founded front rest z e).1) world.now
 
   pub suits : (what : What) → event.what ≡ what → AreWithinHypothesis network past → IsOfNetwork network what
-      → ((device : DeviceId) → what ≡ events.On device → (state : State) × IsShown stands network world.machines device state)
-      → FitsWorld stands network world what
-  suits (events.On device) what all of_network shows =
-      let state = shows device refl in
-      let it = old.devices device of_network in
-      let off = held_off device it.0 what it.2 in
-      let is : state.0 ≡ Off = state.1 it.0 off.0 it.1 off.1 ∙ off.2 in (
-        of_network,
-        λ machine node there k. sym (state.1 machine node there k) ∙ is,
-      )
-  suits (events.Send link octets) what all of_network shows = sends_end network past event link octets all within what of_network
-  suits other what all of_network shows = tt
+      → FitsWorld (scenario network f past) (happenings network notes) world.now what
+  suits (events.On device) what all of_network =
+      (of_network, off_before device what, false_from_ne_true (is_broken (scenario network f past) device world.now) (not_broken device what))
+  suits (events.Send link octets) what all of_network = sends_end network past event link octets all within what of_network
+  suits other what all of_network = tt

@@ -11,7 +11,6 @@ use net_plan::{DeviceId, Event, LinkId, Network, Way, What};
 use run_law::plain::{PlainBody, PlainKind};
 use run_law::{Machine, NoteBody};
 use std::collections::VecDeque;
-use sync_state::State as DeviceState;
 use tte_units::Units;
 use tte_units::frames::Pcf;
 use world_state::OutOfMemory;
@@ -73,12 +72,12 @@ impl<C: Clock, M: Machine + Drop> State<C, M> {
     ghost use Rattle.{drift_world.specs.{Following.Follows, Showing.IsOf}, net_plan.specs.Belonging.IsOfNetwork};
     ghost use Rattle.drift_world.specs.{Sound.{IsSized, IsSound}, Stepping.{ChangesOnly, StandsPast}, Views.world_of};
     ghost use Rattle.net_plan.specs.declared.{event.Event.{Event as EventValue}, ids.DeviceId.{DeviceId as DeviceOf}};
-    ghost use Rattle.run_law.specs.{records.{Order.IsIn, Ranks.{place_of, rank}}, scenario.Devices.is_parent_of};
-    ghost use Rattle.sync_state.specs.declared.state.State.{State as DeviceState};
+    ghost use Rattle.run_law.specs.records.{Happenings.happenings, Order.IsIn, Ranks.{place_of, rank}};
+    ghost use Rattle.run_law.specs.scenario.Devices.{is_parent_of};
     ghost use Rattle.{tte_units.specs.{Amount.amount, declared.rates.Ppb.Ppb}, world_law.specs.steps.Steps.FitsWorld};
     ghost use Rattle.world_law.specs.{source.Agreeing.scenario, world.Moves.{ComesFirst, NothingBefore, StandsBehind}};
     ghost use Rattle.world_law.specs.{source.Applying.note_of_event, world.World.{Stands, clock_place}};
-    ghost use Rattle.world_state.specs.{Applying.{IsElsewhere, IsShown, SetsShort, clock_after}, Views.settled_at};
+    ghost use Rattle.world_state.specs.{Applying.{IsElsewhere, SetsShort, clock_after}, Views.settled_at};
     ghost use Rattle.world_state.specs.{Giving.{HasItsOctets, changed_device}, Leaving.{departure_in, port_entry}};
     ghost use Rattle.world_state.specs.{Keeping.keeps, declared.contents.Settled.{Settled as SettledValue}};
     ghost use Rattle.world_state.specs.{Places.{IsSomePut, own_place}, declared.contents.Waits.{Waits as WaitsValue}};
@@ -217,18 +216,6 @@ impl<C: Clock, M: Machine + Drop> State<C, M> {
         self.departure(network, place, frame, given)
     }
 
-    /// The state of the device that is turned on, as its machine shows it, where that is what befalls the network.
-    pub fn turned_on(&self, what: &What) -> Option<DeviceState>
-        requires { (device : DeviceOf) → what.now ≡ What.On device → device.0 < length self.now.machines.items }
-        ensures { (network : Network) (device : DeviceOf) → what.now ≡ What.On device → (state : DeviceState)
-            × (result ≡ Some state) × IsShown (keeps M.stands) network self.now.machines.items device state }
-    {
-        match what {
-            What::On(device) => Some(self.machines[device.0 as usize].state()),
-            _ => None,
-        }
-    }
-
     /// An event befalls, before all else of the present instant. Its record is given.
     ///
     /// On an error nothing has changed.
@@ -267,7 +254,7 @@ impl<C: Clock, M: Machine + Drop> State<C, M> {
             → (old : Stands C.reading (keeps M.stands) (scenario network.now f past) (world_of network.now self.old)
             notes)
             → Follows C.after_step C.reading network.now f g past event.now self.old
-            → FitsWorld (keeps M.stands) network.now (world_of network.now self.old) event.now.what
+            → FitsWorld (scenario network.now f past) (happenings network.now notes) self.old.time event.now.what
             → IfOk result (λ note. (note ≡ note_of_event notes past event.now)
             × Stands C.reading (keeps M.stands) (scenario network.now g (past ++ event.now ∷ []))
             (world_of network.now self.new)

@@ -94,8 +94,6 @@ impl<'a, C: Clock, M: TellsKind + Drop> World<'a, C, M> {
         ensures err { OnErr result (self.new ≡ self.old) }
     {
         let network = self.accepted.network();
-        // A device that is turned on is off: its machine shows it.
-        let _shown = self.state.turned_on(&event.what);
         let note = match self.state.apply(network, event) {
             Ok(note) => note,
             Err(error) => return Err(error),

@@ -3,6 +3,7 @@ use Rattle.{net_plan.proofs.SameIds.same_device, run_law.specs.machines.Nodes.No
 use Rattle.{net_plan.specs.declared.event.What.TheVariants.{Break, On}, std.proofs.lemmas.Option.{get_or_from_slice_get, slice_get-get_or, slice_get_within}}
 use Rattle.{net_plan.specs.declared.{event.What.What, ids.DeviceId.DeviceId, network.Network.Network}, std.proofs.lemmas.List.{get_or-set_other, length-set}}
 use Rattle.{run_law.specs.machines.Answers.node_turned_on, tte_units.proofs.general_lemmas.Lists.set_same, world_law.specs.world.Outcomes.befallen_node}
+use Rattle.sync_state.specs.declared.state.State.TheVariants.{Off}
 use Rattle.std.{proofs.Common.{◌&&◌, ◌<◌, ◌∙◌, ◌≡◌, ◌≢◌, Bool, List, Some, ap, arith, inl, inr, length, not, set, subst, sym, ℕ}, specs.Prelude.if◌then◌else◌}
 
 pub set_there : {X : Type 0} (xs : List X) (i j : ℕ) (x y : X) → j ≢ i → slice_get xs j ≡ Some y → slice_get (set xs i x) j ≡ Some y
@@ -22,9 +23,10 @@ break_other other turned device node apart = grind (arith, not, ne_eqb)
 pub one_befalls : {M : Type 0} (keeps : M → Network → DeviceId → Node → Type 0) (what : What) (at : DeviceId) (machines : List M) (after : M)
     → at.0 < length machines → ((turned : Bool) (device : DeviceId) (node : Node) → device.0 ≢ at.0 → befallen_node turned what device node ≡ node)
     → (network : Network) (device : DeviceId) (machine : M) (turned : Bool) → slice_get machines device.0 ≡ Some machine
-    → (device ≡ at → (node : Node) → keeps machine network device node → keeps after network device (befallen_node turned what device node))
+    → (device ≡ at → (node : Node) → keeps machine network device node → (what ≡ On device → node.standing.state ≡ Off)
+    → keeps after network device (befallen_node turned what device node))
     → (x : M) × (slice_get (set machines at.0 after) device.0 ≡ Some x) × ((node : Node) → keeps machine network device node
-    → keeps x network device (befallen_node turned what device node))
+    → (what ≡ On device → node.standing.state ≡ Off) → keeps x network device (befallen_node turned what device node))
 one_befalls keeps what at machines after within others network device machine turned found own =
     elim (cases_eq device.0 at.0) [
       | inl same ↦ (
@@ -36,7 +38,7 @@ one_befalls keeps what at machines after within others network device machine tu
       | inr apart ↦ (
         machine,
         set_there machines at.0 device.0 after machine apart found,
-        λ node k. subst (keeps machine network device)
+        λ node k off. subst (keeps machine network device)
             (sym (others turned device node apart)) k,
       )
     ]

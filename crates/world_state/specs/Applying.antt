@@ -1,11 +1,10 @@
 -- What an event makes of the parts of a state.
 use Rattle.std.specs.Option.{option_map_or}
-use Rattle.std.specs.Prelude.{◌<◌, ◌^◌, ◌≡◌, ◌≢◌, IfSome, List, None, Option, Some, slice_get, unwrap_or, ℕ, ℤ}
+use Rattle.std.specs.Prelude.{◌<◌, ◌^◌, ◌≢◌, IfSome, None, Option, Some, unwrap_or, ℕ, ℤ}
 use Rattle.net_plan.specs.declared.{event.What.What, ids.LinkId.LinkId, tables.Way.Way}
 use Rattle.{net_plan.specs.declared.ids.DeviceId.DeviceId, run_law.specs.scenario.Ways.{cut_set, hold_set, wire_set}}
-use Rattle.{net_plan.specs.declared.network.Network.Network, world_state.specs.declared.contents.WayState.WayState}
-use Rattle.run_law.specs.{machines.Nodes.Node, scenario.Rates.step_by}
-use Rattle.{sync_state.specs.declared.state.State.State, tte_units.specs.{Amount.amount, declared.units.Units.Units}}
+use Rattle.{run_law.specs.scenario.Rates.step_by, world_state.specs.declared.contents.WayState.WayState}
+use Rattle.tte_units.specs.{Amount.amount, declared.units.Units.Units}
 use Rattle.net_plan.specs.declared.event.What.TheVariants as events
 
 -- a device's clock after what befalls the network at a time
@@ -45,10 +44,3 @@ HasItsLink n (events.Hold link way hold) = link.0 < n
 HasItsLink n (events.Cut link way) = link.0 < n
 HasItsLink n (events.Heal link way) = link.0 < n
 HasItsLink n other = Unit {0}
-
--- the device shows this state, by whatever its machine stands for
-abbrev pub IsShown : {M : Type 0} → (M → Network → DeviceId → Node → Type 0) → Network → List M → DeviceId → State
-    → Type 0
-IsShown {M} stands network machines device state =
-    (machine : M) (node : Node) → slice_get machines device.0 ≡ Some machine → stands machine network device node
-    → state ≡ node.standing.state

@@ -138,10 +138,9 @@ pub fn befall_machines<M: Machine + Drop>(machines: &mut Vec<Kept<M>>, what: &Wh
     ensures each { (network : Network) (device : DeviceId) (machine : KeptValue M) (turned : Bool)
         → slice_get machines.old.items device.0 ≡ Some machine
         → (what.now ≡ What.Break device → turned ≡ on)
-        → (what.now ≡ What.On device → (node : Node) → keeps M.stands machine network device node
-        → node.standing.state ≡ Off)
         → (after : KeptValue M) × (slice_get machines.new.items device.0 ≡ Some after)
         × ((node : Node) → keeps M.stands machine network device node
+        → (what.now ≡ What.On device → node.standing.state ≡ Off)
         → keeps M.stands after network device (befallen_node turned what.now device node)) }
     ensures others { (device : DeviceId) → IsElsewhere what.now device
         → slice_get machines.new.items device.0 ≡ slice_get machines.old.items device.0 }

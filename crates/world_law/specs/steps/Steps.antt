@@ -4,7 +4,7 @@ use Rattle.std.specs.Prelude.{false, length, nat_lt, pos, slice_get, true, ℕ}
 use Rattle.net_plan.specs.{Ranges.IsInRange, declared.{event.{Event.Event, What.What}, ids.DeviceId.DeviceId}}
 use Rattle.net_plan.specs.declared.network.Network.{Network}
 use Rattle.run_law.specs.{control.Leaving.{Departure, leaves, on_cut_way, too_old}, declared.note.Note.Note}
-use Rattle.run_law.specs.{declared.note.NoteBody.NoteBody, machines.Nodes.{Node, begun_node}}
+use Rattle.run_law.specs.{declared.note.NoteBody.NoteBody, device.States.state_before, machines.Nodes.{Node, begun_node}}
 use Rattle.run_law.specs.records.{Happenings.{Happening, happenings}, Order.{IsIn, behind}}
 use Rattle.run_law.specs.scenario.{Scenarios.{Scenario, is_broken, is_turned_on_at}, Ways.{is_cut, way_from}}
 use Rattle.schedule_tables.specs.Rules.{KeepsRules}
@@ -69,23 +69,23 @@ ClockStep {C} {M} reading stands =
 
 -- ---- an event befalls
 
--- what the event makes of a device's machine: what `turn_on` ensures, and a broken one stands for the broken device
+-- what the event makes of a device's machine: what `turn_on` ensures of a device that is off, and a broken one stands
+-- for the broken device
 pub record HaveBeen {M : Type 0} (stands : M → Network → DeviceId → Node → Type 0) (s : Scenario) (what : What)
     (now : ℕ) (old new : List M) : Type 0 where
   pub still : (device : DeviceId) (machine : M) → slice_get old device.0 ≡ Some machine → (after : M)
       × (slice_get new device.0 ≡ Some after)
       × ((node : Node) → stands machine s.network device node
+      → (what ≡ events.On device → node.standing.state ≡ Off)
       → stands after s.network device (befallen_node (is_turned_on_at s device now) what device node))
 
--- the event fits the world: it turns on a device of the network only where it is off, and has octets sent only by an
--- end system
-abbrev pub FitsWorld : {C M : Type 0} → (M → Network → DeviceId → Node → Type 0) → Network → World C M → What → Type 0
-FitsWorld {C} {M} stands network world (events.On device) =
-    (device.0 < length network.device)
-    × ((machine : M) (node : Node) → slice_get world.machines device.0 ≡ Some machine
-    → stands machine network device node → node.standing.state ≡ Off)
-FitsWorld stands network world (events.Send link octets) = IsFromEnd network link
-FitsWorld stands network world other = Unit {0}
+-- the event fits the world as the records leave it: it turns on a device of the network only where it is off and not
+-- broken, and has octets sent only by an end system
+abbrev pub FitsWorld : Scenario → List Happening → ℕ → What → Type 0
+FitsWorld s hs now (events.On device) =
+    (device.0 < length s.network.device) × (state_before s hs device now ≡ Off) × (is_broken s device now ≡ false)
+FitsWorld s hs now (events.Send link octets) = IsFromEnd s.network link
+FitsWorld s hs now other = Unit {0}
 
 -- an event befalls before all else of its instant is worked off. A clock may read otherwise from then on, and a broken
 -- device waits for nothing
@@ -95,7 +95,8 @@ AppliedStep {C} {M} reading stands =
     (notes : List Note)
     (clocks : List C) (machines : List M) (broken : List Bool) (ups downs : List WayNow) (waiting : List Waiting)
     (old : Stands reading stands (scenario network f past) world notes) → world.ended ≡ false
-    → event.time.0 ≡ pos world.now → FitsWorld stands network world event.what
+    → event.time.0 ≡ pos world.now
+    → FitsWorld (scenario network f past) (happenings network notes) world.now event.what
     → world.early ≡ true → length notes + 1 < none_yet
     → ((device : DeviceId) (x : ℕ) → x ≤ world.now → g device x ≡ f device x)
     → ((device : DeviceId) → IsSteady (g device) (amount network.precision))

@@ -8,10 +8,10 @@ use Rattle.world_law.{proofs.runs.Applies.{line_before, run_goes_on_by_event, sa
 use Rattle.world_law.proofs.steps_lemmas.Words.{◌&&◌, ◌++◌, ◌+◌, ◌<◌, ◌==◌, ◌||◌, ◌↔◌, ◌∙◌, ◌∷◌, ◌≡◌, ◌≤ℤ◌, ◌≤◌, ◌⊎◌, AreAtPorts, AreOfNetwork, AreOnWires}
 use Rattle.world_law.proofs.steps_lemmas.Words.{AreSettled, AreUntold, AreWaiting, Befell, Bool, Contains-push, Contains-push_cases, DeviceId, Event, Happening}
 use Rattle.world_law.proofs.steps_lemmas.Words.{IsBefore, IsEventBody, IsHeld, IsIn, IsOnWire, LinkId, List, Network, Node, OnWire, Scenario, Some, Units, What}
-use Rattle.world_law.proofs.steps_lemmas.Words.{World, [], amount, ap, append-nil, arith, before_behind, behind, cases_Bool, chain, clock_place, false}
+use Rattle.world_law.proofs.steps_lemmas.Words.{[], amount, ap, append-nil, arith, before_behind, behind, cases_Bool, chain, clock_place, false}
 use Rattle.world_law.proofs.steps_lemmas.Words.{happening, happenings, has_outcome, hidden, if◌then◌else◌, in_left, in_parts, in_right, inl, inr, ints, length}
 use Rattle.world_law.proofs.steps_lemmas.Words.{map, never_self, numbered_within, place_of, pos, refl, scenario, slice_get, some_same, subst, sym, time_of}
-use Rattle.world_law.proofs.steps_lemmas.{Words.{true, turns_on, unsigned_abs, ℕ}, steps.AppliedDevices.{IsApplying, event_moves, held_apply, off_before}}
+use Rattle.world_law.proofs.steps_lemmas.{Words.{true, turns_on, unsigned_abs, ℕ}, steps.AppliedDevices.{IsApplying, event_moves, held_apply}}
 use Rattle.world_law.proofs.steps_lemmas.steps.AppliedParts.{IsBefalling, agree_before, before_others, nothing_due, ports_apply, turned_more, waiting_apply}
 use Rattle.net_plan.specs.declared.event.What.TheVariants as events
 use Rattle.run_law.specs.declared.note.NoteBody.TheVariants as kinds
@@ -105,17 +105,17 @@ untold_apply hs cursor now number line pending befell ev what untold early numbe
 
 -- ---- devices of the network
 
-of_network : {C M : Type 0} (stands : M → Network → DeviceId → Node → Type 0) (world : World C M) (network : Network) (what : What) (device : DeviceId)
-    → FitsWorld stands network world what → length network.device ≤ device.0 → turns_on device what ≡ false
-of_network stands world network (events.On other) device may le =
+of_network : (s : Scenario) (hs : List Happening) (now : ℕ) (what : What) (device : DeviceId) → FitsWorld s hs now what
+    → length s.network.device ≤ device.0 → turns_on device what ≡ false
+of_network s hs now (events.On other) device may le =
     Rattle.std.proofs.lemmas.Bool.false_from_ne_true (device.0 == other.0)
     (λ same. let at = Rattle.std.proofs.lemmas.Bool.eqb-true device.0 other.0 same in let lt = may.0 in absurd (omega (arith, at, lt, le)))
-of_network stands world network other device may le = refl
+of_network s hs now other device may le = refl
 
-known_apply : {C M : Type 0} (stands : M → Network → DeviceId → Node → Type 0) (world : World C M) (network : Network) (f g : DeviceId → ℕ → ℕ)
-    (past : List Event) (event : Event) (hs : List Happening) (now : ℕ) (ev : Happening) → FitsWorld stands network world event.what → IsEventBody ev.note.body
+known_apply : (network : Network) (f g : DeviceId → ℕ → ℕ) (past : List Event) (event : Event) (hs : List Happening) (now : ℕ) (ev : Happening)
+    → FitsWorld (scenario network f past) hs now event.what → IsEventBody ev.note.body
     → AreOfNetwork (scenario network f past) (hs ++ []) → AreOfNetwork (scenario network g (past ++ event ∷ [])) ((hs ++ ev ∷ []) ++ [])
-known_apply stands world network f g past event hs now ev may is known = record {
+known_apply network f g past event hs now ev may is known = record {
   unmoved = λ device le h i. elim (in_parts h hs (ev ∷ []) (subst (λ (l : List Happening). IsIn h l) (append-nil (hs ++ ev ∷ [])) i)) [
     | inl old ↦ known.unmoved device le h (subst (λ (l : List Happening). IsIn h l) (sym (append-nil hs)) old)
     | inr (inl e) ↦ event_moves device h.note.body (subst (λ (x : Happening). IsEventBody x.note.body) (sym e) is)
@@ -123,7 +123,7 @@ known_apply stands world network f g past event hs now ev may is known = record 
   ];
   never_on =
       λ device le t. turned_more network f g past event t device ∙ ap (λ (b : Bool). b || (turns_on device event.what && amount event.time == t))
-      (known.never_on device le t) ∙ ap (λ (b : Bool). b && amount event.time == t) (of_network stands world network event.what device may le);
+      (known.never_on device le t) ∙ ap (λ (b : Bool). b && amount event.time == t) (of_network (scenario network f past) hs now event.what device may le);
 }
 
 pub no_coming : (hs coming : List Happening) (s : Scenario) (mark cursor : List ℕ) (now : ℕ) → AreSettled s hs coming mark cursor now
@@ -134,9 +134,9 @@ no_coming hs (z ∷ coming) s mark cursor now are early = absurd (never_self (no
 -- ---- the step
 
 -- octets are sent by an end system
-sent_by : {C M : Type 0} (stands : M → Network → DeviceId → Node → Type 0) (network : Network) (world : World C M) (what : What) (link : LinkId)
-    (octets : List ℕ) → FitsWorld stands network world what → what ≡ events.Send link octets → IsFromEnd network link
-sent_by stands network world what link octets may is = subst (λ (w : What). FitsWorld stands network world w) is may
+sent_by : (s : Scenario) (hs : List Happening) (now : ℕ) (what : What) (link : LinkId) (octets : List ℕ) → FitsWorld s hs now what
+    → what ≡ events.Send link octets → IsFromEnd s.network link
+sent_by s hs now what link octets may is = subst (FitsWorld s hs now) is may
 
 under_two : (now line : ℕ) → IsBefore (now ∷ 1 ∷ line ∷ []) (now ∷ 2 ∷ [])
 under_two now line = inr (refl, inl (omega arith))
@@ -257,7 +257,7 @@ applied_step {C} {M} reading stands network f g past event world notes clocks ma
         ];
         sent = λ i e link octets get what. elim (get_more past event e i get) [
           | inl was ↦ old.befallen.sent i e link octets was what
-          | inr new ↦ sent_by stands network world event.what link octets may (ap (λ (x : Event). x.what) new.1 ∙ what)
+          | inr new ↦ sent_by s hs now event.what link octets may (ap (λ (x : Event). x.what) new.1 ∙ what)
         ];
       };
       clocks = clocks_are;
@@ -268,7 +268,7 @@ applied_step {C} {M} reading stands network f g past event world notes clocks ma
       settled = old.settled ∙ ap (map (hidden (length notes))) empty;
       known =
           subst (λ (l : List Happening). AreOfNetwork r (l ++ [])) back
-          (known_apply stands world network f g past event hs now ev may tt (subst (λ (l : List Happening). AreOfNetwork s (hs ++ l)) empty old.known));
+          (known_apply network f g past event hs now ev may tt (subst (λ (l : List Happening). AreOfNetwork s (hs ++ l)) empty old.known));
       devices = λ device lt.
           let k = old.devices device lt in
           let then_ = been.still device k.0 k.1 in (
@@ -276,8 +276,7 @@ applied_step {C} {M} reading stands network f g past event world notes clocks ma
             then_.1,
             subst (λ (l : List Happening). IsHeld stands r l [] (now ∷ 2 ∷ []) now device then_.0) back
                 (held_apply stands network f g past event hs old.cursor now (length notes + 1) ev device k.0 then_.0 applying
-                (subst (λ (l : List Happening). IsHeld stands s hs l old.cursor now device k.0) empty k.2) then_.2
-                (λ on node is. off_before stands network world event.what device k.0 node may on k.1 is)),
+                (subst (λ (l : List Happening). IsHeld stands s hs l old.cursor now device k.0) empty k.2) then_.2 may),
           );
       early = λ fresh p b. b;
       untold = subst (λ (l : List Happening). AreUntold l (now ∷ 2 ∷ []) now true (world.befell ++ also_befell (length notes + 1) event.what)) back

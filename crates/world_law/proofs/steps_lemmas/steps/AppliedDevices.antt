@@ -6,16 +6,16 @@ use Rattle.world_law.{proofs.devices.{Borne.other_comes, TurnedOn.fold_still}, s
 use Rattle.world_law.proofs.steps_lemmas.Words.{◌&&◌, ◌++◌, ◌+◌, ◌-ℤ◌, ◌<ℤ◌, ◌<◌, ◌==◌, ◌||◌, ◌∙◌, ◌∷◌, ◌≡◌, ◌≤ℤ◌, ◌≤◌, ◌⊎◌, Bool, ClockTask, Compressed}
 use Rattle.world_law.proofs.steps_lemmas.Words.{DeviceId, Event, Happening, HasDoneFrom, HasSentFrom, Integrating, IsBefore, IsDeedOf, IsEventBody, IsHeld}
 use Rattle.world_law.proofs.steps_lemmas.Words.{IsIn, IsKept, IsLeft, IsNoTaking, IsOut, IsPending, IsReadyAt, IsUndone, IsWaiting, List, Network, Node, None}
-use Rattle.world_law.proofs.steps_lemmas.Words.{NoteBody, Off, Scenario, Some, State, Synchronised, Task, Units, What, World, [], act_place, acts_before}
-use Rattle.world_law.proofs.steps_lemmas.Words.{adjustment_after, adjustment_with, amount, and_right, ap, append-nil, arith, bears_on, cases_Bool, changed_at}
-use Rattle.world_law.proofs.steps_lemmas.Words.{changes_adjustment, correcting, cycle_in, dispatching, doing, earlier, emitting, eq-eqb, eqb-true, false}
+use Rattle.world_law.proofs.steps_lemmas.Words.{NoteBody, Off, Scenario, Some, State, Synchronised, Task, Units, What, [], act_place, acts_before}
+use Rattle.world_law.proofs.steps_lemmas.Words.{adjustment_after, adjustment_with, amount, and_right, ap, append-nil, arith, bears_on, both_ways, cases_Bool, changed_at}
+use Rattle.world_law.proofs.steps_lemmas.Words.{changes_adjustment, correcting, cycle_in, dispatching, doing, earlier, emitting, eq-eqb, false}
 use Rattle.world_law.proofs.steps_lemmas.Words.{filter, fold, frames_taken, if◌then◌else◌, in_parts, inl, inr, ints, is_broken, is_timed, is_turned_on_at}
 use Rattle.world_law.proofs.steps_lemmas.Words.{last_or, length, moves, never_self, next_is_up_to, not, not_turned_on, numbered, option_map_or, pos}
-use Rattle.world_law.proofs.steps_lemmas.Words.{rank_of_call, reading_for, refl, same_before, scenario, sending, slice_get, state_after, state_with, subst, sym}
+use Rattle.world_law.proofs.steps_lemmas.Words.{rank_of_call, reading_for, refl, same_before, scenario, sending, state_after, state_with, subst, sym}
 use Rattle.world_law.proofs.steps_lemmas.Words.{time_of, true, turns_on}
 use Rattle.world_law.proofs.steps_lemmas.{Words.{up_to, value_of, waiting_alike, whole, ℕ}, steps.{AppliedParts.{broken_more, turned_more}, Passed.no_task}}
 use Rattle.std.{proofs.lemmas.Bool.and_from, specs.List.Contains}
-use Rattle.run_law.specs.{machines.Answers.node_turned_on, scenario.Hypothesis.breaks_at}
+use Rattle.run_law.{proofs.scenario.Devices.on_by, specs.{machines.Answers.node_turned_on, scenario.Hypothesis.breaks_at}}
 use Rattle.net_plan.specs.declared.event.What.TheVariants as events
 use Rattle.run_law.specs.declared.note.NoteBody.TheVariants as notes
 
@@ -48,17 +48,6 @@ node_out on (events.Break other) device node out =
 node_out on (events.On other) device node out =
     ap (λ (b : Bool). if b then node_turned_on node else node) (and_right (device.0 == other.0) (not node.broken) (ap not out))
 node_out on other device node out = refl
-
--- it is off where it may be turned on
-pub off_before : {C M : Type 0} (stands : M → Network → DeviceId → Node → Type 0) (network : Network) (world : World C M) (what : What) (device : DeviceId)
-    (machine : M) (node : Node) → FitsWorld stands network world what → turns_on device what ≡ true
-    → slice_get world.machines device.0 ≡ Some machine → stands machine network device node → node.standing.state ≡ Off
-off_before {C} {M} stands network world (events.On other) device machine node may it there is =
-    let same = eqb-true device.0 other.0 it in
-    let one : device ≡ other = ap (λ (n : ℕ). let x : DeviceId = record { 0 = n } in x) same in
-    may.1 machine node (subst (λ (d : DeviceId). slice_get world.machines d.0 ≡ Some machine) one there)
-    (subst (λ (d : DeviceId). stands machine network d node) one is)
-off_before stands network world other device machine node may it there is = absurd cc
 
 -- ---- records of events bear on no device
 
@@ -307,22 +296,23 @@ out_so stands network f g past event hs cursor now number ev device after node n
 pub held_apply : {M : Type 0} (stands : M → Network → DeviceId → Node → Type 0) (network : Network) (f g : DeviceId → ℕ → ℕ) (past : List Event) (event : Event)
     (hs : List Happening) (cursor : List ℕ) (now number : ℕ) (ev : Happening) (device : DeviceId) (machine after : M)
     → IsApplying network f g past event hs cursor now number ev → IsHeld stands (scenario network f past) hs [] cursor now device machine
-    → ((node : Node) → stands machine network device node
+    → ((node : Node) → stands machine network device node → (event.what ≡ events.On device → node.standing.state ≡ Off)
     → stands after network device (befallen_node (is_turned_on_at (scenario network f past) device now) event.what device node))
-    → (turns_on device event.what ≡ true → (node : Node) → stands machine network device node → node.standing.state ≡ Off)
+    → FitsWorld (scenario network f past) hs now event.what
     → IsHeld stands (scenario network g (past ++ event ∷ [])) (hs ++ ev ∷ []) [] (now ∷ 2 ∷ []) now device after
-held_apply stands network f g past event hs cursor now number ev device machine after m (inr k) been off =
+held_apply stands network f g past event hs cursor now number ev device machine after m (inr k) been fits =
     let s = scenario network f past in
     let only : (h : Happening) → IsIn h (hs ++ []) → (time_of h < now) ⊎ ((time_of h ≡ now) × IsEventBody h.note.body) = λ h i. m.events.sooner h
     (subst (λ (l : List Happening). IsIn h l) (append-nil hs) i) in
     let on = is_turned_on_at s device now in
     let broken = broken_more network f g past event now device m.at ∙ ap (λ (b : Bool). b || breaks_at device.0 event.what) k.broken in
-    let still = subst (λ (n : Node). stands after network device n) (node_out on event.what device k.node k.shows) (been k.node k.is) in
+    let still = subst (λ (n : Node). stands after network device n) (node_out on event.what device k.node k.shows)
+    (been k.node k.is (λ turns. absurd (both_ways (is_broken s device now) (subst (FitsWorld s hs now) turns fits).2 k.broken))) in
     inr (out_so stands network f g past event hs cursor now number ev device after k.node k.node m still broken k.shows
     (k.state ∙ state_up_to s (hs ++ []) now device only ∙ ap (λ (l : List Happening). state_after s (earlier now l) device) (append-nil hs))
     (k.adjustment ∙ adjustment_up_to s (hs ++ []) now device only ∙ ap (λ (l : List Happening). adjustment_after s (earlier now l) device) (append-nil hs))
     k.ready refl k.phase)
-held_apply {M} stands network f g past event hs cursor now number ev device machine after m (inl k) been off =
+held_apply {M} stands network f g past event hs cursor now number ev device machine after m (inl k) been fits =
     elim (cases_Bool (breaks_at device.0 event.what)) [
       | inl breaks ↦ inr (goes_out breaks)
       | inr stays ↦ elim (cases_Bool (turns_on device event.what)) [ inl on ↦ inl (comes_on on stays) | inr not_on ↦ inl (goes_on stays not_on) ]
@@ -342,6 +332,10 @@ held_apply {M} stands network f g past event hs cursor now number ev device mach
 
     left : IsLeft s hs device now k.node
     left = subst (λ (l : List Happening). IsLeft s l device now k.node) (append-nil hs) (subst (λ (n : ℕ). IsLeft s (hs ++ []) device n k.node) is_at k.left)
+
+    -- it is off where it is turned on
+    off : event.what ≡ events.On device → k.node.standing.state ≡ Off
+    off turns = left.state ∙ (subst (FitsWorld s hs now) turns fits).1
 
     same_off : is_turned_on_at s device now ≡ true → state_after s (earlier now hs) device ≡ Off
     same_off on = let it = k.turned on in ap (λ (l : List Happening). state_after s (earlier now l) device) (sym (append-nil hs)) ∙ it.off
@@ -367,7 +361,7 @@ held_apply {M} stands network f g past event hs cursor now number ev device mach
     goes_out breaks =
         let on = is_turned_on_at s device now in
         let new = broken_so on k.node in
-        let is = subst (λ (n : Node). stands after network device n) (node_breaks on event.what device k.node breaks sound) (been k.node k.is) in
+        let is = subst (λ (n : Node). stands after network device n) (node_breaks on event.what device k.node breaks sound) (been k.node k.is off) in
         let broken = broken_more network f g past event now device m.at ∙ ap (λ (b : Bool). is_broken s device now || b) breaks
         ∙ or_true (is_broken s device now) in
         out_so stands network f g past event hs cursor now number ev device after k.node new m is broken refl
@@ -384,8 +378,8 @@ held_apply {M} stands network f g past event hs cursor now number ev device mach
     comes_on : turns_on device event.what ≡ true → breaks_at device.0 event.what ≡ false → IsKept stands r (hs ++ ev ∷ []) [] (now ∷ 2 ∷ []) now device after
     comes_on on stays =
         let is = subst (λ (n : Node). stands after network device n) (node_on (is_turned_on_at s device now) event.what device k.node on sound)
-        (been k.node k.is) in
-        let state = off on k.node k.is in
+        (been k.node k.is off) in
+        let state = off (on_by device event.what on) in
         let time_is : (amount event.time == now) ≡ true = eq-eqb (amount event.time) now m.at in
         let turned : is_turned_on_at r device now ≡ true = turned_more network f g past event now device
         ∙ ap (λ (b : Bool). is_turned_on_at s device now || (b && amount event.time == now)) on ∙ ap (λ (b : Bool). is_turned_on_at s device now || b)
@@ -407,7 +401,7 @@ held_apply {M} stands network f g past event hs cursor now number ev device mach
     goes_on : breaks_at device.0 event.what ≡ false → turns_on device event.what ≡ false → IsKept stands r (hs ++ ev ∷ []) [] (now ∷ 2 ∷ []) now device after
     goes_on stays not_on =
         let is = subst (λ (n : Node). stands after network device n) (node_stays (is_turned_on_at s device now) event.what device k.node stays not_on)
-        (been k.node k.is) in
+        (been k.node k.is off) in
         kept_less stands network f g past event hs cursor now number ev device machine after k.node m k (itself network device k.node) is
         (sym (broken_as stays) ∙ k.sound)
         (λ up. stands_still network f g past (past ++ event ∷ []) hs device now k.node m.reads (each_past hs now ev m.events) (broken_as stays)

@@ -4,28 +4,28 @@ use Rattle.{std.proofs.Common.{◌∙◌, ◌≡◌, ◌≢◌, Bool, Some, ap, 
 use Rattle.world_state.proofs.applying.befall_machines.Goals as goal
 
 pub returns-in-On-clause-each : goal.returns-in-On-clause-each
-returns-in-On-clause-each g c = λ network device machine turned found broke off.
+returns-in-On-clause-each g c = λ network device machine turned found broke.
     let is = c.in-On.is in
     let at = c.in-On.device in
     let stands = g.M.Machine.stands in
     one_befalls (keeps stands) c.args.what.now at c.args.machines.now.items c.turn_on.new.self (c.requires.turned_on at is)
     (subst (λ (w : What). (turned : Bool) (d : DeviceId) (node : Node) → d.0 ≢ at.0 → befallen_node turned w d node ≡ node) (sym is) (on_other at))
     network device machine turned found
-    (λ same node k.
+    (λ same node k off.
     let own = c.index_mut.ensures.value ∙ get_or_from_slice_get _ at.0 machine _
     (subst (λ (d : DeviceId). slice_get c.args.machines.now.items d.0 ≡ Some machine) same found) in
     subst (λ (w : What). keeps stands c.turn_on.new.self network device (befallen_node turned w device node)) (ap On same ∙ sym is)
-    (c.turn_on.ensures network device node turned (subst (λ m. keeps stands m network device node) (sym own) k) (off (is ∙ ap On (sym same)) node k)))
+    (c.turn_on.ensures network device node turned (subst (λ m. keeps stands m network device node) (sym own) k) (off (is ∙ ap On (sym same)))))
 
 pub returns-in-Break-clause-each : goal.returns-in-Break-clause-each
-returns-in-Break-clause-each g c = λ network device machine turned found broke off.
+returns-in-Break-clause-each g c = λ network device machine turned found broke.
     let is = c.in-Break.is in
     let at = c.in-Break.device in
     let stands = g.M.Machine.stands in
     one_befalls (keeps stands) c.args.what.now at c.args.machines.now.items c.break_down.new.self (c.requires.broken at is)
     (subst (λ (w : What). (turned : Bool) (d : DeviceId) (node : Node) → d.0 ≢ at.0 → befallen_node turned w d node ≡ node) (sym is) (break_other at))
     network device machine turned found
-    (λ same node k.
+    (λ same node k off.
     let own = c.index_mut-in-Break.ensures.value
     ∙ get_or_from_slice_get _ at.0 machine _ (subst (λ (d : DeviceId). slice_get c.args.machines.now.items d.0 ≡ Some machine) same found) in
     subst (λ (b : Bool). keeps stands c.break_down.new.self network device (befallen_node b c.args.what.now device node)) (sym (broke (is

@@ -1,7 +1,7 @@
 use Rattle.{drift_world.proofs.Applies.{any_mapped, waits_more, ways_more}, std.specs.Prelude.All, world_law.proofs.steps_lemmas.steps.AppliedParts.broken_more}
 use Rattle.drift_world.proofs.{Beginnings.found, Words.{not, scenario, subst, sym, true, turns_on, unsigned_abs, waiting_as, way_as, world_of, ℕ}}
 use Rattle.drift_world.proofs.{Elsewhere.{clock_elsewhere, waits_elsewhere}, Fitting.{apart_kept, below_more, ways_short}, TurnedOn.turned_on_is}
-use Rattle.drift_world.proofs.Words.{◌++◌, ◌+◌, ◌<◌, ◌↔◌, ◌∙◌, ◌∷◌, ◌≡◌, AreApart, Bool, Down, FitsWorld, IsIn, List, Note, Some, Stands, Up, Waits, What}
+use Rattle.drift_world.proofs.Words.{◌++◌, ◌+◌, ◌<◌, ◌↔◌, ◌∙◌, ◌∷◌, ◌≡◌, AreApart, Bool, Down, IsIn, List, Note, Some, Stands, Up, Waits, What}
 use Rattle.drift_world.proofs.Words.{World, [], amount, ap, arith, befell_as, breaks_at, false, ints, is_broken, is_turned_on_at, keeps, length, list_any, map}
 use Rattle.world_law.{proofs.steps_lemmas.steps.Applied.applied_step, specs.{source.Applying.note_of_event, world.Outcomes.{also_befell, ends_world}}}
 use Rattle.{net_plan.specs.{Belonging.IsOfNetwork, declared.ids.DeviceId.DeviceId}, world_law.specs.world.World.Befell}
@@ -64,8 +64,7 @@ returns-clause-stands g c = λ f h past notes old follows may.
       still = λ device machine there.
           c.befall_machines.ensures.each network device machine (is_turned_on_at s device w.time) there
           (λ broke. turned_on_is K.reading stands s world notes old c.requires.early follows.begun device ∙ any_mapped device w.befell.items
-          ∙ ap (list_any (λ b. turns_on device b.what)) (sym c.as_slice.ensures.value) ∙ sym (c.breaks_on-on.ensures device broke))
-          (λ on node k. (subst (FitsWorld stands network world) on may).1 machine node there k);
+          ∙ ap (list_any (λ b. turns_on device b.what)) (sym c.as_slice.ensures.value) ∙ sym (c.breaks_on-on.ensures device broke));
     })
     (λ device lt. c.set_broken.ensures.each device _ (old.broken device lt) ∙ ap Some (sym (broken_more network f h past event w.time device at)))
     (ways_more network f h past event w.time at w.ups.items w.downs.items c.set_way.new.ways.items c.set_way-2.new.ways.items z.ups z.downs old.ways

@@ -66,9 +66,8 @@ rekey_by-requires-clause-running g c =
       is = (befalls K.fresh K.after_step K.reading K.grain_of K.count (lawful g) g.M.Machine.stands own c.self.inside.state c.apply.new.self c.args.self.now
           (ap (λ (n : Network). world_of n c.self.inside.state) c.network-network.ensures.value ∙ c.self.view_is) c.args.event.now c.in-Ok.note
           (c.self.invariant.sound.sized.clocks ∙ ap (λ (n : Network). length n.device) (sym c.network-network.ensures.value)) c.requires.now
-          c.requires.hold may.of_network
-          (λ n device on. let it = c.turned_on-shown.ensures n device on in (it.0, it.2)) c.in-Ok.ensures.still c.in-Ok.ensures.clocks c.in-Ok.ensures.stands
-          network may.events may.notes may.is may.within).0.is;
+          c.requires.hold may.of_network c.in-Ok.ensures.still c.in-Ok.ensures.clocks c.in-Ok.ensures.stands network may.events may.notes may.is
+          may.within).0.is;
     }
 
 befallen : (g : given.Over) (c : goal.After-rekey_by g) (network : Network) (events : List Event) (notes : List Note)
@@ -83,8 +82,7 @@ befallen g c network events notes under within =
     let it = befalls K.fresh K.after_step K.reading K.grain_of K.count (lawful g) g.M.Machine.stands own c.self.inside.state c.apply.new.self c.args.self.now
     (ap (λ (n : Network). world_of n c.self.inside.state) c.network-network.ensures.value ∙ c.self.view_is) c.args.event.now c.in-Ok.note
     (c.self.invariant.sound.sized.clocks ∙ ap (λ (n : Network). length n.device) (sym c.network-network.ensures.value)) c.requires.now
-    c.requires.hold c.requires.within.of_network (λ n device on. let it = c.turned_on-shown.ensures n device on in (it.0, it.2)) c.in-Ok.ensures.still
-    c.in-Ok.ensures.clocks c.in-Ok.ensures.stands network events notes under within in
+    c.requires.hold c.requires.within.of_network c.in-Ok.ensures.still c.in-Ok.ensures.clocks c.in-Ok.ensures.stands network events notes under within in
     let same : world_of own c.apply.new.self ≡ world_of c.self.inside.accepted.now c.rekey_by.new.self =
     ap (λ (n : Network). world_of n c.apply.new.self) c.network-network.ensures.value
     ∙ ap (λ (s : State _ _). world_of c.self.inside.accepted.now s) (sym c.rekey_by.ensures.same) in (
