@@ -1,5 +1,7 @@
 ghost use Rattle.std.specs.Prelude.{◌≡◌, ◌⊎◌, IsNone};
 
+use crate::capture::refused_capture;
+use crate::layout::{refused_messages, refused_report};
 use crate::limit::passed_limit;
 use crate::names::unknown_name;
 use crate::network::refused_network;
@@ -77,16 +79,16 @@ pub fn hint<A: Source, B: Source>(
         Status::TooLong => passed_limit(alloc, called, first, second),
         Status::NameRefused => unknown_name(alloc, called, first),
         Status::VoteRefused => refused_vote(alloc, called, first),
+        Status::CaptureRefused => refused_capture(alloc, called, first),
+        Status::AuditRefused => refused_report(alloc, called, second),
+        Status::MessagesRefused => refused_messages(alloc, called, second),
         Status::Done
         | Status::FrameRefused
         | Status::ReadFault
         | Status::WriteFault
         | Status::OutOfMemory
         | Status::GranuleRefused
-        | Status::AuditRefused
-        | Status::CaptureRefused
         | Status::NumberRefused
-        | Status::MessagesRefused
         | Status::PlanRefused => None,
     }
 }

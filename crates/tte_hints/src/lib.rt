@@ -4,10 +4,12 @@
 
 mod argument;
 mod breach;
+mod capture;
 mod encoding;
 mod form;
 mod hinting;
 mod key;
+mod layout;
 mod limit;
 mod line_fault;
 mod names;

@@ -1,18 +1,19 @@
+use crate::capture::CAPTURE_LIMIT;
 use crate::hinting::{Called, FILE_LIMIT};
 use crate::{Argument, Program};
 use std::alloc::Global;
 use tte_io::{ReadAll, Source, read_all};
 
-/// How many octets a capture has at most, and a report for `tte`.
-const CAPTURE_LIMIT: u64 = 16_777_216;
-
 /// How many octets a report has at most for `lens`.
 const LENS_LIMIT: u64 = 268_435_456;
+
+/// How many octets a report has at most for `tte`.
+const REPORT_LIMIT: u64 = 16_777_216;
 
 /// How many octets a report has at most for the program.
 fn report_limit(program: Program) -> u64 {
     match program {
-        Program::Tte => CAPTURE_LIMIT,
+        Program::Tte => REPORT_LIMIT,
         Program::Lens => LENS_LIMIT,
     }
 }

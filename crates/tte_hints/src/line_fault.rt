@@ -1,5 +1,6 @@
 ghost use Rattle.net_plan.specs.Ranges.{IsInRange};
 
+use crate::layout::stray_octets;
 use crate::part::{Part, parts_of};
 use net_plan::Network;
 use std::alloc::Global;
@@ -16,7 +17,7 @@ struct Quote<'t>(&'t [u8]);
 impl<'t> fmt::Display for Quote<'t> {
     fn fmt<W: fmt::Write>(&self, f: &mut fmt::Formatter<W>) -> fmt::Result {
         match self.0.split_at_checked(SHOWN) {
-            Some((front, _)) => write!(f, "\"{}..\"", front.escape_ascii()),
+            Some((shown, _)) => write!(f, "\"{}..\"", shown.escape_ascii()),
             None => write!(f, "\"{}\"", self.0.escape_ascii()),
         }
     }
@@ -25,23 +26,14 @@ impl<'t> fmt::Display for Quote<'t> {
 /// The most words of a line.
 const MOST_WORDS: u32 = 8;
 
-/// The octets that some editors put in front of a text in UTF-8.
-const BYTE_ORDER_MARK: &[u8] = &[0xef, 0xbb, 0xbf];
-
 /// What is wrong with a line whatever its words are.
 fn layout_fault(text: &[u8]) -> Option<&'static str> {
-    if text.starts_with(BYTE_ORDER_MARK) {
-        Some("it begins with a byte order mark; a trace has none")
-    } else if text.last() == Some(&b'\r') {
-        Some("it ends with CR LF; a line of a trace ends with LF alone")
-    } else if text.is_empty() {
+    if text.is_empty() {
         Some("it is empty; a trace has no blank line")
     } else if text.first() == Some(&b'#') {
         Some(COMMENT)
-    } else if text.contains(&b'\t') {
-        Some("it has a tab; one space stands between two words")
     } else {
-        None
+        stray_octets(text)
     }
 }
 

@@ -15,7 +15,7 @@ const FASTEST: u64 = 1_000_000_000;
 #[derive(Clone, Copy)]
 pub(crate) enum Part {
     Time,
-    /// The word that says what befalls the network.
+    /// The word that says what happens to the network.
     Event,
     Device,
     Link,
