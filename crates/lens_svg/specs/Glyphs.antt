@@ -20,10 +20,10 @@ verdict_glyph judgements.Integrates =
 -- of a frame that is dropped: a second copy is not wanted, a device that is off or not synchronised takes none, and else
 -- the frame is refused
 abbrev pub refused_glyph : List ℕ
-refused_glyph = codes "<use xlink:href=\"#dropped\"/><text class=\"label dropped\" x=\"6\" y=\"16\">"
+refused_glyph = codes "<use xlink:href=\"#dropped\"/><text class=\"label dropped\" x=\"12\" y=\"14\" transform=\"rotate(30)\">"
 
 abbrev pub untaken_glyph : List ℕ
-untaken_glyph = codes "<use xlink:href=\"#untaken\"/><text class=\"label untaken\" x=\"6\" y=\"16\">"
+untaken_glyph = codes "<use xlink:href=\"#untaken\"/><text class=\"label untaken\" x=\"12\" y=\"14\" transform=\"rotate(30)\">"
 
 abbrev pub dropped_glyph : Reason → List ℕ
 dropped_glyph reasons.Repeat = codes "<use xlink:href=\"#second\"/><text class=\"label\">"
@@ -46,7 +46,7 @@ glyph_text (Corrected device cycle by adjustment) =
     codes "<use xlink:href=\"#corrected\"/><text class=\"label corrected\" x=\"6\" y=\"16\">"
 glyph_text (State device state cause why) =
     codes "<use xlink:href=\"#state\"/><text class=\"label state\" x=\"5\" y=\"-12\">"
-glyph_text (Lost device link cause) = codes "<use xlink:href=\"#lost\"/><text class=\"label lost\" x=\"13\" y=\"14\">"
+glyph_text (Lost device link cause) = codes "<use xlink:href=\"#lost\"/><text class=\"label lost\" x=\"13\" y=\"14\" transform=\"rotate(30)\">"
 glyph_text (TtSent device link cause vl cycle) =
     codes "<use xlink:href=\"#ttsent\"/><text class=\"label stream\" x=\"5\" y=\"-3\" transform=\"rotate(-40)\">"
 glyph_text (Accepted device link cause vl cycle) =

@@ -26,12 +26,12 @@ fn verdict_glyph(verdict: Judgement) -> &'static str
 /// off or not synchronised takes none, and else the frame is refused.
 fn dropped_glyph(reason: Reason) -> &'static str
     ensures text { result.now ≡ dropped_glyph reason }
-    ensures short { length result.now ≤ 90 }
+    ensures short { length result.now ≤ 100 }
 {
     match reason {
         Reason::Repeat => "<use xlink:href=\"#second\"/><text class=\"label\">",
         Reason::Off | Reason::Unsynchronised =>
-            "<use xlink:href=\"#untaken\"/><text class=\"label untaken\" x=\"6\" y=\"16\">",
+            "<use xlink:href=\"#untaken\"/><text class=\"label untaken\" x=\"12\" y=\"14\" transform=\"rotate(30)\">",
         Reason::ColdStart
         | Reason::Domain
         | Reason::Member
@@ -46,7 +46,7 @@ fn dropped_glyph(reason: Reason) -> &'static str
         | Reason::RefusedEtherType
         | Reason::RefusedReserved(_)
         | Reason::RefusedKind(_) =>
-            "<use xlink:href=\"#dropped\"/><text class=\"label dropped\" x=\"6\" y=\"16\">",
+            "<use xlink:href=\"#dropped\"/><text class=\"label dropped\" x=\"12\" y=\"14\" transform=\"rotate(30)\">",
     }
 }
 
@@ -69,7 +69,7 @@ pub(crate) fn glyph_text(body: &NoteBody) -> &'static str
         NoteBody::State { .. } =>
             "<use xlink:href=\"#state\"/><text class=\"label state\" x=\"5\" y=\"-12\">",
         NoteBody::Lost { .. } =>
-            "<use xlink:href=\"#lost\"/><text class=\"label lost\" x=\"13\" y=\"14\">",
+            "<use xlink:href=\"#lost\"/><text class=\"label lost\" x=\"13\" y=\"14\" transform=\"rotate(30)\">",
         NoteBody::TtSent { .. } =>
             "<use xlink:href=\"#ttsent\"/><text class=\"label stream\" x=\"5\" y=\"-3\" transform=\"rotate(-40)\">",
         NoteBody::Accepted { .. } =>
