@@ -23,10 +23,10 @@ use tte_io::{LineText, OutOfMemory, Sink, Source};
 
 /// Plans virtual links and rows for the messages of the second file, behind the rows of the network of the first.
 ///
-/// What is put are the blocks of a network file. The octets of the first file with these behind them mean an accepted
+/// Written are the blocks of a network file. The octets of the first file with these behind them mean an accepted
 /// network, which is that of the first but for one more virtual link for each message, that serves it. `plan_law` says
 /// so, and that in each run each of its frames that is owed comes in time. The second file is read only where the
-/// network is accepted, and no block is put before the whole is judged.
+/// network is accepted, and no block is written before the whole is judged.
 pub fn plan_of_network<A: Source, B: Source, K: Sink>(
     alloc: Global,
     first: &mut A,

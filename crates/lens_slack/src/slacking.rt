@@ -132,7 +132,7 @@ fn put_ending<K: Sink>(
     }
 }
 
-/// Puts the line of `check` for the rule, first broken at the place, and what its index means, and passes all on.
+/// Writes the line of `check` for the rule, first broken at the place, and what its index means, and passes all on.
 pub fn put_broken<K: Sink>(network: &Network, rule: Rule, place: u32, out: &mut K) -> Status
     requires range { IsInRange network.now }
     requires place { HasPlace network.now rule place }

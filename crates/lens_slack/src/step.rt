@@ -9,7 +9,7 @@ use schedule_tables::Rule;
 /// What is done next.
 #[derive(Clone, Copy)]
 pub(crate) enum Step {
-    /// A rule that is no inequality is judged. Where it is broken, that is told, and nothing is put behind it.
+    /// A rule that is no inequality is judged. Where it is broken, that is told, and nothing behind it.
     Judged(PlanRule),
     /// The tightest of all spots of the measure is told.
     Measured(Measure),

@@ -14,7 +14,7 @@ pub enum Hue {
     Summary,
     /// A time-triggered frame.
     Stream,
-    /// What a broken master put on its link.
+    /// What a broken master sent on its link.
     Forged,
 }
 

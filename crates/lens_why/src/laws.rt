@@ -3,7 +3,7 @@ ghost use Rattle.lens_why.specs.Decisions.{GroundsDecide};
 ghost use Rattle.lens_why.specs.Laws.{BestAreThere, NamesEarlier, RowIsOne, TakenInWindows, WhyLaw};
 
 /// Of each report `why` has one answer for each number; the chains that it tells are whole and go back, and that of a
-/// frame that was delivered begins with its dispatch by its sender, or with the event by which a broken master put it
+/// frame that was delivered begins with its dispatch by its sender, or with the event by which a broken master sent it
 /// on its link.
 pub fn why_law()
     ensures { WhyLaw }

@@ -18,7 +18,7 @@ pub trait Source {
     /// The count of the reads that failed.
     ghost faults: { Self → ℕ };
 
-    /// Takes the next octets into the front of the buffer, and answers how many. None into a
+    /// Takes the next octets into the start of the buffer, and answers how many. None into a
     /// buffer that is not empty is the end. A failed read takes nothing.
     fn read(&mut self, buf: &mut [u8]) -> Result<usize, SourceFailed>
         ensures bound { ReadsAtMost result buf.new }
@@ -44,7 +44,7 @@ pub trait Sink {
     /// The count of the calls that failed.
     ghost faults: { Self → ℕ };
 
-    /// Takes all the octets, or fails after a front of them. What it takes it may hold.
+    /// Takes all the octets, or fails after a prefix of them. What it takes it may hold.
     fn put(&mut self, bytes: &[u8]) -> Result<(), SinkFailed>
         ensures all { OnOk result (Appends (written self.old) (written self.new) bytes.now) }
         ensures front { OnErr result (AppendsFront (written self.old) (written self.new) bytes.now) }
@@ -55,7 +55,7 @@ pub trait Sink {
         ensures ok_unchanged { OnOk result (faults self.new ≡ faults self.old) }
         ensures failed_rose { OnErr result (Rose (faults self.old) (faults self.new)) };
 
-    /// Passes on all octets that were put and are still held, or fails after a front of them.
+    /// Passes on all octets that were put and are still held, or fails after a prefix of them.
     fn pass_on(&mut self) -> Result<(), SinkFailed>
         ensures all { OnOk result (passed self.new ≡ written self.new) }
         ensures passes { PassesSome (passed self.old) (passed self.new) (written self.new) }

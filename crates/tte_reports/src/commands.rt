@@ -28,7 +28,7 @@ pub trait ReportCommand<K: Sink> {
     /// With which statuses it ends.
     ghost ends: { Self → StatusValue → Type 0 };
 
-    /// Puts its answer for a report that was read and audited.
+    /// Writes its answer for a report that was read and audited.
     fn put(&self, alloc: Global, network: &Network, report: &AuditedReport, out: &mut K) -> Status
         requires named { IsNamed network.now }
         requires rules { KeepsRules network.now }
@@ -45,7 +45,7 @@ pub trait ReportCommand<K: Sink> {
 
 /// Answers the command for the finished report of the second file over the network of the first.
 ///
-/// The second file is read only where the network is accepted, and whole, and is audited before anything is put. It has
+/// The second file is read only where the network is accepted, and whole, and is audited before the first write. It has
 /// at most `limit` octets.
 pub fn answer_report<A: Source, B: Source, K: Sink, C: ReportCommand<K>>(
     alloc: Global,

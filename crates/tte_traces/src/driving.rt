@@ -14,7 +14,7 @@ use world_drive::exact::ExactWorld;
 use world_drive::{Cut, Drove, Observer, begin_world, drive};
 
 /// Runs an accepted network under a trace, which is taken line by line, to its end, or to where that is cut short. An
-/// observer sees the run and puts its lines. Behind them the line of the trace's fault is put, if it has one.
+/// observer sees the run and writes its lines. Behind them stands the line of the trace's fault, if it has one.
 pub fn follow_trace<B: Source, K: Sink, O: Observer<K>>(
     alloc: Global,
     accepted: &Accepted,

@@ -23,7 +23,7 @@ pub enum TraceFault {
 pub enum TraceStop {
     /// A read failed.
     ReadFault,
-    /// What was put could not be passed on before a read.
+    /// What was written could not be passed on before a read.
     WriteFault,
     /// The trace is refused.
     Fault(TraceFault),

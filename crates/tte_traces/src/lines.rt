@@ -60,7 +60,7 @@ impl<'a> Trace<'a> {
     }
 
     /// Puts the event of the next line in the place of another, and answers whether there is one: where the trace has
-    /// ended there is none. Before a read it passes on all that was put.
+    /// ended there is none. Before a read it passes on all that was written.
     ///
     /// After a failed read, and where passing on failed, the next call goes on where this one
     /// stopped. After a fault of the trace no call is to follow.

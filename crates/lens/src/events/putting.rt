@@ -11,7 +11,7 @@ use tte_forms::{Status, accept, end_with, put_no_network};
 use tte_io::{Sink, Source};
 use tte_traces::storms::{StormEvents, frames_fit};
 
-/// Puts the events of the storm of the seed over 1 to 100,000 cycles on the network of a file, a line for each: a
+/// Writes the events of the storm of the seed over 1 to 100,000 cycles on the network of a file, a line for each: a
 /// trace, which `run` takes to its end. It keeps no event.
 ///
 /// `storm_report_law` says that the run over these lines is the one that `storm` sums up.

@@ -22,7 +22,7 @@ use world_drive::exact::ExactWorld;
 use world_drive::{Cut, Drove, begin_world, drive};
 
 /// Runs the network of the first file under the trace of the second, and votes the payloads of the virtual links of
-/// these three names at each receiver, cycle by cycle. The votes are put at the end. A word that names no virtual link,
+/// these three names at each receiver, cycle by cycle. The votes come at the end. A word that names no virtual link,
 /// and virtual links that may not vote, are refused before the trace is read.
 pub fn vote_trace<A: Source, B: Source, K: Sink>(
     alloc: Global,

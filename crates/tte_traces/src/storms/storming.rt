@@ -10,8 +10,8 @@ use std::alloc::Global;
 use tte_forms::{Status, accept, put_no_network};
 use tte_io::{Sink, Source};
 
-/// Runs the network of a file under the storm of the seed over 1 to 100,000 cycles, and puts the summary of the run. It
-/// keeps no record.
+/// Runs the network of a file under the storm of the seed over 1 to 100,000 cycles, and writes its summary. It keeps no
+/// record.
 pub fn storm_run<A: Source, K: Sink>(
     alloc: Global,
     source: &mut A,

@@ -16,7 +16,7 @@ const HEAD: [u8; 24] = [
 /// How many octets a packet takes at most with its stamp and its lengths.
 const ROOM: usize = 1530;
 
-/// Puts the header of a capture, in one put.
+/// Writes the header of a capture, in one put.
 pub fn put_head<K: Sink>(out: &mut K) -> Result<(), SinkFailed>
     ensures all { OnOk result (Appends (K.written out.old) (K.written out.new) head_octets) }
     ensures front { OnErr result (AppendsFront (K.written out.old) (K.written out.new) head_octets) }
@@ -29,7 +29,7 @@ pub fn put_head<K: Sink>(out: &mut K) -> Result<(), SinkFailed>
     out.put(&HEAD)
 }
 
-/// Puts a packet with its stamp, in one put. It has at most 1,514 octets, and all are captured.
+/// Writes a packet with its stamp, in one put. It has at most 1,514 octets, and all are captured.
 pub fn put_packet<K: Sink>(
     seconds: u32,
     micros: u32,
