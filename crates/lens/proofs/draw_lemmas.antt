@@ -1,6 +1,7 @@
 pub mod Parts
 pub mod Marking
 pub mod Keeping
+pub mod Lanes
 pub mod Naming
 pub mod Titles
 pub mod Lines

@@ -1,10 +1,10 @@
 -- The clocks of a run's devices at its end, as their records tell them.
-use Rattle.std.specs.{List.list_any, Prelude.ℤ}
+use Rattle.std.specs.{List.list_any, Prelude.{◌||◌, not, ℤ}}
 use Rattle.std.specs.Prelude.{◌*◌, ◌++◌, ◌+ℤ◌, ◌-ℤ◌, ◌/◌, ◌==◌, ◌^◌, ◌∷◌, ◌≤ℤ◌, Bool, List, None, Option, Some, []}
 use Rattle.std.specs.Prelude.{false, fold, if◌then◌else◌, int_lt, nat_lt, neg_ℤ, option_map, pos, true, unsigned_abs, ℕ}
 use Rattle.lens_svg.specs.{Lanes.{bottom_of, y_of}, Layout.holds, Sketching.moment, declared.clock.Told.Told}
 use Rattle.{lens_svg.specs.declared.clock.Ends.Ends, sync_state.specs.declared.state.State.TheVariants.Synchronised}
-use Rattle.lens_svg.specs.declared.{element.Element.{Element, TheVariants.{Gauge, Spread}}, layout.{Pen.Pen, Span.Span}}
+use Rattle.lens_svg.specs.{Plan.Plan, Views.is_shown, declared.{element.Element.{Element, TheVariants.{Gauge, Spread}}, layout.Span.Span}}
 use Rattle.net_plan.specs.declared.{event.What.TheVariants.Break, ids.DeviceId.DeviceId, network.Network.Network}
 use Rattle.run_law.specs.declared.note.{Note.Note, NoteBody.{NoteBody, TheVariants.{Clock, Event}}}
 use Rattle.tte_units.specs.Amount.{amount}
@@ -95,24 +95,24 @@ abbrev pub nanos_of : ℕ → ℕ
 nanos_of units = units / 65536
 
 -- how far the clock lies beyond the least: a bar beside its lane's last mark, which is full where it is the greatest
-abbrev pub gauge_at : Network → Pen → Ends → Told → Element
-gauge_at network pen ends told =
+abbrev pub gauge_at : Network → Plan → Ends → Told → Element
+gauge_at network plan ends told =
     let beyond = apart_of told ends.least in
-    Gauge (record { x = pen.most; y = y_of network told.device })
+    Gauge (record { x = plan.pen.most; y = y_of network plan.view.kept told.device })
     (if beyond == 0 then 0 else share 50 beyond (apart_of ends.greatest ends.least)) (nanos_of beyond)
 
--- what is drawn of a clock: nothing of that of a broken device
-abbrev pub gauge_of : Network → Pen → Clocks → Told → Option Element
-gauge_of network pen clocks told =
-    if is_among clocks.broken told.device then None
-    else option_map (λ ends. gauge_at network pen ends told) (ends_of clocks)
+-- what is drawn of a clock: nothing of that of a broken device, or of one without a lane
+abbrev pub gauge_of : Network → Plan → Clocks → Told → Option Element
+gauge_of network plan clocks told =
+    if is_among clocks.broken told.device || not (is_shown plan.view.kept told.device.0) then None
+    else option_map (λ ends. gauge_at network plan ends told) (ends_of clocks)
 
 -- how far the clocks are apart, below the names of the lanes: a bar that is full where that is the precision
-abbrev pub spread_at : Network → Ends → Element
-spread_at network ends =
+abbrev pub spread_at : Network → Plan → Ends → Element
+spread_at network plan ends =
     let apart = apart_of ends.greatest ends.least in
-    Spread (bottom_of network) (share 120 apart (amount network.precision)) (nanos_of apart)
+    Spread (bottom_of network plan.view.kept) (share 120 apart (amount network.precision)) (nanos_of apart)
     (nanos_of (amount network.precision))
 
-abbrev pub spread_of : Network → Clocks → Option Element
-spread_of network clocks = option_map (spread_at network) (ends_of clocks)
+abbrev pub spread_of : Network → Plan → Clocks → Option Element
+spread_of network plan clocks = option_map (spread_at network plan) (ends_of clocks)

@@ -1,8 +1,8 @@
 -- Where a device's lane is.
-use Rattle.std.specs.List.{count_by}
-use Rattle.std.specs.{Option.option_map_or, Prelude.{◌*◌, ◌+◌, ◌==◌, List, None, Option, Some, length, nat_lt, take, ℕ}}
-use Rattle.lens_svg.specs.declared.mark.Ground.{Ground, TheVariants.{Off, Synchronised}}
-use Rattle.net_plan.specs.{Places.device_at, declared.{ids.DeviceId.DeviceId, tables.{Device.Device, Role.Role}}}
+use Rattle.std.specs.{Option.option_map_or, Prelude.{◌*◌, ◌+◌, ◌==◌, ◌&&◌, ◌||◌, Bool, List, None, Option, Some, length, nat_lt, ℕ}}
+use Rattle.std.specs.Prelude.{if◌then◌else◌, slice_get, suc, zero}
+use Rattle.lens_svg.specs.{Views.{Choice, is_shown}, declared.mark.Ground.{Ground, TheVariants.{Off, Synchronised}}}
+use Rattle.net_plan.specs.declared.{ids.DeviceId.DeviceId, tables.{Device.Device, Role.Role}}
 use Rattle.net_plan.specs.declared.{network.Network.Network, tables.Role.TheVariants.{Client, Cm, Master, Relay}}
 use Rattle.tte_units.specs.declared.{frames.channel.Channel.{Channel, TheVariants.{A, B}}, units.Units.Units}
 
@@ -23,28 +23,33 @@ rank_in (Some B) Cm = 4
 abbrev pub rank_of : Device → ℕ
 rank_of device = rank_in device.channel device.role
 
--- how many devices are in a group above this one
-abbrev pub above : ℕ → List Device → ℕ
-above rank devices = count_by (λ d. nat_lt (rank_of d) rank) devices
+-- the group of the device at the place
+abbrev pub rank_at : List Device → ℕ → ℕ
+rank_at devices place = option_map_or rank_of (slice_get devices place) 0
 
--- how many devices are in this group
-abbrev pub beside : ℕ → List Device → ℕ
-beside rank devices = count_by (λ d. rank_of d == rank) devices
+-- the device at the first place is above the one at the second: its group is, or it is the same and comes before it
+abbrev pub is_over : List Device → ℕ → ℕ → Bool
+is_over devices place other =
+    nat_lt (rank_at devices place) (rank_at devices other)
+    || rank_at devices place == rank_at devices other && nat_lt place other
 
--- which lane is the device's, from 0 at the top: behind those of the groups above and those of its own that the network
--- has before it
-abbrev pub lane_of : Network → DeviceId → ℕ
-lane_of network device =
-    option_map_or (λ d. above (rank_of d) network.device + beside (rank_of d) (take device.0 network.device))
-    (device_at network device) 0
+-- how many of the first places are so
+abbrev pub count_to : (ℕ → Bool) → ℕ → ℕ
+count_to is zero = 0
+count_to is (suc n) = count_to is n + (if is n then 1 else 0)
+
+-- which lane is the device's, from 0 at the top: behind those of all devices above it that have one
+abbrev pub lane_of : Network → Option Choice → DeviceId → ℕ
+lane_of network kept device =
+    count_to (λ place. is_shown kept place && is_over network.device place device.0) (length network.device)
 
 -- how far down it is
-abbrev pub y_of : Network → DeviceId → ℕ
-y_of network device = 192 + 40 * lane_of network device
+abbrev pub y_of : Network → Option Choice → DeviceId → ℕ
+y_of network kept device = 192 + 40 * lane_of network kept device
 
 -- how far down the lanes end
-abbrev pub bottom_of : Network → ℕ
-bottom_of network = 172 + 40 * length network.device
+abbrev pub bottom_of : Network → Option Choice → ℕ
+bottom_of network kept = 172 + 40 * count_to (is_shown kept) (length network.device)
 
 -- the ground of a device's lane where a run begins: one with a local clock is synchronised, the others are off
 abbrev pub start_in : Option Units → Ground

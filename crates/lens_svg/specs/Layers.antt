@@ -3,14 +3,14 @@ use Rattle.std.specs.Prelude.{ℕ, ◌+◌, ◌==◌, ◌&&◌, Bool, true, fals
 use Rattle.std.specs.Prelude.{option_and_then, option_map}
 use Rattle.lens_svg.specs.{Lanes.{bottom_of, y_of}, Sketching.mark_at, declared.element.Band.TheVariants.{Ground, Wait}}
 use Rattle.lens_svg.specs.{Layout.{right_of, width_of}, declared.mark.Look.{Look, TheVariants.{Gone, Turned, Waited}}}
-use Rattle.lens_svg.specs.{Plan.Plan, declared.layer.MarkLayer.{MarkLayer, TheVariants.{Ticks, Turns, Waits, Ways}}}
+use Rattle.lens_svg.specs.{Plan.Plan, Views.is_shown, declared.layer.MarkLayer.{MarkLayer, TheVariants.{Ticks, Turns, Waits, Ways}}}
 use Rattle.lens_svg.specs.declared.element.{Element.{Element, TheVariants.{Bar, Lack, Opening, Rail, Tick, Way}}, Point.Point}
 use Rattle.lens_svg.specs.declared.{layer.LaneLayer.{LaneLayer, TheVariants.{Grounds, Rails}}, mark.Mark.Mark}
 use Rattle.net_plan.specs.declared.{ids.DeviceId.DeviceId, network.Network.Network}
 
 -- the beginning of the picture, which is 70 pixels higher than the lanes end
 abbrev pub opening_of : Network → Plan → Element
-opening_of network plan = Opening (width_of plan.pen) (bottom_of network + 70)
+opening_of network plan = Opening (width_of plan.pen) (bottom_of network plan.view.kept + 70)
 
 -- that no record is drawn
 abbrev pub lack_of : Plan → Option Element
@@ -20,12 +20,21 @@ lack_of plan = if length plan.marks == 0 then Some Lack else None
 abbrev pub device_of : ℕ → DeviceId
 device_of place = record { 0 = place }
 
--- what is drawn of the device at this place: its lane's ground where the picture begins, or its name and its lane
-abbrev pub on_lane : LaneLayer → Network → Plan → ℕ → Option Element
-on_lane Grounds network plan place =
-    let start : Point = record { x = 140; y = y_of network (device_of place) } in
+-- how far down the lane of the device at this place is
+abbrev pub height_at : Network → Plan → ℕ → ℕ
+height_at network plan place = y_of network plan.view.kept (device_of place)
+
+-- its lane's ground where the picture begins, or its name and its lane
+abbrev pub of_lane : LaneLayer → Network → Plan → ℕ → Option Element
+of_lane Grounds network plan place =
+    let start : Point = record { x = 140; y = height_at network plan place } in
     option_map (λ shade. Bar (Ground shade) start (right_of plan.pen)) (slice_get plan.grounds place)
-on_lane Rails network plan place = Some (Rail (device_of place) (y_of network (device_of place)) (right_of plan.pen))
+of_lane Rails network plan place = Some (Rail (device_of place) (height_at network plan place) (right_of plan.pen))
+
+-- what is drawn of the device at this place: nothing where it has no lane
+abbrev pub on_lane : LaneLayer → Network → Plan → ℕ → Option Element
+on_lane layer network plan place =
+    if is_shown plan.view.kept place then of_lane layer network plan place else None
 
 -- where a mark is
 abbrev pub point_of : Mark → Point
@@ -40,8 +49,9 @@ abbrev pub turn_of : Plan → Mark → Option Element
 turn_of plan mark = turn_to mark.look plan mark
 
 -- the instant, with its first mark
-abbrev pub tick_of : Network → Mark → Option Element
-tick_of network mark = if mark.first then Some (Tick (record { x = mark.x; y = bottom_of network }) mark.time) else None
+abbrev pub tick_of : Network → Plan → Mark → Option Element
+tick_of network plan mark =
+    if mark.first then Some (Tick (record { x = mark.x; y = bottom_of network plan.view.kept }) mark.time) else None
 
 -- a frame may have waited at its device that is permanent or dropped there
 abbrev pub may_wait : Look → Bool
@@ -79,6 +89,6 @@ way_of plan mark = option_and_then (λ cause. way_between cause mark) (mark_at p
 -- what is drawn of the record of a mark
 abbrev pub on_mark : MarkLayer → Network → Plan → Mark → Option Element
 on_mark Turns network plan mark = turn_of plan mark
-on_mark Ticks network plan mark = tick_of network mark
+on_mark Ticks network plan mark = tick_of network plan mark
 on_mark Waits network plan mark = wait_of plan mark
 on_mark Ways network plan mark = way_of plan mark

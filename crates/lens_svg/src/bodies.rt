@@ -51,7 +51,7 @@ fn struck_look(what: &What) -> Look
 }
 
 /// The device at which it happens.
-pub(crate) fn scene_of(network: &Network, body: &NoteBody) -> DeviceId
+pub fn scene_of(network: &Network, body: &NoteBody) -> DeviceId
     ensures { result ≡ scene_of network.now body.now }
 {
     match body {

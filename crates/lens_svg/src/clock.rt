@@ -7,7 +7,7 @@ ghost use Rattle.net_plan.specs.Ranges.{IsInRange};
 
 use crate::element::{Element, Point};
 use crate::lanes::{bottom_of, y_of};
-use crate::{Pen, Span};
+use crate::{Sketch, Span};
 use net_plan::{DeviceId, Network, What};
 use run_law::{Note, NoteBody};
 use std::alloc::Global;
@@ -215,9 +215,9 @@ fn nanos_of(units: u128) -> u64
 }
 
 /// How far the clock lies beyond the least, beside the last mark of its lane.
-fn gauge_at(network: &Network, pen: Pen, ends: Ends, told: Told) -> Element
+fn gauge_at(network: &Network, sketch: &Sketch, ends: Ends, told: Told) -> Element
     requires { IsInRange network.now }
-    ensures { result ≡ gauge_at network.now pen ends told }
+    ensures { result ≡ gauge_at network.now sketch.now ends told }
 {
     let beyond = told.apart(ends.least);
     let width = if beyond == 0 {
@@ -226,21 +226,21 @@ fn gauge_at(network: &Network, pen: Pen, ends: Ends, told: Told) -> Element
         share(50, beyond, ends.greatest.apart(ends.least))
     };
     let place = Point {
-        x: pen.most,
-        y: y_of(network, told.device),
+        x: sketch.pen().most,
+        y: y_of(network, sketch.kept(), told.device),
     };
     Element::Gauge(place, width, nanos_of(beyond))
 }
 
 /// How far the clocks are apart, below the names of the lanes.
-fn spread_at(network: &Network, ends: Ends) -> Element
+fn spread_at(network: &Network, sketch: &Sketch, ends: Ends) -> Element
     requires { IsInRange network.now }
-    ensures { result ≡ spread_at network.now ends }
+    ensures { result ≡ spread_at network.now sketch.now ends }
 {
     let apart = ends.greatest.apart(ends.least);
     let precision = u128::from(network.precision.0.unsigned_abs());
     Element::Spread(
-        bottom_of(network),
+        bottom_of(network, sketch.kept()),
         share(120, apart, precision),
         nanos_of(apart),
         nanos_of(precision),
@@ -310,29 +310,29 @@ impl Clocks {
     }
 }
 
-/// What is drawn of a clock, where the last instant is that of the pen: nothing of that of a broken device.
-pub fn gauge_of(network: &Network, pen: Pen, clocks: &Clocks, told: Told) -> Option<Element>
+/// What is drawn of a clock: nothing of that of a broken device, or of one without a lane.
+pub fn gauge_of(network: &Network, sketch: &Sketch, clocks: &Clocks, told: Told) -> Option<Element>
     requires { IsInRange network.now }
-    ensures value { result ≡ gauge_of network.now pen clocks.now told }
+    ensures value { result ≡ gauge_of network.now sketch.now clocks.now told }
     ensures names { IfSome result (HasNames network.now) }
 {
-    if clocks.is_broken(told.device) {
+    if clocks.is_broken(told.device) || !sketch.kept().shows(told.device.0 as usize) {
         return None;
     }
     match clocks.ends() {
-        Some(ends) => Some(gauge_at(network, pen, ends, told)),
+        Some(ends) => Some(gauge_at(network, sketch, ends, told)),
         None => None,
     }
 }
 
 /// How far the clocks are apart that were told, and how far they may be.
-pub fn spread_of(network: &Network, clocks: &Clocks) -> Option<Element>
+pub fn spread_of(network: &Network, sketch: &Sketch, clocks: &Clocks) -> Option<Element>
     requires { IsInRange network.now }
-    ensures value { result ≡ spread_of network.now clocks.now }
+    ensures value { result ≡ spread_of network.now sketch.now clocks.now }
     ensures names { IfSome result (HasNames network.now) }
 {
     match clocks.ends() {
-        Some(ends) => Some(spread_at(network, ends)),
+        Some(ends) => Some(spread_at(network, sketch, ends)),
         None => None,
     }
 }

@@ -1,22 +1,31 @@
 //! Which records of a run are drawn.
 ghost use Rattle.std.specs.Prelude.{◌≡◌};
-ghost use Rattle.lens_svg.specs.Views.{flag_at, is_kept, side_if};
+ghost use Rattle.lens_svg.specs.Views.{flag_at, is_kept, is_shown, side_if};
 
 use crate::layout::Side;
 use std::marker::Model;
 
-/// All records, or those whose numbers have this flag: the first flag is that of record 1.
+/// Some of the records and of the devices.
+#[derive(Drop)]
+pub struct Flags {
+    /// Of each record, from record 1 on, whether it is drawn.
+    pub records: Vec<bool>,
+    /// Of each device whether it has a lane.
+    pub lanes: Vec<bool>,
+}
+
+/// All records and devices, or those that have flags.
 #[derive(Drop)]
 pub struct Kept {
-    pub flags: Option<Vec<bool>>,
+    pub flags: Option<Flags>,
 }
 
 impl Model for Kept {
-    ghost use Rattle.std.specs.Prelude.{Bool, List, Option, option_map};
+    ghost use Rattle.{lens_svg.specs.Views.Choice, std.specs.Prelude.{Option, option_map}};
 
-    ghost Value = { Option (List Bool) };
+    ghost Value = { Option Choice };
 
-    ghost view = { λ k. option_map (λ v. v.items) k.flags };
+    ghost view = { λ k. option_map (λ f. record { records = f.records.items; lanes = f.lanes.items }) k.flags };
 }
 
 impl Kept {
@@ -26,7 +35,20 @@ impl Kept {
     {
         match &self.flags {
             None => true,
-            Some(flags) => flag_at(flags, number),
+            Some(flags) => flag_at(&flags.records, number),
+        }
+    }
+
+    /// Has the device at this place a lane?
+    pub(crate) fn shows(&self, place: usize) -> bool
+        ensures { result ≡ is_shown self.now place }
+    {
+        match &self.flags {
+            None => true,
+            Some(flags) => match flags.lanes.get(place) {
+                Some(flag) => *flag,
+                None => false,
+            },
         }
     }
 }

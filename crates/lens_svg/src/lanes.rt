@@ -1,9 +1,9 @@
 //! Where a device's lane is: the switches of channel a above, then the end systems, and those of channel b below.
-ghost use Rattle.std.specs.Prelude.{◌≡◌, ◌≤◌, ◌*◌, ◌^◌, length};
-ghost use Rattle.lens_svg.specs.Lanes.{above, beside, bottom_of, lane_of, rank_in, rank_of, start_of, y_of};
+ghost use Rattle.std.specs.Prelude.{◌≡◌, ◌≤◌, ◌^◌, length};
+ghost use Rattle.lens_svg.specs.{Lanes.{bottom_of, count_to, is_over, lane_of, rank_at, rank_in, start_of, y_of}, Views.is_shown};
 ghost use Rattle.net_plan.specs.Ranges.{IsInRange};
 
-use crate::Ground;
+use crate::{Ground, Kept};
 use net_plan::{Device, DeviceId, Network, Role};
 use tte_units::frames::Channel;
 
@@ -20,66 +20,69 @@ pub fn rank_in(channel: Option<Channel>, role: Role) -> u64
     }
 }
 
-/// How many devices are in a group above this one.
-fn above(devices: &[Device], rank: u64) -> u64
-    ensures value { result ≡ above rank devices.now }
-    ensures few { result ≤ length devices.now }
+/// The group of the device at the place.
+fn rank_at(devices: &[Device], place: usize) -> u64
+    ensures { result ≡ rank_at devices.now place }
 {
-    let mut count = 0;
-    'devices: for device in devices {
-        if rank_in(device.channel, device.role) < rank {
-            count += 1;
-        }
-    }
-    count
-}
-
-/// How many devices are in this group.
-fn beside(devices: &[Device], rank: u64) -> u64
-    ensures value { result ≡ beside rank devices.now }
-    ensures few { result ≤ length devices.now }
-{
-    let mut count = 0;
-    'devices: for device in devices {
-        if rank_in(device.channel, device.role) == rank {
-            count += 1;
-        }
-    }
-    count
-}
-
-/// Which lane is the device's, from 0 at the top.
-fn lane_of(network: &Network, device: DeviceId) -> u64
-    requires { IsInRange network.now }
-    ensures value { result ≡ lane_of network.now device }
-    ensures few { result ≤ 2 * length network.now.device }
-{
-    let devices = network.device.as_slice();
-    let place = device.0 as usize;
     match devices.get(place) {
-        Some(found) => {
-            let rank = rank_in(found.channel, found.role);
-            above(devices, rank) + beside(&devices[..place], rank)
-        }
+        Some(device) => rank_in(device.channel, device.role),
         None => 0,
     }
 }
 
-/// How far down the device's lane is.
-pub(crate) fn y_of(network: &Network, device: DeviceId) -> u64
-    requires { IsInRange network.now }
-    ensures { result ≡ y_of network.now device }
+/// Is the device at the first place above the one at the second?
+fn is_over(devices: &[Device], place: usize, other: usize) -> bool
+    ensures { result ≡ is_over devices.now place other }
 {
-    192 + 40 * lane_of(network, device)
+    let rank = rank_at(devices, place);
+    let beside = rank_at(devices, other);
+    rank < beside || rank == beside && place < other
+}
+
+/// Which lane is the device's, from 0 at the top.
+fn lane_of(network: &Network, kept: &Kept, device: DeviceId) -> u64
+    ensures value { result ≡ lane_of network.now kept.now device }
+    ensures few { result ≤ length network.now.device }
+{
+    let devices = network.device.as_slice();
+    let mut count = 0;
+    'places: for place in 0..devices.len() {
+        if kept.shows(place) && is_over(devices, place, device.0 as usize) {
+            count += 1;
+        }
+    }
+    count
+}
+
+/// How many devices have a lane.
+fn count_of_lanes(network: &Network, kept: &Kept) -> u64
+    ensures value { result ≡ count_to (is_shown kept.now) (length network.now.device) }
+    ensures few { result ≤ length network.now.device }
+{
+    let mut count = 0;
+    'places: for place in 0..network.device.as_slice().len() {
+        if kept.shows(place) {
+            count += 1;
+        }
+    }
+    count
+}
+
+/// How far down the device's lane is.
+pub(crate) fn y_of(network: &Network, kept: &Kept, device: DeviceId) -> u64
+    requires { IsInRange network.now }
+    ensures { result ≡ y_of network.now kept.now device }
+{
+    192 + 40 * lane_of(network, kept, device)
 }
 
 /// How far down the lanes end.
-pub(crate) fn bottom_of(network: &Network) -> u64
+pub(crate) fn bottom_of(network: &Network, kept: &Kept) -> u64
     requires { IsInRange network.now }
-    ensures value { result ≡ bottom_of network.now }
+    ensures value { result ≡ bottom_of network.now kept.now }
     ensures few { result ≤ 2 ^ 40 }
 {
-    172 + 40 * network.device.as_slice().len() as u64
+    172 + 40 * count_of_lanes(network, kept)
 }
 
 /// The ground of the device's lane where a run begins.

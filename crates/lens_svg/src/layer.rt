@@ -2,8 +2,8 @@
 ghost use Rattle.std.specs.Prelude.{◌≡◌, ◌<◌, IfSome, length};
 ghost use Rattle.{lens_svg.specs.Elements.HasNames, net_plan.specs.Ranges.IsInRange};
 ghost use Rattle.net_plan.specs.declared.network.Network.{Network as NetworkValue};
-ghost use Rattle.lens_svg.specs.Layers.{is_gone, lack_of, may_wait, on_lane, on_mark, opening_of, tick_of, turn_of};
-ghost use Rattle.lens_svg.specs.Layers.{wait_between, wait_of, way_of};
+ghost use Rattle.lens_svg.specs.Layers.{height_at, is_gone, lack_of, may_wait, of_lane, on_lane, on_mark, opening_of};
+ghost use Rattle.lens_svg.specs.Layers.{tick_of, turn_of, wait_between, wait_of, way_of};
 
 use crate::element::{Band, Element, Point};
 use crate::lanes::{bottom_of, y_of};
@@ -37,7 +37,10 @@ pub fn opening_of(network: &Network, sketch: &Sketch) -> Element
     requires { IsInRange network.now }
     ensures { result ≡ opening_of network.now sketch.now }
 {
-    Element::Opening(sketch.pen().right() + 20, bottom_of(network) + 70)
+    Element::Opening(
+        sketch.pen().right() + 20,
+        bottom_of(network, sketch.kept()) + 70,
+    )
 }
 
 /// That no record is drawn, where that is so.
@@ -52,7 +55,34 @@ pub fn lack_of(sketch: &Sketch) -> Option<Element>
     }
 }
 
-/// What is drawn of the device at this place.
+/// How far down the lane of the device at this place is.
+fn height_at(network: &Network, sketch: &Sketch, place: usize) -> u64
+    requires range { IsInRange network.now }
+    requires within { place < length network.now.device }
+    ensures { result ≡ height_at network.now sketch.now place }
+{
+    y_of(network, sketch.kept(), DeviceId(place as u32))
+}
+
+/// The ground or the line of the lane of the device at this place.
+fn of_lane(layer: LaneLayer, network: &Network, sketch: &Sketch, place: usize) -> Option<Element>
+    requires range { IsInRange network.now }
+    requires within { place < length network.now.device }
+    ensures value { result ≡ of_lane layer network.now sketch.now place }
+    ensures names { IfSome result (HasNames network.now) }
+{
+    let y = height_at(network, sketch, place);
+    let right = sketch.pen().right();
+    match layer {
+        LaneLayer::Grounds => match sketch.ground_at(place) {
+            Some(ground) => Some(Element::Bar(Band::Ground(ground), Point { x: 140, y }, right)),
+            None => None,
+        },
+        LaneLayer::Rails => Some(Element::Rail(DeviceId(place as u32), y, right)),
+    }
+}
+
+/// What is drawn of the device at this place: nothing where it has no lane.
 pub fn on_lane(
     layer: LaneLayer,
     network: &Network,
@@ -64,15 +94,10 @@ pub fn on_lane(
     ensures value { result ≡ on_lane layer network.now sketch.now place }
     ensures names { IfSome result (HasNames network.now) }
 {
-    let device = DeviceId(place as u32);
-    let y = y_of(network, device);
-    let right = sketch.pen().right();
-    match layer {
-        LaneLayer::Grounds => match sketch.ground_at(place) {
-            Some(ground) => Some(Element::Bar(Band::Ground(ground), Point { x: 140, y }, right)),
-            None => None,
-        },
-        LaneLayer::Rails => Some(Element::Rail(device, y, right)),
+    if sketch.kept().shows(place) {
+        of_lane(layer, network, sketch, place)
+    } else {
+        None
     }
 }
 
@@ -94,14 +119,14 @@ fn turn_of(sketch: &Sketch, mark: &Mark) -> Option<Element>
 }
 
 /// The instant of the mark, where that is its first.
-fn tick_of(network: &Network, mark: &Mark) -> Option<Element>
+fn tick_of(network: &Network, sketch: &Sketch, mark: &Mark) -> Option<Element>
     requires { IsInRange network.now }
-    ensures { result ≡ tick_of network.now mark.now }
+    ensures { result ≡ tick_of network.now sketch.now mark.now }
 {
     if mark.first {
         let place = Point {
             x: mark.x,
-            y: bottom_of(network),
+            y: bottom_of(network, sketch.kept()),
         };
         Some(Element::Tick(place, mark.time))
     } else {
@@ -190,7 +215,7 @@ pub fn on_mark(layer: MarkLayer, network: &Network, sketch: &Sketch, mark: &Mark
 {
     match layer {
         MarkLayer::Turns => turn_of(sketch, mark),
-        MarkLayer::Ticks => tick_of(network, mark),
+        MarkLayer::Ticks => tick_of(network, sketch, mark),
         MarkLayer::Waits => wait_of(sketch, mark),
         MarkLayer::Ways => way_of(sketch, mark),
     }

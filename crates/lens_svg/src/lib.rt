@@ -18,10 +18,10 @@ mod sketch;
 mod title;
 mod window;
 
-pub use bodies::seat_of;
+pub use bodies::{scene_of, seat_of};
 pub use clock::{Clocks, Ends, Told, gauge_of, spread_of};
 pub use element::{Band, Element, Point, make_element_line};
-pub use kept::{Kept, flag_at};
+pub use kept::{Flags, Kept, flag_at};
 pub use lanes::rank_in;
 pub use laws::{arrows_law, hues_law, lanes_law, order_law, title_law};
 pub use layer::{LaneLayer, MarkLayer, lack_of, on_lane, on_mark, opening_of};

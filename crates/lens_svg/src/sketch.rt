@@ -239,7 +239,7 @@ impl Sketch {
             first: self.last < pen.x,
             seat,
             device,
-            y: y_of(network, device),
+            y: y_of(network, &self.kept, device),
             cause,
             linked: self.mark_at(cause).is_some(),
             hue: self.hue_of(&note.body),
@@ -293,6 +293,13 @@ impl Sketch {
         ensures { result ≡ self.now.view.span }
     {
         self.span
+    }
+
+    /// Which records and devices are drawn.
+    pub(crate) fn kept(&self) -> &Kept
+        ensures { result.now ≡ self.now.view.kept }
+    {
+        &self.kept
     }
 
     /// The name of the picture.

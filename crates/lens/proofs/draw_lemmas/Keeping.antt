@@ -152,7 +152,7 @@ own_more network subject octets ns before note flags named next so =
 
 -- ---- one more flag
 
-with_long : (flags : List Bool) (number : ℕ) → length (with_flag flags number) ≡ length flags
+pub with_long : (flags : List Bool) (number : ℕ) → length (with_flag flags number) ≡ length flags
 with_long flags zero = refl
 with_long flags (suc i) = by (nat_lt i (length flags)) refl
   where
@@ -160,14 +160,14 @@ with_long flags (suc i) = by (nat_lt i (length flags)) refl
     by true e = ap (λ (c : Bool). length (if c then slice_set flags i true else flags)) e ∙ length-set flags i true
     by false e = ap (λ (c : Bool). length (if c then slice_set flags i true else flags)) e
 
-with_same : (flags : List Bool) (i : ℕ) → i < length flags → unwrap_or (slice_get (with_at flags i true) i) false ≡ true
+pub with_same : (flags : List Bool) (i : ℕ) → i < length flags → unwrap_or (slice_get (with_at flags i true) i) false ≡ true
 with_same flags i within =
     let test : nat_lt i (length flags) ≡ true = grind (arith, nat_tests, within) in
     ap (λ (b : Bool). unwrap_or (slice_get (if b then slice_set flags i true else flags) i) false) test
     ∙ unwrap_or-slice_get (slice_set flags i true) i false
     ∙ get_or-set_same flags i true false within
 
-with_other : (flags : List Bool) (i k : ℕ) → (k ≡ i → ⊥)
+pub with_other : (flags : List Bool) (i k : ℕ) → (k ≡ i → ⊥)
     → unwrap_or (slice_get (with_at flags i true) k) false ≡ unwrap_or (slice_get flags k) false
 with_other flags i k apart = by (nat_lt i (length flags)) refl
   where

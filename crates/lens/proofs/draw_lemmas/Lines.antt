@@ -87,9 +87,9 @@ module _ (network : Network) (view : View) (notes : List Note) where
   window_line came of = has_line network lines (box_of came) (λ a i. in_layer layers.Windows 16 refl a
       (in_flat (λ c. some_line network (box_of c)) windows came a of i))
 
-  gauge_line : (told : Told) → IsIn told (clocks_in view.span notes).told → HasLineOf network lines (gauge_of network plan.pen (clocks_in view.span notes) told)
-  gauge_line told of = has_line network lines (gauge_of network plan.pen (clocks_in view.span notes) told) (λ a i. in_layer layers.Gauges 17 refl a
-      (in_flat (λ t. some_line network (gauge_of network plan.pen (clocks_in view.span notes) t)) (clocks_in view.span notes).told told a of i))
+  gauge_line : (told : Told) → IsIn told (clocks_in view.span notes).told → HasLineOf network lines (gauge_of network plan (clocks_in view.span notes) told)
+  gauge_line told of = has_line network lines (gauge_of network plan (clocks_in view.span notes) told) (λ a i. in_layer layers.Gauges 17 refl a
+      (in_flat (λ t. some_line network (gauge_of network plan (clocks_in view.span notes) t)) (clocks_in view.span notes).told told a of i))
 
 pub pictures_draw_plans : PicturesDrawPlans
 pictures_draw_plans network view notes = record {
@@ -97,7 +97,7 @@ pictures_draw_plans network view notes = record {
   marks = mark_element network view notes;
   windows = window_line network view notes;
   gauges = gauge_line network view notes;
-  spread = has_line network (picture_lines network view notes) (spread_of network (clocks_in view.span notes))
+  spread = has_line network (picture_lines network view notes) (spread_of network (plan_of network view notes) (clocks_in view.span notes))
       (λ a i. in_layer network view notes layers.Spread 18 refl a i);
   title = subst (λ (v : View). IsIn (title_line v.title) (picture_lines network view notes)) (view_behind network (begun network view) notes)
       (in_layer network view notes layers.Title 1 refl (title_line (plan_of network view notes).view.title) (inl refl));

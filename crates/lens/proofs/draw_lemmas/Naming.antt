@@ -1,11 +1,11 @@
 -- What is answered where a name is given: how, safely, to its end, and once.
-use Rattle.lens.specs.{Limit.report_limit, draw.Keeping.{AreFlags, IsKept, Tells}}
-use Rattle.lens.specs.draw.Naming.{AnswersNamed, CompletesNamed, IsKeptAnswer, IsNamedAnswer, IsNamedStatus, IsUnknown, LeavesNamed, LeavesUnnamed, Names, unknown_answer}
+use Rattle.lens.specs.{Limit.report_limit, draw.Keeping.{AreFlags, AreLanes, IsKept, StandsIn, Tells}}
+use Rattle.lens.specs.draw.Naming.{AnswersNamed, CompletesNamed, IsKeptAnswer, IsNamedAnswer, IsNamedStatus, IsUnknown, LeavesNamed, LeavesUnnamed, Names, unknown_answer, view_of}
 use Rattle.lens.specs.{declared.{draw.subject.Subject.{Subject, TheVariants.{Frames, Lane}}, forms.Part.Part}, draw.{Answer.draw_answer, Spans.span_of}}
-use Rattle.{lens_svg.specs.{Titles.title_of, Views.flag_at}, schedule_checker.specs.Refusals.RefusalIsOne}
+use Rattle.{lens_svg.specs.{Views.flag_at, declared.layout.Span.Span}, schedule_checker.specs.Refusals.RefusalIsOne}
 use Rattle.net_plan.specs.{Bearers.{IsFirstBearer, device_names, vl_names}, declared.network.Network.Network}
 use Rattle.net_plan.specs.declared.ids.{DeviceId.DeviceId, VlId.VlId}
-use Rattle.run_law.specs.{declared.note.Note.Note, records.Happenings.{Happening, happenings}}
+use Rattle.run_law.specs.{declared.note.Note.Note, records.{Happenings.{Happening, happenings}, Order.IsIn}}
 use Rattle.std.proofs.Common.{◌<◌, ◌∙◌, ◌∷◌, ◌≡◌, ◌≤◌, ◌⊎◌, Bool, List, None, Ok, Option, Result, Some, [], ap, arith, false, inl, inr, length, refl, subst, suc, sym, true, zero, ℕ}
 use Rattle.std.{proofs.lemmas.Bool.cases_lt, specs.Prelude.{slice_get, unwrap_or}}
 use Rattle.tte_forms.proofs.{Octets.{for_all, for_more}, OneAnswers.answer_widened, networks.Answers.{accepted_alone, network_answer_one}}
@@ -83,10 +83,26 @@ one_flags network subject hs xs ys p q =
     let at = there_at hs i (omega (arith, within, first)) in
     tells_same (flag_at xs (suc i)) (flag_at ys (suc i)) (IsKept network subject hs at.0) (p.each (suc i) at.0 at.1) (q.each (suc i) at.0 at.1))
 
+one_lanes : (network : Network) (span : Span) (records : List Bool) (ns : List Note) (xs ys : List Bool) → AreLanes network span records ns xs
+    → AreLanes network span records ns ys → xs ≡ ys
+one_lanes network span records ns xs ys p q =
+    let first = p.count in
+    let second = q.count in
+    bools_same xs ys (omega (arith, first, second)) (λ i within.
+    let inside : i < length network.device = omega (arith, within, first) in
+    tells_same (unwrap_or (slice_get xs i) false) (unwrap_or (slice_get ys i) false)
+    ((note : Note) × IsIn note ns × StandsIn network span records note i) (p.each i inside) (q.each i inside))
+
 kept_one : (words : List (List ℕ)) (part : Part) (subject : Subject) → IsOneFor (IsKeptAnswer words part subject)
 kept_one words part subject network octets ns end a b rules of p q =
-    let same = one_flags network subject (happenings network ns) p.flags q.flags p.are q.are in
-    p.is ∙ ap (λ (flags : List Bool). draw_answer network (record { span = span_of network part; kept = Some flags; title = title_of words }) ns) same ∙ sym q.is
+    let span = span_of network part in
+    let records = one_flags network subject (happenings network ns) p.records q.records p.are_kept q.are_kept in
+    let lanes = one_lanes network span q.records ns p.lanes q.lanes
+    (subst (λ (rs : List Bool). AreLanes network span rs ns p.lanes) records p.are_lanes) q.are_lanes in
+    p.is
+    ∙ ap (λ (rs : List Bool). draw_answer network (view_of words span rs p.lanes) ns) records
+    ∙ ap (λ (ls : List Bool). draw_answer network (view_of words span q.records ls) ns) lanes
+    ∙ sym q.is
 
 -- ---- how it is given
 

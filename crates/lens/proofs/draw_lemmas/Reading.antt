@@ -87,9 +87,9 @@ none_layer network plan windows clocks (layers.Marks layer) =
     none_flat (λ mark. some_line network (on_mark layer network plan mark)) (λ mark. none_some network (on_mark layer network plan mark)) plan.marks
 none_layer network plan windows clocks layers.Windows = none_flat (λ came. some_line network (box_of came)) (λ came. none_some network (box_of came)) windows
 none_layer network plan windows clocks layers.Gauges =
-    none_flat (λ told. some_line network (gauge_of network plan.pen clocks told)) (λ told. none_some network (gauge_of network plan.pen clocks told))
+    none_flat (λ told. some_line network (gauge_of network plan clocks told)) (λ told. none_some network (gauge_of network plan clocks told))
     clocks.told
-none_layer network plan windows clocks layers.Spread = none_some network (spread_of network clocks)
+none_layer network plan windows clocks layers.Spread = none_some network (spread_of network plan clocks)
 none_layer network plan windows clocks layers.Lack = none_some network (lack_of plan)
 
 none_front : (network : Network) (plan : Plan) (windows : List Came) (clocks : Clocks) → NoneMarks (front_lines network plan windows clocks)

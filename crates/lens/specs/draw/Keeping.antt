@@ -1,8 +1,8 @@
 -- What a picture of one thing keeps.
 use Rattle.std.specs.{Option.option_map_or, Prelude.{suc, zero, ℕ, ◌+◌, ◌==◌, ◌||◌, ◌≡◌, Bool, List, Some, false}}
-use Rattle.std.specs.Prelude.{if◌then◌else◌, length, true}
+use Rattle.std.specs.Prelude.{◌<◌, if◌then◌else◌, length, slice_get, true, unwrap_or}
 use Rattle.lens.specs.declared.draw.subject.Subject.{Subject, TheVariants.{Frames, Lane}}
-use Rattle.lens_svg.specs.{Bodies.seat_of, Sketching.with_at, Views.flag_at}
+use Rattle.lens_svg.specs.{Bodies.{scene_of, seat_of}, Layout.holds, Sketching.{moment, with_at}, Views.flag_at, declared.layout.Span.Span}
 use Rattle.net_plan.specs.declared.{ids.VlId.VlId, network.Network.Network}
 use Rattle.run_law.specs.{declared.note.{Note.Note, NoteBody.NoteBody}, records.Order.IsIn}
 use Rattle.run_law.specs.records.{Causes.{GoesBackTo, cause_of}, Happenings.{Happening, happenings, numbered}}
@@ -43,6 +43,19 @@ pub record AreFlags (network : Network) (subject : Subject) (hs : List Happening
   pub count : length flags ≡ length hs
   pub each : (number : ℕ) (h : Happening) → numbered hs number ≡ Some h
       → Tells (flag_at flags number) (IsKept network subject hs h)
+
+-- the record lies in the span, has a flag, and stands in the lane of the device at the place
+pub record StandsIn (network : Network) (span : Span) (records : List Bool) (note : Note) (place : ℕ) : Type 0 where
+  pub within : holds span (moment note) ≡ true
+  pub kept : flag_at records note.number ≡ true
+  pub at : (scene_of network note.body).0 ≡ place
+
+-- there is a flag for each device, which says whether one of the records stands in its lane
+pub record AreLanes (network : Network) (span : Span) (records : List Bool) (ns : List Note) (lanes : List Bool)
+    : Type 0 where
+  pub count : length lanes ≡ length network.device
+  pub each : (place : ℕ) → place < length network.device
+      → Tells (unwrap_or (slice_get lanes place) false) ((note : Note) × IsIn note ns × StandsIn network span records note place)
 
 -- ---- how they are found
 

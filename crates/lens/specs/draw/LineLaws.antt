@@ -25,11 +25,11 @@ pub record DrawsPlan (network : Network) (view : View) (notes : List Note) : Typ
   pub windows : (came : Came) → IsIn came (windows_of network view notes)
       → HasLineOf network (picture_lines network view notes) (box_of came)
   pub gauges : (told : Told) → IsIn told (clocks_in view.span notes).told → HasLineOf network (picture_lines network view notes)
-      (gauge_of network (plan_of network view notes).pen (clocks_in view.span notes) told)
+      (gauge_of network (plan_of network view notes) (clocks_in view.span notes) told)
   pub lack : HasLineOf network (picture_lines network view notes) (lack_of (plan_of network view notes))
   pub title : IsIn (title_line view.title) (picture_lines network view notes)
   pub heading : IsIn (heading_line view.title) (picture_lines network view notes)
-  pub spread : HasLineOf network (picture_lines network view notes) (spread_of network (clocks_in view.span notes))
+  pub spread : HasLineOf network (picture_lines network view notes) (spread_of network (plan_of network view notes) (clocks_in view.span notes))
 
 -- these are the lines of the marks of records, one after another, each where its mark stands
 abbrev pub AreMarkLines : Network → List (List ℕ) → List Mark → List Note → Type 0

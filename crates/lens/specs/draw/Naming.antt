@@ -1,7 +1,7 @@
 -- What `draw` answers where a name is given.
 use Rattle.std.specs.Prelude.{◌≡◌, ◌≤◌, ◌⊎◌, Bool, List, None, Option, Some, codes, length, ℕ}
-use Rattle.lens.specs.{declared.{draw.subject.Subject.{Subject, TheVariants.{Frames, Lane}}, forms.Part.Part}, draw.Keeping.AreFlags}
-use Rattle.{lens.specs.{Limit.report_limit, draw.{Answer.IsViewAnswer, Spans.span_of}}, lens_svg.specs.Titles.title_of}
+use Rattle.lens.specs.{declared.{draw.subject.Subject.{Subject, TheVariants.{Frames, Lane}}, forms.Part.Part}, draw.Keeping.{AreFlags, AreLanes}}
+use Rattle.{lens.specs.{Limit.report_limit, draw.{Answer.IsViewAnswer, Spans.span_of}}, lens_svg.specs.{Titles.title_of, Views.View, declared.layout.Span.Span}}
 use Rattle.net_plan.specs.Bearers.{HasNoBearer, IsFirstBearer, device_names, vl_names}
 use Rattle.net_plan.specs.declared.network.Network.{Network}
 use Rattle.run_law.specs.{declared.note.Note.Note, records.Happenings.happenings}
@@ -27,12 +27,19 @@ name_line = codes "refused name 1\n"
 abbrev pub unknown_answer : Answer
 unknown_answer = line_answer NameRefused name_line
 
--- the answer for the records of a report: the picture of those in the part that are kept
+-- of the span these records and lanes are drawn, under the title that the words make
+abbrev pub view_of : List (List ℕ) → Span → List Bool → List Bool → View
+view_of words span records lanes =
+    record { span = span; kept = Some (record { records = records; lanes = lanes }); title = title_of words }
+
+-- the answer for the records of a report: the picture of those in the part that are kept, in their lanes
 pub record IsKeptAnswer (words : List (List ℕ)) (part : Part) (subject : Subject) (network : Network) (ns : List Note)
     (end : Units) (a : Answer) : Type 0 where
-  pub flags : List Bool
-  pub are : AreFlags network subject (happenings network ns) flags
-  pub is : IsViewAnswer (record { span = span_of network part; kept = Some flags; title = title_of words }) network ns end a
+  pub records : List Bool
+  pub lanes : List Bool
+  pub are_kept : AreFlags network subject (happenings network ns) records
+  pub are_lanes : AreLanes network (span_of network part) records ns lanes
+  pub is : IsViewAnswer (view_of words (span_of network part) records lanes) network ns end a
 
 -- the answer for an accepted network and the octets of a report, of which the name may be unknown
 abbrev pub IsNamedAnswer : List (List ℕ) → Part → List ℕ → List ℕ → Network → Answer → Type 0

@@ -11,7 +11,7 @@ use Rattle.lens_svg.specs.{Clocks.{Clocks, clocks_in, gauge_of, spread_of}, Laye
 use Rattle.{lens_svg.specs.{Elements.element_line, Plan.Plan}, run_law.specs.declared.note.Note.Note}
 use Rattle.lens_svg.specs.{Marking.mark_line, Titles.{heading_line, title_line}, Views.View, declared.mark.Mark.Mark}
 use Rattle.lens_svg.specs.Windows.{box_of, windows_in}
-use Rattle.lens_svg.specs.{Sketching.{is_drawn, plan_of}, declared.{layout.Pen.Pen, window.Came.Came}}
+use Rattle.lens_svg.specs.{Sketching.{is_drawn, plan_of}, declared.window.Came.Came}
 use Rattle.lens_svg.specs.declared.{element.Element.Element, layer.{LaneLayer.LaneLayer, MarkLayer.MarkLayer}}
 use Rattle.{audit_sweep.specs.Indexing.clock_at, tte_audit.specs.Report.scenario_of}
 use Rattle.net_plan.specs.declared.{ids.DeviceId.DeviceId, network.Network.Network}
@@ -37,8 +37,8 @@ abbrev pub marks_lines : Network → Plan → MarkLayer → List (List ℕ)
 marks_lines network plan layer = flat_map (λ mark. some_line network (on_mark layer network plan mark)) plan.marks
 
 -- each clock that is told
-abbrev pub gauges_lines : Network → Pen → Clocks → List (List ℕ)
-gauges_lines network pen clocks = flat_map (λ told. some_line network (gauge_of network pen clocks told)) clocks.told
+abbrev pub gauges_lines : Network → Plan → Clocks → List (List ℕ)
+gauges_lines network plan clocks = flat_map (λ told. some_line network (gauge_of network plan clocks told)) clocks.told
 
 -- each window of a frame that was taken
 abbrev pub windows_lines : Network → List Came → List (List ℕ)
@@ -54,8 +54,8 @@ layer_lines network plan windows clocks Caption = element_line network (elements
 layer_lines network plan windows clocks (Lanes layer) = lanes_lines network plan layer
 layer_lines network plan windows clocks (Marks layer) = marks_lines network plan layer
 layer_lines network plan windows clocks Windows = windows_lines network windows
-layer_lines network plan windows clocks Gauges = gauges_lines network plan.pen clocks
-layer_lines network plan windows clocks Spread = some_line network (spread_of network clocks)
+layer_lines network plan windows clocks Gauges = gauges_lines network plan clocks
+layer_lines network plan windows clocks Spread = some_line network (spread_of network plan clocks)
 layer_lines network plan windows clocks Lack = some_line network (lack_of plan)
 
 -- the parts below the marks, in their order

@@ -1,6 +1,7 @@
 //! Which records a picture of one thing keeps, as flags.
-ghost use Rattle.std.specs.Prelude.{◌++◌, ◌∷◌, ◌≡◌, IfOk, List, OnOk, []};
-ghost use Rattle.lens.specs.draw.Keeping.{AreFlags, AreOwn, cause_at, passed_on, with_flag};
+ghost use Rattle.std.specs.Prelude.{◌&&◌, ◌++◌, ◌∷◌, ◌≡◌, IfOk, List, OnOk, [], false, if◌then◌else◌, map, true};
+ghost use Rattle.lens.specs.draw.Keeping.{AreFlags, AreLanes, AreOwn, cause_at, passed_on, with_flag};
+ghost use Rattle.lens_svg.specs.{Layout.holds, Sketching.{moment, with_at}, Views.flag_at};
 ghost use Rattle.run_law.specs.{declared.note.Note.{Note as NoteValue}, records.Happenings.happenings};
 ghost use Rattle.{tte_audit.specs.Named.IsNamed, tte_units.specs.declared.units.Units.{Units as UnitsValue}};
 ghost use Rattle.lens.specs.declared.draw.subject.Subject.{Subject as SubjectValue};
@@ -8,8 +9,8 @@ ghost use Rattle.tte_reports.specs.{Commands.IsRead, Reports.{IsReportOf, IsSome
 
 use crate::draw::subject::{Subject, own_flag};
 use audit_sweep::unpaid::cause_of;
-use lens_svg::flag_at;
-use net_plan::Network;
+use lens_svg::{Flags, Span, flag_at, scene_of};
+use net_plan::{Device, DeviceId, Network};
 use run_law::Note;
 use std::alloc::Global;
 use tte_io::OutOfMemory;
@@ -61,6 +62,80 @@ fn own_flags(
     };
     take_records(report, network, &mut own)?;
     Ok(own.flags)
+}
+
+/// Which lanes the records so far stand in that are drawn.
+#[derive(Drop)]
+struct Stood {
+    span: Span,
+    records: Vec<bool>,
+    lanes: Vec<bool>,
+}
+
+impl RecordTaker for Stood {
+    ghost holds = { λ network notes before begun stood. (stood.span ≡ begun.span) × (stood.records.items ≡ begun.records.items)
+        × AreLanes network begun.span begun.records.items before stood.lanes.items };
+
+    fn take(&mut self, network: &Network, note: &Note) -> Result<(), OutOfMemory> {
+        let drawn = is_drawn(self.span, self.records.as_slice(), note);
+        set_lane(&mut self.lanes, drawn, scene_of(network, &note.body));
+        Ok(())
+    }
+}
+
+/// Does the record lie in the span, and has it a flag?
+fn is_drawn(span: Span, records: &[bool], note: &Note) -> bool
+    ensures { result ≡ (holds span (moment note.now) && flag_at records.now note.now.number) }
+{
+    span.holds(note.time.0.unsigned_abs()) && flag_at(records, note.number)
+}
+
+/// Flags the device where a record in its lane is drawn.
+fn set_lane(lanes: &mut Vec<bool>, drawn: bool, device: DeviceId)
+    ensures { lanes.new.items ≡ (if drawn then with_at lanes.old.items device.0 true else lanes.old.items) }
+{
+    let place = device.0 as usize;
+    if drawn && place < lanes.len() {
+        lanes[place] = true;
+    }
+}
+
+/// No device has a flag.
+fn no_lanes(alloc: Global, devices: &[Device]) -> Result<Vec<bool>, OutOfMemory>
+    ensures { IfOk result (λ lanes. lanes.items ≡ map (λ d. false) devices.now) }
+{
+    let mut lanes = Vec::new(alloc);
+    'devices: for _device in devices {
+        push_flag(&mut lanes, false)?;
+    }
+    Ok(lanes)
+}
+
+/// Which lanes a picture has of these records in the span.
+pub(crate) fn flags_with_lanes(
+    alloc: Global,
+    network: &Network,
+    report: &AuditedReport,
+    span: Span,
+    records: Vec<bool>,
+) -> Result<Flags, OutOfMemory>
+    requires named { IsNamed network.now }
+    requires report { IsSomeReport network.now report.now.octets }
+    ensures { IfOk result (λ flags. (notes : List NoteValue) (end : UnitsValue)
+        → IsReportOf network.now report.now.octets notes end
+        → (flags.records.items ≡ records.items) × AreLanes network.now span records.items notes flags.lanes.items) }
+{
+    let lanes = no_lanes(alloc, network.device.as_slice())?;
+    let mut stood = Stood {
+        span,
+        records,
+        lanes,
+    };
+    take_records(report, network, &mut stood)?;
+    Ok(Flags {
+        records: stood.records,
+        lanes: stood.lanes,
+    })
 }
 
 /// Flags the record of this number.

@@ -11,7 +11,7 @@ ghost use Rattle.tte_reports.specs.Reading.{ReadsReport, TakesReport};
 ghost use Rattle.tte_units.specs.declared.units.Units.{Units as UnitsValue};
 
 use crate::draw::drawing::draw_known;
-use crate::draw::flags::kept_flags;
+use crate::draw::flags::{flags_with_lanes, kept_flags};
 use crate::draw::spans::span_of;
 use crate::draw::subject::{Subject, subject_named};
 use crate::forms::Part;
@@ -71,11 +71,15 @@ fn draw_kept<K: Sink>(
     ensures statuses { IsAuditStatus result }
     ensures cause { HasCause result ⊥ (PutFailed K.Sink out.old out.new) }
 {
-    let flags = match kept_flags(alloc, network, report, subject) {
-        Ok(flags) => flags,
+    let records = match kept_flags(alloc, network, report, subject) {
+        Ok(records) => records,
         Err(_) => return Status::OutOfMemory,
     };
     let span = span_of(network, part);
+    let flags = match flags_with_lanes(alloc, network, report, span, records) {
+        Ok(flags) => flags,
+        Err(_) => return Status::OutOfMemory,
+    };
     let kept = Kept { flags: Some(flags) };
     let title = Title::of(words);
     draw_known(alloc, network, report, span, kept, title, out)

@@ -7,7 +7,7 @@ ghost use Rattle.{lens_svg.specs.Titles.{heading_line, title_line}, tte_forms.sp
 
 use crate::draw::signs::Sign;
 use lens_svg::{
-    Came, Clocks, Element, LaneLayer, MarkLayer, Pen, Sketch, gauge_of, lack_of, make_element_line,
+    Came, Clocks, Element, LaneLayer, MarkLayer, Sketch, gauge_of, lack_of, make_element_line,
     make_heading_line, make_title_line, on_lane, on_mark, opening_of, spread_of,
 };
 use net_plan::Network;
@@ -184,22 +184,22 @@ fn put_windows<K: Sink>(
     Ok(())
 }
 
-/// Puts each clock that is told, where the last instant is that of the pen.
+/// Puts each clock that is told.
 fn put_gauges<K: Sink>(
     network: &Network,
-    pen: Pen,
+    sketch: &Sketch,
     clocks: &Clocks,
     line: &mut LineText,
     out: &mut K,
 ) -> Result<(), SinkFailed>
     requires { IsInRange network.now }
-    ensures draws { Over K.Sink out.old out.new (Draws (gauges_lines network.now pen clocks.now) result) }
+    ensures draws { Over K.Sink out.old out.new (Draws (gauges_lines network.now sketch.now clocks.now) result) }
     ensures faults { MatchResult result (λ _. K.faults out.new ≡ K.faults out.old)
         (λ _. PutFailed K.Sink out.old out.new) }
 {
     let told = clocks.told();
     'clocks: for clock in told {
-        let element = gauge_of(network, pen, clocks, *clock);
+        let element = gauge_of(network, sketch, clocks, *clock);
         match put_some(network, element, line, out) {
             Ok(()) => (),
             Err(cause) => return Err(cause),
@@ -237,8 +237,8 @@ fn put_layer<K: Sink>(
         Layer::Lanes(layer) => put_lanes(network, sketch, layer, line, out),
         Layer::Marks(layer) => put_marks(network, sketch, layer, line, out),
         Layer::Windows => put_windows(network, windows, line, out),
-        Layer::Gauges => put_gauges(network, sketch.pen(), clocks, line, out),
-        Layer::Spread => put_some(network, spread_of(network, clocks), line, out),
+        Layer::Gauges => put_gauges(network, sketch, clocks, line, out),
+        Layer::Spread => put_some(network, spread_of(network, sketch, clocks), line, out),
         Layer::Lack => put_some(network, lack_of(sketch), line, out),
     }
 }

@@ -6,11 +6,11 @@ pub clocks-preserved : goal.clocks-preserved
 clocks-preserved g c =
     let shown = shown_by g.K.Sink in
     let network = c.args.network.now in
-    let pen = c.args.pen in
+    let plan = c.args.sketch.now in
     let clocks = c.args.clocks.now in
     record {
       puts =
-          listed_more (λ told. some_line network (gauge_of network pen clocks told)) clocks.told c.told-told.result.now c.told-told.ensures
+          listed_more (λ told. some_line network (gauge_of network plan clocks told)) clocks.told c.told-told.result.now c.told-told.ensures
           c.clocks.clock-index c.clocks-test.true _ (shown c.args.out.now) (shown c.clocks.out) (shown c.put_some.new.out) c.clocks.invariant.puts
           (subst (λ (e : Option Element). PutsLines (some_line network e) (shown c.clocks.out) (shown c.put_some.new.out)) c.gauge_of-element.ensures.value
           c.in-Ok.ensures.draws);
@@ -21,9 +21,9 @@ pub returns-in-Err-clause-draws : goal.returns-in-Err-clause-draws
 returns-in-Err-clause-draws g c =
     let shown = shown_by g.K.Sink in
     let network = c.args.network.now in
-    let pen = c.args.pen in
+    let plan = c.args.sketch.now in
     let clocks = c.args.clocks.now in
-    listed_fails (λ told. some_line network (gauge_of network pen clocks told)) clocks.told c.told-told.result.now c.told-told.ensures
+    listed_fails (λ told. some_line network (gauge_of network plan clocks told)) clocks.told c.told-told.result.now c.told-told.ensures
     c.clocks.clock-index c.clocks-test.true _ (shown c.args.out.now) (shown c.clocks.out) (shown c.put_some.new.out) c.clocks.invariant.puts
     (subst (λ (e : Option Element). PutFails (some_line network e) (shown c.clocks.out) (shown c.put_some.new.out)) c.gauge_of-element.ensures.value
     c.in-Err.ensures.draws)
