@@ -1,9 +1,9 @@
 -- The records of an act are those of the law, and are put in.
-use Rattle.{drift_world.proofs.HiddenCauses.InOrder, run_law.specs.{declared.steps.Ripe.Ripe, machines.Nodes.dispatching, timed.Dispatching.HasAtHand}}
+use Rattle.{drift_world.proofs.Rising.InOrder, run_law.specs.{declared.steps.Ripe.Ripe, machines.Nodes.dispatching, timed.Dispatching.HasAtHand}}
 use Rattle.{drift_world.proofs.Puts.{is_put_in, order_put}, run_law.specs.machines.Tasks.{IsFirstTask, doing}, world_law.specs.world.World.{AreStored, Stored}}
-use Rattle.drift_world.proofs.Words.{◌++◌, ◌==◌, ◌∙◌, ◌∷◌, ◌≡◌, ◌≤◌, ArePutIn, Bool, DeviceId, Happening, HasItsOctets, Holding, IsIn, IsSomePut}
+use Rattle.drift_world.proofs.Words.{◌++◌, ◌+◌, ◌==◌, ◌∙◌, ◌∷◌, ◌≡◌, ◌≤◌, ArePutIn, Bool, DeviceId, Happening, HasItsOctets, Holding, IsIn, IsSomePut}
 use Rattle.drift_world.proofs.Words.{Joining, List, Network, Node, None, Off, Option, Scenario, Settled, Some, Units, [], ap, arith, false}
-use Rattle.drift_world.proofs.Words.{if◌then◌else◌, inl, inr, is_cut, map, moment_of, octets_from, octets_of}
+use Rattle.drift_world.proofs.Words.{if◌then◌else◌, inl, inr, is_cut, length, map, moment_of, octets_from, octets_of}
 use Rattle.drift_world.proofs.Words.{rank, refl, settled_as, settled_at, slice_get_within, stored_as, subst, sym, true, way_from, ℕ}
 use Rattle.{net_plan.specs.declared.ids.RowId.RowId, run_law.specs.{machines.Answers.IsActOf, records.Frames.tt_frame}, world_law.proofs.rows.AtHand.sender_or}
 use Rattle.{run_law.{specs.declared.steps.Act.Act}, schedule_tables.specs.Entries.IsEntry, world_law.specs.world.Moves.IsPutIn}
@@ -71,34 +71,38 @@ pub record AreProper (s : Scenario) (hs : List Happening) (now : ℕ) (device : 
 
 -- ---- frames of control
 
-joining : (device : DeviceId) (heard : Ripe) → body_of (joined_by device heard) ≡ joining_bodies device heard
-joining device ripe.Opened = refl
-joining device other = refl
+joining : (number : ℕ) (device : DeviceId) (heard : Ripe) → body_of (joined_by number device heard) ≡ joining_bodies number device heard
+joining number device ripe.Opened = refl
+joining number device other = refl
 
-joining_own : (network : Network) (now : ℕ) (hs : List Happening) (device : DeviceId) (heard : Ripe) → IsOwn network network now hs (joined_by device heard)
-joining_own network now hs device ripe.Integrates = refl
-joining_own network now hs device other = tt
+joining_own : (network : Network) (now : ℕ) (hs : List Happening) (number : ℕ) (device : DeviceId) (heard : Ripe)
+    → IsOwn network network now hs (joined_by number device heard)
+joining_own network now hs number device ripe.Integrates = refl
+joining_own network now hs number device other = tt
 
-joining_fine : (device : DeviceId) (heard : Ripe) → IsFine 7 (joined_by device heard)
-joining_fine device ripe.Integrates = (tt, omega arith)
-joining_fine device other = tt
+joining_fine : (number : ℕ) (device : DeviceId) (heard : Ripe) → IsFine 7 (joined_by number device heard)
+joining_fine number device ripe.Integrates = (tt, omega arith)
+joining_fine number device other = tt
 
 -- ---- corrections
 
-first_is : (device : DeviceId) (was : Standing) → body_of (first_by device was) ≡ first_bodies device was
-first_is device Off = refl
-first_is device other = refl
+first_is : (number : ℕ) (device : DeviceId) (was : Standing) → body_of (first_by number device was) ≡ first_bodies number device was
+first_is number device Off = refl
+first_is number device other = refl
 
-first_own : (network : Network) (now : ℕ) (hs : List Happening) (device : DeviceId) (was : Standing) → IsOwn network network now hs (first_by device was)
-first_own network now hs device Joining = refl
-first_own network now hs device other = tt
+first_own : (network : Network) (now : ℕ) (hs : List Happening) (number : ℕ) (device : DeviceId) (was : Standing)
+    → IsOwn network network now hs (first_by number device was)
+first_own network now hs number device Joining = refl
+first_own network now hs number device other = tt
 
-first_fine : (device : DeviceId) (was : Standing) → IsFine 7 (first_by device was)
-first_fine device Joining = (tt, omega arith)
-first_fine device other = tt
+first_fine : (number : ℕ) (device : DeviceId) (was : Standing) → IsFine 7 (first_by number device was)
+first_fine number device Joining = (tt, omega arith)
+first_fine number device other = tt
 
-of_correction : (s : Scenario) (hs : List Happening) (now : ℕ) (device : DeviceId) (was : Standing) (adjustment : Units) (cycle : ℕ) (verdict : Verdict)
-    → AreProper s hs now device was adjustment (acts.Correct cycle verdict) (corrected_by device was cycle adjustment verdict)
+of_correction : (s : Scenario) (hs : List Happening) (now : ℕ) (device : DeviceId) (was : Standing) (adjustment : Units) (cycle : ℕ)
+    (verdict : Verdict)
+    → AreProper s hs now device was adjustment (acts.Correct cycle verdict)
+    (corrected_by (length hs + 1) device was cycle adjustment verdict)
 of_correction s hs now device was adjustment cycle (Corrected by) = grind (arith, first_is, first_own, first_fine)
 of_correction s hs now device was adjustment cycle SyncClique = grind (arith, first_fine)
 of_correction s hs now device was adjustment cycle AsyncClique = grind (arith, first_fine)
@@ -193,7 +197,7 @@ of_row : {M : Type 0} (stands : M → Network → DeviceId → Node → Type 0) 
     (stored : List Holding) (now : ℕ) (device : DeviceId) (machine : M) (node : Node) (was : Standing) (adjustment : Units) (row : RowId) (cycle : ℕ)
     (outcomes : Outcomes) (r : ℕ) (more : List ℕ) → StageAt stands s hs coming mark cursor now device machine node r more → AreStored hs (map (stored_as s.network) stored)
     → IsFirstTask s.network device node (moment_of s device now).reading.0 (doing (dispatching row cycle))
-    → AreOutcomes s stored now device was adjustment (acts.Dispatch row cycle) outcomes
+    → AreOutcomes s stored now (length hs + 1) device was adjustment (acts.Dispatch row cycle) outcomes
     → AreProper s hs now device was adjustment (acts.Dispatch row cycle) outcomes
 of_row stands s hs coming mark cursor stored now device machine node was adjustment row cycle outcomes r more st are first is =
     let p = first.pending in
@@ -222,21 +226,23 @@ same_outcomes s hs now device was adjustment act a b same = subst (λ (o : Outco
 pub proper : {M : Type 0} (stands : M → Network → DeviceId → Node → Type 0) (s : Scenario) (hs coming : List Happening) (mark cursor : List ℕ)
     (stored : List Holding) (now : ℕ) (device : DeviceId) (machine : M) (node after : Node) (was : Standing) (adjustment : Units) (act : Act)
     (outcomes : Outcomes) (r : ℕ) (more : List ℕ) → StageAt stands s hs coming mark cursor now device machine node r more
-    → AreStored hs (map (stored_as s.network) stored) → IsActOf s.network device node (moment_of s device now) act after → AreOutcomes s stored now device was adjustment act outcomes
+    → AreStored hs (map (stored_as s.network) stored) → IsActOf s.network device node (moment_of s device now) act after
+    → AreOutcomes s stored now (length hs + 1) device was adjustment act outcomes
     → AreProper s hs now device was adjustment act outcomes
 proper stands s hs coming mark cursor stored now device machine node after was adjustment (acts.Send frame) outcomes r more st are acted is =
     grind (arith, same_outcomes, settled_at, first_fine)
 proper stands s hs coming mark cursor stored now device machine node after was adjustment (acts.Emit sent heard) outcomes r more st are acted is =
-    same_outcomes s hs now device was adjustment (acts.Emit sent heard) outcomes (emitted_by s.network device sent heard) is
+    same_outcomes s hs now device was adjustment (acts.Emit sent heard) outcomes (emitted_by s.network (length hs + 1) device sent heard) is
     (record {
-      bodies = ap (λ (l : List NoteBody). kinds.Compressed device sent.opened sent.at sent.cycle sent.members (judged_as heard) ∷ l) (joining device heard);
+      bodies = ap (λ (l : List NoteBody). kinds.Compressed device sent.opened sent.at sent.cycle sent.members (judged_as heard) ∷ l)
+          (joining (length hs + 1) device heard);
       first = refl;
-      second = joining_own s.network now hs device heard;
+      second = joining_own s.network now hs (length hs + 1) device heard;
       first_fine = (tt, omega arith);
-      second_fine = joining_fine device heard;
+      second_fine = joining_fine (length hs + 1) device heard;
     })
 proper stands s hs coming mark cursor stored now device machine node after was adjustment (acts.Correct cycle verdict) outcomes r more st are acted is =
-    same_outcomes s hs now device was adjustment (acts.Correct cycle verdict) outcomes (corrected_by device was cycle adjustment verdict) is
+    same_outcomes s hs now device was adjustment (acts.Correct cycle verdict) outcomes (corrected_by (length hs + 1) device was cycle adjustment verdict) is
     (of_correction s hs now device was adjustment cycle verdict)
 proper stands s hs coming mark cursor stored now device machine node after was adjustment (acts.Dispatch row cycle) outcomes r more st are acted is =
     of_row stands s hs coming mark cursor stored now device machine node was adjustment row cycle outcomes r more st are acted.0 is

@@ -1,6 +1,7 @@
 -- A device acts once.
+use Rattle.world_law.proofs.runs.Worlds.{length_is}
 use Rattle.drift_world.proofs.{ActRecords.{AreProper, IsFine, IsOwn, both_put, order_then, proper}, Puts.is_put_in}
-use Rattle.drift_world.proofs.{AtSource.{at_rank, each_of}, HiddenCauses.{InOrder, settled_in_order}, Parts.{act_place_is, act_rank_is, left_no_sooner, part_most, part_least}, Showings.shows_of}
+use Rattle.drift_world.proofs.{AtSource.{at_rank, each_of}, Rising.{InOrder, settled_in_order}, Parts.{act_place_is, act_rank_is, left_no_sooner, part_most, part_least}, Showings.shows_of}
 use Rattle.drift_world.proofs.Sources.{made_of}
 use Rattle.drift_world.specs.{Acting.{AreAbove, IsDueAt, IsIdle, IsLeft, StandsFrom}, Parts.{IsFirstPart, IsNoSoonerLeft, part_place, part_rank}, declared.state.State.State}
 use Rattle.drift_world.specs.declared.part.{Part.Part, ToDo.{ToDo, TheVariants.{Give, Next, Now}}}
@@ -105,11 +106,11 @@ module _ {C M : Type 0} (reading : C → ℕ → ℕ) (stands : M → Network �
 
   -- it is not broken
   kept_at : (s : Scenario) (notes : List Note) (old : Old s notes)
-      → IsKept (keeps stands) s (happenings s.network notes) old.coming old.cursor state.time device machine
+      → IsKept (keeps stands) s (happenings s.network notes) (map (settled_at network state.time) state.settled.items) old.cursor state.time device machine
   kept_at s notes old =
       let m = old.devices device (subst (λ (n : Network). device.0 < length n.device) old.same lt) in
       let same : m.0 ≡ machine = same_Some m.0 machine (sym m.1 ∙ there) in
-      elim (subst (λ (x : Kept M). IsHeld (keeps stands) s (happenings s.network notes) old.coming old.cursor state.time device x) same m.2) [
+      elim (subst (λ (x : Kept M). IsHeld (keeps stands) s (happenings s.network notes) (map (settled_at network state.time) state.settled.items) old.cursor state.time device x) same m.2) [
         | inl k ↦ k
         | inr out ↦ let task = task_now s notes old out.node out.is in absurd (no_task s.network device out.node task.0 out.shows task.1)
       ]
@@ -187,7 +188,7 @@ module _ {C M : Type 0} (reading : C → ℕ → ℕ) (stands : M → Network �
 
   staged : (s : Scenario) (notes : List Note) (old : Old s notes) → First_ s notes old → (act : Act) (after : Kept M)
       → HasActed (keeps stands) s.network device (moment_of s device state.time) act machine after
-      → (node : Node) × StageAt (keeps stands) s (happenings s.network notes) old.coming old.mark old.cursor state.time device machine node
+      → (node : Node) × StageAt (keeps stands) s (happenings s.network notes) (map (settled_at network state.time) state.settled.items) old.mark old.cursor state.time device machine node
       (rank_of_act act) (act_rest s.network device act)
   staged s notes old first act after acted =
       stage_of reading (keeps stands) s (world_of network state) notes old device machine after act
@@ -197,14 +198,16 @@ module _ {C M : Type 0} (reading : C → ℕ → ℕ) (stands : M → Network �
   -- its records are those of the law
   pub proper_at : (s : Scenario) (notes : List Note) (old : Old s notes) (first : First_ s notes old) (act : Act) (after : Kept M) (was : Standing)
       (adjustment : Units) (outcomes : Outcomes) → HasActed (keeps stands) s.network device (moment_of s device state.time) act machine after
-      → AreOutcomes s state.stored.items state.time device was adjustment act outcomes
+      → AreOutcomes s state.stored.items state.time (state.given + 1) device was adjustment act outcomes
       → AreProper s (happenings s.network notes) state.time device was adjustment act outcomes
   proper_at s notes old first act after was adjustment outcomes acted are =
+      let number : state.given + 1 ≡ length (happenings s.network notes) + 1 = ap (λ (n : ℕ). n + 1) (old.given ∙ length_is s notes) in
       let st = staged s notes old first act after acted in
       let new = acted st.0 st.1.is (may_act_now s device st.0 state.time st.1.work.ready st.1.steady st.1.limit) st.1.task in
-      proper (keeps stands) s (happenings s.network notes) old.coming old.mark old.cursor state.stored.items state.time device machine st.0 new.0 was adjustment
+      proper (keeps stands) s (happenings s.network notes) (map (settled_at network state.time) state.settled.items) old.mark old.cursor state.stored.items state.time device machine st.0 new.0 was adjustment
       act outcomes (rank_of_act act) (act_rest s.network device act) st.1
-      (subst (λ (n : Network). AreStored (happenings s.network notes) (map (stored_as n) state.stored.items)) old.same old.stored) new.1 are
+      (subst (λ (n : Network). AreStored (happenings s.network notes) (map (stored_as n) state.stored.items)) old.same old.stored) new.1
+      (subst (λ (n : ℕ). AreOutcomes s state.stored.items state.time n device was adjustment act outcomes) number are)
 
   -- what is settled stays fit
   pub octets_then : (s : Scenario) (hs : List Happening) (was : Standing) (adjustment : Units) (act : Act) (outcomes : Outcomes) (mid new : List Settled)
@@ -265,7 +268,7 @@ module _ {C M : Type 0} (reading : C → ℕ → ℕ) (stands : M → Network �
       let law = lawful reading (keeps stands) s (world_of network state) notes old device in
       let same = of_rank s notes old act after acted in
       let grows = left_no_sooner s.network device k.node (moment_of s device state.time) act new left old.range old.rules
-      (kept_from_zero (keeps stands) s (happenings s.network notes) old.coming old.cursor state.time device machine k law)
+      (kept_from_zero (keeps stands) s (happenings s.network notes) (map (settled_at network state.time) state.settled.items) old.cursor state.time device machine k law)
       (may_act_now s device k.node state.time k.ready (old.steady device) old.limit) is first in
       omega (arith, same, grows)
 
@@ -284,7 +287,7 @@ module _ {C M : Type 0} (reading : C → ℕ → ℕ) (stands : M → Network �
       → IsSomePut outcomes.first state.settled.items mid → IsSomePut outcomes.second mid new → (s : Scenario) (notes : List Note) (old : Old s notes)
       → First_ s notes old → HasActed (keeps stands) s.network device (moment_of s device state.time) act machine after
       → IsStateOf (keeps stands) s.network device machine was before → IsStateOf (keeps stands) s.network device after is adjustment
-      → AreOutcomes s state.stored.items state.time device was adjustment act outcomes
+      → AreOutcomes s state.stored.items state.time (state.given + 1) device was adjustment act outcomes
       → StandsFrom reading stands s
       (record (world_of network state) { early = false; machines = machines; settled = map (settled_at network state.time) new }) notes
       (part_place part state.time device)

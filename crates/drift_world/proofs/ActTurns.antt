@@ -4,10 +4,10 @@ use Rattle.drift_world.proofs.{AtSource.each_of, Foremost.{higher, not_earlier},
 use Rattle.drift_world.specs.{Parts.{IsLaterThan, IsNoSoonerLeft, part_place, part_rank}, declared.part.{Part.Part, ToDo.{ToDo, TheVariants.{Give, Next, Now}}}}
 use Rattle.drift_world.proofs.Words.{◌+◌, ◌<◌, ◌↔◌, ◌∙◌, ◌≡◌, ◌≤◌, Bool, ChangesOnly, ComesFirst, DeviceId, Happening, HasActed, IsAt, IsBefore, IsDueNow, IsHeld, IsIn, IsSound, Kept}
 use Rattle.drift_world.proofs.Words.{List, Network, NoSourceBefore, Node, Note, Scenario, Settled, Some, Stands, World, [], ap, arith, cases_eq, chain}
-use Rattle.drift_world.proofs.Words.{◌∷◌, false, happenings, inl, inr, keeps, length, length-map, map, moment_of, none_yet, option_map_or, own_place, place_of, rank}
+use Rattle.drift_world.proofs.Words.{◌∷◌, false, happenings, inl, inr, keeps, length, length-map, map, moment_of, numbers_end, option_map_or, own_place, place_of, rank}
 use Rattle.drift_world.proofs.Words.{refl, settled_at}
 use Rattle.run_law.specs.records.Ranks.{key}
-use Rattle.{drift_world.specs.declared.state.State.State, run_law.specs.declared.steps.Act.Act, world_law.proofs.giving.Given.some_same}
+use Rattle.{drift_world.specs.declared.state.State.State, run_law.specs.declared.steps.Act.Act, world_law.proofs.giving.GivenParts.some_same}
 use Rattle.{run_law.proofs.runs.Places.either_way, std.specs.{List.slice_get, Prelude.All}}
 use Rattle.world_law.{proofs.steps_lemmas.growing.Repeating.{acts_add_up, acts_are_bounded, no_act_yet}, specs.steps.Repeating.HasActedTimes}
 
@@ -91,7 +91,7 @@ module _ {C M : Type 0} (last_step : C → ℕ) (reading : C → ℕ → ℕ) (s
 
   -- the node for which the machine stands
   node_at : (s : Scenario) (notes : List Note) (old : Old s notes) (machine : Kept M)
-      → IsHeld (keeps stands) s (happenings s.network notes) old.coming old.cursor first.time device machine
+      → IsHeld (keeps stands) s (happenings s.network notes) (map (settled_at network first.time) first.settled.items) old.cursor first.time device machine
       → (node : Node) × keeps stands machine s.network device node
   node_at s notes old machine (inl k) = (k.node, k.is)
   node_at s notes old machine (inr out) = (out.node, out.is)
@@ -189,7 +189,7 @@ module _ {C M : Type 0} (last_step : C → ℕ) (reading : C → ℕ → ℕ) (s
   now_time now left acts turn = ap (λ (x : State C M). x.time) turn.same
 
   -- where there are numbers, the device's acts come first
-  pub comes_first : (now : State C M) (left : ToDo) (acts : ℕ) (turn : Turn now left acts) → now.given + length now.settled.items + 2 < none_yet
+  pub comes_first : (now : State C M) (left : ToDo) (acts : ℕ) (turn : Turn now left acts) → now.given + length now.settled.items + 2 < numbers_end
       → (s : Scenario) (notes : List Note) (old : Old s notes) (f : First s notes old)
       → ComesFirst reading (keeps stands) s (world_of network now) notes (turn.still s notes old f).new (part_place part now.time device)
   comes_first now left acts turn numbers s notes old f =
@@ -199,7 +199,7 @@ module _ {C M : Type 0} (last_step : C → ℕ) (reading : C → ℕ → ℕ) (s
       subst (λ (t : ℕ). ComesFirst reading (keeps stands) s (world_of network now) notes still.new (part_place part t device)) (sym (now_time now left acts turn))
       (record { none = still.none; after = still.after; room = omega (arith, numbers, given, long) })
 
-  pub comes_at : (now : State C M) (left : ToDo) (acts : ℕ) → Turn now left acts → now.given + length now.settled.items + 2 < none_yet
+  pub comes_at : (now : State C M) (left : ToDo) (acts : ℕ) → Turn now left acts → now.given + length now.settled.items + 2 < numbers_end
       → IsAt reading stands network first (part_place part first.time device) → IsAt reading stands network now (part_place part now.time device)
   comes_at now left acts turn numbers at = record {
     s = at.s;
@@ -209,7 +209,7 @@ module _ {C M : Type 0} (last_step : C → ℕ) (reading : C → ℕ → ℕ) (s
   }
 
   still_then : (now new : State C M) (left : ToDo) (acts : ℕ) (turn : Turn now left acts)
-      → now.given + length now.settled.items + 2 < none_yet → IsActed last_step reading stands network part device now new → (s : Scenario)
+      → now.given + length now.settled.items + 2 < numbers_end → IsActed last_step reading stands network part device now new → (s : Scenario)
       (notes : List Note) (old : Old s notes) → First s notes old → IsStill reading stands network part device first.time new s notes
   still_then now new left acts turn numbers acted s notes old f =
       let was = turn.still s notes old f in
@@ -271,7 +271,7 @@ module _ {C M : Type 0} (last_step : C → ℕ) (reading : C → ℕ → ℕ) (s
       (times_then now new left acts turn due acted lt s at.notes at.is at.first machine.0 act.1 machine.1 act.2)
 
   pub turn_on : (now new : State C M) (left then_left : ToDo) (acts : ℕ) → Turn now left acts → Due now
-      → now.given + length now.settled.items + 2 < none_yet → IsActed last_step reading stands network part device now new
+      → now.given + length now.settled.items + 2 < numbers_end → IsActed last_step reading stands network part device now new
       → IsLeft reading stands network new device then_left
       → device.0 < length network.device → IsAt reading stands network first (part_place part first.time device) → Turn new then_left (acts + 1)
   turn_on now new left then_left acts turn due numbers acted is_left lt at = record {

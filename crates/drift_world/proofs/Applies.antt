@@ -1,5 +1,5 @@
 -- An event is applied to a state.
-use Rattle.{drift_world.proofs.Beginnings.found, net_plan.specs.declared.event.Event.Event, world_law.proofs.{giving.Given.some_same, lists.Lists.filter_yes}}
+use Rattle.{drift_world.proofs.Beginnings.found, net_plan.specs.declared.event.Event.Event, world_law.proofs.{giving.GivenParts.some_same, lists.Lists.filter_yes}}
 use Rattle.drift_world.proofs.Words.{◌++◌, ◌<◌, ◌↔◌, ◌∙◌, ◌∷◌, ◌≡◌, ◌⊎◌, AreWays, Befallen, Bool, DeviceId, Down, IsIn, LinkId, List, Network, None, Option}
 use Rattle.drift_world.proofs.Words.{Some, Up, Waiting, Waits, Way, WayNow, WayState, What, [], amount, ap, arith, befell_as, both_ways, breaks_at, false}
 use Rattle.drift_world.proofs.Words.{filter, inl, inr, is_broken, le-leb, length, list_any, map, nat_le, not, refl, scenario, slice_get-map, sym, true}

@@ -1,12 +1,11 @@
 -- Records that stand where their sources do.
-use Rattle.{drift_world.proofs.{FirstSettled.first_of, HiddenCauses.{InOrder, settled_in_order}, Parts.{part_least, part_most}}, run_law.proofs.records.Order.all_of}
-use Rattle.drift_world.proofs.Words.{◌<◌, ◌∙◌, ◌∷◌, ◌≡◌, ◌≤◌, ◌⊎◌, DeviceId, Happening, IsBefore, IsIn, List, Network, NoSourceBefore, Node, Note, NoteBody, Scenario, Settled, []}
-use Rattle.drift_world.proofs.Words.{Stands, ap, arith, cases_lt, chain, false, happenings, inl, inr, is_mapped, keeps, length, map, place_of, rank, refl, settled_at, subst, sym, time_of}
+use Rattle.{drift_world.proofs.{Rising.{InOrder, settled_in_order}, Parts.{part_least, part_most}}, run_law.proofs.records.Order.all_of}
+use Rattle.drift_world.proofs.Words.{◌<◌, ◌∷◌, ◌≡◌, ◌≤◌, ◌⊎◌, DeviceId, IsIn, List, Network, NoSourceBefore, Node, Note, NoteBody, Scenario, Settled, []}
+use Rattle.drift_world.proofs.Words.{Stands, arith, cases_lt, chain, happenings, inl, inr, is_mapped, keeps, map, place_of, rank, refl, settled_at, subst, sym}
 use Rattle.{drift_world.proofs.Words.{suc, true, world_of, zero, ℕ}, std.proofs.Common.All}
 use Rattle.drift_world.specs.{Acting.AreAbove, Turns.source_rank, declared.{source.Source.Source, state.State.State}}
-use Rattle.run_law.specs.records.Ranks.{key, members_in}
 use Rattle.drift_world.specs.declared.source.Source.TheVariants.{Act, Arrival, Clock, Departure, Events, Later, Ripening}
-use Rattle.world_law.specs.world.World.{hidden_body, is_at_source}
+use Rattle.world_law.specs.world.World.{is_at_source}
 use Rattle.run_law.specs.declared.note.NoteBody.TheVariants as kinds
 
 -- ---- the ranks of sources
@@ -50,11 +49,6 @@ rank_most other = omega arith
 
 -- ---- it may be given
 
--- its cause is not hidden
-shown_source : (given : ℕ) (body : NoteBody) → is_at_source (hidden_body given body) ≡ true → hidden_body given body ≡ body
-shown_source given (kinds.State device state cause why) is = absurd (let bad : false ≡ true = is in cc)
-shown_source given other is = refl
-
 -- its source is worked off, so no other stands before it that is not
 pub own_gives : {C M : Type 0} (reading : C → ℕ → ℕ) (stands : M → Network → DeviceId → Node → Type 0) (network : Network) (state : State C M)
     (z : Settled) (others : List Settled) (s : Scenario) (notes : List Note) → is_at_source z.body ≡ true → state.settled.items ≡ z ∷ others
@@ -62,16 +56,10 @@ pub own_gives : {C M : Type 0} (reading : C → ℕ → ℕ) (stands : M → Net
     → NoSourceBefore s (happenings s.network notes) old.cursor (place_of (settled_at network state.time z))
 own_gives reading stands network state z others s notes source whole old =
     let shown = settled_at network state.time z in
-    let of = first_of (length notes) old.coming shown (map (settled_at network state.time) others)
-    (ap (map (settled_at network state.time)) (sym whole) ∙ old.settled) in
-    let there : IsIn of.first old.coming = subst (λ (l : List Happening). IsIn of.first l) (sym of.whole) (inl refl) in
-    let at : is_at_source (hidden_body (length notes) of.first.note.body) ≡ true = ap (λ (h : Happening). is_at_source h.note.body) (sym of.shows)
-    ∙ source in
-    let same = shown_source (length notes) of.first.note.body at in
-    let place : place_of shown ≡ place_of of.first = ap place_of of.shows
-    ∙ ap (λ (b : NoteBody). time_of of.first ∷ rank b ∷ key (members_in of.first) b) same in
-    let before = old.are.worked of.first there (ap is_at_source (sym same) ∙ at) in
-    λ w of_w not_yet b. not_yet (chain w (place_of of.first) old.cursor (subst (IsBefore w) place b) before)
+    let there : IsIn shown (map (settled_at network state.time) state.settled.items) =
+    subst (λ (l : List Settled). IsIn shown (map (settled_at network state.time) l)) (sym whole) (inl refl) in
+    let before = old.are.worked shown there source in
+    λ w of_w not_yet b. not_yet (chain w (place_of shown) old.cursor b before)
 
 -- what holds of all holds of each
 pub each_of : {X : Type 0} (P : X → Type 0) (xs : List X) (x : X) → All P xs → IsIn x xs → P x

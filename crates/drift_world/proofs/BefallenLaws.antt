@@ -1,13 +1,13 @@
 -- What comes of the events of an instant is settled, as its law asks for it.
 use Rattle.{drift_world.proofs.Alike.with_ports, std.specs.List.filter_map, world_law.proofs.runs.Worlds.length_is}
 use Rattle.{drift_world.{proofs.Fits.{all_put_some, have_octets}, specs.declared.state.State.State}, run_law.proofs.law.FirstPlaces.numbered_within}
-use Rattle.{drift_world.proofs.HiddenCauses.InOrder, run_law.specs.records.Causes.IsOfThisTime, world_state.specs.declared.queue.Entry.Entry}
+use Rattle.{drift_world.proofs.Rising.InOrder, run_law.specs.records.Causes.IsOfThisTime, world_state.specs.declared.queue.Entry.Entry}
 use Rattle.{drift_world.proofs.Puts.{is_put_in, one_put_in, order_put, some_put_in}, world_law.specs.steps.Befalling.{ArePutBy, befell_bodies, bodies_of}}
 use Rattle.drift_world.proofs.Words.{◌+◌, ◌<◌, ◌↔◌, ◌∙◌, ◌∷◌, ◌≡◌, ◌⊎◌, ArePutIn, AreUnderWay, AreWays, Befallen, Bool, Content, DeviceId, Happening}
 use Rattle.drift_world.proofs.Words.{Integrating, IsIn, IsPermutation-sym, IsPutOn, IsSomePut, Kept, Link, LinkId, List, Network, Node, None, Note, OnWire}
 use Rattle.drift_world.proofs.Words.{Option, Port, Scenario, Settled, Some, Stands, StandsBehind, Up, WayNow, WayState, What, Wire, World, [], ap, arith}
-use Rattle.drift_world.proofs.Words.{at_port, befell_as, behind, delay_at, false, given_of, happenings, hidden, if◌then◌else◌, in_permuted, inl, inr, is_broken}
-use Rattle.drift_world.proofs.Words.{is_cut, is_given, is_mapped, length, length-map, link_at, map, none_yet, numbered, on_wire, option_map_or, rank_of, refl}
+use Rattle.drift_world.proofs.Words.{at_port, befell_as, behind, delay_at, false, given_of, happenings, if◌then◌else◌, in_permuted, inl, inr, is_broken}
+use Rattle.drift_world.proofs.Words.{is_cut, is_given, is_mapped, length, length-map, link_at, map, numbers_end, numbered, on_wire, option_map_or, rank_of, refl}
 use Rattle.drift_world.proofs.Words.{same_Some, settled_at, signal_as, signal_of, slice_get-map, slice_get_within, subst, sym, time_of, time_on_port, true}
 use Rattle.{drift_world.proofs.Words.{way_as, way_now, wire_at, world_of, ℕ}, std.proofs.Common.{All, option_and_then, option_map, slice_get}}
 use Rattle.world_law.proofs.steps_lemmas.{befalling.{Befell.befell_step, Seen.{on_within, put_event, put_in_more, sent_on, wires_of}}, steps.Applied.no_coming}
@@ -224,8 +224,9 @@ module _ {C M : Type 0} (reading : C → ℕ → ℕ) (stands : Kept M → Netwo
   -- nothing is settled
   pub none_settled : state.settled.items ≡ []
   none_settled =
-      let none = no_coming (happenings s.network notes) old.coming s old.mark old.cursor state.time old.are (old.untold.early pending) in
-      none_mapped (settled_at s.network state.time) state.settled.items (old.settled ∙ ap (map (hidden (length notes))) none)
+      none_mapped (settled_at s.network state.time) state.settled.items
+      (no_coming (happenings s.network notes) (map (settled_at s.network state.time) state.settled.items) s old.mark old.cursor state.time old.are
+      (old.untold.early pending))
 
   -- the numbers of the events are those of records given
   pub number_given : (b : Befallen) → IsIn b state.befell.items → b.number < state.given + 1
@@ -257,7 +258,7 @@ module _ {C M : Type 0} (reading : C → ℕ → ℕ) (stands : Kept M → Netwo
           real.1 pending (ap time_of same ∙ it.of_time.same_time)
 
   -- the outcomes are settled
-  pub befallen_stands : (settled : List Settled) (entries : List (Entry Content)) → length notes + length state.befell.items < none_yet
+  pub befallen_stands : (settled : List Settled) (entries : List (Entry Content)) → length notes + length state.befell.items < numbers_end
       → AreSettledBy s.network state.broken.items state.ups.items state.time state.befell.items state.settled.items settled state.under_way.entries entries
       → StandsBehind reading stands s
       (record (world_of s.network state) {
@@ -300,7 +301,7 @@ module _ {C M : Type 0} (reading : C → ℕ → ℕ) (stands : Kept M → Netwo
 
   -- it is settled in order, and what befell is forgotten
   pub befallen_behind : (befell : List Befallen) (settled : List Settled) (entries : List (Entry Content)) → befell ≡ []
-      → length notes + length state.befell.items < none_yet
+      → length notes + length state.befell.items < numbers_end
       → AreSettledBy network state.broken.items state.ups.items state.time state.befell.items state.settled.items settled state.under_way.entries entries
       → StandsBehind reading stands s
       (record (world_of network state) {

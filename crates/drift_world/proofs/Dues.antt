@@ -1,5 +1,5 @@
 -- A timer that is right for the reading at which a machine acts next.
-use Rattle.{drift_world.{proofs.Foremost.node_of, specs.Acting.IsNextDue}, run_law.specs.machines.{Calls.HasDue, Tasks.IsDueReading}, world_law.proofs.giving.Given.some_same}
+use Rattle.{drift_world.{proofs.Foremost.node_of, specs.Acting.IsNextDue}, run_law.specs.machines.{Calls.HasDue, Tasks.IsDueReading}, world_law.proofs.giving.GivenParts.some_same}
 use Rattle.drift_world.proofs.Words.{◌+◌, ◌<◌, ◌∙◌, ◌≡◌, DeviceId, IsWell, Kept, List, Network, Node, None, Option, Some, ap, arith, ints, keeps, length, subst}
 use Rattle.{drift_world.proofs.Words.{never, pos, refl, sym, ℕ}, std.proofs.Common.slice_get, world_state.specs.declared.timers.Timer.Timer}
 use Rattle.drift_world.specs.{Parts.{IsNoSooner, part_rank}, declared.part.Part.Part}

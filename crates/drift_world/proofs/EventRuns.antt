@@ -48,8 +48,8 @@ module _ {C M : Type 0} (reading : C → ℕ → ℕ) (stands : M → Network �
   worked w (IsSource.ending time device is there ends) b = by_time (amount time) 14 (device.0 ∷ []) (omega arith) b
 
   -- nothing is to come
-  pub none_coming : old.coming ≡ []
-  none_coming = from old.coming (λ z i. old.are.begun z i)
+  pub none_coming : world.settled ≡ []
+  none_coming = from world.settled (λ z i. old.are.begun z i)
     where
       from : (l : List Happening) → ((z : Happening) → IsIn z l → IsBefore (world.now ∷ 2 ∷ []) old.cursor) → l ≡ []
       from [] begun = refl

@@ -2,12 +2,12 @@
 use Rattle.drift_world.{proofs.{Fitting.{apart_more, below_one_more}, Words.{way_from, wire_entry, with_first, world_of, ℕ}}, specs.declared.state.State.State}
 use Rattle.{drift_world.proofs.Sendings.link_within, world_state.{proofs.UnderWays.sound_with, specs.{Frames.IsOneMore, declared.queue.Entry.Entry}}}
 use Rattle.drift_world.proofs.Words.{◌+◌, ◌<◌, ◌↔◌, ◌∙◌, ◌∷◌, ◌≡◌, ◌⊎◌, Accepted, AreApart, AreUnderWay, Arrived, Bool, Changed, ChangesOnly, Compressed}
-use Rattle.drift_world.proofs.Words.{Content, Delivered, DeviceId, Dropped, DueAt, Giving, HasItsOctets, IfSome, IsGivenOut, IsIn, IsInRange, IsPermutation}
+use Rattle.drift_world.proofs.Words.{Content, Delivered, DeviceId, Dropped, DueAt, Giving, IfSome, IsGivenOut, IsIn, IsInRange, IsPermutation}
 use Rattle.drift_world.proofs.Words.{IsPermutation-sym, IsPutOn, Left, LinkId, List, Lost, Network, None, NoteBody, Option, Pcf, Permanent, Settled, Some}
 use Rattle.drift_world.proofs.Words.{Timed, TtSent, Waits, WayState, ap, arith, at_port, changed_device, delay_by, in_permuted, inl, inr, length, link_at, map}
-use Rattle.drift_world.proofs.Words.{named_settled, not, numbers_of, on_wire, rank_of, receiver_of, refl, settled_at, stored_as, subst, sym, waiting_as}
-use Rattle.{run_law.specs.declared.note.NoteBody.TheVariants.{Clock, Corrected, Event, Sent}, std.proofs.lemmas.List.Elements.{All-map, All-weaker}}
-use Rattle.{std.{proofs.Common.slice_get, specs.{Option.option_map, Prelude.All}}, world_law.specs.world.Moves.named_body}
+use Rattle.drift_world.proofs.Words.{not, numbers_of, on_wire, rank_of, receiver_of, refl, settled_at, stored_as, subst, sym, waiting_as}
+use Rattle.{run_law.specs.declared.note.NoteBody.TheVariants.{Clock, Corrected, Event, Sent}, std.proofs.lemmas.List.Elements.{All-weaker}}
+use Rattle.{std.{proofs.Common.slice_get, specs.{Option.option_map, Prelude.All}}}
 use Rattle.{world_law.proofs.steps_lemmas.hearing.Receptions.receiver_in, world_state.specs.Giving.{awaited_by, control_on_wire, place_on_wire, timed_on_wire}}
 
 -- ---- what is put to ports
@@ -179,20 +179,6 @@ waits_elsewhere body number old new (inr more) w apart = (
       ],
   λ i. in_permuted (more.one ∷ old) new w more.is (inr i),
 )
-
--- ---- what is settled
-
-named_has : (number : ℕ) (first : NoteBody) (body : NoteBody) (octets : Option Timed) → HasItsOctets body octets
-    → HasItsOctets (named_body number first body) octets
-named_has number first (Changed a b c d) octets has = tt
-named_has number first other octets has = has
-
--- what is settled has its octets by its new names too
-pub settled_has : (number : ℕ) (first : NoteBody) (zs : List Settled) → All (λ z. HasItsOctets z.body z.octets) zs
-    → All (λ z. HasItsOctets z.body z.octets) (map (named_settled number first) zs)
-settled_has number first zs all = All-map (λ (z : Settled). HasItsOctets z.body z.octets) (named_settled number first) zs
-    (All-weaker (λ (z : Settled). HasItsOctets z.body z.octets) (λ (z : Settled). HasItsOctets (named_body number first z.body) z.octets)
-    (λ z has. named_has number first z.body z.octets has) zs all)
 
 -- ---- another state with the same
 

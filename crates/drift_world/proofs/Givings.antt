@@ -1,12 +1,12 @@
 -- The first of what is settled is given: the world stands again.
-use Rattle.{drift_world.proofs.{FirstSettled.first_is, Launches.given_out, Sendings.puts, Storings.taken_by}, world_law.proofs.giving.Given.given_step}
+use Rattle.{drift_world.proofs.{Launches.given_out, Sendings.puts, Storings.taken_by}, world_law.proofs.giving.Given.given_step}
 use Rattle.drift_world.proofs.Words.{◌++◌, ◌+◌, ◌∙◌, ◌∷◌, ◌≡◌, Accepted, Arrived, Changed, Compressed, Content, Delivered, DeviceId, Dropped, DueAt, Giving}
 use Rattle.drift_world.proofs.Words.{Happening, Holding, IfSome, IsGivenOut, IsOf, IsPutOn, IsStoredBy, Kept, Left, List, Lost, Network, NoSourceBefore, Node}
 use Rattle.drift_world.proofs.Words.{None, Note, NoteBody, Option, Pcf, Permanent, Scenario, Settled, Some, Stands, StandsBehind, Timed, TtSent, WayState, []}
-use Rattle.drift_world.proofs.Words.{ap, at_port, behind, happening, happenings, length, map, named_settled, note_of, octets_in, on_wire, place_of, refl}
+use Rattle.drift_world.proofs.Words.{World, ap, append-nil, at_port, behind, happening, happenings, length, map, note_of, octets_in, on_wire, place_of, refl}
 use Rattle.drift_world.{proofs.Words.{settled_at, stored_as, subst, sym, waiting_as, wire_entry, with_first, ℕ}, specs.declared.state.State.State}
 use Rattle.{run_law.specs.declared.note.NoteBody.TheVariants.{Clock, Corrected, Event, Sent}, world_state.specs.declared.queue.Entry.Entry}
-use Rattle.{std.specs.{List.filter_map, Option.option_map}, world_law.specs.world.Moves.named}
+use Rattle.std.specs.{List.filter_map, Option.option_map}
 use Rattle.world_state.{proofs.Apart.{given_then, ports_kept, put_from, wires_kept}, specs.Giving.{MayBeGiven, control_on_wire, timed_on_wire}}
 
 no_port_at : (f : DueAt → Entry Content) → ((p : DueAt) → at_port (f p) ≡ None) → (o : Option DueAt) → IfSome (option_map f o) (λ one. at_port one ≡ None)
@@ -32,12 +32,17 @@ no_port network ups downs (Delivered a b c d e) frame octets time number = tt
 no_port network ups downs (Dropped a b c d) frame octets time number = tt
 no_port network ups downs (Clock a b c d) frame octets time number = tt
 
--- what follows it is named
-pub named_all : (network : Network) (now number : ℕ) (first : Settled) (xs : List Settled)
-    → map (named number (settled_at network now first)) (map (settled_at network now) xs)
-    ≡ map (settled_at network now) (map (named_settled number first.body) xs)
-named_all network now number first [] = refl
-named_all network now number first (z ∷ xs) = ap (λ l. settled_at network now (named_settled number first.body z) ∷ l) (named_all network now number first xs)
+-- the record that is given has the frame and the octets that are kept with it
+first_is : {C M : Type 0} (reading : C → ℕ → ℕ) (stands : M → Network → DeviceId → Node → Type 0) (s : Scenario)
+    (world : World C M) (notes : List Note) (z : Happening) (rest : List Happening) → Stands reading stands s world notes
+    → world.settled ≡ z ∷ rest
+    → happening s.network (happenings s.network notes) (note_of notes z) ≡ record z { note = note_of notes z }
+first_is reading stands s world notes z rest old is =
+    let hs = happenings s.network notes in
+    let due = (old.are.founded [] rest z is).1 in
+    let same : z ≡ happening s.network hs z.note =
+    due.same ∙ ap (λ (l : List Happening). happening s.network l z.note) (append-nil hs) in
+    ap (λ (h : Happening). let x : Happening = record h { note = note_of notes z } in x) (sym same)
 
 -- it is given: what it launches is under way, or waits, and what a switch took by it is held
 abbrev pub GivesOn : {C M : Type 0} → (C → ℕ → ℕ) → (Kept M → Network → DeviceId → Node → Type 0) → Scenario → Network → Type 0
@@ -53,7 +58,7 @@ GivesOn {C} {M} reading stands s network =
       ports = filter_map at_port entries;
       waiting = map waiting_as after.waiting.items;
       stored = map (stored_as network) held;
-      settled = map (named (length notes + 1) (settled_at network state.time first)) (map (settled_at network state.time) rest);
+      settled = map (settled_at network state.time) rest;
       given = state.given + 1;
     }) (notes ++ note_of notes (settled_at network state.time first) ∷ []) (behind (place_of (settled_at network state.time first)))
 

@@ -5,13 +5,13 @@ use Rattle.drift_world.proofs.Words.{DueAt, Result, Scenario, Settled, Signal, S
 use Rattle.drift_world.proofs.Words.{at_port, behind, control, false, field, frame_by, frame_from, happenings, in_permuted, inl, inr, is_given, map, moment_of}
 use Rattle.drift_world.proofs.Words.{numbers_of, octets_by, octets_from, octets_in, octets_of, on_wire, pos, refl, settled_as, settled_at, signal_as, signal_of}
 use Rattle.drift_world.proofs.Words.{subst, sym, timed, true, units_of, wire_place, with_clock, world_of, ℕ}
-use Rattle.drift_world.proofs.{Alike.with_ports, Arrivals.{control_so, on_arrival, timed_so}, Fits.have_octets, HiddenCauses.settled_in_order, Puts.one_put_in}
+use Rattle.drift_world.proofs.{Alike.with_ports, Arrivals.{control_so, on_arrival, timed_so}, Fits.have_octets, Rising.settled_in_order, Puts.one_put_in}
 use Rattle.drift_world.{proofs.Signals.{frame_told, octets_told, plain_on_wire}, specs.declared.state.State.State}
 use Rattle.std.{proofs.Common.{option_map, set, slice_get}, specs.List.filter_map}
 use Rattle.pcf_codec.specs.{Decoding.decoded, EtherType.pcf_type, declared.refusal.PcfRefusal.PcfRefusal}
 use Rattle.run_law.{proofs.runs.Determined.same_units, specs.{control.Arrivals.clock_on_arrival, declared.steps.Arrival.Arrival, machines.Answers.arrival_at}}
 use Rattle.run_law.specs.machines.{Calls.{MayArrive, MayCall}, Nodes.{arriving, last_taken_by, standpoint_at}}
-use Rattle.world_law.{proofs.giving.Given.some_same, specs.world.{Calls.{HasHeard, IsSet}, Outcomes.arrival_body, World.IsClockOf}}
+use Rattle.world_law.{proofs.giving.GivenParts.some_same, specs.world.{Calls.{HasHeard, IsSet}, Outcomes.arrival_body, World.IsClockOf}}
 use Rattle.world_law.proofs.steps_lemmas.hearing.{Calling.may_call, HeardSteps.heard_step, OneMaster.may_arrive, Receptions.device_there}
 use Rattle.world_state.{proofs.UnderWays.{ports_stay, wires_without}, specs.declared.{contents.Signal.{Signal as SignalSent}, queue.Entry.Entry}}
 use Rattle.world_state.specs.Hearing.{AreOctetsOf, IsAsSent, MayCome, arrived, frame_kept, octets_kept, timed_in}
@@ -141,10 +141,10 @@ module _ {C M : Type 0} (reading : C → ℕ → ℕ) (stands : Kept M → Netwo
 
   module _ (machine : Kept M) (moment : Moment) (found : slice_get state.machines.items place.device ≡ Some machine)
       (now : moment ≡ moment_of s e.device state.time) where
-    held : IsHeld stands s hs old.coming old.cursor state.time e.device machine
+    held : IsHeld stands s hs (map (settled_at s.network state.time) state.settled.items) old.cursor state.time e.device machine
     held =
         let own = old.devices e.device (device_there s hs e old.range (old.wires.real e there).0) in
-        subst (λ (x : Kept M). IsHeld stands s hs old.coming old.cursor state.time e.device x) (some_same own.0 machine _ own.1 found) own.2
+        subst (λ (x : Kept M). IsHeld stands s hs (map (settled_at s.network state.time) state.settled.items) old.cursor state.time e.device x) (some_same own.0 machine _ own.1 found) own.2
 
     called : (node : Node) (m : Moment) → Type 0
     called node m = MayCall s.network e.device node m arriving

@@ -6,7 +6,7 @@ use Rattle.drift_world.proofs.Words.{rank, rank_of, reading_of, receiver_of, ref
 use Rattle.{drift_world.{proofs.Words.{wire_place, world_of, ℕ, ℤ}, specs.declared.state.State.State}, world_state.specs.queue.Finding.{HoldsAt, HoldsNoneAt}}
 use Rattle.{drift_world.specs.Wires.{IsOfNow, IsOnOwnLink, on_wire_in, put_by}, world_state.specs.declared.contents.Signal.{Signal as Sent}}
 use Rattle.{net_plan.specs.declared.event.Event.Event, tte_units.proofs.general_lemmas.Lists.some_at, world_law.specs.source.Sources.IsArriving}
-use Rattle.{std.{proofs.Common.{Bor, option_map}, specs.Option.option_copied}, world_law.proofs.giving.Given.some_same}
+use Rattle.{std.{proofs.Common.{Bor, option_map}, specs.Option.option_copied}, world_law.proofs.giving.GivenParts.some_same}
 
 -- ---- what is found
 

@@ -12,7 +12,6 @@ pub mod Beginnings
 pub mod Dues
 pub mod Elsewhere
 pub mod EventRuns
-pub mod FirstSettled
 pub mod Fits
 pub mod Fitting
 pub mod Foremost
@@ -22,7 +21,7 @@ pub mod Gave
 pub mod Givings
 pub mod Halves
 pub mod Hears
-pub mod HiddenCauses
+pub mod Rising
 pub mod Laters
 pub mod Launches
 pub mod LocalValues

@@ -1,9 +1,9 @@
 -- The values that local clocks show, where the machines' adjustments are small.
 use Rattle.{drift_world.proofs.Agreements.reads_value, net_plan.specs.declared.event.Event.Event, sync_state.specs.correction.Deviation.IsSmall}
 use Rattle.drift_world.proofs.Words.{◌+◌, ◌<◌, ◌^◌, ◌∙◌, ◌≡◌, ◌≤◌, Bool, DeviceId, DeviceState, Happening, IfSome, IsComplete, IsHeld, Kept, List, Network}
-use Rattle.drift_world.proofs.Words.{Node, Note, Option, Scenario, Shows, Stands, Units, ap, arith, false, happenings, inl, inr, ints, is_broken, keeps, length}
+use Rattle.drift_world.proofs.Words.{Node, Note, Option, Scenario, Shows, Stands, Units, ap, arith, false, happenings, inl, inr, ints, is_broken, keeps, length, map, settled_at}
 use Rattle.{drift_world.proofs.Words.{local_shown, reading_of, subst, sym, true, world_of, ℕ, ℤ}, world_state.specs.declared.kept.Kept.TheVariants.{Out, Sound}}
-use Rattle.{drift_world.specs.{Locals.{AreSmall, IsLocalValue}, declared.state.State.State}, world_law.proofs.giving.Given.{no_later_breaks, some_same}}
+use Rattle.{drift_world.specs.{Locals.{AreSmall, IsLocalValue}, declared.state.State.State}, world_law.proofs.giving.GivenParts.{no_later_breaks, some_same}}
 use Rattle.{drift_world.specs.Running.clock_of, world_law.specs.world.World.HaveBefallen}
 use Rattle.sync_state.specs.declared.state.State.TheVariants as states
 
@@ -40,7 +40,7 @@ local_value reading stands small s own state notes device t shown old lt limit s
     let there : device.0 < length s.network.device = subst (λ (n : Network). device.0 < length n.device) old.same lt in
     let held = old.devices device there in
     let same : held.0 ≡ shows.kept = some_same held.0 shows.kept _ held.1 shows.kept_is in
-    let node = small_held stands small s hs old.coming old.mark old.cursor now device held.0 old.befallen held.2 in
+    let node = small_held stands small s hs (map (settled_at own state.time) state.settled.items) old.mark old.cursor now device held.0 old.befallen held.2 in
     let is = shows.is s.network node.0 (subst (λ (k : Kept _). keeps stands k s.network device node.0) same node.1) in
     let broken : is_broken s device now ≡ shows.broken = some_same _ _ _ (old.broken device there) shows.broken_is in
     let low = (old.steady device).low t limit in

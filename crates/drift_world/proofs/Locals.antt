@@ -1,4 +1,6 @@
 -- The local clock of a device, as a world shows it, is that of the records.
+use Rattle.drift_world.proofs.Words.{happening, note_of}
+use Rattle.world_law.{proofs.runs.Worlds.length_is, specs.world.World.IsDueAs}
 use Rattle.{drift_clock.specs.Readings.value_after, drift_world.specs.Running.clock_of, run_law.{proofs.runs.Places.either_way, specs.records.Happenings.up_to}}
 use Rattle.{drift_world.proofs.{Agreements.{all_come, reads_value}, Words.{true, world_of, ℕ, ℤ}}, run_law.specs.device.States.{adjustment_after, state_after}}
 use Rattle.drift_world.proofs.Words.{◌++◌, ◌+◌, ◌<◌, ◌∙◌, ◌∷◌, ◌≡◌, ◌≤◌, Bool, DeviceId, DeviceState, Happening, IsBefore, IsComplete, IsDue, IsIn}
@@ -6,7 +8,7 @@ use Rattle.drift_world.proofs.Words.{IsScenarioRun, Kept, List, Network, Node, N
 use Rattle.drift_world.proofs.Words.{append-nil, arith, breaks_at, chain, false, filter, happenings, inl, inr, is_broken, keeps, le-leb, length, list_any}
 use Rattle.drift_world.proofs.Words.{local_shown, nat_le, never_self, numbered_in, place_of, rate_steps, reading_of, refl, scenario, subst, suc, sym, time_of}
 use Rattle.{drift_world.specs.{Locals.{HasCome, IsLocalClock}, declared.state.State.State}, world_law.proofs.devices.Shown.{all_past, held_shows}}
-use Rattle.{net_plan.specs.declared.event.Event.Event, world_law.proofs.{devices.{Resting.IsWorked, TurnedOn.all_up_to}, giving.Given.some_same}}
+use Rattle.{net_plan.specs.declared.event.Event.Event, world_law.proofs.{devices.{Resting.IsWorked, TurnedOn.all_up_to}, giving.GivenParts.some_same}}
 use Rattle.std.specs.List.{All}
 use Rattle.sync_state.specs.declared.state.State.TheVariants as states
 
@@ -39,29 +41,34 @@ no_first (z ∷ rest) none = absurd (none z rest refl)
 module _ {C M : Type 0} (reading : C → ℕ → ℕ) (stands : M → Network → DeviceId → Node → Type 0) (s : Scenario) (world : World C M) (notes : List Note)
     (old : Stands reading stands s world notes) (t : ℕ) (run : IsScenarioRun s ((t + 1) ∷ []) notes) where
   -- where the world has come behind the time, only events of its instant are worked off
-  none_early : world.early ≡ true → old.coming ≡ []
-  none_early early = no_first old.coming (λ z rest same.
+  none_early : world.early ≡ true → world.settled ≡ []
+  none_early early = no_first world.settled (λ z rest same.
       let begun = old.are.begun z (subst (λ (l : List Happening). IsIn z l) (sym same) (inl refl)) in
       never_self (world.now ∷ 2 ∷ []) (old.early early (world.now ∷ 2 ∷ []) begun))
 
   -- where it is at the time still, what is to come would be a record of the run
-  none_now : world.now ≡ t → old.coming ≡ []
-  none_now at = no_first old.coming (λ z rest same.
+  none_now : world.now ≡ t → world.settled ≡ []
+  none_now at = no_first world.settled (λ z rest same.
       let hs = happenings s.network notes in
-      let there : IsIn z old.coming = subst (λ (l : List Happening). IsIn z l) (sym same) (inl refl) in
-      let due = subst (λ (l : List Happening). IsDue s l z) (append-nil hs) (old.are.founded [] rest z same).1 in
+      let there : IsIn z world.settled = subst (λ (l : List Happening). IsIn z l) (sym same) (inl refl) in
+      let first = subst (λ (l : List Happening). IsDueAs s l z) (append-nil hs) (old.are.founded [] rest z same).1 in
+      let y = happening s.network hs (note_of notes z) in
+      let place : place_of y ≡ place_of z = ap place_of (sym first.same) in
+      let due : IsDue s hs y =
+      record { number = ap (λ (n : ℕ). n + 1) (length_is s notes); same = refl; begun = first.begun; cause = first.cause } in
       let behind = old.are.behind_mark z there in
       let of_now = old.are.of_now z there in
-      let before : (h : Happening) → IsIn h hs → IsBefore (place_of h) (place_of z) = λ h i.
+      let before : (h : Happening) → IsIn h hs → IsBefore (place_of h) (place_of y) = λ h i.
+      subst (λ (p : List ℕ). IsBefore (place_of h) p) (sym place)
       (let marked = old.run.within h i in elim (either_way (place_of h) (place_of z)) [
         | inl lt ↦ lt
         | inr (inl e) ↦ absurd (behind (subst (λ (p : List ℕ). IsBefore p old.mark) e marked))
         | inr (inr gt) ↦ absurd (behind (chain (place_of z) (place_of h) old.mark gt marked))
       ]) in
-      let other = run.full hs [] z (sym (append-nil hs)) before (λ h none. absurd none) due (inl (omega (arith, of_now, at))) in
-      behind (subst (λ (p : List ℕ). IsBefore p old.mark) other.2 (old.run.within other.0 other.1)))
+      let other = run.full hs [] y (sym (append-nil hs)) before (λ h none. absurd none) due (inl (omega (arith, of_now, at))) in
+      behind (subst (λ (p : List ℕ). IsBefore p old.mark) (other.2 ∙ place) (old.run.within other.0 other.1)))
 
-  none_left : HasCome world (happenings s.network notes) t → old.coming ≡ []
+  none_left : HasCome world (happenings s.network notes) t → world.settled ≡ []
   none_left (inl past) = none_early past.1
   none_left (inr here) = none_now here.0
 
@@ -128,12 +135,12 @@ local_is fresh after_step reading stands own network state t events notes device
     let le = come reading (keeps stands) s world notes old t complete.all complete.come in
     let held = old.devices device there in
     let empty = none_left reading (keeps stands) s world notes old t complete.all complete.come in
-    let at = held_shows (keeps stands) s hs old.coming old.mark old.cursor now device held.0 held.2
+    let at = held_shows (keeps stands) s hs world.settled old.mark old.cursor now device held.0 held.2
     (worked reading (keeps stands) s world notes old t complete.all complete.come)
     (all_past reading (keeps stands) s world notes old) old.befallen in
-    let all : hs ++ old.coming ≡ hs = ap (λ (l : List Happening). hs ++ l) empty ∙ append-nil hs in
+    let all : hs ++ world.settled ≡ hs = ap (λ (l : List Happening). hs ++ l) empty ∙ append-nil hs in
     let past = no_later s t notes complete.all in
-    let same : up_to now (hs ++ old.coming) ≡ up_to t hs =
+    let same : up_to now (hs ++ world.settled) ≡ up_to t hs =
     ap (up_to now) all ∙ all_up_to now hs (λ h i. (let was = past h i in omega (arith, was, le))) ∙ sym (all_up_to t hs past) in
     let node = at.0 in
     let machine : held.0 ≡ shows.kept = some_same held.0 shows.kept _ held.1 shows.kept_is in

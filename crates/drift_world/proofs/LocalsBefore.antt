@@ -3,15 +3,15 @@ use Rattle.drift_world.proofs.{Locals.no_first, Words.{is_broken, keeps, length,
 use Rattle.drift_world.proofs.Words.{◌++◌, ◌<◌, ◌∙◌, ◌∷◌, ◌≡◌, Bool, DeviceId, DeviceState, Happening, IsBefore, IsHeld, IsIn, IsLocalClockBefore, Kept, List}
 use Rattle.drift_world.proofs.Words.{Network, Node, Note, Option, Scenario, Shows, Stands, Units, World, [], ap, append-nil, arith, false, happenings, inl, inr}
 use Rattle.{drift_world.specs.declared.state.State.State, run_law.specs.device.States.{adjustment_before, state_before}}
-use Rattle.world_law.{proofs.giving.Given.some_same, specs.world.World.IsKept}
+use Rattle.world_law.{proofs.giving.GivenParts.some_same, specs.world.World.IsKept}
 use Rattle.sync_state.specs.declared.state.State.TheVariants as states
 
 -- ---- where only events of the instant are worked off
 
 -- nothing is to come
 pub none_coming : {C M : Type 0} (reading : C → ℕ → ℕ) (stands : M → Network → DeviceId → Node → Type 0) (s : Scenario) (world : World C M)
-    (notes : List Note) (old : Stands reading stands s world notes) → world.early ≡ true → old.coming ≡ []
-none_coming reading stands s world notes old early = no_first old.coming (λ z rest same.
+    (notes : List Note) (old : Stands reading stands s world notes) → world.early ≡ true → world.settled ≡ []
+none_coming reading stands s world notes old early = no_first world.settled (λ z rest same.
     let begun = old.are.begun z (subst (λ (l : List Happening). IsIn z l) (sym same) (inl refl)) in
     never_self (world.now ∷ 2 ∷ []) (old.early early (world.now ∷ 2 ∷ []) begun))
 
@@ -73,7 +73,7 @@ local_is_before reading stands s own state notes device t shown old early lt at 
     let now = world.now in
     let there : device.0 < length s.network.device = subst (λ (n : Network). device.0 < length n.device) old.same lt in
     let held = old.devices device there in
-    let machine = sound_shows (keeps stands) s hs old.coming old.cursor now device held.0 held.2
+    let machine = sound_shows (keeps stands) s hs world.settled old.cursor now device held.0 held.2
     (none_coming reading (keeps stands) s world notes old early) (old.early early) in
     let node = machine.0 in
     let same : held.0 ≡ shows.kept = some_same held.0 shows.kept _ held.1 shows.kept_is in

@@ -1,10 +1,10 @@
 -- The first of what is settled may be given, where the state stands.
-use Rattle.{drift_world.proofs.{FirstSettled.first_of, HiddenCauses.change_or_other}, world_state.specs.Giving.{CameBy, HasItsFrame, IsYoung, MayBeGiven}}
+use Rattle.{world_law.specs.world.World.IsDueAs, world_state.specs.Giving.{CameBy, HasItsFrame, IsYoung, MayBeGiven}}
 use Rattle.{drift_world.proofs.Sendings.link_within, run_law.proofs.law.FirstPlaces.founded_at, std.proofs.Common.slice_get}
 use Rattle.drift_world.proofs.Words.{◌+◌, ◌<◌, ◌^◌, ◌∙◌, ◌∷◌, ◌≡◌, ◌≤◌, Accepted, Arrived, ArrivedAt, Arrives, Changed, Compressed, Delivered, DeviceId}
 use Rattle.drift_world.proofs.Words.{Dropped, Happening, HasItsOctets, IsCaused, IsDue, IsFounded, IsInRange, Left, LinkId, List, Lost, Network, Node, None}
 use Rattle.drift_world.proofs.Words.{Note, NoteBody, Option, Pcf, Permanent, Scenario, Settled, Some, Stands, TtSent, Units, World, [], amount, ap, append-nil}
-use Rattle.drift_world.proofs.Words.{arith, frame_by, happenings, hidden_body, length, link_at, numbered_in, place_of, refl, same_Some, settled_at}
+use Rattle.drift_world.proofs.Words.{arith, frame_by, happenings, length, link_at, numbered_in, place_of, refl, same_Some, settled_at}
 use Rattle.{drift_world.proofs.Words.{slice_get_within, subst, sym, time_of, with_clock, ℕ}, world_law.proofs.frames.Proper.{arrived_so, launched_frame}}
 use Rattle.{run_law.{proofs.control.Arrived.arrived_young, specs.runs.DueRecords.IsArrivedRecord}, std.specs.Prelude.{option_and_then, option_map}}
 use Rattle.{run_law.specs.declared.note.NoteBody.TheVariants.{Clock, Corrected, Event, Sent}, world_law.proofs.steps_lemmas.hearing.Receptions.receiver_in}
@@ -66,22 +66,14 @@ caused_may s hs time (Delivered a b c d e) frame range founded caused own = reco
 caused_may s hs time (Dropped a b c d) frame range founded caused own = record { by = tt; young = tt; arrived = tt; framed = λ e is none. absurd cc }
 caused_may s hs time (Clock a b c d) frame range founded caused own = record { by = tt; young = tt; arrived = tt; framed = λ e is none. absurd cc }
 
--- a record that hides its cause may be given as it may with it
-hidden_may : (network : Network) (given : ℕ) (body : NoteBody) (frame : Option Pcf) → MayBut network body frame → MayBut network (hidden_body given body) frame
-hidden_may network given body frame may = grind (arith, change_or_other, hidden_body)
-
 -- ---- the first of what is settled
 
 first_may : {C M : Type 0} (reading : C → ℕ → ℕ) (stands : M → Network → DeviceId → Node → Type 0) (s : Scenario) (world : World C M) (notes : List Note)
     (z : Happening) (rest : List Happening) → Stands reading stands s world notes → world.settled ≡ z ∷ rest → MayBut s.network z.note.body z.frame
 first_may reading stands s world notes z rest old is =
     let hs = happenings s.network notes in
-    let of = first_of (length notes) old.coming z rest (sym is ∙ old.settled) in
-    let due : IsDue s hs of.first = subst (λ (l : List Happening). IsDue s l of.first) (append-nil hs) (old.are.founded [] of.others of.first of.whole).1 in
-    let may = caused_may s hs of.first.note.time of.first.note.body of.first.frame old.range old.run.founded due.cause
-    (ap (λ (h : Happening). h.frame) due.same)
-    in
-    subst (λ (h : Happening). MayBut s.network h.note.body h.frame) (sym of.shows) (hidden_may s.network (length notes) of.first.note.body of.first.frame may)
+    let due : IsDueAs s hs z = subst (λ (l : List Happening). IsDueAs s l z) (append-nil hs) (old.are.founded [] rest z is).1 in
+    caused_may s hs z.note.time z.note.body z.frame old.range old.run.founded due.cause (ap (λ (h : Happening). h.frame) due.same)
 
 -- it may be given, with its octets
 pub may_be_given : {C M : Type 0} (reading : C → ℕ → ℕ) (stands : M → Network → DeviceId → Node → Type 0) (s : Scenario) (world : World C M)

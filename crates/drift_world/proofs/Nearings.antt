@@ -8,7 +8,7 @@ use Rattle.drift_world.specs.Nearing.{IsLess, IsNoFarther, Nears, acting, burden
 use Rattle.drift_world.{proofs.Parts.part_most, specs.{Acting.IsIdleAt, Parts.part_rank, declared.part.Part.Part}}
 use Rattle.world_state.specs.declared.{queue.Entry.Entry, timers.Timer.Timer}
 use Rattle.{drift_world.specs.Turns.IsActive, std.proofs.{Common.{drop, slice_get}, lemmas.List.length-drop}}
-use Rattle.{drift_world.specs.declared.{next.Turn.TheVariants.{Ends, Gives, GoesOn}, state.State.State}, world_law.proofs.giving.Given.some_same}
+use Rattle.{drift_world.specs.declared.{next.Turn.TheVariants.{Ends, Gives, GoesOn}, state.State.State}, world_law.proofs.giving.GivenParts.some_same}
 
 -- ---- what is due at the times of timers
 

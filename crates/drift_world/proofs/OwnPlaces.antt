@@ -83,11 +83,11 @@ put_first z settled new (suc k) front put = let within = put.within in
     absurd (front.none k z (omega arith) (omega (arith, within)) (put.behind k z (omega arith)))
 
 -- so is its record, where a frame is judged
-pub judged_first : (w : Waits) (is : Ripe) (settled : List Settled) → IsJudged is → IsPutAt (ripe_record w is) settled (ripe_record w is ∷ settled) 0
-    → AreSettledSo w is settled (ripe_record w is ∷ settled)
-judged_first w ripe.Integrates settled judged front = absurd judged
-judged_first w (ripe.Dropped reason) settled judged front = absurd judged
-judged_first w other settled judged front = record { mid = _; at = 0; first = front; more = refl }
+pub judged_first : (number : ℕ) (w : Waits) (is : Ripe) (settled : List Settled) → IsJudged is
+    → IsPutAt (ripe_record w is) settled (ripe_record w is ∷ settled) 0 → AreSettledSo number w is settled (ripe_record w is ∷ settled)
+judged_first number w ripe.Integrates settled judged front = absurd judged
+judged_first number w (ripe.Dropped reason) settled judged front = absurd judged
+judged_first number w other settled judged front = record { mid = _; at = 0; first = front; more = refl }
 
 -- the world of a state in which it is settled first, elsewhere in memory
 pub first_world : {C M : Type 0} (network : Network) (old new : State C M) (first : Settled) (rest : List Settled)

@@ -1,5 +1,5 @@
 -- A record that is put in at its place.
-use Rattle.{drift_world.proofs.HiddenCauses.InOrder, run_law.proofs.runs.Places.{either_way, in_left}, std.proofs.lemmas.List.take-append-drop}
+use Rattle.{drift_world.proofs.Rising.InOrder, run_law.proofs.runs.Places.{either_way, in_left}, std.proofs.lemmas.List.take-append-drop}
 use Rattle.drift_world.proofs.Words.{◌++◌, ◌+◌, ◌<◌, ◌∙◌, ◌∷◌, ◌≡◌, ◌≤◌, ArePutIn, AtPort, Bool, Happening, IsBefore, IsPutAt, IsSomePut, List, Network, None}
 use Rattle.drift_world.proofs.Words.{NoneBefore, NoteBody, Scenario, Settled, Some, [], ap, arith, chain, departure_body, false, frame_from, if◌then◌else◌}
 use Rattle.drift_world.proofs.Words.{in_parts, in_right, inl, inr, length, map, never_self, own_place, place_of, refl, settled_as, settled_at, subst, suc, sym}

@@ -1,14 +1,14 @@
 -- A frame that waits is permanent: its machine may be asked, and the state stands behind it.
 use Rattle.{drift_world.proofs.Fits.{all_put, all_put_some, have_octets}, world_law.proofs.steps_lemmas.ripening.RipenedSteps.{ripened_step, waits_within}}
 use Rattle.{drift_world.proofs.Fitting.cause_of, run_law.specs.{declared.steps.Ripe.Ripe, machines.Calls.MayTake}, world_law.specs.world.Moves.IsWithout}
-use Rattle.{drift_world.proofs.HiddenCauses.{InOrder, settled_in_order}, world_state.specs.Ripening.{AreSettledSo, joined_record, judged_so, ripe_record}}
+use Rattle.{drift_world.proofs.Rising.{InOrder, settled_in_order}, world_state.specs.Ripening.{AreSettledSo, joined_record, judged_so, ripe_record}}
 use Rattle.{drift_world.proofs.Puts.{one_put_in, two_put_in}, world_state.proofs.{Swaps.{stayed, stays, was_there}, queue_lemmas.Bags.each_apart}}
 use Rattle.drift_world.proofs.Words.{◌+◌, ◌<◌, ◌^◌, ◌↔◌, ◌∙◌, ◌∷◌, ◌≡◌, ◌≤ℤ◌, ◌≤◌, AreApart, ArePutIn, ComesFirst, DeviceId, Happening, IsAt, IsIn}
 use Rattle.drift_world.proofs.Words.{IsPermutation, IsPermutation-map, IsPutAt, Joining, Kept, List, Moment, Network, Node, Note, Option, Scenario, Settled}
 use Rattle.drift_world.proofs.Words.{Some, Stands, StandsBehind, StandsFor, Units, Waiting, Waits, [], ap, arith, behind, false, frame_from}
-use Rattle.drift_world.proofs.Words.{get_or_from_slice_get, happenings, in_get, is_mapped, is_set, keeps, length, map, moment_of, none_yet, pos, refl}
+use Rattle.drift_world.proofs.Words.{get_or_from_slice_get, happenings, in_get, is_mapped, is_set, keeps, length, map, moment_of, pos, refl}
 use Rattle.drift_world.proofs.Words.{ripe_place, settled_as, settled_at, slice_get_within, slice_set, subst, sym, units_of, waiting_as, world_of, ℕ}
-use Rattle.{drift_world.specs.declared.state.State.State, tte_units.proofs.general_lemmas.Naturals.flips, world_law.proofs.giving.Given.some_same}
+use Rattle.{drift_world.specs.declared.state.State.State, tte_units.proofs.general_lemmas.Naturals.flips, world_law.proofs.giving.GivenParts.some_same}
 use Rattle.{run_law.{proofs.records.Members.from_map, specs.declared.judgement.Judgement.Judgement}, world_law.proofs.steps_lemmas.ripening.Asking.may_ask}
 use Rattle.{run_law.proofs.records.Order.all_of, std.{proofs.Common.{All, nat_eq}, specs.{List.slice_get, Option.option_and_then}}}
 use Rattle.{std.proofs.lemmas.Map.Keys.{IsDistinct-IsPermutation, IsDistinct-head, IsDistinct-tail}, world_law.specs.steps.Ripening.{HasRipened, ripe_bodies}}
@@ -133,20 +133,21 @@ module _ (s : Scenario) (network : Network) (now : ℕ) (hs : List Happening) (w
       (subst (λ (l : List Settled). IsPutAt (judged_so w verdict) old l at) (sym same) put) order
       (frame_is s network now hs w verdict of)
 
-  pub are_put_in : (result : Ripe) (old new : List Settled) → AreSettledSo w result old new → InOrder (map (settled_at network now) old)
-      → ArePutIn s.network hs now (ripe_bodies w.device w.link w.cause w.point result) (map (settled_at network now) old)
+  pub are_put_in : (number : ℕ) (result : Ripe) (old new : List Settled) → AreSettledSo number w result old new
+      → InOrder (map (settled_at network now) old)
+      → ArePutIn s.network hs now (ripe_bodies number w.device w.link w.cause w.point result) (map (settled_at network now) old)
       (map (settled_at network now) new)
-  are_put_in ripe.Opened old new a order = judged_in judgements.Opened old a.mid new a.at a.first a.more order
-  are_put_in ripe.Joined old new a order = judged_in judgements.Joined old a.mid new a.at a.first a.more order
-  are_put_in ripe.Repeat old new a order = judged_in judgements.Repeat old a.mid new a.at a.first a.more order
-  are_put_in ripe.Within old new a order = judged_in judgements.Within old a.mid new a.at a.first a.more order
-  are_put_in ripe.Outside old new a order = judged_in judgements.Outside old a.mid new a.at a.first a.more order
-  are_put_in ripe.Ignored old new a order = judged_in judgements.Ignored old a.mid new a.at a.first a.more order
-  are_put_in ripe.Integrates old new a order =
+  are_put_in number ripe.Opened old new a order = judged_in judgements.Opened old a.mid new a.at a.first a.more order
+  are_put_in number ripe.Joined old new a order = judged_in judgements.Joined old a.mid new a.at a.first a.more order
+  are_put_in number ripe.Repeat old new a order = judged_in judgements.Repeat old a.mid new a.at a.first a.more order
+  are_put_in number ripe.Within old new a order = judged_in judgements.Within old a.mid new a.at a.first a.more order
+  are_put_in number ripe.Outside old new a order = judged_in judgements.Outside old a.mid new a.at a.first a.more order
+  are_put_in number ripe.Ignored old new a order = judged_in judgements.Ignored old a.mid new a.at a.first a.more order
+  are_put_in number ripe.Integrates old new a order =
       two_put_in s.network network now hs (kinds.Permanent w.device w.link w.cause w.point judgements.Integrates)
-      (kinds.State w.device Joining none_yet whys.Frame) (judged_so w judgements.Integrates) _ old a.mid new a.at a.more.0 a.first a.more.1 order
+      (kinds.State w.device Joining number whys.Frame) (judged_so w judgements.Integrates) _ old a.mid new a.at a.more.0 a.first a.more.1 order
       (frame_is s network now hs w judgements.Integrates of) refl
-  are_put_in (ripe.Dropped reason) old new a order =
+  are_put_in number (ripe.Dropped reason) old new a order =
       one_put_in s.network network now hs (kinds.Dropped w.device w.link w.cause reason) (ripe_record w (ripe.Dropped reason)) old new a.at
       (subst (λ (l : List Settled). IsPutAt (ripe_record w (ripe.Dropped reason)) old l a.at) (sym a.more) a.first) order refl
 
@@ -161,13 +162,14 @@ record_fits w ripe.Integrates = tt
 record_fits w ripe.Ignored = tt
 record_fits w (ripe.Dropped reason) = tt
 
-joined_fits : (device : DeviceId) (result : Ripe) (z : Settled) → joined_record device result ≡ Some z → have_octets z
-joined_fits device ripe.Integrates z e = subst have_octets (some_same _ z _ refl e) tt
-joined_fits device other z e = absurd cc
+joined_fits : (number : ℕ) (device : DeviceId) (result : Ripe) (z : Settled) → joined_record number device result ≡ Some z → have_octets z
+joined_fits number device ripe.Integrates z e = subst have_octets (some_same _ z _ refl e) tt
+joined_fits number device other z e = absurd cc
 
-pub octets_fit : (w : Waits) (result : Ripe) (old new : List Settled) → AreSettledSo w result old new → All have_octets old → All have_octets new
-octets_fit w result old new a all =
-    all_put_some have_octets (joined_record w.device result) a.mid new a.more (joined_fits w.device result)
+pub octets_fit : (number : ℕ) (w : Waits) (result : Ripe) (old new : List Settled) → AreSettledSo number w result old new
+    → All have_octets old → All have_octets new
+octets_fit number w result old new a all =
+    all_put_some have_octets (joined_record number w.device result) a.mid new a.more (joined_fits number w.device result)
     (all_put have_octets (ripe_record w result) old a.mid a.at a.first (record_fits w result) all)
 
 -- ---- so the state stands behind it
@@ -176,7 +178,8 @@ pub ripened : {C M : Type 0} (reading : C → ℕ → ℕ) (stands : M → Netwo
     (w : Waits) (new : List Waits) (machine after : Kept M) (result : Ripe) (settled : List Settled)
     → IsPermutation state.waiting.items (w ∷ new) → AreApart state.waiting.items
     → ((clock : C) → slice_get state.clocks.items w.device.0 ≡ Some clock → w.point.0 ≤ℤ pos (reading clock state.time))
-    → w.device.0 < length state.machines.items → slice_get state.machines.items w.device.0 ≡ Some machine → AreSettledSo w result state.settled.items settled
+    → w.device.0 < length state.machines.items → slice_get state.machines.items w.device.0 ≡ Some machine
+    → AreSettledSo (state.given + 1) w result state.settled.items settled
     → (s : Scenario) (notes : List Note) (old : Stands reading (keeps stands) s (world_of network state) notes)
     → ComesFirst reading (keeps stands) s (world_of network state) notes old (ripe_place state.time (waiting_as w))
     → HasRipened (keeps stands) s.network w.device (moment_of s w.device state.time) w.link w.frame w.point result machine after
@@ -196,4 +199,5 @@ ripened reading stands network state w new machine after result settled t apart 
     ripened_step reading (keeps stands) s world notes (waiting_as w) machine after result (slice_set state.machines.items w.device.0 after)
     (map waiting_as new) (map (settled_at network state.time) settled) old inside (point reading stands network state w there reached s notes old) first own has
     (is_set state.machines.items w.device.0 after many) (without w state.waiting.items new t apart state.time)
-    (are_put_in s network state.time hs w of result state.settled.items settled put (settled_in_order reading (keeps stands) s world notes old))
+    (are_put_in s network state.time hs w of (length notes + 1) result state.settled.items settled
+    (subst (λ (n : ℕ). AreSettledSo (n + 1) w result state.settled.items settled) old.given put) (settled_in_order reading (keeps stands) s world notes old))

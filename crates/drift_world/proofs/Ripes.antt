@@ -1,7 +1,7 @@
 -- The first of the frames that wait at a device and are reached.
 use Rattle.drift_world.proofs.Words.{◌≡◌, ◌≤ℤ◌, DeviceId, IfNone, IfSome, IsIn, None, Option, Some, Waits, arith, pos, ripe_place, waiting_as, ℕ}
 use Rattle.{drift_world.specs.Ripening.IsFirstRipe, net_plan.proofs.SameIds.same_device, std.proofs.Common.slice_get}
-use Rattle.{drift_world.specs.declared.state.State.State, world_law.proofs.giving.Given.some_same, world_state.specs.Reaching.IsFirstReached}
+use Rattle.{drift_world.specs.declared.state.State.State, world_law.proofs.giving.GivenParts.some_same, world_state.specs.Reaching.IsFirstReached}
 
 -- so it is of all that wait
 pub first_ripe : {C M : Type 0} (reading : C → ℕ → ℕ) (state : State C M) (device : DeviceId) (now : ℕ) (clock : C)

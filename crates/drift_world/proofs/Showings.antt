@@ -2,7 +2,7 @@
 use Rattle.drift_world.proofs.Words.{◌<◌, ◌∙◌, ◌≡◌, AreWays, AtPort, Bool, DeviceId, Down, IsOf, Kept, LinkId, List, Network, Node, Note, Scenario, Some}
 use Rattle.drift_world.proofs.Words.{Stands, Up, Way, WayState, ap, false, if◌then◌else◌, is_broken, is_cut, length, map, slice_get-map, true, way_as, way_from}
 use Rattle.{drift_world.{proofs.Words.{way_now, world_of, ℕ}, specs.declared.state.State.State}, world_state.specs.Leaving.{departed, departure_in}}
-use Rattle.{std.{proofs.Common.arith, specs.{List.slice_get, Option.option_map}}, world_law.proofs.giving.Given.some_same}
+use Rattle.{std.{proofs.Common.arith, specs.{List.slice_get, Option.option_map}}, world_law.proofs.giving.GivenParts.some_same}
 
 pub shows_of : {C M : Type 0} (reading : C → ℕ → ℕ) (stands : Kept M → Network → DeviceId → Node
     → Type 0) (s : Scenario) (network : Network) (state : State C M) (notes : List Note) → Stands reading stands s (world_of network state) notes

@@ -1,5 +1,5 @@
 -- A device is turned on at the present instant where such an event befell and is pending.
-use Rattle.{drift_world.proofs.HiddenCauses.Rises, run_law.proofs.{law.FirstPlaces.in_at, records.Order.in_any}, world_law.proofs.giving.Given.some_same}
+use Rattle.{drift_world.proofs.Rising.Rises, run_law.proofs.{law.FirstPlaces.in_at, records.Order.in_any}, world_law.proofs.giving.GivenParts.some_same}
 use Rattle.drift_world.proofs.Words.{◌&&◌, ◌++◌, ◌+◌, ◌==◌, ◌∙◌, ◌∷◌, ◌≡◌, ◌≤ℤ◌, DeviceId, Happening, IsBefore, IsCaused, IsDue, IsFounded, IsIn, List, Network}
 use Rattle.drift_world.proofs.Words.{Node, NoneBefore, Note, Scenario, Some, Stands, What, World, [], amount, and_parts, any_in, ap, append_assoc, arith}
 use Rattle.drift_world.proofs.Words.{both_ways, chain, eq-eqb, eqb-true, false, happening, happenings, in_get, in_right, inl, inr, is_turned_on_at, length}

@@ -1,6 +1,6 @@
 -- A turn of a world: what comes first, and what the steps keep.
 use Rattle.{drift_world.proofs.Fits.{sound_same, sound_timers}, world_law.proofs.{acts.NoActs.nothing_comes_before, runs.Worlds.nothing_settled_is_all}}
-use Rattle.{drift_world.proofs.{Foremost.timers_later, HiddenCauses.{InOrder, settled_in_order}}, world_law.proofs.steps_lemmas.steps.Passed.none_hidden}
+use Rattle.{drift_world.proofs.{Foremost.timers_later, Rising.{InOrder, settled_in_order}}}
 use Rattle.drift_world.{proofs.{AtSource.{IsSourceRank, at_rank, own_gives, rank_most, ranks}, Sources.{of_world, sooner_too}}, specs.{Stepping.IsRekeyed, declared.{source.Source.Source, state.State.State}}}
 use Rattle.drift_world.proofs.{Timings.{passed, rekeyed, unchanged}, Words.{numbers_of, option_map_or, own_place, place_of, rank, refl, settled_at, subst, sym, true, world_of, ℕ}}
 use Rattle.drift_world.proofs.Words.{◌++◌, ◌+◌, ◌<◌, ◌^◌, ◌↔◌, ◌∙◌, ◌∷◌, ◌≡◌, ◌≤◌, AreFirsts, AreSettled, AreTimed, Bool, ChangesOnly, ComesFirst, DeviceId}
@@ -169,9 +169,8 @@ module _ {C M : Type 0} (last_step : C → ℕ) (reading : C → ℕ → ℕ) (s
       → (old : Stands reading (keeps stands) s (world_of network state) notes) → IsScenarioRun s (until ∷ []) notes
   whole_run state s notes until sound none empty later old =
       let settled : (world_of network state).settled ≡ [] = ap (map (settled_at network state.time)) empty in
-      let coming : old.coming ≡ [] = none_hidden (length notes) old.coming (sym settled ∙ old.settled) in
       nothing_settled_is_all s notes old.mark old.cursor state.time until old.run
-      (subst (λ (l : List Happening). AreSettled s (happenings s.network notes) l old.mark old.cursor state.time) coming old.are)
+      (subst (λ (l : List Happening). AreSettled s (happenings s.network notes) l old.mark old.cursor state.time) settled old.are)
       (λ p before. before_later_time p (state.time + 1) until (omega (arith, later)) (old.not_later p (old.ahead p before)))
       (nothing_comes_before reading (keeps stands) s (world_of network state) notes (until ∷ []) old
       (λ z there. absurd (subst (λ (l : List Happening). IsIn z l) settled there))

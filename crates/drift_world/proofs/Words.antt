@@ -32,18 +32,18 @@ pub use Rattle.sync_state.specs.declared.state.State.{State as DeviceState, TheV
 pub use Rattle.tte_units.proofs.general_lemmas.{Lists.in_all, Options.one}
 pub use Rattle.tte_units.specs.Amount.{amount, units_of}
 pub use Rattle.tte_units.specs.declared.units.Units.{Units}
-pub use Rattle.world_law.proofs.giving.Given.{in_get}
+pub use Rattle.world_law.proofs.giving.GivenParts.{in_get}
 pub use Rattle.world_law.specs.source.{Agreeing.scenario, First.NoSourceBefore}
 pub use Rattle.world_law.specs.world.{Calls.{HasActed, IsDueNow, moment_of}, Moves.{ArePutIn, ComesFirst, StandsBehind, settled_as}, Outcomes.departure_body}
-pub use Rattle.world_law.specs.world.World.{AreSettled, AreWays, AtPort, IsHeld, OnWire, Stands, Waiting, WayNow, World, act_place, hidden, hidden_body}
-pub use Rattle.world_law.specs.world.World.{none_yet, note_of, ripe_place, way_now, wire_place}
+pub use Rattle.world_law.specs.world.World.{AreSettled, AreWays, AtPort, IsHeld, OnWire, Stands, Waiting, WayNow, World, act_place}
+pub use Rattle.world_law.specs.world.World.{note_of, numbers_end, ripe_place, way_now, wire_place}
 pub use Rattle.world_state.proofs.queue_lemmas.Bags.{in_permuted}
 pub use Rattle.world_state.specs.queue.Places.{IsFirst, numbers_of}
 pub use Rattle.world_state.specs.declared.queue.DueAt.{DueAt}
 pub use Rattle.run_law.proofs.records.Members.{in_map as is_mapped}
 pub use Rattle.world_state.proofs.Swaps.{is_set}
 pub use Rattle.world_state.specs.{Applying.clock_after, Giving.{ArrivedAt, HasItsOctets, IsPutOn, changed_device, delay_by, wire_entry}, Keeping.keeps}
-pub use Rattle.world_state.specs.{Naming.named_settled, Places.{IsPutAt, IsSomePut, own_place}, Sound.{AreBelow, AreUnderWay, IsShort, rank_of}}
+pub use Rattle.world_state.specs.{Places.{IsPutAt, IsSomePut, own_place}, Sound.{AreBelow, AreUnderWay, IsShort, rank_of}}
 pub use Rattle.world_state.specs.Storing.{IsStoredBy}
 pub use Rattle.world_state.specs.Views.{at_port, befell_as, octets_in, octets_of, on_wire, settled_at, signal_as, stored_as, waiting_as, way_as, wire_at}
 pub use Rattle.world_state.specs.declared.contents.{Befallen.Befallen, Content.{Content, TheVariants.{Port, Wire}}, Holding.Holding, Settled.Settled}

@@ -98,7 +98,8 @@ impl<C: Clock, M: TellsKind + Drop> State<C, M> {
         Some(dispatched(way.cut, device, &entry, cycle, hand))
     }
 
-    /// The records of an act of the device that was in this state, and has this adjustment then.
+    /// The records of an act of the device that was in this state, and has this adjustment then. The first is the next
+    /// to be given, if it stands where it is done.
     #[inline(always)]
     fn outcomes_of(
         &self,
@@ -113,13 +114,17 @@ impl<C: Clock, M: TellsKind + Drop> State<C, M> {
         requires range { IsInRange network.now }
         requires row { HasItsRow (length network.now.row) act }
         requires room { 1514 ≤ vec_capacity room.old }
+        requires numbers { self.now.given + 1 < 2 ^ 64 }
         ensures { (s : Scenario) → IsOf C.reading s network.now self.now
-            → AreOutcomes s self.now.stored.items self.now.time device was adjustment act result }
+            → AreOutcomes s self.now.stored.items self.now.time (self.now.given + 1) device was adjustment act result }
     {
+        let number = self.given + 1;
         match act {
             Act::Send(frame) => sent(device, frame),
-            Act::Emit(frame, heard) => emitted(network, device, frame, heard),
-            Act::Correct(cycle, verdict) => corrected(device, was, cycle, adjustment, verdict),
+            Act::Emit(frame, heard) => emitted(network, number, device, frame, heard),
+            Act::Correct(cycle, verdict) => {
+                corrected(number, device, was, cycle, adjustment, verdict)
+            }
             Act::Dispatch(row, cycle) => Outcomes {
                 first: self.dispatched_at(network, device, row, cycle, room),
                 second: None,
@@ -155,6 +160,7 @@ impl<C: Clock, M: TellsKind + Drop> State<C, M> {
             → moment ≡ moment_of s device self.old.time }
         requires room { deque_len self.old.settled + 2 ≤ deque_capacity self.old.settled }
         requires spare { 1514 ≤ vec_capacity self.old.spare }
+        requires numbers { self.old.given + 1 < 2 ^ 64 }
         requires due { IsDueAt C.reading M.stands network.now self.old part device }
         requires above { AreAbove (part_rank part) self.old }
         requires comes { IsAt C.reading M.stands network.now self.old (part_place part self.old.time device) }

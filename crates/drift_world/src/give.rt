@@ -13,7 +13,6 @@ use tte_units::frames::Pcf;
 use world_state::OutOfMemory;
 use world_state::contents::{Settled, Spot, Timed};
 use world_state::giving::{Giving, give_frame, make_room};
-use world_state::naming::name_followers;
 use world_state::sending::{put_on, sent_by};
 use world_state::storing::{store, taker};
 use world_state::waiting::{giver, waiter};
@@ -178,7 +177,6 @@ impl<C: Clock, M: Machine + Drop> State<C, M> {
           under_way = self.new.under_way;
           waiting = self.new.waiting;
           stored = self.new.stored;
-          settled = self.new.settled;
           given = self.old.given + 1;
         } }
         ensures sound { IsSound C.last_step network.now self.new }
@@ -192,7 +190,6 @@ impl<C: Clock, M: Machine + Drop> State<C, M> {
         ensures others { ChangesOnly (changed_device first.body) self.old self.new }
     {
         let number = self.given + 1;
-        name_followers(&mut self.settled, number, &first.body);
         self.launch_frame(network, &first.body, first.frame, number);
         let Settled {
             body,

@@ -139,6 +139,7 @@ impl<C: Clock, M: TellsKind + Drop> State<C, M> {
         ensures err { OnErr result (self.new.time ≡ self.old.time) }
     {
         let before = self.due_of(network, one.device.0);
+        let number = self.given + 1;
         let ripened = self.ripen_waits(network, one.device);
         if is_judged(ripened.ripe) {
             let record = record_of(&ripened.waits, ripened.ripe);
@@ -146,7 +147,7 @@ impl<C: Clock, M: TellsKind + Drop> State<C, M> {
             self.rekey_from(network, one.device.0, before);
             return turn;
         }
-        settle_ripe(&mut self.settled, &ripened.waits, ripened.ripe);
+        settle_ripe(&mut self.settled, number, &ripened.waits, ripened.ripe);
         self.rekey_from(network, one.device.0, before);
         Ok(Turn::GoesOn)
     }

@@ -48,7 +48,7 @@ impl<C: Clock, M: Machine + Drop> State<C, M> {
         ensures sound { IsSound C.last_step network.now self.new }
         ensures is { first_of self.old.waiting device.0 ≡ Some result.waits }
         ensures stands { (settled : List SettledValue)
-            → AreSettledSo result.waits result.ripe self.old.settled.items settled
+            → AreSettledSo (self.old.given + 1) result.waits result.ripe self.old.settled.items settled
             → StandsPast C.reading M.stands network.now self.old self.new
             (ripe_place self.old.time (waiting_as result.waits)) settled }
         ensures same { self.new ≡ record self.old {

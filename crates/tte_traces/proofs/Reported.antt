@@ -10,7 +10,7 @@ use Rattle.{world_drive.specs.{Observing.{PutsFurther, Told, told_by}, exact.Wor
 pub own_note : (network : Network) (events : List Event) (notes : List Note) (note : Note) (world : ExactWorld)
     → StandsExact network world events (notes ++ note ∷ []) → IsNoteOf network note
 own_note network events notes note world stands =
-    note_of (scenario network (clock_reading network events) events) stands.is.mark notes note stands.is.coming stands.is.range stands.of_network stands.is.run
+    note_of (scenario network (clock_reading network events) events) stands.is.mark notes note world.settled stands.is.range stands.of_network stands.is.run
     stands.is.known
 
 report_one : (network : Network) (notes : List Note) (note : Note)

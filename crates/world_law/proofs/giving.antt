@@ -1,5 +1,5 @@
 -- The first of what is to come is given.
 pub mod GivenParts
-pub mod Naming
 pub mod Given
 pub mod Storing
+pub mod GivenAs

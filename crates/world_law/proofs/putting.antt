@@ -5,10 +5,10 @@ pub mod Idle
 pub mod PutIn
 pub mod Moving
 pub mod Putting
-pub mod HiddenLists
-pub mod Bumped
+pub mod AsStates
 pub mod Near
 pub mod NearPut
+pub mod Numbering
 pub mod Placing
 pub mod PutOne
 pub mod Bearing

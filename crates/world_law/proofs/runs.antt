@@ -10,3 +10,4 @@ pub mod Applies
 pub mod Stays
 pub mod SourcesBack
 pub mod Foremost
+pub mod FoundedAs

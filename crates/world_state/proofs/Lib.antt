@@ -9,7 +9,6 @@ pub mod Hearings
 pub mod Made
 pub mod Placings
 pub mod Mapped
-pub mod Leading
 pub mod PutTo
 pub mod Swaps
 pub mod UnderWays

@@ -6,7 +6,7 @@ use Rattle.{run_law.specs.records.Order.{IsBefore, IsIn}, std.proofs.lemmas.{Boo
 use Rattle.std.proofs.Common.{◌++◌, ◌<◌, ◌∙◌, ◌∷◌, ◌≡◌, ◌≤ℤ◌, ◌⊎◌, Bool, List, None, Option, Some, [], ap, arith, false, inl, inr, is_some, length, map, not}
 use Rattle.std.{proofs.Common.{pos, refl, slice_get, slice_set, subst, suc, sym, true, zero, ℕ}, specs.Option.{option_and_then, option_map, option_map_or}}
 use Rattle.std.proofs.lemmas.List.Sorted.{IsPermutation-append_left, IsPermutation-append_right, IsPermutation-middle, IsPermutation-sym, IsPermutation-trans}
-use Rattle.{world_law.proofs.giving.Given.some_same, world_state.specs.{Timing.IsLeastPoint, queue.Queues.Queue}}
+use Rattle.{world_law.proofs.giving.GivenParts.some_same, world_state.specs.{Timing.IsLeastPoint, queue.Queues.Queue}}
 use Rattle.world_state.specs.{Frames.{AreQueued, IsFirstAt, IsQueued, NoneAt, first_frame, frames_in, frames_of, queue_place}, declared.contents.Waits.Waits}
 
 abbrev pub content_of : Entry Waits → Waits

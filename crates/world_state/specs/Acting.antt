@@ -4,7 +4,7 @@ use Rattle.{compression.specs.declared.compressed.Compressed.Compressed, run_law
 use Rattle.{net_plan.specs.declared.ids.{DeviceId.DeviceId, VlId.VlId}, world_state.specs.declared.hands.AtHand.AtHand}
 use Rattle.{net_plan.specs.declared.network.Network.Network, schedule_tables.specs.declared.entry.Entry.Entry}
 use Rattle.tte_units.specs.declared.frames.pcf.Pcf.{Pcf}
-use Rattle.world_law.specs.world.{Outcomes.judged_as, World.none_yet}
+use Rattle.world_law.specs.world.Outcomes.{judged_as}
 use Rattle.{run_law.specs.declared.{judgement.Why.Why, steps.Ripe.Ripe}, tte_units.specs.declared.units.Units.Units}
 use Rattle.run_law.specs.{declared.note.NoteBody.NoteBody, scenario.{Scenarios.Scenario, Ways.{is_cut, way_from}}}
 use Rattle.{run_law.specs.{declared.steps.Act.Act, records.Order.IsIn}, schedule_tables.specs.Entries.IsEntry}
@@ -31,35 +31,35 @@ framed body frame = record { body = body; frame = Some frame; octets = None }
 abbrev pub sent_by : DeviceId → Pcf → Outcomes
 sent_by device frame = record { first = Some (framed (kinds.Sent device frame.cycle) frame); second = None }
 
--- a frame of its own that tells a device the time makes it joining
-abbrev pub joined_by : DeviceId → Ripe → Option Settled
-joined_by device ripe.Integrates = Some (bare (kinds.State device Joining none_yet whys.Frame))
-joined_by device other = None
+-- a frame of its own, the record of this number, that tells a device the time makes it joining
+abbrev pub joined_by : ℕ → DeviceId → Ripe → Option Settled
+joined_by number device ripe.Integrates = Some (bare (kinds.State device Joining number whys.Frame))
+joined_by number device other = None
 
--- the records of the frame of a collection
-abbrev pub emitted_by : Network → DeviceId → Compressed → Ripe → Outcomes
-emitted_by network device sent heard = record {
+-- the records of the frame of a collection, where the first will have this number
+abbrev pub emitted_by : Network → ℕ → DeviceId → Compressed → Ripe → Outcomes
+emitted_by network number device sent heard = record {
   first = Some (framed (kinds.Compressed device sent.opened sent.at sent.cycle sent.members (judged_as heard))
       (integration_frame network device sent.cycle sent.members));
-  second = joined_by device heard;
+  second = joined_by number device heard;
 }
 
--- a joiner's first correction makes it synchronised
-abbrev pub first_by : DeviceId → Standing → Option Settled
-first_by device Joining = Some (bare (kinds.State device Synchronised none_yet whys.Correction))
-first_by device other = None
+-- a joiner's first correction, the record of this number, makes it synchronised
+abbrev pub first_by : ℕ → DeviceId → Standing → Option Settled
+first_by number device Joining = Some (bare (kinds.State device Synchronised number whys.Correction))
+first_by number device other = None
 
 -- the record of a clique
 abbrev pub clique_by : DeviceId → Why → Outcomes
 clique_by device why = record { first = Some (bare (kinds.State device Integrating 0 why)); second = None }
 
--- the records of a correction point
-abbrev pub corrected_by : DeviceId → Standing → ℕ → Units → Verdict → Outcomes
-corrected_by device was cycle adjustment (verdicts.Corrected by) =
-    record { first = Some (bare (kinds.Corrected device cycle by adjustment)); second = first_by device was }
-corrected_by device was cycle adjustment verdicts.SyncClique = clique_by device whys.SyncClique
-corrected_by device was cycle adjustment verdicts.AsyncClique = clique_by device whys.AsyncClique
-corrected_by device was cycle adjustment verdicts.Cleared = record { first = None; second = None }
+-- the records of a correction point, where the first will have this number
+abbrev pub corrected_by : ℕ → DeviceId → Standing → ℕ → Units → Verdict → Outcomes
+corrected_by number device was cycle adjustment (verdicts.Corrected by) =
+    record { first = Some (bare (kinds.Corrected device cycle by adjustment)); second = first_by number device was }
+corrected_by number device was cycle adjustment verdicts.SyncClique = clique_by device whys.SyncClique
+corrected_by number device was cycle adjustment verdicts.AsyncClique = clique_by device whys.AsyncClique
+corrected_by number device was cycle adjustment verdicts.Cleared = record { first = None; second = None }
 
 -- the records of what these are
 abbrev pub body_of : Option Settled → List NoteBody
@@ -102,14 +102,15 @@ pub record IsDispatched (s : Scenario) (stored : List Holding) (now : ℕ) (devi
 
 -- ---- an act
 
--- the records of the act of a device that was in this state, and has this adjustment then
-abbrev pub AreOutcomes : Scenario → List Holding → ℕ → DeviceId → Standing → Units → Act → Outcomes → Type 0
-AreOutcomes s stored now device was adjustment (acts.Send frame) result = result ≡ sent_by device frame
-AreOutcomes s stored now device was adjustment (acts.Emit sent heard) result =
-    result ≡ emitted_by s.network device sent heard
-AreOutcomes s stored now device was adjustment (acts.Correct cycle verdict) result =
-    result ≡ corrected_by device was cycle adjustment verdict
-AreOutcomes s stored now device was adjustment (acts.Dispatch row cycle) result =
+-- the records of the act of a device that was in this state, and has this adjustment then, where the first will have this
+-- number
+abbrev pub AreOutcomes : Scenario → List Holding → ℕ → ℕ → DeviceId → Standing → Units → Act → Outcomes → Type 0
+AreOutcomes s stored now number device was adjustment (acts.Send frame) result = result ≡ sent_by device frame
+AreOutcomes s stored now number device was adjustment (acts.Emit sent heard) result =
+    result ≡ emitted_by s.network number device sent heard
+AreOutcomes s stored now number device was adjustment (acts.Correct cycle verdict) result =
+    result ≡ corrected_by number device was cycle adjustment verdict
+AreOutcomes s stored now number device was adjustment (acts.Dispatch row cycle) result =
     (entry : Entry) → IsEntry s.network row.0 entry
     → IsDispatched s stored now device entry cycle result.first × (result.second ≡ None)
 

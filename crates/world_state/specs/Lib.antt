@@ -10,7 +10,6 @@ pub mod Happenings
 pub mod Hearing
 pub mod Keeping
 pub mod Leaving
-pub mod Naming
 pub mod Places
 pub mod Reaching
 pub mod Ripening

@@ -2,7 +2,7 @@
 use Rattle.std.specs.Prelude.{◌∷◌, ◌≡◌, ◌≤ℤ◌, List, None, Option, Some, [], pos, ℕ}
 use Rattle.{net_plan.specs.declared.ids.DeviceId.DeviceId, world_state.specs.Places.{IsPutAt, IsSomePut}}
 use Rattle.{run_law.specs.declared.judgement.Judgement.Judgement, world_state.specs.declared.contents.Settled.Settled}
-use Rattle.{run_law.specs.declared.steps.Ripe.Ripe, tte_units.specs.Amount.amount, world_law.specs.world.World.none_yet}
+use Rattle.{run_law.specs.declared.steps.Ripe.Ripe, tte_units.specs.Amount.amount}
 use Rattle.{sync_state.specs.declared.state.State.TheVariants.Joining, world_state.specs.declared.contents.Waits.Waits}
 use Rattle.run_law.specs.declared.judgement.Judgement.TheVariants as judgements
 use Rattle.run_law.specs.declared.judgement.Why.TheVariants as whys
@@ -32,21 +32,21 @@ ripe_record w (ripe.Dropped reason) = record {
   octets = None;
 }
 
--- the record that its device joins, where it tells the time
-abbrev pub joined_record : DeviceId → Ripe → Option Settled
-joined_record device ripe.Integrates = Some (record {
-  body = kinds.State device Joining none_yet whys.Frame;
+-- the record that its device joins, where it tells the time by the record of this number
+abbrev pub joined_record : ℕ → DeviceId → Ripe → Option Settled
+joined_record number device ripe.Integrates = Some (record {
+  body = kinds.State device Joining number whys.Frame;
   frame = None;
   octets = None;
 })
-joined_record device other = None
+joined_record number device other = None
 
--- the records of what became of it are put in
-pub record AreSettledSo (w : Waits) (result : Ripe) (old new : List Settled) : Type 0 where
+-- the records of what became of it are put in, where the first will have this number
+pub record AreSettledSo (number : ℕ) (w : Waits) (result : Ripe) (old new : List Settled) : Type 0 where
   pub mid : List Settled
   pub at : ℕ
   pub first : IsPutAt (ripe_record w result) old mid at
-  pub more : IsSomePut (joined_record w.device result) mid new
+  pub more : IsSomePut (joined_record number w.device result) mid new
 
 -- where it stands among the frames that are permanent at one instant
 abbrev pub ripe_numbers : Waits → List ℕ

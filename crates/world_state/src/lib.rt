@@ -13,7 +13,6 @@ pub mod hearing;
 pub mod kept;
 pub mod leaving;
 mod memory;
-pub mod naming;
 pub mod outcomes;
 pub mod packets;
 pub mod queue;

@@ -5,7 +5,6 @@ ghost use Rattle.world_state.specs.Acting.{bare, clique_by, corrected_by, emitte
 ghost use Rattle.world_state.specs.{Places.IsSomePut, declared.contents.Settled.{Settled as SettledValue}};
 
 use crate::contents::Settled;
-use crate::naming::NONE_YET;
 use crate::settled::put_some;
 use compression::Compressed;
 use device_rules::frames::integration_frame;
@@ -78,25 +77,31 @@ fn judged(heard: Ripe) -> Judgement
     }
 }
 
-/// The change of state of a device, where a frame of its own tells it the time.
-fn joined(device: DeviceId, heard: Ripe) -> Option<Settled>
-    ensures { result ≡ joined_by device heard }
+/// The change of state of a device, where a frame of its own, the record of this number, tells it the time.
+fn joined(number: u64, device: DeviceId, heard: Ripe) -> Option<Settled>
+    ensures { result ≡ joined_by number device heard }
 {
     match heard {
         Ripe::Integrates => Some(bare(PlainKind::State {
             device,
             state: State::Joining,
-            cause: NONE_YET,
+            cause: number,
             why: Why::Frame,
         })),
         _ => None,
     }
 }
 
-/// The records of the frame of a collection.
+/// The records of the frame of a collection. The first will have this number.
 #[inline(always)]
-pub fn emitted(network: &Network, device: DeviceId, sent: Compressed, heard: Ripe) -> Outcomes
-    ensures { result ≡ emitted_by network.now device sent heard }
+pub fn emitted(
+    network: &Network,
+    number: u64,
+    device: DeviceId,
+    sent: Compressed,
+    heard: Ripe,
+) -> Outcomes
+    ensures { result ≡ emitted_by network.now number device sent heard }
 {
     let kind = PlainKind::Compressed {
         device,
@@ -109,19 +114,19 @@ pub fn emitted(network: &Network, device: DeviceId, sent: Compressed, heard: Rip
     let frame = integration_frame(network, device, sent.cycle, sent.members);
     Outcomes {
         first: Some(framed(kind, frame)),
-        second: joined(device, heard),
+        second: joined(number, device, heard),
     }
 }
 
-/// The change of state of a joiner that corrects its clock.
-fn first_correction(device: DeviceId, was: State) -> Option<Settled>
-    ensures { result ≡ first_by device was }
+/// The change of state of a joiner that corrects its clock by the record of this number.
+fn first_correction(number: u64, device: DeviceId, was: State) -> Option<Settled>
+    ensures { result ≡ first_by number device was }
 {
     match was {
         State::Joining => Some(bare(PlainKind::State {
             device,
             state: State::Synchronised,
-            cause: NONE_YET,
+            cause: number,
             why: Why::Correction,
         })),
         State::Off | State::Integrating | State::Synchronised => None,
@@ -143,16 +148,18 @@ fn clique(device: DeviceId, why: Why) -> Outcomes
     }
 }
 
-/// The records of a correction point of a device that was in this state, and has this adjustment then.
+/// The records of a correction point of a device that was in this state, and has this adjustment then. The first will
+/// have this number.
 #[inline(always)]
 pub fn corrected(
+    number: u64,
     device: DeviceId,
     was: State,
     cycle: u32,
     adjustment: Units,
     verdict: Verdict,
 ) -> Outcomes
-    ensures { result ≡ corrected_by device was cycle adjustment verdict }
+    ensures { result ≡ corrected_by number device was cycle adjustment verdict }
 {
     match verdict {
         Verdict::Corrected(by) => Outcomes {
@@ -162,7 +169,7 @@ pub fn corrected(
                 by,
                 adjustment,
             })),
-            second: first_correction(device, was),
+            second: first_correction(number, device, was),
         },
         Verdict::SyncClique => clique(device, Why::SyncClique),
         Verdict::AsyncClique => clique(device, Why::AsyncClique),

@@ -91,9 +91,9 @@ pub fn record_of(waits: &Waits, ripe: Ripe) -> Settled
     }
 }
 
-/// The record that the device joins, where a frame tells it the time.
-fn joined(device: DeviceId, ripe: Ripe) -> Option<Settled>
-    ensures { result ≡ joined_record device ripe }
+/// The record that the device joins, where a frame tells it the time by the record of this number.
+fn joined(number: u64, device: DeviceId, ripe: Ripe) -> Option<Settled>
+    ensures { result ≡ joined_record number device ripe }
 {
     if ripe != Ripe::Integrates {
         return None;
@@ -103,7 +103,7 @@ fn joined(device: DeviceId, ripe: Ripe) -> Option<Settled>
             kind: PlainKind::State {
                 device,
                 state: DeviceState::Joining,
-                cause: u64::MAX,
+                cause: number,
                 why: Why::Frame,
             },
         },
@@ -112,11 +112,11 @@ fn joined(device: DeviceId, ripe: Ripe) -> Option<Settled>
     })
 }
 
-/// Settles what becomes of a frame that was permanent.
-pub fn settle_ripe(settled: &mut VecDeque<Settled>, waits: &Waits, ripe: Ripe)
+/// Settles what becomes of a frame that was permanent. The first record will have this number.
+pub fn settle_ripe(settled: &mut VecDeque<Settled>, number: u64, waits: &Waits, ripe: Ripe)
     requires room { deque_len settled.old + 2 ≤ deque_capacity settled.old }
-    ensures { AreSettledSo waits.now ripe settled.old.items settled.new.items }
+    ensures { AreSettledSo number waits.now ripe settled.old.items settled.new.items }
 {
     put_in(settled, record_of(waits, ripe));
-    put_some(settled, joined(waits.device, ripe));
+    put_some(settled, joined(number, waits.device, ripe));
 }

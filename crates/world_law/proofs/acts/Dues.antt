@@ -8,7 +8,7 @@ use Rattle.world_law.proofs.Words.{◌++◌, ◌-ℤ◌, ◌<ℤ◌, ◌∙◌, 
 use Rattle.world_law.proofs.Words.{Happening, HasDoneTask, IsActing, IsAtCorrection, IsIn, IsLeft, IsPending, Judgement, LinkId, List, Node, Point, Reaches}
 use Rattle.world_law.proofs.Words.{RowId, Scenario, Sends, Some, Task, Units, VlId, [], adjustment_before, ap, arith, changed_at, correcting, correction_value}
 use Rattle.world_law.proofs.Words.{dispatching, doing, earlier, emitting, false, frames_taken, inl, inr, ints, is_broken, is_timed, never_both, next_point}
-use Rattle.world_law.proofs.Words.{observation_window, plan_of, points_of, pos, reading_for, refl, sending, state_before, subst, sym, time_of, value_of, ℕ, ℤ}
+use Rattle.world_law.proofs.Words.{observation_window, plan_of, points_of, pos, reading_for, sending, state_before, subst, sym, time_of, value_of, ℕ, ℤ}
 use Rattle.run_law.specs.control.Corrections.{standing_before}
 
 -- ---- a list has a thing or not

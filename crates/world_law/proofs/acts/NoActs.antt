@@ -2,22 +2,22 @@
 -- is before it.
 use Rattle.world_law.proofs.runs.TaskPlaces.{acts_before, placed_so}
 use Rattle.world_law.proofs.acts.Dues.{IsPresent, act_due, came_not, done_or}
-use Rattle.world_law.proofs.Words.{◌+◌, ◌≤ℤ◌, HadComeTo, IsPending, before_later, hidden_body, is_at_source, key, members_in, task_place}
+use Rattle.world_law.proofs.Words.{◌+◌, ◌≤ℤ◌, HadComeTo, IsPending, before_later, is_at_source, task_place}
 use Rattle.world_law.proofs.devices.Working.{came_sooner}
-use Rattle.{net_plan.specs.declared.tables.Role.Role, sync_state.specs.Standing.state_at_start, world_law.proofs.putting.StandsOn.in_mapped}
+use Rattle.{net_plan.specs.declared.tables.Role.Role, sync_state.specs.Standing.state_at_start}
 use Rattle.{run_law.specs.declared.judgement.Why.TheVariants.On, world_law.proofs.{devices.TurnedOn.{IsQuiet, quiet_rest}, lists.Lists.{behind_no, map_none}}}
-use Rattle.{run_law.specs.scenario.Devices.{has_role, start_of}, world_law.proofs.{devices.OwnRecords.keeps_state, putting.PutShown.hidden_rank}}
+use Rattle.{run_law.specs.scenario.Devices.{has_role, start_of}, world_law.proofs.devices.OwnRecords.keeps_state}
 use Rattle.world_law.proofs.Words.{◌++◌, ◌<◌, ◌∙◌, ◌∷◌, ◌≡◌, ◌≤◌, AreOfNetwork, Bool, Compressed, Device, DeviceId, Emits, Happening}
 use Rattle.world_law.proofs.Words.{HaveBefallen, Integrating, IsActing, IsBefore, IsHeld, IsIn, IsKept, IsLeft}
 use Rattle.world_law.proofs.Words.{Judgement, List, Network, Node, None, Note, NoteBody, Off, Scenario, Some, Stands, State, Synchronised, Task, World}
 use Rattle.world_law.proofs.Words.{[], act_place, after_last, ap, append-nil, append_assoc, arith, cases_Bool, cases_lt, chain, changed_at, device_at, earlier}
-use Rattle.world_law.proofs.Words.{ends_stretch, false, filter_map, frames_taken, happenings, hidden, if◌then◌else◌, in_filter, in_left, in_parts}
-use Rattle.world_law.proofs.Words.{in_right, inl, inr, is_broken, is_turned_on_at, is_turning, length, map, moves, nat_lt, next_cycle}
+use Rattle.world_law.proofs.Words.{ends_stretch, false, filter_map, frames_taken, happenings, if◌then◌else◌, in_filter, in_left, in_parts}
+use Rattle.world_law.proofs.Words.{in_right, inl, inr, is_broken, is_turned_on_at, is_turning, length, moves, nat_lt, next_cycle}
 use Rattle.world_law.proofs.Words.{option_map_or, place_of, point_by, point_in, points_of, pos, rank, reading_for, refl}
 use Rattle.world_law.proofs.Words.{slice_get_within}
 use Rattle.world_law.proofs.{Words.{state_after, state_before, state_with, subst, sym, time_of, true, ℕ}, devices.Resting.{IsPast, IsWorked, are_past, at_rest}}
 use Rattle.world_law.proofs.{acts.Acting.IsUnmoved, runs.Foremost.{NoActBefore, acting_task, none_but_acts, not_on_after}}
-use Rattle.world_law.proofs.{giving.Given.no_later_breaks, runs.SourcesBack.{earlier_still, of_high_rank}}
+use Rattle.world_law.proofs.{giving.GivenParts.no_later_breaks, runs.SourcesBack.{earlier_still, of_high_rank}}
 use Rattle.world_law.proofs.lists.Orders.{cases_int}
 use Rattle.world_law.{proofs.rows.Dispatching.{IsLawful, dispatching_task, lawful}, specs.world.Moves.{NothingBefore, NothingComesBefore}}
 use Rattle.run_law.specs.declared.note.NoteBody.TheVariants as notes
@@ -219,43 +219,28 @@ kept_no_act {M} stands s hs coming mark cursor p now t device machine k task law
 
 -- ---- all devices
 
-frame_hidden : (given : ℕ) (z : Happening) (body : NoteBody) → z.note.body ≡ body → rank body ≡ 4 → place_of (hidden given z) ≡ place_of z
-frame_hidden given z (notes.State device state cause why) e four = absurd (omega (arith, four))
-frame_hidden given z body e four =
-    ap (λ (b : NoteBody). time_of z ∷ rank (hidden_body given b) ∷ key (members_in z) (hidden_body given b)) e
-    ∙ sym (ap (λ (b : NoteBody). time_of z ∷ rank b ∷ key (members_in z) b) e)
-
-behind_of : (given : ℕ) (coming settled : List Happening) (cursor : List ℕ) (now : ℕ) (p : List ℕ) → settled ≡ map (hidden given) coming
-    → ((z : Happening) → IsIn z coming → time_of z ≡ now) → ((z : Happening) → IsIn z coming → is_at_source z.note.body ≡ true → IsBefore (place_of z) cursor)
-    → ((z : Happening) → IsIn z settled → IsBefore (place_of z) p → ⊥) → IsBehind coming cursor now p
-behind_of given coming settled cursor now p shows of worked after =
-    let seen : (z : Happening) → IsIn z coming → IsBefore (place_of (hidden given z)) p
-    → ⊥ = λ z i. after (hidden given z) (subst (λ (l : List Happening). IsIn (hidden given z) l) (sym shows) (in_mapped (hidden given) coming z i)) in
-    record {
-      of_now = of;
-      late = λ z i device b. elim (cases_lt (rank z.note.body) 4) [
-        | inr ge ↦ ge
-        | inl low ↦
-            let at = of z i in
-            let same = hidden_rank given z.note.body in
-            absurd (seen z i (chain (place_of (hidden given z)) (act_place now device) p (inr (at, inl (omega (arith, low, same)))) b))
-      ];
-      none = λ t device lt b. from t device lt b coming of seen;
-      lone = λ z i four w not b.
-          let place = frame_hidden given z z.note.body refl four in
-          let gone = worked z i (frame_source z.note.body four) in
-          seen z i (chain (place_of (hidden given z)) w p (subst (λ (q : List ℕ). IsBefore q w) (sym place) (before_later (place_of z) w cursor gone not)) b);
-    }
+behind_of : (coming : List Happening) (cursor : List ℕ) (now : ℕ) (p : List ℕ) → ((z : Happening) → IsIn z coming → time_of z ≡ now)
+    → ((z : Happening) → IsIn z coming → is_at_source z.note.body ≡ true → IsBefore (place_of z) cursor)
+    → ((z : Happening) → IsIn z coming → IsBefore (place_of z) p → ⊥) → IsBehind coming cursor now p
+behind_of coming cursor now p of worked after = record {
+  of_now = of;
+  late = λ z i device b. elim (cases_lt (rank z.note.body) 4) [
+    | inr ge ↦ ge
+    | inl low ↦ let at = of z i in absurd (after z i (chain (place_of z) (act_place now device) p (inr (at, inl (omega (arith, low)))) b))
+  ];
+  none = λ t device lt b. from t device lt b coming of after;
+  lone = λ z i four w not b. after z i (chain (place_of z) w p (before_later (place_of z) w cursor (worked z i (frame_source z.note.body four)) not) b);
+}
   where
     frame_source : (body : NoteBody) → rank body ≡ 4 → is_at_source body ≡ true
     frame_source (notes.Compressed device opened at cycle members verdict) e = refl
     frame_source other e = absurd (omega (arith, e))
 
     from : (t : ℕ) (device : DeviceId) → now < t → IsBefore (act_place t device) p → (l : List Happening) → ((z : Happening) → IsIn z l → time_of z ≡ now)
-        → ((z : Happening) → IsIn z l → IsBefore (place_of (hidden given z)) p → ⊥) → l ≡ []
+        → ((z : Happening) → IsIn z l → IsBefore (place_of z) p → ⊥) → l ≡ []
     from t device lt b [] of_l seen = refl
     from t device lt b (z ∷ l) of_l seen =
-        let at = of_l z (inl refl) in absurd (seen z (inl refl) (chain (place_of (hidden given z)) (act_place t device) p (inl (omega (arith, lt, at))) b))
+        let at = of_l z (inl refl) in absurd (seen z (inl refl) (chain (place_of z) (act_place t device) p (inl (omega (arith, lt, at))) b))
 
 held_no_act : {M : Type 0} (stands : M → Network → DeviceId → Node → Type 0) (s : Scenario) (hs coming : List Happening) (mark cursor p : List ℕ) (now t : ℕ)
     (device : DeviceId) (machine : M) (task : Task) → IsHeld stands s hs coming cursor now device machine
@@ -278,12 +263,12 @@ no_acts reading stands s world notes p old after none t device task a not b =
     elim (cases_lt device.0 (length s.network.device)) [
       | inl lt ↦
           let m = old.devices device lt in
-          held_no_act stands s hs old.coming old.mark old.cursor p world.now t device m.0 task m.2 (lawful reading stands s world notes old device)
-          (behind_of (length notes) old.coming world.settled old.cursor world.now p old.settled old.are.of_now old.are.worked after) (are_past reading stands s world notes old)
+          held_no_act stands s hs world.settled old.mark old.cursor p world.now t device m.0 task m.2 (lawful reading stands s world notes old device)
+          (behind_of world.settled old.cursor world.now p old.are.of_now old.are.worked after) (are_past reading stands s world notes old)
           (λ two. elim (cases_Bool world.pending) [ inr told ↦ old.untold.done told | inl open_ ↦ absurd (none.befell open_ two) ]) old.befallen old.not_later le
           (λ node is u from other pending due before. none.acting device m.0 node other m.1 is pending u from due before) a not b
       | inr ge ↦ none_acts s hs device t task ge
-          (record { unmoved = λ d far h i. old.known.unmoved d far h (in_left h hs old.coming i); never_on = old.known.never_on }) a
+          (record { unmoved = λ d far h i. old.known.unmoved d far h (in_left h hs world.settled i); never_on = old.known.never_on }) a
     ]
 
 pub nothing_comes_before : {C M : Type 0} (reading : C → ℕ → ℕ) (stands : M → Network → DeviceId → Node → Type 0) → NothingComesBefore reading stands

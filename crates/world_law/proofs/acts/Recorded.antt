@@ -2,9 +2,9 @@
 use Rattle.{net_plan.proofs.SameIds.self, std.proofs.Common.Contains}
 use Rattle.world_law.proofs.Words.{◌*◌, ◌++◌, ◌+◌, ◌-ℤ◌, ◌==◌, ◌∙◌, ◌∷◌, ◌≡◌, ◌≤ℤ◌, ◌≤◌, ◌⊎◌, Bool, ClockTask, DeviceId, Dispatches}
 use Rattle.world_law.proofs.Words.{Happening, HasDoneFrom, IsIn, IsLeft, LinkId, List, Node, NoteBody, Option, Row, RowId, Scenario, Units}
-use Rattle.world_law.proofs.Words.{VlId, [], adjustment_before, amount, ap, append_assoc, arith, bears_on, both_ways, changed_at, dispatch_body, dispatching}
+use Rattle.world_law.proofs.Words.{VlId, [], adjustment_before, amount, ap, arith, bears_on, both_ways, changed_at, dispatch_body, dispatching}
 use Rattle.world_law.proofs.Words.{earlier, false, if◌then◌else◌, in_left, in_parts, in_right, inl, inr, ints, is_cut, never_both}
-use Rattle.world_law.proofs.Words.{option_map_or, plain, plain_body, plains, pos, rank, refl, subst, sym, time_of, true, value_of, way_from, ℕ, ℤ}
+use Rattle.world_law.proofs.Words.{option_map_or, pos, rank, refl, subst, sym, time_of, true, value_of, way_from, ℕ, ℤ}
 use Rattle.world_law.{proofs.runs.SourcesBack.{dispatches_same, earlier_still}, specs.device.Recorded.{AreRecorded, IsShown}}
 use Rattle.run_law.specs.declared.note.NoteBody.TheVariants as kinds
 
@@ -12,7 +12,7 @@ use Rattle.run_law.specs.declared.note.NoteBody.TheVariants as kinds
 pub first_recorded : (s : Scenario) (js coming : List Happening) (now : ℕ) (device : DeviceId) (node : Node) → IsLeft s js device now node
     → HasDoneFrom s.network (s.reading device) device node (changed_at js device now) now now → ((z : Happening) → IsIn z coming → time_of z ≡ now)
     → ((z : Happening) → IsIn z coming → (link : LinkId) (cause : ℕ) (vl : VlId) (cycle : ℕ) → Dispatches s js device now link cause vl cycle
-    → plain_body z.note.body ≡ dispatch_body s device now link cause vl cycle → ⊥) → AreRecorded s js coming now device node
+    → z.note.body ≡ dispatch_body s device now link cause vl cycle → ⊥) → AreRecorded s js coming now device node
 first_recorded s js coming now device node left done of none_dispatched = record {
   of_now = of;
   dispatched = λ link cause vl cycle d there.
@@ -59,18 +59,6 @@ abbrev pub IsNoAct : Scenario → List Happening → ℕ → DeviceId → Node �
 IsNoAct s js now device node body =
     (bears_on device body ≡ false) × ((is_sending device body ≡ false) ⊎ ((8 ≤ rank body) × DispatchesDone s js now device node))
 
-pub rank_plain : (body : NoteBody) → rank (plain_body body) ≡ rank body
-rank_plain (kinds.State other state cause why) = refl
-rank_plain other = refl
-
-plain_sending : (device : DeviceId) (body : NoteBody) → is_sending device (plain_body body) ≡ is_sending device body
-plain_sending device (kinds.State other state cause why) = refl
-plain_sending device other = refl
-
-plain_bears : (device : DeviceId) (body : NoteBody) → bears_on device (plain_body body) ≡ bears_on device body
-plain_bears device (kinds.State other state cause why) = refl
-plain_bears device other = refl
-
 -- a dispatch is shown as one of the device
 pub dispatch_sends : (s : Scenario) (device : DeviceId) (now : ℕ) (link : LinkId) (cause : ℕ) (vl : VlId) (cycle : ℕ)
     → is_sending device (dispatch_body s device now link cause vl cycle) ≡ true
@@ -87,8 +75,8 @@ dispatch_late s device now link cause vl cycle =
 
 -- what was shown is so still, and what is to come was so, or is no act of the device
 pub recorded_on : (s : Scenario) (js gs coming new : List Happening) (now : ℕ) (device : DeviceId) (node : Node) → earlier now gs ≡ earlier now js
-    → ((h : Happening) → IsIn h js → (g : Happening) × IsIn g gs × (plain_body g.note.body ≡ plain_body h.note.body) × (time_of g ≡ time_of h))
-    → ((z : Happening) → IsIn z new → (((y : Happening) × IsIn y coming × (plain_body z.note.body ≡ plain_body y.note.body))
+    → ((h : Happening) → IsIn h js → (g : Happening) × IsIn g gs × (g.note.body ≡ h.note.body) × (time_of g ≡ time_of h))
+    → ((z : Happening) → IsIn z new → (((y : Happening) × IsIn y coming × (z.note.body ≡ y.note.body))
     ⊎ IsNoAct s js now device node z.note.body) × (time_of z ≡ now)) → AreRecorded s js coming now device node → AreRecorded s gs new now device node
 recorded_on s js gs coming new now device node same on back r =
     let still : (body : NoteBody) → IsShown js now body → IsShown gs now body = λ body x.
@@ -108,7 +96,7 @@ recorded_on s js gs coming new now device node same on back r =
                 (r.has_dispatched y.0 y.1 link cause vl cycle x.0 (sym y.2 ∙ e))
             | inr none ↦ elim none.1 [
               | inl no_act ↦
-                  absurd (both_ways _ (plain_sending device z.note.body ∙ no_act) (ap (is_sending device) e ∙ dispatch_sends s device now link cause vl cycle))
+                  absurd (both_ways _ no_act (ap (is_sending device) e ∙ dispatch_sends s device now link cause vl cycle))
               | inr late ↦
                   subst (λ (n : ℕ). Contains node.done (dispatching (let row : RowId = record { 0 = n } in row) cycle)) x.1
                   (late.1 link cause vl cycle x.0)
@@ -119,63 +107,31 @@ recorded_on s js gs coming new now device node same on back r =
 -- ---- lists that differ in a record
 
 -- what the records tell of its acts stays so while a record of the instant that is none of them is put in
-pub recorded_put : (s : Scenario) (hs front back new : List Happening) (now : ℕ) (device : DeviceId) (node : Node) (w : Happening)
-    → plains (front ++ w ∷ back) ≡ plains new → time_of w ≡ now → IsNoAct s (hs ++ (front ++ back)) now device node w.note.body
-    → AreRecorded s (hs ++ (front ++ back)) (front ++ back) now device node → AreRecorded s (hs ++ new) new now device node
-recorded_put s hs front back new now device node w alike at none r =
+pub recorded_put : (s : Scenario) (hs front back : List Happening) (now : ℕ) (device : DeviceId) (node : Node) (w : Happening) → time_of w ≡ now
+    → IsNoAct s (hs ++ (front ++ back)) now device node w.note.body → AreRecorded s (hs ++ (front ++ back)) (front ++ back) now device node
+    → AreRecorded s (hs ++ (front ++ w ∷ back)) (front ++ w ∷ back) now device node
+recorded_put s hs front back now device node w at none r =
     let js = hs ++ (front ++ back) in
-    let each : (z : Happening) → IsIn z new → (((y : Happening) × IsIn y (front ++ back) × (plain_body z.note.body ≡ plain_body y.note.body))
-    ⊎ IsNoAct s js now device node z.note.body) × (time_of z ≡ now) = λ z i.
-    let x = in_plains_of new (front ++ w ∷ back) z (sym alike) i in
-    let times : time_of z ≡ time_of x.0 = ap (λ (h : Happening). time_of h) x.2 in
-    elim (in_parts x.0 front (w ∷ back) x.1) [
-      | inl f ↦ (inl (x.0, in_left x.0 front back f, ap (λ (g : Happening). g.note.body) x.2), times ∙ r.of_now x.0 (in_left x.0 front back f))
-      | inr (inl e) ↦
-          let tells : plain_body z.note.body ≡ plain_body w.note.body = ap (λ (g : Happening). g.note.body) (x.2 ∙ ap plain e) in (
-            inr (
-              sym (plain_bears device z.note.body) ∙ ap (bears_on device) tells ∙ plain_bears device w.note.body ∙ none.0,
-              elim none.1 [
-                | inl no_act ↦ inl (sym (plain_sending device z.note.body) ∙ ap (is_sending device) tells ∙ plain_sending device w.note.body ∙ no_act)
-                | inr late ↦
-                    inr (subst (λ (n : ℕ). 8 ≤ n) (sym (rank_plain w.note.body) ∙ ap rank (sym tells) ∙ rank_plain z.note.body) late.0, late.1)
-              ],
-            ),
-            times ∙ ap time_of e ∙ at,
-          )
-      | inr (inr b) ↦ (inl (x.0, in_right x.0 front back b, ap (λ (g : Happening). g.note.body) x.2), times ∙ r.of_now x.0 (in_right x.0 front back b))
+    let new = front ++ w ∷ back in
+    let each : (z : Happening) → IsIn z new → (((y : Happening) × IsIn y (front ++ back) × (z.note.body ≡ y.note.body))
+    ⊎ IsNoAct s js now device node z.note.body) × (time_of z ≡ now) = λ z i. elim (in_parts z front (w ∷ back) i) [
+      | inl f ↦ (inl (z, in_left z front back f, refl), r.of_now z (in_left z front back f))
+      | inr (inl e) ↦ (inr (subst (λ (h : Happening). IsNoAct s js now device node h.note.body) (sym e) none), ap time_of e ∙ at)
+      | inr (inr b) ↦ (inl (z, in_right z front back b, refl), r.of_now z (in_right z front back b))
     ] in
     let same : earlier now (hs ++ new) ≡ earlier now js = earlier_still now hs new (λ z i. let t = (each z i).1 in omega (arith, t))
     ∙ sym (earlier_still now hs (front ++ back) (λ z i. let t = r.of_now z i in omega (arith, t))) in
     recorded_on s js (hs ++ new) (front ++ back) new now device node same
     (λ h i. elim (in_parts h hs (front ++ back) i) [
       | inl old ↦ (h, in_left h hs new old, refl, refl)
-      | inr more ↦
-          let x = in_plains_of (front ++ w ∷ back) new h alike
-          (elim (in_parts h front back more) [ inl f ↦ in_left h front (w ∷ back) f | inr b ↦ in_right h front (w ∷ back) (inr b) ]) in
-          (x.0, in_right x.0 hs new x.1, sym (ap (λ (g : Happening). g.note.body) x.2), sym (ap (λ (g : Happening). time_of g) x.2))
+      | inr more ↦ (
+        h,
+        in_right h hs new
+            (elim (in_parts h front back more) [ inl f ↦ in_left h front (w ∷ back) f | inr b ↦ in_right h front (w ∷ back) (inr b) ]),
+        refl,
+        refl,
+      )
     ]) each r
-  where
-    out_of : (hs : List Happening) (h : Happening) → IsIn h (plains hs) → (g : Happening) × IsIn g hs × (h ≡ plain g)
-    out_of [] h i = absurd i
-    out_of (g ∷ hs) h (inl e) = (g, inl refl, e)
-    out_of (g ∷ hs) h (inr i) = let x = out_of hs h i in (x.0, inr x.1, x.2)
-
-    into : (hs : List Happening) (h : Happening) → IsIn h hs → IsIn (plain h) (plains hs)
-    into [] h i = absurd i
-    into (g ∷ hs) h (inl e) = inl (ap plain e)
-    into (g ∷ hs) h (inr i) = inr (into hs h i)
-
-    in_plains_of : (xs ys : List Happening) (x : Happening) → plains xs ≡ plains ys → IsIn x xs → (y : Happening) × IsIn y ys × (plain x ≡ plain y)
-    in_plains_of xs ys x same i = out_of ys (plain x) (subst (λ (l : List Happening). IsIn (plain x) l) same (into xs x i))
-
--- and while the first of what is to come is given
-pub recorded_given : (s : Scenario) (hs rest : List Happening) (z : Happening) (now : ℕ) (device : DeviceId) (node : Node)
-    → AreRecorded s (hs ++ z ∷ rest) (z ∷ rest) now device node → AreRecorded s ((hs ++ z ∷ []) ++ rest) rest now device node
-recorded_given s hs rest z now device node r =
-    let parts = append_assoc hs (z ∷ []) rest in
-    recorded_on s (hs ++ z ∷ rest) ((hs ++ z ∷ []) ++ rest) (z ∷ rest) rest now device node (ap (earlier now) parts)
-    (λ h i. (h, subst (λ (l : List Happening). IsIn h l) (sym parts) i, refl, refl))
-    (λ y i. (inl (y, inr i, refl), r.of_now y (inr i))) r
 
 -- where nothing is to come, and nothing is done at the time yet
 pub none_recorded : (s : Scenario) (hs : List Happening) (now : ℕ) (device : DeviceId) (node : Node) → IsLeft s (hs ++ []) device now node

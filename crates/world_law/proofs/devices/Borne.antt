@@ -3,7 +3,7 @@ use Rattle.{compression.specs.Clusters.point_at, std.proofs.Common.arith}
 use Rattle.{run_law.specs.control.Collections.master_of, sync_state.specs.membership.Hearing.Hearing, world_law.proofs.devices.OwnRecords.{keeps_state, own_no}}
 use Rattle.{run_law.specs.control.Corrections.heard_by, world_law.{proofs.Words.{time_of, true, ℕ}, specs.device.{Own.own, Told.since_at}}}
 use Rattle.{run_law.specs.scenario.Devices.{channel_of, channel_of_link}, world_law.proofs.lists.Lists.{behind_no, behind_yes, filter_no, filter_yes}}
-use Rattle.world_law.proofs.Words.{◌&&◌, ◌++◌, ◌+ℤ◌, ◌+◌, ◌-◌, ◌==◌, ◌||◌, ◌∙◌, ◌∷◌, ◌≡◌, ◌≤◌, Bool, DeviceId, Happening, IfSome, Integrating, IsLeft, List}
+use Rattle.world_law.proofs.Words.{◌&&◌, ◌++◌, ◌+ℤ◌, ◌+◌, ◌==◌, ◌||◌, ◌∙◌, ◌∷◌, ◌≡◌, ◌≤◌, Bool, DeviceId, Happening, IfSome, Integrating, IsLeft, List}
 use Rattle.world_law.proofs.Words.{Network, Node, None, NoteBody, Option, Scenario, Some, Units, [], adjustment_before, adjustment_with, after_last, and_right}
 use Rattle.world_law.proofs.Words.{ap, append-nil, append_assoc, bears_on, borne, cases_Bool, changed_at, changes_adjustment, cons_option, cycle_after}
 use Rattle.world_law.proofs.Words.{cycle_in, earlier, ends_stretch, false, filter, filter-append, filter_map, fold, has_cleared, heard_since, hearing_by}

@@ -1,49 +1,25 @@
--- Where a device stands does not rest on the numbers of the records, nor on the causes of changes of state.
+-- Where a device stands does not rest on the numbers of the records.
 use Rattle.{std.proofs.{Common.arith, lemmas.List.map_push}, world_law.proofs.{devices.Borne.by_last, lists.Lists.{behind_no, behind_yes}}}
 use Rattle.world_law.proofs.Words.{◌&&◌, ◌++◌, ◌+ℤ◌, ◌+◌, ◌==◌, ◌||◌, ◌∙◌, ◌∷◌, ◌≡◌, ◌≤◌, Bool, DeviceId, Happening, IfSome, Integrating, IsLeft, List, Network}
 use Rattle.world_law.proofs.Words.{Node, None, NoteBody, Option, Scenario, Some, State, Units, [], adjustment_after, adjustment_before, adjustment_with}
 use Rattle.world_law.proofs.Words.{after_last, ap, cases_Bool, changed_at, changes_adjustment, cons_option, cycle_after, cycle_in, earlier, ends_stretch, false}
 use Rattle.world_law.proofs.Words.{filter, filter_map, fold, has_cleared, heard_since, hearing_by, if◌then◌else◌, inl, inr, integration_cycle}
-use Rattle.world_law.proofs.Words.{is_integration_cycle, is_joined_by, is_turned_on_at, last_or, nat_lt, not, option_map_or, plain, plain_body, plains}
+use Rattle.world_law.proofs.Words.{is_integration_cycle, is_joined_by, is_turned_on_at, last_or, nat_lt, not, option_map_or, plain, plains}
 use Rattle.world_law.proofs.{Words.{point_by, points_of, pos, recorded_cycle, refl, state_after, state_with, subst, sym, time_of, ℕ}, devices.Passes.cleared_as}
-use Rattle.run_law.specs.declared.judgement.Why.TheVariants as whys
 use Rattle.run_law.specs.declared.note.NoteBody.TheVariants as notes
 
--- ---- one body
+-- ---- one record
 
-pub joined_plain : (device : DeviceId) (body : NoteBody) → is_joined_by device (plain_body body) ≡ is_joined_by device body
-joined_plain device (notes.State other state cause why) = refl
-joined_plain device other = refl
-
-state_plain : (device : DeviceId) (old : State) (body : NoteBody) → state_with device old (plain_body body) ≡ state_with device old body
-state_plain device old (notes.State other state cause why) = refl
-state_plain device old other = refl
-
-adjustment_plain : (s : Scenario) (device : DeviceId) (cycle : ℕ) (old : Units) (body : NoteBody)
-    → adjustment_with s device cycle old (plain_body body) ≡ adjustment_with s device cycle old body
-adjustment_plain s device cycle old (notes.State other state cause why) = refl
-adjustment_plain s device cycle old other = refl
-
-cycle_plain : (device : DeviceId) (next : ℕ) (h : Happening) (body : NoteBody) → cycle_after device next (plain h) (plain_body body) ≡ cycle_after device next h
-    body
+cycle_plain : (device : DeviceId) (next : ℕ) (h : Happening) (body : NoteBody) → cycle_after device next (plain h) body ≡ cycle_after device next h body
 cycle_plain device next h (notes.State other state cause why) = refl
 cycle_plain device next h other = refl
 
-changes_plain : (device : DeviceId) (body : NoteBody) → changes_adjustment device (plain_body body) ≡ changes_adjustment device body
-changes_plain device (notes.State other state cause why) = refl
-changes_plain device other = refl
-
-ends_plain : (device : DeviceId) (body : NoteBody) → ends_stretch device (plain_body body) ≡ ends_stretch device body
-ends_plain device (notes.State other state cause whys.On) = refl
-ends_plain device (notes.State other state cause why) = refl
-ends_plain device other = refl
-
-point_plain : (device : DeviceId) (h : Happening) (body : NoteBody) → point_by device (plain h) (plain_body body) ≡ point_by device h body
+point_plain : (device : DeviceId) (h : Happening) (body : NoteBody) → point_by device (plain h) body ≡ point_by device h body
 point_plain device h (notes.State other state cause why) = refl
 point_plain device h other = refl
 
-hearing_plain : (network : Network) (device : DeviceId) (h : Happening) (body : NoteBody) → hearing_by network device (plain h) (plain_body body) ≡ hearing_by
-    network device h body
+hearing_plain : (network : Network) (device : DeviceId) (h : Happening) (body : NoteBody)
+    → hearing_by network device (plain h) body ≡ hearing_by network device h body
 hearing_plain network device h (notes.State other state cause why) = refl
 hearing_plain network device h other = refl
 
@@ -85,16 +61,16 @@ pub earlier_plain : (t : ℕ) (hs : List Happening) → earlier t (plains hs) �
 earlier_plain t hs = filter_plain (λ h. nat_lt (time_of h) t) (λ h. nat_lt (time_of h) t) (λ h. refl) hs
 
 pub states_plain : (s : Scenario) (hs : List Happening) (device : DeviceId) → state_after s (plains hs) device ≡ state_after s hs device
-states_plain s hs device = fold_plain (λ state h. state_with device state h.note.body) (λ b h. state_plain device b h.note.body) _ hs
+states_plain s hs device = fold_plain (λ state h. state_with device state h.note.body) (λ b h. refl) _ hs
 
 pub adjustments_plain : (s : Scenario) (hs : List Happening) (device : DeviceId) → adjustment_after s (plains hs) device ≡ adjustment_after s hs device
 adjustments_plain s hs device =
-    fold_plain (λ adjustment h. adjustment_with s device (cycle_in h) adjustment h.note.body) (λ b h. adjustment_plain s device (cycle_in h) b h.note.body) _ hs
+    fold_plain (λ adjustment h. adjustment_with s device (cycle_in h) adjustment h.note.body) (λ b h. refl) _ hs
 
 pub integrations_plain : (hs : List Happening) (device : DeviceId) → integration_cycle (plains hs) device ≡ integration_cycle hs device
 integrations_plain hs device =
     fold_plain (λ last h. if is_joined_by device h.note.body then Some (cycle_in h) else last)
-    (λ b h. ap (λ (x : Bool). if x then Some (cycle_in h) else b) (joined_plain device h.note.body)) None hs
+    (λ b h. refl) None hs
 
 pub cycles_plain : (hs : List Happening) (device : DeviceId) → recorded_cycle (plains hs) device ≡ recorded_cycle hs device
 cycles_plain hs device = fold_plain (λ next h. cycle_after device next h h.note.body) (λ b h. cycle_plain device b h h.note.body) 1 hs
@@ -103,14 +79,14 @@ pub changes_at_plain : (hs : List Happening) (device : DeviceId) (t : ℕ) → c
 changes_at_plain hs device t =
     ap (λ (l : List Happening). option_map_or time_of (last_or None (filter (λ h. changes_adjustment device h.note.body) l)) 0) (earlier_plain t hs)
     ∙ ap (λ (l : List Happening). option_map_or time_of (last_or None l) 0)
-    (filter_plain (λ h. changes_adjustment device h.note.body) (λ h. changes_adjustment device h.note.body) (λ h. changes_plain device h.note.body)
+    (filter_plain (λ h. changes_adjustment device h.note.body) (λ h. changes_adjustment device h.note.body) (λ h. refl)
     (earlier t hs))
     ∙ last_plain None None (filter (λ h. changes_adjustment device h.note.body) (earlier t hs)) refl
 
 pub points_plain : (hs : List Happening) (device : DeviceId) → points_of (plains hs) device ≡ points_of hs device
 points_plain hs device =
     ap (filter_map (λ h. point_by device h h.note.body)) (behind_plain (λ h. ends_stretch device h.note.body) (λ h. ends_stretch device h.note.body)
-    (λ h. ends_plain device h.note.body) hs)
+    (λ h. refl) hs)
     ∙ map_plain (λ h. point_by device h h.note.body) (λ h. point_plain device h h.note.body) (after_last (λ h. ends_stretch device h.note.body) hs)
 
 integration_plain : (hs : List Happening) (device : DeviceId) (t : ℕ) → integration_cycle (earlier t (plains hs)) device ≡ integration_cycle (earlier t hs)
@@ -142,13 +118,13 @@ heard_plain s hs device t =
     let m = λ (h : Happening). not (has_cleared s hs device t t) || has_cleared s hs device t (time_of h) in
     let since = after_last p hs in
     ap (λ (l : List Happening). filter_map (λ h. hearing_by s.network device h h.note.body) (filter k l))
-    (behind_plain p p (λ h. ap (λ (b : Bool). nat_lt (time_of h) t && b) (changes_plain device h.note.body)) hs)
+    (behind_plain p p (λ h. refl) hs)
     ∙ ap (filter_map (λ h. hearing_by s.network device h h.note.body))
     (filter_plain k m (λ h. ap (λ (b : Bool). not b || has_cleared s (plains hs) device t (time_of h)) (cleared_plain s hs device t t)
     ∙ ap (λ (b : Bool). not (has_cleared s hs device t t) || b) (cleared_plain s hs device t (time_of h))) since)
     ∙ map_plain (λ h. hearing_by s.network device h h.note.body) (λ h. hearing_plain s.network device h h.note.body) (filter m since)
 
--- the device stands by the records without their numbers and these causes
+-- the device stands by the records without their numbers
 pub left_plain : (s : Scenario) (hs : List Happening) (device : DeviceId) (t : ℕ) (node : Node) → IsLeft s hs device t node → IsLeft s (plains hs) device t node
 left_plain s hs device t node left = record {
   counted = record {
@@ -205,7 +181,7 @@ left_numbered s hs device t node left = record {
   points = λ cm. left.points cm ∙ points_plain hs device;
 }
 
--- so what was still to be told may be told by records that differ in their numbers and these causes
+-- so what was still to be told may be told by records that differ in their numbers
 pub told_by_others : (s : Scenario) (hs gs : List Happening) (device : DeviceId) (t : ℕ) (node : Node) → plains hs ≡ plains gs → IsLeft s hs device t node
     → IsLeft s gs device t node
 told_by_others s hs gs device t node same left =

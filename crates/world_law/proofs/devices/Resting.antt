@@ -1,7 +1,7 @@
 -- A device that has nothing due at the present instant, where nothing is to come: it rests from the next on.
 use Rattle.world_law.proofs.{acts.Acting.{IsUnmoved, cleared_on, had_come_by, point_number}, devices.{Passes.passes_if, Working.{done_by, sent_by}}}
-use Rattle.world_law.{proofs.Words.{◌-◌, IsAtRest, has_cleared}, specs.device.Recorded.HasCleared}
-use Rattle.{run_law.proofs.records.Order.time_before, world_law.proofs.{devices.Deeds.rests, giving.Given.no_later_breaks}}
+use Rattle.world_law.{proofs.Words.{◌-◌, AllBefore, IsAtRest, has_cleared}, specs.device.Recorded.HasCleared}
+use Rattle.{run_law.proofs.records.Order.time_before, world_law.proofs.{devices.Deeds.rests, giving.GivenParts.no_later_breaks}}
 use Rattle.world_law.proofs.Words.{◌++◌, ◌+◌, ◌<ℤ◌, ◌∙◌, ◌∷◌, ◌≡◌, ◌≤ℤ◌, ◌≤◌, DeviceId, Happening, HasDone, HasSent}
 use Rattle.world_law.proofs.Words.{HaveBefallen, IsBefore, IsDue, IsFounded, IsIn, IsKept, IsLeft, IsOfThisTime, IsPending, IsTurnedOnBy, List, Network, Node}
 use Rattle.world_law.proofs.Words.{Note, Scenario, Stands, Task, World, [], ap, append-nil, arith, cases_Bool, cases_lt, changed_at, doing, emitting, false}
@@ -29,13 +29,18 @@ pub record IsPast (hs : List Happening) (now : ℕ) : Type 0 where
 abbrev pub IsWorked : List Happening → List ℕ → ℕ → Type 0
 IsWorked hs cursor now = (number : ℕ) (h : Happening) → IsOfThisTime hs now number h → IsBefore (now ∷ 2 ∷ []) cursor
 
-pub in_time_of : (s : Scenario) (hs : List Happening) → IsFounded place_of (IsDue s) hs → IsInTime hs
-in_time_of s hs founded front rest x e h i =
+-- records each of which stands after those before it are in the order of their times
+pub in_order : (hs : List Happening) → ((front rest : List Happening) (x : Happening) → hs ≡ front ++ x ∷ rest → AllBefore place_of front (place_of x))
+    → IsInTime hs
+in_order hs stands front rest x e h i =
     let at = Rattle.run_law.proofs.runs.Places.parted h rest i in
     let split : hs ≡ (front ++ x ∷ at.0) ++ h ∷ at.1 = e ∙ ap (λ (l : List Happening). front ++ x ∷ l) at.2
     ∙ sym (Rattle.std.proofs.Common.append_assoc front (x ∷ at.0) (h ∷ at.1)) in
     time_before (time_of x) (time_of h) (rank x.note.body ∷ key (members_in x) x.note.body) (rank h.note.body ∷ key (members_in h) h.note.body)
-    ((founded (front ++ x ∷ at.0) at.1 h split).0 x (in_right x front (x ∷ at.0) (inl refl)))
+    (stands (front ++ x ∷ at.0) at.1 h split x (in_right x front (x ∷ at.0) (inl refl)))
+
+pub in_time_of : (s : Scenario) (hs : List Happening) → IsFounded place_of (IsDue s) hs → IsInTime hs
+in_time_of s hs founded = in_order hs (λ front rest x e. (founded front rest x e).0)
 
 pub are_past : {C M : Type 0} (reading : C → ℕ → ℕ) (stands : M → Network → DeviceId → Node → Type 0) (s : Scenario) (world : World C M) (notes : List Note)
     (old : Stands reading stands s world notes) → IsPast (happenings s.network notes) world.now

@@ -26,14 +26,14 @@ in_time_more now (g ∷ hs) coming ordered past of (f ∷ front) rest x e h i =
     (λ y there. past y (inr there)) of front rest x b h i
 
 pub all_past : {C M : Type 0} (reading : C → ℕ → ℕ) (stands : M → Network → DeviceId → Node → Type 0) (s : Scenario) (world : World C M) (notes : List Note)
-    (old : Stands reading stands s world notes) → IsPast (happenings s.network notes ++ old.coming) world.now
+    (old : Stands reading stands s world notes) → IsPast (happenings s.network notes ++ world.settled) world.now
 all_past reading stands s world notes old =
     let given = are_past reading stands s world notes old in
     record {
       past =
-          λ h i. elim (in_parts h (happenings s.network notes) old.coming i)
+          λ h i. elim (in_parts h (happenings s.network notes) world.settled i)
           [ inl old_one ↦ given.past h old_one | inr new ↦ let at = old.are.of_now h new in omega (arith, at) ];
-      in_time = in_time_more world.now (happenings s.network notes) old.coming given.in_time given.past old.are.of_now;
+      in_time = in_time_more world.now (happenings s.network notes) world.settled given.in_time given.past old.are.of_now;
     }
 
 -- a node shows what the records say

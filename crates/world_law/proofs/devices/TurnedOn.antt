@@ -3,7 +3,7 @@
 use Rattle.{run_law.{proofs.records.Happenings.fold_parts, specs.declared.judgement.Why.TheVariants.On}, world_law.proofs.devices.Passes.not_turned_on}
 use Rattle.{run_law.specs.scenario.Devices.start_of, sync_state.specs.Standing.state_at_start, world_law.proofs.Words.ℕ}
 use Rattle.world_law.proofs.Words.{◌++◌, ◌+ℤ◌, ◌+◌, ◌<◌, ◌∙◌, ◌∷◌, ◌≡◌, ◌≤◌, ◌⊎◌, Bool, DeviceId, Happening, IfSome, Integrating, IsAtRest, IsIn, IsLeft}
-use Rattle.world_law.proofs.Words.{IsTurnedOnBy, List, Node, NoteBody, Option, Scenario, Some, State, Units, [], adjustment_before, adjustment_with, ap, arith}
+use Rattle.world_law.proofs.Words.{IsTurnedOnBy, List, Node, NoteBody, Option, Scenario, State, Units, [], adjustment_before, adjustment_with, ap, arith}
 use Rattle.world_law.proofs.Words.{cases_lt, changed_at, changes_adjustment, cycle_after, cycle_in, earlier, false, filter, fold, if◌then◌else◌, in_right, inl}
 use Rattle.world_law.proofs.Words.{inr, integration_cycle, is_broken, is_joined_by, is_timed, is_turned_on_at, is_turning, last_or, local_at_change, moves}
 use Rattle.world_law.proofs.Words.{nat_le, nat_lt, option_map_or, parted, pos, recorded_cycle, refl, state_after, state_with, subst, sym, time_of, true, up_to}

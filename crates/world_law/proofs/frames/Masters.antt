@@ -1,5 +1,5 @@
 -- A frame that comes up from below is that of one master, where octets are sent by end systems alone.
-use Rattle.{net_plan.{proofs.Shape.rules_give_trees, specs.Ranges.IsDeviceInRange}, world_law.{proofs.giving.Given.some_same, specs.world.World.IsFromEnd}}
+use Rattle.{net_plan.{proofs.Shape.rules_give_trees, specs.Ranges.IsDeviceInRange}, world_law.{proofs.giving.GivenParts.some_same, specs.world.World.IsFromEnd}}
 use Rattle.{net_plan.{proofs.TableFacts.no_path, specs.Paths.IsUplink}, std.{proofs.Common.IsSomeAnd, specs.Prelude.{is_some, unwrap_or}}}
 use Rattle.{net_plan.specs.Places.{IsDeviceOf, IsSwitchOf, is_end_system, is_master}, run_law.specs.control.Arrivals.{are_others, is_of_other_member}}
 use Rattle.{run_law.proofs.law.FirstPlaces.{front_founded, numbered_in}, schedule_tables.specs.declared.rule.Rule.TheVariants.Joints}

@@ -119,7 +119,7 @@ has_come s hs arrival device link cause clock frame founded i body of =
     ∙ ap (frame_by s.network at.front) body
     ∙ ap (λ (o : Option Happening). option_map (with_clock clock) (option_and_then (λ h. h.frame) o)) so.there
     ∙ ap (option_map (with_clock clock)) put_frame in
-    let frame_is : frame ≡ with_clock clock so.came = Rattle.world_law.proofs.giving.Given.some_same frame (with_clock clock so.came) arrival.frame of own in
+    let frame_is : frame ≡ with_clock clock so.came = Rattle.world_law.proofs.giving.GivenParts.some_same frame (with_clock clock so.came) arrival.frame of own in
     let taken_clock : clock ≡ clock_on_arrival s.network link so.came = a.shows ∙ ap (λ (f : Pcf). f.clock) so.taken.is in
     let same : a.frame ≡ frame = so.taken.is ∙ ap (λ (c : ℕ). with_clock c so.came) (sym taken_clock) ∙ sym frame_is in
     record {

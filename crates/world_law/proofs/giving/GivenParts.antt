@@ -1,11 +1,39 @@
--- The first of what is to come is given: what is worked off, and what is settled then.
-use Rattle.{run_law.proofs.runs.Places.nothing_between, world_law.proofs.Words.{rank, refl, subst, suc, sym, time_of, true, ℕ}}
-use Rattle.world_law.proofs.runs.{SourcesBack.source_back, TaskPlaces.{no_task_at, second}}
-use Rattle.world_law.proofs.Words.{◌++◌, ◌<◌, ◌∙◌, ◌∷◌, ◌≡◌, ◌≤◌, ◌⊎◌, AllBefore, AreSettled, Happening, IsBefore, IsDue, IsForward, IsIn, IsSource}
-use Rattle.world_law.proofs.Words.{IsWorkedOff, List, NoSourceBefore, NoteBody, Scenario, [], ap, append_assoc, arith, before_behind, before_later}
-use Rattle.world_law.proofs.Words.{before_or_not, behind, chain, either_way, in_left, inl, inr, is_at_source, key, length, members_in, never_self, place_of}
-use Rattle.world_law.proofs.runs.Worlds.{first_before}
+-- The first of what is to come is given: what is worked off then.
+use Rattle.{run_law.proofs.runs.Places.nothing_between, world_law.proofs.Words.{rank, refl, subst, suc, sym, time_of, ℕ}}
+use Rattle.run_law.specs.{control.Permanence.IsPermanent, scenario.{Hypothesis.breaks_at, Scenarios.events_up_to}}
+use Rattle.std.proofs.lemmas.Bool.{le-leb}
+use Rattle.world_law.proofs.runs.{SourcesBack.source_back, TaskPlaces.{no_task_at, second}, Worlds.first_before}
+use Rattle.world_law.proofs.Words.{◌++◌, ◌<◌, ◌∙◌, ◌∷◌, ◌≡◌, ◌≤◌, ◌⊎◌, AreSettled, DeviceId, Event, Happening, HaveBefallen, IsBefore, IsForward, IsIn}
+use Rattle.world_law.proofs.Words.{IsSource, LinkId, List, NoSourceBefore, NoteBody, Option, Pcf, Scenario, Some, Units, [], amount, ap, arith}
+use Rattle.world_law.proofs.Words.{before_behind, before_later, before_or_not, behind, chain, either_way, in_left, inl, inr, is_at_source, is_broken, key}
+use Rattle.world_law.proofs.Words.{length, list_any, members_in, nat_le, never_self, numbered, place_of, same_kept, slice_get, true}
+use Rattle.world_law.specs.device.Plain.{renumbered}
 use Rattle.run_law.specs.declared.note.NoteBody.TheVariants as notes
+
+-- ---- events so far
+
+pub in_get : {X : Type 0} (xs : List X) (x : X) → IsIn x xs → (i : ℕ) × (slice_get xs i ≡ Some x)
+in_get [] x i = absurd i
+in_get (y ∷ xs) x (inl e) = (0, ap Some (sym e))
+in_get (y ∷ xs) x (inr i) = let more = in_get xs x i in (suc more.0, more.1)
+
+-- at a later time no other events have befallen
+pub no_later_events : (s : Scenario) (mark : List ℕ) (now t : ℕ) → HaveBefallen s mark now → now ≤ t → events_up_to s t ≡ events_up_to s now
+no_later_events s mark now t b le = grind (arith, same_kept, nat_le, amount, in_get, le-leb)
+
+pub no_later_breaks : (s : Scenario) (mark : List ℕ) (now t : ℕ) (device : DeviceId) → HaveBefallen s mark now → now ≤ t
+    → is_broken s device t ≡ is_broken s device now
+no_later_breaks s mark now t device b le = ap (λ (l : List Event). list_any (λ e. breaks_at device.0 e.what) l) (no_later_events s mark now t b le)
+
+pub some_same : {X : Type 0} (x y : X) (o : Option X) → o ≡ Some x → o ≡ Some y → x ≡ y
+some_same x y o a b = let e : Some x ≡ Some y = sym a ∙ b in cc
+
+-- the arrival of this number is permanent by the records of its number alone
+pub same_permanent : (s : Scenario) (hs js : List Happening) (t : ℕ) (device : DeviceId) (link : LinkId) (cause : ℕ) (frame : Pcf) (point : Units)
+    (p : IsPermanent s js device t link cause frame point) → numbered hs cause ≡ Some p.arrival → IsPermanent s hs device t link cause frame point
+same_permanent s hs js t device link cause frame point p there = grind arith
+
+-- ---- places
 
 -- what is before the place just behind another is not behind that one
 pub up_to_place : (w p : List ℕ) → IsBefore w (behind p) → (w ≡ p) ⊎ IsBefore w p
@@ -63,80 +91,47 @@ pub record IsGiving (s : Scenario) (hs : List Happening) (z : Happening) (rest :
   pub first : NoSourceBefore s hs cursor (place_of z)
   pub past : (p : List ℕ) → IsBefore p (now ∷ []) → IsBefore p cursor
 
--- what is to come from it on is of its time, and not before it
-of_time : (s : Scenario) (hs : List Happening) (z : Happening) (rest front back : List Happening) (mark cursor : List ℕ) (now : ℕ)
-    → IsGiving s hs z rest mark cursor now → rest ≡ front ++ back → (y : Happening) → IsIn y (z ∷ front) → time_of y ≡ time_of z
-of_time s hs z rest front back mark cursor now g e y (inl same) = ap time_of same
-of_time s hs z rest front back mark cursor now g e y (inr i) =
-    g.are.of_now y (inr (subst (λ (l : List Happening). IsIn y l) (sym e) (in_left y front back i))) ∙ sym (g.are.of_now z (inl refl))
+-- records of the time of this one, none before it
+abbrev pub AreOver : Happening → List Happening → Type 0
+AreOver z zs = (y : Happening) → IsIn y zs → (time_of y ≡ time_of z) × (IsBefore (place_of y) (place_of z) → ⊥)
 
-not_under : (s : Scenario) (hs : List Happening) (z : Happening) (rest front back : List Happening) (mark cursor : List ℕ) (now : ℕ)
-    → IsGiving s hs z rest mark cursor now → rest ≡ front ++ back → (y : Happening) → IsIn y (z ∷ front) → IsBefore (place_of y) (place_of z) → ⊥
-not_under s hs z rest front back mark cursor now g e y (inl same) b =
-    never_self (place_of z) (subst (λ (h : Happening). IsBefore (place_of h) (place_of z)) same b)
-not_under s hs z rest front back mark cursor now g e y (inr i) b =
-    let order = first_before s hs z rest mark cursor now g.are y (subst (λ (l : List Happening). IsIn y l) (sym e) (in_left y front back i)) in
-    never_self (place_of z) (chain (place_of z) (place_of y) (place_of z) order b)
+-- so it is of itself, whatever its number
+pub over_itself : (z : Happening) (n : ℕ) → AreOver z (renumbered n z ∷ [])
+over_itself z n y (inl same) = (ap time_of same, λ b. never_self (place_of z) (subst (λ (p : List ℕ). IsBefore p (place_of z)) (ap place_of same) b))
+over_itself z n y (inr none) = absurd none
 
--- a source up to the place of the first, by that one and others to come, is worked off
-pub worked_by_then : (s : Scenario) (hs : List Happening) (z : Happening) (rest front back : List Happening) (mark cursor : List ℕ) (now : ℕ)
-    → IsGiving s hs z rest mark cursor now → rest ≡ front ++ back
-    → (w : List ℕ) → IsSource s (hs ++ z ∷ front) w → IsBefore w (behind (place_of z)) → IsBefore w cursor
-worked_by_then s hs z rest front back mark cursor now g e w source under =
-    let le = up_to_place w (place_of z) under in
-    let at : time_of z ≡ now = g.are.of_now z (inl refl) in
-    elim (source_back s hs (z ∷ front) (time_of z) (rank z.note.body) (key (members_in z) z.note.body) g.forward
-    (of_time s hs z rest front back mark cursor now g e) (not_under s hs z rest front back mark cursor now g e) w source le) [
-      | inl old ↦
-          elim (before_or_not w cursor) [
-            | inl yet ↦ yet
-            | inr not ↦
-                elim le [
-                  | inr lt ↦ absurd (g.first w old not lt)
-                  | inl same ↦ subst (λ (p : List ℕ). IsBefore p cursor) (sym same) (g.are.worked z (inl refl) (at_its_place s hs z w old same))
-                ]
-          ]
-      | inr (inl early) ↦ g.past w (subst (λ (n : ℕ). IsBefore w (n ∷ [])) at early)
-      | inr (inr same) ↦ subst (λ (p : List ℕ). IsBefore p cursor) (ap (λ (n : ℕ). n ∷ 2 ∷ []) (sym at) ∙ sym same) (g.are.begun z (inl refl))
-    ]
+module _ {s : Scenario} {hs : List Happening} {z : Happening} {rest : List Happening} {mark cursor : List ℕ} {now : ℕ}
+    (g : IsGiving s hs z rest mark cursor now) where
+  -- and of what is to come from it on
+  pub all_over : (front back : List Happening) → rest ≡ front ++ back → AreOver z (z ∷ front)
+  all_over front back e y (inl same) =
+      (ap time_of same, λ b. never_self (place_of z) (subst (λ (h : Happening). IsBefore (place_of h) (place_of z)) same b))
+  all_over front back e y (inr i) =
+      let there : IsIn y rest = subst (λ (l : List Happening). IsIn y l) (sym e) (in_left y front back i) in (
+        g.are.of_now y (inr there) ∙ sym (g.are.of_now z (inl refl)),
+        λ b. never_self (place_of z) (chain (place_of z) (place_of y) (place_of z) (first_before s hs z rest mark cursor now g.are y there) b),
+      )
 
--- ---- what is settled then
+  -- a source up to the place of the first, by others of its time that are not before it, is worked off
+  pub worked_by_then : (zs : List Happening) → AreOver z zs → (w : List ℕ) → IsSource s (hs ++ zs) w → IsBefore w (behind (place_of z)) → IsBefore w cursor
+  worked_by_then zs over w source under =
+      let le = up_to_place w (place_of z) under in
+      let at : time_of z ≡ now = g.are.of_now z (inl refl) in
+      elim (source_back s hs zs (time_of z) (rank z.note.body) (key (members_in z) z.note.body) g.forward
+      (λ y i. (over y i).0) (λ y i. (over y i).1) w source le) [
+        | inl old ↦
+            elim (before_or_not w cursor) [
+              | inl yet ↦ yet
+              | inr not ↦
+                  elim le [
+                    | inr lt ↦ absurd (g.first w old not lt)
+                    | inl same ↦ subst (λ (p : List ℕ). IsBefore p cursor) (sym same) (g.are.worked z (inl refl) (at_its_place s hs z w old same))
+                  ]
+            ]
+        | inr (inl early) ↦ g.past w (subst (λ (n : ℕ). IsBefore w (n ∷ [])) at early)
+        | inr (inr same) ↦ subst (λ (p : List ℕ). IsBefore p cursor) (ap (λ (n : ℕ). n ∷ 2 ∷ []) (sym at) ∙ sym same) (g.are.begun z (inl refl))
+      ]
 
-beyond : (p q : List ℕ) → (IsBefore q (behind p) → ⊥) → IsBefore p q
+-- what is not before the place just behind another is behind that one
+pub beyond : (p q : List ℕ) → (IsBefore q (behind p) → ⊥) → IsBefore p q
 beyond p q not = before_later p q (behind p) (before_behind p) not
-
-pub settled_then : (s : Scenario) (hs : List Happening) (z : Happening) (rest : List Happening) (mark cursor : List ℕ) (now : ℕ)
-    → IsGiving s hs z rest mark cursor now → AreSettled s (hs ++ z ∷ []) rest (behind (place_of z)) (behind (place_of z)) now
-settled_then s hs z rest mark cursor now g = record {
-  of_now = λ y i. g.are.of_now y (inr i);
-  behind_mark = λ y i b. nothing_between (place_of z) (place_of y) (first_before s hs z rest mark cursor now g.are y i) b;
-  founded = λ front back y e.
-      let was = g.are.founded (z ∷ front) back y (ap (λ (l : List Happening). z ∷ l) e) in
-      (λ h i. was.0 h (inr i), subst (λ (l : List Happening). IsDue s l y) (sym (append_assoc hs (z ∷ []) front)) was.1);
-  by = λ front back y e.
-      let was = g.are.by (z ∷ front) back y (ap (λ (l : List Happening). z ∷ l) e) in
-      let off : IsWorkedOff s (hs ++ z ∷ front) (behind (place_of z)) y = (was.0, was.1, was.2, g.are.not_past z (inl refl) was.0 was.3) in
-      subst (λ (l : List Happening). IsWorkedOff s l (behind (place_of z)) y) (sym (append_assoc hs (z ∷ []) front)) off;
-  full = λ front back y e before none not due worked.
-      let over = beyond (place_of z) (place_of y) not in
-      let all : AllBefore place_of (z ∷ front) (place_of y) = λ h i. elim i
-      [ inl same ↦ subst (λ (x : Happening). IsBefore (place_of x) (place_of y)) (sym same) over | inr more ↦ before h more ] in
-      let parts = append_assoc hs (z ∷ []) front in
-      let unmarked : IsBefore (place_of y) mark → ⊥ = λ b. g.are.behind_mark z (inl refl) (chain (place_of z) (place_of y) mark over b) in
-      let off : IsWorkedOff s (hs ++ z ∷ front) (behind (place_of z)) y = subst (λ (l : List Happening). IsWorkedOff s l (behind (place_of z)) y) parts worked
-      in
-      let found = g.are.full (z ∷ front) back y (ap (λ (l : List Happening). z ∷ l) e) all none unmarked (subst (λ (l : List Happening). IsDue s l y) parts due)
-      (off.0, off.1, off.2, worked_by_then s hs z rest front back mark cursor now g e off.0 off.2 off.3) in
-      elim found.1 [
-        | inl same ↦ absurd (never_self (place_of y) (subst (λ (p : List ℕ). IsBefore p (place_of y)) (sym (ap place_of same) ∙ found.2) over))
-        | inr i ↦ (found.0, i, found.2)
-      ];
-  not_past = λ y i p b. elim (up_to_place p (place_of z) b) [
-    | inl e ↦ chain p (place_of y) (behind (place_of y))
-        (subst (λ (q : List ℕ). IsBefore q (place_of y)) (sym e) (first_before s hs z rest mark cursor now g.are y i)) (before_behind (place_of y))
-    | inr lt ↦ chain p (place_of y) (behind (place_of y)) (chain p (place_of z) (place_of y) lt (first_before s hs z rest mark cursor now g.are y i))
-        (before_behind (place_of y))
-  ];
-  worked = λ y i is. g.are.not_past z (inl refl) (place_of y) (g.are.worked y (inr i) is);
-  begun = λ y i. g.are.not_past z (inl refl) (now ∷ 2 ∷ []) (g.are.begun y (inr i));
-}

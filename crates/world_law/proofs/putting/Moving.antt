@@ -1,8 +1,9 @@
 -- The cursor goes by a source of the present instant.
 use Rattle.world_law.proofs.devices.Working.{out_on, worked_on}
 use Rattle.{std.proofs.Common.arith, world_law.specs.world.{Moves.IsWithout, World.IsOut}}
+use Rattle.world_law.specs.world.World.{IsDueAs}
 use Rattle.world_law.proofs.Words.{◌++◌, ◌∙◌, ◌∷◌, ◌≡◌, ◌⊎◌, AllBefore, AreAtPorts, AreOnWires, AreSettled, AreWaiting, AtPort, DeviceId, Happening}
-use Rattle.world_law.proofs.Words.{HasTurnedOn, IsBefore, IsDue, IsForward, IsHeld, IsIn, IsKept, IsOwnSource, IsSource, List, Network, NoSourceBefore, Node}
+use Rattle.world_law.proofs.Words.{HasTurnedOn, IsBefore, IsForward, IsHeld, IsIn, IsKept, IsOwnSource, IsSource, List, Network, NoSourceBefore, Node}
 use Rattle.world_law.proofs.Words.{NoneBefore, OnWire, Pcf, Scenario, Waiting, [], amount, ap, append-nil, before_behind, before_later}
 use Rattle.world_law.proofs.Words.{before_or_not, behind, chain, either_way, false, in_left, inl, inr, members_in, place_of, port_place, refl, ripe_place}
 use Rattle.world_law.proofs.Words.{Task, task_place}
@@ -54,7 +55,7 @@ worked_or_here s hs coming (f ∷ front) back mark cursor now r more m e w sourc
 abbrev pub IsAllOfIt : Scenario → List Happening → List Happening → List ℕ → Type 0
 IsAllOfIt s hs coming p =
     (front back : List Happening) (y : Happening) → coming ≡ front ++ back → AllBefore place_of front (place_of y) → NoneBefore place_of back (place_of y)
-    → IsDue s (hs ++ front) y → IsOwnSource s (hs ++ front) (time_of y) (members_in y) y.note.body p → (z : Happening) × IsIn z coming
+    → IsDueAs s (hs ++ front) y → IsOwnSource s (hs ++ front) (time_of y) (members_in y) y.note.body p → (z : Happening) × IsIn z coming
     × (place_of z ≡ place_of y)
 
 pub settled_moves : (s : Scenario) (hs coming : List Happening) (mark cursor : List ℕ) (now r : ℕ) (more : List ℕ) → IsMoving s hs coming mark cursor now r more
@@ -156,8 +157,8 @@ waiting_moves s hs coming mark cursor now r more waiting m other are = record {
   later = λ e i t x b.
       let it = are.real e i in
       let p = x.permanent in
-      let arrival : it.arrival ≡ p.arrival = Rattle.world_law.proofs.giving.Given.some_same it.arrival p.arrival _ it.there p.there in
-      let frame : x.frame ≡ e.frame = Rattle.world_law.proofs.giving.Given.some_same x.frame e.frame _ p.of_frame (ap (λ (h : Happening). h.frame) (sym arrival)
+      let arrival : it.arrival ≡ p.arrival = Rattle.world_law.proofs.giving.GivenParts.some_same it.arrival p.arrival _ it.there p.there in
+      let frame : x.frame ≡ e.frame = Rattle.world_law.proofs.giving.GivenParts.some_same x.frame e.frame _ p.of_frame (ap (λ (h : Happening). h.frame) (sym arrival)
       ∙ it.awaited.of_frame) in
       let at : t ∷ 3 ∷ e.device.0 ∷ amount e.point ∷ x.frame.members.0 ∷ e.link.0 ∷ e.cause
       ∷ [] ≡ ripe_place t e = ap (λ (f : Pcf). t ∷ 3 ∷ e.device.0 ∷ amount e.point ∷ f.members.0 ∷ e.link.0 ∷ e.cause ∷ []) frame in

@@ -1,19 +1,19 @@
 -- What is due by one of two lists of records that tell the same up to a source is due by the other.
 use Rattle.sync_state.specs.membership.Summary.{Summarizes}
-use Rattle.{run_law.specs.{control.{Corrections.standing_before, Permanence.IsJudgedBy}, records.Happenings.octets_by}, sync_state.specs.Verdicts.HasVerdict}
-use Rattle.world_law.proofs.Words.{◌++◌, ◌+ℤ◌, ◌+◌, ◌-◌, ◌<◌, ◌==◌, ◌∙◌, ◌∷◌, ◌≡◌, ◌≤◌, ◌⊎◌, Arrival, ArrivesAs, BecomesPermanent, Bool, ChangesState}
+use Rattle.{run_law.specs.control.{Corrections.standing_before, Permanence.IsJudgedBy}, sync_state.specs.Verdicts.HasVerdict}
+use Rattle.world_law.proofs.Words.{◌++◌, ◌+ℤ◌, ◌<◌, ◌==◌, ◌∙◌, ◌∷◌, ◌≡◌, ◌≤◌, ◌⊎◌, Arrival, ArrivesAs, BecomesPermanent, Bool, ChangesState}
 use Rattle.world_law.proofs.Words.{ComesToCorrection, Compressed, Departs, Departure, DeviceId, Dispatches, Emits, Happening, Integrating, IsActing, IsBefore}
 use Rattle.world_law.proofs.Words.{IsCaused, IsDropped, IsDue, IsForward, IsFounded, IsIn, IsLost, IsOfThisTime, IsOwnSource, IsSendLost, IsSource, Joining}
-use Rattle.world_law.proofs.Words.{Judgement, LinkId, List, Network, None, Note, NoteBody, Option, Pcf, Reason, Ripe, Scenario, Signal, Some, Standing, State}
+use Rattle.world_law.proofs.Words.{Judgement, LinkId, List, None, NoteBody, Pcf, Reason, Ripe, Scenario, Signal, Some, Standing, State}
 use Rattle.world_law.proofs.Words.{Units, Verdict, VlId, Why, [], adjustment_after, adjustment_at_hearing, amount, ap, arith, arrival_of, bears_on}
-use Rattle.world_law.proofs.Words.{before_permanence, by_number, cases_lt, cases_order, cause_of, chain, control, control_arrival, correcting, dispatching}
-use Rattle.world_law.proofs.Words.{doing, earlier, emitting, eq-eqb, false, filter, frame_by, heard_as, heard_since, if◌then◌else◌, in_filter, inl, inr}
-use Rattle.world_law.proofs.Words.{is_accepted, is_at_source, is_joined_by, is_turned_on_at, last_in, last_or, last_taken, length, members_in, next_point, not}
-use Rattle.world_law.proofs.Words.{numbered, numbered_within, observation_window, option_map, place_of, plan_of, points_of, rank, refl, sending, state_after}
-use Rattle.world_law.proofs.Words.{state_at_hearing, subst, suc, sym, task_place}
-use Rattle.world_law.proofs.{Words.{time_of, timed, timed_arrival, true, ℕ}, giving.Given.same_permanent, putting.PutIn.{at_place, late_source}}
-use Rattle.world_law.proofs.putting.{Alike.{frame_alike, octets_alike, standpoint_in}, Bumped.{raised_same, up_high, up_low, up_number}, Renumbers.timed_by}
-use Rattle.world_law.proofs.putting.Bumped.{bump_behind, down_high, down_low, down_number, lower_behind, lowered, raised, raised_joins, raised_low, raised_rank}
+use Rattle.world_law.proofs.Words.{before_permanence, by_number, cases_lt, cause_of, chain, control, control_arrival, correcting, dispatching}
+use Rattle.world_law.proofs.Words.{doing, earlier, emitting, eq-eqb, false, filter, heard_as, heard_since, if◌then◌else◌, in_filter, inl, inr}
+use Rattle.world_law.proofs.Words.{is_accepted, is_at_source, is_turned_on_at, last_in, last_or, last_taken, length, members_in, next_point, not}
+use Rattle.world_law.proofs.Words.{numbered, numbered_within, observation_window, place_of, plan_of, points_of, rank, refl, sending, state_after}
+use Rattle.world_law.proofs.Words.{state_at_hearing, subst, sym, task_place}
+use Rattle.world_law.proofs.{Words.{time_of, timed, timed_arrival, true, ℕ}, giving.GivenParts.same_permanent, putting.PutIn.{at_place, late_source}}
+use Rattle.world_law.proofs.putting.{Alike.{happening_alike, standpoint_in}, Renumbers.timed_by}
+use Rattle.world_law.specs.world.World.{IsDueAs}
 use Rattle.world_law.proofs.runs.SourcesBack.{arrives_later, dispatches_back, dispatches_same, earlier_still, gives_rank, numbered_parts, reaches_back}
 use Rattle.world_law.proofs.runs.SourcesBack.{standing_in, up_back}
 use Rattle.run_law.specs.declared.judgement.Why.TheVariants as whys
@@ -107,7 +107,7 @@ departs_near : (s : Scenario) (js gs : List Happening) (t : ℕ) (device : Devic
     → numbered js cause ≡ numbered gs cause → Departs s js device t link cause is → Departs s gs device t link cause is
 departs_near s js gs t device link cause is same d = grind arith
 
-arrival_near : (s : Scenario) (js gs : List Happening) (t : ℕ) (device : DeviceId) (link : LinkId) (cause : ℕ) (signal : Signal)
+pub arrival_near : (s : Scenario) (js gs : List Happening) (t : ℕ) (device : DeviceId) (link : LinkId) (cause : ℕ) (signal : Signal)
     → earlier t js ≡ earlier t gs → ((vl : VlId) → last_taken js device t link cause vl ≡ last_taken gs device t link cause vl)
     → arrival_of s js device t link cause signal ≡ arrival_of s gs device t link cause signal
 arrival_near s js gs t device link cause (control frame) before taken =
@@ -368,237 +368,54 @@ known_near s hs zs time m r more (notes.Dropped device link cause reason) p forw
 
 -- ---- what follows a record of the instant
 
--- the second list has one record more, behind the first n
-pub record AreRaised (n : ℕ) (js gs : List Happening) : Type 0 where
-  pub first : (i : ℕ) → i ≤ n → numbered js i ≡ numbered gs i
-  pub beyond : (i : ℕ) → n < i → numbered gs (suc i) ≡ option_map (bump_behind n) (numbered js i)
+this_near : {js gs : List Happening} {t cause : ℕ} {h : Happening} → numbered js cause ≡ numbered gs cause → IsOfThisTime js t cause h
+    → IsOfThisTime gs t cause h
+this_near same it = record { there = sym same ∙ it.there; same_time = it.same_time }
 
-abbrev IsSameBody : ℕ → Happening → Happening → Type 0
-IsSameBody n h g = (g.note.body ≡ h.note.body) ⊎ (g.note.body ≡ raised n h.note.body)
+changes_near : (s : Scenario) (js gs : List Happening) (device : DeviceId) (t : ℕ) (state : State) (cause : ℕ) (why : Why) → earlier t js ≡ earlier t gs
+    → numbered js cause ≡ numbered gs cause → is_following why ≡ true → ChangesState s js device t state cause why → ChangesState s gs device t state cause why
+changes_near s js gs device t state cause whys.On before same f c = (c.0, c.1, (c.2.0, c.2.1, this_near same c.2.2, c.2.3))
+changes_near s js gs device t state cause whys.Frame before same f c = (c.0, (c.1.0, this_near same c.1.1, c.1.2))
+changes_near s js gs device t state cause whys.Correction before same f c = (
+  c.0,
+  subst (λ (w : List Happening). (if is_turned_on_at s device t then Integrating else state_after s w device) ≡ Joining) before c.1,
+  (c.2.0, c.2.1, c.2.2, c.2.3, this_near same c.2.4, c.2.5),
+)
+changes_near s js gs device t state cause whys.SyncClique before same f c = absurd cc
+changes_near s js gs device t state cause whys.AsyncClique before same f c = absurd cc
 
-this_up : (n : ℕ) (js gs : List Happening) (t cause : ℕ) (h : Happening) → AreRaised n js gs → IsOfThisTime js t cause h
-    → (g : Happening) × IsOfThisTime gs t (up_number n cause) g × IsSameBody n h g
-this_up n js gs t cause h a it = elim (cases_lt n cause) [
-  | inr low ↦ (
-    h,
-    record { there = ap (numbered gs) (up_low n cause low) ∙ sym (a.first cause low) ∙ it.there; same_time = it.same_time },
-    inl refl,
-  )
-  | inl high ↦ (
-    bump_behind n h,
-    record { there = ap (numbered gs) (up_high n cause high) ∙ a.beyond cause high ∙ ap (option_map (bump_behind n)) it.there; same_time = it.same_time },
-    inr refl,
-  )
-]
+-- ---- so the record is due by both
 
-mapped_back : (f : Happening → Happening) (o : Option Happening) (g : Happening) → option_map f o ≡ Some g → (h : Happening) × (o ≡ Some h) × (g ≡ f h)
-mapped_back f None g e = absurd cc
-mapped_back f (Some h) g e = let same : g ≡ f h = cc in (h, refl, same)
-
-this_down : (n : ℕ) (js gs : List Happening) (t cause : ℕ) (g : Happening) → AreRaised n js gs → (cause ≡ n + 1 → ⊥) → IsOfThisTime gs t cause g
-    → (h : Happening) × IsOfThisTime js t (down_number n cause) h × IsSameBody n h g
-this_down n js gs t cause g a other it = elim (cases_lt n cause) [
-  | inr low ↦ (
-    g,
-    record { there = ap (numbered js) (down_low n cause low) ∙ a.first cause low ∙ it.there; same_time = it.same_time },
-    inl refl,
-  )
-  | inl high ↦
-      let back : suc (cause - 1) ≡ cause = omega (arith, high) in
-      let over : n < cause - 1 = elim (cases_order cause (n + 1)) [
-        | inl e ↦ absurd (other e)
-        | inr (inl less) ↦ absurd (omega (arith, high, less))
-        | inr (inr more) ↦ omega (arith, more)
-      ] in
-      let found = mapped_back (bump_behind n) (numbered js (cause - 1)) g (sym (a.beyond (cause - 1) over) ∙ ap (numbered gs) back ∙ it.there) in (
-        found.0,
-        record { there = ap (numbered js) (down_high n cause high) ∙ found.1; same_time = ap time_of (sym found.2) ∙ it.same_time },
-        inr (ap (λ (h : Happening). h.note.body) found.2),
-      )
-]
-
-same_joins : (n : ℕ) (device : DeviceId) (h g : Happening) → IsSameBody n h g → is_joined_by device g.note.body ≡ is_joined_by device h.note.body
-same_joins n device h g (inl e) = ap (is_joined_by device) e
-same_joins n device h g (inr e) = ap (is_joined_by device) e ∙ raised_joins n device h.note.body
-
-body_up : (n : ℕ) (h g : Happening) (body : NoteBody) → (rank body ≡ 7 → ⊥) → IsSameBody n h g → h.note.body ≡ body → g.note.body ≡ body
-body_up n h g body other (inl e) is = e ∙ is
-body_up n h g body other (inr e) is = e ∙ ap (raised n) is ∙ raised_same n body other
-
-body_down : (n : ℕ) (h g : Happening) (body : NoteBody) → (rank body ≡ 7 → ⊥) → IsSameBody n h g → g.note.body ≡ body → h.note.body ≡ body
-body_down n h g body other (inl e) is = sym e ∙ is
-body_down n h g body other (inr e) is =
-    let ranks : rank h.note.body ≡ rank body = sym (raised_rank n h.note.body) ∙ ap rank (sym e ∙ is) in
-    sym (raised_same n h.note.body (λ seven_it. other (sym ranks ∙ seven_it))) ∙ sym e ∙ is
-
-changes_up : (s : Scenario) (n : ℕ) (js gs : List Happening) (device : DeviceId) (t : ℕ) (state : State) (cause : ℕ) (why : Why) → AreRaised n js gs
-    → earlier t js ≡ earlier t gs → is_following why ≡ true → ChangesState s js device t state cause why
-    → ChangesState s gs device t state (up_number n cause) why
-changes_up s n js gs device t state cause whys.On a before f c =
-    let x = this_up n js gs t cause c.2.1 a c.2.2 in
-    (c.0, c.1, (c.2.0, x.0, x.1, body_up n c.2.1 x.0 _ (λ e. omega (arith, e)) x.2 c.2.3))
-changes_up s n js gs device t state cause whys.Frame a before f c =
-    let x = this_up n js gs t cause c.1.0 a c.1.1 in (c.0, (x.0, x.1, same_joins n device c.1.0 x.0 x.2 ∙ c.1.2))
-changes_up s n js gs device t state cause whys.Correction a before f c =
-    let x = this_up n js gs t cause c.2.3 a c.2.4 in (
-      c.0,
-      subst (λ (w : List Happening). (if is_turned_on_at s device t then Integrating else state_after s w device) ≡ Joining) before c.1,
-      (c.2.0, c.2.1, c.2.2, x.0, x.1, body_up n c.2.3 x.0 _ (λ e. omega (arith, e)) x.2 c.2.5),
-    )
-changes_up s n js gs device t state cause whys.SyncClique a before f c = absurd cc
-changes_up s n js gs device t state cause whys.AsyncClique a before f c = absurd cc
-
-changes_down : (s : Scenario) (n : ℕ) (js gs : List Happening) (device : DeviceId) (t : ℕ) (state : State) (cause : ℕ) (why : Why) → AreRaised n js gs
-    → earlier t js ≡ earlier t gs → is_following why ≡ true → (cause ≡ n + 1 → ⊥) → ChangesState s gs device t state cause why
-    → ChangesState s js device t state (down_number n cause) why
-changes_down s n js gs device t state cause whys.On a before f other c =
-    let x = this_down n js gs t cause c.2.1 a other c.2.2 in
-    (c.0, c.1, (c.2.0, x.0, x.1, body_down n x.0 c.2.1 _ (λ e. omega (arith, e)) x.2 c.2.3))
-changes_down s n js gs device t state cause whys.Frame a before f other c =
-    let x = this_down n js gs t cause c.1.0 a other c.1.1 in (c.0, (x.0, x.1, sym (same_joins n device x.0 c.1.0 x.2) ∙ c.1.2))
-changes_down s n js gs device t state cause whys.Correction a before f other c =
-    let x = this_down n js gs t cause c.2.3 a other c.2.4 in (
-      c.0,
-      subst (λ (w : List Happening). (if is_turned_on_at s device t then Integrating else state_after s w device) ≡ Joining) (sym before) c.1,
-      (c.2.0, c.2.1, c.2.2, x.0, x.1, body_down n x.0 c.2.3 _ (λ e. omega (arith, e)) x.2 c.2.5),
-    )
-changes_down s n js gs device t state cause whys.SyncClique a before f other c = absurd cc
-changes_down s n js gs device t state cause whys.AsyncClique a before f other c = absurd cc
-
-own_follows : (s : Scenario) (js gs : List Happening) (t m : ℕ) (device : DeviceId) (state : State) (cause other : ℕ) (why : Why) (p : List ℕ)
-    → is_following why ≡ true → IsOwnSource s js t m (notes.State device state cause why) p → IsOwnSource s gs t m (notes.State device state other why) p
-own_follows s js gs t m device state cause other whys.On p f o = o
-own_follows s js gs t m device state cause other whys.Frame p f o = o
-own_follows s js gs t m device state cause other whys.Correction p f o = o
-own_follows s js gs t m device state cause other whys.SyncClique p f o = absurd cc
-own_follows s js gs t m device state cause other whys.AsyncClique p f o = absurd cc
-
--- ---- so the record is due, one number on, and the other way round
-
--- the two lists, the second with one record more
-pub record AreTwo (s : Scenario) (t n : ℕ) (at : List ℕ) (put : NoteBody) (js gs : List Happening) : Type 0 where
-  pub near : AreNear s t n at put js gs
-  pub raised_so : AreRaised n js gs
-  pub longer : length gs ≡ length js + 1
-
--- what is due comes from this source, not behind the place, and reads nothing of the one that is put in
+-- what is due comes from this source, not behind the place, of a record that both have, and reads nothing of the one that is put in
 pub record IsAsideOf (s : Scenario) (js : List Happening) (n : ℕ) (at : List ℕ) (put : NoteBody) (time : Units) (m : ℕ) (body : NoteBody)
     (p : List ℕ) : Type 0 where
   pub not_there : is_at_source body ≡ false
   pub free : (device : DeviceId) → hears device body ≡ true → bears_on device put ≡ false
-  pub few : is_follower body ≡ false → cause_of body ≤ n
+  pub few : cause_of body ≤ n
   pub own : IsOwnSource s js (amount time) m body p
   pub under : IsBefore at p → ⊥
 
-pub caused_up : (s : Scenario) (n m : ℕ) (at : List ℕ) (put : NoteBody) (js gs : List Happening) (time : Units) (body : NoteBody) (p : List ℕ)
-    → AreTwo s (amount time) n at put js gs → IsAsideOf s js n at put time m body p → IsCaused s js time body → IsCaused s gs time (raised n body)
-caused_up s n m at put js gs time body p a i c = elim (follower_or_not body) [
-  | inr plain ↦
-      let few = i.few plain in
-      subst (λ (b : NoteBody). IsCaused s gs time b) (sym (raised_low n body few))
-      (caused_near s n m at put js gs time body p a.near i.not_there plain i.free few i.own i.under c)
-  | inl f ↦
-      subst (λ (b : NoteBody). IsCaused s gs time (raised n b)) (sym f.is)
-      (changes_up s n js gs f.device (amount time) f.state f.cause f.why a.raised_so a.near.before f.following
-      (subst (λ (b : NoteBody). IsCaused s js time b) f.is c))
-]
+module _ {s : Scenario} {n : ℕ} {at : List ℕ} {put : NoteBody} {js gs : List Happening} {p : List ℕ} where
+  pub caused_aside : {m : ℕ} {time : Units} {body : NoteBody} → AreNear s (amount time) n at put js gs → IsAsideOf s js n at put time m body p
+      → IsCaused s js time body → IsCaused s gs time body
+  caused_aside {m} {time} {body} a i c = elim (follower_or_not body) [
+    | inr plain ↦ caused_near s n m at put js gs time body p a i.not_there plain i.free i.few i.own i.under c
+    | inl f ↦
+        let few : f.cause ≤ n = subst (λ (b : NoteBody). cause_of b ≤ n) f.is i.few in
+        subst (λ (b : NoteBody). IsCaused s gs time b) (sym f.is)
+        (changes_near s js gs f.device (amount time) f.state f.cause f.why a.before (a.first f.cause few) f.following
+        (subst (λ (b : NoteBody). IsCaused s js time b) f.is c))
+  ]
 
-pub own_up : (s : Scenario) (n m : ℕ) (at : List ℕ) (put : NoteBody) (js gs : List Happening) (time : Units) (body : NoteBody) (p : List ℕ)
-    → AreTwo s (amount time) n at put js gs → IsAsideOf s js n at put time m body p → IsOwnSource s gs (amount time) m (raised n body) p
-own_up s n m at put js gs time body p a i = elim (follower_or_not body) [
-  | inr plain ↦
-      let few = i.few plain in
-      subst (λ (b : NoteBody). IsOwnSource s gs (amount time) m b p) (sym (raised_low n body few))
-      (own_near s (amount time) n m at put js gs body p a.near few i.under i.own)
-  | inl f ↦
-      subst (λ (b : NoteBody). IsOwnSource s gs (amount time) m (raised n b) p) (sym f.is)
-      (own_follows s js gs (amount time) m f.device f.state f.cause (up_number n f.cause) f.why p f.following
-      (subst (λ (b : NoteBody). IsOwnSource s js (amount time) m b p) f.is i.own))
-]
+  pub own_aside : {m : ℕ} {time : Units} {body : NoteBody} → AreNear s (amount time) n at put js gs → IsAsideOf s js n at put time m body p
+      → IsOwnSource s gs (amount time) m body p
+  own_aside {m} {time} {body} a i = own_near s (amount time) n m at put js gs body p a i.few i.under i.own
 
-lowered_low : (n : ℕ) (body : NoteBody) → cause_of body ≤ n → lowered n body ≡ body
-lowered_low n (notes.State device state cause why) le = ap (λ (c : ℕ). notes.State device state c why) (down_low n cause le)
-lowered_low n other le = refl
-
-pub caused_down : (s : Scenario) (n m : ℕ) (at : List ℕ) (put : NoteBody) (js gs : List Happening) (time : Units) (body : NoteBody) (p : List ℕ)
-    → AreTwo s (amount time) n at put js gs → IsAsideOf s gs n at put time m body p → (rank body ≡ 7 → cause_of body ≡ n + 1 → ⊥) → IsCaused s gs time body
-    → IsCaused s js time (lowered n body)
-caused_down s n m at put js gs time body p a i other c = elim (follower_or_not body) [
-  | inr plain ↦
-      let few = i.few plain in
-      subst (λ (b : NoteBody). IsCaused s js time b) (sym (lowered_low n body few))
-      (caused_near s n m at put gs js time body p (near_back s (amount time) n at put js gs a.near) i.not_there plain i.free few i.own i.under c)
-  | inl f ↦
-      subst (λ (b : NoteBody). IsCaused s js time (lowered n b)) (sym f.is)
-      (changes_down s n js gs f.device (amount time) f.state f.cause f.why a.raised_so a.near.before f.following
-      (λ e. other (ap rank f.is) (ap cause_of f.is ∙ e)) (subst (λ (b : NoteBody). IsCaused s gs time b) f.is c))
-]
-
-pub own_down : (s : Scenario) (n m : ℕ) (at : List ℕ) (put : NoteBody) (js gs : List Happening) (time : Units) (body : NoteBody) (p : List ℕ)
-    → AreTwo s (amount time) n at put js gs → IsAsideOf s gs n at put time m body p → IsOwnSource s js (amount time) m (lowered n body) p
-own_down s n m at put js gs time body p a i = elim (follower_or_not body) [
-  | inr plain ↦
-      let few = i.few plain in
-      subst (λ (b : NoteBody). IsOwnSource s js (amount time) m b p) (sym (lowered_low n body few))
-      (own_near s (amount time) n m at put gs js body p (near_back s (amount time) n at put js gs a.near) few i.under i.own)
-  | inl f ↦
-      subst (λ (b : NoteBody). IsOwnSource s js (amount time) m (lowered n b) p) (sym f.is)
-      (own_follows s gs js (amount time) m f.device f.state f.cause (down_number n f.cause) f.why p f.following
-      (subst (λ (b : NoteBody). IsOwnSource s gs (amount time) m b p) f.is i.own))
-]
-
--- ---- and has the frame that it has
-
--- the cause is one of the first n, or it is a change of state, which has no frame
-frame_up : (network : Network) (n : ℕ) (js gs : List Happening) (body : NoteBody) → ((i : ℕ) → i ≤ n → numbered js i ≡ numbered gs i)
-    → (is_follower body ≡ false → cause_of body ≤ n) → frame_by network js body ≡ frame_by network gs (raised n body)
-frame_up network n js gs body first few = grind (arith, follower_or_not, frame_alike, frame_by, raised_low, raised)
-
-octets_up : (network : Network) (n : ℕ) (js gs : List Happening) (body : NoteBody) → ((i : ℕ) → i ≤ n → numbered js i ≡ numbered gs i)
-    → (is_follower body ≡ false → cause_of body ≤ n) → octets_by network js body ≡ octets_by network gs (raised n body)
-octets_up network n js gs body first few = grind (arith, follower_or_not, octets_alike, raised_low, raised)
-
-frame_down : (network : Network) (n : ℕ) (js gs : List Happening) (body : NoteBody) → ((i : ℕ) → i ≤ n → numbered js i ≡ numbered gs i)
-    → (is_follower body ≡ false → cause_of body ≤ n) → frame_by network gs body ≡ frame_by network js (lowered n body)
-frame_down network n js gs body first few = grind (arith, follower_or_not, frame_alike, frame_by, lowered_low, lowered)
-
-octets_down : (network : Network) (n : ℕ) (js gs : List Happening) (body : NoteBody) → ((i : ℕ) → i ≤ n → numbered js i ≡ numbered gs i)
-    → (is_follower body ≡ false → cause_of body ≤ n) → octets_by network gs body ≡ octets_by network js (lowered n body)
-octets_down network n js gs body first few = grind (arith, follower_or_not, octets_alike, lowered_low, lowered)
-
-abbrev made : Note → Option Pcf → List ℕ → Happening
-made note frame octets = record { note = note; frame = frame; octets = octets }
-
--- a record that is due is due by the longer list, one number on
-pub due_up : (s : Scenario) (n : ℕ) (at : List ℕ) (put : NoteBody) (js gs : List Happening) (x : Happening) (p : List ℕ)
-    → AreTwo s (time_of x) n at put js gs → IsAsideOf s js n at put x.note.time (members_in x) x.note.body p → IsDue s js x → IsDue s gs (bump_behind n x)
-due_up s n at put js gs x p a i due =
-    let number = due.number in
-    let longer = a.longer in
-    let note = (bump_behind n x).note in
-    record {
-      number = omega (arith, number, longer);
-      same =
-          ap (bump_behind n) due.same
-          ∙ ap (λ (f : Option Pcf). made note f (octets_by s.network js x.note.body)) (frame_up s.network n js gs x.note.body a.raised_so.first i.few)
-          ∙ ap (made note (frame_by s.network gs (raised n x.note.body))) (octets_up s.network n js gs x.note.body a.raised_so.first i.few);
-      begun = due.begun;
-      cause = caused_up s n (members_in x) at put js gs x.note.time x.note.body p a i due.cause;
-    }
-
--- and one that is due by the longer list, and does not follow the record put in, was due
-pub due_down : (s : Scenario) (n : ℕ) (at : List ℕ) (put : NoteBody) (js gs : List Happening) (y : Happening) (p : List ℕ)
-    → AreTwo s (time_of y) n at put js gs → IsAsideOf s gs n at put y.note.time (members_in y) y.note.body p
-    → (rank y.note.body ≡ 7 → cause_of y.note.body ≡ n + 1 → ⊥) → IsDue s gs y → IsDue s js (lower_behind n (length js + 1) y)
-due_down s n at put js gs y p a i other due =
-    let low = λ (h : Happening). lower_behind n (length js + 1) h in
-    let note = (lower_behind n (length js + 1) y).note in
-    record {
-      number = refl;
-      same =
-          ap low due.same
-          ∙ ap (λ (f : Option Pcf). made note f (octets_by s.network gs y.note.body)) (frame_down s.network n js gs y.note.body a.raised_so.first i.few)
-          ∙ ap (made note (frame_by s.network js (lowered n y.note.body))) (octets_down s.network n js gs y.note.body a.raised_so.first i.few);
-      begun = due.begun;
-      cause = caused_down s n (members_in y) at put js gs y.note.time y.note.body p a i other due.cause;
-    }
+  -- a record that is due by the one list is due by the other
+  pub due_aside : {x : Happening} → AreNear s (time_of x) n at put js gs → IsAsideOf s js n at put x.note.time (members_in x) x.note.body p
+      → IsDueAs s js x → IsDueAs s gs x
+  due_aside {x} a i due = record {
+    same = due.same ∙ happening_alike s.network n js gs x.note a.first i.few;
+    begun = due.begun;
+    cause = caused_aside a i due.cause;
+  }

@@ -1,14 +1,14 @@
 -- The records with one more at its place among them tell the same up to its source.
 use Rattle.world_law.proofs.Words.{◌&&◌, ◌++◌, ◌==◌, ◌||◌, ◌∙◌, ◌∷◌, ◌≡◌, ◌≤◌, ◌⊎◌, Bool, DeviceId, Happening, Integrating, IsBefore, IsIn, Joining, LinkId}
-use Rattle.world_law.proofs.Words.{List, None, Scenario, VlId, [], adjustment_at_hearing, adjustment_with, amount, and_right, ap, arith, bears_on, borne}
+use Rattle.world_law.proofs.Words.{List, None, Scenario, VlId, [], adjustment_with, amount, and_right, ap, arith, bears_on, borne}
 use Rattle.world_law.proofs.Words.{cases_order, chain, cycle_in, earlier, eqb-true, false, false_from_ne_true, filter, filter-append, has_joined_at}
-use Rattle.world_law.proofs.Words.{heard_since, if◌then◌else◌, inl, inr, is_before, is_joined_by, is_taken_before, is_turned_on_at, last_or, last_taken, le-ltb}
-use Rattle.world_law.proofs.Words.{length, length-append, length-map, list_any, map, nat_lt, option_and_then, place_of, plain, plains, points_of, refl}
-use Rattle.world_law.proofs.{Words.{state_after, state_at_hearing, state_before, subst, suc, sym, taken_cycle, time_of, ℕ}, runs.SourcesBack.earlier_still}
-use Rattle.world_law.proofs.devices.{Borne.{heard_alike, moves_no_other, points_alike}, Plains.{heard_plain, plains_parts, points_plain}}
+use Rattle.world_law.proofs.Words.{if◌then◌else◌, inl, inr, is_before, is_joined_by, is_taken_before, is_turned_on_at, last_or, le-ltb}
+use Rattle.world_law.proofs.Words.{length, list_any, nat_lt, option_and_then, place_of, refl}
+use Rattle.world_law.proofs.{Words.{state_after, state_before, subst, sym, taken_cycle, time_of, ℕ}, runs.SourcesBack.earlier_still}
+use Rattle.world_law.proofs.devices.Borne.{heard_alike, moves_no_other, points_alike}
 use Rattle.world_law.proofs.devices.OwnRecords.{joins_no_other, keeps_adjustment}
-use Rattle.world_law.proofs.putting.{Bumped.{bump_behind, bump_mono, in_placed, numbered_beyond, raised_plain}, Near.{AreTwo, HearsAlike}}
-use Rattle.world_law.proofs.putting.{Idle.{drop_one, fold_skip, numbered_prefix}, Renumbers.{hearing_adjustment_plain, hearing_state_plain, last_taken_plain}}
+use Rattle.world_law.proofs.putting.Near.{AreNear, HearsAlike}
+use Rattle.world_law.proofs.putting.Idle.{drop_one, fold_skip, numbered_prefix}
 
 -- a place that is not before another is not by the test
 pub not_is : (p q : List ℕ) → (IsBefore p q → ⊥) → is_before p q ≡ false
@@ -33,17 +33,6 @@ any_skip : (p : Happening → Bool) (xs bs : List Happening) (w : Happening) →
 any_skip p [] bs w e = sym (ap (λ (b : Bool). b || list_any p bs) e)
 any_skip p (x ∷ xs) bs w e = ap (λ (b : Bool). p x || b) (any_skip p xs bs w e)
 
-pub plains_bumped : (n : ℕ) (b : List Happening) → plains (map (bump_behind n) b) ≡ plains b
-plains_bumped n [] = refl
-plains_bumped n (y ∷ b) =
-    ap (λ (h : Happening). h ∷ plains (map (bump_behind n) b)) (raised_plain n y) ∙ ap (λ (l : List Happening). plain y ∷ l) (plains_bumped n b)
-
--- the records behind the one put in say the same but for numbers and causes
-pub plains_placed : (n : ℕ) (ps b : List Happening) (w : Happening) → plains (ps ++ w ∷ b) ≡ plains (ps ++ w ∷ map (bump_behind n) b)
-plains_placed n ps b w =
-    plains_parts ps (w ∷ b) ∙ ap (λ (l : List Happening). plains ps ++ plain w ∷ l) (sym (plains_bumped n b))
-    ∙ sym (plains_parts ps (w ∷ map (bump_behind n) b))
-
 -- the record stands at its place in the instant, not before the source, before those behind it; and no arrival up to the
 -- source comes after it
 pub record IsPlaced (t : ℕ) (at : List ℕ) (c : List Happening) (w : Happening) : Type 0 where
@@ -53,17 +42,6 @@ pub record IsPlaced (t : ℕ) (at : List ℕ) (c : List Happening) (w : Happenin
   pub least : IsBefore (place_of w) at → ⊥
   pub takes : (device : DeviceId) (vl : VlId) (link : LinkId) (cause : ℕ) → (IsBefore at (t ∷ 2 ∷ device.0 ∷ link.0 ∷ cause ∷ []) → ⊥)
       → is_taken_before device vl t link cause (time_of w) w.note.body ≡ false
-
--- the same of those behind it, with their new numbers
-bumped_time : (n t : ℕ) (c : List Happening) → ((y : Happening) → IsIn y c → time_of y ≡ t) → (y : Happening) → IsIn y (map (bump_behind n) c) → time_of y ≡ t
-bumped_time n t c of y i = let x = in_placed n c y i in ap time_of x.2 ∙ of x.0 x.1
-
-bumped_over : (n : ℕ) (c : List Happening) (w : Happening) → place_of (bump_behind n w) ≡ place_of w
-    → ((y : Happening) → IsIn y c → IsBefore (place_of w) (place_of y)) → (y : Happening) → IsIn y (map (bump_behind n) c) → IsBefore (place_of w) (place_of y)
-bumped_over n c w same over y i =
-    let x = in_placed n c y i in
-    subst (λ (h : Happening). IsBefore (place_of w) (place_of h)) (sym x.2)
-    (subst (λ (p : List ℕ). IsBefore p (place_of (bump_behind n x.0))) same (bump_mono n w x.0 (over x.0 x.1)))
 
 -- nothing of it is before a place that is not behind the source
 none_judged : (at p : List ℕ) (w : Happening) (xs : List Happening) → (IsBefore (place_of w) at → ⊥) → (IsBefore at p → ⊥)
@@ -79,75 +57,49 @@ none_judged at p w xs least under over =
       | inr lt ↦ from (chain (place_of w) (place_of h) p lt b)
     ]))
 
-pub hearing_placed : (s : Scenario) (t n : ℕ) (ps c : List Happening) (w : Happening) (device : DeviceId)
-    → earlier t (ps ++ c) ≡ earlier t (ps ++ w ∷ c) → bears_on device w.note.body ≡ false → HearsAlike s (ps ++ c) (ps ++ w ∷ map (bump_behind n) c) device t
-hearing_placed s t n ps c w device before misses =
+pub hearing_placed : (s : Scenario) (t : ℕ) (ps c : List Happening) (w : Happening) (device : DeviceId)
+    → earlier t (ps ++ c) ≡ earlier t (ps ++ w ∷ c) → bears_on device w.note.body ≡ false → HearsAlike s (ps ++ c) (ps ++ w ∷ c) device t
+hearing_placed s t ps c w device before misses =
     let js = ps ++ c in
-    let ms = ps ++ w ∷ c in
-    let gs = ps ++ w ∷ map (bump_behind n) c in
-    let same : plains ms ≡ plains gs = plains_placed n ps c w in
-    let bear : borne device js ≡ borne device ms = sym (drop_one (λ h. bears_on device h.note.body) ps c w misses) in
+    let gs = ps ++ w ∷ c in
+    let bear : borne device js ≡ borne device gs = sym (drop_one (λ h. bears_on device h.note.body) ps c w misses) in
     let still = moves_no_other device w.note.body misses in
-    let joined : has_joined_at js device t ≡ has_joined_at ms device t = any_skip (λ h. time_of h == t && is_joined_by device h.note.body) ps c w
+    let joined : has_joined_at js device t ≡ has_joined_at gs device t = any_skip (λ h. time_of h == t && is_joined_by device h.note.body) ps c w
     (and_right (time_of w == t) (is_joined_by device w.note.body) (joins_no_other device w.note.body still)) in
     record {
-      heard =
-          heard_alike s js ms device t bear ∙ sym (heard_plain s ms device t) ∙ ap (λ (l : List Happening). heard_since s l device t) same
-          ∙ heard_plain s gs device t;
-      points = points_alike js ms device bear ∙ sym (points_plain ms device) ∙ ap (λ (l : List Happening). points_of l device) same ∙ points_plain gs device;
+      heard = heard_alike s js gs device t bear;
+      points = points_alike js gs device bear;
       state =
           ap (λ (b : Bool). if b then Joining else state_before s js device t) joined
-          ∙ ap (λ (l : List Happening). if has_joined_at ms device t then Joining else (if is_turned_on_at s device t then Integrating
-          else state_after s l device)) before
-          ∙ sym (hearing_state_plain s ms device t)
-          ∙ ap (λ (l : List Happening). state_at_hearing s l device t) same
-          ∙ hearing_state_plain s gs device t;
+          ∙ ap (λ (l : List Happening). if has_joined_at gs device t then Joining else (if is_turned_on_at s device t then Integrating
+          else state_after s l device)) before;
       adjustment =
           sym (fold_skip (λ adjustment h. adjustment_with s device (cycle_in h) adjustment h.note.body)
-          (λ h. nat_lt (time_of h) t || is_joined_by device h.note.body) ps c w (λ old. keeps_adjustment s device (cycle_in w) old w.note.body still) _)
-          ∙ sym (hearing_adjustment_plain s ms device t)
-          ∙ ap (λ (l : List Happening). adjustment_at_hearing s l device t) same
-          ∙ hearing_adjustment_plain s gs device t;
+          (λ h. nat_lt (time_of h) t || is_joined_by device h.note.body) ps c w (λ old. keeps_adjustment s device (cycle_in w) old w.note.body still) _);
     }
 
 -- with it and without it they tell the same
-pub two_placed : (s : Scenario) (t : ℕ) (at : List ℕ) (ps c : List Happening) (w : Happening) → IsPlaced t at c w
-    → place_of (bump_behind (length ps) w) ≡ place_of w → AreTwo s t (length ps) at w.note.body (ps ++ c) (ps ++ w ∷ map (bump_behind (length ps)) c)
-two_placed s t at ps c w p keeps =
-    let n = length ps in
-    let b = map (bump_behind n) c in
+pub two_placed : (s : Scenario) {t : ℕ} {at : List ℕ} (ps : List Happening) {c : List Happening} {w : Happening} → IsPlaced t at c w
+    → AreNear s t (length ps) at w.note.body (ps ++ c) (ps ++ w ∷ c)
+two_placed s {t} {at} ps {c} {w} p =
     let late : (y : Happening) → IsIn y c → t ≤ time_of y = λ y i. let e = p.of_time y i in omega (arith, e) in
-    let with_w : (xs : List Happening) → ((y : Happening) → IsIn y xs → time_of y ≡ t) → (y : Happening) → IsIn y (w ∷ xs) → t ≤ time_of y = λ xs of y i.
-    elim i [
+    let with_w : (y : Happening) → IsIn y (w ∷ c) → t ≤ time_of y = λ y i. elim i [
       | inl e ↦ let same : time_of y ≡ time_of w = ap time_of e in let now = p.now in omega (arith, same, now)
-      | inr more ↦ let it = of y more in omega (arith, it)
+      | inr more ↦ late y more
     ] in
-    let given : (i : ℕ) → i ≤ n → Rattle.run_law.specs.records.Happenings.numbered (ps ++ c) i ≡ Rattle.run_law.specs.records.Happenings.numbered
-    (ps ++ w ∷ b) i = λ i le. numbered_prefix ps c i le ∙ sym (numbered_prefix ps (w ∷ b) i le) in
+    let before = earlier_still t ps c late ∙ sym (earlier_still t ps (w ∷ c) with_w) in
     record {
-      near = record {
-        first = given;
-        before = earlier_still t ps c late ∙ sym (earlier_still t ps (w ∷ b) (with_w b (bumped_time n t c p.of_time)));
-        taken = λ device link cause vl under.
-            sym (ap (λ (l : List Happening). option_and_then (λ h. taken_cycle h.note.body) (last_or None l))
-            (drop_one (λ h. is_taken_before device vl t link cause (time_of h) h.note.body) ps c w (p.takes device vl link cause under)))
-            ∙ sym (last_taken_plain (ps ++ w ∷ c) device t link cause vl)
-            ∙ ap (λ (l : List Happening). last_taken l device t link cause vl) (plains_placed n ps c w)
-            ∙ last_taken_plain (ps ++ w ∷ b) device t link cause vl;
-        judged = λ device link cause frame point under.
-            let place = t ∷ 3 ∷ device.0 ∷ amount point ∷ frame.members.0 ∷ link.0 ∷ cause ∷ [] in
-            let q = λ (h : Happening). is_before (place_of h) place in
-            let old : filter q c ≡ [] = none_judged at place w c p.least under (λ y i. inr (p.over y i)) in
-            let new : filter q (w ∷ b) ≡ [] = none_judged at place w (w ∷ b) p.least under (λ y i. elim i
-            [ inl e ↦ inl e | inr more ↦ inr (bumped_over n c w keeps p.over y more) ]) in
-            filter-append q ps c ∙ ap (λ (l : List Happening). filter q ps ++ l) (old ∙ sym new) ∙ sym (filter-append q ps (w ∷ b));
-        hearing = λ device misses.
-            hearing_placed s t n ps c w device (earlier_still t ps c late ∙ sym (earlier_still t ps (w ∷ c) (with_w c p.of_time))) misses;
-      };
-      raised_so = record { first = given; beyond = λ i lt. numbered_beyond n ps c w i lt };
-      longer =
-          let x = length-append ps (w ∷ b) in
-          let y = length-append ps c in
-          let z : length (w ∷ b) ≡ suc (length b) = refl in
-          let u = length-map c (bump_behind n) in omega (arith, x, y, z, u);
+      first = λ i le. numbered_prefix ps c i le ∙ sym (numbered_prefix ps (w ∷ c) i le);
+      before = before;
+      taken = λ device link cause vl under.
+          sym (ap (λ (l : List Happening). option_and_then (λ h. taken_cycle h.note.body) (last_or None l))
+          (drop_one (λ h. is_taken_before device vl t link cause (time_of h) h.note.body) ps c w (p.takes device vl link cause under)));
+      judged = λ device link cause frame point under.
+          let place = t ∷ 3 ∷ device.0 ∷ amount point ∷ frame.members.0 ∷ link.0 ∷ cause ∷ [] in
+          let q = λ (h : Happening). is_before (place_of h) place in
+          let old : filter q c ≡ [] = none_judged at place w c p.least under (λ y i. inr (p.over y i)) in
+          let new : filter q (w ∷ c) ≡ [] = none_judged at place w (w ∷ c) p.least under (λ y i. elim i
+          [ inl e ↦ inl e | inr more ↦ inr (p.over y more) ]) in
+          filter-append q ps c ∙ ap (λ (l : List Happening). filter q ps ++ l) (old ∙ sym new) ∙ sym (filter-append q ps (w ∷ c));
+      hearing = λ device misses. hearing_placed s t ps c w device before misses;
     }

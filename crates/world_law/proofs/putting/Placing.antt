@@ -2,12 +2,14 @@
 use Rattle.world_law.proofs.Words.{◌++◌, ◌+◌, ◌∙◌, ◌∷◌, ◌≡◌, ◌≤◌, ◌⊎◌, AllBefore, AreSettled, DeviceId, Happening, IsBefore, IsDue, IsForward, IsFounded, IsIn}
 use Rattle.world_law.proofs.Words.{IsOwnSource, IsSource, LinkId, List, NoneBefore, NoteBody, Scenario, VlId, [], rows_place, ap, append_assoc, arith, bears_on}
 use Rattle.world_law.proofs.Words.{before_behind, before_later, behind, cases_Bool, cases_order, cause_of, chain, either_way, eqb-true, false, in_left}
-use Rattle.world_law.proofs.Words.{in_parts, in_right, inl, inr, is_at_source, is_taken_before, key, length, length-append, map, members_in, never_self}
+use Rattle.world_law.proofs.Words.{in_parts, in_right, inl, inr, is_at_source, is_taken_before, key, length, length-append, members_in, never_self}
 use Rattle.world_law.proofs.{Words.{place_of, rank, refl, subst, sym, time_of, true, ℕ}, putting.PutIn.{own_time, split_three, split_two}}
 use Rattle.world_law.proofs.{giving.GivenParts.up_to_place, putting.NearPut.{IsPlaced, two_placed}, runs.SourcesBack.{at_least, no_higher}}
-use Rattle.world_law.proofs.putting.Bumped.{bump_back, bump_behind, bump_equal, bump_mono, due_low, first_placed, in_placed, lower_behind, lowered}
-use Rattle.world_law.proofs.putting.{Bumped.{lowered_place, placed, placed_in, raised_source, split_placed}, Moving.{IsAllOfIt, IsMoving, worked_or_here}}
-use Rattle.world_law.proofs.putting.Near.{AreFrom, AreTwo, IsAsideOf, due_down, due_up, hears, is_follower, known_near, own_down, own_source, own_up}
+use Rattle.world_law.proofs.{putting.Bearing.in_placed, putting.Moving.{IsAllOfIt, IsMoving, worked_or_here}, runs.SourcesBack.numbered_parts}
+use Rattle.world_law.proofs.putting.Near.{AreFrom, AreNear, AsFollower, IsAsideOf, due_aside, follower_or_not, hears, is_follower, is_following, known_near}
+use Rattle.world_law.proofs.putting.Near.{near_back, own_aside, own_source}
+use Rattle.world_law.proofs.Words.{ChangesState, IsCaused, State, Units, Why, amount, is_joined_by, numbered, numbered_within, parted, Some}
+use Rattle.world_law.specs.world.World.{IsDueAs}
 use Rattle.run_law.specs.declared.judgement.Why.TheVariants as whys
 use Rattle.run_law.specs.declared.note.NoteBody.TheVariants as notes
 
@@ -54,10 +56,10 @@ IsFound new y = (z : Happening) × IsIn z new × (place_of z ≡ place_of y)
 pub record IsWell (s : Scenario) (hs coming : List Happening) (mark : List ℕ) (now r : ℕ) (more : List ℕ) (Yet : Happening → Type 0) : Type 0 where
   pub of_now : (z : Happening) → IsIn z coming → time_of z ≡ now
   pub after : (z : Happening) → IsIn z coming → IsBefore (place_of z) (now ∷ r ∷ more) → ⊥
-  pub stands : (f rest : List Happening) (z : Happening) → coming ≡ f ++ z ∷ rest → AllBefore place_of f (place_of z) × IsDue s (hs ++ f) z
+  pub stands : (f rest : List Happening) (z : Happening) → coming ≡ f ++ z ∷ rest → AllBefore place_of f (place_of z) × IsDueAs s (hs ++ f) z
   pub by : (f rest : List Happening) (z : Happening) → coming ≡ f ++ z ∷ rest → ComesUpTo s (hs ++ f) (now ∷ r ∷ more) z
   pub full : (f rest : List Happening) (y : Happening) → coming ≡ f ++ rest → AllBefore place_of f (place_of y) → NoneBefore place_of rest (place_of y)
-      → (IsBefore (place_of y) mark → ⊥) → IsDue s (hs ++ f) y → time_of y ≡ now → (p : List ℕ)
+      → (IsBefore (place_of y) mark → ⊥) → IsDueAs s (hs ++ f) y → time_of y ≡ now → (p : List ℕ)
       → IsOwnSource s (hs ++ f) (time_of y) (members_in y) y.note.body p → IsSource s (hs ++ f) p → IsBefore p (now ∷ r ∷ more) → IsFound coming y ⊎ Yet y
 
 -- where the source comes first, what is to come is so
@@ -90,7 +92,7 @@ pub record IsPlacing (s : Scenario) (hs front back : List Happening) (mark : Lis
   pub given : IsFounded place_of (IsDue s) hs
   pub up_to : IsBefore (now ∷ r ∷ more) mark → ⊥
   pub at : time_of w ≡ now
-  pub due : IsDue s (hs ++ front) w
+  pub due : IsDueAs s (hs ++ front) w
   pub before : AllBefore place_of front (place_of w)
   pub none : NoneBefore place_of back (place_of w)
   pub fresh : (y : Happening) → IsIn y back → place_of w ≡ place_of y → ⊥
@@ -104,50 +106,6 @@ pub record IsPlacing (s : Scenario) (hs front back : List Happening) (mark : Lis
 -- so many stand before it
 abbrev pub before_it : List Happening → List Happening → ℕ
 before_it hs front = length (hs ++ front)
-
-abbrev pub put_at : List Happening → List Happening → Happening → List Happening → List Happening
-put_at hs front w back = placed (before_it hs front) front w back
-
--- the record keeps its place, and so do those before it
-low_place : (s : Scenario) (hs front f rest : List Happening) (z : Happening) → front ≡ f ++ rest → IsDue s (hs ++ f) z
-    → place_of (bump_behind (before_it hs front) z) ≡ place_of z
-low_place s hs front f rest z e due = grind (arith, length-append, length, time_of, rank, key, members_in, due_low)
-
-front_place : (s : Scenario) (hs front back : List Happening) (mark : List ℕ) (now r : ℕ) (more : List ℕ) (Yet : Happening → Type 0)
-    → IsWell s hs (front ++ back) mark now r more Yet → (z : Happening) → IsIn z front → place_of (bump_behind (before_it hs front) z) ≡ place_of z
-front_place s hs front back mark now r more Yet well z i =
-    let parts = Rattle.run_law.proofs.runs.Places.parted z front i in
-    let whole : front ++ back ≡ parts.0 ++ z ∷ (parts.1 ++ back) = ap (λ (l : List Happening). l ++ back) parts.2
-    ∙ append_assoc parts.0 (z ∷ parts.1) back in
-    low_place s hs front parts.0 (z ∷ parts.1) z parts.2 (well.stands parts.0 (parts.1 ++ back) z whole).1
-
-over_it : (s : Scenario) (hs front back : List Happening) (mark : List ℕ) (now r : ℕ) (more : List ℕ) (w : Happening)
-    → IsPlacing s hs front back mark now r more w → (y : Happening) → IsIn y back → IsBefore (place_of w) (place_of y)
-over_it s hs front back mark now r more w p y i =
-    elim (either_way (place_of w) (place_of y)) [ inl lt ↦ lt | inr (inl e) ↦ absurd (p.fresh y i e) | inr (inr gt) ↦ absurd (p.none y i gt) ]
-
-own_low : (s : Scenario) (hs front back : List Happening) (mark : List ℕ) (now r : ℕ) (more : List ℕ) (w : Happening)
-    → IsPlacing s hs front back mark now r more w → place_of (bump_behind (before_it hs front) w) ≡ place_of w
-own_low s hs front back mark now r more w p = low_place s hs front front [] w (sym (Rattle.std.proofs.lemmas.List.append-nil front)) p.due
-
--- the two lists, up to some of those behind it
-two_at : (s : Scenario) (hs front back c d : List Happening) (mark : List ℕ) (now r : ℕ) (more : List ℕ) (w : Happening) (Yet : Happening → Type 0)
-    → IsWell s hs (front ++ back) mark now r more Yet → IsPlacing s hs front back mark now r more w → back ≡ c ++ d
-    → AreTwo s now (before_it hs front) (now ∷ r ∷ more) w.note.body (hs ++ (front ++ c)) (hs ++ put_at hs front w c)
-two_at s hs front back c d mark now r more w Yet well p e =
-    let n = before_it hs front in
-    let inside : (y : Happening) → IsIn y c → IsIn y back = λ y i. subst (λ (l : List Happening). IsIn y l) (sym e) (in_left y c d i) in
-    let it : IsPlaced now (now ∷ r ∷ more) c w = record {
-      now = p.at;
-      of_time = λ y i. well.of_now y (in_right y front back (inside y i));
-      over = λ y i. over_it s hs front back mark now r more w p y (inside y i);
-      least = p.least;
-      takes = p.takes;
-    } in
-    let two = two_placed s now (now ∷ r ∷ more) (hs ++ front) c w it (own_low s hs front back mark now r more w p) in
-    subst (λ (l : List Happening). AreTwo s now n (now ∷ r ∷ more) w.note.body l (hs ++ put_at hs front w c)) (append_assoc hs front c)
-    (subst (λ (l : List Happening). AreTwo s now n (now ∷ r ∷ more) w.note.body ((hs ++ front) ++ c) l)
-    (append_assoc hs front (w ∷ map (bump_behind n) c)) two)
 
 -- what is behind it does not stand at a source up to this one
 pub not_at_source : (s : Scenario) (js : List Happening) (now r : ℕ) (more : List ℕ) (w y : Happening) (q : List ℕ)
@@ -164,275 +122,264 @@ not_at_source s js now r more w y q least over under own = elim (cases_Bool (is_
       ])
 ]
 
+pub under_at : {at q : List ℕ} → IsBefore q at ⊎ (q ≡ at) → IsBefore at q → ⊥
+under_at {at} {q} (inl yet) lt = never_self at (chain at q at lt yet)
+under_at {at} (inr up) lt = never_self at (subst (λ (u : List ℕ). IsBefore at u) up lt)
+
 -- where the cause does not follow a record of the instant, it is given
 few_at : (s : Scenario) (hs front zs : List Happening) (now r : ℕ) (more : List ℕ) (y : Happening) (q : List ℕ) → IsForward s → 2 ≤ r
-    → IsFounded place_of (IsDue s) hs → AreFrom now r zs → time_of y ≡ now → is_at_source y.note.body ≡ false
-    → (IsBefore (now ∷ r ∷ more) q → ⊥) → IsOwnSource s (hs ++ zs) (time_of y) (members_in y) y.note.body q → IsDue s (hs ++ zs) y
-    → is_follower y.note.body ≡ false → cause_of y.note.body ≤ before_it hs front
+    → IsFounded place_of (IsDue s) hs → AreFrom now r zs → time_of y ≡ now → is_at_source y.note.body ≡ false → (IsBefore (now ∷ r ∷ more) q → ⊥)
+    → IsOwnSource s (hs ++ zs) (time_of y) (members_in y) y.note.body q → IsDueAs s (hs ++ zs) y → is_follower y.note.body ≡ false
+    → cause_of y.note.body ≤ before_it hs front
 few_at s hs front zs now r more y q forward late given from now_is not_there under own due plain = grind (arith, known_near, members_in, length-append)
 
-all_from : (s : Scenario) (hs coming : List Happening) (mark : List ℕ) (now r : ℕ) (more : List ℕ) (Yet : Happening → Type 0)
-    → IsWell s hs coming mark now r more Yet → AreFrom now r coming
-all_from s hs coming mark now r more Yet well z i = (well.of_now z i, at_least z now r more (well.of_now z i) (well.after z i))
+joined_there : (device : DeviceId) (body : NoteBody) → is_joined_by device body ≡ true → is_at_source body ≡ true
+joined_there device (notes.Permanent other link cause point verdict) e = refl
+joined_there device (notes.Compressed other opened at cycle members verdict) e = refl
+joined_there device other e = absurd cc
 
--- all that is to come then is of the instant and not before the source
-put_from : (s : Scenario) (hs front back : List Happening) (mark : List ℕ) (now r : ℕ) (more : List ℕ) (w : Happening) (Yet : Happening → Type 0)
-    → IsWell s hs (front ++ back) mark now r more Yet → IsPlacing s hs front back mark now r more w
-    → (z : Happening) → IsIn z (put_at hs front w back) → (time_of z ≡ now) × (IsBefore (place_of z) (now ∷ r ∷ more) → ⊥)
-put_from s hs front back mark now r more w Yet well p z i =
-    let n = before_it hs front in
-    elim (in_parts z front (w ∷ map (bump_behind n) back) i) [
-      | inl f ↦ (well.of_now z (in_left z front back f), well.after z (in_left z front back f))
-      | inr (inl e) ↦ subst (λ (h : Happening). (time_of h ≡ now) × (IsBefore (place_of h) (now ∷ r ∷ more) → ⊥)) (sym e) (p.at, p.least)
-      | inr (inr b) ↦
-          let x = in_placed n back z b in
-          let over = subst (λ (u : List ℕ). IsBefore u (place_of (bump_behind n x.0))) (own_low s hs front back mark now r more w p)
-          (bump_mono n w x.0 (over_it s hs front back mark now r more w p x.0 x.1)) in
-          let least : IsBefore (place_of (bump_behind n x.0)) (now ∷ r ∷ more) → ⊥ = λ lt.
-          p.least (chain (place_of w) (place_of (bump_behind n x.0)) (now ∷ r ∷ more) over lt) in
-          subst (λ (h : Happening). (time_of h ≡ now) × (IsBefore (place_of h) (now ∷ r ∷ more) → ⊥)) (sym x.2)
-          (well.of_now x.0 (in_right x.0 front back x.1), least)
+-- what a change of state follows is the record of an event, or stands at its source
+change_cause : (s : Scenario) (js : List Happening) (device : DeviceId) (t : ℕ) (state : State) (cause : ℕ) (why : Why) → is_following why ≡ true
+    → ChangesState s js device t state cause why → (h : Happening) × (numbered js cause ≡ Some h)
+    × ((rank h.note.body ≡ 1) ⊎ (is_at_source h.note.body ≡ true))
+change_cause s js device t state cause whys.On f c = (c.2.1, c.2.2.there, inl (ap rank c.2.3))
+change_cause s js device t state cause whys.Frame f c = (c.1.0, c.1.1.there, inr (joined_there device c.1.0.note.body c.1.2))
+change_cause s js device t state cause whys.Correction f c = (c.2.3, c.2.4.there, inr (ap is_at_source c.2.5))
+change_cause s js device t state cause whys.SyncClique f c = absurd cc
+change_cause s js device t state cause whys.AsyncClique f c = absurd cc
+
+-- so it follows one of the first, where those behind are of no event and stand behind their sources
+few_first : (s : Scenario) (ps zs : List Happening) (time : Units) (body : NoteBody)
+    → ((h : Happening) → IsIn h zs → (2 ≤ rank h.note.body) × (is_at_source h.note.body ≡ false)) → AsFollower body → IsCaused s (ps ++ zs) time body
+    → cause_of body ≤ length ps
+few_first s ps zs time body late f c =
+    let it = change_cause s (ps ++ zs) f.device (amount time) f.state f.cause f.why f.following (subst (λ (b : NoteBody). IsCaused s (ps ++ zs) time b) f.is c)
+    in
+    let e : cause_of body ≡ f.cause = ap cause_of f.is in
+    elim (numbered_parts ps zs it.0 f.cause it.1) [
+      | inl old ↦ let lt = numbered_within ps f.cause it.0 old in omega (arith, lt, e)
+      | inr new ↦
+          let at = late it.0 new in
+          absurd (elim it.2 [ inl one ↦ let two = at.0 in omega (arith, one, two) | inr is ↦ let bad : false ≡ true = sym at.1 ∙ is in cc ])
     ]
-
-part_of_put : (n : ℕ) (front c d : List Happening) (w z : Happening) → IsIn z (placed n front w c) → IsIn z (placed n front w (c ++ d))
-part_of_put n front c d w z i =
-    elim (in_parts z front (w ∷ map (bump_behind n) c) i) [
-      | inl f ↦ in_left z front (w ∷ map (bump_behind n) (c ++ d)) f
-      | inr (inl e) ↦ in_right z front (w ∷ map (bump_behind n) (c ++ d)) (inl e)
-      | inr (inr b) ↦
-          let x = in_placed n c z b in
-          in_right z front (w ∷ map (bump_behind n) (c ++ d))
-          (inr (subst (λ (h : Happening). IsIn h (map (bump_behind n) (c ++ d))) (sym x.2) (placed_in n (c ++ d) x.0 (in_left x.0 c d x.1))))
-    ]
-
--- ---- those behind it
-
--- a record to come behind it stands aside of it
-aside_back : (s : Scenario) (hs front back c d : List Happening) (mark : List ℕ) (now r : ℕ) (more : List ℕ) (w x : Happening) (Yet : Happening → Type 0)
-    → (well : IsWell s hs (front ++ back) mark now r more Yet) → (p : IsPlacing s hs front back mark now r more w) → back ≡ c ++ x ∷ d
-    → (by : ComesUpTo s (hs ++ (front ++ c)) (now ∷ r ∷ more) x) → IsDue s (hs ++ (front ++ c)) x
-    → IsAsideOf s (hs ++ (front ++ c)) (before_it hs front) (now ∷ r ∷ more) w.note.body x.note.time (members_in x) x.note.body by.0
-aside_back s hs front back c d mark now r more w x Yet well p e by due =
-    let at = now ∷ r ∷ more in
-    let here : IsIn x back = subst (λ (l : List Happening). IsIn x l) (sym e) (in_right x c (x ∷ d) (inl refl)) in
-    let whole : front ++ back ≡ (front ++ c) ++ x ∷ d = ap (λ (l : List Happening). front ++ l) e ∙ sym (append_assoc front c (x ∷ d)) in
-    let under : IsBefore at by.0 → ⊥ = λ lt. elim by.3 [
-      | inl yet ↦ never_self at (chain at by.0 at lt yet)
-      | inr up ↦ never_self at (subst (λ (q : List ℕ). IsBefore at q) up lt)
-    ] in
-    let not_there = not_at_source s (hs ++ (front ++ c)) now r more w x by.0 p.least (over_it s hs front back mark now r more w p x here) under by.1 in
-    let from : AreFrom now r (front ++ c) = λ z i. all_from s hs (front ++ back) mark now r more Yet well z
-    (subst (λ (l : List Happening). IsIn z l) (sym whole) (in_left z (front ++ c) (x ∷ d) i)) in
-    record {
-      not_there = not_there;
-      free = p.aside x here;
-      few =
-          few_at s hs front (front ++ c) now r more x by.0 p.forward p.late p.given from (well.of_now x (in_right x front back here)) not_there under by.1 due;
-      own = by.1;
-      under = under;
-    }
-
--- what is due behind it, by a source before this one, stands aside of it
-aside_new : (s : Scenario) (hs front back c d : List Happening) (mark : List ℕ) (now r : ℕ) (more : List ℕ) (w y : Happening) (q : List ℕ)
-    (Yet : Happening → Type 0) → IsWell s hs (front ++ back) mark now r more Yet → (p : IsPlacing s hs front back mark now r more w) → back ≡ c ++ d
-    → IsBefore (place_of w) (place_of y) → time_of y ≡ now → IsBefore q (now ∷ r ∷ more)
-    → IsOwnSource s (hs ++ put_at hs front w c) (time_of y) (members_in y) y.note.body q → IsDue s (hs ++ put_at hs front w c) y
-    → IsAsideOf s (hs ++ put_at hs front w c) (before_it hs front) (now ∷ r ∷ more) w.note.body y.note.time (members_in y) y.note.body q
-aside_new s hs front back c d mark now r more w y q Yet well p e over now_is before own due =
-    let at = now ∷ r ∷ more in
-    let under : IsBefore at q → ⊥ = λ lt. never_self at (chain at q at lt before) in
-    let not_there = not_at_source s (hs ++ put_at hs front w c) now r more w y q p.least over under own in
-    let from : AreFrom now r (put_at hs front w c) = λ z i.
-    let it = put_from s hs front back mark now r more w Yet well p z
-    (subst (λ (l : List Happening). IsIn z (put_at hs front w l)) (sym e) (part_of_put (before_it hs front) front c d w z i)) in
-    (it.0, at_least z now r more it.0 it.1) in
-    record {
-      not_there = not_there;
-      free = λ device yes_it.
-          let act = hears_source s (hs ++ put_at hs front w c) (time_of y) (members_in y) device y.note.body q not_there yes_it own
-          ∙ ap (λ (t : ℕ). t ∷ 6 ∷ device.0 ∷ []) now_is in
-          p.apart device (subst (λ (u : List ℕ). IsBefore u at) act before);
-      few = few_at s hs front (put_at hs front w c) now r more y q p.forward p.late p.given from now_is not_there under own due;
-      own = own;
-      under = under;
-    }
-
--- the two lists at the time of a record of the instant
-two_for : (s : Scenario) (hs front back c d : List Happening) (mark : List ℕ) (now r : ℕ) (more : List ℕ) (w y : Happening) (Yet : Happening → Type 0)
-    → IsWell s hs (front ++ back) mark now r more Yet → IsPlacing s hs front back mark now r more w → back ≡ c ++ d → time_of y ≡ now
-    → AreTwo s (time_of y) (before_it hs front) (now ∷ r ∷ more) w.note.body (hs ++ (front ++ c)) (hs ++ put_at hs front w c)
-two_for s hs front back c d mark now r more w y Yet well p e now_is =
-    subst (λ (t : ℕ). AreTwo s t (before_it hs front) (now ∷ r ∷ more) w.note.body (hs ++ (front ++ c)) (hs ++ put_at hs front w c)) (sym now_is)
-    (two_at s hs front back c d mark now r more w Yet well p e)
-
--- ---- each stands, and is taken up
-
-stands_put : (s : Scenario) (hs front back : List Happening) (mark : List ℕ) (now r : ℕ) (more : List ℕ) (w : Happening) (Yet : Happening → Type 0)
-    → IsWell s hs (front ++ back) mark now r more Yet → IsPlacing s hs front back mark now r more w
-    → (f rest : List Happening) (y : Happening) → put_at hs front w back ≡ f ++ y ∷ rest
-    → AllBefore place_of f (place_of y) × IsDue s (hs ++ f) y × ComesUpTo s (hs ++ f) (now ∷ r ∷ more) y
-stands_put s hs front back mark now r more w Yet well p f rest y e =
-    let n = before_it hs front in
-    let at = now ∷ r ∷ more in
-    elim (split_three front (map (bump_behind n) back) w f rest y e) [
-      | inl it ↦
-          let whole = ap (λ (l : List Happening). l ++ back) it.1 ∙ append_assoc f (y ∷ it.0) back in
-          let was = well.stands f (it.0 ++ back) y whole in
-          (was.0, was.1, well.by f (it.0 ++ back) y whole)
-      | inr (inl it) ↦
-          subst (λ (h : Happening). AllBefore place_of f (place_of h) × IsDue s (hs ++ f) h × ComesUpTo s (hs ++ f) at h) it.1
-          (subst (λ (l : List Happening). AllBefore place_of l (place_of w) × IsDue s (hs ++ l) w × ComesUpTo s (hs ++ l) at w) it.0
-          (p.before, p.due, p.taken))
-      | inr (inr it) ↦
-          let parts = split_placed n back it.0 (y ∷ rest) it.2 in
-          let c = parts.0 in
-          let x = first_placed n parts.1 rest y parts.4 in
-          let split : back ≡ c ++ x.0 ∷ x.1 = parts.2 ∙ ap (λ (l : List Happening). c ++ l) x.2 in
-          let whole : front ++ back ≡ (front ++ c) ++ x.0 ∷ x.1 = ap (λ (l : List Happening). front ++ l) split ∙ sym (append_assoc front c (x.0 ∷ x.1)) in
-          let was = well.stands (front ++ c) x.1 x.0 whole in
-          let by = well.by (front ++ c) x.1 x.0 whole in
-          let here : IsIn x.0 back = subst (λ (l : List Happening). IsIn x.0 l) (sym split) (in_right x.0 c (x.0 ∷ x.1) (inl refl)) in
-          let list : put_at hs front w c ≡ f = sym (it.1 ∙ ap (λ (l : List Happening). front ++ w ∷ l) parts.3) in
-          let now_is = well.of_now x.0 (in_right x.0 front back here) in
-          let two = two_for s hs front back c (x.0 ∷ x.1) mark now r more w x.0 Yet well p split now_is in
-          let aside = aside_back s hs front back c x.1 mark now r more w x.0 Yet well p split by was.1 in
-          let due = due_up s n at w.note.body (hs ++ (front ++ c)) (hs ++ put_at hs front w c) x.0 by.0 two aside was.1 in
-          let own = own_up s n (members_in x.0) at w.note.body (hs ++ (front ++ c)) (hs ++ put_at hs front w c) x.0.note.time x.0.note.body by.0 two aside in
-          let source = own_source s (hs ++ put_at hs front w c) x.0.note.time (members_in x.0) (bump_behind n x.0).note.body by.0
-          (raised_source n x.0.note.body ∙ aside.not_there) due.cause own in
-          let up : ComesUpTo s (hs ++ put_at hs front w c) at (bump_behind n x.0) = (by.0, own, source, by.3) in
-          let all : AllBefore place_of (put_at hs front w c) (place_of (bump_behind n x.0)) = λ h i. elim (in_parts h front (w ∷ map (bump_behind n) c) i) [
-            | inl g ↦ subst (λ (u : List ℕ). IsBefore u (place_of (bump_behind n x.0))) (front_place s hs front back mark now r more Yet well h g)
-                (bump_mono n h x.0 (was.0 h (in_left h front c g)))
-            | inr (inl same) ↦ subst (λ (g : Happening). IsBefore (place_of g) (place_of (bump_behind n x.0))) (sym same)
-                (subst (λ (u : List ℕ). IsBefore u (place_of (bump_behind n x.0))) (own_low s hs front back mark now r more w p)
-                (bump_mono n w x.0 (over_it s hs front back mark now r more w p x.0 here)))
-            | inr (inr b) ↦ let g = in_placed n c h b in
-                subst (λ (k : Happening). IsBefore (place_of k) (place_of (bump_behind n x.0))) (sym g.2)
-                (bump_mono n g.0 x.0 (was.0 g.0 (in_right g.0 front c g.1)))
-          ] in
-          subst (λ (h : Happening). AllBefore place_of f (place_of h) × IsDue s (hs ++ f) h × ComesUpTo s (hs ++ f) at h) (sym x.3)
-          (subst (λ (l : List Happening). AllBefore place_of l (place_of (bump_behind n x.0)) × IsDue s (hs ++ l) (bump_behind n x.0)
-          × ComesUpTo s (hs ++ l) at (bump_behind n x.0)) list (all, due, up))
-    ]
-
--- ---- and nothing else is due
-
-lowered_source : (n : ℕ) (body : NoteBody) → is_at_source (lowered n body) ≡ is_at_source body
-lowered_source n (notes.State device state cause why) = refl
-lowered_source n other = refl
-
--- what was to be put in yet is found, or is to be put in still; and so is what follows the record that is put in
-pub record IsCarried (s : Scenario) (hs front back : List Happening) (now : ℕ) (w : Happening) (Yet Then : Happening → Type 0) : Type 0 where
-  pub same : (f rest : List Happening) (y : Happening) → front ≡ f ++ rest → IsDue s (hs ++ f) y → time_of y ≡ now → Yet y
-      → IsFound (put_at hs front w back) y ⊎ Then y
-  pub moved : (c d : List Happening) (y : Happening) → back ≡ c ++ d → IsDue s (hs ++ put_at hs front w c) y → time_of y ≡ now
-      → (rank y.note.body ≡ 7 → cause_of y.note.body ≡ before_it hs front + 1 → ⊥)
-      → Yet (lower_behind (before_it hs front) (length (hs ++ (front ++ c)) + 1) y) → IsFound (put_at hs front w back) y ⊎ Then y
-  pub new : (c d : List Happening) (y : Happening) → back ≡ c ++ d → IsDue s (hs ++ put_at hs front w c) y → time_of y ≡ now → rank y.note.body ≡ 7
-      → cause_of y.note.body ≡ before_it hs front + 1 → IsFound (put_at hs front w back) y ⊎ Then y
 
 follows_it : (body : NoteBody) (k : ℕ) → ((rank body ≡ 7) × (cause_of body ≡ k)) ⊎ (rank body ≡ 7 → cause_of body ≡ k → ⊥)
 follows_it body k = grind (arith, cases_order, rank, cause_of)
 
-full_at : (s : Scenario) (hs front back : List Happening) (mark : List ℕ) (now r : ℕ) (more : List ℕ) (w : Happening) (Yet Then : Happening → Type 0)
-    → IsWell s hs (front ++ back) mark now r more Yet → IsPlacing s hs front back mark now r more w → IsCarried s hs front back now w Yet Then
-    → (f rest : List Happening) (y : Happening) → put_at hs front w back ≡ f ++ rest → AllBefore place_of f (place_of y)
-    → NoneBefore place_of rest (place_of y) → (IsBefore (place_of y) mark → ⊥) → IsDue s (hs ++ f) y → time_of y ≡ now → (q : List ℕ)
-    → IsOwnSource s (hs ++ f) (time_of y) (members_in y) y.note.body q → IsSource s (hs ++ f) q → IsBefore q (now ∷ r ∷ more)
-    → IsFound (put_at hs front w back) y ⊎ Then y
-full_at s hs front back mark now r more w Yet Then well p carry f rest y e before none not due now_is q own source under =
-    let n = before_it hs front in
-    let at = now ∷ r ∷ more in
-    elim (split_two front (map (bump_behind n) back) w f rest e) [
-      | inl it ↦
-          let whole : front ++ back ≡ f ++ (it.0 ++ back) = ap (λ (l : List Happening). l ++ back) it.1 ∙ append_assoc f it.0 back in
-          let not_w : IsBefore (place_of w) (place_of y) → ⊥ = none w
-          (subst (λ (l : List Happening). IsIn w l) (sym it.2) (in_right w it.0 (w ∷ map (bump_behind n) back) (inl refl))) in
-          let least : NoneBefore place_of (it.0 ++ back) (place_of y) = λ h i. elim (in_parts h it.0 back i) [
-            | inl g ↦ none h (subst (λ (l : List Happening). IsIn h l) (sym it.2) (in_left h it.0 (w ∷ map (bump_behind n) back) g))
-            | inr b ↦ λ lt. not_w (chain (place_of w) (place_of h) (place_of y) (over_it s hs front back mark now r more w p h b) lt)
-          ] in
-          elim (well.full f (it.0 ++ back) y whole before least not due now_is q own source under) [
-            | inr yet ↦ carry.same f it.0 y it.1 due now_is yet
-            | inl found ↦ elim (in_parts found.0 front back found.1) [
-              | inl g ↦ inl (found.0, in_left found.0 front (w ∷ map (bump_behind n) back) g, found.2)
-              | inr b ↦ absurd (not_w (subst (λ (u : List ℕ). IsBefore (place_of w) u) found.2 (over_it s hs front back mark now r more w p found.0 b)))
-            ]
-          ]
-      | inr it ↦
-          let parts = split_placed n back it.0 rest it.2 in
-          let c = parts.0 in
-          let d = parts.1 in
-          let list : f ≡ put_at hs front w c = it.1 ∙ ap (λ (l : List Happening). front ++ w ∷ l) parts.3 in
-          let over : IsBefore (place_of w) (place_of y) = before w
-          (subst (λ (l : List Happening). IsIn w l) (sym list) (in_right w front (w ∷ map (bump_behind n) c) (inl refl))) in
-          let due_c = subst (λ (l : List Happening). IsDue s (hs ++ l) y) list due in
-          let own_c = subst (λ (l : List Happening). IsOwnSource s (hs ++ l) (time_of y) (members_in y) y.note.body q) list own in
-          elim (follows_it y.note.body (n + 1)) [
-            | inl it_follows ↦ carry.new c d y parts.2 due_c now_is it_follows.0 it_follows.1
-            | inr other ↦
-                let js = hs ++ (front ++ c) in
-                let gs = hs ++ put_at hs front w c in
-                let y0 = lower_behind n (length js + 1) y in
-                let two = two_for s hs front back c d mark now r more w y Yet well p parts.2 now_is in
-                let aside = aside_new s hs front back c d mark now r more w y q Yet well p parts.2 over now_is under own_c due_c in
-                let was = due_down s n at w.note.body js gs y q two aside other due_c in
-                let from = own_down s n (members_in y) at w.note.body js gs y.note.time y.note.body q two aside in
-                let src = own_source s js y.note.time (members_in y) y0.note.body q (lowered_source n y.note.body ∙ aside.not_there) was.cause from in
-                let whole : front ++ back ≡ (front ++ c) ++ d = ap (λ (l : List Happening). front ++ l) parts.2 ∙ sym (append_assoc front c d) in
-                let place : place_of (bump_behind n y0) ≡ place_of y = lowered_place n (length js + 1) y other in
-                let lower : (h : Happening) → IsBefore (place_of (bump_behind n h)) (place_of y) → IsBefore (place_of h) (place_of y0) = λ h lt.
-                bump_back n h y0 (subst (λ (u : List ℕ). IsBefore (place_of (bump_behind n h)) u) (sym place) lt) in
-                let all : AllBefore place_of (front ++ c) (place_of y0) = λ h i. elim (in_parts h front c i) [
-                  | inl g ↦ lower h (subst (λ (u : List ℕ). IsBefore u (place_of y)) (sym (front_place s hs front back mark now r more Yet well h g))
-                      (before h (subst (λ (l : List Happening). IsIn h l) (sym list) (in_left h front (w ∷ map (bump_behind n) c) g))))
-                  | inr b ↦ lower h (before (bump_behind n h)
-                      (subst (λ (l : List Happening). IsIn (bump_behind n h) l) (sym list)
-                      (in_right (bump_behind n h) front (w ∷ map (bump_behind n) c) (inr (placed_in n c h b)))))
-                ] in
-                let least : NoneBefore place_of d (place_of y0) = λ h i lt.
-                none (bump_behind n h) (subst (λ (l : List Happening). IsIn (bump_behind n h) l) (sym parts.4) (placed_in n d h i))
-                (subst (λ (u : List ℕ). IsBefore (place_of (bump_behind n h)) u) place (bump_mono n h y0 lt)) in
-                let over0 : IsBefore (place_of w) (place_of y0) = lower w
-                (subst (λ (u : List ℕ). IsBefore u (place_of y)) (sym (own_low s hs front back mark now r more w p)) over) in
-                let unmarked : IsBefore (place_of y0) mark → ⊥ = λ lt.
-                let far = chain (place_of w) (place_of y0) mark over0 lt in
-                elim (at_or_behind at (place_of w) p.least) [
-                  | inl same ↦ p.up_to (subst (λ (u : List ℕ). IsBefore u mark) (sym same) far)
-                  | inr behind_at ↦ p.up_to (chain at (place_of w) mark behind_at far)
-                ] in
-                elim (well.full (front ++ c) d y0 whole all least unmarked was now_is q from src under) [
-                  | inr yet ↦ carry.moved c d y parts.2 due_c now_is other yet
-                  | inl found ↦
-                      let here : place_of (bump_behind n found.0) ≡ place_of y = bump_equal n found.0 y0 found.2 ∙ place in
-                      elim (in_parts found.0 front back found.1) [
-                        | inl g ↦ inl (
-                          found.0,
-                          in_left found.0 front (w ∷ map (bump_behind n) back) g,
-                          sym (front_place s hs front back mark now r more Yet well found.0 g) ∙ here,
-                        )
-                        | inr b ↦ inl (
-                          bump_behind n found.0,
-                          in_right (bump_behind n found.0) front (w ∷ map (bump_behind n) back) (inr (placed_in n back found.0 b)),
-                          here,
-                        )
-                      ]
-                ]
-          ]
-    ]
+pub all_from : {s : Scenario} {hs coming : List Happening} {mark : List ℕ} {now r : ℕ} {more : List ℕ} {Yet : Happening → Type 0}
+    → IsWell s hs coming mark now r more Yet → AreFrom now r coming
+all_from {now} {r} {more} well z i = (well.of_now z i, at_least z now r more (well.of_now z i) (well.after z i))
 
--- what is to come is well with the record put in
-pub placed_well : (s : Scenario) (hs front back : List Happening) (mark : List ℕ) (now r : ℕ) (more : List ℕ) (w : Happening) (Yet Then : Happening → Type 0)
-    → IsWell s hs (front ++ back) mark now r more Yet → IsPlacing s hs front back mark now r more w → IsCarried s hs front back now w Yet Then
-    → IsWell s hs (put_at hs front w back) mark now r more Then
-placed_well s hs front back mark now r more w Yet Then well p carry = record {
-  of_now = λ z i. (put_from s hs front back mark now r more w Yet well p z i).0;
-  after = λ z i. (put_from s hs front back mark now r more w Yet well p z i).1;
-  stands = λ f rest y e. let it = stands_put s hs front back mark now r more w Yet well p f rest y e in (it.0, it.1);
-  by = λ f rest y e. (stands_put s hs front back mark now r more w Yet well p f rest y e).2;
-  full = full_at s hs front back mark now r more w Yet Then well p carry;
-}
+-- what was to be put in yet is found, or is to be put in still; and so is what follows the record that is put in
+pub record IsCarried (s : Scenario) (hs front back : List Happening) (now : ℕ) (w : Happening) (Yet Then : Happening → Type 0) : Type 0 where
+  pub same : (f rest : List Happening) (y : Happening) → front ≡ f ++ rest → IsDueAs s (hs ++ f) y → time_of y ≡ now → Yet y
+      → IsFound (front ++ w ∷ back) y ⊎ Then y
+  pub moved : (c d : List Happening) (y : Happening) → back ≡ c ++ d → IsDueAs s (hs ++ (front ++ w ∷ c)) y → time_of y ≡ now
+      → (rank y.note.body ≡ 7 → cause_of y.note.body ≡ before_it hs front + 1 → ⊥) → Yet y → IsFound (front ++ w ∷ back) y ⊎ Then y
+  pub new : (c d : List Happening) (y : Happening) → back ≡ c ++ d → IsDueAs s (hs ++ (front ++ w ∷ c)) y → time_of y ≡ now → rank y.note.body ≡ 7
+      → cause_of y.note.body ≡ before_it hs front + 1 → IsFound (front ++ w ∷ back) y ⊎ Then y
+
+module _ {s : Scenario} {hs front back : List Happening} {mark : List ℕ} {now r : ℕ} {more : List ℕ} {w : Happening} {Yet : Happening → Type 0}
+    (well : IsWell s hs (front ++ back) mark now r more Yet) (p : IsPlacing s hs front back mark now r more w) where
+  over_it : (y : Happening) → IsIn y back → IsBefore (place_of w) (place_of y)
+  over_it y i =
+      elim (either_way (place_of w) (place_of y)) [ inl lt ↦ lt | inr (inl e) ↦ absurd (p.fresh y i e) | inr (inr gt) ↦ absurd (p.none y i gt) ]
+
+  -- the two lists, up to some of those behind it
+  pub two_at : (t : ℕ) (c d : List Happening) → back ≡ c ++ d → t ≡ now
+      → AreNear s t (before_it hs front) (now ∷ r ∷ more) w.note.body (hs ++ (front ++ c)) (hs ++ (front ++ w ∷ c))
+  two_at t c d e now_is =
+      let n = before_it hs front in
+      let at = now ∷ r ∷ more in
+      let inside : (y : Happening) → IsIn y c → IsIn y back = λ y i. subst (λ (l : List Happening). IsIn y l) (sym e) (in_left y c d i) in
+      let it : IsPlaced now at c w = record {
+        now = p.at;
+        of_time = λ y i. well.of_now y (in_right y front back (inside y i));
+        over = λ y i. over_it y (inside y i);
+        least = p.least;
+        takes = p.takes;
+      } in
+      subst (λ (u : ℕ). AreNear s u n at w.note.body (hs ++ (front ++ c)) (hs ++ (front ++ w ∷ c))) (sym now_is)
+      (subst (λ (l : List Happening). AreNear s now n at w.note.body l (hs ++ (front ++ w ∷ c))) (append_assoc hs front c)
+      (subst (λ (l : List Happening). AreNear s now n at w.note.body ((hs ++ front) ++ c) l) (append_assoc hs front (w ∷ c)) (two_placed s (hs ++ front) it)))
+
+  -- each that is behind it is of no event, and stands behind its source
+  late_back : (h : Happening) → IsIn h back → (2 ≤ rank h.note.body) × (is_at_source h.note.body ≡ false)
+  late_back h i =
+      let split = parted h back i in
+      let whole : front ++ back ≡ (front ++ split.0) ++ h ∷ split.1 = ap (λ (l : List Happening). front ++ l) split.2
+      ∙ sym (append_assoc front split.0 (h ∷ split.1)) in
+      let by = well.by (front ++ split.0) split.1 h whole in
+      let low = (all_from well h (in_right h front back i)).1 in
+      let late = p.late in (
+        omega (arith, low, late),
+        not_at_source s (hs ++ (front ++ split.0)) now r more w h by.0 p.least (over_it h i) (under_at by.3) by.1,
+      )
+
+  -- a record to come behind it stands aside of it
+  aside_back : (c d : List Happening) (x : Happening) → back ≡ c ++ x ∷ d → (by : ComesUpTo s (hs ++ (front ++ c)) (now ∷ r ∷ more) x)
+      → IsDueAs s (hs ++ (front ++ c)) x → IsAsideOf s (hs ++ (front ++ c)) (before_it hs front) (now ∷ r ∷ more) w.note.body x.note.time
+      (members_in x) x.note.body by.0
+  aside_back c d x e by due =
+      let here : IsIn x back = subst (λ (l : List Happening). IsIn x l) (sym e) (in_right x c (x ∷ d) (inl refl)) in
+      let whole : front ++ back ≡ (front ++ c) ++ x ∷ d = ap (λ (l : List Happening). front ++ l) e ∙ sym (append_assoc front c (x ∷ d)) in
+      let from : AreFrom now r (front ++ c) = λ z i. all_from well z
+      (subst (λ (l : List Happening). IsIn z l) (sym whole) (in_left z (front ++ c) (x ∷ d) i)) in
+      let not_there = (late_back x here).1 in
+      record {
+        not_there = not_there;
+        free = p.aside x here;
+        few = elim (follower_or_not x.note.body) [
+          | inl f ↦ few_first s (hs ++ front) c x.note.time x.note.body
+              (λ h i. late_back h (subst (λ (l : List Happening). IsIn h l) (sym e) (in_left h c (x ∷ d) i))) f
+              (subst (λ (l : List Happening). IsCaused s l x.note.time x.note.body) (sym (append_assoc hs front c)) due.cause)
+          | inr plain ↦ few_at s hs front (front ++ c) now r more x by.0 p.forward p.late p.given from (well.of_now x (in_right x front back here)) not_there
+              (under_at by.3) by.1 due plain
+        ];
+        own = by.1;
+        under = under_at by.3;
+      }
+
+  -- all that is to come then is of the instant and not before the source
+  put_from : (z : Happening) → IsIn z (front ++ w ∷ back) → (time_of z ≡ now) × (IsBefore (place_of z) (now ∷ r ∷ more) → ⊥)
+  put_from z i =
+      elim (in_parts z front (w ∷ back) i) [
+        | inl f ↦ (well.of_now z (in_left z front back f), well.after z (in_left z front back f))
+        | inr (inl e) ↦ subst (λ (h : Happening). (time_of h ≡ now) × (IsBefore (place_of h) (now ∷ r ∷ more) → ⊥)) (sym e) (p.at, p.least)
+        | inr (inr b) ↦ (well.of_now z (in_right z front back b), well.after z (in_right z front back b))
+      ]
+
+  -- what is due behind it, by a source before this one, and does not follow it, stands aside of it
+  aside_new : (c d : List Happening) (y : Happening) (q : List ℕ) → back ≡ c ++ d → IsBefore (place_of w) (place_of y) → time_of y ≡ now
+      → IsBefore q (now ∷ r ∷ more) → IsOwnSource s (hs ++ (front ++ w ∷ c)) (time_of y) (members_in y) y.note.body q
+      → (rank y.note.body ≡ 7 → cause_of y.note.body ≡ before_it hs front + 1 → ⊥) → IsDueAs s (hs ++ (front ++ w ∷ c)) y
+      → IsAsideOf s (hs ++ (front ++ w ∷ c)) (before_it hs front) (now ∷ r ∷ more) w.note.body y.note.time (members_in y) y.note.body q
+  aside_new c d y q e over now_is before own other due =
+      let at = now ∷ r ∷ more in
+      let js = hs ++ (front ++ w ∷ c) in
+      let under : IsBefore at q → ⊥ = λ lt. never_self at (chain at q at lt before) in
+      let not_there = not_at_source s js now r more w y q p.least over under own in
+      let inside : (z : Happening) → IsIn z c → IsIn z back = λ z i. subst (λ (l : List Happening). IsIn z l) (sym e) (in_left z c d i) in
+      let from : AreFrom now r (front ++ w ∷ c) = λ z i.
+      let it = put_from z (elim (in_parts z front (w ∷ c) i) [
+        | inl f ↦ in_left z front (w ∷ back) f
+        | inr (inl same) ↦ in_right z front (w ∷ back) (inl same)
+        | inr (inr b) ↦ in_right z front (w ∷ back) (inr (inside z b))
+      ]) in
+      (it.0, at_least z now r more it.0 it.1) in
+      record {
+        not_there = not_there;
+        free = λ device yes_it.
+            let act = hears_source s js (time_of y) (members_in y) device y.note.body q not_there yes_it own
+            ∙ ap (λ (t : ℕ). t ∷ 6 ∷ device.0 ∷ []) now_is in
+            p.apart device (subst (λ (u : List ℕ). IsBefore u at) act before);
+        few = elim (follower_or_not y.note.body) [
+          | inr plain ↦ few_at s hs front (front ++ w ∷ c) now r more y q p.forward p.late p.given from now_is not_there under own due plain
+          | inl f ↦
+              let ps = (hs ++ front) ++ w ∷ [] in
+              let parts : js ≡ ps ++ c = sym (append_assoc hs front (w ∷ c)) ∙ sym (append_assoc (hs ++ front) (w ∷ []) c) in
+              let most = few_first s ps c y.note.time y.note.body (λ h i. late_back h (inside h i)) f
+              (subst (λ (l : List Happening). IsCaused s l y.note.time y.note.body) parts due.cause) in
+              let long = length-append (hs ++ front) (w ∷ []) in
+              let one : length (w ∷ []) ≡ 1 = refl in
+              elim (cases_order (cause_of y.note.body) (before_it hs front + 1)) [
+                | inl same ↦ absurd (other (ap rank f.is) same)
+                | inr (inl less) ↦ omega (arith, less)
+                | inr (inr over_all) ↦ absurd (omega (arith, over_all, most, long, one))
+              ]
+        ];
+        own = own;
+        under = under;
+      }
+
+  -- ---- each stands, and is taken up
+
+  stands_put : (f rest : List Happening) (y : Happening) → front ++ w ∷ back ≡ f ++ y ∷ rest
+      → AllBefore place_of f (place_of y) × IsDueAs s (hs ++ f) y × ComesUpTo s (hs ++ f) (now ∷ r ∷ more) y
+  stands_put f rest y e =
+      let at = now ∷ r ∷ more in
+      elim (split_three front back w f rest y e) [
+        | inl it ↦
+            let whole = ap (λ (l : List Happening). l ++ back) it.1 ∙ append_assoc f (y ∷ it.0) back in
+            let was = well.stands f (it.0 ++ back) y whole in
+            (was.0, was.1, well.by f (it.0 ++ back) y whole)
+        | inr (inl it) ↦
+            subst (λ (h : Happening). AllBefore place_of f (place_of h) × IsDueAs s (hs ++ f) h × ComesUpTo s (hs ++ f) at h) it.1
+            (subst (λ (l : List Happening). AllBefore place_of l (place_of w) × IsDueAs s (hs ++ l) w × ComesUpTo s (hs ++ l) at w) it.0
+            (p.before, p.due, p.taken))
+        | inr (inr it) ↦
+            let c = it.0 in
+            let whole : front ++ back ≡ (front ++ c) ++ y ∷ rest = ap (λ (l : List Happening). front ++ l) it.2 ∙ sym (append_assoc front c (y ∷ rest)) in
+            let was = well.stands (front ++ c) rest y whole in
+            let by = well.by (front ++ c) rest y whole in
+            let here : IsIn y back = subst (λ (l : List Happening). IsIn y l) (sym it.2) (in_right y c (y ∷ rest) (inl refl)) in
+            let two = two_at (time_of y) c (y ∷ rest) it.2 (well.of_now y (in_right y front back here)) in
+            let aside = aside_back c rest y it.2 by was.1 in
+            let due = due_aside two aside was.1 in
+            let own = own_aside two aside in
+            let source = own_source s (hs ++ (front ++ w ∷ c)) y.note.time (members_in y) y.note.body by.0 aside.not_there due.cause own in
+            let all : AllBefore place_of (front ++ w ∷ c) (place_of y) = λ h i. elim (in_parts h front (w ∷ c) i) [
+              | inl g ↦ was.0 h (in_left h front c g)
+              | inr (inl same) ↦ subst (λ (g : Happening). IsBefore (place_of g) (place_of y)) (sym same) (over_it y here)
+              | inr (inr b) ↦ was.0 h (in_right h front c b)
+            ] in
+            subst (λ (l : List Happening). AllBefore place_of l (place_of y) × IsDueAs s (hs ++ l) y × ComesUpTo s (hs ++ l) at y) (sym it.1)
+            (all, due, (by.0, own, source, by.3))
+      ]
+
+  -- ---- and nothing else is due
+
+  full_at : (Then : Happening → Type 0) → IsCarried s hs front back now w Yet Then → (f rest : List Happening) (y : Happening)
+      → front ++ w ∷ back ≡ f ++ rest → AllBefore place_of f (place_of y) → NoneBefore place_of rest (place_of y) → (IsBefore (place_of y) mark → ⊥)
+      → IsDueAs s (hs ++ f) y → time_of y ≡ now → (q : List ℕ) → IsOwnSource s (hs ++ f) (time_of y) (members_in y) y.note.body q
+      → IsSource s (hs ++ f) q → IsBefore q (now ∷ r ∷ more) → IsFound (front ++ w ∷ back) y ⊎ Then y
+  full_at Then carry f rest y e before none not due now_is q own source under =
+      let n = before_it hs front in
+      elim (split_two front back w f rest e) [
+        | inl it ↦
+            let whole : front ++ back ≡ f ++ (it.0 ++ back) = ap (λ (l : List Happening). l ++ back) it.1 ∙ append_assoc f it.0 back in
+            let not_w : IsBefore (place_of w) (place_of y) → ⊥ = none w
+            (subst (λ (l : List Happening). IsIn w l) (sym it.2) (in_right w it.0 (w ∷ back) (inl refl))) in
+            let least : NoneBefore place_of (it.0 ++ back) (place_of y) = λ h i. elim (in_parts h it.0 back i) [
+              | inl g ↦ none h (subst (λ (l : List Happening). IsIn h l) (sym it.2) (in_left h it.0 (w ∷ back) g))
+              | inr b ↦ λ lt. not_w (chain (place_of w) (place_of h) (place_of y) (over_it h b) lt)
+            ] in
+            elim (well.full f (it.0 ++ back) y whole before least not due now_is q own source under) [
+              | inr yet ↦ carry.same f it.0 y it.1 due now_is yet
+              | inl found ↦ inl (found.0, in_placed front back w found.0 found.1, found.2)
+            ]
+        | inr it ↦
+            let c = it.0 in
+            let due_c = subst (λ (l : List Happening). IsDueAs s (hs ++ l) y) it.1 due in
+            let own_c = subst (λ (l : List Happening). IsOwnSource s (hs ++ l) (time_of y) (members_in y) y.note.body q) it.1 own in
+            let all : AllBefore place_of (front ++ w ∷ c) (place_of y) = subst (λ (l : List Happening). AllBefore place_of l (place_of y)) it.1 before in
+            elim (follows_it y.note.body (n + 1)) [
+              | inl it_follows ↦ carry.new c rest y it.2 due_c now_is it_follows.0 it_follows.1
+              | inr other ↦
+                  let over = all w (in_right w front (w ∷ c) (inl refl)) in
+                  let two = near_back s (time_of y) n (now ∷ r ∷ more) w.note.body (hs ++ (front ++ c)) (hs ++ (front ++ w ∷ c))
+                  (two_at (time_of y) c rest it.2 now_is) in
+                  let aside = aside_new c rest y q it.2 over now_is under own_c other due_c in
+                  let was = due_aside two aside due_c in
+                  let from = own_aside two aside in
+                  let src = own_source s (hs ++ (front ++ c)) y.note.time (members_in y) y.note.body q aside.not_there was.cause from in
+                  let whole : front ++ back ≡ (front ++ c) ++ rest = ap (λ (l : List Happening). front ++ l) it.2 ∙ sym (append_assoc front c rest) in
+                  elim (well.full (front ++ c) rest y whole (λ h i. all h (in_placed front c w h i)) none not was now_is q from src under) [
+                    | inr yet ↦ carry.moved c rest y it.2 due_c now_is other yet
+                    | inl found ↦ inl (found.0, in_placed front back w found.0 found.1, found.2)
+                  ]
+            ]
+      ]
+
+  -- what is to come is well with the record put in
+  pub placed_well : {Then : Happening → Type 0} → IsCarried s hs front back now w Yet Then → IsWell s hs (front ++ w ∷ back) mark now r more Then
+  placed_well {Then} carry = record {
+    of_now = λ z i. (put_from z i).0;
+    after = λ z i. (put_from z i).1;
+    stands = λ f rest y e. let it = stands_put f rest y e in (it.0, it.1);
+    by = λ f rest y e. (stands_put f rest y e).2;
+    full = full_at Then carry;
+  }
 
 -- ---- and so it is settled, as the cursor goes by the source
 

@@ -1,4 +1,6 @@
 -- A device acts: what is to come with its records.
+use Rattle.world_law.proofs.putting.{Numbering.AreOne, PutShown.change_of}
+use Rattle.world_law.specs.{device.Plain.renumbered, world.World.IsDueAs}
 use Rattle.schedule_tables.specs.Dispatches.{dispatch_order}
 use Rattle.world_law.proofs.Words.{◌++◌, ◌+◌, ◌<◌, ◌∙◌, ◌∷◌, ◌≡◌, ◌≤◌, ◌⊎◌, AllBefore, ChangesState, DeviceId, Happening, IsBefore, IsCaused, IsDue}
 use Rattle.world_law.proofs.Words.{IsFounded, IsIn, IsOfThisTime, IsOwnSource, IsSource, List, NoneBefore, NoteBody, Scenario, Some, State, Units, Why}
@@ -6,7 +8,7 @@ use Rattle.world_law.proofs.Words.{[], rows_place, amount, ap, append_assoc, ari
 use Rattle.world_law.proofs.Words.{never_self, numbered, numbered_within, parted, place_of, rank, refl, subst, suc, sym, true, units_of, ℕ}
 use Rattle.world_law.proofs.runs.TaskPlaces.{second}
 use Rattle.run_law.{proofs.runs.Determined.due_is_determined, specs.records.Causes.device_of}
-use Rattle.world_law.proofs.putting.{Bumped.AsState, Moving.IsMoving, Near.hears, Placing.before_it, PutOne.{IsOne, at_number}}
+use Rattle.world_law.proofs.putting.{AsStates.AsState, Moving.IsMoving, Near.hears, PutOne.IsOne}
 use Rattle.world_law.proofs.{putting.{PutShown.{IsShownPair, due_of, record_of}, PutTwo.IsPair}, runs.SourcesBack.{at_least, numbered_parts}}
 use Rattle.run_law.specs.declared.judgement.Why.TheVariants as whys
 use Rattle.run_law.specs.declared.note.NoteBody.TheVariants as notes
@@ -64,11 +66,20 @@ none_between : (c : List Happening) (p : List ℕ) → AllBefore place_of c p �
 none_between [] p all none = refl
 none_between (x ∷ c) p all none = absurd (none x (inl refl) (all x (inl refl)))
 
+-- what is due is the same record at the same place, but for its number
+pub one_at : {s : Scenario} {hs : List Happening} {w y : Happening} → IsDueAs s hs w → IsDueAs s hs y → place_of w ≡ place_of y → AreOne w y
+one_at {s} {hs} {w} {y} due is same =
+    let k = length hs + 1 in
+    ap (renumbered 0) (due_is_determined s hs (renumbered k w) (renumbered k y)
+    (record { number = refl; same = ap (renumbered k) due.same; begun = due.begun; cause = due.cause })
+    (record { number = refl; same = ap (renumbered k) is.same; begun = is.begun; cause = is.cause }) same)
+
 -- where a record to come stands at the very place of the one that is put in, it is that one, so it was put in before
-pub there_already : (s : Scenario) (hs front back : List Happening) (mark cursor : List ℕ) (now r : ℕ) (more : List ℕ) (w y : Happening)
-    → IsMoving s hs (front ++ back) mark cursor now r more → IsDue s (hs ++ front) w → NoneBefore place_of back (place_of w)
-    → IsIn y back → place_of w ≡ place_of y → w ≡ y
-there_already s hs front back mark cursor now r more w y m due none i same =
+pub there_already : {s : Scenario} {hs : List Happening} (front back : List Happening) {mark cursor : List ℕ} {now r : ℕ} {more : List ℕ} {w : Happening}
+    (y : Happening)
+    → IsMoving s hs (front ++ back) mark cursor now r more → IsDueAs s (hs ++ front) w → NoneBefore place_of back (place_of w)
+    → IsIn y back → place_of w ≡ place_of y → AreOne w y
+there_already {s} {hs} front back {w} y m due none i same =
     let split = parted y back i in
     let c = split.0 in
     let whole : front ++ back ≡ (front ++ c) ++ y ∷ split.1 = ap (λ (l : List Happening). front ++ l) split.2 ∙ sym (append_assoc front c (y ∷ split.1)) in
@@ -77,7 +88,7 @@ there_already s hs front back mark cursor now r more w y m due none i same =
     (λ h j b. none h (subst (λ (l : List Happening). IsIn h l) (sym split.2) (in_left h c (y ∷ split.1) j))
     (subst (λ (q : List ℕ). IsBefore (place_of h) q) (sym same) b)) in
     let front_is : front ++ c ≡ front = ap (λ (l : List Happening). front ++ l) empty ∙ Rattle.std.proofs.lemmas.List.append-nil front in
-    due_is_determined s (hs ++ front) w y due (subst (λ (l : List Happening). IsDue s (hs ++ l) y) front_is was.1) same
+    one_at due (subst (λ (l : List Happening). IsDueAs s (hs ++ l) y) front_is was.1) same
 
 -- ---- the record of an act
 
@@ -96,7 +107,7 @@ pub record IsActSo (s : Scenario) (hs front back : List Happening) (mark cursor 
   pub here : IsSource s (hs ++ front) (now ∷ r ∷ more)
   pub before : AllBefore place_of front (place_of (record_of s.network hs front now body))
   pub none : NoneBefore place_of back (place_of (record_of s.network hs front now body))
-  pub new : IsIn (record_of s.network hs front now body) back → ⊥
+  pub new : (y : Happening) → IsIn y back → AreOne (record_of s.network hs front now body) y → ⊥
   pub aside : (x : Happening) → IsIn x back → hears device x.note.body ≡ true → ⊥
 
 same_rows : (now : ℕ) (device other : DeviceId) → rows_place now device ≡ rows_place now other → other ≡ device
@@ -118,9 +129,7 @@ act_one s hs front back mark cursor now r more device body a =
       due = due;
       before = a.before;
       none = a.none;
-      fresh = λ y i same.
-          a.new (subst (λ (h : Happening). IsIn h back)
-          (sym (there_already s hs front back mark cursor now r more w y a.moving due a.none i same)) i);
+      fresh = λ y i same. a.new y i (there_already front back y a.moving due a.none i same);
       least = least_of_own s (hs ++ front) now (members_in w) body (now ∷ r ∷ more) (a.own (members_in w));
       mine = a.own (members_in w);
       here = a.here;
@@ -131,24 +140,24 @@ act_one s hs front back mark cursor now r more device body a =
 
 -- ---- where a change of state follows it
 
-change_of : (s : Scenario) (hs zs : List Happening) (device : DeviceId) (t : ℕ) (state : State) (cause : ℕ) (why : Why)
+cause_in : (s : Scenario) (hs zs : List Happening) (device : DeviceId) (t : ℕ) (state : State) (cause : ℕ) (why : Why)
     → ((h : Happening) → IsIn h zs → is_joined_by device h.note.body ≡ true → ⊥)
     → ((h : Happening) → IsIn h zs → (cycle : ℕ) (by adjustment : Units) → h.note.body ≡ notes.Corrected device cycle by adjustment → ⊥)
     → ((h : Happening) → IsIn h zs → 2 ≤ rank h.note.body) → ChangesState s (hs ++ zs) device t state cause why → cause ≤ length hs
-change_of s hs zs device t state cause whys.On joins corrects late c = elim (numbered_parts hs zs c.2.1 cause c.2.2.there) [
+cause_in s hs zs device t state cause whys.On joins corrects late c = elim (numbered_parts hs zs c.2.1 cause c.2.2.there) [
   | inl old ↦ let lt = numbered_within hs cause c.2.1 old in omega (arith, lt)
   | inr new ↦ let high = late c.2.1 new in let one = ap rank c.2.3 in absurd (omega (arith, high, one))
 ]
-change_of s hs zs device t state cause whys.Frame joins corrects late c = elim (numbered_parts hs zs c.1.0 cause c.1.1.there) [
+cause_in s hs zs device t state cause whys.Frame joins corrects late c = elim (numbered_parts hs zs c.1.0 cause c.1.1.there) [
   | inl old ↦ let lt = numbered_within hs cause c.1.0 old in omega (arith, lt)
   | inr new ↦ absurd (joins c.1.0 new c.1.2)
 ]
-change_of s hs zs device t state cause whys.Correction joins corrects late c = elim (numbered_parts hs zs c.2.3 cause c.2.4.there) [
+cause_in s hs zs device t state cause whys.Correction joins corrects late c = elim (numbered_parts hs zs c.2.3 cause c.2.4.there) [
   | inl old ↦ let lt = numbered_within hs cause c.2.3 old in omega (arith, lt)
   | inr new ↦ absurd (corrects c.2.3 new c.2.0 c.2.1 c.2.2 c.2.5)
 ]
-change_of s hs zs device t state cause whys.SyncClique joins corrects late c = let e = c.1 in omega (arith, e)
-change_of s hs zs device t state cause whys.AsyncClique joins corrects late c = let e = c.1 in omega (arith, e)
+cause_in s hs zs device t state cause whys.SyncClique joins corrects late c = let e = c.1 in omega (arith, e)
+cause_in s hs zs device t state cause whys.AsyncClique joins corrects late c = let e = c.1 in omega (arith, e)
 
 -- no frame that the device sent and no correction of it is to come: so the causes of its changes of state are given. The
 -- premise of `two_shown` where a device acts
@@ -162,41 +171,40 @@ causes_of_device s hs coming mark cursor now r more device m some joins corrects
     let inside : (y : Happening) → IsIn y split.0 → IsIn y coming = λ y j. subst (λ (l : List Happening). IsIn y l) (sym split.2)
     (in_left y split.0 (z ∷ split.1) j) in
     let own_device : it.device ≡ device = ap (λ (k : ℕ). let d : DeviceId = record { 0 = k } in d) same in
-    change_of s hs split.0 device (amount z.note.time) it.state it.cause it.why (λ y j. joins y (inside y j)) (λ y j. corrects y (inside y j))
+    cause_in s hs split.0 device (amount z.note.time) it.state it.cause it.why (λ y j. joins y (inside y j)) (λ y j. corrects y (inside y j))
     (λ y j. let low = at_least y now r more (m.are.of_now y (inside y j)) (m.after y (inside y j)) in omega (arith, low, some))
     (subst (λ (d : DeviceId). ChangesState s (hs ++ split.0) d (amount z.note.time) it.state it.cause it.why) own_device
     (subst (λ (b : NoteBody). IsCaused s (hs ++ split.0) z.note.time b) it.is due.cause))
 
--- the two records of an act, the second a change of state that follows the first
+-- the two records of an act, which come first, the second a change of state that follows the first
 pub act_pair : (s : Scenario) (hs coming settled : List Happening) (mark cursor : List ℕ) (now r : ℕ) (more : List ℕ) (device : DeviceId) (body : NoteBody)
-    (state : State)
-    (why : Why) → (shown : IsShownPair s.network hs now body device state why coming settled)
-    → IsActSo s hs shown.front shown.back mark cursor now r more device body → (rank body ≡ 1 → ⊥) → device_of body ≡ Some device
+    (state : State) (why : Why) → (shown : IsShownPair s.network hs now body device state why coming settled)
+    → IsActSo s hs [] coming mark cursor now r more device body → (rank body ≡ 1 → ⊥) → device_of body ≡ Some device
     → (why ≡ whys.Frame) ⊎ (why ≡ whys.Correction)
-    → ((h : Happening) → IsOfThisTime (hs ++ shown.front2) now (before_it hs shown.front + 1) h → h.note.body ≡ body
-    → ChangesState s (hs ++ shown.front2) device now state (before_it hs shown.front + 1) why)
+    → ((h : Happening) → IsOfThisTime (hs ++ shown.front2) now (length hs + 1) h → h.note.body ≡ body
+    → ChangesState s (hs ++ shown.front2) device now state (length hs + 1) why)
     → ((x : Happening) → IsIn x shown.back2 → hears device x.note.body ≡ true → ⊥)
-    → IsPair s hs shown.front shown.back shown.front2 shown.back2 mark cursor now r more
-    (record_of s.network hs shown.front now body)
-    (record_of s.network hs shown.front2 now (notes.State device state (before_it hs shown.front + 1) why)) device state why
+    → IsPair s hs [] coming shown.front2 shown.back2 mark cursor now r more (record_of s.network hs [] now body)
+    (change_of s.network hs shown.front2 now device state why) device state why
 act_pair s hs coming settled mark cursor now r more device body state why shown a no_event of_it follows changes aside =
-    let n = before_it hs shown.front in
-    let w = record_of s.network hs shown.front now body in
+    let n = length hs in
+    let w = record_of s.network hs [] now body in
     let far = shown.far in
+    let bare : length (hs ++ []) ≡ n = ap length (Rattle.std.proofs.lemmas.List.append-nil hs) in
     let there : numbered (hs ++ shown.front2) (suc n) ≡ Some w =
     sym (Rattle.world_law.proofs.putting.Idle.numbered_prefix (hs ++ shown.front2) shown.back2 (suc n) (omega (arith, far)))
     ∙ ap (λ (l : List Happening). numbered l (suc n)) (append_assoc hs shown.front2 shown.back2 ∙ ap (λ (l : List Happening). hs ++ l) (sym shown.parts2))
-    ∙ at_number hs shown.front shown.back w in
+    ∙ Rattle.world_law.proofs.putting.AsStates.numbered_here hs coming w in
     let next : suc n ≡ n + 1 = omega arith in
     record {
-      one = act_one s hs shown.front shown.back mark cursor now r more device body a;
+      one = act_one s hs [] coming mark cursor now r more device body a;
       no_event = no_event;
       low = a.low;
       acts = a.acts;
       is_of = of_it;
       parts = shown.parts2;
-      far = shown.far;
-      body = refl;
+      far = omega (arith, far, bare);
+      body = ap (λ (k : ℕ). notes.State device state (k + 1) why) (sym bare);
       follows = follows;
       at = refl;
       due = due_of s hs shown.front2 now (notes.State device state (n + 1) why)

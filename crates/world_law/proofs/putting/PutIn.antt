@@ -2,8 +2,8 @@
 use Rattle.world_law.proofs.Words.{◌++◌, ◌∙◌, ◌∷◌, ◌≡◌, ◌≤◌, ◌⊎◌, Arrival, ArrivesAs, Departs, Departure, DeviceId, Dispatches, Happening, IsActing, IsCaused}
 use Rattle.world_law.proofs.Words.{IsDropped, IsDue, IsForward, IsFounded, IsIn, IsLost, IsOwnSource, IsSource, LinkId, List, None, NoteBody, Reason, Scenario}
 use Rattle.world_law.proofs.Words.{Some, Units, VlId, [], amount, ap, arith, by_number, cause_of, dispatching, doing, earlier, filter, in_filter, inl, inr}
-use Rattle.world_law.proofs.Words.{is_accepted, last_in, last_or, length, map, numbered_within, place_of, rank, refl, subst, sym, time_of, ℕ}
-use Rattle.world_law.proofs.{putting.Idle.bump, runs.SourcesBack.{arrives_later, earlier_still, gives_rank, numbered_parts}}
+use Rattle.world_law.proofs.Words.{is_accepted, last_in, last_or, length, numbered_within, place_of, rank, refl, subst, sym, time_of, ℕ}
+use Rattle.world_law.proofs.{runs.SourcesBack.{arrives_later, earlier_still, gives_rank, numbered_parts}}
 use Rattle.run_law.specs.declared.judgement.Why.TheVariants as whys
 use Rattle.run_law.specs.declared.note.NoteBody.TheVariants as notes
 
@@ -34,20 +34,6 @@ split_two (h ∷ front) more w (g ∷ f) back e =
       | inl it ↦ inl (it.0, ap (λ (l : List Happening). h ∷ l) it.1 ∙ ap (λ (x : Happening). x ∷ (f ++ it.0)) a, it.2)
       | inr it ↦ inr (it.0, ap (λ (l : List Happening). g ∷ l) it.1 ∙ ap (λ (x : Happening). x ∷ (front ++ w ∷ it.0)) (sym a), it.2)
     ]
-
-pub split_bumped : (back b rest : List Happening) → map bump back ≡ b ++ rest → (c : List Happening) × (d : List Happening) × (back ≡ c ++ d) × (b ≡ map bump c)
-    × (rest ≡ map bump d)
-split_bumped back [] rest e = ([], back, refl, refl, sym e)
-split_bumped [] (g ∷ b) rest e = absurd cc
-split_bumped (x ∷ back) (g ∷ b) rest e =
-    let a : g ≡ bump x = cc in
-    let more : map bump back ≡ b ++ rest = cc in
-    let it = split_bumped back b rest more in
-    (x ∷ it.0, it.1, ap (λ (l : List Happening). x ∷ l) it.2, ap (λ (l : List Happening). g ∷ l) it.3 ∙ ap (λ (h : Happening). h ∷ map bump it.0) a, it.4)
-
-pub first_bumped : (d rest : List Happening) (y : Happening) → y ∷ rest ≡ map bump d → (x : Happening) × (d2 : List Happening) × (d ≡ x ∷ d2) × (y ≡ bump x)
-first_bumped [] rest y e = absurd cc
-first_bumped (x ∷ d2) rest y e = let a : y ≡ bump x = cc in (x, d2, refl, a)
 
 -- ---- causes are given
 

@@ -5,10 +5,12 @@ use Rattle.world_law.proofs.Words.{◌&&◌, ◌++◌, ◌+◌, ◌==◌, ◌||�
 use Rattle.world_law.proofs.Words.{Integrating, IsBefore, IsCaused, IsDue, IsFounded, IsIn, IsOwnSource, IsSource, Joining, LinkId, List, NoneBefore, NoteBody}
 use Rattle.world_law.proofs.Words.{Scenario, Some, State, Units, VlId, What, Why, [], rows_place, and_right, before_later, ap, append_assoc, arith, bears_on, before_behind}
 use Rattle.world_law.proofs.Words.{behind, cases_Bool, cases_lt, cases_order, cause_of, eqb-true, false, false_from_ne_true, if◌then◌else◌, inl, inr}
-use Rattle.world_law.proofs.Words.{is_at_source, is_joined_by, is_taken_before, is_turned_on_at, le-ltb, map, members_in, nat_lt, never_self, numbered}
+use Rattle.world_law.proofs.Words.{is_at_source, is_joined_by, is_taken_before, is_turned_on_at, le-ltb, members_in, nat_lt, never_self, numbered}
 use Rattle.world_law.proofs.{Words.{place_of, rank, refl, state_after, state_before, subst, suc, sym, time_of, true, ℕ}, runs.SourcesBack.earlier_still}
-use Rattle.world_law.proofs.{giving.Given.some_same, putting.{Bumped.{AsState, bump_behind, numbered_here, seven}, Moving.{IsAllOfIt, IsMoving, stays}}}
-use Rattle.world_law.proofs.putting.Placing.{IsCarried, IsPlacing, IsWell, before_it, hears_source, placed_well, put_at, settled_by, well_of}
+use Rattle.world_law.proofs.{giving.GivenParts.some_same, putting.{AsStates.{AsState, numbered_here, seven}, Moving.{IsAllOfIt, IsMoving, stays}}}
+use Rattle.world_law.proofs.Words.{in_left, in_parts, in_right}
+use Rattle.world_law.specs.world.World.{IsDueAs}
+use Rattle.world_law.proofs.putting.Placing.{IsCarried, IsPlacing, IsWell, before_it, hears_source, placed_well, settled_by, well_of}
 use Rattle.run_law.specs.declared.judgement.Judgement.TheVariants as judgements
 use Rattle.run_law.specs.declared.judgement.Why.TheVariants as whys
 use Rattle.run_law.specs.declared.note.NoteBody.TheVariants as notes
@@ -103,7 +105,7 @@ follower_of s js now k w device state whys.AsyncClique there event c = absurd (l
 
 -- so is one that is due with that cause
 pub due_follows : (s : Scenario) (js : List Happening) (now k : ℕ) (w y : Happening) → numbered js (suc k) ≡ Some w
-    → ((line : ℕ) (what : What) → w.note.body ≡ notes.Event line what → ⊥) → IsDue s js y → time_of y ≡ now → rank y.note.body ≡ 7
+    → ((line : ℕ) (what : What) → w.note.body ≡ notes.Event line what → ⊥) → IsDueAs s js y → time_of y ≡ now → rank y.note.body ≡ 7
     → cause_of y.note.body ≡ k + 1 → (it : AsState y.note.body) × (it.cause ≡ k + 1) × Follows s js now w it.device
 due_follows s js now k w y there event due now_is of_rank cause = elim (seven y.note.body) [
   | inr none ↦ absurd (none of_rank)
@@ -122,10 +124,8 @@ due_follows s js now k w y there event due now_is of_rank cause = elim (seven y.
 ]
 
 -- the record has its number in the list
-pub at_number : (hs front c : List Happening) (w : Happening) → numbered (hs ++ put_at hs front w c) (suc (before_it hs front)) ≡ Some w
-at_number hs front c w =
-    ap (λ (l : List Happening). numbered l (suc (before_it hs front))) (sym (append_assoc hs front (w ∷ map (bump_behind (before_it hs front)) c)))
-    ∙ numbered_here (hs ++ front) (map (bump_behind (before_it hs front)) c) w
+pub at_number : (hs front c : List Happening) (w : Happening) → numbered (hs ++ (front ++ w ∷ c)) (suc (before_it hs front)) ≡ Some w
+at_number hs front c w = ap (λ (l : List Happening). numbered l (suc (before_it hs front))) (sym (append_assoc hs front (w ∷ c))) ∙ numbered_here (hs ++ front) c w
 
 -- ---- one record
 
@@ -137,7 +137,7 @@ pub record IsOne (s : Scenario) (hs front back : List Happening) (mark cursor : 
   pub marked : (p : List ℕ) → IsBefore p (now ∷ []) → IsBefore p mark
   pub given : IsFounded place_of (IsDue s) hs
   pub at : time_of w ≡ now
-  pub due : IsDue s (hs ++ front) w
+  pub due : IsDueAs s (hs ++ front) w
   pub before : AllBefore place_of front (place_of w)
   pub none : NoneBefore place_of back (place_of w)
   pub fresh : (y : Happening) → IsIn y back → place_of w ≡ place_of y → ⊥
@@ -205,75 +205,58 @@ placing_one s hs front back mark cursor now r more w p =
           ];
     }
 
-pub put_now : (s : Scenario) (hs front back c d : List Happening) (mark cursor : List ℕ) (now r : ℕ) (more : List ℕ) (w : Happening)
-    → IsOne s hs front back mark cursor now r more w → back ≡ c ++ d → (z : Happening) → IsIn z (put_at hs front w c) → time_of z ≡ now
-put_now s hs front back c d mark cursor now r more w p e z i =
-    elim (Rattle.run_law.proofs.runs.Places.in_parts z front (w ∷ map (bump_behind (before_it hs front)) c) i) [
-      | inl f ↦ p.moving.are.of_now z (Rattle.run_law.proofs.runs.Places.in_left z front back f)
+pub put_now : {s : Scenario} {hs front back : List Happening} {mark cursor : List ℕ} {now r : ℕ} {more : List ℕ} {w : Happening}
+    → IsOne s hs front back mark cursor now r more w → (c d : List Happening) → back ≡ c ++ d → (z : Happening) → IsIn z (front ++ w ∷ c) → time_of z ≡ now
+put_now {front} {back} {w} p c d e z i =
+    elim (in_parts z front (w ∷ c) i) [
+      | inl f ↦ p.moving.are.of_now z (in_left z front back f)
       | inr (inl same) ↦ ap time_of same ∙ p.at
-      | inr (inr b) ↦
-          let x = Rattle.world_law.proofs.putting.Bumped.in_placed (before_it hs front) c z b in
-          ap time_of x.2 ∙ p.moving.are.of_now x.0 (Rattle.run_law.proofs.runs.Places.in_right x.0 front back
-          (subst (λ (l : List Happening). IsIn x.0 l) (sym e) (Rattle.run_law.proofs.runs.Places.in_left x.0 c d x.1)))
+      | inr (inr b) ↦ p.moving.are.of_now z (in_right z front back (subst (λ (l : List Happening). IsIn z l) (sym e) (in_left z c d b)))
     ]
 
 -- nothing is to be put in yet, and nothing follows it
-none_follows : (s : Scenario) (hs front back : List Happening) (mark cursor : List ℕ) (now r : ℕ) (more : List ℕ) (w : Happening)
+none_follows : {s : Scenario} {hs front back : List Happening} {mark cursor : List ℕ} {now r : ℕ} {more : List ℕ} {w : Happening}
     → IsOne s hs front back mark cursor now r more w → IsUnfollowed s hs now w.note.body → IsCarried s hs front back now w (λ y. ⊥) (λ y. ⊥)
-none_follows s hs front back mark cursor now r more w p last = record {
+none_follows {s} {hs} {front} {back} {mark} {cursor} {now} {r} {more} {w} p last = record {
   same = λ f rest y e due now_is yet. absurd yet;
   moved = λ c d y e due now_is other yet. absurd yet;
   new = λ c d y e due now_is of_rank cause.
-      let it = due_follows s (hs ++ put_at hs front w c) now (before_it hs front) w y (at_number hs front c w) last.no_event due now_is of_rank cause in
+      let it = due_follows s (hs ++ (front ++ w ∷ c)) now (before_it hs front) w y (at_number hs front c w) last.no_event due now_is of_rank cause in
       absurd (elim it.2.of_it [
         | inl joins ↦ let bad : false ≡ true = sym (last.no_join it.0.device) ∙ joins in cc
         | inr first ↦
-            let late : (z : Happening) → IsIn z (put_at hs front w c) → now ≤ time_of z = λ z i.
-            let at = put_now s hs front back c d mark cursor now r more w p e z i in omega (arith, at) in
+            let late : (z : Happening) → IsIn z (front ++ w ∷ c) → now ≤ time_of z = λ z i. let at = put_now p c d e z i in omega (arith, at) in
             last.no_first it.0.device first.1.0 first.1.1 first.1.2 first.1.3
             (ap (λ (l : List Happening). if is_turned_on_at s it.0.device now then Integrating else state_after s l it.0.device)
-            (sym (earlier_still now hs (put_at hs front w c) late)) ∙ first.0)
+            (sym (earlier_still now hs (front ++ w ∷ c) late)) ∙ first.0)
       ]);
 }
 
-pub one_well : (s : Scenario) (hs front back : List Happening) (mark cursor : List ℕ) (now r : ℕ) (more : List ℕ) (w : Happening)
-    → IsOne s hs front back mark cursor now r more w → IsUnfollowed s hs now w.note.body → IsWell s hs (put_at hs front w back) mark now r more (λ y. ⊥)
-one_well s hs front back mark cursor now r more w p last =
-    placed_well s hs front back mark now r more w (λ y. ⊥) (λ y. ⊥) (well_of s hs (front ++ back) mark cursor now r more p.moving)
-    (placing_one s hs front back mark cursor now r more w p) (none_follows s hs front back mark cursor now r more w p last)
-
-pub source_raised : (n : ℕ) (body : NoteBody) → is_at_source body ≡ true → Rattle.world_law.proofs.putting.Bumped.raised n body ≡ body
-source_raised n (notes.State device state cause why) e = absurd cc
-source_raised n other e = refl
+pub one_well : {s : Scenario} {hs front back : List Happening} {mark cursor : List ℕ} {now r : ℕ} {more : List ℕ} {w : Happening}
+    → IsOne s hs front back mark cursor now r more w → IsUnfollowed s hs now w.note.body → IsWell s hs (front ++ w ∷ back) mark now r more (λ y. ⊥)
+one_well {s} {hs} {front} {back} {mark} {cursor} {now} {r} {more} {w} p last =
+    placed_well (well_of s hs (front ++ back) mark cursor now r more p.moving) (placing_one s hs front back mark cursor now r more w p) (none_follows p last)
 
 -- what may stand at its source was worked off, or is this record
-pub worked_then : (s : Scenario) (hs front back : List Happening) (mark cursor then_ : List ℕ) (now r : ℕ) (more : List ℕ) (w : Happening)
+pub worked_then : {s : Scenario} {hs front back : List Happening} {mark cursor : List ℕ} (then_ : List ℕ) {now r : ℕ} {more : List ℕ} {w : Happening}
     → IsOne s hs front back mark cursor now r more w → ((p : List ℕ) → IsBefore p cursor → IsBefore p then_)
     → (is_at_source w.note.body ≡ true → IsBefore (place_of w) then_)
-    → (z : Happening) → IsIn z (put_at hs front w back) → is_at_source z.note.body ≡ true → IsBefore (place_of z) then_
-worked_then s hs front back mark cursor then_ now r more w p on at z i is =
-    let n = before_it hs front in
-    elim (Rattle.run_law.proofs.runs.Places.in_parts z front (w ∷ map (bump_behind n) back) i) [
-      | inl f ↦ on (place_of z) (p.moving.are.worked z (Rattle.run_law.proofs.runs.Places.in_left z front back f) is)
+    → (z : Happening) → IsIn z (front ++ w ∷ back) → is_at_source z.note.body ≡ true → IsBefore (place_of z) then_
+worked_then {front} {back} then_ {w} p on at z i is =
+    elim (in_parts z front (w ∷ back) i) [
+      | inl f ↦ on (place_of z) (p.moving.are.worked z (in_left z front back f) is)
       | inr (inl e) ↦ subst (λ (h : Happening). IsBefore (place_of h) then_) (sym e) (at (ap (λ (h : Happening). is_at_source h.note.body) (sym e) ∙ is))
-      | inr (inr b) ↦
-          let x = Rattle.world_law.proofs.putting.Bumped.in_placed n back z b in
-          let kind : is_at_source x.0.note.body ≡ true = sym (Rattle.world_law.proofs.putting.Bumped.raised_source n x.0.note.body)
-          ∙ ap (λ (h : Happening). is_at_source h.note.body) (sym x.2) ∙ is in
-          let low = p.moving.are.worked x.0 (Rattle.run_law.proofs.runs.Places.in_right x.0 front back x.1) kind in
-          let same : place_of (bump_behind n x.0) ≡ place_of x.0 = ap (λ (b : NoteBody). time_of x.0 ∷ rank b
-          ∷ Rattle.run_law.specs.records.Ranks.key (members_in x.0) b) (source_raised n x.0.note.body kind) in
-          subst (λ (h : Happening). IsBefore (place_of h) then_) (sym x.2) (subst (λ (q : List ℕ). IsBefore q then_) (sym same) (on (place_of x.0) low))
+      | inr (inr b) ↦ on (place_of z) (p.moving.are.worked z (in_right z front back b) is)
     ]
 
 -- THE RECORD IS PUT IN, AND THE CURSOR GOES BEHIND ITS SOURCE (all sources but events and their outcomes). All that is
 -- due from the source is at the record's place, whatever else is to come
 pub one_by : (s : Scenario) (hs front back : List Happening) (mark cursor : List ℕ) (now r : ℕ) (more : List ℕ) (w : Happening)
     → IsOne s hs front back mark cursor now r more w → IsUnfollowed s hs now w.note.body → (is_at_source w.note.body ≡ true → place_of w ≡ now ∷ r ∷ more)
-    → IsAllOfIt s hs (put_at hs front w back) (now ∷ r ∷ more) → AreSettled s hs (put_at hs front w back) mark (behind (now ∷ r ∷ more)) now
+    → IsAllOfIt s hs (front ++ w ∷ back) (now ∷ r ∷ more) → AreSettled s hs (front ++ w ∷ back) mark (behind (now ∷ r ∷ more)) now
 one_by s hs front back mark cursor now r more w p last stands all =
     let at = now ∷ r ∷ more in
-    settled_by s hs (put_at hs front w back) mark now r more (one_well s hs front back mark cursor now r more w p last) p.marked
+    settled_by s hs (front ++ w ∷ back) mark now r more (one_well p last) p.marked
     (unmarked s hs (front ++ back) mark cursor now r more p.moving) p.later
-    (worked_then s hs front back mark cursor (behind at) now r more w p (stays s hs (front ++ back) mark cursor now r more p.moving)
+    (worked_then (behind at) p (stays s hs (front ++ back) mark cursor now r more p.moving)
     (λ is. subst (λ (q : List ℕ). IsBefore q (behind at)) (sym (stands is)) (before_behind at))) all

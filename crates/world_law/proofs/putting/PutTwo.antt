@@ -1,13 +1,14 @@
 -- A record and the change of state that follows it are put in.
 use Rattle.{net_plan.proofs.SameIds.one_device, run_law.{proofs.law.FirstPlaces.numbered_front, specs.records.Causes.device_of}}
-use Rattle.world_law.proofs.Words.{◌++◌, ◌+◌, ◌<◌, ◌==◌, ◌∙◌, ◌∷◌, ◌≡◌, ◌≤◌, ◌⊎◌, AllBefore, AreSettled, ChangesState, DeviceId, Happening, IsBefore, IsDue}
+use Rattle.world_law.proofs.Words.{◌++◌, ◌+◌, ◌<◌, ◌==◌, ◌∙◌, ◌∷◌, ◌≡◌, ◌≤◌, ◌⊎◌, AllBefore, AreSettled, ChangesState, DeviceId, Happening, IsBefore}
 use Rattle.world_law.proofs.Words.{IsIn, IsOwnSource, IsSource, List, NoneBefore, NoteBody, Scenario, Some, State, Why, [], rows_place, amount, ap, append_assoc}
 use Rattle.world_law.proofs.Words.{arith, bears_on, before_behind, behind, cases_lt, chain, cause_of, eqb-true, false, false_from_ne_true, in_left, in_parts, in_right}
-use Rattle.world_law.proofs.Words.{inl, inr, is_at_source, is_joined_by, is_taken_before, key, map, members_in, never_self, numbered, parted, place_of, rank}
-use Rattle.world_law.proofs.{Words.{refl, subst, suc, sym, time_of, true, ℕ}, giving.Given.some_same, putting.Moving.{IsAllOfIt, stays}}
-use Rattle.world_law.proofs.putting.Bumped.{bump_behind, down_high, down_low, down_number, in_placed, lowered_rank, raised_source, seven}
-use Rattle.world_law.proofs.putting.{Idle.numbered_prefix, PutOne.{Follows, IsOne, at_number, due_follows, placing_one, source_raised, unmarked, worked_then}}
-use Rattle.world_law.proofs.putting.{Near.hears, Placing.{IsCarried, IsPlacing, IsWell, before_it, hears_source, not_at_source, placed_well, put_at, settled_by, well_of}}
+use Rattle.world_law.proofs.Words.{inl, inr, is_at_source, is_joined_by, is_taken_before, key, members_in, never_self, numbered, parted, place_of, rank}
+use Rattle.world_law.proofs.{Words.{refl, subst, suc, sym, time_of, true, ℕ}, giving.GivenParts.some_same, putting.Moving.{IsAllOfIt, stays}}
+use Rattle.world_law.proofs.putting.AsStates.{seven}
+use Rattle.world_law.specs.world.World.{IsDueAs}
+use Rattle.world_law.proofs.putting.{Idle.numbered_prefix, PutOne.{Follows, IsOne, at_number, due_follows, placing_one, unmarked, worked_then}}
+use Rattle.world_law.proofs.putting.{Near.hears, Placing.{IsCarried, IsPlacing, IsWell, before_it, hears_source, not_at_source, placed_well, settled_by, well_of}}
 use Rattle.run_law.specs.declared.judgement.Judgement.TheVariants as judgements
 use Rattle.run_law.specs.declared.judgement.Why.TheVariants as whys
 use Rattle.run_law.specs.declared.note.NoteBody.TheVariants as notes
@@ -32,7 +33,7 @@ cause_there s js device t state k whys.Correction c = (c.2.3, c.2.4.there)
 cause_there s js device t state k whys.SyncClique c = absurd (let e = c.1 in omega (arith, e))
 cause_there s js device t state k whys.AsyncClique c = absurd (let e = c.1 in omega (arith, e))
 
-due_there : (s : Scenario) (js : List Happening) (k : ℕ) (y : Happening) → IsDue s js y → rank y.note.body ≡ 7 → cause_of y.note.body ≡ k + 1
+due_there : (s : Scenario) (js : List Happening) (k : ℕ) (y : Happening) → IsDueAs s js y → rank y.note.body ≡ 7 → cause_of y.note.body ≡ k + 1
     → (h : Happening) × (numbered js (suc k) ≡ Some h)
 due_there s js k y due of_rank cause = grind (arith, seven, cause_of, cause_there, amount)
 
@@ -47,12 +48,12 @@ pub record IsPair (s : Scenario) (hs front back front2 back2 : List Happening) (
   pub low : r ≤ 6
   pub acts : (6 ≡ r → now ∷ r ∷ more ≡ rows_place now device)
   pub is_of : device_of w.note.body ≡ Some device
-  pub parts : put_at hs front w back ≡ front2 ++ back2
+  pub parts : front ++ w ∷ back ≡ front2 ++ back2
   pub far : before_it hs front < before_it hs front2
   pub body : v.note.body ≡ notes.State device state (before_it hs front + 1) why
   pub follows : (why ≡ whys.Frame) ⊎ (why ≡ whys.Correction)
   pub at : time_of v ≡ now
-  pub due : IsDue s (hs ++ front2) v
+  pub due : IsDueAs s (hs ++ front2) v
   pub before : AllBefore place_of front2 (place_of v)
   pub none : NoneBefore place_of back2 (place_of v)
   pub fresh : (y : Happening) → IsIn y back2 → place_of v ≡ place_of y → ⊥
@@ -75,7 +76,7 @@ w_there s hs front back front2 back2 mark cursor now r more w v device state why
 -- what is due with that cause stands where the change does
 at_change : (s : Scenario) (hs front back front2 back2 js : List Happening) (mark cursor : List ℕ) (now r : ℕ) (more : List ℕ) (w v y : Happening)
     (device : DeviceId) (state : State) (why : Why) → IsPair s hs front back front2 back2 mark cursor now r more w v device state why
-    → numbered js (suc (before_it hs front)) ≡ Some w → IsDue s js y → time_of y ≡ now → rank y.note.body ≡ 7
+    → numbered js (suc (before_it hs front)) ≡ Some w → IsDueAs s js y → time_of y ≡ now → rank y.note.body ≡ 7
     → cause_of y.note.body ≡ before_it hs front + 1 → place_of v ≡ place_of y
 at_change s hs front back front2 back2 js mark cursor now r more w v y device state why p there due now_is of_rank cause =
     let n = before_it hs front in
@@ -100,7 +101,7 @@ second_carried : (s : Scenario) (hs front back front2 back2 : List Happening) (m
 second_carried s hs front back front2 back2 mark cursor now r more w v device state why p =
     let n = before_it hs front in
     let n2 = before_it hs front2 in
-    let here : IsIn v (put_at hs front2 v back2) = in_right v front2 (v ∷ map (bump_behind n2) back2) (inl refl) in
+    let here : IsIn v (front2 ++ v ∷ back2) = in_right v front2 (v ∷ back2) (inl refl) in
     let whole = w_there s hs front back front2 back2 mark cursor now r more w v device state why p in
     record {
       same = λ f rest y e due now_is yet.
@@ -117,34 +118,19 @@ second_carried s hs front back front2 back2 mark cursor now r more w v device st
           );
       moved = λ c d y e due now_is other yet.
           let far = p.far in
-          let of_rank : rank y.note.body ≡ 7 = sym (lowered_rank n2 y.note.body) ∙ yet.0 in
-          let cause : cause_of y.note.body ≡ n + 1 = elim (seven y.note.body) [
-            | inr none ↦ absurd (none of_rank)
-            | inl it ↦
-                let low : down_number n2 it.cause ≡ n + 1 = sym (ap (λ (b : NoteBody). cause_of (Rattle.world_law.proofs.putting.Bumped.lowered n2 b)) it.is)
-                ∙ yet.1 in
-                let not : it.cause ≡ n2 + 1 → ⊥ = λ bad. other of_rank (ap cause_of it.is ∙ bad) in
-                elim (cases_lt n2 it.cause) [
-                  | inr le ↦ ap cause_of it.is ∙ sym (down_low n2 it.cause le) ∙ low
-                  | inl lt ↦
-                      let x = down_high n2 it.cause lt in
-                      absurd (not (omega (arith, x, low, far, lt)))
-                ]
-          ] in
-          let there : numbered (hs ++ put_at hs front2 v c) (suc n) ≡ Some w =
-          ap (λ (l : List Happening). numbered l (suc n)) (sym (append_assoc hs front2 (v ∷ map (bump_behind n2) c)))
-          ∙ numbered_prefix (hs ++ front2) (v ∷ map (bump_behind n2) c) (suc n) (omega (arith, far)) ∙ whole in
+          let there : numbered (hs ++ (front2 ++ v ∷ c)) (suc n) ≡ Some w =
+          ap (λ (l : List Happening). numbered l (suc n)) (sym (append_assoc hs front2 (v ∷ c)))
+          ∙ numbered_prefix (hs ++ front2) (v ∷ c) (suc n) (omega (arith, far)) ∙ whole in
           inl (
             v,
             here,
-            at_change s hs front back front2 back2 (hs ++ put_at hs front2 v c) mark cursor now r more w v y device state why p there due now_is
-                of_rank cause,
+            at_change s hs front back front2 back2 (hs ++ (front2 ++ v ∷ c)) mark cursor now r more w v y device state why p there due now_is yet.0 yet.1,
           );
       new = λ c d y e due now_is of_rank cause.
           let no_event : (line : ℕ) (what : _) → v.note.body ≡ notes.Event line what → ⊥ = λ line what bad.
           let seven_it = state_rank v device state (n + 1) why p.body in
           let one = ap rank bad in omega (arith, seven_it, one) in
-          let it = due_follows s (hs ++ put_at hs front2 v c) now n2 v y (at_number hs front2 c v) no_event due now_is of_rank cause in
+          let it = due_follows s (hs ++ (front2 ++ v ∷ c)) now n2 v y (at_number hs front2 c v) no_event due now_is of_rank cause in
           absurd (elim it.2.of_it [
             | inl joins ↦ let bad : false ≡ true = sym (ap (is_joined_by it.0.device) p.body) ∙ joins in cc
             | inr first ↦
@@ -243,46 +229,37 @@ placing_two s hs front back front2 back2 mark cursor now r more w v device state
 
 pub two_well : (s : Scenario) (hs front back front2 back2 : List Happening) (mark cursor : List ℕ) (now r : ℕ) (more : List ℕ) (w v : Happening)
     (device : DeviceId) (state : State) (why : Why) → IsPair s hs front back front2 back2 mark cursor now r more w v device state why
-    → IsWell s hs (put_at hs front2 v back2) mark now r more (λ y. ⊥)
+    → IsWell s hs (front2 ++ v ∷ back2) mark now r more (λ y. ⊥)
 two_well s hs front back front2 back2 mark cursor now r more w v device state why p =
     let Yet = λ (y : Happening). (rank y.note.body ≡ 7) × (cause_of y.note.body ≡ before_it hs front + 1) in
-    let first : IsWell s hs (put_at hs front w back) mark now r more Yet =
-    placed_well s hs front back mark now r more w (λ y. ⊥) Yet (well_of s hs (front ++ back) mark cursor now r more p.one.moving)
+    let first : IsWell s hs (front ++ w ∷ back) mark now r more Yet =
+    placed_well (well_of s hs (front ++ back) mark cursor now r more p.one.moving)
     (placing_one s hs front back mark cursor now r more w p.one) (first_carried s hs front back now w) in
     let split : IsWell s hs (front2 ++ back2) mark now r more Yet = subst (λ (l : List Happening). IsWell s hs l mark now r more Yet) p.parts first in
-    placed_well s hs front2 back2 mark now r more v Yet (λ y. ⊥) split
-    (placing_two s hs front back front2 back2 mark cursor now r more w v device state why p split)
+    placed_well split (placing_two s hs front back front2 back2 mark cursor now r more w v device state why p split)
     (second_carried s hs front back front2 back2 mark cursor now r more w v device state why p)
 
 worked_two : (s : Scenario) (hs front back front2 back2 : List Happening) (mark cursor then_ : List ℕ) (now r : ℕ) (more : List ℕ) (w v : Happening)
     (device : DeviceId) (state : State) (why : Why) → IsPair s hs front back front2 back2 mark cursor now r more w v device state why
     → ((q : List ℕ) → IsBefore q cursor → IsBefore q then_) → (is_at_source w.note.body ≡ true → IsBefore (place_of w) then_)
-    → (z : Happening) → IsIn z (put_at hs front2 v back2) → is_at_source z.note.body ≡ true → IsBefore (place_of z) then_
+    → (z : Happening) → IsIn z (front2 ++ v ∷ back2) → is_at_source z.note.body ≡ true → IsBefore (place_of z) then_
 worked_two s hs front back front2 back2 mark cursor then_ now r more w v device state why p on at z i is =
-    let n2 = before_it hs front2 in
     let before : (x : Happening) → IsIn x (front2 ++ back2) → is_at_source x.note.body ≡ true → IsBefore (place_of x) then_ = λ x there kind.
-    worked_then s hs front back mark cursor then_ now r more w p.one on at x (subst (λ (l : List Happening). IsIn x l) (sym p.parts) there) kind in
-    elim (in_parts z front2 (v ∷ map (bump_behind n2) back2) i) [
+    worked_then then_ p.one on at x (subst (λ (l : List Happening). IsIn x l) (sym p.parts) there) kind in
+    elim (in_parts z front2 (v ∷ back2) i) [
       | inl f ↦ before z (in_left z front2 back2 f) is
       | inr (inl e) ↦ absurd (let bad : false ≡ true = ap is_at_source (sym p.body) ∙ ap (λ (h : Happening). is_at_source h.note.body) (sym e) ∙ is in cc)
-      | inr (inr b) ↦
-          let x = in_placed n2 back2 z b in
-          let kind : is_at_source x.0.note.body ≡ true = sym (raised_source n2 x.0.note.body)
-          ∙ ap (λ (h : Happening). is_at_source h.note.body) (sym x.2) ∙ is in
-          let same : place_of (bump_behind n2 x.0) ≡ place_of x.0 = ap (λ (b : NoteBody). time_of x.0 ∷ rank b ∷ key (members_in x.0) b)
-          (source_raised n2 x.0.note.body kind) in
-          subst (λ (h : Happening). IsBefore (place_of h) then_) (sym x.2)
-          (subst (λ (q : List ℕ). IsBefore q then_) (sym same) (before x.0 (in_right x.0 front2 back2 x.1) kind))
+      | inr (inr b) ↦ before z (in_right z front2 back2 b) is
     ]
 
 -- THE TWO ARE PUT IN, AND THE CURSOR GOES BEHIND THEIR SOURCE
 pub two_by : (s : Scenario) (hs front back front2 back2 : List Happening) (mark cursor : List ℕ) (now r : ℕ) (more : List ℕ) (w v : Happening)
     (device : DeviceId) (state : State) (why : Why) → IsPair s hs front back front2 back2 mark cursor now r more w v device state why
-    → (is_at_source w.note.body ≡ true → place_of w ≡ now ∷ r ∷ more) → IsAllOfIt s hs (put_at hs front2 v back2) (now ∷ r ∷ more)
-    → AreSettled s hs (put_at hs front2 v back2) mark (behind (now ∷ r ∷ more)) now
+    → (is_at_source w.note.body ≡ true → place_of w ≡ now ∷ r ∷ more) → IsAllOfIt s hs (front2 ++ v ∷ back2) (now ∷ r ∷ more)
+    → AreSettled s hs (front2 ++ v ∷ back2) mark (behind (now ∷ r ∷ more)) now
 two_by s hs front back front2 back2 mark cursor now r more w v device state why p stands all =
     let at = now ∷ r ∷ more in
-    settled_by s hs (put_at hs front2 v back2) mark now r more (two_well s hs front back front2 back2 mark cursor now r more w v device state why p)
+    settled_by s hs (front2 ++ v ∷ back2) mark now r more (two_well s hs front back front2 back2 mark cursor now r more w v device state why p)
     p.one.marked (unmarked s hs (front ++ back) mark cursor now r more p.one.moving) p.one.later
     (worked_two s hs front back front2 back2 mark cursor (behind at) now r more w v device state why p
     (stays s hs (front ++ back) mark cursor now r more p.one.moving)

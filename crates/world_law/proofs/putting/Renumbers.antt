@@ -1,11 +1,9 @@
 -- What is due at the time of a record does not rest on its number.
-use Rattle.run_law.specs.control.Permanence.{IsJudgedBy, IsPermanenceOutcome}
-use Rattle.{std.proofs.Common.arith, world_law.proofs.devices.Plains.{adjustments_plain, earlier_plain, filter_plain, joined_plain, points_plain, states_plain}}
-use Rattle.world_law.proofs.Words.{◌&&◌, ◌==◌, ◌||◌, ◌∙◌, ◌∷◌, ◌≡◌, Bool, DeviceId, Happening, LinkId, List, None, NoteBody, Option, Pcf, Point, Ripe, Scenario}
-use Rattle.world_law.proofs.Words.{Some, Standpoint, State, Units, VlId, [], adjustment_after, adjustment_at_hearing, ap, earlier, filter, has_joined_at}
-use Rattle.world_law.proofs.Words.{is_joined_by, is_taken_before, is_turned_on_at, last_or, last_taken, list_any, nat_lt, option_and_then, plain, plain_body}
-use Rattle.world_law.proofs.Words.{plains, points_of, refl, state_after, state_at_hearing, state_before, subst, sym, taken_cycle, time_of, timed_arrival, ℕ}
-use Rattle.run_law.specs.declared.note.NoteBody.TheVariants as notes
+use Rattle.{std.proofs.Common.arith, world_law.proofs.devices.Plains.{adjustments_plain, earlier_plain, filter_plain, states_plain}}
+use Rattle.world_law.proofs.Words.{◌&&◌, ◌==◌, ◌||◌, ◌∙◌, ◌∷◌, ◌≡◌, Bool, DeviceId, Happening, LinkId, List, None, Option, Scenario}
+use Rattle.world_law.proofs.Words.{Some, Standpoint, VlId, [], adjustment_after, adjustment_at_hearing, ap, earlier, filter, has_joined_at}
+use Rattle.world_law.proofs.Words.{is_joined_by, is_taken_before, is_turned_on_at, last_or, last_taken, list_any, nat_lt, option_and_then, plain}
+use Rattle.world_law.proofs.Words.{plains, refl, state_after, state_at_hearing, state_before, taken_cycle, time_of, timed_arrival, ℕ}
 
 -- ---- what was taken, and what was heard at this time
 
@@ -14,22 +12,13 @@ last_and_plain : (f : Happening → Option ℕ) → ((h : Happening) → f (plai
 last_and_plain f same o other [] e = e
 last_and_plain f same o other (h ∷ hs) e = last_and_plain f same (Some (plain h)) (Some h) hs (same h)
 
-taken_plain : (body : NoteBody) → taken_cycle (plain_body body) ≡ taken_cycle body
-taken_plain (notes.State device state cause why) = refl
-taken_plain other = refl
-
-taken_before_plain : (device : DeviceId) (vl : VlId) (t : ℕ) (link : LinkId) (cause at : ℕ) (body : NoteBody)
-    → is_taken_before device vl t link cause at (plain_body body) ≡ is_taken_before device vl t link cause at body
-taken_before_plain device vl t link cause at (notes.State other state from why) = refl
-taken_before_plain device vl t link cause at other = refl
-
 pub last_taken_plain : (hs : List Happening) (device : DeviceId) (t : ℕ) (link : LinkId) (cause : ℕ) (vl : VlId)
     → last_taken (plains hs) device t link cause vl ≡ last_taken hs device t link cause vl
 last_taken_plain hs device t link cause vl =
     let p = λ (h : Happening). is_taken_before device vl t link cause (time_of h) h.note.body in
     ap (λ (l : List Happening). option_and_then (λ h. taken_cycle h.note.body) (last_or None l))
-    (filter_plain p p (λ h. taken_before_plain device vl t link cause (time_of h) h.note.body) hs)
-    ∙ last_and_plain (λ h. taken_cycle h.note.body) (λ h. taken_plain h.note.body) None None (filter p hs) refl
+    (filter_plain p p (λ h. refl) hs)
+    ∙ last_and_plain (λ h. taken_cycle h.note.body) (λ h. refl) None None (filter p hs) refl
 
 any_plain : (p : Happening → Bool) → ((h : Happening) → p (plain h) ≡ p h) → (hs : List Happening) → list_any p (plains hs) ≡ list_any p hs
 any_plain p same [] = refl
@@ -37,14 +26,14 @@ any_plain p same (h ∷ hs) = ap (λ (b : Bool). b || list_any p (plains hs)) (s
 
 joined_at_plain : (hs : List Happening) (device : DeviceId) (t : ℕ) → has_joined_at (plains hs) device t ≡ has_joined_at hs device t
 joined_at_plain hs device t =
-    any_plain (λ h. time_of h == t && is_joined_by device h.note.body) (λ h. ap (λ (b : Bool). time_of h == t && b) (joined_plain device h.note.body)) hs
+    any_plain (λ h. time_of h == t && is_joined_by device h.note.body) (λ h. refl) hs
 
 pub hearing_adjustment_plain : (s : Scenario) (hs : List Happening) (device : DeviceId) (t : ℕ)
     → adjustment_at_hearing s (plains hs) device t ≡ adjustment_at_hearing s hs device t
 hearing_adjustment_plain s hs device t =
     let p = λ (h : Happening). nat_lt (time_of h) t || is_joined_by device h.note.body in
     ap (λ (l : List Happening). adjustment_after s l device)
-    (filter_plain p p (λ h. ap (λ (b : Bool). nat_lt (time_of h) t || b) (joined_plain device h.note.body)) hs)
+    (filter_plain p p (λ h. refl) hs)
     ∙ adjustments_plain s (filter p hs) device
 
 pub hearing_state_plain : (s : Scenario) (hs : List Happening) (device : DeviceId) (t : ℕ) → state_at_hearing s (plains hs) device t ≡ state_at_hearing s hs
@@ -52,22 +41,6 @@ pub hearing_state_plain : (s : Scenario) (hs : List Happening) (device : DeviceI
     t
 hearing_state_plain s hs device t =
     grind (arith, state_before, plains, joined_at_plain, has_joined_at, is_turned_on_at, state_after, earlier_plain, states_plain, earlier)
-
--- ---- judgements
-
-pub judged_alike : (s : Scenario) (js gs : List Happening) (t : ℕ) (device : DeviceId) (frame : Pcf) (point : Units) (is : Ripe) → plains js ≡ plains gs
-    → IsJudgedBy s js device t frame point is → IsJudgedBy s gs device t frame point is
-judged_alike s js gs t device frame point is same so =
-    let state : state_at_hearing s js device t ≡ state_at_hearing s gs device t = sym (hearing_state_plain s js device t)
-    ∙ ap (λ (l : List Happening). state_at_hearing s l device t) same ∙ hearing_state_plain s gs device t in
-    let adjustment : adjustment_at_hearing s js device t ≡ adjustment_at_hearing s gs device t = sym (hearing_adjustment_plain s js device t)
-    ∙ ap (λ (l : List Happening). adjustment_at_hearing s l device t) same ∙ hearing_adjustment_plain s gs device t in
-    let points : points_of js device ≡ points_of gs device = sym (points_plain js device) ∙ ap (λ (l : List Happening). points_of l device) same
-    ∙ points_plain gs device in
-    subst (λ (l : List Point). IsPermanenceOutcome s.network device (state_at_hearing s gs device t) (adjustment_at_hearing s gs device t).0 l frame point.0 is)
-    points
-    (subst (λ (a : Units). IsPermanenceOutcome s.network device (state_at_hearing s gs device t) a.0 (points_of js device) frame point.0 is) adjustment
-    (subst (λ (x : State). IsPermanenceOutcome s.network device x (adjustment_at_hearing s js device t).0 (points_of js device) frame point.0 is) state so))
 
 -- ---- arrivals
 

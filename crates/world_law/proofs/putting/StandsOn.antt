@@ -1,44 +1,24 @@
 -- The source that comes first is worked off: the world stands behind it.
 use Rattle.{std.proofs.Common.◌↔◌, world_law.{proofs.{giving.GivenParts.up_to_place, runs.SourcesBack.no_higher}, specs.world.World.AreUntold}}
 use Rattle.world_law.proofs.Words.{◌++◌, ◌+◌, ◌<◌, ◌∙◌, ◌∷◌, ◌≡◌, AreAtPorts, AreOfNetwork, AreOnWires, AreSettled, AreWaiting, AtPort, Bool, DeviceId}
-use Rattle.world_law.proofs.Words.{Happening, IsBefore, IsHeld, IsIn, IsSource, List, Network, NoSourceBefore, Node, Note, NoteBody, OnWire, Scenario, Some}
+use Rattle.world_law.proofs.Words.{Happening, IsBefore, IsHeld, IsSource, List, Network, NoSourceBefore, Node, Note, OnWire, Scenario, Some}
 use Rattle.world_law.proofs.Words.{Stands, Waiting, World, [], ap, arith, before_behind, before_next_time, behind, cases_Bool, chain, clock_place, false}
-use Rattle.world_law.proofs.Words.{happenings, hidden, hidden_body, inl, inr, key, length, map, members_in, never_self, none_yet, place_of, rank, slice_get}
-use Rattle.world_law.{proofs.{Words.{subst, sym, time_of, true, ℕ}, putting.Moving.{IsMoving, stays}}, specs.world.Moves.{ComesFirst, StandsBehind}}
-use Rattle.run_law.specs.declared.note.NoteBody.TheVariants as kinds
-
--- ---- what is hidden keeps its rank
-
-before_hidden : (given t now r : ℕ) (more : List ℕ) (members : ℕ) (body : NoteBody) → (7 ≡ r → ⊥) → IsBefore (t ∷ rank body ∷ key members body) (now ∷ r ∷ more)
-    → IsBefore (t ∷ rank (hidden_body given body) ∷ key members (hidden_body given body)) (now ∷ r ∷ more)
-before_hidden given t now r more members (kinds.State device state cause why) other (inl lt) = inl lt
-before_hidden given t now r more members (kinds.State device state cause why) other (inr (e, inl lt)) = inr (e, inl lt)
-before_hidden given t now r more members (kinds.State device state cause why) other (inr (e, inr b)) = absurd (other b.0)
-before_hidden given t now r more members body other b = b
-
-pub in_mapped : (f : Happening → Happening) (hs : List Happening) (h : Happening) → IsIn h hs → IsIn (f h) (map f hs)
-in_mapped f [] h i = absurd i
-in_mapped f (g ∷ hs) h (inl e) = inl (ap f e)
-in_mapped f (g ∷ hs) h (inr i) = inr (in_mapped f hs h i)
+use Rattle.world_law.proofs.Words.{happenings, inl, inr, length, never_self, numbers_end, place_of, slice_get}
+use Rattle.world_law.{proofs.{Words.{subst, sym, true, ℕ}, putting.Moving.{IsMoving, stays}}, specs.world.Moves.{ComesFirst, StandsBehind}}
 
 -- ---- the source is first
 
 pub comes_first : {C M : Type 0} (reading : C → ℕ → ℕ) (stands : M → Network → DeviceId → Node → Type 0) (s : Scenario) (world : World C M) (notes : List Note)
-    (old : Stands reading stands s world notes) (r : ℕ) (more place : List ℕ) → (7 ≡ r → ⊥) → (world.now ∷ 2 ∷ [] ≡ world.now ∷ r ∷ more → ⊥)
-    → place ≡ world.now ∷ r ∷ more
-    → (IsBefore place old.cursor → ⊥) → ComesFirst reading stands s world notes old place → IsMoving s (happenings s.network notes) old.coming old.mark
-    old.cursor world.now r more
-comes_first reading stands s world notes old r more at other longer place waits first = record {
+    (old : Stands reading stands s world notes) (r : ℕ) (more place : List ℕ) → (world.now ∷ 2 ∷ [] ≡ world.now ∷ r ∷ more → ⊥)
+    → place ≡ world.now ∷ r ∷ more → (IsBefore place old.cursor → ⊥) → ComesFirst reading stands s world notes old place
+    → IsMoving s (happenings s.network notes) world.settled old.mark old.cursor world.now r more
+comes_first reading stands s world notes old r more place longer at waits first = record {
   longer = longer;
   forward = old.forward;
   are = old.are;
-  waits = λ b. waits (subst (λ (q : List ℕ). IsBefore q old.cursor) (sym place) b);
-  first = subst (NoSourceBefore s (happenings s.network notes) old.cursor) place first.none;
-  after = λ z there b.
-      first.after (hidden (length notes) z) (subst (λ (l : List Happening). IsIn (hidden (length notes) z) l) (sym old.settled)
-      (in_mapped (hidden (length notes)) old.coming z there))
-      (subst (λ (q : List ℕ). IsBefore (place_of (hidden (length notes) z)) q) (sym place)
-      (before_hidden (length notes) (time_of z) world.now r more (members_in z) z.note.body other b));
+  waits = λ b. waits (subst (λ (q : List ℕ). IsBefore q old.cursor) (sym at) b);
+  first = subst (NoSourceBefore s (happenings s.network notes) old.cursor) at first.none;
+  after = λ z there b. first.after z there (subst (λ (q : List ℕ). IsBefore (place_of z) q) (sym at) b);
   past = λ p b. old.ahead p (old.of_now p b);
   ahead = old.ahead;
 }
@@ -47,7 +27,7 @@ comes_first reading stands s world notes old r more at other longer place waits 
 
 pub shown_still : {C M : Type 0} (reading : C → ℕ → ℕ) (stands : M → Network → DeviceId → Node → Type 0) (s : Scenario) (world : World C M) (notes : List Note)
     (old : Stands reading stands s world notes) (r : ℕ) (more : List ℕ) → r < 14
-    → IsMoving s (happenings s.network notes) old.coming old.mark old.cursor world.now r more → (device : DeviceId) → device.0 < length s.network.device
+    → IsMoving s (happenings s.network notes) world.settled old.mark old.cursor world.now r more → (device : DeviceId) → device.0 < length s.network.device
     → world.ended ≡ true → IsBefore (clock_place world.now device) (behind (world.now ∷ r ∷ more)) ↔ (device.0 < world.shown)
 shown_still reading stands s world notes old r more low m device lt ended = (
   λ b.
@@ -55,7 +35,7 @@ shown_still reading stands s world notes old r more low m device lt ended = (
         | inl less ↦ omega (arith, less)
         | inr same ↦ omega (arith, same.1, low)
       ]),
-  λ less. stays s (happenings s.network notes) old.coming old.mark old.cursor world.now r more m (clock_place world.now device)
+  λ less. stays s (happenings s.network notes) world.settled old.mark old.cursor world.now r more m (clock_place world.now device)
       ((old.shown device lt ended).1 less),
 )
 
@@ -63,7 +43,7 @@ shown_still reading stands s world notes old r more low m device lt ended = (
 
 pub source_told : {C M : Type 0} (reading : C → ℕ → ℕ) (stands : M → Network → DeviceId → Node → Type 0) (s : Scenario) (world : World C M) (notes : List Note)
     (old : Stands reading stands s world notes) (r : ℕ) (more : List ℕ)
-    → IsMoving s (happenings s.network notes) old.coming old.mark old.cursor world.now r more → IsBefore (world.now ∷ 2 ∷ []) (world.now ∷ r ∷ more)
+    → IsMoving s (happenings s.network notes) world.settled old.mark old.cursor world.now r more → IsBefore (world.now ∷ 2 ∷ []) (world.now ∷ r ∷ more)
     → world.pending ≡ false
 source_told reading stands s world notes old r more m later = elim (cases_Bool world.pending) [
   | inr told ↦ told
@@ -75,7 +55,7 @@ source_told reading stands s world notes old r more m later = elim (cases_Bool w
 
 pub told_wires : {C M : Type 0} (reading : C → ℕ → ℕ) (stands : M → Network → DeviceId → Node → Type 0) (s : Scenario) (world : World C M) (notes : List Note)
     (old : Stands reading stands s world notes) (r : ℕ) (more : List ℕ)
-    → IsMoving s (happenings s.network notes) old.coming old.mark old.cursor world.now r more → IsBefore (world.now ∷ 2 ∷ []) (world.now ∷ r ∷ more)
+    → IsMoving s (happenings s.network notes) world.settled old.mark old.cursor world.now r more → IsBefore (world.now ∷ 2 ∷ []) (world.now ∷ r ∷ more)
     → AreOnWires s (happenings s.network notes) old.cursor world.now false world.wires
 told_wires reading stands s world notes old r more m later =
     subst (λ (b : Bool). AreOnWires s (happenings s.network notes) old.cursor world.now b world.wires)
@@ -83,7 +63,7 @@ told_wires reading stands s world notes old r more m later =
 
 untold_on : {C M : Type 0} (reading : C → ℕ → ℕ) (stands : M → Network → DeviceId → Node → Type 0) (s : Scenario) (world : World C M) (notes : List Note)
     (old : Stands reading stands s world notes) (r : ℕ) (more : List ℕ)
-    → IsMoving s (happenings s.network notes) old.coming old.mark old.cursor world.now r more → world.pending ≡ false
+    → IsMoving s (happenings s.network notes) world.settled old.mark old.cursor world.now r more → world.pending ≡ false
     → IsBefore (world.now ∷ 2 ∷ []) (world.now ∷ r ∷ more) → AreUntold (happenings s.network notes) (behind (world.now ∷ r ∷ more)) world.now world.pending
     world.befell
 untold_on reading stands s world notes old r more m told later = record {
@@ -100,13 +80,13 @@ untold_on reading stands s world notes old r more m told later = record {
 
 pub stands_on : {C M : Type 0} (reading : C → ℕ → ℕ) (stands : M → Network → DeviceId → Node → Type 0) (s : Scenario) (world : World C M) (notes : List Note)
     (old : Stands reading stands s world notes) (r : ℕ) (more place : List ℕ)
-    (machines : List M) (wires : List OnWire) (ports : List AtPort) (waiting : List Waiting) (settled coming : List Happening) (shown : ℕ)
-    → IsMoving s (happenings s.network notes) old.coming old.mark old.cursor world.now r more → place ≡ world.now ∷ r ∷ more
-    → settled ≡ map (hidden (length notes)) coming → length notes + length coming < none_yet
-    → AreSettled s (happenings s.network notes) coming old.mark (behind (world.now ∷ r ∷ more)) world.now
-    → AreOfNetwork s (happenings s.network notes ++ coming)
+    (machines : List M) (wires : List OnWire) (ports : List AtPort) (waiting : List Waiting) (settled : List Happening) (shown : ℕ)
+    → IsMoving s (happenings s.network notes) world.settled old.mark old.cursor world.now r more → place ≡ world.now ∷ r ∷ more
+    → length notes + length settled < numbers_end
+    → AreSettled s (happenings s.network notes) settled old.mark (behind (world.now ∷ r ∷ more)) world.now
+    → AreOfNetwork s (happenings s.network notes ++ settled)
     → ((device : DeviceId) → device.0 < length s.network.device → (machine : M) × (slice_get machines device.0 ≡ Some machine)
-    × IsHeld stands s (happenings s.network notes) coming (behind (world.now ∷ r ∷ more)) world.now device machine)
+    × IsHeld stands s (happenings s.network notes) settled (behind (world.now ∷ r ∷ more)) world.now device machine)
     → IsBefore (world.now ∷ 2 ∷ []) (world.now ∷ r ∷ more) → AreOnWires s (happenings s.network notes) (behind (world.now ∷ r ∷ more)) world.now false wires
     → AreAtPorts s (happenings s.network notes) (behind (world.now ∷ r ∷ more)) ports
     → AreWaiting s (happenings s.network notes) (behind (world.now ∷ r ∷ more)) world.now waiting
@@ -114,7 +94,7 @@ pub stands_on : {C M : Type 0} (reading : C → ℕ → ℕ) (stands : M → Net
     (device.0 < shown)) → StandsBehind reading stands s
     (record world { machines = machines; wires = wires; ports = ports; waiting = waiting; early = false; settled = settled; shown = shown })
     notes (behind place)
-stands_on reading stands s world notes old r more place machines wires ports waiting settled coming shown m at shows room are known devices later on_wires
+stands_on reading stands s world notes old r more place machines wires ports waiting settled shown m at room are known devices later on_wires
     at_ports awaited shown_so =
     let told = source_told reading stands s world notes old r more m later in (
       record {
@@ -127,7 +107,7 @@ stands_on reading stands s world notes old r more place machines wires ports wai
         mark = old.mark;
         cursor = behind (world.now ∷ r ∷ more);
         run = old.run;
-        ahead = λ p b. stays s (happenings s.network notes) old.coming old.mark old.cursor world.now r more m p (old.ahead p b);
+        ahead = λ p b. stays s (happenings s.network notes) world.settled old.mark old.cursor world.now r more m p (old.ahead p b);
         of_now = old.of_now;
         not_later = λ p b. before_next_time p world.now (r ∷ (more ++ 0 ∷ [])) b;
         limit = old.limit;
@@ -138,9 +118,7 @@ stands_on reading stands s world notes old r more place machines wires ports wai
         clocks = old.clocks;
         broken = old.broken;
         ways = old.ways;
-        coming = coming;
         room = room;
-        settled = shows;
         known = known;
         devices = devices;
         early = λ fresh. absurd (let bad : false ≡ true = fresh in cc);

@@ -1,13 +1,14 @@
 -- What the node has of a row's frame when its clock reaches the row's value is what the records say that it has at hand.
+use Rattle.world_law.proofs.runs.FoundedAs.{AreFoundedAs}
 use Rattle.{run_law.specs.machines.Nodes.last_taken_frame, world_law.proofs.rows.Reached.{IsForwarded, accepted_at, below_value, delivered_at, none_at_value}}
 use Rattle.{run_law.specs.machines.Tasks.HasFrame, schedule_tables.specs.Windows.OccursIn, world_law.specs.device.Takings.taken_in}
 use Rattle.{run_law.specs.timed.Dispatching.{HasAccepted, last_accepted}, tte_units.proofs.general_lemmas.{Bools.turned, Lists.{last_if, last_more}}}
 use Rattle.std.{proofs.lemmas.Bool.cases_eq, specs.Option.IsSomeAnd}
-use Rattle.world_law.proofs.Words.{◌&&◌, ◌*◌, ◌++◌, ◌+◌, ◌<ℤ◌, ◌<◌, ◌==◌, ◌∙◌, ◌∷◌, ◌≡◌, ◌≤◌, ◌⊎◌, Bool, DeviceId, Entry, Happening, HasAtHand, IsDue, IsEntry}
-use Rattle.world_law.proofs.Words.{IsFounded, IsIn, IsInRange, IsSteady, KeepsRules, List, Network, Node, None, NoteBody, Option, Reaches, Row, RowId, Scenario}
+use Rattle.world_law.proofs.Words.{◌&&◌, ◌*◌, ◌++◌, ◌+◌, ◌<ℤ◌, ◌<◌, ◌==◌, ◌∙◌, ◌∷◌, ◌≡◌, ◌≤◌, ◌⊎◌, Bool, DeviceId, Entry, Happening, HasAtHand, IsEntry}
+use Rattle.world_law.proofs.Words.{IsIn, IsInRange, IsSteady, KeepsRules, List, Network, Node, None, NoteBody, Option, Reaches, Row, RowId, Scenario}
 use Rattle.world_law.proofs.Words.{Some, TakenFrame, VlId, [], amount, and_parts, ap, arith, cases_Bool, cases_lt, dispatching, earlier, eqb-true, false}
 use Rattle.world_law.proofs.Words.{filter, filter-append, frames_taken, if◌then◌else◌, in_filter, inl, inr, is_accepted, is_end, last_in, last_or, local_before}
-use Rattle.world_law.proofs.Words.{lt-ltb, nat_lt, option_map_or, place_of, pos, refl, source_of, subst, sym, taken_by, time_of, true, value_of, ℕ, ℤ}
+use Rattle.world_law.proofs.Words.{lt-ltb, nat_lt, option_map_or, pos, refl, source_of, subst, sym, taken_by, time_of, true, value_of, ℕ, ℤ}
 use Rattle.run_law.specs.declared.note.NoteBody.TheVariants as notes
 
 -- ---- the last frame that a switch took is that of the last record that says so
@@ -110,7 +111,7 @@ pub record IsReaching (s : Scenario) (hs : List Happening) (device : DeviceId) (
   pub range : IsInRange s.network
   pub rules : KeepsRules s.network
   pub steady : IsSteady (s.reading device) (amount s.network.precision)
-  pub founded : IsFounded place_of (IsDue s) hs
+  pub founded : AreFoundedAs s hs
   pub past : (h : Happening) → IsIn h hs → time_of h ≤ t
   pub taken : node.taken ≡ frames_taken s hs device
   pub is : IsEntry s.network row.0 entry

@@ -5,17 +5,18 @@ use Rattle.world_law.proofs.Words.{IsDue, IsFounded, IsIn, IsInRange, IsLeft, Is
 use Rattle.world_law.proofs.Words.{Stands, Synchronised, VlId, World, amount, before_later, dispatching, doing, frames_taken, happenings, in_parts, in_right}
 use Rattle.world_law.proofs.{Words.{inl, inr, place_of, pos, refl, subst, sym, time_of, value_of, ℕ, ℤ}, rows.AtHand.{IsReaching, at_hand, has_frame, value_is}}
 use Rattle.world_law.proofs.{acts.Acting.{IsUnmoved, comes_so, undone_so}, devices.{OwnRecords.state_still, Passes.not_turned_on}, putting.PutIn.split_two}
-use Rattle.run_law.specs.{machines.Tasks.HasFrame, timed.Dispatching.IsUp}
+use Rattle.{run_law.specs.{machines.Tasks.HasFrame, timed.Dispatching.IsUp}, world_law.specs.world.World.IsDueAs}
+use Rattle.world_law.proofs.runs.FoundedAs.{AreFoundedAs, as_founded}
 
 -- ---- the records given and those to come
 
 -- they are founded together, where those to come stand after those before them, behind the mark, and are due given them
 pub founded_with : (s : Scenario) (hs coming : List Happening) (mark : List ℕ) → IsFounded place_of (IsDue s) hs → AllBefore place_of hs mark
-    → ((front rest : List Happening) (z : Happening) → coming ≡ front ++ z ∷ rest → AllBefore place_of front (place_of z) × IsDue s (hs ++ front) z)
-    → ((z : Happening) → IsIn z coming → IsBefore (place_of z) mark → ⊥) → IsFounded place_of (IsDue s) (hs ++ coming)
+    → ((front rest : List Happening) (z : Happening) → coming ≡ front ++ z ∷ rest → AllBefore place_of front (place_of z) × IsDueAs s (hs ++ front) z)
+    → ((z : Happening) → IsIn z coming → IsBefore (place_of z) mark → ⊥) → AreFoundedAs s (hs ++ coming)
 founded_with s hs coming mark founded within stands behind_mark ps qs x e =
     elim (split_two ps qs x hs coming (sym e)) [
-      | inr old ↦ founded ps old.0 x old.1
+      | inr old ↦ as_founded s hs founded ps old.0 x old.1
       | inl new ↦
           let it = stands new.0 qs x new.2 in
           let there : IsIn x coming = subst (λ (l : List Happening). IsIn x l) (sym new.2) (in_right x new.0 (x ∷ qs) (inl refl)) in (
@@ -23,12 +24,12 @@ founded_with s hs coming mark founded within stands behind_mark ps qs x e =
               | inl given ↦ before_later (place_of y) (place_of x) mark (within y given) (behind_mark x there)
               | inr fresh ↦ it.0 y fresh
             ],
-            subst (λ (l : List Happening). IsDue s l x) (sym new.1) it.1,
+            subst (λ (l : List Happening). IsDueAs s l x) (sym new.1) it.1,
           )
     ]
 
 pub whole_founded : (s : Scenario) (hs coming : List Happening) (mark cursor : List ℕ) (now : ℕ) → IsFounded place_of (IsDue s) hs → AllBefore place_of hs mark
-    → AreSettled s hs coming mark cursor now → IsFounded place_of (IsDue s) (hs ++ coming)
+    → AreSettled s hs coming mark cursor now → AreFoundedAs s (hs ++ coming)
 whole_founded s hs coming mark cursor now founded within are = founded_with s hs coming mark founded within are.founded are.behind_mark
 
 -- the network is in range and keeps its rules, the device's clock is steady, and the records are founded
@@ -36,16 +37,16 @@ pub record IsLawful (s : Scenario) (hs : List Happening) (device : DeviceId) : T
   pub range : IsInRange s.network
   pub rules : KeepsRules s.network
   pub steady : IsSteady (s.reading device) (amount s.network.precision)
-  pub founded : IsFounded place_of (IsDue s) hs
+  pub founded : AreFoundedAs s hs
 
 -- so it is where a world stands
 pub lawful : {C M : Type 0} (reading : C → ℕ → ℕ) (stands : M → Network → DeviceId → Node → Type 0) (s : Scenario) (world : World C M) (notes : List Note)
-    (old : Stands reading stands s world notes) (device : DeviceId) → IsLawful s (happenings s.network notes ++ old.coming) device
+    (old : Stands reading stands s world notes) (device : DeviceId) → IsLawful s (happenings s.network notes ++ world.settled) device
 lawful reading stands s world notes old device = record {
   range = old.range;
   rules = old.rules;
   steady = old.steady device;
-  founded = whole_founded s (happenings s.network notes) old.coming old.mark old.cursor world.now old.run.founded old.run.within old.are;
+  founded = whole_founded s (happenings s.network notes) world.settled old.mark old.cursor world.now old.run.founded old.run.within old.are;
 }
 
 -- ---- the task

@@ -1,12 +1,12 @@
 -- A device's clock reaches a value: what it shows then, and what it has taken by then.
-use Rattle.{run_law.proofs.law.FirstPlaces.IsFoundedAt, schedule_tables.specs.Windows.window_end, std.proofs.Math.Nat.mul-le-mul_right}
+use Rattle.{world_law.proofs.runs.FoundedAs.{AreFoundedAs, IsFoundedAs, founded_as}, schedule_tables.specs.Windows.window_end, std.proofs.Math.Nat.mul-le-mul_right}
 use Rattle.{run_law.specs.device.Standpoints.{natural, offset_in_cycle}, tte_units.proofs.general_lemmas.Naturals.same_heads}
 use Rattle.{schedule_tables.specs.declared.rule.Rule.TheVariants.{Forwarding, WindowEnds}, tte_units.proofs.general_lemmas.Integers.{whole as not_negative}}
-use Rattle.{std.specs.Int.{int_div_euclid, int_rem_euclid}, world_law.proofs.{devices.Resting.in_time_of, runs.SourcesBack.earlier_still}}
-use Rattle.world_law.proofs.Words.{◌*◌, ◌+ℤ◌, ◌+◌, ◌-ℤ◌, ◌-◌, ◌<ℤ◌, ◌<◌, ◌∙◌, ◌∷◌, ◌≡◌, ◌≤ℤ◌, ◌≤◌, DeviceId, Entry, Happening, IsCaused, IsDue, IsEntry}
-use Rattle.world_law.proofs.Words.{IsFounded, IsIn, IsInRange, IsSteady, KeepsRules, List, Network, Reaches, Scenario, VlId, adjustment_after}
-use Rattle.world_law.proofs.Words.{adjustment_before, amount, ap, arith, cases_lt, changed_at, earlier, founded_at, inl, inr, ints, is_end, local_before}
-use Rattle.world_law.proofs.{Words.{place_of, pos, source_of, subst, sym, time_of, true, ℕ, ℤ}, rows.Entered.{IsTakenAt, delivered_end, taken_at, value_in}}
+use Rattle.{std.specs.Int.{int_div_euclid, int_rem_euclid}, world_law.proofs.{devices.Resting.in_order, runs.SourcesBack.earlier_still}}
+use Rattle.world_law.proofs.Words.{◌*◌, ◌+ℤ◌, ◌+◌, ◌-ℤ◌, ◌-◌, ◌<ℤ◌, ◌<◌, ◌∙◌, ◌∷◌, ◌≡◌, ◌≤ℤ◌, ◌≤◌, DeviceId, Entry, Happening, IsCaused, IsEntry}
+use Rattle.world_law.proofs.Words.{IsIn, IsInRange, IsSteady, KeepsRules, List, Network, Reaches, Scenario, VlId, adjustment_after}
+use Rattle.world_law.proofs.Words.{adjustment_before, amount, ap, arith, cases_lt, changed_at, earlier, inl, inr, ints, is_end, local_before}
+use Rattle.world_law.proofs.{Words.{pos, source_of, subst, sym, time_of, true, ℕ, ℤ}, rows.Entered.{IsTakenAt, delivered_end, taken_at, value_in}}
 use Rattle.run_law.specs.declared.note.NoteBody.TheVariants as notes
 
 -- ---- what the clock shows where it reaches a value
@@ -42,31 +42,31 @@ shows_at s hs device v t precision steady r =
 -- ---- the records of takings
 
 -- the adjustment before the time of a record, by the records before it
-same_clock : (s : Scenario) (hs : List Happening) (h : Happening) (device : DeviceId) → IsFounded place_of (IsDue s) hs → (at : IsFoundedAt s hs h)
+same_clock : (s : Scenario) (hs : List Happening) (h : Happening) (device : DeviceId) → AreFoundedAs s hs → (at : IsFoundedAs s hs h)
     → local_before s at.front device (time_of h) ≡ local_before s hs device (time_of h)
 same_clock s hs h device founded at =
     let later : (g : Happening) → IsIn g (h ∷ at.rest) → time_of h ≤ time_of g = λ g i. elim i [
       | inl e ↦ let same : time_of g ≡ time_of h = ap time_of e in omega (arith, same)
-      | inr more ↦ in_time_of s hs founded at.front at.rest h at.whole g more
+      | inr more ↦ in_order hs (λ front rest x e. (founded front rest x e).0) at.front at.rest h at.whole g more
     ] in
     ap (λ (l : List Happening). pos (s.reading device (time_of h)) +ℤ (adjustment_after s l device).0)
     (sym (earlier_still (time_of h) at.front (h ∷ at.rest) later) ∙ ap (earlier (time_of h)) (sym at.whole))
 
 -- a frame that was accepted came in the window of a row that enters the device
 pub accepted_at : (s : Scenario) (hs : List Happening) (h : Happening) (device : DeviceId) (link : _) (cause : ℕ) (vl : VlId) (cycle : ℕ)
-    → IsFounded place_of (IsDue s) hs → IsIn h hs → h.note.body ≡ notes.Accepted device link cause vl cycle
+    → AreFoundedAs s hs → IsIn h hs → h.note.body ≡ notes.Accepted device link cause vl cycle
     → IsTakenAt s.network device vl cycle (local_before s hs device (time_of h))
 accepted_at s hs h device link cause vl cycle founded i body =
-    let at = founded_at s hs h founded i in
+    let at = founded_as s hs h founded i in
     let caused : IsCaused s at.front h.note.time (notes.Accepted device link cause vl cycle) = subst (IsCaused s at.front h.note.time) body at.due.cause in
     subst (λ (z : ℤ). IsTakenAt s.network device vl cycle z) (same_clock s hs h device founded at)
     (taken_at s at.front device (time_of h) link cause vl cycle caused)
 
 -- and one that was delivered came to an end system
 pub delivered_at : (s : Scenario) (hs : List Happening) (h : Happening) (device : DeviceId) (link : _) (cause : ℕ) (vl : VlId) (cycle : ℕ)
-    → IsFounded place_of (IsDue s) hs → IsIn h hs → h.note.body ≡ notes.Delivered device link cause vl cycle → is_end s.network device ≡ true
+    → AreFoundedAs s hs → IsIn h hs → h.note.body ≡ notes.Delivered device link cause vl cycle → is_end s.network device ≡ true
 delivered_at s hs h device link cause vl cycle founded i body =
-    let at = founded_at s hs h founded i in
+    let at = founded_as s hs h founded i in
     let caused : IsCaused s at.front h.note.time (notes.Delivered device link cause vl cycle) = subst (IsCaused s at.front h.note.time) body at.due.cause in
     delivered_end s at.front device (time_of h) link cause vl cycle caused
 
@@ -122,7 +122,7 @@ row_ends network place entry rules is = let ends = rules WindowEnds place entry 
 
 -- where the clock reaches the row's value in a cycle, it takes no frame of the virtual link
 pub none_at_value : (s : Scenario) (hs : List Happening) (device : DeviceId) (place cycle t : ℕ) (entry : Entry) → IsInRange s.network → KeepsRules s.network
-    → IsSteady (s.reading device) (amount s.network.precision) → IsFounded place_of (IsDue s) hs → IsForwarded s.network device place entry
+    → IsSteady (s.reading device) (amount s.network.precision) → AreFoundedAs s hs → IsForwarded s.network device place entry
     → Reaches s hs device (pos (cycle * amount s.network.cycle + amount entry.row.offset)) t
     → (h : Happening) (link : _) (cause of_cycle : ℕ) → IsIn h hs → time_of h ≡ t → h.note.body ≡ notes.Accepted device link cause entry.row.vl of_cycle → ⊥
 none_at_value s hs device place cycle t entry range rules steady founded f r h link cause of_cycle i at body =

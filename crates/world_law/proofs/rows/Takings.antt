@@ -1,8 +1,8 @@
 -- What a device took by the records stays, whatever other records come, and however they are numbered.
 use Rattle.world_law.proofs.Words.{◌++◌, ◌+ℤ◌, ◌∙◌, ◌∷◌, ◌≡◌, ◌≤◌, DeviceId, Happening, IsIn, List, NoteBody, Scenario, TakenFrame, Units, [], adjustment_after}
-use Rattle.world_law.proofs.Words.{adjustment_before, ap, append-nil, arith, earlier, frames_taken, in_parts, inl, inr, le-ltb, local_before, map, nat_lt}
-use Rattle.world_law.{proofs.Words.{plain_body, plains, pos, refl, sym, taken_by, time_of, ℕ, ℤ}, specs.device.Takings.taken_in}
-use Rattle.world_law.proofs.{devices.Plains.{adjustments_plain, earlier_plain}, putting.Idle.{IsIdle, adjusted_earlier_put, bump, drop_one, plains_put}}
+use Rattle.world_law.proofs.Words.{adjustment_before, ap, append-nil, arith, earlier, frames_taken, in_parts, inl, inr, le-ltb, local_before, nat_lt}
+use Rattle.world_law.{proofs.Words.{plains, pos, refl, sym, taken_by, time_of, ℕ, ℤ}, specs.device.Takings.taken_in}
+use Rattle.world_law.proofs.{devices.Plains.{adjustments_plain, earlier_plain}, putting.Idle.{IsIdle, drop_one}}
 use Rattle.std.proofs.lemmas.Grind.{flat_map-append}
 use Rattle.run_law.specs.declared.note.NoteBody.TheVariants as notes
 
@@ -31,17 +31,11 @@ taken_none device at [] none = refl
 taken_none device at (h ∷ hs) none =
     ap (λ (l : List TakenFrame). l ++ taken_by device at hs) (none h (inl refl) (at (time_of h))) ∙ taken_none device at hs (λ g i. none g (inr i))
 
--- ---- numbers, and causes of changes of state, do not count
-
-plain_taking : (device : DeviceId) (at : ℤ) (body : NoteBody) → taken_in device at (plain_body body) ≡ taken_in device at body
-plain_taking device at (notes.State other state cause why) = refl
-plain_taking device at other = refl
+-- ---- numbers do not count
 
 taken_plain : (device : DeviceId) (at : ℕ → ℤ) (hs : List Happening) → taken_by device at (plains hs) ≡ taken_by device at hs
 taken_plain device at [] = refl
-taken_plain device at (h ∷ hs) =
-    ap (λ (l : List TakenFrame). l ++ taken_by device at (plains hs)) (plain_taking device (at (time_of h)) h.note.body)
-    ∙ ap (λ (l : List TakenFrame). taken_in device (at (time_of h)) h.note.body ++ l) (taken_plain device at hs)
+taken_plain device at (h ∷ hs) = ap (λ (l : List TakenFrame). taken_in device (at (time_of h)) h.note.body ++ l) (taken_plain device at hs)
 
 local_plain : (s : Scenario) (hs : List Happening) (device : DeviceId) (t : ℕ) → local_before s (plains hs) device t ≡ local_before s hs device t
 local_plain s hs device t =
@@ -122,27 +116,12 @@ frames_end s hs w device none sooner =
 
 -- ---- a record that bears on nothing, put in with those behind it renumbered
 
-idle_taking : (device : DeviceId) (body : NoteBody) → IsIdle body → IsNoTaking device body
+pub idle_taking : (device : DeviceId) (body : NoteBody) → IsIdle body → IsNoTaking device body
 idle_taking device (notes.Left other by from clock) i at = refl
 idle_taking device (notes.Lost other by from) i at = refl
 idle_taking device (notes.Dropped other by from reason) i at = refl
 idle_taking device (notes.Clock other reads adjusted state) i at = refl
 idle_taking device other i at = absurd i
-
--- such a record leaves what the device took
-pub frames_idle : (s : Scenario) (ps b : List Happening) (w : Happening) → IsIdle w.note.body → (device : DeviceId)
-    → frames_taken s (ps ++ b) device ≡ frames_taken s (ps ++ w ∷ map bump b) device
-frames_idle s ps b w idle device =
-    let old = local_before s (ps ++ b) device in
-    let new = local_before s (ps ++ w ∷ map bump b) device in
-    let shows : (t : ℕ) → old t ≡ new t = λ t. ap (λ (u : Units). pos (s.reading device t) +ℤ u.0) (adjusted_earlier_put s ps b w idle device t) in
-    taken_same device old new (ps ++ b) (λ h i. shows (time_of h))
-    ∙ taken_parts device new ps b
-    ∙ ap (λ (l : List TakenFrame). taken_by device new ps ++ (l ++ taken_by device new b)) (sym (idle_taking device w.note.body idle (new (time_of w))))
-    ∙ sym (taken_parts device new ps (w ∷ b))
-    ∙ sym (taken_plain device new (ps ++ w ∷ b))
-    ∙ ap (taken_by device new) (sym (plains_put ps b w))
-    ∙ taken_plain device new (ps ++ w ∷ map bump b)
 
 -- ---- another scenario
 
@@ -151,5 +130,3 @@ pub frames_alike : (s r : Scenario) (hs : List Happening) (device : DeviceId) (n
     → ((t : ℕ) → adjustment_before s hs device t ≡ adjustment_before r hs device t) → ((x : ℕ) → x ≤ now → s.reading device x ≡ r.reading device x)
     → ((h : Happening) → IsIn h hs → time_of h ≤ now) → frames_taken s hs device ≡ frames_taken r hs device
 frames_alike s r hs device now adjusted reads sooner = grind (arith, taken_same, local_before, adjustment_before, time_of)
-
--- ---- any record put in, with those behind it renumbered

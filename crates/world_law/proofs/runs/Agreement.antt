@@ -2,10 +2,10 @@
 use Rattle.sync_state.specs.{Verdicts.HasVerdict, membership.Summary.Summarizes}
 use Rattle.std.{proofs.lemmas.Bool.le-leb, specs.Option.unwrap_or}
 use Rattle.run_law.{proofs.records.Order.in_drop, specs.{control.Corrections.standing_before, scenario.{Hypothesis.breaks_at, Scenarios.{last_set, turns_on}}}}
-use Rattle.world_law.proofs.Words.{◌&&◌, ◌+ℤ◌, ◌+◌, ◌-◌, ◌<ℤ◌, ◌<◌, ◌==◌, ◌||◌, ◌∙◌, ◌∷◌, ◌≡◌, ◌≤ℤ◌, ◌≤◌, Agree, Bool, ComesToCorrection, DeviceId, Event}
+use Rattle.world_law.proofs.Words.{◌&&◌, ◌+ℤ◌, ◌+◌, ◌<ℤ◌, ◌<◌, ◌==◌, ◌||◌, ◌∙◌, ◌∷◌, ◌≡◌, ◌≤ℤ◌, ◌≤◌, Agree, Bool, ComesToCorrection, DeviceId, Event}
 use Rattle.world_law.proofs.Words.{Happening, IfSome, Integrating, IsIn, IsReach, List, Network, None, Option, Reaches, Sends, Some, Standing, Verdict, What}
 use Rattle.world_law.proofs.Words.{[], adjustment_before, after_last, amount, and_parts, ap, arith, both_ways, cases_Bool, cases_lt, changed_at}
-use Rattle.world_law.proofs.Words.{changes_adjustment, correction_value, earlier, eqb-true, false, false_from_ne_true, filter, filter_map, has_cleared}
+use Rattle.world_law.proofs.Words.{changes_adjustment, correction_value, earlier, eqb-true, false_from_ne_true, filter, filter_map, has_cleared}
 use Rattle.world_law.proofs.Words.{heard_since, hearing_by, if◌then◌else◌, in_filter, inl, inr, int_le, int_lt, ints, is_broken, is_integration_cycle}
 use Rattle.world_law.proofs.Words.{is_turned_on_at, last_or, le-ltb, list_any, local_at_change, lt-ltb, nat_le, nat_lt, next_cycle, next_point, not}
 use Rattle.world_law.proofs.Words.{option_map_or, pos, recorded_cycle, refl, same_kept, scenario, state_after, state_before, subst, sym, time_of, true, ℕ, ℤ}

@@ -1,4 +1,5 @@
 -- What a world gives next is the next record of the run.
+use Rattle.world_law.specs.world.World.{IsDueAs}
 use Rattle.world_law.proofs.Words.{◌++◌, ◌+◌, ◌∙◌, ◌∷◌, ◌≡◌, AreSettled, Happening, IsBefore, IsDue, IsIn, IsScenarioRun, IsWorkedOff, List, NoSourceBefore}
 use Rattle.world_law.proofs.Words.{Note, Scenario, [], ap, append-nil, before_or_not, behind, chain, happening, happenings, inl, inr, length, length-map}
 use Rattle.world_law.{proofs.Words.{never_self, parted, place_of, refl, subst, sym, ℕ}, specs.world.World.{FirstSettledIsNext, NothingSettledIsAll, note_of}}
@@ -8,8 +9,9 @@ use Rattle.run_law.proofs.runs.{Grow.move_mark, NetworkRuns.{run_goes_on, same_n
 pub length_is : (s : Scenario) (ns : List Note) → length ns ≡ length (happenings s.network ns)
 length_is s ns = ap length (sym (same_notes s.network ns)) ∙ length-map (happenings s.network ns) (λ h. h.note)
 
-due_now : (s : Scenario) (hs : List Happening) (y : Happening) → IsDue s hs y → IsDue s (hs ++ []) y
-due_now s hs y due = subst (λ (l : List Happening). IsDue s l y) (sym (append-nil hs)) due
+due_now : (s : Scenario) (hs : List Happening) (y : Happening) → IsDue s hs y → IsDueAs s (hs ++ []) y
+due_now s hs y due =
+    subst (λ (l : List Happening). IsDueAs s l y) (sym (append-nil hs)) (record { same = due.same; begun = due.begun; cause = due.cause })
 
 worked_now : (s : Scenario) (hs : List Happening) (cursor : List ℕ) (y : Happening) → IsWorkedOff s hs cursor y → IsWorkedOff s (hs ++ []) cursor y
 worked_now s hs cursor y worked = subst (λ (l : List Happening). IsWorkedOff s l cursor y) (sym (append-nil hs)) worked
@@ -56,7 +58,7 @@ pub first_settled_is_next : FirstSettledIsNext
 first_settled_is_next s notes z rest mark cursor now run settled none =
     let hs = happenings s.network notes in
     let x = happening s.network hs (note_of notes z) in
-    let first : IsDue s hs z = subst (λ (l : List Happening). IsDue s l z) (append-nil hs) (settled.founded [] rest z refl).1 in
+    let first : IsDueAs s hs z = subst (λ (l : List Happening). IsDueAs s l z) (append-nil hs) (settled.founded [] rest z refl).1 in
     let place : place_of x ≡ place_of z = ap place_of (sym first.same) in
     let due : IsDue s hs x = record { number = ap (λ (n : ℕ). n + 1) (length_is s notes); same = refl; begun = first.begun; cause = first.cause } in
     let not : IsBefore (place_of x) mark → ⊥ = λ b. settled.behind_mark z (inl refl) (subst (λ (p : List ℕ). IsBefore p mark) place b) in

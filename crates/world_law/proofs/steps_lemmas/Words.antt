@@ -54,25 +54,25 @@ pub use Rattle.tte_units.proofs.general_lemmas.{Bools.or_none, Integers.{never_b
 pub use Rattle.tte_units.specs.Amount.{amount, units_of}
 pub use Rattle.tte_units.specs.declared.units.Units.{Units}
 pub use Rattle.world_law.proofs.acts.{Acted.{IsAlike, undone_alike, waiting_alike}, Acting.point_number, NoActs.points_same}
-pub use Rattle.world_law.proofs.acts.Recorded.{dispatch_late, is_sending, rank_plain}
+pub use Rattle.world_law.proofs.acts.Recorded.{dispatch_late, is_sending}
 pub use Rattle.world_law.proofs.devices.{Borne.{by_last, moves_no_other}, OwnRecords.{change_still, keeps_adjustment, same_before}, Passes.not_turned_on}
 pub use Rattle.world_law.proofs.devices.{Plains.{plains_parts, told_by_others}, Resting.are_past, TurnedOn.{all_up_to, next_is_up_to, quiet_rest}}
-pub use Rattle.world_law.proofs.giving.Given.{no_later_breaks, some_same}
+pub use Rattle.world_law.proofs.giving.GivenParts.{no_later_breaks, some_same}
 pub use Rattle.world_law.proofs.lists.{Lists.{behind_no, behind_yes, filter_no, filter_yes}, Orders.cases_int}
-pub use Rattle.world_law.proofs.putting.{Bearing.{held_aside, known_aside, turned_aside}, Bumped.{AsState, bump_behind, placed, placed_length, raised}}
-pub use Rattle.world_law.proofs.putting.Idle.{bump, numbered_prefix}
+pub use Rattle.world_law.proofs.putting.{Bearing.{held_aside, known_aside, turned_aside}, AsStates.AsState}
+pub use Rattle.world_law.proofs.putting.Idle.{numbered_prefix}
 pub use Rattle.world_law.proofs.putting.{Moving.{IsAllOfIt, IsMoving, all_without, held_moves, ports_move, turned_moves, waiting_moves, wires_move}, Near.hears}
-pub use Rattle.world_law.proofs.putting.{NearPut.plains_placed, Placing.{before_it, put_at}, PutIn.own_time}
+pub use Rattle.world_law.proofs.putting.{Placing.before_it, PutIn.own_time}
 pub use Rattle.world_law.proofs.putting.PutOne.{IsOne, IsUnfollowed, is_last, last_unfollowed, one_by}
-pub use Rattle.world_law.proofs.putting.{PutShown.{IsShownPut, due_of, one_shown, record_of, two_shown}, Putting.put_list}
-pub use Rattle.world_law.proofs.putting.StandsOn.{comes_first, in_mapped, stands_on, told_wires}
+pub use Rattle.world_law.proofs.putting.PutShown.{IsShownPut, due_of, one_shown, put_length, record_of, two_shown}
+pub use Rattle.world_law.proofs.putting.StandsOn.{comes_first, stands_on, told_wires}
 pub use Rattle.world_law.proofs.rows.{AtHand.value_is, Dispatching.IsLawful, Takings.IsNoTaking}
 pub use Rattle.world_law.proofs.runs.{Agreement.changed_before, Foremost.not_on_after}
 pub use Rattle.world_law.proofs.runs.SourcesBack.{at_least, dispatches_back, dispatches_same, earlier_still, no_higher, numbered_parts, reaches_back, up_back}
 pub use Rattle.world_law.proofs.runs.TaskPlaces.{acts_before, acts_first, no_task_at, of_device, placed_so, row_order, second}
 pub use Rattle.world_law.proofs.runs.Worlds.{length_is}
 pub use Rattle.world_law.specs.device.{Deeds.{HadComeTo, HasDoneFrom, HasDoneTask, HasSentFrom, HasWorkedTo}, Left.{HasTaskBy, IsLeft, is_timed}, Own.{bears_on, moves}}
-pub use Rattle.world_law.specs.device.{Plain.{plain, plain_body, plains}, Ready.{IsReadyAt, IsSteady}}
+pub use Rattle.world_law.specs.device.{Plain.{plain, plains}, Ready.{IsReadyAt, IsSteady}}
 pub use Rattle.world_law.specs.device.{Recorded.{AreRecorded, HasCleared, IsFrameOf, IsShown, dispatch_body}, Takings.{frames_taken, taken_in}}
 pub use Rattle.world_law.specs.device.Told.{cleared_in, local_in, next_in, since_at}
 pub use Rattle.world_law.specs.source.{Agreeing.scenario, Applying.IsEventBody, Sources.{IsActing, IsOwnSource, IsSource, task_place}}
@@ -80,6 +80,6 @@ pub use Rattle.world_law.specs.world.{Calls.{HasActed, IsDueNow, IsSet, moment_o
 pub use Rattle.world_law.specs.world.Outcomes.{arrival_body}
 pub use Rattle.world_law.specs.world.World.{AreAtPorts, AreOfNetwork, AreOnWires, AreSettled, AreUntold, AreWaiting, AtPort, Befell, HasTurnedOn, HaveBefallen}
 pub use Rattle.world_law.specs.world.World.{IsAtRest, IsHeld, IsKept, IsOnWire, IsOut, IsTurnedOnBy, IsWaitingFor, OnWire, Stands, Waiting, World, act_place}
-pub use Rattle.world_law.specs.world.World.{clock_place, has_outcome, hidden, hidden_body, is_at_source, is_turning, none_yet, port_place, rank_of_call}
+pub use Rattle.world_law.specs.world.World.{clock_place, has_outcome, is_at_source, is_turning, numbers_end, port_place, rank_of_call}
 pub use Rattle.world_law.specs.world.World.{HasTaskAt, IsActedOut, IsJoiningNow, ripe_place, rows_place, wire_place}
 pub use Rattle.world_law.specs.steps.Befalling.{bodies_of}

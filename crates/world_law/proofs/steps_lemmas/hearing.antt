@@ -3,7 +3,6 @@ pub mod Calling
 pub mod Judging
 pub mod Called
 pub mod Receptions
-pub mod Known
 pub mod Putting
 pub mod Hearing
 pub mod Ranked

@@ -1,7 +1,7 @@
 -- What the records of an instant tell of the acts of a device.
 use Rattle.std.specs.{List.Contains, Prelude.{if◌then◌else◌, ◌<◌, ◌≡◌, ◌≤ℤ◌, ◌≤◌, List, pos, ℕ}}
 use Rattle.compression.specs.{Clusters.{AreClusters, Cluster}, declared.compressed.Compressed.Compressed}
-use Rattle.{compression.specs.Emission.compressed, world_law.specs.device.Plain.plain_body}
+use Rattle.compression.specs.Emission.{compressed}
 use Rattle.{drift_clock.specs.Reach.IsReach, tte_units.specs.Amount.amount}
 use Rattle.net_plan.specs.declared.{ids.{DeviceId.DeviceId, LinkId.LinkId, VlId.VlId}, network.Network.Network}
 use Rattle.run_law.specs.{control.Collections.observation_window, declared.judgement.Judgement.Judgement}
@@ -10,12 +10,12 @@ use Rattle.run_law.specs.{machines.Tasks.IsWaiting, scenario.{Scenarios.Scenario
 use Rattle.run_law.specs.{records.{Happenings.{Happening, time_of}, Order.IsIn}, timed.Dispatching.{Dispatches, Sends}}
 use Rattle.run_law.specs.declared.note.NoteBody.TheVariants as notes
 
--- a record of this body at the time, but for the cause of a change of state
+-- a record of this body at the time
 pub record IsShown (js : List Happening) (now : ℕ) (body : NoteBody) : Type 0 where
   pub by : Happening
   pub there : IsIn by js
   pub at : time_of by ≡ now
-  pub is : plain_body by.note.body ≡ body
+  pub is : by.note.body ≡ body
 
 -- the frame is that of a collection of the device
 pub record IsFrameOf (network : Network) (node : Node) (c : Compressed) : Type 0 where
@@ -41,8 +41,8 @@ pub record AreRecorded (s : Scenario) (js coming : List Happening) (now : ℕ) (
       → Contains node.done (dispatching (record { 0 = d.place }) cycle)
       → IsShown js now (dispatch_body s device now link cause vl cycle)
   pub has_dispatched : (z : Happening) → IsIn z coming → (link : LinkId) (cause : ℕ) (vl : VlId) (cycle : ℕ)
-      → (d : Dispatches s js device now link cause vl cycle) → plain_body z.note.body ≡ dispatch_body s device now link
-      cause vl cycle
+      → (d : Dispatches s js device now link cause vl cycle) → z.note.body ≡ dispatch_body s device now link cause vl
+      cycle
       → Contains node.done (dispatching (record { 0 = d.place }) cycle)
 
 -- of its correction points it has cleared only earlier ones than its next

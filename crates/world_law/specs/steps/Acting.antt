@@ -1,7 +1,7 @@
 -- A machine acts.
-use Rattle.std.specs.Prelude.{if◌then◌else◌, ◌<◌, ◌∷◌, ◌≡◌, List, Some, [], false, length, slice_get, ℕ}
+use Rattle.std.specs.Prelude.{if◌then◌else◌, ◌+◌, ◌<◌, ◌∷◌, ◌≡◌, List, Some, [], false, length, slice_get, ℕ}
 use Rattle.{net_plan.specs.declared.{ids.DeviceId.DeviceId, network.Network.Network}, run_law.specs.machines.Nodes.Node}
-use Rattle.{run_law.specs.declared.note.Note.Note, world_law.specs.world.World.{Stands, World, none_yet}}
+use Rattle.{run_law.specs.declared.note.Note.Note, world_law.specs.world.World.{Stands, World}}
 use Rattle.run_law.specs.machines.{Nodes.{correcting, dispatching, sending}, Tasks.{Task, doing, emitting}}
 use Rattle.{run_law.specs.records.{Order.{IsIn, behind}, Ranks.rank}, world_law.specs.source.Sources.task_place}
 use Rattle.run_law.specs.{declared.note.NoteBody.NoteBody, scenario.{Scenarios.Scenario, Ways.{is_cut, way_from}}}
@@ -18,34 +18,34 @@ use Rattle.run_law.specs.declared.steps.Act.TheVariants as acts
 use Rattle.run_law.specs.declared.steps.Ripe.TheVariants as ripe
 use Rattle.sync_state.specs.declared.answers.Verdict.TheVariants as verdicts
 
--- a frame of its own that tells a device the time makes it joining
-abbrev pub joining_bodies : DeviceId → Ripe → List NoteBody
-joining_bodies device ripe.Integrates = kinds.State device Joining none_yet whys.Frame ∷ []
-joining_bodies device other = []
+-- a frame of its own, the record of this number, that tells a device the time makes it joining
+abbrev pub joining_bodies : ℕ → DeviceId → Ripe → List NoteBody
+joining_bodies number device ripe.Integrates = kinds.State device Joining number whys.Frame ∷ []
+joining_bodies number device other = []
 
--- a joiner's first correction makes it synchronised
-abbrev pub first_bodies : DeviceId → State → List NoteBody
-first_bodies device Joining = kinds.State device Synchronised none_yet whys.Correction ∷ []
-first_bodies device other = []
+-- a joiner's first correction, the record of this number, makes it synchronised
+abbrev pub first_bodies : ℕ → DeviceId → State → List NoteBody
+first_bodies number device Joining = kinds.State device Synchronised number whys.Correction ∷ []
+first_bodies number device other = []
 
--- what comes of a correction point: a correction, a loss of the common time, or no record
-abbrev pub correction_bodies : DeviceId → State → ℕ → Units → Verdict → List NoteBody
-correction_bodies device was cycle adjustment (verdicts.Corrected by) =
-    kinds.Corrected device cycle by adjustment ∷ first_bodies device was
-correction_bodies device was cycle adjustment verdicts.SyncClique =
+-- what comes of a correction point: a correction, the record of this number, a loss of the common time, or no record
+abbrev pub correction_bodies : ℕ → DeviceId → State → ℕ → Units → Verdict → List NoteBody
+correction_bodies number device was cycle adjustment (verdicts.Corrected by) =
+    kinds.Corrected device cycle by adjustment ∷ first_bodies number device was
+correction_bodies number device was cycle adjustment verdicts.SyncClique =
     kinds.State device Integrating 0 whys.SyncClique ∷ []
-correction_bodies device was cycle adjustment verdicts.AsyncClique =
+correction_bodies number device was cycle adjustment verdicts.AsyncClique =
     kinds.State device Integrating 0 whys.AsyncClique ∷ []
-correction_bodies device was cycle adjustment verdicts.Cleared = []
+correction_bodies number device was cycle adjustment verdicts.Cleared = []
 
--- the records of an act of the device that was in this state, and has this adjustment then
+-- the records of an act of the device that was in this state, and has this adjustment then. Its own record comes next
 abbrev pub AreActBodies : Scenario → List Happening → ℕ → DeviceId → State → Units → Act → List NoteBody → Type 0
 AreActBodies s hs now device was adjustment (acts.Send frame) bodies = bodies ≡ kinds.Sent device frame.cycle ∷ []
 AreActBodies s hs now device was adjustment (acts.Emit sent heard) bodies =
     bodies ≡ kinds.Compressed device sent.opened sent.at sent.cycle sent.members (judged_as heard)
-    ∷ joining_bodies device heard
+    ∷ joining_bodies (length hs + 1) device heard
 AreActBodies s hs now device was adjustment (acts.Correct cycle verdict) bodies =
-    bodies ≡ correction_bodies device was cycle adjustment verdict
+    bodies ≡ correction_bodies (length hs + 1) device was cycle adjustment verdict
 AreActBodies s hs now device was adjustment (acts.Dispatch row cycle) bodies =
     (entry : Entry) × (cause : ℕ) × IsEntry s.network row.0 entry × HasAtHand s.network hs device entry now cause cycle
     × (bodies ≡ (if is_cut s entry.row.link (way_from s.network device entry.row.link) now

@@ -6,7 +6,7 @@ use Rattle.{net_plan.specs.declared.tables.Way.TheVariants.Up, run_law.specs.sce
 use Rattle.{run_law.specs.declared.note.Note.Note, sync_state.specs.declared.state.State.TheVariants.Integrating}
 use Rattle.run_law.specs.{declared.note.NoteBody.NoteBody, records.Happenings.{Happening, happenings, numbered}}
 use Rattle.run_law.specs.machines.Nodes.{Node}
-use Rattle.{run_law.specs.records.Order.behind, world_law.specs.world.World.{Befell, OnWire, Stands, World, none_yet}}
+use Rattle.{run_law.specs.records.Order.behind, world_law.specs.world.World.{Befell, OnWire, Stands, World, numbers_end}}
 use Rattle.{run_law.specs.scenario.Ways.is_cut, world_law.specs.world.Moves.{ArePut, ArePutIn, StandsBehind}}
 use Rattle.net_plan.specs.declared.event.What.TheVariants as events
 use Rattle.run_law.specs.declared.judgement.Why.TheVariants as whys
@@ -38,7 +38,7 @@ abbrev pub BefellStep : {C M : Type 0} → (C → ℕ → ℕ) → (M → Networ
 BefellStep {C} {M} reading stands =
     (s : Scenario) (world : World C M) (notes : List Note) (wires : List OnWire) (settled : List Happening)
     (old : Stands reading stands s world notes) → world.pending ≡ true
-    → length notes + length world.befell < none_yet
+    → length notes + length world.befell < numbers_end
     → ArePutBy s (happenings s.network notes) world.befell world.wires wires
     → ArePutIn s.network (happenings s.network notes) world.now (befell_bodies s world.now world.befell) [] settled
     → StandsBehind reading stands s

@@ -1,5 +1,5 @@
 -- A frame that waits is permanent.
-use Rattle.std.specs.Prelude.{◌∷◌, ◌≡◌, ◌≤ℤ◌, List, Some, [], false, pos, slice_get, ℕ}
+use Rattle.std.specs.Prelude.{◌+◌, ◌∷◌, ◌≡◌, ◌≤ℤ◌, List, Some, [], false, length, pos, slice_get, ℕ}
 use Rattle.{net_plan.specs.declared.ids.DeviceId.DeviceId, run_law.specs.scenario.Devices.channel_of_link}
 use Rattle.{net_plan.specs.declared.ids.LinkId.LinkId, tte_units.specs.declared.units.Units.Units}
 use Rattle.{net_plan.specs.declared.network.Network.Network, sync_state.specs.declared.state.State.TheVariants.Joining}
@@ -9,23 +9,23 @@ use Rattle.run_law.specs.{declared.{note.NoteBody.NoteBody, steps.Moment.Moment}
 use Rattle.run_law.specs.machines.{Answers.{IsPermanenceOutcomeAt, after_permanence, called}, Nodes.{Node, ripening}}
 use Rattle.run_law.specs.{machines.Calls.{IsHearing, MayCall, MayRipen}, records.Happenings.{Happening, happenings}}
 use Rattle.world_law.specs.world.{Calls.{IsSet, moment_of}, Moves.{ArePutIn, ComesFirst, IsWithout, StandsBehind}}
-use Rattle.world_law.specs.world.World.{Stands, Waiting, World, none_yet, ripe_place}
+use Rattle.world_law.specs.world.World.{Stands, Waiting, World, ripe_place}
 use Rattle.run_law.specs.declared.judgement.Judgement.TheVariants as judgements
 use Rattle.run_law.specs.declared.judgement.Why.TheVariants as whys
 use Rattle.run_law.specs.declared.note.NoteBody.TheVariants as kinds
 use Rattle.run_law.specs.declared.steps.Ripe.TheVariants as ripe
 
--- what becomes of it, as records
-abbrev pub ripe_bodies : DeviceId → LinkId → ℕ → Units → Ripe → List NoteBody
-ripe_bodies device link cause point ripe.Opened = kinds.Permanent device link cause point judgements.Opened ∷ []
-ripe_bodies device link cause point ripe.Joined = kinds.Permanent device link cause point judgements.Joined ∷ []
-ripe_bodies device link cause point ripe.Repeat = kinds.Permanent device link cause point judgements.Repeat ∷ []
-ripe_bodies device link cause point ripe.Within = kinds.Permanent device link cause point judgements.Within ∷ []
-ripe_bodies device link cause point ripe.Outside = kinds.Permanent device link cause point judgements.Outside ∷ []
-ripe_bodies device link cause point ripe.Integrates =
-    kinds.Permanent device link cause point judgements.Integrates ∷ kinds.State device Joining none_yet whys.Frame ∷ []
-ripe_bodies device link cause point ripe.Ignored = kinds.Permanent device link cause point judgements.Ignored ∷ []
-ripe_bodies device link cause point (ripe.Dropped reason) = kinds.Dropped device link cause reason ∷ []
+-- what becomes of it, as records, the first of which has this number
+abbrev pub ripe_bodies : ℕ → DeviceId → LinkId → ℕ → Units → Ripe → List NoteBody
+ripe_bodies number device link cause point ripe.Opened = kinds.Permanent device link cause point judgements.Opened ∷ []
+ripe_bodies number device link cause point ripe.Joined = kinds.Permanent device link cause point judgements.Joined ∷ []
+ripe_bodies number device link cause point ripe.Repeat = kinds.Permanent device link cause point judgements.Repeat ∷ []
+ripe_bodies number device link cause point ripe.Within = kinds.Permanent device link cause point judgements.Within ∷ []
+ripe_bodies number device link cause point ripe.Outside = kinds.Permanent device link cause point judgements.Outside ∷ []
+ripe_bodies number device link cause point ripe.Integrates =
+    kinds.Permanent device link cause point judgements.Integrates ∷ kinds.State device Joining number whys.Frame ∷ []
+ripe_bodies number device link cause point ripe.Ignored = kinds.Permanent device link cause point judgements.Ignored ∷ []
+ripe_bodies number device link cause point (ripe.Dropped reason) = kinds.Dropped device link cause reason ∷ []
 
 -- what `ripen` ensures
 abbrev pub HasRipened : {M : Type 0} → (M → Network → DeviceId → Node → Type 0) → Network → DeviceId → Moment → LinkId
@@ -49,8 +49,8 @@ RipenedStep {C} {M} reading stands =
     → HasRipened stands s.network e.device (moment_of s e.device world.now) e.link e.frame e.point result machine ripe
     → IsSet e.device.0 ripe world.machines machines → IsWithout (ripe_place world.now) (ripe_place world.now e)
     world.waiting waiting
-    → ArePutIn s.network (happenings s.network notes) world.now (ripe_bodies e.device e.link e.cause e.point result)
-    world.settled settled
+    → ArePutIn s.network (happenings s.network notes) world.now
+    (ripe_bodies (length notes + 1) e.device e.link e.cause e.point result) world.settled settled
     → StandsBehind reading stands s
     (record world { early = false; machines = machines; waiting = waiting; settled = settled }) notes
     (behind (ripe_place world.now e))

@@ -14,7 +14,7 @@ use Rattle.world_law.specs.{device.Ready.IsSteady, source.{Agreeing.scenario, Ap
 use Rattle.world_law.specs.world.{Calls.IsStateOf, Moves.{ArePutIn, ComesFirst, IsWithout, NothingBefore, StandsBehind}}
 use Rattle.world_law.specs.world.Outcomes.{also_befell, befallen_node, departure_body, ends_world}
 use Rattle.world_law.specs.world.World.{AreWays, AtPort, IsClockOf, IsForward, IsFromEnd, Stands, Waiting, WayNow}
-use Rattle.world_law.specs.world.World.{World, clock_place, none_yet, port_place}
+use Rattle.world_law.specs.world.World.{World, clock_place, numbers_end, port_place}
 use Rattle.net_plan.specs.declared.event.What.TheVariants as events
 use Rattle.run_law.specs.declared.note.NoteBody.TheVariants as kinds
 
@@ -97,7 +97,7 @@ AppliedStep {C} {M} reading stands =
     (old : Stands reading stands (scenario network f past) world notes) → world.ended ≡ false
     → event.time.0 ≡ pos world.now
     → FitsWorld (scenario network f past) (happenings network notes) world.now event.what
-    → world.early ≡ true → length notes + 1 < none_yet
+    → world.early ≡ true → length notes + 1 < numbers_end
     → ((device : DeviceId) (x : ℕ) → x ≤ world.now → g device x ≡ f device x)
     → ((device : DeviceId) → IsSteady (g device) (amount network.precision))
     → ((device : DeviceId) → device.0 < length network.device → (clock : C) × (slice_get clocks device.0 ≡ Some clock)

@@ -1,19 +1,17 @@
 -- What the steps of a world are made of: a record is given, and what a source comes to is put in among others.
-use Rattle.std.specs.Prelude.{if◌then◌else◌, ◌&&◌, ◌++◌, ◌+◌, ◌<◌, ◌==◌, ◌↔◌, ◌∷◌, ◌≡◌, ◌≤ℤ◌, ◌≤◌, ◌⊎◌, Bool, List}
-use Rattle.std.specs.Prelude.{Some, [], false, length, map, pos, slice_get, true, ℕ}
+use Rattle.std.specs.Prelude.{◌++◌, ◌+◌, ◌<◌, ◌↔◌, ◌∷◌, ◌≡◌, ◌≤ℤ◌, ◌≤◌, ◌⊎◌, List}
+use Rattle.std.specs.Prelude.{Some, [], false, length, pos, slice_get, true, ℕ}
 use Rattle.net_plan.specs.declared.{ids.{DeviceId.DeviceId, LinkId.LinkId, VlId.VlId}, network.Network.Network}
 use Rattle.{run_law.specs.control.{Leaving.Gives, Wires.{Arrives, Signal}}, world_law.specs.source.First.NoSourceBefore}
-use Rattle.run_law.specs.{declared.{judgement.Why.Why, note.NoteBody.NoteBody}, scenario.Ways.{hold_at, way_from}}
-use Rattle.run_law.specs.{declared.note.Note.Note, device.States.is_joined_by, records.Ranks.place_of}
+use Rattle.run_law.specs.{declared.note.{Note.Note, NoteBody.NoteBody}, records.Ranks.place_of}
+use Rattle.run_law.specs.scenario.Ways.{hold_at, way_from}
 use Rattle.run_law.specs.{machines.Nodes.Node, records.Order.{AllBefore, IsBefore, IsIn, NoneBefore, behind}}
 use Rattle.run_law.specs.{machines.Tasks.{IsPending, Task, reading_for}, scenario.Scenarios.{Scenario, is_broken}}
 use Rattle.run_law.specs.{records.Happenings.{Happening, happening, happenings, time_of}, timed.Dispatching.is_accepted}
 use Rattle.tte_units.specs.Amount.{units_of}
 use Rattle.world_law.specs.source.Sources.{task_place}
 use Rattle.world_law.specs.world.World.{AtPort, IsAwaitedFor, IsGivenBy, OnWire, Stands, Stored, Waiting, World}
-use Rattle.world_law.specs.world.World.{clock_place, none_yet, note_of, port_place, ripe_place, wire_place}
-use Rattle.run_law.specs.declared.judgement.Why.TheVariants as whys
-use Rattle.run_law.specs.declared.note.NoteBody.TheVariants as kinds
+use Rattle.world_law.specs.world.World.{clock_place, note_of, numbers_end, port_place, ripe_place, wire_place}
 
 -- ---- what a record launches
 
@@ -49,27 +47,6 @@ pub record AreTaken (x : Happening) (number : ℕ) (old new : List Stored) : Typ
   pub all : (device : DeviceId) (vl : VlId) → is_accepted device vl x.note.body ≡ true
       → (e : Stored) × IsIn e new × (e.device ≡ device) × (e.vl ≡ vl)
 
--- does the record correct the device's clock?
-abbrev pub is_corrected : DeviceId → NoteBody → Bool
-is_corrected device (kinds.Corrected other cycle by adjustment) = device.0 == other.0
-is_corrected device other = false
-
--- does a change of the device's state for this reason follow a record of this body?
-abbrev pub follows : NoteBody → DeviceId → Why → Bool
-follows body device whys.Correction = is_corrected device body
-follows body device whys.Frame = is_joined_by device body
-follows body device why = false
-
--- what follows the record that is given has its number as its cause
-abbrev pub named_body : ℕ → NoteBody → NoteBody → NoteBody
-named_body number first (kinds.State device state cause why) =
-    kinds.State device state (if follows first device why && cause == none_yet then number else cause) why
-named_body number first other = other
-
--- what is to come, where the first of it is given with this number
-abbrev pub named : ℕ → Happening → Happening → Happening
-named number first z = record z { note = record z.note { body = named_body number first.note.body z.note.body } }
-
 -- ---- what is settled
 
 -- a record of this body that is settled, with no number yet
@@ -102,7 +79,7 @@ pub record ComesFirst {C M : Type 0} (reading : C → ℕ → ℕ) (stands : M �
     (w : List ℕ) : Type 0 where
   pub none : NoSourceBefore s (happenings s.network notes) old.cursor w
   pub after : (z : Happening) → IsIn z world.settled → IsBefore (place_of z) w → ⊥
-  pub room : length notes + length world.settled + 2 < none_yet
+  pub room : length notes + length world.settled + 2 < numbers_end
 
 -- the step has brought the cursor behind this place
 abbrev pub StandsBehind : {C M : Type 0} → (C → ℕ → ℕ) → (M → Network → DeviceId → Node → Type 0) → Scenario → World C M
@@ -132,8 +109,7 @@ GivenStep {C} {M} reading stands =
       ports = ports;
       waiting = waiting;
       stored = stored;
-      settled = map (named (length notes + 1) z)
-          rest;
+      settled = rest;
       given = world.given + 1;
     }) (notes ++ note_of notes z ∷ []) (behind (place_of z))
 

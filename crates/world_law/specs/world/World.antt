@@ -1,7 +1,7 @@
 -- What a world keeps, and where the events applied to it and the records that it gave leave it.
 use Rattle.std.specs.{List.last_or, Prelude.{true, ℕ}}
 use Rattle.std.specs.Prelude.{◌++◌, ◌+◌, ◌-◌, ◌<◌, ◌==◌, ◌^◌, ◌↔◌, ◌∷◌, ◌≡◌, ◌≤ℤ◌, ◌≤◌, ◌⊎◌, Bool, IsSomeAnd, List}
-use Rattle.std.specs.Prelude.{None, Option, Some, [], false, filter, if◌then◌else◌, length, map, nat_lt, pos, slice_get}
+use Rattle.std.specs.Prelude.{None, Option, Some, [], false, filter, length, pos, slice_get}
 use Rattle.{drift_clock.specs.transparent.Points.point_of, world_law.specs.device.Ready.{IsReadyAt, IsSteady}}
 use Rattle.net_plan.specs.Places.{link_at}
 use Rattle.{net_plan.specs.Ranges.IsInRange, world_law.specs.{device.Takings.frames_taken, source.First.NoSourceBefore}}
@@ -11,12 +11,12 @@ use Rattle.net_plan.specs.declared.{ids.DeviceId.DeviceId, network.Network.Netwo
 use Rattle.{net_plan.specs.declared.ids.VlId.VlId, sync_state.specs.declared.state.State.TheVariants.{Integrating, Off}}
 use Rattle.{run_law.specs.control.{Leaving.Gives, Permanence.waits_for}, tte_units.specs.declared.units.Units.Units}
 use Rattle.run_law.specs.{control.Wires.{Arrives, Signal}, scenario.Scenarios.{Scenario, is_broken, is_turned_on_at}}
-use Rattle.run_law.specs.{declared.judgement.Why.TheVariants.On, runs.DueRecords.{EndsAt, IsDue, IsScenarioRun}}
+use Rattle.run_law.specs.{declared.judgement.Why.TheVariants.On, runs.DueRecords.{EndsAt, IsCaused, IsScenarioRun}}
 use Rattle.run_law.specs.{declared.note.Note.Note, machines.Nodes.{Node, Phase, acting, arriving, ripening, turning_on}}
 use Rattle.{run_law.specs.declared.note.NoteBody.NoteBody, world_law.specs.device.Left.IsLeft}
 use Rattle.run_law.specs.device.States.{adjustment_after, is_joined_by, state_after, state_before}
 use Rattle.run_law.specs.device.LocalClocks.{changed_at}
-use Rattle.run_law.specs.records.Happenings.{Happening, earlier, happenings, numbered, time_of, up_to}
+use Rattle.run_law.specs.records.Happenings.{Happening, earlier, happening, happenings, numbered, time_of, up_to}
 use Rattle.run_law.specs.records.{Order.{AllBefore, IsBefore, IsIn, NoneBefore, behind}, Ranks.{members_in, place_of, rank}}
 use Rattle.run_law.specs.scenario.{Devices.{is_cm, is_end}, Ways.{delay_at, hold_at, is_cut, receiver_of, way_from}}
 use Rattle.{run_law.specs.timed.Dispatching.is_accepted, tte_units.specs.{Amount.amount, declared.frames.pcf.Pcf.Pcf}}
@@ -79,8 +79,7 @@ pub record WayNow : Type 0 where
 
 -- a world. While it is `early` at the present instant, nothing but events of it is worked off. While some are
 -- `pending`, what befell is kept: a later event of the instant may change what comes of it. What is settled are records
--- of the present instant that are still to be given, in their order, with the number 0, and where they follow one of
--- the others with the cause `none_yet`
+-- of the present instant that are still to be given, in their order, with the number 0
 pub record World (C M : Type 0) : Type 0 where
   pub network : Network
   pub clocks : List C
@@ -128,21 +127,11 @@ rows_place t device = t ∷ 6 ∷ device.0 ∷ []
 abbrev pub clock_place : ℕ → DeviceId → List ℕ
 clock_place t device = t ∷ 14 ∷ device.0 ∷ []
 
--- ---- records whose numbers are not yet known
+-- ---- numbers
 
--- the number of a record that is not yet given: more than any
-abbrev pub none_yet : ℕ
-none_yet = 2 ^ 64 - 1
-
--- what a record says, where so many are given: the cause of a change of state may be one that is not
-abbrev pub hidden_body : ℕ → NoteBody → NoteBody
-hidden_body given (notes.State device state cause why) =
-    notes.State device state (if nat_lt given cause then none_yet else cause) why
-hidden_body given other = other
-
--- a record that is to come, as the world keeps it where so many are given
-abbrev pub hidden : ℕ → Happening → Happening
-hidden given z = record z { note = record z.note { number = 0; body = hidden_body given z.note.body } }
+-- more than the number of any record
+abbrev pub numbers_end : ℕ
+numbers_end = 2 ^ 64 - 1
 
 -- ---- what is under way, by the records
 
@@ -354,6 +343,12 @@ IsHeld stands s hs coming cursor now device machine =
 
 -- ---- what is settled
 
+-- it is due given those before it, but for its number, which it has once it is given
+pub record IsDueAs (s : Scenario) (before : List Happening) (z : Happening) : Type 0 where
+  pub same : z ≡ happening s.network before z.note
+  pub begun : pos 0 ≤ℤ z.note.time.0
+  pub cause : IsCaused s before z.note.time z.note.body
+
 -- the source that the record comes from is worked off
 abbrev pub IsWorkedOff : Scenario → List Happening → List ℕ → Happening → Type 0
 IsWorkedOff s hs cursor y =
@@ -370,19 +365,19 @@ is_at_source (notes.Left device link cause clock) = true
 is_at_source (notes.Clock device reading adjustment state) = true
 is_at_source other = false
 
--- the records that are to come, with the numbers that they will have, are together with those given the run of the
--- sources that are worked off: each stands after those before it, is due given them, and comes from such a source; each
--- that is due by a source that is worked off has a record at its place; and none is far behind the cursor
+-- the records that are to come are together with those given the run of the sources that are worked off, but for their
+-- numbers: each stands after those before it, is due given them, and comes from such a source; each that is due by a
+-- source that is worked off has a record at its place; and none is far behind the cursor
 pub record AreSettled (s : Scenario) (hs coming : List Happening) (mark cursor : List ℕ) (now : ℕ) : Type 0 where
   pub of_now : (z : Happening) → IsIn z coming → time_of z ≡ now
   pub behind_mark : (z : Happening) → IsIn z coming → IsBefore (place_of z) mark → ⊥
   pub founded : (front rest : List Happening) (z : Happening) → coming ≡ front ++ z ∷ rest
-      → AllBefore place_of front (place_of z) × IsDue s (hs ++ front) z
+      → AllBefore place_of front (place_of z) × IsDueAs s (hs ++ front) z
   pub by : (front rest : List Happening) (z : Happening) → coming ≡ front ++ z ∷ rest
       → IsWorkedOff s (hs ++ front) cursor z
   pub full : (front back : List Happening) (y : Happening) → coming ≡ front ++ back
       → AllBefore place_of front (place_of y) → NoneBefore place_of back (place_of y) → (IsBefore (place_of y) mark → ⊥)
-      → IsDue s (hs ++ front) y → IsWorkedOff s (hs ++ front) cursor y → (z : Happening) × IsIn z coming
+      → IsDueAs s (hs ++ front) y → IsWorkedOff s (hs ++ front) cursor y → (z : Happening) × IsIn z coming
       × (place_of z ≡ place_of y)
   pub not_past : (z : Happening) → IsIn z coming → (p : List ℕ) → IsBefore p cursor → IsBefore p (behind (place_of z))
   pub worked : (z : Happening) → IsIn z coming → is_at_source z.note.body ≡ true → IsBefore (place_of z) cursor
@@ -474,20 +469,18 @@ pub record Stands {C M : Type 0} (reading : C → ℕ → ℕ) (stands : M → N
   pub broken : (device : DeviceId) → device.0 < length s.network.device
       → slice_get world.broken device.0 ≡ Some (is_broken s device world.now)
   pub ways : AreWays s world.now world.ups world.downs
-  pub coming : List Happening
-  pub room : length notes + length coming < none_yet
-  pub settled : world.settled ≡ map (hidden (length notes)) coming
-  pub known : AreOfNetwork s (happenings s.network notes ++ coming)
+  pub room : length notes + length world.settled < numbers_end
+  pub known : AreOfNetwork s (happenings s.network notes ++ world.settled)
   pub devices : (device : DeviceId) → device.0 < length s.network.device → (machine : M)
-      × (slice_get world.machines device.0 ≡ Some machine) × IsHeld stands s (happenings s.network notes) coming cursor
-      world.now device machine
+      × (slice_get world.machines device.0 ≡ Some machine)
+      × IsHeld stands s (happenings s.network notes) world.settled cursor world.now device machine
   pub early : world.early ≡ true → (p : List ℕ) → IsBefore p cursor → IsBefore p (world.now ∷ 2 ∷ [])
   pub untold : AreUntold (happenings s.network notes) cursor world.now world.pending world.befell
   pub wires : AreOnWires s (happenings s.network notes) cursor world.now world.pending world.wires
   pub ports : AreAtPorts s (happenings s.network notes) cursor world.ports
   pub waiting : AreWaiting s (happenings s.network notes) cursor world.now world.waiting
   pub stored : AreStored (happenings s.network notes) world.stored
-  pub are : AreSettled s (happenings s.network notes) coming mark cursor world.now
+  pub are : AreSettled s (happenings s.network notes) world.settled mark cursor world.now
   pub shown : (device : DeviceId) → device.0 < length s.network.device → world.ended ≡ true
       → IsBefore (clock_place world.now device) cursor ↔ (device.0 < world.shown)
 

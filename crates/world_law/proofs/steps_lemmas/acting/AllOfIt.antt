@@ -1,15 +1,16 @@
 -- All that is due from the correction point of a device is among the records to come, once it has come to that.
 use Rattle.sync_state.{proofs.{LawLemmas.one_verdict, membership_lemmas.OneSummary.one_summary}, specs.Verdicts.HasVerdict}
-use Rattle.world_law.proofs.{devices.Plains.heard_plain, steps_lemmas.acting.{Emitting.none_heard, Stays.{heard_by_these, heard_more, heard_put}}}
+use Rattle.world_law.proofs.{steps_lemmas.acting.{Emitting.none_heard, Stays.{heard_by_these, heard_more, heard_put}}}
 use Rattle.world_law.proofs.steps_lemmas.Words.{◌++◌, ◌<ℤ◌, ◌∙◌, ◌∷◌, ◌≡◌, ◌≤ℤ◌, ◌≤◌, AsyncClique, Cleared, ComesTo}
 use Rattle.world_law.proofs.steps_lemmas.Words.{ComesToCorrection, Compressed, Corrected, DeviceId, Happening, Hearing, IsAllOfIt}
 use Rattle.world_law.proofs.steps_lemmas.Words.{IsBefore, IsIn, IsPending, List, Node, None, NoteBody, Option, Scenario, Summary}
 use Rattle.world_law.proofs.steps_lemmas.Words.{SyncClique, Verdict, [], rows_place, ap, arith, cases_lt, correcting, doing}
 use Rattle.world_law.proofs.steps_lemmas.Words.{emitting, filter_map-append, heard_since, hearing_by, in_left, in_right, inl, inr, key}
-use Rattle.world_law.proofs.steps_lemmas.Words.{members_in, option_to_list, place_of, plains, plains_parts, pos}
+use Rattle.world_law.proofs.steps_lemmas.Words.{members_in, option_to_list, place_of, pos}
 use Rattle.world_law.proofs.steps_lemmas.Words.{rank, reading_for, refl, standing_before, subst, sym, time_of, ℕ}
 use Rattle.world_law.proofs.steps_lemmas.acting.Complete.{IsPointCause, point_cause_of}
-use Rattle.world_law.proofs.steps_lemmas.acting.{GoesOn.{IsPutAs, one_of, put_now, time_plain}, Work.{IsAtWork, comes}}
+use Rattle.world_law.proofs.steps_lemmas.acting.{GoesOn.IsPutAs, Work.{IsAtWork, comes}}
+use Rattle.world_law.proofs.putting.Bearing.{placed_back}
 use Rattle.run_law.specs.declared.judgement.Why.TheVariants as whys
 use Rattle.run_law.specs.declared.note.NoteBody.TheVariants as kinds
 
@@ -130,44 +131,22 @@ all_point s hs coming new now device node cycle heard verdict w p g out front ba
     point_cause s hs coming new front now device node cycle heard verdict y w p out (record { of_now = also; heard = hears }) c.0 y.note.body refl c.1
 
 -- with one record put in
-pub grown_one : (s : Scenario) (hs front back new : List Happening) (now : ℕ) (device : DeviceId) (node : Node) (w : Happening)
-    → IsAtWork s hs (front ++ back) now device node → IsPutAs now front back new w → 5 ≤ rank w.note.body → IsGrown s hs (front ++ back) new now device
-grown_one s hs front back new now device node w work p late =
-    let none : hearing_by s.network device w w.note.body ≡ None = late_none s device w w.note.body late in
-    record {
-      of_now = λ z i. (put_now s hs front back new now device node w work p z i).0;
-      heard =
-          sym (heard_put s hs front back device now w (λ z i. (work.of_now z i).0) p.at (inl none)
-          ∙ ap (λ (o : Option Hearing). heard_since s (hs ++ (front ++ back)) device now ++ option_to_list o) none
-          ∙ Rattle.std.proofs.lemmas.List.append-nil (heard_since s (hs ++ (front ++ back)) device now))
-          ∙ heard_alike_plain s hs (front ++ w ∷ back) new now device (sym p.same);
-    }
-  where
-    heard_alike_plain : (s : Scenario) (hs xs ys : List Happening) (now : ℕ) (device : DeviceId) → plains xs ≡ plains ys
-        → heard_since s (hs ++ xs) device now ≡ heard_since s (hs ++ ys) device now
-    heard_alike_plain s hs xs ys now device same =
-        sym (heard_plain s (hs ++ xs) device now)
-        ∙ ap (λ (l : List Happening). heard_since s l device now) (plains_parts hs xs ∙ ap (λ (l : List Happening). plains hs ++ l) same
-        ∙ sym (plains_parts hs ys))
-        ∙ heard_plain s (hs ++ ys) device now
-
--- and with one more
-pub grown_more : (s : Scenario) (hs coming front back new : List Happening) (now : ℕ) (device : DeviceId) (v : Happening)
-    → IsGrown s hs coming (front ++ back) now device → IsPutAs now front back new v → 5 ≤ rank v.note.body → IsGrown s hs coming new now device
-grown_more s hs coming front back new now device v g p late =
+pub grown_more : (s : Scenario) (hs coming front back : List Happening) (now : ℕ) (device : DeviceId) (v : Happening)
+    → IsGrown s hs coming (front ++ back) now device → IsPutAs now v → 5 ≤ rank v.note.body → IsGrown s hs coming (front ++ v ∷ back) now device
+grown_more s hs coming front back now device v g p late =
     let none : hearing_by s.network device v v.note.body ≡ None = late_none s device v v.note.body late in
     record {
-      of_now = λ z i. elim (one_of now front back new v z p i) [
-        | inl y ↦ time_plain z y.0 y.2 ∙ g.of_now y.0 y.1
-        | inr e ↦ time_plain z v e ∙ p.at
-      ];
+      of_now = λ z i. elim (placed_back [] front back v z i) [ inl e ↦ ap time_of e ∙ p.at | inr was ↦ g.of_now z was ];
       heard =
           g.heard
           ∙ sym (heard_put s hs front back device now v (λ z i. g.of_now z i) p.at (inl none)
           ∙ ap (λ (o : Option Hearing). heard_since s (hs ++ (front ++ back)) device now ++ option_to_list o) none
-          ∙ Rattle.std.proofs.lemmas.List.append-nil (heard_since s (hs ++ (front ++ back)) device now))
-          ∙ sym (heard_plain s (hs ++ (front ++ v ∷ back)) device now)
-          ∙ ap (λ (l : List Happening). heard_since s l device now)
-          (plains_parts hs (front ++ v ∷ back) ∙ ap (λ (l : List Happening). plains hs ++ l) (sym p.same) ∙ sym (plains_parts hs new))
-          ∙ heard_plain s (hs ++ new) device now;
+          ∙ Rattle.std.proofs.lemmas.List.append-nil (heard_since s (hs ++ (front ++ back)) device now));
     }
+
+-- while the device is at work
+pub grown_one : (s : Scenario) (hs front back : List Happening) (now : ℕ) (device : DeviceId) (node : Node) (w : Happening)
+    → IsAtWork s hs (front ++ back) now device node → IsPutAs now w → 5 ≤ rank w.note.body
+    → IsGrown s hs (front ++ back) (front ++ w ∷ back) now device
+grown_one s hs front back now device node w work p late =
+    grown_more s hs (front ++ back) front back now device w (grown_none s hs (front ++ back) now device (λ z i. (work.of_now z i).0)) p late

@@ -1,5 +1,5 @@
 -- All that is due of a device that has acted is among the records to come.
-use Rattle.{run_law.specs.runs.DueRecords.IsCorrectedRecord, world_law.proofs.acts.Dispatched.{plain_lost, plain_tt}}
+use Rattle.run_law.specs.runs.DueRecords.{IsCorrectedRecord}
 use Rattle.world_law.proofs.acts.Dues.{IsPresent}
 use Rattle.world_law.proofs.steps_lemmas.Words.{◌<◌, ◌++◌, ◌∙◌, ◌∷◌, ◌≡◌, ◌≤◌, AllBefore, AsyncClique, Bool}
 use Rattle.world_law.proofs.steps_lemmas.Words.{ComesToCorrection, Compressed, DeviceId}
@@ -125,8 +125,8 @@ found_dispatched s hs new now device link cause vl cycle r more y few before x e
     elim (cases_Bool (is_cut s link (way_from s.network device link) now)) [
       | inl cut ↦
           found_at hs new now r more x.by y 9 (device.0 ∷ link.0 ∷ cause ∷ []) before x.there
-          (lost x.by (plain_lost device link cause x.by.note.body (x.is ∙ by_cut true cut)) x.at) (omega (arith, few)) (lost y (e ∙ by_cut true cut) at)
+          (lost x.by (x.is ∙ by_cut true cut) x.at) (omega (arith, few)) (lost y (e ∙ by_cut true cut) at)
       | inr whole ↦
           found_at hs new now r more x.by y 10 (device.0 ∷ link.0 ∷ cause ∷ vl.0 ∷ cycle ∷ []) before x.there
-          (sent x.by (plain_tt device link cause vl cycle x.by.note.body (x.is ∙ by_cut false whole)) x.at) (omega (arith, few)) (sent y (e ∙ by_cut false whole) at)
+          (sent x.by (x.is ∙ by_cut false whole) x.at) (omega (arith, few)) (sent y (e ∙ by_cut false whole) at)
     ]

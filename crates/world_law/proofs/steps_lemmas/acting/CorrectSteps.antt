@@ -1,14 +1,14 @@
 -- The steps by which a device comes to its correction point.
-use Rattle.{run_law.specs.machines.Answers.after_correction, world_law.proofs.steps_lemmas.acting.Sending.{as_put, room_for, taken_then, turned_then}}
+use Rattle.{run_law.specs.machines.Answers.after_correction, world_law.proofs.steps_lemmas.acting.Sending.{as_put, taken_then, turned_then}}
 use Rattle.world_law.{proofs.putting.{Moving.{settled_moves, stays}, StandsOn.shown_still}, specs.{steps.Acting.{correction_bodies, place_of_act}, world.Calls.IsStateOf}}
 use Rattle.world_law.proofs.{putting.PutOne.corrected_unfollowed, steps_lemmas.Words.{waiting_moves, wire_place, wires_move, with_clique, ℕ}}
 use Rattle.world_law.proofs.steps_lemmas.Words.{◌++◌, ◌+ℤ◌, ◌+◌, ◌<◌, ◌∙◌, ◌∷◌, ◌≡◌, ◌≤◌, ArePutIn, AsyncClique, Cleared, ComesFirst, Corrected, DeviceId}
 use Rattle.world_law.proofs.steps_lemmas.Words.{Happening, HasActed, HasCleared, Integrating, IsBefore, IsDueNow, IsHeld, IsIn, IsNoTaking, IsReadyAt, IsSet}
 use Rattle.world_law.proofs.steps_lemmas.Words.{IsShownPut, IsUnfollowed, Joining, List, Network, Node, Note, NoteBody, Scenario, Some, Stands, StandsBehind}
 use Rattle.world_law.proofs.steps_lemmas.Words.{State, Summary, SyncClique, Synchronised, Units, Verdict, Why, World, [], acting, adjustment_by}
-use Rattle.world_law.proofs.steps_lemmas.Words.{all_without, ap, arith, before_it, behind, called, cases_eq, correcting, doing, earlier_still, ends_stretch}
-use Rattle.world_law.proofs.steps_lemmas.Words.{false, happenings, held_moves, hidden, if◌then◌else◌, in_right, inl, inr, is_turned_on_at, length, length_is}
-use Rattle.world_law.proofs.steps_lemmas.Words.{map, moment_of, none_in, none_yet, one_shown, place_of, point_number, port_place, ports_move, put_at, rank}
+use Rattle.world_law.proofs.steps_lemmas.Words.{all_without, ap, arith, behind, called, cases_eq, correcting, doing, earlier_still, ends_stretch}
+use Rattle.world_law.proofs.steps_lemmas.Words.{false, happenings, held_moves, if◌then◌else◌, in_right, inl, inr, is_turned_on_at, length}
+use Rattle.world_law.proofs.steps_lemmas.Words.{moment_of, none_in, numbers_end, one_shown, place_of, point_number, port_place, ports_move, rank}
 use Rattle.world_law.proofs.steps_lemmas.Words.{record_of, refl, slice_get, stands_on, state_after, state_by, subst, sym, told_wires, true, turned_moves}
 use Rattle.world_law.proofs.steps_lemmas.acting.{AllOfIt.{HasOutcome, IsAtPoint, all_point, grown_none, grown_one}, Correcting.{clique_change, clique_over, corrected_over, still_now}}
 use Rattle.world_law.proofs.steps_lemmas.acting.{Clearing.{cleared_more, cleared_over}, Kept.{IsBare, bare_act, kept_over, may_act_now, out_by_acts, ready_after}}
@@ -36,7 +36,8 @@ pub record IsCorrecting {C M : Type 0} (reading : C → ℕ → ℕ) (stands : M
   pub state : State
   pub stands_then : IsStateOf stands s.network device after state adjustment
   pub set : IsSet device.0 after world.machines machines
-  pub put : ArePutIn s.network (happenings s.network notes) world.now (correction_bodies device was cycle adjustment verdict) world.settled settled
+  pub put : ArePutIn s.network (happenings s.network notes) world.now
+      (correction_bodies (length (happenings s.network notes) + 1) device was cycle adjustment verdict) world.settled settled
 
 -- the device behind its correction point
 pub record IsThen {M : Type 0} (stands : M → Network → DeviceId → Node → Type 0) (s : Scenario) (hs new : List Happening) (now : ℕ) (device : DeviceId)
@@ -57,32 +58,30 @@ pub record IsThen {M : Type 0} (stands : M → Network → DeviceId → Node →
 one_point_step : {C M : Type 0} (reading : C → ℕ → ℕ) (stands : M → Network → DeviceId → Node → Type 0) (s : Scenario) (world : World C M) (notes : List Note)
     (old : Stands reading stands s world notes) (device : DeviceId) (machine after : M) (node then_ : Node) (machines : List M) (settled : List Happening)
     (body : NoteBody) (cycle : ℕ) (heard : Summary) (verdict : Verdict)
-    → StageAt stands s (happenings s.network notes) old.coming old.mark old.cursor world.now device machine node 6 (device.0 ∷ [])
-    → (p : IsShownPut s.network (happenings s.network notes) world.now body old.coming settled)
-    → length notes + length old.coming + 2 < none_yet → 5 ≤ rank body
+    → StageAt stands s (happenings s.network notes) world.settled old.mark old.cursor world.now device machine node 6 (device.0 ∷ [])
+    → (p : IsShownPut s.network (happenings s.network notes) world.now body world.settled settled)
+    → length notes + length world.settled + 2 < numbers_end → 5 ≤ rank body
     → IsActRecordAt s (happenings s.network notes) p.front p.back world.now device body (rows_place world.now device) → IsNoTaking device body
     → IsAtPoint s device world.now node cycle heard verdict
-    → HasOutcome (put_at (happenings s.network notes) p.front (record_of s.network (happenings s.network notes) p.front world.now body) p.back) world.now device
-    verdict → IsThen stands s (happenings s.network notes) (put_at (happenings s.network notes) p.front
-    (record_of s.network (happenings s.network notes) p.front world.now body) p.back) world.now device after node then_
+    → HasOutcome (p.front ++ record_of s.network (happenings s.network notes) p.front world.now body ∷ p.back) world.now device verdict
+    → IsThen stands s (happenings s.network notes) (p.front ++ record_of s.network (happenings s.network notes) p.front world.now body ∷ p.back)
+    world.now device after node then_
     → IsSet device.0 after world.machines machines
     → StandsBehind reading stands s (record world { early = false; machines = machines; settled = settled }) notes (behind (rows_place world.now device))
 one_point_step reading stands s world notes old device machine after node then_ machines settled body cycle heard verdict st p room late a takes point out it
     set =
     let hs = happenings s.network notes in
     let now = world.now in
-    let same_length = length_is s notes in
     let w = record_of s.network hs p.front now body in
-    let new = put_at hs p.front w p.back in
-    let shows : settled ≡ map (hidden (length notes)) new = p.shows ∙ ap (λ (n : ℕ). map (hidden n) new) (sym same_length) in
+    let new = p.front ++ w ∷ p.back in
     let st2 : StageAt stands s hs (p.front ++ p.back) old.mark old.cursor now device machine node 6 (device.0 ∷ []) =
     subst (λ (l : List Happening). StageAt stands s hs l old.mark old.cursor now device machine node 6 (device.0 ∷ [])) p.parts st in
-    let put = as_put hs p.front p.back now w refl (omega (arith, late)) in
+    let put = as_put now w refl (omega (arith, late)) in
     let here = behind (rows_place now device) in
     let none = none_at_point s hs (p.front ++ p.back) now device node cycle old.range old.rules st2.steady st2.work point.pending point.due in
-    one_goes_by reading stands s world notes old device machine after node machines settled body 6 (device.0 ∷ []) st p shows (omega (arith, room)) a
+    one_goes_by reading stands s world notes old device machine after node machines settled body 6 (device.0 ∷ []) st p (omega (arith, room)) a
     (all_point s hs (p.front ++ p.back) new now device node cycle heard verdict st2.work point
-    (grown_one s hs p.front p.back new now device node w st2.work put late) out) set
+    (grown_one s hs p.front p.back now device node w st2.work put late) out) set
     (kept_over stands s hs new here now device after then_ it.is st2.work.sound it.over it.ready it.cleared
     (it.taken ∙ taken_then stands s hs p.front p.back old.mark old.cursor now device machine node w 6 (device.0 ∷ []) st2 refl takes) it.bare
     (turned_then stands s hs p.front p.back old.mark old.cursor now device machine node w here 6 (device.0 ∷ []) st2 put
@@ -163,15 +162,15 @@ cleared_goes_by {C} {M} reading stands s world notes old device machine after cy
     let to = act.1.1.1 in
     let is = act.1.1.2 in
     let timed = (point_number node.standing.state node.standing.number cycle first.pending.1.own).0 in
-    let off = not_on s hs old.coming now device node st.work timed in
+    let off = not_on s hs world.settled now device node st.work timed in
     let point = at_point s device now node cycle heard Cleared first to in
     let sound : node.broken ≡ false = first.pending.0 in
     let quiet = no_frames s device now node cycle heard Cleared sound point in
     let ready = ready_after s device node act.0 now (acts.Correct cycle Cleared) st.work.ready st.steady st.precise st.wide may act.1
     (ap (λ (n : Node). n.last) is) in
     let there = called (moment_of s device now) acting (after_correction node (moment_of s device now) heard cycle Cleared) in
-    let over : IsOver s (hs ++ old.coming) now device act.0 = subst (λ (n : Node). IsOver s (hs ++ old.coming) now device n) (sym is)
-    (cleared_over s hs old.coming now device node cycle (moment_of s device now) heard st.work off st.calm.off st.calm.broken st.calm.falls st.cleared
+    let over : IsOver s (hs ++ world.settled) now device act.0 = subst (λ (n : Node). IsOver s (hs ++ world.settled) now device n) (sym is)
+    (cleared_over s hs world.settled now device node cycle (moment_of s device now) heard st.work off st.calm.off st.calm.broken st.calm.falls st.cleared
     to.verdict_is
     first.pending.1 first.due (st.work.ready.in_time (doing (correcting cycle)) first.pending) st.wide quiet) in
     let cleared : HasCleared act.0 = subst HasCleared (sym is)
@@ -179,43 +178,44 @@ cleared_goes_by {C} {M} reading stands s world notes old device machine after cy
     let more = device.0 ∷ [] in
     let here = now ∷ 6 ∷ more in
     let later : IsBefore (now ∷ 2 ∷ []) here = inr (refl, inl (omega arith)) in
-    let none = none_at_point s hs old.coming now device node cycle old.range old.rules st.steady st.work first.pending first.due in
-    let kept = kept_over stands s hs old.coming (behind here) now device after act.0 act.2 st.work.sound over ready cleared (ap (λ (n : Node). n.taken) is ∙ st.taken)
+    let none = none_at_point s hs world.settled now device node cycle old.range old.rules st.steady st.work first.pending first.due in
+    let kept = kept_over stands s hs world.settled (behind here) now device after act.0 act.2 st.work.sound over ready cleared (ap (λ (n : Node). n.taken) is ∙ st.taken)
     (bare_act s.network device node (moment_of s device now) (acts.Correct cycle Cleared) act.0 act.1 st.bare)
-    (λ on. turned_moves s hs old.coming old.mark old.cursor now 6 more device st.moving (st.turned on)) (ap (λ (n : Node). n.phase) is) st.calm.falls
+    (λ on. turned_moves s hs world.settled old.mark old.cursor now 6 more device st.moving (st.turned on)) (ap (λ (n : Node). n.phase) is) st.calm.falls
     (λ task has. elim (cleared_done s now device node (moment_of s device now) heard cycle task (subst (λ (n : Node). HasDoneTask n task) is has)) [
-      | inl did ↦ still_worked stands s hs old.coming old.mark old.cursor now device machine node act.0 (changed_at (hs ++ old.coming) device (now + 1)) st
+      | inl did ↦ still_worked stands s hs world.settled old.mark old.cursor now device machine node act.0 (changed_at (hs ++ world.settled) device (now + 1)) st
           (ap (λ (n : Node). n.standing.adjustment) is)
-          (sym (change_still (hs ++ old.coming) device now (now + 1) (omega arith) (still_now s hs old.coming now device node st.work off))) task did
+          (sym (change_still (hs ++ world.settled) device now (now + 1) (omega arith) (still_now s hs world.settled now device node st.work off))) task did
       | inr at ↦ inr (subst (λ (q : List ℕ). IsBefore q (behind here)) (sym at) (before_behind here))
     ])
     st.reach (inl (out_by_acts s hs now device none)) in
-    stands_on reading stands s world notes old 6 more here machines world.wires world.ports world.waiting settled old.coming world.shown st.moving refl
-    (x.put ∙ old.settled) old.room
-    (settled_moves s hs old.coming old.mark old.cursor now 6 more st.moving
-    (all_point s hs old.coming old.coming now device node cycle heard Cleared st.work point
-    (grown_none s hs old.coming now device (λ z i. (st.work.of_now z i).0)) tt))
+    subst (λ (l : List Happening). StandsBehind reading stands s (record world { early = false; machines = machines; settled = l }) notes (behind here))
+    (sym x.put)
+    (stands_on reading stands s world notes old 6 more here machines world.wires world.ports world.waiting world.settled world.shown st.moving refl old.room
+    (settled_moves s hs world.settled old.mark old.cursor now 6 more st.moving
+    (all_point s hs world.settled world.settled now device node cycle heard Cleared st.work point
+    (grown_none s hs world.settled now device (λ z i. (st.work.of_now z i).0)) tt))
     old.known
     (λ other lt. elim (cases_eq other.0 device.0) [
       | inl e ↦
           let same : device ≡ other = ap (λ (k : ℕ). let d : DeviceId = record { 0 = k } in d) (sym e) in
-          subst (λ (d : DeviceId). (m : M) × (slice_get machines d.0 ≡ Some m) × IsHeld stands s hs old.coming (behind here) now d m) same
+          subst (λ (d : DeviceId). (m : M) × (slice_get machines d.0 ≡ Some m) × IsHeld stands s hs world.settled (behind here) now d m) same
           (after, x.set.there, inl kept)
       | inr not ↦
           let m = old.devices other lt in (
             m.0,
             others_so device other after m.0 world.machines machines x.set not m.1,
-            held_moves stands s hs old.coming old.mark old.cursor now 6 more other m.0 st.moving (λ task same. not (st.own other task same)) m.2,
+            held_moves stands s hs world.settled old.mark old.cursor now 6 more other m.0 st.moving (λ task same. not (st.own other task same)) m.2,
           )
     ])
     later
-    (wires_move s hs old.coming old.mark old.cursor now 6 more world.wires world.wires st.moving
+    (wires_move s hs world.settled old.mark old.cursor now 6 more world.wires world.wires st.moving
     (told_wires reading stands s world notes old 6 more st.moving later)
     (all_without wire_place here world.wires (λ e same. (let two : ◌≡◌ {A = ℕ} 2 6 = cc in omega (arith, two)))))
-    (ports_move s hs old.coming old.mark old.cursor now 6 more world.ports world.ports st.moving old.ports
+    (ports_move s hs world.settled old.mark old.cursor now 6 more world.ports world.ports st.moving old.ports
     (all_without port_place here world.ports (λ e same. (let two : ◌≡◌ {A = ℕ} 8 6 = cc in omega (arith, two)))))
-    (waiting_moves s hs old.coming old.mark old.cursor now 6 more world.waiting st.moving (λ three. omega (arith, three)) old.waiting)
-    (shown_still reading stands s world notes old 6 more (omega arith) st.moving)
+    (waiting_moves s hs world.settled old.mark old.cursor now 6 more world.waiting st.moving (λ three. omega (arith, three)) old.waiting)
+    (shown_still reading stands s world notes old 6 more (omega arith) st.moving))
 
 -- ---- it finds itself outside the others
 
@@ -245,29 +245,27 @@ clique_step reading stands s world notes old device machine after cycle was adju
     let to = act.1.1.1 in
     let is = node_is node act.0 heard act.1.1.2 in
     let timed = (point_number node.standing.state node.standing.number cycle first.pending.1.own).0 in
-    let off = not_on s hs old.coming now device node st.work timed in
+    let off = not_on s hs world.settled now device node st.work timed in
     let point = at_point s device now node cycle heard verdict first to in
     let ready = ready_after s device node act.0 now (acts.Correct cycle verdict) st.work.ready st.steady st.precise st.wide may act.1
     (ap (λ (n : Node). n.last) is) in
-    let same_length = length_is s notes in
-    let room = room_for reading stands s world notes old (rows_place now device) x.first in
+    let room = x.first.room in
     let body = kinds.State device Integrating 0 why in
-    let p : IsShownPut s.network hs now body old.coming settled = subst (λ (l : List Happening). IsShownPut s.network hs now body old.coming l) (sym put.2)
-    (one_shown s.network hs now body old.coming world.settled put.0 (omega (arith, same_length, room)) (omega arith)
-    (old.settled ∙ ap (λ (n : ℕ). map (hidden n) old.coming) same_length) put.1) in
+    let p : IsShownPut s.network hs now body world.settled settled = subst (λ (l : List Happening). IsShownPut s.network hs now body world.settled l) (sym put.2)
+    (one_shown s.network hs now body world.settled put.0 (omega arith) put.1) in
     let w = record_of s.network hs p.front now body in
-    let new = put_at hs p.front w p.back in
+    let new = p.front ++ w ∷ p.back in
     let st2 : StageAt stands s hs (p.front ++ p.back) old.mark old.cursor now device machine node 6 (device.0 ∷ []) =
     subst (λ (l : List Happening). StageAt stands s hs l old.mark old.cursor now device machine node 6 (device.0 ∷ [])) p.parts st in
-    let as_it = as_put hs p.front p.back now w refl (omega arith) in
+    let as_it = as_put now w refl (omega arith) in
     let over : IsOver s (hs ++ new) now device act.0 = subst (λ (n : Node). IsOver s (hs ++ new) now device n) (sym is)
-    (clique_over s hs p.front p.back new now device node w 0 why (moment_of s device now) heard verdict st2.work off st2.calm.off st2.calm.broken
+    (clique_over s hs p.front p.back now device node w 0 why (moment_of s device now) heard verdict st2.work off st2.calm.off st2.calm.broken
     as_it p.none (lost node.standing.state) (kept node.standing.adjustment) refl ends) in
     let cleared : HasCleared act.0 = subst HasCleared (sym is) (λ n there. let less = st.cleared n there in omega (arith, less)) in
     one_point_step reading stands s world notes old device machine after node act.0 machines settled body cycle heard verdict st p room (omega arith)
     (clique_record stands s hs p.front p.back old.mark old.cursor now device machine node cycle heard verdict why st2 off point clique p.none) (λ at. refl)
     point
-    (outcome new w (in_right w p.front (w ∷ map (Rattle.world_law.proofs.putting.Bumped.bump_behind (before_it hs p.front)) p.back) (inl refl)) refl)
+    (outcome new w (in_right w p.front (w ∷ p.back) (inl refl)) refl)
     (record {
       is = act.2;
       over = over;
@@ -279,7 +277,7 @@ clique_step reading stands s world notes old device machine after cycle was adju
       worked = λ task has.
           still_worked stands s hs (p.front ++ p.back) old.mark old.cursor now device machine node act.0 (changed_at (hs ++ new) device (now + 1)) st2
           (ap (λ (n : Node). n.standing.adjustment) is ∙ kept node.standing.adjustment)
-          (sym (clique_change s hs p.front p.back new now device node w 0 why st2.work off as_it p.none refl)) task
+          (sym (clique_change s hs p.front p.back now device node w 0 why st2.work off as_it p.none refl)) task
           (clique_done node (moment_of s device now) heard verdict task (subst (λ (n : Node). HasDoneTask n task) is has));
     }) x.set
 
@@ -328,35 +326,33 @@ corrected_goes_by reading stands s world notes old device machine after cycle by
     let synchronised : node.standing.state ≡ Synchronised = sym (x.stood node st.is).0 in
     let sum : adjustment ≡ act.0.standing.adjustment = (x.stands_then act.0 act.2).1 in
     let sum_is : adjustment.0 ≡ (node.standing.adjustment.0 +ℤ by.0) = ap (λ (u : Units). u.0) sum ∙ ap (λ (n : Node). n.standing.adjustment.0) is in
-    let off = not_on s hs old.coming now device node st.work point_is.0 in
+    let off = not_on s hs world.settled now device node st.work point_is.0 in
     let point = at_point s device now node cycle heard (Corrected by) first to in
     let ready = ready_after s device node act.0 now (acts.Correct cycle (Corrected by)) st.work.ready st.steady st.precise st.wide may act.1
     (ap (λ (n : Node). n.last) is) in
-    let same_length = length_is s notes in
-    let room = room_for reading stands s world notes old (rows_place now device) x.first in
+    let room = x.first.room in
     let body = kinds.Corrected device cycle by adjustment in
-    let p : IsShownPut s.network hs now body old.coming settled = subst (λ (l : List Happening). IsShownPut s.network hs now body old.coming l) (sym x.put.2)
-    (one_shown s.network hs now body old.coming world.settled x.put.0 (omega (arith, same_length, room)) (omega arith)
-    (old.settled ∙ ap (λ (n : ℕ). map (hidden n) old.coming) same_length) x.put.1) in
+    let p : IsShownPut s.network hs now body world.settled settled = subst (λ (l : List Happening). IsShownPut s.network hs now body world.settled l) (sym x.put.2)
+    (one_shown s.network hs now body world.settled x.put.0 (omega arith) x.put.1) in
     let w = record_of s.network hs p.front now body in
-    let new = put_at hs p.front w p.back in
+    let new = p.front ++ w ∷ p.back in
     let st2 : StageAt stands s hs (p.front ++ p.back) old.mark old.cursor now device machine node 6 (device.0 ∷ []) =
     subst (λ (l : List Happening). StageAt stands s hs l old.mark old.cursor now device machine node 6 (device.0 ∷ [])) p.parts st in
     let so : IsCorrectedSo s device (now + 1) node w cycle by adjustment (moment_of s device now) =
     record { body = refl; before = omega arith; timed = point_is.0; number = point_is.1; sum = sym sum_is; reads = refl } in
     let quiet = no_frames s device now node cycle heard (Corrected by) first.pending.0 point in
     let over : IsOver s (hs ++ new) now device act.0 = subst (λ (n : Node). IsOver s (hs ++ new) now device n) (sym is)
-    (corrected_over s hs p.front p.back new now device node w cycle by adjustment (moment_of s device now) heard st2.work off st2.calm.off st2.calm.broken
-    (as_put hs p.front p.back now w refl (omega arith)) p.none so synchronised quiet) in
+    (corrected_over s hs p.front p.back now device node w cycle by adjustment (moment_of s device now) heard st2.work off st2.calm.off st2.calm.broken
+    (as_put now w refl (omega arith)) p.none so synchronised quiet) in
     let cleared : HasCleared act.0 = subst HasCleared (sym is) (λ n there. absurd (none_in (correcting n) there)) in
     let lone : IsUnfollowed s hs now body = corrected_unfollowed s hs now device cycle by adjustment (λ joining.
-    let same = earlier_still now hs old.coming (λ z i. let at = (st.work.of_now z i).0 in omega (arith, at)) in
+    let same = earlier_still now hs world.settled (λ z i. let at = (st.work.of_now z i).0 in omega (arith, at)) in
     not_joining (sym synchronised ∙ st.work.left.state
     ∙ ap (λ (l : List Happening). if is_turned_on_at s device now then Integrating else state_after s l device) same ∙ joining)) in
     one_point_step reading stands s world notes old device machine after node act.0 machines settled body cycle heard (Corrected by) st p room (omega arith)
     (corrected_record stands s hs p.front p.back old.mark old.cursor now device machine node cycle heard by adjustment st2 off point sum_is p.none lone)
     (λ at. refl) point
-    (w, in_right w p.front (w ∷ map (Rattle.world_law.proofs.putting.Bumped.bump_behind (before_it hs p.front)) p.back) (inl refl), refl)
+    (w, in_right w p.front (w ∷ p.back) (inl refl), refl)
     (record {
       is = act.2;
       over = over;

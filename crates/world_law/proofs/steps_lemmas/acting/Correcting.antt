@@ -1,7 +1,7 @@
 -- A device that has come to its correction point: the instant is over for it.
 use Rattle.{run_law.specs.machines.Answers.with_corrected, sync_state.proofs.StateFacts.{no_longer, no_point}, world_law.proofs.steps_lemmas.acting.Over.IsOver}
 use Rattle.{std.proofs.Common.Contains, world_law.{proofs.runs.Foremost.unmoved_by, specs.device.Own.{IsStill, borne}}}
-use Rattle.{tte_units.proofs.general_lemmas.Integers.ahead_yet, world_law.proofs.devices.{Borne.{left_alike, tell_alike}, Plains.changes_at_plain}}
+use Rattle.{tte_units.proofs.general_lemmas.Integers.ahead_yet, world_law.proofs.devices.Borne.{left_alike, tell_alike}}
 use Rattle.world_law.proofs.devices.{OwnRecords.{adjustment_still, cycle_still, integration_still, state_still}, Passes.{local_still, started_still}}
 use Rattle.world_law.proofs.steps_lemmas.Words.{◌++◌, ◌+ℤ◌, ◌+◌, ◌-ℤ◌, ◌<ℤ◌, ◌<◌, ◌∙◌, ◌∷◌, ◌≡◌, ◌≤ℤ◌, ◌≤◌, AreClusters, Bool, ClockTask, Compressed, DeviceId}
 use Rattle.world_law.proofs.steps_lemmas.Words.{Happening, HasDoneFrom, HasSentFrom, Integrating, IsDeedOf, IsIn, IsLeft, IsWaiting, Joining, List, Moment}
@@ -9,8 +9,8 @@ use Rattle.world_law.proofs.steps_lemmas.Words.{Network, Node, None, NoneBefore,
 use Rattle.world_law.proofs.steps_lemmas.Words.{adjustment_by, ap, append-nil, append_assoc, arith, bears_on, called, cases_lt, change_still, changed_at}
 use Rattle.world_law.proofs.steps_lemmas.Words.{correcting, dispatching, earlier, ends_stretch, false, filter, filter-append, if◌then◌else◌, in_left, in_right}
 use Rattle.world_law.proofs.steps_lemmas.Words.{inl, inr, is_broken, is_cm, is_synchronised, is_turned_on_at, moves, no_cluster, none_in, none_kept}
-use Rattle.world_law.proofs.steps_lemmas.Words.{not_turned_on, observation_window, place_of, plains, plains_parts, pos, rank, recorded_cycle, refl, sending}
-use Rattle.world_law.proofs.steps_lemmas.{Words.{state_by, subst, sym, time_of, told_by_others, true, value_of, with_clique, ℕ, ℤ}, acting.Work.IsAtWork}
+use Rattle.world_law.proofs.steps_lemmas.Words.{not_turned_on, observation_window, place_of, pos, rank, recorded_cycle, refl, sending}
+use Rattle.world_law.proofs.steps_lemmas.{Words.{state_by, subst, sym, time_of, true, value_of, with_clique, ℕ, ℤ}, acting.Work.IsAtWork}
 use Rattle.world_law.proofs.steps_lemmas.acting.{GoesOn.IsPutAs, Moves.{IsBase, IsCorrectedSo, changed_by, cliques, corrects, joiner_corrects, one_earlier}}
 use Rattle.run_law.specs.declared.judgement.Why.TheVariants as whys
 use Rattle.run_law.specs.declared.note.NoteBody.TheVariants as kinds
@@ -91,20 +91,6 @@ borne_two hs front mid rest device w f none =
     ∙ ap (λ (l : List Happening). filter q (w ∷ []) ++ l) (filter-append q mid (f ∷ rest) ∙ ap (λ (l : List Happening). l ++ filter q (f ∷ rest)) gone
     ∙ one_in q f rest left))))
 
--- the device stands by the records that bear on it, whatever their numbers
-pub moved_in : (s : Scenario) (xs ys gs : List Happening) (device : DeviceId) (u : ℕ) (node : Node) → borne device xs ≡ borne device ys → plains ys ≡ plains gs
-    → IsLeft s xs device u node → IsLeft s gs device u node
-moved_in s xs ys gs device u node same alike left = told_by_others s ys gs device u node alike (left_alike s xs ys device u node same left)
-
-pub change_in_it : (s : Scenario) (xs ys gs : List Happening) (device : DeviceId) (u : ℕ) → borne device xs ≡ borne device ys → plains ys ≡ plains gs
-    → changed_at xs device u ≡ changed_at gs device u
-change_in_it s xs ys gs device u same alike =
-    (tell_alike s xs ys device u same).change ∙ sym (changes_at_plain ys device u) ∙ ap (λ (l : List Happening). changed_at l device u) alike
-    ∙ changes_at_plain gs device u
-
-pub behind_given : (hs mid new : List Happening) → plains new ≡ plains mid → plains (hs ++ mid) ≡ plains (hs ++ new)
-behind_given hs mid new same = plains_parts hs mid ∙ ap (λ (l : List Happening). plains hs ++ l) (sym same) ∙ sym (plains_parts hs new)
-
 -- ---- what it has done and sent then
 
 pub left_called : (s : Scenario) (js : List Happening) (device : DeviceId) (u : ℕ) (node : Node) (moment : Moment) → IsLeft s js device u node
@@ -162,31 +148,30 @@ corrected_sent s device node now moment heard by has none = record {
 
 -- ---- it has corrected its clock
 
-pub corrected_over : (s : Scenario) (hs front back new : List Happening) (now : ℕ) (device : DeviceId) (node : Node) (w : Happening) (cycle : ℕ)
+pub corrected_over : (s : Scenario) (hs front back : List Happening) (now : ℕ) (device : DeviceId) (node : Node) (w : Happening) (cycle : ℕ)
     (by adjustment : Units) (moment : Moment) (heard : Summary)
     → IsAtWork s hs (front ++ back) now device node → is_turned_on_at s device now ≡ false → is_turned_on_at s device (now + 1) ≡ false
-    → is_broken s device (now + 1) ≡ is_broken s device now → IsPutAs now front back new w → NoneBefore place_of back (place_of w)
+    → is_broken s device (now + 1) ≡ is_broken s device now → IsPutAs now w → NoneBefore place_of back (place_of w)
     → IsCorrectedSo s device (now + 1) node w cycle by adjustment moment → node.standing.state ≡ Synchronised
     → ((c : Compressed) → IsWaiting s.network device node c → pos (s.reading device now) <ℤ c.at.0)
-    → IsOver s (hs ++ new) now device (called moment acting (with_corrected node moment heard by))
-corrected_over s hs front back new now device node w cycle by adjustment moment heard work off later same p none so synchronised quiet =
+    → IsOver s (hs ++ (front ++ w ∷ back)) now device (called moment acting (with_corrected node moment heard by))
+corrected_over s hs front back now device node w cycle by adjustment moment heard work off later same p none so synchronised quiet =
     let after = called moment acting (with_corrected node moment heard by) in
     let old = hs ++ (front ++ back) in
     let base = base_then s hs (front ++ back) now device node work off same in
     let five : 5 ≤ rank w.note.body = subst (λ (b : NoteBody). 5 ≤ rank b) (sym so.body) (omega arith) in
     let bears = none_bear s hs front back now device node w work off p.at five none in
     let borne_so = borne_in hs front back device w bears in
-    let alike = behind_given hs (front ++ w ∷ back) new p.same in
     let changes : Rattle.run_law.specs.device.LocalClocks.changes_adjustment device w.note.body ≡ true =
     ap (Rattle.run_law.specs.device.LocalClocks.changes_adjustment device) so.body ∙ Rattle.std.proofs.lemmas.Bool.eq-eqb device.0 device.0 refl in
-    let at : changed_at (hs ++ new) device (now + 1) ≡ now =
-    sym (change_in_it s (old ++ w ∷ []) (hs ++ (front ++ w ∷ back)) (hs ++ new) device (now + 1) borne_so alike)
+    let at : changed_at (hs ++ (front ++ w ∷ back)) device (now + 1) ≡ now =
+    sym (tell_alike s (old ++ w ∷ []) (hs ++ (front ++ w ∷ back)) device (now + 1) borne_so).change
     ∙ ap (Rattle.world_law.specs.device.Told.change_in device) (one_earlier (now + 1) old w so.before)
     ∙ changed_by device (earlier (now + 1) old) w changes ∙ p.at in
     let reads : moment.reading.0 ≡ pos (s.reading device now) = so.reads ∙ ap (λ (n : ℕ). pos (s.reading device n)) p.at in
     record {
-      left = left_called s (hs ++ new) device (now + 1) (with_corrected node moment heard by) moment
-          (moved_in s (old ++ w ∷ []) (hs ++ (front ++ w ∷ back)) (hs ++ new) device (now + 1) (with_corrected node moment heard by) borne_so alike
+      left = left_called s (hs ++ (front ++ w ∷ back)) device (now + 1) (with_corrected node moment heard by) moment
+          (left_alike s (old ++ w ∷ []) (hs ++ (front ++ w ∷ back)) device (now + 1) (with_corrected node moment heard by) borne_so
           (corrects s old device (now + 1) node w cycle by adjustment moment heard so synchronised later base));
       done = subst (λ (n : ℕ). HasDoneFrom s.network (s.reading device) device after n (now + 1) (now + 1)) (sym at)
           (corrects_it s.network (s.reading device) device node now moment heard by reads);
@@ -195,15 +180,15 @@ corrected_over s hs front back new now device node w cycle by adjustment moment 
 
 -- ---- a joiner has its first correction
 
-pub joiner_over : (s : Scenario) (hs front mid rest new : List Happening) (now : ℕ) (device : DeviceId) (node : Node) (w f : Happening) (cycle cause : ℕ)
+pub joiner_over : (s : Scenario) (hs front mid rest : List Happening) (now : ℕ) (device : DeviceId) (node : Node) (w f : Happening) (cycle cause : ℕ)
     (by adjustment : Units) (moment : Moment) (heard : Summary)
     → IsAtWork s hs (front ++ (mid ++ rest)) now device node → is_turned_on_at s device now ≡ false → is_turned_on_at s device (now + 1) ≡ false
-    → is_broken s device (now + 1) ≡ is_broken s device now → plains new ≡ plains (front ++ w ∷ (mid ++ f ∷ rest)) → time_of w ≡ now
+    → is_broken s device (now + 1) ≡ is_broken s device now → time_of w ≡ now
     → NoneBefore place_of (mid ++ rest) (place_of w) → IsCorrectedSo s device (now + 1) node w cycle by adjustment moment → node.standing.state ≡ Joining
     → f.note.body ≡ kinds.State device Synchronised cause whys.Correction → time_of f < now + 1
     → ((c : Compressed) → IsWaiting s.network device node c → pos (s.reading device now) <ℤ c.at.0)
-    → IsOver s (hs ++ new) now device (called moment acting (with_corrected node moment heard by))
-joiner_over s hs front mid rest new now device node w f cycle cause by adjustment moment heard work off later same put at none so joining e lt quiet =
+    → IsOver s (hs ++ (front ++ w ∷ (mid ++ f ∷ rest))) now device (called moment acting (with_corrected node moment heard by))
+joiner_over s hs front mid rest now device node w f cycle cause by adjustment moment heard work off later same at none so joining e lt quiet =
     let after = called moment acting (with_corrected node moment heard by) in
     let old = hs ++ (front ++ (mid ++ rest)) in
     let whole = hs ++ (front ++ w ∷ (mid ++ f ∷ rest)) in
@@ -211,13 +196,12 @@ joiner_over s hs front mid rest new now device node w f cycle cause by adjustmen
     let five : 5 ≤ rank w.note.body = subst (λ (b : NoteBody). 5 ≤ rank b) (sym so.body) (omega arith) in
     let bears = none_bear s hs front (mid ++ rest) now device node w work off at five none in
     let borne_so = borne_two hs front mid rest device w f bears in
-    let alike = behind_given hs (front ++ w ∷ (mid ++ f ∷ rest)) new put in
     let changes : Rattle.run_law.specs.device.LocalClocks.changes_adjustment device w.note.body ≡ true =
     ap (Rattle.run_law.specs.device.LocalClocks.changes_adjustment device) so.body ∙ Rattle.std.proofs.lemmas.Bool.eq-eqb device.0 device.0 refl in
     let no_change : Rattle.run_law.specs.device.LocalClocks.changes_adjustment device f.note.body ≡ false =
     ap (Rattle.run_law.specs.device.LocalClocks.changes_adjustment device) e in
-    let changed : changed_at (hs ++ new) device (now + 1) ≡ now =
-    sym (change_in_it s ((old ++ w ∷ []) ++ f ∷ []) whole (hs ++ new) device (now + 1) borne_so alike)
+    let changed : changed_at whole device (now + 1) ≡ now =
+    sym (tell_alike s ((old ++ w ∷ []) ++ f ∷ []) whole device (now + 1) borne_so).change
     ∙ ap (Rattle.world_law.specs.device.Told.change_in device) (one_earlier (now + 1) (old ++ w ∷ []) f lt)
     ∙ ap (λ (l : List Happening). Rattle.std.specs.Option.option_map_or time_of (Rattle.std.specs.List.last_or None l) 0)
     (Rattle.world_law.proofs.lists.Lists.filter_no (λ g. Rattle.run_law.specs.device.LocalClocks.changes_adjustment device g.note.body)
@@ -226,8 +210,8 @@ joiner_over s hs front mid rest new now device node w f cycle cause by adjustmen
     ∙ changed_by device (earlier (now + 1) old) w changes ∙ at in
     let reads : moment.reading.0 ≡ pos (s.reading device now) = so.reads ∙ ap (λ (n : ℕ). pos (s.reading device n)) at in
     record {
-      left = left_called s (hs ++ new) device (now + 1) (with_corrected node moment heard by) moment
-          (moved_in s ((old ++ w ∷ []) ++ f ∷ []) whole (hs ++ new) device (now + 1) (with_corrected node moment heard by) borne_so alike
+      left = left_called s whole device (now + 1) (with_corrected node moment heard by) moment
+          (left_alike s ((old ++ w ∷ []) ++ f ∷ []) whole device (now + 1) (with_corrected node moment heard by) borne_so
           (joiner_corrects s old device (now + 1) node w f cycle cause by adjustment moment heard so joining later e lt base));
       done = subst (λ (n : ℕ). HasDoneFrom s.network (s.reading device) device after n (now + 1) (now + 1)) (sym changed)
           (corrects_it s.network (s.reading device) device node now moment heard by reads);
@@ -243,42 +227,41 @@ no_deed network device node (correcting cycle) is own = no_point node.standing.s
 no_deed network device node (dispatching row cycle) is own = no_longer (sym is ∙ own.0)
 
 -- its adjustment changed last when it did before
-pub clique_change : (s : Scenario) (hs front back new : List Happening) (now : ℕ) (device : DeviceId) (node : Node) (w : Happening) (cause : ℕ) (why : Why)
-    → IsAtWork s hs (front ++ back) now device node → is_turned_on_at s device now ≡ false → IsPutAs now front back new w
+pub clique_change : (s : Scenario) (hs front back : List Happening) (now : ℕ) (device : DeviceId) (node : Node) (w : Happening) (cause : ℕ) (why : Why)
+    → IsAtWork s hs (front ++ back) now device node → is_turned_on_at s device now ≡ false → IsPutAs now w
     → NoneBefore place_of back (place_of w) → w.note.body ≡ kinds.State device Integrating cause why
-    → changed_at (hs ++ new) device (now + 1) ≡ changed_at (hs ++ (front ++ back)) device now
-clique_change s hs front back new now device node w cause why work off p none e =
+    → changed_at (hs ++ (front ++ w ∷ back)) device (now + 1) ≡ changed_at (hs ++ (front ++ back)) device now
+clique_change s hs front back now device node w cause why work off p none e =
     let old = hs ++ (front ++ back) in
     let five : 5 ≤ rank w.note.body = subst (λ (b : NoteBody). 5 ≤ rank b) (sym e) (omega arith) in
     let bears = none_bear s hs front back now device node w work off p.at five none in
     let lt : time_of w < now + 1 = let at = p.at in omega (arith, at) in
-    sym (change_in_it s (old ++ w ∷ []) (hs ++ (front ++ w ∷ back)) (hs ++ new) device (now + 1) (borne_in hs front back device w bears)
-    (behind_given hs (front ++ w ∷ back) new p.same))
+    sym (tell_alike s (old ++ w ∷ []) (hs ++ (front ++ w ∷ back)) device (now + 1) (borne_in hs front back device w bears)).change
     ∙ ap (Rattle.world_law.specs.device.Told.change_in device) (one_earlier (now + 1) old w lt)
     ∙ ap (λ (l : List Happening). Rattle.std.specs.Option.option_map_or time_of (Rattle.std.specs.List.last_or None l) 0)
     (Rattle.world_law.proofs.lists.Lists.filter_no (λ g. Rattle.run_law.specs.device.LocalClocks.changes_adjustment device g.note.body)
     (earlier (now + 1) old) w (ap (Rattle.run_law.specs.device.LocalClocks.changes_adjustment device) e))
     ∙ change_still old device now (now + 1) (omega arith) (still_now s hs (front ++ back) now device node work off)
 
-pub clique_over : (s : Scenario) (hs front back new : List Happening) (now : ℕ) (device : DeviceId) (node : Node) (w : Happening) (cause : ℕ) (why : Why)
+pub clique_over : (s : Scenario) (hs front back : List Happening) (now : ℕ) (device : DeviceId) (node : Node) (w : Happening) (cause : ℕ) (why : Why)
     (moment : Moment) (heard : Summary) (verdict : Verdict)
     → IsAtWork s hs (front ++ back) now device node → is_turned_on_at s device now ≡ false → is_turned_on_at s device (now + 1) ≡ false
-    → is_broken s device (now + 1) ≡ is_broken s device now → IsPutAs now front back new w → NoneBefore place_of back (place_of w)
+    → is_broken s device (now + 1) ≡ is_broken s device now → IsPutAs now w → NoneBefore place_of back (place_of w)
     → state_by node.standing.state verdict ≡ Integrating → adjustment_by node.standing.adjustment verdict ≡ node.standing.adjustment
     → w.note.body ≡ kinds.State device Integrating cause why → ends_stretch device (kinds.State device Integrating cause why) ≡ true
-    → IsOver s (hs ++ new) now device (called moment acting (with_clique node heard verdict))
-clique_over s hs front back new now device node w cause why moment heard verdict work off later same p none lost kept e ends =
+    → IsOver s (hs ++ (front ++ w ∷ back)) now device (called moment acting (with_clique node heard verdict))
+clique_over s hs front back now device node w cause why moment heard verdict work off later same p none lost kept e ends =
     let after = called moment acting (with_clique node heard verdict) in
     let old = hs ++ (front ++ back) in
     let base = base_then s hs (front ++ back) now device node work off same in
     let five : 5 ≤ rank w.note.body = subst (λ (b : NoteBody). 5 ≤ rank b) (sym e) (omega arith) in
     let bears = none_bear s hs front back now device node w work off p.at five none in
     let lt : time_of w < now + 1 = let at = p.at in omega (arith, at) in
-    let change = clique_change s hs front back new now device node w cause why work off p none e in
+    let change = clique_change s hs front back now device node w cause why work off p none e in
     record {
-      left = left_called s (hs ++ new) device (now + 1) (with_clique node heard verdict) moment
-          (moved_in s (old ++ w ∷ []) (hs ++ (front ++ w ∷ back)) (hs ++ new) device (now + 1) (with_clique node heard verdict)
-          (borne_in hs front back device w bears) (behind_given hs (front ++ w ∷ back) new p.same)
+      left = left_called s (hs ++ (front ++ w ∷ back)) device (now + 1) (with_clique node heard verdict) moment
+          (left_alike s (old ++ w ∷ []) (hs ++ (front ++ w ∷ back)) device (now + 1) (with_clique node heard verdict)
+          (borne_in hs front back device w bears)
           (cliques s old device (now + 1) node w cause why heard verdict lost kept e ends lt later base));
       done = record {
         undone = λ deed u x from lt. absurd (no_deed s.network device after deed lost u.own);

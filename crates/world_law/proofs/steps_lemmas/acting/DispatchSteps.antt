@@ -2,7 +2,7 @@
 use Rattle.world_law.proofs.steps_lemmas.Words.{◌<◌, ComesFirst, IsIn, ap, dispatching, rank}
 use Rattle.world_law.proofs.steps_lemmas.Words.{◌∷◌, ArePutIn, DeviceId, Entry, Happening, HasActed, HasAtHand, IsSet, List, Network, Node, Note, NoteBody}
 use Rattle.world_law.proofs.steps_lemmas.Words.{RowId, Scenario, Stands, World, [], arith, dispatch_body, dispatch_late, happenings, moment_of, ℕ}
-use Rattle.world_law.proofs.steps_lemmas.acting.{Sending.{did_deed, room_for}, Dispatching.{dispatch_cause, dispatching_record, hand_within, has_dispatched_it}}
+use Rattle.world_law.proofs.steps_lemmas.acting.{Sending.did_deed, Dispatching.{dispatch_cause, dispatching_record, hand_within, has_dispatched_it}}
 use Rattle.world_law.{proofs.steps_lemmas.acting.{Kept.may_act_now, OneAct.IsOneAct, Stage.stage_of}, specs.steps.Acting.{Acts, place_of_act}}
 use Rattle.schedule_tables.specs.Entries.{IsEntry}
 use Rattle.run_law.specs.declared.steps.Act.TheVariants as acts
@@ -31,7 +31,7 @@ dispatches_one reading stands s world notes old device after bodies machines set
     let of_cause = dispatch_cause s device now entry.row.link cause entry.row.vl cycle in
     let within = hand_within s hs device entry now cause cycle st.given hand in
     record {
-      room = room_for reading stands s world notes old (place_of_act now device (acts.Dispatch row cycle)) first_of;
+      room = first_of.room;
       node = node;
       then_ = act.0;
       stood = act.2;

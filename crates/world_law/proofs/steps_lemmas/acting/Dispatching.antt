@@ -3,6 +3,7 @@ use Rattle.{net_plan.proofs.SameIds.{same_link, same_vl}, run_law.proofs.law.Fir
 use Rattle.{run_law.proofs.timed.Rows.at_hand_by, std.proofs.Common.{◌*◌, Contains}}
 use Rattle.{schedule_tables.{proofs.EntryLemmas.one_entry, specs.Entries.{IsEntry, source_of}}, world_law.proofs.rows.OneRow.{one_told, told_alike}}
 use Rattle.schedule_tables.specs.Dispatches.{dispatch_order}
+use Rattle.world_law.proofs.putting.Bearing.{placed_back}
 use Rattle.world_law.proofs.steps_lemmas.Words.{task_place}
 use Rattle.world_law.proofs.steps_lemmas.Words.{IsSource}
 use Rattle.world_law.proofs.steps_lemmas.Words.{◌++◌, ◌+◌, ◌∙◌, ◌∷◌, ◌≡◌, ◌≤ℤ◌, ◌≤◌, AreRecorded, Bool, Contains-append_left, Contains-push}
@@ -12,10 +13,10 @@ use Rattle.world_law.proofs.steps_lemmas.Words.{NoteBody, Option, Reaches, RowId
 use Rattle.world_law.proofs.steps_lemmas.Words.{by_number, called, cause_of, changed_at, changed_before, correcting, dispatch_body, dispatch_late}
 use Rattle.world_law.proofs.steps_lemmas.Words.{dispatches_same, dispatching, doing, earlier, false, filter, hearing_by, if◌then◌else◌, in_left, in_right, inl}
 use Rattle.world_law.proofs.steps_lemmas.Words.{inr, is_accepted, is_cut, key, last_in, last_unfollowed, length, members_in, moment_of, moves, nat_lt, ne_eqb}
-use Rattle.world_law.proofs.steps_lemmas.Words.{numbered_within, option_to_list, place_of, plain_body, pos, put_at, rank, reaches_back, reading_for, record_of}
+use Rattle.world_law.proofs.steps_lemmas.Words.{numbered_within, option_to_list, place_of, pos, rank, reaches_back, reading_for, record_of}
 use Rattle.world_law.proofs.steps_lemmas.Words.{refl, same_device, subst, sym, time_of, true, up_back, value_is, way_from, with_done, ℕ}
 use Rattle.world_law.proofs.steps_lemmas.{Words.ℤ, acting.{Sending.{HasSentIt, as_put, taken_then}, Work.{IsAtWork, all_earlier, reaches}}}
-use Rattle.world_law.proofs.steps_lemmas.acting.GoesOn.{IsPutAs, body_plain, does, earlier_put, goes_on, left_on, one_of, put_now, sent_alike, shown_now}
+use Rattle.world_law.proofs.steps_lemmas.acting.GoesOn.{IsPutAs, does, earlier_put, goes_on, left_on, put_now, sent_alike, shown_now}
 use Rattle.world_law.proofs.steps_lemmas.acting.{GoesOn.shown_still, Kept.{may_act_now, ready_after}, Stage.{IsActRecordAt, StageAt}}
 use Rattle.run_law.specs.declared.note.NoteBody.TheVariants as kinds
 use Rattle.run_law.specs.declared.steps.Act.TheVariants as acts
@@ -108,11 +109,6 @@ body_at true device link cause vl cycle t u m body e =
     x.4 ∙ ap (λ (d : DeviceId). kinds.Lost d x.1 cause) (same_device x.0 device x.2) ∙ ap (λ (l : LinkId). kinds.Lost device l cause) (same_link x.1 link x.3)
 body_at false device link cause vl cycle t u m body e = grind (arith, tt_at, same_device, same_link, same_vl)
 
--- it names no cause of a change of state
-pub plain_dispatch : (s : Scenario) (device : DeviceId) (now : ℕ) (link : LinkId) (cause : ℕ) (vl : VlId) (cycle : ℕ)
-    → plain_body (dispatch_body s device now link cause vl cycle) ≡ dispatch_body s device now link cause vl cycle
-plain_dispatch s device now link cause vl cycle = grind (arith, is_cut, way_from, plain_body)
-
 -- what is asked of the record but for its body
 record IsRowRecord (s : Scenario) (hs front back : List Happening) (now : ℕ) (device : DeviceId) (row : RowId) (link : LinkId) (cause : ℕ) (vl : VlId)
     (cycle : ℕ) (body : NoteBody) : Type 0 where
@@ -167,8 +163,7 @@ dispatching_record stands s hs front back mark cursor now device machine node ro
       place = here.1;
       new = λ y i e.
           pending.1.not_yet (subst (λ (n : ℕ). Contains node.done (dispatching (let r : RowId = record { 0 = n } in r) cycle)) whole.1
-          (st.recorded.has_dispatched y (in_right y front back i) link cause vl cycle whole.0
-          (ap plain_body e ∙ plain_dispatch s device now link cause vl cycle)));
+          (st.recorded.has_dispatched y (in_right y front back i) link cause vl cycle whole.0 e));
     })
 
 -- ---- how it stands then
@@ -189,15 +184,15 @@ none_taken : (s : Scenario) (device of : DeviceId) (now : ℕ) (link : LinkId) (
     → Rattle.world_law.proofs.rows.Takings.IsNoTaking device (dispatch_body s of now link cause vl cycle)
 none_taken s device of now link cause vl cycle = grind (arith, is_cut, way_from)
 
-dispatches_on : (s : Scenario) (hs front back new : List Happening) (now : ℕ) (device : DeviceId) (node : Node) (w : Happening) (row : RowId) (cycle : ℕ)
-    (moment : Moment) → IsAtWork s hs (front ++ back) now device node → IsPutAs now front back new w → hearing_by s.network device w w.note.body ≡ None
+dispatches_on : (s : Scenario) (hs front back : List Happening) (now : ℕ) (device : DeviceId) (node : Node) (w : Happening) (row : RowId) (cycle : ℕ)
+    (moment : Moment) → IsAtWork s hs (front ++ back) now device node → IsPutAs now w → hearing_by s.network device w w.note.body ≡ None
     → moves device w.note.body ≡ false → reading_for s.network node (doing (dispatching row cycle)) ≤ℤ pos (s.reading device now)
     → IsReadyAt (s.reading device) s.network device (called moment acting (with_done node (dispatching row cycle))) now
-    → IsAtWork s hs new now device (called moment acting (with_done node (dispatching row cycle)))
-dispatches_on s hs front back new now device node w row cycle moment work p none still due ready =
+    → IsAtWork s hs (front ++ w ∷ back) now device (called moment acting (with_done node (dispatching row cycle)))
+dispatches_on s hs front back now device node w row cycle moment work p none still due ready =
     let after = called moment acting (with_done node (dispatching row cycle)) in
-    goes_on s hs front back new now device node after w work p
-    (left_on s hs front back new now device node after w work p (record { standing = refl; broken = refl; changed = refl; points = refl }) still
+    goes_on s hs front back now device node after w work p
+    (left_on s hs front back now device node after w work p (record { standing = refl; broken = refl; changed = refl; points = refl }) still
     (sym (append-nil node.heard) ∙ ap (λ (o : Option Hearing). node.heard ++ option_to_list o) (sym none)) (inl none))
     still
     (does s.network (s.reading device) device node (changed_at (hs ++ (front ++ back)) device now) now moment (dispatching row cycle) work.done
@@ -205,45 +200,45 @@ dispatches_on s hs front back new now device node w row cycle moment work p none
     (sent_alike s device node after now (now + 1) refl refl work.sent) ready
 
 -- and the records tell what it has done
-dispatched_recorded : (s : Scenario) (hs front back new : List Happening) (now : ℕ) (device : DeviceId) (node : Node) (w : Happening) (row : RowId)
+dispatched_recorded : (s : Scenario) (hs front back : List Happening) (now : ℕ) (device : DeviceId) (node : Node) (w : Happening) (row : RowId)
     (link : LinkId) (cause : ℕ) (vl : VlId) (cycle : ℕ) (moment : Moment)
-    → IsAtWork s hs (front ++ back) now device node → AreRecorded s (hs ++ (front ++ back)) (front ++ back) now device node → IsPutAs now front back new w
+    → IsAtWork s hs (front ++ back) now device node → AreRecorded s (hs ++ (front ++ back)) (front ++ back) now device node → IsPutAs now w
     → w.note.body ≡ dispatch_body s device now link cause vl cycle → IsLawful s (hs ++ (front ++ back)) device
     → (d : Dispatches s (hs ++ (front ++ back)) device now link cause vl cycle) → d.place ≡ row.0
-    → AreRecorded s (hs ++ new) new now device (called moment acting (with_done node (dispatching row cycle)))
-dispatched_recorded s hs front back new now device node w row link cause vl cycle moment work r p e law own place =
+    → AreRecorded s (hs ++ (front ++ w ∷ back)) (front ++ w ∷ back) now device (called moment acting (with_done node (dispatching row cycle)))
+dispatched_recorded s hs front back now device node w row link cause vl cycle moment work r p e law own place =
     let after = called moment acting (with_done node (dispatching row cycle)) in
     let old = hs ++ (front ++ back) in
-    let same = earlier_put s hs front back new now device node w work p in
-    let tells : plain_body w.note.body ≡ dispatch_body s device now link cause vl cycle = ap plain_body e ∙ plain_dispatch s device now link cause vl cycle in
+    let same = earlier_put s hs front back now device node w work p in
     let high = dispatch_late s device now link cause vl cycle in
     let add = dispatching row cycle ∷ [] in
     record {
-      of_now = λ z i. (put_now s hs front back new now device node w work p z i).0;
+      of_now = λ z i. (put_now s hs front back now device node w work p z i).0;
       dispatched = λ other from with number d there.
-          let x = dispatches_same s (hs ++ new) old now device other from with number (sym same) d in
+          let x = dispatches_same s (hs ++ (front ++ w ∷ back)) old now device other from with number (sym same) d in
           elim (Contains-push_cases node.done (dispatching row cycle) (dispatching (record { 0 = d.place }) number) there) [
             | inl before ↦
-                shown_still hs front back new now w _ p (r.dispatched other from with number x.0
+                shown_still hs front back now w _ (r.dispatched other from with number x.0
                 (subst (λ (n : ℕ). Contains node.done (dispatching (let q : RowId = record { 0 = n } in q) number)) (sym x.1) before))
             | inr is ↦
                 let at : row.0 ≡ d.place = row_of row d.place cycle number is in
                 let cycles : cycle ≡ number = cc in
-                shown_now hs front back new now w _ p
-                (tells ∙ told_alike s old device now link other cause from vl with cycle number law.rules own x.0 (place ∙ at ∙ sym x.1) cycles)
+                shown_now hs front back now w _ p
+                (e ∙ told_alike s old device now link other cause from vl with cycle number law.rules own x.0 (place ∙ at ∙ sym x.1) cycles)
           ];
       has_dispatched = λ z i other from with number d is.
-          let x = dispatches_same s (hs ++ new) old now device other from with number (sym same) d in
-          elim (one_of now front back new w z p i) [
-            | inl y ↦
-                Contains-append_left node.done add (dispatching (record { 0 = d.place }) number)
-                (subst (λ (n : ℕ). Contains node.done (dispatching (let q : RowId = record { 0 = n } in q) number)) x.1
-                (r.has_dispatched y.0 y.1 other from with number x.0 (sym (body_plain z y.0 y.2) ∙ is)))
-            | inr here ↦
-                let one = one_told s old device now link other cause from vl with cycle number law own x.0 (sym tells ∙ sym (body_plain z w here) ∙ is) in
+          let x = dispatches_same s (hs ++ (front ++ w ∷ back)) old now device other from with number (sym same) d in
+          elim (placed_back [] front back w z i) [
+            | inl here ↦
+                let one = one_told s old device now link other cause from vl with cycle number law own x.0
+                (sym e ∙ sym (ap (λ (h : Happening). h.note.body) here) ∙ is) in
                 let at : row.0 ≡ d.place = sym place ∙ one.0 ∙ x.1 in
                 subst (λ (n : ℕ). Contains (node.done ++ add) (dispatching (let q : RowId = record { 0 = n } in q) number)) at
                 (subst (λ (n : ℕ). Contains (node.done ++ add) (dispatching row n)) one.1 (Contains-push node.done (dispatching row cycle)))
+            | inr was ↦
+                Contains-append_left node.done add (dispatching (record { 0 = d.place }) number)
+                (subst (λ (n : ℕ). Contains node.done (dispatching (let q : RowId = record { 0 = n } in q) number)) x.1
+                (r.has_dispatched z was other from with number x.0 is))
           ];
     }
   where
@@ -258,28 +253,28 @@ pub has_dispatched_it : {M : Type 0} (stands : M → Network → DeviceId → No
     → IsActOf s.network device node (moment_of s device now) (acts.Dispatch row cycle) after
     → after ≡ called (moment_of s device now) acting (with_done node (dispatching row cycle)) → stands then_ s.network device after
     → IsEntry s.network row.0 entry → HasAtHand s.network hs device entry now cause cycle
-    → HasSentIt stands s hs (put_at hs front (record_of s.network hs front now (dispatch_body s device now entry.row.link cause entry.row.vl cycle)) back) now
+    → HasSentIt stands s hs (front ++ record_of s.network hs front now (dispatch_body s device now entry.row.link cause entry.row.vl cycle) ∷ back) now
     device then_ node after
 has_dispatched_it stands s hs front back mark cursor now device machine then_ node after row entry cause cycle st first act is stood entered hand =
     let link = entry.row.link in
     let vl = entry.row.vl in
     let body = dispatch_body s device now link cause vl cycle in
     let w = record_of s.network hs front now body in
-    let new = put_at hs front w back in
+    let new = front ++ w ∷ back in
     let moment = moment_of s device now in
     let high = dispatch_late s device now link cause vl cycle in
-    let p = as_put hs front back now w refl (omega (arith, high)) in
+    let p = as_put now w refl (omega (arith, high)) in
     let may = may_act_now s device node now st.work.ready st.steady st.limit in
     let ready = ready_after s device node after now (acts.Dispatch row cycle) st.work.ready st.steady st.precise st.wide may act (ap (λ (n : Node). n.last) is)
     in
     let there = called moment acting (with_done node (dispatching row cycle)) in
     let whole = dispatches_it s hs (front ++ back) (front ++ back) now device node row entry cause cycle st.work (λ z i. (st.work.of_now z i).0)
     first.pending first.due entered hand in
-    let work : IsAtWork s hs new now device there = dispatches_on s hs front back new now device node w row cycle moment st.work p
+    let work : IsAtWork s hs new now device there = dispatches_on s hs front back now device node w row cycle moment st.work p
     (none_heard_by s device device now link cause vl cycle w) (none_moved s device device now link cause vl cycle) first.due
     (subst (λ (n : Node). IsReadyAt (s.reading device) s.network device n now) is ready) in
     let told : AreRecorded s (hs ++ new) new now device there =
-    dispatched_recorded s hs front back new now device node w row link cause vl cycle moment st.work st.recorded p refl st.lawful whole.0 whole.1 in
+    dispatched_recorded s hs front back now device node w row link cause vl cycle moment st.work st.recorded p refl st.lawful whole.0 whole.1 in
     let cleared : HasCleared there = λ n has. elim (Contains-push_cases node.done (dispatching row cycle) (correcting n) has) [
       | inl old ↦ st.cleared n old
       | inr e ↦ absurd cc

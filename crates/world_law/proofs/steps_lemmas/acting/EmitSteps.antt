@@ -2,16 +2,15 @@
 use Rattle.{run_law.specs.{machines.Answers.after_emission, records.Ranks.sign}, std.proofs.Common.Contains, world_law.specs.world.Outcomes.judged_as}
 use Rattle.world_law.{proofs.steps_lemmas.acting.OneAct.IsOneAct, specs.steps.Acting.{Acts, joining_bodies, place_of_act}}
 use Rattle.sync_state.specs.Standing.{Standing}
-use Rattle.world_law.proofs.steps_lemmas.acting.Sending.{room_for}
 use Rattle.world_law.proofs.steps_lemmas.Words.{◌⊎◌, ClockTask, ComesFirst, Contains-push_cases, HasDoneTask, Task, doing, task_place}
 use Rattle.world_law.proofs.steps_lemmas.Words.{IsSource}
-use Rattle.world_law.proofs.steps_lemmas.Words.{◌++◌, ◌<◌, ◌∙◌, ◌∷◌, ◌≡◌, ◌≤ℤ◌, ArePutIn, Compressed, DeviceId, Happening}
+use Rattle.world_law.proofs.steps_lemmas.Words.{◌++◌, ◌+◌, ◌<◌, ◌∙◌, ◌∷◌, ◌≡◌, ◌≤ℤ◌, ArePutIn, Compressed, DeviceId, Happening}
 use Rattle.world_law.proofs.steps_lemmas.Words.{HasActed, IsActOf, IsActing, IsFirstTask, IsIn, IsPending, IsSet, Judgement, List, Network}
 use Rattle.world_law.proofs.steps_lemmas.Words.{Node, None, Note, NoteBody, Ripe, Scenario, Stands, World, [], acting}
 use Rattle.world_law.proofs.steps_lemmas.Words.{amount, ap, arith, called, correcting, emitting, happenings, hearing_by}
-use Rattle.world_law.proofs.steps_lemmas.Words.{in_right, inl, inr, is_last, last_unfollowed, moment_of, ne_eqb, pos}
-use Rattle.world_law.proofs.steps_lemmas.{Words.{put_at, rank, record_of, refl, ripe_as, subst, sym, true, ℕ}, acting.Work.{emits, own_judgement}}
-use Rattle.world_law.proofs.steps_lemmas.acting.{Emitting.{IsEmitted, StaysBy, emits_on, emitted_recorded, is_emitted, node_emitted}}
+use Rattle.world_law.proofs.steps_lemmas.Words.{in_right, inl, inr, is_last, last_unfollowed, length, moment_of, ne_eqb, pos}
+use Rattle.world_law.proofs.steps_lemmas.{Words.{rank, record_of, refl, ripe_as, subst, sym, true, ℕ}, acting.Work.{emits, own_judgement}}
+use Rattle.world_law.proofs.steps_lemmas.acting.Emitting.{IsEmitted, StaysBy, emits_on, emitted_recorded, is_emitted, node_emitted}
 use Rattle.world_law.proofs.steps_lemmas.acting.{Kept.{may_act_now, ready_after}, Stage.{IsActRecordAt, StageAt, fresh_above, stage_of}}
 use Rattle.world_law.proofs.steps_lemmas.acting.Sending.{HasSentIt, as_put, taken_then}
 use Rattle.run_law.specs.declared.judgement.Judgement.TheVariants as judgements
@@ -36,9 +35,9 @@ stays_of : (v : Judgement) → KeepsBy (ripe_as v) → StaysBy v
 stays_of judgements.Opened k = k
 stays_of other k = k
 
-none_joined_by : (device : DeviceId) (heard : Ripe) → KeepsBy heard → joining_bodies device heard ≡ []
-none_joined_by device ripe.Integrates k = absurd k
-none_joined_by device other k = refl
+none_joined_by : (n : ℕ) (device : DeviceId) (heard : Ripe) → KeepsBy heard → joining_bodies n device heard ≡ []
+none_joined_by n device ripe.Integrates k = absurd k
+none_joined_by n device other k = refl
 
 last_by : (device : DeviceId) (c : Compressed) (v : Judgement) → StaysBy v → is_last (kinds.Compressed device c.opened c.at c.cycle c.members v) ≡ true
 last_by device c judgements.Integrates s = absurd s
@@ -86,14 +85,14 @@ has_emitted_it : {M : Type 0} (stands : M → Network → DeviceId → Node → 
     → IsFirstTask s.network device node (moment_of s device now).reading.0 (emitting sent) → IsActOf s.network device node (moment_of s device now)
     (acts.Emit sent heard) after → after ≡ node_emitted s.network device node (moment_of s device now) sent (own_judgement s.network device node sent)
     → StaysBy (own_judgement s.network device node sent) → stands then_ s.network device after
-    → HasSentIt stands s hs (put_at hs front (record_of s.network hs front now (emission_body device sent (own_judgement s.network device node sent))) back) now
+    → HasSentIt stands s hs (front ++ (record_of s.network hs front now (emission_body device sent (own_judgement s.network device node sent))) ∷ back) now
     device then_ node after
 has_emitted_it stands s hs front back mark cursor now device machine then_ node after sent heard st first act is stays stood =
     let v = own_judgement s.network device node sent in
     let w = record_of s.network hs front now (emission_body device sent v) in
-    let new = put_at hs front w back in
+    let new = front ++ w ∷ back in
     let moment = moment_of s device now in
-    let p = as_put hs front back now w refl (omega arith) in
+    let p = as_put now w refl (omega arith) in
     let x : IsEmitted s.network device node after w sent = subst (λ (n : Node). IsEmitted s.network device node n w sent) (sym is)
     (is_emitted s.network device node moment w sent v stays refl refl) in
     let may = may_act_now s device node now st.work.ready st.steady st.limit in
@@ -101,9 +100,9 @@ has_emitted_it stands s hs front back mark cursor now device machine then_ node 
     let ready = ready_after s device node after now (acts.Emit sent heard) st.work.ready st.steady st.precise st.wide may act last in
     record {
       is = stood;
-      work = emits_on s hs front back new now device node after w sent st.work p x
+      work = emits_on s hs front back now device node after w sent st.work p x
           (λ z i. hears_none s device z z.note.body (st.above z (in_right z front back i))) first.due ready;
-      recorded = emitted_recorded s hs front back new now device node after w sent v st.work st.recorded p x refl;
+      recorded = emitted_recorded s hs front back now device node after w sent v st.work st.recorded p x refl;
       cleared = λ n has. subst (λ st2. n < st2.number) (sym x.but.standing) (st.cleared n (subst (λ l. Contains l (correcting n)) x.done has));
       taken = x.taken ∙ taken_then stands s hs front back mark cursor now device machine node w 4 (emission_rest device sent) st refl (λ at. refl);
       phase = ap (λ (n : Node). n.phase) is ∙ called_phase s.network device node moment sent v;
@@ -138,7 +137,8 @@ pub emits_one : {C M : Type 0} (reading : C → ℕ → ℕ) (stands : M → Net
     → ((z : Happening) → IsIn z world.settled → 4 < rank z.note.body)
     → HasActed stands s.network device (moment_of s device world.now) (acts.Emit sent heard) a.machine after → IsSet device.0 after world.machines machines
     → ArePutIn s.network (happenings s.network notes) world.now (kinds.Compressed device sent.opened sent.at sent.cycle sent.members (judged_as heard)
-    ∷ joining_bodies device heard) world.settled settled → IsOneAct reading stands s world notes old device a.machine after machines settled (acts.Emit sent heard)
+    ∷ joining_bodies (length (happenings s.network notes) + 1) device heard) world.settled settled
+    → IsOneAct reading stands s world notes old device a.machine after machines settled (acts.Emit sent heard)
 emits_one reading stands s world notes old device after bodies machines settled sent heard keeps a first_of above acted set put =
     let hs = happenings s.network notes in
     let now = world.now in
@@ -157,7 +157,7 @@ emits_one reading stands s world notes old device after bodies machines settled 
     let emitted : IsEmitted s.network device node act.0 w0 sent = subst (λ (n : Node). IsEmitted s.network device node n w0 sent) (sym is)
     (is_emitted s.network device node (moment_of s device now) w0 sent v stays refl refl) in
     record {
-      room = room_for reading stands s world notes old (place_of_act now device (acts.Emit sent heard)) first_of;
+      room = first_of.room;
       node = node;
       then_ = act.0;
       stood = act.2;
@@ -176,7 +176,7 @@ emits_one reading stands s world notes old device after bodies machines settled 
           ∷ []) world.settled settled)
           (ap judged_as act.1.1 ∙ judged_back v)
           (subst (λ (l : List NoteBody). ArePutIn s.network hs now (kinds.Compressed device sent.opened sent.at sent.cycle sent.members (judged_as heard) ∷ l)
-          world.settled settled) (none_joined_by device heard keeps) put);
+          world.settled settled) (none_joined_by (length hs + 1) device heard keeps) put);
       makes = λ front back parts st2 none. record {
         so = emission_record stands s hs front back old.mark old.cursor now device a.machine node sent st2 first.pending first.due stays;
         it = has_emitted_it stands s hs front back old.mark old.cursor now device a.machine after node act.0 sent heard st2 first act.1 is stays act.2;

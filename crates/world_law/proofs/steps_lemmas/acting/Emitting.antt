@@ -6,9 +6,10 @@ use Rattle.world_law.proofs.steps_lemmas.Words.{Contains-append_left, Contains-p
 use Rattle.world_law.proofs.steps_lemmas.Words.{IsIn, IsReadyAt, Judgement, List, Moment, Network, Node, None, Option, Pcf, RowId}
 use Rattle.world_law.proofs.steps_lemmas.Words.{Scenario, Some, Units, [], acting, ap, append-nil, arith, called, changed_at, cons_option}
 use Rattle.world_law.proofs.steps_lemmas.Words.{dispatch_body, dispatch_late, dispatches_same, dispatching, false, hearing_by, if◌then◌else◌, inl}
-use Rattle.world_law.proofs.steps_lemmas.Words.{inr, moves, option_map, option_map_or, option_to_list, plain_body, pos, rank}
+use Rattle.world_law.proofs.steps_lemmas.Words.{inr, moves, option_map, option_map_or, option_to_list, pos, rank}
 use Rattle.world_law.proofs.steps_lemmas.Words.{refl, ripe_as, self, subst, sym, true, undone_alike, value_of, waiting_alike, ℕ, ℤ}
-use Rattle.world_law.proofs.steps_lemmas.acting.GoesOn.{IsPutAs, body_plain, earlier_put, goes_on, left_on, one_of, put_now, shown_still}
+use Rattle.world_law.proofs.steps_lemmas.acting.GoesOn.{IsPutAs, earlier_put, goes_on, left_on, put_now, shown_still}
+use Rattle.world_law.proofs.putting.Bearing.{placed_back}
 use Rattle.run_law.specs.declared.judgement.Judgement.TheVariants as judgements
 use Rattle.run_law.specs.declared.note.NoteBody.TheVariants as kinds
 
@@ -100,13 +101,13 @@ done_alike network reading device node after changed low high a done has = recor
 }
 
 -- it emits: how it stands
-pub emits_on : (s : Scenario) (hs front back new : List Happening) (now : ℕ) (device : DeviceId) (node after : Node) (w : Happening) (sent : Compressed)
-    → IsAtWork s hs (front ++ back) now device node → IsPutAs now front back new w → IsEmitted s.network device node after w sent
+pub emits_on : (s : Scenario) (hs front back : List Happening) (now : ℕ) (device : DeviceId) (node after : Node) (w : Happening) (sent : Compressed)
+    → IsAtWork s hs (front ++ back) now device node → IsPutAs now w → IsEmitted s.network device node after w sent
     → ((z : Happening) → IsIn z back → hearing_by s.network device z z.note.body ≡ None)
-    → sent.at.0 ≤ℤ pos (s.reading device now) → IsReadyAt (s.reading device) s.network device after now → IsAtWork s hs new now device after
-emits_on s hs front back new now device node after w sent work p x none due ready =
-    goes_on s hs front back new now device node after w work p
-    (left_on s hs front back new now device node after w work p x.but x.still x.heard (inr (none_heard s device back none))) x.still
+    → sent.at.0 ≤ℤ pos (s.reading device now) → IsReadyAt (s.reading device) s.network device after now → IsAtWork s hs (front ++ w ∷ back) now device after
+emits_on s hs front back now device node after w sent work p x none due ready =
+    goes_on s hs front back now device node after w work p
+    (left_on s hs front back now device node after w work p x.but x.still x.heard (inr (none_heard s device back none))) x.still
     (done_alike s.network (s.reading device) device node after (changed_at (hs ++ (front ++ back)) device now) now (now + 1)
     (alike_by s.network device node after w sent x) x.done work.done)
     (record {
@@ -120,32 +121,31 @@ emits_on s hs front back new now device node after w sent work p x none due read
     }) ready
 
 -- and the records tell what it has emitted
-pub emitted_recorded : (s : Scenario) (hs front back new : List Happening) (now : ℕ) (device : DeviceId) (node after : Node) (w : Happening) (sent : Compressed)
+pub emitted_recorded : (s : Scenario) (hs front back : List Happening) (now : ℕ) (device : DeviceId) (node after : Node) (w : Happening) (sent : Compressed)
     (v : Judgement)
-    → IsAtWork s hs (front ++ back) now device node → AreRecorded s (hs ++ (front ++ back)) (front ++ back) now device node → IsPutAs now front back new w
+    → IsAtWork s hs (front ++ back) now device node → AreRecorded s (hs ++ (front ++ back)) (front ++ back) now device node → IsPutAs now w
     → IsEmitted s.network device node after w sent → w.note.body ≡ kinds.Compressed device sent.opened sent.at sent.cycle sent.members v
-    → AreRecorded s (hs ++ new) new now device after
-emitted_recorded s hs front back new now device node after w sent v work r p x e =
+    → AreRecorded s (hs ++ (front ++ w ∷ back)) (front ++ w ∷ back) now device after
+emitted_recorded s hs front back now device node after w sent v work r p x e =
     let old = hs ++ (front ++ back) in
-    let same = earlier_put s hs front back new now device node w work p in
-    let tells : plain_body w.note.body ≡ kinds.Compressed device sent.opened sent.at sent.cycle sent.members v = ap plain_body e in
+    let same = earlier_put s hs front back now device node w work p in
     record {
-      of_now = λ z i. (put_now s hs front back new now device node w work p z i).0;
+      of_now = λ z i. (put_now s hs front back now device node w work p z i).0;
       dispatched = λ link cause vl c d there.
-          let q = dispatches_same s (hs ++ new) old now device link cause vl c (sym same) d in
+          let q = dispatches_same s (hs ++ (front ++ w ∷ back)) old now device link cause vl c (sym same) d in
           let before = subst (λ l. Contains l (dispatching (record { 0 = d.place }) c)) x.done there in
-          shown_still hs front back new now w _ p (r.dispatched link cause vl c q.0
+          shown_still hs front back now w _ (r.dispatched link cause vl c q.0
           (subst (λ (n : ℕ). Contains node.done (dispatching (let row : RowId = record { 0 = n } in row) c)) (sym q.1) before));
       has_dispatched = λ z i link cause vl c d is.
-          let q = dispatches_same s (hs ++ new) old now device link cause vl c (sym same) d in
-          elim (one_of now front back new w z p i) [
-            | inl y ↦
+          let q = dispatches_same s (hs ++ (front ++ w ∷ back)) old now device link cause vl c (sym same) d in
+          elim (placed_back [] front back w z i) [
+            | inl here ↦
+                let high = dispatch_late s device now link cause vl c in
+                let four : rank (dispatch_body s device now link cause vl c) ≡ 4 = ap rank (sym is ∙ ap (λ (h : Happening). h.note.body) here ∙ e) in
+                absurd (omega (arith, high, four))
+            | inr was ↦
                 subst (λ l. Contains l (dispatching (record { 0 = d.place }) c)) (sym x.done)
                 (subst (λ (n : ℕ). Contains node.done (dispatching (let row : RowId = record { 0 = n } in row) c)) q.1
-                (r.has_dispatched y.0 y.1 link cause vl c q.0 (sym (body_plain z y.0 y.2) ∙ is)))
-            | inr here ↦
-                let high = dispatch_late s device now link cause vl c in
-                let four : rank (dispatch_body s device now link cause vl c) ≡ 4 = ap rank (sym is ∙ body_plain z w here ∙ tells) in
-                absurd (omega (arith, high, four))
+                (r.has_dispatched z was link cause vl c q.0 is))
           ];
     }

@@ -67,11 +67,11 @@ point_ends reading stands s world notes device after bodies old a cycle Cleared 
     let heard = x.1.1.0 in
     let to = x.1.1.1 in
     let point = at_point s device now node cycle heard Cleared task to in
-    let off = not_on s hs old.coming now device node st.work (point_number node.standing.state node.standing.number cycle task.pending.1.own).0 in
-    let over = cleared_over s hs old.coming now device node cycle (moment_of s device now) heard st.work off st.calm.off st.calm.broken st.calm.falls st.cleared
+    let off = not_on s hs world.settled now device node st.work (point_number node.standing.state node.standing.number cycle task.pending.1.own).0 in
+    let over = cleared_over s hs world.settled now device node cycle (moment_of s device now) heard st.work off st.calm.off st.calm.broken st.calm.falls st.cleared
     to.verdict_is task.pending.1 task.due (st.work.ready.in_time (doing (correcting cycle)) task.pending) st.wide
     (no_frames s device now node cycle heard Cleared task.pending.0 point) in
-    not_over s (hs ++ old.coming) device now (now + 1) _ over.done over.sent (changed_soon (hs ++ old.coming) device now)
+    not_over s (hs ++ world.settled) device now (now + 1) _ over.done over.sent (changed_soon (hs ++ world.settled) device now)
     (subst (λ (n : Node). HasTaskBy s device n now) x.1.1.2 (due x.0 x.2))
 
 pub correction_ends : {C M : Type 0} (reading : C → ℕ → ℕ) (stands : M → Network → DeviceId → Node → Type 0) → CorrectionEnds reading stands

@@ -2,12 +2,12 @@
 -- this rank begin and that.
 use Rattle.world_law.proofs.growing.Standing.{place_first}
 use Rattle.world_law.proofs.acts.{Dues.{act_due, came_not, done_or}, NoActs.present}
-use Rattle.world_law.proofs.{devices.Working.came_sooner, putting.{PutShown.hidden_rank, StandsOn.in_mapped}}
+use Rattle.world_law.proofs.devices.Working.{came_sooner}
 use Rattle.world_law.specs.{device.Growing.IsFromZero, steps.Acting.{place_of_act, rank_of_act, task_of}}
 use Rattle.world_law.proofs.steps_lemmas.Words.{◌++◌, ◌<◌, ◌∙◌, ◌∷◌, ◌≡◌, ◌≤◌, Act, AreSettled, ComesFirst, DeviceId, HadComeTo, Happening, IsActOf}
 use Rattle.world_law.proofs.steps_lemmas.Words.{IsActing, IsBefore, IsFirstTask, IsIn, IsKept, IsLawful, IsMoving, IsSource, List, Moment, Network, Node, Note}
-use Rattle.world_law.proofs.steps_lemmas.Words.{Pcf, Scenario, Stands, Task, World, [], amount, ap, arith, changed_at, doing, earlier, earlier_still, happenings, hidden}
-use Rattle.world_law.proofs.steps_lemmas.Words.{in_right, inl, inr, length, placed_so, points_of, points_same, pos, quiet_rest, rank, refl}
+use Rattle.world_law.proofs.steps_lemmas.Words.{Pcf, Scenario, Stands, Task, World, [], amount, ap, arith, changed_at, doing, earlier, earlier_still, happenings}
+use Rattle.world_law.proofs.steps_lemmas.Words.{in_right, inl, inr, placed_so, points_of, points_same, pos, quiet_rest, rank, refl}
 use Rattle.world_law.proofs.steps_lemmas.Words.{same_device, second, sending, subst, sym, task_place, time_of, ℕ}
 use Rattle.{run_law.specs.records.Ranks.sign, schedule_tables.specs.Dispatches.dispatch_order}
 use Rattle.run_law.specs.declared.steps.Act.TheVariants as acts
@@ -133,24 +133,14 @@ act_sources stands s hs coming mark cursor now device machine task r more x plac
     (subst (λ (q : List ℕ). IsBefore q (now ∷ r ∷ device.0 ∷ more)) there b))
     (subst (λ (q : List ℕ). IsBefore q cursor → ⊥) there not)
 
--- what is to come has the rank of what is settled
-pub coming_above : {C M : Type 0} (reading : C → ℕ → ℕ) (stands : M → Network → DeviceId → Node → Type 0) (s : Scenario) (world : World C M)
-    (notes : List Note) (old : Stands reading stands s world notes) (r : ℕ) → ((z : Happening) → IsIn z world.settled → r < rank z.note.body)
-    → (z : Happening) → IsIn z old.coming → r < rank z.note.body
-coming_above reading stands s world notes old r apart z i =
-    let g = length notes in
-    let more = apart (hidden g z) (subst (λ (l : List Happening). IsIn (hidden g z) l) (sym old.settled) (in_mapped (hidden g) old.coming z i)) in
-    let same = hidden_rank g z.note.body in
-    omega (arith, more, same)
-
 -- so it comes first
 pub act_moving : {C M : Type 0} (reading : C → ℕ → ℕ) (stands : M → Network → DeviceId → Node → Type 0) (s : Scenario) (world : World C M) (notes : List Note)
     (old : Stands reading stands s world notes) (device : DeviceId) (machine : M) (act : Act)
     → ComesFirst reading stands s world notes old (place_of_act world.now device act)
     → ((z : Happening) → IsIn z world.settled → rank_of_act act < rank z.note.body)
-    → IsActFirst stands s (happenings s.network notes) old.coming old.mark old.cursor world.now device machine (task_of act)
+    → IsActFirst stands s (happenings s.network notes) world.settled old.mark old.cursor world.now device machine (task_of act)
     → (IsBefore (world.now ∷ rank_of_act act ∷ act_rest s.network device act) old.cursor → ⊥)
-    → IsMoving s (happenings s.network notes) old.coming old.mark old.cursor world.now (rank_of_act act) (act_rest s.network device act)
+    → IsMoving s (happenings s.network notes) world.settled old.mark old.cursor world.now (rank_of_act act) (act_rest s.network device act)
 act_moving reading stands s world notes old device machine act first apart x waits =
     let high = late_rank act in
     record {
@@ -162,11 +152,11 @@ act_moving reading stands s world notes old device machine act first apart x wai
           elim (Rattle.run_law.proofs.runs.Places.before_or_not v (place_of_act world.now device act)) [
             | inl sooner ↦ first.none v source not sooner
             | inr from ↦
-                act_sources stands s (happenings s.network notes) old.coming old.mark old.cursor world.now device machine (task_of act) (rank_of_act act)
+                act_sources stands s (happenings s.network notes) world.settled old.mark old.cursor world.now device machine (task_of act) (rank_of_act act)
                 (act_more s.network act) x (act_stands s.network world.now device act) high (low_rank act) v source not b from
           ];
       after = λ z i b.
-          let more = coming_above reading stands s world notes old (rank_of_act act) apart z i in
+          let more = apart z i in
           let at = old.are.of_now z i in
           elim b [
             | inl lt ↦ omega (arith, lt, at)

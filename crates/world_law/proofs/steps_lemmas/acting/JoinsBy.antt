@@ -1,11 +1,12 @@
 -- A compression master that its own frame has told the time: the instant is over for it.
+use Rattle.world_law.proofs.devices.Borne.{left_alike}
 use Rattle.world_law.{proofs.acts.Acted.beyond_it, specs.device.{Left.IsCounted, Own.borne}}
 use Rattle.world_law.proofs.steps_lemmas.Words.{◌++◌, ◌+◌, ◌-ℤ◌, ◌<ℤ◌, ◌<◌, ◌∙◌, ◌∷◌, ◌≡◌, ◌≤◌, Bool, Compressed, DeviceId, Happening, IsIn, IsLeft, Joining}
 use Rattle.world_law.proofs.steps_lemmas.Words.{List, Moment, Node, Scenario, Some, State, Why, [], acting, ap, append-nil, append_assoc, arith, bears_on}
 use Rattle.world_law.proofs.steps_lemmas.Words.{by_last, called, cases_Bool, false, filter, filter-append, if◌then◌else◌, inl, inr, ints, is_broken}
-use Rattle.world_law.proofs.steps_lemmas.Words.{is_turned_on_at, no_cluster, none_in, none_kept, observation_window, plains, plan_of, pos, refl, self, subst}
+use Rattle.world_law.proofs.steps_lemmas.Words.{is_turned_on_at, no_cluster, none_in, none_kept, observation_window, plan_of, pos, refl, self, subst}
 use Rattle.world_law.proofs.steps_lemmas.{Words.{sym, time_of, true, value_of, with_joined, ℕ, ℤ}, acting.{Emitting.node_emitted, Over.IsOver}}
-use Rattle.world_law.proofs.steps_lemmas.acting.{Correcting.{behind_given, left_called, moved_in, one_in}, Moves.{change_counts, change_leaves, joins}}
+use Rattle.world_law.proofs.steps_lemmas.acting.{Correcting.{left_called, one_in}, Moves.{change_counts, change_leaves, joins}}
 use Rattle.run_law.{proofs.law.FirstPlaces.in_filter, specs.records.Frames.integration_frame}
 use Rattle.run_law.specs.declared.judgement.Judgement.TheVariants as judgements
 use Rattle.run_law.specs.declared.judgement.Why.TheVariants as whys
@@ -60,17 +61,17 @@ borne_joined hs front mid rest device w f none =
     ∙ ap (λ (l : List Happening). c ++ l) (filter-append q mid (f ∷ rest) ∙ ap (λ (l : List Happening). m ++ l) (one_in q f rest left)))))
 
 -- what is behind the frame bears on the device only as a change of its state, and nothing does behind the new state
-pub joined_over : (s : Scenario) (hs front mid rest new : List Happening) (now : ℕ) (device : DeviceId) (node : Node) (w f : Happening) (sent : Compressed)
+pub joined_over : (s : Scenario) (hs front mid rest : List Happening) (now : ℕ) (device : DeviceId) (node : Node) (w f : Happening) (sent : Compressed)
     (cause : ℕ) (moment : Moment)
     → node.standing.plan ≡ plan_of s.network device → node.broken ≡ is_broken s device (now + 1) → is_turned_on_at s device (now + 1) ≡ false
     → ((x y : ℕ) → x ≤ y → s.reading device x ≤ s.reading device y) → moment.reading.0 ≡ pos (s.reading device now)
-    → plains new ≡ plains (front ++ w ∷ (mid ++ f ∷ rest)) → time_of w ≡ now → time_of f ≡ now
+    → time_of w ≡ now → time_of f ≡ now
     → w.note.body ≡ kinds.Compressed device sent.opened sent.at sent.cycle sent.members judgements.Integrates
     → w.frame ≡ Some (integration_frame s.network device sent.cycle sent.members) → f.note.body ≡ kinds.State device Joining cause whys.Frame
     → ((z : Happening) → IsIn z mid → bears_on device z.note.body ≡ true → ChangesIt device (now + 1) z)
     → ((z : Happening) → IsIn z rest → bears_on device z.note.body ≡ false)
-    → IsOver s (hs ++ new) now device (node_emitted s.network device node moment sent judgements.Integrates)
-joined_over s hs front mid rest new now device node w f sent cause moment plan sound later falls reads put at f_at e of_frame fe between none =
+    → IsOver s (hs ++ (front ++ w ∷ (mid ++ f ∷ rest))) now device (node_emitted s.network device node moment sent judgements.Integrates)
+joined_over s hs front mid rest now device node w f sent cause moment plan sound later falls reads at f_at e of_frame fe between none =
     let frame = integration_frame s.network device sent.cycle sent.members in
     let u = now + 1 in
     let lone = with_joined node moment frame sent.at in
@@ -92,9 +93,9 @@ joined_over s hs front mid rest new now device node w f sent cause moment plan s
     change_leaves s (((hs ++ front) ++ w ∷ []) ++ ks) device u lone f Joining cause whys.Frame fe (self device) lt later refl (λ cm. refl)
     (change_counts s (((hs ++ front) ++ w ∷ []) ++ ks) device u lone f Joining cause whys.Frame fe lt counted) in
     record {
-      left = emitted_left (left_called s (hs ++ new) device u lone moment
-          (moved_in s ((((hs ++ front) ++ w ∷ []) ++ ks) ++ f ∷ []) (hs ++ (front ++ w ∷ (mid ++ f ∷ rest))) (hs ++ new) device u lone
-          (borne_joined hs front mid rest device w f none) (behind_given hs (front ++ w ∷ (mid ++ f ∷ rest)) new put) whole));
+      left = emitted_left (left_called s (hs ++ (front ++ w ∷ (mid ++ f ∷ rest))) device u lone moment
+          (left_alike s ((((hs ++ front) ++ w ∷ []) ++ ks) ++ f ∷ []) (hs ++ (front ++ w ∷ (mid ++ f ∷ rest))) device u lone
+          (borne_joined hs front mid rest device w f none) whole));
       done = record {
         undone = λ deed un x from lt_x.
             let here = beyond_it _ _ _ _ refl un.ahead in
@@ -124,9 +125,9 @@ joined_over s hs front mid rest new now device node w f sent cause moment plan s
       | inr not ↦ kept xs k (subst (λ (l : List Happening). IsIn k l) (ap (λ (b : Bool). if b then x ∷ borne device xs else borne device xs) not) i)
     ]
 
-    emitted_left : IsLeft s (hs ++ new) device (now + 1)
+    emitted_left : IsLeft s (hs ++ (front ++ w ∷ (mid ++ f ∷ rest))) device (now + 1)
         (called moment acting (with_joined node moment (integration_frame s.network device sent.cycle sent.members) sent.at))
-        → IsLeft s (hs ++ new) device (now + 1) (node_emitted s.network device node moment sent judgements.Integrates)
+        → IsLeft s (hs ++ (front ++ w ∷ (mid ++ f ∷ rest))) device (now + 1) (node_emitted s.network device node moment sent judgements.Integrates)
     emitted_left left = record {
       counted = record {
         plan = left.counted.plan;

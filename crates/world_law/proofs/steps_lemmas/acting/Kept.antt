@@ -1,16 +1,16 @@
 -- A device that has acted is kept, as its new node says.
 use Rattle.world_law.proofs.acts.Acted.{acted}
 use Rattle.world_law.{proofs.{acts.Ready.acting_last, putting.Idle.drop_one, steps_lemmas.acting.{Over.IsOver, Work.IsAtWork}}, specs.device.Takings.taken_by}
-use Rattle.world_law.proofs.{rows.Takings.{frames_plain, taken_parts, taken_same}, steps_lemmas.Words.{time_of, true, unsigned_abs, whole, ℕ, ℤ}}
+use Rattle.world_law.proofs.{rows.Takings.{taken_parts, taken_same}, steps_lemmas.Words.{time_of, true, unsigned_abs, whole, ℕ, ℤ}}
 use Rattle.world_law.proofs.steps_lemmas.Words.{◌++◌, ◌+ℤ◌, ◌+◌, ◌<ℤ◌, ◌^◌, ◌∙◌, ◌∷◌, ◌≡◌, ◌≤ℤ◌, ◌≤◌, Act, AreRecorded, AsyncClique, Bool, Cleared, Corrected}
 use Rattle.world_law.proofs.steps_lemmas.Words.{DeviceId, Happening, HasCleared, HasTurnedOn, IsActOf, IsBefore, IsIn, IsKept, IsNoTaking, IsReadyAt}
 use Rattle.world_law.proofs.steps_lemmas.Words.{IsSteady, List, MayCall, Moment, Network, Node, Scenario, SyncClique, TakenFrame, [], act_place, acting}
 use Rattle.world_law.proofs.steps_lemmas.Words.{◌<◌, ◌⊎◌, Dispatches, HadComeTo, HasDoneFrom, HasDoneTask, HasSentFrom, HasWorkedTo, IsActedOut, IsActing}
 use Rattle.world_law.proofs.steps_lemmas.Words.{IsJoiningNow, Task, append-nil, changed_at, changed_before, doing, emitting, rows_place, task_place}
 use Rattle.world_law.proofs.steps_lemmas.acting.Starts.{changed_soon}
-use Rattle.world_law.proofs.steps_lemmas.Words.{adjustment_after, amount, ap, append_assoc, arith, before_behind, behind, both_ways, bump_behind}
+use Rattle.world_law.proofs.steps_lemmas.Words.{adjustment_after, amount, ap, append_assoc, arith, before_behind, behind, both_ways}
 use Rattle.world_law.proofs.steps_lemmas.Words.{chain, earlier, false, frames_taken, if◌then◌else◌, inl, inr, ints, is_broken, is_cm, is_synchronised}
-use Rattle.world_law.proofs.steps_lemmas.Words.{is_turned_on_at, le-ltb, local_before, map, moment_of, nat_lt, placed, plains, pos, reading_for}
+use Rattle.world_law.proofs.steps_lemmas.Words.{is_turned_on_at, le-ltb, local_before, moment_of, nat_lt, pos, reading_for}
 use Rattle.world_law.proofs.steps_lemmas.Words.{refl, subst, sym}
 use Rattle.run_law.specs.declared.steps.Act.TheVariants as acts
 
@@ -49,11 +49,10 @@ earlier_same : (t : ℕ) (ps b : List Happening) (w : Happening) → t ≤ time_
 earlier_same t ps b w le = drop_one (λ h. nat_lt (time_of h) t) ps b w (le-ltb (time_of w) t le)
 
 -- a record of the instant that is no taking changes nothing of it
-pub frames_put : (s : Scenario) (n : ℕ) (hs front back : List Happening) (now : ℕ) (w : Happening) (device : DeviceId)
+pub frames_put : (s : Scenario) (hs front back : List Happening) (now : ℕ) (w : Happening) (device : DeviceId)
     → ((h : Happening) → IsIn h (hs ++ (front ++ back)) → time_of h ≤ now) → time_of w ≡ now → IsNoTaking device w.note.body
-    → plains ((hs ++ front) ++ w ∷ back) ≡ plains ((hs ++ front) ++ w ∷ map (bump_behind n) back)
-    → frames_taken s (hs ++ (front ++ back)) device ≡ frames_taken s (hs ++ placed n front w back) device
-frames_put s n hs front back now w device past at takes alike =
+    → frames_taken s (hs ++ (front ++ back)) device ≡ frames_taken s (hs ++ (front ++ w ∷ back)) device
+frames_put s hs front back now w device past at takes =
     let old = (hs ++ front) ++ back in
     let mid = (hs ++ front) ++ w ∷ back in
     ap (λ (l : List Happening). frames_taken s l device) (sym (append_assoc hs front back))
@@ -65,9 +64,7 @@ frames_put s n hs front back now w device past at takes alike =
     ∙ ap (λ (l : List TakenFrame). taken_by device (local_before s mid device) (hs ++ front) ++ (l ++ taken_by device (local_before s mid device) back))
     (sym (takes (local_before s mid device (time_of w))))
     ∙ sym (taken_parts device (local_before s mid device) (hs ++ front) (w ∷ back))
-    ∙ sym (frames_plain s mid device) ∙ ap (λ (l : List Happening). frames_taken s l device) alike
-    ∙ frames_plain s ((hs ++ front) ++ w ∷ map (bump_behind n) back) device
-    ∙ ap (λ (l : List Happening). frames_taken s l device) (append_assoc hs front (w ∷ map (bump_behind n) back))
+    ∙ ap (λ (l : List Happening). frames_taken s l device) (append_assoc hs front (w ∷ back))
 
 -- ---- where it is no compression master
 

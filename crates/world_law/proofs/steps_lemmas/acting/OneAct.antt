@@ -1,14 +1,14 @@
 -- A device acts, and puts one record: how it stands then, as the cursor goes by.
 use Rattle.world_law.proofs.acts.Dues.{IsDueTask, act_due, done_or}
 use Rattle.world_law.proofs.growing.Standing.{IsCorrection, what_is_left}
-use Rattle.world_law.proofs.putting.{Bumped.bump_behind, Moving.stays, Placing.own_here}
+use Rattle.world_law.proofs.putting.{Moving.stays, Placing.own_here}
 use Rattle.{run_law.proofs.runs.Places.nothing_between, schedule_tables.specs.Dispatches.dispatch_order}
 use Rattle.world_law.proofs.steps_lemmas.Words.{◌++◌, ◌+◌, ◌-ℤ◌, ◌<◌, ◌∙◌, ◌∷◌, ◌≡◌, ◌≤ℤ◌, ◌≤◌, ◌⊎◌, Act, ArePutIn, DeviceId, HadComeTo, Happening}
 use Rattle.world_law.proofs.steps_lemmas.Words.{HasDoneTask, HasTaskAt, HasTurnedOn, IsActOf, IsActing, IsAllOfIt, IsBefore, IsIn, IsLawful, IsOwnSource}
 use Rattle.world_law.proofs.steps_lemmas.Words.{IsSet, IsShownPut, List, Network, Node, NoneBefore, Note, NoteBody, Scenario, Stands, StandsBehind, Task, Units}
-use Rattle.world_law.proofs.steps_lemmas.Words.{World, [], ap, arith, before_behind, before_it, behind, cause_of, changed_at, doing, earlier}
-use Rattle.world_law.proofs.steps_lemmas.Words.{earlier_still, emitting, happenings, hidden, in_right, inl, inr, is_at_source, is_turned_on_at, length, length_is}
-use Rattle.world_law.proofs.steps_lemmas.Words.{map, members_in, moment_of, none_yet, one_shown, place_of, points_of, points_same, pos, put_at, quiet_rest, rank}
+use Rattle.world_law.proofs.steps_lemmas.Words.{World, [], ap, arith, before_behind, behind, cause_of, changed_at, doing, earlier}
+use Rattle.world_law.proofs.steps_lemmas.Words.{earlier_still, emitting, happenings, in_right, inl, inr, is_at_source, is_turned_on_at, length}
+use Rattle.world_law.proofs.steps_lemmas.Words.{members_in, moment_of, numbers_end, one_shown, place_of, points_of, points_same, pos, quiet_rest, rank}
 use Rattle.world_law.proofs.steps_lemmas.Words.{record_of, refl, second, subst, sym, task_place, time_of, true, turned_moves, value_of, ℕ}
 use Rattle.world_law.specs.{device.Told.change_in, steps.Acting.{rank_of_act, task_of}}
 use Rattle.world_law.proofs.steps_lemmas.acting.{Dispatches.all_row, First.{act_rest, act_stands}, GoesOn.earlier_put, Kept.{bare_act, kept_on, may_act_now}}
@@ -23,17 +23,17 @@ use Rattle.run_law.specs.declared.steps.Act.TheVariants as acts
 pub record IsMadeSo {M : Type 0} (stands : M → Network → DeviceId → Node → Type 0) (s : Scenario) (hs front back : List Happening) (now : ℕ)
     (device : DeviceId) (after : M) (node then_ : Node) (body : NoteBody) (at : List ℕ) : Type 0 where
   pub so : IsActRecordAt s hs front back now device body at
-  pub it : HasSentIt stands s hs (put_at hs front (record_of s.network hs front now body) back) now device after node then_
+  pub it : HasSentIt stands s hs (front ++ record_of s.network hs front now body ∷ back) now device after node then_
 
 -- what a step starts from by which the device acts so, and puts one record
 pub record IsOneAct {C M : Type 0} (reading : C → ℕ → ℕ) (stands : M → Network → DeviceId → Node → Type 0) (s : Scenario) (world : World C M)
     (notes : List Note) (old : Stands reading stands s world notes) (device : DeviceId) (machine after : M) (machines : List M)
     (settled : List Happening) (act : Act) : Type 0 where
-  pub room : length notes + length old.coming + 2 < none_yet
+  pub room : length notes + length world.settled + 2 < numbers_end
   pub node : Node
   pub then_ : Node
   pub stood : stands after s.network device then_
-  pub st : StageOf stands s (happenings s.network notes) old.coming old.mark old.cursor world.now device machine node act
+  pub st : StageOf stands s (happenings s.network notes) world.settled old.mark old.cursor world.now device machine node act
   pub apart : IsCorrection (task_of act) → ⊥
   pub acted : IsActOf s.network device node (moment_of s device world.now) act then_
   pub adjustment : then_.standing.adjustment ≡ node.standing.adjustment
@@ -46,7 +46,7 @@ pub record IsOneAct {C M : Type 0} (reading : C → ℕ → ℕ) (stands : M →
   pub causes : cause_of body ≤ length (happenings s.network notes)
   pub set : IsSet device.0 after world.machines machines
   pub put : ArePutIn s.network (happenings s.network notes) world.now (body ∷ []) world.settled settled
-  pub makes : (front back : List Happening) → old.coming ≡ front ++ back
+  pub makes : (front back : List Happening) → world.settled ≡ front ++ back
       → StageOf stands s (happenings s.network notes) (front ++ back) old.mark old.cursor world.now device machine node act
       → NoneBefore place_of back (place_of (record_of s.network (happenings s.network notes) front world.now body))
       → IsMadeSo stands s (happenings s.network notes) front back world.now device after node then_ body
@@ -55,15 +55,11 @@ pub record IsOneAct {C M : Type 0} (reading : C → ℕ → ℕ) (stands : M →
 shown_act : {C M : Type 0} (reading : C → ℕ → ℕ) (stands : M → Network → DeviceId → Node → Type 0) (s : Scenario) (world : World C M) (notes : List Note)
     (old : Stands reading stands s world notes) (device : DeviceId) (machine after : M) (machines : List M) (settled : List Happening) (act : Act)
     → (x : IsOneAct reading stands s world notes old device machine after machines settled act)
-    → IsShownPut s.network (happenings s.network notes) world.now x.body old.coming settled
+    → IsShownPut s.network (happenings s.network notes) world.now x.body world.settled settled
 shown_act reading stands s world notes old device machine after machines settled act x =
     let hs = happenings s.network notes in
-    let now = world.now in
-    let same_length = length_is s notes in
-    let room = x.room in
-    subst (λ (l : List Happening). IsShownPut s.network hs now x.body old.coming l) (sym x.put.2)
-    (one_shown s.network hs now x.body old.coming world.settled x.put.0 (omega (arith, same_length, room)) x.causes
-    (old.settled ∙ ap (λ (n : ℕ). map (hidden n) old.coming) same_length) x.put.1)
+    subst (λ (l : List Happening). IsShownPut s.network hs world.now x.body world.settled l) (sym x.put.2)
+    (one_shown s.network hs world.now x.body world.settled x.put.0 x.causes x.put.1)
 
 -- ---- all that is due at its place is to come
 
@@ -158,7 +154,6 @@ pub act_goes_by : {C M : Type 0} (reading : C → ℕ → ℕ) (stands : M → N
 act_goes_by {C} {M} reading stands s world notes old device machine after machines settled act x =
     let hs = happenings s.network notes in
     let now = world.now in
-    let same_length = length_is s notes in
     let room = x.room in
     let r = rank_of_act act in
     let more = act_rest s.network device act in
@@ -166,14 +161,13 @@ act_goes_by {C} {M} reading stands s world notes old device machine after machin
     let here = behind at in
     let p = shown_act reading stands s world notes old device machine after machines settled act x in
     let w = record_of s.network hs p.front now x.body in
-    let new = put_at hs p.front w p.back in
-    let shows : settled ≡ map (hidden (length notes)) new = p.shows ∙ ap (λ (n : ℕ). map (hidden n) new) (sym same_length) in
+    let new = p.front ++ w ∷ p.back in
     let st2 : StageOf stands s hs (p.front ++ p.back) old.mark old.cursor now device machine x.node act =
     subst (λ (l : List Happening). StageOf stands s hs l old.mark old.cursor now device machine x.node act) p.parts x.st in
     let made = x.makes p.front p.back p.parts st2 p.none in
     let it = made.it in
-    let put = as_put hs p.front p.back now w refl x.late in
-    let earlier_same = earlier_put s hs p.front p.back new now device x.node w st2.work put in
+    let put = as_put now w refl x.late in
+    let earlier_same = earlier_put s hs p.front p.back now device x.node w st2.work put in
     let law = lawful_then stands s hs p.front p.back old.mark old.cursor now device machine x.node x.body r more st2 p.before p.none made.so old.run.within in
     let may = may_act_now s device x.node now x.st.work.ready x.st.steady x.st.limit in
     let none_due : (task : Task) → IsDueTask s device x.then_ now task → IsBefore (task_place s.network now device task) here → ⊥ = λ task due b.
@@ -199,8 +193,8 @@ act_goes_by {C} {M} reading stands s world notes old device machine after machin
         | inr gone ↦ inr (stays s hs (p.front ++ p.back) old.mark old.cursor now r more st2.moving _ gone)
       ]
     ] in
-    let there : IsIn w new = in_right w p.front (w ∷ map (bump_behind (before_it hs p.front)) p.back) (inl refl) in
-    one_goes_by reading stands s world notes old device machine after x.node machines settled x.body r more x.st p shows (omega (arith, room)) made.so
+    let there : IsIn w new = in_right w p.front (w ∷ p.back) (inl refl) in
+    one_goes_by reading stands s world notes old device machine after x.node machines settled x.body r more x.st p (omega (arith, room)) made.so
     (all_of_act stands s hs new now device after x.node x.then_ act w x.acted it law
     (λ t. none_due t.0 (t.1, t.2) (subst (λ (q : List ℕ). IsBefore q here) (sym t.3) (before_behind at))) st2.before x.apart there (λ low. x.at_place low p.front))
     x.set

@@ -4,7 +4,7 @@ use Rattle.world_law.proofs.steps_lemmas.Words.{◌<◌, ◌∙◌, ComesFirst, 
 use Rattle.world_law.proofs.steps_lemmas.Words.{◌++◌, ◌∷◌, ◌≡◌, ArePutIn, DeviceId, Happening, HasActed, IsSet}
 use Rattle.world_law.proofs.steps_lemmas.Words.{List, Network, Node, Note, NoteBody, Pcf, Scenario, Stands, World, [], ap, arith}
 use Rattle.world_law.proofs.steps_lemmas.{Words.{happenings, moment_of, sending, subst, ℕ}, acting.Sending.{has_sent_it, sending_record}}
-use Rattle.world_law.proofs.steps_lemmas.acting.{Kept.may_act_now, OneAct.IsOneAct, Sending.{did_deed, room_for}, Stage.{IsActRecordAt, StageAt, stage_of}}
+use Rattle.world_law.proofs.steps_lemmas.acting.{Kept.may_act_now, OneAct.IsOneAct, Sending.did_deed, Stage.{IsActRecordAt, StageAt, stage_of}}
 use Rattle.run_law.specs.declared.note.NoteBody.TheVariants as kinds
 use Rattle.run_law.specs.declared.steps.Act.TheVariants as acts
 
@@ -29,7 +29,7 @@ sends_one reading stands s world notes old device after bodies machines settled 
     let first = act.1.1 in
     let same_cycle : frame.cycle ≡ cycle = ap (λ (f : Pcf). f.cycle) act.1.2 in
     record {
-      room = room_for reading stands s world notes old (place_of_act now device (acts.Send frame)) first_of;
+      room = first_of.room;
       node = node;
       then_ = act.0;
       stood = act.2;

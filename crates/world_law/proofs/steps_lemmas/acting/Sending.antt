@@ -2,42 +2,40 @@
 use Rattle.std.proofs.Common.{Contains}
 use Rattle.world_law.proofs.steps_lemmas.Words.{◌⊎◌, ClockTask, HasDoneTask, Moment, Task, emitting, task_place}
 use Rattle.world_law.proofs.steps_lemmas.Words.{IsSource}
-use Rattle.world_law.proofs.steps_lemmas.Words.{◌++◌, ◌+◌, ◌<◌, ◌∙◌, ◌∷◌, ◌≡◌, ◌≤ℤ◌, ◌≤◌, AreRecorded, ComesFirst, Contains-push_cases, DeviceId, Happening}
+use Rattle.world_law.proofs.steps_lemmas.Words.{◌++◌, ◌∙◌, ◌∷◌, ◌≡◌, ◌≤ℤ◌, ◌≤◌, AreRecorded, Contains-push_cases, DeviceId, Happening}
 use Rattle.world_law.proofs.steps_lemmas.Words.{HasCleared, HasTurnedOn, IsActOf, IsActing, IsFirstTask, IsNoTaking, IsPending}
-use Rattle.world_law.proofs.steps_lemmas.Words.{IsReadyAt, List, Network, Node, Note, Pcf, Scenario, Stands, World, [], acting, ap, arith}
-use Rattle.world_law.proofs.steps_lemmas.Words.{before_it, called, correcting, doing, frames_taken, hidden, in_left}
-use Rattle.world_law.proofs.steps_lemmas.Words.{inl, inr, is_turned_on_at, last_unfollowed, length, length-map, moment_of, ne_eqb}
-use Rattle.world_law.proofs.steps_lemmas.Words.{none_yet, plains_placed, pos, put_at, rank, reading_for, record_of, refl, sending, state_after, subst}
+use Rattle.world_law.proofs.steps_lemmas.Words.{IsReadyAt, List, Network, Node, Pcf, Scenario, [], acting, ap, arith}
+use Rattle.world_law.proofs.steps_lemmas.Words.{called, correcting, doing, frames_taken, in_left}
+use Rattle.world_law.proofs.steps_lemmas.Words.{inl, inr, is_turned_on_at, last_unfollowed, moment_of, ne_eqb}
+use Rattle.world_law.proofs.steps_lemmas.Words.{pos, rank, reading_for, record_of, refl, sending, state_after, subst}
 use Rattle.world_law.proofs.steps_lemmas.{Words.{sym, time_of, true, turned_aside, with_done, ℕ}, acting.GoesOn.{IsPutAs, earlier_put, sends_on, sent_recorded}}
 use Rattle.world_law.proofs.steps_lemmas.acting.{Kept.{frames_put, may_act_now, ready_after}, Stage.{IsActRecordAt, StageAt, fresh_above}, Work.{IsAtWork, sends}}
-use Rattle.run_law.specs.declared.judgement.Why.TheVariants as whys
 use Rattle.run_law.specs.declared.note.NoteBody.TheVariants as kinds
 use Rattle.run_law.specs.declared.steps.Act.TheVariants as acts
 
 -- ---- a record put in
 
-pub as_put : (hs front back : List Happening) (now : ℕ) (w : Happening) → time_of w ≡ now → 4 ≤ rank w.note.body
-    → IsPutAs now front back (put_at hs front w back) w
-as_put hs front back now w at late = record { same = sym (plains_placed (before_it hs front) front back w); at = at; late = late }
+pub as_put : (now : ℕ) (w : Happening) → time_of w ≡ now → 4 ≤ rank w.note.body → IsPutAs now w
+as_put now w at late = record { at = at; late = late }
 
 -- what it took, and that it was turned on, are told by the records with the new one
 pub taken_then : {M : Type 0} (stands : M → Network → DeviceId → Node → Type 0) (s : Scenario) (hs front back : List Happening) (mark cursor : List ℕ) (now : ℕ)
     (device : DeviceId) (machine : M) (node : Node) (w : Happening) (r : ℕ) (more : List ℕ)
     → StageAt stands s hs (front ++ back) mark cursor now device machine node r more → time_of w ≡ now
-    → IsNoTaking device w.note.body → node.taken ≡ frames_taken s (hs ++ put_at hs front w back) device
+    → IsNoTaking device w.note.body → node.taken ≡ frames_taken s (hs ++ (front ++ w ∷ back)) device
 taken_then stands s hs front back mark cursor now device machine node w r more st at none =
-    st.taken ∙ frames_put s (before_it hs front) hs front back now w device st.work.past at none (plains_placed (before_it hs front) (hs ++ front) back w)
+    st.taken ∙ frames_put s hs front back now w device st.work.past at none
 
 pub turned_then : {M : Type 0} (stands : M → Network → DeviceId → Node → Type 0) (s : Scenario) (hs front back : List Happening) (mark cursor : List ℕ)
     (now : ℕ)
     (device : DeviceId) (machine : M) (node : Node) (w : Happening) (then_ : List ℕ) (r : ℕ) (more : List ℕ)
     → StageAt stands s hs (front ++ back) mark cursor now device machine node r more
-    → IsPutAs now front back (put_at hs front w back) w
+    → IsPutAs now w
     → (HasTurnedOn s hs (front ++ back) cursor device now → HasTurnedOn s hs (front ++ back) then_ device now)
-    → is_turned_on_at s device now ≡ true → HasTurnedOn s hs (put_at hs front w back) then_ device now
+    → is_turned_on_at s device now ≡ true → HasTurnedOn s hs (front ++ w ∷ back) then_ device now
 turned_then stands s hs front back mark cursor now device machine node w then_ r more st p goes on =
-    turned_aside s (before_it hs front) hs front back then_ now device w (goes (st.turned on))
-    (ap (λ (l : List Happening). state_after s l device) (earlier_put s hs front back (put_at hs front w back) now device node w st.work p))
+    turned_aside s hs front back w device (goes (st.turned on))
+    (ap (λ (l : List Happening). state_after s l device) (earlier_put s hs front back now device node w st.work p))
 
 -- ---- it sends
 
@@ -75,18 +73,18 @@ pub has_sent_it : {M : Type 0} (stands : M → Network → DeviceId → Node →
     → StageAt stands s hs (front ++ back) mark cursor now device machine node 5 (device.0 ∷ cycle ∷ [])
     → IsFirstTask s.network device node (moment_of s device now).reading.0 (doing (sending cycle)) → IsActOf s.network device node (moment_of s device now)
     (acts.Send frame) after → after ≡ called (moment_of s device now) acting (with_done node (sending cycle)) → stands then_ s.network device after
-    → HasSentIt stands s hs (put_at hs front (record_of s.network hs front now (kinds.Sent device cycle)) back) now device then_ node after
+    → HasSentIt stands s hs (front ++ (record_of s.network hs front now (kinds.Sent device cycle)) ∷ back) now device then_ node after
 has_sent_it stands s hs front back mark cursor now device machine then_ node after frame cycle st first act is stood =
     let w = record_of s.network hs front now (kinds.Sent device cycle) in
-    let new = put_at hs front w back in
+    let new = front ++ w ∷ back in
     let moment = moment_of s device now in
-    let p = as_put hs front back now w refl (omega arith) in
+    let p = as_put now w refl (omega arith) in
     let may = may_act_now s device node now st.work.ready st.steady st.limit in
     let ready = ready_after s device node after now (acts.Send frame) st.work.ready st.steady st.precise st.wide may act (ap (λ (n : Node). n.last) is) in
     let there = called moment acting (with_done node (sending cycle)) in
-    let work : IsAtWork s hs new now device there = sends_on s hs front back new now device node w cycle moment st.work p refl first.due
+    let work : IsAtWork s hs new now device there = sends_on s hs front back now device node w cycle moment st.work p refl first.due
     (subst (λ (n : Node). IsReadyAt (s.reading device) s.network device n now) is ready) in
-    let told : AreRecorded s (hs ++ new) new now device there = sent_recorded s hs front back new now device node w cycle moment st.work st.recorded p refl in
+    let told : AreRecorded s (hs ++ new) new now device there = sent_recorded s hs front back now device node w cycle moment st.work st.recorded p refl in
     let cleared : HasCleared there = λ n has. elim (Contains-push_cases node.done (sending cycle) (correcting n) has) [
       | inl old ↦ st.cleared n old
       | inr e ↦ absurd cc
@@ -110,10 +108,3 @@ did_deed s now device node new moment deed (doing other) is has =
       | inl old ↦ inl old
       | inr e ↦ inr (ap (λ (d : ClockTask). task_place s.network now device (doing d)) (sym e))
     ]
-
--- ---- the steps
-
--- the room for the record
-pub room_for : {C M : Type 0} (reading : C → ℕ → ℕ) (stands : M → Network → DeviceId → Node → Type 0) (s : Scenario) (world : World C M) (notes : List Note)
-    (old : Stands reading stands s world notes) (w : List ℕ) → ComesFirst reading stands s world notes old w → length notes + length old.coming + 2 < none_yet
-room_for reading stands s world notes old w first = grind (arith, length, length-map, hidden)

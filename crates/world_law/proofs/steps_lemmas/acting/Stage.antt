@@ -6,15 +6,15 @@ use Rattle.world_law.proofs.steps_lemmas.Words.{IsSource, IsSteady, IsAtRest, In
 use Rattle.world_law.proofs.steps_lemmas.Words.{StandsBehind, Task, World, [], act_place, all_without, amount, ap, are_past, arith, bears_on, before_behind}
 use Rattle.world_law.proofs.steps_lemmas.Words.{Act, HadComeTo, HasActed, HasDoneTask, acts_first, changed_at, correcting, doing, in_right, of_device, same_device}
 use Rattle.world_law.proofs.steps_lemmas.Words.{second, task_place}
-use Rattle.world_law.proofs.steps_lemmas.{acting.First.{act_more, act_moving, act_rest, act_stands, coming_above, first_of, late_rank, low_rank}, growing.FromZero.kept_from_zero}
+use Rattle.world_law.proofs.steps_lemmas.{acting.First.{act_more, act_moving, act_rest, act_stands, first_of, late_rank, low_rank}, growing.FromZero.kept_from_zero}
 use Rattle.world_law.{proofs.devices.Working.came_sooner, specs.{device.Growing.IsFromZero, steps.Acting.{place_of_act, rank_of_act, task_of}}}
 use Rattle.world_law.proofs.{putting.{Placing.own_here, PutAct.least_of_own, PutOne.{one_well, unmarked}}, rows.Dispatching.founded_with}
 use Rattle.run_law.proofs.runs.Places.{before_or_not}
 use Rattle.world_law.proofs.steps_lemmas.Words.{◌⊎◌, both_ways, chain, either_way}
-use Rattle.world_law.proofs.steps_lemmas.Words.{before_it, before_later, behind, cases_eq, due_of, false, frames_taken, happenings}
-use Rattle.world_law.proofs.steps_lemmas.Words.{hears, held_aside, held_moves, hidden, in_parts, inl, inr, ints, is_sending}
-use Rattle.world_law.proofs.steps_lemmas.Words.{is_turned_on_at, known_aside, length, map, members_in, moment_of, moves, moves_no_other, natural}
-use Rattle.world_law.proofs.steps_lemmas.Words.{no_later_breaks, none_yet, not_on_after, one_by, place_of, placed_length, port_place, ports_move, pos, put_at}
+use Rattle.world_law.proofs.steps_lemmas.Words.{before_later, behind, cases_eq, due_of, false, frames_taken, happenings}
+use Rattle.world_law.proofs.steps_lemmas.Words.{hears, held_aside, held_moves, in_parts, inl, inr, ints, is_sending}
+use Rattle.world_law.proofs.steps_lemmas.Words.{is_turned_on_at, known_aside, length, members_in, moment_of, moves, moves_no_other, natural}
+use Rattle.world_law.proofs.steps_lemmas.Words.{no_later_breaks, numbers_end, not_on_after, one_by, place_of, port_place, ports_move, pos, put_length}
 use Rattle.world_law.proofs.steps_lemmas.Words.{rank, record_of, refl, slice_get, stands_on, subst, sym, time_of, told_wires, true, units_of, waiting_moves}
 use Rattle.world_law.proofs.steps_lemmas.Words.{wire_place, wires_move, ℕ}
 use Rattle.{schedule_tables.specs.declared.rule.Rule.TheVariants.ScheduleStart, world_law.proofs.steps_lemmas.acting.Starts.{acts_wait, at_work, up_now}}
@@ -77,36 +77,33 @@ pub stage_of : {C M : Type 0} (reading : C → ℕ → ℕ) (stands : M → Netw
     → ((z : Happening) → IsIn z world.settled → rank_of_act act < rank z.note.body) → slice_get world.machines device.0 ≡ Some machine
     → IsDueNow stands s.network device (moment_of s device world.now) machine
     → HasActed stands s.network device (moment_of s device world.now) act machine after
-    → (node : Node) × StageOf stands s (happenings s.network notes) old.coming old.mark old.cursor world.now device machine node act
+    → (node : Node) × StageOf stands s (happenings s.network notes) world.settled old.mark old.cursor world.now device machine node act
 stage_of {C} {M} reading stands s world notes old device machine after act lt first apart there due acted =
     let hs = happenings s.network notes in
     let m = old.devices device lt in
     let same : m.0 ≡ machine = same_Some m.0 machine (sym m.1 ∙ there) in
-    held (subst (λ (x : M). IsHeld stands s hs old.coming old.cursor world.now device x) same m.2)
+    held (subst (λ (x : M). IsHeld stands s hs world.settled old.cursor world.now device x) same m.2)
   where
-    above : (z : Happening) → IsIn z old.coming → rank_of_act act < rank z.note.body
-    above z i = coming_above reading stands s world notes old (rank_of_act act) apart z i
+    late : (z : Happening) → IsIn z world.settled → 4 ≤ rank z.note.body
+    late z i = let more = apart z i in let high = late_rank act in omega (arith, more, high)
 
-    late : (z : Happening) → IsIn z old.coming → 4 ≤ rank z.note.body
-    late z i = let more = above z i in let high = late_rank act in omega (arith, more, high)
-
-    upto : (h : Happening) → IsIn h (happenings s.network notes ++ old.coming) → time_of h ≤ world.now
+    upto : (h : Happening) → IsIn h (happenings s.network notes ++ world.settled) → time_of h ≤ world.now
     upto h i =
         let past = are_past reading stands s world notes old in
-        elim (in_parts h (happenings s.network notes) old.coming i) [
+        elim (in_parts h (happenings s.network notes) world.settled i) [
           | inl one ↦ past.past h one
           | inr two ↦ let at = old.are.of_now h two in omega (arith, at)
         ]
 
-    held : IsHeld stands s (happenings s.network notes) old.coming old.cursor world.now device machine
-        → (node : Node) × StageOf stands s (happenings s.network notes) old.coming old.mark old.cursor world.now device machine node act
+    held : IsHeld stands s (happenings s.network notes) world.settled old.cursor world.now device machine
+        → (node : Node) × StageOf stands s (happenings s.network notes) world.settled old.mark old.cursor world.now device machine node act
     held (inr out) = absurd (let task = due out.node out.is in no_task s.network device out.node task.0 out.shows task.1)
     held (inl k) =
         let hs = happenings s.network notes in
         let now = world.now in
         let task : HasTaskBy s device k.node now = due k.node k.is in
         let past = are_past reading stands s world notes old in
-        let up = up_now stands s hs old.coming old.cursor now device machine k old.not_later task in
+        let up = up_now stands s hs world.settled old.cursor now device machine k old.not_later task in
         let may = may_act_now s device k.node now k.ready (old.steady device) old.limit in
         let did = acted k.node k.is may task in
         let law = lawful reading stands s world notes old device in
@@ -114,9 +111,9 @@ stage_of {C} {M} reading stands s world notes old device machine after act lt fi
         let place = act_stands s.network now device act in
         let at = now ∷ rank_of_act act ∷ act_rest s.network device act in
         let high = late_rank act in
-        let zero = kept_from_zero stands s hs old.coming old.cursor now device machine k law in
+        let zero = kept_from_zero stands s hs world.settled old.cursor now device machine k law in
         let waits : IsBefore at old.cursor → ⊥ = λ b.
-        acts_wait stands s hs old.coming old.cursor now device machine k (task_of act) law old.not_later old.are.of_now upto late first_task.pending
+        acts_wait stands s hs world.settled old.cursor now device machine k (task_of act) law old.not_later old.are.of_now upto late first_task.pending
         first_task.due (subst (λ (q : List ℕ). IsBefore q old.cursor) (sym place) b) in
         let m = act_moving reading stands s world notes old device machine act first apart (record {
           kept = k;
@@ -141,7 +138,7 @@ stage_of {C} {M} reading stands s world notes old device machine after act lt fi
             cleared = k.cleared;
             bare = k.bare;
             moving = m;
-            above = above;
+            above = apart;
             late = high;
             low = low_rank act;
             own = λ other u e. of_device s.network now other u device.0 (rank_of_act act) (act_more s.network act) e;
@@ -149,11 +146,11 @@ stage_of {C} {M} reading stands s world notes old device machine after act lt fi
             marked = old.of_now;
             given = old.run.founded;
             before = λ h i. before_later (place_of h) at old.cursor (old.ahead (place_of h) (old.run.within h i)) waits;
-            work = at_work stands s hs old.coming old.cursor now device machine k old.not_later old.are.of_now upto late up.0;
+            work = at_work stands s hs world.settled old.cursor now device machine k old.not_later old.are.of_now upto late up.0;
             worked = λ other has. elim (before_or_not (task_place s.network now device other) old.cursor) [
               | inl gone ↦ inr gone
-              | inr not ↦ inl (subst (λ (n : ℕ). HadComeTo s device k.node (changed_at (hs ++ old.coming) device n) now other) up.0
-                  (came_sooner s device k.node (changed_at (hs ++ old.coming) device k.up) k.up now old.cursor k.worked other has not))
+              | inr not ↦ inl (subst (λ (n : ℕ). HadComeTo s device k.node (changed_at (hs ++ world.settled) device n) now other) up.0
+                  (came_sooner s device k.node (changed_at (hs ++ world.settled) device k.up) k.up now old.cursor k.worked other has not))
             ];
             zero = zero;
             recorded = k.recorded up.0;
@@ -247,16 +244,16 @@ pub lawful_then : {M : Type 0} (stands : M → Network → DeviceId → Node →
     → StageAt stands s hs (front ++ back) mark cursor now device machine node r more
     → AllBefore place_of front (place_of (record_of s.network hs front now body)) → NoneBefore place_of back (place_of (record_of s.network hs front now body))
     → IsActRecordAt s hs front back now device body (now ∷ r ∷ more) → AllBefore place_of hs mark
-    → IsLawful s (hs ++ put_at hs front (record_of s.network hs front now body) back) device
+    → IsLawful s (hs ++ (front ++ record_of s.network hs front now body ∷ back)) device
 lawful_then stands s hs front back mark cursor now device machine node body r more st before none a within =
     let at = now ∷ r ∷ more in
     let one = one_act stands s hs front back mark cursor now device machine node body r more st before none a in
-    let well = one_well s hs front back mark cursor now r more (record_of s.network hs front now body) one a.lone in
+    let well = one_well one a.lone in
     record {
       range = st.lawful.range;
       rules = st.lawful.rules;
       steady = st.lawful.steady;
-      founded = founded_with s hs (put_at hs front (record_of s.network hs front now body) back) mark st.given within well.stands (λ z i b.
+      founded = founded_with s hs (front ++ record_of s.network hs front now body ∷ back) mark st.given within well.stands (λ z i b.
           unmarked s hs (front ++ back) mark cursor now r more st.moving (before_later_than at (place_of z) mark (well.after z i) b));
     }
   where
@@ -285,38 +282,37 @@ at_now t now k r ws more not same = not (let e : k ≡ r = cc in e)
 pub one_goes_by : {C M : Type 0} (reading : C → ℕ → ℕ) (stands : M → Network → DeviceId → Node → Type 0) (s : Scenario) (world : World C M) (notes : List Note)
     (old : Stands reading stands s world notes) (device : DeviceId) (machine after : M) (node : Node) (machines : List M) (settled : List Happening)
     (body : NoteBody) (r : ℕ) (more : List ℕ)
-    → StageAt stands s (happenings s.network notes) old.coming old.mark old.cursor world.now device machine node r more
-    → (p : IsShownPut s.network (happenings s.network notes) world.now body old.coming settled) → settled ≡ map (hidden (length notes)) (put_at
-    (happenings s.network notes) p.front (record_of s.network (happenings s.network notes) p.front world.now body) p.back)
-    → length notes + length old.coming + 1 < none_yet
+    → StageAt stands s (happenings s.network notes) world.settled old.mark old.cursor world.now device machine node r more
+    → (p : IsShownPut s.network (happenings s.network notes) world.now body world.settled settled) → length notes + length world.settled + 1 < numbers_end
     → IsActRecordAt s (happenings s.network notes) p.front p.back world.now device body (world.now ∷ r ∷ more)
-    → IsAllOfIt s (happenings s.network notes) (put_at (happenings s.network notes) p.front
-    (record_of s.network (happenings s.network notes) p.front world.now body) p.back) (world.now ∷ r ∷ more)
-    → IsSet device.0 after world.machines machines → IsKept stands s (happenings s.network notes) (put_at (happenings s.network notes) p.front
-    (record_of s.network (happenings s.network notes) p.front world.now body) p.back) (behind (world.now ∷ r ∷ more)) world.now device after
+    → IsAllOfIt s (happenings s.network notes) (p.front ++ record_of s.network (happenings s.network notes) p.front world.now body ∷ p.back)
+    (world.now ∷ r ∷ more) → IsSet device.0 after world.machines machines
+    → IsKept stands s (happenings s.network notes) (p.front ++ record_of s.network (happenings s.network notes) p.front world.now body ∷ p.back)
+    (behind (world.now ∷ r ∷ more)) world.now device after
     → StandsBehind reading stands s (record world { early = false; machines = machines; settled = settled }) notes (behind (world.now ∷ r ∷ more))
-one_goes_by {C} {M} reading stands s world notes old device machine after node machines settled body r more st p shows room a all set kept =
+one_goes_by {C} {M} reading stands s world notes old device machine after node machines settled body r more st p room a all set kept =
     let hs = happenings s.network notes in
     let now = world.now in
     let front = p.front in
     let back = p.back in
     let w = record_of s.network hs front now body in
-    let new = put_at hs front w back in
-    let n = before_it hs front in
+    let new = front ++ w ∷ back in
     let here = now ∷ r ∷ more in
     let high = st.late in
     let low = st.low in
     let st2 : StageAt stands s hs (front ++ back) old.mark old.cursor now device machine node r more =
     subst (λ (l : List Happening). StageAt stands s hs l old.mark old.cursor now device machine node r more) p.parts st in
     let one = one_act stands s hs front back old.mark old.cursor now device machine node body r more st2 p.before p.none a in
-    let long = placed_length n front back w in
-    let same_long : length old.coming ≡ length (front ++ back) = ap length p.parts in
+    let long = put_length front back w in
+    let same_long : length world.settled ≡ length (front ++ back) = ap length p.parts in
     let later : IsBefore (now ∷ 2 ∷ []) here = inr (refl, inl (omega (arith, high))) in
-    stands_on reading stands s world notes old r more here machines world.wires world.ports world.waiting settled new world.shown st.moving refl shows
+    subst (λ (l : List Happening). StandsBehind reading stands s (record world { early = false; machines = machines; settled = l }) notes (behind here))
+    (sym p.shows)
+    (stands_on reading stands s world notes old r more here machines world.wires world.ports world.waiting new world.shown st.moving refl
     (omega (arith, long, same_long, room))
     (one_by s hs front back old.mark old.cursor now r more w one a.lone
     (λ is. sym (own_here s (hs ++ front) now (members_in w) body here is (a.own (members_in w)))) all)
-    (known_aside s n hs front back w (λ other le. no_row_of s device other body st.of_it a.apart le)
+    (known_aside s hs front back w (λ other le. no_row_of s device other body st.of_it a.apart le)
     (subst (λ (l : List Happening). AreOfNetwork s (hs ++ l)) p.parts old.known))
     (λ other lt. elim (cases_eq other.0 device.0) [
       | inl e ↦
@@ -328,16 +324,16 @@ one_goes_by {C} {M} reading stands s world notes old device machine after node m
           let x = a.apart other not in (
             m.0,
             others_so device other after m.0 world.machines machines set not m.1,
-            held_aside stands s n hs front back (behind here) now other m.0 w x.0 x.1 refl (frames_aside s n hs front back w other x.0 x.2)
+            held_aside s hs front back w other x.0 x.1 refl (frames_aside s hs front back w other x.0 x.2)
                 (subst (λ (l : List Happening). IsHeld stands s hs l (behind here) now other m.0) p.parts
-                (held_moves stands s hs old.coming old.mark old.cursor now r more other m.0 st.moving (λ task same. not (st.own other task same)) m.2)),
+                (held_moves stands s hs world.settled old.mark old.cursor now r more other m.0 st.moving (λ task same. not (st.own other task same)) m.2)),
           )
     ])
     later
-    (wires_move s hs old.coming old.mark old.cursor now r more world.wires world.wires st.moving
+    (wires_move s hs world.settled old.mark old.cursor now r more world.wires world.wires st.moving
     (told_wires reading stands s world notes old r more st.moving later)
     (all_without wire_place here world.wires (λ e same. at_now e.at now 2 r _ more (λ k. omega (arith, k, high)) same)))
-    (ports_move s hs old.coming old.mark old.cursor now r more world.ports world.ports st.moving old.ports
+    (ports_move s hs world.settled old.mark old.cursor now r more world.ports world.ports st.moving old.ports
     (all_without port_place here world.ports (λ e same. at_now e.at now 8 r _ more (λ k. omega (arith, k, low)) same)))
-    (waiting_moves s hs old.coming old.mark old.cursor now r more world.waiting st.moving (λ three. omega (arith, three, high)) old.waiting)
-    (shown_still reading stands s world notes old r more (omega (arith, low)) st.moving)
+    (waiting_moves s hs world.settled old.mark old.cursor now r more world.waiting st.moving (λ three. omega (arith, three, high)) old.waiting)
+    (shown_still reading stands s world notes old r more (omega (arith, low)) st.moving))

@@ -8,7 +8,6 @@ use Rattle.world_law.proofs.steps_lemmas.Words.{HasDoneTask, task_place, time_of
 use Rattle.{run_law.proofs.law.FirstPlaces.in_filter, world_law.proofs.runs.Agreement.{in_earlier, last_within}}
 use Rattle.world_law.proofs.devices.Working.{done_by, sent_by}
 use Rattle.world_law.proofs.{rows.Dispatching.dispatches_so, steps_lemmas.acting.Work.{IsAtWork, at_correction, emits, not_over, own_judgement, reaches, sends}}
-use Rattle.run_law.specs.declared.note.NoteBody.TheVariants as kinds
 
 -- the last change before the next unit of time is not after this one
 pub changed_soon : (hs : List Happening) (device : DeviceId) (now : ℕ) → changed_at hs device (now + 1) ≤ now

@@ -3,20 +3,9 @@ use Rattle.{tte_units.proofs.general_lemmas.Bools.kept_flag, world_law.proofs.{d
 use Rattle.world_law.proofs.steps_lemmas.Words.{◌&&◌, ◌++◌, ◌||◌, ◌∙◌, ◌∷◌, ◌≡◌, ◌≤◌, ◌⊎◌, Bool, DeviceId, Happening, Hearing, IsAtRest, IsIn, IsLeft, List}
 use Rattle.world_law.proofs.steps_lemmas.Words.{Node, None, Option, Scenario, Some, [], adjustment_after, ap, append-nil, append_assoc, arith, behind_no}
 use Rattle.world_law.proofs.steps_lemmas.Words.{by_last, changes_adjustment, cleared_in, cons_option, earlier, false, filter, filter_map, filter_map-append}
-use Rattle.world_law.proofs.steps_lemmas.Words.{filter_yes, heard_since, hearing_by, in_left, in_mapped, in_parts, in_right, inl, inr, integration_cycle}
-use Rattle.world_law.proofs.steps_lemmas.Words.{is_timed, is_turned_on_at, le-ltb, local_in, map, nat_lt, next_in, not, option_to_list, plain, plains}
+use Rattle.world_law.proofs.steps_lemmas.Words.{filter_yes, heard_since, hearing_by, in_left, in_parts, in_right, inl, inr, integration_cycle}
+use Rattle.world_law.proofs.steps_lemmas.Words.{is_timed, is_turned_on_at, le-ltb, local_in, nat_lt, next_in, not, option_to_list}
 use Rattle.world_law.proofs.steps_lemmas.Words.{points_of, points_same, quiet_rest, rank, recorded_cycle, refl, same_before, since_at, state_after, subst, sym}
-
--- ---- lists that differ in their numbers
-
-pub out_mapped : (f : Happening → Happening) (hs : List Happening) (h : Happening) → IsIn h (map f hs) → (g : Happening) × IsIn g hs × (h ≡ f g)
-out_mapped f [] h i = absurd i
-out_mapped f (g ∷ hs) h (inl e) = (g, inl refl, e)
-out_mapped f (g ∷ hs) h (inr i) = let x = out_mapped f hs h i in (x.0, inr x.1, x.2)
-
--- each record of the one has one of the other that tells the same
-pub in_plains : (xs ys : List Happening) (x : Happening) → plains xs ≡ plains ys → IsIn x xs → (y : Happening) × IsIn y ys × (plain x ≡ plain y)
-in_plains xs ys x same i = out_mapped plain ys (plain x) (subst (λ (l : List Happening). IsIn (plain x) l) same (in_mapped plain xs x i))
 
 -- ---- what is heard at an instant
 

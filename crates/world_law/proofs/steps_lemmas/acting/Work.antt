@@ -9,9 +9,9 @@ use Rattle.world_law.proofs.steps_lemmas.Words.{IsLeft, IsPending, IsReadyAt, Is
 use Rattle.world_law.proofs.steps_lemmas.Words.{Summary, Units, Verdict, [], adjustment_after, adjustment_at_hearing, adjustment_before, and_right, ap}
 use Rattle.world_law.proofs.steps_lemmas.Words.{append_assoc, arith, cases_lt, changed_at, changed_before, correcting, doing, earlier, earlier_still, emitting}
 use Rattle.world_law.proofs.steps_lemmas.Words.{false, has_joined_at, heard_as, heard_since, if◌then◌else◌, in_left, in_right, inl, inr, ints, is_broken}
-use Rattle.world_law.proofs.steps_lemmas.Words.{is_joined_by, is_timed, is_turned_on_at, list_any, lt-ltb, nat_lt, never_both, observation_window, or_left}
+use Rattle.world_law.proofs.steps_lemmas.Words.{is_joined_by, is_turned_on_at, list_any, lt-ltb, nat_lt, never_both, observation_window, or_left}
 use Rattle.world_law.proofs.steps_lemmas.Words.{or_none, plan_of, point_number, points_of, points_same, pos, quiet_rest, rank, reaches_back, reading_for, refl}
-use Rattle.world_law.proofs.steps_lemmas.Words.{same_kept, sending, standing_before, state_after, state_at_hearing, state_before, subst, sym, time_of, true}
+use Rattle.world_law.proofs.steps_lemmas.Words.{same_kept, sending, state_after, state_at_hearing, state_before, subst, sym, time_of}
 
 -- how a device stands that acts at the instant and has not come to a correction at it, nor joined
 pub record IsAtWork (s : Scenario) (hs coming : List Happening) (now : ℕ) (device : DeviceId) (node : Node) : Type 0 where

@@ -1,12 +1,12 @@
 -- What the events of an instant leave is settled, before all else of it: the world stands behind them.
 use Rattle.{run_law.proofs.{records.Members.in_flat, runs.Places.before_next_time}, world_law.specs.steps.Befalling.{BefellStep, befell_bodies}}
-use Rattle.world_law.proofs.{runs.Applies.same_length, steps_lemmas.Words.{is_broken, is_turned_on_at, length, place_of, refl, settled_as, subst, sym, true, ℕ}}
+use Rattle.world_law.proofs.{steps_lemmas.Words.{is_broken, is_turned_on_at, length, place_of, refl, settled_as, subst, sym, true, ℕ}}
 use Rattle.world_law.proofs.steps_lemmas.Words.{◌++◌, ◌+◌, ◌∙◌, ◌∷◌, ◌≡◌, AreOfNetwork, AreOnWires, AreUntold, Befell, Bool, DeviceId, Happening, Integrating}
 use Rattle.world_law.proofs.steps_lemmas.Words.{IsBefore, IsHeld, IsIn, IsTurnedOnBy, List, Network, Node, NoteBody, Scenario, What, [], amount, ap, arith}
 use Rattle.world_law.proofs.steps_lemmas.Words.{before_behind, behind, bodies_of, clock_place, eq-eqb, false, happenings, has_outcome, if◌then◌else◌, inl, inr}
-use Rattle.world_law.proofs.steps_lemmas.befalling.{Bodies.{IsOutcome, all_bodies, all_rising, few_all}, Settles.{IsSettling, in_coming, settled_told}}
+use Rattle.world_law.proofs.steps_lemmas.befalling.{Bodies.{IsOutcome, all_bodies, all_rising, few_all}, Settles.{IsSettling, settled_told}}
 use Rattle.world_law.proofs.steps_lemmas.{befalling.Devices.{AreToldOf, held_told, known_told}, steps.{Applied.no_coming, AppliedParts.before_others}}
-use Rattle.world_law.proofs.steps_lemmas.befalling.Filled.{IsFilled, all_long, all_new, filled_all, in_on, number_on, on_length, shown_all}
+use Rattle.world_law.proofs.steps_lemmas.befalling.Filled.{IsFilled, all_long, all_new, filled_all}
 use Rattle.world_law.proofs.steps_lemmas.befalling.{Told.{on_by_event, recorded}, UnderWay.{IsTelling, goes_on, ports_told, waiting_told, wires_told}}
 use Rattle.net_plan.specs.declared.event.What.TheVariants as events
 use Rattle.run_law.specs.declared.judgement.Why.TheVariants as whys
@@ -20,7 +20,7 @@ has_out s now number other b i = absurd i
 -- a sound device that is turned on has its record
 turned_there : (s : Scenario) (hs : List Happening) (mark cursor : List ℕ) (now : ℕ) (befell : List Befell) (settled : List Happening) (device : DeviceId)
     → IsSettling s hs mark cursor now befell settled → is_turned_on_at s device now ≡ true → is_broken s device now ≡ false
-    → IsTurnedOnBy (number_on (length hs + 1) settled) device now
+    → IsTurnedOnBy settled device now
 turned_there s hs mark cursor now befell settled device m on sound =
     let it = on_by_event s device now on in
     let h = recorded s mark hs it.0 it.1 m.run it.2 (m.befallen.begun it.0 it.1 it.2) (m.befallen.told it.0 it.1 it.2) in
@@ -29,8 +29,7 @@ turned_there s hs mark cursor now befell settled device m on sound =
     (sym sound) (inl refl) in
     let there = m.there h.0 (it.0 + 1) (events.On device) h.1
     (record { there = h.2; same_time = ap amount h.3 ∙ it.4 }) (h.4 ∙ ap (λ (w : What). notes.Event (it.0 + 1) w) it.3) body here in
-    let at = in_on (length hs + 1) settled (settled_as s.network hs now body) there in
-    record { by = _; there = at.1; at = refl; turning = eq-eqb device.0 device.0 refl }
+    record { by = settled_as s.network hs now body; there = there; at = refl; turning = eq-eqb device.0 device.0 refl }
 
 no_clock : (now : ℕ) (device : DeviceId) → IsBefore (clock_place now device) (behind (now ∷ 2 ∷ [])) → ⊥
 no_clock now device (inl lt) = omega (arith, lt)
@@ -44,7 +43,7 @@ befell_step {C} {M} reading stands s world notes wires settled old open_ room pu
     let here = now ∷ 2 ∷ [] in
     let untold : AreUntold hs old.cursor now true world.befell = subst (λ (b : Bool). AreUntold hs old.cursor now b world.befell) open_ old.untold in
     let early = untold.early refl in
-    let empty = no_coming hs old.coming s old.mark old.cursor now old.are early in
+    let empty = no_coming hs world.settled s old.mark old.cursor now old.are early in
     let m : IsTelling hs old.cursor now world.befell = grind (arith, untold, before_others, now, early, place_of) in
     let bodies = befell_bodies s now world.befell in
     let each = all_bodies s hs now world.befell untold.real in
@@ -62,22 +61,18 @@ befell_step {C} {M} reading stands s world notes wires settled old open_ room pu
           (in_flat (λ (e : Befell). bodies_of s now e.number e.what) world.befell (record { number = number; what = what }) b
           (untold.all refl number line what h it is (has_out s now number what b i)) i);
     } in
-    let long : length notes ≡ length hs = same_length s.network notes in
-    let coming = number_on (length hs + 1) settled in
-    let one = in_coming s hs now (length hs + 1) settled filled in
     let are = settled_told s hs old.mark old.cursor now world.befell settled settling in
-    let told : AreToldOf s hs coming old.cursor now world.befell = record {
+    let told : AreToldOf s hs settled old.cursor now world.befell = record {
       telling = m;
       founded = old.run.founded;
       at = are.of_now;
-      out = λ z i. let it = one z i in subst (λ (x : Happening). IsOutcome s hs now x.note.body) (sym it.is) it.out;
+      out = λ z i. let it = filled.each z i in subst (λ (x : Happening). IsOutcome s hs now x.note.body) (sym it.is) it.out;
       turned = λ device on sound. turned_there s hs old.mark old.cursor now world.befell settled device settling on sound;
     } in
     let on = goes_on hs old.cursor now world.befell m in
     let few = few_all s now world.befell in
     let put_count = all_long s hs now bodies [] settled put_in in
-    let none_long : length {A = Happening} [] ≡ 0 = refl in
-    let numbered_count = on_length (length hs + 1) settled in (
+    let none_long : length {A = Happening} [] ≡ 0 = refl in (
       record {
         same = old.same;
         range = old.range;
@@ -99,15 +94,13 @@ befell_step {C} {M} reading stands s world notes wires settled old open_ room pu
         clocks = old.clocks;
         broken = old.broken;
         ways = old.ways;
-        coming = coming;
-        room = omega (arith, room, few, put_count, none_long, numbered_count);
-        settled = shown_all s hs now (length notes) (length hs + 1) settled long filled.each;
-        known = known_told s hs coming old.cursor now world.befell told (subst (λ (l : List Happening). AreOfNetwork s (hs ++ l)) empty old.known);
+        room = omega (arith, room, few, put_count, none_long);
+        known = known_told s hs settled old.cursor now world.befell told (subst (λ (l : List Happening). AreOfNetwork s (hs ++ l)) empty old.known);
         devices = λ device lt.
             let k = old.devices device lt in (
               k.0,
               k.1,
-              held_told stands s hs coming old.cursor now world.befell device k.0 told
+              held_told stands s hs settled old.cursor now world.befell device k.0 told
                   (subst (λ (l : List Happening). IsHeld stands s hs l old.cursor now device k.0) empty k.2),
             );
         early = λ fresh. absurd (let bad : false ≡ true = fresh in cc);

@@ -1,6 +1,6 @@
 -- Each device when the outcomes of the events of an instant are settled.
 use Rattle.world_law.proofs.devices.Working.{rested, worked_by}
-use Rattle.world_law.proofs.steps_lemmas.Words.{before_behind, chain}
+use Rattle.world_law.proofs.steps_lemmas.Words.{Some, before_behind, chain, numbered}
 use Rattle.{net_plan.proofs.SameIds.alike, world_law.proofs.acts.Recorded.first_recorded}
 use Rattle.world_law.proofs.{acts.Dispatched.{dispatch_told, send_apart}, steps_lemmas.befalling.{CalmTakings.taken_calm, UnderWay.{IsTelling, goes_on}}}
 use Rattle.world_law.proofs.steps_lemmas.Words.{◌++◌, ◌==◌, ◌∙◌, ◌∷◌, ◌≡◌, ◌≤◌, AreOfNetwork, Befell, DeviceId, Dispatches, Happening, HasDoneFrom}
@@ -9,7 +9,7 @@ use Rattle.world_law.proofs.steps_lemmas.Words.{IsTurnedOnBy, LinkId, List, Netw
 use Rattle.world_law.proofs.steps_lemmas.Words.{acts_before, adjustment_after, ap, append-nil, arith, behind, cases_Bool, cause_of, changed_at}
 use Rattle.world_law.proofs.steps_lemmas.Words.{changes_adjustment, dispatch_body, dispatches_back, earlier, earlier_still, false, filter, frames_taken}
 use Rattle.world_law.proofs.steps_lemmas.Words.{in_parts, in_right, inl, inr, is_broken, is_turned_on_at, last_or, moves, never_self, numbered_in}
-use Rattle.world_law.proofs.steps_lemmas.Words.{option_map_or, place_of, plain_body}
+use Rattle.world_law.proofs.steps_lemmas.Words.{option_map_or, place_of}
 use Rattle.world_law.proofs.steps_lemmas.{Words.{refl, state_after, subst, sym, time_of, true, up_to, ℕ}, befalling.Told.{event_due, on_by_record}}
 use Rattle.world_law.proofs.steps_lemmas.befalling.{Bodies.{IsOutcome, calm_outcome}, Calm.{adjustment_unmoved, left_all_calm, state_unmoved}}
 use Rattle.net_plan.specs.declared.event.What.TheVariants as events
@@ -74,7 +74,7 @@ known_told s hs coming cursor now befell m known = record {
 -- nor does it tell of a dispatch
 no_dispatch : (s : Scenario) (hs : List Happening) (now : ℕ) (device : DeviceId) (link : LinkId) (cause : ℕ) (vl : VlId) (cycle : ℕ) (body : NoteBody)
     → IsFounded place_of (IsDue s) hs → IsOutcome s hs now body → Dispatches s hs device now link cause vl cycle
-    → plain_body body ≡ dispatch_body s device now link cause vl cycle → ⊥
+    → body ≡ dispatch_body s device now link cause vl cycle → ⊥
 no_dispatch s hs now device link cause vl cycle body founded (IsOutcome.turning d n line h sound it is) disp e =
     elim (dispatch_told s device now link cause vl cycle (kinds.State d Rattle.sync_state.specs.declared.state.State.TheVariants.Integrating n
     Rattle.run_law.specs.declared.judgement.Why.TheVariants.On) e) [ inl lost ↦ absurd cc | inr sent ↦ absurd cc ]
@@ -84,8 +84,11 @@ no_dispatch s hs now device link cause vl cycle body founded (IsOutcome.losing d
       | inl lost ↦
           let same : n ≡ cause = ap cause_of lost in
           let by : d ≡ device = lost_device d device other link n cause lost in
-          send_apart s hs hs device now other link cause vl cycle founded (λ h there. there)
-          (subst (λ (x : DeviceId). IsSendLost s hs x now other cause) by (subst (λ (c : ℕ). IsSendLost s hs d now other c) same it)) disp
+          let whole = sym (append-nil hs) in
+          send_apart s hs [] hs device now other link cause vl cycle founded (λ z i. absurd i)
+          (λ h there. subst (λ (l : List Happening). numbered l cause ≡ Some h) whole there)
+          (subst (λ (x : DeviceId). IsSendLost s hs x now other cause) by (subst (λ (c : ℕ). IsSendLost s hs d now other c) same it))
+          (subst (λ (l : List Happening). Dispatches s l device now link cause vl cycle) whole disp)
     ]
   where
     lost_device : (d e : DeviceId) (l k : LinkId) (m n : ℕ) → kinds.Lost d l m ≡ kinds.Lost e k n → d ≡ e

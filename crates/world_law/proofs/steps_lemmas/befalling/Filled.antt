@@ -1,10 +1,9 @@
--- The outcomes of events are put in at their places: the list that is settled then, and with its numbers.
-use Rattle.world_law.{proofs.putting.PutIn.split_three, specs.device.Plain.renumbered}
-use Rattle.world_law.proofs.steps_lemmas.Words.{◌++◌, ◌+◌, ◌<◌, ◌∙◌, ◌∷◌, ◌≡◌, ◌⊎◌, AllBefore, ArePutIn, Bool, Happening, Integrating, IsBefore, IsIn, IsPutIn}
-use Rattle.world_law.proofs.steps_lemmas.Words.{List, NoteBody, On, Scenario, [], ap, append_assoc, arith, cause_of, either_way, hidden, hidden_body}
-use Rattle.world_law.proofs.steps_lemmas.Words.{if◌then◌else◌, in_left, in_parts, in_right, inl, inr, le-ltb, length, length-append, map, none_yet}
-use Rattle.world_law.proofs.steps_lemmas.{Words.{numbered_within, place_of, refl, settled_as, subst, suc, sym, ℕ}, befalling.Bodies.{AreRising, IsOutcome}}
-use Rattle.run_law.specs.declared.note.NoteBody.TheVariants as notes
+-- The outcomes of events are put in at their places: the list that is settled then.
+use Rattle.world_law.proofs.putting.PutIn.{split_three}
+use Rattle.world_law.proofs.steps_lemmas.Words.{◌++◌, ◌+◌, ◌<◌, ◌∙◌, ◌∷◌, ◌≡◌, ◌⊎◌, AllBefore, ArePutIn, Happening, IsBefore, IsIn, IsPutIn}
+use Rattle.world_law.proofs.steps_lemmas.Words.{List, NoteBody, Scenario, [], ap, append_assoc, arith, cause_of, either_way}
+use Rattle.world_law.proofs.steps_lemmas.Words.{in_left, in_parts, in_right, inl, inr, length, length-append}
+use Rattle.world_law.proofs.steps_lemmas.{Words.{place_of, refl, settled_as, subst, suc, sym, ℕ}, befalling.Bodies.{AreRising, IsOutcome}}
 
 -- the record is one of an outcome
 pub record IsOne (s : Scenario) (hs : List Happening) (now : ℕ) (z : Happening) : Type 0 where
@@ -133,65 +132,3 @@ all_long s hs now (b ∷ bodies) old new (mid, put, later) =
     let c = all_long s hs now bodies mid new later in
     let d : length (b ∷ bodies) ≡ suc (length bodies) = refl in
     omega (arith, a, c, d)
-
--- ---- with their numbers
-
--- the records with the numbers from this one on
-abbrev pub number_on : ℕ → List Happening → List Happening
-number_on k [] = []
-number_on k (z ∷ zs) = renumbered k z ∷ number_on (k + 1) zs
-
-pub on_length : (k : ℕ) (zs : List Happening) → length (number_on k zs) ≡ length zs
-on_length k [] = refl
-on_length k (z ∷ zs) = ap suc (on_length (k + 1) zs)
-
-pub on_split : (k : ℕ) (zs front rest : List Happening) (z : Happening) → number_on k zs ≡ front ++ z ∷ rest → (f : List Happening) × (y : Happening)
-    × (r : List Happening) × (zs ≡ f ++ y ∷ r) × (z ≡ renumbered (k + length f) y) × (front ≡ number_on k f)
-on_split k [] [] rest z e = absurd cc
-on_split k [] (g ∷ front) rest z e = absurd cc
-on_split k (x ∷ zs) [] rest z e =
-    let a : z ≡ renumbered k x = cc in
-    let none : k ≡ k + length {A = Happening} [] = omega arith in
-    ([], x, zs, refl, a ∙ ap (λ (n : ℕ). renumbered n x) none, refl)
-on_split k (x ∷ zs) (g ∷ front) rest z e =
-    let a : g ≡ renumbered k x = cc in
-    let b : number_on (k + 1) zs ≡ front ++ z ∷ rest = cc in
-    let more = on_split (k + 1) zs front rest z b in
-    let long : length (x ∷ more.0) ≡ suc (length more.0) = refl in
-    let count : k + 1 + length more.0 ≡ k + length (x ∷ more.0) = omega (arith, long) in (
-      x ∷ more.0,
-      more.1,
-      more.2,
-      ap (λ (l : List Happening). x ∷ l) more.3,
-      more.4 ∙ ap (λ (n : ℕ). renumbered n more.1) count,
-      ap (λ (h : Happening). h ∷ front) a ∙ ap (λ (l : List Happening). renumbered k x ∷ l) more.5,
-    )
-
-pub on_in : (k : ℕ) (zs : List Happening) (z : Happening) → IsIn z (number_on k zs) → (j : ℕ) × (y : Happening) × IsIn y zs × (z ≡ renumbered j y)
-on_in k [] z i = absurd i
-on_in k (x ∷ zs) z (inl same) = (k, x, inl refl, same)
-on_in k (x ∷ zs) z (inr i) = let more = on_in (k + 1) zs z i in (more.0, more.1, inr more.2, more.3)
-
-pub in_on : (k : ℕ) (zs : List Happening) (y : Happening) → IsIn y zs → (j : ℕ) × IsIn (renumbered j y) (number_on k zs)
-in_on k [] y i = absurd i
-in_on k (x ∷ zs) y (inl same) = (k, inl (ap (renumbered k) same))
-in_on k (x ∷ zs) y (inr i) = let more = in_on (k + 1) zs y i in (more.0, inr more.1)
-
--- ---- as they are shown
-
-shown_body : (s : Scenario) (hs : List Happening) (now given : ℕ) (body : NoteBody) → IsOutcome s hs now body → given ≡ length hs
-    → hidden_body given body ≡ body
-shown_body s hs now given body (IsOutcome.turning d n line h sound it is) long =
-    let lt = numbered_within hs n h it.there in
-    ap (λ (b : Bool). notes.State d Integrating (if b then none_yet else n) On) (le-ltb given n (omega (arith, lt, long)))
-shown_body s hs now given body (IsOutcome.losing d link n it) long = refl
-
-shown_one : (s : Scenario) (hs : List Happening) (now given k : ℕ) (z : Happening) → given ≡ length hs → IsOne s hs now z → hidden given (renumbered k z) ≡ z
-shown_one s hs now given k z long it = grind (arith, hidden, settled_as, shown_body)
-
-pub shown_all : (s : Scenario) (hs : List Happening) (now given k : ℕ) (zs : List Happening) → given ≡ length hs
-    → ((z : Happening) → IsIn z zs → IsOne s hs now z) → zs ≡ map (hidden given) (number_on k zs)
-shown_all s hs now given k [] long each = refl
-shown_all s hs now given k (z ∷ zs) long each =
-    ap (λ (x : Happening). x ∷ zs) (sym (shown_one s hs now given k z long (each z (inl refl))))
-    ∙ ap (λ (l : List Happening). hidden given (renumbered k z) ∷ l) (shown_all s hs now given (k + 1) zs long (λ y i. each y (inr i)))

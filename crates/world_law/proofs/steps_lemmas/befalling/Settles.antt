@@ -1,12 +1,12 @@
 -- The outcomes of the events of an instant are all that is due by them.
-use Rattle.world_law.{proofs.runs.Applies.{event_cause, event_place}, specs.{device.Plain.renumbered, world.World.IsWorkedOff}}
-use Rattle.world_law.proofs.steps_lemmas.Words.{◌++◌, ◌+◌, ◌∙◌, ◌∷◌, ◌≡◌, ◌≤◌, ◌⊎◌, AreSettled, Befell, Bool, DeviceId, Happening, HaveBefallen, Integrating}
+use Rattle.world_law.{proofs.runs.Applies.{event_cause, event_place}, specs.world.World.{IsDueAs, IsWorkedOff}}
+use Rattle.world_law.proofs.steps_lemmas.Words.{◌++◌, ◌∙◌, ◌∷◌, ◌≡◌, ◌≤◌, ◌⊎◌, AreSettled, Befell, Bool, DeviceId, Happening, HaveBefallen, Integrating}
 use Rattle.world_law.proofs.steps_lemmas.Words.{IsBefore, IsCaused, IsDue, IsEventBody, IsIn, IsOfThisTime, IsOwnSource, IsRun, IsSendLost, IsSource, Link}
 use Rattle.world_law.proofs.steps_lemmas.Words.{LinkId, List, NoteBody, Option, Scenario, Some, Units, Up, What, [], amount, ap, arith, before_behind, behind}
 use Rattle.world_law.proofs.steps_lemmas.Words.{bodies_of, chain, false, if◌then◌else◌, in_left, in_right, inl, inr, ints, is_at_source, is_broken, is_cut}
-use Rattle.world_law.proofs.steps_lemmas.Words.{is_joined_by, key, length, length-append, members_in, numbered_front, numbered_in, numbered_parts}
+use Rattle.world_law.proofs.steps_lemmas.Words.{is_joined_by, key, length, members_in, numbered_front, numbered_in, numbered_parts}
 use Rattle.world_law.proofs.steps_lemmas.Words.{option_map_or, own_time, place_of, rank, refl, settled_as, subst, suc, sym, time_of, true, ℕ}
-use Rattle.world_law.proofs.steps_lemmas.befalling.{Bodies.{IsOutcome, calm_outcome}, Filled.{IsFilled, in_on, number_on, on_in, on_length, on_split}}
+use Rattle.world_law.proofs.steps_lemmas.befalling.{Bodies.{IsOutcome, calm_outcome}, Filled.{IsFilled, IsOne}}
 use Rattle.world_law.proofs.steps_lemmas.{befalling.{Calm.{calm_joins, is_calm}, UnderWay.IsTelling}, steps.AppliedParts.own_event}
 use Rattle.net_plan.specs.declared.event.What.TheVariants as events
 use Rattle.run_law.specs.declared.judgement.Why.TheVariants as whys
@@ -32,21 +32,18 @@ lost_moved : (s : Scenario) (hs front : List Happening) (now n : ℕ) (device : 
     → IsSendLost s (hs ++ front) device now link n
 lost_moved s hs front now n device link it = grind (arith, moved)
 
-due_one : (s : Scenario) (hs front : List Happening) (now k : ℕ) (body : NoteBody) → IsOutcome s hs now body → k ≡ length (hs ++ front) + 1
-    → IsDue s (hs ++ front) (renumbered k (settled_as s.network hs now body))
-due_one s hs front now k body (IsOutcome.turning d n line h sound it is) count = record {
-  number = count;
-  same = refl;
-  begun = omega (arith, ints);
-  cause = (refl, sound, (line, h, moved hs front now n h it, is));
-}
-due_one s hs front now k body (IsOutcome.losing d link n it) count = grind (arith, ints, lost_moved)
+due_one : (s : Scenario) (hs front : List Happening) (now : ℕ) (body : NoteBody) → IsOutcome s hs now body
+    → IsDueAs s (hs ++ front) (settled_as s.network hs now body)
+due_one s hs front now body (IsOutcome.turning d n line h sound it is) =
+    record { same = refl; begun = omega (arith, ints); cause = (refl, sound, (line, h, moved hs front now n h it, is)) }
+due_one s hs front now body (IsOutcome.losing d link n it) =
+    record { same = refl; begun = omega (arith, ints); cause = inr (inr (lost_moved s hs front now n d link it)) }
 
-worked_one : (s : Scenario) (hs front : List Happening) (now k : ℕ) (body : NoteBody) → IsOutcome s hs now body
-    → IsWorkedOff s (hs ++ front) (behind (now ∷ 2 ∷ [])) (renumbered k (settled_as s.network hs now body))
-worked_one s hs front now k body (IsOutcome.turning d n line h sound it is) =
+worked_one : (s : Scenario) (hs front : List Happening) (now : ℕ) (body : NoteBody) → IsOutcome s hs now body
+    → IsWorkedOff s (hs ++ front) (behind (now ∷ 2 ∷ [])) (settled_as s.network hs now body)
+worked_one s hs front now body (IsOutcome.turning d n line h sound it is) =
     (now ∷ 2 ∷ [], refl, IsSource.following now n h (moved hs front now n h it), before_behind (now ∷ 2 ∷ []))
-worked_one s hs front now k body (IsOutcome.losing d link n it) = (
+worked_one s hs front now body (IsOutcome.losing d link n it) = (
   now ∷ 2 ∷ [],
   inr (inr (refl, lost_moved s hs front now n d link it)),
   IsSource.following now n it.event (moved hs front now n it.event it.is),
@@ -64,18 +61,7 @@ not_at_source s hs now body (IsOutcome.losing d link n it) = refl
 
 -- ---- those to come
 
--- one of them with its number
-pub record IsNumbered (s : Scenario) (hs : List Happening) (now : ℕ) (z : Happening) : Type 0 where
-  pub number : ℕ
-  pub body : NoteBody
-  pub is : z ≡ renumbered number (settled_as s.network hs now body)
-  pub out : IsOutcome s hs now body
-
-pub in_coming : (s : Scenario) (hs : List Happening) (now k : ℕ) (settled : List Happening) → IsFilled s hs now settled → (z : Happening)
-    → IsIn z (number_on k settled) → IsNumbered s hs now z
-in_coming s hs now k settled filled z i = grind (arith, on_in)
-
-late_place : (s : Scenario) (hs : List Happening) (now : ℕ) (z : Happening) → IsNumbered s hs now z → (r : ℕ) × (more : List ℕ)
+late_place : (s : Scenario) (hs : List Happening) (now : ℕ) (z : Happening) → IsOne s hs now z → (r : ℕ) × (more : List ℕ)
     × (place_of z ≡ now ∷ r ∷ more) × (7 ≤ r)
 late_place s hs now z it = let at = late_body s hs now it.body it.out in (at.0, at.1, ap place_of it.is ∙ at.2, at.3)
 
@@ -189,21 +175,24 @@ only_none (x ∷ ws) (inr (e, none)) = absurd none
 
 due_there : (s : Scenario) (hs front : List Happening) (mark cursor : List ℕ) (now : ℕ) (befell : List Befell) (settled : List Happening) (y : Happening)
     (k : ℕ) (ws : List ℕ) → IsSettling s hs mark cursor now befell settled → ((z : Happening) → IsIn z front → is_calm z.note.body ≡ true)
-    → (IsBefore (place_of y) mark → ⊥) → IsDue s (hs ++ front) y
+    → (IsBefore (place_of y) mark → ⊥) → IsDueAs s (hs ++ front) y
     → IsOwnSource s (hs ++ front) (time_of y) (members_in y) y.note.body (time_of y ∷ k ∷ ws) → IsBefore (time_of y ∷ k ∷ ws) (behind (now ∷ 2 ∷ []))
     → StandsThere s hs now settled (place_of y)
 due_there s hs front mark cursor now befell settled y k ws m calm not due own (inl lt) = absurd (not (m.of_now (place_of y) (inl lt)))
 due_there s hs front mark cursor now befell settled y k ws m calm not due own (inr (at, inl few)) =
     absurd (not (event_past s (hs ++ front) mark now y m.befallen
     (own_event s (hs ++ front) (time_of y) (members_in y) y.note.body k ws own few) due.cause))
-due_there s hs front mark cursor now befell settled y k ws m calm not due own (inr (at, inr (two, b))) = grind (arith, came, members_in, time_of, only_none)
+due_there s hs front mark cursor now befell settled y k ws m calm not due own (inr (at, inr (two, b))) =
+    came s hs front mark cursor now befell settled y.note.time (members_in y) y.note.body m calm at
+    (subst (λ (l : List ℕ). IsOwnSource s (hs ++ front) (time_of y) (members_in y) y.note.body (time_of y ∷ 2 ∷ l)) (only_none ws b)
+    (subst (λ (n : ℕ). IsOwnSource s (hs ++ front) (time_of y) (members_in y) y.note.body (time_of y ∷ n ∷ ws)) two own)) due.cause
 
 -- ---- so they are settled
 
 pub settled_told : (s : Scenario) (hs : List Happening) (mark cursor : List ℕ) (now : ℕ) (befell : List Befell) (settled : List Happening)
-    → IsSettling s hs mark cursor now befell settled → AreSettled s hs (number_on (length hs + 1) settled) mark (behind (now ∷ 2 ∷ [])) now
+    → IsSettling s hs mark cursor now befell settled → AreSettled s hs settled mark (behind (now ∷ 2 ∷ [])) now
 settled_told s hs mark cursor now befell settled m =
-    let one = in_coming s hs now (length hs + 1) settled m.filled in
+    let one = m.filled.each in
     record {
       of_now = λ z i. ap time_of (one z i).is;
       behind_mark = λ z i b.
@@ -211,21 +200,11 @@ settled_told s hs mark cursor now befell settled m =
           not_under now at.0 at.1 at.3
           (subst (λ (p : List ℕ). IsBefore p (now ∷ 2 ∷ [])) at.2 (m.telling.untold.early refl (place_of z) (m.ahead (place_of z) b)));
       founded = λ front rest z e.
-          let at = on_split (length hs + 1) settled front rest z e in
-          let it = m.filled.each at.1 (subst (λ (l : List Happening). IsIn at.1 l) (sym at.3) (in_here at.0 at.2 at.1)) in
-          let long = length-append hs front in
-          let same : length front ≡ length at.0 = ap length at.5 ∙ on_length (length hs + 1) at.0 in (
-            λ n i.
-                let from = on_in (length hs + 1) at.0 n (subst (λ (l : List Happening). IsIn n l) at.5 i) in
-                let lt = m.filled.sorted at.0 at.2 at.1 at.3 from.1 from.2 in
-                subst (λ (x : Happening). IsBefore (place_of x) (place_of z)) (sym from.3)
-                (subst (λ (x : Happening). IsBefore (place_of from.1) (place_of x)) (sym at.4) lt),
-            subst (λ (x : Happening). IsDue s (hs ++ front) x) (sym (at.4 ∙ ap (renumbered (length hs + 1 + length at.0)) it.is))
-                (due_one s hs front now (length hs + 1 + length at.0) it.body it.out (omega (arith, long, same))),
-          );
+          let it = one z (subst (λ (l : List Happening). IsIn z l) (sym e) (in_here front rest z)) in
+          (m.filled.sorted front rest z e, subst (λ (x : Happening). IsDueAs s (hs ++ front) x) (sym it.is) (due_one s hs front now it.body it.out));
       by = λ front rest z e.
           let it = one z (subst (λ (l : List Happening). IsIn z l) (sym e) (in_here front rest z)) in
-          let off = worked_one s hs front now it.number it.body it.out in
+          let off = worked_one s hs front now it.body it.out in
           subst (λ (x : Happening). IsWorkedOff s (hs ++ front) (behind (now ∷ 2 ∷ [])) x) (sym it.is) off;
       full = λ front back y e before none not due worked.
           let calm : (z : Happening) → IsIn z front → is_calm z.note.body ≡ true = λ z i.
@@ -235,8 +214,7 @@ settled_told s hs mark cursor now befell settled m =
           let found = due_there s hs front mark cursor now befell settled y own.0 own.1 m calm not due
           (subst (λ (q : List ℕ). IsOwnSource s (hs ++ front) (time_of y) (members_in y) y.note.body q) own.2 worked.1)
           (subst (λ (q : List ℕ). IsBefore q (behind (now ∷ 2 ∷ []))) own.2 worked.3) in
-          let at = in_on (length hs + 1) settled (settled_as s.network hs now found.0) found.1 in
-          (renumbered at.0 (settled_as s.network hs now found.0), at.1, found.2);
+          (settled_as s.network hs now found.0, found.1, found.2);
       not_past = λ z i p b.
           let at = late_place s hs now z (one z i) in
           chain p (place_of z) (behind (place_of z))

@@ -1,10 +1,11 @@
 -- No point that a compression master has collected lies before reading 0.
 use Rattle.{run_law.proofs.{control.Arrived.arrived_young, records.Order.in_drop}, std.{proofs.lemmas.List.Elements.All-from_recursion, specs.Prelude.All}}
-use Rattle.world_law.proofs.steps_lemmas.Words.{◌++◌, ◌==◌, ◌∷◌, ◌≡◌, ◌≤ℤ◌, ◌≤◌, AllByRecursion, Bool, DeviceId, Happening, IfSome, IsCaused, IsDue, IsFounded}
+use Rattle.world_law.proofs.steps_lemmas.Words.{◌++◌, ◌==◌, ◌∷◌, ◌≡◌, ◌≤ℤ◌, ◌≤◌, AllByRecursion, Bool, DeviceId, Happening, IfSome, IsCaused}
 use Rattle.world_law.proofs.steps_lemmas.Words.{IsIn, IsInRange, IsKept, IsLawful, IsPermanent, LinkId, List, Network, Node, None, NoteBody, Option, Pcf, Point}
 use Rattle.world_law.proofs.steps_lemmas.Words.{Scenario, Some, Units, [], after_last, amount, arith, cons_option, cycle_in, ends_stretch, false, filter_map}
-use Rattle.world_law.proofs.steps_lemmas.Words.{founded_at, if◌then◌else◌, inl, inr, ints, master_of, members_in, natural, numbered_in, place_of, point_at}
+use Rattle.world_law.proofs.steps_lemmas.Words.{if◌then◌else◌, inl, inr, ints, master_of, members_in, natural, numbered_in, point_at}
 use Rattle.world_law.{proofs.steps_lemmas.Words.{point_by, point_of, points_of, pos, refl, subst, sym, time_of, true, ℕ}, specs.device.Growing.IsFromZero}
+use Rattle.world_law.proofs.runs.FoundedAs.{AreFoundedAs, founded_as}
 use Rattle.run_law.specs.declared.note.NoteBody.TheVariants as notes
 
 -- ---- no point lies before reading 0
@@ -15,19 +16,19 @@ point_natural reading clock dmax point at le some = let whole = natural dmax.0 s
 
 -- nor was any frame permanent at a point before it
 pub permanent_natural : (s : Scenario) (hs : List Happening) (device : DeviceId) (t : ℕ) (link : LinkId) (cause : ℕ) (frame : Pcf) (point : Units)
-    → IsInRange s.network → IsFounded place_of (IsDue s) hs → IsPermanent s hs device t link cause frame point → pos 0 ≤ℤ point.0
+    → IsInRange s.network → AreFoundedAs s hs → IsPermanent s hs device t link cause frame point → pos 0 ≤ℤ point.0
 permanent_natural s hs device t link cause frame point range founded p =
-    let at = founded_at s hs p.arrival founded (numbered_in hs cause p.arrival p.there) in
+    let at = founded_as s hs p.arrival founded (numbered_in hs cause p.arrival p.there) in
     let caused : IsCaused s at.front p.arrival.note.time (notes.Arrived device link p.from p.clock) = subst (IsCaused s at.front p.arrival.note.time) p.arrived
     at.due.cause in
     let least = range.dmax.least in
     point_natural (s.reading device (time_of p.arrival)) p.clock s.network.dmax point p.at_point
     (arrived_young s at.front device (amount p.arrival.note.time) link p.from p.clock caused) (omega (arith, ints, least))
 
-by_record : (s : Scenario) (hs : List Happening) (device : DeviceId) (h : Happening) → IsInRange s.network → IsFounded place_of (IsDue s) hs → IsIn h hs
+by_record : (s : Scenario) (hs : List Happening) (device : DeviceId) (h : Happening) → IsInRange s.network → AreFoundedAs s hs → IsIn h hs
     → (body : NoteBody) → h.note.body ≡ body → IfSome (point_by device h body) (λ p. pos 0 ≤ℤ p.reading)
 by_record s hs device h range founded i (notes.Permanent other link cause point verdict) is =
-    let at = founded_at s hs h founded i in
+    let at = founded_as s hs h founded i in
     let caused : IsCaused s at.front h.note.time (notes.Permanent other link cause point verdict) = subst (IsCaused s at.front h.note.time) is at.due.cause in
     let low = permanent_natural s at.front other (amount h.note.time) link cause caused.frame point range at.founded caused.permanent in
     elim (device.0 == other.0) as (λ (b : Bool). IfSome (if b then Some (point_at point.0 (master_of (members_in h)) (cycle_in h)) else None)
@@ -43,7 +44,7 @@ mapped f P [] each = tt
 mapped f P (x ∷ xs) each = consed P (f x) (filter_map f xs) (each x (inl refl)) (mapped f P xs (λ y i. each y (inr i)))
 
 -- the points of a device, by records that are founded
-pub points_from_zero : (s : Scenario) (hs : List Happening) (device : DeviceId) → IsInRange s.network → IsFounded place_of (IsDue s) hs
+pub points_from_zero : (s : Scenario) (hs : List Happening) (device : DeviceId) → IsInRange s.network → AreFoundedAs s hs
     → All (λ p. pos 0 ≤ℤ p.reading) (points_of hs device)
 points_from_zero s hs device range founded =
     All-from_recursion (λ (p : Point). pos 0 ≤ℤ p.reading) (points_of hs device)

@@ -48,16 +48,16 @@ pub acts_are_bounded : {C M : Type 0} (reading : C → ℕ → ℕ) (stands : M 
 acts_are_bounded {C} {M} reading stands s world notes device machine new times old of_it there due so =
     let held = old.devices device of_it in
     let one : held.0 ≡ machine = (let same = sym held.1 ∙ there in cc) in
-    by (subst (λ (m : M). IsHeld stands s (happenings s.network notes) old.coming old.cursor world.now device m) one held.2)
+    by (subst (λ (m : M). IsHeld stands s (happenings s.network notes) world.settled old.cursor world.now device m) one held.2)
   where
-    by : IsHeld stands s (happenings s.network notes) old.coming old.cursor world.now device machine → times ≤ 259
+    by : IsHeld stands s (happenings s.network notes) world.settled old.cursor world.now device machine → times ≤ 259
     by (inr k) =
         let has = due k.node k.is in
         absurd (no_task s.network device k.node has.0 k.shows has.1)
     by (inl k) =
         let may = may_act_now s world.now device k.node k.ready (old.steady device) old.limit in
         let law = lawful reading stands s world notes old device in
-        let zero_on = kept_from_zero stands s (happenings s.network notes) old.coming old.cursor world.now device machine k law in
+        let zero_on = kept_from_zero stands s (happenings s.network notes) world.settled old.cursor world.now device machine k law in
         let chain_of = so k.node k.is may in
         let few = acts_are_few s.network device (moment_of s device world.now) k.node chain_of.0 chain_of.1 old.range old.rules zero_on may chain_of.3 in
         let many = chain_of.2 in
@@ -65,18 +65,18 @@ acts_are_bounded {C} {M} reading stands s world notes device machine new times o
 
 -- ---- what an act brings
 
-few_joining : (device : DeviceId) (heard : Ripe) → length (joining_bodies device heard) ≤ 1
-few_joining device ripe.Integrates = omega arith
-few_joining device other = omega arith
+few_joining : (n : ℕ) (device : DeviceId) (heard : Ripe) → length (joining_bodies n device heard) ≤ 1
+few_joining n device ripe.Integrates = omega arith
+few_joining n device other = omega arith
 
-few_first : (device : DeviceId) (was : State) → length (first_bodies device was) ≤ 1
-few_first device Joining = omega arith
-few_first device other = omega arith
+few_first : (n : ℕ) (device : DeviceId) (was : State) → length (first_bodies n device was) ≤ 1
+few_first n device Joining = omega arith
+few_first n device other = omega arith
 
-few_corrected : (device : DeviceId) (was : State) (cycle : ℕ) (adjustment : Units) (verdict : Verdict)
-    → length (correction_bodies device was cycle adjustment verdict) ≤ 2
-few_corrected device was cycle adjustment (verdicts.Corrected by) = let few = few_first device was in omega (arith, few)
-few_corrected device was cycle adjustment other = omega arith
+few_corrected : (n : ℕ) (device : DeviceId) (was : State) (cycle : ℕ) (adjustment : Units) (verdict : Verdict)
+    → length (correction_bodies n device was cycle adjustment verdict) ≤ 2
+few_corrected n device was cycle adjustment (verdicts.Corrected by) = let few = few_first n device was in omega (arith, few)
+few_corrected n device was cycle adjustment other = omega arith
 
 of_length : (bodies others : List NoteBody) → bodies ≡ others → length others ≤ 2 → length bodies ≤ 2
 of_length bodies others is few = subst (λ (l : List NoteBody). length l ≤ 2) (sym is) few
@@ -84,7 +84,7 @@ of_length bodies others is few = subst (λ (l : List NoteBody). length l ≤ 2) 
 pub acts_bring_few : ActsBringFew
 acts_bring_few s hs now device was adjustment (acts.Send frame) bodies are = of_length bodies _ are (omega arith)
 acts_bring_few s hs now device was adjustment (acts.Emit sent heard) bodies are =
-    let few = few_joining device heard in of_length bodies _ are (omega (arith, few))
+    let few = few_joining (length hs + 1) device heard in of_length bodies _ are (omega (arith, few))
 acts_bring_few s hs now device was adjustment (acts.Correct cycle verdict) bodies are =
-    of_length bodies (correction_bodies device was cycle adjustment verdict) are (few_corrected device was cycle adjustment verdict)
+    of_length bodies _ are (few_corrected (length hs + 1) device was cycle adjustment verdict)
 acts_bring_few s hs now device was adjustment (acts.Dispatch row cycle) bodies are = of_length bodies _ are.4 (omega arith)

@@ -1,15 +1,16 @@
 -- A frame arrives at its device: it is judged as the records say, and each device is kept behind it.
 use Rattle.world_law.proofs.devices.Working.{rested}
 use Rattle.world_law.proofs.steps_lemmas.Words.{changed_at}
+use Rattle.world_law.proofs.putting.Bearing.{frames_aside}
 use Rattle.{run_law.specs.machines.{Answers.after_arrival, Calls.MayArrive}, world_law.specs.world.Calls.HasHeard}
-use Rattle.world_law.proofs.{putting.Moving.kept_moves, steps_lemmas.Words.{place_of, placed, pos, rank, refl, signal_of, subst, sym, taken_in, time_of, ℕ, ℤ}}
+use Rattle.world_law.proofs.{putting.Moving.kept_moves, steps_lemmas.Words.{place_of, pos, rank, refl, signal_of, subst, sym, taken_in, time_of, ℕ, ℤ}}
 use Rattle.world_law.proofs.steps_lemmas.Words.{no_task_at, ◌++◌, ◌+◌, ◌==◌, ◌^◌, ◌∙◌, ◌∷◌, ◌≡◌, ◌≤ℤ◌, ◌≤◌, Arrival, Bool, DeviceId, Happening, IsBefore, IsHeld, IsKept}
 use Rattle.world_law.proofs.steps_lemmas.Words.{IsMoving, IsNoTaking, IsOut, IsSteady, LinkId, List, Network, Node, OnWire, Scenario, Signal, TakenFrame, VlId}
 use Rattle.world_law.proofs.steps_lemmas.Words.{[], amount, ap, arith, arrival_at, arrival_body, arrival_of, arriving, bears_on, behind, called}
 use Rattle.world_law.proofs.steps_lemmas.Words.{chain, eq-eqb, false, held_aside, if◌then◌else◌, in_parts, in_right, inl, inr, is_end, is_sending, moment_of}
 use Rattle.world_law.proofs.steps_lemmas.hearing.{Called.{After, kept_by, kept_called, out_called}, Timed.{IsAfterGiven, given_by_now, kept_judges, no_taking}}
 use Rattle.world_law.proofs.steps_lemmas.hearing.{Calling.may_call, Judging.{broken_drops, out_drops}, Putting.IsReceiving, Receptions.placed_at}
-use Rattle.world_law.proofs.steps_lemmas.hearing.{Quiet.{IsQuiet, IsTakingBy, frames_aside, kept_taking}, Ranked.{accepted_high, delivered_high}, Took.took}
+use Rattle.world_law.proofs.steps_lemmas.hearing.{Quiet.{IsQuiet, IsTakingBy, kept_taking}, Ranked.{accepted_high, delivered_high}, Took.took}
 use Rattle.run_law.specs.declared.steps.Arrival.TheVariants as arrivals
 
 -- ---- the devices
@@ -113,20 +114,19 @@ four_after now d more (inr (e, inl lt)) = omega (arith, lt)
 four_after now d more (inr (e, inr (f, b))) = omega (arith, f)
 
 -- it takes nothing
-plain_there : {M : Type 0} (stands : M → Network → DeviceId → Node → Type 0) (s : Scenario) (n : ℕ) (hs front back : List Happening) (mark cursor : List ℕ)
+plain_there : {M : Type 0} (stands : M → Network → DeviceId → Node → Type 0) (s : Scenario) (hs front back : List Happening) (mark cursor : List ℕ)
     (now : ℕ)
     (e : OnWire) (machine heard : M) (w : Happening) → IsMoving s hs (front ++ back) mark cursor now 2 (e.device.0 ∷ e.link.0 ∷ e.cause ∷ [])
     → IsQuiet hs front back w e.device → time_of w ≡ now → IsNoTaking e.device w.note.body
     → (k : IsKept stands s hs (front ++ back) cursor now e.device machine) → stands heard s.network e.device (called (moment_of s e.device now) arriving k.node)
-    → IsHeld stands s hs (placed n front w back) (behind (now ∷ 2 ∷ e.device.0 ∷ e.link.0 ∷ e.cause ∷ [])) now e.device heard
-plain_there stands s n hs front back mark cursor now e machine heard w moving quiet at none k is =
+    → IsHeld stands s hs (front ++ w ∷ back) (behind (now ∷ 2 ∷ e.device.0 ∷ e.link.0 ∷ e.cause ∷ [])) now e.device heard
+plain_there stands s hs front back mark cursor now e machine heard w moving quiet at none k is =
     let more = e.device.0 ∷ e.link.0 ∷ e.cause ∷ [] in
     let by = After stands heard (called (moment_of s e.device now) arriving) in
     let on = kept_moves by s hs (front ++ back) mark cursor now 2 more e.device machine moving
     (no_task_at s.network now e.device 2 more (inl (omega arith)))
     (kept_by stands by s hs (front ++ back) cursor now e.device machine k is) in
-    held_aside stands s n hs front back (behind (now ∷ 2 ∷ more)) now e.device heard w quiet.bears quiet.sends at
-    (frames_aside s n hs front back w e.device quiet none)
+    held_aside s hs front back w e.device quiet.bears quiet.sends at (frames_aside s hs front back w e.device quiet.bears none)
     (inl (kept_called stands s hs (front ++ back) (behind (now ∷ 2 ∷ more)) now e.device machine heard arriving on (after_here s now e)))
 
 -- no place behind it, and before what acts, is before the cursor
@@ -137,14 +137,14 @@ not_over now d more (inr (e, inr (f, inl lt))) = omega (arith, lt)
 not_over now d more (inr (e, inr (f, inr (g, b)))) = omega (arith, g)
 
 -- it takes a frame
-taken_there : {M : Type 0} (stands : M → Network → DeviceId → Node → Type 0) (s : Scenario) (n : ℕ) (hs front back : List Happening) (mark cursor : List ℕ)
+taken_there : {M : Type 0} (stands : M → Network → DeviceId → Node → Type 0) (s : Scenario) (hs front back : List Happening) (mark cursor : List ℕ)
     (now : ℕ)
     (e : OnWire) (machine heard : M) (w : Happening) (vl : VlId) (cycle : ℕ)
     → IsMoving s hs (front ++ back) mark cursor now 2 (e.device.0 ∷ e.link.0 ∷ e.cause ∷ [])
     → IsTakingBy s hs front back now w e.device vl cycle → IsSteady (s.reading e.device) (amount s.network.precision) → pos 0 ≤ℤ s.network.precision.0
     → (k : IsKept stands s hs (front ++ back) cursor now e.device machine) → stands heard s.network e.device (took (moment_of s e.device now) vl cycle k.node)
-    → IsHeld stands s hs (placed n front w back) (behind (now ∷ 2 ∷ e.device.0 ∷ e.link.0 ∷ e.cause ∷ [])) now e.device heard
-taken_there stands s n hs front back mark cursor now e machine heard w vl cycle moving taking steady precise k is =
+    → IsHeld stands s hs (front ++ w ∷ back) (behind (now ∷ 2 ∷ e.device.0 ∷ e.link.0 ∷ e.cause ∷ [])) now e.device heard
+taken_there stands s hs front back mark cursor now e machine heard w vl cycle moving taking steady precise k is =
     let more = e.device.0 ∷ e.link.0 ∷ e.cause ∷ [] in
     let over = e.link.0 ∷ e.cause ∷ 0 ∷ [] in
     let by = After stands heard (took (moment_of s e.device now) vl cycle) in
@@ -157,7 +157,7 @@ taken_there stands s n hs front back mark cursor now e machine heard w vl cycle 
     ] in
     let rests = rested s e.device on.node (changed_at (hs ++ (front ++ back)) e.device on.up) on.up now (behind (now ∷ 2 ∷ more)) on.worked (omega (arith, up))
     (four_after now e.device.0 (e.device.0 ∷ over)) in
-    inl (kept_taking stands s n hs front back w (behind (now ∷ 2 ∷ more)) now e.device machine heard vl cycle taking steady precise (after_here s now e) on up
+    inl (kept_taking stands s hs front back w (behind (now ∷ 2 ∷ more)) now e.device machine heard vl cycle taking steady precise (after_here s now e) on up
     rests)
 
 taking_by : {M : Type 0} (stands : M → Network → DeviceId → Node → Type 0) (s : Scenario) (hs front back : List Happening) (mark cursor : List ℕ) (now : ℕ)
@@ -180,55 +180,55 @@ frame_of vl cycle z = record { vl = vl; cycle = cycle; at = z }
 self_takes : (device : DeviceId) (vl : VlId) (cycle : ℕ) (z : ℤ) → (if device.0 == device.0 then frame_of vl cycle z ∷ [] else []) ≡ frame_of vl cycle z ∷ []
 self_takes device vl cycle z = ap (λ (b : Bool). if b then frame_of vl cycle z ∷ [] else []) (eq-eqb device.0 device.0 refl)
 
-kept_there : {M : Type 0} (stands : M → Network → DeviceId → Node → Type 0) (s : Scenario) (n : ℕ) (hs front back : List Happening) (mark cursor : List ℕ)
+kept_there : {M : Type 0} (stands : M → Network → DeviceId → Node → Type 0) (s : Scenario) (hs front back : List Happening) (mark cursor : List ℕ)
     (now : ℕ)
     (e : OnWire) (machine heard : M) (octets : List ℕ) (result is : Arrival) (w : Happening)
     → IsHearingIt stands s hs (front ++ back) mark cursor now e machine heard octets result → IsReceiving s hs front back mark cursor now e is w
     → is ≡ arrival_of s (hs ++ (front ++ back)) e.device now e.link e.cause e.signal → (k : IsKept stands s hs (front ++ back) cursor now e.device machine)
     → stands heard s.network e.device (called (moment_of s e.device now) arriving (after_arrival k.node (moment_of s e.device now) is))
-    → IsHeld stands s hs (placed n front w back) (behind (now ∷ 2 ∷ e.device.0 ∷ e.link.0 ∷ e.cause ∷ [])) now e.device heard
-kept_there stands s n hs front back mark cursor now e machine heard octets result (arrivals.Accepted vl cycle) w h r so k is =
-    taken_there stands s n hs front back mark cursor now e machine heard w vl cycle h.moving
+    → IsHeld stands s hs (front ++ w ∷ back) (behind (now ∷ 2 ∷ e.device.0 ∷ e.link.0 ∷ e.cause ∷ [])) now e.device heard
+kept_there stands s hs front back mark cursor now e machine heard octets result (arrivals.Accepted vl cycle) w h r so k is =
+    taken_there stands s hs front back mark cursor now e machine heard w vl cycle h.moving
     (taking_by stands s hs front back mark cursor now e (arrivals.Accepted vl cycle) w vl cycle h.given r
     (accepted_high s e.device now e.link e.cause e.signal (hs ++ (front ++ back)) vl cycle (sym so)) (self_takes e.device vl cycle))
     h.steady h.precise k is
-kept_there stands s n hs front back mark cursor now e machine heard octets result (arrivals.Delivered vl cycle) w h r so k is =
-    taken_there stands s n hs front back mark cursor now e machine heard w vl cycle h.moving
+kept_there stands s hs front back mark cursor now e machine heard octets result (arrivals.Delivered vl cycle) w h r so k is =
+    taken_there stands s hs front back mark cursor now e machine heard w vl cycle h.moving
     (taking_by stands s hs front back mark cursor now e (arrivals.Delivered vl cycle) w vl cycle h.given r (delivered_high s.network e.device)
     (self_takes e.device vl cycle)) h.steady h.precise k is
-kept_there stands s n hs front back mark cursor now e machine heard octets result (arrivals.Dropped reason) w h r so k is =
-    plain_there stands s n hs front back mark cursor now e machine heard w h.moving (quiet_for stands s hs front back mark cursor now e _ w h.given r e.device)
+kept_there stands s hs front back mark cursor now e machine heard octets result (arrivals.Dropped reason) w h r so k is =
+    plain_there stands s hs front back mark cursor now e machine heard w h.moving (quiet_for stands s hs front back mark cursor now e _ w h.given r e.device)
     r.at
     (λ at. ap (taken_in e.device at) r.body) k is
-kept_there stands s n hs front back mark cursor now e machine heard octets result (arrivals.Waits frame point) w h r so k is =
-    plain_there stands s n hs front back mark cursor now e machine heard w h.moving (quiet_for stands s hs front back mark cursor now e _ w h.given r e.device)
+kept_there stands s hs front back mark cursor now e machine heard octets result (arrivals.Waits frame point) w h r so k is =
+    plain_there stands s hs front back mark cursor now e machine heard w h.moving (quiet_for stands s hs front back mark cursor now e _ w h.given r e.device)
     r.at
     (λ at. ap (taken_in e.device at) r.body) k is
-kept_there stands s n hs front back mark cursor now e machine heard octets result (arrivals.Passes frame way) w h r so k is =
-    plain_there stands s n hs front back mark cursor now e machine heard w h.moving (quiet_for stands s hs front back mark cursor now e _ w h.given r e.device)
+kept_there stands s hs front back mark cursor now e machine heard octets result (arrivals.Passes frame way) w h r so k is =
+    plain_there stands s hs front back mark cursor now e machine heard w h.moving (quiet_for stands s hs front back mark cursor now e _ w h.given r e.device)
     r.at
     (λ at. ap (taken_in e.device at) r.body) k is
-kept_there stands s n hs front back mark cursor now e machine heard octets result (arrivals.PassesAndWaits frame way point) w h r so k is =
-    plain_there stands s n hs front back mark cursor now e machine heard w h.moving (quiet_for stands s hs front back mark cursor now e _ w h.given r e.device)
+kept_there stands s hs front back mark cursor now e machine heard octets result (arrivals.PassesAndWaits frame way point) w h r so k is =
+    plain_there stands s hs front back mark cursor now e machine heard w h.moving (quiet_for stands s hs front back mark cursor now e _ w h.given r e.device)
     r.at
     (λ at. ap (taken_in e.device at) r.body) k is
 
 -- a broken device takes nothing, and is kept
-pub held_there : {M : Type 0} (stands : M → Network → DeviceId → Node → Type 0) (s : Scenario) (n : ℕ) (hs front back : List Happening) (mark cursor : List ℕ)
+pub held_there : {M : Type 0} (stands : M → Network → DeviceId → Node → Type 0) (s : Scenario) (hs front back : List Happening) (mark cursor : List ℕ)
     (now : ℕ)
     (e : OnWire) (machine heard : M) (octets : List ℕ) (result is : Arrival) (w : Happening)
     → IsHearingIt stands s hs (front ++ back) mark cursor now e machine heard octets result → IsReceiving s hs front back mark cursor now e is w
     → is ≡ arrival_of s (hs ++ (front ++ back)) e.device now e.link e.cause e.signal → IsHeld stands s hs (front ++ back) cursor now e.device machine
-    → IsHeld stands s hs (placed n front w back) (behind (now ∷ 2 ∷ e.device.0 ∷ e.link.0 ∷ e.cause ∷ [])) now e.device heard
-held_there stands s n hs front back mark cursor now e machine heard octets result is w h r so (inl k) =
+    → IsHeld stands s hs (front ++ w ∷ back) (behind (now ∷ 2 ∷ e.device.0 ∷ e.link.0 ∷ e.cause ∷ [])) now e.device heard
+held_there stands s hs front back mark cursor now e machine heard octets result is w h r so (inl k) =
     let m = moment_of s e.device now in
     let it = kept_answers stands s hs (front ++ back) mark cursor now e machine heard octets result h k in
-    kept_there stands s n hs front back mark cursor now e machine heard octets result is w h r so k
+    kept_there stands s hs front back mark cursor now e machine heard octets result is w h r so k
     (subst (λ (a : Arrival). stands heard s.network e.device (called m arriving (after_arrival k.node m a))) (it.0 ∙ sym so) it.1)
-held_there stands s n hs front back mark cursor now e machine heard octets result is w h r so (inr k) =
+held_there stands s hs front back mark cursor now e machine heard octets result is w h r so (inr k) =
     let quiet = quiet_for stands s hs front back mark cursor now e is w h.given r e.device in
     let dropped = so ∙ broken_drops s (hs ++ (front ++ back)) e.device now e.link e.cause e.signal k.broken in
-    held_aside stands s n hs front back (behind (now ∷ 2 ∷ e.device.0 ∷ e.link.0 ∷ e.cause ∷ [])) now e.device heard w quiet.bears quiet.sends r.at
-    (frames_aside s n hs front back w e.device quiet
+    held_aside s hs front back w e.device quiet.bears quiet.sends r.at
+    (frames_aside s hs front back w e.device quiet.bears
     (λ at. ap (taken_in e.device at) (r.body ∙ ap (arrival_body e.device e.link e.cause) dropped)))
     (inr (out_heard stands s hs (front ++ back) mark cursor now e machine heard octets result h k).1)

@@ -3,7 +3,7 @@ use Rattle.{net_plan.specs.Ranges.IsLinkInRange, run_law.{proofs.runs.SameSteps.
 use Rattle.{tte_units.proofs.general_lemmas.Lists.in_all, world_law.proofs.steps_lemmas.Words.{second, subst, sym, target_by, time_of, true, ℕ}}
 use Rattle.world_law.proofs.steps_lemmas.Words.{◌++◌, ◌<◌, ◌∙◌, ◌∷◌, ◌≡◌, ◌≤◌, ◌⊎◌, Arrival, DeviceId, Down, Happening, IsArrivedRecord, IsBefore, IsCaused}
 use Rattle.world_law.proofs.steps_lemmas.Words.{IsInRange, IsOnWire, IsOwnSource, Link, LinkId, List, Network, None, NoteBody, OnWire, Option, Scenario, Some}
-use Rattle.world_law.proofs.steps_lemmas.Words.{Units, Up, Way, [], amount, ap, arith, arrival_body, arrival_of, cause_of, false, hidden_body, inl, inr}
+use Rattle.world_law.proofs.steps_lemmas.Words.{Units, Up, Way, [], amount, ap, arith, arrival_body, arrival_of, cause_of, false, inl, inr}
 use Rattle.world_law.proofs.steps_lemmas.Words.{is_at_source, key, length, link_at, members_in, numbered_prefix, numbered_within, place_of, pos, rank, refl}
 use Rattle.run_law.specs.declared.judgement.Why.TheVariants as whys
 use Rattle.run_law.specs.declared.note.NoteBody.TheVariants as kinds
@@ -14,11 +14,6 @@ use Rattle.run_law.specs.declared.steps.Arrival.TheVariants as arrivals
 pub body_cause : (device : DeviceId) (link : LinkId) (cause : ℕ) (is : Arrival) → cause_of (arrival_body device link cause is) ≡ cause
 body_cause device link cause (arrivals.Dropped reason) = refl
 body_cause device link cause other = refl
-
-pub body_shown : (given : ℕ) (device : DeviceId) (link : LinkId) (cause : ℕ) (is : Arrival)
-    → hidden_body given (arrival_body device link cause is) ≡ arrival_body device link cause is
-body_shown given device link cause (arrivals.Dropped reason) = refl
-body_shown given device link cause other = refl
 
 pub body_key : (members : ℕ) (device : DeviceId) (link : LinkId) (cause : ℕ) (is : Arrival)
     → key members (arrival_body device link cause is) ≡ device.0 ∷ link.0 ∷ cause ∷ []

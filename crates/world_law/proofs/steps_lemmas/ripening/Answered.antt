@@ -1,15 +1,15 @@
 -- The machine answers, and its device is kept, whatever becomes of the frame.
 use Rattle.{run_law.proofs.device.States.joined_or, std.proofs.Common.Contains}
 use Rattle.{run_law.specs.machines.Calls.{IsHearing, MayRipen}, world_law.{proofs.frames.Proper.{link_of, received}, specs.steps.Ripening.HasRipened}}
-use Rattle.world_law.proofs.{putting.Bumped.{in_placed, raised_low, raised_rank}, steps_lemmas.Words.{time_of, true, turned_aside, ℕ}}
+use Rattle.world_law.proofs.{putting.Bearing.placed_back, steps_lemmas.Words.{time_of, true, turned_aside, ℕ}}
 use Rattle.world_law.proofs.steps_lemmas.Words.{◌++◌, ◌+◌, ◌∙◌, ◌∷◌, ◌≡◌, ◌≤ℤ◌, ◌≤◌, ◌⊎◌, AllBefore, AsState, Bool, Compressed, DeviceId, Happening}
 use Rattle.world_law.proofs.steps_lemmas.Words.{HasSentFrom, HasTurnedOn, IsBefore, IsIn, IsKept, IsLeft, IsNoTaking, IsOfMaster, IsParentOf}
 use Rattle.world_law.proofs.steps_lemmas.Words.{IsPermanenceOutcomeAt, Joining, Judgement, List, MayCall, Network, Node, NoneBefore, NoteBody, Point, Reason}
-use Rattle.world_law.proofs.steps_lemmas.Words.{Ripe, Scenario, Some, State, Waiting, [], after_permanence, all_up_to, ap, append_assoc, arith, before_it}
-use Rattle.world_law.proofs.steps_lemmas.Words.{behind, both_ways, bump_behind, called, cases_Bool, channel_of_link, earlier, eq-eqb, eqb-true, false}
+use Rattle.world_law.proofs.steps_lemmas.Words.{Ripe, Scenario, Some, State, Waiting, [], after_permanence, all_up_to, ap, append_assoc, arith}
+use Rattle.world_law.proofs.steps_lemmas.Words.{behind, both_ways, called, cases_Bool, channel_of_link, earlier, earlier_still, eq-eqb, eqb-true, false}
 use Rattle.world_law.proofs.steps_lemmas.Words.{frames_taken, has_joined_at, if◌then◌else◌, in_left, in_parts, in_right, inl, inr, is_broken, is_cm, is_off}
-use Rattle.world_law.proofs.steps_lemmas.Words.{key, length, map, members_in, moment_of, next_is_up_to, no_higher, no_later_breaks, parted, place_of, placed}
-use Rattle.world_law.proofs.steps_lemmas.Words.{pos, put_at, raised, rank, refl, ripe_as, ripening, state_after, state_before, state_with, subst, sym, taken_in}
+use Rattle.world_law.proofs.steps_lemmas.Words.{key, length, members_in, moment_of, next_is_up_to, no_higher, no_later_breaks, parted, place_of}
+use Rattle.world_law.proofs.steps_lemmas.Words.{pos, rank, refl, ripe_as, ripening, state_after, state_before, state_with, subst, sym, taken_in}
 use Rattle.world_law.proofs.steps_lemmas.{hearing.Quiet.frames_placed, ripening.{Calling.may_call, Grown.IsByRole, JustTold.{all_high, ends_in}, Merely.IsMere}}
 use Rattle.world_law.proofs.steps_lemmas.ripening.{Awake.{still_on, stirs, was_on}, Called.left_called, Coming.{IsLateKind, all_late, late_mere, state_cause}}
 use Rattle.world_law.proofs.steps_lemmas.ripening.{Joined.{IsJoin, kept_joined, was_looking}, Judged.{Hears, IsKindOf, hears_before, hears_told, outcome_kind}}
@@ -113,21 +113,10 @@ pub not_before_high : (now : ℕ) (more : List ℕ) (z : Happening) → time_of 
 not_before_high now more z at high b = grind (arith, no_higher, time_of, rank, key, members_in)
 
 -- each of those to come, with one more put in, stands so
-pub placed_high : (n now : ℕ) (front back : List Happening) (w : Happening)
+pub placed_high : (now : ℕ) (front back : List Happening) (w : Happening)
     → ((z : Happening) → IsIn z (front ++ back) → (time_of z ≡ now) × (4 ≤ rank z.note.body))
-    → (z : Happening) → IsIn z (placed n front w back) → (z ≡ w) ⊎ ((time_of z ≡ now) × (4 ≤ rank z.note.body))
-placed_high n now front back w high z i =
-    elim (in_parts z front (w ∷ map (bump_behind n) back) i) [
-      | inl f ↦ inr (high z (in_left z front back f))
-      | inr (inl same) ↦ inl same
-      | inr (inr b) ↦
-          let x = in_placed n back z b in
-          let was = high x.0 (in_right x.0 front back x.1) in
-          let t : time_of z ≡ time_of x.0 = ap time_of x.2 in
-          let k : rank z.note.body ≡ rank x.0.note.body = ap (λ (h : Happening). rank h.note.body) x.2 ∙ raised_rank n x.0.note.body in
-          let four = was.1 in
-          inr (t ∙ was.0, omega (arith, k, four))
-    ]
+    → (z : Happening) → IsIn z (front ++ w ∷ back) → (z ≡ w) ⊎ ((time_of z ≡ now) × (4 ≤ rank z.note.body))
+placed_high now front back w high z i = elim (placed_back [] front back w z i) [ inl same ↦ inl same | inr was ↦ inr (high z was) ]
 
 pub high_now : (s : Scenario) (hs coming : List Happening) (mark cursor : List ℕ) (now : ℕ) (e : Waiting) → IsRipe s hs coming mark cursor now e
     → (z : Happening) → IsIn z coming → (time_of z ≡ now) × (4 ≤ rank z.note.body)
@@ -153,14 +142,14 @@ pub quiet_kept : {M : Type 0} (stands : M → Network → DeviceId → Node → 
     → IsAnswered stands s hs now e k.node after (ripe_as verdict) → IsByRole (is_cm s.network e.device) verdict
     → w.note.body ≡ kinds.Permanent e.device e.link e.cause e.point verdict → w.frame ≡ Some e.frame → time_of w ≡ now
     → place_of w ≡ now ∷ 3 ∷ ripe_more e → AllBefore place_of front (place_of w)
-    → IsKept stands s hs (put_at hs front w back) (behind (now ∷ 3 ∷ ripe_more e)) now e.device after
+    → IsKept stands s hs (front ++ w ∷ back) (behind (now ∷ 3 ∷ ripe_more e)) now e.device after
 quiet_kept stands s hs [] back mark cursor now e machine after w verdict r k a role body of_frame at place before =
-    kept_next stands s hs back (put_at hs [] w back) mark cursor now e machine after
+    kept_next stands s hs back (w ∷ back) mark cursor now e machine after
     (after_permanence k.node (moment_of s e.device now) (channel_of_link s.network e.link) e.frame e.point (ripe_as verdict)) r k a.is
     (carried_by_role s hs back mark cursor now e k.node verdict r role (λ cm q i.
     points_no_later s hs back mark cursor now e r (all_late s hs back mark cursor now (ripe_more e) r.moving r.run.within) q
     (subst (λ (l : List Point). IsIn q l) (k.left.points cm) i)))
-    (next_by_role stands s (before_it hs []) hs back mark cursor now e machine w verdict r k a.hears role body of_frame at)
+    (next_by_role stands s hs back mark cursor now e machine w verdict r k a.hears role body of_frame at)
 quiet_kept stands s hs (f ∷ front) back mark cursor now e machine after w verdict r k a role body of_frame at place before =
     absurd (r.moving.after f (inl refl) (subst (λ (q : List ℕ). IsBefore (place_of f) q) place (before f (inl refl))))
 
@@ -172,22 +161,13 @@ pub dropped_kept : {M : Type 0} (stands : M → Network → DeviceId → Node �
     (k : IsKept stands s hs (front ++ back) cursor now e.device machine)
     → IsAnswered stands s hs now e k.node after (ripe.Dropped reason) → Rattle.world_law.specs.device.Own.bears_on e.device w.note.body ≡ false
     → IsNoTaking e.device w.note.body → IsNoOwnAct w.note.body → time_of w ≡ now
-    → IsKept stands s hs (put_at hs front w back) (behind (now ∷ 3 ∷ ripe_more e)) now e.device after
+    → IsKept stands s hs (front ++ w ∷ back) (behind (now ∷ 3 ∷ ripe_more e)) now e.device after
 dropped_kept stands s hs front back mark cursor now e machine after w reason r k a misses none other at =
-    kept_next stands s hs (front ++ back) (put_at hs front w back) mark cursor now e machine after k.node r k a.is (carried_called s e k.node now)
-    (next_aside s (before_it hs front) hs front back now k.up e.device w (called (moment_of s e.device now) ripening k.node) misses none other at
-    (λ h i. sooner_of s hs (front ++ back) mark cursor now e r w h at i)
+    kept_next stands s hs (front ++ back) (front ++ w ∷ back) mark cursor now e machine after k.node r k a.is (carried_called s e k.node now)
+    (next_aside s hs front back now k.up e.device w (called (moment_of s e.device now) ripening k.node) misses none other at
     (left_called s (hs ++ (front ++ back)) e.device k.up k.node (moment_of s e.device now) ripening k.left))
 
 -- ---- it tells the time
-
-mere_raised : (n : ℕ) (device : DeviceId) (body : NoteBody) → IsMere device body → IsMere device (raised n body)
-mere_raised n device (kinds.State other state cause why) m = tt
-mere_raised n device other m = m
-
-stirs_raised : (n : ℕ) (device : DeviceId) (body : NoteBody) → stirs device (raised n body) ≡ stirs device body
-stirs_raised n device (kinds.State other state cause why) = refl
-stirs_raised n device other = refl
 
 stirs_state : (device : DeviceId) (body : NoteBody) → IsLateKind body → stirs device body ≡ true → (it : AsState body) × (device.0 ≡ it.device.0)
 stirs_state device (kinds.State other state cause why) late e =
@@ -197,47 +177,32 @@ stirs_state device (kinds.Compressed other opened at cycle members verdict) late
 stirs_state device (kinds.Corrected other cycle by adjustment) late e = absurd late
 stirs_state device other late e = absurd cc
 
-pub joined_kept : {M : Type 0} (stands : M → Network → DeviceId → Node → Type 0) (s : Scenario) (hs back f2 back2 : List Happening) (mark cursor : List ℕ)
-    (now : ℕ) (e : Waiting)
-    (machine after : M) (w v : Happening) (r : IsRipe s hs back mark cursor now e) (k : IsKept stands s hs back cursor now e.device machine)
-    → IsAnswered stands s hs now e k.node after ripe.Integrates → pos 0 ≤ℤ s.network.precision.0
-    → w.note.body ≡ kinds.Permanent e.device e.link e.cause e.point judgements.Integrates → w.frame ≡ Some e.frame → time_of w ≡ now
-    → map (bump_behind (before_it hs [])) back ≡ f2 ++ back2 → v.note.body ≡ kinds.State e.device Joining (before_it hs [] + 1) whys.Frame → time_of v ≡ now
-    → NoneBefore place_of back2 (place_of v) → IsKept stands s hs (put_at hs (w ∷ f2) v back2) (behind (now ∷ 3 ∷ ripe_more e)) now e.device after
+pub joined_kept : {M : Type 0} (stands : M → Network → DeviceId → Node → Type 0) (s : Scenario) (hs back f2 back2 : List Happening)
+    (mark cursor : List ℕ) (now : ℕ) (e : Waiting) (machine after : M) (w v : Happening) (r : IsRipe s hs back mark cursor now e)
+    (k : IsKept stands s hs back cursor now e.device machine) → IsAnswered stands s hs now e k.node after ripe.Integrates
+    → pos 0 ≤ℤ s.network.precision.0 → w.note.body ≡ kinds.Permanent e.device e.link e.cause e.point judgements.Integrates
+    → w.frame ≡ Some e.frame → time_of w ≡ now → back ≡ f2 ++ back2
+    → v.note.body ≡ kinds.State e.device Joining (length hs + 1) whys.Frame → time_of v ≡ now
+    → NoneBefore place_of back2 (place_of v)
+    → IsKept stands s hs ((w ∷ f2) ++ v ∷ back2) (behind (now ∷ 3 ∷ ripe_more e)) now e.device after
 joined_kept stands s hs back f2 back2 mark cursor now e machine after w v r k a precise body of_frame at parts v_body v_at none =
     let device = e.device in
-    let n = before_it hs [] in
-    let n2 = before_it hs (w ∷ f2) in
-    let zs = f2 ++ v ∷ map (bump_behind n2) back2 in
+    let n = length hs + 1 in
+    let zs = f2 ++ v ∷ back2 in
     let late = all_late s hs back mark cursor now (ripe_more e) r.moving r.run.within in
-    let kind = outcome_kind s.network device k.node.standing.state k.node.standing.adjustment.0 k.node.points e.frame e.point.0 ripe.Integrates a.outcome in
+    let kind = outcome_kind s.network device k.node.standing.state k.node.standing.adjustment.0 k.node.points e.frame e.point.0
+    ripe.Integrates a.outcome in
     let other : is_cm s.network device ≡ false = elim (cases_Bool (is_cm s.network device)) [
       | inr no_cm ↦ no_cm
       | inl cm ↦ absurd (subst (λ (b : Bool). IsKindOf b ripe.Integrates) cm kind)
     ] in
-    let bumped : (z : Happening) → IsIn z (f2 ++ back2) → (x : Happening) × IsIn x back × (z ≡ bump_behind n x) = λ z i.
-    in_placed n back z (subst (λ (l : List Happening). IsIn z l) (sym parts) i) in
-    let of : (z : Happening) → IsIn z zs → (time_of z ≡ now) × IsMere device z.note.body = λ z i. elim (in_parts z f2 (v ∷ map (bump_behind n2) back2) i) [
-      | inl f ↦
-          let x = bumped z (in_left z f2 back2 f) in
-          let t : time_of z ≡ time_of x.0 = ap time_of x.2 in (
-            t ∙ r.moving.are.of_now x.0 x.1,
-            subst (λ (h : Happening). IsMere device h.note.body) (sym x.2) (mere_raised n device x.0.note.body (late_mere device x.0.note.body (late x.0 x.1))),
-          )
-      | inr (inl same) ↦ (
+    let was : (z : Happening) → IsIn z (f2 ++ back2) → IsIn z back = λ z i. subst (λ (l : List Happening). IsIn z l) (sym parts) i in
+    let of : (z : Happening) → IsIn z zs → (time_of z ≡ now) × IsMere device z.note.body = λ z i. elim (placed_back [] f2 back2 v z i) [
+      | inl same ↦ (
         ap time_of same ∙ v_at,
         subst (λ (h : Happening). IsMere device h.note.body) (sym same) (subst (IsMere device) (sym v_body) tt),
       )
-      | inr (inr b) ↦
-          let y = in_placed n2 back2 z b in
-          let x = bumped y.0 (in_right y.0 f2 back2 y.1) in
-          let t : time_of z ≡ time_of y.0 = ap time_of y.2 in
-          let u : time_of y.0 ≡ time_of x.0 = ap time_of x.2 in (
-            t ∙ u ∙ r.moving.are.of_now x.0 x.1,
-            subst (λ (h : Happening). IsMere device h.note.body) (sym y.2) (mere_raised n2 device y.0.note.body
-                (subst (λ (h : Happening). IsMere device h.note.body) (sym x.2)
-                (mere_raised n device x.0.note.body (late_mere device x.0.note.body (late x.0 x.1))))),
-          )
+      | inr old ↦ (r.moving.are.of_now z (was z old), late_mere device z.note.body (late z (was z old)))
     ] in
     let past : (h : Happening) → IsIn h (hs ++ w ∷ zs) → time_of h ≤ now = λ h i. elim (in_parts h hs (w ∷ zs) i) [
       | inl given ↦ r.past h given
@@ -246,35 +211,28 @@ joined_kept stands s hs back f2 back2 mark cursor now e machine after w v r k a 
     ] in
     let sets : (old : State) → state_with device old v.note.body ≡ Joining = λ old.
     ap (state_with device old) v_body ∙ ap (λ (b : Bool). if b then Joining else old) (eq-eqb device.0 device.0 refl) in
-    let rests : (h : Happening) → IsIn h (map (bump_behind n2) back2) → state_with device Joining h.note.body ≡ Joining = λ h i.
-    let y = in_placed n2 back2 h i in
-    let x = bumped y.0 (in_right y.0 f2 back2 y.1) in
-    elim (cases_Bool (stirs device x.0.note.body)) [
-      | inr quiet ↦
-          was_on device Joining h.note.body
-          (ap (λ (g : Happening). stirs device g.note.body) y.2 ∙ stirs_raised n2 device y.0.note.body ∙ ap (λ (g : Happening). stirs device g.note.body) x.2
-          ∙ stirs_raised n device x.0.note.body ∙ quiet)
+    let rests : (h : Happening) → IsIn h back2 → state_with device Joining h.note.body ≡ Joining = λ h i.
+    let x = was h (in_right h f2 back2 i) in
+    elim (cases_Bool (stirs device h.note.body)) [
+      | inr quiet ↦ was_on device Joining h.note.body quiet
       | inl stirred ↦
-          let st = stirs_state device x.0.note.body (late x.0 x.1) stirred in
-          let few = sole s hs back mark cursor now e r x.0 x.1 st.0 in
-          let low = Rattle.std.proofs.lemmas.List.length-append hs [] in
-          let none_len : length {A = Happening} [] ≡ 0 = refl in
-          let y_body : y.0.note.body ≡ kinds.State st.0.device st.0.state st.0.cause st.0.why = ap (λ (g : Happening). g.note.body) x.2 ∙ ap (raised n) st.0.is
-          ∙ raised_low n (kinds.State st.0.device st.0.state st.0.cause st.0.why) (omega (arith, few, low, none_len)) in
-          let u : time_of y.0 ≡ time_of x.0 = ap time_of x.2 in
-          let y_now : time_of y.0 ≡ now = u ∙ r.moving.are.of_now x.0 x.1 in
+          let st = stirs_state device h.note.body (late h x) stirred in
+          let few = sole s hs back mark cursor now e r h x st.0 in
           let same = st.1 in
-          let under : IsBefore (now ∷ 7 ∷ st.0.device.0 ∷ st.0.cause ∷ []) (now ∷ 7 ∷ device.0 ∷ (n + 1) ∷ []) =
-          inr (refl, inr (refl, inr (sym same, inl (omega (arith, few, low, none_len))))) in
-          absurd (none y.0 y.1
-          (subst (λ (t : ℕ). IsBefore (t ∷ rank y.0.note.body ∷ key (members_in y.0) y.0.note.body) (place_of v)) (sym y_now)
-          (subst (λ (b : NoteBody). IsBefore (now ∷ rank b ∷ key (members_in y.0) b) (place_of v)) (sym y_body)
-          (subst (λ (t : ℕ). IsBefore (now ∷ 7 ∷ st.0.device.0 ∷ st.0.cause ∷ []) (t ∷ rank v.note.body ∷ key (members_in v) v.note.body)) (sym v_at)
-          (subst (λ (b : NoteBody). IsBefore (now ∷ 7 ∷ st.0.device.0 ∷ st.0.cause ∷ []) (now ∷ rank b ∷ key (members_in v) b)) (sym v_body) under)))))
+          let under : IsBefore (now ∷ 7 ∷ st.0.device.0 ∷ st.0.cause ∷ []) (now ∷ 7 ∷ device.0 ∷ n ∷ []) =
+          inr (refl, inr (refl, inr (sym same, inl (omega (arith, few))))) in
+          let h_at : place_of h ≡ now ∷ 7 ∷ st.0.device.0 ∷ st.0.cause ∷ [] =
+          ap (λ (t : ℕ). t ∷ rank h.note.body ∷ key (members_in h) h.note.body) (r.moving.are.of_now h x)
+          ∙ ap (λ (b : NoteBody). now ∷ rank b ∷ key (members_in h) b) st.0.is in
+          let v_is : place_of v ≡ now ∷ 7 ∷ device.0 ∷ n ∷ [] =
+          ap (λ (t : ℕ). t ∷ rank v.note.body ∷ key (members_in v) v.note.body) v_at
+          ∙ ap (λ (b : NoteBody). now ∷ rank b ∷ key (members_in v) b) v_body in
+          absurd (none h i (subst (λ (q : List ℕ). IsBefore q (place_of v)) (sym h_at)
+          (subst (λ (q : List ℕ). IsBefore (now ∷ 7 ∷ st.0.device.0 ∷ st.0.cause ∷ []) q) (sym v_is) under)))
     ] in
     let joining : state_after s (hs ++ w ∷ zs) device ≡ Joining =
-    ap (λ (l : List Happening). state_after s l device) (sym (append_assoc hs (w ∷ f2) (v ∷ map (bump_behind n2) back2)))
-    ∙ ends_in device _ Joining (hs ++ w ∷ f2) (map (bump_behind n2) back2) v sets rests in
+    ap (λ (l : List Happening). state_after s l device) (sym (append_assoc hs (w ∷ f2) (v ∷ back2)))
+    ∙ ends_in device _ Joining (hs ++ w ∷ f2) back2 v sets rests in
     let j : IsJoin s hs zs device now w e.link e.cause e.point e.frame = record {
       body = body;
       of_frame = of_frame;
@@ -283,31 +241,26 @@ joined_kept stands s hs back f2 back2 mark cursor now e machine after w v r k a 
       mere = λ z i. (of z i).1;
       joining = joining;
     } in
+    let whole : w ∷ back ≡ (w ∷ f2) ++ back2 = ap (λ (l : List Happening). w ∷ l) parts in
+    let early : (l : List Happening) → ((z : Happening) → IsIn z l → time_of z ≡ now) → earlier now (hs ++ l) ≡ earlier now hs = λ l times.
+    earlier_still now hs l (λ z i. let t = times z i in omega (arith, t)) in
+    let states = λ (l : List Happening). state_after s l device in
+    let times_back : (z : Happening) → IsIn z back → time_of z ≡ now = λ z i. r.moving.are.of_now z i in
+    let times_one : (z : Happening) → IsIn z (w ∷ back) → time_of z ≡ now = λ z i. elim i [
+      | inl same ↦ ap time_of same ∙ at
+      | inr more ↦ times_back z more
+    ] in
+    let times_two : (z : Happening) → IsIn z (w ∷ zs) → time_of z ≡ now = λ z i. elim i [ inl same ↦ ap time_of same ∙ at | inr more ↦ (of z more).0 ] in
     kept_joined stands s hs back zs mark cursor now e machine after w r k a.is other precise (was_looking s hs now e k.node a.hears other a.outcome) j
     (λ z i. (of z i).0)
     (λ cursor2 it.
-    let whole : placed n [] w back ≡ (w ∷ f2) ++ back2 = ap (λ (l : List Happening). w ∷ l) parts in
-    let early : (l : List Happening) → ((z : Happening) → IsIn z l → time_of z ≡ now) → earlier now (hs ++ l) ≡ earlier now hs = λ l times.
-    Rattle.world_law.proofs.runs.SourcesBack.earlier_still now hs l (λ z i. let t = times z i in omega (arith, t)) in
-    let times_back : (z : Happening) → IsIn z back → time_of z ≡ now = λ z i. r.moving.are.of_now z i in
-    let times_one : (z : Happening) → IsIn z ((w ∷ f2) ++ back2) → time_of z ≡ now = λ z i. elim i [
-      | inl same ↦ ap time_of same ∙ at
-      | inr more ↦ (let x = bumped z more in let t : time_of z ≡ time_of x.0 = ap time_of x.2 in t ∙ r.moving.are.of_now x.0 x.1)
-    ] in
-    let times_two : (z : Happening) → IsIn z (w ∷ zs) → time_of z ≡ now = λ z i. elim i [ inl same ↦ ap time_of same ∙ at | inr more ↦ (of z more).0 ] in
-    let first : HasTurnedOn s hs (placed n [] w back) cursor2 device now = turned_aside s n hs [] back cursor2 now device w it
-    (ap (λ (l : List Happening). state_after s l device) (early back times_back
-    ∙ sym (early (placed n [] w back) (λ z i. times_one z (subst (λ (l : List Happening). IsIn z l) whole i))))) in
-    turned_aside s n2 hs (w ∷ f2) back2 cursor2 now device v (subst (λ (l : List Happening). HasTurnedOn s hs l cursor2 device now) whole first)
-    (ap (λ (l : List Happening). state_after s l device) (early ((w ∷ f2) ++ back2) times_one ∙ sym (early (w ∷ zs) times_two))))
-    (frames_placed s n hs [] back w device (λ z. ap (taken_in device z) body) (λ h i. sooner_of s hs back mark cursor now e r w h at i)
-    ∙ ap (λ (l : List Happening). frames_taken s (hs ++ w ∷ l) device) parts
-    ∙ frames_placed s n2 hs (w ∷ f2) back2 v device (λ z. ap (taken_in device z) v_body) (λ h i. elim (in_parts h hs ((w ∷ f2) ++ back2) i) [
+    let first : HasTurnedOn s hs (w ∷ back) cursor2 device now =
+    turned_aside s hs [] back w device it (ap states (early back times_back ∙ sym (early (w ∷ back) times_one))) in
+    turned_aside s hs (w ∷ f2) back2 v device (subst (λ (l : List Happening). HasTurnedOn s hs l cursor2 device now) whole first)
+    (ap states (ap (λ (l : List Happening). earlier now (hs ++ l)) (sym whole) ∙ early (w ∷ back) times_one ∙ sym (early (w ∷ zs) times_two))))
+    (frames_placed s hs [] back w device (λ z. ap (taken_in device z) body) (λ h i. sooner_of s hs back mark cursor now e r w h at i)
+    ∙ ap (λ (l : List Happening). frames_taken s (hs ++ l) device) whole
+    ∙ frames_placed s hs (w ∷ f2) back2 v device (λ z. ap (taken_in device z) v_body) (λ h i. elim (in_parts h hs ((w ∷ f2) ++ back2) i) [
       | inl given ↦ let past = r.past h given in omega (arith, past, v_at)
-      | inr (inl same) ↦ let t : time_of h ≡ time_of w = ap time_of same in omega (arith, t, at, v_at)
-      | inr (inr more) ↦
-          let x = bumped h more in
-          let t : time_of h ≡ time_of x.0 = ap time_of x.2 in
-          let x_now = r.moving.are.of_now x.0 x.1 in
-          omega (arith, t, x_now, v_at)
+      | inr more ↦ let t = times_one h (subst (λ (l : List Happening). IsIn h l) (sym whole) more) in omega (arith, t, v_at)
     ]))

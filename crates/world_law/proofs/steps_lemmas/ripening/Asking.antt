@@ -19,7 +19,7 @@ pub may_ask : {C M : Type 0} (reading : C → ℕ → ℕ) (stands : M → Netwo
 may_ask reading stands s world notes e old i reached first =
     let hs = happenings s.network notes in
     let r = ripening_first reading stands s world notes e old i reached first in
-    let within = in_network s hs old.coming old.mark old.cursor world.now e r in
+    let within = in_network s hs world.settled old.mark old.cursor world.now e r in
     let held = old.devices e.device within in
     let it = old.waiting.real e i in
     elim held.2 [
@@ -30,7 +30,7 @@ may_ask reading stands s world notes e old i reached first =
         there = held.1;
         node = k.node;
         is = k.is;
-        asked = may_be_asked stands s hs old.coming old.mark old.cursor world.now e held.0 r k (λ parent.
+        asked = may_be_asked stands s hs world.settled old.mark old.cursor world.now e held.0 r k (λ parent.
             of_master s hs it.arrival e.device e.link it.awaited.from it.awaited.clock e.frame old.range old.rules old.befallen.sent old.run.founded
             (numbered_in hs e.cause it.arrival it.there) it.awaited.arrived it.awaited.of_frame parent);
       }

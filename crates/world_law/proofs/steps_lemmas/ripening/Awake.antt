@@ -1,6 +1,6 @@
 -- A device that took part once is on from then on.
 use Rattle.{run_law.proofs.law.FirstPlaces.{due_is_there, front_founded, in_front_of, split}, world_law.proofs.steps_lemmas.Words.{time_of, true, turns_on, ℕ}}
-use Rattle.{run_law.proofs.{records.Happenings.{from_earlier, is_earlier}, scenario.Devices.on_by}, world_law.proofs.giving.Given.in_get}
+use Rattle.{run_law.proofs.{records.Happenings.{from_earlier, is_earlier}, scenario.Devices.on_by}, world_law.proofs.giving.GivenParts.in_get}
 use Rattle.world_law.proofs.steps_lemmas.Words.{◌&&◌, ◌+◌, ◌<◌, ◌==◌, ◌∙◌, ◌∷◌, ◌≡◌, ◌≤◌, ◌⊎◌, Bool, ChangesState, DeviceId, Happening, HaveBefallen}
 use Rattle.world_law.proofs.steps_lemmas.Words.{Integrating, IsBefore, IsCaused, IsDue, IsFounded, IsIn, IsRun, Joining, List, Note, NoteBody, Scenario, State}
 use Rattle.world_law.proofs.steps_lemmas.Words.{Units, What, Why, [], amount, and_parts, any_in, ap, arith, both_ways, by_number, cases_Bool, cases_lt, earlier}

@@ -2,16 +2,16 @@
 use Rattle.{run_law.proofs.{law.FirstPlaces.number_is, runs.Places.before_or_not}, world_law.proofs.devices.{OwnRecords.earlier_yes, Resting.in_time_of}}
 use Rattle.{std.proofs.lemmas.Bool.or_parts, world_law.specs.world.World.IsJustTold}
 use Rattle.world_law.proofs.{devices.TurnedOn.{IsInTime, looking_on, turning_state}, steps_lemmas.ripening.{Awake.{stirs, was_on}, Ripens.{IsRipe, ripe_more}}}
-use Rattle.world_law.proofs.steps_lemmas.Words.{◌&&◌, ◌++◌, ◌+◌, ◌<◌, ◌==◌, ◌||◌, ◌∙◌, ◌∷◌, ◌≡◌, ◌≤◌, ◌⊎◌, AllBefore, Bool, DeviceId, Happening, Integrating}
+use Rattle.world_law.proofs.steps_lemmas.Words.{◌&&◌, ◌++◌, ◌<◌, ◌==◌, ◌||◌, ◌∙◌, ◌∷◌, ◌≡◌, ◌≤◌, ◌⊎◌, AllBefore, Bool, DeviceId, Happening, Integrating}
 use Rattle.world_law.proofs.steps_lemmas.Words.{IsBefore, IsCaused, IsDue, IsFounded, IsIn, IsMoving, IsOfThisTime, IsSource, IsTurnedOnBy, Joining, List}
-use Rattle.world_law.proofs.steps_lemmas.Words.{NoneBefore, Note, NoteBody, Scenario, Some, State, Units, Waiting, Why, [], adjustment_after}
+use Rattle.world_law.proofs.steps_lemmas.Words.{NoneBefore, NoteBody, Scenario, Some, State, Units, Waiting, Why, [], adjustment_after}
 use Rattle.world_law.proofs.steps_lemmas.Words.{adjustment_at_hearing, adjustment_with, amount, and_parts, any_in, ap, append_assoc, arith, before_later}
-use Rattle.world_law.proofs.steps_lemmas.Words.{both_ways, by_number, cases_Bool, cases_lt, chain, cycle_in, earlier, earlier_still, eq-eqb, eqb-true, false}
-use Rattle.world_law.proofs.steps_lemmas.Words.{filter, fold, fold-append, founded_at, happening, has_joined_at, if◌then◌else◌, in_left, in_right, inl, inr}
-use Rattle.world_law.proofs.steps_lemmas.Words.{ints, is_joined_by, is_turned_on_at, is_turning, keeps_adjustment, key, le-ltb, length, lt-ltb, members_in}
+use Rattle.world_law.proofs.steps_lemmas.Words.{both_ways, by_number, cases_Bool, cases_lt, chain, cycle_in, due_of, earlier, earlier_still, eq-eqb, eqb-true, false}
+use Rattle.world_law.proofs.steps_lemmas.Words.{filter, fold, fold-append, founded_at, has_joined_at, if◌then◌else◌, in_left, in_right, inl, inr}
+use Rattle.world_law.proofs.steps_lemmas.Words.{is_joined_by, is_turned_on_at, is_turning, keeps_adjustment, key, le-ltb, lt-ltb, members_in}
 use Rattle.world_law.proofs.steps_lemmas.Words.{moves, nat_lt, ne_eqb, no_higher, none_kept, not_turned_on, numbered, numbered_front, numbered_in}
-use Rattle.world_law.proofs.steps_lemmas.Words.{numbered_parts, numbered_within, parted, place_of, rank, refl, same_device, some_same, state_after}
-use Rattle.world_law.proofs.steps_lemmas.{Words.{state_at_hearing, state_before, state_with, subst, sym, time_of, true, units_of, ℕ}, ripening.Hears.none_of}
+use Rattle.world_law.proofs.steps_lemmas.Words.{numbered_parts, numbered_within, parted, place_of, rank, record_of, refl, same_device, some_same, state_after}
+use Rattle.world_law.proofs.steps_lemmas.{Words.{state_at_hearing, state_before, state_with, subst, sym, time_of, true, ℕ}, ripening.Hears.none_of}
 use Rattle.world_law.proofs.steps_lemmas.ripening.{Coming.{IsLateKind, all_late, given_low, late_mere}, Merely.{fold_rest, mere_adjustment, mere_joins}}
 use Rattle.run_law.specs.declared.judgement.Why.TheVariants as whys
 use Rattle.run_law.specs.declared.note.NoteBody.TheVariants as kinds
@@ -320,16 +320,15 @@ told_joining s hs coming mark cursor now e z told joined =
     let at_n : numbered hs n ≡ Some j = by_number s hs j r.run.founded found.1 in
     let place = now ∷ 7 ∷ device.0 ∷ n ∷ [] in
     let cut = split_sorted place coming (λ front rest y eq. (m.are.founded front rest y eq).0) in
-    let note : Note = record { number = length (hs ++ cut.0) + 1; time = units_of now; body = kinds.State device Joining n whys.Frame } in
-    let y = happening s.network (hs ++ cut.0) note in
+    let body = kinds.State device Joining n whys.Frame in
+    let y = record_of s.network hs cut.0 now body in
     let of_time : IsOfThisTime (hs ++ cut.0) now n j = record { there = numbered_front hs cut.0 n j at_n; same_time = j_now } in
-    let due : IsDue s (hs ++ cut.0) y = record { number = refl; same = refl; begun = omega (arith, ints); cause = (refl, (j, of_time, flags.1)) } in
     let not_marked : IsBefore place mark → ⊥ = λ b.
     elim (no_higher now 7 now 3 (device.0 ∷ n ∷ []) (ripe_more e) (inr (before_later place (now ∷ 3 ∷ ripe_more e) cursor (m.ahead place b) m.waits))) [
       | inl lt ↦ omega (arith, lt)
       | inr same ↦ let le = same.1 in omega (arith, le)
     ] in
-    let there = m.are.full cut.0 cut.1 y cut.2 cut.3 cut.4 not_marked due
+    let there = m.are.full cut.0 cut.1 y cut.2 cut.3 cut.4 not_marked (due_of s hs cut.0 now body (refl, (j, of_time, flags.1)))
     (now ∷ 2 ∷ [], refl, IsSource.following now n j of_time, told.over (now ∷ 2 ∷ []) (inr (refl, inl (omega arith)))) in
     let g = there.0 in
     let shape = place_state (time_of g) (members_in g) now device.0 n g.note.body there.2 in

@@ -9,15 +9,14 @@ use Rattle.world_law.proofs.steps_lemmas.Words.{NoteBody, Point, Scenario, Task,
 use Rattle.world_law.proofs.steps_lemmas.Words.{before_behind, behind, both_ways, called, chain, changed_at, changes_adjustment, channel_of_link, correcting}
 use Rattle.world_law.proofs.steps_lemmas.Words.{dispatch_body, dispatches_back, doing, earlier, earlier_still, emitting, false, frames_taken, has_cleared}
 use Rattle.world_law.proofs.steps_lemmas.Words.{if◌then◌else◌, inl, inr, ints, is_cm, is_joined_by, is_timed, is_turned_on_at, length, master_of, moment_of}
-use Rattle.world_law.proofs.steps_lemmas.Words.{moves, natural, not, observation_window, placed, plain_body, plains_placed, point_at, pos, raised, rank}
+use Rattle.world_law.proofs.steps_lemmas.Words.{moves, natural, not, observation_window, point_at, pos, rank}
 use Rattle.world_law.proofs.steps_lemmas.Words.{reading_for, refl, ripe_as, ripening, state_after, state_before, subst, sym, taken_in, task_place, time_of}
-use Rattle.world_law.proofs.steps_lemmas.Words.{told_by_others}
-use Rattle.{compression.proofs.Times.one_list_of_clusters, world_law.proofs.{devices.Plains.changes_at_plain, rows.Dispatching.whole_founded}}
+use Rattle.compression.proofs.Times.{one_list_of_clusters}
 use Rattle.{std.proofs.Common.Contains, sync_state.specs.Standing.Standing, world_law.proofs.{acts.Recorded.first_recorded, devices.Borne.tell_owned}}
 use Rattle.world_law.proofs.{acts.Dispatched.{dispatch_told, no_dispatch_told}, steps_lemmas.{hearing.Quiet.frames_placed, ripening.Merely.own_skip}}
-use Rattle.world_law.proofs.putting.{Bearing.{before_aside, changed_aside, earlier_aside, left_aside, placed_back, still_aside}, Moving.{stays, worked_or_here}}
+use Rattle.world_law.proofs.putting.{Bearing.{before_aside, changed_aside, earlier_aside, frames_aside, left_aside, placed_back, still_aside}, Moving.{stays, worked_or_here}}
 use Rattle.world_law.proofs.steps_lemmas.{Words.{true, turned_aside, undone_alike, value_of, waiting_alike, ℕ, ℤ}, ripening.Clustered.{old_or_open, open_later}}
-use Rattle.world_law.proofs.steps_lemmas.{ripening.{Judged.{Hears, cleared_told}, JustTold.IsTold}}
+use Rattle.world_law.proofs.steps_lemmas.ripening.{Judged.{Hears, cleared_told}, JustTold.IsTold}
 use Rattle.world_law.proofs.steps_lemmas.ripening.{Coming.{all_late, late_mere, rest_ends}, Ripens.{IsRipe, in_time, not_beyond, ripe_more, sooner_of}}
 use Rattle.world_law.proofs.steps_lemmas.ripening.Grown.{IsByRole, IsFirst, IsSame, is_grown, left_grown, points_by_role, points_not, same_by_role}
 use Rattle.run_law.specs.declared.note.NoteBody.TheVariants as kinds
@@ -110,21 +109,16 @@ abbrev pub IsNoOwnAct : NoteBody → Type 0
 IsNoOwnAct body = (rank body < 4) ⊎ (10 < rank body)
 
 no_own_dispatch : (s : Scenario) (device : DeviceId) (now : ℕ) (link : _) (cause : ℕ) (vl : _) (cycle : ℕ) (body : NoteBody) → IsNoOwnAct body
-    → plain_body body ≡ dispatch_body s device now link cause vl cycle → ⊥
+    → body ≡ dispatch_body s device now link cause vl cycle → ⊥
 no_own_dispatch s device now link cause vl cycle body other e = grind (arith, dispatch_told, rank)
 
--- what is to come then is the record put in, or is as it was
-back_placed : (n now : ℕ) (front back : List Happening) (w z : Happening) → IsNoOwnAct w.note.body → time_of w ≡ now → IsIn z (placed n front w back)
-    → ((y : Happening) × IsIn y (front ++ back) × (plain_body z.note.body ≡ plain_body y.note.body) × (time_of z ≡ time_of y))
-    ⊎ (IsNoOwnAct z.note.body × (time_of z ≡ now))
-back_placed n now front back w z other at i = elim (placed_back n [] front back w z i) [
+-- what is to come then is the record put in, or was to come
+back_placed : (now : ℕ) (front back : List Happening) (w z : Happening) → IsNoOwnAct w.note.body → time_of w ≡ now
+    → IsIn z (front ++ w ∷ back) → IsIn z (front ++ back) ⊎ (IsNoOwnAct z.note.body × (time_of z ≡ now))
+back_placed now front back w z other at i = elim (placed_back [] front back w z i) [
   | inl same ↦ inr (subst (λ (h : Happening). IsNoOwnAct h.note.body) (sym same) other, ap time_of same ∙ at)
-  | inr x ↦ inl (x.0, x.1, elim x.2 [ inl e ↦ ap plain_body e | inr e ↦ ap plain_body e ∙ plain_raised n x.0.note.body ], x.3)
+  | inr was ↦ inl was
 ]
-  where
-    plain_raised : (n : ℕ) (body : NoteBody) → plain_body (raised n body) ≡ plain_body body
-    plain_raised n (kinds.State other state cause why) = refl
-    plain_raised n other = refl
 
 -- what is to come once the record is put in, as the device sees it
 pub record IsNext (s : Scenario) (hs coming coming2 : List Happening) (now up : ℕ) (device : DeviceId) (new : Node) : Type 0 where
@@ -135,8 +129,7 @@ pub record IsNext (s : Scenario) (hs coming coming2 : List Happening) (now up : 
       → (h : Happening) → IsIn h (hs ++ coming2) → time_of h ≡ now → IsAtRest s device now h.note.body
   pub turned : (cursor : List ℕ) → HasTurnedOn s hs coming cursor device now → HasTurnedOn s hs coming2 cursor device now
   pub frames : frames_taken s (hs ++ coming) device ≡ frames_taken s (hs ++ coming2) device
-  pub back : (z : Happening) → IsIn z coming2 → ((y : Happening) × IsIn y coming × (plain_body z.note.body ≡ plain_body y.note.body) × (time_of z ≡ time_of y))
-      ⊎ (IsNoOwnAct z.note.body × (time_of z ≡ now))
+  pub back : (z : Happening) → IsIn z coming2 → IsIn z coming ⊎ (IsNoOwnAct z.note.body × (time_of z ≡ now))
 
 pub turned_on : (s : Scenario) (hs coming : List Happening) (mark cursor : List ℕ) (now : ℕ) (more : List ℕ) (device : DeviceId)
     → IsMoving s hs coming mark cursor now 3 more → HasTurnedOn s hs coming cursor device now → HasTurnedOn s hs coming (behind (now ∷ 3 ∷ more)) device now
@@ -173,7 +166,7 @@ kept_next stands s hs coming coming2 mark cursor now e machine after base r k is
     let change = n.change in
     let not_acted : IsBefore (act_place now e.device) cursor → ⊥ = λ b. m.waits (chain here (act_place now e.device) cursor (under_act now e.device.0 more) b)
     in
-    let times : (z : Happening) → IsIn z coming2 → time_of z ≡ now = λ z i. elim (n.back z i) [ inl y ↦ y.3 ∙ m.are.of_now y.0 y.1 | inr none ↦ none.1 ] in
+    let times : (z : Happening) → IsIn z coming2 → time_of z ≡ now = λ z i. elim (n.back z i) [ inl was ↦ m.are.of_now z was | inr none ↦ none.1 ] in
     let done_so : HasDoneFrom s.network (s.reading e.device) e.device new (changed_at (hs ++ coming2) e.device k.up) k.up k.up = record {
       undone = λ deed u x from lt.
           subst (λ (z : Units). pos (s.reading e.device x) <ℤ (value_of s.network deed -ℤ z.0)) (sym adjusted)
@@ -263,31 +256,31 @@ kept_next stands s hs coming coming2 mark cursor now e machine after base r k is
           times
           (λ z i link cause vl cycle d tells. elim (n.back z i) [
             | inr none ↦ no_own_dispatch s e.device now link cause vl cycle z.note.body none.0 tells
-            | inl y ↦
-                no_dispatch_told s hs coming mark cursor now e.device m.are (whole_founded s hs coming mark cursor now r.run.founded r.run.within m.are)
-                not_acted y.0 y.1 link cause vl cycle
+            | inl was ↦
+                no_dispatch_told s hs coming mark cursor now e.device m.are r.run.founded
+                not_acted z was link cause vl cycle
                 (dispatches_back s (hs ++ coming2) (hs ++ coming) now e.device link cause vl cycle
                 (earlier_still now hs coming2 (λ x j. let t = times x j in omega (arith, t))
                 ∙ sym (earlier_still now hs coming (λ x j. let t = m.are.of_now x j in omega (arith, t)))) d)
-                (sym y.2 ∙ tells)
+                tells
           ]);
       phase = λ at p b. chain p here (behind here) (before_place p now more b) (before_behind here);
     }
 
 -- ---- the frame is dropped, or tells another device something
 
-pub next_aside : (s : Scenario) (n : ℕ) (hs front back : List Happening) (now up : ℕ) (device : DeviceId) (w : Happening) (new : Node)
+pub next_aside : (s : Scenario) (hs front back : List Happening) (now up : ℕ) (device : DeviceId) (w : Happening) (new : Node)
     → Rattle.world_law.specs.device.Own.bears_on device w.note.body ≡ false → IsNoTaking device w.note.body → IsNoOwnAct w.note.body → time_of w ≡ now
-    → ((h : Happening) → IsIn h (hs ++ (front ++ back)) → time_of h ≤ time_of w) → IsLeft s (hs ++ (front ++ back)) device up new
-    → IsNext s hs (front ++ back) (placed n front w back) now up device new
-next_aside s n hs front back now up device w new misses none other at sooner left = record {
-  left = left_aside s n hs front back w device up new misses left;
-  change = sym (changed_aside s n hs front back w device up misses);
-  before = before_aside s n hs front back w device now misses;
-  still = still_aside s n hs front back now device w (Rattle.world_law.proofs.devices.Borne.moves_no_other device w.note.body misses);
-  turned = λ cursor it. turned_aside s n hs front back cursor now device w it (earlier_aside s n hs front back w device now misses);
-  frames = frames_placed s n hs front back w device none sooner;
-  back = λ z i. back_placed n now front back w z other at i;
+    → IsLeft s (hs ++ (front ++ back)) device up new
+    → IsNext s hs (front ++ back) (front ++ w ∷ back) now up device new
+next_aside s hs front back now up device w new misses none other at left = record {
+  left = left_aside s hs front back w device misses up new left;
+  change = sym (changed_aside s hs front back w device misses up);
+  before = before_aside s hs front back w device misses now;
+  still = still_aside s hs front back w device now (Rattle.world_law.proofs.devices.Borne.moves_no_other device w.note.body misses);
+  turned = λ cursor it. turned_aside s hs front back w device it (earlier_aside s hs front back w device misses now);
+  frames = frames_aside s hs front back w device misses none;
+  back = λ z i. back_placed now front back w z other at i;
 }
 
 pub carried_called : (s : Scenario) (e : Waiting) (node : Node) (now : ℕ) → IsCarriedOn s e node (called (moment_of s e.device now) ripening node)
@@ -359,14 +352,14 @@ role_still : (cm : Bool) (device : DeviceId) (body : NoteBody) (link : _) (cause
     × (Rattle.run_law.specs.control.Collections.ends_stretch device body ≡ false)
 role_still cm device body link cause point verdict e role = grind (arith, is_joined_by, moves, changes_adjustment)
 
-pub next_by_role : {M : Type 0} (stands : M → Network → DeviceId → Node → Type 0) (s : Scenario) (n : ℕ) (hs coming : List Happening) (mark cursor : List ℕ)
+pub next_by_role : {M : Type 0} (stands : M → Network → DeviceId → Node → Type 0) (s : Scenario) (hs coming : List Happening) (mark cursor : List ℕ)
     (now : ℕ) (e : Waiting)
     (machine : M) (w : Happening) (verdict : Judgement) (r : IsRipe s hs coming mark cursor now e) (k : IsKept stands s hs coming cursor now e.device machine)
     → Hears s hs e.device now k.node → IsByRole (is_cm s.network e.device) verdict → w.note.body ≡ kinds.Permanent e.device e.link e.cause e.point verdict
-    → w.frame ≡ Rattle.std.proofs.Common.Some e.frame → time_of w ≡ now → IsNext s hs coming (placed n [] w coming) now k.up e.device
+    → w.frame ≡ Rattle.std.proofs.Common.Some e.frame → time_of w ≡ now → IsNext s hs coming (w ∷ coming) now k.up e.device
     (called (moment_of s e.device now) ripening (after_permanence k.node (moment_of s e.device now) (channel_of_link s.network e.link) e.frame e.point
     (ripe_as verdict)))
-next_by_role stands s n hs coming mark cursor now e machine w verdict r k hears role body of_frame at =
+next_by_role stands s hs coming mark cursor now e machine w verdict r k hears role body of_frame at =
     let device = e.device in
     let yet = is_yet stands s hs coming mark cursor now e machine r k in
     let late = all_late s hs coming mark cursor now (ripe_more e) r.moving r.run.within in
@@ -389,28 +382,20 @@ next_by_role stands s n hs coming mark cursor now e machine w verdict r k hears 
     → (not (has_cleared s (hs ++ coming) device k.up k.up) || has_cleared s (hs ++ coming) device k.up (time_of w)) ≡ true =
     grind (arith, keep_of, yet.stands, has_cleared, device, cleared_told) in
     let a = tell_owned s (hs ++ w ∷ coming) (hs ++ coming) device k.up (own_skip device k.up hs coming w quiet.1) in
-    let same_earlier : earlier now (hs ++ coming) ≡ earlier now (hs ++ placed n [] w coming) =
+    let same_earlier : earlier now (hs ++ coming) ≡ earlier now (hs ++ w ∷ coming) =
     earlier_still now hs coming (λ z i. let z_now = r.moving.are.of_now z i in omega (arith, z_now))
-    ∙ sym (earlier_still now hs (placed n [] w coming) (λ z i. elim i [
+    ∙ sym (earlier_still now hs (w ∷ coming) (λ z i. elim i [
       | inl same ↦ (let t : time_of z ≡ time_of w = ap time_of same in omega (arith, t, at))
-      | inr b ↦
-          let x = Rattle.world_law.proofs.putting.Bumped.in_placed n coming z b in
-          let t : time_of z ≡ time_of x.0 = ap time_of x.2 in
-          let x_now = r.moving.are.of_now x.0 x.1 in
-          omega (arith, t, x_now)
+      | inr b ↦ let z_now = r.moving.are.of_now z b in omega (arith, z_now)
     ])) in
     record {
-      left = told_by_others s (hs ++ w ∷ coming) (hs ++ placed n [] w coming) device k.up new (plains_placed n hs coming w)
-          (left_grown s hs coming device k.up w k.node new first keep grown k.left);
-      change =
-          sym (changes_at_plain (hs ++ placed n [] w coming) device k.up) ∙ ap (λ (l : List Happening). changed_at l device k.up)
-          (sym (plains_placed n hs coming w))
-          ∙ changes_at_plain (hs ++ w ∷ coming) device k.up ∙ a.change;
+      left = left_grown s hs coming device k.up w k.node new first keep grown k.left;
+      change = a.change;
       before =
           ap (λ (l : List Happening). if is_turned_on_at s device now then Rattle.sync_state.specs.declared.state.State.TheVariants.Integrating
           else state_after s l device) same_earlier;
-      still = still_aside s n hs [] coming now device w quiet.1;
-      turned = λ cursor2 it. turned_aside s n hs [] coming cursor2 now device w it (ap (λ (l : List Happening). state_after s l device) same_earlier);
-      frames = frames_placed s n hs [] coming w device (λ z. ap (taken_in device z) body) (λ h i. sooner_of s hs coming mark cursor now e r w h at i);
-      back = λ z i. back_placed n now [] coming w z (inl (subst (λ (b : NoteBody). rank b < 4) (sym body) (omega arith))) at i;
+      still = still_aside s hs [] coming w device now quiet.1;
+      turned = λ cursor2 it. turned_aside s hs [] coming w device it (ap (λ (l : List Happening). state_after s l device) same_earlier);
+      frames = frames_placed s hs [] coming w device (λ z. ap (taken_in device z) body) (λ h i. sooner_of s hs coming mark cursor now e r w h at i);
+      back = λ z i. back_placed now [] coming w z (inl (subst (λ (b : NoteBody). rank b < 4) (sym body) (omega arith))) at i;
     }

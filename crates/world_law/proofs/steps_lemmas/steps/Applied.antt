@@ -9,8 +9,8 @@ use Rattle.world_law.proofs.steps_lemmas.Words.{◌&&◌, ◌++◌, ◌+◌, ◌
 use Rattle.world_law.proofs.steps_lemmas.Words.{AreSettled, AreUntold, AreWaiting, Befell, Bool, Contains-push, Contains-push_cases, DeviceId, Event, Happening}
 use Rattle.world_law.proofs.steps_lemmas.Words.{IsBefore, IsEventBody, IsHeld, IsIn, IsOnWire, LinkId, List, Network, Node, OnWire, Scenario, Some, Units, What}
 use Rattle.world_law.proofs.steps_lemmas.Words.{[], amount, ap, append-nil, arith, before_behind, behind, cases_Bool, chain, clock_place, false}
-use Rattle.world_law.proofs.steps_lemmas.Words.{happening, happenings, has_outcome, hidden, if◌then◌else◌, in_left, in_parts, in_right, inl, inr, ints, length}
-use Rattle.world_law.proofs.steps_lemmas.Words.{map, never_self, numbered_within, place_of, pos, refl, scenario, slice_get, some_same, subst, sym, time_of}
+use Rattle.world_law.proofs.steps_lemmas.Words.{happening, happenings, has_outcome, if◌then◌else◌, in_left, in_parts, in_right, inl, inr, ints, length}
+use Rattle.world_law.proofs.steps_lemmas.Words.{never_self, numbered_within, place_of, pos, refl, scenario, slice_get, some_same, subst, sym, time_of}
 use Rattle.world_law.proofs.steps_lemmas.{Words.{true, turns_on, unsigned_abs, ℕ}, steps.AppliedDevices.{IsApplying, event_moves, held_apply}}
 use Rattle.world_law.proofs.steps_lemmas.steps.AppliedParts.{IsBefalling, agree_before, before_others, nothing_due, ports_apply, turned_more, waiting_apply}
 use Rattle.net_plan.specs.declared.event.What.TheVariants as events
@@ -160,7 +160,7 @@ applied_step {C} {M} reading stands network f g past event world notes clocks ma
     let js = hs ++ ev ∷ [] in
     let at : amount event.time ≡ now = ap unsigned_abs time_is in
     let back : js ≡ happenings network (notes ++ note ∷ []) = sym (one_more network notes note) in
-    let empty = no_coming hs old.coming s old.mark old.cursor now old.are early in
+    let empty = no_coming hs world.settled s old.mark old.cursor now old.are early in
     let over : (p : List ℕ) → IsBefore p (now ∷ []) → IsBefore p old.cursor = λ p b. old.ahead p (old.of_now p b) in
     let sooner : (h : Happening) → IsIn h hs → (time_of h < now) ⊎ ((time_of h ≡ now) × IsEventBody h.note.body) = λ h i. before_others h now
     (early (place_of h) (old.ahead (place_of h) (old.run.within h i))) in
@@ -263,20 +263,20 @@ applied_step {C} {M} reading stands network f g past event world notes clocks ma
       clocks = clocks_are;
       broken = broken_are;
       ways = ways;
-      coming = [];
-      room = omega (arith, room, pushed_notes);
-      settled = old.settled ∙ ap (map (hidden (length notes))) empty;
+      room = let empty_length : length world.settled ≡ 0 = ap length empty in omega (arith, room, pushed_notes, empty_length);
       known =
-          subst (λ (l : List Happening). AreOfNetwork r (l ++ [])) back
-          (known_apply network f g past event hs now ev may tt (subst (λ (l : List Happening). AreOfNetwork s (hs ++ l)) empty old.known));
+          subst (λ (l : List Happening). AreOfNetwork r (happenings network (notes ++ note ∷ []) ++ l)) (sym empty)
+          (subst (λ (l : List Happening). AreOfNetwork r (l ++ [])) back
+          (known_apply network f g past event hs now ev may tt (subst (λ (l : List Happening). AreOfNetwork s (hs ++ l)) empty old.known)));
       devices = λ device lt.
           let k = old.devices device lt in
           let then_ = been.still device k.0 k.1 in (
             then_.0,
             then_.1,
-            subst (λ (l : List Happening). IsHeld stands r l [] (now ∷ 2 ∷ []) now device then_.0) back
+            subst (λ (l : List Happening). IsHeld stands r (happenings network (notes ++ note ∷ [])) l (now ∷ 2 ∷ []) now device then_.0) (sym empty)
+                (subst (λ (l : List Happening). IsHeld stands r l [] (now ∷ 2 ∷ []) now device then_.0) back
                 (held_apply stands network f g past event hs old.cursor now (length notes + 1) ev device k.0 then_.0 applying
-                (subst (λ (l : List Happening). IsHeld stands s hs l old.cursor now device k.0) empty k.2) then_.2 may),
+                (subst (λ (l : List Happening). IsHeld stands s hs l old.cursor now device k.0) empty k.2) then_.2 may)),
           );
       early = λ fresh p b. b;
       untold = subst (λ (l : List Happening). AreUntold l (now ∷ 2 ∷ []) now true (world.befell ++ also_befell (length notes + 1) event.what)) back
@@ -291,6 +291,8 @@ applied_step {C} {M} reading stands network f g past event world notes clocks ma
           subst (λ (l : List Happening). AreWaiting r l (now ∷ 2 ∷ []) now waiting) back
           (waiting_apply network f g past event hs old.mark old.cursor now ev world.waiting waiting m old.waiting waits);
       stored = subst (λ (l : List Happening). AreStored l world.stored) back (stored_still hs ev world.stored (λ device vl. refl) old.stored);
-      are = subst (λ (l : List Happening). AreSettled r l [] (behind here) (now ∷ 2 ∷ []) now) back (nothing_due network g past event js now at);
+      are =
+          subst (λ (l : List Happening). AreSettled r (happenings network (notes ++ note ∷ [])) l (behind here) (now ∷ 2 ∷ []) now) (sym empty)
+          (subst (λ (l : List Happening). AreSettled r l [] (behind here) (now ∷ 2 ∷ []) now) back (nothing_due network g past event js now at));
       shown = λ device lt ended. (λ b. absurd (no_clock now device b), λ less. absurd (omega (arith, less)));
     }

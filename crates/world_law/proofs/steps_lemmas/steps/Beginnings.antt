@@ -1,9 +1,9 @@
 -- A fresh world stands for the run of no records under no events.
 use Rattle.{run_law.{proofs.{records.Happenings.none_numbered, runs.Grow.empty_run}, specs.machines.Nodes.begun_node}, world_law.specs.steps.Steps.Begun}
 use Rattle.world_law.proofs.steps_lemmas.Words.{◌++◌, ◌+ℤ◌, ◌+◌, ◌-ℤ◌, ◌<ℤ◌, ◌^◌, ◌∙◌, ◌∷◌, ◌≡◌, ◌≤ℤ◌, ◌≤◌, DeviceId, Happening, IsBefore, IsDue, IsIn, IsKept}
-use Rattle.world_law.proofs.steps_lemmas.Words.{IsLeft, IsPending, IsSource, List, Network, Node, Scenario, Task, Units, [], acts_before, amount, ap, arith}
+use Rattle.world_law.proofs.steps_lemmas.Words.{AreOfNetwork, AreSettled, IsLeft, IsPending, IsSource, List, Network, Node, Scenario, Task, Units, [], acts_before, amount, ap, arith}
 use Rattle.world_law.proofs.steps_lemmas.Words.{chain, correcting, dispatching, doing, emitting, false, inl, inr, ints, no_cluster, none_in, observation_window}
-use Rattle.world_law.proofs.steps_lemmas.Words.{place_of, pos, reading_for, refl, scenario, subst, sym, true, value_of, ℕ, ℤ}
+use Rattle.world_law.proofs.steps_lemmas.Words.{length, place_of, pos, reading_for, refl, scenario, subst, sym, true, value_of, ℕ, ℤ}
 
 -- nothing of the run is before the first source
 low_rank : (t k : ℕ) (ws : List ℕ) → 1 ≤ k → IsBefore (t ∷ k ∷ ws) (0 ∷ 1 ∷ []) → ⊥
@@ -103,16 +103,17 @@ begun {C} {M} reading stands network f world fresh forward steady zero_first le 
       clocks = λ device lt. let own = fresh.clocks device lt in (own.0, own.1, λ t late. own.2 t (omega arith));
       broken = fresh.broken;
       ways = subst (λ (n : ℕ). Rattle.world_law.specs.world.World.AreWays s n world.ups world.downs) now fresh.ways;
-      coming = [];
-      room = omega arith;
-      settled = fresh.settled;
-      known = record { unmoved = λ device le h i. absurd i; never_on = λ device le t. refl };
+      room = let none : length world.settled ≡ 0 = ap length fresh.settled in omega (arith, none);
+      known =
+          subst (λ (l : List Happening). AreOfNetwork s ([] ++ l)) (sym fresh.settled)
+          (record { unmoved = λ device le h i. absurd i; never_on = λ device le t. refl });
       devices = λ device lt.
           let m = fresh.machines device lt in (
             m.0,
             m.1,
-            inl (subst (λ (n : ℕ). IsKept stands s [] [] (0 ∷ 1 ∷ []) n device m.0) now
-                (kept_fresh stands network f device m.0 (zero_first device) le m.2)),
+            inl (subst (λ (l : List Happening). IsKept stands s [] l (0 ∷ 1 ∷ []) world.now device m.0) (sym fresh.settled)
+                (subst (λ (n : ℕ). IsKept stands s [] [] (0 ∷ 1 ∷ []) n device m.0) now
+                (kept_fresh stands network f device m.0 (zero_first device) le m.2))),
           );
       early = λ first p b. subst (λ (n : ℕ). IsBefore p (n ∷ 2 ∷ [])) now (chain p (0 ∷ 1 ∷ []) (0 ∷ 2 ∷ []) b (inr (refl, inl (omega arith))));
       untold = record {
@@ -141,15 +142,17 @@ begun {C} {M} reading stands network f world fresh forward steady zero_first le 
       stored =
           subst (λ (l : List _). Rattle.world_law.specs.world.World.AreStored [] l) (sym fresh.stored)
           (record { real = λ e i. absurd i; all = λ device vl taking last. absurd cc });
-      are = record {
-        of_now = λ z i. absurd i;
-        behind_mark = λ z i. absurd i;
-        founded = λ front rest z e. absurd (no_part front rest z e);
-        by = λ front rest z e. absurd (no_part front rest z e);
-        full = λ front back y e before none not due worked. absurd (source_from s ([] ++ front) worked.0 worked.2 worked.3);
-        not_past = λ z i. absurd i;
-        worked = λ z i. absurd i;
-        begun = λ z i. absurd i;
-      };
+      are =
+          subst (λ (l : List Happening). AreSettled s [] l (0 ∷ []) (0 ∷ 1 ∷ []) world.now) (sym fresh.settled)
+          (record {
+            of_now = λ z i. absurd i;
+            behind_mark = λ z i. absurd i;
+            founded = λ front rest z e. absurd (no_part front rest z e);
+            by = λ front rest z e. absurd (no_part front rest z e);
+            full = λ front back y e before none not due worked. absurd (source_from s ([] ++ front) worked.0 worked.2 worked.3);
+            not_past = λ z i. absurd i;
+            worked = λ z i. absurd i;
+            begun = λ z i. absurd i;
+          });
       shown = λ device lt ended. absurd (let e : false ≡ true = sym fresh.ended ∙ ended in cc);
     }

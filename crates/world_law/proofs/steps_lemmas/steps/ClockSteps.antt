@@ -1,12 +1,13 @@
 -- The clock of a device is shown at the end.
 use Rattle.world_law.proofs.{devices.Shown.{all_past, held_shows}, giving.GivenParts.up_to_place, putting.Putting.{IsPutting, held_put, known_put, settled_put}}
 use Rattle.world_law.{proofs.{giving.Given.device_in, putting.StandsOn.source_told}, specs.steps.Steps.ClockStep}
-use Rattle.world_law.proofs.steps_lemmas.Words.{◌++◌, ◌+◌, ◌<◌, ◌↔◌, ◌∙◌, ◌∷◌, ◌≡◌, ◌≤◌, AreOfNetwork, ArePutIn, DeviceId, Happening, IsBefore, IsDue, IsHeld}
-use Rattle.world_law.proofs.steps_lemmas.Words.{IsMoving, IsOwnSource, IsSource, List, Network, Node, Note, NoteBody, Scenario, [], no_task_at, adjustment_after}
-use Rattle.world_law.proofs.steps_lemmas.Words.{all_without, ap, arith, at_least, before_behind, behind, cases_lt, chain, clock_place, comes_first, either_way}
-use Rattle.world_law.proofs.steps_lemmas.Words.{happening, happenings, held_moves, hidden, inl, inr, ints, is_at_source, key, length, map, members_in, place_of}
-use Rattle.world_law.proofs.steps_lemmas.Words.{port_place, ports_move, put_list, rank, refl, settled_as, some_same, stands_on, state_after, subst, sym}
-use Rattle.world_law.proofs.steps_lemmas.Words.{time_of, told_wires, true, units_of, up_to, waiting_moves, wire_place, wires_move, ℕ}
+use Rattle.world_law.proofs.steps_lemmas.Words.{◌++◌, ◌+◌, ◌<◌, ◌↔◌, ◌∙◌, ◌∷◌, ◌≡◌, ◌≤◌, AreOfNetwork, ArePutIn, DeviceId, Happening, IsBefore, IsHeld}
+use Rattle.world_law.proofs.steps_lemmas.Words.{IsMoving, IsOwnSource, IsSource, List, Network, Node, NoteBody, Scenario, [], no_task_at, adjustment_after}
+use Rattle.world_law.proofs.steps_lemmas.Words.{all_without, ap, arith, at_least, before_behind, behind, cases_lt, chain, clock_place, comes_first, either_way, false}
+use Rattle.world_law.proofs.steps_lemmas.Words.{happenings, held_moves, inl, inr, is_at_source, key, members_in, place_of}
+use Rattle.world_law.proofs.steps_lemmas.Words.{port_place, ports_move, rank, refl, settled_as, some_same, stands_on, state_after, subst, sym}
+use Rattle.world_law.proofs.steps_lemmas.Words.{StandsBehind, due_of, record_of, time_of, told_wires, true, units_of, up_to, waiting_moves, wire_place, wires_move, ℕ}
+use Rattle.world_law.{proofs.putting.PutShown.same_record, specs.world.World.IsDueAs}
 use Rattle.run_law.specs.declared.judgement.Why.TheVariants as whys
 use Rattle.run_law.specs.declared.note.NoteBody.TheVariants as kinds
 
@@ -72,33 +73,27 @@ clock_step {C} {M} reading stands s world notes device machine state adjustment 
     let more = device.0 ∷ [] in
     let here = now ∷ 14 ∷ more in
     let waits : IsBefore here old.cursor → ⊥ = λ b. let less = (old.shown device lt ended).0 b in omega (arith, less, shown) in
-    let m = comes_first reading stands s world notes old 14 more here (λ seven. omega (arith, seven))
+    let m = comes_first reading stands s world notes old 14 more here
     (λ same. (let two : ◌≡◌ {A = ℕ} 2 14 = cc in omega (arith, two))) refl waits first in
-    let empty = none_coming s hs old.coming old.mark old.cursor now device m in
+    let empty = none_coming s hs world.settled old.mark old.cursor now device m in
     let moving : IsMoving s hs [] old.mark old.cursor now 14 more = subst (λ (l : List Happening). IsMoving s hs l old.mark old.cursor now 14 more) empty m in
     let body : NoteBody = kinds.Clock device (units_of (s.reading device now)) adjustment state in
-    let note : Note = record { number = length (hs ++ []) + 1; time = units_of now; body = body } in
-    let w = happening s.network (hs ++ []) note in
+    let w = record_of s.network hs [] now body in
     let m2 = old.devices device lt in
     let machine_is : m2.0 ≡ machine = some_same m2.0 machine _ m2.1 there in
-    let shows = held_shows stands s hs old.coming old.mark old.cursor now device m2.0 m2.2
+    let shows = held_shows stands s hs world.settled old.mark old.cursor now device m2.0 m2.2
     (old.untold.done (source_told reading stands s world notes old 14 more m (inr (refl, inl (omega arith)))))
     (all_past reading stands s world notes old) old.befallen in
     let is = stood shows.0 (subst (λ (x : M). stands x s.network device shows.0) machine_is shows.1) in
     let at_end = device_in s.network device lt in
-    let due : IsDue s (hs ++ []) w = record {
-      number = refl;
-      same = refl;
-      begun = omega (arith, ints);
-      cause = record {
-        is = at_end.0;
-        there = at_end.1;
-        ends = (old.ended (units_of now)).1 (ended, refl);
-        reads = refl;
-        adjusted = is.1 ∙ shows.2.adjustment ∙ ap (λ (l : List Happening). adjustment_after s (up_to now (hs ++ l)) device) empty;
-        in_state = is.0 ∙ shows.2.state ∙ ap (λ (l : List Happening). state_after s (up_to now (hs ++ l)) device) empty;
-      };
-    } in
+    let due : IsDueAs s (hs ++ []) w = due_of s hs [] now body (record {
+      is = at_end.0;
+      there = at_end.1;
+      ends = (old.ended (units_of now)).1 (ended, refl);
+      reads = refl;
+      adjusted = is.1 ∙ shows.2.adjustment ∙ ap (λ (l : List Happening). adjustment_after s (up_to now (hs ++ l)) device) empty;
+      in_state = is.0 ∙ shows.2.state ∙ ap (λ (l : List Happening). state_after s (up_to now (hs ++ l)) device) empty;
+    }) in
     let p : IsPutting s hs [] [] old.mark old.cursor now 14 more w = record {
       moving = moving;
       late = omega arith;
@@ -118,13 +113,15 @@ clock_step {C} {M} reading stands s world notes device machine state adjustment 
           let it = clock_own s (hs ++ zs) (time_of y) (members_in y) y.note.body device now own in
           ap (λ (l : List ℕ). now ∷ l) (sym it.1) ∙ ap (λ (n : ℕ). n ∷ rank y.note.body ∷ key (members_in y) y.note.body) (sym it.0);
     } in
-    let none_settled : world.settled ≡ [] = old.settled ∙ ap (map (hidden (length notes))) empty in
-    let shown_all : settled ≡ map (hidden (length notes)) (put_list [] w []) = nothing_put now s.network hs body settled
-    (subst (λ (l : List Happening). ArePutIn s.network hs now (body ∷ []) l settled) none_settled put) in
+    let all : settled ≡ w ∷ [] = nothing_put now s.network hs body settled
+    (subst (λ (l : List Happening). ArePutIn s.network hs now (body ∷ []) l settled) empty put)
+    ∙ ap (λ (h : Happening). h ∷ []) (sym (same_record s.network hs [] now body (omega arith))) in
     let room = first.room in
-    stands_on reading stands s world notes old 14 more here world.machines world.wires world.ports world.waiting settled (put_list [] w []) (world.shown + 1) m
-    refl shown_all (omega (arith, room))
-    (settled_put s hs [] [] old.mark old.cursor now 14 more w p)
+    subst (λ (l : List Happening). StandsBehind reading stands s (record world { early = false; settled = l; shown = world.shown + 1 }) notes (behind here))
+    (sym all)
+    (stands_on reading stands s world notes old 14 more here world.machines world.wires world.ports world.waiting (w ∷ []) (world.shown + 1) m
+    refl (omega (arith, room))
+    (settled_put p)
     (known_put s hs [] [] w tt (subst (λ (l : List Happening). AreOfNetwork s (hs ++ l)) empty old.known))
     (λ d within.
     let k = old.devices d within in (
@@ -135,10 +132,10 @@ clock_step {C} {M} reading stands s world notes device machine state adjustment 
           (held_moves stands s hs [] old.mark old.cursor now 14 more d k.0 moving (no_task_at s.network now d 14 more (inr (omega arith)))
           (subst (λ (l : List Happening). IsHeld stands s hs l old.cursor now d k.0) empty k.2)),
     ))
-    (inr (refl, inl (omega arith))) (wires_move s hs old.coming old.mark old.cursor now 14 more world.wires world.wires m
+    (inr (refl, inl (omega arith))) (wires_move s hs world.settled old.mark old.cursor now 14 more world.wires world.wires m
     (told_wires reading stands s world notes old 14 more m (inr (refl, inl (omega arith))))
     (all_without wire_place here world.wires (λ e same. (let two : ◌≡◌ {A = ℕ} 2 14 = cc in omega (arith, two)))))
-    (ports_move s hs old.coming old.mark old.cursor now 14 more world.ports world.ports m old.ports
+    (ports_move s hs world.settled old.mark old.cursor now 14 more world.ports world.ports m old.ports
     (all_without port_place here world.ports (λ e same. (let eight : ◌≡◌ {A = ℕ} 8 14 = cc in omega (arith, eight)))))
-    (waiting_moves s hs old.coming old.mark old.cursor now 14 more world.waiting m (λ three. omega (arith, three)) old.waiting)
-    (λ d within over. shown_more now world.shown device d shown)
+    (waiting_moves s hs world.settled old.mark old.cursor now 14 more world.waiting m (λ three. omega (arith, three)) old.waiting)
+    (λ d within over. shown_more now world.shown device d shown))

@@ -4,7 +4,7 @@ use Rattle.run_law.specs.control.{Leaving.{Departs, Departure, leaves, on_cut_wa
 use Rattle.world_law.{proofs.{frames.Masters.parent_true, steps_lemmas.Words.{time_of, true, way_from, ℕ}}, specs.world.Outcomes.departure_body}
 use Rattle.world_law.proofs.steps_lemmas.Words.{◌++◌, ◌<◌, ◌||◌, ◌∙◌, ◌∷◌, ◌≡◌, ◌≤◌, ◌⊎◌, AtPort, Bool, DeviceId, Dispatches, Gives, Happening, IsCaused}
 use Rattle.world_law.proofs.steps_lemmas.Words.{IsDue, IsFounded, IsOwnSource, Launch, LinkId, List, None, NoteBody, Scenario, Some, Units, [], amount, ap}
-use Rattle.world_law.proofs.steps_lemmas.Words.{arith, by_number, cause_of, earlier, earlier_still, false, filter, hidden_body, inl, inr, is_accepted}
+use Rattle.world_law.proofs.steps_lemmas.Words.{arith, by_number, cause_of, earlier, earlier_still, false, filter, inl, inr, is_accepted}
 use Rattle.world_law.proofs.steps_lemmas.Words.{is_at_source, is_broken, is_cut, is_parent_of, is_relay, key, last_in, last_or, launched, length, link_at}
 use Rattle.world_law.proofs.steps_lemmas.Words.{nat_lt, not, numbered, numbered_prefix, numbered_within, place_of, rank, refl, second, some_same, subst, sym}
 use Rattle.run_law.specs.declared.judgement.Why.TheVariants as whys
@@ -21,11 +21,6 @@ pub body_cause : (e : AtPort) (is : Departure) → cause_of (departure_body e is
 body_cause e (leaves clock) = refl
 body_cause e too_old = refl
 body_cause e on_cut_way = refl
-
-pub body_shown : (given : ℕ) (e : AtPort) (is : Departure) → hidden_body given (departure_body e is) ≡ departure_body e is
-body_shown given e (leaves clock) = refl
-body_shown given e too_old = refl
-body_shown given e on_cut_way = refl
 
 pub body_key : (members : ℕ) (e : AtPort) (is : Departure) → key members (departure_body e is) ≡ e.device.0 ∷ e.link.0 ∷ e.cause ∷ []
 body_key members e (leaves clock) = refl

@@ -1,14 +1,14 @@
 -- Time passes where nothing is to come.
 use Rattle.world_law.proofs.devices.Working.{worked_by}
 use Rattle.world_law.proofs.{acts.{Acting.{IsUnmoved, cleared_on, had_come_before}, NoActs.nothing_comes_before}, devices.Resting.{IsPast, IsWorked, at_rest}}
-use Rattle.world_law.{proofs.{acts.Recorded.none_recorded, giving.Given.no_later_events, runs.Worlds.nothing_settled_is_all}, specs.source.First.NoSourceBefore}
+use Rattle.world_law.{proofs.{acts.Recorded.none_recorded, giving.GivenParts.no_later_events, runs.Worlds.nothing_settled_is_all}, specs.source.First.NoSourceBefore}
 use Rattle.world_law.{proofs.devices.Passes.passes_if, specs.{device.Own.IsStill, steps.Steps.PassedStep, world.{Moves.NothingBefore, World.way_now}}}
-use Rattle.world_law.proofs.steps_lemmas.Words.{◌++◌, ◌+◌, ◌-◌, ◌<ℤ◌, ◌<◌, ◌^◌, ◌∙◌, ◌∷◌, ◌≡◌, ◌≤ℤ◌, ◌≤◌, AreOfNetwork, AreSettled, DeviceId, Down, Happening}
+use Rattle.world_law.proofs.steps_lemmas.Words.{◌++◌, ◌+◌, ◌-◌, ◌<ℤ◌, ◌<◌, ◌^◌, ◌∙◌, ◌∷◌, ◌≡◌, ◌≤ℤ◌, ◌≤◌, AreSettled, DeviceId, Down, Happening}
 use Rattle.world_law.proofs.steps_lemmas.Words.{HasDoneFrom, HasSentFrom, HaveBefallen, IsBefore, IsHeld, IsIn, IsKept, IsLeft, IsOut, IsPending, IsReadyAt}
 use Rattle.world_law.proofs.steps_lemmas.Words.{IsSteady, LinkId, List, Network, Node, Note, Scenario, Some, Stands, StandsBehind, Task, Up, Way, World, []}
 use Rattle.world_law.proofs.steps_lemmas.Words.{act_place, acts_before, adjustment_after, all_up_to, amount, ap, append-nil, are_past, arith, cases_Bool}
 use Rattle.world_law.proofs.steps_lemmas.Words.{cases_int, cases_lt, change_still, changed_at, doing, emitting, false, filter_map, happenings, has_cleared}
-use Rattle.world_law.proofs.steps_lemmas.Words.{hidden, inl, inr, ints, last_or, length, map, members_in, natural, no_later_breaks, not_on_after, numbered_in}
+use Rattle.world_law.proofs.steps_lemmas.Words.{inl, inr, ints, last_or, length, members_in, natural, no_later_breaks, not_on_after, numbered_in}
 use Rattle.world_law.proofs.steps_lemmas.Words.{own_time, pos, reading_for, refl, ripe_place, slice_get, state_after, subst, sym, time_of, true, up_to, ℕ, ℤ}
 use Rattle.run_law.proofs.runs.Places.{before_later_time, before_of_time, earlier_time}
 
@@ -16,10 +16,6 @@ use Rattle.run_law.proofs.runs.Places.{before_later_time, before_of_time, earlie
 ways_stay : (s : Scenario) (mark : List ℕ) (now t : ℕ) (link : LinkId) (way : Way) → HaveBefallen s mark now → now ≤ t
     → way_now s now link way ≡ way_now s t link way
 ways_stay s mark now t link way b le = grind (arith, last_or, filter_map, no_later_events)
-
-pub none_hidden : (given : ℕ) (coming : List Happening) → [] ≡ map (hidden given) coming → coming ≡ []
-none_hidden given [] e = refl
-none_hidden given (z ∷ coming) e = absurd cc
 
 -- where nothing is to come, nothing comes from a source of an earlier time
 nothing_full : (s : Scenario) (hs : List Happening) (t : ℕ) → AreSettled s hs [] (t ∷ []) (t ∷ []) t
@@ -55,8 +51,7 @@ pub passed_but_devices : {C M : Type 0} (reading : C → ℕ → ℕ) (stands : 
 passed_but_devices reading stands s world notes t old settled lt few running none first devices =
     let hs = happenings s.network notes in
     let now = world.now in
-    let empty : old.coming ≡ [] = none_hidden (length notes) old.coming (sym settled ∙ old.settled) in
-    let are : AreSettled s hs [] old.mark old.cursor now = subst (λ (l : List Happening). AreSettled s hs l old.mark old.cursor now) empty old.are in
+    let are : AreSettled s hs [] old.mark old.cursor now = subst (λ (l : List Happening). AreSettled s hs l old.mark old.cursor now) settled old.are in
     let next : now + 1 ≤ t = omega (arith, lt) in
     let over : (p : List ℕ) → IsBefore p old.cursor → IsBefore p (t ∷ []) = λ p b. before_later_time p (now + 1) t next (old.not_later p b) in
     let told : world.pending ≡ false = elim (cases_Bool world.pending) [ inr closed ↦ closed | inl open_ ↦ absurd (none.befell open_ (inl lt)) ] in
@@ -93,11 +88,11 @@ passed_but_devices reading stands s world notes t old settled lt few running non
           up = λ link in_it. old.ways.up link in_it ∙ ap Some (ways_stay s old.mark now t link Up old.befallen le);
           down = λ link in_it. old.ways.down link in_it ∙ ap Some (ways_stay s old.mark now t link Down old.befallen le);
         };
-        coming = [];
-        room = let room = old.room in omega (arith, room);
-        settled = settled;
-        known = subst (λ (l : List Happening). AreOfNetwork s (hs ++ l)) empty old.known;
-        devices = devices;
+        room = old.room;
+        known = old.known;
+        devices = λ device within.
+            let m = devices device within in
+            (m.0, m.1, subst (λ (l : List Happening). IsHeld stands s hs l (t ∷ []) t device m.0) (sym settled) m.2);
         early = λ fresh p b. before_of_time p t (2 ∷ []) b;
         untold = record {
           done = λ closed number h it.
@@ -133,7 +128,7 @@ passed_but_devices reading stands s world notes t old settled lt few running non
               (λ u r b. not u r (over (ripe_place u e) b));
         };
         stored = old.stored;
-        are = nothing_full s hs t;
+        are = subst (λ (l : List Happening). AreSettled s hs l (t ∷ []) (t ∷ []) t) (sym settled) (nothing_full s hs t);
         shown = λ device in_it ended. absurd (let bad : false ≡ true = sym running ∙ ended in cc);
       },
       refl,
@@ -273,7 +268,6 @@ held_passes stands s hs mark cursor now t device machine (inr k) lt steady preci
 pub passed_step : {C M : Type 0} (reading : C → ℕ → ℕ) (stands : M → Network → DeviceId → Node → Type 0) → PassedStep reading stands
 passed_step {C} {M} reading stands s world notes t old settled lt few running none =
     let hs = happenings s.network notes in
-    let empty : old.coming ≡ [] = none_hidden (length notes) old.coming (sym settled ∙ old.settled) in
     let told : world.pending ≡ false = elim (cases_Bool world.pending) [ inr closed ↦ closed | inl open_ ↦ absurd (none.befell open_ (inl lt)) ] in
     let first = nothing_comes_before reading stands s world notes (t ∷ []) old (λ z i. absurd (subst (λ (l : List Happening). IsIn z l) settled i)) none in
     passed_but_devices reading stands s world notes t old settled lt few running none first (λ device within.
@@ -281,7 +275,7 @@ passed_step {C} {M} reading stands s world notes t old settled lt few running no
       m.0,
       m.1,
       held_passes stands s hs old.mark old.cursor world.now t device m.0
-          (subst (λ (l : List Happening). IsHeld stands s hs l old.cursor world.now device m.0) empty m.2) lt (old.steady device) old.precise old.befallen
+          (subst (λ (l : List Happening). IsHeld stands s hs l old.cursor world.now device m.0) settled m.2) lt (old.steady device) old.precise old.befallen
           (are_past reading stands s world notes old) (old.untold.done told) old.not_later
           (λ node is task p x from before. elim (cases_int (pos (s.reading device x)) (reading_for s.network node task)) [
             | inl less ↦ less

@@ -1,6 +1,6 @@
 use Rattle.drift_world.proofs.{ActRecords.AreProper, ActSteps.{above_then, acted_once, asked_to_act, later_then, left_in, never_broken, octets_then, own_then}}
-use Rattle.drift_world.proofs.{ActSteps.{proper_at, row_within}, HiddenCauses.{InOrder, settled_in_order}}
-use Rattle.{drift_world.proofs.{Fits.sized_so, Showings.shows_of}, world_law.{proofs.giving.Given.some_same, specs.world.Calls.IsStateOf}}
+use Rattle.drift_world.proofs.{ActSteps.{proper_at, row_within}, Rising.{InOrder, settled_in_order}}
+use Rattle.{drift_world.proofs.{Fits.sized_so, Showings.shows_of}, world_law.{proofs.giving.GivenParts.some_same, specs.world.Calls.IsStateOf}}
 use Rattle.drift_world.proofs.Words.{◌≡◌, HasActed, Kept, List, Moment, Note, Scenario, Some, Stands, arith, happenings, is_set, keeps, length, length-set}
 use Rattle.drift_world.proofs.{Words.{map, moment_of, refl, settled_at, slice_get_read, slice_set, subst, world_of}, state.State.act_once.Goals.After-outcomes_of-outcomes}
 use Rattle.std.proofs.Common.{slice_get}

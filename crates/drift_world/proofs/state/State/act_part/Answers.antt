@@ -1,5 +1,5 @@
 use Rattle.drift_world.proofs.ActTurns.{IsTurn, comes_at, comes_first, left_later, others_then, same_then, turn_begun, turn_on, turn_with}
-use Rattle.drift_world.{proofs.Words.{◌+◌, ◌<◌, ◌∙◌, ◌≡◌, IsOf, Scenario, ap, arith, length, moment_of, none_yet, subst, sym}, specs.{Acting.{IsDueAt, IsLeft}, declared.state.State.State}}
+use Rattle.drift_world.{proofs.Words.{◌+◌, ◌<◌, ◌∙◌, ◌≡◌, IsOf, Scenario, ap, arith, length, moment_of, numbers_end, subst, sym}, specs.{Acting.{IsDueAt, IsLeft}, declared.state.State.State}}
 use Rattle.drift_world.proofs.state.State.act_part.Goals.{After-reserve_two, In-Ok}
 use Rattle.drift_world.proofs.state.State.act_part.Given as given
 use Rattle.drift_world.proofs.state.State.act_part.Goals as goal
@@ -16,7 +16,7 @@ turn g c =
     turn_with g.C.Clock.last_step g.C.Clock.reading g.M.Machine.stands c.args.network.now c.args.part c.args.device c.args.self.now c.acts.self
     c.reserve_two.new.self c.acts.left c.acts.acts c.reserve_two.ensures.same c.reserve_two.ensures.items c.acts.invariant
 
-numbered : (g : given.Over) (c : In-Ok g) → c.reserve_two.new.self.given + length c.reserve_two.new.self.settled.items + 2 < none_yet
+numbered : (g : given.Over) (c : In-Ok g) → c.reserve_two.new.self.given + length c.reserve_two.new.self.settled.items + 2 < numbers_end
 numbered g c =
     let given_is = ap (λ (x : State _ _). x.given) c.reserve_two.ensures.same in
     let long = ap length c.reserve_two.ensures.items in
@@ -65,6 +65,10 @@ pub act_once-requires-clause-moment : goal.act_once-requires-clause-moment
 act_once-requires-clause-moment g c =
     let here = (goal.at.act_once-requires-clause-moment g c).After-reserve_two in
     same_moment g here c.reserve_two.new.self (turn g here).same
+
+pub act_once-requires-clause-numbers : goal.act_once-requires-clause-numbers
+act_once-requires-clause-numbers g c =
+    let most = numbered g (goal.at.act_once-requires-clause-numbers g c).In-Ok in omega (arith, most)
 
 pub act_once-requires-clause-due : goal.act_once-requires-clause-due
 act_once-requires-clause-due g c = due g (goal.at.act_once-requires-clause-due g c).After-reserve_two

@@ -1,4 +1,4 @@
-use Rattle.{drift_world.proofs.{Fits.{have_octets, left_octets}, Showings.{departure_is, way_by}}, world_law.proofs.giving.Given.some_same}
+use Rattle.{drift_world.proofs.{Fits.{have_octets, left_octets}, Showings.{departure_is, way_by}}, world_law.proofs.giving.GivenParts.some_same}
 use Rattle.drift_world.proofs.{OwnPlaces.{departed_none, departed_own}, Words.{is_parent_of, length, own_place, rank, slice_get_read, subst, sym}}
 use Rattle.drift_world.proofs.Words.{◌<◌, ◌^◌, ◌∙◌, ◌∷◌, ◌≡◌, DeviceId, LinkId, Network, Settled, Some, WayNow, [], ap, arith, changed_device, if◌then◌else◌}
 use Rattle.{std.specs.List.slice_get, world_state.specs.Leaving.port_entry}

@@ -1,4 +1,4 @@
-use Rattle.{drift_world.proofs.Words.{Kept, arith, keeps, slice_get_read, subst}, world_law.proofs.giving.Given.some_same}
+use Rattle.{drift_world.proofs.Words.{Kept, arith, keeps, slice_get_read, subst}, world_law.proofs.giving.GivenParts.some_same}
 use Rattle.drift_world.proofs.state.State.due_of.Goals as goal
 
 pub returns : goal.returns

@@ -1,9 +1,9 @@
-use Rattle.drift_world.proofs.{Fits.sized_so, Givings.{given_on, named_all}, Words.{with_first, world_of, ℕ}, state.State.give_first.Goals.After-launch_octets}
-use Rattle.drift_world.proofs.Gave.{from_ports, from_wire, settled_has, waits_apart, waits_below, waits_elsewhere, waits_more, wire_is, wire_sound}
-use Rattle.drift_world.proofs.Words.{◌++◌, ◌+◌, ◌∙◌, ◌∷◌, ◌≡◌, ChangesOnly, Happening, HasItsOctets, IfSome, IsGivenOut, IsPutOn, IsSound, IsStoredBy, List}
-use Rattle.drift_world.proofs.Words.{Note, Settled, StandsBehind, Units, [], ap, arith, at_port, behind, changed_device, inl, inr, keeps, length, map}
-use Rattle.drift_world.proofs.Words.{named_settled, note_of, on_wire, place_of, refl, settled_at, stored_as, subst, sym, units_of, waiting_as, wire_entry}
-use Rattle.{drift_world.specs.declared.state.State.State, std.specs.List.filter_map, world_state.specs.{Shelves.{HasPlace, spot_of}, Sound.IsShort}}
+use Rattle.drift_world.proofs.{Fits.sized_so, Givings.given_on, Words.{world_of, ℕ}, state.State.give_first.Goals.After-launch_octets}
+use Rattle.drift_world.proofs.Gave.{from_ports, from_wire, waits_apart, waits_below, waits_elsewhere, waits_more, wire_is, wire_sound}
+use Rattle.drift_world.proofs.Words.{◌++◌, ◌+◌, ◌∙◌, ◌∷◌, ◌≡◌, ChangesOnly, IfSome, IsGivenOut, IsPutOn, IsSound, IsStoredBy}
+use Rattle.drift_world.proofs.Words.{Note, StandsBehind, Units, [], ap, arith, behind, changed_device, inl, inr, keeps, length}
+use Rattle.drift_world.proofs.Words.{note_of, place_of, refl, settled_at, subst, sym, units_of, wire_entry}
+use Rattle.{drift_world.specs.declared.state.State.State, world_state.specs.{Shelves.{HasPlace, spot_of}, Sound.IsShort}}
 use Rattle.std.specs.Prelude.{All}
 use Rattle.drift_world.proofs.state.State.give_first.Given as given
 use Rattle.drift_world.proofs.state.State.give_first.Goals as goal
@@ -14,7 +14,6 @@ gave_all : (g : given.Over) (c : After-launch_octets g)
       under_way = c.launch_octets.new.self.under_way;
       waiting = c.launch_frame.new.self.waiting;
       stored = c.launch_octets.new.self.stored;
-      settled = c.name_followers.new.settled;
       given = c.args.self.now.given + 1;
     } in r)
 gave_all g c =
@@ -31,7 +30,6 @@ returns-clause-sound g c =
     let first = c.args.first in
     let fit = c.requires.sound.fit in
     let number = w.given + 1 in
-    let one : State _ _ = record w { settled = c.name_followers.new.settled } in
     let two = c.launch_frame.new.self in
     let three = c.launch_octets.new.self in
     let giving = c.launch_frame.ensures.given.0 in
@@ -41,19 +39,18 @@ returns-clause-sound g c =
     subst (λ (q : State _ _). IsPutOn (wire_entry network q.ups.items q.downs.items first.body first.frame first.octets q.time number)
     two.under_way.entries three.under_way.entries) c.launch_frame.ensures.same c.launch_octets.ensures.sent in
     let on = wire_is network w.ups.items w.downs.items c.requires.range number first.body first.frame first.octets w.time in
-    let ports = from_ports g.C.Clock.reading network one two first.body first.frame number giving out in
+    let ports = from_ports g.C.Clock.reading network w two first.body first.frame number giving out in
     let wires = from_wire network number two.under_way.entries three.under_way.entries wire on sent in
     let mid = c.launch_frame.ensures.sound fit.below c.requires.sound.under_way in
-    let more = waits_more g.C.Clock.reading network one two first.body first.frame number giving out in
+    let more = waits_more g.C.Clock.reading network w two first.body first.frame number giving out in
     let last = gave_all g (goal.at.returns-clause-sound g c).After-launch_octets in
-    let whole : IsSound g.C.Clock.last_step network (record one {
+    let whole : IsSound g.C.Clock.last_step network (record w {
       under_way = three.under_way;
       waiting = two.waiting;
       stored = three.stored;
       given = number;
     }) = record {
-      sized = sized_so g.C.Clock.last_step network one _ (sized_so g.C.Clock.last_step network w one c.requires.sound.sized refl refl refl refl refl refl refl)
-          refl refl refl refl refl refl refl;
+      sized = sized_so g.C.Clock.last_step network w _ c.requires.sound.sized refl refl refl refl refl refl refl;
       under_way = wire_sound network number two.under_way.entries three.under_way.entries wire on sent (λ d there. elim (ports d there) [
         | inl old ↦ inl (fit.below d old)
         | inr port ↦ inr port.1
@@ -61,8 +58,7 @@ returns-clause-sound g c =
       fit = record {
         ups = fit.ups;
         downs = fit.downs;
-        octets = subst (All (λ (q : Settled). HasItsOctets q.body q.octets)) (sym c.name_followers.ensures)
-            (settled_has number first.body w.settled.items fit.octets);
+        octets = fit.octets;
         below = λ e there. elim (wires e there) [
           | inl before ↦
               elim (ports e before) [
@@ -85,13 +81,11 @@ returns-clause-stands g c = λ s notes old none.
     let network = c.args.network.now in
     let first = c.args.first in
     let z = settled_at network w.time first in
-    let named_deque = c.name_followers.new.settled in
-    let one : State _ _ = record w { settled = named_deque } in
     let two = c.launch_frame.new.self in
     let three = c.launch_octets.new.self in
     let number : w.given + 1 ≡ length notes + 1 = ap (λ (n : ℕ). n + 1) old.given in
     let given = c.launch_frame.ensures.given in
-    let out = subst (λ (k : ℕ). IsGivenOut K.reading network one two first.body first.frame k given.0) number given.1 in
+    let out = subst (λ (k : ℕ). IsGivenOut K.reading network w two first.body first.frame k given.0) number given.1 in
     let sent = subst (λ (k : ℕ). IsPutOn (wire_entry network w.ups.items w.downs.items first.body first.frame first.octets w.time k)
     two.under_way.entries three.under_way.entries) number
     (subst (λ (q : State _ _). IsPutOn (wire_entry network q.ups.items q.downs.items first.body first.frame first.octets q.time (w.given + 1))
@@ -100,35 +94,24 @@ returns-clause-stands g c = λ s notes old none.
     subst (λ (k : ℕ). IsStoredBy first.body first.octets k w.stored.items three.stored.items) number
     (subst (λ (q : State _ _). IsStoredBy first.body first.octets (w.given + 1) q.stored.items three.stored.items) c.launch_frame.ensures.same
     c.launch_octets.ensures.stored) in
-    let step = given_on K.reading stands s network (sym old.same) one two notes first w.settled.items given.0 three.under_way.entries three.stored.items old
+    let step = given_on K.reading stands s network (sym old.same) w two notes first w.settled.items given.0 three.under_way.entries three.stored.items old
     none
     c.requires.may out sent held in
-    let lists = named_all network w.time (length notes + 1) first w.settled.items
-    ∙ ap (λ (k : ℕ). map (settled_at network w.time) (map (named_settled k first.body) w.settled.items)) (sym number)
-    ∙ ap (map (settled_at network w.time)) (sym c.name_followers.ensures) in
     let last = gave_all g (goal.at.returns-clause-stands g c).After-launch_octets in
     subst (λ (q : State _ _). StandsBehind K.reading stands s (world_of network q) (notes ++ note_of notes z ∷ []) (behind (place_of z))) (sym last)
-    (subst (λ (l : List Happening). StandsBehind K.reading stands s (record (with_first network one first w.settled.items) {
-      wires = filter_map (on_wire network) three.under_way.entries;
-      ports = filter_map at_port three.under_way.entries;
-      waiting = map waiting_as two.waiting.items;
-      stored = map (stored_as network) three.stored.items;
-      settled = l;
-      given = w.given + 1;
-    }) (notes ++ note_of notes z ∷ []) (behind (place_of z))) lists step)
+    step
 
 pub returns-clause-others : goal.returns-clause-others
 returns-clause-others g c =
     let w = c.args.self.now in
     let first = c.args.first in
     let number = w.given + 1 in
-    let one : State _ _ = record w { settled = c.name_followers.new.settled } in
     let two = c.launch_frame.new.self in
     let three = c.launch_octets.new.self in
-    let more = waits_more g.C.Clock.reading c.args.network.now one two first.body first.frame number c.launch_frame.ensures.given.0
+    let more = waits_more g.C.Clock.reading c.args.network.now w two first.body first.frame number c.launch_frame.ensures.given.0
     c.launch_frame.ensures.given.1 in
     let last = gave_all g (goal.at.returns-clause-others g c).After-launch_octets in
-    let whole : ChangesOnly (changed_device first.body) w (record one {
+    let whole : ChangesOnly (changed_device first.body) w (record w {
       under_way = three.under_way;
       waiting = two.waiting;
       stored = three.stored;
@@ -148,8 +131,7 @@ launch_frame-requires g c =
     let fit = c.requires.sound.fit in
     let room = c.requires.room in
     record {
-      sized = sized_so g.C.Clock.last_step c.args.network.now w (record w { settled = c.name_followers.new.settled }) c.requires.sound.sized refl refl refl refl
-          refl refl refl;
+      sized = c.requires.sound.sized;
       range = c.requires.range;
       by = c.requires.may.by;
       young = c.requires.may.young;
@@ -192,7 +174,6 @@ returns-clause-same g c =
       under_way = three.under_way;
       waiting = q.waiting;
       stored = three.stored;
-      settled = q.settled;
       given = w.given + 1;
     } in
     gave_all g (goal.at.returns-clause-same g c).After-launch_octets ∙ sym (ap rebuilt (c.launch_octets.ensures.same

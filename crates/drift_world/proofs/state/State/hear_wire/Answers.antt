@@ -3,7 +3,7 @@ use Rattle.{drift_world.proofs.Hears.{as_sent, heard_octets, heard_stands, may_c
 use Rattle.{drift_world.proofs.{OwnPlaces.{arrived_device, arrived_own}, Words.{subst, sym, world_of}}, world_state.proofs.UnderWays.sound_without}
 use Rattle.drift_world.proofs.Words.{◌+◌, ◌<◌, ◌≡◌, DeviceId, IsPutAt, List, Moment, Network, Note, Scenario, Settled, Some, Stands, arith, changed_device}
 use Rattle.drift_world.proofs.Words.{keeps, length, length-set, length_permutation, moment_of, numbers_of, place_of, rank, refl, settled_at, slice_get_read}
-use Rattle.{std.proofs.Common.{set, slice_get}, world_law.proofs.giving.Given.some_same}
+use Rattle.{std.proofs.Common.{set, slice_get}, world_law.proofs.giving.GivenParts.some_same}
 use Rattle.drift_world.proofs.state.State.hear_wire.Given as given
 use Rattle.drift_world.proofs.state.State.hear_wire.Goals as goal
 

@@ -1,6 +1,6 @@
 use Rattle.{drift_world.proofs.{Alike.with_wires, OwnPlaces.left_own, Showings.shows_of}, world_state.specs.{Leaving.port_entry, declared.queue.Entry.Entry}}
 use Rattle.{drift_world.proofs.Fits.{below_without, sized_so}, world_law.{proofs.steps_lemmas.steps.LeftSteps.left_step, specs.steps.Steps.departure_now}}
-use Rattle.drift_world.proofs.{HiddenCauses.settled_in_order, Words.{length_permutation, map, numbers_of, on_wire, refl, settled_at, subst, sym, world_of, ℕ}}
+use Rattle.drift_world.proofs.{Rising.settled_in_order, Words.{length_permutation, map, numbers_of, on_wire, refl, settled_at, subst, sym, world_of, ℕ}}
 use Rattle.{drift_world.proofs.Puts.{departed_is, frame_of_port, some_put_in}, world_state.proofs.UnderWays.{ports_without, sound_without, wires_stay}}
 use Rattle.drift_world.proofs.Words.{◌+◌, ◌∷◌, ◌≡◌, ComesFirst, Content, IsPermutation-sym, IsSomePut, List, Option, Port, Settled, StandsBehind, World, [], ap}
 use Rattle.drift_world.proofs.Words.{arith, at_port, behind, departure_body, false, happenings, in_permuted, inl, is_broken, is_given, keeps}

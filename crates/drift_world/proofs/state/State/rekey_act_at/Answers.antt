@@ -1,6 +1,6 @@
 use Rattle.{drift_world.proofs.{Timings.{IsLow, acts_timed, not_past}, Words.{sym, ℕ}}, tte_units.proofs.general_lemmas.Lists.{set_aside, set_same}}
 use Rattle.drift_world.proofs.Words.{◌+◌, ◌<◌, ◌∙◌, ◌≡◌, ◌≤◌, DeviceId, List, Network, ap, arith, length, length-set, refl, slice_get_read, slice_set, subst}
-use Rattle.{drift_world.proofs.state.State.rekey_act_at.Given.Over, std.proofs.lemmas.List.Elements.All-set, world_law.proofs.giving.Given.some_same}
+use Rattle.{drift_world.proofs.state.State.rekey_act_at.Given.Over, std.proofs.lemmas.List.Elements.All-set, world_law.proofs.giving.GivenParts.some_same}
 use Rattle.{drift_world.specs.Parts.part_rank, std.proofs.Common.slice_get, world_state.specs.Timing.IsTimeFor}
 use Rattle.world_state.specs.{declared.timers.Timer.Timer, timers.Times.AreFrom}
 use Rattle.drift_world.proofs.state.State.rekey_act_at.Goals as goal

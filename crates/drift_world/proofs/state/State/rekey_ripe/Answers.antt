@@ -1,7 +1,7 @@
 use Rattle.{drift_world.proofs.Timings.{IsLow, not_past, ripe_timed}, tte_units.proofs.general_lemmas.Lists.{set_aside, set_same}}
 use Rattle.drift_world.proofs.Words.{◌<◌, ◌∙◌, ◌≡◌, ◌≤◌, DeviceId, Network, ap, arith, length, length-set, refl, slice_get_read, subst, sym, ℕ}
 use Rattle.std.proofs.Common.{List, slice_get, slice_set}
-use Rattle.{std.proofs.lemmas.List.Elements.All-set, world_law.proofs.giving.Given.some_same, world_state.specs.Timing.{IsLeastPoint, IsTimeFor}}
+use Rattle.{std.proofs.lemmas.List.Elements.All-set, world_law.proofs.giving.GivenParts.some_same, world_state.specs.Timing.{IsLeastPoint, IsTimeFor}}
 use Rattle.{drift_world.proofs.state.State.rekey_ripe.Given.Over, world_state.specs.{declared.timers.Timer.Timer, timers.Times.AreFrom}}
 use Rattle.drift_world.proofs.state.State.rekey_ripe.Goals.{After-set}
 use Rattle.drift_world.proofs.state.State.rekey_ripe.Goals as goal

@@ -1,9 +1,9 @@
 use Rattle.drift_world.proofs.{Dues.due_stays, Ripenings.{octets_fit, record_fits}}
 use Rattle.drift_world.proofs.OwnPlaces.{judged_far, judged_first, judged_own, none_ahead, runs_first, stands_first}
 use Rattle.{drift_world.{proofs.Fits.{have_octets, sound_same}, specs.declared.state.State.State}, world_state.specs.Ripening.{AreSettledSo, ripe_record}}
-use Rattle.{drift_world.{proofs.Timings.rekeyed_by, specs.Stepping.StandsPast}, run_law.specs.declared.steps.Ripe.Ripe, world_law.proofs.giving.Given.some_same}
+use Rattle.{drift_world.{proofs.Timings.rekeyed_by, specs.Stepping.StandsPast}, run_law.specs.declared.steps.Ripe.Ripe, world_law.proofs.giving.GivenParts.some_same}
 use Rattle.drift_world.{proofs.Turning.{comes_first, is_at, kept_timers, rekeyed_step, runs_on, step_kept}, specs.declared.source.Source.TheVariants.Ripening}
-use Rattle.drift_world.proofs.Words.{◌++◌, ◌∙◌, ◌∷◌, ◌≡◌, ◌≤ℤ◌, ChangesOnly, DeviceId, IsPutAt, IsSound, List, Network, Node, Note, Scenario, Settled, Some}
+use Rattle.drift_world.proofs.Words.{◌++◌, ◌+◌, ◌∙◌, ◌∷◌, ◌≡◌, ◌≤ℤ◌, ChangesOnly, DeviceId, IsPutAt, IsSound, List, Network, Node, Note, Scenario, Settled, Some}
 use Rattle.drift_world.proofs.Words.{Stands, Waits, ap, arith, changed_device, keeps, length, place_of, pos, refl, ripe_place, settled_at, subst, sym}
 use Rattle.drift_world.proofs.Words.{waiting_as}
 use Rattle.{drift_world.{proofs.Words.{world_of, ℕ}, specs.Ripening.IsJudged}, std.proofs.Common.{is_some, slice_get}, world_state.specs.Frames.first_of}
@@ -21,6 +21,9 @@ ripen_waits-ripened-requires-clause-reached g c = λ w clock at own.
     let clocks : it.clock ≡ clock = some_same _ _ _ it.own (ap (λ (v : Waits). slice_get c.args.self.now.clocks.items v.device.0) same ∙ own) in
     subst (λ k. w.point.0 ≤ℤ pos (g.C.Clock.reading k c.args.self.now.time)) clocks
     (subst (λ (v : Waits). v.point.0 ≤ℤ pos (g.C.Clock.reading it.clock c.args.self.now.time)) same it.reached)
+
+pub overflow_add-number : goal.overflow_add-number
+overflow_add-number g c = let most = c.requires.may.room.numbers in omega (arith, most)
 
 -- the frame that is permanent comes first
 first_ripe : {C M : Type 0} (last_step : C → ℕ) (reading : C → ℕ → ℕ) (stands : M → Network → DeviceId → Node → Type 0) (network : Network)
@@ -46,13 +49,13 @@ give_in_turn-turn-requires-clause-octets g c =
 
 past : {C M : Type 0} (reading : C → ℕ → ℕ) (stands : M → Network → DeviceId → Node → Type 0) (network : Network) (old new : State C M)
     (w : Waits) (is : Ripe) (one : Settled) → one ≡ ripe_record w is → IsJudged is → IsPutAt one old.settled.items (one ∷ old.settled.items) 0
-    → ((settled : List Settled) → AreSettledSo w is old.settled.items settled
+    → ((settled : List Settled) → AreSettledSo (old.given + 1) w is old.settled.items settled
     → StandsPast reading stands network old new (ripe_place old.time (waiting_as w)) settled)
     → StandsPast reading stands network old new (ripe_place old.time (waiting_as w)) (one ∷ old.settled.items)
 past reading stands network old new w is one same judged front stands_past =
     stands_past (one ∷ old.settled.items)
-    (subst (λ (x : Settled). AreSettledSo w is old.settled.items (x ∷ old.settled.items)) (sym same)
-    (judged_first w is old.settled.items judged (subst (λ (x : Settled). IsPutAt x old.settled.items (x ∷ old.settled.items) 0) same front)))
+    (subst (λ (x : Settled). AreSettledSo (old.given + 1) w is old.settled.items (x ∷ old.settled.items)) (sym same)
+    (judged_first (old.given + 1) w is old.settled.items judged (subst (λ (x : Settled). IsPutAt x old.settled.items (x ∷ old.settled.items) 0) same front)))
 
 -- nothing that is settled stands before its record
 ahead : {C M : Type 0} (last_step : C → ℕ) (reading : C → ℕ → ℕ) (stands : M → Network → DeviceId → Node → Type 0) (network : Network)
@@ -175,7 +178,7 @@ still g c s notes old =
     let got = c.ripen_waits-ripened.result in
     let rip = c.ripen_waits-ripened.ensures in
     (rip.stands c.settle_ripe.new.settled.items
-    (subst (λ (l : List Settled). AreSettledSo got.waits got.ripe l c.settle_ripe.new.settled.items) (ap (λ (t : State _ _). t.settled.items) rip.same)
+    (subst (λ (l : List Settled). AreSettledSo (c.args.self.now.given + 1) got.waits got.ripe l c.settle_ripe.new.settled.items) (ap (λ (t : State _ _). t.settled.items) rip.same)
     c.settle_ripe.ensures)
     s notes old (comes_first g.C.Clock.last_step g.C.Clock.reading g.M.Machine.stands c.args.network.now c.args.self.now (Ripening got.waits) s notes
     (first_ripe g.C.Clock.last_step g.C.Clock.reading g.M.Machine.stands c.args.network.now c.args.self.now c.args.one c.ripen_waits-ripened.result.waits
@@ -188,7 +191,7 @@ sound_after g c =
     let mid = c.ripen_waits-ripened.new.self in
     let sound = c.ripen_waits-ripened.ensures.sound in
     sound_same g.C.Clock.last_step c.args.network.now mid _ sound refl refl refl refl refl refl refl refl refl refl
-    (octets_fit got.waits got.ripe mid.settled.items c.settle_ripe.new.settled.items c.settle_ripe.ensures sound.fit.octets)
+    (octets_fit (c.args.self.now.given + 1) got.waits got.ripe mid.settled.items c.settle_ripe.new.settled.items c.settle_ripe.ensures sound.fit.octets)
 
 pub rekey_from-requires-2 : goal.rekey_from-requires-2
 rekey_from-requires-2 g c =

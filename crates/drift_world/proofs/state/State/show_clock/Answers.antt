@@ -1,5 +1,5 @@
-use Rattle.{drift_world.proofs.Fits.{all_put, have_octets}, run_law.proofs.runs.Determined.same_units, world_law.proofs.giving.Given.some_same}
-use Rattle.{drift_world.proofs.{HiddenCauses.settled_in_order, Puts.one_put_in}, run_law.specs.declared.note.NoteBody.TheVariants.{Clock as Shown}}
+use Rattle.{drift_world.proofs.Fits.{all_put, have_octets}, run_law.proofs.runs.Determined.same_units, world_law.proofs.giving.GivenParts.some_same}
+use Rattle.{drift_world.proofs.{Rising.settled_in_order, Puts.one_put_in}, run_law.specs.declared.note.NoteBody.TheVariants.{Clock as Shown}}
 use Rattle.drift_world.proofs.Words.{◌<◌, ◌∙◌, ◌≡◌, DeviceId, Network, None, NoteBody, Settled, Units, amount, ap, arith, happenings, keeps, length, pos, refl}
 use Rattle.{drift_world.proofs.Words.{settled_at, slice_get_read, subst, sym, units_of, world_of}, world_law.proofs.steps_lemmas.steps.ClockSteps.clock_step}
 use Rattle.drift_world.proofs.state.State.show_clock.Goals as goal

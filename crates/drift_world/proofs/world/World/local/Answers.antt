@@ -1,5 +1,5 @@
 use Rattle.drift_world.proofs.{Locals.{clock_stepped, local_is}, Words.{◌<◌, ◌∙◌, ◌≤◌, IsComplete, Kept, World, amount, ap, arith, ints, length, subst, sym}}
-use Rattle.world_law.proofs.giving.Given.{some_same}
+use Rattle.world_law.proofs.giving.GivenParts.{some_same}
 use Rattle.drift_world.proofs.world.World.local.Goals as goal
 
 pub local_of-requires-clause-stepped : goal.local_of-requires-clause-stepped

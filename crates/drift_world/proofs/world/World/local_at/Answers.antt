@@ -1,4 +1,4 @@
-use Rattle.{drift_world.proofs.{LocalValues.{complete_reads, local_value, now_reads}, LocalsBefore.local_is_before}, world_law.proofs.giving.Given.some_same}
+use Rattle.{drift_world.proofs.{LocalValues.{complete_reads, local_value, now_reads}, LocalsBefore.local_is_before}, world_law.proofs.giving.GivenParts.some_same}
 use Rattle.drift_world.proofs.{Locals.{clock_stepped, local_is}, Words.{in_all, inl, inr, ints, keeps, length, reading_of, scenario, subst, sym, ℕ}}
 use Rattle.drift_world.proofs.Words.{◌<◌, ◌^◌, ◌∙◌, ◌≤◌, IsComplete, IsLocalClockBefore, Kept, Stands, StandsUnder, World, amount, ap, arith, happenings}
 use Rattle.drift_world.proofs.world.World.local_at.Given as given
