@@ -5,4 +5,3 @@ pub mod Ready
 pub mod Dispatched
 pub mod Dues
 pub mod NoActs
-pub mod Recorded

@@ -16,7 +16,7 @@ use Rattle.world_law.proofs.Words.{numbered, numbers_end, observation_window, pl
 use Rattle.world_law.proofs.Words.{ripe_place, state_after, state_before, subst, suc, sym, task_place, time_of, true, units_of, up_to, wire_place, ℕ}
 use Rattle.world_law.proofs.{lists.Lists.behind_yes, runs.SourcesBack.{acting_back, arrives_later, earlier_still, gives_rank, no_higher}}
 use Rattle.world_law.proofs.runs.{Firsts.{arriving_more, departing_more, numbered_more, numbered_still}, Worlds.{first_settled_is_next, length_is}}
-use Rattle.world_law.{proofs.{acts.Recorded.recorded_on, giving.Storing.stored_then}, specs.world.Moves.{AreAwaited, AreGiven, ArePut, AreTaken, GivenStep}}
+use Rattle.world_law.{proofs.giving.Storing.stored_then, specs.world.Moves.{AreAwaited, AreGiven, ArePut, AreTaken, GivenStep}}
 use Rattle.world_law.proofs.giving.GivenAs.{settled_then}
 use Rattle.world_law.proofs.giving.GivenParts.{IsGiving, over_itself, same_permanent, some_same, up_to_place, worked_by_then}
 use Rattle.world_law.specs.{device.Plain.renumbered, world.World.IsDueAs}
@@ -352,9 +352,6 @@ module _ {s : Scenario} {hs : List Happening} {z : Happening} {rest : List Happe
                   record { by = y.0; there = y.1; at = y.2 ∙ by.at; turning = ap (is_turning device) y.3 ∙ by.turning };
             };
         cleared = k.cleared;
-        recorded = λ same.
-            recorded_on s _ _ (z ∷ rest) rest now device k.node (sym later)
-            (λ h i. let y = one_before h i in (y.0, y.1, y.3, y.2)) (λ y i. (inl (y, inr i, refl), g.are.of_now y (inr i))) (k.recorded same);
         phase = λ at p b. g.are.not_past z (inl refl) p (k.phase at p b);
       }
 

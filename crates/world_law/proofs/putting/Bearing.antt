@@ -5,7 +5,6 @@ use Rattle.world_law.proofs.Words.{IsHeld, IsIn, IsKept, IsLeft, List, Network, 
 use Rattle.world_law.proofs.Words.{adjustment_with, ap, append_assoc, bears_on, borne, changed_at, cycle_in, earlier, false, frames_taken, if◌then◌else◌}
 use Rattle.world_law.proofs.Words.{in_left, in_parts, in_right, inl, inr, is_turned_on_at, length, local_before, moves, nat_le, pos}
 use Rattle.world_law.proofs.Words.{state_after, state_before, state_with, sym, taken_by, time_of, up_to, ℕ}
-use Rattle.world_law.proofs.acts.Recorded.{IsNoAct, is_sending, recorded_put}
 use Rattle.world_law.specs.world.World.{IsOut}
 use Rattle.world_law.proofs.{devices.Borne.{TellAlike, left_alike, moves_no_other, tell_alike}, rows.Takings.{IsNoTaking, taken_parts, taken_same}}
 use Rattle.world_law.proofs.{devices.OwnRecords.{keeps_adjustment, keeps_state}, putting.Idle.{drop_one, fold_skip}}
@@ -130,12 +129,10 @@ module _ (s : Scenario) (hs front back : List Happening) (w : Happening) (device
 
   -- ---- the device
 
-  pub kept_by : {M : Type 0} {stands : M → Network → DeviceId → Node → Type 0} {cursor : List ℕ} {now : ℕ} {machine : M} → time_of w ≡ now
+  pub kept_aside : {M : Type 0} {stands : M → Network → DeviceId → Node → Type 0} {cursor : List ℕ} {now : ℕ} {machine : M} → time_of w ≡ now
       → frames_taken s (hs ++ (front ++ back)) device ≡ frames_taken s (hs ++ (front ++ w ∷ back)) device
-      → (k : IsKept stands s hs (front ++ back) cursor now device machine)
-      → (k.up ≡ now → IsNoAct s (hs ++ (front ++ back)) now device k.node w.note.body)
-      → IsKept stands s hs (front ++ w ∷ back) cursor now device machine
-  kept_by {cursor} {now} at frames k none = record {
+      → IsKept stands s hs (front ++ back) cursor now device machine → IsKept stands s hs (front ++ w ∷ back) cursor now device machine
+  kept_aside {cursor} {now} at frames k = record {
     node = k.node;
     is = k.is;
     sound = k.sound;
@@ -154,7 +151,6 @@ module _ (s : Scenario) (hs front back : List Happening) (w : Happening) (device
     still = λ same. still_aside s hs front back w device now (moves_no_other device w.note.body misses) (k.still same);
     turned = λ on. turned_aside s hs front back w device (k.turned on) (earlier_aside now);
     cleared = k.cleared;
-    recorded = λ same. recorded_put s hs front back now device k.node w at (none same) (k.recorded same);
     phase = k.phase;
   }
 
@@ -171,16 +167,10 @@ module _ (s : Scenario) (hs front back : List Happening) (w : Happening) (device
     phase = k.phase;
   }
 
-  pub kept_aside : {M : Type 0} {stands : M → Network → DeviceId → Node → Type 0} {cursor : List ℕ} {now : ℕ} {machine : M}
-      → is_sending device w.note.body ≡ false → time_of w ≡ now
-      → frames_taken s (hs ++ (front ++ back)) device ≡ frames_taken s (hs ++ (front ++ w ∷ back)) device
-      → IsKept stands s hs (front ++ back) cursor now device machine → IsKept stands s hs (front ++ w ∷ back) cursor now device machine
-  kept_aside sends at frames k = kept_by at frames k (λ same. (misses, inl sends))
-
   -- the device, sound or broken, stands with the record as without it
   pub held_aside : {M : Type 0} {stands : M → Network → DeviceId → Node → Type 0} {cursor : List ℕ} {now : ℕ} {machine : M}
-      → is_sending device w.note.body ≡ false → time_of w ≡ now
+      → time_of w ≡ now
       → frames_taken s (hs ++ (front ++ back)) device ≡ frames_taken s (hs ++ (front ++ w ∷ back)) device
       → IsHeld stands s hs (front ++ back) cursor now device machine → IsHeld stands s hs (front ++ w ∷ back) cursor now device machine
-  held_aside sends at frames (inl k) = inl (kept_aside sends at frames k)
-  held_aside sends at frames (inr k) = inr (out_aside k)
+  held_aside at frames (inl k) = inl (kept_aside at frames k)
+  held_aside at frames (inr k) = inr (out_aside k)

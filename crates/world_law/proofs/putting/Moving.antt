@@ -5,7 +5,7 @@ use Rattle.world_law.specs.world.World.{IsDueAs}
 use Rattle.world_law.proofs.Words.{◌++◌, ◌∙◌, ◌∷◌, ◌≡◌, ◌⊎◌, AllBefore, AreAtPorts, AreOnWires, AreSettled, AreWaiting, AtPort, DeviceId, Happening}
 use Rattle.world_law.proofs.Words.{HasTurnedOn, IsBefore, IsForward, IsHeld, IsIn, IsKept, IsOwnSource, IsSource, List, Network, NoSourceBefore, Node}
 use Rattle.world_law.proofs.Words.{NoneBefore, OnWire, Pcf, Scenario, Waiting, [], amount, ap, append-nil, before_behind, before_later}
-use Rattle.world_law.proofs.Words.{before_or_not, behind, chain, either_way, false, in_left, inl, inr, members_in, place_of, port_place, refl, ripe_place}
+use Rattle.world_law.proofs.Words.{before_or_not, behind, cases_Bool, chain, either_way, false, in_left, inl, inr, is_at_source, members_in, place_of, port_place, refl, ripe_place}
 use Rattle.world_law.proofs.Words.{Task, task_place}
 use Rattle.world_law.proofs.{Words.{subst, sym, time_of, wire_place, ℕ}, giving.GivenParts.up_to_place, runs.SourcesBack.source_back}
 
@@ -25,6 +25,14 @@ pub stays : (s : Scenario) (hs coming : List Happening) (mark cursor : List ℕ)
     → (p : List ℕ) → IsBefore p cursor → IsBefore p (behind (now ∷ r ∷ more))
 stays s hs coming mark cursor now r more m p b =
     chain p (now ∷ r ∷ more) (behind (now ∷ r ∷ more)) (before_later p (now ∷ r ∷ more) cursor b m.waits) (before_behind (now ∷ r ∷ more))
+
+-- what is to come then does not stand at its source
+pub off_source : {s : Scenario} {hs coming : List Happening} {mark cursor : List ℕ} {now r : ℕ} {more : List ℕ}
+    → IsMoving s hs coming mark cursor now r more → (z : Happening) → IsIn z coming → is_at_source z.note.body ≡ false
+off_source {cursor} {now} {r} {more} m z i = elim (cases_Bool (is_at_source z.note.body)) [
+  | inr no_it ↦ no_it
+  | inl is ↦ absurd (m.after z i (before_later (place_of z) (now ∷ r ∷ more) cursor (m.are.worked z i is) m.waits))
+]
 
 -- a source by the records given, up to that place, was worked off, or is there
 by_given : (s : Scenario) (hs coming : List Happening) (mark cursor : List ℕ) (now r : ℕ) (more : List ℕ) → IsMoving s hs coming mark cursor now r more
@@ -222,7 +230,6 @@ kept_moves stands s hs coming mark cursor now r more device machine m other k = 
   still = k.still;
   turned = λ on. turned_moves s hs coming mark cursor now r more device m (k.turned on);
   cleared = k.cleared;
-  recorded = k.recorded;
   phase = λ at p b. stays s hs coming mark cursor now r more m p (k.phase at p b);
 }
 

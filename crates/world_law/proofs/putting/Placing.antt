@@ -1,15 +1,17 @@
 -- What is to come with a record put in at its place, whichever source of the instant it comes from.
-use Rattle.world_law.proofs.Words.{◌++◌, ◌+◌, ◌∙◌, ◌∷◌, ◌≡◌, ◌≤◌, ◌⊎◌, AllBefore, AreSettled, DeviceId, Happening, IsBefore, IsDue, IsForward, IsFounded, IsIn}
+use Rattle.world_law.proofs.Words.{◌++◌, ◌+◌, ◌<◌, ◌∙◌, ◌∷◌, ◌≡◌, ◌≤◌, ◌⊎◌, AllBefore, AreSettled, DeviceId, Happening, IsBefore, IsDue, IsForward, IsFounded, IsIn}
 use Rattle.world_law.proofs.Words.{IsOwnSource, IsSource, LinkId, List, NoneBefore, NoteBody, Scenario, VlId, [], rows_place, ap, append_assoc, arith, bears_on}
 use Rattle.world_law.proofs.Words.{before_behind, before_later, behind, cases_Bool, cases_order, cause_of, chain, either_way, eqb-true, false, in_left}
 use Rattle.world_law.proofs.Words.{in_parts, in_right, inl, inr, is_at_source, is_taken_before, key, length, length-append, members_in, never_self}
 use Rattle.world_law.proofs.{Words.{place_of, rank, refl, subst, sym, time_of, true, ℕ}, putting.PutIn.{own_time, split_three, split_two}}
 use Rattle.world_law.proofs.{giving.GivenParts.up_to_place, putting.NearPut.{IsPlaced, two_placed}, runs.SourcesBack.{at_least, no_higher}}
-use Rattle.world_law.proofs.{putting.Bearing.in_placed, putting.Moving.{IsAllOfIt, IsMoving, worked_or_here}, runs.SourcesBack.numbered_parts}
+use Rattle.world_law.proofs.{putting.Bearing.in_placed, putting.Moving.{IsAllOfIt, IsMoving, off_source, worked_or_here}, runs.SourcesBack.numbered_parts}
 use Rattle.world_law.proofs.putting.Near.{AreFrom, AreNear, AsFollower, IsAsideOf, due_aside, follower_or_not, hears, is_follower, is_following, known_near}
 use Rattle.world_law.proofs.putting.Near.{near_back, own_aside, own_source}
 use Rattle.world_law.proofs.Words.{ChangesState, IsCaused, State, Units, Why, amount, is_joined_by, numbered, numbered_within, parted, Some}
 use Rattle.world_law.specs.world.World.{IsDueAs}
+use Rattle.world_law.proofs.putting.AsStates.{AsState}
+use Rattle.schedule_tables.specs.Dispatches.{dispatch_order}
 use Rattle.run_law.specs.declared.judgement.Why.TheVariants as whys
 use Rattle.run_law.specs.declared.note.NoteBody.TheVariants as notes
 
@@ -26,6 +28,55 @@ own_here s js t m (notes.Corrected device cycle by adjustment) p e o = o
 own_here s js t m (notes.Left device link cause clock) p e o = o
 own_here s js t m (notes.Clock device reading adjustment state) p e o = o
 own_here s js t m other p e o = absurd cc
+
+-- ---- no record stands before its own source
+
+higher : (t k r : ℕ) (ks rs : List ℕ) → r < k → IsBefore (t ∷ k ∷ ks) (t ∷ r ∷ rs) → ⊥
+higher t k r ks rs lt (inl b) = omega (arith, b)
+higher t k r ks rs lt (inr (e, inl b)) = omega (arith, lt, b)
+higher t k r ks rs lt (inr (e, inr b)) = let f = b.0 in omega (arith, lt, f)
+
+above : (t k r : ℕ) (ks rs q : List ℕ) → r < k → q ≡ t ∷ r ∷ rs → IsBefore (t ∷ k ∷ ks) q → ⊥
+above t k r ks rs q lt o b = higher t k r ks rs lt (subst (λ (p : List ℕ). IsBefore (t ∷ k ∷ ks) p) o b)
+
+same_place : (p q : List ℕ) → q ≡ p → IsBefore p q → ⊥
+same_place p q o b = never_self p (subst (λ (u : List ℕ). IsBefore p u) o b)
+
+none_below : (t k : ℕ) (ks q : List ℕ) → q ≡ t ∷ k ∷ [] → IsBefore (t ∷ k ∷ ks) q → ⊥
+none_below t k ks q o b = grind arith
+
+-- for all kinds
+pub least_of_own : (s : Scenario) (js : List Happening) (t m : ℕ) (body : NoteBody) (q : List ℕ) → IsOwnSource s js t m body q
+    → IsBefore (t ∷ rank body ∷ key m body) q → ⊥
+least_of_own s js t m (notes.Event line what) q o b = none_below t 1 (line ∷ []) q o b
+least_of_own s js t m (notes.Compressed device opened at cycle members verdict) q o b = same_place _ q o b
+least_of_own s js t m (notes.Sent device cycle) q o b = same_place _ q o b
+least_of_own s js t m (notes.Corrected device cycle by adjustment) q o b = same_place _ q o b
+least_of_own s js t m (notes.State device state cause whys.On) q o b = above t 7 2 (device.0 ∷ cause ∷ []) [] q (omega arith) o b
+least_of_own s js t m (notes.State device state cause whys.Frame) q o b = above t 7 2 (device.0 ∷ cause ∷ []) [] q (omega arith) o b
+least_of_own s js t m (notes.State device state cause whys.Correction) q o b = above t 7 2 (device.0 ∷ cause ∷ []) [] q (omega arith) o b
+least_of_own s js t m (notes.State device state cause whys.SyncClique) q o b = above t 7 6 (device.0 ∷ cause ∷ []) (device.0 ∷ []) q (omega arith) o.1 b
+least_of_own s js t m (notes.State device state cause whys.AsyncClique) q o b = above t 7 6 (device.0 ∷ cause ∷ []) (device.0 ∷ []) q (omega arith) o.1 b
+least_of_own s js t m (notes.Lost device link cause) q (inl o) b =
+    above t 9 8 (device.0 ∷ link.0 ∷ cause ∷ []) (device.0 ∷ link.0 ∷ cause ∷ []) q (omega arith) o.0 b
+least_of_own s js t m (notes.Lost device link cause) q (inr (inl o)) b =
+    above t 9 6 (device.0 ∷ link.0 ∷ cause ∷ []) (device.0 ∷ dispatch_order s.network (record { 0 = o.2.place })) q (omega arith) o.4 b
+least_of_own s js t m (notes.Lost device link cause) q (inr (inr o)) b = above t 9 2 (device.0 ∷ link.0 ∷ cause ∷ []) [] q (omega arith) o.0 b
+least_of_own s js t m (notes.TtSent device link cause vl cycle) q o b =
+    above t 10 6 (device.0 ∷ link.0 ∷ cause ∷ vl.0 ∷ cycle ∷ []) (device.0 ∷ dispatch_order s.network (record { 0 = o.0.place })) q (omega arith) o.1 b
+least_of_own s js t m (notes.Accepted device link cause vl cycle) q o b =
+    above t 11 2 (device.0 ∷ link.0 ∷ cause ∷ []) (device.0 ∷ link.0 ∷ cause ∷ []) q (omega arith) o b
+least_of_own s js t m (notes.Delivered device link cause vl cycle) q o b =
+    above t 12 2 (device.0 ∷ link.0 ∷ cause ∷ []) (device.0 ∷ link.0 ∷ cause ∷ []) q (omega arith) o b
+least_of_own s js t m (notes.Dropped device link cause reason) q (inl o) b =
+    above t 13 2 (device.0 ∷ link.0 ∷ cause ∷ []) (device.0 ∷ link.0 ∷ cause ∷ []) q (omega arith) o.0 b
+least_of_own s js t m (notes.Dropped device link cause reason) q (inr (inl o)) b =
+    above t 13 3 (device.0 ∷ link.0 ∷ cause ∷ []) (device.0 ∷ amount o.0 ∷ o.1.frame.members.0 ∷ link.0 ∷ cause ∷ []) q (omega arith) o.2 b
+least_of_own s js t m (notes.Dropped device link cause reason) q (inr (inr o)) b =
+    above t 13 8 (device.0 ∷ link.0 ∷ cause ∷ []) (device.0 ∷ link.0 ∷ cause ∷ []) q (omega arith) o.0 b
+least_of_own s js t m other q o b = same_place _ q o b
+
+-- ---- what a device hears
 
 -- what a device hears at the instant bears, behind its source, only on what its own correction point brings
 pub hears_source : (s : Scenario) (js : List Happening) (t m : ℕ) (device : DeviceId) (body : NoteBody) (p : List ℕ) → is_at_source body ≡ false
@@ -161,6 +212,36 @@ few_first s ps zs time body late f c =
       | inr new ↦
           let at = late it.0 new in
           absurd (elim it.2 [ inl one ↦ let two = at.0 in omega (arith, one, two) | inr is ↦ let bad : false ≡ true = sym at.1 ∙ is in cc ])
+    ]
+
+-- a change of state that follows nothing has no cause
+no_cause : (s : Scenario) (js : List Happening) (device : DeviceId) (t : ℕ) (state : State) (cause : ℕ) (why : Why) → is_following why ≡ false
+    → ChangesState s js device t state cause why → cause ≡ 0
+no_cause s js device t state cause whys.On f c = absurd cc
+no_cause s js device t state cause whys.Frame f c = absurd cc
+no_cause s js device t state cause whys.Correction f c = absurd cc
+no_cause s js device t state cause whys.SyncClique f c = let e = c.1 in omega (arith, e)
+no_cause s js device t state cause whys.AsyncClique f c = let e = c.1 in omega (arith, e)
+
+-- so the causes of the changes of state that are to come before a turn are given
+pub causes_given : {s : Scenario} {hs coming : List Happening} {mark cursor : List ℕ} {now r : ℕ} {more : List ℕ}
+    → IsMoving s hs coming mark cursor now r more → 2 ≤ r → (z : Happening) → IsIn z coming → (it : AsState z.note.body) → it.cause ≤ length hs
+causes_given {s} {hs} {coming} {now} {r} {more} m some z i it =
+    let split = parted z coming i in
+    let due = (m.are.founded split.0 split.1 z split.2).1 in
+    let inside : (h : Happening) → IsIn h split.0 → IsIn h coming = λ h j. subst (λ (l : List Happening). IsIn h l) (sym split.2)
+    (in_left h split.0 (z ∷ split.1) j) in
+    let late : (h : Happening) → IsIn h split.0 → (2 ≤ rank h.note.body) × (is_at_source h.note.body ≡ false) = λ h j.
+    let low = at_least h now r more (m.are.of_now h (inside h j)) (m.after h (inside h j)) in
+    (omega (arith, low, some), off_source m h (inside h j)) in
+    elim (follower_or_not z.note.body) [
+      | inl f ↦
+          let few = few_first s hs split.0 z.note.time z.note.body late f due.cause in
+          let e : cause_of z.note.body ≡ it.cause = ap cause_of it.is in omega (arith, few, e)
+      | inr other ↦
+          let none = no_cause s (hs ++ split.0) it.device (amount z.note.time) it.state it.cause it.why (ap is_follower (sym it.is) ∙ other)
+          (subst (λ (b : NoteBody). IsCaused s (hs ++ split.0) z.note.time b) it.is due.cause) in
+          omega (arith, none)
     ]
 
 follows_it : (body : NoteBody) (k : ℕ) → ((rank body ≡ 7) × (cause_of body ≡ k)) ⊎ (rank body ≡ 7 → cause_of body ≡ k → ⊥)

@@ -1,64 +1,16 @@
 -- A device acts: what is to come with its records.
 use Rattle.world_law.proofs.putting.{Numbering.AreOne, PutShown.change_of}
 use Rattle.world_law.specs.{device.Plain.renumbered, world.World.IsDueAs}
-use Rattle.schedule_tables.specs.Dispatches.{dispatch_order}
-use Rattle.world_law.proofs.Words.{◌++◌, ◌+◌, ◌<◌, ◌∙◌, ◌∷◌, ◌≡◌, ◌≤◌, ◌⊎◌, AllBefore, ChangesState, DeviceId, Happening, IsBefore, IsCaused, IsDue}
-use Rattle.world_law.proofs.Words.{IsFounded, IsIn, IsOfThisTime, IsOwnSource, IsSource, List, NoneBefore, NoteBody, Scenario, Some, State, Units, Why}
-use Rattle.world_law.proofs.Words.{[], rows_place, amount, ap, append_assoc, arith, in_left, in_right, inl, inr, is_joined_by, key, length, members_in}
-use Rattle.world_law.proofs.Words.{never_self, numbered, numbered_within, parted, place_of, rank, refl, subst, suc, sym, true, units_of, ℕ}
+use Rattle.world_law.proofs.Words.{◌++◌, ◌+◌, ◌∙◌, ◌∷◌, ◌≡◌, ◌≤◌, ◌⊎◌, AllBefore, ChangesState, DeviceId, Happening, IsBefore, IsCaused, IsDue}
+use Rattle.world_law.proofs.Words.{IsFounded, IsIn, IsOfThisTime, IsOwnSource, IsSource, List, NoneBefore, NoteBody, Scenario, Some, State, Why}
+use Rattle.world_law.proofs.Words.{[], rows_place, ap, append_assoc, arith, in_left, in_right, inl, inr, length, members_in}
+use Rattle.world_law.proofs.Words.{numbered, parted, place_of, rank, refl, subst, suc, sym, true, units_of, ℕ}
 use Rattle.world_law.proofs.runs.TaskPlaces.{second}
 use Rattle.run_law.{proofs.runs.Determined.due_is_determined, specs.records.Causes.device_of}
-use Rattle.world_law.proofs.putting.{AsStates.AsState, Moving.IsMoving, Near.hears, PutOne.IsOne}
-use Rattle.world_law.proofs.{putting.{PutShown.{IsShownPair, due_of, record_of}, PutTwo.IsPair}, runs.SourcesBack.{at_least, numbered_parts}}
+use Rattle.world_law.proofs.putting.{Moving.IsMoving, Near.hears, PutOne.IsOne}
+use Rattle.world_law.proofs.{putting.{PutShown.{IsShownPair, due_of, record_of}, PutTwo.IsPair}}
 use Rattle.run_law.specs.declared.judgement.Why.TheVariants as whys
 use Rattle.run_law.specs.declared.note.NoteBody.TheVariants as notes
-
--- ---- no record stands before its own source
-
-higher : (t k r : ℕ) (ks rs : List ℕ) → r < k → IsBefore (t ∷ k ∷ ks) (t ∷ r ∷ rs) → ⊥
-higher t k r ks rs lt (inl b) = omega (arith, b)
-higher t k r ks rs lt (inr (e, inl b)) = omega (arith, lt, b)
-higher t k r ks rs lt (inr (e, inr b)) = let f = b.0 in omega (arith, lt, f)
-
-above : (t k r : ℕ) (ks rs q : List ℕ) → r < k → q ≡ t ∷ r ∷ rs → IsBefore (t ∷ k ∷ ks) q → ⊥
-above t k r ks rs q lt o b = higher t k r ks rs lt (subst (λ (p : List ℕ). IsBefore (t ∷ k ∷ ks) p) o b)
-
-same_place : (p q : List ℕ) → q ≡ p → IsBefore p q → ⊥
-same_place p q o b = never_self p (subst (λ (u : List ℕ). IsBefore p u) o b)
-
-none_below : (t k : ℕ) (ks q : List ℕ) → q ≡ t ∷ k ∷ [] → IsBefore (t ∷ k ∷ ks) q → ⊥
-none_below t k ks q o b = grind arith
-
--- the premise `least` of `IsOne`, for all kinds
-pub least_of_own : (s : Scenario) (js : List Happening) (t m : ℕ) (body : NoteBody) (q : List ℕ) → IsOwnSource s js t m body q
-    → IsBefore (t ∷ rank body ∷ key m body) q → ⊥
-least_of_own s js t m (notes.Event line what) q o b = none_below t 1 (line ∷ []) q o b
-least_of_own s js t m (notes.Compressed device opened at cycle members verdict) q o b = same_place _ q o b
-least_of_own s js t m (notes.Sent device cycle) q o b = same_place _ q o b
-least_of_own s js t m (notes.Corrected device cycle by adjustment) q o b = same_place _ q o b
-least_of_own s js t m (notes.State device state cause whys.On) q o b = above t 7 2 (device.0 ∷ cause ∷ []) [] q (omega arith) o b
-least_of_own s js t m (notes.State device state cause whys.Frame) q o b = above t 7 2 (device.0 ∷ cause ∷ []) [] q (omega arith) o b
-least_of_own s js t m (notes.State device state cause whys.Correction) q o b = above t 7 2 (device.0 ∷ cause ∷ []) [] q (omega arith) o b
-least_of_own s js t m (notes.State device state cause whys.SyncClique) q o b = above t 7 6 (device.0 ∷ cause ∷ []) (device.0 ∷ []) q (omega arith) o.1 b
-least_of_own s js t m (notes.State device state cause whys.AsyncClique) q o b = above t 7 6 (device.0 ∷ cause ∷ []) (device.0 ∷ []) q (omega arith) o.1 b
-least_of_own s js t m (notes.Lost device link cause) q (inl o) b =
-    above t 9 8 (device.0 ∷ link.0 ∷ cause ∷ []) (device.0 ∷ link.0 ∷ cause ∷ []) q (omega arith) o.0 b
-least_of_own s js t m (notes.Lost device link cause) q (inr (inl o)) b =
-    above t 9 6 (device.0 ∷ link.0 ∷ cause ∷ []) (device.0 ∷ dispatch_order s.network (record { 0 = o.2.place })) q (omega arith) o.4 b
-least_of_own s js t m (notes.Lost device link cause) q (inr (inr o)) b = above t 9 2 (device.0 ∷ link.0 ∷ cause ∷ []) [] q (omega arith) o.0 b
-least_of_own s js t m (notes.TtSent device link cause vl cycle) q o b =
-    above t 10 6 (device.0 ∷ link.0 ∷ cause ∷ vl.0 ∷ cycle ∷ []) (device.0 ∷ dispatch_order s.network (record { 0 = o.0.place })) q (omega arith) o.1 b
-least_of_own s js t m (notes.Accepted device link cause vl cycle) q o b =
-    above t 11 2 (device.0 ∷ link.0 ∷ cause ∷ []) (device.0 ∷ link.0 ∷ cause ∷ []) q (omega arith) o b
-least_of_own s js t m (notes.Delivered device link cause vl cycle) q o b =
-    above t 12 2 (device.0 ∷ link.0 ∷ cause ∷ []) (device.0 ∷ link.0 ∷ cause ∷ []) q (omega arith) o b
-least_of_own s js t m (notes.Dropped device link cause reason) q (inl o) b =
-    above t 13 2 (device.0 ∷ link.0 ∷ cause ∷ []) (device.0 ∷ link.0 ∷ cause ∷ []) q (omega arith) o.0 b
-least_of_own s js t m (notes.Dropped device link cause reason) q (inr (inl o)) b =
-    above t 13 3 (device.0 ∷ link.0 ∷ cause ∷ []) (device.0 ∷ amount o.0 ∷ o.1.frame.members.0 ∷ link.0 ∷ cause ∷ []) q (omega arith) o.2 b
-least_of_own s js t m (notes.Dropped device link cause reason) q (inr (inr o)) b =
-    above t 13 8 (device.0 ∷ link.0 ∷ cause ∷ []) (device.0 ∷ link.0 ∷ cause ∷ []) q (omega arith) o.0 b
-least_of_own s js t m other q o b = same_place _ q o b
 
 -- ---- a record at the same place is the same
 
@@ -130,7 +82,6 @@ act_one s hs front back mark cursor now r more device body a =
       before = a.before;
       none = a.none;
       fresh = λ y i same. a.new y i (there_already front back y a.moving due a.none i same);
-      least = least_of_own s (hs ++ front) now (members_in w) body (now ∷ r ∷ more) (a.own (members_in w));
       mine = a.own (members_in w);
       here = a.here;
       aside = λ x i other e yes_it.
@@ -139,42 +90,6 @@ act_one s hs front back mark cursor now r more device body a =
     }
 
 -- ---- where a change of state follows it
-
-cause_in : (s : Scenario) (hs zs : List Happening) (device : DeviceId) (t : ℕ) (state : State) (cause : ℕ) (why : Why)
-    → ((h : Happening) → IsIn h zs → is_joined_by device h.note.body ≡ true → ⊥)
-    → ((h : Happening) → IsIn h zs → (cycle : ℕ) (by adjustment : Units) → h.note.body ≡ notes.Corrected device cycle by adjustment → ⊥)
-    → ((h : Happening) → IsIn h zs → 2 ≤ rank h.note.body) → ChangesState s (hs ++ zs) device t state cause why → cause ≤ length hs
-cause_in s hs zs device t state cause whys.On joins corrects late c = elim (numbered_parts hs zs c.2.1 cause c.2.2.there) [
-  | inl old ↦ let lt = numbered_within hs cause c.2.1 old in omega (arith, lt)
-  | inr new ↦ let high = late c.2.1 new in let one = ap rank c.2.3 in absurd (omega (arith, high, one))
-]
-cause_in s hs zs device t state cause whys.Frame joins corrects late c = elim (numbered_parts hs zs c.1.0 cause c.1.1.there) [
-  | inl old ↦ let lt = numbered_within hs cause c.1.0 old in omega (arith, lt)
-  | inr new ↦ absurd (joins c.1.0 new c.1.2)
-]
-cause_in s hs zs device t state cause whys.Correction joins corrects late c = elim (numbered_parts hs zs c.2.3 cause c.2.4.there) [
-  | inl old ↦ let lt = numbered_within hs cause c.2.3 old in omega (arith, lt)
-  | inr new ↦ absurd (corrects c.2.3 new c.2.0 c.2.1 c.2.2 c.2.5)
-]
-cause_in s hs zs device t state cause whys.SyncClique joins corrects late c = let e = c.1 in omega (arith, e)
-cause_in s hs zs device t state cause whys.AsyncClique joins corrects late c = let e = c.1 in omega (arith, e)
-
--- no frame that the device sent and no correction of it is to come: so the causes of its changes of state are given. The
--- premise of `two_shown` where a device acts
-pub causes_of_device : (s : Scenario) (hs coming : List Happening) (mark cursor : List ℕ) (now r : ℕ) (more : List ℕ) (device : DeviceId)
-    → IsMoving s hs coming mark cursor now r more → 2 ≤ r → ((h : Happening) → IsIn h coming → is_joined_by device h.note.body ≡ true → ⊥)
-    → ((h : Happening) → IsIn h coming → (cycle : ℕ) (by adjustment : Units) → h.note.body ≡ notes.Corrected device cycle by adjustment → ⊥)
-    → (z : Happening) → IsIn z coming → (it : AsState z.note.body) → it.device.0 ≡ device.0 → it.cause ≤ length hs
-causes_of_device s hs coming mark cursor now r more device m some joins corrects z i it same =
-    let split = parted z coming i in
-    let due = (m.are.founded split.0 split.1 z split.2).1 in
-    let inside : (y : Happening) → IsIn y split.0 → IsIn y coming = λ y j. subst (λ (l : List Happening). IsIn y l) (sym split.2)
-    (in_left y split.0 (z ∷ split.1) j) in
-    let own_device : it.device ≡ device = ap (λ (k : ℕ). let d : DeviceId = record { 0 = k } in d) same in
-    cause_in s hs split.0 device (amount z.note.time) it.state it.cause it.why (λ y j. joins y (inside y j)) (λ y j. corrects y (inside y j))
-    (λ y j. let low = at_least y now r more (m.are.of_now y (inside y j)) (m.after y (inside y j)) in omega (arith, low, some))
-    (subst (λ (d : DeviceId). ChangesState s (hs ++ split.0) d (amount z.note.time) it.state it.cause it.why) own_device
-    (subst (λ (b : NoteBody). IsCaused s (hs ++ split.0) z.note.time b) it.is due.cause))
 
 -- the two records of an act, which come first, the second a change of state that follows the first
 pub act_pair : (s : Scenario) (hs coming settled : List Happening) (mark cursor : List ℕ) (now r : ℕ) (more : List ℕ) (device : DeviceId) (body : NoteBody)

@@ -3,14 +3,14 @@ use Rattle.{run_law.specs.timed.Receptions.comes_before, tte_units.proofs.genera
 use Rattle.std.proofs.lemmas.Bool.{and_left}
 use Rattle.world_law.proofs.Words.{◌&&◌, ◌++◌, ◌+◌, ◌==◌, ◌||◌, ◌∙◌, ◌∷◌, ◌≡◌, ◌≤◌, ◌⊎◌, AllBefore, AreSettled, Bool, ChangesState, DeviceId, Happening}
 use Rattle.world_law.proofs.Words.{Integrating, IsBefore, IsCaused, IsDue, IsFounded, IsIn, IsOwnSource, IsSource, Joining, LinkId, List, NoneBefore, NoteBody}
-use Rattle.world_law.proofs.Words.{Scenario, Some, State, Units, VlId, What, Why, [], rows_place, and_right, before_later, ap, append_assoc, arith, bears_on, before_behind}
+use Rattle.world_law.proofs.Words.{Scenario, Some, State, Units, VlId, What, Why, [], rows_place, and_right, ap, append_assoc, arith, bears_on, before_behind}
 use Rattle.world_law.proofs.Words.{behind, cases_Bool, cases_lt, cases_order, cause_of, eqb-true, false, false_from_ne_true, if◌then◌else◌, inl, inr}
 use Rattle.world_law.proofs.Words.{is_at_source, is_joined_by, is_taken_before, is_turned_on_at, le-ltb, members_in, nat_lt, never_self, numbered}
 use Rattle.world_law.proofs.{Words.{place_of, rank, refl, state_after, state_before, subst, suc, sym, time_of, true, ℕ}, runs.SourcesBack.earlier_still}
-use Rattle.world_law.proofs.{giving.GivenParts.some_same, putting.{AsStates.{AsState, numbered_here, seven}, Moving.{IsAllOfIt, IsMoving, stays}}}
+use Rattle.world_law.proofs.{giving.GivenParts.some_same, putting.{AsStates.{AsState, numbered_here, seven}, Moving.{IsAllOfIt, IsMoving, off_source, stays}}}
 use Rattle.world_law.proofs.Words.{in_left, in_parts, in_right}
 use Rattle.world_law.specs.world.World.{IsDueAs}
-use Rattle.world_law.proofs.putting.Placing.{IsCarried, IsPlacing, IsWell, before_it, hears_source, placed_well, settled_by, well_of}
+use Rattle.world_law.proofs.putting.Placing.{IsCarried, IsPlacing, IsWell, before_it, hears_source, least_of_own, own_here, placed_well, settled_by, well_of}
 use Rattle.run_law.specs.declared.judgement.Judgement.TheVariants as judgements
 use Rattle.run_law.specs.declared.judgement.Why.TheVariants as whys
 use Rattle.run_law.specs.declared.note.NoteBody.TheVariants as notes
@@ -141,7 +141,6 @@ pub record IsOne (s : Scenario) (hs front back : List Happening) (mark cursor : 
   pub before : AllBefore place_of front (place_of w)
   pub none : NoneBefore place_of back (place_of w)
   pub fresh : (y : Happening) → IsIn y back → place_of w ≡ place_of y → ⊥
-  pub least : IsBefore (place_of w) (now ∷ r ∷ more) → ⊥
   pub mine : IsOwnSource s (hs ++ front) (time_of w) (members_in w) w.note.body (now ∷ r ∷ more)
   pub here : IsSource s (hs ++ front) (now ∷ r ∷ more)
   pub aside : (x : Happening) → IsIn x back → (device : DeviceId) → now ∷ r ∷ more ≡ rows_place now device → hears device x.note.body ≡ true → ⊥
@@ -163,11 +162,7 @@ hears_aside s hs coming f rest mark cursor now r more x device m e yes_it =
     let by = (well_of s hs coming mark cursor now r more m).by f rest x e in
     let now_is = m.are.of_now x (subst (λ (l : List Happening). IsIn x l) (sym e) (Rattle.run_law.proofs.runs.Places.in_right x f (x ∷ rest) (inl refl))) in
     let i : IsIn x coming = subst (λ (l : List Happening). IsIn x l) (sym e) (Rattle.run_law.proofs.runs.Places.in_right x f (x ∷ rest) (inl refl)) in
-    let not_there : is_at_source x.note.body ≡ false = elim (cases_Bool (is_at_source x.note.body)) [
-      | inr no_it ↦ no_it
-      | inl is ↦ absurd (m.after x i (before_later (place_of x) (now ∷ r ∷ more) cursor (m.are.worked x i is) m.waits))
-    ] in
-    let act = hears_source s (hs ++ f) (time_of x) (members_in x) device x.note.body by.0 not_there yes_it by.1
+    let act = hears_source s (hs ++ f) (time_of x) (members_in x) device x.note.body by.0 (off_source m x i) yes_it by.1
     ∙ ap (λ (t : ℕ). t ∷ 6 ∷ device.0 ∷ []) now_is in
     elim by.3 [
       | inl lt ↦ inl (subst (λ (q : List ℕ). IsBefore q (now ∷ r ∷ more)) act lt)
@@ -189,7 +184,7 @@ placing_one s hs front back mark cursor now r more w p =
       before = p.before;
       none = p.none;
       fresh = p.fresh;
-      least = p.least;
+      least = least_of_own s (hs ++ front) (time_of w) (members_in w) w.note.body (now ∷ r ∷ more) p.mine;
       taken = (now ∷ r ∷ more, p.mine, p.here, inr refl);
       takes = λ device vl link cause under.
           subst (λ (t : ℕ). is_taken_before device vl now link cause t w.note.body ≡ false) (sym p.at)
@@ -252,11 +247,12 @@ worked_then {front} {back} then_ {w} p on at z i is =
 -- THE RECORD IS PUT IN, AND THE CURSOR GOES BEHIND ITS SOURCE (all sources but events and their outcomes). All that is
 -- due from the source is at the record's place, whatever else is to come
 pub one_by : (s : Scenario) (hs front back : List Happening) (mark cursor : List ℕ) (now r : ℕ) (more : List ℕ) (w : Happening)
-    → IsOne s hs front back mark cursor now r more w → IsUnfollowed s hs now w.note.body → (is_at_source w.note.body ≡ true → place_of w ≡ now ∷ r ∷ more)
+    → IsOne s hs front back mark cursor now r more w → IsUnfollowed s hs now w.note.body
     → IsAllOfIt s hs (front ++ w ∷ back) (now ∷ r ∷ more) → AreSettled s hs (front ++ w ∷ back) mark (behind (now ∷ r ∷ more)) now
-one_by s hs front back mark cursor now r more w p last stands all =
+one_by s hs front back mark cursor now r more w p last all =
     let at = now ∷ r ∷ more in
     settled_by s hs (front ++ w ∷ back) mark now r more (one_well p last) p.marked
     (unmarked s hs (front ++ back) mark cursor now r more p.moving) p.later
     (worked_then (behind at) p (stays s hs (front ++ back) mark cursor now r more p.moving)
-    (λ is. subst (λ (q : List ℕ). IsBefore q (behind at)) (sym (stands is)) (before_behind at))) all
+    (λ is. subst (λ (q : List ℕ). IsBefore q (behind at))
+    (own_here s (hs ++ front) (time_of w) (members_in w) w.note.body at is p.mine) (before_behind at))) all

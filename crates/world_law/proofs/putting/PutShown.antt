@@ -76,7 +76,7 @@ first_of (x ∷ front) back p before above = absurd (above x (inl refl) (before 
 pub two_shown : (network : Network) (hs : List Happening) (now : ℕ) (body : NoteBody) (device : DeviceId) (state : State) (why : Why)
     (coming mid settled : List Happening) → cause_of body ≤ length hs → rank body < 7
     → ((z : Happening) → IsIn z coming → IsBefore (place_of z) (place_of (settled_as network hs now body)) → ⊥)
-    → ((z : Happening) → IsIn z coming → (it : AsState z.note.body) → it.device.0 ≡ device.0 → it.cause ≤ length hs)
+    → ((z : Happening) → IsIn z coming → (it : AsState z.note.body) → it.cause ≤ length hs)
     → IsPutIn (settled_as network hs now body) coming mid → IsPutIn (settled_as network hs now (notes.State device state (length hs + 1) why)) mid settled
     → IsShownPair network hs now body device state why coming settled
 two_shown network hs now body device state why coming mid settled few low above sole put put2 =
@@ -107,9 +107,8 @@ two_shown network hs now body device state why coming mid settled few low above 
               | inl it ↦
                   let places : now ∷ 7 ∷ device.0 ∷ (length hs + 1) ∷ [] ≡ time_of y ∷ 7 ∷ it.device.0 ∷ it.cause ∷ [] = at_now ∙ e
                   ∙ ap (λ (b : NoteBody). time_of y ∷ rank b ∷ Rattle.run_law.specs.records.Ranks.key (Rattle.run_law.specs.records.Ranks.members_in y) b) it.is in
-                  let dev : device.0 ≡ it.device.0 = cc in
                   let cause : length hs + 1 ≡ it.cause = cc in
-                  let most = sole y i it (sym dev) in omega (arith, cause, most)
+                  let most = sole y i it in omega (arith, cause, most)
             ]
           ];
       shows = put2.is;

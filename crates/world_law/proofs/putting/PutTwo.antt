@@ -8,7 +8,7 @@ use Rattle.world_law.proofs.{Words.{refl, subst, suc, sym, time_of, true, ℕ}, 
 use Rattle.world_law.proofs.putting.AsStates.{seven}
 use Rattle.world_law.specs.world.World.{IsDueAs}
 use Rattle.world_law.proofs.putting.{Idle.numbered_prefix, PutOne.{Follows, IsOne, at_number, due_follows, placing_one, unmarked, worked_then}}
-use Rattle.world_law.proofs.putting.{Near.hears, Placing.{IsCarried, IsPlacing, IsWell, before_it, hears_source, not_at_source, placed_well, settled_by, well_of}}
+use Rattle.world_law.proofs.putting.{Near.hears, Placing.{IsCarried, IsPlacing, IsWell, before_it, hears_source, not_at_source, own_here, placed_well, settled_by, well_of}}
 use Rattle.run_law.specs.declared.judgement.Judgement.TheVariants as judgements
 use Rattle.run_law.specs.declared.judgement.Why.TheVariants as whys
 use Rattle.run_law.specs.declared.note.NoteBody.TheVariants as notes
@@ -255,12 +255,13 @@ worked_two s hs front back front2 back2 mark cursor then_ now r more w v device 
 -- THE TWO ARE PUT IN, AND THE CURSOR GOES BEHIND THEIR SOURCE
 pub two_by : (s : Scenario) (hs front back front2 back2 : List Happening) (mark cursor : List ℕ) (now r : ℕ) (more : List ℕ) (w v : Happening)
     (device : DeviceId) (state : State) (why : Why) → IsPair s hs front back front2 back2 mark cursor now r more w v device state why
-    → (is_at_source w.note.body ≡ true → place_of w ≡ now ∷ r ∷ more) → IsAllOfIt s hs (front2 ++ v ∷ back2) (now ∷ r ∷ more)
+    → IsAllOfIt s hs (front2 ++ v ∷ back2) (now ∷ r ∷ more)
     → AreSettled s hs (front2 ++ v ∷ back2) mark (behind (now ∷ r ∷ more)) now
-two_by s hs front back front2 back2 mark cursor now r more w v device state why p stands all =
+two_by s hs front back front2 back2 mark cursor now r more w v device state why p all =
     let at = now ∷ r ∷ more in
     settled_by s hs (front2 ++ v ∷ back2) mark now r more (two_well s hs front back front2 back2 mark cursor now r more w v device state why p)
     p.one.marked (unmarked s hs (front ++ back) mark cursor now r more p.one.moving) p.one.later
     (worked_two s hs front back front2 back2 mark cursor (behind at) now r more w v device state why p
     (stays s hs (front ++ back) mark cursor now r more p.one.moving)
-    (λ is. subst (λ (q : List ℕ). IsBefore q (behind at)) (sym (stands is)) (before_behind at))) all
+    (λ is. subst (λ (q : List ℕ). IsBefore q (behind at))
+    (own_here s (hs ++ front) (time_of w) (members_in w) w.note.body at is p.one.mine) (before_behind at))) all

@@ -1,15 +1,12 @@
 -- What is settled once a record that bears on no device is put in, and the cursor goes by its source.
-use Rattle.run_law.proofs.runs.Places.{nothing_between}
-use Rattle.std.proofs.Common.{Contains}
-use Rattle.world_law.proofs.Words.{RowId, task_place}
-use Rattle.world_law.proofs.Words.{◌++◌, ◌∙◌, ◌∷◌, ◌≡◌, ◌≤◌, ◌⊎◌, AllBefore, AreOfNetwork, AreSettled, DeviceId, Happening, IsActing}
-use Rattle.world_law.proofs.Words.{IsBefore, IsFounded, IsHeld, IsIn, IsKept, IsOwnSource, IsSource, IsDue, List, Network, Node, NoneBefore, NoteBody, Scenario}
-use Rattle.world_law.proofs.Words.{ap, arith, behind, cause_of, chain, dispatching, doing, in_left, in_parts, in_right, inl, inr, is_at_source}
-use Rattle.world_law.proofs.Words.{length, members_in, never_self, place_of, rank, refl, subst, sym, time_of, true, [], ℕ}
-use Rattle.world_law.proofs.{acts.Recorded.DispatchesDone, devices.Borne.moves_no_other, rows.Takings.idle_taking, runs.TaskPlaces.second}
-use Rattle.world_law.proofs.putting.{Bearing.{frames_aside, kept_by, known_aside, out_aside}, Idle.{IsIdle, idle_bears, idle_rank}, Moving.IsMoving}
+use Rattle.world_law.proofs.Words.{◌++◌, ◌∙◌, ◌∷◌, ◌≡◌, ◌≤◌, AllBefore, AreOfNetwork, AreSettled, DeviceId, Happening}
+use Rattle.world_law.proofs.Words.{IsBefore, IsFounded, IsHeld, IsIn, IsOwnSource, IsSource, IsDue, List, Network, Node, NoneBefore, NoteBody, Scenario}
+use Rattle.world_law.proofs.Words.{ap, arith, behind, cause_of, in_left, in_parts, in_right, inl, inr}
+use Rattle.world_law.proofs.Words.{length, members_in, place_of, rank, refl, subst, sym, time_of, true, [], ℕ}
+use Rattle.world_law.proofs.{devices.Borne.moves_no_other, rows.Takings.idle_taking, runs.TaskPlaces.second}
+use Rattle.world_law.proofs.putting.{Bearing.{frames_aside, held_aside, known_aside}, Idle.{IsIdle, idle_bears, idle_rank}, Moving.IsMoving}
 use Rattle.world_law.proofs.putting.{Moving.IsAllOfIt, PutIn.{known_cause, own_time}, PutOne.{IsOne, is_last, last_unfollowed, one_by}}
-use Rattle.world_law.proofs.runs.SourcesBack.{at_least, dispatches_same, earlier_still}
+use Rattle.world_law.proofs.runs.SourcesBack.{at_least}
 use Rattle.world_law.specs.world.World.{IsDueAs}
 use Rattle.run_law.specs.declared.note.NoteBody.TheVariants as notes
 
@@ -26,10 +23,8 @@ pub record IsPutting (s : Scenario) (hs front back : List Happening) (mark curso
   pub before : AllBefore place_of front (place_of w)
   pub none : NoneBefore place_of back (place_of w)
   pub fresh : (y : Happening) → IsIn y back → place_of w ≡ place_of y → ⊥
-  pub least : ((now ∷ r ∷ more) ≡ place_of w) ⊎ IsBefore (now ∷ r ∷ more) (place_of w)
   pub mine : IsOwnSource s (hs ++ front) (time_of w) (members_in w) w.note.body (now ∷ r ∷ more)
   pub here : IsSource s (hs ++ front) (now ∷ r ∷ more)
-  pub source : is_at_source w.note.body ≡ true → IsBefore (place_of w) (behind (now ∷ r ∷ more))
   pub own : (zs : List Happening) (y : Happening) → IsDueAs s (hs ++ zs) y → cause_of y.note.body ≤ length hs → time_of y ≡ now
       → IsOwnSource s (hs ++ zs) (time_of y) (members_in y) y.note.body (now ∷ r ∷ more) → place_of w ≡ place_of y
 
@@ -68,10 +63,6 @@ module _ {s : Scenario} {hs front back : List Happening} {mark cursor : List ℕ
     before = p.before;
     none = p.none;
     fresh = p.fresh;
-    least = λ b. elim p.least [
-      | inl same ↦ never_self (place_of w) (subst (λ (q : List ℕ). IsBefore (place_of w) q) same b)
-      | inr lt ↦ never_self (place_of w) (chain (place_of w) (now ∷ r ∷ more) (place_of w) b lt)
-    ];
     mine = p.mine;
     here = p.here;
     aside = λ x i device e yes_it. let six : r ≡ 6 = ap second e in let late = p.late in omega (arith, six, late);
@@ -91,8 +82,7 @@ module _ {s : Scenario} {hs front back : List Happening} {mark cursor : List ℕ
       (w, in_right w front (w ∷ back) (inl refl), p.own f y due few (sym now_is) own)
 
   pub settled_put : AreSettled s hs (front ++ w ∷ back) mark (behind (now ∷ r ∷ more)) now
-  settled_put = one_by s hs front back mark cursor now r more w one_of (last_unfollowed s hs now w.note.body (idle_last w.note.body p.idle))
-      (λ is. elim p.least [ inl same ↦ sym same | inr lt ↦ absurd (nothing_between (now ∷ r ∷ more) (place_of w) lt (p.source is)) ]) all_of_it
+  settled_put = one_by s hs front back mark cursor now r more w one_of (last_unfollowed s hs now w.note.body (idle_last w.note.body p.idle)) all_of_it
 
 -- ---- a device stands with the record as without it
 
@@ -101,29 +91,9 @@ pub known_put : (s : Scenario) (hs front back : List Happening) (w : Happening) 
 known_put s hs front back w idle =
     known_aside s hs front back w (λ device le. moves_no_other device w.note.body (idle_bears device w.note.body idle))
 
-kept_put : {M : Type 0} (stands : M → Network → DeviceId → Node → Type 0) (s : Scenario) (hs front back : List Happening) (cursor : List ℕ) (now : ℕ)
-    (device : DeviceId) (machine : M) (w : Happening) → IsIdle w.note.body → time_of w ≡ now → IsBefore (now ∷ 8 ∷ []) cursor
-    → IsKept stands s hs (front ++ back) cursor now device machine → IsKept stands s hs (front ++ w ∷ back) cursor now device machine
-kept_put stands s hs front back cursor now device machine w idle at past k =
-    let misses = idle_bears device w.note.body idle in
-    let done_now : k.up ≡ now → DispatchesDone s (hs ++ (front ++ back)) now device k.node = λ same link cause vl cycle d.
-    elim k.acted [
-      | inr over ↦ absurd (let bad = over.0 in omega (arith, bad, same))
-      | inl yet ↦
-          let e = dispatches_same s (hs ++ (front ++ back)) hs now device link cause vl cycle
-          (earlier_still now hs (front ++ back) (λ z i. let t = (k.recorded same).of_now z i in omega (arith, t))) d in
-          let place = task_place s.network now device (doing (dispatching (record { 0 = e.0.place }) cycle)) in
-          subst (λ (n : ℕ). Contains k.node.done (dispatching (let row : RowId = record { 0 = n } in row) cycle)) e.1
-          (yet.1 (doing (dispatching (record { 0 = e.0.place }) cycle)) (chain place (now ∷ 8 ∷ []) cursor (inr (refl, inl (omega arith))) past)
-          (IsActing.dispatches link cause vl cycle e.0))
-    ] in
-    kept_by s hs front back w device misses at (frames_aside s hs front back w device misses (idle_taking device w.note.body idle)) k
-    (λ same. (misses, inr (idle_rank w.note.body idle, done_now same)))
-
 pub held_put : {M : Type 0} (stands : M → Network → DeviceId → Node → Type 0) (s : Scenario) (hs front back : List Happening) (cursor : List ℕ) (now : ℕ)
-    (device : DeviceId) (machine : M) (w : Happening) → IsIdle w.note.body → time_of w ≡ now → IsBefore (now ∷ 8 ∷ []) cursor
-    → IsHeld stands s hs (front ++ back) cursor now device machine → IsHeld stands s hs (front ++ w ∷ back) cursor now device machine
-held_put stands s hs front back cursor now device machine w idle at past (inl k) =
-    inl (kept_put stands s hs front back cursor now device machine w idle at past k)
-held_put stands s hs front back cursor now device machine w idle at past (inr k) =
-    inr (out_aside s hs front back w device (idle_bears device w.note.body idle) k)
+    (device : DeviceId) (machine : M) (w : Happening) → IsIdle w.note.body → time_of w ≡ now → IsHeld stands s hs (front ++ back) cursor now device machine
+    → IsHeld stands s hs (front ++ w ∷ back) cursor now device machine
+held_put stands s hs front back cursor now device machine w idle at held =
+    let misses = idle_bears device w.note.body idle in
+    held_aside s hs front back w device misses at (frames_aside s hs front back w device misses (idle_taking device w.note.body idle)) held

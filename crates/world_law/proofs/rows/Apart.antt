@@ -3,7 +3,7 @@ use Rattle.schedule_tables.{proofs.Entries.begun_below, specs.Delays.pcf_port_ti
 use Rattle.tte_units.proofs.general_lemmas.{Integers.{whole as not_negative}, Lists.in_all}
 use Rattle.{schedule_tables.specs.declared.rule.Rule.TheVariants.ScheduleStart, world_law.proofs.rows.Reached.{ShowsAt, cycles_apart, row_ends, shows_at}}
 use Rattle.world_law.proofs.Words.{◌*◌, ◌+◌, ◌≤◌, DeviceId, Dispatches, Entry, Happening, IsAtCorrection, IsEntry, IsInRange, IsSteady, KeepsRules, Link}
-use Rattle.world_law.proofs.Words.{LinkId, List, Network, Reaches, Scenario, Sends, VlId, amount, arith, cases_lt, ints, local_before, pos, subst, ℕ, ℤ}
+use Rattle.world_law.proofs.Words.{LinkId, List, Network, Reaches, Scenario, VlId, amount, arith, cases_lt, ints, local_before, pos, ℕ, ℤ}
 
 -- ---- where a row's offset lies in the cycle
 
@@ -50,11 +50,3 @@ pub no_row_at_correction : (s : Scenario) (hs : List Happening) (device : Device
     → Dispatches s hs device t link cause vl cycle → ⊥
 no_row_at_correction s hs device t number link cause vl cycle range rules steady c d =
     no_row_with s hs device t (amount s.network.correction) number d.place cycle d.entry range rules steady d.row (omega arith) c.reached d.reached
-
--- nor does one that sends the frame of a cycle
-pub no_row_at_sending : (s : Scenario) (hs : List Happening) (device : DeviceId) (t number : ℕ) (link : LinkId) (cause : ℕ) (vl : VlId) (cycle : ℕ)
-    → IsInRange s.network → KeepsRules s.network → IsSteady (s.reading device) (amount s.network.precision) → Sends s hs device t number
-    → Dispatches s hs device t link cause vl cycle → ⊥
-no_row_at_sending s hs device t number link cause vl cycle range rules steady c d =
-    no_row_with s hs device t 0 number d.place cycle d.entry range rules steady d.row (omega arith)
-    (subst (λ (n : ℕ). Reaches s hs device (pos n) t) (omega arith) c.reached) d.reached

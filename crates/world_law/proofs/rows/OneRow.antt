@@ -3,11 +3,10 @@ use Rattle.{net_plan.specs.Places.is_end_system, schedule_tables.specs.Entries.s
 use Rattle.{schedule_tables.proofs.{Entries.occur_together, EntryLemmas.one_entry}, world_law.proofs.rows.{Apart.{precise, row_apart}, Dispatching.IsLawful}}
 use Rattle.{schedule_tables.specs.Schedule.IsClearBefore, tte_units.specs.declared.speed.Speed.Speed, world_law.proofs.frames.Masters.ends_differ}
 use Rattle.{schedule_tables.specs.declared.rule.Rule.TheVariants.{Periods, Senders, Spacing}, tte_units.specs.declared.speed.Speed.TheVariants.{Gbit1, Mbit100}}
-use Rattle.world_law.proofs.Words.{◌*◌, ◌+◌, ◌<◌, ◌^◌, ◌∙◌, ◌≡◌, ◌≤◌, Bool, Device, DeviceId, Dispatches, Down, Entry, Happening, HasAtHand, IsEntry, IsSteady}
-use Rattle.world_law.proofs.Words.{KeepsRules, Link, LinkId, List, Network, None, NoteBody, Option, Scenario, Some, Up, VlId, Way, amount, ap, arith, both_ways}
-use Rattle.world_law.proofs.Words.{cases_lt, device_at, dispatch_body, false, if◌then◌else◌, inl, inr, ints, is_cut, is_end, link_at, local_before}
-use Rattle.world_law.proofs.{Words.{option_map_or, pos, refl, subst, sym, true, way_from, ℕ, ℤ}, rows.Reached.{ShowsAt, cycles_apart, shows_at}}
-use Rattle.run_law.specs.declared.note.NoteBody.TheVariants as kinds
+use Rattle.world_law.proofs.Words.{◌*◌, ◌+◌, ◌<◌, ◌^◌, ◌∙◌, ◌≡◌, ◌≤◌, Device, DeviceId, Dispatches, Down, Entry, Happening, HasAtHand, IsEntry, IsSteady}
+use Rattle.world_law.proofs.Words.{KeepsRules, Link, LinkId, List, Network, None, Option, Scenario, Some, Up, VlId, Way, amount, ap, arith, both_ways}
+use Rattle.world_law.proofs.Words.{cases_lt, device_at, dispatch_body, false, inl, inr, ints, is_end, link_at, local_before}
+use Rattle.world_law.proofs.{Words.{option_map_or, pos, refl, subst, sym, true, ℕ, ℤ}, rows.Reached.{ShowsAt, cycles_apart, shows_at}}
 
 -- ---- two rows of one link are far apart
 
@@ -97,29 +96,7 @@ one_row s js device t link other cause from vl with cycle number law same d e =
       cycles,
     )
 
--- ---- by what tells of it
-
-link_in : NoteBody → ℕ
-link_in (kinds.Lost device link cause) = link.0
-link_in (kinds.TtSent device link cause vl cycle) = link.0
-link_in other = 0
-
-link_is : (s : Scenario) (device : DeviceId) (now : ℕ) (link : LinkId) (cause : ℕ) (vl : VlId) (cycle : ℕ)
-    → link_in (dispatch_body s device now link cause vl cycle) ≡ link.0
-unfolding link_in
-link_is s device now link cause vl cycle =
-    elim (is_cut s link (way_from s.network device link) now) as (λ (b : Bool). link_in (if b then kinds.Lost device link cause
-    else kinds.TtSent device link cause vl cycle) ≡ link.0) [ true ↦ refl | false ↦ refl ]
-
--- what tells of two dispatches of an instant tells of one row
-pub one_told : (s : Scenario) (js : List Happening) (device : DeviceId) (t : ℕ) (link other : LinkId) (cause from : ℕ) (vl with : VlId) (cycle number : ℕ)
-    → IsLawful s js device → (d : Dispatches s js device t link cause vl cycle) → (e : Dispatches s js device t other from with number)
-    → dispatch_body s device t link cause vl cycle ≡ dispatch_body s device t other from with number → (d.place ≡ e.place) × (cycle ≡ number)
-one_told s js device t link other cause from vl with cycle number law d e told =
-    let same : link.0 ≡ other.0 = sym (link_is s device t link cause vl cycle) ∙ ap link_in told ∙ link_is s device t other from with number in
-    one_row s js device t link other cause from vl with cycle number law (ap (λ (n : ℕ). let l : LinkId = record { 0 = n } in l) same) d e
-
--- ---- and back
+-- ---- what tells of it
 
 some_end : (o : Option Device) → IsSomeAnd o (λ d. is_end_system d.role ≡ true) → option_map_or (λ (d : Device). is_end_system d.role) o false ≡ true
 some_end None x = absurd x

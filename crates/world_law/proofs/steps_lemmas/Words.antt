@@ -54,7 +54,7 @@ pub use Rattle.tte_units.proofs.general_lemmas.{Bools.or_none, Integers.{never_b
 pub use Rattle.tte_units.specs.Amount.{amount, units_of}
 pub use Rattle.tte_units.specs.declared.units.Units.{Units}
 pub use Rattle.world_law.proofs.acts.{Acted.{IsAlike, undone_alike, waiting_alike}, Acting.point_number, NoActs.points_same}
-pub use Rattle.world_law.proofs.acts.Recorded.{dispatch_late, is_sending}
+pub use Rattle.world_law.proofs.acts.Dispatched.{dispatch_late}
 pub use Rattle.world_law.proofs.devices.{Borne.{by_last, moves_no_other}, OwnRecords.{change_still, keeps_adjustment, same_before}, Passes.not_turned_on}
 pub use Rattle.world_law.proofs.devices.{Plains.{plains_parts, told_by_others}, Resting.are_past, TurnedOn.{all_up_to, next_is_up_to, quiet_rest}}
 pub use Rattle.world_law.proofs.giving.GivenParts.{no_later_breaks, some_same}
@@ -73,7 +73,7 @@ pub use Rattle.world_law.proofs.runs.TaskPlaces.{acts_before, acts_first, no_tas
 pub use Rattle.world_law.proofs.runs.Worlds.{length_is}
 pub use Rattle.world_law.specs.device.{Deeds.{HadComeTo, HasDoneFrom, HasDoneTask, HasSentFrom, HasWorkedTo}, Left.{HasTaskBy, IsLeft, is_timed}, Own.{bears_on, moves}}
 pub use Rattle.world_law.specs.device.{Plain.{plain, plains}, Ready.{IsReadyAt, IsSteady}}
-pub use Rattle.world_law.specs.device.{Recorded.{AreRecorded, HasCleared, IsFrameOf, IsShown, dispatch_body}, Takings.{frames_taken, taken_in}}
+pub use Rattle.world_law.specs.device.{Recorded.{HasCleared, dispatch_body}, Takings.{frames_taken, taken_in}}
 pub use Rattle.world_law.specs.device.Told.{cleared_in, local_in, next_in, since_at}
 pub use Rattle.world_law.specs.source.{Agreeing.scenario, Applying.IsEventBody, Sources.{IsActing, IsOwnSource, IsSource, task_place}}
 pub use Rattle.world_law.specs.world.{Calls.{HasActed, IsDueNow, IsSet, moment_of}, Moves.{ArePutIn, ComesFirst, IsPutIn, IsWithout, StandsBehind, settled_as}}

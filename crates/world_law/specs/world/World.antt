@@ -21,7 +21,7 @@ use Rattle.run_law.specs.records.{Order.{AllBefore, IsBefore, IsIn, NoneBefore, 
 use Rattle.run_law.specs.scenario.{Devices.{is_cm, is_end}, Ways.{delay_at, hold_at, is_cut, receiver_of, way_from}}
 use Rattle.{run_law.specs.timed.Dispatching.is_accepted, tte_units.specs.{Amount.amount, declared.frames.pcf.Pcf.Pcf}}
 use Rattle.world_law.specs.device.{Deeds.{HasDoneTask, HasWorkedTo}, Own.moves}
-use Rattle.world_law.specs.device.Recorded.{AreRecorded, HasCleared}
+use Rattle.world_law.specs.device.Recorded.{HasCleared}
 use Rattle.run_law.specs.machines.Tasks.{IsPending, Task, reading_for}
 use Rattle.world_law.specs.source.Sources.{IsActing, IsArriving, IsDeparting, IsOwnSource, IsRipening, IsSource}
 use Rattle.world_law.specs.source.Sources.{task_place}
@@ -319,7 +319,6 @@ pub record IsKept {M : Type 0} (stands : M → Network → DeviceId → Node →
   pub still : up ≡ now → (h : Happening) → IsIn h (hs ++ coming) → time_of h ≡ now → IsAtRest s device now h.note.body
   pub turned : is_turned_on_at s device now ≡ true → HasTurnedOn s hs coming cursor device now
   pub cleared : HasCleared node
-  pub recorded : up ≡ now → AreRecorded s (hs ++ coming) coming now device node
   pub phase : IsCalledBy node cursor now
 
 -- the machine stands for a device that is broken: it keeps the state and the adjustment of the records, and has no

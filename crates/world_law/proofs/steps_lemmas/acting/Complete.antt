@@ -1,15 +1,13 @@
 -- All that is due of a device that has acted is among the records to come.
 use Rattle.run_law.specs.runs.DueRecords.{IsCorrectedRecord}
-use Rattle.world_law.proofs.acts.Dues.{IsPresent}
-use Rattle.world_law.proofs.steps_lemmas.Words.{◌<◌, ◌++◌, ◌∙◌, ◌∷◌, ◌≡◌, ◌≤◌, AllBefore, AsyncClique, Bool}
+use Rattle.world_law.proofs.steps_lemmas.Words.{◌∙◌, ◌∷◌, ◌≡◌, AsyncClique, Bool}
 use Rattle.world_law.proofs.steps_lemmas.Words.{ComesToCorrection, Compressed, DeviceId}
-use Rattle.world_law.proofs.steps_lemmas.Words.{Dispatches, Happening, Integrating, IsBefore, IsCaused, IsIn, IsOwnSource}
-use Rattle.world_law.proofs.steps_lemmas.Words.{IsShown, LinkId, List, Node, NoteBody, Scenario, SyncClique, Units, VlId, []}
+use Rattle.world_law.proofs.steps_lemmas.Words.{Dispatches, Happening, Integrating, IsCaused, IsOwnSource}
+use Rattle.world_law.proofs.steps_lemmas.Words.{LinkId, List, NoteBody, Scenario, SyncClique, Units, VlId, []}
 use Rattle.world_law.proofs.steps_lemmas.Words.{amount, ap, arith, cases_Bool, dispatch_body}
-use Rattle.world_law.proofs.steps_lemmas.Words.{false, if◌then◌else◌, in_parts, inl, inr, is_cut, members_in}
+use Rattle.world_law.proofs.steps_lemmas.Words.{false, if◌then◌else◌, inl, inr, is_cut, members_in}
 use Rattle.world_law.proofs.steps_lemmas.Words.{place_of, rank, same_device}
 use Rattle.world_law.proofs.steps_lemmas.Words.{subst, sym, time_of, true, way_from, ℕ}
-use Rattle.world_law.proofs.steps_lemmas.acting.Work.{IsAtWork}
 use Rattle.world_law.proofs.steps_lemmas.Words.{length, row_order, rows_place, second}
 use Rattle.schedule_tables.specs.Dispatches.{dispatch_order}
 use Rattle.run_law.specs.declared.judgement.Why.TheVariants as whys
@@ -88,29 +86,12 @@ point_cause_of s js now device time m rest own c = absurd (elsewhere now (amount
 
 -- ---- what is done, or is not due, is told
 
--- how a device at work is at the instant
-pub present_at : (s : Scenario) (hs coming : List Happening) (now : ℕ) (device : DeviceId) (node : Node) → IsAtWork s hs coming now device node
-    → IsPresent s (hs ++ coming) now device node
-present_at s hs coming now device node w = record { left = w.left; sound = w.sound }
+-- ---- what tells of one dispatch stands at one place
 
--- ---- what is told has its record among those to come
-
--- what stands at a place of a higher rank than what is before the records to come, is among these
-found_at : (hs new : List Happening) (now r : ℕ) (more : List ℕ) (x y : Happening) (k : ℕ) (rest : List ℕ) → AllBefore place_of hs (now ∷ r ∷ more)
-    → IsIn x (hs ++ new) → place_of x ≡ now ∷ k ∷ rest → r < k → place_of y ≡ now ∷ k ∷ rest → (z : Happening) × IsIn z new × (place_of z ≡ place_of y)
-found_at hs new now r more x y k rest before i at late its = elim (in_parts x hs new i) [
-  | inr more ↦ (x, more, at ∙ sym its)
-  | inl old ↦ absurd (elim (subst (λ (p : List ℕ). IsBefore p (now ∷ r ∷ more)) at (before x old)) [
-    | inl lt ↦ omega (arith, lt)
-    | inr b ↦ elim b.1 [ inl lt ↦ omega (arith, lt, late) | inr c ↦ let e = c.0 in omega (arith, e, late) ]
-  ])
-]
-
--- so is what tells of a dispatch
-pub found_dispatched : (s : Scenario) (hs new : List Happening) (now : ℕ) (device : DeviceId) (link : LinkId) (cause : ℕ) (vl : VlId) (cycle r : ℕ)
-    (more : List ℕ) (y : Happening) → r ≤ 8 → AllBefore place_of hs (now ∷ r ∷ more) → IsShown (hs ++ new) now (dispatch_body s device now link cause vl cycle)
-    → y.note.body ≡ dispatch_body s device now link cause vl cycle → time_of y ≡ now → (z : Happening) × IsIn z new × (place_of z ≡ place_of y)
-found_dispatched s hs new now device link cause vl cycle r more y few before x e at =
+pub same_told : (s : Scenario) (now : ℕ) (device : DeviceId) (link : LinkId) (cause : ℕ) (vl : VlId) (cycle : ℕ) (x y : Happening)
+    → x.note.body ≡ dispatch_body s device now link cause vl cycle → y.note.body ≡ dispatch_body s device now link cause vl cycle → time_of x ≡ now
+    → time_of y ≡ now → place_of x ≡ place_of y
+same_told s now device link cause vl cycle x y told e at_x at =
     let lost : (h : Happening) → h.note.body ≡ kinds.Lost device link cause → time_of h ≡ now → place_of h ≡ now ∷ 9 ∷ device.0 ∷ link.0 ∷ cause ∷ [] =
     λ h body time.
     ap (λ (b : NoteBody). time_of h ∷ rank b ∷ Rattle.run_law.specs.records.Ranks.key (members_in h) b) body
@@ -123,10 +104,6 @@ found_dispatched s hs new now device link cause vl cycle r more y few before x e
     → dispatch_body s device now link cause vl cycle ≡ (if b then kinds.Lost device link cause else kinds.TtSent device link cause vl cycle) = λ b is.
     ap (λ (c : Bool). if c then kinds.Lost device link cause else kinds.TtSent device link cause vl cycle) is in
     elim (cases_Bool (is_cut s link (way_from s.network device link) now)) [
-      | inl cut ↦
-          found_at hs new now r more x.by y 9 (device.0 ∷ link.0 ∷ cause ∷ []) before x.there
-          (lost x.by (x.is ∙ by_cut true cut) x.at) (omega (arith, few)) (lost y (e ∙ by_cut true cut) at)
-      | inr whole ↦
-          found_at hs new now r more x.by y 10 (device.0 ∷ link.0 ∷ cause ∷ vl.0 ∷ cycle ∷ []) before x.there
-          (sent x.by (x.is ∙ by_cut false whole) x.at) (omega (arith, few)) (sent y (e ∙ by_cut false whole) at)
+      | inl cut ↦ lost x (told ∙ by_cut true cut) at_x ∙ sym (lost y (e ∙ by_cut true cut) at)
+      | inr whole ↦ sent x (told ∙ by_cut false whole) at_x ∙ sym (sent y (e ∙ by_cut false whole) at)
     ]

@@ -2,7 +2,7 @@
 use Rattle.world_law.proofs.steps_lemmas.Words.{◌<◌, ComesFirst, IsIn, ap, dispatching, rank}
 use Rattle.world_law.proofs.steps_lemmas.Words.{◌∷◌, ArePutIn, DeviceId, Entry, Happening, HasActed, HasAtHand, IsSet, List, Network, Node, Note, NoteBody}
 use Rattle.world_law.proofs.steps_lemmas.Words.{RowId, Scenario, Stands, World, [], arith, dispatch_body, dispatch_late, happenings, moment_of, ℕ}
-use Rattle.world_law.proofs.steps_lemmas.acting.{Sending.did_deed, Dispatching.{dispatch_cause, dispatching_record, hand_within, has_dispatched_it}}
+use Rattle.world_law.proofs.steps_lemmas.acting.{Sending.did_deed, Dispatching.{dispatch_cause, dispatching_record, hand_within, has_dispatched_it, row_told}}
 use Rattle.world_law.{proofs.steps_lemmas.acting.{Kept.may_act_now, OneAct.IsOneAct, Stage.stage_of}, specs.steps.Acting.{Acts, place_of_act}}
 use Rattle.schedule_tables.specs.Entries.{IsEntry}
 use Rattle.run_law.specs.declared.steps.Act.TheVariants as acts
@@ -52,6 +52,7 @@ dispatches_one reading stands s world notes old device after bodies machines set
           record {
             so = dispatching_record stands s hs front back old.mark old.cursor now device a.machine node row entry cause cycle st2 first.pending first.due
                 is hand;
+            told = row_told stands s hs front back old.mark old.cursor now device a.machine node row entry cause cycle st2 first.pending first.due is hand;
             it = it;
           };
     }

@@ -1,34 +1,56 @@
--- Each row that a device at work dispatches at the instant is still to be dispatched, or told: all that is due from the place of
--- a row is among the records to come, once the row is dispatched.
+-- A device dispatches one row from one place of its order at an instant: so all that is due from there is the record that tells
+-- of it.
 use Rattle.schedule_tables.specs.Dispatches.{dispatch_order}
-use Rattle.world_law.proofs.{acts.Dues.{IsDueTask, dispatching_due, done_or}, steps_lemmas.acting.Complete.{found_dispatched, present_at}}
-use Rattle.world_law.proofs.steps_lemmas.Words.{◌++◌, ◌∙◌, ◌∷◌, ◌≡◌, ◌≤◌, ◌⊎◌, AllBefore, AreRecorded, Bool, DeviceId, Dispatches, Happening, HasTaskAt, IsAllOfIt}
-use Rattle.world_law.proofs.steps_lemmas.Words.{IsCaused, IsIn, IsLawful, IsOwnSource, IsShown, LinkId, List, Node, NoteBody, RowId, Scenario, Units}
-use Rattle.world_law.proofs.steps_lemmas.Words.{VlId, [], amount, ap, arith, dispatch_body, dispatches_same, dispatching, doing, false, frames_taken, in_left}
+use Rattle.{net_plan.specs.declared.tables.Row.Row, world_law.proofs.{rows.OneRow.{one_row, told_alike}, steps_lemmas.acting.Complete.same_told}}
+use Rattle.{schedule_tables.specs.Entries.IsEntry, world_law.proofs.steps_lemmas.Words.{Entry, Network, Option, option_map_or}}
+use Rattle.world_law.proofs.steps_lemmas.Words.{◌++◌, ◌∙◌, ◌∷◌, ◌≡◌, ◌≤◌, Bool, DeviceId, Dispatches, Happening, IsAllOfIt}
+use Rattle.world_law.proofs.steps_lemmas.Words.{IsCaused, IsIn, IsLawful, IsOwnSource, LinkId, List, NoteBody, RowId, Scenario, Units}
+use Rattle.world_law.proofs.steps_lemmas.Words.{VlId, [], amount, ap, arith, dispatch_body, dispatches_same, false, in_left}
 use Rattle.world_law.proofs.steps_lemmas.Words.{if◌then◌else◌, inl, inr, is_cut, members_in, place_of, refl, same_device, second, subst, sym, time_of, true}
 use Rattle.world_law.proofs.steps_lemmas.Words.{length}
-use Rattle.world_law.proofs.steps_lemmas.{Words.{way_from, ℕ}, acting.Work.{IsAtWork, all_earlier}}
+use Rattle.world_law.proofs.steps_lemmas.{Words.{way_from, ℕ}, acting.Work.all_earlier}
 use Rattle.run_law.specs.declared.judgement.Why.TheVariants as whys
 use Rattle.run_law.specs.declared.note.NoteBody.TheVariants as kinds
 
--- ---- it is due, or told
+-- ---- it is told
 
-dispatched_or : (s : Scenario) (hs new other : List Happening) (now : ℕ) (device : DeviceId) (node : Node) (link : LinkId) (cause : ℕ) (vl : VlId) (cycle : ℕ)
-    → IsAtWork s hs new now device node → AreRecorded s (hs ++ new) new now device node → IsLawful s (hs ++ new) device
-    → node.taken ≡ frames_taken s (hs ++ new) device → ((z : Happening) → IsIn z other → time_of z ≡ now)
-    → (d : Dispatches s (hs ++ other) device now link cause vl cycle)
-    → IsDueTask s device node now (doing (dispatching (record { 0 = d.place }) cycle))
-    ⊎ IsShown (hs ++ new) now (dispatch_body s device now link cause vl cycle)
-dispatched_or s hs new other now device node link cause vl cycle w r law taken also d =
-    let same = all_earlier s hs other new now also (λ z i. (w.of_now z i).0) in
-    let e = dispatches_same s (hs ++ other) (hs ++ new) now device link cause vl cycle same d in
-    elim (done_or node (doing (dispatching (record { 0 = e.0.place }) cycle))) [
-      | inl there ↦ inr (r.dispatched link cause vl cycle e.0 there)
-      | inr not ↦
-          inl (subst (λ (n : ℕ). IsDueTask s device node now (doing (dispatching (let row : RowId = record { 0 = n } in row) cycle))) e.1
-          (dispatching_due s (hs ++ new) now device node link cause vl cycle (present_at s hs new now device node w)
-          (record { taken = taken; past = w.past; lawful = law }) e.0 not))
-    ]
+-- by these records the device dispatches the row at this place of its order, and a record of this body tells of it
+pub record TellsRow (s : Scenario) (js : List Happening) (now : ℕ) (device : DeviceId) (order : List ℕ) (body : NoteBody) : Type 0 where
+  pub link : LinkId
+  pub cause : ℕ
+  pub vl : VlId
+  pub cycle : ℕ
+  pub dispatches : Dispatches s js device now link cause vl cycle
+  pub at : dispatch_order s.network (record { 0 = dispatches.place }) ≡ order
+  pub is : body ≡ dispatch_body s device now link cause vl cycle
+
+order_is : (network : Network) (place : ℕ) (entry : Entry) → IsEntry network place entry
+    → dispatch_order network (record { 0 = place }) ≡ amount entry.row.offset ∷ entry.row.link.0 ∷ place ∷ []
+order_is network place entry is = ap (λ (o : Option Row). option_map_or (λ (r : Row). amount r.offset ∷ r.link.0 ∷ place ∷ []) o []) is.row
+
+-- a place in the order tells the link
+one_link : (s : Scenario) (js : List Happening) (device : DeviceId) (now : ℕ) (link other : LinkId) (cause from : ℕ) (vl with : VlId) (cycle number : ℕ)
+    (order : List ℕ) (d : Dispatches s js device now link cause vl cycle) (e : Dispatches s js device now other from with number)
+    → dispatch_order s.network (record { 0 = d.place }) ≡ order → dispatch_order s.network (record { 0 = e.place }) ≡ order → link ≡ other
+one_link s js device now link other cause from vl with cycle number order d e one two =
+    let both : amount d.entry.row.offset ∷ d.entry.row.link.0 ∷ d.place ∷ [] ≡ amount e.entry.row.offset ∷ e.entry.row.link.0 ∷ e.place ∷ [] =
+    sym (order_is s.network d.place d.entry d.row) ∙ one ∙ sym two ∙ order_is s.network e.place e.entry e.row in
+    let links : d.entry.row.link.0 ≡ e.entry.row.link.0 = cc in
+    sym d.by ∙ ap (λ (n : ℕ). let l : LinkId = record { 0 = n } in l) links ∙ e.by
+
+-- so what is dispatched from the same place by records of the instant is told by the same
+same_row : (s : Scenario) (hs new front : List Happening) (now : ℕ) (device : DeviceId) (order : List ℕ) (body : NoteBody) (link : LinkId) (cause : ℕ)
+    (vl : VlId) (cycle : ℕ) → IsLawful s (hs ++ new) device → ((z : Happening) → IsIn z new → time_of z ≡ now)
+    → ((z : Happening) → IsIn z front → time_of z ≡ now) → TellsRow s (hs ++ new) now device order body
+    → (d : Dispatches s (hs ++ front) device now link cause vl cycle) → dispatch_order s.network (record { 0 = d.place }) ≡ order
+    → body ≡ dispatch_body s device now link cause vl cycle
+same_row s hs new front now device order body link cause vl cycle law of_now also t d place =
+    let x = dispatches_same s (hs ++ front) (hs ++ new) now device link cause vl cycle (all_earlier s hs front new now also of_now) d in
+    let at : dispatch_order s.network (record { 0 = x.0.place }) ≡ order =
+    ap (λ (n : ℕ). dispatch_order s.network (let row : RowId = record { 0 = n } in row)) x.1 ∙ place in
+    let links = one_link s (hs ++ new) device now t.link link t.cause cause t.vl vl t.cycle cycle order t.dispatches x.0 t.at at in
+    let one = one_row s (hs ++ new) device now t.link link t.cause cause t.vl vl t.cycle cycle law links t.dispatches x.0 in
+    t.is ∙ told_alike s (hs ++ new) device now t.link link t.cause cause t.vl vl t.cycle cycle law.rules t.dispatches x.0 one.0 one.1
 
 -- ---- what comes from the place of a row
 
@@ -110,43 +132,28 @@ row_cause s js now device order time m rest long own c = absurd (wrong now (amou
 
 -- ---- all of it is there
 
-abbrev IsRowIdle : Scenario → DeviceId → Node → ℕ → List ℕ → Type 0
-IsRowIdle s device node now order = HasTaskAt s device node now (now ∷ 6 ∷ device.0 ∷ order) → ⊥
-
--- where nothing is due at the place of the row any more
-row_found : (s : Scenario) (hs new front back : List Happening) (now : ℕ) (device : DeviceId) (node : Node) (order : List ℕ) (y : Happening) → new ≡ front ++ back
-    → IsAtWork s hs new now device node → AreRecorded s (hs ++ new) new now device node → IsLawful s (hs ++ new) device
-    → node.taken ≡ frames_taken s (hs ++ new) device → IsRowIdle s device node now order → AllBefore place_of hs (now ∷ 6 ∷ device.0 ∷ order)
-    → time_of y ≡ now → (body : NoteBody) → y.note.body ≡ body → IsRowCause s (hs ++ front) now device order body
-    → (z : Happening) × IsIn z new × (place_of z ≡ place_of y)
-row_found s hs new front back now device node order y e w r law taken idle before at (kinds.Lost other link cause) is c =
+-- what comes from the place of the row stands where the record that tells of it does
+row_found : (s : Scenario) (hs new front : List Happening) (now : ℕ) (device : DeviceId) (order : List ℕ) (w y : Happening) → IsLawful s (hs ++ new) device
+    → ((z : Happening) → IsIn z new → time_of z ≡ now) → ((z : Happening) → IsIn z front → time_of z ≡ now)
+    → TellsRow s (hs ++ new) now device order w.note.body → time_of w ≡ now → time_of y ≡ now → (body : NoteBody) → y.note.body ≡ body
+    → IsRowCause s (hs ++ front) now device order body → place_of w ≡ place_of y
+row_found s hs new front now device order w y law of_now also t at_w at (kinds.Lost other link cause) is c =
     let x = c.1 in
-    let also : (z : Happening) → IsIn z front
-    → time_of z ≡ now = λ z i. (w.of_now z (subst (λ (l : List Happening). IsIn z l) (sym e) (in_left z front back i))).0 in
-    elim (dispatched_or s hs new front now device node link cause x.0 x.1 w r law taken also x.2) [
-      | inl due ↦ absurd (idle (doing (dispatching (record { 0 = x.2.place }) x.1), due.0, due.1, ap (λ (l : List ℕ). now ∷ 6 ∷ device.0 ∷ l) x.4))
-      | inr told ↦
-          found_dispatched s hs new now device link cause x.0 x.1 6 (device.0 ∷ order) y (omega arith) before told
-          (is ∙ ap (λ (d : DeviceId). kinds.Lost d link cause) c.0
-          ∙ sym (ap (λ (b : Bool). if b then kinds.Lost device link cause else kinds.TtSent device link cause x.0 x.1) x.3)) at
-    ]
-row_found s hs new front back now device node order y e w r law taken idle before at (kinds.TtSent other link cause vl cycle) is c =
+    same_told s now device link cause x.0 x.1 w y (same_row s hs new front now device order w.note.body link cause x.0 x.1 law of_now also t x.2 x.4)
+    (is ∙ ap (λ (d : DeviceId). kinds.Lost d link cause) c.0
+    ∙ sym (ap (λ (b : Bool). if b then kinds.Lost device link cause else kinds.TtSent device link cause x.0 x.1) x.3)) at_w at
+row_found s hs new front now device order w y law of_now also t at_w at (kinds.TtSent other link cause vl cycle) is c =
     let x = c.1 in
-    let also : (z : Happening) → IsIn z front
-    → time_of z ≡ now = λ z i. (w.of_now z (subst (λ (l : List Happening). IsIn z l) (sym e) (in_left z front back i))).0 in
-    elim (dispatched_or s hs new front now device node link cause vl cycle w r law taken also x.0) [
-      | inl due ↦ absurd (idle (doing (dispatching (record { 0 = x.0.place }) cycle), due.0, due.1, ap (λ (l : List ℕ). now ∷ 6 ∷ device.0 ∷ l) x.2))
-      | inr told ↦
-          found_dispatched s hs new now device link cause vl cycle 6 (device.0 ∷ order) y (omega arith) before told
-          (is ∙ ap (λ (d : DeviceId). kinds.TtSent d link cause vl cycle) c.0
-          ∙ sym (ap (λ (b : Bool). if b then kinds.Lost device link cause else kinds.TtSent device link cause vl cycle) x.1)) at
-    ]
-row_found s hs new front back now device node order y e w r law taken idle before at rest is c = absurd c
+    same_told s now device link cause vl cycle w y (same_row s hs new front now device order w.note.body link cause vl cycle law of_now also t x.0 x.2)
+    (is ∙ ap (λ (d : DeviceId). kinds.TtSent d link cause vl cycle) c.0
+    ∙ sym (ap (λ (b : Bool). if b then kinds.Lost device link cause else kinds.TtSent device link cause vl cycle) x.1)) at_w at
+row_found s hs new front now device order w y law of_now also t at_w at rest is c = absurd c
 
-pub all_row : (s : Scenario) (hs new : List Happening) (now : ℕ) (device : DeviceId) (node : Node) (order : List ℕ) → IsAtWork s hs new now device node
-    → AreRecorded s (hs ++ new) new now device node → IsLawful s (hs ++ new) device → node.taken ≡ frames_taken s (hs ++ new) device
-    → (HasTaskAt s device node now (now ∷ 6 ∷ device.0 ∷ order) → ⊥) → AllBefore place_of hs (now ∷ 6 ∷ device.0 ∷ order)
-    → 1 ≤ length order → IsAllOfIt s hs new (now ∷ 6 ∷ device.0 ∷ order)
-all_row s hs new now device node order w r law taken idle before long front back y e all none due own =
+pub all_row : (s : Scenario) (hs new : List Happening) (now : ℕ) (device : DeviceId) (order : List ℕ) (w : Happening) → IsLawful s (hs ++ new) device
+    → ((z : Happening) → IsIn z new → time_of z ≡ now) → TellsRow s (hs ++ new) now device order w.note.body → IsIn w new → 1 ≤ length order
+    → IsAllOfIt s hs new (now ∷ 6 ∷ device.0 ∷ order)
+all_row s hs new now device order w law of_now t there long front back y e all none due own =
     let c = row_cause s (hs ++ front) now device order y.note.time (members_in y) y.note.body long own due.cause in
-    row_found s hs new front back now device node order y e w r law taken idle before c.0 y.note.body refl c.1
+    let also : (z : Happening) → IsIn z front → time_of z ≡ now = λ z i.
+    of_now z (subst (λ (l : List Happening). IsIn z l) (sym e) (in_left z front back i)) in
+    (w, there, row_found s hs new front now device order w y law of_now also t (of_now w there) c.0 y.note.body refl c.1)

@@ -1,23 +1,25 @@
 -- A device dispatches a row's frame: its record, and how the device stands then.
 use Rattle.{net_plan.proofs.SameIds.{same_link, same_vl}, run_law.proofs.law.FirstPlaces.in_filter, schedule_tables.specs.Windows.OccursIn}
 use Rattle.{run_law.proofs.timed.Rows.at_hand_by, std.proofs.Common.{◌*◌, Contains}}
-use Rattle.{schedule_tables.{proofs.EntryLemmas.one_entry, specs.Entries.{IsEntry, source_of}}, world_law.proofs.rows.OneRow.{one_told, told_alike}}
+use Rattle.{schedule_tables.{proofs.EntryLemmas.one_entry, specs.Entries.{IsEntry, source_of}}}
 use Rattle.schedule_tables.specs.Dispatches.{dispatch_order}
-use Rattle.world_law.proofs.putting.Bearing.{placed_back}
+use Rattle.run_law.proofs.law.FirstPlaces.{numbered_front}
+use Rattle.world_law.proofs.{Words.{AreSettled, IsBefore, IsOwnSource, Some, append_assoc, chain, numbered, parted}, acts.Dispatched.{dispatch_told, send_apart}}
+use Rattle.world_law.proofs.{rows.OneRow.one_row, steps_lemmas.acting.Dispatches.TellsRow}
 use Rattle.world_law.proofs.steps_lemmas.Words.{task_place}
 use Rattle.world_law.proofs.steps_lemmas.Words.{IsSource}
-use Rattle.world_law.proofs.steps_lemmas.Words.{◌++◌, ◌+◌, ◌∙◌, ◌∷◌, ◌≡◌, ◌≤ℤ◌, ◌≤◌, AreRecorded, Bool, Contains-append_left, Contains-push}
+use Rattle.world_law.proofs.steps_lemmas.Words.{◌++◌, ◌+◌, ◌∙◌, ◌∷◌, ◌≡◌, ◌≤ℤ◌, ◌≤◌, Bool}
 use Rattle.world_law.proofs.steps_lemmas.Words.{Contains-push_cases, DeviceId, Dispatches, Entry, Happening, HasAtHand, HasCleared, Hearing, IsActOf, IsActing}
 use Rattle.world_law.proofs.steps_lemmas.Words.{IsDue, IsFirstTask, IsFounded, IsIn, IsLawful, IsPending, IsReadyAt, LinkId, List, Moment, Network, Node, None}
 use Rattle.world_law.proofs.steps_lemmas.Words.{NoteBody, Option, Reaches, RowId, Scenario, VlId, [], acting, amount, ap, append-nil, arith}
 use Rattle.world_law.proofs.steps_lemmas.Words.{by_number, called, cause_of, changed_at, changed_before, correcting, dispatch_body, dispatch_late}
 use Rattle.world_law.proofs.steps_lemmas.Words.{dispatches_same, dispatching, doing, earlier, false, filter, hearing_by, if◌then◌else◌, in_left, in_right, inl}
-use Rattle.world_law.proofs.steps_lemmas.Words.{inr, is_accepted, is_cut, key, last_in, last_unfollowed, length, members_in, moment_of, moves, nat_lt, ne_eqb}
+use Rattle.world_law.proofs.steps_lemmas.Words.{inr, is_accepted, is_cut, key, last_in, last_unfollowed, length, members_in, moment_of, moves, nat_lt}
 use Rattle.world_law.proofs.steps_lemmas.Words.{numbered_within, option_to_list, place_of, pos, rank, reaches_back, reading_for, record_of}
 use Rattle.world_law.proofs.steps_lemmas.Words.{refl, same_device, subst, sym, time_of, true, up_back, value_is, way_from, with_done, ℕ}
 use Rattle.world_law.proofs.steps_lemmas.{Words.ℤ, acting.{Sending.{HasSentIt, as_put, taken_then}, Work.{IsAtWork, all_earlier, reaches}}}
-use Rattle.world_law.proofs.steps_lemmas.acting.GoesOn.{IsPutAs, does, earlier_put, goes_on, left_on, put_now, sent_alike, shown_now}
-use Rattle.world_law.proofs.steps_lemmas.acting.{GoesOn.shown_still, Kept.{may_act_now, ready_after}, Stage.{IsActRecordAt, StageAt}}
+use Rattle.world_law.proofs.steps_lemmas.acting.GoesOn.{IsPutAs, does, goes_on, left_on, put_now, sent_alike}
+use Rattle.world_law.proofs.steps_lemmas.acting.{Kept.{may_act_now, ready_after}, Stage.{IsActRecordAt, StageAt}}
 use Rattle.run_law.specs.declared.note.NoteBody.TheVariants as kinds
 use Rattle.run_law.specs.declared.steps.Act.TheVariants as acts
 
@@ -128,7 +130,7 @@ row_record s hs front back now device row link cause vl cycle true is r =
           (IsSource.acting now device (doing (dispatching (record { 0 = r.dispatches.place }) cycle)) (IsActing.dispatches link cause vl cycle r.dispatches));
       caused = inr (inl (vl, cycle, r.dispatches, is));
       fresh = λ y i e. r.new y i (body_at true device link cause vl cycle now (time_of y) (members_in y) y.note.body e);
-      apart = λ other not. (refl, ne_eqb other.0 device.0 not, λ at. refl);
+      apart = λ other not. (refl, λ at. refl);
       lone = last_unfollowed s hs now (kinds.Lost device link cause) refl;
     }
 row_record s hs front back now device row link cause vl cycle false is r =
@@ -139,9 +141,49 @@ row_record s hs front back now device row link cause vl cycle false is r =
           (IsSource.acting now device (doing (dispatching (record { 0 = r.dispatches.place }) cycle)) (IsActing.dispatches link cause vl cycle r.dispatches));
       caused = record { dispatches = r.dispatches; whole = is };
       fresh = λ y i e. r.new y i (body_at false device link cause vl cycle now (time_of y) (members_in y) y.note.body e);
-      apart = λ other not. (refl, ne_eqb other.0 device.0 not, λ at. refl);
+      apart = λ other not. (refl, λ at. refl);
       lone = last_unfollowed s hs now (kinds.TtSent device link cause vl cycle) refl;
     }
+
+-- where a row is not worked off, no record to come tells of its dispatch
+no_row_told : (s : Scenario) (hs coming : List Happening) (mark cursor : List ℕ) (now : ℕ) (device : DeviceId) → AreSettled s hs coming mark cursor now
+    → IsFounded place_of (IsDue s) hs → IsLawful s (hs ++ coming) device → (z : Happening) → IsIn z coming → (link : LinkId) (cause : ℕ) (vl : VlId)
+    (cycle : ℕ) (d : Dispatches s (hs ++ coming) device now link cause vl cycle)
+    → (IsBefore (now ∷ 6 ∷ device.0 ∷ dispatch_order s.network (record { 0 = d.place })) cursor → ⊥)
+    → z.note.body ≡ dispatch_body s device now link cause vl cycle → ⊥
+no_row_told s hs coming mark cursor now device are founded law z i link cause vl cycle d waits e =
+    let split = parted z coming i in
+    let by = are.by split.0 split.1 z split.2 in
+    let inside : (h : Happening) → IsIn h split.0 → IsIn h coming = λ h j. subst (λ (l : List Happening). IsIn h l) (sym split.2)
+    (in_left h split.0 (z ∷ split.1) j) in
+    let same : earlier now (hs ++ split.0) ≡ earlier now (hs ++ coming) = all_earlier s hs split.0 coming now (λ h j. are.of_now h (inside h j)) are.of_now in
+    let whole : hs ++ coming ≡ (hs ++ split.0) ++ z ∷ split.1 =
+    ap (λ (l : List Happening). hs ++ l) split.2 ∙ sym (append_assoc hs split.0 (z ∷ split.1)) in
+    let place = λ (n : ℕ). now ∷ 6 ∷ device.0 ∷ dispatch_order s.network (let row : RowId = record { 0 = n } in row) in
+    let own : IsOwnSource s (hs ++ split.0) now (members_in z) z.note.body by.0 = subst
+    (λ (t : ℕ). IsOwnSource s (hs ++ split.0) t (members_in z) z.note.body by.0) (are.of_now z i) by.1 in
+    let none : (other : VlId) (number : ℕ) (x : Dispatches s (hs ++ split.0) device now link cause other number) → by.0 ≡ place x.place → ⊥ =
+    λ other number x is.
+    (let y = dispatches_same s (hs ++ split.0) (hs ++ coming) now device link cause other number same x in
+    let one = one_row s (hs ++ coming) device now link link cause cause other vl number cycle law refl y.0 d in
+    waits (subst (λ (q : List ℕ). IsBefore q cursor) (is ∙ ap place (sym y.1 ∙ one.0)) by.3)) in
+    elim (dispatch_told s device now link cause vl cycle z.note.body e) [
+      | inr sent ↦
+          let it = subst (λ (b : NoteBody). IsOwnSource s (hs ++ split.0) now (members_in z) b by.0) sent own in none vl cycle it.0 it.1
+      | inl lost ↦
+          elim (subst (λ (b : NoteBody). IsOwnSource s (hs ++ split.0) now (members_in z) b by.0) lost own) [
+            | inl leaves ↦
+                waits (chain (place d.place) (now ∷ 8 ∷ device.0 ∷ link.0 ∷ cause ∷ []) cursor (inr (refl, inl (omega arith)))
+                (subst (λ (q : List ℕ). IsBefore q cursor) leaves.0 by.3))
+            | inr other ↦ elim other [
+              | inl acts ↦ none acts.0 acts.1 acts.2 acts.4
+              | inr sends ↦
+                  send_apart s hs coming (hs ++ split.0) device now link link cause vl cycle founded are.of_now
+                  (λ h there. subst (λ (l : List Happening). numbered l cause ≡ Some h) (sym whole)
+                  (numbered_front (hs ++ split.0) (z ∷ split.1) cause h there)) sends.1 d
+            ]
+          ]
+    ]
 
 pub dispatching_record : {M : Type 0} (stands : M → Network → DeviceId → Node → Type 0) (s : Scenario) (hs front back : List Happening) (mark cursor : List ℕ)
     (now : ℕ) (device : DeviceId) (machine : M) (node : Node) (row : RowId) (entry : Entry) (cause cycle : ℕ)
@@ -162,8 +204,9 @@ dispatching_record stands s hs front back mark cursor now device machine node ro
       dispatches = here.0;
       place = here.1;
       new = λ y i e.
-          pending.1.not_yet (subst (λ (n : ℕ). Contains node.done (dispatching (let r : RowId = record { 0 = n } in r) cycle)) whole.1
-          (st.recorded.has_dispatched y (in_right y front back i) link cause vl cycle whole.0 e));
+          no_row_told s hs (front ++ back) mark cursor now device st.moving.are st.given st.lawful y (in_right y front back i) link cause vl cycle whole.0
+          (λ b. st.moving.waits (subst (λ (n : ℕ). IsBefore (now ∷ 6 ∷ device.0 ∷ dispatch_order s.network (let r : RowId = record { 0 = n } in r)) cursor)
+          whole.1 b)) e;
     })
 
 -- ---- how it stands then
@@ -199,51 +242,31 @@ dispatches_on s hs front back now device node w row cycle moment work p none sti
     (changed_before (hs ++ (front ++ back)) device now) due)
     (sent_alike s device node after now (now + 1) refl refl work.sent) ready
 
--- and the records tell what it has done
-dispatched_recorded : (s : Scenario) (hs front back : List Happening) (now : ℕ) (device : DeviceId) (node : Node) (w : Happening) (row : RowId)
-    (link : LinkId) (cause : ℕ) (vl : VlId) (cycle : ℕ) (moment : Moment)
-    → IsAtWork s hs (front ++ back) now device node → AreRecorded s (hs ++ (front ++ back)) (front ++ back) now device node → IsPutAs now w
-    → w.note.body ≡ dispatch_body s device now link cause vl cycle → IsLawful s (hs ++ (front ++ back)) device
-    → (d : Dispatches s (hs ++ (front ++ back)) device now link cause vl cycle) → d.place ≡ row.0
-    → AreRecorded s (hs ++ (front ++ w ∷ back)) (front ++ w ∷ back) now device (called moment acting (with_done node (dispatching row cycle)))
-dispatched_recorded s hs front back now device node w row link cause vl cycle moment work r p e law own place =
-    let after = called moment acting (with_done node (dispatching row cycle)) in
-    let old = hs ++ (front ++ back) in
-    let same = earlier_put s hs front back now device node w work p in
-    let high = dispatch_late s device now link cause vl cycle in
-    let add = dispatching row cycle ∷ [] in
+-- its record tells of the row
+pub row_told : {M : Type 0} (stands : M → Network → DeviceId → Node → Type 0) (s : Scenario) (hs front back : List Happening) (mark cursor : List ℕ) (now : ℕ)
+    (device : DeviceId) (machine : M) (node : Node) (row : RowId) (entry : Entry) (cause cycle : ℕ)
+    → StageAt stands s hs (front ++ back) mark cursor now device machine node 6 (device.0 ∷ dispatch_order s.network row)
+    → IsPending s.network device node (doing (dispatching row cycle))
+    → reading_for s.network node (doing (dispatching row cycle)) ≤ℤ pos (s.reading device now) → IsEntry s.network row.0 entry
+    → HasAtHand s.network hs device entry now cause cycle → (order : List ℕ)
+    → now ∷ 6 ∷ device.0 ∷ dispatch_order s.network row ≡ now ∷ 6 ∷ device.0 ∷ order
+    → TellsRow s (hs ++ (front ++ record_of s.network hs front now (dispatch_body s device now entry.row.link cause entry.row.vl cycle) ∷ back)) now device
+    order (dispatch_body s device now entry.row.link cause entry.row.vl cycle)
+row_told stands s hs front back mark cursor now device machine node row entry cause cycle st pending due is hand order same =
+    let w = record_of s.network hs front now (dispatch_body s device now entry.row.link cause entry.row.vl cycle) in
+    let high = dispatch_late s device now entry.row.link cause entry.row.vl cycle in
+    let x = dispatches_it s hs (front ++ back) (front ++ w ∷ back) now device node row entry cause cycle st.work
+    (λ z i. (put_now s hs front back now device node w st.work (as_put now w refl (omega (arith, high))) z i).0) pending due is hand in
+    let rest : dispatch_order s.network row ≡ order = cc in
     record {
-      of_now = λ z i. (put_now s hs front back now device node w work p z i).0;
-      dispatched = λ other from with number d there.
-          let x = dispatches_same s (hs ++ (front ++ w ∷ back)) old now device other from with number (sym same) d in
-          elim (Contains-push_cases node.done (dispatching row cycle) (dispatching (record { 0 = d.place }) number) there) [
-            | inl before ↦
-                shown_still hs front back now w _ (r.dispatched other from with number x.0
-                (subst (λ (n : ℕ). Contains node.done (dispatching (let q : RowId = record { 0 = n } in q) number)) (sym x.1) before))
-            | inr is ↦
-                let at : row.0 ≡ d.place = row_of row d.place cycle number is in
-                let cycles : cycle ≡ number = cc in
-                shown_now hs front back now w _ p
-                (e ∙ told_alike s old device now link other cause from vl with cycle number law.rules own x.0 (place ∙ at ∙ sym x.1) cycles)
-          ];
-      has_dispatched = λ z i other from with number d is.
-          let x = dispatches_same s (hs ++ (front ++ w ∷ back)) old now device other from with number (sym same) d in
-          elim (placed_back [] front back w z i) [
-            | inl here ↦
-                let one = one_told s old device now link other cause from vl with cycle number law own x.0
-                (sym e ∙ sym (ap (λ (h : Happening). h.note.body) here) ∙ is) in
-                let at : row.0 ≡ d.place = sym place ∙ one.0 ∙ x.1 in
-                subst (λ (n : ℕ). Contains (node.done ++ add) (dispatching (let q : RowId = record { 0 = n } in q) number)) at
-                (subst (λ (n : ℕ). Contains (node.done ++ add) (dispatching row n)) one.1 (Contains-push node.done (dispatching row cycle)))
-            | inr was ↦
-                Contains-append_left node.done add (dispatching (record { 0 = d.place }) number)
-                (subst (λ (n : ℕ). Contains node.done (dispatching (let q : RowId = record { 0 = n } in q) number)) x.1
-                (r.has_dispatched z was other from with number x.0 is))
-          ];
+      link = entry.row.link;
+      cause = cause;
+      vl = entry.row.vl;
+      cycle = cycle;
+      dispatches = x.0;
+      at = ap (λ (n : ℕ). dispatch_order s.network (let r : RowId = record { 0 = n } in r)) x.1 ∙ rest;
+      is = refl;
     }
-  where
-    row_of : (row : RowId) (place m n : ℕ) → dispatching row m ≡ dispatching (record { 0 = place }) n → row.0 ≡ place
-    row_of row place m n e = cc
 
 -- the node that has dispatched, among the records with its own
 pub has_dispatched_it : {M : Type 0} (stands : M → Network → DeviceId → Node → Type 0) (s : Scenario) (hs front back : List Happening) (mark cursor : List ℕ)
@@ -268,13 +291,9 @@ has_dispatched_it stands s hs front back mark cursor now device machine then_ no
     let ready = ready_after s device node after now (acts.Dispatch row cycle) st.work.ready st.steady st.precise st.wide may act (ap (λ (n : Node). n.last) is)
     in
     let there = called moment acting (with_done node (dispatching row cycle)) in
-    let whole = dispatches_it s hs (front ++ back) (front ++ back) now device node row entry cause cycle st.work (λ z i. (st.work.of_now z i).0)
-    first.pending first.due entered hand in
     let work : IsAtWork s hs new now device there = dispatches_on s hs front back now device node w row cycle moment st.work p
     (none_heard_by s device device now link cause vl cycle w) (none_moved s device device now link cause vl cycle) first.due
     (subst (λ (n : Node). IsReadyAt (s.reading device) s.network device n now) is ready) in
-    let told : AreRecorded s (hs ++ new) new now device there =
-    dispatched_recorded s hs front back now device node w row link cause vl cycle moment st.work st.recorded p refl st.lawful whole.0 whole.1 in
     let cleared : HasCleared there = λ n has. elim (Contains-push_cases node.done (dispatching row cycle) (correcting n) has) [
       | inl old ↦ st.cleared n old
       | inr e ↦ absurd cc
@@ -282,7 +301,6 @@ has_dispatched_it stands s hs front back mark cursor now device machine then_ no
     record {
       is = stood;
       work = subst (λ (n : Node). IsAtWork s hs new now device n) (sym is) work;
-      recorded = subst (λ (n : Node). AreRecorded s (hs ++ new) new now device n) (sym is) told;
       cleared = subst HasCleared (sym is) cleared;
       taken = ap (λ (n : Node). n.taken) is
           ∙ taken_then stands s hs front back mark cursor now device machine node w 6 (device.0 ∷ dispatch_order s.network row) st refl (none_taken s device device now link cause vl cycle);

@@ -1,4 +1,5 @@
 -- The steps by which a compression master emits the frame of a collection, and does not join by it.
+use Rattle.world_law.proofs.steps_lemmas.Words.{second}
 use Rattle.{run_law.specs.{machines.Answers.after_emission, records.Ranks.sign}, std.proofs.Common.Contains, world_law.specs.world.Outcomes.judged_as}
 use Rattle.world_law.{proofs.steps_lemmas.acting.OneAct.IsOneAct, specs.steps.Acting.{Acts, joining_bodies, place_of_act}}
 use Rattle.sync_state.specs.Standing.{Standing}
@@ -10,7 +11,7 @@ use Rattle.world_law.proofs.steps_lemmas.Words.{Node, None, Note, NoteBody, Ripe
 use Rattle.world_law.proofs.steps_lemmas.Words.{amount, ap, arith, called, correcting, emitting, happenings, hearing_by}
 use Rattle.world_law.proofs.steps_lemmas.Words.{in_right, inl, inr, is_last, last_unfollowed, length, moment_of, ne_eqb, pos}
 use Rattle.world_law.proofs.steps_lemmas.{Words.{rank, record_of, refl, ripe_as, subst, sym, true, ℕ}, acting.Work.{emits, own_judgement}}
-use Rattle.world_law.proofs.steps_lemmas.acting.Emitting.{IsEmitted, StaysBy, emits_on, emitted_recorded, is_emitted, node_emitted}
+use Rattle.world_law.proofs.steps_lemmas.acting.Emitting.{IsEmitted, StaysBy, emits_on, is_emitted, node_emitted}
 use Rattle.world_law.proofs.steps_lemmas.acting.{Kept.{may_act_now, ready_after}, Stage.{IsActRecordAt, StageAt, fresh_above, stage_of}}
 use Rattle.world_law.proofs.steps_lemmas.acting.Sending.{HasSentIt, as_put, taken_then}
 use Rattle.run_law.specs.declared.judgement.Judgement.TheVariants as judgements
@@ -69,7 +70,7 @@ emission_record stands s hs front back mark cursor now device machine node sent 
       caused = e;
       fresh = fresh_above stands s hs front back mark cursor now device machine node 4 (emission_rest device sent) st (record_of s.network hs front now body)
           (omega arith);
-      apart = λ other not. (ne_eqb other.0 device.0 not, refl, λ at. refl);
+      apart = λ other not. (ne_eqb other.0 device.0 not, λ at. refl);
       lone = last_unfollowed s hs now body (last_by device sent v stays);
     }
 
@@ -102,7 +103,6 @@ has_emitted_it stands s hs front back mark cursor now device machine then_ node 
       is = stood;
       work = emits_on s hs front back now device node after w sent st.work p x
           (λ z i. hears_none s device z z.note.body (st.above z (in_right z front back i))) first.due ready;
-      recorded = emitted_recorded s hs front back now device node after w sent v st.work st.recorded p x refl;
       cleared = λ n has. subst (λ st2. n < st2.number) (sym x.but.standing) (st.cleared n (subst (λ l. Contains l (correcting n)) x.done has));
       taken = x.taken ∙ taken_then stands s hs front back mark cursor now device machine node w 4 (emission_rest device sent) st refl (λ at. refl);
       phase = ap (λ (n : Node). n.phase) is ∙ called_phase s.network device node moment sent v;
@@ -179,6 +179,7 @@ emits_one reading stands s world notes old device after bodies machines settled 
           world.settled settled) (none_joined_by (length hs + 1) device heard keeps) put);
       makes = λ front back parts st2 none. record {
         so = emission_record stands s hs front back old.mark old.cursor now device a.machine node sent st2 first.pending first.due stays;
+        told = λ order e. (let four : 4 ≡ 6 = ap second e in absurd (omega (arith, four)));
         it = has_emitted_it stands s hs front back old.mark old.cursor now device a.machine after node act.0 sent heard st2 first act.1 is stays act.2;
       };
     }

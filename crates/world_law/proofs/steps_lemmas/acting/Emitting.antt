@@ -1,15 +1,14 @@
 -- A compression master that has emitted, and has not joined by its own frame, is at work still.
 use Rattle.{run_law.specs.machines.Answers.{after_emission, hearings}, world_law.proofs.steps_lemmas.acting.{Stays.{IsSameBut, heard_by_these}, Work.IsAtWork}}
 use Rattle.{run_law.specs.{records.Frames.integration_frame, scenario.Devices.channel_of}, std.proofs.Common.Contains}
-use Rattle.world_law.proofs.steps_lemmas.Words.{◌++◌, ◌+◌, ◌<ℤ◌, ◌∙◌, ◌∷◌, ◌≡◌, ◌≤ℤ◌, AreRecorded, Bool, Channel, Compressed}
+use Rattle.world_law.proofs.steps_lemmas.Words.{◌++◌, ◌+◌, ◌<ℤ◌, ◌∙◌, ◌∷◌, ◌≡◌, ◌≤ℤ◌, Bool, Channel, Compressed}
 use Rattle.world_law.proofs.steps_lemmas.Words.{Contains-append_left, Contains-push_cases, DeviceId, Happening, HasDoneFrom, Hearing, IsAlike}
-use Rattle.world_law.proofs.steps_lemmas.Words.{IsIn, IsReadyAt, Judgement, List, Moment, Network, Node, None, Option, Pcf, RowId}
+use Rattle.world_law.proofs.steps_lemmas.Words.{IsIn, IsReadyAt, Judgement, List, Moment, Network, Node, None, Option, Pcf}
 use Rattle.world_law.proofs.steps_lemmas.Words.{Scenario, Some, Units, [], acting, ap, append-nil, arith, called, changed_at, cons_option}
-use Rattle.world_law.proofs.steps_lemmas.Words.{dispatch_body, dispatch_late, dispatches_same, dispatching, false, hearing_by, if◌then◌else◌, inl}
-use Rattle.world_law.proofs.steps_lemmas.Words.{inr, moves, option_map, option_map_or, option_to_list, pos, rank}
+use Rattle.world_law.proofs.steps_lemmas.Words.{false, hearing_by, if◌then◌else◌, inl}
+use Rattle.world_law.proofs.steps_lemmas.Words.{inr, moves, option_map, option_map_or, option_to_list, pos}
 use Rattle.world_law.proofs.steps_lemmas.Words.{refl, ripe_as, self, subst, sym, true, undone_alike, value_of, waiting_alike, ℕ, ℤ}
-use Rattle.world_law.proofs.steps_lemmas.acting.GoesOn.{IsPutAs, earlier_put, goes_on, left_on, put_now, shown_still}
-use Rattle.world_law.proofs.putting.Bearing.{placed_back}
+use Rattle.world_law.proofs.steps_lemmas.acting.GoesOn.{IsPutAs, goes_on, left_on}
 use Rattle.run_law.specs.declared.judgement.Judgement.TheVariants as judgements
 use Rattle.run_law.specs.declared.note.NoteBody.TheVariants as kinds
 
@@ -119,33 +118,3 @@ emits_on s hs front back now device node after w sent work p x none due ready =
         | inr e ↦ (now, omega arith, subst (λ (d : Compressed). d.at.0 ≤ℤ pos (s.reading device now)) e due)
       ];
     }) ready
-
--- and the records tell what it has emitted
-pub emitted_recorded : (s : Scenario) (hs front back : List Happening) (now : ℕ) (device : DeviceId) (node after : Node) (w : Happening) (sent : Compressed)
-    (v : Judgement)
-    → IsAtWork s hs (front ++ back) now device node → AreRecorded s (hs ++ (front ++ back)) (front ++ back) now device node → IsPutAs now w
-    → IsEmitted s.network device node after w sent → w.note.body ≡ kinds.Compressed device sent.opened sent.at sent.cycle sent.members v
-    → AreRecorded s (hs ++ (front ++ w ∷ back)) (front ++ w ∷ back) now device after
-emitted_recorded s hs front back now device node after w sent v work r p x e =
-    let old = hs ++ (front ++ back) in
-    let same = earlier_put s hs front back now device node w work p in
-    record {
-      of_now = λ z i. (put_now s hs front back now device node w work p z i).0;
-      dispatched = λ link cause vl c d there.
-          let q = dispatches_same s (hs ++ (front ++ w ∷ back)) old now device link cause vl c (sym same) d in
-          let before = subst (λ l. Contains l (dispatching (record { 0 = d.place }) c)) x.done there in
-          shown_still hs front back now w _ (r.dispatched link cause vl c q.0
-          (subst (λ (n : ℕ). Contains node.done (dispatching (let row : RowId = record { 0 = n } in row) c)) (sym q.1) before));
-      has_dispatched = λ z i link cause vl c d is.
-          let q = dispatches_same s (hs ++ (front ++ w ∷ back)) old now device link cause vl c (sym same) d in
-          elim (placed_back [] front back w z i) [
-            | inl here ↦
-                let high = dispatch_late s device now link cause vl c in
-                let four : rank (dispatch_body s device now link cause vl c) ≡ 4 = ap rank (sym is ∙ ap (λ (h : Happening). h.note.body) here ∙ e) in
-                absurd (omega (arith, high, four))
-            | inr was ↦
-                subst (λ l. Contains l (dispatching (record { 0 = d.place }) c)) (sym x.done)
-                (subst (λ (n : ℕ). Contains node.done (dispatching (let row : RowId = record { 0 = n } in row) c)) q.1
-                (r.has_dispatched z was link cause vl c q.0 is))
-          ];
-    }

@@ -1,6 +1,6 @@
 -- The step by which a joiner has its first correction, and has the common time from then on.
 use Rattle.world_law.proofs.putting.{Bearing.frames_aside, PutShown.{IsShownPair, change_of}, StandsOn.shown_still}
-use Rattle.world_law.proofs.{putting.PutAct.{IsActSo, act_pair, causes_of_device}, steps_lemmas.acting.Work.{all_earlier, at_correction}}
+use Rattle.world_law.proofs.{putting.{Placing.causes_given, PutAct.{IsActSo, act_pair}}, steps_lemmas.acting.Work.{all_earlier, at_correction}}
 use Rattle.world_law.proofs.{putting.PutTwo.two_by, steps_lemmas.acting.{CorrectSteps.{IsCorrecting, corrected_worked}, Correcting.joiner_over, Moves.IsCorrectedSo, Over.IsOver}}
 use Rattle.world_law.proofs.steps_lemmas.Words.{IsSource}
 use Rattle.world_law.proofs.steps_lemmas.Words.{◌++◌, ◌+ℤ◌, ◌+◌, ◌<◌, ◌∙◌, ◌∷◌, ◌≡◌, ◌≤◌, ◌⊎◌, AreOfNetwork, ChangesState, Corrected, DeviceId, Happening}
@@ -9,7 +9,7 @@ use Rattle.world_law.proofs.steps_lemmas.Words.{IsOfThisTime, IsOwnSource, IsSet
 use Rattle.world_law.proofs.steps_lemmas.Words.{Stands, StandsBehind, State, Synchronised, Units, World, [], all_without, ap}
 use Rattle.world_law.proofs.steps_lemmas.Words.{arith, bears_on, behind, both_ways, cases_eq, correcting, doing, false, frames_taken}
 use Rattle.world_law.proofs.steps_lemmas.Words.{happenings, hears, held_aside, held_moves, if◌then◌else◌, in_left, in_parts, in_right, inl, inr}
-use Rattle.world_law.proofs.steps_lemmas.Words.{is_joined_by, is_sending, is_turned_on_at, known_aside, length}
+use Rattle.world_law.proofs.steps_lemmas.Words.{is_joined_by, is_turned_on_at, known_aside, length}
 use Rattle.world_law.proofs.steps_lemmas.Words.{moment_of, moves, moves_no_other, ne_eqb, none_in, numbers_end, place_of}
 use Rattle.world_law.proofs.steps_lemmas.Words.{point_number, port_place, ports_move, rank, record_of, refl, slice_get}
 use Rattle.world_law.proofs.steps_lemmas.Words.{Why, append-nil, put_length, stands_on, state_after, subst, sym, time_of, told_wires, true, two_shown, units_of, waiting_moves, wire_place}
@@ -44,7 +44,7 @@ pub record IsActPair (s : Scenario) (hs front2 : List Happening) (now r : ℕ) (
   pub caused : IsCaused s (hs ++ []) (units_of now) body
   pub stands : place_of (record_of s.network hs [] now body) ≡ now ∷ r ∷ more
   pub acts : 6 ≡ r → now ∷ r ∷ more ≡ rows_place now device
-  pub apart : (other : DeviceId) → (other.0 ≡ device.0 → ⊥) → (bears_on other body ≡ false) × (is_sending other body ≡ false) × IsNoTaking other body
+  pub apart : (other : DeviceId) → (other.0 ≡ device.0 → ⊥) → (bears_on other body ≡ false) × IsNoTaking other body
   pub of_it : device_of body ≡ Some device
   pub follows : (why ≡ whys.Frame) ⊎ (why ≡ whys.Correction)
   pub changes : (h : Happening) → IsOfThisTime (hs ++ front2) now (length hs + 1) h → h.note.body ≡ body
@@ -105,7 +105,7 @@ two_go_by {C} {M} reading stands s world notes old device machine after node mac
     (sym q.shows)
     (stands_on reading stands s world notes old r more here machines world.wires world.ports world.waiting new world.shown st.moving refl
     (omega (arith, long, between, one_more, room))
-    (two_by s hs [] coming q.front2 q.back2 old.mark old.cursor now r more w v device state why pair (λ is. a.stands) all)
+    (two_by s hs [] coming q.front2 q.back2 old.mark old.cursor now r more w v device state why pair all)
     (known_aside s hs q.front2 q.back2 v (λ other le. moves_no_other other v.note.body (apart_v other (λ e. let lt = st.of_it in omega (arith, e, lt, le))))
     (subst (λ (l : List Happening). AreOfNetwork s (hs ++ l)) q.parts2
     (known_aside s hs [] coming w (λ other le. no_row_of s device other body st.of_it a.apart le) old.known)))
@@ -119,10 +119,10 @@ two_go_by {C} {M} reading stands s world notes old device machine after node mac
           let y = a.apart other not in (
             m.0,
             others_so device other after m.0 world.machines machines set not m.1,
-            held_aside s hs q.front2 q.back2 v other (apart_v other not) refl refl
+            held_aside s hs q.front2 q.back2 v other (apart_v other not) refl
                 (frames_aside s hs q.front2 q.back2 v other (apart_v other not) (λ at. refl))
                 (subst (λ (l : List Happening). IsHeld stands s hs l (behind here) now other m.0) q.parts2
-                (held_aside s hs [] coming w other y.0 y.1 refl (frames_aside s hs [] coming w other y.0 y.2)
+                (held_aside s hs [] coming w other y.0 refl (frames_aside s hs [] coming w other y.0 y.1)
                 (held_moves stands s hs coming old.mark old.cursor now r more other m.0 st.moving (λ task same. not (st.own other task same)) m.2))),
           )
     ])
@@ -165,13 +165,10 @@ first_goes_by reading stands s world notes old device machine after cycle by adj
     let body = kinds.Corrected device cycle by adjustment in
     let rests : (h : Happening) → IsIn h world.settled → moves device h.note.body ≡ true → ⊥ = λ h i e.
     not_moved s device now h.note.body off (st.work.still h (in_right h hs world.settled i) (st.work.of_now h i).0) e in
-    let sole = causes_of_device s hs world.settled old.mark old.cursor now 6 (device.0 ∷ []) device st.moving (omega arith)
-    (λ h i joins. rests h i (joins_move device h.note.body joins))
-    (λ h i c b d e. rests h i (ap (moves device) e ∙ Rattle.std.proofs.lemmas.Bool.eq-eqb device.0 device.0 refl)) in
     let q : IsShownPair s.network hs now body device Synchronised whys.Correction world.settled settled = subst
     (λ (l : List Happening). IsShownPair s.network hs now body device Synchronised whys.Correction world.settled l) (sym x.put.2.2)
     (two_shown s.network hs now body device Synchronised whys.Correction world.settled x.put.0 x.put.2.0 (omega arith) (omega arith)
-    (λ z i b. st.moving.after z i b) sole x.put.1 x.put.2.1) in
+    (λ z i b. st.moving.after z i b) (causes_given st.moving (omega arith)) x.put.1 x.put.2.1) in
     let w = record_of s.network hs [] now body in
     let v = change_of s.network hs q.front2 now device Synchronised whys.Correction in
     let new1 = w ∷ world.settled in
@@ -210,7 +207,7 @@ first_goes_by reading stands s world notes old device machine after cycle by adj
       caused = c;
       stands = refl;
       acts = λ six. refl;
-      apart = λ other not. (ne_eqb other.0 device.0 not, refl, λ at. refl);
+      apart = λ other not. (ne_eqb other.0 device.0 not, λ at. refl);
       of_it = refl;
       follows = inr refl;
       changes = λ h there e.

@@ -1,13 +1,13 @@
 -- A device that has acted, and has more to do at the instant, is at work still.
 use Rattle.{std.proofs.Common.Contains, world_law.proofs.acts.Acted.done_more}
-use Rattle.world_law.proofs.steps_lemmas.Words.{◌++◌, ◌+◌, ◌-ℤ◌, ◌∙◌, ◌∷◌, ◌≡◌, ◌≤ℤ◌, ◌≤◌, ◌⊎◌, AreRecorded, ClockTask, Contains-append_left}
+use Rattle.world_law.proofs.steps_lemmas.Words.{◌++◌, ◌+◌, ◌-ℤ◌, ◌∙◌, ◌∷◌, ◌≡◌, ◌≤ℤ◌, ◌≤◌, ◌⊎◌, ClockTask}
 use Rattle.world_law.proofs.steps_lemmas.Words.{Contains-push_cases, DeviceId, Happening, HasDoneFrom, HasSentFrom, Hearing, IsIn, IsLeft, IsReadyAt}
-use Rattle.world_law.proofs.steps_lemmas.Words.{IsShown, List, Moment, Network, Node, None, NoteBody, Option, RowId, Scenario, [], acting, ap, append-nil}
-use Rattle.world_law.proofs.steps_lemmas.Words.{arith, called, changed_at, changed_before, dispatch_body, dispatch_late, dispatches_same, dispatching, doing}
+use Rattle.world_law.proofs.steps_lemmas.Words.{List, Moment, Network, Node, None, Option, Scenario, [], acting, ap, append-nil}
+use Rattle.world_law.proofs.steps_lemmas.Words.{arith, called, changed_at, changed_before, doing}
 use Rattle.world_law.proofs.steps_lemmas.Words.{earlier, false, heard_since, hearing_by, in_right, inl, inr, moves}
 use Rattle.world_law.proofs.steps_lemmas.Words.{option_to_list, pos, rank, reading_for, refl}
 use Rattle.world_law.proofs.steps_lemmas.Words.{sending, subst, sym, time_of, undone_alike, value_of, waiting_alike, with_done, ℕ}
-use Rattle.world_law.proofs.putting.Bearing.{placed_back, placed_on}
+use Rattle.world_law.proofs.putting.Bearing.{placed_back}
 use Rattle.world_law.proofs.steps_lemmas.acting.{Stays.{IsSameBut, heard_by_these, heard_put, left_now, points_put}, Work.{IsAtWork, all_earlier}}
 use Rattle.run_law.specs.declared.note.NoteBody.TheVariants as kinds
 
@@ -17,16 +17,6 @@ use Rattle.run_law.specs.declared.note.NoteBody.TheVariants as kinds
 pub record IsPutAs (now : ℕ) (w : Happening) : Type 0 where
   pub at : time_of w ≡ now
   pub late : 4 ≤ rank w.note.body
-
--- what is shown is so still
-pub shown_still : (hs front back : List Happening) (now : ℕ) (w : Happening) (body : NoteBody) → IsShown (hs ++ (front ++ back)) now body
-    → IsShown (hs ++ (front ++ w ∷ back)) now body
-shown_still hs front back now w body x = record { by = x.by; there = placed_on hs front back w x.by x.there; at = x.at; is = x.is }
-
-pub shown_now : (hs front back : List Happening) (now : ℕ) (w : Happening) (body : NoteBody) → IsPutAs now w → w.note.body ≡ body
-    → IsShown (hs ++ (front ++ w ∷ back)) now body
-shown_now hs front back now w body p e =
-    record { by = w; there = in_right w hs (front ++ w ∷ back) (in_right w front (w ∷ back) (inl refl)); at = p.at; is = e }
 
 pub put_now : (s : Scenario) (hs front back : List Happening) (now : ℕ) (device : DeviceId) (node : Node) (w : Happening)
     → IsAtWork s hs (front ++ back) now device node → IsPutAs now w → (z : Happening) → IsIn z (front ++ w ∷ back)
@@ -120,35 +110,3 @@ sends_on s hs front back now device node w cycle moment work p e due ready =
     (does s.network (s.reading device) device node (changed_at (hs ++ (front ++ back)) device now) now moment (sending cycle) work.done
     (changed_before (hs ++ (front ++ back)) device now) due)
     (sent_alike s device node after now (now + 1) refl refl work.sent) ready
-
--- and the records tell what it has done
-pub sent_recorded : (s : Scenario) (hs front back : List Happening) (now : ℕ) (device : DeviceId) (node : Node) (w : Happening) (cycle : ℕ)
-    (moment : Moment)
-    → IsAtWork s hs (front ++ back) now device node → AreRecorded s (hs ++ (front ++ back)) (front ++ back) now device node → IsPutAs now w
-    → w.note.body ≡ kinds.Sent device cycle → AreRecorded s (hs ++ (front ++ w ∷ back)) (front ++ w ∷ back) now device (called moment acting (with_done node (sending cycle)))
-sent_recorded s hs front back now device node w cycle moment work r p e =
-    let old = hs ++ (front ++ back) in
-    let same = earlier_put s hs front back now device node w work p in
-    record {
-      of_now = λ z i. (put_now s hs front back now device node w work p z i).0;
-      dispatched = λ link cause vl c d there.
-          let q = dispatches_same s (hs ++ (front ++ w ∷ back)) old now device link cause vl c (sym same) d in
-          elim (Contains-push_cases node.done (sending cycle) (dispatching (record { 0 = d.place }) c) there) [
-            | inl before ↦
-                shown_still hs front back now w _ (r.dispatched link cause vl c q.0
-                (subst (λ (n : ℕ). Contains node.done (dispatching (let row : RowId = record { 0 = n } in row) c)) (sym q.1) before))
-            | inr is ↦ absurd cc
-          ];
-      has_dispatched = λ z i link cause vl c d is.
-          let q = dispatches_same s (hs ++ (front ++ w ∷ back)) old now device link cause vl c (sym same) d in
-          elim (placed_back [] front back w z i) [
-            | inl here ↦
-                let high = dispatch_late s device now link cause vl c in
-                let five : rank (dispatch_body s device now link cause vl c) ≡ 5 = ap rank (sym is ∙ ap (λ (h : Happening). h.note.body) here ∙ e) in
-                absurd (omega (arith, high, five))
-            | inr was ↦
-                Contains-append_left node.done (sending cycle ∷ []) (dispatching (record { 0 = d.place }) c)
-                (subst (λ (n : ℕ). Contains node.done (dispatching (let row : RowId = record { 0 = n } in row) c)) q.1
-                (r.has_dispatched z was link cause vl c q.0 is))
-          ];
-    }

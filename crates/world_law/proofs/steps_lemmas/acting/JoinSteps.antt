@@ -1,6 +1,6 @@
 -- A compression master emits a frame that tells it the time itself, and the cursor goes by.
 use Rattle.{run_law.proofs.control.Verdicts.heard_integrates, world_law.proofs.putting.PutShown.{change_of}}
-use Rattle.world_law.proofs.{devices.TurnedOn.quiet_joins, putting.{PutAct.causes_of_device, PutShown.IsShownPair}, steps_lemmas.Words.{two_shown, ℕ}}
+use Rattle.world_law.proofs.{putting.{Placing.causes_given, PutShown.IsShownPair}, steps_lemmas.Words.{two_shown, ℕ}}
 use Rattle.world_law.proofs.steps_lemmas.Words.{IsSource}
 use Rattle.world_law.proofs.steps_lemmas.Words.{◌++◌, ◌+◌, ◌<◌, ◌∙◌, ◌∷◌, ◌≡◌, ◌≤◌, ArePutIn, AsState, ComesFirst, Compressed, DeviceId, Emits, Happening}
 use Rattle.world_law.proofs.steps_lemmas.Words.{HasActed, HasCleared, HasTurnedOn, Integrating, IsActing, IsAtRest, IsBefore, IsDueNow, IsIn, IsSet}
@@ -8,7 +8,7 @@ use Rattle.world_law.proofs.steps_lemmas.Words.{Joining, Judgement, List, Networ
 use Rattle.world_law.proofs.steps_lemmas.Words.{ap, arith, bears_on, behind, both_ways, cases_Bool, correcting}
 use Rattle.world_law.proofs.steps_lemmas.Words.{earlier, emitting, eq-eqb, false, frames_taken, happenings, in_left, in_parts, in_right, inl, inr}
 use Rattle.world_law.proofs.steps_lemmas.Words.{is_joined_by, is_turned_on_at, key, length, members_in, moment_of, ne_eqb}
-use Rattle.world_law.proofs.steps_lemmas.Words.{none_in, observation_window, place_of, plan_of, quiet_rest, rank}
+use Rattle.world_law.proofs.steps_lemmas.Words.{none_in, observation_window, place_of, plan_of, rank}
 use Rattle.world_law.proofs.steps_lemmas.Words.{record_of, refl, slice_get, state_after, subst, sym, time_of, true, turned_aside, turned_moves}
 use Rattle.world_law.proofs.steps_lemmas.acting.{EmitSteps.{emission_body, emission_rest}, OneAct.all_one, Work.{all_earlier, emits, own_judgement}}
 use Rattle.world_law.specs.steps.Acting.{place_of_act}
@@ -86,9 +86,7 @@ join_goes_by reading stands s world notes old device machine after sent machines
     let body = emission_body device sent judgements.Integrates in
     let resting : (h : Happening) → IsIn h world.settled → IsAtRest s device now h.note.body = λ h i.
     st.work.still h (in_right h hs world.settled i) (st.work.of_now h i).0 in
-    let sole = causes_of_device s hs world.settled old.mark old.cursor now 4 more device st.moving (omega arith)
-    (λ h i joins. both_ways _ (quiet_joins device h.note.body (quiet_rest s device now h.note.body (resting h i))) joins)
-    (λ h i c b d e. no_correction s device now c h b d (resting h i) e) in
+    let sole = causes_given st.moving (omega arith) in
     let q : IsShownPair s.network hs now body device Joining whys.Frame world.settled settled = subst
     (λ (l : List Happening). IsShownPair s.network hs now body device Joining whys.Frame world.settled l) (sym x.put.2.2)
     (two_shown s.network hs now body device Joining whys.Frame world.settled x.put.0 x.put.2.0 (omega arith) (omega arith)
@@ -124,7 +122,7 @@ join_goes_by reading stands s world notes old device machine after sent machines
       | inl b ↦
           let c = changes_it z (in_rest z i) b in
           let it : AsState z.note.body = record { device = device; state = c.state; cause = c.cause; why = c.why; is = c.is } in
-          absurd (q.none2 z i (early_change n now device z v c (st.work.of_now z (in_rest z i)).0 (sole z (in_rest z i) it refl) refl))
+          absurd (q.none2 z i (early_change n now device z v c (st.work.of_now z (in_rest z i)).0 (sole z (in_rest z i) it) refl))
     ]))) in
     let ready = ready_after s device node act.0 now (acts.Emit sent ripe.Integrates) st.work.ready st.steady st.precise st.wide may act.1
     (ap (λ (m : Node). m.last) is) in
@@ -153,7 +151,7 @@ join_goes_by reading stands s world notes old device machine after sent machines
       caused = e;
       stands = refl;
       acts = λ six. absurd (omega (arith, six));
-      apart = λ other not. (ne_eqb other.0 device.0 not, refl, λ at. refl);
+      apart = λ other not. (ne_eqb other.0 device.0 not, λ at. refl);
       of_it = refl;
       follows = inl refl;
       changes = λ h there e2. (refl, (h, there, ap (is_joined_by device) e2 ∙ eq-eqb device.0 device.0 refl));

@@ -2,7 +2,7 @@
 use Rattle.world_law.proofs.acts.Acted.{acted}
 use Rattle.world_law.{proofs.{acts.Ready.acting_last, putting.Idle.drop_one, steps_lemmas.acting.{Over.IsOver, Work.IsAtWork}}, specs.device.Takings.taken_by}
 use Rattle.world_law.proofs.{rows.Takings.{taken_parts, taken_same}, steps_lemmas.Words.{time_of, true, unsigned_abs, whole, ℕ, ℤ}}
-use Rattle.world_law.proofs.steps_lemmas.Words.{◌++◌, ◌+ℤ◌, ◌+◌, ◌<ℤ◌, ◌^◌, ◌∙◌, ◌∷◌, ◌≡◌, ◌≤ℤ◌, ◌≤◌, Act, AreRecorded, AsyncClique, Bool, Cleared, Corrected}
+use Rattle.world_law.proofs.steps_lemmas.Words.{◌++◌, ◌+ℤ◌, ◌+◌, ◌<ℤ◌, ◌^◌, ◌∙◌, ◌∷◌, ◌≡◌, ◌≤ℤ◌, ◌≤◌, Act, AsyncClique, Bool, Cleared, Corrected}
 use Rattle.world_law.proofs.steps_lemmas.Words.{DeviceId, Happening, HasCleared, HasTurnedOn, IsActOf, IsBefore, IsIn, IsKept, IsNoTaking, IsReadyAt}
 use Rattle.world_law.proofs.steps_lemmas.Words.{IsSteady, List, MayCall, Moment, Network, Node, Scenario, SyncClique, TakenFrame, [], act_place, acting}
 use Rattle.world_law.proofs.steps_lemmas.Words.{◌<◌, ◌⊎◌, Dispatches, HadComeTo, HasDoneFrom, HasDoneTask, HasSentFrom, HasWorkedTo, IsActedOut, IsActing}
@@ -131,7 +131,7 @@ acted_phase node device now cursor phase past p b =
 -- while the instant is not over for it
 pub kept_on : {M : Type 0} (stands : M → Network → DeviceId → Node → Type 0) (s : Scenario) (hs new : List Happening) (cursor : List ℕ) (now : ℕ)
     (device : DeviceId) (machine : M) (after : Node) → stands machine s.network device after → IsAtWork s hs new now device after
-    → AreRecorded s (hs ++ new) new now device after → HasCleared after → after.taken ≡ frames_taken s (hs ++ new) device
+    → HasCleared after → after.taken ≡ frames_taken s (hs ++ new) device
     → IsBare s.network device after
     → (is_turned_on_at s device now ≡ true → HasTurnedOn s hs new cursor device now) → after.phase ≡ acting → IsBefore (act_place now device) cursor
     → ((x y : ℕ) → x ≤ y → s.reading device x ≤ s.reading device y)
@@ -139,7 +139,7 @@ pub kept_on : {M : Type 0} (stands : M → Network → DeviceId → Node → Typ
     → ((task : Task) → HasDoneTask after task
     → HadComeTo s device after (changed_at (hs ++ new) device now) now task ⊎ IsBefore (task_place s.network now device task) cursor)
     → IsKept stands s hs new cursor now device machine
-kept_on stands s hs new cursor now device machine after is work recorded cleared taken bare turned phase past falls did worked = record {
+kept_on stands s hs new cursor now device machine after is work cleared taken bare turned phase past falls did worked = record {
   node = after;
   is = is;
   sound = work.sound;
@@ -155,7 +155,6 @@ kept_on stands s hs new cursor now device machine after is work recorded cleared
   still = λ same. work.still;
   turned = turned;
   cleared = cleared;
-  recorded = λ same. recorded;
   phase = λ at. acted_phase after device now cursor phase past;
 }
 
@@ -205,6 +204,5 @@ kept_over stands s hs new cursor now device machine after is sound over ready cl
   still = λ same. absurd (no_step now (sym same));
   turned = turned;
   cleared = cleared;
-  recorded = λ same. absurd (no_step now (sym same));
   phase = λ at. acted_phase after device now cursor phase past;
 }

@@ -4,14 +4,14 @@ use Rattle.world_law.proofs.growing.Standing.{IsCorrection, what_is_left}
 use Rattle.world_law.proofs.putting.{Moving.stays, Placing.own_here}
 use Rattle.{run_law.proofs.runs.Places.nothing_between, schedule_tables.specs.Dispatches.dispatch_order}
 use Rattle.world_law.proofs.steps_lemmas.Words.{◌++◌, ◌+◌, ◌-ℤ◌, ◌<◌, ◌∙◌, ◌∷◌, ◌≡◌, ◌≤ℤ◌, ◌≤◌, ◌⊎◌, Act, ArePutIn, DeviceId, HadComeTo, Happening}
-use Rattle.world_law.proofs.steps_lemmas.Words.{HasDoneTask, HasTaskAt, HasTurnedOn, IsActOf, IsActing, IsAllOfIt, IsBefore, IsIn, IsLawful, IsOwnSource}
+use Rattle.world_law.proofs.steps_lemmas.Words.{HasDoneTask, HasTurnedOn, IsActOf, IsActing, IsAllOfIt, IsBefore, IsIn, IsLawful, IsOwnSource}
 use Rattle.world_law.proofs.steps_lemmas.Words.{IsSet, IsShownPut, List, Network, Node, NoneBefore, Note, NoteBody, Scenario, Stands, StandsBehind, Task, Units}
 use Rattle.world_law.proofs.steps_lemmas.Words.{World, [], ap, arith, before_behind, behind, cause_of, changed_at, doing, earlier}
 use Rattle.world_law.proofs.steps_lemmas.Words.{earlier_still, emitting, happenings, in_right, inl, inr, is_at_source, is_turned_on_at, length}
 use Rattle.world_law.proofs.steps_lemmas.Words.{members_in, moment_of, numbers_end, one_shown, place_of, points_of, points_same, pos, quiet_rest, rank}
 use Rattle.world_law.proofs.steps_lemmas.Words.{record_of, refl, second, subst, sym, task_place, time_of, true, turned_moves, value_of, ℕ}
 use Rattle.world_law.specs.{device.Told.change_in, steps.Acting.{rank_of_act, task_of}}
-use Rattle.world_law.proofs.steps_lemmas.acting.{Dispatches.all_row, First.{act_rest, act_stands}, GoesOn.earlier_put, Kept.{bare_act, kept_on, may_act_now}}
+use Rattle.world_law.proofs.steps_lemmas.acting.{Dispatches.{TellsRow, all_row}, First.{act_rest, act_stands}, GoesOn.earlier_put, Kept.{bare_act, kept_on, may_act_now}}
 use Rattle.world_law.proofs.steps_lemmas.acting.{Sending.{HasSentIt, as_put, turned_then}, Stage.{IsActRecordAt, StageOf, lawful_then, one_goes_by}}
 use Rattle.world_law.proofs.steps_lemmas.Words.{IsDeedOf, Option, RowId, amount, dispatching, false, option_map_or}
 use Rattle.net_plan.specs.declared.tables.Row.{Row}
@@ -23,6 +23,8 @@ use Rattle.run_law.specs.declared.steps.Act.TheVariants as acts
 pub record IsMadeSo {M : Type 0} (stands : M → Network → DeviceId → Node → Type 0) (s : Scenario) (hs front back : List Happening) (now : ℕ)
     (device : DeviceId) (after : M) (node then_ : Node) (body : NoteBody) (at : List ℕ) : Type 0 where
   pub so : IsActRecordAt s hs front back now device body at
+  pub told : (order : List ℕ) → at ≡ now ∷ 6 ∷ device.0 ∷ order
+      → TellsRow s (hs ++ (front ++ record_of s.network hs front now body ∷ back)) now device order body
   pub it : HasSentIt stands s hs (front ++ record_of s.network hs front now body ∷ back) now device after node then_
 
 -- what a step starts from by which the device acts so, and puts one record
@@ -114,21 +116,20 @@ row_long network device node row cycle own =
     ap (λ (o : Option Row). length (option_map_or (λ (r : Row). amount r.offset ∷ r.link.0 ∷ row.0 ∷ []) o [])) own.1.is.row in
     omega (arith, three)
 
-all_of_act : {M : Type 0} (stands : M → Network → DeviceId → Node → Type 0) (s : Scenario) (hs new : List Happening) (now : ℕ) (device : DeviceId)
-    (after : M) (node then_ : Node) (act : Act) (w : Happening)
-    → IsActOf s.network device node (moment_of s device now) act then_ → HasSentIt stands s hs new now device after node then_ → IsLawful s (hs ++ new) device
-    → (HasTaskAt s device then_ now (now ∷ rank_of_act act ∷ act_rest s.network device act) → ⊥)
-    → ((h : Happening) → IsIn h hs → IsBefore (place_of h) (now ∷ rank_of_act act ∷ act_rest s.network device act)) → (IsCorrection (task_of act) → ⊥)
-    → IsIn w new → (rank_of_act act ≤ 5 → place_of w ≡ now ∷ rank_of_act act ∷ act_rest s.network device act)
+all_of_act : (s : Scenario) (hs new : List Happening) (now : ℕ) (device : DeviceId) (node then_ : Node) (act : Act) (w : Happening)
+    → IsActOf s.network device node (moment_of s device now) act then_ → IsLawful s (hs ++ new) device → ((z : Happening) → IsIn z new → time_of z ≡ now)
+    → ((order : List ℕ) → now ∷ rank_of_act act ∷ act_rest s.network device act ≡ now ∷ 6 ∷ device.0 ∷ order
+    → TellsRow s (hs ++ new) now device order w.note.body) → (IsCorrection (task_of act) → ⊥) → IsIn w new
+    → (rank_of_act act ≤ 5 → place_of w ≡ now ∷ rank_of_act act ∷ act_rest s.network device act)
     → IsAllOfIt s hs new (now ∷ rank_of_act act ∷ act_rest s.network device act)
-all_of_act stands s hs new now device after node then_ (acts.Dispatch row cycle) w acted it law none before apart there at =
-    all_row s hs new now device then_ (dispatch_order s.network row) it.work it.recorded law it.taken none before
+all_of_act s hs new now device node then_ (acts.Dispatch row cycle) w acted law of_now told apart there at =
+    all_row s hs new now device (dispatch_order s.network row) w law of_now (told (dispatch_order s.network row) refl) there
     (row_long s.network device node row cycle acted.0.pending.1.own)
-all_of_act stands s hs new now device after node then_ (acts.Send frame) w acted it law none before apart there at =
+all_of_act s hs new now device node then_ (acts.Send frame) w acted law of_now told apart there at =
     all_one s hs new now 5 (act_rest s.network device (acts.Send frame)) w (omega arith) (omega arith) there (at (omega arith))
-all_of_act stands s hs new now device after node then_ (acts.Emit sent heard) w acted it law none before apart there at =
+all_of_act s hs new now device node then_ (acts.Emit sent heard) w acted law of_now told apart there at =
     all_one s hs new now 4 (act_rest s.network device (acts.Emit sent heard)) w (omega arith) (omega arith) there (at (omega arith))
-all_of_act stands s hs new now device after node then_ (acts.Correct cycle verdict) w acted it law none before apart there at = absurd (apart tt)
+all_of_act s hs new now device node then_ (acts.Correct cycle verdict) w acted law of_now told apart there at = absurd (apart tt)
 
 -- ---- what it has done
 
@@ -195,9 +196,8 @@ act_goes_by {C} {M} reading stands s world notes old device machine after machin
     ] in
     let there : IsIn w new = in_right w p.front (w ∷ p.back) (inl refl) in
     one_goes_by reading stands s world notes old device machine after x.node machines settled x.body r more x.st p (omega (arith, room)) made.so
-    (all_of_act stands s hs new now device after x.node x.then_ act w x.acted it law
-    (λ t. none_due t.0 (t.1, t.2) (subst (λ (q : List ℕ). IsBefore q here) (sym t.3) (before_behind at))) st2.before x.apart there (λ low. x.at_place low p.front))
+    (all_of_act s hs new now device x.node x.then_ act w x.acted law (λ z i. (it.work.of_now z i).0) made.told x.apart there (λ low. x.at_place low p.front))
     x.set
-    (kept_on stands s hs new here now device after x.then_ it.is it.work it.recorded it.cleared it.taken
+    (kept_on stands s hs new here now device after x.then_ it.is it.work it.cleared it.taken
     (bare_act s.network device x.node (moment_of s device now) act x.then_ x.acted x.st.bare) turned it.phase x.st.reach x.st.calm.falls
     (λ task b a. elim (done_or x.then_ task) [ inl did ↦ did | inr not ↦ absurd (none_due task (due_of_act task a not) b) ]) worked)

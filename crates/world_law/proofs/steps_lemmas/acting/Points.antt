@@ -134,7 +134,7 @@ corrected_record stands s hs front back mark cursor now device machine node cycl
           (IsActing.corrects cycle (at_correction s hs (front ++ back) front now device node cycle st.work also p.pending p.due));
       caused = record { corrected = c; sum = sum ∙ ap (λ (a : Units). a.0 +ℤ by.0) stood };
       fresh = fresh_above stands s hs front back mark cursor now device machine node 6 (device.0 ∷ []) st w (omega arith);
-      apart = λ other not. (ne_eqb other.0 device.0 not, refl, λ at. refl);
+      apart = λ other not. (ne_eqb other.0 device.0 not, λ at. refl);
       lone = lone;
     }
 
@@ -166,7 +166,7 @@ clique_record stands s hs front back mark cursor now device machine node cycle h
           let at = st.work.of_now y there in
           not_moved s device now y.note.body off (st.work.still y (in_right y hs (front ++ back) there) at.0)
           (state_at now (time_of y) (members_in y) device.0 0 y.note.body e device refl);
-      apart = λ other not. (ne_eqb other.0 device.0 not, refl, λ at. refl);
+      apart = λ other not. (ne_eqb other.0 device.0 not, λ at. refl);
       lone = last_unfollowed s hs now body refl;
     }
 clique_record stands s hs front back mark cursor now device machine node cycle heard AsyncClique whys.AsyncClique st off p IsClique.outnumbered none =
@@ -186,7 +186,7 @@ clique_record stands s hs front back mark cursor now device machine node cycle h
           let at = st.work.of_now y there in
           not_moved s device now y.note.body off (st.work.still y (in_right y hs (front ++ back) there) at.0)
           (state_at now (time_of y) (members_in y) device.0 0 y.note.body e device refl);
-      apart = λ other not. (ne_eqb other.0 device.0 not, refl, λ at. refl);
+      apart = λ other not. (ne_eqb other.0 device.0 not, λ at. refl);
       lone = last_unfollowed s hs now body refl;
     }
 clique_record stands s hs front back mark cursor now device machine node cycle heard (Corrected by) why st off p x none = elim x [ ]

@@ -1,4 +1,5 @@
 -- The steps by which a device sends the frame of a cycle.
+use Rattle.world_law.proofs.steps_lemmas.Words.{second}
 use Rattle.world_law.specs.steps.Acting.{Acts, place_of_act}
 use Rattle.world_law.proofs.steps_lemmas.Words.{◌<◌, ◌∙◌, ComesFirst, IsIn, inl, inr, rank, sym}
 use Rattle.world_law.proofs.steps_lemmas.Words.{◌++◌, ◌∷◌, ◌≡◌, ArePutIn, DeviceId, Happening, HasActed, IsSet}
@@ -53,6 +54,7 @@ sends_one reading stands s world notes old device after bodies machines settled 
           record {
             so = subst (λ (n : ℕ). IsActRecordAt s hs front back now device (kinds.Sent device cycle) (now ∷ 5 ∷ device.0 ∷ n ∷ [])) (sym same_cycle)
                 (sending_record stands s hs front back old.mark old.cursor now device a.machine node cycle st3 first.pending first.due);
+            told = λ order e. (let five : 5 ≡ 6 = ap second e in absurd (omega (arith, five)));
             it = has_sent_it stands s hs front back old.mark old.cursor now device a.machine after node act.0 frame cycle st3 first act.1 act.1.3 act.2;
           };
     }

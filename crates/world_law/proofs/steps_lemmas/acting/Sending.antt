@@ -2,13 +2,13 @@
 use Rattle.std.proofs.Common.{Contains}
 use Rattle.world_law.proofs.steps_lemmas.Words.{◌⊎◌, ClockTask, HasDoneTask, Moment, Task, emitting, task_place}
 use Rattle.world_law.proofs.steps_lemmas.Words.{IsSource}
-use Rattle.world_law.proofs.steps_lemmas.Words.{◌++◌, ◌∙◌, ◌∷◌, ◌≡◌, ◌≤ℤ◌, ◌≤◌, AreRecorded, Contains-push_cases, DeviceId, Happening}
+use Rattle.world_law.proofs.steps_lemmas.Words.{◌++◌, ◌∙◌, ◌∷◌, ◌≡◌, ◌≤ℤ◌, ◌≤◌, Contains-push_cases, DeviceId, Happening}
 use Rattle.world_law.proofs.steps_lemmas.Words.{HasCleared, HasTurnedOn, IsActOf, IsActing, IsFirstTask, IsNoTaking, IsPending}
 use Rattle.world_law.proofs.steps_lemmas.Words.{IsReadyAt, List, Network, Node, Pcf, Scenario, [], acting, ap, arith}
 use Rattle.world_law.proofs.steps_lemmas.Words.{called, correcting, doing, frames_taken, in_left}
-use Rattle.world_law.proofs.steps_lemmas.Words.{inl, inr, is_turned_on_at, last_unfollowed, moment_of, ne_eqb}
+use Rattle.world_law.proofs.steps_lemmas.Words.{inl, inr, is_turned_on_at, last_unfollowed, moment_of}
 use Rattle.world_law.proofs.steps_lemmas.Words.{pos, rank, reading_for, record_of, refl, sending, state_after, subst}
-use Rattle.world_law.proofs.steps_lemmas.{Words.{sym, time_of, true, turned_aside, with_done, ℕ}, acting.GoesOn.{IsPutAs, earlier_put, sends_on, sent_recorded}}
+use Rattle.world_law.proofs.steps_lemmas.{Words.{sym, time_of, true, turned_aside, with_done, ℕ}, acting.GoesOn.{IsPutAs, earlier_put, sends_on}}
 use Rattle.world_law.proofs.steps_lemmas.acting.{Kept.{frames_put, may_act_now, ready_after}, Stage.{IsActRecordAt, StageAt, fresh_above}, Work.{IsAtWork, sends}}
 use Rattle.run_law.specs.declared.note.NoteBody.TheVariants as kinds
 use Rattle.run_law.specs.declared.steps.Act.TheVariants as acts
@@ -53,7 +53,7 @@ sending_record stands s hs front back mark cursor now device machine node cycle 
       caused = d;
       fresh = fresh_above stands s hs front back mark cursor now device machine node 5 (device.0 ∷ cycle ∷ []) st
           (record_of s.network hs front now (kinds.Sent device cycle)) (omega arith);
-      apart = λ other not. (refl, ne_eqb other.0 device.0 not, λ at. refl);
+      apart = λ other not. (refl, λ at. refl);
       lone = last_unfollowed s hs now (kinds.Sent device cycle) refl;
     }
 
@@ -62,7 +62,6 @@ pub record HasSentIt {M : Type 0} (stands : M → Network → DeviceId → Node 
     (machine : M) (node after : Node) : Type 0 where
   pub is : stands machine s.network device after
   pub work : IsAtWork s hs new now device after
-  pub recorded : AreRecorded s (hs ++ new) new now device after
   pub cleared : HasCleared after
   pub taken : after.taken ≡ frames_taken s (hs ++ new) device
   pub phase : after.phase ≡ acting
@@ -84,7 +83,6 @@ has_sent_it stands s hs front back mark cursor now device machine then_ node aft
     let there = called moment acting (with_done node (sending cycle)) in
     let work : IsAtWork s hs new now device there = sends_on s hs front back now device node w cycle moment st.work p refl first.due
     (subst (λ (n : Node). IsReadyAt (s.reading device) s.network device n now) is ready) in
-    let told : AreRecorded s (hs ++ new) new now device there = sent_recorded s hs front back now device node w cycle moment st.work st.recorded p refl in
     let cleared : HasCleared there = λ n has. elim (Contains-push_cases node.done (sending cycle) (correcting n) has) [
       | inl old ↦ st.cleared n old
       | inr e ↦ absurd cc
@@ -92,7 +90,6 @@ has_sent_it stands s hs front back mark cursor now device machine then_ node aft
     record {
       is = stood;
       work = subst (λ (n : Node). IsAtWork s hs new now device n) (sym is) work;
-      recorded = subst (λ (n : Node). AreRecorded s (hs ++ new) new now device n) (sym is) told;
       cleared = subst HasCleared (sym is) cleared;
       taken = ap (λ (n : Node). n.taken) is ∙ taken_then stands s hs front back mark cursor now device machine node w 5 (device.0 ∷ cycle ∷ []) st refl (λ at. refl);
       phase = ap (λ (n : Node). n.phase) is;

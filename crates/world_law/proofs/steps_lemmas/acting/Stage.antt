@@ -1,5 +1,5 @@
 -- A device acts at the source that comes first: how all stands then, and how the world stands with its record put in.
-use Rattle.world_law.proofs.steps_lemmas.Words.{◌++◌, ◌+◌, ◌<◌, ◌^◌, ◌∙◌, ◌∷◌, ◌≡◌, ◌≤ℤ◌, ◌≤◌, AllBefore, AreOfNetwork, AreRecorded, ComesFirst, DeviceId}
+use Rattle.world_law.proofs.steps_lemmas.Words.{◌++◌, ◌+◌, ◌<◌, ◌^◌, ◌∙◌, ◌∷◌, ◌≡◌, ◌≤ℤ◌, ◌≤◌, AllBefore, AreOfNetwork, ComesFirst, DeviceId}
 use Rattle.world_law.proofs.steps_lemmas.Words.{Happening, HasCleared, HasTaskBy, HasTurnedOn, IsAllOfIt, IsBefore, IsCaused, IsDue, IsDueNow}
 use Rattle.world_law.proofs.steps_lemmas.Words.{IsFounded, IsHeld, IsIn, IsKept, IsLawful, IsMoving, IsNoTaking, IsOne, IsOwnSource, IsSet, IsShownPut}
 use Rattle.world_law.proofs.steps_lemmas.Words.{IsSource, IsSteady, IsAtRest, Integrating, IsUnfollowed, List, Network, Node, NoneBefore, Note, NoteBody, Scenario, Some, Stands}
@@ -8,11 +8,11 @@ use Rattle.world_law.proofs.steps_lemmas.Words.{Act, HadComeTo, HasActed, HasDon
 use Rattle.world_law.proofs.steps_lemmas.Words.{second, task_place}
 use Rattle.world_law.proofs.steps_lemmas.{acting.First.{act_more, act_moving, act_rest, act_stands, first_of, late_rank, low_rank}, growing.FromZero.kept_from_zero}
 use Rattle.world_law.{proofs.devices.Working.came_sooner, specs.{device.Growing.IsFromZero, steps.Acting.{place_of_act, rank_of_act, task_of}}}
-use Rattle.world_law.proofs.{putting.{Placing.own_here, PutAct.least_of_own, PutOne.{one_well, unmarked}}, rows.Dispatching.founded_with}
+use Rattle.world_law.proofs.{putting.PutOne.{one_well, unmarked}, rows.Dispatching.founded_with}
 use Rattle.run_law.proofs.runs.Places.{before_or_not}
 use Rattle.world_law.proofs.steps_lemmas.Words.{◌⊎◌, both_ways, chain, either_way}
 use Rattle.world_law.proofs.steps_lemmas.Words.{before_later, behind, cases_eq, due_of, false, frames_taken, happenings}
-use Rattle.world_law.proofs.steps_lemmas.Words.{hears, held_aside, held_moves, in_parts, inl, inr, ints, is_sending}
+use Rattle.world_law.proofs.steps_lemmas.Words.{hears, held_aside, held_moves, in_parts, inl, inr, ints}
 use Rattle.world_law.proofs.steps_lemmas.Words.{is_turned_on_at, known_aside, length, members_in, moment_of, moves, moves_no_other, natural}
 use Rattle.world_law.proofs.steps_lemmas.Words.{no_later_breaks, numbers_end, not_on_after, one_by, place_of, port_place, ports_move, pos, put_length}
 use Rattle.world_law.proofs.steps_lemmas.Words.{rank, record_of, refl, slice_get, stands_on, subst, sym, time_of, told_wires, true, units_of, waiting_moves}
@@ -48,7 +48,6 @@ pub record StageAt {M : Type 0} (stands : M → Network → DeviceId → Node �
   pub worked : (task : Task) → HasDoneTask node task
       → HadComeTo s device node (changed_at (hs ++ coming) device now) now task ⊎ IsBefore (task_place s.network now device task) cursor
   pub zero : IsFromZero s.network device node
-  pub recorded : AreRecorded s (hs ++ coming) coming now device node
   pub calm : IsCalm s hs coming now device
   pub steady : IsSteady (s.reading device) (amount s.network.precision)
   pub precise : pos 0 ≤ℤ s.network.precision.0
@@ -153,7 +152,6 @@ stage_of {C} {M} reading stands s world notes old device machine after act lt fi
                   (came_sooner s device k.node (changed_at (hs ++ world.settled) device k.up) k.up now old.cursor k.worked other has not))
             ];
             zero = zero;
-            recorded = k.recorded up.0;
             calm = record {
               falls = (old.steady device).never_falls;
               off = not_on_after s old.mark now (now + 1) device old.befallen (omega arith);
@@ -189,7 +187,7 @@ pub record IsActRecordAt (s : Scenario) (hs front back : List Happening) (now : 
   pub here : IsSource s (hs ++ front) at
   pub caused : IsCaused s (hs ++ front) (units_of now) body
   pub fresh : (y : Happening) → IsIn y back → place_of (record_of s.network hs front now body) ≡ place_of y → ⊥
-  pub apart : (other : DeviceId) → (other.0 ≡ device.0 → ⊥) → (bears_on other body ≡ false) × (is_sending other body ≡ false) × IsNoTaking other body
+  pub apart : (other : DeviceId) → (other.0 ≡ device.0 → ⊥) → (bears_on other body ≡ false) × IsNoTaking other body
   pub lone : IsUnfollowed s hs now body
 
 -- nothing to come stands where a record of the act's own rank does
@@ -228,8 +226,6 @@ one_act stands s hs front back mark cursor now device machine node body r more s
   before = before;
   none = none;
   fresh = a.fresh;
-  least = least_of_own s (hs ++ front) now (members_in (record_of s.network hs front now body)) body (now ∷ r ∷ more)
-      (a.own (members_in (record_of s.network hs front now body)));
   mine = a.own (members_in (record_of s.network hs front now body));
   here = a.here;
   aside = λ x i other same yes_it.
@@ -267,7 +263,7 @@ lawful_then stands s hs front back mark cursor now device machine node body r mo
 -- ---- the world with the record put in
 
 pub no_row_of : (s : Scenario) (device other : DeviceId) (body : NoteBody) → device.0 < length s.network.device
-    → ((e : DeviceId) → (e.0 ≡ device.0 → ⊥) → (bears_on e body ≡ false) × (is_sending e body ≡ false) × IsNoTaking e body)
+    → ((e : DeviceId) → (e.0 ≡ device.0 → ⊥) → (bears_on e body ≡ false) × IsNoTaking e body)
     → length s.network.device ≤ other.0 → moves other body ≡ false
 no_row_of s device other body lt apart le = moves_no_other other body (apart other (λ e. omega (arith, e, lt, le))).0
 
@@ -310,8 +306,7 @@ one_goes_by {C} {M} reading stands s world notes old device machine after node m
     (sym p.shows)
     (stands_on reading stands s world notes old r more here machines world.wires world.ports world.waiting new world.shown st.moving refl
     (omega (arith, long, same_long, room))
-    (one_by s hs front back old.mark old.cursor now r more w one a.lone
-    (λ is. sym (own_here s (hs ++ front) now (members_in w) body here is (a.own (members_in w)))) all)
+    (one_by s hs front back old.mark old.cursor now r more w one a.lone all)
     (known_aside s hs front back w (λ other le. no_row_of s device other body st.of_it a.apart le)
     (subst (λ (l : List Happening). AreOfNetwork s (hs ++ l)) p.parts old.known))
     (λ other lt. elim (cases_eq other.0 device.0) [
@@ -324,7 +319,7 @@ one_goes_by {C} {M} reading stands s world notes old device machine after node m
           let x = a.apart other not in (
             m.0,
             others_so device other after m.0 world.machines machines set not m.1,
-            held_aside s hs front back w other x.0 x.1 refl (frames_aside s hs front back w other x.0 x.2)
+            held_aside s hs front back w other x.0 refl (frames_aside s hs front back w other x.0 x.1)
                 (subst (λ (l : List Happening). IsHeld stands s hs l (behind here) now other m.0) p.parts
                 (held_moves stands s hs world.settled old.mark old.cursor now r more other m.0 st.moving (λ task same. not (st.own other task same)) m.2)),
           )

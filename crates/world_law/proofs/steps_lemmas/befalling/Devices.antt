@@ -1,13 +1,13 @@
 -- Each device when the outcomes of the events of an instant are settled.
 use Rattle.world_law.proofs.devices.Working.{rested, worked_by}
-use Rattle.world_law.proofs.steps_lemmas.Words.{Some, before_behind, chain, numbered}
-use Rattle.{net_plan.proofs.SameIds.alike, world_law.proofs.acts.Recorded.first_recorded}
-use Rattle.world_law.proofs.{acts.Dispatched.{dispatch_told, send_apart}, steps_lemmas.befalling.{CalmTakings.taken_calm, UnderWay.{IsTelling, goes_on}}}
-use Rattle.world_law.proofs.steps_lemmas.Words.{◌++◌, ◌==◌, ◌∙◌, ◌∷◌, ◌≡◌, ◌≤◌, AreOfNetwork, Befell, DeviceId, Dispatches, Happening, HasDoneFrom}
-use Rattle.world_law.proofs.steps_lemmas.Words.{IsAtRest, IsBefore, IsDue, IsFounded, IsHeld, IsIn, IsKept, IsLeft, IsOfThisTime, IsSendLost}
-use Rattle.world_law.proofs.steps_lemmas.Words.{IsTurnedOnBy, LinkId, List, Network, Node, None, NoteBody, Scenario, VlId, [], act_place}
-use Rattle.world_law.proofs.steps_lemmas.Words.{acts_before, adjustment_after, ap, append-nil, arith, behind, cases_Bool, cause_of, changed_at}
-use Rattle.world_law.proofs.steps_lemmas.Words.{changes_adjustment, dispatch_body, dispatches_back, earlier, earlier_still, false, filter, frames_taken}
+use Rattle.world_law.proofs.steps_lemmas.Words.{before_behind, chain}
+use Rattle.{net_plan.proofs.SameIds.alike}
+use Rattle.world_law.proofs.{steps_lemmas.befalling.{CalmTakings.taken_calm, UnderWay.{IsTelling, goes_on}}}
+use Rattle.world_law.proofs.steps_lemmas.Words.{◌++◌, ◌==◌, ◌∙◌, ◌∷◌, ◌≡◌, ◌≤◌, AreOfNetwork, Befell, DeviceId, Happening, HasDoneFrom}
+use Rattle.world_law.proofs.steps_lemmas.Words.{IsAtRest, IsBefore, IsDue, IsFounded, IsHeld, IsIn, IsKept, IsLeft, IsOfThisTime}
+use Rattle.world_law.proofs.steps_lemmas.Words.{IsTurnedOnBy, List, Network, Node, None, NoteBody, Scenario, [], act_place}
+use Rattle.world_law.proofs.steps_lemmas.Words.{acts_before, adjustment_after, ap, append-nil, arith, behind, cases_Bool, changed_at}
+use Rattle.world_law.proofs.steps_lemmas.Words.{changes_adjustment, earlier, earlier_still, false, filter, frames_taken}
 use Rattle.world_law.proofs.steps_lemmas.Words.{in_parts, in_right, inl, inr, is_broken, is_turned_on_at, last_or, moves, never_self, numbered_in}
 use Rattle.world_law.proofs.steps_lemmas.Words.{option_map_or, place_of}
 use Rattle.world_law.proofs.steps_lemmas.{Words.{refl, state_after, subst, sym, time_of, true, up_to, ℕ}, befalling.Told.{event_due, on_by_record}}
@@ -70,29 +70,6 @@ known_told s hs coming cursor now befell m known = record {
   ];
   never_on = known.never_on;
 }
-
--- nor does it tell of a dispatch
-no_dispatch : (s : Scenario) (hs : List Happening) (now : ℕ) (device : DeviceId) (link : LinkId) (cause : ℕ) (vl : VlId) (cycle : ℕ) (body : NoteBody)
-    → IsFounded place_of (IsDue s) hs → IsOutcome s hs now body → Dispatches s hs device now link cause vl cycle
-    → body ≡ dispatch_body s device now link cause vl cycle → ⊥
-no_dispatch s hs now device link cause vl cycle body founded (IsOutcome.turning d n line h sound it is) disp e =
-    elim (dispatch_told s device now link cause vl cycle (kinds.State d Rattle.sync_state.specs.declared.state.State.TheVariants.Integrating n
-    Rattle.run_law.specs.declared.judgement.Why.TheVariants.On) e) [ inl lost ↦ absurd cc | inr sent ↦ absurd cc ]
-no_dispatch s hs now device link cause vl cycle body founded (IsOutcome.losing d other n it) disp e =
-    elim (dispatch_told s device now link cause vl cycle (kinds.Lost d other n) e) [
-      | inr sent ↦ absurd cc
-      | inl lost ↦
-          let same : n ≡ cause = ap cause_of lost in
-          let by : d ≡ device = lost_device d device other link n cause lost in
-          let whole = sym (append-nil hs) in
-          send_apart s hs [] hs device now other link cause vl cycle founded (λ z i. absurd i)
-          (λ h there. subst (λ (l : List Happening). numbered l cause ≡ Some h) whole there)
-          (subst (λ (x : DeviceId). IsSendLost s hs x now other cause) by (subst (λ (c : ℕ). IsSendLost s hs d now other c) same it))
-          (subst (λ (l : List Happening). Dispatches s l device now link cause vl cycle) whole disp)
-    ]
-  where
-    lost_device : (d e : DeviceId) (l k : LinkId) (m n : ℕ) → kinds.Lost d l m ≡ kinds.Lost e k n → d ≡ e
-    lost_device d e l k m n same = cc
 
 -- ---- a sound device
 
@@ -161,14 +138,6 @@ kept_told stands s hs coming cursor now befell device machine m k =
             turned = λ b. record { by = it.by; there = in_right it.by hs coming it.there; at = it.at; turning = it.turning };
           };
       cleared = k.cleared;
-      recorded = λ same_up.
-          first_recorded s (hs ++ coming) coming now device k.node (subst (λ (n : ℕ). IsLeft s (hs ++ coming) device n k.node) at_now left_so)
-          (subst (λ (n : ℕ). HasDoneFrom s.network (s.reading device) device k.node (changed_at (hs ++ coming) device n) n n) at_now done_so)
-          m.at
-          (λ z i link cause vl cycle d e.
-          no_dispatch s hs now device link cause vl cycle z.note.body m.founded (m.out z i)
-          (dispatches_back s (hs ++ coming) hs now device link cause vl cycle
-          (earlier_still now hs coming (λ x j. let of = m.at x j in omega (arith, of))) d) e);
       phase = λ at p b. on p (k.phase at p b);
     }
 

@@ -1,5 +1,5 @@
 -- A device that is called, and takes nothing by it, is kept as before.
-use Rattle.world_law.proofs.{acts.Recorded.recorded_alike, steps_lemmas.ripening.Called.left_called}
+use Rattle.world_law.proofs.{steps_lemmas.ripening.Called.left_called}
 use Rattle.world_law.proofs.steps_lemmas.Words.{◌++◌, ◌∷◌, ◌≡◌, DeviceId, Happening, IsAlike, IsBefore, IsKept}
 use Rattle.world_law.proofs.steps_lemmas.Words.{IsOut, IsPending, IsReadyAt, List, Moment, Network, Node, Phase, Scenario, Task, [], arith, called, doing}
 use Rattle.world_law.proofs.steps_lemmas.Words.{emitting, ints, moment_of, rank_of_call, reading_for, refl, undone_alike}
@@ -64,7 +64,6 @@ kept_called stands s hs coming cursor now device machine after phase k come =
       still = k.still;
       turned = k.turned;
       cleared = k.cleared;
-      recorded = λ same. recorded_alike s (hs ++ coming) coming now device k.node (called m phase k.node) refl (k.recorded same);
       phase = λ at p b. come p b;
     }
 

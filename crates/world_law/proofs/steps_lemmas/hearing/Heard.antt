@@ -7,7 +7,7 @@ use Rattle.world_law.proofs.{putting.Moving.kept_moves, steps_lemmas.Words.{plac
 use Rattle.world_law.proofs.steps_lemmas.Words.{no_task_at, ◌++◌, ◌+◌, ◌==◌, ◌^◌, ◌∙◌, ◌∷◌, ◌≡◌, ◌≤ℤ◌, ◌≤◌, Arrival, Bool, DeviceId, Happening, IsBefore, IsHeld, IsKept}
 use Rattle.world_law.proofs.steps_lemmas.Words.{IsMoving, IsNoTaking, IsOut, IsSteady, LinkId, List, Network, Node, OnWire, Scenario, Signal, TakenFrame, VlId}
 use Rattle.world_law.proofs.steps_lemmas.Words.{[], amount, ap, arith, arrival_at, arrival_body, arrival_of, arriving, bears_on, behind, called}
-use Rattle.world_law.proofs.steps_lemmas.Words.{chain, eq-eqb, false, held_aside, if◌then◌else◌, in_parts, in_right, inl, inr, is_end, is_sending, moment_of}
+use Rattle.world_law.proofs.steps_lemmas.Words.{chain, eq-eqb, false, held_aside, if◌then◌else◌, in_parts, in_right, inl, inr, is_end, moment_of}
 use Rattle.world_law.proofs.steps_lemmas.hearing.{Called.{After, kept_by, kept_called, out_called}, Timed.{IsAfterGiven, given_by_now, kept_judges, no_taking}}
 use Rattle.world_law.proofs.steps_lemmas.hearing.{Calling.may_call, Judging.{broken_drops, out_drops}, Putting.IsReceiving, Receptions.placed_at}
 use Rattle.world_law.proofs.steps_lemmas.hearing.{Quiet.{IsQuiet, IsTakingBy, kept_taking}, Ranked.{accepted_high, delivered_high}, Took.took}
@@ -79,11 +79,6 @@ quiet_body : (device of : DeviceId) (link : LinkId) (cause : ℕ) (is : Arrival)
 quiet_body device of link cause (arrivals.Dropped reason) = refl
 quiet_body device of link cause other = refl
 
--- and it is no sending
-sends_nothing : (device of : DeviceId) (link : LinkId) (cause : ℕ) (is : Arrival) → is_sending device (arrival_body of link cause is) ≡ false
-sends_nothing device of link cause (arrivals.Dropped reason) = refl
-sends_nothing device of link cause other = refl
-
 -- and another device takes nothing by it
 pub others_take : (device of : DeviceId) (link : LinkId) (cause : ℕ) (is : Arrival) → (device.0 == of.0) ≡ false
     → IsNoTaking device (arrival_body of link cause is)
@@ -96,7 +91,6 @@ pub quiet_for : {M : Type 0} (stands : M → Network → DeviceId → Node → T
     → (device : DeviceId) → IsQuiet hs front back w device
 quiet_for stands s hs front back mark cursor now e is w a r device = record {
   bears = ap (bears_on device) r.body ∙ quiet_body device e.device e.link e.cause is;
-  sends = ap (is_sending device) r.body ∙ sends_nothing device e.device e.link e.cause is;
   sooner = λ h i.
       let at = r.at in
       elim (in_parts h hs (front ++ back) i) [
@@ -126,7 +120,7 @@ plain_there stands s hs front back mark cursor now e machine heard w moving quie
     let on = kept_moves by s hs (front ++ back) mark cursor now 2 more e.device machine moving
     (no_task_at s.network now e.device 2 more (inl (omega arith)))
     (kept_by stands by s hs (front ++ back) cursor now e.device machine k is) in
-    held_aside s hs front back w e.device quiet.bears quiet.sends at (frames_aside s hs front back w e.device quiet.bears none)
+    held_aside s hs front back w e.device quiet.bears at (frames_aside s hs front back w e.device quiet.bears none)
     (inl (kept_called stands s hs (front ++ back) (behind (now ∷ 2 ∷ more)) now e.device machine heard arriving on (after_here s now e)))
 
 -- no place behind it, and before what acts, is before the cursor
@@ -228,7 +222,7 @@ held_there stands s hs front back mark cursor now e machine heard octets result 
 held_there stands s hs front back mark cursor now e machine heard octets result is w h r so (inr k) =
     let quiet = quiet_for stands s hs front back mark cursor now e is w h.given r e.device in
     let dropped = so ∙ broken_drops s (hs ++ (front ++ back)) e.device now e.link e.cause e.signal k.broken in
-    held_aside s hs front back w e.device quiet.bears quiet.sends r.at
+    held_aside s hs front back w e.device quiet.bears r.at
     (frames_aside s hs front back w e.device quiet.bears
     (λ at. ap (taken_in e.device at) (r.body ∙ ap (arrival_body e.device e.link e.cause) dropped)))
     (inr (out_heard stands s hs (front ++ back) mark cursor now e machine heard octets result h k).1)

@@ -67,7 +67,7 @@ heard_step {C} {M} reading stands s world notes e machine heard octets result ma
           let k = old.devices device lt in (
             k.0,
             set.same device.0 (λ e_is. (let bad : true ≡ false = sym (eq-eqb device.0 e.device.0 e_is) ∙ other in cc)) ∙ k.1,
-            held_aside s hs r.front r.back r.w device (quiet device).bears (quiet device).sends r.it.at
+            held_aside s hs r.front r.back r.w device (quiet device).bears r.it.at
                 (frames_aside s hs r.front r.back r.w device (quiet device).bears
                 (λ z. ap (taken_in device z) r.it.body ∙ others_take device e.device e.link e.cause is other z))
                 (held_moves stands s hs (r.front ++ r.back) old.mark old.cursor now 2 more device k.0 r.it.moving

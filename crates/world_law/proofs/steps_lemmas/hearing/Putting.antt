@@ -1,10 +1,10 @@
 -- The record of an arrival is put in among those to come.
 use Rattle.world_law.proofs.steps_lemmas.Words.{◌++◌, ◌+◌, ◌∙◌, ◌∷◌, ◌≡◌, ◌≤◌, ◌⊎◌, AllBefore, Arrival, DeviceId, Happening, IsBefore, IsDue, IsFounded, IsIn}
 use Rattle.world_law.proofs.steps_lemmas.Words.{IsMoving, IsOnWire, IsOwnSource, IsPutIn, IsSource, List, Network, NoneBefore, OnWire, Scenario}
-use Rattle.world_law.proofs.steps_lemmas.Words.{Signal, [], ap, append-nil, arith, arrival_body, arrival_of, before_behind, behind, both_ways, cause_of, chain}
-use Rattle.world_law.proofs.steps_lemmas.Words.{control, due_of, if◌then◌else◌, in_right, is_at_source, is_end, length, members_in, one_shown, parted, place_of, put_length}
-use Rattle.world_law.proofs.steps_lemmas.Words.{rank, record_of, refl, second, settled_as, subst, sym, time_of, timed, true, units_of, ℕ}
-use Rattle.world_law.proofs.steps_lemmas.hearing.Receptions.{arrives_now, body_cause, body_caused, body_key, body_own, body_ranks, few_cause, own_there}
+use Rattle.world_law.proofs.steps_lemmas.Words.{Signal, [], ap, append-nil, arith, arrival_body, arrival_of, cause_of, chain}
+use Rattle.world_law.proofs.steps_lemmas.Words.{control, due_of, if◌then◌else◌, in_right, is_end, length, members_in, one_shown, parted, place_of, put_length}
+use Rattle.world_law.proofs.steps_lemmas.Words.{rank, record_of, refl, second, settled_as, subst, sym, time_of, timed, units_of, ℕ}
+use Rattle.world_law.proofs.steps_lemmas.hearing.Receptions.{arrives_now, body_cause, body_caused, body_key, body_own, few_cause, own_there}
 use Rattle.world_law.specs.world.World.{IsDueAs}
 
 -- ---- no record to come is from the place of the arrival on
@@ -43,11 +43,8 @@ pub record IsReceiving (s : Scenario) (hs front back : List Happening) (mark cur
   pub before : AllBefore place_of front (place_of w)
   pub none : NoneBefore place_of back (place_of w)
   pub fresh : (y : Happening) → IsIn y back → place_of w ≡ place_of y → ⊥
-  pub least : ((now ∷ 2 ∷ e.device.0 ∷ e.link.0 ∷ e.cause ∷ []) ≡ place_of w)
-      ⊎ IsBefore (now ∷ 2 ∷ e.device.0 ∷ e.link.0 ∷ e.cause ∷ []) (place_of w)
   pub mine : IsOwnSource s (hs ++ front) (time_of w) (members_in w) w.note.body (now ∷ 2 ∷ e.device.0 ∷ e.link.0 ∷ e.cause ∷ [])
   pub here : IsSource s (hs ++ front) (now ∷ 2 ∷ e.device.0 ∷ e.link.0 ∷ e.cause ∷ [])
-  pub source : is_at_source w.note.body ≡ true → IsBefore (place_of w) (behind (now ∷ 2 ∷ e.device.0 ∷ e.link.0 ∷ e.cause ∷ []))
   pub wire : IsOnWire s hs e
   pub arrives : e.at ≡ now
   pub so : IsHeardAs s hs (front ++ back) now e is
@@ -72,7 +69,6 @@ pub received : (s : Scenario) (hs coming : List Happening) (mark cursor : List �
     → IsReceived s hs coming mark cursor now e is settled
 received s hs coming mark cursor now e is settled m marked founded it at so least_is put =
     let more = e.device.0 ∷ e.link.0 ∷ e.cause ∷ [] in
-    let here = now ∷ 2 ∷ more in
     let body = arrival_body e.device e.link e.cause is in
     let few : cause_of body ≤ length hs = subst (λ (n : ℕ). n ≤ length hs) (sym (body_cause e.device e.link e.cause is)) (few_cause s hs e it) in
     let shown = one_shown s.network hs now body coming settled few put in
@@ -89,7 +85,6 @@ received s hs coming mark cursor now e is settled m marked founded it at so leas
     let judged : is ≡ arrival_of s (hs ++ front) e.device now e.link e.cause e.signal =
     so front back (rank body) shown.parts (subst (λ (q : List ℕ). NoneBefore place_of back q) key_is shown.none) ranked in
     let arrives = arrives_now s hs front now e is it at judged in
-    let least : (here ≡ place_of w) ⊎ IsBefore here (place_of w) = grind (arith, body_ranks, key_is, more, here) in
     record {
       front = front;
       back = back;
@@ -105,12 +100,10 @@ received s hs coming mark cursor now e is settled m marked founded it at so leas
         before = shown.before;
         none = shown.none;
         fresh = grind (arith, never_from, front, back, more, moving, in_right, own_there, time_of, members_in, key_is);
-        least = least;
         mine = body_own s (hs ++ front) now (members_in w) e.device e.link e.cause is arrives;
         here =
             IsSource.arriving now e.device e.link e.cause
             (record { putting = arrives.putting; there = arrives.there; signal = arrives.signal; arrives = arrives.arrives });
-        source = grind (arith, body_ranks, behind, here, key_is, more, before_behind, both_ways, is_at_source, body);
         wire = it;
         arrives = at;
         so = λ f rest rank_ whole none_ high. so f rest rank_ (shown.parts ∙ whole) none_ high;

@@ -1,13 +1,12 @@
 -- A record that bears on no device is put in among those of its instant: what each device took, and the device that took a frame by it.
 use Rattle.world_law.proofs.devices.Working.{HasRested, worked_by}
 use Rattle.{run_law.specs.machines.Nodes.local_at, std.proofs.Common.arith, world_law.proofs.rows.Takings.{frames_put, frames_with}}
-use Rattle.world_law.proofs.acts.Recorded.{recorded_alike, recorded_put}
 use Rattle.world_law.proofs.putting.Bearing.{changed_aside, earlier_aside, left_aside, still_aside}
 use Rattle.world_law.proofs.steps_lemmas.hearing.{Called.After, Took.{done_took, left_took, ready_took, sent_took, took}}
 use Rattle.world_law.proofs.steps_lemmas.Words.{◌++◌, ◌+ℤ◌, ◌∙◌, ◌∷◌, ◌≡◌, ◌≤ℤ◌, ◌≤◌, DeviceId, Happening, HasDoneFrom}
 use Rattle.world_law.proofs.steps_lemmas.Words.{IsBefore, IsIn, IsKept, IsLeft, IsNoTaking, IsSteady, List, Network, Node, Scenario}
 use Rattle.world_law.proofs.steps_lemmas.Words.{TakenFrame, Units, VlId, [], amount, ap, append_assoc, bears_on, changed_at, false}
-use Rattle.world_law.proofs.steps_lemmas.Words.{frames_taken, inl, is_sending, local_before, moment_of, moves_no_other, pos, refl}
+use Rattle.world_law.proofs.steps_lemmas.Words.{frames_taken, inl, local_before, moment_of, moves_no_other, pos}
 use Rattle.world_law.proofs.steps_lemmas.Words.{subst, sym, taken_in, time_of, turned_aside, ℕ, ℤ}
 
 -- ---- what the device took by the others
@@ -25,7 +24,6 @@ frames_placed s hs front back w device none sooner =
 -- the record, as it is put in, bears on the device by nothing, and is not earlier than any other
 pub record IsQuiet (hs front back : List Happening) (w : Happening) (device : DeviceId) : Type 0 where
   pub bears : bears_on device w.note.body ≡ false
-  pub sends : is_sending device w.note.body ≡ false
   pub sooner : (h : Happening) → IsIn h (hs ++ (front ++ back)) → time_of h ≤ time_of w
 
 -- ---- the device that took the frame
@@ -87,8 +85,5 @@ kept_taking stands s hs front back w cursor now device machine after vl cycle t 
       still = λ same. still_aside s hs front back w device now (moves_no_other device w.note.body none) (k.still same);
       turned = λ on. turned_aside s hs front back w device (k.turned on) (earlier_aside s hs front back w device none now);
       cleared = k.cleared;
-      recorded = λ same.
-          recorded_put s hs front back now device new w t.at (none, inl t.quiet.sends)
-          (recorded_alike s js (front ++ back) now device k.node new refl (k.recorded same));
       phase = λ same p b. come p b;
     }

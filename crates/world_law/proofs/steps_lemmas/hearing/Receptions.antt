@@ -1,10 +1,10 @@
 -- What becomes of a frame that arrives: the one record of it.
 use Rattle.{net_plan.specs.Ranges.IsLinkInRange, run_law.{proofs.runs.SameSteps.same_arrival, specs.timed.Receptions.ArrivesAs}}
-use Rattle.{tte_units.proofs.general_lemmas.Lists.in_all, world_law.proofs.steps_lemmas.Words.{second, subst, sym, target_by, time_of, true, ℕ}}
+use Rattle.{tte_units.proofs.general_lemmas.Lists.in_all, world_law.proofs.steps_lemmas.Words.{second, subst, sym, target_by, time_of, ℕ}}
 use Rattle.world_law.proofs.steps_lemmas.Words.{◌++◌, ◌<◌, ◌∙◌, ◌∷◌, ◌≡◌, ◌≤◌, ◌⊎◌, Arrival, DeviceId, Down, Happening, IsArrivedRecord, IsBefore, IsCaused}
 use Rattle.world_law.proofs.steps_lemmas.Words.{IsInRange, IsOnWire, IsOwnSource, Link, LinkId, List, Network, None, NoteBody, OnWire, Option, Scenario, Some}
-use Rattle.world_law.proofs.steps_lemmas.Words.{Units, Up, Way, [], amount, ap, arith, arrival_body, arrival_of, cause_of, false, inl, inr}
-use Rattle.world_law.proofs.steps_lemmas.Words.{is_at_source, key, length, link_at, members_in, numbered_prefix, numbered_within, place_of, pos, rank, refl}
+use Rattle.world_law.proofs.steps_lemmas.Words.{Units, Up, Way, [], amount, ap, arith, arrival_body, arrival_of, cause_of, inl, inr}
+use Rattle.world_law.proofs.steps_lemmas.Words.{key, length, link_at, members_in, numbered_prefix, numbered_within, place_of, pos, rank, refl}
 use Rattle.run_law.specs.declared.judgement.Why.TheVariants as whys
 use Rattle.run_law.specs.declared.note.NoteBody.TheVariants as kinds
 use Rattle.run_law.specs.declared.steps.Arrival.TheVariants as arrivals
@@ -19,15 +19,6 @@ pub body_key : (members : ℕ) (device : DeviceId) (link : LinkId) (cause : ℕ)
     → key members (arrival_body device link cause is) ≡ device.0 ∷ link.0 ∷ cause ∷ []
 body_key members device link cause (arrivals.Dropped reason) = refl
 body_key members device link cause other = refl
-
--- it stands at its source's place, or far behind it
-pub body_ranks : (device : DeviceId) (link : LinkId) (cause : ℕ) (is : Arrival)
-    → ((rank (arrival_body device link cause is) ≡ 2) × (is_at_source (arrival_body device link cause is) ≡ true))
-    ⊎ ((8 < rank (arrival_body device link cause is)) × (is_at_source (arrival_body device link cause is) ≡ false))
-body_ranks device link cause (arrivals.Waits frame point) = inl (refl, refl)
-body_ranks device link cause (arrivals.Passes frame way) = inl (refl, refl)
-body_ranks device link cause (arrivals.PassesAndWaits frame way point) = inl (refl, refl)
-body_ranks device link cause other = inr (omega arith, refl)
 
 pub body_caused : (s : Scenario) (js : List Happening) (time : Units) (device : DeviceId) (link : LinkId) (cause : ℕ) (is : Arrival)
     → ArrivesAs s js device (amount time) link cause is → IsCaused s js time (arrival_body device link cause is)

@@ -1,12 +1,12 @@
 -- The record of an arrival is put in, and the cursor goes by it: what is to come is settled.
 use Rattle.run_law.proofs.runs.SameSteps.{same_arrival}
-use Rattle.world_law.proofs.steps_lemmas.Words.{no_task_at, ◌++◌, ◌∙◌, ◌∷◌, ◌≡◌, ◌≤◌, AreSettled, Arrival, DeviceId, Happening, IsAllOfIt, IsBefore, IsIn}
-use Rattle.world_law.proofs.steps_lemmas.Words.{IsOne, LinkId, List, NoneBefore, OnWire, Scenario, [], ap, append_assoc, arith, arrival_body, arrival_of, behind, chain}
-use Rattle.world_law.proofs.steps_lemmas.Words.{correcting, doing, false, in_right, inl, inr, is_at_source, is_last, last_unfollowed, members_in, never_self}
+use Rattle.world_law.proofs.steps_lemmas.Words.{no_task_at, ◌++◌, ◌∙◌, ◌∷◌, ◌≡◌, ◌≤◌, AreSettled, Arrival, DeviceId, Happening, IsAllOfIt, IsIn}
+use Rattle.world_law.proofs.steps_lemmas.Words.{IsOne, LinkId, List, NoneBefore, OnWire, Scenario, [], ap, append_assoc, arith, arrival_body, arrival_of, behind}
+use Rattle.world_law.proofs.steps_lemmas.Words.{correcting, doing, in_right, inl, inr, is_last, last_unfollowed, members_in, never_self}
 use Rattle.world_law.proofs.steps_lemmas.Words.{one_by, place_of, rank, refl, subst, sym, time_of, true, ℕ}
 use Rattle.world_law.proofs.putting.{Bearing.in_placed, Near.arrival_near, Placing.{two_at, well_of}, PutIn.split_two, PutOne.placing_one}
 use Rattle.world_law.proofs.steps_lemmas.hearing.{Putting.{IsReceiving, least_rank}, Ranked.rank_is}
-use Rattle.world_law.proofs.steps_lemmas.hearing.Receptions.{arrives_now, body_ranks, comes_as, outcome_at, placed_at}
+use Rattle.world_law.proofs.steps_lemmas.hearing.Receptions.{arrives_now, comes_as, outcome_at, placed_at}
 use Rattle.run_law.specs.declared.steps.Arrival.TheVariants as arrivals
 
 -- nothing follows its record
@@ -18,7 +18,6 @@ module _ (s : Scenario) (hs front back : List Happening) (mark cursor : List ℕ
     (p : IsReceiving s hs front back mark cursor now e is w) where
   one_arrival : IsOne s hs front back mark cursor now 2 (e.device.0 ∷ e.link.0 ∷ e.cause ∷ []) w
   one_arrival =
-      let here = now ∷ 2 ∷ e.device.0 ∷ e.link.0 ∷ e.cause ∷ [] in
       record {
         moving = p.moving;
         later = inr (refl, inr (refl, tt));
@@ -29,10 +28,6 @@ module _ (s : Scenario) (hs front back : List Happening) (mark cursor : List ℕ
         before = p.before;
         none = p.none;
         fresh = p.fresh;
-        least = λ b. elim p.least [
-          | inl e_is ↦ never_self here (subst (λ (q : List ℕ). IsBefore q here) (sym e_is) b)
-          | inr lt ↦ never_self here (chain here (place_of w) here lt b)
-        ];
         mine = p.mine;
         here = p.here;
         aside = λ x i device same hears.
@@ -80,7 +75,4 @@ module _ (s : Scenario) (hs front back : List Happening) (mark cursor : List ℕ
       let more = e.device.0 ∷ e.link.0 ∷ e.cause ∷ [] in
       one_by s hs front back mark cursor now 2 more w one_arrival
       (last_unfollowed s hs now w.note.body (ap is_last p.body ∙ last_body e.device e.link e.cause is))
-      (λ source. elim (body_ranks e.device e.link e.cause is) [
-        | inl two ↦ placed_at now e is w p.at p.body ∙ ap (λ (k : ℕ). now ∷ k ∷ more) two.0
-        | inr higher ↦ absurd (let bad : true ≡ false = sym source ∙ ap is_at_source p.body ∙ higher.1 in cc)
-      ]) all_of_arrival
+      all_of_arrival

@@ -1,17 +1,17 @@
 -- The machine answers, and its device is kept, whatever becomes of the frame.
 use Rattle.{run_law.proofs.device.States.joined_or, std.proofs.Common.Contains}
 use Rattle.{run_law.specs.machines.Calls.{IsHearing, MayRipen}, world_law.{proofs.frames.Proper.{link_of, received}, specs.steps.Ripening.HasRipened}}
-use Rattle.world_law.proofs.{putting.Bearing.placed_back, steps_lemmas.Words.{time_of, true, turned_aside, ℕ}}
+use Rattle.world_law.proofs.{putting.{Bearing.placed_back, Placing.causes_given}, steps_lemmas.Words.{time_of, true, turned_aside, ℕ}}
 use Rattle.world_law.proofs.steps_lemmas.Words.{◌++◌, ◌+◌, ◌∙◌, ◌∷◌, ◌≡◌, ◌≤ℤ◌, ◌≤◌, ◌⊎◌, AllBefore, AsState, Bool, Compressed, DeviceId, Happening}
 use Rattle.world_law.proofs.steps_lemmas.Words.{HasSentFrom, HasTurnedOn, IsBefore, IsIn, IsKept, IsLeft, IsNoTaking, IsOfMaster, IsParentOf}
 use Rattle.world_law.proofs.steps_lemmas.Words.{IsPermanenceOutcomeAt, Joining, Judgement, List, MayCall, Network, Node, NoneBefore, NoteBody, Point, Reason}
 use Rattle.world_law.proofs.steps_lemmas.Words.{Ripe, Scenario, Some, State, Waiting, [], after_permanence, all_up_to, ap, append_assoc, arith}
 use Rattle.world_law.proofs.steps_lemmas.Words.{behind, both_ways, called, cases_Bool, channel_of_link, earlier, earlier_still, eq-eqb, eqb-true, false}
 use Rattle.world_law.proofs.steps_lemmas.Words.{frames_taken, has_joined_at, if◌then◌else◌, in_left, in_parts, in_right, inl, inr, is_broken, is_cm, is_off}
-use Rattle.world_law.proofs.steps_lemmas.Words.{key, length, members_in, moment_of, next_is_up_to, no_higher, no_later_breaks, parted, place_of}
+use Rattle.world_law.proofs.steps_lemmas.Words.{key, length, members_in, moment_of, next_is_up_to, no_higher, no_later_breaks, place_of}
 use Rattle.world_law.proofs.steps_lemmas.Words.{pos, rank, refl, ripe_as, ripening, state_after, state_before, state_with, subst, sym, taken_in}
 use Rattle.world_law.proofs.steps_lemmas.{hearing.Quiet.frames_placed, ripening.{Calling.may_call, Grown.IsByRole, JustTold.{all_high, ends_in}, Merely.IsMere}}
-use Rattle.world_law.proofs.steps_lemmas.ripening.{Awake.{still_on, stirs, was_on}, Called.left_called, Coming.{IsLateKind, all_late, late_mere, state_cause}}
+use Rattle.world_law.proofs.steps_lemmas.ripening.{Awake.{still_on, stirs, was_on}, Called.left_called, Coming.{IsLateKind, all_late, late_mere}}
 use Rattle.world_law.proofs.steps_lemmas.ripening.{Joined.{IsJoin, kept_joined, was_looking}, Judged.{Hears, IsKindOf, hears_before, hears_told, outcome_kind}}
 use Rattle.world_law.proofs.steps_lemmas.ripening.Kept.{IsNoOwnAct, carried_by_role, carried_called, is_yet, kept_next, next_aside, next_by_role, rests_yet}
 use Rattle.world_law.proofs.steps_lemmas.ripening.Ripens.{IsRipe, come_of, emitted_no_later, may_ripen, points_no_later, ripe_more, sooner_of, sound_of}
@@ -122,17 +122,6 @@ pub high_now : (s : Scenario) (hs coming : List Happening) (mark cursor : List �
     → (z : Happening) → IsIn z coming → (time_of z ≡ now) × (4 ≤ rank z.note.body)
 high_now s hs coming mark cursor now e r z i = (r.moving.are.of_now z i, all_high s hs coming mark cursor now e r z i)
 
--- changes of state to come have causes that are given
-pub sole : (s : Scenario) (hs coming : List Happening) (mark cursor : List ℕ) (now : ℕ) (e : Waiting) → IsRipe s hs coming mark cursor now e
-    → (z : Happening) → IsIn z coming → (it : AsState z.note.body) → it.cause ≤ length hs
-sole s hs coming mark cursor now e r z i it =
-    let at = parted z coming i in
-    let inside : (y : Happening) → IsIn y at.0 → IsIn y coming = λ y j. subst (λ (l : List Happening). IsIn y l) (sym at.2) (in_left y at.0 (z ∷ at.1) j) in
-    let late = all_late s hs coming mark cursor now (ripe_more e) r.moving r.run.within in
-    let due = (r.moving.are.founded at.0 at.1 z at.2).1 in
-    state_cause s hs at.0 it.device _ it.state it.cause it.why (λ y j. late y (inside y j)) (λ y j. all_high s hs coming mark cursor now e r y (inside y j))
-    (subst IsLateKind it.is (late z i)) (subst (λ (b : NoteBody). Rattle.run_law.specs.runs.DueRecords.IsCaused s (hs ++ at.0) z.note.time b) it.is due.cause)
-
 -- ---- the frame is collected, or heard
 
 pub quiet_kept : {M : Type 0} (stands : M → Network → DeviceId → Node → Type 0) (s : Scenario) (hs front back : List Happening) (mark cursor : List ℕ) (now : ℕ)
@@ -217,7 +206,7 @@ joined_kept stands s hs back f2 back2 mark cursor now e machine after w v r k a 
       | inr quiet ↦ was_on device Joining h.note.body quiet
       | inl stirred ↦
           let st = stirs_state device h.note.body (late h x) stirred in
-          let few = sole s hs back mark cursor now e r h x st.0 in
+          let few = causes_given r.moving (omega arith) h x st.0 in
           let same = st.1 in
           let under : IsBefore (now ∷ 7 ∷ st.0.device.0 ∷ st.0.cause ∷ []) (now ∷ 7 ∷ device.0 ∷ n ∷ []) =
           inr (refl, inr (refl, inr (sym same, inl (omega (arith, few))))) in

@@ -164,7 +164,6 @@ kept_joined stands s hs coming zs mark cursor now e machine after w r k is other
       still = λ same_up. absurd (too_soon now same_up);
       turned = λ on. turns (behind here) (turned_on s hs coming mark cursor now (ripe_more e) device r.moving (k.turned on));
       cleared = λ cycle there. absurd (none_in (correcting cycle) there);
-      recorded = λ same_up. absurd (too_soon now same_up);
       phase = λ at p b. chain p here (behind here) (before_place p now (ripe_more e) b) (before_behind here);
     }
   where

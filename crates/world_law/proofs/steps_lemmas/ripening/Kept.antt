@@ -7,13 +7,13 @@ use Rattle.world_law.proofs.steps_lemmas.Words.{ClockTask, Compressed, DeviceId,
 use Rattle.world_law.proofs.steps_lemmas.Words.{IsIn, IsKept, IsLeft, IsMoving, IsNoTaking, IsPending, IsSource, IsWaiting, Judgement, List, Network, Node}
 use Rattle.world_law.proofs.steps_lemmas.Words.{NoteBody, Point, Scenario, Task, Units, Waiting, [], act_place, after_permanence, amount, ap, arith}
 use Rattle.world_law.proofs.steps_lemmas.Words.{before_behind, behind, both_ways, called, chain, changed_at, changes_adjustment, channel_of_link, correcting}
-use Rattle.world_law.proofs.steps_lemmas.Words.{dispatch_body, dispatches_back, doing, earlier, earlier_still, emitting, false, frames_taken, has_cleared}
+use Rattle.world_law.proofs.steps_lemmas.Words.{doing, earlier, earlier_still, emitting, false, frames_taken, has_cleared}
 use Rattle.world_law.proofs.steps_lemmas.Words.{if◌then◌else◌, inl, inr, ints, is_cm, is_joined_by, is_timed, is_turned_on_at, length, master_of, moment_of}
 use Rattle.world_law.proofs.steps_lemmas.Words.{moves, natural, not, observation_window, point_at, pos, rank}
 use Rattle.world_law.proofs.steps_lemmas.Words.{reading_for, refl, ripe_as, ripening, state_after, state_before, subst, sym, taken_in, task_place, time_of}
 use Rattle.compression.proofs.Times.{one_list_of_clusters}
-use Rattle.{std.proofs.Common.Contains, sync_state.specs.Standing.Standing, world_law.proofs.{acts.Recorded.first_recorded, devices.Borne.tell_owned}}
-use Rattle.world_law.proofs.{acts.Dispatched.{dispatch_told, no_dispatch_told}, steps_lemmas.{hearing.Quiet.frames_placed, ripening.Merely.own_skip}}
+use Rattle.{std.proofs.Common.Contains, sync_state.specs.Standing.Standing, world_law.proofs.devices.Borne.tell_owned}
+use Rattle.world_law.proofs.{steps_lemmas.{hearing.Quiet.frames_placed, ripening.Merely.own_skip}}
 use Rattle.world_law.proofs.putting.{Bearing.{before_aside, changed_aside, earlier_aside, frames_aside, left_aside, placed_back, still_aside}, Moving.{stays, worked_or_here}}
 use Rattle.world_law.proofs.steps_lemmas.{Words.{true, turned_aside, undone_alike, value_of, waiting_alike, ℕ, ℤ}, ripening.Clustered.{old_or_open, open_later}}
 use Rattle.world_law.proofs.steps_lemmas.ripening.{Judged.{Hears, cleared_told}, JustTold.IsTold}
@@ -107,10 +107,6 @@ before_place (x ∷ y ∷ ys) now more (inr (e, inr b)) = absurd b.1
 -- a record of this body tells of no act by which a device sends
 abbrev pub IsNoOwnAct : NoteBody → Type 0
 IsNoOwnAct body = (rank body < 4) ⊎ (10 < rank body)
-
-no_own_dispatch : (s : Scenario) (device : DeviceId) (now : ℕ) (link : _) (cause : ℕ) (vl : _) (cycle : ℕ) (body : NoteBody) → IsNoOwnAct body
-    → body ≡ dispatch_body s device now link cause vl cycle → ⊥
-no_own_dispatch s device now link cause vl cycle body other e = grind (arith, dispatch_told, rank)
 
 -- what is to come then is the record put in, or was to come
 back_placed : (now : ℕ) (front back : List Happening) (w z : Happening) → IsNoOwnAct w.note.body → time_of w ≡ now
@@ -250,20 +246,6 @@ kept_next stands s hs coming coming2 mark cursor now e machine after base r k is
       cleared = λ cycle there.
           subst (λ (x : Standing). cycle < x.number) (sym c.same.standing)
           (k.cleared cycle (subst (λ (l : List ClockTask). Contains l (correcting cycle)) c.same.done there));
-      recorded = λ up.
-          first_recorded s (hs ++ coming2) coming2 now e.device new (subst (λ (n : ℕ). IsLeft s (hs ++ coming2) e.device n new) up n.left)
-          (subst (λ (n : ℕ). HasDoneFrom s.network (s.reading e.device) e.device new (changed_at (hs ++ coming2) e.device n) n n) up done_so)
-          times
-          (λ z i link cause vl cycle d tells. elim (n.back z i) [
-            | inr none ↦ no_own_dispatch s e.device now link cause vl cycle z.note.body none.0 tells
-            | inl was ↦
-                no_dispatch_told s hs coming mark cursor now e.device m.are r.run.founded
-                not_acted z was link cause vl cycle
-                (dispatches_back s (hs ++ coming2) (hs ++ coming) now e.device link cause vl cycle
-                (earlier_still now hs coming2 (λ x j. let t = times x j in omega (arith, t))
-                ∙ sym (earlier_still now hs coming (λ x j. let t = m.are.of_now x j in omega (arith, t)))) d)
-                tells
-          ]);
       phase = λ at p b. chain p here (behind here) (before_place p now more b) (before_behind here);
     }
 

@@ -3,7 +3,7 @@ use Rattle.{net_plan.specs.Ranges.IsLinkInRange, run_law.proofs.runs.Determined.
 use Rattle.run_law.{proofs.law.FirstPlaces.numbered_next, specs.records.Happenings.frame_from}
 use Rattle.tte_units.proofs.general_lemmas.Lists.{in_all}
 use Rattle.world_law.proofs.frames.{Masters.of_master, Proper.{IsReceiver, received}}
-use Rattle.world_law.proofs.putting.{Bearing.{frames_aside, placed_back}, Moving.{stays, worked_or_here}}
+use Rattle.world_law.proofs.putting.{Bearing.{frames_aside, placed_back}, Moving.{stays, worked_or_here}, Placing.causes_given}
 use Rattle.world_law.proofs.putting.{PutShown.same_record, PutTwo.{IsPair, two_by}, StandsOn.shown_still}
 use Rattle.world_law.proofs.steps_lemmas.Words.{no_task_at, ◌++◌, ◌+◌, ◌<◌, ◌∙◌, ◌∷◌, ◌≡◌, ◌≤ℤ◌, ◌≤◌, ◌⊎◌, AreOfNetwork}
 use Rattle.world_law.proofs.steps_lemmas.Words.{ArePutIn, AreSettled, AreWaiting, Bool, ComesFirst, DeviceId, Down, Happening}
@@ -14,7 +14,7 @@ use Rattle.world_law.proofs.steps_lemmas.Words.{NoteBody, Option, Pcf, Reason, R
 use Rattle.world_law.proofs.steps_lemmas.Words.{Up, Waiting, Way, World, [], all_without, amount, ap, append-nil, are_past, arith}
 use Rattle.world_law.proofs.steps_lemmas.Words.{bears_on, before_behind, behind, both_ways, cases_Bool, comes_first, due_of, eq-eqb}
 use Rattle.world_law.proofs.steps_lemmas.Words.{eqb-true, false, happenings, held_aside, held_moves, in_left, in_right, inl, inr}
-use Rattle.world_law.proofs.steps_lemmas.Words.{is_at_source, is_broken, is_cm, is_joined_by, is_last, is_sending, key, known_aside}
+use Rattle.world_law.proofs.steps_lemmas.Words.{is_broken, is_cm, is_joined_by, is_last, key, known_aside}
 use Rattle.world_law.proofs.steps_lemmas.Words.{last_unfollowed, length, length-append, length_is, members_in, moment_of}
 use Rattle.world_law.proofs.steps_lemmas.Words.{moves_no_other, ne_eqb, never_self, numbered, numbered_front, numbered_in}
 use Rattle.world_law.proofs.steps_lemmas.Words.{numbered_within, numbers_end, one_by, one_shown, place_of, port_place, ports_move}
@@ -23,7 +23,7 @@ use Rattle.world_law.proofs.steps_lemmas.Words.{settled_as, slice_get, some_same
 use Rattle.world_law.proofs.steps_lemmas.Words.{two_shown, wire_place, wires_move, ℕ}
 use Rattle.world_law.specs.steps.Ripening.{HasRipened, RipenedStep, ripe_bodies}
 use Rattle.world_law.proofs.steps_lemmas.ripening.Answered.{answered, dropped_kept, high_now, joined_kept, not_before_high, placed_high}
-use Rattle.world_law.proofs.steps_lemmas.ripening.Answered.{quiet_kept, sole}
+use Rattle.world_law.proofs.steps_lemmas.ripening.Answered.{quiet_kept}
 use Rattle.world_law.proofs.steps_lemmas.ripening.{Grown.IsByRole, Judged.{IsKindOf, becomes_now, outcome_kind}}
 use Rattle.world_law.proofs.steps_lemmas.ripening.Outcomes.{drop_fresh, dropped_all, permanent_all, rank_at}
 use Rattle.world_law.proofs.steps_lemmas.ripening.Ripens.{IsRipe, come_of, permanent_at, reach_by, reach_now, ripe_more, ripening_at}
@@ -289,13 +289,12 @@ module _ {C M : Type 0} (reading : C → ℕ → ℕ) (stands : M → Network �
       (front back : List Happening) (w : Happening) → world.settled ≡ front ++ back
       → IsOne s (happenings s.network notes) front back x.old.mark x.old.cursor world.now 3 (ripe_more e) w
       → IsUnfollowed s (happenings s.network notes) world.now w.note.body
-      → (is_at_source w.note.body ≡ true → place_of w ≡ world.now ∷ 3 ∷ ripe_more e)
       → IsAllOfIt s (happenings s.network notes) (front ++ w ∷ back) (world.now ∷ 3 ∷ ripe_more e)
       → ((device : DeviceId) → (device.0 ≡ e.device.0 → ⊥) → bears_on device w.note.body ≡ false)
-      → ((device : DeviceId) → (is_sending device w.note.body ≡ false) × IsNoTaking device w.note.body)
+      → ((device : DeviceId) → IsNoTaking device w.note.body)
       → IsKept stands s (happenings s.network notes) (front ++ w ∷ back) (behind (world.now ∷ 3 ∷ ripe_more e)) world.now
       e.device after → Behind (front ++ w ∷ back)
-  one_behind x front back w parts one last stands_there all misses none kept =
+  one_behind x front back w parts one last all misses none kept =
       let hs = happenings s.network notes in
       let now = world.now in
       let old = x.old in
@@ -305,12 +304,12 @@ module _ {C M : Type 0} (reading : C → ℕ → ℕ) (stands : M → Network �
       let is_in = in_network s hs world.settled old.mark old.cursor now e x.r in
       ripened_behind reading stands s world notes e after machines waiting (front ++ w ∷ back) old x.r x.set x.without
       (omega (arith, long, parts_length, room))
-      (one_by s hs front back old.mark old.cursor now 3 (ripe_more e) w one last stands_there all)
+      (one_by s hs front back old.mark old.cursor now 3 (ripe_more e) w one last all)
       (known_aside s hs front back w
       (λ device le. moves_no_other device w.note.body (misses device (λ same. omega (arith, same, le, is_in))))
       (subst (λ (l : List Happening). AreOfNetwork s (hs ++ l)) parts old.known)) kept
-      (λ device m ne held. held_aside s hs front back w device (misses device ne) (none device).0 one.at
-      (frames_aside s hs front back w device (misses device ne) (none device).1)
+      (λ device m ne held. held_aside s hs front back w device (misses device ne) one.at
+      (frames_aside s hs front back w device (misses device ne) (none device))
       (subst (λ (l : List Happening). IsHeld stands s hs l (behind (now ∷ 3 ∷ ripe_more e)) now device m) parts held))
 
   -- ---- the frame is collected, or heard
@@ -360,7 +359,6 @@ module _ {C M : Type 0} (reading : C → ℕ → ℕ) (stands : M → Network �
         before = shown.before;
         none = shown.none;
         fresh = λ y i same. rank_not w y now (ripe_more e) place (high y (in_right y front back i)).1 same;
-        least = not_under;
         mine = sym (here_place now now (members_in w) e verdict body refl members refl);
         here =
             IsSource.ripening now e.device e.link e.cause e.point
@@ -374,10 +372,10 @@ module _ {C M : Type 0} (reading : C → ℕ → ℕ) (stands : M → Network �
       ] in
       subst Behind (sym (done ∙ shown.shows))
       (one_behind x front back w shown.parts one
-      (last_unfollowed s hs now body (last_by e.device e.link e.cause e.point verdict last)) (λ is. place)
+      (last_unfollowed s hs now body (last_by e.device e.link e.cause e.point verdict last))
       (permanent_all s hs (front ++ back) (front ++ w ∷ back) old.mark old.cursor now e k.node w verdict r a.hears a.outcome
       after_all w (in_right w front (w ∷ back) (inl refl)) place)
-      (λ device ne. bears_not device e verdict body ne refl) (λ device. (refl, λ z. refl))
+      (λ device ne. bears_not device e verdict body ne refl) (λ device z. refl)
       (quiet_kept stands s hs front back old.mark old.cursor now e machine after w verdict r k a role refl of_frame refl place
       shown.before))
 
@@ -421,7 +419,6 @@ module _ {C M : Type 0} (reading : C → ℕ → ℕ) (stands : M → Network �
         fresh = λ y i same.
             drop_fresh s hs (front ++ back) old.mark old.cursor now e r
             (λ f. permanent_in s hs (front ++ back) old.mark old.cursor now e r f) y (in_right y front back i) same;
-        least = not_before_high now (ripe_more e) w refl (omega arith);
         mine = inr (inl (e.point, becomes, refl));
         here =
             IsSource.ripening now e.device e.link e.cause e.point
@@ -435,10 +432,10 @@ module _ {C M : Type 0} (reading : C → ℕ → ℕ) (stands : M → Network �
         | inr h ↦ not_before_high now (ripe_more e) z h.0 h.1 b
       ] in
       subst Behind (sym (done ∙ shown.shows))
-      (one_behind x front back w shown.parts one (last_unfollowed s hs now body refl) (λ is. absurd cc)
+      (one_behind x front back w shown.parts one (last_unfollowed s hs now body refl)
       (dropped_all s hs (front ++ back) (front ++ w ∷ back) old.mark old.cursor now e k.node reason r a.hears a.outcome after_all w
       (in_right w front (w ∷ back) (inl refl)) refl)
-      (λ device ne. refl) (λ device. (refl, λ z. refl))
+      (λ device ne. refl) (λ device z. refl)
       (dropped_kept stands s hs front back old.mark old.cursor now e machine after w reason r k a refl (λ z. refl)
       (inr (omega arith)) refl))
 
@@ -469,7 +466,7 @@ module _ {C M : Type 0} (reading : C → ℕ → ℕ) (stands : M → Network �
       ap place_of (sym (same_record s.network hs [] now body few)) ∙ place in
       let pair = two_shown s.network hs now body e.device Joining whys.Frame world.settled put.0 put.2.0 few (omega arith)
       (λ z i b. r.moving.after z i (subst (λ (q : List ℕ). IsBefore (place_of z) q) shown_at b))
-      (λ z i it same. sole s hs world.settled old.mark old.cursor now e r z i it) put.1
+      (causes_given r.moving (omega arith)) put.1
       (subst (λ (c : ℕ). IsPutIn (settled_as s.network hs now (kinds.State e.device Joining (c + 1) whys.Frame)) put.0 put.2.0)
       (length_is s notes) put.2.1) in
       let front2 = pair.front2 in
@@ -496,7 +493,6 @@ module _ {C M : Type 0} (reading : C → ℕ → ℕ) (stands : M → Network �
         before = λ z i. absurd i;
         none = pair.none;
         fresh = λ y i same. rank_not w y now (ripe_more e) place (high y i).1 same;
-        least = not_under;
         mine = sym (here_place now now (members_in w) e judgements.Integrates body refl members refl);
         here =
             IsSource.ripening now e.device e.link e.cause e.point
@@ -552,7 +548,6 @@ module _ {C M : Type 0} (reading : C → ℕ → ℕ) (stands : M → Network �
       (ripened_behind reading stands s world notes e after machines waiting then_ old r x.set x.without
       (omega (arith, long, same_parts, one_more, room))
       (two_by s hs [] world.settled front2 back2 old.mark old.cursor now 3 (ripe_more e) w v e.device Joining whys.Frame p
-      (λ is. place)
       (permanent_all s hs world.settled then_ old.mark old.cursor now e k.node w judgements.Integrates r a.hears a.outcome after_all
       w there place))
       (known_aside s hs front2 back2 v (λ device le. moves_no_other device v_body (stays_out device (far_off device le)))
@@ -561,10 +556,10 @@ module _ {C M : Type 0} (reading : C → ℕ → ℕ) (stands : M → Network �
       (subst (λ (l : List Happening). IsKept stands s hs (l ++ v ∷ back2) (behind here) now e.device after) (sym split.1)
       (joined_kept stands s hs world.settled f2 back2 old.mark old.cursor now e machine after w v r k a old.precise refl of_frame refl
       split.2 refl refl pair.none2))
-      (λ device m ne held. held_aside s hs front2 back2 v device (stays_out device ne) refl refl
+      (λ device m ne held. held_aside s hs front2 back2 v device (stays_out device ne) refl
       (frames_aside s hs front2 back2 v device (stays_out device ne) (λ z. refl))
       (subst (λ (l : List Happening). IsHeld stands s hs l (behind here) now device m) pair.parts2
-      (held_aside s hs [] world.settled w device (misses device ne) refl refl
+      (held_aside s hs [] world.settled w device (misses device ne) refl
       (frames_aside s hs [] world.settled w device (misses device ne) (λ z. refl)) held))))
 
   -- ---- whatever becomes of it

@@ -1,7 +1,7 @@
 -- An event befalls before all else of its instant: each device then.
 use Rattle.world_law.proofs.devices.Working.{worked_by}
 use Rattle.world_law.proofs.devices.Working.{rested}
-use Rattle.world_law.proofs.{acts.Recorded.none_recorded, devices.Befalls.{is_turned_on, stands_still}, rows.Takings.{frames_alike, frames_end}}
+use Rattle.world_law.proofs.{devices.Befalls.{is_turned_on, stands_still}, rows.Takings.{frames_alike, frames_end}}
 use Rattle.world_law.{proofs.devices.{Borne.other_comes, TurnedOn.fold_still}, specs.{steps.Steps.FitsWorld, world.{Outcomes.befallen_node, World.IsCalledBy}}}
 use Rattle.world_law.proofs.steps_lemmas.Words.{◌&&◌, ◌++◌, ◌+◌, ◌-ℤ◌, ◌<ℤ◌, ◌<◌, ◌==◌, ◌||◌, ◌∙◌, ◌∷◌, ◌≡◌, ◌≤ℤ◌, ◌≤◌, ◌⊎◌, Bool, ClockTask, Compressed}
 use Rattle.world_law.proofs.steps_lemmas.Words.{DeviceId, Event, Happening, HasDoneFrom, HasSentFrom, Integrating, IsBefore, IsDeedOf, IsEventBody, IsHeld}
@@ -250,7 +250,6 @@ kept_less stands network f g past event hs cursor now number ev device machine a
       cleared =
           λ cycle there. subst (λ (n : ℕ). cycle < n) (sym a.number)
           (k.cleared cycle (subst (λ (l : List ClockTask). Contains l (correcting cycle)) a.done there));
-      recorded = λ same. none_recorded r js now device new left_so done_so;
       phase =
           λ at p b. m.early p (k.phase (ap (λ (w : _). w.time.0) (sym a.last) ∙ at) p (subst (λ (c : _). IsBefore p (now ∷ rank_of_call c ∷ [])) a.phase b));
     }

@@ -2,7 +2,7 @@
 use Rattle.{run_law.{proofs.{records.Happenings.none_numbered, runs.Grow.empty_run}, specs.machines.Nodes.begun_node}, world_law.specs.steps.Steps.Begun}
 use Rattle.world_law.proofs.steps_lemmas.Words.{◌++◌, ◌+ℤ◌, ◌+◌, ◌-ℤ◌, ◌<ℤ◌, ◌^◌, ◌∙◌, ◌∷◌, ◌≡◌, ◌≤ℤ◌, ◌≤◌, DeviceId, Happening, IsBefore, IsDue, IsIn, IsKept}
 use Rattle.world_law.proofs.steps_lemmas.Words.{AreOfNetwork, AreSettled, IsLeft, IsPending, IsSource, List, Network, Node, Scenario, Task, Units, [], acts_before, amount, ap, arith}
-use Rattle.world_law.proofs.steps_lemmas.Words.{chain, correcting, dispatching, doing, emitting, false, inl, inr, ints, no_cluster, none_in, observation_window}
+use Rattle.world_law.proofs.steps_lemmas.Words.{chain, correcting, doing, emitting, false, inl, inr, ints, no_cluster, none_in, observation_window}
 use Rattle.world_law.proofs.steps_lemmas.Words.{length, place_of, pos, reading_for, refl, scenario, subst, sym, true, value_of, ℕ, ℤ}
 
 -- nothing of the run is before the first source
@@ -70,11 +70,6 @@ kept_fresh stands network f device machine zero_first le is = record {
   still = λ same h i. absurd i;
   turned = λ on. absurd cc;
   cleared = λ cycle there. absurd (none_in (correcting cycle) there);
-  recorded = λ same. record {
-    of_now = λ z i. absurd i;
-    dispatched = λ link cause vl cycle d there. absurd (none_in (dispatching (record { 0 = d.place }) cycle) there);
-    has_dispatched = λ z i link cause vl cycle d e. absurd i;
-  };
   phase = λ at p b. b;
 }
 

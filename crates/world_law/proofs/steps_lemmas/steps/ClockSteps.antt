@@ -3,7 +3,7 @@ use Rattle.world_law.proofs.{devices.Shown.{all_past, held_shows}, giving.GivenP
 use Rattle.world_law.{proofs.{giving.Given.device_in, putting.StandsOn.source_told}, specs.steps.Steps.ClockStep}
 use Rattle.world_law.proofs.steps_lemmas.Words.{◌++◌, ◌+◌, ◌<◌, ◌↔◌, ◌∙◌, ◌∷◌, ◌≡◌, ◌≤◌, AreOfNetwork, ArePutIn, DeviceId, Happening, IsBefore, IsHeld}
 use Rattle.world_law.proofs.steps_lemmas.Words.{IsMoving, IsOwnSource, IsSource, List, Network, Node, NoteBody, Scenario, [], no_task_at, adjustment_after}
-use Rattle.world_law.proofs.steps_lemmas.Words.{all_without, ap, arith, at_least, before_behind, behind, cases_lt, chain, clock_place, comes_first, either_way, false}
+use Rattle.world_law.proofs.steps_lemmas.Words.{all_without, ap, arith, at_least, behind, cases_lt, chain, clock_place, comes_first, either_way, false}
 use Rattle.world_law.proofs.steps_lemmas.Words.{happenings, held_moves, inl, inr, is_at_source, key, members_in, place_of}
 use Rattle.world_law.proofs.steps_lemmas.Words.{port_place, ports_move, rank, refl, settled_as, some_same, stands_on, state_after, subst, sym}
 use Rattle.world_law.proofs.steps_lemmas.Words.{StandsBehind, due_of, record_of, time_of, told_wires, true, units_of, up_to, waiting_moves, wire_place, wires_move, ℕ}
@@ -105,10 +105,8 @@ clock_step {C} {M} reading stands s world notes device machine state adjustment 
       before = λ y i. absurd i;
       none = λ y i b. i;
       fresh = λ y i same. i;
-      least = inl refl;
       mine = refl;
       here = IsSource.ending (units_of now) device at_end.0 at_end.1 ((old.ended (units_of now)).1 (ended, refl));
-      source = λ yes_it. before_behind here;
       own = λ zs y y_due few at own.
           let it = clock_own s (hs ++ zs) (time_of y) (members_in y) y.note.body device now own in
           ap (λ (l : List ℕ). now ∷ l) (sym it.1) ∙ ap (λ (n : ℕ). n ∷ rank y.note.body ∷ key (members_in y) y.note.body) (sym it.0);
@@ -128,7 +126,6 @@ clock_step {C} {M} reading stands s world notes device machine state adjustment 
       k.0,
       k.1,
       held_put stands s hs [] [] (behind here) now d k.0 w tt refl
-          (chain (now ∷ 8 ∷ []) here (behind here) (inr (refl, inl (omega arith))) (before_behind here))
           (held_moves stands s hs [] old.mark old.cursor now 14 more d k.0 moving (no_task_at s.network now d 14 more (inr (omega arith)))
           (subst (λ (l : List Happening). IsHeld stands s hs l old.cursor now d k.0) empty k.2)),
     ))

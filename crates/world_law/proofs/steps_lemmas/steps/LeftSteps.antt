@@ -2,15 +2,15 @@
 use Rattle.world_law.proofs.putting.{Moving.settled_moves, Putting.{IsPutting, held_put, known_put, settled_put}, StandsOn.shown_still}
 use Rattle.world_law.specs.steps.Steps.{LeftStep, departure_now}
 use Rattle.world_law.proofs.steps_lemmas.Words.{due_of, one_shown, put_length, record_of}
-use Rattle.world_law.proofs.steps_lemmas.Words.{◌++◌, ◌+◌, ◌<◌, ◌∙◌, ◌∷◌, ◌≡◌, ◌≤◌, ◌⊎◌, AreOfNetwork, ArePutIn, AreSettled, AtPort, Bool}
+use Rattle.world_law.proofs.steps_lemmas.Words.{◌++◌, ◌+◌, ◌<◌, ◌∙◌, ◌∷◌, ◌≡◌, ◌≤◌, AreOfNetwork, ArePutIn, AreSettled, AtPort, Bool}
 use Rattle.world_law.proofs.steps_lemmas.Words.{ComesFirst, DeviceId, Happening, IsBefore, IsHeld, IsIn, IsMoving, IsSource, IsWithout, List, Network}
 use Rattle.world_law.proofs.steps_lemmas.Words.{Node, Note, Scenario, Stands, StandsBehind, World, [], all_without, no_task_at, ap}
-use Rattle.world_law.proofs.steps_lemmas.Words.{append_assoc, arith, before_behind, behind, both_ways, cases_Bool, cause_of, chain, comes_first}
+use Rattle.world_law.proofs.steps_lemmas.Words.{append_assoc, arith, behind, cases_Bool, cause_of, comes_first}
 use Rattle.world_law.proofs.steps_lemmas.Words.{false, happenings, held_moves, if◌then◌else◌, in_left, in_right, inl, inr}
-use Rattle.world_law.proofs.steps_lemmas.Words.{is_at_source, is_broken, length, members_in, numbers_end, parted}
+use Rattle.world_law.proofs.steps_lemmas.Words.{is_broken, length, members_in, numbers_end, parted}
 use Rattle.world_law.proofs.steps_lemmas.Words.{place_of, port_place, ports_move, rank, refl, stands_on, subst, sym, time_of}
 use Rattle.world_law.{proofs.steps_lemmas.Words.{told_wires, true, units_of, waiting_moves, wire_place, wires_move, ℕ}, specs.world.Outcomes.departure_body}
-use Rattle.world_law.proofs.steps_lemmas.steps.Outcomes.{body_cause, body_caused, body_idle, body_key, body_own, body_ranks, departs_now, few_cause}
+use Rattle.world_law.proofs.steps_lemmas.steps.Outcomes.{body_cause, body_caused, body_idle, body_key, body_own, departs_now, few_cause}
 use Rattle.world_law.proofs.steps_lemmas.steps.Outcomes.{nothing_of_broken, outcome_at, own_there}
 
 -- ---- the source is first
@@ -103,10 +103,6 @@ gone_out reading stands s world notes e ports settled old i at first without sou
     let idle = body_idle e is in
     let departs = departs_now s hs front now e it at sound in
     let key_is : place_of w ≡ now ∷ rank body ∷ more = ap (λ (l : List ℕ). now ∷ rank body ∷ l) (body_key (members_in w) e is) in
-    let least : (here ≡ place_of w) ⊎ IsBefore here (place_of w) = elim (body_ranks e is) [
-      | inl eight ↦ inl (sym (key_is ∙ ap (λ (k : ℕ). now ∷ k ∷ more) eight.0))
-      | inr higher ↦ inr (inr (refl, inl higher.0))
-    ] in
     let p : IsPutting s hs front back old.mark old.cursor now 8 more w = record {
       moving = moving;
       late = omega arith;
@@ -128,15 +124,10 @@ gone_out reading stands s world notes e ports settled old i at first without sou
           (subst (λ (l : List Happening). IsIn z l) (sym whole) (in_left z (front ++ split.0) (y ∷ split.1) inside)) in omega (arith, y_now, z_now)) same
           by.1 in
           moving.waits (subst (λ (q : List ℕ). IsBefore q old.cursor) from by.3);
-      least = least;
       mine = body_own s (hs ++ front) now (members_in w) e is departs;
       here =
           IsSource.departing now e.device e.link e.cause
           (record { giving = departs.giving; there = departs.there; gives = departs.gives; held = departs.held });
-      source = λ yes_it. elim (body_ranks e is) [
-        | inl eight ↦ subst (λ (q : List ℕ). IsBefore q (behind here)) (sym (key_is ∙ ap (λ (k : ℕ). now ∷ k ∷ more) eight.0)) (before_behind here)
-        | inr higher ↦ absurd (both_ways (is_at_source body) higher.1 yes_it)
-      ];
       own = λ zs y y_due y_few y_now own.
           outcome_at s hs zs now e (members_in w) it at sound (time_of y) (members_in y) y.note.body here refl own y.note.time refl y_due.cause;
     } in
@@ -149,7 +140,6 @@ gone_out reading stands s world notes e ports settled old i at first without sou
     (settled_put p)
     (known_put s hs front back w idle (subst (λ (l : List Happening). AreOfNetwork s (hs ++ l)) q.parts old.known))
     (λ device machine k. held_put stands s hs front back (behind here) now device machine w idle refl
-    (chain (now ∷ 8 ∷ []) here (behind here) (inr (refl, inr (refl, tt))) (before_behind here))
     (subst (λ (l : List Happening). IsHeld stands s hs l (behind here) now device machine) q.parts k)))
 
 pub left_step : {C M : Type 0} (reading : C → ℕ → ℕ) (stands : M → Network → DeviceId → Node → Type 0) → LeftStep reading stands

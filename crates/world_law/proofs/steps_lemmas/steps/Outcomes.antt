@@ -5,7 +5,7 @@ use Rattle.world_law.{proofs.{frames.Masters.parent_true, steps_lemmas.Words.{ti
 use Rattle.world_law.proofs.steps_lemmas.Words.{◌++◌, ◌<◌, ◌||◌, ◌∙◌, ◌∷◌, ◌≡◌, ◌≤◌, ◌⊎◌, AtPort, Bool, DeviceId, Dispatches, Gives, Happening, IsCaused}
 use Rattle.world_law.proofs.steps_lemmas.Words.{IsDue, IsFounded, IsOwnSource, Launch, LinkId, List, None, NoteBody, Scenario, Some, Units, [], amount, ap}
 use Rattle.world_law.proofs.steps_lemmas.Words.{arith, by_number, cause_of, earlier, earlier_still, false, filter, inl, inr, is_accepted}
-use Rattle.world_law.proofs.steps_lemmas.Words.{is_at_source, is_broken, is_cut, is_parent_of, is_relay, key, last_in, last_or, launched, length, link_at}
+use Rattle.world_law.proofs.steps_lemmas.Words.{is_broken, is_cut, is_parent_of, is_relay, key, last_in, last_or, launched, length, link_at}
 use Rattle.world_law.proofs.steps_lemmas.Words.{nat_lt, not, numbered, numbered_prefix, numbered_within, place_of, rank, refl, second, some_same, subst, sym}
 use Rattle.run_law.specs.declared.judgement.Why.TheVariants as whys
 use Rattle.run_law.specs.declared.note.NoteBody.TheVariants as kinds
@@ -26,12 +26,6 @@ pub body_key : (members : ℕ) (e : AtPort) (is : Departure) → key members (de
 body_key members e (leaves clock) = refl
 body_key members e too_old = refl
 body_key members e on_cut_way = refl
-
-pub body_ranks : (e : AtPort) (is : Departure) → ((rank (departure_body e is) ≡ 8) × (is_at_source (departure_body e is) ≡ true))
-    ⊎ ((8 < rank (departure_body e is)) × (is_at_source (departure_body e is) ≡ false))
-body_ranks e (leaves clock) = inl (refl, refl)
-body_ranks e too_old = inr (omega arith, refl)
-body_ranks e on_cut_way = inr (omega arith, refl)
 
 pub body_caused : (s : Scenario) (js : List Happening) (time : Units) (e : AtPort) (is : Departure) → Departs s js e.device (amount time) e.link e.cause is
     → IsCaused s js time (departure_body e is)

@@ -1,7 +1,7 @@
 -- Time passes where nothing is to come.
 use Rattle.world_law.proofs.devices.Working.{worked_by}
 use Rattle.world_law.proofs.{acts.{Acting.{IsUnmoved, cleared_on, had_come_before}, NoActs.nothing_comes_before}, devices.Resting.{IsPast, IsWorked, at_rest}}
-use Rattle.world_law.{proofs.{acts.Recorded.none_recorded, giving.GivenParts.no_later_events, runs.Worlds.nothing_settled_is_all}, specs.source.First.NoSourceBefore}
+use Rattle.world_law.{proofs.{giving.GivenParts.no_later_events, runs.Worlds.nothing_settled_is_all}, specs.source.First.NoSourceBefore}
 use Rattle.world_law.{proofs.devices.Passes.passes_if, specs.{device.Own.IsStill, steps.Steps.PassedStep, world.{Moves.NothingBefore, World.way_now}}}
 use Rattle.world_law.proofs.steps_lemmas.Words.{◌++◌, ◌+◌, ◌-◌, ◌<ℤ◌, ◌<◌, ◌^◌, ◌∙◌, ◌∷◌, ◌≡◌, ◌≤ℤ◌, ◌≤◌, AreSettled, DeviceId, Down, Happening}
 use Rattle.world_law.proofs.steps_lemmas.Words.{HasDoneFrom, HasSentFrom, HaveBefallen, IsBefore, IsHeld, IsIn, IsKept, IsLeft, IsOut, IsPending, IsReadyAt}
@@ -237,8 +237,6 @@ device_passes stands s hs mark cursor now t device machine k lt steady precise b
       turned = λ on. absurd (let bad : false ≡ true = sym off_later ∙ on in cc);
       still = λ same h i at. let early = past.past h (subst (λ (l : List Happening). IsIn h l) (sym whole) i) in absurd (omega (arith, early, at, lt));
       cleared = k.cleared;
-      recorded = λ same. none_recorded s hs t device k.node (subst (λ (l : List Happening). IsLeft s l device t k.node) whole left)
-          (subst (λ (l : List Happening). HasDoneFrom s.network (s.reading device) device k.node (changed_at l device t) t t) whole done);
       phase = λ at. let early = k.ready.time in absurd (too_late _ now t at early lt);
     }
   where
