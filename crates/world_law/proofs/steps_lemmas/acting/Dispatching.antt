@@ -176,7 +176,7 @@ no_row_told s hs coming mark cursor now device are founded law z i link cause vl
                 waits (chain (place d.place) (now ∷ 8 ∷ device.0 ∷ link.0 ∷ cause ∷ []) cursor (inr (refl, inl (omega arith)))
                 (subst (λ (q : List ℕ). IsBefore q cursor) leaves.0 by.3))
             | inr other ↦ elim other [
-              | inl acts ↦ none acts.0 acts.1 acts.2 acts.4
+              | inl mine ↦ none mine.0 mine.1 mine.2 mine.4
               | inr sends ↦
                   send_apart s hs coming (hs ++ split.0) device now link link cause vl cycle founded are.of_now
                   (λ h there. subst (λ (l : List Happening). numbered l cause ≡ Some h) (sym whole)

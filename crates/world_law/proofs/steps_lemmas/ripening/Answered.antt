@@ -13,7 +13,7 @@ use Rattle.world_law.proofs.steps_lemmas.Words.{pos, rank, refl, ripe_as, ripeni
 use Rattle.world_law.proofs.steps_lemmas.{hearing.Quiet.frames_placed, ripening.{Calling.may_call, Grown.IsByRole, JustTold.{all_high, ends_in}, Merely.IsMere}}
 use Rattle.world_law.proofs.steps_lemmas.ripening.{Awake.{still_on, stirs, was_on}, Called.left_called, Coming.{IsLateKind, all_late, late_mere}}
 use Rattle.world_law.proofs.steps_lemmas.ripening.{Joined.{IsJoin, kept_joined, was_looking}, Judged.{Hears, IsKindOf, hears_before, hears_told, outcome_kind}}
-use Rattle.world_law.proofs.steps_lemmas.ripening.Kept.{IsNoOwnAct, carried_by_role, carried_called, is_yet, kept_next, next_aside, next_by_role, rests_yet}
+use Rattle.world_law.proofs.steps_lemmas.ripening.Kept.{carried_by_role, carried_called, is_yet, kept_next, next_aside, next_by_role, rests_yet}
 use Rattle.world_law.proofs.steps_lemmas.ripening.Ripens.{IsRipe, come_of, emitted_no_later, may_ripen, points_no_later, ripe_more, sooner_of, sound_of}
 use Rattle.run_law.specs.declared.judgement.Judgement.TheVariants as judgements
 use Rattle.run_law.specs.declared.judgement.Why.TheVariants as whys
@@ -149,11 +149,11 @@ pub dropped_kept : {M : Type 0} (stands : M → Network → DeviceId → Node �
     (machine after : M) (w : Happening) (reason : Reason) (r : IsRipe s hs (front ++ back) mark cursor now e)
     (k : IsKept stands s hs (front ++ back) cursor now e.device machine)
     → IsAnswered stands s hs now e k.node after (ripe.Dropped reason) → Rattle.world_law.specs.device.Own.bears_on e.device w.note.body ≡ false
-    → IsNoTaking e.device w.note.body → IsNoOwnAct w.note.body → time_of w ≡ now
+    → IsNoTaking e.device w.note.body
     → IsKept stands s hs (front ++ w ∷ back) (behind (now ∷ 3 ∷ ripe_more e)) now e.device after
-dropped_kept stands s hs front back mark cursor now e machine after w reason r k a misses none other at =
+dropped_kept stands s hs front back mark cursor now e machine after w reason r k a misses none =
     kept_next stands s hs (front ++ back) (front ++ w ∷ back) mark cursor now e machine after k.node r k a.is (carried_called s e k.node now)
-    (next_aside s hs front back now k.up e.device w (called (moment_of s e.device now) ripening k.node) misses none other at
+    (next_aside s hs front back now k.up e.device w (called (moment_of s e.device now) ripening k.node) misses none
     (left_called s (hs ++ (front ++ back)) e.device k.up k.node (moment_of s e.device now) ripening k.left))
 
 -- ---- it tells the time

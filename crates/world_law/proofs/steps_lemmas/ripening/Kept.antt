@@ -14,7 +14,7 @@ use Rattle.world_law.proofs.steps_lemmas.Words.{reading_for, refl, ripe_as, ripe
 use Rattle.compression.proofs.Times.{one_list_of_clusters}
 use Rattle.{std.proofs.Common.Contains, sync_state.specs.Standing.Standing, world_law.proofs.devices.Borne.tell_owned}
 use Rattle.world_law.proofs.{steps_lemmas.{hearing.Quiet.frames_placed, ripening.Merely.own_skip}}
-use Rattle.world_law.proofs.putting.{Bearing.{before_aside, changed_aside, earlier_aside, frames_aside, left_aside, placed_back, still_aside}, Moving.{stays, worked_or_here}}
+use Rattle.world_law.proofs.putting.{Bearing.{before_aside, changed_aside, earlier_aside, frames_aside, left_aside, still_aside}, Moving.{stays, worked_or_here}}
 use Rattle.world_law.proofs.steps_lemmas.{Words.{true, turned_aside, undone_alike, value_of, waiting_alike, ℕ, ℤ}, ripening.Clustered.{old_or_open, open_later}}
 use Rattle.world_law.proofs.steps_lemmas.ripening.{Judged.{Hears, cleared_told}, JustTold.IsTold}
 use Rattle.world_law.proofs.steps_lemmas.ripening.{Coming.{all_late, late_mere, rest_ends}, Ripens.{IsRipe, in_time, not_beyond, ripe_more, sooner_of}}
@@ -104,18 +104,6 @@ before_place (x ∷ []) now more (inr (e, b)) = inr (e, tt)
 before_place (x ∷ y ∷ ys) now more (inr (e, inl lt)) = inr (e, inl lt)
 before_place (x ∷ y ∷ ys) now more (inr (e, inr b)) = absurd b.1
 
--- a record of this body tells of no act by which a device sends
-abbrev pub IsNoOwnAct : NoteBody → Type 0
-IsNoOwnAct body = (rank body < 4) ⊎ (10 < rank body)
-
--- what is to come then is the record put in, or was to come
-back_placed : (now : ℕ) (front back : List Happening) (w z : Happening) → IsNoOwnAct w.note.body → time_of w ≡ now
-    → IsIn z (front ++ w ∷ back) → IsIn z (front ++ back) ⊎ (IsNoOwnAct z.note.body × (time_of z ≡ now))
-back_placed now front back w z other at i = elim (placed_back [] front back w z i) [
-  | inl same ↦ inr (subst (λ (h : Happening). IsNoOwnAct h.note.body) (sym same) other, ap time_of same ∙ at)
-  | inr was ↦ inl was
-]
-
 -- what is to come once the record is put in, as the device sees it
 pub record IsNext (s : Scenario) (hs coming coming2 : List Happening) (now up : ℕ) (device : DeviceId) (new : Node) : Type 0 where
   pub left : IsLeft s (hs ++ coming2) device up new
@@ -125,7 +113,6 @@ pub record IsNext (s : Scenario) (hs coming coming2 : List Happening) (now up : 
       → (h : Happening) → IsIn h (hs ++ coming2) → time_of h ≡ now → IsAtRest s device now h.note.body
   pub turned : (cursor : List ℕ) → HasTurnedOn s hs coming cursor device now → HasTurnedOn s hs coming2 cursor device now
   pub frames : frames_taken s (hs ++ coming) device ≡ frames_taken s (hs ++ coming2) device
-  pub back : (z : Happening) → IsIn z coming2 → IsIn z coming ⊎ (IsNoOwnAct z.note.body × (time_of z ≡ now))
 
 pub turned_on : (s : Scenario) (hs coming : List Happening) (mark cursor : List ℕ) (now : ℕ) (more : List ℕ) (device : DeviceId)
     → IsMoving s hs coming mark cursor now 3 more → HasTurnedOn s hs coming cursor device now → HasTurnedOn s hs coming (behind (now ∷ 3 ∷ more)) device now
@@ -160,9 +147,6 @@ kept_next stands s hs coming coming2 mark cursor now e machine after base r k is
     let soon = in_time s hs coming mark cursor now e r in
     let adjusted : new.standing.adjustment ≡ k.node.standing.adjustment = ap (λ (x : Standing). x.adjustment) c.same.standing in
     let change = n.change in
-    let not_acted : IsBefore (act_place now e.device) cursor → ⊥ = λ b. m.waits (chain here (act_place now e.device) cursor (under_act now e.device.0 more) b)
-    in
-    let times : (z : Happening) → IsIn z coming2 → time_of z ≡ now = λ z i. elim (n.back z i) [ inl was ↦ m.are.of_now z was | inr none ↦ none.1 ] in
     let done_so : HasDoneFrom s.network (s.reading e.device) e.device new (changed_at (hs ++ coming2) e.device k.up) k.up k.up = record {
       undone = λ deed u x from lt.
           subst (λ (z : Units). pos (s.reading e.device x) <ℤ (value_of s.network deed -ℤ z.0)) (sym adjusted)
@@ -252,17 +236,16 @@ kept_next stands s hs coming coming2 mark cursor now e machine after base r k is
 -- ---- the frame is dropped, or tells another device something
 
 pub next_aside : (s : Scenario) (hs front back : List Happening) (now up : ℕ) (device : DeviceId) (w : Happening) (new : Node)
-    → Rattle.world_law.specs.device.Own.bears_on device w.note.body ≡ false → IsNoTaking device w.note.body → IsNoOwnAct w.note.body → time_of w ≡ now
+    → Rattle.world_law.specs.device.Own.bears_on device w.note.body ≡ false → IsNoTaking device w.note.body
     → IsLeft s (hs ++ (front ++ back)) device up new
     → IsNext s hs (front ++ back) (front ++ w ∷ back) now up device new
-next_aside s hs front back now up device w new misses none other at left = record {
+next_aside s hs front back now up device w new misses none left = record {
   left = left_aside s hs front back w device misses up new left;
   change = sym (changed_aside s hs front back w device misses up);
   before = before_aside s hs front back w device misses now;
   still = still_aside s hs front back w device now (Rattle.world_law.proofs.devices.Borne.moves_no_other device w.note.body misses);
   turned = λ cursor it. turned_aside s hs front back w device it (earlier_aside s hs front back w device misses now);
   frames = frames_aside s hs front back w device misses none;
-  back = λ z i. back_placed now front back w z other at i;
 }
 
 pub carried_called : (s : Scenario) (e : Waiting) (node : Node) (now : ℕ) → IsCarriedOn s e node (called (moment_of s e.device now) ripening node)
@@ -379,5 +362,4 @@ next_by_role stands s hs coming mark cursor now e machine w verdict r k hears ro
       still = still_aside s hs [] coming w device now quiet.1;
       turned = λ cursor2 it. turned_aside s hs [] coming w device it (ap (λ (l : List Happening). state_after s l device) same_earlier);
       frames = frames_placed s hs [] coming w device (λ z. ap (taken_in device z) body) (λ h i. sooner_of s hs coming mark cursor now e r w h at i);
-      back = λ z i. back_placed now [] coming w z (inl (subst (λ (b : NoteBody). rank b < 4) (sym body) (omega arith))) at i;
     }

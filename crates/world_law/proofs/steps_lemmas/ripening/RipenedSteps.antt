@@ -436,8 +436,7 @@ module _ {C M : Type 0} (reading : C → ℕ → ℕ) (stands : M → Network �
       (dropped_all s hs (front ++ back) (front ++ w ∷ back) old.mark old.cursor now e k.node reason r a.hears a.outcome after_all w
       (in_right w front (w ∷ back) (inl refl)) refl)
       (λ device ne. refl) (λ device z. refl)
-      (dropped_kept stands s hs front back old.mark old.cursor now e machine after w reason r k a refl (λ z. refl)
-      (inr (omega arith)) refl))
+      (dropped_kept stands s hs front back old.mark old.cursor now e machine after w reason r k a refl (λ z. refl)))
 
   -- ---- it tells the time
 
