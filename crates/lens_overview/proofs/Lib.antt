@@ -1,5 +1,6 @@
 pub mod Standing
 pub mod Filling
+pub mod Skipping
 pub mod Laying
 pub mod NoneMissed
 pub mod OneAnswer

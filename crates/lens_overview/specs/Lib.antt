@@ -5,6 +5,7 @@ pub mod Labels
 pub mod Spreads
 pub mod News
 pub mod Telling
+pub mod Parts
 pub mod Cells
 pub mod Bars
 pub mod Signs

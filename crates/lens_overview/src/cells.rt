@@ -1,8 +1,10 @@
 //! The cells of a row.
-ghost use Rattle.std.specs.Prelude.{◌+◌, ◌<◌, ◌^◌, ◌≡◌, ◌≤◌, IfOk, [], replicate};
+ghost use Rattle.std.specs.Prelude.{◌+◌, ◌<◌, ◌^◌, ◌≡◌, ◌≤◌, IfOk, List, [], fold, replicate};
 ghost use Rattle.lens_overview.specs.Cells.{cells_of, cut, filled, filled_from, flow_cells, in_column, is_alike, is_any};
 ghost use Rattle.lens_overview.specs.Cells.{is_same_way, narrowed, seen, shade_at, taken, turned, worst};
-ghost use Rattle.lens_overview.specs.Grids.{IsNarrow, most_columns};
+ghost use Rattle.lens_overview.specs.{Grids.{IsNarrow, most_columns}, Parts.ArePartOf};
+ghost use Rattle.lens_overview.specs.declared.parts.Part.TheVariants.{Changes, Copies, Counts};
+ghost use Rattle.lens_overview.specs.declared.shade.Shade.{Shade as ShadeValue};
 ghost use Rattle.lens_svg.specs.Sketching.{with_at};
 
 use crate::grid::Grid;
@@ -13,10 +15,17 @@ use net_plan::{DeviceId, LinkId, VlId, Way};
 use std::alloc::Global;
 use tte_io::OutOfMemory;
 
-/// What the cells are filled from: what the records tell, the last cycle, and the columns.
+/// What the cells are filled from: what the records tell, those of them that may fill rows of each sort, the last cycle,
+/// and the columns.
 #[derive(Clone, Copy)]
 pub(crate) struct Run<'a> {
     pub(crate) news: &'a [News],
+    pub(crate) counts: &'a [News],
+    pub(crate) changes: &'a [News],
+    pub(crate) copies: &'a [News],
+    ghost counts_are: { ArePartOf Counts news.now counts.now },
+    ghost changes_are: { ArePartOf Changes news.now changes.now },
+    ghost copies_are: { ArePartOf Copies news.now copies.now },
     pub(crate) last: u32,
     pub(crate) grid: Grid,
 }
@@ -158,17 +167,31 @@ fn take(cells: &mut [Shade], grid: Grid, label: Label, news: &News)
     requires { IsNarrow grid }
     ensures { cells.new ≡ taken grid label cells.old news.now }
 {
-    let column = grid.column_of(news.cycle);
     match label {
         Label::Count(kind) => {
             if is_kind(kind, news.kind) {
+                let column = grid.column_of(news.cycle);
                 put_at(cells, column, more(shade_at(cells, column)));
             }
         }
-        Label::Lane(device) => turn(cells, device, column, news.change),
-        Label::Passage(link, way) => cut(cells, link, way, column, news.change),
+        Label::Lane(device) => turn(cells, device, grid.column_of(news.cycle), news.change),
+        Label::Passage(link, way) => cut(cells, link, way, grid.column_of(news.cycle), news.change),
         Label::Flow(vl, device) => see(cells, vl, device, news.change),
         Label::Title(_) | Label::Others(_, _) | Label::Flows(_, _) => (),
+    }
+}
+
+/// The records that may fill the row: the others leave its cells as they are.
+fn part_for<'a>(run: Run<'a>, label: Label) -> &'a [News]
+    ensures { (cells : List ShadeValue) → fold (taken run.entry.grid label) cells result.now
+        ≡ fold (taken run.entry.grid label) cells run.entry.news.now }
+{
+    match label {
+        Label::Count(_) => run.counts,
+        Label::Lane(_) => run.changes,
+        Label::Passage(_, _) => run.changes,
+        Label::Flow(_, _) => run.copies,
+        Label::Title(_) | Label::Others(_, _) | Label::Flows(_, _) => run.news,
     }
 }
 
@@ -185,7 +208,8 @@ fn filled(
     ensures { IfOk result (λ cells. cells.items ≡ filled run.entry.grid run.entry.news.now label start before) }
 {
     let mut cells = even(alloc, start, before)?;
-    'all: for news in run.news {
+    let some = part_for(run, label);
+    'all: for news in some {
         take(&mut cells, run.grid, label, news);
     }
     Ok(cells)

@@ -9,6 +9,7 @@ mod label;
 mod laws;
 mod lines;
 mod news;
+mod parts;
 mod pieces;
 mod rows;
 mod shade;

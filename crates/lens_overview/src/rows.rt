@@ -110,11 +110,18 @@ fn is_turn(device: DeviceId, change: Change) -> bool
     }
 }
 
-/// Is the device in another state at some time of the run?
+/// Does one of the records turn the device?
 fn is_turned(all: &[News], device: DeviceId) -> bool
     ensures { result ≡ is_turned all.now device }
 {
     all.iter().any(|news| is_turn(device, news.change))
+}
+
+/// Is the device in another state at some time of the run? The records that change something tell.
+fn is_turned_in(run: Run<'_>, device: DeviceId) -> bool
+    ensures { result ≡ is_turned run.entry.news.now device }
+{
+    is_turned(run.changes, device)
 }
 
 /// How many devices are in the states of their starts throughout: those that are synchronised, and those that are off.
@@ -165,7 +172,7 @@ fn push_others(
     push_row(rows, Label::Others(synchronised, off), cells)
 }
 
-/// How many of the devices stay as they are.
+/// How many of the devices none of the records turns.
 fn calm_of(network: &Network, all: &[News]) -> Calm
     requires { IsInRange network.now }
     ensures { result ≡ calm_below network.now all.now (length network.now.device) }
@@ -183,6 +190,14 @@ fn calm_of(network: &Network, all: &[News]) -> Calm
     calm
 }
 
+/// How many of the devices stay as they are. The records that change something tell.
+fn calm_in(network: &Network, run: Run<'_>) -> Calm
+    requires { IsInRange network.now }
+    ensures { result ≡ calm_below network.now run.entry.news.now (length network.now.device) }
+{
+    calm_of(network, run.changes)
+}
+
 /// Adds the row of the device at this place, if its state changes.
 fn push_lane(
     rows: &mut Vec<Row>,
@@ -197,7 +212,7 @@ fn push_lane(
 {
     let device = &network.device.as_slice()[place as usize];
     let label = Label::Lane(DeviceId(place));
-    if is_turned(run.news, DeviceId(place)) {
+    if is_turned_in(run, DeviceId(place)) {
         let cells = cells_of(alloc, run, label, start_of(device))?;
         push_row(rows, label, cells)
     } else {
@@ -220,7 +235,7 @@ fn push_lanes(
     'devices: for place in 0..count {
         push_lane(rows, alloc, network, run, place)?;
     }
-    push_others(rows, alloc, run, calm_of(network, run.news))
+    push_others(rows, alloc, run, calm_in(network, run))
 }
 
 /// Adds the rows of the ways that are cut.

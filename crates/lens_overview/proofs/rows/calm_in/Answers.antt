@@ -1,0 +1,9 @@
+use Rattle.lens_overview.{proofs.Skipping.calm_skips, specs.{Rows.calm_below, declared.news.News.News}}
+use Rattle.std.proofs.Common.{◌∙◌, List, ap, length}
+use Rattle.lens_overview.proofs.rows.calm_in.Goals as goal
+
+pub returns : goal.returns
+returns c =
+    let network = c.args.network.now in
+    let count = length network.device in
+    c.calm_of.ensures ∙ ap (λ (all : List News). calm_below network all count) c.args.run.changes_are ∙ calm_skips network c.args.run.news.now count

@@ -1,0 +1,7 @@
+use Rattle.lens_overview.{proofs.Skipping.turned_skips, specs.{Rows.is_turned, declared.news.News.News}}
+use Rattle.std.proofs.Common.{◌∙◌, List, ap}
+use Rattle.lens_overview.proofs.rows.is_turned_in.Goals as goal
+
+pub returns : goal.returns
+returns c =
+    c.is_turned.ensures ∙ ap (λ (all : List News). is_turned all c.args.device) c.args.run.changes_are ∙ turned_skips c.args.device c.args.run.news.now

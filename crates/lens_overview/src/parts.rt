@@ -1,0 +1,69 @@
+//! The records that fill rows of one sort. Most records fill none, and a picture has many rows.
+ghost use Rattle.std.specs.Prelude.{◌≡◌, IfOk, filter};
+ghost use Rattle.lens_overview.specs.Parts.{is_coming, is_of, is_turning};
+
+use crate::news::{Change, News};
+use std::alloc::Global;
+use tte_io::OutOfMemory;
+
+/// A sort of rows.
+#[derive(Clone, Copy)]
+pub(crate) enum Part {
+    /// Those of counts.
+    Counts,
+    /// Those of devices and of ways.
+    Changes,
+    /// Those of frames that come to receivers.
+    Copies,
+}
+
+/// Does the change turn a device, or cut or heal a way?
+fn is_turning(change: Change) -> bool
+    ensures { result ≡ is_turning change }
+{
+    match change {
+        Change::Turns(_, _) | Change::Cuts(_, _) | Change::Heals(_, _) => true,
+        Change::Nothing | Change::Sends(_, _) | Change::Delivers(_) | Change::Repeats(_) => false,
+    }
+}
+
+/// Does a copy of a frame come?
+fn is_coming(change: Change) -> bool
+    ensures { result ≡ is_coming change }
+{
+    match change {
+        Change::Delivers(_) | Change::Repeats(_) => true,
+        Change::Nothing
+        | Change::Turns(_, _)
+        | Change::Cuts(_, _)
+        | Change::Heals(_, _)
+        | Change::Sends(_, _) => false,
+    }
+}
+
+/// May the record fill rows of this sort?
+fn is_of(part: Part, news: &News) -> bool
+    ensures { result ≡ is_of part news.now }
+{
+    match part {
+        Part::Counts => news.kind.is_some(),
+        Part::Changes => is_turning(news.change),
+        Part::Copies => is_coming(news.change),
+    }
+}
+
+/// The records that may fill rows of this sort.
+pub(crate) fn part_of(alloc: Global, all: &[News], part: Part) -> Result<Vec<News>, OutOfMemory>
+    ensures { IfOk result (λ some. some.items ≡ filter (is_of part) all.now) }
+{
+    let mut some = Vec::new(alloc);
+    'all: for news in all {
+        if is_of(part, news) {
+            match some.push(*news) {
+                Ok(()) => (),
+                Err(_) => return Err(OutOfMemory),
+            }
+        }
+    }
+    Ok(some)
+}
