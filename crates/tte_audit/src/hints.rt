@@ -29,7 +29,7 @@ impl Slots {
 ///
 /// A hint may mislead, since two names may share a slot. So it is no answer: who asks compares the name.
 #[derive(Drop)]
-pub(crate) struct NameHints {
+pub struct NameHints {
     devices: Slots,
     links: Slots,
     vls: Slots,
@@ -37,7 +37,7 @@ pub(crate) struct NameHints {
 
 impl NameHints {
     /// Those of the network.
-    pub(crate) fn of(network: &Network) -> NameHints {
+    pub fn of(network: &Network) -> NameHints {
         NameHints {
             devices: device_slots(network),
             links: link_slots(network),

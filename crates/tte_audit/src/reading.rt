@@ -39,31 +39,41 @@ pub(crate) fn plain_line(
     })
 }
 
-// The record of an event whose line the text is.
-fn event_note(network: &Network, text: &[u8]) -> Option<Note>
+// Reads the record of an event whose line the text is, into the place of another.
+#[inline(never)]
+fn read_event(network: &Network, text: &[u8], note: &mut Note) -> Option<()>
     requires { IsNamed network.now }
     ensures { MatchOption result
         ((number : ℕ) (time : UnitsValue) (line : ℕ) (w : WhatValue)
         → IsTextOf network.now (saying number time (bodies.Event line w)) text.now → ⊥)
-        (λ note. IsTextOf network.now note text.now) }
+        (λ _. IsTextOf network.now note.new text.now) }
 {
     let mut read = EventRecord::none();
     event_line(network, text, &mut read)?;
-    Some(read.into_note())
+    *note = read.into_note();
+    Some(())
 }
 
-/// The record whose line, without its LF, the text is. It is None exactly where it is that of no record of the
-/// network.
+/// Reads the record whose line, without its LF, the text is, into the place of another. It is None exactly where the
+/// text is the line of no record of the network. With hints the names are found sooner.
 ///
 /// The network is in its ranges, and no two devices, no two links and no two virtual links have one name.
-pub fn note_line(network: &Network, text: &[u8]) -> Option<Note>
+pub fn read_note(
+    network: &Network,
+    hints: Option<&NameHints>,
+    text: &[u8],
+    note: &mut Note,
+) -> Option<()>
     requires { IsNamed network.now }
     ensures { MatchOption result
-        ((note : NoteValue) → IsTextOf network.now note text.now → ⊥)
-        (λ note. IsTextOf network.now note text.now) }
+        ((other : NoteValue) → IsTextOf network.now other text.now → ⊥)
+        (λ _. IsTextOf network.now note.new text.now) }
 {
-    match plain_line(network, None, text) {
-        Some(read) => Some(read.note()),
-        None => event_note(network, text),
+    match plain_line(network, hints, text) {
+        Some(read) => {
+            read.note_in(note);
+            Some(())
+        }
+        None => read_event(network, text, note),
     }
 }

@@ -9,6 +9,8 @@ ghost use Rattle.{tte_audit.specs.Named.IsNamed, tte_units.specs.declared.units.
 use crate::AuditedReport;
 use net_plan::Network;
 use run_law::Note;
+use run_law::plain::no_record;
+use tte_audit::NameHints;
 use tte_io::OutOfMemory;
 
 /// What takes the records of a report one by one.
@@ -44,10 +46,12 @@ pub fn take_records<T: RecordTaker>(
         → IsReportOf network.now report.now.octets notes end
         → OnOk result (T.holds network.now notes notes taker.old taker.new) }
 {
+    let hints = NameHints::of(network);
+    let mut note = no_record();
     let mut records = report.records();
     'records: loop {
-        match records.next(network) {
-            Some(note) => taker.take(network, &note)?,
+        match records.next_in(network, Some(&hints), &mut note) {
+            Some(()) => taker.take(network, &note)?,
             None => return Ok(()),
         }
     }

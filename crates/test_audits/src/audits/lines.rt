@@ -9,6 +9,7 @@ use crate::bodies::{
 use net_plan::{DeviceId, LinkId, Octets, VlId, Way, What};
 use report_text::{write, write_in};
 use run_law::Why::{AsyncClique, Correction, Frame, On, SyncClique};
+use run_law::plain::no_record;
 use run_law::{Judgement, Note, NoteBody, Reason, Why};
 use schedule_tables::Accepted;
 use std::alloc::{AllocError, Global};
@@ -16,7 +17,7 @@ use std::process::Abort;
 use std::test::Fail;
 use sync_state::State;
 use sync_state::State::{Integrating, Joining, Off, Synchronised};
-use tte_audit::{named_network, note_line};
+use tte_audit::{named_network, read_note};
 use tte_io::{LineText, MemorySink, SinkFailed};
 use tte_units::{Ppb, Units};
 use worked_network::{accepted_of, silent};
@@ -105,10 +106,17 @@ fn is_line_of(
     Ok(note.body == *body && begins(alloc, text, note)? && is_written(alloc, network, text, note)?)
 }
 
+// The record whose line the text is.
+fn note_of(network: &Accepted, text: &[u8]) -> Option<Note> {
+    let mut note = no_record();
+    read_note(named_network(network), None, text, &mut note)?;
+    Some(note)
+}
+
 // Is the text the line of a record of this body, whose number and time stand before it? It is read so, and what is read
 // is written so, in one put.
 fn is_line(alloc: Global, network: &Accepted, text: &str, body: &NoteBody) -> Result<bool, Fail> {
-    match note_line(named_network(network), text.as_bytes()) {
+    match note_of(network, text.as_bytes()) {
         Some(read) => is_line_of(alloc, network, text, &read, body),
         None => Ok(false),
     }
@@ -538,7 +546,7 @@ fn a_failed_put_is_told(rt: HostRuntime) -> Result<(), Fail> {
     let alloc = rt.alloc();
     let network = with_second(alloc)?;
     let line = b"1 0 lost m1 m1_b 18446744073709551615\n".as_slice();
-    let lost = note_line(named_network(&network), &line[..37]).ok_or("no record")?;
+    let lost = note_of(&network, &line[..37]).ok_or("no record")?;
     let mut sink = MemorySink::new(alloc, 4096, &[2])?;
     let mut text = LineText::new();
     let put = [

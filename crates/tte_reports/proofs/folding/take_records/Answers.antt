@@ -7,8 +7,8 @@ records-init g c notes end r =
     taken_none g.T.RecordTaker.holds c.args.network.now notes c.args.taker.now c.records-records.result (c.requires.none notes end r)
     (c.records-records.ensures c.args.network.now notes end r)
 
-pub next-requires-clause-left : goal.next-requires-clause-left
-next-requires-clause-left g c =
+pub next_in-requires-clause-left : goal.next_in-requires-clause-left
+next_in-requires-clause-left g c =
     let some = c.requires.report in
     let so = c.records.invariant some.0 some.1 some.2 in
     (so.rest, so.left)
@@ -26,7 +26,7 @@ records-smaller g c =
     let some = c.requires.report in
     let so = c.records.invariant some.0 some.1 some.2 in
     let next = c.in-Some.ensures so.rest so.left in
-    fewer_left c.args.network.now c.in-Some.note so.rest next.0 c.records.records c.next.new.self next.1 so.left next.2
+    fewer_left c.args.network.now c.next_in.new.note so.rest next.0 c.records.records c.next_in.new.self next.1 so.left next.2
 
 pub records-preserved : goal.records-preserved
 records-preserved g c notes end r =
@@ -35,8 +35,8 @@ records-preserved g c notes end r =
     let parts = so.parts ∙ ap (λ (ns : List Note). so.before ++ ns) next.1 in
     let holds = c.in_ok-take-in-Some.ensures c.args.report.now.octets notes so.before c.args.taker.now
     (record { end = end; report = r; rest = next.0; parts = parts }) so.taken in
-    taken_more g.T.RecordTaker.holds c.args.network.now notes c.args.taker.now c.records.taker c.records.records so c.in-Some.note next.0
-    c.take.new.self c.next.new.self next.1 holds next.2
+    taken_more g.T.RecordTaker.holds c.args.network.now notes c.args.taker.now c.records.taker c.records.records so c.next_in.new.note next.0
+    c.take.new.self c.next_in.new.self next.1 holds next.2
 
 pub returns-in-None : goal.returns-in-None
 returns-in-None g c notes end r =

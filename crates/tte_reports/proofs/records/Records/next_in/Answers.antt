@@ -1,24 +1,24 @@
 use Rattle.{std.proofs.Common.{◌+◌, ◌∙◌, ◌≡◌, None, Some, subst, sym}, tte_reports.proofs.RecordLines.{first_then, no_text_left, none_left}}
 use Rattle.{std.{proofs.lemmas.List.take_rest, specs.Prelude.{drop, position}}, tte_audit.{proofs.Parts.record_at, specs.Report.is_line_end}}
 use Rattle.tte_reports.specs.Reports.{AreLines}
-use Rattle.tte_reports.proofs.records.Records.next.Goals as goal
+use Rattle.tte_reports.proofs.records.Records.next_in.Goals as goal
 
-pub returns-in-Some-note_line : goal.returns-in-Some-note_line
-returns-in-Some-note_line c notes h =
+pub returns-in-Some-read_note : goal.returns-in-Some-read_note
+returns-in-Some-read_note c notes h =
     let network = c.args.network.now in
     let octets = c.args.self.now.rest.now in
     let place = c.in-Some.place in
     let at : position is_line_end octets ≡ Some place = sym c.first_lf.ensures.place ∙ c.in-Some.is in
-    let here = record_at network octets place c.in-Some-note_line.note at c.in-Some-note_line.ensures in
-    let next = first_then network c.in-Some-note_line.note octets (drop (place + 1) octets) notes c.requires.named here h in
+    let here = record_at network octets place c.read_note.new.note at c.in-Some-read_note.ensures in
+    let next = first_then network c.read_note.new.note octets (drop (place + 1) octets) notes c.requires.named here h in
     let left = take_rest octets (place + 1) in
     (next.rest, next.is, subst (λ xs. AreLines network xs next.rest) (sym left) next.lines)
 
-pub returns-in-None-note_line : goal.returns-in-None-note_line
-returns-in-None-note_line c notes h =
+pub returns-in-None-read_note : goal.returns-in-None-read_note
+returns-in-None-read_note c notes h =
     let octets = c.args.self.now.rest.now in
     let at : position is_line_end octets ≡ Some c.in-Some.place = sym c.first_lf.ensures.place ∙ c.in-Some.is in
-    no_text_left c.args.network.now octets notes c.in-Some.place c.requires.named at c.in-None-note_line.ensures h
+    no_text_left c.args.network.now octets notes c.in-Some.place c.requires.named at c.in-None-read_note.ensures h
 
 pub returns-in-None : goal.returns-in-None
 returns-in-None c notes h =
