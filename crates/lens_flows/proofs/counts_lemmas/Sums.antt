@@ -112,13 +112,11 @@ others_delivered s hs ds d flow old are out =
     never : (b : Bool) → b ≡ true → b ≡ false → ⊥
     never b is out = false≢true (sym out ∙ is)
 
--- the next of the deliveries, counted or not
+-- the next of the deliveries, which is counted
 pub next_delivered : (course : Course) (befallen : List Event) (hs : List Happening) (ds : List Delivery) (d : Delivery) (flow : Flow)
-    (old new : Deliveries) → IsCourse befallen hs course → AreDeliveries (scenario_of course befallen) hs ds flow old → IsOneMore course flow d old new
+    (old new : Deliveries) → IsCourse befallen hs course → AreDeliveries (scenario_of course befallen) hs ds flow old
+    → is_of flow d ≡ true → IsOneMore course flow d old new
     → AreDeliveries (scenario_of course befallen) hs (ds ++ d ∷ []) flow new
-next_delivered course befallen hs ds d flow old new known are (inl out) =
-    subst (AreDeliveries (scenario_of course befallen) hs (ds ++ d ∷ []) flow) (sym out.1)
-    (others_delivered (scenario_of course befallen) hs ds d flow old are out.0)
-next_delivered course befallen hs ds d flow old new known are (inr is) =
-    subst (AreDeliveries (scenario_of course befallen) hs (ds ++ d ∷ []) flow) (sym is.1.2)
-    (more_delivered (scenario_of course befallen) hs ds d flow old is.1.0 are is.0 (is.1.1 befallen hs known))
+next_delivered course befallen hs ds d flow old new known are of is =
+    subst (AreDeliveries (scenario_of course befallen) hs (ds ++ d ∷ []) flow) (sym is.2)
+    (more_delivered (scenario_of course befallen) hs ds d flow old is.0 are of (is.1 befallen hs known))

@@ -1,5 +1,5 @@
 -- The deliveries of a flow.
-use Rattle.std.specs.Prelude.{if◌then◌else◌, ◌≡◌, ◌⊎◌, ◌<◌, ℕ, ◌+◌, Bool, true, false, ◌&&◌, ◌==◌, List, filter}
+use Rattle.std.specs.Prelude.{if◌then◌else◌, ◌≡◌, ◌<◌, ℕ, ◌+◌, Bool, true, false, ◌&&◌, ◌==◌, List, filter}
 use Rattle.std.specs.Prelude.{filter_map, length, Option, Some, None}
 use Rattle.lens_flows.specs.counts.Nearest.{IsInsideSome, TellsLeast, nearer, place_at}
 use Rattle.lens_flows.specs.declared.counts.deliveries.{Deliveries.Deliveries, Delivery.Delivery}
@@ -77,12 +77,11 @@ IsFoundAt course flow d found =
     → TellsLeast
     (IsInsideSome course.network.now flow d.link (place_at (scenario_of course befallen) hs flow.device d.time)) found
 
--- the delivery was counted if it is of the flow
+-- one delivery more was counted
 abbrev pub IsOneMore : Course → Flow → Delivery → Deliveries → Deliveries → Type 0
 IsOneMore course flow d old new =
-    ((is_of flow d ≡ false) × (new ≡ old))
-    ⊎ ((is_of flow d ≡ true) × ((found : Option Nearest) × IsFoundAt course flow d found
-    × (new ≡ delivered_more old (is_on course.network.now A d) (is_on course.network.now B d) found)))
+    (found : Option Nearest) × IsFoundAt course flow d found
+    × (new ≡ delivered_more old (is_on course.network.now A d) (is_on course.network.now B d) found)
 
 -- this is counted of the deliveries of the flow
 pub record AreDeliveries (s : Scenario) (hs : List Happening) (ds : List Delivery) (flow : Flow) (counted : Deliveries)

@@ -86,12 +86,14 @@ pub(crate) fn count_deliveries(
         nearest: None,
     };
     'deliveries: for delivery in deliveries {
-        counted = one_more(counted, course, flow, delivery);
+        if is_of(flow, delivery) {
+            counted = one_more(counted, course, flow, delivery);
+        }
     }
     counted
 }
 
-/// The same with the delivery, if it is of the flow.
+/// The same with one delivery more.
 fn one_more(
     counted: Deliveries,
     course: &Course<'_>,
@@ -105,9 +107,6 @@ fn one_more(
     requires timely { delivery.now.time ≤ 2 ^ 60 }
     ensures { IsOneMore course.now flow.now delivery.now counted result }
 {
-    if !is_of(flow, delivery) {
-        return counted;
-    }
     let place = place_at(course, flow.device, delivery.time);
     let found = nearest_by(course.network, flow, delivery.link, place);
     Deliveries {

@@ -1,6 +1,7 @@
 use Rattle.std.proofs.{Common.{◌<◌, ◌^◌, ◌∙◌, ◌≡◌, List, ap, arith, length, rules, subst, sym, take, ℕ}, Math.Seq.take-length, lemmas.List.take_more}
-use Rattle.lens_flows.proofs.counts_lemmas.Sums.{few_counted, next_delivered, none_delivered, taken_short}
+use Rattle.lens_flows.proofs.counts_lemmas.Sums.{few_counted, next_delivered, none_delivered, others_delivered, taken_short}
 use Rattle.lens_flows.specs.{counts.Deliveries.AreDeliveries, declared.counts.deliveries.Delivery.Delivery, judge.Courses.scenario_of}
+use Rattle.lens_flows.proofs.counts.deliveries.count_deliveries.Goals.{else-is_of, then-is_of}
 use Rattle.lens_flows.proofs.counts.deliveries.count_deliveries.Goals as goal
 
 pub one_more-counted-requires-clause-few : goal.one_more-counted-requires-clause-few
@@ -23,10 +24,21 @@ pub deliveries-preserved : goal.deliveries-preserved
 deliveries-preserved c befallen hs known =
     let s = scenario_of c.args.course.now befallen in
     let ds = c.args.deliveries.now in
+    let flow = c.args.flow.now in
     let n = c.deliveries.delivery-index in
-    subst (λ (xs : List Delivery). AreDeliveries s hs xs c.args.flow.now c.one_more-counted.result) (sym (take_more ds n _ c.deliveries-test.true))
-    (next_delivered c.args.course.now befallen hs (take n ds) _ c.args.flow.now c.deliveries.counted c.one_more-counted.result known
-    (c.deliveries.invariant befallen hs known) c.one_more-counted.ensures)
+    let old = c.deliveries.counted in
+    let so = c.deliveries.invariant befallen hs known in
+    elim c.if-is_of.branch [
+      | then-is_of w ↦
+          let new = w.one_more-counted.result in
+          let of = sym c.is_of.ensures ∙ w.if-is_of.true in
+          rw w.counted-is (subst (λ (xs : List Delivery). AreDeliveries s hs xs flow new) (sym (take_more ds n _ c.deliveries-test.true))
+          (next_delivered c.args.course.now befallen hs (take n ds) _ flow old new known so of w.one_more-counted.ensures))
+      | else-is_of w ↦
+          let other = sym c.is_of.ensures ∙ w.if-is_of.false in
+          rw w.counted-is (subst (λ (xs : List Delivery). AreDeliveries s hs xs flow old) (sym (take_more ds n _ c.deliveries-test.true))
+          (others_delivered s hs (take n ds) _ flow old so other))
+    ]
 
 pub returns : goal.returns
 returns c befallen hs known =

@@ -1,25 +1,19 @@
-use Rattle.std.proofs.Common.{ℤ, inl, inr, refl, sym, subst, ◌∙◌, rules}
+use Rattle.std.proofs.Common.{ℤ, rules, subst}
 use Rattle.lens_flows.{proofs.judge_lemmas.Rows.receiver_there, specs.counts.Nearest.{IsInsideSome, TellsLeast}}
 use Rattle.lens_flows.proofs.counts.deliveries.one_more.Goals as goal
 
 pub place_at-place-requires-clause-device : goal.place_at-place-requires-clause-device
 place_at-place-requires-clause-device c = receiver_there c.args.course.now.network.now c.args.flow.now c.requires.flow
 
-pub returns-then-not-is_of : goal.returns-then-not-is_of
-returns-then-not-is_of c = inl (sym c.is_of.ensures ∙ c.if-not-is_of.true, refl)
-
 pub returns : goal.returns
 returns c =
     let network = c.args.course.now.network.now in
     let d = c.args.delivery.now in
     let flow = c.args.flow.now in
-    let found = c.nearest_by-found.result in inr (
-      sym c.is_of.ensures ∙ c.if-not-is_of.false,
-      (
-        found,
-        λ befallen hs known.
-            subst (λ (z : ℤ). TellsLeast (IsInsideSome network flow d.link z) found) (c.place_at-place.ensures.place befallen hs known)
-            c.nearest_by-found.ensures,
-        search rules,
-      ),
+    let found = c.nearest_by-found.result in (
+      found,
+      λ befallen hs known.
+          subst (λ (z : ℤ). TellsLeast (IsInsideSome network flow d.link z) found) (c.place_at-place.ensures.place befallen hs known)
+          c.nearest_by-found.ensures,
+      search rules,
     )
