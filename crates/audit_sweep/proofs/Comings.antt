@@ -9,31 +9,31 @@ pub coming : (s : Scenario) (hs : List Happening) (passage : Passage) (h : Happe
     → IsArriving s h passage.device passage.link passage.time result → IsComing s hs passage result
 coming s hs passage h None there none =
     λ is x. none x.signal
-    (subst (λ (g : Happening). Arrives s g passage.device passage.link passage.time x.signal)
+    (subst (λ g. Arrives s g passage.device passage.link passage.time x.signal)
     (one (numbered hs passage.cause) x.putting h x.there there) x.arrives)
 coming s hs passage h (Some what) there some = record { putting = h; there = there; signal = some.0; arrives = some.1; is = some.2 }
 
--- what is taken with a clock has a record of its arrival
-pub taken : (s : Scenario) (hs : List Happening) (device : DeviceId) (t : ℕ) (link : LinkId) (cause clock : ℕ) (is : Arrival)
-    → ArrivesAs s hs device t link cause is → TakesWith clock is → IsArrivedRecord s hs device t link cause clock
-taken s hs device t link cause clock (arrivals.Waits frame point) x shows =
-    record { frame = frame; point = point; way = Up; taken = inl x; shows = shows }
-taken s hs device t link cause clock (arrivals.Passes frame way) x shows =
-    record { frame = frame; point = record { 0 = pos 0 }; way = way; taken = inr (inl x); shows = shows }
-taken s hs device t link cause clock (arrivals.PassesAndWaits frame way point) x shows =
-    record { frame = frame; point = point; way = way; taken = inr (inr x); shows = shows }
-taken s hs device t link cause clock other x shows = absurd shows
+module _ (s : Scenario) (hs : List Happening) (device : DeviceId) (t : ℕ) (link : LinkId) (cause clock : ℕ) where
+  -- what is taken with a clock has a record of its arrival
+  pub taken : (is : Arrival) → ArrivesAs s hs device t link cause is → TakesWith clock is
+      → IsArrivedRecord s hs device t link cause clock
+  taken (arrivals.Waits frame point) x shows =
+      record { frame = frame; point = point; way = Up; taken = inl x; shows = shows }
+  taken (arrivals.Passes frame way) x shows =
+      record { frame = frame; point = record { 0 = pos 0 }; way = way; taken = inr (inl x); shows = shows }
+  taken (arrivals.PassesAndWaits frame way point) x shows =
+      record { frame = frame; point = point; way = way; taken = inr (inr x); shows = shows }
+  taken other x shows = absurd shows
 
--- and what has one was taken so
-pub takes : (s : Scenario) (hs : List Happening) (device : DeviceId) (t : ℕ) (link : LinkId) (cause clock : ℕ) (is : Arrival)
-    → ArrivesAs s hs device t link cause is → IsArrivedRecord s hs device t link cause clock → TakesWith clock is
-takes s hs device t link cause clock is x y = grind (arith, same_arrival)
+  -- and what has one was taken so
+  pub takes : {is : Arrival} → ArrivesAs s hs device t link cause is → IsArrivedRecord s hs device t link cause clock
+      → TakesWith clock is
+  takes x y = grind (arith, same_arrival)
 
--- something becomes of what has a record of its arrival
-pub comes : (s : Scenario) (hs : List Happening) (device : DeviceId) (t : ℕ) (link : LinkId) (cause clock : ℕ)
-    → IsArrivedRecord s hs device t link cause clock → (is : Arrival) × ArrivesAs s hs device t link cause is
-comes s hs device t link cause clock y =
-    elim y.taken [
-      | inl w ↦ (arrivals.Waits y.frame y.point, w)
-      | inr r ↦ elim r [ inl p ↦ (arrivals.Passes y.frame y.way, p) | inr b ↦ (arrivals.PassesAndWaits y.frame y.way y.point, b) ]
-    ]
+  -- something becomes of what has a record of its arrival
+  pub comes : IsArrivedRecord s hs device t link cause clock → (is : Arrival) × ArrivesAs s hs device t link cause is
+  comes y =
+      elim y.taken [
+        | inl w ↦ (arrivals.Waits y.frame y.point, w)
+        | inr r ↦ elim r [ inl p ↦ (arrivals.Passes y.frame y.way, p) | inr b ↦ (arrivals.PassesAndWaits y.frame y.way y.point, b) ]
+      ]

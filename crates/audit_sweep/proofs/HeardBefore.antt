@@ -14,15 +14,17 @@ pub rank_below : (u r t q : ℕ) (ks : List ℕ) → u ≡ t → IsBefore (u ∷
 rank_below u r t q ks e (inl lt) = absurd (omega (arith, lt, e))
 rank_below u r t q ks e (inr b) = earlier_time r q ks b.1
 
-pub none_later : (t : ℕ) (judged : List Happening) → IsHeardBefore t judged → NoneLater t judged
-none_later t judged b h i = time_before (time_of h) (rank h.note.body) t b.rank (key (members_in h) h.note.body) b.rest (b.before h i)
+pub none_later : {t : ℕ} {judged : List Happening} → IsHeardBefore t judged → NoneLater t judged
+none_later {t} b h i =
+    time_before (time_of h) (rank h.note.body) t b.rank (key (members_in h) h.note.body) b.rest (b.before h i)
 
 pub joins_only : (device : DeviceId) (body : NoteBody) → rank body < 6 → is_joined_by device body ≡ changes_adjustment device body
 joins_only device (notes.Corrected other cycle by adjustment) low = absurd (omega (arith, low))
 joins_only device body low = refl
 
-pub only_joined : (t : ℕ) (judged : List Happening) (device : DeviceId) → IsHeardBefore t judged → OnlyJoined judged device t
-only_joined t judged device b h i at = grind (arith, rank_before, time_of, rank, key, members_in, joins_only)
+pub only_joined : {t : ℕ} {judged : List Happening} (device : DeviceId) → IsHeardBefore t judged
+    → OnlyJoined judged device t
+only_joined device b h i at = grind (arith, rank_before, time_of, rank, key, members_in, joins_only)
 
 pub heard_before : (t r : ℕ) (rest : List ℕ) (hs : List Happening) → r < 6 → IsHeardBefore t (filter (λ h. is_before (place_of h) (t ∷ r ∷ rest)) hs)
 heard_before t r rest hs low = record {

@@ -41,10 +41,10 @@ heard_before_corrections s hs device t founded none =
     (λ h i. ap (λ (b : Bool). b && changes_adjustment device h.note.body) (le-ltb (time_of h) t (not_earlier h i))) in
     let quiet = makes_none f (filter (kept es) late)
     (λ h i. high_quiet s.network device h h.note.body (not_lower h (in_filter (kept es) late h i))) in
-    ap (λ (gs : List Happening). heard_since_point s gs device t) (before_is_front hs (t ∷ 6 ∷ []) at)
+    ap (λ gs. heard_since_point s gs device t) (before_is_front hs (t ∷ 6 ∷ []) at)
     ∙ sym (ap (λ (gs : List Happening). filter_map f (filter (kept gs) (after_last set hs))) (sym (same_earlier t (6 ∷ []) hs at))
     ∙ ap (λ (gs : List Happening). filter_map f (filter (kept es) (after_last set gs))) at.whole
-    ∙ ap (λ (gs : List Happening). filter_map f (filter (kept es) gs)) since
+    ∙ ap (λ gs. filter_map f (filter (kept es) gs)) since
     ∙ ap (filter_map f) (filter-append (kept es) (after_last set front) late)
     ∙ filter_map-append f (filter (kept es) (after_last set front)) (filter (kept es) late)
     ∙ ap (λ (ts : List Hearing). filter_map f (filter (kept es) (after_last set front)) ++ ts) quiet
@@ -67,5 +67,5 @@ unchanged_before s hs device t cycle founded none next =
           let joined = joins_only device h.note.body low ∙ e in
           let state = joins_integrating s hs device h founded (in_filter test hs h i) joined in
           no_point (state_before s hs device t) (standing_at s hs device t).number cycle
-          (subst (λ (n : ℕ). state_before s hs device n ≡ Integrating) at state) next);
+          (subst (λ n. state_before s hs device n ≡ Integrating) at state) next);
     }

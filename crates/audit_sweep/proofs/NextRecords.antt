@@ -28,8 +28,9 @@ pub show_next : (network : Network) (hs : List Happening) (note : Note) → AllS
 show_next network hs note all number g e = grind (arith, numbered_next, happening)
 
 -- a record that is due shows no transparent clock above the greatest delay
-pub young_next : (s : Scenario) (hs : List Happening) (h : Happening) → IsDue s hs h → AllYoung s.network hs → AllYoung s.network (hs ++ h ∷ [])
-young_next s hs h due all number g device link cause clock e is =
+pub young_next : {s : Scenario} {hs : List Happening} {h : Happening} → IsDue s hs h → AllYoung s.network hs
+    → AllYoung s.network (hs ++ h ∷ [])
+young_next {s} {hs} {h} due all number g device link cause clock e is =
     elim (numbered_next hs h g number e) [
       | inl old ↦ all number g device link cause clock old is
       | inr new ↦

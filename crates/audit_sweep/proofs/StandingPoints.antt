@@ -7,5 +7,5 @@ stood takes state reading adjustment = record { takes_part = takes; state = stat
 pub same_standpoint : (takes part : Bool) (state other : State) (reading read : ℕ) (adjustment adjusted : ℤ) → takes ≡ part → state ≡ other → reading ≡ read
     → adjustment ≡ adjusted → stood takes state reading adjustment ≡ stood part other read adjusted
 same_standpoint takes part state other reading read adjustment adjusted a b c d =
-    ap (λ (x : Bool). stood x state reading adjustment) a ∙ ap (λ (x : State). stood part x reading adjustment) b
-    ∙ ap (λ (x : ℕ). stood part other x adjustment) c ∙ ap (λ (x : ℤ). stood part other read x) d
+    ap (λ x. stood x state reading adjustment) a ∙ ap (λ x. stood part x reading adjustment) b
+    ∙ ap (λ x. stood part other x adjustment) c ∙ ap (λ x. stood part other read x) d

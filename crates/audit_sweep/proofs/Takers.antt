@@ -15,55 +15,60 @@ IsRight network device (arrivals.Accepted vl cycle) = is_end network device ≡ 
 IsRight network device (arrivals.Delivered vl cycle) = is_end network device ≡ true
 IsRight network device other = Unit {0}
 
-taken_right : (network : Network) (device : DeviceId) (vl : VlId) (cycle : ℕ) (end : Bool) → is_end network device ≡ end
-    → IsRight network device (if end then arrivals.Delivered vl cycle else arrivals.Accepted vl cycle)
-taken_right network device vl cycle true is = is
-taken_right network device vl cycle false is = is
+module _ (network : Network) (device : DeviceId) where
+  taken_right : (vl : VlId) (cycle : ℕ) (end : Bool) → is_end network device ≡ end
+      → IsRight network device (if end then arrivals.Delivered vl cycle else arrivals.Accepted vl cycle)
+  taken_right vl cycle true is = is
+  taken_right vl cycle false is = is
 
-row_right : (network : Network) (device : DeviceId) (at : Standpoint) (entry : Entry) (fault : Option Reason)
-    → IsRight network device (taken_or_fault network device at entry fault)
-row_right network device at entry (Some reason) = tt
-row_right network device at entry None = taken_right network device entry.row.vl (cycle_at network (clock_of at)) (is_end network device) refl
+  row_right : (at : Standpoint) (entry : Entry) (fault : Option Reason)
+      → IsRight network device (taken_or_fault network device at entry fault)
+  row_right at entry (Some reason) = tt
+  row_right at entry None = taken_right entry.row.vl (cycle_at network (clock_of at)) (is_end network device) refl
 
-entry_right : (network : Network) (device : DeviceId) (at : Standpoint) (size : ℕ) (last : VlId → Option ℕ) (entry : Option Entry)
-    → IsRight network device (entry_arrival network device at size last entry)
-entry_right network device at size last None = tt
-entry_right network device at size last (Some entry) = row_right network device at entry (row_fault network at entry size (last entry.row.vl))
+  entry_right : (at : Standpoint) (size : ℕ) (last : VlId → Option ℕ) (entry : Option Entry)
+      → IsRight network device (entry_arrival network device at size last entry)
+  entry_right at size last None = tt
+  entry_right at size last (Some entry) = row_right at entry (row_fault network at entry size (last entry.row.vl))
 
-octets_right : (network : Network) (device : DeviceId) (link : LinkId) (at : Standpoint) (octets : List ℕ) (last : VlId → Option ℕ) (fault : Option Reason)
-    → IsRight network device (octets_or_fault network device link at octets last fault)
-octets_right network device link at octets last (Some reason) = tt
-octets_right network device link at octets last None = entry_right network device at (length octets) last _
+  octets_right : (link : LinkId) (at : Standpoint) (octets : List ℕ) (last : VlId → Option ℕ) (fault : Option Reason)
+      → IsRight network device (octets_or_fault network device link at octets last fault)
+  octets_right link at octets last (Some reason) = tt
+  octets_right link at octets last None = entry_right at (length octets) last _
 
-passed_right : (network : Network) (device : DeviceId) (relay parent : Bool) (frame : Pcf) (point : Units) → IsRight network device
-    (if relay then (if parent then arrivals.Passes frame Up else arrivals.PassesAndWaits frame Down point) else arrivals.Waits frame point)
-passed_right network device true true frame point = tt
-passed_right network device true false frame point = tt
-passed_right network device false parent frame point = tt
+  passed_right : (relay parent : Bool) (frame : Pcf) (point : Units) → IsRight network device
+      (if relay then (if parent then arrivals.Passes frame Up else arrivals.PassesAndWaits frame Down point) else
+      arrivals.Waits frame point)
+  passed_right true true frame point = tt
+  passed_right true false frame point = tt
+  passed_right false parent frame point = tt
 
-frame_right : (network : Network) (device : DeviceId) (link : LinkId) (at : Standpoint) (frame : Pcf) (fault : Option Reason)
-    → IsRight network device (frame_or_fault network device link at frame fault)
-frame_right network device link at frame (Some reason) = tt
-frame_right network device link at frame None = passed_right network device (is_relay network device) (is_parent_of network device link) _ _
+  frame_right : (link : LinkId) (at : Standpoint) (frame : Pcf) (fault : Option Reason)
+      → IsRight network device (frame_or_fault network device link at frame fault)
+  frame_right link at frame (Some reason) = tt
+  frame_right link at frame None = passed_right (is_relay network device) (is_parent_of network device link) _ _
 
-arrival_right : (s : Scenario) (hs : List Happening) (device : DeviceId) (t : ℕ) (link : LinkId) (cause : ℕ) (signal : Signal)
-    → IsRight s.network device (arrival_of s hs device t link cause signal)
-arrival_right s hs device t link cause (control (Err refusal)) = tt
-arrival_right s hs device t link cause (control (Ok frame)) =
-    frame_right s.network device link (standpoint s hs device t) frame (frame_fault s.network device link (standpoint s hs device t) frame)
-arrival_right s hs device t link cause (timed octets) =
-    octets_right s.network device link (standpoint s hs device t) octets (last_taken hs device t link cause)
-    (octets_fault s.network (standpoint s hs device t) octets)
+module _ (s : Scenario) (hs : List Happening) (device : DeviceId) (t : ℕ) (link : LinkId) (cause : ℕ) where
+  arrival_right : (signal : Signal) → IsRight s.network device (arrival_of s hs device t link cause signal)
+  arrival_right (control (Err refusal)) = tt
+  arrival_right (control (Ok frame)) =
+      frame_right s.network device link (standpoint s hs device t) frame
+      (frame_fault s.network device link (standpoint s hs device t) frame)
+  arrival_right (timed octets) =
+      octets_right s.network device link (standpoint s hs device t) octets (last_taken hs device t link cause)
+      (octets_fault s.network (standpoint s hs device t) octets)
 
-outcome_right : (s : Scenario) (hs : List Happening) (device : DeviceId) (t : ℕ) (link : LinkId) (cause : ℕ) (is : Arrival)
-    → ArrivesAs s hs device t link cause is → IsRight s.network device is
-outcome_right s hs device t link cause is a = subst (IsRight s.network device) (sym a.becomes) (arrival_right s hs device t link cause a.signal)
+  outcome_right : {is : Arrival} → ArrivesAs s hs device t link cause is → IsRight s.network device is
+  outcome_right a = subst (IsRight s.network device) (sym a.becomes) (arrival_right a.signal)
 
 caused_right : (s : Scenario) (hs : List Happening) (time : Units) (body : NoteBody) → IsCaused s hs time body → TakesRightly s.network body
-caused_right s hs time (notes.Accepted device link cause vl cycle) a = outcome_right s hs device (amount time) link cause (arrivals.Accepted vl cycle) a
-caused_right s hs time (notes.Delivered device link cause vl cycle) a = outcome_right s hs device (amount time) link cause (arrivals.Delivered vl cycle) a
+caused_right s hs time (notes.Accepted device link cause vl cycle) a =
+    outcome_right s hs device (amount time) link cause a
+caused_right s hs time (notes.Delivered device link cause vl cycle) a =
+    outcome_right s hs device (amount time) link cause a
 caused_right s hs time body a = tt
 
 -- by a record that is due a switch accepts a frame, or an end system has it delivered
-pub takes_rightly : (s : Scenario) (hs : List Happening) (h : Happening) → IsDue s hs h → TakesRightly s.network h.note.body
-takes_rightly s hs h due = caused_right s hs h.note.time h.note.body due.cause
+pub takes_rightly : {s : Scenario} {hs : List Happening} {h : Happening} → IsDue s hs h
+    → TakesRightly s.network h.note.body
+takes_rightly {s} {hs} {h} due = caused_right s hs h.note.time h.note.body due.cause

@@ -98,7 +98,7 @@ all_sound {N} place IsDue mark ns right none = go [] ns refl (sound_none place I
           parts = parts;
           number = refl;
           sound_before = sound;
-          unsound = λ is. go (before ++ x ∷ []) behind (moved ns before behind x parts) (sound_more place IsDue mark before x sound is);
+          unsound = λ is. go (before ++ x ∷ []) behind (moved ns before behind x parts) (sound_more IsDue sound is);
         })
 
 module _ (network : Network) (ns : List Note) (end : Units) (none : (t : Units) → IsFirstLackOf network ns end t → ⊥) where

@@ -35,7 +35,7 @@ tail_ascends x xs asc = λ i j d lt within. asc (suc i) (suc j) d (omega (arith,
 head_before : (x : List ℕ) (xs : List (List ℕ)) → AreAscending (x ∷ xs) → (y : List ℕ) → IsIn y xs → IsBefore x y
 head_before x xs asc y i =
     let r = index_of y xs i in
-    subst (λ (q : List ℕ). IsBefore x q) (r.2 x) (asc zero (suc r.0) x (omega arith) (omega (arith, r.1)))
+    subst (λ q. IsBefore x q) (r.2 x) (asc zero (suc r.0) x (omega arith) (omega (arith, r.1)))
 
 either : (q p : List ℕ) (ys : List (List ℕ)) → IsIn q (ys ++ p ∷ []) → IsIn q ys ⊎ (q ≡ p)
 either q p [] (inl e) = inr e
@@ -61,7 +61,7 @@ ascends_on (x ∷ xs) p asc all =
     (λ q i.
     elim (either q p xs i) [
       | inl there ↦ head_before x xs asc q there
-      | inr e ↦ subst (λ (r : List ℕ). IsBefore x r) (sym e) (all x (inl refl))
+      | inr e ↦ subst (λ r. IsBefore x r) (sym e) (all x (inl refl))
     ])
     (ascends_on xs p (tail_ascends x xs asc) (λ q i. all q (inr i)))
 
@@ -71,12 +71,12 @@ last_from : (x : List ℕ) (xs : List (List ℕ)) (last p : List ℕ) → AreAsc
     → (q : List ℕ) → IsIn q (x ∷ xs) → IsBefore q p
 last_from x [] last p asc e b q (inl s) =
     let one : last ≡ x = cc in
-    subst (λ (r : List ℕ). IsBefore r p) (one ∙ sym s) b
+    subst (λ r. IsBefore r p) (one ∙ sym s) b
 last_from x [] last p asc e b q (inr i) = absurd i
 last_from x (y ∷ ys) last p asc e b q (inl s) =
     let first = head_before x (y ∷ ys) asc y (inl refl) in
     let then = last_from y ys last p (tail_ascends x (y ∷ ys) asc) e b y (inl refl) in
-    subst (λ (r : List ℕ). IsBefore r p) (sym s) (chain x y p first then)
+    subst (λ r. IsBefore r p) (sym s) (chain x y p first then)
 last_from x (y ∷ ys) last p asc e b q (inr i) = last_from y ys last p (tail_ascends x (y ∷ ys) asc) e b q i
 
 -- all are before what the last is before
@@ -124,7 +124,7 @@ found_from (x ∷ xs) zero p le asc here there (inr i) =
     absurd cc
 found_from (x ∷ xs) (suc k) p le asc here there (inl e) =
     let yes : is_before x p ≡ true = here zero x (omega arith) (omega arith) in
-    absurd (never_self p (subst (λ (q : List ℕ). IsBefore q p) (sym e) (is_there x p yes)))
+    absurd (never_self p (subst (λ q. IsBefore q p) (sym e) (is_there x p yes)))
 found_from (x ∷ xs) (suc k) p le asc here there (inr i) =
     found_from xs k p (omega (arith, le)) (tail_ascends x xs asc)
     (λ j d a b. here (suc j) d (omega arith) (omega (arith, b)))

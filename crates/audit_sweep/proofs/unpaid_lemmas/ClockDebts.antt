@@ -35,45 +35,49 @@ clock_there t m time device (notes.Accepted d l c v y) e = let r : 11 ≡ 14 = a
 clock_there t m time device (notes.Delivered d l c v y) e = let r : 12 ≡ 14 = ap second_of e in absurd (omega (arith, r))
 clock_there t m time device (notes.Dropped d l c r) e = let q : 13 ≡ 14 = ap second_of e in absurd (omega (arith, q))
 
--- a record at the place of a clock tells it
-paid_there : (s : Scenario) (hs : List Happening) (device : DeviceId) (time : ℕ) → HasClockAt hs device time → IsPaid hs (Pays s) (debts.clock device time)
-paid_there s hs device time has =
-    let h = has.0 in
-    (h, has.1, (ap first_of has.2, clock_there (time_of h) (members_in h) time device h.note.body has.2))
+module _ (s : Scenario) (hs : List Happening) where
+  -- a record at the place of a clock tells it
+  paid_there : (device : DeviceId) (time : ℕ) → HasClockAt hs device time
+      → IsPaid hs (Pays s) (debts.clock device time)
+  paid_there device time has =
+      let h = has.0 in
+      (h, has.1, (ap first_of has.2, clock_there (time_of h) (members_in h) time device h.note.body has.2))
 
-there_paid : (s : Scenario) (hs : List Happening) (device : DeviceId) (time : ℕ) → IsPaid hs (Pays s) (debts.clock device time) → HasClockAt hs device time
-there_paid s hs device time paid =
-    let h = paid.0 in
-    (h, paid.1, place_of_clock (time_of h) (members_in h) device h.note.body paid.2.1 ∙ ap (λ (t : ℕ). t ∷ 14 ∷ device.0 ∷ []) paid.2.0)
+  there_paid : (device : DeviceId) (time : ℕ) → IsPaid hs (Pays s) (debts.clock device time)
+      → HasClockAt hs device time
+  there_paid device time paid =
+      let h = paid.0 in
+      (h, paid.1, place_of_clock (time_of h) (members_in h) device h.note.body paid.2.1 ∙ ap (λ (t : ℕ). t ∷ 14 ∷ device.0 ∷ []) paid.2.0)
 
--- where the end is later, none is owed
-pub none_owed : (s : Scenario) (hs : List Happening) (until end : ℕ) → IsOnlyEnd s.events end → until < end
-    → TellsFirst s hs until (λ (o : DeviceId × ℕ). debts.clock o.0 o.1) None
-none_owed s hs until end one late = λ o owed.
-    let timely = owed.timely in
-    let at = one.only o.1 owed.ends in
-    absurd (omega (arith, timely, at, late))
+  -- where the end is later, none is owed
+  pub none_owed : (until : ℕ) {end : ℕ} → IsOnlyEnd s.events end → until < end
+      → TellsFirst s hs until (λ (o : DeviceId × ℕ). debts.clock o.0 o.1) None
+  none_owed until one late = λ o owed.
+      let timely = owed.timely in
+      let at = one.only o.1 owed.ends in
+      absurd (omega (arith, timely, at, late))
 
--- where each clock is told, each is paid
-pub all_told : (s : Scenario) (hs : List Happening) (until end : ℕ) → IsOnlyEnd s.events end → IsUntold s.network hs end None
-    → TellsFirst s hs until (λ (o : DeviceId × ℕ). debts.clock o.0 o.1) None
-all_told s hs until end one all = λ o owed.
-    let at = one.only o.1 owed.ends in
-    let has = all o.0 (slice_get_within s.network.device o.0.0 owed.is owed.there) in
-    subst (λ (t : ℕ). IsPaid hs (Pays s) (debts.clock o.0 t)) (sym at) (paid_there s hs o.0 end has)
+  -- where each clock is told, each is paid
+  pub all_told : (until : ℕ) {end : ℕ} → IsOnlyEnd s.events end → IsUntold s.network hs end None
+      → TellsFirst s hs until (λ (o : DeviceId × ℕ). debts.clock o.0 o.1) None
+  all_told until {end} one all = λ o owed.
+      let at = one.only o.1 owed.ends in
+      let has = all o.0 (slice_get_within s.network.device o.0.0 owed.is owed.there) in
+      subst (λ (t : ℕ). IsPaid hs (Pays s) (debts.clock o.0 t)) (sym at) (paid_there o.0 end has)
 
--- where one is not told, it is owed at the end
-pub one_untold : (s : Scenario) (hs : List Happening) (until end : ℕ) (device : DeviceId) → IsOnlyEnd s.events end → end ≤ until
-    → IsUntoldDevice s.network hs end device → TellsFirst s hs until (λ (o : DeviceId × ℕ). debts.clock o.0 o.1) (Some end)
-one_untold s hs until end device one timely none =
-    let found = some_at s.network.device device.0 none.there in
-    record {
-      debt = (device, end);
-      owed = record { is = found.0; there = found.1; ends = one.ends; timely = timely };
-      unpaid = λ paid. none.untold (there_paid s hs device end paid);
-      at = refl;
-      first = λ other is not. let at = one.only other.1 is.ends in omega (arith, at);
-    }
+  -- where one is not told, it is owed at the end
+  pub one_untold : (until : ℕ) {end : ℕ} {device : DeviceId} → IsOnlyEnd s.events end → end ≤ until
+      → IsUntoldDevice s.network hs end device → TellsFirst s hs until (λ (o : DeviceId × ℕ). debts.clock o.0 o.1)
+      (Some end)
+  one_untold until {end} {device} one timely none =
+      let found = some_at s.network.device device.0 none.there in
+      record {
+        debt = (device, end);
+        owed = record { is = found.0; there = found.1; ends = one.ends; timely = timely };
+        unpaid = λ paid. none.untold (there_paid device end paid);
+        at = refl;
+        first = λ other is not. let at = one.only other.1 is.ends in omega (arith, at);
+      }
 
 -- the devices below the next are those below this one, and this one
 pub below_next : (P : DeviceId → Type 0) (n : ℕ) (last : DeviceId) → last.0 ≡ n → ((device : DeviceId) → device.0 < n → P device) → P last

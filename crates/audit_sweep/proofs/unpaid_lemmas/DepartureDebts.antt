@@ -30,32 +30,35 @@ pub giver_there : (s : Scenario) (hs : List Happening) (n : ℕ) (h : Happening)
 giver_there s hs n h r link there kept devices device is =
     devices h device (numbered_in hs n h there) (gives_named s.network h.note.body device link (giver_is s h r device link kept is))
 
--- what is owed departs by the list
-pub owed_departs : (s : Scenario) (hs : List Happening) (until cause : ℕ) (link : LinkId) → (o : OwesDeparture s hs until cause link)
-    → Departs s hs o.device (leaves_at s o.device link o.giving) link cause
-    (departure s o.device link o.frame (time_of o.giving) (leaves_at s o.device link o.giving))
-owed_departs s hs until cause link o = grind arith
+module _ (s : Scenario) (hs : List Happening) (until cause : ℕ) (link : LinkId) where
+  -- what is owed departs by the list
+  pub owed_departs : (o : OwesDeparture s hs until cause link)
+      → Departs s hs o.device (leaves_at s o.device link o.giving) link cause
+      (departure s o.device link o.frame (time_of o.giving) (leaves_at s o.device link o.giving))
+  owed_departs o = grind arith
 
--- a leaving that is owed is paid exactly where a record stands at its place
-pub departure_paid : (s : Scenario) (hs : List Happening) (until cause : ℕ) (link : LinkId) (device : DeviceId) (t : ℕ) (d : Departure)
-    → IsFounded place_of (IsDue s) hs → OwesDeparture s hs until cause link → Departs s hs device t link cause d
-    → IsPaid hs (Pays s) (debts.departure cause link) ↔ HasRecordAt hs (leaving_place t device link cause d)
-departure_paid s hs until cause link device t d founded owed departs =
-    paid_at_place s hs until (IsDueByLeaving s) (λ (given : ℕ × LinkId). OwesDeparture s hs until given.0 given.1)
-    (λ given o. leaves_at s o.device given.1 o.giving) (λ x given. TellsDeparture given.0 given.1 x.note.body)
-    (leaving_place t device link cause d) (λ ps x so. so.due) (departure_law s hs until founded) founded (cause, link) owed
-    (λ x here tells.
-    let by = here.due in
-    let so = tells_so by.device link by.link cause by.cause by.is (subst (TellsDeparture cause link) by.says tells) in
-    ap (λ (b : NoteBody). place_at (time_of x) (members_in x) b) by.says
-    ∙ record_place (time_of x) (members_in x) by.device by.link by.cause by.is
-    ∙ same_place s hs (time_of x) t by.device device by.link link by.cause cause by.is d so.1 so.0
-    (departs_in_whole s hs here.before here.behind (time_of x) by.device by.link by.cause by.is here.parts by.departs) departs)
+  -- a leaving that is owed is paid exactly where a record stands at its place
+  pub departure_paid : {device : DeviceId} {t : ℕ} {d : Departure} → IsFounded place_of (IsDue s) hs
+      → OwesDeparture s hs until cause link → Departs s hs device t link cause d
+      → IsPaid hs (Pays s) (debts.departure cause link) ↔ HasRecordAt hs (leaving_place t device link cause d)
+  departure_paid {device} {t} {d} founded owed departs =
+      paid_at_place s until (IsDueByLeaving s) (λ (given : ℕ × LinkId). OwesDeparture s hs until given.0 given.1)
+      (λ x given. TellsDeparture given.0 given.1 x.note.body)
+      (leaving_place t device link cause d) (λ ps x so. so.due) (departure_law s hs until founded) founded
+      (cause, link) owed
+      (λ x here tells.
+      let by = here.due in
+      let so = tells_so by.device link by.link cause by.cause by.is (subst (TellsDeparture cause link) by.says tells) in
+      ap (λ b. place_at (time_of x) (members_in x) b) by.says
+      ∙ record_place (time_of x) (members_in x) by.device by.link by.cause by.is
+      ∙ same_place s hs (time_of x) t by.device device by.link link by.cause cause by.is d so.1 so.0
+      (departs_in_whole s hs here.before here.behind (time_of x) by.device by.link by.cause by.is here.parts
+      by.departs) departs)
 
--- a leaving falls due at one time
-pub departure_time : (s : Scenario) (hs : List Happening) (until cause : ℕ) (link : LinkId) → IsFounded place_of (IsDue s) hs
-    → (a b : OwesDeparture s hs until cause link) → leaves_at s a.device link a.giving ≡ leaves_at s b.device link b.giving
-departure_time s hs until cause link founded a b = grind (arith, one_time, departure_law)
+  -- a leaving falls due at one time
+  pub departure_time : IsFounded place_of (IsDue s) hs → (a b : OwesDeparture s hs until cause link)
+      → leaves_at s a.device link a.giving ≡ leaves_at s b.device link b.giving
+  departure_time founded a b = grind (arith, one_time, departure_law)
 
 -- ---- over links and records
 
@@ -64,7 +67,7 @@ pub gives_may : (network : Network) (body : NoteBody) (device : DeviceId) (link 
     → may_give network (kept_of body) ≡ true
 gives_may network (notes.Sent master cycle) device link a = refl
 gives_may network (notes.Compressed cm opened at cycle members verdict) device link a = refl
-gives_may network (notes.Arrived relay by from clock) device link a = subst (λ (d : DeviceId). is_relay network d ≡ true) a.0 a.1.relay
+gives_may network (notes.Arrived relay by from clock) device link a = subst (λ d. is_relay network d ≡ true) a.0 a.1.relay
 gives_may network body device link a = absurd a
 
 -- one debt of a record and a link

@@ -6,13 +6,15 @@ use Rattle.{std.{proofs.Common.{◌++◌, Bool, length-append, suc, zero}, specs
 use Rattle.std.proofs.lemmas.Bool.{or_cases}
 
 -- what one of the records pays, one of more does
-marked_more : (f : Paid → Bool) (hs : List Happening) (h : Happening) (cause : ℕ) → IsMarked f hs cause → IsMarked f (hs ++ h ∷ []) cause
-marked_more f hs h cause m = grind (arith, in_left)
+marked_more : {f : Paid → Bool} {hs : List Happening} (h : Happening) {cause : ℕ} → IsMarked f hs cause
+    → IsMarked f (hs ++ h ∷ []) cause
+marked_more h m = grind (arith, in_left)
 
 -- what one of them pays with one more, one of them does or this one
-marked_parts : (f : Paid → Bool) (hs : List Happening) (h : Happening) (cause : ℕ) → IsMarked f (hs ++ h ∷ []) cause
-    → IsMarked f hs cause ⊎ ((cause < h.note.number) × (cause_of h.note.body ≡ cause) × (f (paid_by h.note.body) ≡ true))
-marked_parts f hs h cause m =
+marked_parts : {f : Paid → Bool} (hs : List Happening) (h : Happening) {cause : ℕ} → IsMarked f (hs ++ h ∷ []) cause
+    → IsMarked f hs cause ⊎ ((cause < h.note.number) × (cause_of h.note.body ≡ cause)
+    × (f (paid_by h.note.body) ≡ true))
+marked_parts {f} hs h {cause} m =
     elim (in_parts m.paying hs (h ∷ []) m.there) [
       | inl i ↦ inl (record { paying = m.paying; there = i; behind = m.behind; of_cause = m.of_cause; pays = m.pays })
       | inr (inl same) ↦
@@ -34,18 +36,20 @@ marked : (f : Paid → Bool) (paid after : Paid) (hs : List Happening) (h : Happ
     → f after ≡ (f paid || f (paid_by h.note.body)) → (f paid ≡ true) ↔ IsMarked f hs cause → (f after ≡ true) ↔ IsMarked f (hs ++ h ∷ []) cause
 marked f paid after hs h cause behind of is told = grind (arith, or_cases, paid_by, marked_more, in_right, marked_parts)
 
-pub paid_unmarked : (paid : Paid) (hs : List Happening) (h : Happening) (cause : ℕ) → ((cause < h.note.number) → cause_of h.note.body ≡ cause → ⊥)
-    → IsPaidSo hs cause paid → IsPaidSo (hs ++ h ∷ []) cause paid
-paid_unmarked paid hs h cause other so = record {
+pub paid_unmarked : {paid : Paid} {hs : List Happening} (h : Happening) {cause : ℕ}
+    → ((cause < h.note.number) → cause_of h.note.body ≡ cause → ⊥) → IsPaidSo hs cause paid
+    → IsPaidSo (hs ++ h ∷ []) cause paid
+paid_unmarked {paid} {hs} h {cause} other so = record {
   arrival = unmarked (λ (p : Paid). p.arrival) paid hs h cause other so.arrival;
   permanence = unmarked (λ (p : Paid). p.permanence) paid hs h cause other so.permanence;
   change = unmarked (λ (p : Paid). p.change) paid hs h cause other so.change;
   loss = unmarked (λ (p : Paid). p.loss) paid hs h cause other so.loss;
 }
 
-pub paid_marked : (paid : Paid) (hs : List Happening) (h : Happening) (cause : ℕ) → cause < h.note.number → cause_of h.note.body ≡ cause
-    → IsPaidSo hs cause paid → IsPaidSo (hs ++ h ∷ []) cause (both paid (paid_by h.note.body))
-paid_marked paid hs h cause behind of so =
+pub paid_marked : {paid : Paid} {hs : List Happening} (h : Happening) {cause : ℕ} → cause < h.note.number
+    → cause_of h.note.body ≡ cause → IsPaidSo hs cause paid
+    → IsPaidSo (hs ++ h ∷ []) cause (both paid (paid_by h.note.body))
+paid_marked {paid} {hs} h {cause} behind of so =
     let after = both paid (paid_by h.note.body) in
     record {
       arrival = marked (λ (p : Paid). p.arrival) paid after hs h cause behind of refl so.arrival;
@@ -101,9 +105,10 @@ numbers_more hs h before number g i =
     ]
 
 -- one more record of which nothing is paid, and whose cause is none of those before it
-pub more_unmarked : (hs : List Happening) (h : Happening) (payments : List Paid) → ArePayments hs payments → h.note.number ≡ length hs + 1
-    → ((cause_of h.note.body ≡ 0) ⊎ (length hs < cause_of h.note.body)) → ArePayments (hs ++ h ∷ []) (payments ++ nothing ∷ [])
-more_unmarked hs h payments are number cause = record {
+pub more_unmarked : {hs : List Happening} (h : Happening) {payments : List Paid} → ArePayments hs payments
+    → h.note.number ≡ length hs + 1 → ((cause_of h.note.body ≡ 0) ⊎ (length hs < cause_of h.note.body))
+    → ArePayments (hs ++ h ∷ []) (payments ++ nothing ∷ [])
+more_unmarked {hs} h {payments} are number cause = record {
   count = let count = are.count in omega (arith, count, length-append payments (nothing ∷ []), length-append hs (h ∷ []));
   numbers = λ g i. numbers_more hs h are.numbers number g i;
   each = λ n paid got.
@@ -111,7 +116,7 @@ more_unmarked hs h payments are number cause = record {
       elim (got_more payments nothing n paid got) [
         | inl here ↦
             let lt = here.0 in
-            paid_unmarked paid hs h (n + 1) (λ behind of. elim cause [
+            paid_unmarked h (λ behind of. elim cause [
               | inl none ↦ absurd (omega (arith, of, none))
               | inr high
                   ↦ absurd (omega (arith, of, high, lt, count))
@@ -119,7 +124,7 @@ more_unmarked hs h payments are number cause = record {
             (are.each n paid here.1)
         | inr last ↦
             let eq = last.0 in
-            subst (λ (p : Paid). IsPaidSo (hs ++ h ∷ []) (n + 1) p) (sym last.1)
+            subst (λ p. IsPaidSo (hs ++ h ∷ []) (n + 1) p) (sym last.1)
             (paid_nothing hs h (n + 1) (λ g i. let few = are.numbers g i in omega (arith, few, eq, count)) (omega (arith, number, eq, count)))
       ];
 }
@@ -134,10 +139,11 @@ got_set (z ∷ xs) (suc i) x zero y e = inr (λ same. absurd (omega (arith, same
 got_set (z ∷ xs) (suc i) x (suc n) y e = grind (arith, (got_set xs i x n y e))
 
 -- one more record that pays what it says of what its cause brings
-pub more_marked : (hs : List Happening) (h : Happening) (payments : List Paid) (i : ℕ) (old : Paid) → ArePayments hs payments
-    → h.note.number ≡ length hs + 1 → cause_of h.note.body ≡ i + 1 → i < length hs → slice_get (payments ++ nothing ∷ []) i ≡ Some old
+pub more_marked : {hs : List Happening} (h : Happening) {payments : List Paid} (i : ℕ) (old : Paid)
+    → ArePayments hs payments → h.note.number ≡ length hs + 1 → cause_of h.note.body ≡ i + 1 → i < length hs
+    → slice_get (payments ++ nothing ∷ []) i ≡ Some old
     → ArePayments (hs ++ h ∷ []) (slice_set (payments ++ nothing ∷ []) i (both old (paid_by h.note.body)))
-more_marked hs h payments i old are number cause low was = record {
+more_marked {hs} h {payments} i old are number cause low was = record {
   count =
       let count = are.count in
       omega (
@@ -155,18 +161,18 @@ more_marked hs h payments i old are number cause low was = record {
             let eq = here.0 in
             elim (got_more payments nothing i old was) [
               | inl there ↦
-                  subst (λ (p : Paid). IsPaidSo (hs ++ h ∷ []) (n + 1) p) (sym here.1)
-                  (paid_marked old hs h (n + 1) (omega (arith, number, low, eq)) (omega (arith, cause, eq))
-                  (subst (λ (k : ℕ). IsPaidSo hs (k + 1) old) (sym eq) (are.each i old there.1)))
+                  subst (λ p. IsPaidSo (hs ++ h ∷ []) (n + 1) p) (sym here.1)
+                  (paid_marked h (omega (arith, number, low, eq)) (omega (arith, cause, eq))
+                  (subst (λ k. IsPaidSo hs (k + 1) old) (sym eq) (are.each i old there.1)))
               | inr last ↦ let end = last.0 in absurd (omega (arith, end, low, count))
             ]
         | inr other ↦
             elim (got_more payments nothing n paid other.1) [
               | inl there ↦
-                  paid_unmarked paid hs h (n + 1) (λ behind of. other.0 (omega (arith, of, cause))) (are.each n paid there.1)
+                  paid_unmarked h (λ behind of. other.0 (omega (arith, of, cause))) (are.each n paid there.1)
               | inr last ↦
                   let eq = last.0 in
-                  subst (λ (p : Paid). IsPaidSo (hs ++ h ∷ []) (n + 1) p) (sym last.1)
+                  subst (λ p. IsPaidSo (hs ++ h ∷ []) (n + 1) p) (sym last.1)
                   (paid_nothing hs h (n + 1) (λ g j. let few = are.numbers g j in omega (arith, few, eq, count)) (omega (arith, number, eq, count)))
             ]
       ];

@@ -27,29 +27,31 @@ recorded_cause device link cause (arrivals.Dropped reason) = refl
 recorded_cause device link cause other = refl
 
 -- what is marked is paid
-pub arrival_paid : (s : Scenario) (hs : List Happening) (cause : ℕ) → IsMarked (λ (p : Paid). p.arrival) hs cause → IsPaid hs (Pays s) (debts.arrival cause)
-arrival_paid s hs cause m = (m.paying, m.there, told m.paying.note.body cause m.of_cause m.pays)
+pub arrival_paid : (s : Scenario) {hs : List Happening} {cause : ℕ} → IsMarked (λ (p : Paid). p.arrival) hs cause
+    → IsPaid hs (Pays s) (debts.arrival cause)
+arrival_paid s {cause} m = (m.paying, m.there, told m.paying.note.body cause m.of_cause m.pays)
 
--- what pays a debt that is owed is marked
-pub arrival_marked : (s : Scenario) (hs : List Happening) (until cause : ℕ) → IsFounded place_of (IsDue s) hs → OwesArrival s hs until cause
-    → IsPaid hs (Pays s) (debts.arrival cause) → IsMarked (λ (p : Paid). p.arrival) hs cause
-arrival_marked s hs until cause founded owed paid =
-    let m = paid.0 in
-    let so = tells m.note.body cause paid.2 in
-    let due = payer_due s hs until (IsDueByArrival s) (OwesArrival s hs until) (λ c o. o.time) (λ x c. TellsArrival c x.note.body) (λ ps x d. d.due)
-    (arrival_law s hs until founded) founded cause owed m paid.1 paid.2 in
-    let d = due.due in
-    let same : d.cause ≡ cause = sym (ap cause_of d.says ∙ recorded_cause d.device d.link d.cause d.is) ∙ so.0 in
-    let few = numbered_within due.before d.cause d.arrives.putting d.arrives.there in
-    let number = d.due.number in
-    record { paying = m; there = paid.1; behind = omega (arith, few, number, same); of_cause = so.0; pays = so.1 }
+module _ (s : Scenario) (hs : List Happening) (until cause : ℕ) (founded : IsFounded place_of (IsDue s) hs) where
+  -- what pays a debt that is owed is marked
+  pub arrival_marked : OwesArrival s hs until cause → IsPaid hs (Pays s) (debts.arrival cause)
+      → IsMarked (λ (p : Paid). p.arrival) hs cause
+  arrival_marked owed paid =
+      let m = paid.0 in
+      let so = tells m.note.body cause paid.2 in
+      let due = payer_due s until (IsDueByArrival s) (OwesArrival s hs until) (λ x c. TellsArrival c x.note.body)
+      (λ ps x d. d.due)
+      (arrival_law s hs until founded) founded cause owed m paid.1 paid.2 in
+      let d = due.due in
+      let same : d.cause ≡ cause = sym (ap cause_of d.says ∙ recorded_cause d.device d.link d.cause d.is) ∙ so.0 in
+      let few = numbered_within due.before d.cause d.arrives.putting d.arrives.there in
+      let number = d.due.number in
+      record { paying = m; there = paid.1; behind = omega (arith, few, number, same); of_cause = so.0; pays = so.1 }
 
--- an arrival falls due at one time
-pub arrival_time : (s : Scenario) (hs : List Happening) (until cause : ℕ) → IsFounded place_of (IsDue s) hs → (a b : OwesArrival s hs until cause)
-    → a.time ≡ b.time
-arrival_time s hs until cause founded a b =
-    one_time s hs until (IsDueByArrival s) (OwesArrival s hs until) (λ c o. o.time) (λ x c. TellsArrival c x.note.body) (λ ps x d. d.due)
-    (arrival_law s hs until founded) cause a b
+  -- an arrival falls due at one time
+  pub arrival_time : (a b : OwesArrival s hs until cause) → a.time ≡ b.time
+  arrival_time a b =
+      one_time s until (IsDueByArrival s) (OwesArrival s hs until) (λ x c. TellsArrival c x.note.body) (λ ps x d. d.due)
+      (arrival_law s hs until founded) cause a b
 
 pub arrivals_of_records : (s : Scenario) (hs : List Happening) (until : ℕ) → AreOfRecords s hs until (λ cause. debts.arrival cause)
 arrivals_of_records s hs until cause owed = (owed.arrives.putting, owed.arrives.there)

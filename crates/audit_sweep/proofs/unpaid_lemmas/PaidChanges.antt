@@ -21,8 +21,9 @@ told (notes.State device state from why) cause of pays = of
 told other cause of pays = absurd cc
 
 -- what is marked is paid
-pub change_paid : (s : Scenario) (hs : List Happening) (cause : ℕ) → IsMarked (λ (p : Paid). p.change) hs cause → IsPaid hs (Pays s) (debts.change cause)
-change_paid s hs cause m = (m.paying, m.there, told m.paying.note.body cause m.of_cause m.pays)
+pub change_paid : (s : Scenario) {hs : List Happening} {cause : ℕ} → IsMarked (λ (p : Paid). p.change) hs cause
+    → IsPaid hs (Pays s) (debts.change cause)
+change_paid s {cause} m = (m.paying, m.there, told m.paying.note.body cause m.of_cause m.pays)
 
 -- what brings a change is the record of its cause
 pub bringer : (s : Scenario) (hs : List Happening) (device : DeviceId) (t : ℕ) (state : State) (cause : ℕ) (why : Why) → IsBrought why
@@ -33,40 +34,42 @@ bringer s hs device t state cause whys.Correction b c = (c.2.3, c.2.4)
 bringer s hs device t state cause whys.SyncClique b c = absurd b
 bringer s hs device t state cause whys.AsyncClique b c = absurd b
 
--- what pays a debt that is owed is marked
-pub change_marked : (s : Scenario) (hs : List Happening) (until cause : ℕ) → IsFounded place_of (IsDue s) hs → OwesChange s hs until cause
-    → IsPaid hs (Pays s) (debts.change cause) → IsMarked (λ (p : Paid). p.change) hs cause
-change_marked s hs until cause founded owed paid =
-    let m = paid.0 in
-    let so = tells m.note.body cause paid.2 in
-    let due = payer_due s hs until (IsDueByChange s) (OwesChange s hs until) (λ c o. o.time) (λ x c. TellsChange c x.note.body) (λ ps x d. d.due)
-    (change_law s hs until founded) founded cause owed m paid.1 paid.2 in
-    let d = due.due in
-    let same : d.cause ≡ cause = sym (ap cause_of d.says) ∙ so.0 in
-    let from = bringer s due.before d.device _ d.state d.cause d.why d.brought d.changes in
-    let few = numbered_within due.before d.cause from.0 from.1.there in
-    let number = d.due.number in
-    record { paying = m; there = paid.1; behind = omega (arith, few, number, same); of_cause = so.0; pays = so.1 }
+module _ (s : Scenario) (hs : List Happening) (until : ℕ) where
+  -- what pays a debt that is owed is marked
+  pub change_marked : {cause : ℕ} → IsFounded place_of (IsDue s) hs → OwesChange s hs until cause
+      → IsPaid hs (Pays s) (debts.change cause) → IsMarked (λ (p : Paid). p.change) hs cause
+  change_marked {cause} founded owed paid =
+      let m = paid.0 in
+      let so = tells m.note.body cause paid.2 in
+      let due = payer_due s until (IsDueByChange s) (OwesChange s hs until) (λ x c. TellsChange c x.note.body)
+      (λ ps x d. d.due)
+      (change_law s hs until founded) founded cause owed m paid.1 paid.2 in
+      let d = due.due in
+      let same : d.cause ≡ cause = sym (ap cause_of d.says) ∙ so.0 in
+      let from = bringer s due.before d.device _ d.state d.cause d.why d.brought d.changes in
+      let few = numbered_within due.before d.cause from.0 from.1.there in
+      let number = d.due.number in
+      record { paying = m; there = paid.1; behind = omega (arith, few, number, same); of_cause = so.0; pays = so.1 }
 
--- it falls due at one time
-pub change_time : (s : Scenario) (hs : List Happening) (until cause : ℕ) → IsFounded place_of (IsDue s) hs → (a b : OwesChange s hs until cause)
-    → a.time ≡ b.time
-change_time s hs until cause founded a b =
-    one_time s hs until (IsDueByChange s) (OwesChange s hs until) (λ c o. o.time) (λ x c. TellsChange c x.note.body) (λ ps x d. d.due)
-    (change_law s hs until founded) cause a b
+  -- it falls due at one time
+  pub change_time : {cause : ℕ} → IsFounded place_of (IsDue s) hs → (a b : OwesChange s hs until cause)
+      → a.time ≡ b.time
+  change_time {cause} founded a b =
+      one_time s until (IsDueByChange s) (OwesChange s hs until) (λ x c. TellsChange c x.note.body) (λ ps x d. d.due)
+      (change_law s hs until founded) cause a b
 
-pub changes_of_records : (s : Scenario) (hs : List Happening) (until : ℕ) → AreOfRecords s hs until (λ cause. debts.change cause)
-changes_of_records s hs until cause owed =
-    let from = bringer s hs owed.device owed.time owed.state cause owed.why owed.brought owed.changes in
-    (from.0, from.1.there)
+  pub changes_of_records : AreOfRecords s hs until (λ cause. debts.change cause)
+  changes_of_records cause owed =
+      let from = bringer s hs owed.device owed.time owed.state cause owed.why owed.brought owed.changes in
+      (from.0, from.1.there)
 
-pub change_of_record : (s : Scenario) (hs : List Happening) (until cause : ℕ) → OwesChange s hs until cause → numbered hs cause ≡ None → ⊥
-change_of_record s hs until cause owed none = none_some _ (sym none ∙ (changes_of_records s hs until cause owed).1)
+  pub change_of_record : {cause : ℕ} → OwesChange s hs until cause → numbered hs cause ≡ None → ⊥
+  change_of_record {cause} owed none = none_some _ (sym none ∙ (changes_of_records cause owed).1)
 
--- what is owed is a change by the record at its time
-pub owed_change : (s : Scenario) (hs : List Happening) (until cause : ℕ) (h : Happening) → numbered hs cause ≡ Some h → OwesChange s hs until cause
-    → HasChange s hs cause (time_of h) × (time_of h ≤ until)
-owed_change s hs until cause h there o = grind (arith, bringer, same_some, numbered, time_of)
+  -- what is owed is a change by the record at its time
+  pub owed_change : {cause : ℕ} (h : Happening) → numbered hs cause ≡ Some h → OwesChange s hs until cause
+      → HasChange s hs cause (time_of h) × (time_of h ≤ until)
+  owed_change h there o = grind (arith, bringer, same_some, numbered, time_of)
 
 -- what a record of this body says that brings a change
 abbrev pub Brings : Scenario → List Happening → ℕ → NoteBody → Type 0
@@ -81,9 +84,9 @@ joined_brings s hs t device (notes.Permanent other link cause point Integrates) 
 joined_brings s hs t device (notes.Compressed other opened at cycle members Integrates) e = tt
 joined_brings s hs t device other e = absurd cc
 
-pub change_brought : (s : Scenario) (hs : List Happening) (cause t : ℕ) (h : Happening) → numbered hs cause ≡ Some h → HasChange s hs cause t
-    → Brings s hs t h.note.body
-change_brought s hs cause t h there has = grind (arith, same_some, numbered, joined_brings)
+pub change_brought : {s : Scenario} {hs : List Happening} {cause t : ℕ} (h : Happening) → numbered hs cause ≡ Some h
+    → HasChange s hs cause t → Brings s hs t h.note.body
+change_brought h there has = grind (arith, same_some, numbered, joined_brings)
 
 pub brought_change : (s : Scenario) (hs : List Happening) (cause : ℕ) (h : Happening) → numbered hs cause ≡ Some h → (body : NoteBody) → h.note.body ≡ body
     → Brings s hs (time_of h) body → HasChange s hs cause (time_of h)

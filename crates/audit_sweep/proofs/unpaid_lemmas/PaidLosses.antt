@@ -16,28 +16,31 @@ tells (notes.Lost device link from) cause of = (of, refl)
 tells other cause of = absurd of
 
 -- what is marked is paid
-pub loss_paid : (s : Scenario) (hs : List Happening) (cause : ℕ) → IsMarked (λ (p : Paid). p.loss) hs cause → IsPaid hs (Pays s) (debts.loss cause)
-loss_paid s hs cause m = (m.paying, m.there, told m.paying.note.body cause m.of_cause m.pays)
+pub loss_paid : (s : Scenario) {hs : List Happening} {cause : ℕ} → IsMarked (λ (p : Paid). p.loss) hs cause
+    → IsPaid hs (Pays s) (debts.loss cause)
+loss_paid s {cause} m = (m.paying, m.there, told m.paying.note.body cause m.of_cause m.pays)
 
--- what pays a debt that is owed is marked
-pub loss_marked : (s : Scenario) (hs : List Happening) (until cause : ℕ) → IsFounded place_of (IsDue s) hs → OwesLoss s hs until cause
-    → IsPaid hs (Pays s) (debts.loss cause) → IsMarked (λ (p : Paid). p.loss) hs cause
-loss_marked s hs until cause founded owed paid =
-    let m = paid.0 in
-    let so = tells m.note.body cause paid.2 in
-    let due = payer_due s hs until (IsDueBySend s) (OwesLoss s hs until) (λ c o. o.time) (λ x c. TellsLoss c x.note.body) (λ ps x d. d.due)
-    (loss_law s hs until founded) founded cause owed m paid.1 paid.2 in
-    let d = due.due in
-    let same : d.cause ≡ cause = sym (ap cause_of d.says) ∙ so.0 in
-    let few = numbered_within due.before d.cause d.lost.event d.lost.is.there in
-    let number = d.due.number in
-    record { paying = m; there = paid.1; behind = omega (arith, few, number, same); of_cause = so.0; pays = so.1 }
+module _ (s : Scenario) (hs : List Happening) (until cause : ℕ) (founded : IsFounded place_of (IsDue s) hs) where
+  -- what pays a debt that is owed is marked
+  pub loss_marked : OwesLoss s hs until cause → IsPaid hs (Pays s) (debts.loss cause)
+      → IsMarked (λ (p : Paid). p.loss) hs cause
+  loss_marked owed paid =
+      let m = paid.0 in
+      let so = tells m.note.body cause paid.2 in
+      let due = payer_due s until (IsDueBySend s) (OwesLoss s hs until) (λ x c. TellsLoss c x.note.body)
+      (λ ps x d. d.due)
+      (loss_law s hs until founded) founded cause owed m paid.1 paid.2 in
+      let d = due.due in
+      let same : d.cause ≡ cause = sym (ap cause_of d.says) ∙ so.0 in
+      let few = numbered_within due.before d.cause d.lost.event d.lost.is.there in
+      let number = d.due.number in
+      record { paying = m; there = paid.1; behind = omega (arith, few, number, same); of_cause = so.0; pays = so.1 }
 
--- a loss falls due at one time
-pub loss_time : (s : Scenario) (hs : List Happening) (until cause : ℕ) → IsFounded place_of (IsDue s) hs → (a b : OwesLoss s hs until cause) → a.time ≡ b.time
-loss_time s hs until cause founded a b =
-    one_time s hs until (IsDueBySend s) (OwesLoss s hs until) (λ c o. o.time) (λ x c. TellsLoss c x.note.body) (λ ps x d. d.due)
-    (loss_law s hs until founded) cause a b
+  -- a loss falls due at one time
+  pub loss_time : (a b : OwesLoss s hs until cause) → a.time ≡ b.time
+  loss_time a b =
+      one_time s until (IsDueBySend s) (OwesLoss s hs until) (λ x c. TellsLoss c x.note.body) (λ ps x d. d.due)
+      (loss_law s hs until founded) cause a b
 
 pub losses_of_records : (s : Scenario) (hs : List Happening) (until : ℕ) → AreOfRecords s hs until (λ cause. debts.loss cause)
 losses_of_records s hs until cause owed = (owed.lost.event, owed.lost.is.there)

@@ -13,7 +13,7 @@ use Rattle.std.proofs.Common.{◌*◌, ◌+◌, ◌<◌, ◌^◌, ◌≡◌, ◌
 use Rattle.{std.proofs.lemmas.Bool.cases_lt, tte_units.{proofs.general_lemmas.Integers.amount_least, specs.Amount.amount}}
 
 later : (s : Scenario) (hs : List Happening) (until : ℕ) (flow : Flow) (t : ℕ) → IsCertainAt s hs until flow t → 0 < t
-later s hs until flow t c = not_at_first s hs flow.device (pos (c.cycle * amount s.network.cycle + 0)) t c.begun.begins
+later s hs until flow t c = not_at_first t c.begun.begins
 
 -- before the next cycle that the clock begins there is none
 between : (s : Scenario) (hs : List Happening) (until : ℕ) (flow : Flow) (after before : ℕ)

@@ -40,7 +40,7 @@ fate_one s hs until flow cycle from is fates.End fates.End hf hg = refl
 never_less : (s : Scenario) (hs : List Happening) (device : DeviceId) (t c d : ℕ) → ReadsOn (s.reading device) → 2 ^ 32 ≤ amount s.network.cycle
     → ReachesPlace s hs device c 0 t → ReachesPlace s hs device d 0 t → c < d → ⊥
 never_less s hs device zero c d on wide first second lt =
-    absurd (let none = not_at_first s hs device (pos (c * amount s.network.cycle + 0)) 0 first in omega (arith, none))
+    absurd (let none = not_at_first 0 first in omega (arith, none))
 never_less s hs device (suc t) c d on wide first second lt =
     let r = amount s.network.cycle in
     let more : (c + 1) * r ≤ d * r = mul-le-mul_right r (omega (arith, lt)) in
@@ -89,7 +89,7 @@ on_count P counts fates.End fates.Sender more same = same (λ e. cc)
 on_count P counts fates.End fates.End more same = more refl
 
 begun_later : (s : Scenario) (hs : List Happening) (until : ℕ) (flow : Flow) (fate : Fate) (t : ℕ) → HasFateAt s hs until flow fate t → 0 < t
-begun_later s hs until flow fate t (cycle, begun, has) = not_at_first s hs flow.device (pos (cycle * amount s.network.cycle + 0)) t begun.begins
+begun_later s hs until flow fate t (cycle, begun, has) = not_at_first t begun.begins
 
 pub none_counted : (s : Scenario) (hs : List Happening) (until : ℕ) (flow : Flow) (counts : FateCounts) → ((fate : Fate) → count_of counts fate ≡ 0)
     → AreCountsUpTo s hs until flow 0 counts

@@ -27,7 +27,7 @@ passed_in_step s hs device cycle place after until time first out t lt early r =
 pub not_come : (s : Scenario) (hs : List Happening) (device : DeviceId) (cycle place before : ℕ)
     → NoneWithin (ReachesInStep s hs device cycle place) 0 before → HasComeInStep s hs device cycle place before → ⊥
 not_come s hs device cycle place before none come =
-    none come.time (not_at_first s hs device (pos (cycle * amount s.network.cycle + place)) come.time come.reaches.reaches) come.early come.reaches
+    none come.time (not_at_first come.time come.reaches.reaches) come.early come.reaches
 
 -- ---- the answer
 

@@ -7,7 +7,7 @@ returns-in-Some c befallen hs k =
     let p = c.args.passage in
     let x = c.in-Some.ensures befallen hs k in (
       λ yes. taken s hs p.device p.time p.link p.cause c.args.clock _ x (c.is_taken_with.ensures.0 yes),
-      λ y. c.is_taken_with.ensures.1 (takes s hs p.device p.time p.link p.cause c.args.clock _ x y),
+      λ y. c.is_taken_with.ensures.1 (takes s hs p.device p.time p.link p.cause c.args.clock x y),
     )
 
 pub returns-in-None : goal.returns-in-None

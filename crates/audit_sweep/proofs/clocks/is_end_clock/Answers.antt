@@ -10,6 +10,6 @@ returns c befallen hs k none =
     let up : up_to t hs ≡ hs = all_kept (λ (h : Happening). nat_le (time_of h) t) hs (λ h i. le-leb (time_of h) t (none h i)) in
     c.shows_clock.ensures s hs c.args.time refl
     (c.reading-reading.ensures c.args.network.now befallen k.events c.requires.there
-    ∙ ap (λ (n : ℕ). clock_reading c.args.network.now befallen c.args.device n) c.amount.ensures.value)
+    ∙ ap (λ n. clock_reading c.args.network.now befallen c.args.device n) c.amount.ensures.value)
     (c.is_end.ensures c.args.network.now befallen hs k)
-    (subst (λ (gs : List Happening). Shows s gs c.args.device c.latest-shown.result.now) (sym up) (c.latest-shown.ensures s hs k.standings))
+    (subst (λ gs. Shows s gs c.args.device c.latest-shown.result.now) (sym up) (c.latest-shown.ensures s hs k.standings))

@@ -9,8 +9,8 @@ returns-then-is_same_point c befallen hs k =
     let r = c.in-Some.ripened in
     let is = ripe_as c.args.verdict in
     let x = c.in-Some.ensures befallen hs k in (
-      λ yes. subst (λ (u : Units). BecomesPermanent s hs p.device p.time p.link p.cause u is) (c.is_same_point.ensures.0 c.if-is_same_point.true)
-          (subst (λ (a : Ripe). BecomesPermanent s hs p.device p.time p.link p.cause r.point a) (c.is_judged.ensures.0 yes) x),
+      λ yes. subst (λ u. BecomesPermanent s hs p.device p.time p.link p.cause u is) (c.is_same_point.ensures.0 c.if-is_same_point.true)
+          (subst (λ a. BecomesPermanent s hs p.device p.time p.link p.cause r.point a) (c.is_judged.ensures.0 yes) x),
       λ y. c.is_judged.ensures.1 (same_ripening s hs p.time p.device p.link p.cause r.point c.args.point r.is is x y),
     )
 

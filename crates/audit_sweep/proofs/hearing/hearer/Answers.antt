@@ -10,10 +10,11 @@ returns-clause-wide c =
 pub returns-clause-is : goal.returns-clause-is
 returns-clause-is c befallen hs judged k b same sh =
     let s = scenario_under c.args.network.now befallen in
-    let late = none_later c.args.time judged b in
+    let late = none_later b in
     record {
       network = refl;
       state = c.state_at_hearing.ensures befallen hs judged k late same sh;
       adjustment = to_z-of_z w128 c.adjustment.result (search rules) ∙ c.adjustment.ensures.value
-          ∙ hearing_adjustment s judged c.args.device c.args.shown.now c.args.time late (only_joined c.args.time judged c.args.device b) sh;
+          ∙ hearing_adjustment s judged c.args.device c.args.shown.now c.args.time late (only_joined c.args.device b)
+          sh;
     }

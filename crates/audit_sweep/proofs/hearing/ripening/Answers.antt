@@ -14,9 +14,9 @@ returns c befallen hs k =
     (c.before_permanence-shown.ensures s hs Ignored k.standings) in
     let base = c.before_permanence-stretch.ensures c.args.network.now hs k.stretches in
     let stretch = c.before_permanence-stretch.result in
-    let collects = subst (λ (n : Network). is_cm n c.hearer.result.device ≡ true
+    let collects = subst (λ n. is_cm n c.hearer.result.device ≡ true
     → HasPoints n (points_of judged c.hearer.result.device) stretch.collections.now stretch.gathering) (sym c.hearer.ensures.of.0)
-    (subst (λ (d : DeviceId). is_cm c.args.network.now d ≡ true
+    (subst (λ d. is_cm c.args.network.now d ≡ true
     → HasPoints c.args.network.now (points_of judged d) stretch.collections.now stretch.gathering) (sym c.hearer.ensures.of.1) base) in
-    subst (λ (d : DeviceId). IsJudgedBy s judged d p.time f.frame f.point c.ripening.result) c.hearer.ensures.of.1
+    subst (λ d. IsJudgedBy s judged d p.time f.frame f.point c.ripening.result) c.hearer.ensures.of.1
     ((c.ripening.ensures s judged p.time hearer collects c.ripening.result).0 refl)

@@ -9,6 +9,6 @@ returns c befallen hs judged k late same sh =
     let t = c.args.time in
     let d = c.args.device in
     c.state_before.ensures s hs d t (c.is_turned_on_at.ensures c.args.network.now befallen k.events c.requires.there) (c.before_time.ensures s hs k.standings)
-    ∙ ap (λ (gs : List Happening). if is_turned_on_at s d t then Integrating else state_after s gs d) (sym same)
+    ∙ ap (λ gs. if is_turned_on_at s d t then Integrating else state_after s gs d) (sym same)
     ∙ sym (ap (λ (b : Bool). if b then Joining else state_before s judged d t)
     (sym (c.has_joined_at.ensures s judged d late sh) ∙ c.if-has_joined_at.false))

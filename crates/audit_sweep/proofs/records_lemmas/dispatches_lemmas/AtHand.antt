@@ -74,30 +74,33 @@ held false y false true is = inr (refl, refl)
 held false y false false is = absurd cc
 held false y true l is = absurd cc
 
-pub held_so : (network : Network) (hs : List Happening) (device sender : DeviceId) (vl : VlId) (t cause cycle : ℕ) (accepted : Option Taking)
-    → IsAcceptedLast network hs device vl t accepted → holds (sender.0 == device.0) cause (is_end network device) (is_last accepted cause cycle) ≡ true
-    → IsAtHand network hs device sender vl t cause cycle
-held_so network hs device sender vl t cause cycle accepted so is =
-    by (held (sender.0 == device.0) (cause == 0) (is_end network device) (is_last accepted cause cycle) is)
-  where
-    by_last : (o : Option Taking) → option_and_then (taking_of device vl) (last_accepted hs device vl t) ≡ o → is_last o cause cycle ≡ true
-        → HasAccepted hs device vl t cause cycle
-    by_last None made last = absurd cc
-    by_last (Some taking) made last =
-        let both = and_parts (taking.number == cause) (taking.cycle == cycle) last in
-        accepted_as hs device vl t cause cycle taking (last_accepted hs device vl t) refl made (eqb-true taking.number cause both.0)
-        (eqb-true taking.cycle cycle both.1)
+module _ (network : Network) (hs : List Happening) (device sender : DeviceId) (vl : VlId) (t cause cycle : ℕ)
+    (accepted : Option Taking) (so : IsAcceptedLast network hs device vl t accepted) where
+  pub held_so : holds (sender.0 == device.0) cause (is_end network device) (is_last accepted cause cycle) ≡ true
+      → IsAtHand network hs device sender vl t cause cycle
+  held_so is =
+      by (held (sender.0 == device.0) (cause == 0) (is_end network device) (is_last accepted cause cycle) is)
+    where
+      by_last : (o : Option Taking) → option_and_then (taking_of device vl) (last_accepted hs device vl t) ≡ o
+          → is_last o cause cycle ≡ true
+          → HasAccepted hs device vl t cause cycle
+      by_last None made last = absurd cc
+      by_last (Some taking) made last =
+          let both = and_parts (taking.number == cause) (taking.cycle == cycle) last in
+          accepted_as hs device vl t cause cycle taking (last_accepted hs device vl t) refl made
+          (eqb-true taking.number cause both.0)
+          (eqb-true taking.cycle cycle both.1)
 
-    by : (((sender.0 == device.0) ≡ true) × ((cause == 0) ≡ true)) ⊎ ((is_end network device ≡ false) × (is_last accepted cause cycle ≡ true))
-        → IsAtHand network hs device sender vl t cause cycle
-    by (inl (same, none)) =
-        let device_of : ℕ → DeviceId = λ n. record { 0 = n } in
-        inl (ap device_of (eqb-true sender.0 device.0 same), eqb-true cause 0 none)
-    by (inr (switch, last)) = inr (switch, by_last accepted (so switch) last)
+      by : (((sender.0 == device.0) ≡ true) × ((cause == 0) ≡ true))
+          ⊎ ((is_end network device ≡ false) × (is_last accepted cause cycle ≡ true))
+          → IsAtHand network hs device sender vl t cause cycle
+      by (inl (same, none)) =
+          let device_of : ℕ → DeviceId = λ n. record { 0 = n } in
+          inl (ap device_of (eqb-true sender.0 device.0 same), eqb-true cause 0 none)
+      by (inr (switch, last)) = inr (switch, by_last accepted (so switch) last)
 
--- and the other way
-pub so_held : (network : Network) (hs : List Happening) (device sender : DeviceId) (vl : VlId) (t cause cycle : ℕ) (accepted : Option Taking)
-    → IsAcceptedLast network hs device vl t accepted → IsAtHand network hs device sender vl t cause cycle
-    → holds (sender.0 == device.0) cause (is_end network device) (is_last accepted cause cycle) ≡ true
-so_held network hs device sender vl t cause cycle accepted so (inl (same, none)) = grind (arith, eq-eqb)
-so_held network hs device sender vl t cause cycle accepted so (inr (switch, has)) = grind (arith, or_right, eq-eqb)
+  -- and the other way
+  pub so_held : IsAtHand network hs device sender vl t cause cycle
+      → holds (sender.0 == device.0) cause (is_end network device) (is_last accepted cause cycle) ≡ true
+  so_held (inl (same, none)) = grind (arith, eq-eqb)
+  so_held (inr (switch, has)) = grind (arith, or_right, eq-eqb)

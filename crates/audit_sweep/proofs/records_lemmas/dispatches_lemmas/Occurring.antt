@@ -35,11 +35,12 @@ value_by : (first step period offset c f n : ℕ) (z : ℤ) → z ≡ pos (f * c
     → z +ℤ pos (n * step) ≡ pos ((f + n * period) * c + offset)
 value_by first step period offset c f n z at by = grind (arith, ints)
 
-pub are_leavings : (network : Network) (row : LeavingRow) (series : Series) → IsRowFit row → row.phase < row.period
-    → series.first ≡ pos (leaving_value network row (first_cycle row)) → series.step ≡ row.period * amount network.cycle → AreLeavings network row series
-are_leavings network row series fit lt first step = record {
+pub are_leavings : (network : Network) {row : LeavingRow} (series : Series) → IsRowFit row → row.phase < row.period
+    → series.first ≡ pos (leaving_value network row (first_cycle row))
+    → series.step ≡ row.period * amount network.cycle → AreLeavings network row series
+are_leavings network {row} series fit lt first step = record {
   values = λ n. value_by 0 series.step row.period row.offset (amount network.cycle) (first_cycle row) n series.first first step;
   occur = λ n. let by = occurs_by row.period row.phase n (row.phase == 0) refl lt in record { begun = by.0; in_phase = by.1 };
   all = λ cycle occurs. all_by row.period row.phase cycle (cycle / row.period) (row.phase == 0) refl occurs.begun
-      (ap (λ (k : ℕ). cycle / row.period * row.period + k) (sym occurs.in_phase) ∙ div-add-mod' cycle row.period);
+      (ap (λ k. cycle / row.period * row.period + k) (sym occurs.in_phase) ∙ div-add-mod' cycle row.period);
 }

@@ -24,38 +24,41 @@ placed (y ∷ ys) d x (inr there) =
 
 -- ---- the rows of a link
 
-pub have_periods : (network : Network) (link : LinkId) (rows : List LeavingRow) → IsInRange network → AreRowsOn network link rows → HavePeriods rows
-have_periods network link rows range are row there =
+pub have_periods : {network : Network} {link : LinkId} {rows : List LeavingRow} → IsInRange network
+    → AreRowsOn network link rows → HavePeriods rows
+have_periods {network} range are row there =
     let on = are.sound row there in
     subst (λ (r : LeavingRow). 1 ≤ r.period) (sym on.kept)
     (in_all (IsVlInRange network) network.vl on.entry.row.vl.0 on.entry.vl range.vls on.is.vl).period_least
 
--- what a device dispatches by one of them it dispatches
-some_dispatches : (s : Scenario) (hs : List Happening) (device : DeviceId) (t : ℕ) (dispatch : Dispatch) (rows : List LeavingRow)
-    → AreRowsOn s.network dispatch.link rows → IsUp s hs device t → SomeDispatched s s.network hs device t dispatch rows
-    → Dispatches s hs device t dispatch.link dispatch.cause dispatch.vl dispatch.cycle
-some_dispatches s hs device t dispatch rows are up some = grind arith
+module _ (s : Scenario) (hs : List Happening) (device : DeviceId) (t : ℕ) (dispatch : Dispatch)
+    {rows : List LeavingRow} (are : AreRowsOn s.network dispatch.link rows) where
+  -- what a device dispatches by one of them it dispatches
+  some_dispatches : IsUp s hs device t → SomeDispatched s s.network hs device t dispatch rows
+      → Dispatches s hs device t dispatch.link dispatch.cause dispatch.vl dispatch.cycle
+  some_dispatches up some = grind arith
 
--- and what it dispatches is by one of them
-dispatches_some : (s : Scenario) (hs : List Happening) (device : DeviceId) (t : ℕ) (dispatch : Dispatch) (rows : List LeavingRow)
-    → AreRowsOn s.network dispatch.link rows → Dispatches s hs device t dispatch.link dispatch.cause dispatch.vl dispatch.cycle
-    → SomeDispatched s s.network hs device t dispatch rows
-dispatches_some s hs device t dispatch rows are does = record {
-  row = leaving_by does.entry;
-  there = are.complete does.place does.entry does.row does.by;
-  dispatched = record {
-    suits = record { leaves = does.leaves; of_vl = does.of_vl; begun = does.occurs.begun; in_phase = does.occurs.in_phase };
-    ready = record {
-      reached = does.reached;
-      at_hand = subst (λ (vl : VlId). IsAtHand s.network hs device does.entry.vl.sender vl t dispatch.cause dispatch.cycle) does.of_vl does.at_hand;
+  -- and what it dispatches is by one of them
+  dispatches_some : Dispatches s hs device t dispatch.link dispatch.cause dispatch.vl dispatch.cycle
+      → SomeDispatched s s.network hs device t dispatch rows
+  dispatches_some does = record {
+    row = leaving_by does.entry;
+    there = are.complete does.place does.entry does.row does.by;
+    dispatched = record {
+      suits = record { leaves = does.leaves; of_vl = does.of_vl; begun = does.occurs.begun; in_phase = does.occurs.in_phase };
+      ready = record {
+        reached = does.reached;
+        at_hand = subst (λ vl. IsAtHand s.network hs device does.entry.vl.sender vl t dispatch.cause
+            dispatch.cycle) does.of_vl does.at_hand;
+      };
     };
-  };
-}
+  }
 
-pub by_some : (s : Scenario) (network : Network) (hs : List Happening) (device : DeviceId) (t : ℕ) (dispatch : Dispatch) (rows : List LeavingRow)
-    → s.network ≡ network → AreRowsOn network dispatch.link rows → IsUp s hs device t → SomeDispatched s network hs device t dispatch rows
+pub by_some : {s : Scenario} {network : Network} {hs : List Happening} {device : DeviceId} {t : ℕ}
+    (dispatch : Dispatch) {rows : List LeavingRow} → s.network ≡ network → AreRowsOn network dispatch.link rows
+    → IsUp s hs device t → SomeDispatched s network hs device t dispatch rows
     ↔ Dispatches s hs device t dispatch.link dispatch.cause dispatch.vl dispatch.cycle
-by_some s network hs device t dispatch rows same = grind (arith, some_dispatches, dispatches_some)
+by_some dispatch same = grind (arith, some_dispatches, dispatches_some)
 
 -- ---- one row after another
 

@@ -38,39 +38,45 @@ pub record AreFirstExits (network : Network) (count : ℕ) (exits : Exits) : Typ
   pub links : length exits.links.items ≡ length network.link
   pub each : (link : LinkId) → AreFirstOn network count link (rows_on exits link)
 
-pub first_none : (network : Network) (exits : Exits) → AreNoRows network exits → AreFirstExits network 0 exits
-first_none network exits are = grind arith
+pub first_none : {network : Network} {exits : Exits} → AreNoRows network exits → AreFirstExits network 0 exits
+first_none are = grind arith
 
-is_new : (network : Network) (n place : ℕ) (entry other : Entry) → IsEntry network n entry → IsEntry network place other → place ≡ n → other ≡ entry
-is_new network n place entry other at is same = one_entry network n other entry (subst (λ (k : ℕ). IsEntry network k other) same is) at
+is_new : {network : Network} {n place : ℕ} {entry other : Entry} → IsEntry network n entry
+    → IsEntry network place other → place ≡ n → other ≡ entry
+is_new {network} {n} {entry} {other} at is same =
+    one_entry network n other entry (subst (λ k. IsEntry network k other) same is) at
 
-one_more : (network : Network) (n : ℕ) (entry : Entry) (link : LinkId) (rows : List LeavingRow) → IsEntry network n entry → entry.row.link ≡ link
-    → AreFirstOn network n link rows → AreFirstOn network (n + 1) link (rows ++ leaving_by entry ∷ [])
-one_more network n entry link rows at on are = record {
-  sound = λ row there. by_part row (in_parts row rows (leaving_by entry ∷ []) there);
-  complete = λ place other lt is with_link. by_place place other is with_link (below_next place n lt);
-}
-  where
-    by_part : (row : LeavingRow) → IsIn row rows ⊎ IsIn row (leaving_by entry ∷ []) → IsRowOn network link row
-    by_part row (inl there) = are.sound row there
-    by_part row (inr (inl e)) = record { place = n; entry = entry; is = at; on = on; kept = e }
-    by_part row (inr (inr never)) = absurd never
+module _ {network : Network} {n : ℕ} {entry : Entry} (link : LinkId) (rows : List LeavingRow)
+    (at : IsEntry network n entry) where
+  one_more : entry.row.link ≡ link → AreFirstOn network n link rows
+      → AreFirstOn network (n + 1) link (rows ++ leaving_by entry ∷ [])
+  one_more on are = record {
+    sound = λ row there. by_part row (in_parts row rows (leaving_by entry ∷ []) there);
+    complete = λ place other lt is with_link. by_place place other is with_link (below_next place n lt);
+  }
+    where
+      by_part : (row : LeavingRow) → IsIn row rows ⊎ IsIn row (leaving_by entry ∷ []) → IsRowOn network link row
+      by_part row (inl there) = are.sound row there
+      by_part row (inr (inl e)) = record { place = n; entry = entry; is = at; on = on; kept = e }
+      by_part row (inr (inr never)) = absurd never
 
-    by_place : (place : ℕ) (other : Entry) → IsEntry network place other → other.row.link ≡ link → (place < n) ⊎ (place ≡ n)
-        → IsIn (leaving_by other) (rows ++ leaving_by entry ∷ [])
-    by_place place other is with_link (inl before) = in_left (leaving_by other) rows (leaving_by entry ∷ []) (are.complete place other before is with_link)
-    by_place place other is with_link (inr same) =
-        in_right (leaving_by other) rows (leaving_by entry ∷ []) (inl (ap leaving_by (is_new network n place entry other at is same)))
+      by_place : (place : ℕ) (other : Entry) → IsEntry network place other → other.row.link ≡ link → (place < n)
+          ⊎ (place ≡ n)
+          → IsIn (leaving_by other) (rows ++ leaving_by entry ∷ [])
+      by_place place other is with_link (inl before) =
+          in_left (leaving_by other) rows (leaving_by entry ∷ []) (are.complete place other before is with_link)
+      by_place place other is with_link (inr same) =
+          in_right (leaving_by other) rows (leaving_by entry ∷ [])
+          (inl (ap leaving_by (is_new {network = network} {n = n} {place = place} {entry = entry} {other = other} at is same)))
 
-other_more : (network : Network) (n : ℕ) (entry : Entry) (link : LinkId) (rows : List LeavingRow) → IsEntry network n entry → (entry.row.link ≡ link → ⊥)
-    → AreFirstOn network n link rows → AreFirstOn network (n + 1) link rows
-other_more network n entry link rows at off are = grind (arith, below_next, is_new)
+  other_more : (entry.row.link ≡ link → ⊥) → AreFirstOn network n link rows → AreFirstOn network (n + 1) link rows
+  other_more off are = grind (arith, below_next, is_new)
 
-pub more_exits : (network : Network) (n : ℕ) (entry : Entry) (old new : Exits) → AreFirstExits network n old → IsEntry network n entry
-    → ((link : LinkId) → rows_on new link
-    ≡ (if link.0 == entry.row.link.0 then rows_on old link ++ leaving_by entry ∷ [] else rows_on old link))
-    → length new.links.items ≡ length old.links.items → AreFirstExits network (n + 1) new
-more_exits network n entry old new are at rows links = record {
+pub more_exits : {network : Network} {n : ℕ} {entry : Entry} {old : Exits} (new : Exits)
+    → AreFirstExits network n old → IsEntry network n entry
+    → ((link : LinkId) → rows_on new link ≡ (if link.0 == entry.row.link.0 then rows_on old link ++ leaving_by entry
+    ∷ [] else rows_on old link)) → length new.links.items ≡ length old.links.items → AreFirstExits network (n + 1) new
+more_exits {network} {n} {entry} {old} new are at rows links = record {
   links = links ∙ are.links;
   each = λ link. by_test link (link.0 == entry.row.link.0) refl (rows link);
 }
@@ -80,11 +86,13 @@ more_exits network n entry old new are at rows links = record {
     by_test link true is row =
         let link_of : ℕ → LinkId = λ k. record { 0 = k } in
         subst (AreFirstOn network (n + 1) link) (sym row)
-        (one_more network n entry link (rows_on old link) at (sym (ap link_of (eqb-true link.0 entry.row.link.0 is))) (are.each link))
+        (one_more {network = network} {n = n} {entry = entry} link
+        (rows_on old link) at (sym (ap link_of (eqb-true link.0 entry.row.link.0 is))) (are.each link))
     by_test link false is row =
         subst (AreFirstOn network (n + 1) link) (sym row)
-        (other_more network n entry link (rows_on old link) at
+        (other_more {network = network} {n = n} {entry = entry} link (rows_on old link) at
         (λ e. false≢true (sym is ∙ eq-eqb link.0 entry.row.link.0 (sym (ap (λ (l : LinkId). l.0) e)))) (are.each link))
 
-pub all_exits : (network : Network) (n : ℕ) (exits : Exits) → length network.row ≤ n → AreFirstExits network n exits → AreExits network exits
-all_exits network n exits all are link = grind (arith, slice_get_within)
+pub all_exits : {network : Network} {n : ℕ} {exits : Exits} → length network.row ≤ n → AreFirstExits network n exits
+    → AreExits network exits
+all_exits all are link = grind (arith, slice_get_within)

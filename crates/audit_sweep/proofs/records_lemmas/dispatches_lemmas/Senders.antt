@@ -12,20 +12,21 @@ use Rattle.std.{proofs.lemmas.Int.ints, specs.Prelude.is_some}
 
 -- ---- a crossing at a time
 
-crossed_then : (reading : ℕ → ℕ) (shown : Shown) (series : Series) (t : ℕ) → NoneCrossed reading shown series (t - 1) (t + 1)
-    → CrossesSome reading shown series t → ⊥
-crossed_then reading shown series zero none (n, crosses) = grind (arith, ints)
-crossed_then reading shown series (suc t) none (n, crosses) = none (suc t) n (omega arith) (omega arith) crosses
+module _ (reading : ℕ → ℕ) (shown : Shown) (series : Series) where
+  crossed_then : (t : ℕ) → NoneCrossed reading shown series (t - 1) (t + 1) → CrossesSome reading shown series t → ⊥
+  crossed_then zero none (n, crosses) = grind (arith, ints)
+  crossed_then (suc t) none (n, crosses) = none (suc t) n (omega arith) (omega arith) crosses
 
-pub crossed_at : (reading : ℕ → ℕ) (shown : Shown) (series : Series) (t : ℕ) (o : Option Crossed) → IsNextOrNone reading shown series (t - 1) t o
-    → IsTrue (is_some o) ↔ CrossesSome reading shown series t
-crossed_at reading shown series t None none = (λ told. absurd cc, λ some. absurd (crossed_then reading shown series t none some))
-crossed_at reading shown series t (Some crossed) next = grind arith
+  pub crossed_at : (t : ℕ) (o : Option Crossed) → IsNextOrNone reading shown series (t - 1) t o
+      → IsTrue (is_some o) ↔ CrossesSome reading shown series t
+  crossed_at t None none = (λ told. absurd cc, λ some. absurd (crossed_then t none some))
+  crossed_at t (Some crossed) next = grind arith
 
-pub reached_some : (s : Scenario) (hs : List Happening) (device : DeviceId) (t : ℕ) (shown : Shown) (row : LeavingRow) (series : Series)
-    → AreLeavings s.network row series → IsSteady s device → Shows s (earlier t hs) device shown
-    → CrossesSome (s.reading device) shown series t ↔ ReachesSome s s.network hs device t row
-reached_some s hs device t shown row series are steady shows = (to, from)
+pub reached_some : {s : Scenario} (hs : List Happening) {device : DeviceId} (t : ℕ) {shown : Shown}
+    {row : LeavingRow} {series : Series} → AreLeavings s.network row series → IsSteady s device
+    → Shows s (earlier t hs) device shown → CrossesSome (s.reading device) shown series t
+    ↔ ReachesSome s s.network hs device t row
+reached_some {s} hs {device} t {shown} {row} {series} are steady shows = (to, from)
   where
     to : CrossesSome (s.reading device) shown series t → ReachesSome s s.network hs device t row
     to (n, crosses) = record {
@@ -33,24 +34,25 @@ reached_some s hs device t shown row series are steady shows = (to, from)
       occurs = are.occur n;
       reached = come_reaches s hs device (pos (leaving_value s.network row (cycle_of row n))) t shown
           (record { now = s.reading device t; before = s.reading device (t - 1) }) (record { now = refl; before = refl }) steady shows
-          (subst (λ (v : ℤ). CrossesAt (s.reading device) shown v t) (are.values n) crosses);
+          (subst (λ v. CrossesAt (s.reading device) shown v t) (are.values n) crosses);
     }
 
     from : ReachesSome s s.network hs device t row → CrossesSome (s.reading device) shown series t
     from due =
         let k = are.all due.cycle due.occurs in
         let value : pos (leaving_value s.network row due.cycle) ≡ value_in series k.0 =
-        ap (λ (n : ℕ). pos (leaving_value s.network row n)) k.1 ∙ sym (are.values k.0) in (
+        ap (λ n. pos (leaving_value s.network row n)) k.1 ∙ sym (are.values k.0) in (
           k.0,
-          subst (λ (v : ℤ). CrossesAt (s.reading device) shown v t) value
+          subst (λ v. CrossesAt (s.reading device) shown v t) value
               (reaches_come s hs device (pos (leaving_value s.network row due.cycle)) t shown
               (record { now = s.reading device t; before = s.reading device (t - 1) }) (record { now = refl; before = refl }) shows due.reached),
         )
 
 -- ---- the rows
 
-pub fit_rows : (network : Network) (link : LinkId) (rows : List LeavingRow) → IsInRange network → AreRowsOn network link rows → AreRowsFit rows
-fit_rows network link rows range are row there =
+pub fit_rows : {network : Network} {link : LinkId} {rows : List LeavingRow} → IsInRange network
+    → AreRowsOn network link rows → AreRowsFit rows
+fit_rows {network} range are row there =
     let on = are.sound row there in
     let entry = on.entry in
     let vl = in_all (IsVlInRange network) network.vl entry.row.vl.0 entry.vl range.vls on.is.vl in
@@ -64,17 +66,18 @@ fit_rows network link rows range are row there =
 
 -- ---- what is sent is dispatched with no cause
 
-sender_of : (network : Network) (hs : List Happening) (device : DeviceId) (entry : Entry) (t cycle : ℕ) → AreFoundByNumber hs
-    → HasAtHand network hs device entry t 0 cycle → entry.vl.sender ≡ device
-sender_of network hs device entry t cycle found (inl (sends, none)) = sends
-sender_of network hs device entry t cycle found (inr (switch, has)) =
+sender_of : (network : Network) {hs : List Happening} {device : DeviceId} (entry : Entry) {t cycle : ℕ}
+    → AreFoundByNumber hs → HasAtHand network hs device entry t 0 cycle → entry.vl.sender ≡ device
+sender_of network entry found (inl (sends, none)) = sends
+sender_of network {hs} {device} entry {t} {cycle} found (inr (switch, has)) =
     let none : numbered hs 0 ≡ Some has.taken =
-    subst (λ (n : ℕ). numbered hs n ≡ Some has.taken) (sym has.number) (found has.taken (accepted_in hs device entry.row.vl t 0 cycle has)) in
+    subst (λ n. numbered hs n ≡ Some has.taken) (sym has.number) (found has.taken (accepted_in hs device entry.row.vl t 0 cycle has)) in
     absurd cc
 
-pub some_sent : (s : Scenario) (hs : List Happening) (device : DeviceId) (t : ℕ) (link : LinkId) (rows : List LeavingRow)
-    → AreRowsOn s.network link rows → IsUp s hs device t → AreFoundByNumber hs → SendsBySome s s.network hs device t rows ↔ SendsSome s hs device t link
-some_sent s hs device t link rows are up found = (to, from)
+pub some_sent : {s : Scenario} {hs : List Happening} {device : DeviceId} {t : ℕ} {link : LinkId}
+    {rows : List LeavingRow} → AreRowsOn s.network link rows → IsUp s hs device t → AreFoundByNumber hs
+    → SendsBySome s s.network hs device t rows ↔ SendsSome s hs device t link
+some_sent {s} {hs} {device} {t} {link} {rows} are up found = (to, from)
   where
     to : SendsBySome s s.network hs device t rows → SendsSome s hs device t link
     to some =
@@ -103,7 +106,7 @@ some_sent s hs device t link rows are up found = (to, from)
       there = are.complete does.place does.entry does.row does.by;
       by = record {
         leaves = does.leaves;
-        sends = sender_of s.network hs device does.entry t cycle found does.at_hand;
+        sends = sender_of s.network does.entry found does.at_hand;
         due = record { cycle = cycle; occurs = record { begun = does.occurs.begun; in_phase = does.occurs.in_phase }; reached = does.reached };
       };
     }

@@ -37,9 +37,9 @@ delay_least s link l way t within there least =
     (set_least s link l way within there least)
 
 -- what arrives does so later than it was put on the wire
-comes_behind : (s : Scenario) (h : Happening) (r : Reception) (signal : Signal) → IsInRange s.network → AreWithinHypothesis s.network s.events
-    → Arrives s h r.device r.link r.time signal → time_of h < r.time
-comes_behind s h r signal range within x =
+comes_behind : {s : Scenario} {h : Happening} (r : Reception) {signal : Signal} → IsInRange s.network
+    → AreWithinHypothesis s.network s.events → Arrives s h r.device r.link r.time signal → time_of h < r.time
+comes_behind {s} {h} r range within x =
     let l = there_is (target_by x.way) (link_at s.network r.link) r.device x.receiver in
     let least = delay_least s r.link l.0 x.way (time_of h) within l.1
     (in_all (IsLinkInRange s.network) s.network.link r.link.0 l.0 range.links l.1).wire.least in
@@ -51,7 +51,7 @@ pub owed_arrival : (s : Scenario) (hs : List Happening) (h : Happening) (until c
     → AreWithinHypothesis s.network s.events → numbered hs cause ≡ Some h → IsReceivedBy s h until o → IsOwedArrival s hs until cause o
 owed_arrival s hs h until cause None range within there none =
     λ owed. none owed.device owed.link owed.time owed.arrives.signal
-    (subst (λ (g : Happening). Arrives s g owed.device owed.link owed.time owed.arrives.signal)
+    (subst (λ g. Arrives s g owed.device owed.link owed.time owed.arrives.signal)
     (one (numbered hs cause) owed.arrives.putting h owed.arrives.there there) owed.arrives.arrives) owed.timely
 owed_arrival s hs h until cause (Some r) range within there x = (
   record {
@@ -60,7 +60,7 @@ owed_arrival s hs h until cause (Some r) range within there x = (
     time = r.time;
     is = arrival_of s hs r.device r.time r.link cause x.0.signal;
     arrives = record { putting = h; there = there; signal = x.0.signal; arrives = x.0.arrives; becomes = refl };
-    behind = inl (comes_behind s h r x.0.signal range within x.0.arrives);
+    behind = inl (comes_behind r range within x.0.arrives);
     timely = x.1;
   },
   refl,

@@ -19,27 +19,34 @@ end_test : (end_of : Link → DeviceId) (o : Option Link) (device : DeviceId) �
 end_test end_of None device e = absurd e
 end_test end_of (Some l) device e = alike_test (end_of l) device e
 
-child_is : (network : Network) (device : DeviceId) (link : LinkId) → is_child_of network device link ≡ true → IsChildOf network device link
-child_is network device link e = end_is (λ (l : Link). l.child) (link_at network link) device e
+module _ (network : Network) (device : DeviceId) (link : LinkId) where
+  child_is : is_child_of network device link ≡ true → IsChildOf network device link
+  child_is e = end_is (λ (l : Link). l.child) (link_at network link) device e
 
-child_test : (network : Network) (device : DeviceId) (link : LinkId) → IsChildOf network device link → is_child_of network device link ≡ true
-child_test network device link e = end_test (λ (l : Link). l.child) (link_at network link) device e
+  child_test : IsChildOf network device link → is_child_of network device link ≡ true
+  child_test e = end_test (λ (l : Link). l.child) (link_at network link) device e
 
-passes_is : (network : Network) (device : DeviceId) (by link : LinkId) → passes network device by link ≡ true → Passes network device by link
-passes_is network device by link e = grind (arith, and_parts, or_cases, parent_shown, child_is)
+module _ (network : Network) (device : DeviceId) (by link : LinkId) where
+  passes_is : passes network device by link ≡ true → Passes network device by link
+  passes_is e = grind (arith, and_parts, or_cases, parent_shown, child_is)
 
-on_test : (network : Network) (device : DeviceId) (by link : LinkId)
-    → (IsParentOf network device by × IsChildOf network device link) ⊎ (IsChildOf network device by × IsParentOf network device link)
-    → ((is_parent_of network device by && is_child_of network device link) || (is_child_of network device by && is_parent_of network device link)) ≡ true
-on_test network device by link (inl p) =
-    or_left (is_parent_of network device by && is_child_of network device link) (is_child_of network device by && is_parent_of network device link)
-    (and_from (is_parent_of network device by) (is_child_of network device link) (shown_parent network device by p.0) (child_test network device link p.1))
-on_test network device by link (inr p) =
-    or_right (is_parent_of network device by && is_child_of network device link) (is_child_of network device by && is_parent_of network device link)
-    (and_from (is_child_of network device by) (is_parent_of network device link) (child_test network device by p.0) (shown_parent network device link p.1))
+  on_test : (IsParentOf network device by × IsChildOf network device link)
+      ⊎ (IsChildOf network device by × IsParentOf network device link) →
+      ((is_parent_of network device by && is_child_of network device link) || (is_child_of network device by &&
+      is_parent_of network device link)) ≡ true
+  on_test (inl p) =
+      or_left (is_parent_of network device by && is_child_of network device link)
+      (is_child_of network device by && is_parent_of network device link)
+      (and_from (is_parent_of network device by) (is_child_of network device link)
+      (shown_parent network device by p.0) (child_test network device link p.1))
+  on_test (inr p) =
+      or_right (is_parent_of network device by && is_child_of network device link)
+      (is_child_of network device by && is_parent_of network device link)
+      (and_from (is_child_of network device by) (is_parent_of network device link) (child_test network device by p.0)
+      (shown_parent network device link p.1))
 
-passes_test : (network : Network) (device : DeviceId) (by link : LinkId) → Passes network device by link → passes network device by link ≡ true
-passes_test network device by link p = and_from (is_relay network device) _ p.relay (on_test network device by link p.on)
+  passes_test : Passes network device by link → passes network device by link ≡ true
+  passes_test p = and_from (is_relay network device) _ p.relay (on_test p.on)
 
 -- ---- who gives
 
@@ -51,49 +58,53 @@ choose : (b : Bool) (x y : DeviceId) → b ≡ true → y ≡ x → (if b then S
 choose true x y b e = ap (λ (d : DeviceId). Some d) (sym e)
 choose false x y b e = absurd cc
 
--- the device that is told gives the frame
-pub gives : (network : Network) (body : NoteBody) (device : DeviceId) (link : LinkId) → giver network link (kept_of body) ≡ Some device
-    → Gives network body device link
-gives network (notes.Sent master cycle) device link e =
-    let x = chosen (is_child_of network master link) master device e in
-    (x.1, subst (λ (d : DeviceId). IsChildOf network d link) (sym x.1) (child_is network master link x.0))
-gives network (notes.Compressed cm opened at cycle members verdict) device link e =
-    let x = chosen (is_parent_of network cm link) cm device e in
-    (x.1, subst (λ (d : DeviceId). IsParentOf network d link) (sym x.1) (parent_shown network cm link x.0))
-gives network (notes.Arrived relay by cause clock) device link e =
-    let x = chosen (passes network relay by link) relay device e in
-    (x.1, subst (λ (d : DeviceId). Passes network d by link) (sym x.1) (passes_is network relay by link x.0))
-gives network (notes.Event line (events.On turned)) device link e = absurd cc
-gives network (notes.Event line (events.Send sent octets)) device link e = absurd cc
-gives network other device link e = absurd cc
+module _ (network : Network) where
+  -- the device that is told gives the frame
+  pub gives : (body : NoteBody) (device : DeviceId) (link : LinkId) → giver network link (kept_of body) ≡ Some device
+      → Gives network body device link
+  gives (notes.Sent master cycle) device link e =
+      let x = chosen (is_child_of network master link) master device e in
+      (x.1, subst (λ d. IsChildOf network d link) (sym x.1) (child_is network master link x.0))
+  gives (notes.Compressed cm opened at cycle members verdict) device link e =
+      let x = chosen (is_parent_of network cm link) cm device e in
+      (x.1, subst (λ d. IsParentOf network d link) (sym x.1) (parent_shown network cm link x.0))
+  gives (notes.Arrived relay by cause clock) device link e =
+      let x = chosen (passes network relay by link) relay device e in
+      (x.1, subst (λ d. Passes network d by link) (sym x.1) (passes_is network relay by link x.0))
+  gives (notes.Event line (events.On turned)) device link e = absurd cc
+  gives (notes.Event line (events.Send sent octets)) device link e = absurd cc
+  gives other device link e = absurd cc
 
--- and the device that gives it is told
-pub given : (network : Network) (body : NoteBody) (device : DeviceId) (link : LinkId) → Gives network body device link
-    → giver network link (kept_of body) ≡ Some device
-given network (notes.Sent master cycle) device link g =
-    choose (is_child_of network master link) master device
-    (subst (λ (d : DeviceId). is_child_of network d link ≡ true) g.0 (child_test network device link g.1)) g.0
-given network (notes.Compressed cm opened at cycle members verdict) device link g =
-    choose (is_parent_of network cm link) cm device
-    (subst (λ (d : DeviceId). is_parent_of network d link ≡ true) g.0 (shown_parent network device link g.1)) g.0
-given network (notes.Arrived relay by cause clock) device link g =
-    choose (passes network relay by link) relay device
-    (subst (λ (d : DeviceId). passes network d by link ≡ true) g.0 (passes_test network device by link g.1)) g.0
-given network other device link g = absurd g
+  -- and the device that gives it is told
+  pub given : (body : NoteBody) (device : DeviceId) (link : LinkId) → Gives network body device link
+      → giver network link (kept_of body) ≡ Some device
+  given (notes.Sent master cycle) device link g =
+      choose (is_child_of network master link) master device
+      (subst (λ d. is_child_of network d link ≡ true) g.0 (child_test network device link g.1)) g.0
+  given (notes.Compressed cm opened at cycle members verdict) device link g =
+      choose (is_parent_of network cm link) cm device
+      (subst (λ d. is_parent_of network d link ≡ true) g.0 (shown_parent network device link g.1)) g.0
+  given (notes.Arrived relay by cause clock) device link g =
+      choose (passes network relay by link) relay device
+      (subst (λ d. passes network d by link ≡ true) g.0 (passes_test network device by link g.1)) g.0
+  given other device link g = absurd g
 
--- ---- the link is there
+  -- ---- the link is there
 
-pub within : (network : Network) (link : LinkId) (P : Link → Type 0) → IsSomeAnd (link_at network link) P → HasLink network link
-within network link P p = let l = link_there (link_at network link) P p in slice_get_within network.link link.0 l.0 l.1
+  pub within : (link : LinkId) (P : Link → Type 0) → IsSomeAnd (link_at network link) P → HasLink network link
+  within link P p = let l = link_there (link_at network link) P p in slice_get_within network.link link.0 l.0 l.1
 
-passes_within : (network : Network) (device : DeviceId) (by link : LinkId)
-    → (IsParentOf network device by × IsChildOf network device link) ⊎ (IsChildOf network device by × IsParentOf network device link) → HasLink network link
-passes_within network device by link (inl p) = within network link (λ l. l.child ≡ device) p.1
-passes_within network device by link (inr p) = within network link (λ l. l.parent ≡ device) p.1
+  passes_within : (device : DeviceId) (by link : LinkId)
+      → (IsParentOf network device by × IsChildOf network device link)
+      ⊎ (IsChildOf network device by × IsParentOf network device link) → HasLink network link
+  passes_within device by link (inl p) = within link (λ l. l.child ≡ device) p.1
+  passes_within device by link (inr p) = within link (λ l. l.parent ≡ device) p.1
 
--- frames are given to links of the network alone
-pub given_within : (network : Network) (body : NoteBody) (device : DeviceId) (link : LinkId) → Gives network body device link → HasLink network link
-given_within network (notes.Sent master cycle) device link g = within network link (λ l. l.child ≡ device) g.1
-given_within network (notes.Compressed cm opened at cycle members verdict) device link g = within network link (λ l. l.parent ≡ device) g.1
-given_within network (notes.Arrived relay by cause clock) device link g = passes_within network device by link g.1.on
-given_within network other device link g = absurd g
+  -- frames are given to links of the network alone
+  pub given_within : (body : NoteBody) (device : DeviceId) (link : LinkId) → Gives network body device link
+      → HasLink network link
+  given_within (notes.Sent master cycle) device link g = within link (λ l. l.child ≡ device) g.1
+  given_within (notes.Compressed cm opened at cycle members verdict) device link g =
+      within link (λ l. l.parent ≡ device) g.1
+  given_within (notes.Arrived relay by cause clock) device link g = passes_within device by link g.1.on
+  given_within other device link g = absurd g

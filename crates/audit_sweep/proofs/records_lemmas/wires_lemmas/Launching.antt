@@ -61,7 +61,7 @@ put_launched s h t other put shown e whole = absurd cc
 control_launched : (link : LinkId) (way : Way) (o : Option Pcf) (l : Launch) → option_map (λ frame. launch link way (control (Ok frame))) o ≡ Some l
     → option_map (put_on link way) (control_on_wire o) ≡ Some (put_of l)
 control_launched link way None l e = absurd cc
-control_launched link way (Some f) l e = ap (λ (x : Launch). Some (put_of x)) (same_Some _ _ e)
+control_launched link way (Some f) l e = ap (λ x. Some (put_of x)) (same_Some _ _ e)
 
 not_cut : {X : Type 0} (b : Bool) (x y : X) → (if b then None else Some x) ≡ Some y → (b ≡ false) × (x ≡ y)
 not_cut true x y e = absurd cc
@@ -71,10 +71,10 @@ not_cut false x y e = (refl, same_Some _ _ e)
 pub launched_put : (s : Scenario) (h : Happening) (t : ℕ) (body : NoteBody) (l : Launch) → SendShows h body → launched s h t body ≡ Some l
     → (put_by s.network (record_of h) (kept_of body) ≡ Some (put_of l)) × (stops s t l.link (kept_of body) ≡ false)
 launched_put s h t (notes.Left device link cause clock) l shown e = (control_launched link (way_from s.network device link) h.frame l e, refl)
-launched_put s h t (notes.TtSent device link cause vl cycle) l shown e = (ap (λ (x : Launch). Some (put_of x)) (same_Some _ _ e), refl)
+launched_put s h t (notes.TtSent device link cause vl cycle) l shown e = (ap (λ x. Some (put_of x)) (same_Some _ _ e), refl)
 launched_put s h t (notes.Event line (events.Send link octets)) l shown e =
     let n = not_cut (is_cut s link Up t) (launch link Up (signal_of octets)) l e in (
-      ap (option_map (put_on link Up)) (sent h octets shown.0 shown.1) ∙ ap (λ (x : Launch). Some (put_of x)) n.1,
+      ap (option_map (put_on link Up)) (sent h octets shown.0 shown.1) ∙ ap (λ x. Some (put_of x)) n.1,
       subst (λ (x : Launch). is_cut s x.link Up t ≡ false) n.1 n.0,
     )
 launched_put s h t other l shown e = absurd cc

@@ -20,39 +20,42 @@ send_body (notes.Event line (events.Send other octets)) link e = (line, octets, 
 send_body (notes.Event line (events.On device)) link e = absurd cc
 send_body other link e = absurd cc
 
-lost_on : (s : Scenario) (hs : List Happening) (h : Happening) (r : KeptRecord) (device : DeviceId) (t : ℕ) (link : LinkId) (cause : ℕ)
-    → numbered hs cause ≡ Some h → r ≡ record_of h → IsSendLost s hs device t link cause → (sent_on r.kept ≡ Some link) × (t ≡ r.time)
-lost_on s hs h r device t link cause there k x = grind (arith, one)
+lost_on : {s : Scenario} {hs : List Happening} (h : Happening) (r : KeptRecord) {device : DeviceId} {t : ℕ}
+    {link : LinkId} {cause : ℕ} → numbered hs cause ≡ Some h → r ≡ record_of h → IsSendLost s hs device t link cause
+    → (sent_on r.kept ≡ Some link) × (t ≡ r.time)
+lost_on h r there k x = grind (arith, one)
 
--- the way is whole
-pub whole_way : (s : Scenario) (hs : List Happening) (h : Happening) (r : KeptRecord) (until cause : ℕ) (link : LinkId) → numbered hs cause ≡ Some h
-    → r ≡ record_of h → sent_on r.kept ≡ Some link → is_cut s link Up r.time ≡ false → OwesLoss s hs until cause → ⊥
-whole_way s hs h r until cause link there k by whole o = grind (arith, lost_on, one)
+module _ (s : Scenario) (hs : List Happening) where
+  -- the way is whole
+  pub whole_way : (h : Happening) (r : KeptRecord) {until cause : ℕ} (link : LinkId) → numbered hs cause ≡ Some h
+      → r ≡ record_of h → sent_on r.kept ≡ Some link → is_cut s link Up r.time ≡ false → OwesLoss s hs until cause → ⊥
+  whole_way h r link there k by whole o = grind (arith, lost_on, one)
 
--- the octets are lost
-pub send_lost : (s : Scenario) (hs : List Happening) (h : Happening) (r : KeptRecord) (cause : ℕ) (link : LinkId) (found : Link) → numbered hs cause ≡ Some h
-    → r ≡ record_of h → sent_on r.kept ≡ Some link → slice_get s.network.link link.0 ≡ Some found → is_cut s link Up r.time ≡ true
-    → IsSendLost s hs found.child r.time link cause
-send_lost s hs h r cause link found there k by at cut = grind (arith, send_body)
+  -- the octets are lost
+  pub send_lost : (h : Happening) (r : KeptRecord) (cause : ℕ) (link : LinkId) (found : Link)
+      → numbered hs cause ≡ Some h → r ≡ record_of h → sent_on r.kept ≡ Some link
+      → slice_get s.network.link link.0 ≡ Some found → is_cut s link Up r.time ≡ true
+      → IsSendLost s hs found.child r.time link cause
+  send_lost h r cause link found there k by at cut = grind (arith, send_body)
 
--- ---- at one device
+  -- ---- at one device
 
-pub lost_here : (s : Scenario) (hs : List Happening) (device : DeviceId) (t : ℕ) (link : LinkId) (cause : ℕ) (lost : Leaving)
-    → ((o : OwesLoss s hs t cause) × (lost.device ≡ o.device) × (lost.link ≡ o.link) × (lost.time ≡ o.time)) → IsLostAt lost device link t
-    → IsSendLost s hs device t link cause
-lost_here s hs device t link cause lost x here = grind arith
+  pub lost_here : {device : DeviceId} {t : ℕ} {link : LinkId} {cause : ℕ} {lost : Leaving}
+      → ((o : OwesLoss s hs t cause) × (lost.device ≡ o.device) × (lost.link ≡ o.link) × (lost.time ≡ o.time))
+      → IsLostAt lost device link t → IsSendLost s hs device t link cause
+  lost_here x here = grind arith
 
-same_loss : (s : Scenario) (hs : List Happening) (h : Happening) (r : KeptRecord) (device other : DeviceId) (t u : ℕ) (link way : LinkId) (cause : ℕ)
-    → numbered hs cause ≡ Some h → r ≡ record_of h → IsSendLost s hs device t link cause → IsSendLost s hs other u way cause
-    → (device ≡ other) × (link ≡ way) × (t ≡ u)
-same_loss s hs h r device other t u link way cause there k x y = grind (arith, lost_on, one, slice_get)
+  same_loss : (h : Happening) (r : KeptRecord) {device other : DeviceId} {t u : ℕ} {link way : LinkId} {cause : ℕ}
+      → numbered hs cause ≡ Some h → r ≡ record_of h → IsSendLost s hs device t link cause
+      → IsSendLost s hs other u way cause → (device ≡ other) × (link ≡ way) × (t ≡ u)
+  same_loss h r there k x y = grind (arith, lost_on, one, slice_get)
 
-pub lost_elsewhere : (s : Scenario) (hs : List Happening) (h : Happening) (r : KeptRecord) (device : DeviceId) (t : ℕ) (link : LinkId) (cause : ℕ)
-    (lost : Leaving) → numbered hs cause ≡ Some h → r ≡ record_of h
+pub lost_elsewhere : {s : Scenario} {hs : List Happening} (h : Happening) (r : KeptRecord) {device : DeviceId}
+    {t : ℕ} {link : LinkId} {cause : ℕ} (lost : Leaving) → numbered hs cause ≡ Some h → r ≡ record_of h
     → ((o : OwesLoss s hs t cause) × (lost.device ≡ o.device) × (lost.link ≡ o.link) × (lost.time ≡ o.time))
     → IsSendLost s hs device t link cause → IsLostAt lost device link t
-lost_elsewhere s hs h r device t link cause lost there k x y = grind (arith, same_loss)
+lost_elsewhere h r lost there k x y = grind (arith, same_loss)
 
-pub owed_at : (s : Scenario) (hs : List Happening) (device : DeviceId) (t : ℕ) (link : LinkId) (cause : ℕ) → IsSendLost s hs device t link cause
-    → OwesLoss s hs t cause
-owed_at s hs device t link cause x = record { device = device; link = link; time = t; lost = x; timely = grind arith }
+pub owed_at : {s : Scenario} {hs : List Happening} {device : DeviceId} {t : ℕ} {link : LinkId} {cause : ℕ}
+    → IsSendLost s hs device t link cause → OwesLoss s hs t cause
+owed_at {device} {t} {link} x = record { device = device; link = link; time = t; lost = x; timely = grind arith }

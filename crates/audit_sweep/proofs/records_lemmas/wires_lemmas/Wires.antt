@@ -10,36 +10,39 @@ use Rattle.std.specs.Prelude.{option_map}
 
 -- ---- what arrives is told
 
-put_is : (s : Scenario) (h : Happening) (r : KeptRecord) (device : DeviceId) (link : LinkId) (t : ℕ) (signal : Signal) → ShowsByCause s.network h
-    → r ≡ record_of h → (x : Arrives s h device link t signal)
-    → put_by s.network r r.kept ≡ Some (put_of (record { link = link; way = x.way; signal = signal }))
-put_is s h r device link t signal shown k x =
-    ap (λ (q : KeptRecord). put_by s.network q q.kept) k
-    ∙ (launched_put s h (time_of h) h.note.body (record { link = link; way = x.way; signal = signal }) (by_cause s.network h shown) x.put).0
+module _ {s : Scenario} {h : Happening} (r : KeptRecord) {device : DeviceId} {link : LinkId} {t : ℕ}
+    {signal : Signal} (shown : ShowsByCause s.network h) (k : r ≡ record_of h)
+    (x : Arrives s h device link t signal) where
+  put_is : put_by s.network r r.kept ≡ Some (put_of (record { link = link; way = x.way; signal = signal }))
+  put_is =
+      ap (λ (q : KeptRecord). put_by s.network q q.kept) k
+      ∙ (launched_put s h (time_of h) h.note.body (record { link = link; way = x.way; signal = signal })
+      (by_cause s.network h shown) x.put).0
 
-goes_on : (s : Scenario) (h : Happening) (r : KeptRecord) (device : DeviceId) (link : LinkId) (t : ℕ) (signal : Signal) → ShowsByCause s.network h
-    → r ≡ record_of h → (x : Arrives s h device link t signal) → stops s r.time link r.kept ≡ false
-goes_on s h r device link t signal shown k x =
-    ap (λ (q : KeptRecord). stops s q.time link q.kept) k
-    ∙ (launched_put s h (time_of h) h.note.body (record { link = link; way = x.way; signal = signal }) (by_cause s.network h shown) x.put).1
+  goes_on : stops s r.time link r.kept ≡ false
+  goes_on =
+      ap (λ (q : KeptRecord). stops s q.time link q.kept) k
+      ∙ (launched_put s h (time_of h) h.note.body (record { link = link; way = x.way; signal = signal })
+      (by_cause s.network h shown) x.put).1
 
--- the wire is of no link
-pub no_wire : (s : Scenario) (h : Happening) (r : KeptRecord) (put : Put) → ShowsByCause s.network h → r ≡ record_of h
-    → put_by s.network r r.kept ≡ Some put → link_at s.network put.link ≡ None
-    → (device : DeviceId) (link : LinkId) (t : ℕ) (signal : Signal) → Arrives s h device link t signal → ⊥
-no_wire s h r put shown k is none device link t signal x =
-    let same = one _ _ _ is (put_is s h r device link t signal shown k x) in
-    let gone : link_at s.network link ≡ None = subst (λ (p : Put). link_at s.network p.link ≡ None) same none in
-    let there = sym (ap (option_map (target_by x.way)) gone) ∙ x.receiver in cc
+module _ (s : Scenario) (h : Happening) (r : KeptRecord) (put : Put) (shown : ShowsByCause s.network h)
+    (k : r ≡ record_of h) (is : put_by s.network r r.kept ≡ Some put) where
+  -- the wire is of no link
+  pub no_wire : link_at s.network put.link ≡ None → {device : DeviceId} {link : LinkId} {t : ℕ} {signal : Signal}
+      → Arrives s h device link t signal → ⊥
+  no_wire none {link} x =
+      let same = one _ _ _ is (put_is r shown k x) in
+      let gone : link_at s.network link ≡ None = subst (λ (p : Put). link_at s.network p.link ≡ None) same none in
+      let there = sym (ap (option_map (target_by x.way)) gone) ∙ x.receiver in cc
 
--- a cut stops it
-pub stopped : (s : Scenario) (h : Happening) (r : KeptRecord) (put : Put) → ShowsByCause s.network h → r ≡ record_of h
-    → put_by s.network r r.kept ≡ Some put → stops s r.time put.link r.kept ≡ true
-    → (device : DeviceId) (link : LinkId) (t : ℕ) (signal : Signal) → Arrives s h device link t signal → ⊥
-stopped s h r put shown k is cut device link t signal x =
-    let same = one _ _ _ is (put_is s h r device link t signal shown k x) in
-    let here : stops s r.time link r.kept ≡ true = subst (λ (p : Put). stops s r.time p.link r.kept ≡ true) same cut in
-    let clash = sym here ∙ goes_on s h r device link t signal shown k x in cc
+  -- a cut stops it
+  pub stopped : stops s r.time put.link r.kept ≡ true → {device : DeviceId} {link : LinkId} {t : ℕ} {signal : Signal}
+      → Arrives s h device link t signal → ⊥
+  stopped cut {link} x =
+      let same = one _ _ _ is (put_is r shown k x) in
+      let here : stops s r.time link r.kept ≡ true =
+      subst (λ (p : Put). stops s r.time p.link r.kept ≡ true) same cut in
+      let clash = sym here ∙ goes_on r shown k x in cc
 
 -- ---- when
 
@@ -54,7 +57,7 @@ arrives_when s h found put = time_of h + port_time found.speed put.what + delay_
 
 launch_when : (s : Scenario) (h : Happening) (found : Link) (l : Launch) → link_at s.network l.link ≡ Some found
     → time_of h + time_on_port s.network l.link l.signal + delay_at s l.link l.way (time_of h) ≡ arrives_when s h found (put_of l)
-launch_when s h found l there = ap (λ (n : ℕ). time_of h + n + delay_at s l.link l.way (time_of h)) (port_is s.network l.link l.signal found there)
+launch_when s h found l there = ap (λ n. time_of h + n + delay_at s l.link l.way (time_of h)) (port_is s.network l.link l.signal found there)
 
 abbrev reception_of : Scenario → Happening → Link → Put → Reception
 reception_of s h found put =
@@ -83,7 +86,7 @@ put_received : (s : Scenario) (h : Happening) (found : Link) (put : Put) → Sho
     → stops s (time_of h) put.link (kept_of h.note.body) ≡ false → IsReception s h (reception_of s h found put)
 put_received s h found put shown is there whole =
     let l = put_launched s h (time_of h) h.note.body put (by_cause s.network h shown) is whole in
-    subst (λ (p : Put). IsReception s h (reception_of s h found p)) (sym l.2)
+    subst (λ p. IsReception s h (reception_of s h found p)) (sym l.2)
     (launch_received s h found l.0 l.1 (subst (λ (p : Put). link_at s.network p.link ≡ Some found) l.2 there))
 
 -- so it arrives
@@ -95,24 +98,24 @@ pub received : (s : Scenario) (h : Happening) (r : KeptRecord) (found : Link) (p
 received s h r found put device time shown k is there whole by at = grind (arith, put_received)
 
 -- but not by a time before
-pub too_late : (s : Scenario) (h : Happening) (r : Reception) (until : ℕ) → IsReception s h r → until < r.time
-    → (device : DeviceId) (link : LinkId) (t : ℕ) (signal : Signal) → Arrives s h device link t signal → t ≤ until → ⊥
-too_late s h r until is late device link t signal x le =
+pub too_late : {s : Scenario} {h : Happening} {r : Reception} (until : ℕ) → IsReception s h r → until < r.time
+    → {device : DeviceId} {link : LinkId} {t : ℕ} {signal : Signal} → Arrives s h device link t signal → t ≤ until → ⊥
+too_late {r} until is late {device} {link} {t} {signal} x le =
     let e : t ≡ r.time = is.time device link t signal x in
     let lt = late in
     grind (arith, e, lt, le)
 
 -- ---- at one device
 
-pub arrives_here : (s : Scenario) (h : Happening) (r : Reception) (device : DeviceId) (link : LinkId) (t : ℕ) → IsReception s h r → IsAt r device link t
-    → IsArriving s h device link t (Some r.what)
-arrives_here s h r device link t is here = grind arith
+module _ {s : Scenario} {h : Happening} {r : Reception} (device : DeviceId) (link : LinkId) (t : ℕ)
+    (is : IsReception s h r) where
+  pub arrives_here : IsAt r device link t → IsArriving s h device link t (Some r.what)
+  arrives_here here = grind arith
 
-pub arrives_elsewhere : (s : Scenario) (h : Happening) (r : Reception) (device : DeviceId) (link : LinkId) (t : ℕ) → IsReception s h r
-    → (IsAt r device link t → ⊥) → IsArriving s h device link t None
-arrives_elsewhere s h r device link t is other signal x =
-    other (record {
-      at_device = sym (is.device device link t signal x);
-      by_link = sym (is.link device link t signal x);
-      at_time = sym (is.time device link t signal x);
-    })
+  pub arrives_elsewhere : (IsAt r device link t → ⊥) → IsArriving s h device link t None
+  arrives_elsewhere other signal x =
+      other (record {
+        at_device = sym (is.device device link t signal x);
+        by_link = sym (is.link device link t signal x);
+        at_time = sym (is.time device link t signal x);
+      })

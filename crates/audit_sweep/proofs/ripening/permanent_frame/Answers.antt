@@ -48,7 +48,7 @@ returns-in-Some-point_reached c befallen hs k =
       of_frame = sym (ap (λ (r : KeptRecord). r.frame) found.2) ∙ c.in-Some-frame.is;
       waits = sym c.waits_for.ensures ∙ c.if-not-waits_for.false;
       at_point = first.point_is ∙ ap (λ (n : ℕ). point_of (pos (reading n)) c.in-Some-waiting_clock.clock c.args.network.now.dmax.0) at;
-      reached = subst (λ (n : ℕ). IsReach reading (pos n) c.in-Some-point_reached.point.0 (pos p.time)) at first.reached;
+      reached = subst (λ n. IsReach reading (pos n) c.in-Some-point_reached.point.0 (pos p.time)) at first.reached;
       correct = sym (c.is_broken.ensures c.args.network.now befallen k.events c.requires.passable.there) ∙ c.if-is_broken.false;
     }
 
@@ -65,10 +65,10 @@ returns-in-None-point_reached c befallen hs k frame point x =
     let at : time_of x.arrival ≡ c.in-Some.kept.now.time = ap time_of same ∙ sym (ap (λ (r : KeptRecord). r.time) found.2) in
     let here = x.at_point
     ∙ ap (λ (n : ℕ). point_of (pos (reading n)) x.clock dmax) at
-    ∙ ap (λ (n : ℕ). point_of (pos (reading c.in-Some.kept.now.time)) n dmax) clocks in
+    ∙ ap (λ n. point_of (pos (reading c.in-Some.kept.now.time)) n dmax) clocks in
     c.in-None-point_reached.ensures befallen hs k
-    (subst (λ (z : _). IsReach reading (pos c.in-Some.kept.now.time) z (pos p.time)) here
-    (subst (λ (n : ℕ). IsReach reading (pos n) point.0 (pos p.time)) at x.reached))
+    (subst (λ z. IsReach reading (pos c.in-Some.kept.now.time) z (pos p.time)) here
+    (subst (λ n. IsReach reading (pos n) point.0 (pos p.time)) at x.reached))
 
 pub returns-in-None-waiting_clock : goal.returns-in-None-waiting_clock
 returns-in-None-waiting_clock c befallen hs k frame point x =

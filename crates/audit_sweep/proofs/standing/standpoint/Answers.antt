@@ -22,7 +22,7 @@ returns-clause-is c befallen hs k =
     c.new.ensures
     ∙ same_standpoint _ _ _ _ _ _ _ _
     (c.takes_part-takes_part.ensures
-    ∙ ap (λ (x : State). not (is_off x) && not c.is_broken.result) state
+    ∙ ap (λ x. not (is_off x) && not c.is_broken.result) state
     ∙ ap (λ (b : Bool). not (is_off (state_before s hs c.args.device c.args.time)) && not b)
     (c.is_broken.ensures c.args.network.now befallen k.events c.requires.there))
     state (c.reading-reading.ensures c.args.network.now befallen k.events c.requires.there) (to_z-of_z w128 c.adjustment.result (search rules)

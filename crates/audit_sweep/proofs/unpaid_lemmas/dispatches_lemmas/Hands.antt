@@ -21,33 +21,38 @@ lacks_by false A T here is = (here, λ told. false≢true (is.1 told))
 -- ---- the causes
 
 -- a frame at hand is the sender's own, which has no cause, or the one that was accepted last
-pub cause_of : (network : Network) (hs : List Happening) (device sender : DeviceId) (vl : VlId) (t cause cycle : ℕ) (accepted : Option Taking)
-    → IsAcceptedLast network hs device vl t accepted → IsAtHand network hs device sender vl t cause cycle → (cause ≡ 0) ⊎ (is_last accepted cause cycle ≡ true)
-cause_of network hs device sender vl t cause cycle accepted so hand = grind (arith, held, so_held, eqb-true)
+pub cause_of : (network : Network) {hs : List Happening} {device : DeviceId} (sender : DeviceId) {vl : VlId}
+    {t cause cycle : ℕ} (accepted : Option Taking) → IsAcceptedLast network hs device vl t accepted
+    → IsAtHand network hs device sender vl t cause cycle → (cause ≡ 0) ⊎ (is_last accepted cause cycle ≡ true)
+cause_of network sender accepted so hand = grind (arith, held, so_held, eqb-true)
 
--- where nothing was accepted it is the sender's
-pub none_taken : (s : Scenario) (hs : List Happening) (link : LinkId) (row : LeavingRow) (t cycle : ℕ) (accepted : Option Taking) → accepted ≡ None
-    → IsAcceptedLast s.network hs row.device row.vl t accepted
-    → (IsAtHand s.network hs row.device row.sender row.vl t 0 cycle → IsTold s hs link row t (record { cause = 0; cycle = cycle }))
-    → AreTold s hs link row t cycle
-none_taken s hs link row t cycle accepted none so own cause hand = grind (arith, cause_of, false≢true)
+module _ (s : Scenario) (hs : List Happening) (link : LinkId) (row : LeavingRow) (t cycle : ℕ)
+    (accepted : Option Taking) where
+  -- where nothing was accepted it is the sender's
+  pub none_taken : accepted ≡ None → IsAcceptedLast s.network hs row.device row.vl t accepted
+      → (IsAtHand s.network hs row.device row.sender row.vl t 0 cycle
+      → IsTold s hs link row t (record { cause = 0; cycle = cycle })) → AreTold s hs link row t cycle
+  none_taken none so own cause hand = grind (arith, cause_of, false≢true)
 
--- and where one was, it is that or the sender's
-pub one_taken : (s : Scenario) (hs : List Happening) (link : LinkId) (row : LeavingRow) (t cycle : ℕ) (accepted : Option Taking) (taking : Taking) (b : Bool)
-    → accepted ≡ Some taking → IsAcceptedLast s.network hs row.device row.vl t accepted
-    → (IsAtHand s.network hs row.device row.sender row.vl t 0 cycle → IsTold s hs link row t (record { cause = 0; cycle = cycle })) → MatchBool b
-    (IsAtHand s.network hs row.device row.sender row.vl t taking.number cycle
-    × (IsTold s hs link row t (record { cause = taking.number; cycle = cycle }) → ⊥))
-    (IsAtHand s.network hs row.device row.sender row.vl t taking.number cycle → IsTold s hs link row t (record { cause = taking.number; cycle = cycle }))
-    → MatchBool b (LacksOne s hs link row t cycle) (AreTold s hs link row t cycle)
-one_taken s hs link row t cycle accepted taking true some so own lacks = record { cause = taking.number; at_hand = lacks.0; untold = lacks.1 }
-one_taken s hs link row t cycle accepted taking false some so own told = λ cause hand.
-    elim (cause_of s.network hs row.device row.sender row.vl t cause cycle accepted so hand) [
-      | inl zero ↦ subst (λ (k : ℕ). IsAtHand s.network hs row.device row.sender row.vl t k cycle
-          → IsTold s hs link row t (record { cause = k; cycle = cycle })) (sym zero) own hand
-      | inr last ↦
-          let same : taking.number ≡ cause = eqb-true taking.number cause (and_parts (taking.number == cause) (taking.cycle == cycle)
-          (ap (λ (o : Option Taking). is_last o cause cycle) (sym some) ∙ last)).0 in
-          subst (λ (k : ℕ). IsAtHand s.network hs row.device row.sender row.vl t k cycle
-          → IsTold s hs link row t (record { cause = k; cycle = cycle })) same told hand
-    ]
+  -- and where one was, it is that or the sender's
+  pub one_taken : (taking : Taking) (b : Bool) → accepted ≡ Some taking
+      → IsAcceptedLast s.network hs row.device row.vl t accepted
+      → (IsAtHand s.network hs row.device row.sender row.vl t 0 cycle
+      → IsTold s hs link row t (record { cause = 0; cycle = cycle }))
+      → MatchBool b (IsAtHand s.network hs row.device row.sender row.vl t taking.number cycle
+      × (IsTold s hs link row t (record { cause = taking.number; cycle = cycle }) → ⊥))
+      (IsAtHand s.network hs row.device row.sender row.vl t taking.number cycle
+      → IsTold s hs link row t (record { cause = taking.number; cycle = cycle }))
+      → MatchBool b (LacksOne s hs link row t cycle) (AreTold s hs link row t cycle)
+  one_taken taking true some so own lacks = record { cause = taking.number; at_hand = lacks.0; untold = lacks.1 }
+  one_taken taking false some so own told = λ cause hand.
+      elim (cause_of s.network row.sender accepted so hand) [
+        | inl zero ↦ subst (λ (k : ℕ). IsAtHand s.network hs row.device row.sender row.vl t k cycle
+            → IsTold s hs link row t (record { cause = k; cycle = cycle })) (sym zero) own hand
+        | inr last ↦
+            let same : taking.number ≡ cause =
+            eqb-true taking.number cause (and_parts (taking.number == cause) (taking.cycle == cycle)
+            (ap (λ o. is_last o cause cycle) (sym some) ∙ last)).0 in
+            subst (λ (k : ℕ). IsAtHand s.network hs row.device row.sender row.vl t k cycle
+            → IsTold s hs link row t (record { cause = k; cycle = cycle })) same told hand
+      ]

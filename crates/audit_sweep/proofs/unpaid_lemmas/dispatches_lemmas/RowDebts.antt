@@ -13,14 +13,15 @@ use Rattle.audit_law.specs.law.Owed as debts
 -- ---- a row
 
 -- what is owed by a row of the link is dispatched
-owes_dispatches : (s : Scenario) (hs : List Happening) (link : LinkId) (row : LeavingRow) (t : ℕ) (frame : Frame) → IsRowOn s.network link row
-    → OwesFrame s hs row t frame → Dispatches s hs row.device t link frame.cause row.vl frame.cycle
-owes_dispatches s hs link row t frame on owes = grind arith
+owes_dispatches : {s : Scenario} {hs : List Happening} {link : LinkId} {row : LeavingRow} {t : ℕ} {frame : Frame}
+    → IsRowOn s.network link row → OwesFrame s hs row t frame
+    → Dispatches s hs row.device t link frame.cause row.vl frame.cycle
+owes_dispatches on owes = grind arith
 
 -- what is dispatched is owed by the row by which it is
-dispatched_by : (s : Scenario) (hs : List Happening) (o : Dispatch) (does : Dispatches s hs o.device o.time o.link o.cause o.vl o.cycle)
-    → IsBy s hs o.link (leaving_by does.entry) o
-dispatched_by s hs o does =
+dispatched_by : {s : Scenario} {hs : List Happening} (o : Dispatch)
+    (does : Dispatches s hs o.device o.time o.link o.cause o.vl o.cycle) → IsBy s hs o.link (leaving_by does.entry) o
+dispatched_by {s} {hs} o does =
     let made : DeviceId → VlId → Dispatch = λ d v.
     record { device = d; link = o.link; cause = o.cause; vl = v; cycle = o.cycle; time = o.time } in
     let row = leaving_by does.entry in
@@ -41,31 +42,30 @@ dispatched_by s hs o does =
             reached = does.reached;
             at_hand = does.at_hand;
           });
-      is = ap (λ (d : DeviceId). made d o.vl) (sym does.leaves) ∙ ap (made (source_of does.entry)) (sym does.of_vl);
+      is = ap (λ d. made d o.vl) (sym does.leaves) ∙ ap (made (source_of does.entry)) (sym does.of_vl);
     }
 
-paid_as : (s : Scenario) (hs : List Happening) (link : LinkId) (row : LeavingRow) (o : Dispatch) (by : IsBy s hs link row o)
-    → IsTold s hs link row o.time by.frame → IsPaid hs (Pays s) (debts.dispatch o)
-paid_as s hs link row o by told = subst (λ (p : Dispatch). IsPaid hs (Pays s) (debts.dispatch p)) (sym by.is) told
+paid_as : {s : Scenario} {hs : List Happening} {link : LinkId} {row : LeavingRow} {o : Dispatch}
+    (by : IsBy s hs link row o) → IsTold s hs link row o.time by.frame → IsPaid hs (Pays s) (debts.dispatch o)
+paid_as {s} {hs} by told = subst (λ (p : Dispatch). IsPaid hs (Pays s) (debts.dispatch p)) (sym by.is) told
 
-pub first_row : (s : Scenario) (hs : List Happening) (until : ℕ) (link : LinkId) (row : LeavingRow) (r : Option ℕ) → IsRowOn s.network link row
-    → TellsFirstUnpaid (OwesFrame s hs row) (IsTold s hs link row) 0 until r
+pub first_row : (s : Scenario) (hs : List Happening) (until : ℕ) {link : LinkId} {row : LeavingRow} (r : Option ℕ)
+    → IsRowOn s.network link row → TellsFirstUnpaid (OwesFrame s hs row) (IsTold s hs link row) 0 until r
     → TellsFirstAmong s hs until (λ (o : Dispatch). debts.dispatch o) (IsBy s hs link row) r
-first_row s hs until link row None on told = λ o by owed.
+first_row s hs until None on told = λ o by owed.
     let timely = owed.timely in
-    paid_as s hs link row o by
-    (told o.time by.frame (reached_later s hs row.device _ o.time by.owes.reached) (omega (arith, timely)) by.owes)
-first_row s hs until link row (Some t) on told = record {
+    paid_as by (told o.time by.frame (reached_later o.time by.owes.reached) (omega (arith, timely)) by.owes)
+first_row s hs until {link} {row} (Some t) on told = record {
   debt = dispatch_of link row t told.what;
   one = record { frame = told.what; owes = told.owes; is = refl };
-  owed = record { dispatches = owes_dispatches s hs link row t told.what on told.owes; timely = told.timely };
+  owed = record { dispatches = owes_dispatches on told.owes; timely = told.timely };
   unpaid = told.unpaid;
   at = refl;
   first = λ o owed by unpaid.
       elim (cases_lt o.time t) [
         | inl less ↦
-            absurd (unpaid (paid_as s hs link row o by
-            (told.paid_before o.time by.frame (reached_later s hs row.device _ o.time by.owes.reached) less by.owes)))
+            absurd (unpaid (paid_as by
+            (told.paid_before o.time by.frame (reached_later o.time by.owes.reached) less by.owes)))
         | inr more ↦ more
       ];
 }
@@ -80,9 +80,10 @@ pub no_rows : (s : Scenario) (hs : List Happening) (until : ℕ) (link : LinkId)
     → TellsFirstAmong s hs until (λ (o : Dispatch). debts.dispatch o) (IsByFirst s hs link rows 0) None
 no_rows s hs until link rows = λ o by owed. let lt = by.1 in absurd (omega (arith, lt))
 
-by_part : (s : Scenario) (hs : List Happening) (link : LinkId) (rows : List LeavingRow) (n : ℕ) (o : Dispatch) → IsByFirst s hs link rows (n + 1) o
-    → IsByFirst s hs link rows n o ⊎ IsBy s hs link (slice_index_or rows n no_row) o
-by_part s hs link rows n o (i, lt, within, by) =
+by_part : {s : Scenario} {hs : List Happening} {link : LinkId} (rows : List LeavingRow) (n : ℕ) {o : Dispatch}
+    → IsByFirst s hs link rows (n + 1) o → IsByFirst s hs link rows n o
+    ⊎ IsBy s hs link (slice_index_or rows n no_row) o
+by_part {s} {hs} {link} rows n {o} (i, lt, within, by) =
     elim (below_next i n lt) [
       | inl before ↦ inl (i, before, within, by)
       | inr same ↦ inr (subst (λ (k : ℕ). IsBy s hs link (slice_index_or rows k no_row) o) same by)
@@ -94,29 +95,28 @@ pub next_row : (s : Scenario) (hs : List Happening) (until : ℕ) (link : LinkId
     → TellsFirstAmong s hs until (λ (o : Dispatch). debts.dispatch o) (IsByFirst s hs link rows (n + 1)) (earlier_of first one)
 next_row s hs until link rows n first one within =
     first_of_both s hs until (λ (o : Dispatch). debts.dispatch o) (IsByFirst s hs link rows n) (IsBy s hs link (slice_index_or rows n no_row))
-    (IsByFirst s hs link rows (n + 1)) first one
-    (λ o by. by_part s hs link rows n o by)
+    (IsByFirst s hs link rows (n + 1)) first one (λ o by. by_part rows n by)
     (λ o by. let lt = by.1 in (by.0, omega (arith, lt), by.2, by.3))
     (λ o by. (n, omega arith, within, by))
 
-by_some : (s : Scenario) (hs : List Happening) (until n : ℕ) (link : LinkId) (rows : List LeavingRow) (o : Dispatch) → AreRowsOn s.network link rows
-    → length rows ≤ n → o.link ≡ link → OwesDispatch s hs until o → IsByFirst s hs link rows n o
-by_some s hs until n link rows o are all on owed =
-    let does = owed.dispatches in
-    let row = leaving_by does.entry in
-    let at = placed rows no_row row (are.complete does.place does.entry does.row (does.by ∙ on)) in
-    let within = at.within in
-    let by : IsBy s hs link row o = subst (λ (l : LinkId). IsBy s hs l row o) on (dispatched_by s hs o does) in
-    (at.place, omega (arith, within, all), within, subst (λ (r : LeavingRow). IsBy s hs link r o) (sym at.is) by)
+module _ (s : Scenario) (hs : List Happening) (until n : ℕ) (link : LinkId) (rows : List LeavingRow) where
+  by_some : {o : Dispatch} → AreRowsOn s.network link rows → length rows ≤ n → o.link ≡ link
+      → OwesDispatch s hs until o → IsByFirst s hs link rows n o
+  by_some {o} are all on owed =
+      let does = owed.dispatches in
+      let row = leaving_by does.entry in
+      let at = placed rows no_row row (are.complete does.place does.entry does.row (does.by ∙ on)) in
+      let within = at.within in
+      let by : IsBy s hs link row o = subst (λ l. IsBy s hs l row o) on (dispatched_by o does) in
+      (at.place, omega (arith, within, all), within, subst (λ r. IsBy s hs link r o) (sym at.is) by)
 
--- these are all the dispatches on the link
-pub all_rows : (s : Scenario) (hs : List Happening) (until n : ℕ) (link : LinkId) (rows : List LeavingRow) (r : Option ℕ) → AreRowsOn s.network link rows
-    → length rows ≤ n → TellsFirstAmong s hs until (λ (o : Dispatch). debts.dispatch o) (IsByFirst s hs link rows n) r
-    → TellsFirstAmong s hs until (λ (o : Dispatch). debts.dispatch o) (λ o. o.link ≡ link) r
-all_rows s hs until n link rows r are all =
-    first_of_more s hs until (λ (o : Dispatch). debts.dispatch o) (IsByFirst s hs link rows n) (λ o. o.link ≡ link) r
-    (λ o by. ap (λ (p : Dispatch). p.link) by.3.is)
-    (λ o on owed. by_some s hs until n link rows o are all on owed)
+  -- these are all the dispatches on the link
+  pub all_rows : (r : Option ℕ) → AreRowsOn s.network link rows → length rows ≤ n
+      → TellsFirstAmong s hs until (λ (o : Dispatch). debts.dispatch o) (IsByFirst s hs link rows n) r
+      → TellsFirstAmong s hs until (λ (o : Dispatch). debts.dispatch o) (λ o. o.link ≡ link) r
+  all_rows r are all =
+      first_of_more s hs until (λ (o : Dispatch). debts.dispatch o) (IsByFirst s hs link rows n) (λ o. o.link ≡ link) r
+      (λ o by. ap (λ (p : Dispatch). p.link) by.3.is) (λ o on owed. by_some are all on owed)
 
 -- ---- the links
 
@@ -133,5 +133,6 @@ pub next_link : (s : Scenario) (hs : List Happening) (until n : ℕ) (first one 
 next_link s hs until n first one = grind (arith, first_of_both, link_part)
 
 -- a dispatch is on a link of the network
-pub link_within : (s : Scenario) (hs : List Happening) (until : ℕ) (o : Dispatch) → OwesDispatch s hs until o → o.link.0 < length s.network.link
-link_within s hs until o owed = grind (arith, length, slice_get_within)
+pub link_within : {s : Scenario} {hs : List Happening} {until : ℕ} {o : Dispatch} → OwesDispatch s hs until o
+    → o.link.0 < length s.network.link
+link_within owed = grind (arith, length, slice_get_within)

@@ -11,8 +11,9 @@ use Rattle.std.{proofs.lemmas.Int.ints, specs.Prelude.{◌+ℤ◌, ◌≤ℤ◌}
 
 -- ---- the row
 
-pub row_fit : (network : Network) (link : LinkId) (row : LeavingRow) → IsInRange network → IsRowOn network link row → IsRowFit row
-row_fit network link row range on =
+pub row_fit : {network : Network} {link : LinkId} {row : LeavingRow} → IsInRange network → IsRowOn network link row
+    → IsRowFit row
+row_fit {network} range on =
     let entry = on.entry in
     let vl = in_all (IsVlInRange network) network.vl entry.row.vl.0 entry.vl range.vls on.is.vl in
     let its_row = in_all (IsRowInRange network) network.row on.place entry.row range.rows on.is.row in
@@ -23,26 +24,29 @@ row_fit network link row range on =
       offset = amount_most _ _ entry.row.offset its_row.offset;
     })
 
-source_there : (network : Network) (way : Way) (link : Link) → IsLinkInRange network link → HasDevice network (source_by way link)
-source_there network Up link range = range.child
-source_there network Down link range = range.parent
+source_there : {network : Network} (way : Way) {link : Link} → IsLinkInRange network link
+    → HasDevice network (source_by way link)
+source_there Up range = range.child
+source_there Down range = range.parent
 
-pub device_there : (network : Network) (link : LinkId) (row : LeavingRow) → IsInRange network → IsRowOn network link row → HasDevice network row.device
-device_there network link row range on =
+pub device_there : {network : Network} {link : LinkId} {row : LeavingRow} → IsInRange network
+    → IsRowOn network link row → HasDevice network row.device
+device_there {network} range on =
     let entry = on.entry in
     subst (λ (r : LeavingRow). HasDevice network r.device) (sym on.kept)
-    (source_there network entry.row.way entry.link
+    (source_there entry.row.way
     (in_all (IsLinkInRange network) network.link entry.row.link.0 entry.link range.links on.is.link))
 
-pub link_there : (network : Network) (link : LinkId) (row : LeavingRow) → IsRowOn network link row → HasLink network link
-link_there network link row on =
+pub link_there : {network : Network} {link : LinkId} {row : LeavingRow} → IsRowOn network link row
+    → HasLink network link
+link_there {network} on =
     let entry = on.entry in
     subst (HasLink network) on.on (slice_get_within network.link entry.row.link.0 entry.link on.is.link)
 
 -- ---- the values
 
-cycle_least : (network : Network) → IsInRange network → 2 ^ 32 ≤ amount network.cycle
-cycle_least network range =
+cycle_least : {network : Network} → IsInRange network → 2 ^ 32 ≤ amount network.cycle
+cycle_least range =
     let least = range.cycle.least in
     omega (arith, ints, least)
 
@@ -51,25 +55,27 @@ wide_by : (first : ℤ) (step f p c offset : ℕ) → (first +ℤ pos (0 * step)
 wide_by first step f p c offset at next some least = grind (arith, mul-le-mul_right, ints)
 
 -- the values lie far apart
-pub wide_step : (network : Network) (row : LeavingRow) (series : Series) → IsInRange network → IsRowFit row → AreLeavings network row series
-    → 2 ^ 32 ≤ series.step
-wide_step network row series range fit are =
+pub wide_step : {network : Network} {row : LeavingRow} {series : Series} → IsInRange network → IsRowFit row
+    → AreLeavings network row series → 2 ^ 32 ≤ series.step
+wide_step {network} {row} {series} range fit are =
     wide_by series.first series.step (first_cycle row) row.period (amount network.cycle) row.offset (are.values 0) (are.values 1) fit.period_least
-    (cycle_least network range)
+    (cycle_least range)
 
 few_by : (v : ℤ) (f n p c offset : ℕ) → v ≡ pos ((f + n * p) * c + offset) → v ≤ℤ pos (2 ^ 83) → 1 ≤ p → 2 ^ 32 ≤ c → n ≤ 2 ^ 52
 few_by v f n p c offset at near some least = grind (arith, mul-le-mul_left, mul-le-mul_right, ints)
 
 -- the number of what is crossed is not great
-pub few_left : (network : Network) (row : LeavingRow) (series : Series) (reading : ℕ → ℕ) (shown : Shown) (after until : ℕ) (crossed : Crossed)
-    → IsInRange network → IsRowFit row → AreLeavings network row series → IsNextCrossing reading shown series after until crossed → crossed.number ≤ 2 ^ 52
-few_left network row series reading shown after until crossed range fit are next =
+pub few_left : {network : Network} {row : LeavingRow} {series : Series} {reading : ℕ → ℕ} {shown : Shown}
+    {after until : ℕ} {crossed : Crossed} → IsInRange network → IsRowFit row → AreLeavings network row series
+    → IsNextCrossing reading shown series after until crossed → crossed.number ≤ 2 ^ 52
+few_left {network} {row} {series} {crossed} range fit are next =
     few_by (value_in series crossed.number) (first_cycle row) crossed.number row.period (amount network.cycle) row.offset (are.values crossed.number)
-    next.near fit.period_least (cycle_least network range)
+    next.near fit.period_least (cycle_least range)
 
 -- ---- the time
 
 -- no value is reached at time 0
-pub reached_later : (s : Scenario) (hs : List Happening) (device : DeviceId) (v : ℤ) (t : ℕ) → Reaches s hs device v t → 0 < t
-reached_later s hs device v zero reaches = grind (arith, changed_early, ints)
-reached_later s hs device v (suc t) reaches = omega arith
+pub reached_later : {s : Scenario} {hs : List Happening} {device : DeviceId} {v : ℤ} (t : ℕ)
+    → Reaches s hs device v t → 0 < t
+reached_later zero reaches = grind (arith, changed_early, ints)
+reached_later (suc t) reaches = omega arith

@@ -79,47 +79,56 @@ inside ow calc o ps some =
     let first : (o.reading ≤ℤ o.reading) × (o.reading ≤ℤ end) = (omega (arith, ints), starts) in
     let middle = middle_in o.reading end (map (λ q. q.reading) c.more) (first, readings_in o end ps c.more c.each) in
     by end (middle_of (relative (map (λ q. q.reading) (firsts (of_cycle_within o.cycle o.reading end (o ∷ ps))))))
-    (subst (λ (xs : List ℤ). (pos 0 ≤ℤ middle_of (relative xs)) × (middle_of (relative xs) ≤ℤ (end -ℤ o.reading))) (sym same) middle)
+    (subst (λ xs. (pos 0 ≤ℤ middle_of (relative xs)) × (middle_of (relative xs) ≤ℤ (end -ℤ o.reading))) (sym same) middle)
   where
     by : (end m : ℤ) → (pos 0 ≤ℤ m) × (m ≤ℤ (end -ℤ o.reading)) → ((o.reading +ℤ (pos 2 *ℤ ow) +ℤ calc) ≤ℤ (o.reading +ℤ (pos 2 *ℤ ow) +ℤ calc +ℤ m))
         × ((o.reading +ℤ (pos 2 *ℤ ow) +ℤ calc +ℤ m) ≤ℤ (end +ℤ (pos 2 *ℤ ow) +ℤ calc))
     by end m between = (omega (arith, ints, between.0), omega (arith, ints, between.1))
 
-all_inside : (ow calc : ℤ) (ps : List Point) (cs : List Cluster) → pos 0 ≤ℤ ow → AreClusters ow ps cs → AllByRecursion (IsInside ow calc) cs
-all_inside ow calc [] [] some are = tt
-all_inside ow calc [] (c ∷ cs) some are = absurd are
-all_inside ow calc (o ∷ ps) [] some are = tt
-all_inside ow calc (o ∷ ps) (c ∷ cs) some are =
-    (subst (IsInside ow calc) (sym are.0) (inside ow calc o ps some), all_inside ow calc (beyond c.end ps) cs some are.1)
+module _ (ow calc : ℤ) where
+  all_inside : (ps : List Point) (cs : List Cluster) → pos 0 ≤ℤ ow → AreClusters ow ps cs
+      → AllByRecursion (IsInside ow calc) cs
+  all_inside [] [] some are = tt
+  all_inside [] (c ∷ cs) some are = absurd are
+  all_inside (o ∷ ps) [] some are = tt
+  all_inside (o ∷ ps) (c ∷ cs) some are =
+      (subst (IsInside ow calc) (sym are.0) (inside ow calc o ps some), all_inside (beyond c.end ps) cs some are.1)
 
--- ---- the order of emissions
+  -- ---- the order of emissions
 
-behind_first : (ow calc : ℤ) (c : Cluster) (cs : List Cluster) (j : ℕ) (b : Emitted) → IsInside ow calc c → AllByRecursion (λ d. c.end <ℤ d.opened) cs
-    → AllByRecursion (IsInside ow calc) cs → slice_get (map (emitted ow calc) cs) j ≡ Some b → emission ow calc c ≤ℤ b.at
-behind_first ow calc c [] j b within later all e = absurd (none_is b e)
-behind_first ow calc c (d ∷ ds) zero b within later all e =
-    let same : emission ow calc d ≡ b.at = ap (λ (x : Emitted). x.at) (some_is (emitted ow calc d) b e) in
-    subst (λ (x : ℤ). emission ow calc c ≤ℤ x) same (by (emission ow calc c) (emission ow calc d) within.1 all.0.0 later.0)
-  where
-    by : (x y : ℤ) → x ≤ℤ (c.end +ℤ (pos 2 *ℤ ow) +ℤ calc) → (d.opened +ℤ (pos 2 *ℤ ow) +ℤ calc) ≤ℤ y → c.end <ℤ d.opened → x ≤ℤ y
-    by x y most least lt = omega (arith, ints)
-behind_first ow calc c (d ∷ ds) (suc j) b within later all e = behind_first ow calc c ds j b within later.1 all.1 e
+  behind_first : (c : Cluster) (cs : List Cluster) (j : ℕ) (b : Emitted) → IsInside ow calc c
+      → AllByRecursion (λ d. c.end <ℤ d.opened) cs → AllByRecursion (IsInside ow calc) cs
+      → slice_get (map (emitted ow calc) cs) j ≡ Some b → emission ow calc c ≤ℤ b.at
+  behind_first c [] j b within later all e = absurd (none_is b e)
+  behind_first c (d ∷ ds) zero b within later all e =
+      let same : emission ow calc d ≡ b.at = ap (λ (x : Emitted). x.at) (some_is (emitted ow calc d) b e) in
+      subst (λ x. emission ow calc c ≤ℤ x) same
+      (by (emission ow calc c) (emission ow calc d) within.1 all.0.0 later.0)
+    where
+      by : (x y : ℤ) → x ≤ℤ (c.end +ℤ (pos 2 *ℤ ow) +ℤ calc) → (d.opened +ℤ (pos 2 *ℤ ow) +ℤ calc) ≤ℤ y
+          → c.end <ℤ d.opened → x ≤ℤ y
+      by x y most least lt = omega (arith, ints)
+  behind_first c (d ∷ ds) (suc j) b within later all e = behind_first c ds j b within later.1 all.1 e
 
-ordered : (ow calc : ℤ) (cs : List Cluster) (i j : ℕ) (a b : Emitted) → AreSpaced cs → AllByRecursion (IsInside ow calc) cs → i ≤ j
-    → slice_get (map (emitted ow calc) cs) i ≡ Some a → slice_get (map (emitted ow calc) cs) j ≡ Some b → a.at ≤ℤ b.at
-ordered ow calc [] i j a b apart all le e f = absurd (none_is a e)
-ordered ow calc (c ∷ cs) zero zero a b apart all le e f =
-    let same : a.at ≡ b.at = ap (λ (x : Emitted). x.at) (sym (some_is (emitted ow calc c) a e) ∙ some_is (emitted ow calc c) b f) in
-    omega (arith, ints, same)
-ordered ow calc (c ∷ cs) zero (suc j) a b apart all le e f =
-    subst (λ (x : ℤ). x ≤ℤ b.at) (ap (λ (x : Emitted). x.at) (some_is (emitted ow calc c) a e)) (behind_first ow calc c cs j b all.0 apart.1 all.1 f)
-ordered ow calc (c ∷ cs) (suc i) zero a b apart all le e f = absurd (omega (arith, le))
-ordered ow calc (c ∷ cs) (suc i) (suc j) a b apart all le e f = ordered ow calc cs i j a b apart.2 all.1 (omega (arith, le)) e f
+  ordered : (cs : List Cluster) (i j : ℕ) (a b : Emitted) → AreSpaced cs → AllByRecursion (IsInside ow calc) cs
+      → i ≤ j → slice_get (map (emitted ow calc) cs) i ≡ Some a → slice_get (map (emitted ow calc) cs) j ≡ Some b
+      → a.at ≤ℤ b.at
+  ordered [] i j a b apart all le e f = absurd (none_is a e)
+  ordered (c ∷ cs) zero zero a b apart all le e f =
+      let same : a.at ≡ b.at =
+      ap (λ (x : Emitted). x.at) (sym (some_is (emitted ow calc c) a e) ∙ some_is (emitted ow calc c) b f) in
+      omega (arith, ints, same)
+  ordered (c ∷ cs) zero (suc j) a b apart all le e f =
+      subst (λ x. x ≤ℤ b.at) (ap (λ (x : Emitted). x.at) (some_is (emitted ow calc c) a e))
+      (behind_first c cs j b all.0 apart.1 all.1 f)
+  ordered (c ∷ cs) (suc i) zero a b apart all le e f = absurd (omega (arith, le))
+  ordered (c ∷ cs) (suc i) (suc j) a b apart all le e f = ordered cs i j a b apart.2 all.1 (omega (arith, le)) e f
 
 -- of two emissions of a gathering the one behind is at no lower reading
-pub ascending : (h : History) (g : Gathering) (points : List Point) (i j : ℕ) (a b : Emitted) → pos 0 ≤ℤ h.ow → Gathers h g points → i ≤ j
-    → slice_get (emissions_in h g) i ≡ Some a → slice_get (emissions_in h g) j ≡ Some b → a.at ≤ℤ b.at
-ascending h g points i j a b some gathers le e f =
+pub ascending : {h : History} {g : Gathering} {points : List Point} (i j : ℕ) (a b : Emitted) → pos 0 ≤ℤ h.ow
+    → Gathers h g points → i ≤ j → slice_get (emissions_in h g) i ≡ Some a → slice_get (emissions_in h g) j ≡ Some b
+    → a.at ≤ℤ b.at
+ascending {h} {g} {points} i j a b some gathers le e f =
     ordered h.ow h.calc (clusters_in h g) i j a b (spaced h.ow points (clusters_in h g) some gathers.are)
     (all_inside h.ow h.calc points (clusters_in h g) some gathers.are) le e f
 
@@ -134,7 +143,7 @@ opened_first ow calc (c ∷ cs) zero a some more all e =
 opened_first ow calc (c ∷ cs) (suc i) a some more all e = opened_first ow calc cs i a some more all.1 e
 
 -- none is at a lower reading than that at which its cluster opens
-pub opens_before : (h : History) (g : Gathering) (points : List Point) (i : ℕ) (a : Emitted) → pos 0 ≤ℤ h.ow → pos 0 ≤ℤ h.calc → Gathers h g points
-    → slice_get (emissions_in h g) i ≡ Some a → a.opened ≤ℤ a.at
-opens_before h g points i a some more gathers e =
+pub opens_before : {h : History} {g : Gathering} {points : List Point} (i : ℕ) (a : Emitted) → pos 0 ≤ℤ h.ow
+    → pos 0 ≤ℤ h.calc → Gathers h g points → slice_get (emissions_in h g) i ≡ Some a → a.opened ≤ℤ a.at
+opens_before {h} {g} {points} i a some more gathers e =
     opened_first h.ow h.calc (clusters_in h g) i a some more (all_inside h.ow h.calc points (clusters_in h g) some gathers.are) e

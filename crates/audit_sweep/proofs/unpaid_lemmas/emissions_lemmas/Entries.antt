@@ -17,70 +17,80 @@ use Rattle.audit_law.specs.law.Owed as debts
 
 -- ---- the stretch behind an entry
 
-pub entry_points : (network : Network) (hs : List Happening) (d : DeviceId) (kept : Stretches) (e : Entry) (place : ℕ) → Keeps network hs d kept
-    → slice_get kept.entries place ≡ Some e → (points : List Point) × HasPoints network points kept.collections e.gathering
-entry_points network hs d kept e place keeps there =
+pub entry_points : {network : Network} {hs : List Happening} {d : DeviceId} {kept : Stretches} (e : Entry)
+    (place : ℕ) → Keeps network hs d kept → slice_get kept.entries place ≡ Some e
+    → (points : List Point) × HasPoints network points kept.collections e.gathering
+entry_points {kept} e place keeps there =
     let some = keeps.each e (in_at kept.entries place e there) in
     (some.0, record { ow = keeps.ow; calc = keeps.calc; gathers = some.1 })
 
-pub stretch_points : (network : Network) (points : List Point) (kept : Stretches) (e : Entry) (time : ℕ) (collections : History) (g : Gathering)
-    → IsBehind kept e time collections g → HasPoints network points kept.collections e.gathering → HasPoints network points collections g
-stretch_points network points kept e time collections g behind has =
-    subst (λ (x : Gathering). HasPoints network points collections x) (sym behind.gathering_is)
-    (subst (λ (x : History). HasPoints network points x e.gathering) (sym behind.collections_are) has)
+pub stretch_points : {network : Network} {points : List Point} {kept : Stretches} {e : Entry} {time : ℕ}
+    {collections : History} {g : Gathering} → IsBehind kept e time collections g
+    → HasPoints network points kept.collections e.gathering → HasPoints network points collections g
+stretch_points {network} {points} {e} {collections} behind has =
+    subst (λ x. HasPoints network points collections x) (sym behind.gathering_is)
+    (subst (λ x. HasPoints network points x e.gathering) (sym behind.collections_are) has)
 
-emissions_behind : (kept : Stretches) (e : Entry) (time : ℕ) (collections : History) (g : Gathering) → IsBehind kept e time collections g
-    → emissions_in collections g ≡ emissions_in kept.collections e.gathering
-emissions_behind kept e time collections g behind =
-    ap (λ (x : History). emissions_in x g) behind.collections_are ∙ ap (emissions_in kept.collections) behind.gathering_is
+emissions_behind : {kept : Stretches} {e : Entry} {time : ℕ} {collections : History} {g : Gathering}
+    → IsBehind kept e time collections g → emissions_in collections g ≡ emissions_in kept.collections e.gathering
+emissions_behind {kept} {g} behind =
+    ap (λ x. emissions_in x g) behind.collections_are ∙ ap (emissions_in kept.collections) behind.gathering_is
 
--- what a stretch says of its clusters it says of the entry's
-pub emission_behind : (network : Network) (points : List Point) (kept : Stretches) (e : Entry) (time : ℕ) (collections : History) (g : Gathering)
-    (place : ℕ) (r : Option Emitted) → IsBehind kept e time collections g → HasPoints network points collections g
-    → ((clusters : List Cluster) → AreClusters (observation_window network) points clusters → r ≡ slice_get (emissions_for network clusters) place)
-    → slice_get (emissions_in kept.collections e.gathering) place ≡ r
-emission_behind network points kept e time collections g place r behind has is = grind (arith, are_in, slice_get, emissions_behind, emissions_same)
+module _ (network : Network) (points : List Point) (kept : Stretches) (e : Entry) (time : ℕ) (collections : History)
+    (g : Gathering) where
+  -- what a stretch says of its clusters it says of the entry's
+  pub emission_behind : (place : ℕ) (r : Option Emitted) → IsBehind kept e time collections g
+      → HasPoints network points collections g → ((clusters : List Cluster)
+      → AreClusters (observation_window network) points clusters
+      → r ≡ slice_get (emissions_for network clusters) place)
+      → slice_get (emissions_in kept.collections e.gathering) place ≡ r
+  emission_behind place r behind has is = grind (arith, are_in, slice_get, emissions_behind, emissions_same)
 
-pub length_behind : (network : Network) (points : List Point) (kept : Stretches) (e : Entry) (time : ℕ) (collections : History) (g : Gathering)
-    (n : ℕ) → IsBehind kept e time collections g → HasPoints network points collections g
-    → ((clusters : List Cluster) → AreClusters (observation_window network) points clusters → n ≡ length clusters)
-    → length (emissions_in kept.collections e.gathering) ≡ n
-length_behind network points kept e time collections g n behind has is = grind (arith, length, emissions_behind, length-map, are_in)
+  pub length_behind : (n : ℕ) → IsBehind kept e time collections g → HasPoints network points collections g
+      → ((clusters : List Cluster) → AreClusters (observation_window network) points clusters → n ≡ length clusters)
+      → length (emissions_in kept.collections e.gathering) ≡ n
+  length_behind n behind has is = grind (arith, length, emissions_behind, length-map, are_in)
 
 -- ---- one change more
 
 abbrev Until : Scenario → List Happening → ℕ → DeviceId → Stretches → ℕ → Compressed → ℕ → Type 0
 Until s hs until d kept n = OwesWithin s hs until d kept.collections kept.entries n
 
-entry_parts : (s : Scenario) (hs : List Happening) (until : ℕ) (d : DeviceId) (kept : Stretches) (e : Entry) (n : ℕ) → slice_get kept.entries n ≡ Some e
-    → HasParts (Until s hs until d kept (n + 1)) (Until s hs until d kept n) (OwesBehind s hs until d kept.collections e 0)
-entry_parts s hs until d kept e n is = record {
-  parts = λ sent t o.
-      elim (below_next o.index n o.below) [
-        | inl less ↦ inl (record { index = o.index; e = o.e; below = less; there = o.there; owed = o.owed })
-        | inr same ↦
-            let at = subst (λ (i : ℕ). slice_get kept.entries i ≡ Some o.e) same o.there in
-            inr (subst (λ (x : Entry). OwesBehind s hs until d kept.collections x 0 sent t) (same_Some o.e e (sym at ∙ is)) o.owed)
-      ];
-  one = λ sent t o. let below = o.below in record { index = o.index; e = o.e; below = omega (arith, below); there = o.there; owed = o.owed };
-  other = λ sent t o. record { index = n; e = e; below = omega arith; there = is; owed = o };
-}
+module _ (s : Scenario) (hs : List Happening) (until : ℕ) (d : DeviceId) (kept : Stretches) where
+  entry_parts : (e : Entry) (n : ℕ) → slice_get kept.entries n ≡ Some e
+      → HasParts (Until s hs until d kept (n + 1)) (Until s hs until d kept n)
+      (OwesBehind s hs until d kept.collections e 0)
+  entry_parts e n is = record {
+    parts = λ sent t o.
+        elim (below_next o.index n o.below) [
+          | inl less ↦ inl (record { index = o.index; e = o.e; below = less; there = o.there; owed = o.owed })
+          | inr same ↦
+              let at = subst (λ (i : ℕ). slice_get kept.entries i ≡ Some o.e) same o.there in
+              inr (subst (λ x. OwesBehind s hs until d kept.collections x 0 sent t)
+              (same_Some o.e e (sym at ∙ is)) o.owed)
+        ];
+    one = λ sent t o. let below = o.below in
+        record { index = o.index; e = o.e; below = omega (arith, below); there = o.there; owed = o.owed };
+    other = λ sent t o. record { index = n; e = e; below = omega arith; there = is; owed = o };
+  }
 
-pub entries_more : (s : Scenario) (hs : List Happening) (until : ℕ) (d : DeviceId) (kept : Stretches) (e : Entry) (n : ℕ) (r q : Option ℕ)
-    → slice_get kept.entries n ≡ Some e → TellsFirstOf (Until s hs until d kept n) (IsTold s hs d) r
-    → TellsFirstOf (OwesBehind s hs until d kept.collections e 0) (IsTold s hs d) q
-    → TellsFirstOf (Until s hs until d kept (n + 1)) (IsTold s hs d) (earlier_of r q)
-entries_more s hs until d kept e n r q is told more =
-    first_of_both (Until s hs until d kept (n + 1)) (Until s hs until d kept n) (OwesBehind s hs until d kept.collections e 0) (IsTold s hs d) r q
-    (entry_parts s hs until d kept e n is) told more
+  pub entries_more : (e : Entry) (n : ℕ) (r q : Option ℕ) → slice_get kept.entries n ≡ Some e
+      → TellsFirstOf (Until s hs until d kept n) (IsTold s hs d) r
+      → TellsFirstOf (OwesBehind s hs until d kept.collections e 0) (IsTold s hs d) q
+      → TellsFirstOf (Until s hs until d kept (n + 1)) (IsTold s hs d) (earlier_of r q)
+  entries_more e n r q is told more =
+      first_of_both (Until s hs until d kept (n + 1)) (Until s hs until d kept n)
+      (OwesBehind s hs until d kept.collections e 0) (IsTold s hs d) r q
+      (entry_parts e n is) told more
 
-pub entries_none : (s : Scenario) (hs : List Happening) (until : ℕ) (d : DeviceId) (kept : Stretches)
-    → TellsFirstOf (Until s hs until d kept 0) (IsTold s hs d) None
-entries_none s hs until d kept = first_of_none (Until s hs until d kept 0) (IsTold s hs d) (λ sent t o. let below = o.below in omega (arith, below))
+  pub entries_none : TellsFirstOf (Until s hs until d kept 0) (IsTold s hs d) None
+  entries_none = first_of_none (Until s hs until d kept 0) (IsTold s hs d)
+      (λ sent t o. let below = o.below in omega (arith, below))
 
-pub entries_all : (s : Scenario) (hs : List Happening) (until : ℕ) (d : DeviceId) (kept : Stretches) (n : ℕ) (r : Option ℕ) → Keeps s.network hs d kept
-    → n ≡ length kept.entries → TellsFirstOf (Until s hs until d kept n) (IsTold s hs d) r → TellsFirstOf (OwesAt s hs until d) (IsTold s hs d) r
-entries_all s hs until d kept n r keeps all told = grind (arith, first_as, owed_within)
+  pub entries_all : (n : ℕ) (r : Option ℕ) → Keeps s.network hs d kept → n ≡ length kept.entries
+      → TellsFirstOf (Until s hs until d kept n) (IsTold s hs d) r
+      → TellsFirstOf (OwesAt s hs until d) (IsTold s hs d) r
+  entries_all n r keeps all told = grind (arith, first_as, owed_within)
 
 -- ---- one device more
 
@@ -91,29 +101,33 @@ IsToldOf s hs o = IsTold s hs o.0 o.1
 abbrev OwesOf : Scenario → List Happening → ℕ → DeviceId → DeviceId × Compressed → ℕ → Type 0
 OwesOf s hs until d o t = (o.0 ≡ d) × OwesAt s hs until d o.1 t
 
-of_device : (s : Scenario) (hs : List Happening) (until : ℕ) (d : DeviceId) (r : Option ℕ) → TellsFirstOf (OwesAt s hs until d) (IsTold s hs d) r
-    → TellsFirstOf (OwesOf s hs until d) (IsToldOf s hs) r
-of_device s hs until d None h = λ o t owed. subst (λ (x : DeviceId). IsTold s hs x o.1) (sym owed.0) (h o.1 t owed.1)
-of_device s hs until d (Some t) h = record {
-  debt = (d, h.debt);
-  owed = (refl, h.owed);
-  unpaid = h.unpaid;
-  first = λ o u owed not. h.first o.1 u owed.1 (λ told. not (subst (λ (x : DeviceId). IsTold s hs x o.1) (sym owed.0) told));
-}
+module _ (s : Scenario) (hs : List Happening) (until : ℕ) where
+  of_device : (d : DeviceId) (r : Option ℕ) → TellsFirstOf (OwesAt s hs until d) (IsTold s hs d) r
+      → TellsFirstOf (OwesOf s hs until d) (IsToldOf s hs) r
+  of_device d None h = λ o t owed. subst (λ x. IsTold s hs x o.1) (sym owed.0) (h o.1 t owed.1)
+  of_device d (Some t) h = record {
+    debt = (d, h.debt);
+    owed = (refl, h.owed);
+    unpaid = h.unpaid;
+    first = λ o u owed not. h.first o.1 u owed.1 (λ told. not
+        (subst (λ x. IsTold s hs x o.1) (sym owed.0) told));
+  }
 
-device_parts : (s : Scenario) (hs : List Happening) (until n : ℕ) (d : DeviceId) → d.0 ≡ n
-    → HasParts (OwesAmong s hs until (n + 1)) (OwesAmong s hs until n) (OwesOf s hs until d)
-device_parts s hs until n d is = grind (arith, below_next, same_device)
+  device_parts : (n : ℕ) (d : DeviceId) → d.0 ≡ n → HasParts (OwesAmong s hs until (n + 1)) (OwesAmong s hs until n)
+      (OwesOf s hs until d)
+  device_parts n d is = grind (arith, below_next, same_device)
 
-pub devices_more : (s : Scenario) (hs : List Happening) (until n : ℕ) (d : DeviceId) (r q : Option ℕ) → d.0 ≡ n
-    → TellsFirstOf (OwesAmong s hs until n) (IsToldOf s hs) r → TellsFirstOf (OwesAt s hs until d) (IsTold s hs d) q
-    → TellsFirstOf (OwesAmong s hs until (n + 1)) (IsToldOf s hs) (earlier_of r q)
-devices_more s hs until n d r q is told more =
-    first_of_both (OwesAmong s hs until (n + 1)) (OwesAmong s hs until n) (OwesOf s hs until d) (IsToldOf s hs) r q (device_parts s hs until n d is) told
-    (of_device s hs until d q more)
+  pub devices_more : (n : ℕ) (d : DeviceId) (r q : Option ℕ) → d.0 ≡ n
+      → TellsFirstOf (OwesAmong s hs until n) (IsToldOf s hs) r → TellsFirstOf (OwesAt s hs until d) (IsTold s hs d) q
+      → TellsFirstOf (OwesAmong s hs until (n + 1)) (IsToldOf s hs) (earlier_of r q)
+  devices_more n d r q is told more =
+      first_of_both (OwesAmong s hs until (n + 1)) (OwesAmong s hs until n) (OwesOf s hs until d) (IsToldOf s hs) r q
+      (device_parts n d is) told
+      (of_device d q more)
 
-pub devices_none : (s : Scenario) (hs : List Happening) (until : ℕ) → TellsFirstOf (OwesAmong s hs until 0) (IsToldOf s hs) None
-devices_none s hs until = first_of_none (OwesAmong s hs until 0) (IsToldOf s hs) (λ o t owed. let one = owed.one in omega (arith, one))
+  pub devices_none : TellsFirstOf (OwesAmong s hs until 0) (IsToldOf s hs) None
+  devices_none =
+      first_of_none (OwesAmong s hs until 0) (IsToldOf s hs) (λ o t owed. let one = owed.one in omega (arith, one))
 
 -- a compression master is a device of the network
 master_there : (network : Network) (d : DeviceId) → is_cm network d ≡ true → d.0 < length network.device
@@ -149,23 +163,27 @@ first_emission s hs until n (Some t) all h = record {
 
 -- ---- what a stretch says of an entry's clusters
 
-pub emission_there : (network : Network) (hs : List Happening) (d : DeviceId) (kept : Stretches) (e : Entry) (place time : ℕ) (collections : History)
-    (g : Gathering) (k : ℕ) (r : Option Emitted) → Keeps network hs d kept → slice_get kept.entries place ≡ Some e → IsBehind kept e time collections g
-    → ((n : Network) (points : List Point) (clusters : List Cluster) → HasPoints n points collections g → AreClusters (observation_window n) points clusters
-    → r ≡ slice_get (emissions_for n clusters) k) → slice_get (emissions_in kept.collections e.gathering) k ≡ r
-emission_there network hs d kept e place time collections g k r keeps at behind told =
-    let points = entry_points network hs d kept e place keeps at in
-    let has = stretch_points network points.0 kept e time collections g behind points.1 in
-    emission_behind network points.0 kept e time collections g k r behind has (λ clusters are. told network points.0 clusters has are)
+module _ (network : Network) (hs : List Happening) (d : DeviceId) (kept : Stretches) (e : Entry) (place time : ℕ)
+    (collections : History) (g : Gathering) where
+  pub emission_there : (k : ℕ) (r : Option Emitted) → Keeps network hs d kept → slice_get kept.entries place ≡ Some e
+      → IsBehind kept e time collections g → ((n : Network) (points : List Point) (clusters : List Cluster)
+      → HasPoints n points collections g → AreClusters (observation_window n) points clusters
+      → r ≡ slice_get (emissions_for n clusters) k) → slice_get (emissions_in kept.collections e.gathering) k ≡ r
+  emission_there k r keeps at behind told =
+      let points = entry_points e place keeps at in
+      let has = stretch_points behind points.1 in
+      emission_behind network points.0 kept e time collections g k r behind has
+      (λ clusters are. told network points.0 clusters has are)
 
-pub length_there : (network : Network) (hs : List Happening) (d : DeviceId) (kept : Stretches) (e : Entry) (place time : ℕ) (collections : History)
-    (g : Gathering) (r : ℕ) → Keeps network hs d kept → slice_get kept.entries place ≡ Some e → IsBehind kept e time collections g
-    → ((n : Network) (points : List Point) (clusters : List Cluster) → HasPoints n points collections g → AreClusters (observation_window n) points clusters
-    → r ≡ length clusters) → length (emissions_in kept.collections e.gathering) ≡ r
-length_there network hs d kept e place time collections g r keeps at behind told =
-    let points = entry_points network hs d kept e place keeps at in
-    let has = stretch_points network points.0 kept e time collections g behind points.1 in
-    length_behind network points.0 kept e time collections g r behind has (λ clusters are. told network points.0 clusters has are)
+  pub length_there : (r : ℕ) → Keeps network hs d kept → slice_get kept.entries place ≡ Some e
+      → IsBehind kept e time collections g → ((n : Network) (points : List Point) (clusters : List Cluster)
+      → HasPoints n points collections g → AreClusters (observation_window n) points clusters → r ≡ length clusters)
+      → length (emissions_in kept.collections e.gathering) ≡ r
+  length_there r keeps at behind told =
+      let points = entry_points e place keeps at in
+      let has = stretch_points behind points.1 in
+      length_behind network points.0 kept e time collections g r behind has
+      (λ clusters are. told network points.0 clusters has are)
 
 -- ---- what is needed of a stretch
 
@@ -178,17 +196,18 @@ pub some_points : (network : Network) (hs : List Happening) (history : StretchHi
 some_points network hs history d place time collections g stands cm lt inside behind =
     let kept = some_at history.kept.items d.0 lt in
     let e = some_at kept.0.entries place (inside kept.0 kept.1) in
-    let points = entry_points network hs d kept.0 e.0 place (stands d kept.0 kept.1 cm) e.1 in
-    (network, points.0, stretch_points network points.0 kept.0 e.0 time collections g (behind kept.0 e.0 kept.1 e.1) points.1)
+    let points = entry_points e.0 place (stands d kept.0 kept.1 cm) e.1 in
+    (network, points.0, stretch_points (behind kept.0 e.0 kept.1 e.1) points.1)
 
 pub not_negative : (z : ℤ) (n : ℕ) → z ≡ pos n → pos 0 ≤ℤ z
 not_negative z n e = omega (arith, ints, e)
 
-short_emission : (network : Network) (points : List Point) (h : History) (g : Gathering) (place t : ℕ) (a : Emitted) (reading : ℕ → ℕ)
-    → HasPoints network points h g → slice_get (emissions_in h g) place ≡ Some a → neg_ℤ (pos (2 ^ 63)) ≤ℤ a.opened → ReadsOn reading → t ≤ 2 ^ 60
-    → IsReach reading (pos 0) a.at (pos t) → IsShort a.at
-short_emission network points h g place t a reading has there low on limit reach =
-    let opens = opens_before h g points place a (not_negative h.ow _ has.ow) (not_negative h.calc _ has.calc) has.gathers there in
+short_emission : {network : Network} {points : List Point} {h : History} {g : Gathering} (place t : ℕ) (a : Emitted)
+    {reading : ℕ → ℕ} → HasPoints network points h g → slice_get (emissions_in h g) place ≡ Some a
+    → neg_ℤ (pos (2 ^ 63)) ≤ℤ a.opened → ReadsOn reading → t ≤ 2 ^ 60 → IsReach reading (pos 0) a.at (pos t)
+    → IsShort a.at
+short_emission {h} place t a has there low on limit reach =
+    let opens = opens_before place a (not_negative h.ow _ has.ow) (not_negative h.calc _ has.calc) has.gathers there in
     let bound = on.bound t limit in
     let reached = reach.reached in
     record { low = omega (arith, ints, opens, low); high = omega (arith, ints, bound, reached) }
@@ -197,17 +216,19 @@ pub least_short : (z : ℤ) → FitsSigned w64 z → neg_ℤ (pos (2 ^ 63)) ≤�
 least_short z fits = grind (arith, ints, fits)
 
 -- the reading of an emission that is reached is of 64 bits
-pub short_there : (network : Network) (hs : List Happening) (history : StretchHistory) (d : DeviceId) (place time : ℕ) (collections : History) (g : Gathering)
-    (k t : ℕ) (a : Emitted) (reading : ℕ → ℕ) → Stands network hs history → is_cm network d ≡ true → d.0 < device_count history
+pub short_there : (network : Network) (hs : List Happening) (history : StretchHistory) (d : DeviceId)
+    (place time : ℕ) (collections : History) (g : Gathering) (k t : ℕ) (a : Emitted) {reading : ℕ → ℕ}
+    → Stands network hs history → is_cm network d ≡ true → d.0 < device_count history
     → ((kept : Stretches) → kept_of history d ≡ Some kept → place < length kept.entries)
-    → ((kept : Stretches) (e : Entry) → kept_of history d ≡ Some kept → slice_get kept.entries place ≡ Some e → IsBehind kept e time collections g)
-    → ((n : Network) (points : List Point) (clusters : List Cluster) → HasPoints n points collections g → AreClusters (observation_window n) points clusters
-    → Some a ≡ slice_get (emissions_for n clusters) k)
-    → neg_ℤ (pos (2 ^ 63)) ≤ℤ a.opened → ReadsOn reading → t ≤ 2 ^ 60 → IsReach reading (pos 0) a.at (pos t) → IsShort a.at
-short_there network hs history d place time collections g k t a reading stands cm lt inside behind told low on limit reach =
+    → ((kept : Stretches) (e : Entry) → kept_of history d ≡ Some kept → slice_get kept.entries place ≡ Some e
+    → IsBehind kept e time collections g) → ((n : Network) (points : List Point) (clusters : List Cluster)
+    → HasPoints n points collections g → AreClusters (observation_window n) points clusters
+    → Some a ≡ slice_get (emissions_for n clusters) k) → neg_ℤ (pos (2 ^ 63)) ≤ℤ a.opened → ReadsOn reading
+    → t ≤ 2 ^ 60 → IsReach reading (pos 0) a.at (pos t) → IsShort a.at
+short_there network hs history d place time collections g k t a stands cm lt inside behind told low on limit reach =
     let kept = some_at history.kept.items d.0 lt in
     let e = some_at kept.0.entries place (inside kept.0 kept.1) in
     let keeps = stands d kept.0 kept.1 cm in
     let got = emission_there network hs d kept.0 e.0 place time collections g k (Some a) keeps e.1 (behind kept.0 e.0 kept.1 e.1) told in
-    let points = entry_points network hs d kept.0 e.0 place keeps e.1 in
-    short_emission network points.0 kept.0.collections e.0.gathering k t a reading points.1 got low on limit reach
+    let points = entry_points e.0 place keeps e.1 in
+    short_emission k t a points.1 got low on limit reach

@@ -8,9 +8,9 @@ pub record HasParts {O : Type 0} (All One Other : O → ℕ → Type 0) : Type 0
   pub one : (o : O) (t : ℕ) → One o t → All o t
   pub other : (o : O) (t : ℕ) → Other o t → All o t
 
-take_one : {O : Type 0} (All One Other : O → ℕ → Type 0) (IsPaid : O → Type 0) (t : ℕ) → HasParts All One Other → IsFirstOf One IsPaid t
-    → ((o : O) (u : ℕ) → Other o u → (IsPaid o → ⊥) → t ≤ u) → IsFirstOf All IsPaid t
-take_one All One Other IsPaid t has first late = grind arith
+take_one : {O : Type 0} (All One Other : O → ℕ → Type 0) (IsPaid : O → Type 0) {t : ℕ} → HasParts All One Other
+    → IsFirstOf One IsPaid t → ((o : O) (u : ℕ) → Other o u → (IsPaid o → ⊥) → t ≤ u) → IsFirstOf All IsPaid t
+take_one All One Other IsPaid has first late = grind arith
 
 turned : {O : Type 0} (All One Other : O → ℕ → Type 0) → HasParts All One Other → HasParts All Other One
 turned All One Other has = grind arith
@@ -19,18 +19,21 @@ pub first_of_both : {O : Type 0} (All One Other : O → ℕ → Type 0) (IsPaid 
     → TellsFirstOf One IsPaid a → TellsFirstOf Other IsPaid b → TellsFirstOf All IsPaid (earlier_of a b)
 first_of_both All One Other IsPaid None None has h g = λ o t owed. elim (has.parts o t owed) [ inl p ↦ h o t p | inr q ↦ g o t q ]
 first_of_both All One Other IsPaid None (Some u) has h g =
-    take_one All Other One IsPaid u (turned All One Other has) g (λ o t owed not. absurd (not (h o t owed)))
-first_of_both All One Other IsPaid (Some t) None has h g = take_one All One Other IsPaid t has h (λ o u owed not. absurd (not (g o u owed)))
+    take_one All Other One IsPaid (turned All One Other has) g (λ o t owed not. absurd (not (h o t owed)))
+first_of_both All One Other IsPaid (Some t) None has h g =
+    take_one All One Other IsPaid has h (λ o u owed not. absurd (not (g o u owed)))
 first_of_both All One Other IsPaid (Some t) (Some u) has h g =
     elim (cases_lt u t) [
       | inl less ↦
           let same : u ≡ min t u = omega (arith, less) in
           subst (IsFirstOf All IsPaid) same
-          (take_one All Other One IsPaid u (turned All One Other has) g (λ o v owed not. let late = h.first o v owed not in omega (arith, late, less)))
+          (take_one All Other One IsPaid (turned All One Other has) g
+          (λ o v owed not. let late = h.first o v owed not in omega (arith, late, less)))
       | inr more ↦
           let same : t ≡ min t u = omega (arith, more) in
           subst (IsFirstOf All IsPaid) same
-          (take_one All One Other IsPaid t has h (λ o v owed not. let late = g.first o v owed not in omega (arith, late, more)))
+          (take_one All One Other IsPaid has h (λ o v owed not. let late = g.first o v owed not in
+          omega (arith, late, more)))
     ]
 
 -- of what is owed in other words

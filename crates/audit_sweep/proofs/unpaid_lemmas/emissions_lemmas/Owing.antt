@@ -40,9 +40,10 @@ no_later (x ∷ xs) (y ∷ ys) (inl lt) = omega (arith, lt)
 no_later (x ∷ xs) (y ∷ ys) (inr e) = omega (arith, e.0)
 
 -- what is owed is of a cluster of an entry whose record is no later
-pub owed_within : (s : Scenario) (hs : List Happening) (until : ℕ) (d : DeviceId) (kept : Stretches) (sent : Compressed) (t : ℕ)
-    → Keeps s.network hs d kept → OwesAt s hs until d sent t → OwesWithin s hs until d kept.collections kept.entries (length kept.entries) sent t
-owed_within s hs until d kept sent t keeps owed =
+pub owed_within : {s : Scenario} {hs : List Happening} {until : ℕ} {d : DeviceId} {kept : Stretches}
+    {sent : Compressed} {t : ℕ} → Keeps s.network hs d kept → OwesAt s hs until d sent t
+    → OwesWithin s hs until d kept.collections kept.entries (length kept.entries) sent t
+owed_within {s} {hs} {until} {d} {kept} {sent} {t} keeps owed =
     by (entry_before place kept.entries) refl (keeps.before place)
   where
     place : List ℕ
@@ -65,12 +66,12 @@ owed_within s hs until d kept sent t keeps owed =
         let clusters : emits.clusters ≡ clusters_in kept.collections e.gathering =
         AreClusters-unique (observation_window s.network) (points_of (before_place hs place) d) emits.clusters (clusters_in kept.collections e.gathering)
         emits.are
-        (subst (λ (w : ℤ). AreClusters w (points_of (before_place hs place) d) (clusters_in kept.collections e.gathering)) keeps.ow gathers.are) in
+        (subst (λ w. AreClusters w (points_of (before_place hs place) d) (clusters_in kept.collections e.gathering)) keeps.ow gathers.are) in
         let found = contained (emitted kept.collections.ow kept.collections.calc) (clusters_in kept.collections e.gathering) emits.cluster
         (subst (λ (cs : List Cluster). Contains cs emits.cluster) clusters emits.there) in
         let same : as_emitted sent ≡ emitted kept.collections.ow kept.collections.calc emits.cluster = ap as_emitted emits.is
-        ∙ sym (ap (λ (w : ℤ). emitted w (pos (amount s.network.calc)) emits.cluster) keeps.ow)
-        ∙ sym (ap (λ (w : ℤ). emitted kept.collections.ow w emits.cluster) keeps.calc) in
+        ∙ sym (ap (λ w. emitted w (pos (amount s.network.calc)) emits.cluster) keeps.ow)
+        ∙ sym (ap (λ w. emitted kept.collections.ow w emits.cluster) keeps.calc) in
         let behind : OwesBehind s hs until d kept.collections e 0 sent t = record {
           owed = owed;
           place = found.0;
@@ -82,9 +83,9 @@ owed_within s hs until d kept sent t keeps owed =
 
 -- ---- what is owed of the clusters before its place
 
-pub are_in : (network : Network) (points : List Point) (h : History) (g : Gathering) → HasPoints network points h g
+pub are_in : {network : Network} {points : List Point} {h : History} {g : Gathering} → HasPoints network points h g
     → AreClusters (observation_window network) points (clusters_in h g)
-are_in network points h g has = subst (λ (w : ℤ). AreClusters w points (clusters_in h g)) has.ow has.gathers.are
+are_in {points} {h} {g} has = subst (λ w. AreClusters w points (clusters_in h g)) has.ow has.gathers.are
 
 to_map : {X Y : Type 0} (f : X → Y) (xs : List X) (x : X) → Contains xs x → Contains (map f xs) (f x)
 to_map f [] x at = absurd (in_none x at)
@@ -117,10 +118,11 @@ owed_by s hs d a t clusters cm correct are reach there =
       };
     }
 
-pub emits_by : (s : Scenario) (hs : List Happening) (d : DeviceId) (a : Emitted) (t : ℕ) (clusters : List Cluster)
-    → AreClusters (observation_window s.network) (points_of (before_place hs (emission_place t d (sent_of a))) d) clusters → Owes s hs d (sent_of a) t
+pub emits_by : {s : Scenario} {hs : List Happening} {d : DeviceId} (a : Emitted) {t : ℕ} (clusters : List Cluster)
+    → AreClusters (observation_window s.network)
+    (points_of (before_place hs (emission_place t d (sent_of a))) d) clusters → Owes s hs d (sent_of a) t
     → Contains (emissions_for s.network clusters) a
-emits_by s hs d a t clusters are owes =
+emits_by {s} {hs} {d} a {t} clusters are owes =
     let emits = owes.emits in
     let window = observation_window s.network in
     let calc = pos (amount s.network.calc) in

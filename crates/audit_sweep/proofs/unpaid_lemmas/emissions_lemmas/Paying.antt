@@ -43,4 +43,4 @@ there_told s hs d t sent founded reach told =
     let due = due_in place_of (IsDue s) hs x founded told.1 in
     let is = said s due.before d sent x x.note.body refl due.due.cause told.2 in
     let times = one_reach (s.reading d) (pos 0) sent.at.0 (time_of x) t is.reached reach in
-    (x, told.1, is.place ∙ ap (λ (u : ℕ). emission_place u d sent) times)
+    (x, told.1, is.place ∙ ap (λ u. emission_place u d sent) times)

@@ -15,9 +15,10 @@ OwesHere s hs until d collections e k a sent t = (sent ≡ sent_of a) × OwesBeh
 same_sent : (sent : Compressed) (a : Emitted) → Some a ≡ Some (as_emitted sent) → sent ≡ sent_of a
 same_sent sent a e = let same : as_emitted sent ≡ a = cc in ap sent_of same
 
-further : (s : Scenario) (hs : List Happening) (until : ℕ) (d : DeviceId) (collections : History) (e : Entry) (k j : ℕ) (sent : Compressed) (t : ℕ) → j ≤ k
-    → OwesBehind s hs until d collections e k sent t → OwesBehind s hs until d collections e j sent t
-further s hs until d collections e k j sent t le o =
+further : {s : Scenario} {hs : List Happening} {until : ℕ} {d : DeviceId} {collections : History} {e : Entry} {k : ℕ}
+    (j : ℕ) {sent : Compressed} {t : ℕ} → j ≤ k → OwesBehind s hs until d collections e k sent t
+    → OwesBehind s hs until d collections e j sent t
+further j le o =
     let behind = o.behind in
     record { owed = o.owed; place = o.place; behind = omega (arith, behind, le); there = o.there; begun = o.begun }
 
@@ -31,80 +32,91 @@ none_more : (r : Option ℕ) → earlier_of r None ≡ r
 none_more None = refl
 none_more (Some t) = refl
 
--- the cluster is owed and not paid
-pub walk_unpaid : (s : Scenario) (hs : List Happening) (until : ℕ) (d : DeviceId) (collections : History) (e : Entry) (k : ℕ) (a : Emitted) (time : ℕ)
-    (r : Option ℕ) → slice_get (emissions_in collections e.gathering) k ≡ Some a → IsReach (s.reading d) (pos 0) a.at (pos time) → time ≤ until
-    → time_at e.place ≤ time → Owes s hs d (sent_of a) time → (IsTold s hs d (sent_of a) → ⊥)
-    → TellsFirstOf (OwesBehind s hs until d collections e (k + 1)) (IsTold s hs d) r
-    → TellsFirstOf (OwesBehind s hs until d collections e k) (IsTold s hs d) (earlier_of r (Some time))
-walk_unpaid s hs until d collections e k a time r is reach timely begun owes unpaid told =
-    first_of_both (OwesBehind s hs until d collections e k) (OwesBehind s hs until d collections e (k + 1)) (OwesHere s hs until d collections e k a)
-    (IsTold s hs d) r (Some time) (has_parts s hs until d collections e k a is) told
-    (record {
-      debt = sent_of a;
-      owed = (
-        refl,
-        record { owed = record { owes = owes; timely = timely }; place = k; behind = omega arith; there = is; begun = begun },
-      );
-      unpaid = unpaid;
-      first = λ other t o not.
-          let there = subst (λ (x : Compressed). IsReach (s.reading d) (pos 0) x.at.0 (pos t)) o.0 o.1.owed.owes.emits.reached in
-          let same = one_reach (s.reading d) (pos 0) a.at time t reach there in
-          omega (arith, same);
-    })
+module _ (s : Scenario) (hs : List Happening) (until : ℕ) (d : DeviceId) (collections : History) (e : Entry) where
+  -- the cluster is owed and not paid
+  pub walk_unpaid : (k : ℕ) (a : Emitted) {time : ℕ} (r : Option ℕ)
+      → slice_get (emissions_in collections e.gathering) k ≡ Some a → IsReach (s.reading d) (pos 0) a.at (pos time)
+      → time ≤ until → time_at e.place ≤ time → Owes s hs d (sent_of a) time → (IsTold s hs d (sent_of a) → ⊥)
+      → TellsFirstOf (OwesBehind s hs until d collections e (k + 1)) (IsTold s hs d) r
+      → TellsFirstOf (OwesBehind s hs until d collections e k) (IsTold s hs d) (earlier_of r (Some time))
+  walk_unpaid k a {time} r is reach timely begun owes unpaid told =
+      first_of_both (OwesBehind s hs until d collections e k) (OwesBehind s hs until d collections e (k + 1))
+      (OwesHere s hs until d collections e k a)
+      (IsTold s hs d) r (Some time) (has_parts s hs until d collections e k a is) told
+      (record {
+        debt = sent_of a;
+        owed = (
+          refl,
+          record { owed = record { owes = owes; timely = timely }; place = k; behind = omega arith; there = is; begun = begun },
+        );
+        unpaid = unpaid;
+        first = λ other t o not.
+            let there = subst (λ (x : Compressed). IsReach (s.reading d) (pos 0) x.at.0 (pos t)) o.0
+            o.1.owed.owes.emits.reached in
+            let same = one_reach (s.reading d) (pos 0) a.at time t reach there in
+            omega (arith, same);
+      })
 
--- it is paid where it is owed
-pub walk_paid : (s : Scenario) (hs : List Happening) (until : ℕ) (d : DeviceId) (collections : History) (e : Entry) (k : ℕ) (a : Emitted) (time : ℕ)
-    (r : Option ℕ) → slice_get (emissions_in collections e.gathering) k ≡ Some a → IsReach (s.reading d) (pos 0) a.at (pos time)
-    → (Owes s hs d (sent_of a) time → IsTold s hs d (sent_of a)) → TellsFirstOf (OwesBehind s hs until d collections e (k + 1)) (IsTold s hs d) r
-    → TellsFirstOf (OwesBehind s hs until d collections e k) (IsTold s hs d) r
-walk_paid s hs until d collections e k a time r is reach paid told =
-    subst (TellsFirstOf (OwesBehind s hs until d collections e k) (IsTold s hs d)) (none_more r)
-    (first_of_both (OwesBehind s hs until d collections e k) (OwesBehind s hs until d collections e (k + 1)) (OwesHere s hs until d collections e k a)
-    (IsTold s hs d) r None (has_parts s hs until d collections e k a is) told
-    (λ sent t o.
-    let owes = subst (λ (x : Compressed). Owes s hs d x t) o.0 o.1.owed.owes in
-    let same = one_reach (s.reading d) (pos 0) a.at t time owes.emits.reached reach in
-    subst (IsTold s hs d) (sym o.0) (paid (subst (Owes s hs d (sent_of a)) same owes))))
+  -- it is paid where it is owed
+  pub walk_paid : (k : ℕ) (a : Emitted) (time : ℕ) (r : Option ℕ)
+      → slice_get (emissions_in collections e.gathering) k ≡ Some a → IsReach (s.reading d) (pos 0) a.at (pos time)
+      → (Owes s hs d (sent_of a) time → IsTold s hs d (sent_of a))
+      → TellsFirstOf (OwesBehind s hs until d collections e (k + 1)) (IsTold s hs d) r
+      → TellsFirstOf (OwesBehind s hs until d collections e k) (IsTold s hs d) r
+  walk_paid k a time r is reach paid told =
+      subst (TellsFirstOf (OwesBehind s hs until d collections e k) (IsTold s hs d)) (none_more r)
+      (first_of_both (OwesBehind s hs until d collections e k) (OwesBehind s hs until d collections e (k + 1))
+      (OwesHere s hs until d collections e k a)
+      (IsTold s hs d) r None (has_parts s hs until d collections e k a is) told
+      (λ sent t o.
+      let owes = subst (λ x. Owes s hs d x t) o.0 o.1.owed.owes in
+      let same = one_reach (s.reading d) (pos 0) a.at t time owes.emits.reached reach in
+      subst (IsTold s hs d) (sym o.0) (paid (subst (Owes s hs d (sent_of a)) same owes))))
 
--- its reading is not reached
-pub walk_unreached : (s : Scenario) (hs : List Happening) (until : ℕ) (d : DeviceId) (collections : History) (e : Entry) (k : ℕ) (a : Emitted) (r : Option ℕ)
-    → slice_get (emissions_in collections e.gathering) k ≡ Some a → ((x : ℕ) → 0 ≤ x → x ≤ until → pos (s.reading d x) <ℤ a.at)
-    → TellsFirstOf (OwesBehind s hs until d collections e (k + 1)) (IsTold s hs d) r → TellsFirstOf (OwesBehind s hs until d collections e k) (IsTold s hs d) r
-walk_unreached s hs until d collections e k a r is low told =
-    subst (TellsFirstOf (OwesBehind s hs until d collections e k) (IsTold s hs d)) (none_more r)
-    (first_of_both (OwesBehind s hs until d collections e k) (OwesBehind s hs until d collections e (k + 1)) (OwesHere s hs until d collections e k a)
-    (IsTold s hs d) r None (has_parts s hs until d collections e k a is) told
-    (first_of_none (OwesHere s hs until d collections e k a) (IsTold s hs d)
-    (λ sent t o.
-    let there = subst (λ (x : Compressed). IsReach (s.reading d) (pos 0) x.at.0 (pos t)) o.0 o.1.owed.owes.emits.reached in
-    let below = low t (omega arith) o.1.owed.timely in
-    let reached = there.reached in
-    absurd (omega (arith, ints, below, reached)))))
+  -- its reading is not reached
+  pub walk_unreached : (k : ℕ) (a : Emitted) (r : Option ℕ)
+      → slice_get (emissions_in collections e.gathering) k ≡ Some a
+      → ((x : ℕ) → 0 ≤ x → x ≤ until → pos (s.reading d x) <ℤ a.at)
+      → TellsFirstOf (OwesBehind s hs until d collections e (k + 1)) (IsTold s hs d) r
+      → TellsFirstOf (OwesBehind s hs until d collections e k) (IsTold s hs d) r
+  walk_unreached k a r is low told =
+      subst (TellsFirstOf (OwesBehind s hs until d collections e k) (IsTold s hs d)) (none_more r)
+      (first_of_both (OwesBehind s hs until d collections e k) (OwesBehind s hs until d collections e (k + 1))
+      (OwesHere s hs until d collections e k a)
+      (IsTold s hs d) r None (has_parts s hs until d collections e k a is) told
+      (first_of_none (OwesHere s hs until d collections e k a) (IsTold s hs d)
+      (λ sent t o.
+      let there = subst (λ (x : Compressed). IsReach (s.reading d) (pos 0) x.at.0 (pos t)) o.0
+      o.1.owed.owes.emits.reached in
+      let below = low t (omega arith) o.1.owed.timely in
+      let reached = there.reached in
+      absurd (omega (arith, ints, below, reached)))))
 
--- where the cluster is owed before the entry's record, those before it are too
-pub walk_begun : (s : Scenario) (hs : List Happening) (until : ℕ) (d : DeviceId) (collections : History) (e : Entry) (points : List Point) (k : ℕ)
-    (a : Emitted) (time : ℕ) (r : Option ℕ) → pos 0 ≤ℤ collections.ow → Gathers collections e.gathering points
-    → slice_get (emissions_in collections e.gathering) k ≡ Some a → IsReach (s.reading d) (pos 0) a.at (pos time) → time < time_at e.place
-    → TellsFirstOf (OwesBehind s hs until d collections e (k + 1)) (IsTold s hs d) r → TellsFirstOf (OwesBehind s hs until d collections e 0) (IsTold s hs d) r
-walk_begun s hs until d collections e points k a time r some gathers is reach early told =
-    first_as (OwesBehind s hs until d collections e 0) (OwesBehind s hs until d collections e (k + 1)) (IsTold s hs d) r
-    (λ sent t o.
-    elim (cases_lt k o.place) [
-      | inl more ↦ record { owed = o.owed; place = o.place; behind = omega (arith, more); there = o.there; begun = o.begun }
-      | inr less ↦
-          let low = ascending collections e.gathering points o.place k (as_emitted sent) a some gathers less o.there is in
-          absurd (later sent t o low)
-    ])
-    (λ sent t o. further s hs until d collections e (k + 1) 0 sent t (omega arith) o) told
-  where
-    later : (sent : Compressed) (t : ℕ) → OwesBehind s hs until d collections e 0 sent t → sent.at.0 ≤ℤ a.at → ⊥
-    later sent t o low =
-        let there = o.owed.owes.emits.reached in
-        let begun = o.begun in
-        let before = there.not_before time (omega (arith, ints)) (omega (arith, ints, early, begun)) in
-        let reached = reach.reached in
-        omega (arith, ints, before, reached, low)
+  -- where the cluster is owed before the entry's record, those before it are too
+  pub walk_begun : {points : List Point} (k : ℕ) (a : Emitted) (time : ℕ) (r : Option ℕ) → pos 0 ≤ℤ collections.ow
+      → Gathers collections e.gathering points → slice_get (emissions_in collections e.gathering) k ≡ Some a
+      → IsReach (s.reading d) (pos 0) a.at (pos time) → time < time_at e.place
+      → TellsFirstOf (OwesBehind s hs until d collections e (k + 1)) (IsTold s hs d) r
+      → TellsFirstOf (OwesBehind s hs until d collections e 0) (IsTold s hs d) r
+  walk_begun k a time r some gathers is reach early told =
+      first_as (OwesBehind s hs until d collections e 0) (OwesBehind s hs until d collections e (k + 1))
+      (IsTold s hs d) r
+      (λ sent t o.
+      elim (cases_lt k o.place) [
+        | inl more ↦ record { owed = o.owed; place = o.place; behind = omega (arith, more); there = o.there; begun = o.begun }
+        | inr less ↦
+            let low = ascending o.place k (as_emitted sent) a some gathers less o.there is in
+            absurd (later sent t o low)
+      ])
+      (λ sent t o. further 0 (omega arith) o) told
+    where
+      later : (sent : Compressed) (t : ℕ) → OwesBehind s hs until d collections e 0 sent t → sent.at.0 ≤ℤ a.at → ⊥
+      later sent t o low =
+          let there = o.owed.owes.emits.reached in
+          let begun = o.begun in
+          let before = there.not_before time (omega (arith, ints)) (omega (arith, ints, early, begun)) in
+          let reached = reach.reached in
+          omega (arith, ints, before, reached, low)
 
 past : {X : Type 0} (xs : List X) (i : ℕ) (x : X) → length xs ≤ i → slice_get xs i ≡ Some x → ⊥
 past [] i x le e = cc

@@ -40,12 +40,13 @@ all_kept device start (h ∷ hs) none =
 
 no_point : (on : Bool) (state : State) (n cycle : ℕ) → state ≡ Off → point_in (if on then Integrating else state) n ≡ Some cycle → ⊥
 no_point true state n cycle off e = cc
-no_point false state n cycle off e = cc (ap (λ (x : State). point_in x n) off)
+no_point false state n cycle off e = cc (ap (λ x. point_in x n) off)
 
 -- a device that has a correction point is one of the network's
-pub point_there : (s : Scenario) (hs : List Happening) (device : DeviceId) (t cycle : ℕ) (verdict : Verdict) → AreOfDevices s.network hs
-    → ComesToPoint s (up_to t hs) device t cycle verdict → device.0 < length s.network.device
-point_there s hs device t cycle verdict of comes =
+pub point_there : {s : Scenario} (hs : List Happening) {device : DeviceId} {t cycle : ℕ} {verdict : Verdict}
+    → AreOfDevices s.network hs → ComesToPoint s (up_to t hs) device t cycle verdict
+    → device.0 < length s.network.device
+point_there {s} hs {device} {t} {cycle} of comes =
     elim (cases_lt device.0 (length s.network.device)) [
       | inl lt ↦ lt
       | inr le ↦
@@ -60,23 +61,25 @@ point_there s hs device t cycle verdict of comes =
     ]
 
 -- at time 0 no clock comes to anything
-later_than_start : (s : Scenario) (hs : List Happening) (device : DeviceId) (t : ℕ) (v : ℤ) → Reaches s hs device v t → 0 < t
-later_than_start s hs device zero v reaches = grind (arith, changed_early, ints)
-later_than_start s hs device (suc t) v reaches = omega arith
+later_than_start : {s : Scenario} {hs : List Happening} {device : DeviceId} (t : ℕ) {v : ℤ} → Reaches s hs device v t
+    → 0 < t
+later_than_start zero reaches = grind (arith, changed_early, ints)
+later_than_start (suc t) reaches = omega arith
 
 -- ---- the first of all
 
-owed_at : (s : Scenario) (hs : List Happening) (until : ℕ) (device : DeviceId) (t : ℕ) → (owes : OwesPoint s hs until device t)
-    → OwesAt s hs device t owes.cycle
-owed_at s hs until device t owes = record { verdict = owes.verdict; comes = owes.comes; more = owes.more }
+owed_at : {s : Scenario} {hs : List Happening} {until : ℕ} {device : DeviceId} {t : ℕ}
+    (owes : OwesPoint s hs until device t) → OwesAt s hs device t owes.cycle
+owed_at owes = record { verdict = owes.verdict; comes = owes.comes; more = owes.more }
 
 pub first_point : (s : Scenario) (hs : List Happening) (until count : ℕ) (r : Option ℕ) → count ≡ length s.network.device → AreOfDevices s.network hs
     → TellsFirstAmong (OwesAt s hs) (IsTold s hs) until count r → TellsFirst s hs until (λ (o : DeviceId × ℕ). debts.point o.0 o.1) r
 first_point s hs until count None all of told = λ o owed.
-    let there = point_there s hs o.0 o.1 owed.cycle owed.verdict of owed.comes in
+    let there = point_there hs of owed.comes in
     let timely = owed.timely in
-    told o.0 (omega (arith, there, all)) o.1 owed.cycle (later_than_start s (up_to o.1 hs) o.0 o.1 _ owed.comes.reached) (omega (arith, timely))
-    (owed_at s hs until o.0 o.1 owed)
+    told o.0 (omega (arith, there, all)) o.1 owed.cycle (later_than_start o.1 owed.comes.reached)
+    (omega (arith, timely))
+    (owed_at owed)
 first_point s hs until count (Some t) all of told = record {
   debt = (told.device, t);
   owed = record {
@@ -91,9 +94,9 @@ first_point s hs until count (Some t) all of told = record {
   first = λ o owed unpaid.
       elim (cases_lt o.1 t) [
         | inl less ↦
-            let there = point_there s hs o.0 o.1 owed.cycle owed.verdict of owed.comes in
+            let there = point_there hs of owed.comes in
             absurd (unpaid (told.paid_before o.0 (omega (arith, there, all)) o.1 owed.cycle
-            (later_than_start s (up_to o.1 hs) o.0 o.1 _ owed.comes.reached) less (owed_at s hs until o.0 o.1 owed)))
+            (later_than_start o.1 owed.comes.reached) less (owed_at owed)))
         | inr more ↦ more
       ];
 }

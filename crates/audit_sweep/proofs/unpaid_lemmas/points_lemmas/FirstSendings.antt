@@ -27,7 +27,7 @@ first_sending s hs until count (Some t) all told = record {
             let sends = owed.sends in
             let there = master_there s.network o.device sends.master in
             absurd (unpaid (paid_as s hs o (told.paid_before o.device (omega (arith, there, all)) o.time o.cycle
-            (none_at_first s hs o.device o.time o.cycle sends) less sends)))
+            (none_at_first o.time sends) less sends)))
         | inr more ↦ more
       ];
 }

@@ -14,8 +14,8 @@ use Rattle.run_law.specs.declared.note.NoteBody.TheVariants as notes
 -- ---- the records of a lower rank than corrections
 
 -- the front that is before them
-pub front_is : (hs : List Happening) (p : List ℕ) (at : IsSplit place_of hs p) → records_before p hs ≡ at.front
-front_is hs p at =
+pub front_is : {hs : List Happening} {p : List ℕ} (at : IsSplit place_of hs p) → records_before p hs ≡ at.front
+front_is {p} at =
     let test : Happening → Bool = λ h. is_before (place_of h) p in
     let kept = all_kept test at.front (λ h i. before_is (place_of h) p (at.before h i)) in
     let none : filter test at.rest ≡ [] = none_kept test at.rest (λ h i. not_before (place_of h) p (at.none h i) (is_before (place_of h) p) refl) in
@@ -27,9 +27,10 @@ front_is hs p at =
     not_before q r not false e = e
 
 -- what the point comes to is the same by the front and by the records up to its time
-pub by_front : (s : Scenario) (hs : List Happening) (device : DeviceId) (t cycle : ℕ) (v : Verdict) (at : IsSplit place_of hs (t ∷ 6 ∷ []))
-    → ComesToPoint s at.front device t cycle v ↔ ComesToPoint s (up_to t hs) device t cycle v
-by_front s hs device t cycle v at =
+pub by_front : (s : Scenario) {hs : List Happening} (device : DeviceId) (t cycle : ℕ) (v : Verdict)
+    (at : IsSplit place_of hs (t ∷ 6 ∷ [])) → ComesToPoint s at.front device t cycle v
+    ↔ ComesToPoint s (up_to t hs) device t cycle v
+by_front s {hs} device t cycle v at =
     let late = late_part hs t 6 [] (omega arith) at in
     let same = late_earlier hs t at.front late in
     let heard = late_heard s hs device t at.front late in (
@@ -37,8 +38,9 @@ by_front s hs device t cycle v at =
       λ c. comes_by s (up_to t hs) at.front device t cycle v same heard c,
     )
 
-pub earlier_up_to : (hs : List Happening) (t : ℕ) (at : IsSplit place_of hs (t ∷ 6 ∷ [])) → earlier t (up_to t hs) ≡ earlier t hs
-earlier_up_to hs t at =
+pub earlier_up_to : {hs : List Happening} (t : ℕ) (at : IsSplit place_of hs (t ∷ 6 ∷ []))
+    → earlier t (up_to t hs) ≡ earlier t hs
+earlier_up_to {hs} t at =
     let late = late_part hs t 6 [] (omega arith) at in late_earlier hs t at.front late ∙ same_earlier t (6 ∷ []) hs at
 
 low_rank : (u r t : ℕ) (ks : List ℕ) → IsBefore (u ∷ r ∷ ks) (t ∷ 6 ∷ []) → u ≡ t → r < 6
@@ -61,16 +63,17 @@ front_earlier s hs h founded front rest whole =
       whole = whole;
       before = (founded front rest h whole).0;
       none = λ n i lt. elim i [
-        | inl e ↦ never_self (place_of h) (subst (λ (m : Happening). IsBefore (place_of m) (place_of h)) e lt)
+        | inl e ↦ never_self (place_of h) (subst (λ m. IsBefore (place_of m) (place_of h)) e lt)
         | inr r ↦ never_self (place_of n) (chain (place_of n) (place_of h) (place_of n) lt (behind_first place_of (IsDue s) front rest h n parts r))
       ];
     } in
     same_earlier (time_of h) (rank h.note.body ∷ key (members_in h) h.note.body) hs at
 
 -- where the device has a correction point at the time, no record of the front is of the time and changes its adjustment
-pub front_after : (s : Scenario) (hs : List Happening) (device : DeviceId) (t cycle : ℕ) (at : IsSplit place_of hs (t ∷ 6 ∷ []))
-    → IsFounded place_of (IsDue s) hs → next_point (standing_at s at.front device t) ≡ Some cycle → IsAfter at.front device t
-front_after s hs device t cycle at founded next = record {
+pub front_after : (s : Scenario) {hs : List Happening} (device : DeviceId) (t cycle : ℕ)
+    (at : IsSplit place_of hs (t ∷ 6 ∷ [])) → IsFounded place_of (IsDue s) hs
+    → next_point (standing_at s at.front device t) ≡ Some cycle → IsAfter at.front device t
+front_after s {hs} device t cycle at founded next = record {
   none_later = λ h i. time_before (time_of h) (rank h.note.body) t 6 (key (members_in h) h.note.body) [] (at.before h i);
   unchanged = λ h i same. by_test h i same (changes_adjustment device h.note.body) refl;
 }
@@ -85,7 +88,7 @@ front_after s hs device t cycle at founded next = record {
         let looks = joins_looking s by.front h.note.time device h.note.body joined by.due.cause in
         let fronts : earlier (time_of h) by.front ≡ earlier (time_of h) hs = front_earlier s hs h founded by.front by.rest by.whole in
         let state : state_before s hs device t ≡ Integrating =
-        subst (λ (u : ℕ). state_before s hs device u ≡ Integrating) same (sym (state_by s by.front hs device (time_of h) fronts) ∙ looks) in
+        subst (λ u. state_before s hs device u ≡ Integrating) same (sym (state_by s by.front hs device (time_of h) fronts) ∙ looks) in
         absurd (no_point (state_before s at.front device t) _ cycle (state_by s at.front hs device t (same_earlier t (6 ∷ []) hs at) ∙ state) next)
 
 -- so what has been heard by then is told by the front
@@ -93,5 +96,5 @@ pub heard_front : (s : Scenario) (hs : List Happening) (device : DeviceId) (t : 
     → IsFounded place_of (IsDue s) hs → Shows s (records_before (t ∷ 6 ∷ []) hs) device shown
     → (IsAfter at.front device t → Shows s at.front device shown → Summarizes heard (heard_since_point s at.front device t)) → IsHeard s at.front device t heard
 heard_front s hs device t at heard shown founded shows told cycle next =
-    told (front_after s hs device t cycle at founded next)
-    (subst (λ (gs : List Happening). Shows s gs device shown) (front_is hs (t ∷ 6 ∷ []) at) shows)
+    told (front_after s {hs = hs} device t cycle at founded next)
+    (subst (λ gs. Shows s gs device shown) (front_is {hs = hs} {p = t ∷ 6 ∷ []} at) shows)

@@ -13,12 +13,12 @@ sent_at u m n t c d (notes.Compressed device opened at cycle of_masters verdict)
 sent_at u m n t c d (notes.Sent other cycle) e = grind (arith, same_device)
 sent_at u m n t c d other e = absurd cc
 
-pub sent_there : (s : Scenario) (hs : List Happening) (d : DeviceId) (t c : ℕ) (place : List ℕ) → place ≡ place_at t 0 (notes.Sent d c)
-    → HasRecordAt hs place → IsSent s hs d t c
-sent_there s hs d t c place is there =
-    let both = sent_at (time_of there.0) (members_in there.0) 0 t c d there.0.note.body (there.2 ∙ is) in
-    (there.0, there.1, record { at = both.0; says = both.1 })
+module _ (s : Scenario) (hs : List Happening) (d : DeviceId) (t c : ℕ) (place : List ℕ)
+    (is : place ≡ place_at t 0 (notes.Sent d c)) where
+  pub sent_there : HasRecordAt hs place → IsSent s hs d t c
+  sent_there there =
+      let both = sent_at (time_of there.0) (members_in there.0) 0 t c d there.0.note.body (there.2 ∙ is) in
+      (there.0, there.1, record { at = both.0; says = both.1 })
 
-pub there_sent : (s : Scenario) (hs : List Happening) (d : DeviceId) (t c : ℕ) (place : List ℕ) → place ≡ place_at t 0 (notes.Sent d c)
-    → IsSent s hs d t c → HasRecordAt hs place
-there_sent s hs d t c place is sent = grind (arith, members_in)
+  pub there_sent : IsSent s hs d t c → HasRecordAt hs place
+  there_sent sent = grind (arith, members_in)

@@ -13,11 +13,11 @@ use Rattle.run_law.specs.declared.note.NoteBody.TheVariants as notes
 without_cause : (s : Scenario) (ps : List Happening) (device : DeviceId) (t cause : ℕ) (state : State) (why : Why) → cause ≡ 0
     → ChangesState s ps device t state cause why → (why ≡ whys.SyncClique) ⊎ (why ≡ whys.AsyncClique)
 without_cause s ps device t cause state whys.On none c =
-    let there = subst (λ (n : ℕ). numbered ps n ≡ Some c.2.1) none c.2.2.there in absurd cc
+    let there = subst (λ n. numbered ps n ≡ Some c.2.1) none c.2.2.there in absurd cc
 without_cause s ps device t cause state whys.Frame none c =
-    let there = subst (λ (n : ℕ). numbered ps n ≡ Some c.1.0) none c.1.1.there in absurd cc
+    let there = subst (λ n. numbered ps n ≡ Some c.1.0) none c.1.1.there in absurd cc
 without_cause s ps device t cause state whys.Correction none c =
-    let there = subst (λ (n : ℕ). numbered ps n ≡ Some c.2.3) none c.2.4.there in absurd cc
+    let there = subst (λ n. numbered ps n ≡ Some c.2.3) none c.2.4.there in absurd cc
 without_cause s ps device t cause state whys.SyncClique none c = inl refl
 without_cause s ps device t cause state whys.AsyncClique none c = inr refl
 
@@ -48,18 +48,19 @@ clique_at s ps time u m t d (notes.Corrected other cycle by adjustment) c e = ab
 clique_at s ps time u m t d (notes.State other state cause why) c e = grind (arith, by_why, same_device, without_cause)
 clique_at s ps time u m t d other c e = absurd cc
 
-pub corrected_there : (s : Scenario) (hs : List Happening) (d : DeviceId) (t c : ℕ) (place : List ℕ) → place ≡ t ∷ 6 ∷ d.0 ∷ []
-    → HasRecordAt hs place → IsTold s hs d t c
-corrected_there s hs d t c place is there =
-    let both = correction_at (time_of there.0) (members_in there.0) t d there.0.note.body (there.2 ∙ is) in
-    (there.0, there.1, record { at = both.0; of_point = both.1 })
+module _ (s : Scenario) (hs : List Happening) (d : DeviceId) (t c : ℕ) (place : List ℕ) where
+  pub corrected_there : place ≡ t ∷ 6 ∷ d.0 ∷ [] → HasRecordAt hs place → IsTold s hs d t c
+  corrected_there is there =
+      let both = correction_at (time_of there.0) (members_in there.0) t d there.0.note.body (there.2 ∙ is) in
+      (there.0, there.1, record { at = both.0; of_point = both.1 })
 
-pub left_there : (s : Scenario) (hs : List Happening) (d : DeviceId) (t c : ℕ) (place : List ℕ) → IsFounded place_of (IsDue s) hs
-    → place ≡ t ∷ 7 ∷ d.0 ∷ 0 ∷ [] → HasRecordAt hs place → IsTold s hs d t c
-left_there s hs d t c place founded is there =
-    let by = founded_at s hs there.0 founded there.1 in
-    let both = clique_at s by.front there.0.note.time (time_of there.0) (members_in there.0) t d there.0.note.body by.due.cause (there.2 ∙ is) in
-    (there.0, there.1, record { at = both.0; of_point = both.1 })
+  pub left_there : IsFounded place_of (IsDue s) hs → place ≡ t ∷ 7 ∷ d.0 ∷ 0 ∷ [] → HasRecordAt hs place
+      → IsTold s hs d t c
+  left_there founded is there =
+      let by = founded_at s hs there.0 founded there.1 in
+      let both = clique_at s by.front there.0.note.time (time_of there.0) (members_in there.0) t d there.0.note.body
+      by.due.cause (there.2 ∙ is) in
+      (there.0, there.1, record { at = both.0; of_point = both.1 })
 
 -- a record that tells of a point stands at one of the two places
 tells_at : (s : Scenario) (ps : List Happening) (time : Units) (u m : ℕ) (d : DeviceId) (body : NoteBody) → IsCaused s ps time body → IsPointOf d body
@@ -75,7 +76,7 @@ pub told_at : (s : Scenario) (hs : List Happening) (d : DeviceId) (t c : ℕ) �
     → HasRecordAt hs (t ∷ 6 ∷ d.0 ∷ []) ⊎ HasRecordAt hs (t ∷ 7 ∷ d.0 ∷ 0 ∷ [])
 told_at s hs d t c founded told =
     let by = founded_at s hs told.0 founded told.1 in
-    let times : place_of told.0 ≡ place_at t (members_in told.0) told.0.note.body = ap (λ (u : ℕ). place_at u (members_in told.0) told.0.note.body) told.2.at in
+    let times : place_of told.0 ≡ place_at t (members_in told.0) told.0.note.body = ap (λ u. place_at u (members_in told.0) told.0.note.body) told.2.at in
     elim (tells_at s by.front told.0.note.time t (members_in told.0) d told.0.note.body by.due.cause told.2.of_point) [
       | inl e ↦ inl (told.0, told.1, times ∙ e)
       | inr e ↦ inr (told.0, told.1, times ∙ e)
@@ -84,7 +85,7 @@ told_at s hs d t c founded told =
 -- a point that comes to more than a clearing
 pub owed_so : (o : Option Point) (p : Point) → o ≡ Some p → (verdict_as p.verdict ≡ Cleared → ⊥)
     → (cycle : ℕ) × (verdict : Verdict) × ComesTo o cycle verdict × (verdict ≡ Cleared → ⊥)
-owed_so o p is more = (p.cycle, verdict_as p.verdict, subst (λ (x : Option Point). ComesTo x p.cycle (verdict_as p.verdict)) (sym is) (refl, refl), more)
+owed_so o p is more = (p.cycle, verdict_as p.verdict, subst (λ x. ComesTo x p.cycle (verdict_as p.verdict)) (sym is) (refl, refl), more)
 
 pub not_alone : (v : Verdict) → v ≡ SyncClique → v ≡ Cleared → ⊥
 not_alone v is e = let same : SyncClique ≡ Cleared = sym is ∙ e in cc

@@ -14,4 +14,5 @@ returns-clause-is c befallen hs k =
     let b = heard_before t 3 (key c.args.members.0 (notes.Permanent f.device f.link f.cause f.point Ignored)) hs (omega arith) in
     let shows = c.before_permanence-shown.ensures s hs Ignored k.standings in
     to_z-of_z w128 c.adjustment.result (search rules) ∙ c.adjustment.ensures.value
-    ∙ hearing_adjustment s judged f.device c.before_permanence-shown.result.now t (none_later t judged b) (only_joined t judged f.device b) shows
+    ∙ hearing_adjustment s judged f.device c.before_permanence-shown.result.now t (none_later b)
+    (only_joined f.device b) shows

@@ -8,6 +8,6 @@ returns-clause-is c befallen hs k =
     let shows = c.before_time-shown.ensures s hs k.standings in
     let read = c.reading.ensures c.args.network.now befallen k.events c.requires.there in
     to_z-of_z w128 c.local_at.result (search rules) ∙ c.local_at.ensures.value
-    ∙ ap (λ (z : ℤ). pos c.reading.result +ℤ z)
+    ∙ ap (λ z. pos c.reading.result +ℤ z)
     (to_z-of_z w128 c.adjustment.result (search rules) ∙ c.adjustment.ensures.value ∙ shows.adjustment)
-    ∙ ap (λ (n : ℕ). pos n +ℤ (adjustment_before s hs c.args.device c.args.time).0) read
+    ∙ ap (λ n. pos n +ℤ (adjustment_before s hs c.args.device c.args.time).0) read

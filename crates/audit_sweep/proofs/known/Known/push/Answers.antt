@@ -20,7 +20,7 @@ returns-clause-known c befallen hs k founded all due =
         time = time;
         body_is = refl;
         frame = carried;
-        reading = subst (λ (t : ℕ). IsReading s device t c.readings-readings.result) time
+        reading = subst (λ t. IsReading s device t c.readings-readings.result) time
             (c.readings-readings.ensures network befallen device k.events (subject_there network note.body device c.requires.judgeable.of_network of) of);
         steady = steady s device (on device);
       };
@@ -32,10 +32,10 @@ returns-clause-known c befallen hs k founded all due =
       exits = k.exits;
       records = records_next hs h c.make-kept.result c.args.self.now.records c.push-4.new.self k.records kept c.in_ok-push-4.ensures;
       by_cause = show_next network hs note k.by_cause;
-      young = young_next s hs h due k.young;
+      young = young_next due k.young;
       standings = c.in_ok-push.ensures.stands s hs h refl seen all k.standings;
       standing = c.push.ensures.count ∙ k.standing;
-      takings = c.in_ok-push-2.ensures.taken network hs h time refl refl (takes_rightly s hs h due) all k.takings;
+      takings = c.in_ok-push-2.ensures.taken network hs h time refl refl (takes_rightly due) all k.takings;
       takers = c.push-2.ensures.count ∙ k.takers;
       stretches = c.in_ok-push-3.ensures.stands hs h (record { time = time; body_is = refl; frame = carried }) all order.stands k.stretches;
       collectors = c.push-3.ensures.count ∙ k.collectors;

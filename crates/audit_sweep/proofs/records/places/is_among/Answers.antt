@@ -8,4 +8,4 @@ returns-in-Some c = λ is.
     let k = c.partition_point-count.result in
     let found = c.in-Some.found.now in
     let got : slice_get places k ≡ Some found = got_at places k found (ltb-true k (length places) (sym c.in-Some.ensures.lookup.0)) c.in-Some.ensures.lookup.1 in
-    subst (λ (q : List ℕ). IsIn q places) (c.is_same.ensures.0 is) (in_at places k found got)
+    subst (λ q. IsIn q places) (c.is_same.ensures.0 is) (in_at places k found got)

@@ -10,34 +10,34 @@ use Rattle.audit_sweep.proofs.sweep.Sweep.first_lack.Goals as goal
 pub first_unpaid_permanence-permanences-requires-clause-some :
     goal.first_unpaid_permanence-permanences-requires-clause-some
 first_unpaid_permanence-permanences-requires-clause-some c =
-    let some = some_here c.args.self.now c.requires.swept in
+    let some = some_here c.requires.swept in
     (c.debtor-debtor.result.network.now, some.0, (c.debtor-debtor.ensures.known some.0 some.1 some.2).remembers)
 
 pub first_unemitted-emissions-requires-clause-kept :
     goal.first_unemitted-emissions-requires-clause-kept
-first_unemitted-emissions-requires-clause-kept c = kept_for_clusters c.args.self.now (some_here c.args.self.now c.requires.swept)
+first_unemitted-emissions-requires-clause-kept c = kept_for_clusters (some_here c.requires.swept)
 
 pub first_unsent-sendings-requires-clause-kept : goal.first_unsent-sendings-requires-clause-kept
-first_unsent-sendings-requires-clause-kept c = kept_for_clocks c.args.self.now (some_here c.args.self.now c.requires.swept)
+first_unsent-sendings-requires-clause-kept c = kept_for_clocks (some_here c.requires.swept)
 
 pub first_untold-points-requires-clause-kept : goal.first_untold-points-requires-clause-kept
-first_untold-points-requires-clause-kept c = kept_for_clocks c.args.self.now (some_here c.args.self.now c.requires.swept)
+first_untold-points-requires-clause-kept c = kept_for_clocks (some_here c.requires.swept)
 
 pub first_unpaid_change-changes-requires : goal.first_unpaid_change-changes-requires
 first_unpaid_change-changes-requires c =
-    let some = some_here c.args.self.now c.requires.swept in
+    let some = some_here c.requires.swept in
     record { standing = (c.debtor-debtor.ensures.known some.0 some.1 some.2).standing }
 
 pub first_unpaid_departure-departures-requires-clause-some :
     goal.first_unpaid_departure-departures-requires-clause-some
 first_unpaid_departure-departures-requires-clause-some c =
-    let some = some_here c.args.self.now c.requires.swept in
+    let some = some_here c.requires.swept in
     (c.debtor-debtor.result.network.now, some.0, (c.debtor-debtor.ensures.known some.0 some.1 some.2).remembers)
 
 pub first_undispatched-dispatches-requires-clause-known :
     goal.first_undispatched-dispatches-requires-clause-known
 first_undispatched-dispatches-requires-clause-known c =
-    let some = some_here c.args.self.now c.requires.swept in
+    let some = some_here c.requires.swept in
     (some.0, some.1, c.row_debtor.ensures.known some.0 some.1 some.2)
 
 pub returns : goal.returns
@@ -45,20 +45,21 @@ returns c network befallen end hs swept told =
     let sweep = c.args.self.now in
     let own = sweep.network.now in
     let until = amount sweep.known.end in
-    let w = here network befallen end hs sweep swept in
+    let w = here swept in
     let by : c.end-until.result ≡ until = c.end-until.ensures in
     let debtor = c.debtor-debtor.result in
     let same : (debtor.network.now ≡ own) × (debtor.until ≡ until) = (c.debtor-debtor.ensures.same.0, c.debtor-debtor.ensures.same.1 ∙ by) in
     let known = c.debtor-debtor.ensures.known befallen hs w in
     let rows = c.row_debtor.result in
     let rows_same : (rows.network.now ≡ own) × (rows.until ≡ until) = (c.row_debtor.ensures.same.0, c.row_debtor.ensures.same.1 ∙ by) in
-    let is_founded = founded own befallen sweep.known.end hs sweep w in
+    let is_founded = founded w in
     let by_clocks : clocks.IsKept own befallen hs sweep.known.events sweep.known.standings sweep.places =
     record { remembers = w.known.events; stands = w.known.standings; places_are = w.places } in
     let by_clusters : clusters.IsKept own befallen hs sweep.known.events sweep.known.stretches sweep.places =
     record { remembers = w.known.events; stands = w.known.stretches; places_are = w.places } in
-    let only = subst (IsOnlyEnd befallen) (sym by) (only_end own befallen hs sweep w) in
-    let is_told = back (λ (n : Network) (e : Units). AreEventsTold (scenario_under n befallen) hs (amount e)) network befallen end hs sweep swept told in
+    let only = subst (IsOnlyEnd befallen) (sym by) (only_end w) in
+    let is_told =
+    back (λ (n : Network) (e : Units). AreEventsTold (scenario_under n befallen) hs (amount e)) swept told in
     let arrivals = c.first_unpaid_arrival-arrivals.result in
     let permanences = c.first_unpaid_permanence-permanences.result in
     let emissions = c.first_unemitted-emissions.result in
@@ -96,7 +97,7 @@ returns c network befallen end hs swept told =
     ∙ ap (earlier_of arrivals) (sym c.earlier-rest.ensures)
     ∙ sym c.earlier-6.ensures in
     there (λ (n : Network) (e : Units). TellsFirstLack (scenario_under n befallen) hs (amount e) c.earlier-6.result) network befallen end hs sweep swept
-    (tells_lack own befallen sweep.known.end hs sweep firsts c.earlier-6.result w (record {
+    (tells_lack {f = firsts} c.earlier-6.result w (record {
       events = is_told;
       arrivals = first_of own debtor.network.now befallen hs until debtor.until (λ (o : ℕ). debts.arrival o) arrivals same
           (c.first_unpaid_arrival-arrivals.ensures befallen hs known);
@@ -107,7 +108,7 @@ returns c network befallen end hs swept told =
       sendings = first_of own own befallen hs until c.end-until.result (λ (o : Sending). debts.sending o) sendings (refl, by)
           (c.first_unsent-sendings.ensures befallen hs by_clocks);
       points = first_of own own befallen hs until c.end-until.result (λ (o : DeviceId × ℕ). debts.point o.0 o.1) points (refl, by)
-          (c.first_untold-points.ensures befallen hs by_clocks is_founded (of_devices own befallen sweep.known.end hs sweep w));
+          (c.first_untold-points.ensures befallen hs by_clocks is_founded (of_devices w));
       changes = first_of own debtor.network.now befallen hs until debtor.until (λ (o : ℕ). debts.change o) changes same
           (c.first_unpaid_change-changes.ensures befallen hs known);
       departures = first_of own debtor.network.now befallen hs until debtor.until (λ (o : ℕ × LinkId). debts.departure o.0 o.1) departures same

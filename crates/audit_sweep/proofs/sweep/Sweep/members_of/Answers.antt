@@ -6,4 +6,4 @@ pub returns-in-Permanent : goal.returns-in-Permanent
 returns-in-Permanent c hs time records =
     let said = c.in-Permanent in
     rw said.is
-    (ap (λ (m : ℕ). place_at time m (notes.Permanent said.device said.link said.cause said.point said.verdict)) (c.members_from.ensures hs records))
+    (ap (λ m. place_at time m (notes.Permanent said.device said.link said.cause said.point said.verdict)) (c.members_from.ensures hs records))

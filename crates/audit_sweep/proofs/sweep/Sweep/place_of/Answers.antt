@@ -6,5 +6,5 @@ returns c hs records =
     let note = c.args.note.now in
     let time = c.amount-time.ensures.value in
     c.of.ensures
-    ∙ ap (λ (t : ℕ). place_at t c.members_of.result note.body) time
+    ∙ ap (λ t. place_at t c.members_of.result note.body) time
     ∙ c.members_of.ensures hs (amount note.time) records

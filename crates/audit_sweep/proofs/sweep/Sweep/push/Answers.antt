@@ -4,8 +4,8 @@ use Rattle.audit_sweep.proofs.sweep.Sweep.push.Goals as goal
 
 pub push-requires : goal.push-requires
 push-requires c = record {
-  range = range_of_some c.args.self.now c.requires.swept;
-  known = knows_of_some c.args.self.now c.requires.swept;
+  range = range_of_some c.requires.swept;
+  known = knows_of_some c.requires.swept;
   judgeable = c.requires.judgeable;
 }
 
@@ -17,11 +17,11 @@ returns c befallen end hs w at =
     let known = c.in_ok-push.ensures.known befallen hs w.known (founded_of_sound place_of (IsDue s) _ hs w.sound) at.sound.behind_all at.sound.due in
     record {
       of_network = refl;
-      ends = same_end network befallen hs _ _ _ w.known known ∙ w.ends;
+      ends = same_end w.known known ∙ w.ends;
       range = w.range;
       timely = w.timely;
       known = known;
-      sound = sound_more place_of (IsDue s) _ hs h w.sound at.sound;
+      sound = sound_more (IsDue s) w.sound at.sound;
       places = c.in_ok-push-3.ensures.added hs h w.places (sym at.is) (subst (AllBefore place_of hs) (sym at.is) at.sound.behind_all);
       paid = c.in_ok-push-2.ensures hs h w.paid refl at.sound.due.number;
       devices = named_more network hs h c.requires.judgeable.of_network w.devices;

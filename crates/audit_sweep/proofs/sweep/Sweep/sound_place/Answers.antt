@@ -3,7 +3,7 @@ use Rattle.audit_sweep.proofs.Words.{IsDue, amount, ap, arith, founded_of_sound,
 use Rattle.audit_sweep.proofs.sweep.Sweep.sound_place.Goals as goal
 
 pub place_of-place-requires-clause-range : goal.place_of-place-requires-clause-range
-place_of-place-requires-clause-range c = range_of_some c.args.self.now c.requires.swept
+place_of-place-requires-clause-range c = range_of_some c.requires.swept
 
 pub place_of-place-requires-clause-begun : goal.place_of-place-requires-clause-begun
 place_of-place-requires-clause-begun c = (c.is_timely.ensures.0 c.if-not-is_timely.false).0
@@ -11,17 +11,17 @@ place_of-place-requires-clause-begun c = (c.is_timely.ensures.0 c.if-not-is_time
 pub is_due-requires : goal.is_due-requires
 is_due-requires c =
     let timely = c.is_timely.ensures.0 c.if-not-is_timely.false in
-    let end = end_of_some c.args.self.now c.requires.swept in
+    let end = end_of_some c.requires.swept in
     record {
-      range = range_of_some c.args.self.now c.requires.swept;
-      known = knows_of_some c.args.self.now c.requires.swept;
+      range = range_of_some c.requires.swept;
+      known = knows_of_some c.requires.swept;
       judgeable = record { of_network = c.requires.named; begun = timely.0; timely = omega (arith, timely.1, end) };
     }
 
 pub returns-then-is_due-clause-judgeable : goal.returns-then-is_due-clause-judgeable
 returns-then-is_due-clause-judgeable c =
     let timely = c.is_timely.ensures.0 c.if-not-is_timely.false in
-    let end = end_of_some c.args.self.now c.requires.swept in
+    let end = end_of_some c.requires.swept in
     record { of_network = c.requires.named; begun = timely.0; timely = omega (arith, timely.1, end) }
 
 pub returns-then-is_due-clause-sound : goal.returns-then-is_due-clause-sound

@@ -6,11 +6,11 @@ push-requires-clause-judgeable c = c.in-Some.ensures.judgeable
 
 pub returns-in-Ok : goal.returns-in-Ok
 returns-in-Ok c network befallen end hs w b =
-    let here = of_its_network network befallen end hs c.args.self.now w in
-    subst (λ (n : Network). IsSwept n befallen end (hs ++ happening n hs c.args.note.now ∷ []) c.push.new.self) w.of_network
+    let here = of_its_network w in
+    subst (λ n. IsSwept n befallen end (hs ++ happening n hs c.args.note.now ∷ []) c.push.new.self) w.of_network
     (c.in-Ok.ensures befallen end hs here (c.in-Some.ensures.sound befallen end hs here b))
 
 pub returns-in-None : goal.returns-in-None
 returns-in-None c network befallen end hs w b =
-    subst (λ (n : Network). IsSoundUpTo n befallen end hs c.args.note.now → ⊥) w.of_network
-    (c.in-None.ensures.sound befallen end hs (of_its_network network befallen end hs c.args.self.now w) b)
+    subst (λ n. IsSoundUpTo n befallen end hs c.args.note.now → ⊥) w.of_network
+    (c.in-None.ensures.sound befallen end hs (of_its_network w) b)

@@ -2,7 +2,7 @@ use Rattle.{audit_sweep.proofs.records_lemmas.dispatches_lemmas.Rows.{by_some, h
 use Rattle.audit_sweep.proofs.records.dispatches.dispatching.dispatches.Goals as goal
 
 pub is_some_dispatched-requires-clause-periods : goal.is_some_dispatched-requires-clause-periods
-is_some_dispatched-requires-clause-periods c = have_periods c.args.network.now c.args.dispatch.now.link c.args.rows.now c.requires.range c.requires.rows
+is_some_dispatched-requires-clause-periods c = have_periods c.requires.range c.requires.rows
 
 pub returns-then-is_up : goal.returns-then-is_up
 returns-then-is_up c s hs t stands last =
@@ -10,7 +10,7 @@ returns-then-is_up c s hs t stands last =
     let device = c.args.device in
     let up = (c.is_up.ensures s hs network device t stands).0 c.if-is_up.true in
     let some = c.is_some_dispatched.ensures s hs t stands last in
-    let by = by_some s network hs device t c.args.dispatch.now c.args.rows.now stands.of_network c.requires.rows up in
+    let by = by_some c.args.dispatch.now stands.of_network c.requires.rows up in
     (λ told. by.0 (some.0 told), λ does. some.1 (by.1 does))
 
 pub returns-else-is_up : goal.returns-else-is_up

@@ -10,8 +10,8 @@ returns c hs vl t so =
     let cause = c.args.cause in
     let cycle = c.args.cycle in
     let is = c.holds.ensures
-    ∙ ap (λ (b : Bool). holds (sender.0 == device.0) cause b c.is_last.result) c.is_end.ensures
-    ∙ ap (λ (b : Bool). holds (sender.0 == device.0) cause (is_end network device) b) c.is_last.ensures in (
+    ∙ ap (λ b. holds (sender.0 == device.0) cause b c.is_last.result) c.is_end.ensures
+    ∙ ap (λ b. holds (sender.0 == device.0) cause (is_end network device) b) c.is_last.ensures in (
       λ told. held_so network hs device sender vl t cause cycle c.args.accepted so (sym is ∙ told),
       λ hand. is ∙ so_held network hs device sender vl t cause cycle c.args.accepted so hand,
     )

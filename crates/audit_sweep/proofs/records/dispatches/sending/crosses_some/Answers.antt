@@ -9,5 +9,5 @@ returns c network befallen remembers has =
     let shown = c.args.shown.now in
     subst (λ (b : Bool). IsTrue b ↔ CrossesSome reading shown c.args.series c.args.time) (sym c.is_some.ensures)
     (crossed_at reading shown c.args.series c.args.time c.next_crossing.result
-    (subst (λ (n : ℕ). IsNextOrNone reading shown c.args.series n c.args.time c.next_crossing.result) c.saturating_sub.ensures
+    (subst (λ n. IsNextOrNone reading shown c.args.series n c.args.time c.next_crossing.result) c.saturating_sub.ensures
     (c.next_crossing.ensures.is network befallen remembers has)))

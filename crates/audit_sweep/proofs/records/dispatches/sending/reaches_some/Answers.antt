@@ -10,5 +10,5 @@ returns-in-Some c befallen hs remembers has shows =
     let on = c.reading_law.ensures network befallen device remembers.range remembers.within remembers.begun in
     let steady : IsSteady s device = record { begins = on.begins; never_falls = on.never_falls } in
     let crosses = c.crosses_some.ensures network befallen remembers has in
-    let reached = reached_some s hs device c.args.time c.args.shown.now c.args.row.now c.in-Some.series c.in-Some.ensures.is steady shows in
+    let reached = reached_some hs c.args.time c.in-Some.ensures.is steady shows in
     (λ told. reached.0 (crosses.0 told), λ due. crosses.1 (reached.1 due))

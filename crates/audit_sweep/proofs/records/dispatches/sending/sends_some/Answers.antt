@@ -4,7 +4,7 @@ use Rattle.audit_sweep.proofs.records.dispatches.sending.sends_some.Goals as goa
 
 pub sends_by_some-requires-clause-rows : goal.sends_by_some-requires-clause-rows
 sends_by_some-requires-clause-rows c =
-    fit_rows c.args.network.now c.args.link c.on.result.now c.requires.range (c.on.ensures c.args.network.now c.requires.exits)
+    fit_rows c.requires.range (c.on.ensures c.args.network.now c.requires.exits)
 
 pub returns-then-is_up : goal.returns-then-is_up
 returns-then-is_up c befallen hs remembers has shows numbered =
@@ -15,7 +15,7 @@ returns-then-is_up c befallen hs remembers has shows numbered =
     record { of_network = refl; befalls = c.of.ensures network befallen remembers has; shows = shows } in
     let up = (c.is_up.ensures s hs network device c.args.time stands).0 c.if-is_up.true in
     let by = c.sends_by_some.ensures befallen hs remembers has shows in
-    let some = some_sent s hs device c.args.time c.args.link c.on.result.now (c.on.ensures network c.requires.exits) up numbered in
+    let some = some_sent (c.on.ensures network c.requires.exits) up numbered in
     (λ told. some.0 (by.0 told), λ does. by.1 (some.1 does))
 
 pub returns-else-is_up : goal.returns-else-is_up

@@ -12,10 +12,10 @@ returns-in-Some c = λ hs are.
     c.in-Some.ensures.value ∙ slice_get-last c.deref.result.now ∙ ap (λ (xs : List (List ℕ)). last_or None xs) (c.deref.ensures.value ∙ c.self.view_is) in (
       λ is h i.
           let b : IsBefore last p = is_there last p (sym c.is_before.ensures ∙ is) in
-          all_by_last items last p are.ascending found b (place_of h) (subst (λ (xs : List (List ℕ)). IsIn (place_of h) xs) (sym are.same) (in_map h hs i)),
+          all_by_last items last p are.ascending found b (place_of h) (subst (λ xs. IsIn (place_of h) xs) (sym are.same) (in_map h hs i)),
       λ all.
-          let r = of_map last hs (subst (λ (xs : List (List ℕ)). IsIn last xs) are.same (last_in items last found)) in
-          c.is_before.ensures ∙ before_is last p (subst (λ (q : List ℕ). IsBefore q p) r.2 (all r.0 r.1)),
+          let r = of_map last hs (subst (λ xs. IsIn last xs) are.same (last_in items last found)) in
+          c.is_before.ensures ∙ before_is last p (subst (λ q. IsBefore q p) r.2 (all r.0 r.1)),
     )
 
 pub returns-in-None : goal.returns-in-None
@@ -24,6 +24,6 @@ returns-in-None c = λ hs are.
     let found : None ≡ last_or None items =
     c.in-None.ensures.value ∙ slice_get-last c.deref.result.now ∙ ap (λ (xs : List (List ℕ)). last_or None xs) (c.deref.ensures.value ∙ c.self.view_is) in (
       λ is h i.
-          absurd (subst (λ (xs : List (List ℕ)). IsIn (place_of h) xs) (sym are.same ∙ none_last items found) (in_map h hs i)),
+          absurd (subst (λ xs. IsIn (place_of h) xs) (sym are.same ∙ none_last items found) (in_map h hs i)),
       λ all. refl,
     )

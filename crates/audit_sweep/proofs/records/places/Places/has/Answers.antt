@@ -13,11 +13,11 @@ returns-in-Some c = λ hs are.
     let got : slice_get items k ≡ Some found = ap (λ (xs : List (List ℕ)). slice_get xs k) (sym same)
     ∙ got_at c.deref.result.now k found (ltb-true k (length c.deref.result.now) (sym c.in-Some.ensures.lookup.0)) c.in-Some.ensures.lookup.1 in (
       λ is.
-          of_map p hs (subst (λ (xs : List (List ℕ)). IsIn p xs) are.same
-          (subst (λ (q : List ℕ). IsIn q items) (c.is_same.ensures.0 is) (in_at items k found got))),
+          of_map p hs (subst (λ xs. IsIn p xs) are.same
+          (subst (λ q. IsIn q items) (c.is_same.ensures.0 is) (in_at items k found got))),
       λ has.
           let there : IsIn p items =
-          subst (λ (q : List ℕ). IsIn q items) has.2 (subst (λ (xs : List (List ℕ)). IsIn (place_of has.0) xs) (sym are.same) (in_map has.0 hs has.1)) in
+          subst (λ q. IsIn q items) has.2 (subst (λ xs. IsIn (place_of has.0) xs) (sym are.same) (in_map has.0 hs has.1)) in
           let at : slice_get items k ≡ Some p = found_at items k p c.count_before-count.ensures.bound are.ascending
           (c.count_before-count.ensures.part are.ascending) there in
           let both : Some found ≡ Some p = sym got ∙ at in
@@ -31,11 +31,11 @@ returns-in-None c = λ hs are.
     let p = c.args.place.now in
     let same = c.deref.ensures.value ∙ c.self.view_is in
     let past : length items ≤ k =
-    subst (λ (xs : List (List ℕ)). length xs ≤ k) same (ltb-false k (length c.deref.result.now) (sym c.in-None.ensures.lookup.0)) in (
+    subst (λ xs. length xs ≤ k) same (ltb-false k (length c.deref.result.now) (sym c.in-None.ensures.lookup.0)) in (
       λ is. absurd cc,
       λ has.
           let there : IsIn p items =
-          subst (λ (q : List ℕ). IsIn q items) has.2 (subst (λ (xs : List (List ℕ)). IsIn (place_of has.0) xs) (sym are.same) (in_map has.0 hs has.1)) in
+          subst (λ q. IsIn q items) has.2 (subst (λ xs. IsIn (place_of has.0) xs) (sym are.same) (in_map has.0 hs has.1)) in
           let at : slice_get items k ≡ Some p = found_at items k p c.count_before-count.ensures.bound are.ascending
           (c.count_before-count.ensures.part are.ascending) there in
           absurd (omega (arith, past, got_within items k p at)),

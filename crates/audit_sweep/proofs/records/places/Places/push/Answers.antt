@@ -14,6 +14,6 @@ returns-clause-added c = λ hs h are at all.
       ascending = subst AreAscending (sym new)
           (ascends_on items p are.ascending
           (λ q i.
-          let r = of_map q hs (subst (λ (xs : List (List ℕ)). IsIn q xs) are.same i) in
-          subst (λ (s : List ℕ). IsBefore s p) r.2 (all r.0 r.1)));
+          let r = of_map q hs (subst (λ xs. IsIn q xs) are.same i) in
+          subst (λ s. IsBefore s p) r.2 (all r.0 r.1)));
     }

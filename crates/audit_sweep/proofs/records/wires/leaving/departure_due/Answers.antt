@@ -10,7 +10,7 @@ returns-then-from-time-clause-leaves c befallen hs h cause rem there k known o =
     let has = given_within c.args.network.now h.note.body c.in-Some.device c.args.link
     (giver_is s h c.args.kept.now c.in-Some.device c.args.link k by) in
     later s hs h c.args.kept.now c.args.until cause c.leaving_time-time.result c.args.link c.in-Some.device there k by
-    (c.leaving_time-time.ensures.value befallen rem has) (subst (λ (n : ℕ). n < c.leaving_time-time.result) c.from.ensures c.if-from-time.true) o
+    (c.leaving_time-time.ensures.value befallen rem has) (subst (λ n. n < c.leaving_time-time.result) c.from.ensures c.if-from-time.true) o
 
 pub returns-then-is_broken-clause-leaves : goal.returns-then-is_broken-clause-leaves
 returns-then-is_broken-clause-leaves c befallen hs h cause rem there k known o =
@@ -32,7 +32,7 @@ returns-clause-leaves c befallen hs h cause rem there k known =
     leaving s hs h c.args.kept.now framed.0 c.args.until cause c.leaving_time-time.result c.args.link c.in-Some.device there k
     framed.1 by (c.leaving_time-time.ensures.value befallen rem has)
     (sym (c.is_broken.ensures c.args.network.now befallen rem (known c.in-Some.device by)) ∙ c.if-is_broken.false)
-    (subst (λ (n : ℕ). c.leaving_time-time.result ≤ n) c.from.ensures c.if-from-time.false)
+    (subst (λ n. c.leaving_time-time.result ≤ n) c.from.ensures c.if-from-time.false)
 
 pub returns-clause-within : goal.returns-clause-within
-returns-clause-within c = subst (λ (n : ℕ). c.leaving_time-time.result ≤ n) c.from.ensures c.if-from-time.false
+returns-clause-within c = subst (λ n. c.leaving_time-time.result ≤ n) c.from.ensures c.if-from-time.false

@@ -16,7 +16,7 @@ returns-in-On c befallen hs number h known there kept =
       λ yes. brought_change s hs number h there _ body.1 (sym broken ∙ not-true c.is_broken.result yes),
       λ change.
           not_from_false c.is_broken.result
-          (broken ∙ subst (Brings s hs (time_of h)) body.1 (change_brought s hs number (time_of h) h there change)),
+          (broken ∙ subst (Brings s hs (time_of h)) body.1 (change_brought h there change)),
     )
 
 pub returns-in-Corrected : goal.returns-in-Corrected
@@ -29,5 +29,5 @@ returns-in-Corrected c befallen hs number h known there kept =
     let joining = c.is_joining.ensures befallen hs known has in
     let state = ap (λ (r : KeptRecord). state_before s hs device r.time) kept in (
       λ yes. brought_change s hs number h there _ body.3 (sym state ∙ joining.0 yes),
-      λ change. joining.1 (state ∙ subst (Brings s hs (time_of h)) body.3 (change_brought s hs number (time_of h) h there change)),
+      λ change. joining.1 (state ∙ subst (Brings s hs (time_of h)) body.3 (change_brought h there change)),
     )

@@ -11,7 +11,7 @@ records-preserved c befallen hs known =
     let debt_of = λ (cause : ℕ). debts.arrival cause in
     let next = next_below s hs until debt_of n c.records.first c.unpaid_arrival.result (c.records.invariant befallen hs known)
     (c.unpaid_arrival.ensures befallen hs known) in
-    subst (λ (first : Option ℕ). TellsFirstBelow s hs until debt_of (n + 1) first) (sym c.earlier_of-first.ensures) next
+    subst (λ first. TellsFirstBelow s hs until debt_of (n + 1) first) (sym c.earlier_of-first.ensures) next
 
 pub returns : goal.returns
 returns c befallen hs known =

@@ -16,7 +16,7 @@ records-preserved c befallen hs known =
     (λ o is. omega (arith, is))
     (c.records.invariant befallen hs known)
     (c.unpaid_departure.ensures befallen hs known) in
-    subst (λ (first : Option ℕ). TellsFirstAmong s hs until debt_of C first) (sym c.earlier_of-first.ensures) next
+    subst (λ first. TellsFirstAmong s hs until debt_of C first) (sym c.earlier_of-first.ensures) next
 
 pub returns : goal.returns
 returns c befallen hs known =

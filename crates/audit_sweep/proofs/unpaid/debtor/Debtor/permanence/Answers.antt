@@ -6,7 +6,8 @@ returns-in-Some c befallen hs number h known there kept =
     let s = scenario_of c.args.self.now befallen in
     let waits = c.in-Some.ensures h kept in
     let has = known.devices h c.in-Some.waiting.device (numbered_in hs number h there) (ap device_named waits.arrived) in
-    waits_until s hs c.args.self.now.until number h c.in-Some.waiting c.reached.result there waits (c.reached.ensures befallen known.remembers has)
+    waits_until s hs c.args.self.now.until number c.reached.result there waits
+    (c.reached.ensures befallen known.remembers has)
 
 pub returns-in-None : goal.returns-in-None
 returns-in-None c befallen hs number h known there kept =

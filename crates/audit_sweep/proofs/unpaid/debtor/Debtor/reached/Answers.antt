@@ -11,8 +11,8 @@ returns-else-is_broken c befallen rem has =
     let first = c.in-Some.ensures network befallen rem has in
     let reading : c.reading-reading.result ≡ s.reading w.device w.since = c.reading-reading.ensures network befallen rem has in
     let point = to_z-of_z w128 c.point_of-point.result (search rules) ∙ c.point_of-point.ensures
-    ∙ ap (λ (r : ℕ). point_of (pos r) w.clock network.dmax.0) reading in
-    let reached = subst (λ (v : ℤ). IsReach (s.reading w.device) (pos w.since) v (pos c.in-Some.time)) point first.0 in
+    ∙ ap (λ r. point_of (pos r) w.clock network.dmax.0) reading in
+    let reached = subst (λ v. IsReach (s.reading w.device) (pos w.since) v (pos c.in-Some.time)) point first.0 in
     (record { reached = reached; correct = sym (c.is_broken.ensures network befallen rem has) ∙ c.if-is_broken.false }, first.1)
 
 pub returns-then-is_broken : goal.returns-then-is_broken
@@ -23,9 +23,9 @@ returns-then-is_broken c befallen rem has t is timely =
     let first = c.in-Some.ensures network befallen rem has in
     let reading : c.reading-reading.result ≡ s.reading w.device w.since = c.reading-reading.ensures network befallen rem has in
     let point = to_z-of_z w128 c.point_of-point.result (search rules) ∙ c.point_of-point.ensures
-    ∙ ap (λ (r : ℕ). point_of (pos r) w.clock network.dmax.0) reading in
+    ∙ ap (λ r. point_of (pos r) w.clock network.dmax.0) reading in
     let value = point_of (pos (s.reading w.device w.since)) w.clock network.dmax.0 in
-    let reached = subst (λ (v : ℤ). IsReach (s.reading w.device) (pos w.since) v (pos c.in-Some.time)) point first.0 in
+    let reached = subst (λ v. IsReach (s.reading w.device) (pos w.since) v (pos c.in-Some.time)) point first.0 in
     let same : t ≡ c.in-Some.time = one_reach (s.reading w.device) (pos w.since) value t c.in-Some.time is.reached reached in
     both_ways (is_broken s w.device t) is.correct
     (ap (is_broken s w.device) same ∙ sym (c.is_broken.ensures network befallen rem has) ∙ c.if-is_broken.true)
@@ -37,7 +37,7 @@ returns-in-None c befallen rem has t is timely =
     let w = c.args.waiting.now in
     let reading : c.reading-reading.result ≡ s.reading w.device w.since = c.reading-reading.ensures network befallen rem has in
     let point = to_z-of_z w128 c.point_of-point.result (search rules) ∙ c.point_of-point.ensures
-    ∙ ap (λ (r : ℕ). point_of (pos r) w.clock network.dmax.0) reading in
+    ∙ ap (λ r. point_of (pos r) w.clock network.dmax.0) reading in
     let begun : pos w.since ≤ℤ pos t = is.reached.from_on in
     let high : point_of (pos (s.reading w.device w.since)) w.clock network.dmax.0 ≤ℤ pos (s.reading w.device t) = is.reached.reached in
     let less = c.in-None.ensures network befallen rem has t (omega (arith, ints, begun)) timely in

@@ -7,7 +7,7 @@ returns-then-of c befallen hs known owed =
     let s = scenario_of c.args.self.now befallen in
     let got = c.in-Some.ensures hs known.kept in
     let so = c.of.ensures hs got.0 known.paid got.1 in
-    arrival_paid s hs c.args.number (so.arrival.0 c.if-of.true)
+    arrival_paid s (so.arrival.0 c.if-of.true)
 
 pub returns-in-Some-arrival_due : goal.returns-in-Some-arrival_due
 returns-in-Some-arrival_due c befallen hs known =

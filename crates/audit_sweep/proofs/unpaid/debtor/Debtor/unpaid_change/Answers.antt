@@ -5,18 +5,19 @@ use Rattle.audit_sweep.proofs.unpaid.debtor.Debtor.unpaid_change.Goals as goal
 
 pub returns-in-None : goal.returns-in-None
 returns-in-None c befallen hs known owed =
-    absurd (change_of_record (scenario_of c.args.self.now befallen) hs c.args.self.now.until c.args.number owed (c.in-None.ensures hs known.kept))
+    absurd (change_of_record (scenario_of c.args.self.now befallen) hs c.args.self.now.until owed
+    (c.in-None.ensures hs known.kept))
 
 pub returns-then-of : goal.returns-then-of
 returns-then-of c befallen hs known owed =
     let got = c.in-Some.ensures hs known.kept in
     let so = c.of.ensures hs got.0 known.paid got.1 in
-    change_paid (scenario_of c.args.self.now befallen) hs c.args.number (so.change.0 c.if-of.true)
+    change_paid (scenario_of c.args.self.now befallen) (so.change.0 c.if-of.true)
 
 pub returns-then-self-kept : goal.returns-then-self-kept
 returns-then-self-kept c befallen hs known owed =
     let got = c.in-Some.ensures hs known.kept in
-    let late = (owed_change (scenario_of c.args.self.now befallen) hs c.args.self.now.until c.args.number got.0 got.1 owed).1 in
+    let late = (owed_change (scenario_of c.args.self.now befallen) hs c.args.self.now.until got.0 got.1 owed).1 in
     absurd (omega (arith, late, ap (λ (r : KeptRecord). r.time) got.2, c.if-self-kept.true))
 
 pub returns-then-not-changes_state : goal.returns-then-not-changes_state
@@ -24,7 +25,7 @@ returns-then-not-changes_state c befallen hs known owed =
     let s = scenario_of c.args.self.now befallen in
     let n = c.args.number in
     let got = c.in-Some.ensures hs known.kept in
-    let has = (owed_change s hs c.args.self.now.until n got.0 got.1 owed).0 in
+    let has = (owed_change s hs c.args.self.now.until got.0 got.1 owed).0 in
     absurd (both_ways c.changes_state.result c.if-not-changes_state.true
     ((c.changes_state.ensures befallen hs n got.0 known got.1 got.2).1 has))
 
@@ -44,10 +45,11 @@ returns c befallen hs known =
       why = has.why;
       brought = has.brought;
       changes = has.changes;
-      timely = subst (λ (t : ℕ). t ≤ until) time c.if-self-kept.false;
+      timely = subst (λ t. t ≤ until) time c.if-self-kept.false;
     } in
     record {
       owed = owed;
-      unpaid = λ paid. both_ways c.of.result.change c.if-of.false (so.change.1 (change_marked s hs until n known.founded owed paid));
-      due = λ is. time ∙ change_time s hs until n known.founded owed is;
+      unpaid = λ paid. both_ways c.of.result.change c.if-of.false
+          (so.change.1 (change_marked s hs until known.founded owed paid));
+      due = λ is. time ∙ change_time s hs until known.founded owed is;
     }

@@ -20,7 +20,7 @@ links-preserved c befallen hs h known there kept =
     (λ o is. (ap (λ (p : ℕ × LinkId). p.0) is, let at : o.1.0 ≡ place = ap (λ (p : ℕ × LinkId). p.1.0) is in omega (arith, at)))
     (c.links.invariant befallen hs h known there kept)
     (first_of_one s hs until debt_of (n, link) c.unpaid_leaving.result (c.unpaid_leaving.ensures befallen hs h known there kept)) in
-    subst (λ (first : Option ℕ). TellsFirstAmong s hs until debt_of C first) (sym c.earlier_of-first.ensures) next
+    subst (λ first. TellsFirstAmong s hs until debt_of C first) (sym c.earlier_of-first.ensures) next
 
 pub returns : goal.returns
 returns c befallen hs known =
@@ -43,7 +43,7 @@ returns-then-not-may_give c befallen hs known = λ o is owed.
     let network = c.args.self.now.network.now in
     let n = c.args.number in
     let got = c.in-Some.ensures hs known.kept in
-    let one = same_some (numbered hs n) owed.giving got.0 (subst (λ (m : ℕ). numbered hs m ≡ Some owed.giving) is owed.there) got.1 in
+    let one = same_some (numbered hs n) owed.giving got.0 (subst (λ m. numbered hs m ≡ Some owed.giving) is owed.there) got.1 in
     let gives = subst (λ (g : Happening). Gives network g.note.body owed.device o.1) one owed.gives in
     let may = ap (λ (r : KeptRecord). may_give network r.kept) got.2 ∙ gives_may network got.0.note.body owed.device o.1 gives in
     absurd (both_ways c.may_give.result c.if-not-may_give.true (c.may_give.ensures ∙ may))

@@ -32,8 +32,8 @@ returns-in-None-departure c befallen hs h known there kept owed =
     (gives_named network o.giving.note.body o.device link o.gives)) in
     let t = leaves_at s o.device link o.giving in
     let is = departure s o.device link o.frame (time_of o.giving) t in
-    let departs = subst (λ (d : DeviceId). Departs s hs d leaving.time link n is) (sym l.device)
-    (subst (λ (u : ℕ). Departs s hs o.device u link n is) (sym l.time) (owed_departs s hs until n link o)) in
+    let departs = subst (λ d. Departs s hs d leaving.time link n is) (sym l.device)
+    (subst (λ u. Departs s hs o.device u link n is) (sym l.time) (owed_departs s hs until n link o)) in
     absurd (c.in-None-departure.ensures befallen hs h n known.remembers there kept has is departs)
 
 pub returns-then-has_departure : goal.returns-then-has_departure
@@ -50,7 +50,7 @@ returns-then-has_departure c befallen hs h known there kept owed =
     let has = subst (HasDevice network) (sym l.device) (known.devices o.giving o.device (numbered_in hs n o.giving o.there)
     (gives_named network o.giving.note.body o.device link o.gives)) in
     let departs = c.in-Some-departure.ensures befallen hs h n known.remembers there kept has in
-    let paid = departure_paid s hs until n link leaving.device leaving.time (departure_as c.in-Some-departure.departed) known.founded o departs in
+    let paid = departure_paid s hs until n link known.founded o departs in
     let stands = c.has_departure.ensures hs known.places in
     paid.1 (stands.0 c.if-has_departure.true)
 
@@ -68,7 +68,7 @@ returns c befallen hs h known there kept =
     let has = subst (HasDevice network) (sym l.device) (known.devices o.giving o.device (numbered_in hs n o.giving o.there)
     (gives_named network o.giving.note.body o.device link o.gives)) in
     let departs = c.in-Some-departure.ensures befallen hs h n known.remembers there kept has in
-    let paid = departure_paid s hs until n link leaving.device leaving.time (departure_as c.in-Some-departure.departed) known.founded o departs in
+    let paid = departure_paid s hs until n link known.founded o departs in
     let stands = c.has_departure.ensures hs known.places in
     record {
       owed = o;

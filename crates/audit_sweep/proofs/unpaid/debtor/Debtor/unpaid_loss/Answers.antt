@@ -6,7 +6,7 @@ returns-then-of c befallen hs known owed =
     let s = scenario_of c.args.self.now befallen in
     let got = c.in-Some.ensures hs known.kept in
     let so = c.of.ensures hs got.0 known.paid got.1 in
-    loss_paid s hs c.args.number (so.loss.0 c.if-of.true)
+    loss_paid s (so.loss.0 c.if-of.true)
 
 pub returns-in-Some-loss_due : goal.returns-in-Some-loss_due
 returns-in-Some-loss_due c befallen hs known =

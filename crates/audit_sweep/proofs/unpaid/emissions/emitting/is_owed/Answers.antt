@@ -22,10 +22,10 @@ returns c network befallen hs remembers stands has cm reach =
     let device = c.args.device in
     let stretch = c.before-2.result in
     let correct = sym (c.is_broken.ensures network befallen remembers has) ∙ c.if-is_broken.false in
-    let points = subst (λ (p : List ℕ). HasPoints network (points_of (records_before p hs) device) stretch.collections.now stretch.gathering)
+    let points = subst (λ p. HasPoints network (points_of (records_before p hs) device) stretch.collections.now stretch.gathering)
     c.place_of-place.ensures (c.before-2.ensures network hs stands cm) in
-    let are = are_in network _ stretch.collections.now stretch.gathering points in
+    let are = are_in points in
     let emits = c.emits.ensures network _ _ points are in (
       λ told. owed_by s hs device a time _ cm correct are reach (emits.0 told),
-      λ owes. emits.1 (emits_by s hs device a time _ are owes),
+      λ owes. emits.1 (emits_by a _ are owes),
     )

@@ -49,11 +49,11 @@ clusters-preserved-in_default-reach c befallen hs kept e is founded there at =
     c.changed-begun.result.1.gathering k c.emission.result keeps at (c.changed-begun.ensures kept e there at) c.emission.ensures ∙ c.in-Some.is in
     let old = c.clusters.invariant befallen hs kept e is founded there at in
     let most = old.0 in
-    let told = subst (λ (n : ℕ). TellsFirstOf (OwesBehind s hs c.args.until device kept.collections e n) (IsTold s hs device) c.clusters.first) next old.1 in
-    let reach = subst (λ (z : ℤ). IsFirstReach (clock_reading c.args.network.now befallen device) 0 z c.args.until c.reach.result)
+    let told = subst (λ n. TellsFirstOf (OwesBehind s hs c.args.until device kept.collections e n) (IsTold s hs device) c.clusters.first) next old.1 in
+    let reach = subst (λ z. IsFirstReach (clock_reading c.args.network.now befallen device) 0 z c.args.until c.reach.result)
     (to_z-of_z w128 a.at (search rules))
     (c.reach.ensures c.args.network.now befallen is.remembers c.requires.device) in
-    let low = subst (λ (r : Option ℕ). IsFirstReach (clock_reading c.args.network.now befallen device) 0 a.at c.args.until r) c.in_default-reach.is reach in
+    let low = subst (λ r. IsFirstReach (clock_reading c.args.network.now befallen device) 0 a.at c.args.until r) c.in_default-reach.is reach in
     (omega (arith, most), walk_unreached s hs c.args.until device kept.collections e k a c.clusters.first got low told)
 
 pub returns-then-time-begun : goal.returns-then-time-begun
@@ -68,14 +68,15 @@ returns-then-time-begun c befallen hs kept e is founded there at =
     let got = emission_there c.args.network.now hs device kept e c.args.place c.changed-begun.result.0 c.changed-begun.result.1.collections.now
     c.changed-begun.result.1.gathering k c.emission.result keeps at behind c.emission.ensures ∙ c.in-Some.is in
     let old = c.clusters.invariant befallen hs kept e is founded there at in
-    let told = subst (λ (n : ℕ). TellsFirstOf (OwesBehind s hs c.args.until device kept.collections e n) (IsTold s hs device) c.clusters.first) next old.1 in
-    let reach = subst (λ (z : ℤ). IsFirstReach (clock_reading c.args.network.now befallen device) 0 z c.args.until c.reach.result)
+    let told = subst (λ n. TellsFirstOf (OwesBehind s hs c.args.until device kept.collections e n) (IsTold s hs device) c.clusters.first) next old.1 in
+    let reach = subst (λ z. IsFirstReach (clock_reading c.args.network.now befallen device) 0 z c.args.until c.reach.result)
     (to_z-of_z w128 a.at (search rules))
     (c.reach.ensures c.args.network.now befallen is.remembers c.requires.device) in
-    let found = subst (λ (r : Option ℕ). IsFirstReach (clock_reading c.args.network.now befallen device) 0 a.at c.args.until r) c.in-Some-reach.is reach in
-    let points = entry_points c.args.network.now hs device kept e c.args.place keeps at in
+    let found = subst (λ r. IsFirstReach (clock_reading c.args.network.now befallen device) 0 a.at c.args.until r) c.in-Some-reach.is reach in
+    let points = entry_points e c.args.place keeps at in
     let begun = behind.time_is in
-    walk_begun s hs c.args.until device kept.collections e points.0 k a c.in-Some-reach.time c.clusters.first (not_negative kept.collections.ow _ keeps.ow)
+    walk_begun s hs c.args.until device kept.collections e k a c.in-Some-reach.time c.clusters.first
+    (not_negative kept.collections.ow _ keeps.ow)
     points.1.gathers got found.0 (omega (arith, c.if-time-begun.true, begun)) told
 
 pub is_unemitted-requires-clause-short : goal.is_unemitted-requires-clause-short
@@ -86,13 +87,13 @@ is_unemitted-requires-clause-short c =
     let reading = clock_reading c.args.network.now some.0 device in
     let remembers = some.2.remembers in
     let fits : FitsSigned w64 a.opened = search rules in
-    let reach = subst (λ (z : ℤ). IsFirstReach reading 0 z c.args.until c.reach.result) (to_z-of_z w128 a.at (search rules))
+    let reach = subst (λ z. IsFirstReach reading 0 z c.args.until c.reach.result) (to_z-of_z w128 a.at (search rules))
     (c.reach.ensures c.args.network.now some.0 remembers c.requires.device) in
-    let found = subst (λ (r : Option ℕ). IsFirstReach reading 0 a.at c.args.until r) c.in-Some-reach.is reach in
+    let found = subst (λ r. IsFirstReach reading 0 a.at c.args.until r) c.in-Some-reach.is reach in
     let timely = found.1 in
     let limit = c.requires.limit in
     short_there c.args.network.now some.1 c.args.stretches.now device c.args.place c.changed-begun.result.0 c.changed-begun.result.1.collections.now
-    c.changed-begun.result.1.gathering (c.clusters.left - 1) c.in-Some-reach.time a reading some.2.stands c.requires.master
+    c.changed-begun.result.1.gathering (c.clusters.left - 1) c.in-Some-reach.time a some.2.stands c.requires.master
     (omega (arith, c.requires.device, c.requires.count)) c.requires.place c.changed-begun.ensures
     (λ n points clusters has are. sym c.in-Some.is ∙ c.emission.ensures n points clusters has are) (least_short a.opened fits)
     (c.reading_law.ensures c.args.network.now some.0 device remembers.range remembers.within remembers.begun) (omega (arith, timely, limit)) found.0
@@ -110,17 +111,17 @@ clusters-preserved-then-is_unemitted c befallen hs kept e is founded there at =
     c.changed-begun.result.1.gathering k c.emission.result keeps at behind c.emission.ensures ∙ c.in-Some.is in
     let old = c.clusters.invariant befallen hs kept e is founded there at in
     let most = old.0 in
-    let told = subst (λ (n : ℕ). TellsFirstOf (OwesBehind s hs c.args.until device kept.collections e n) (IsTold s hs device) c.clusters.first) next old.1 in
-    let reach = subst (λ (z : ℤ). IsFirstReach (clock_reading c.args.network.now befallen device) 0 z c.args.until c.reach.result)
+    let told = subst (λ n. TellsFirstOf (OwesBehind s hs c.args.until device kept.collections e n) (IsTold s hs device) c.clusters.first) next old.1 in
+    let reach = subst (λ z. IsFirstReach (clock_reading c.args.network.now befallen device) 0 z c.args.until c.reach.result)
     (to_z-of_z w128 a.at (search rules))
     (c.reach.ensures c.args.network.now befallen is.remembers c.requires.device) in
-    let found = subst (λ (r : Option ℕ). IsFirstReach (clock_reading c.args.network.now befallen device) 0 a.at c.args.until r) c.in-Some-reach.is reach in
+    let found = subst (λ r. IsFirstReach (clock_reading c.args.network.now befallen device) 0 a.at c.args.until r) c.in-Some-reach.is reach in
     let unpaid = c.is_unemitted.ensures.unemitted c.args.network.now befallen hs is founded c.requires.device c.requires.master found.0
     c.if-is_unemitted.true in
     let begun = behind.time_is in (
       omega (arith, most),
-      subst (λ (r : Option ℕ). TellsFirstOf (OwesBehind s hs c.args.until device kept.collections e k) (IsTold s hs device) r) (sym c.earlier_of-first.ensures)
-          (walk_unpaid s hs c.args.until device kept.collections e k a c.in-Some-reach.time c.clusters.first got found.0 found.1
+      subst (λ r. TellsFirstOf (OwesBehind s hs c.args.until device kept.collections e k) (IsTold s hs device) r) (sym c.earlier_of-first.ensures)
+          (walk_unpaid s hs c.args.until device kept.collections e k a c.clusters.first got found.0 found.1
           (omega (arith, c.if-time-begun.false, begun)) unpaid.0 unpaid.1 told),
     )
 
@@ -136,11 +137,11 @@ clusters-preserved c befallen hs kept e is founded there at =
     c.changed-begun.result.1.gathering k c.emission.result keeps at (c.changed-begun.ensures kept e there at) c.emission.ensures ∙ c.in-Some.is in
     let old = c.clusters.invariant befallen hs kept e is founded there at in
     let most = old.0 in
-    let told = subst (λ (n : ℕ). TellsFirstOf (OwesBehind s hs c.args.until device kept.collections e n) (IsTold s hs device) c.clusters.first) next old.1 in
-    let reach = subst (λ (z : ℤ). IsFirstReach (clock_reading c.args.network.now befallen device) 0 z c.args.until c.reach.result)
+    let told = subst (λ n. TellsFirstOf (OwesBehind s hs c.args.until device kept.collections e n) (IsTold s hs device) c.clusters.first) next old.1 in
+    let reach = subst (λ z. IsFirstReach (clock_reading c.args.network.now befallen device) 0 z c.args.until c.reach.result)
     (to_z-of_z w128 a.at (search rules))
     (c.reach.ensures c.args.network.now befallen is.remembers c.requires.device) in
-    let found = subst (λ (r : Option ℕ). IsFirstReach (clock_reading c.args.network.now befallen device) 0 a.at c.args.until r) c.in-Some-reach.is reach in (
+    let found = subst (λ r. IsFirstReach (clock_reading c.args.network.now befallen device) 0 a.at c.args.until r) c.in-Some-reach.is reach in (
       omega (arith, most),
       walk_paid s hs c.args.until device kept.collections e k a c.in-Some-reach.time c.clusters.first got found.0
           (c.is_unemitted.ensures.told c.args.network.now befallen hs is founded c.requires.device c.requires.master found.0 c.if-is_unemitted.false) told,
@@ -150,5 +151,5 @@ pub returns : goal.returns
 returns c befallen hs kept e is founded there at =
     let s = scenario_under c.args.network.now befallen in
     let none : c.clusters.left ≡ 0 = omega (arith, c.clusters-test.false) in
-    subst (λ (n : ℕ). TellsFirstOf (OwesBehind s hs c.args.until c.args.device kept.collections e n) (IsTold s hs c.args.device) c.clusters.first) none
+    subst (λ n. TellsFirstOf (OwesBehind s hs c.args.until c.args.device kept.collections e n) (IsTold s hs c.args.device) c.clusters.first) none
     (c.clusters.invariant befallen hs kept e is founded there at).1

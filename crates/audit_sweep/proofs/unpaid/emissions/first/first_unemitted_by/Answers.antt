@@ -21,7 +21,7 @@ changes-preserved c befallen hs stretches kept founded there =
     let s = scenario_under c.args.network.now befallen in
     let count = c.changes-place-end.ensures stretches there in
     let at = some_at stretches.entries c.changes.place (omega (arith, count, c.changes-test.true)) in
-    subst (λ (r : Option ℕ). TellsFirstOf (OwesWithin s hs c.args.until c.args.device stretches.collections stretches.entries (c.changes.place + 1))
+    subst (λ r. TellsFirstOf (OwesWithin s hs c.args.until c.args.device stretches.collections stretches.entries (c.changes.place + 1))
     (IsTold s hs c.args.device) r) (sym c.earlier_of-first.ensures)
     (entries_more s hs c.args.until c.args.device stretches at.0 c.changes.place c.changes.first c.first_unemitted_behind-unemitted.result at.1
     (c.changes.invariant befallen hs stretches kept founded there)

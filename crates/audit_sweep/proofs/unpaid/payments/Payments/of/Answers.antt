@@ -9,4 +9,4 @@ returns-in-Some c hs h are there =
     let got : slice_get c.args.self.now place ≡ Some paid = ap (λ (xs : List Paid). slice_get xs place) (sym (c.deref.ensures.value ∙ c.self.view_is))
     ∙ got_at c.deref.result.now place paid c.in-Some.ensures.lookup.3.0 c.in-Some.ensures.lookup.1 in
     let from : place + 1 ≡ c.args.number = omega (arith, c.if-number-eq0.false) in
-    subst (λ (n : ℕ). IsPaidSo hs n paid) from (are.each place paid got)
+    subst (λ n. IsPaidSo hs n paid) from (are.each place paid got)

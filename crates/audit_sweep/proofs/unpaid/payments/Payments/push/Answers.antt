@@ -15,7 +15,7 @@ returns-then-cause-eq0 c hs h are body number =
       | then-cause-eq0-via-then-cause-eq0 w ↦ let zero = w.if-cause-eq0 in inl (omega (arith, zero, cause))
       | then-cause-eq0-via-else-cause-eq0+then-count-cause w ↦ let high = w.if-count-cause in inr (omega (arith, high, cause, count))
     ] in
-    subst (λ (xs : List Paid). ArePayments (hs ++ h ∷ []) xs) (sym items) (more_unmarked hs h c.args.self.now are number none)
+    subst (λ xs. ArePayments (hs ++ h ∷ []) xs) (sym items) (more_unmarked h are number none)
 
 pub returns : goal.returns
 returns c hs h are body number =
@@ -31,7 +31,7 @@ returns c hs h are body number =
     let was : slice_get (c.args.self.now ++ nothing ∷ []) place ≡ Some old = ap (λ (xs : List Paid). slice_get xs place) (sym items)
     ∙ got_at c.push.new.self.items place old (omega (arith, low, ap length items, length-append c.args.self.now (nothing ∷ []), are.count)) c.index.ensures in
     let after : both old (paid_by h.note.body) ≡ c.and.result =
-    ap (λ (b : NoteBody). both old (paid_by b)) body ∙ ap (λ (p : Paid). both old p) (sym c.by.ensures) ∙ sym c.and.ensures in
+    ap (λ b. both old (paid_by b)) body ∙ ap (λ p. both old p) (sym c.by.ensures) ∙ sym c.and.ensures in
     subst (λ (p : Paid). ArePayments (hs ++ h ∷ []) (slice_set c.push.new.self.items place p)) after
     (subst (λ (xs : List Paid). ArePayments (hs ++ h ∷ []) (slice_set xs place (both old (paid_by h.note.body)))) (sym items)
-    (more_marked hs h c.args.self.now place old are number own low was))
+    (more_marked h place old are number own low was))

@@ -5,7 +5,7 @@ use Rattle.audit_sweep.proofs.unpaid.points.correcting.first_untold.Goals as goa
 pub devices-preserved : goal.devices-preserved
 devices-preserved c befallen hs kept founded =
     let s = scenario_under c.args.network.now befallen in
-    subst (λ (r : Option ℕ). TellsFirstAmong (OwesAt s hs) (IsTold s hs) c.args.until (c.devices.place + 1) r) (sym c.earlier-first.ensures)
+    subst (λ r. TellsFirstAmong (OwesAt s hs) (IsTold s hs) c.args.until (c.devices.place + 1) r) (sym c.earlier-first.ensures)
     (among_more (OwesAt s hs) (IsTold s hs) c.args.until c.devices.place c.devices.first c.first_untold_by-untold.result
     (c.devices.invariant befallen hs kept founded) (c.first_untold_by-untold.ensures befallen hs kept founded))
 

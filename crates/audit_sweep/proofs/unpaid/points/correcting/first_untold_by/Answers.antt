@@ -11,7 +11,7 @@ returns-then-is_some c befallen hs kept founded =
     let ends = c.end_of-end.ensures in
     let near = end_near c.after_time-next.result.1 until in
     let shows : ShowsWithin s hs device after c.end_of-end.result c.after_time-next.result.0.now =
-    subst (λ (n : ℕ). ShowsWithin s hs device after n c.after_time-next.result.0.now) (sym ends)
+    subst (λ n. ShowsWithin s hs device after n c.after_time-next.result.0.now) (sym ends)
     (shows_within s hs device after until c.after_time-next.result.1 c.after_time-next.result.0.now (c.after_time-next.ensures.shows s hs kept.stands)) in
     tells_behind (OwesAt s hs device) (IsTold s hs device) 0 after c.end_of-end.result until c.first_untold_within-untold.result (omega arith)
     (omega (arith, near, ends)) (sym c.is_some.ensures ∙ c.if-is_some.true) (c.stretches.invariant.1 befallen hs kept founded)
@@ -28,7 +28,7 @@ stretches-preserved c =
       λ befallen hs kept founded.
           let s = scenario_under c.args.network.now befallen in
           let shows : ShowsWithin s hs device after c.end_of-end.result c.after_time-next.result.0.now =
-          subst (λ (n : ℕ). ShowsWithin s hs device after n c.after_time-next.result.0.now) (sym ends)
+          subst (λ n. ShowsWithin s hs device after n c.after_time-next.result.0.now) (sym ends)
           (shows_within s hs device after until c.after_time-next.result.1 c.after_time-next.result.0.now (c.after_time-next.ensures.shows s hs kept.stands)) in
           paid_both (OwesAt s hs device) (IsTold s hs device) 0 after (c.end_of-end.result + 1) (c.stretches.invariant.1 befallen hs kept founded)
           (none_tells (OwesAt s hs device) (IsTold s hs device) after c.end_of-end.result c.first_untold_within-untold.result

@@ -31,7 +31,7 @@ returns-then-is_untold c befallen hs kept founded shows =
       paid_before = told_without s hs device c.args.shown.now c.correction_points-series.result from until crossed.time (IsTold s hs device)
           c.correction_points-series.ensures.values founded (λ t lt up. shows t (omega (arith, lt, le)) up) (omega (arith, timely)) next.none_before;
     } in
-    first_behind (OwesAt s hs device) (IsTold s hs device) c.args.after from until until crossed.time le (omega arith)
+    first_behind (OwesAt s hs device) (IsTold s hs device) c.args.after until le (omega arith)
     (c.points.invariant.1 befallen hs kept founded shows) first
 
 pub points-smaller : goal.points-smaller
@@ -59,7 +59,7 @@ points-preserved c =
           let later = next.later in
           let shown = shows crossed.time (omega (arith, later, le)) next.timely in
           paid_both (OwesAt s hs device) (IsTold s hs device) c.args.after from (crossed.time + 1) (c.points.invariant.1 befallen hs kept founded shows)
-          (told_on s hs device c.args.shown.now c.correction_points-series.result from until crossed (IsTold s hs device)
+          (told_on s hs device c.args.shown.now c.correction_points-series.result (IsTold s hs device)
           c.correction_points-series.ensures.values founded (λ t lt up. shows t (omega (arith, lt, le)) up) next
           (c.is_untold.ensures.told befallen hs kept founded shown c.if-is_untold.false)),
     )

@@ -14,14 +14,15 @@ returns-then-is_owed-clause-untold c befallen hs kept founded shows untold =
     let stands : StandsAt s at.front c.args.network.now device t c.of-moment.result c.args.shown.now = record {
       of_network = refl;
       befalls = befalls;
-      shows = subst (λ (es : List Happening). Shows s es device c.args.shown.now) (sym (same_earlier t (6 ∷ []) hs at)) shows;
+      shows = subst (λ es. Shows s es device c.args.shown.now) (sym (same_earlier t (6 ∷ []) hs at)) shows;
     } in
     let hears : IsHeard s at.front device t c.heard_since-heard.result =
     heard_front s hs device t at c.heard_since-heard.result c.before_rank.result.now founded (c.before_rank.ensures s hs kept.stands)
     (λ after shown. c.heard_since-heard.ensures s at.front device t (record { of_network = refl; reads = befalls.reading.before }) after shown) in
     let owed = c.is_owed.ensures.0 c.if-is_owed.true in
     let comes = (c.coming_point.ensures s at.front t owed.0 owed.1 stands hears).0 owed.2 in
-    let owes : OwesAt s hs device t owed.0 = record { verdict = owed.1; comes = (by_front s hs device t owed.0 owed.1 at).0 comes; more = owed.3 } in (
+    let owes : OwesAt s hs device t owed.0 =
+    record { verdict = owed.1; comes = (by_front s {hs = hs} device t owed.0 owed.1 at).0 comes; more = owed.3 } in (
       owed.0,
       owes,
       λ told. false≢true (sym (not-true c.is_told.result untold) ∙ (c.is_told.ensures s hs owed.0 kept.places_are founded).1 told),
@@ -41,11 +42,11 @@ returns-else-is_owed-clause-told c befallen hs kept founded shows told cycle owe
     let stands : StandsAt s at.front c.args.network.now device t c.of-moment.result c.args.shown.now = record {
       of_network = refl;
       befalls = befalls;
-      shows = subst (λ (es : List Happening). Shows s es device c.args.shown.now) (sym (same_earlier t (6 ∷ []) hs at)) shows;
+      shows = subst (λ es. Shows s es device c.args.shown.now) (sym (same_earlier t (6 ∷ []) hs at)) shows;
     } in
     let hears : IsHeard s at.front device t c.heard_since-heard.result =
     heard_front s hs device t at c.heard_since-heard.result c.before_rank.result.now founded (c.before_rank.ensures s hs kept.stands)
     (λ after shown. c.heard_since-heard.ensures s at.front device t (record { of_network = refl; reads = befalls.reading.before }) after shown) in
-    let comes = (by_front s hs device t cycle owes.verdict at).1 owes.comes in
+    let comes = (by_front s {hs = hs} device t cycle owes.verdict at).1 owes.comes in
     let point = (c.coming_point.ensures s at.front t cycle owes.verdict stands hears).1 comes in
     absurd (false≢true (sym c.if-is_owed.false ∙ c.is_owed.ensures.1 (cycle, owes.verdict, point, owes.more)))

@@ -5,7 +5,7 @@ use Rattle.audit_sweep.proofs.unpaid.points.sending.first_unsent.Goals as goal
 pub devices-preserved : goal.devices-preserved
 devices-preserved c befallen hs kept =
     let s = scenario_under c.args.network.now befallen in
-    subst (λ (r : Option ℕ). TellsFirstAmong (Sends s hs) (IsSent s hs) c.args.until (c.devices.place + 1) r) (sym c.earlier-first.ensures)
+    subst (λ r. TellsFirstAmong (Sends s hs) (IsSent s hs) c.args.until (c.devices.place + 1) r) (sym c.earlier-first.ensures)
     (among_more (Sends s hs) (IsSent s hs) c.args.until c.devices.place c.devices.first c.first_unsent_by-unsent.result
     (c.devices.invariant befallen hs kept) (c.first_unsent_by-unsent.ensures befallen hs kept))
 

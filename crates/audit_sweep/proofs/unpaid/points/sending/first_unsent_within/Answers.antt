@@ -16,9 +16,8 @@ is_unsent-requires-clause-few c =
     let s = scenario_under c.args.network.now events.0 in
     let next = c.in-Some.ensures.is c.args.network.now events.0 events.1 c.requires.device in
     let begins : pos 0 ≤ℤ value_in c.beginnings-series.result 0 =
-    subst (λ (v : ℤ). pos 0 ≤ℤ v) (sym (c.beginnings-series.ensures.values 0)) (omega (arith, ints)) in
-    few_crossed s c.args.device c.args.shown.now c.beginnings-series.result c.begun.from c.args.until c.in-Some.crossed
-    c.beginnings-series.ensures.step begins next
+    subst (λ v. pos 0 ≤ℤ v) (sym (c.beginnings-series.ensures.values 0)) (omega (arith, ints)) in
+    few_crossed s c.args.device c.beginnings-series.ensures.step begins next
 
 pub returns-then-ne : goal.returns-then-ne
 returns-then-ne c befallen hs remembers are master shows =
@@ -39,9 +38,9 @@ returns-then-is_unsent c befallen hs remembers are master shows =
     let le = c.begun.invariant.0 in
     let shown = shows crossed.time (omega (arith, later, le)) next.timely in
     let unsent = c.is_unsent.ensures.unsent befallen hs remembers c.requires.device are shown c.if-is_unsent.true in
-    first_behind (Sends s hs device) (IsSent s hs device) c.args.after from until until crossed.time le (omega arith)
+    first_behind (Sends s hs device) (IsSent s hs device) c.args.after until le (omega arith)
     (c.begun.invariant.1 befallen hs remembers are shows)
-    (first_at s hs device c.args.shown.now c.beginnings-series.result from until crossed (IsSent s hs device) master on c.beginnings-series.ensures.values
+    (first_at s hs device c.args.shown.now (IsSent s hs device) master on c.beginnings-series.ensures.values
     (λ t lt up. shows t (omega (arith, lt, le)) up) next unsent.0 unsent.1)
 
 pub begun-smaller : goal.begun-smaller
@@ -70,7 +69,7 @@ begun-preserved c =
           let later = next.later in
           let shown = shows crossed.time (omega (arith, later, le)) next.timely in
           paid_both (Sends s hs device) (IsSent s hs device) c.args.after from (crossed.time + 1) (c.begun.invariant.1 befallen hs remembers are shows)
-          (paid_on s hs device c.args.shown.now c.beginnings-series.result from until crossed (IsSent s hs device) on c.beginnings-series.ensures.step
+          (paid_on s hs device c.args.shown.now (IsSent s hs device) on c.beginnings-series.ensures.step
           c.beginnings-series.ensures.values (λ t lt up. shows t (omega (arith, lt, le)) up) next
           (c.is_unsent.ensures.sent befallen hs remembers c.requires.device are shown c.if-is_unsent.false)),
     )

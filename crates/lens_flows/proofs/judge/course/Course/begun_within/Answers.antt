@@ -15,8 +15,7 @@ overflow_cast-result c =
     let next = c.in-Some.ensures.is c.args.self.now.network.now known.0 known.2.remembers c.requires.device in
     let begins : pos 0 ≤ℤ value_in c.beginnings-series.result 0 =
     subst (λ (v : ℤ). pos 0 ≤ℤ v) (sym (c.beginnings-series.ensures.values 0)) (omega (arith, ints)) in
-    let few = few_crossed s c.args.device c.args.shown.now c.beginnings-series.result c.args.after c.args.until c.in-Some.crossed
-    c.beginnings-series.ensures.step begins next in
+    let few = few_crossed s c.args.device c.beginnings-series.ensures.step begins next in
     omega (arith, few)
 
 pub returns-in-Some : goal.returns-in-Some

@@ -4,13 +4,13 @@ use Rattle.audit_sweep.{specs.declared.records.dispatches.leaving.LeavingRow.Lea
 use Rattle.audit_sweep.proofs.records.dispatches.exits.Exits.empty.Goals as goal
 
 pub loop-init : goal.loop-init
-loop-init c = (λ i. ap (λ (xs : List (Vec LeavingRow Global)). items_at xs i) c.new-links.ensures.items ∙ none_at i, ap length c.new-links.ensures.items)
+loop-init c = (λ i. ap (λ xs. items_at xs i) c.new-links.ensures.items ∙ none_at i, ap length c.new-links.ensures.items)
 
 pub loop-preserved : goal.loop-preserved
 loop-preserved c =
     let xs = c.loop.links.items in
     let items : c.push.new.self.items ≡ xs ++ c.new.result ∷ [] = c.in_ok-push.ensures.items in (
-      λ i. ap (λ (ys : List (Vec LeavingRow Global)). items_at ys i) items ∙ one_list xs c.new.result i c.new.ensures.items ∙ c.loop.invariant.0 i,
+      λ i. ap (λ ys. items_at ys i) items ∙ one_list xs c.new.result i c.new.ensures.items ∙ c.loop.invariant.0 i,
       omega (arith, c.loop.invariant.1, ap length items, length-append xs (c.new.result ∷ [])),
     )
 

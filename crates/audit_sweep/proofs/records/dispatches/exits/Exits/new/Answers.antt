@@ -3,7 +3,7 @@ use Rattle.net_plan.specs.declared.tables.Row.{Row}
 use Rattle.audit_sweep.proofs.records.dispatches.exits.Exits.new.Goals as goal
 
 pub loop-place-init : goal.loop-place-init
-loop-place-init c = first_none c.args.network.now _ c.in_ok-exits.ensures
+loop-place-init c = first_none c.in_ok-exits.ensures
 
 pub push-requires-clause-there : goal.push-requires-clause-there
 push-requires-clause-there c =
@@ -13,11 +13,11 @@ push-requires-clause-there c =
 
 pub loop-place-preserved : goal.loop-place-preserved
 loop-place-preserved c =
-    more_exits c.args.network.now c.loop-place.place c.entry_of-entry.result c.loop-place.exits c.push.new.self c.loop-place.invariant
+    more_exits c.push.new.self c.loop-place.invariant
     c.entry_of-entry.ensures.is c.in_ok-push.ensures.rows c.in_ok-push.ensures.links
 
 pub returns : goal.returns
 returns c =
-    all_exits c.args.network.now c.loop-place.place c.loop-place.exits
-    (let h = c.loop-place-test.false in let e = ap (λ (rows : List Row). length rows) c.as_slice-place-end.ensures in omega (arith, h, e))
+    all_exits
+    (let h = c.loop-place-test.false in let e = ap (λ rows. length rows) c.as_slice-place-end.ensures in omega (arith, h, e))
     c.loop-place.invariant

@@ -5,4 +5,4 @@ use Rattle.audit_sweep.proofs.records.dispatches.exits.Exits.on.Goals as goal
 pub returns-in-None : goal.returns-in-None
 returns-in-None c network are =
     past_all network c.args.self.now c.args.link
-    (subst (λ (xs : List (Vec LeavingRow Global)). length xs ≤ c.args.link.0) c.as_slice.ensures.value c.in-None.ensures.lookup.3) are
+    (subst (λ xs. length xs ≤ c.args.link.0) c.as_slice.ensures.value c.in-None.ensures.lookup.3) are

@@ -3,4 +3,5 @@ use Rattle.audit_sweep.proofs.records.dispatches.leaving.LeavingRow.leavings.Goa
 
 pub returns-clause-is : goal.returns-clause-is
 returns-clause-is c =
-    are_leavings c.args.network.now c.args.self.now c.series.result c.requires.row c.if-self.false c.series.ensures.first c.series.ensures.step
+    are_leavings c.args.network.now c.series.result c.requires.row c.if-self.false c.series.ensures.first
+    c.series.ensures.step

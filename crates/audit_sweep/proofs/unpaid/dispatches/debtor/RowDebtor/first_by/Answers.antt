@@ -2,11 +2,11 @@ use Rattle.audit_sweep.{proofs.unpaid_lemmas.dispatches_lemmas.{RowDebts.first_r
 use Rattle.audit_sweep.proofs.unpaid.dispatches.debtor.RowDebtor.first_by.Goals as goal
 
 pub leavings-requires-clause-row : goal.leavings-requires-clause-row
-leavings-requires-clause-row c = row_fit c.args.self.now.network.now c.args.link c.args.row.now c.requires.fit.range c.requires.row
+leavings-requires-clause-row c = row_fit c.requires.fit.range c.requires.row
 
 pub returns-in-Some : goal.returns-in-Some
 returns-in-Some c befallen hs known =
-    first_row (scenario_of c.args.self.now befallen) hs c.args.self.now.until c.args.link c.args.row.now c.first_in.result c.requires.row
+    first_row (scenario_of c.args.self.now befallen) hs c.args.self.now.until c.first_in.result c.requires.row
     (c.first_in.ensures befallen hs known)
 
 pub returns-in-None : goal.returns-in-None

@@ -5,7 +5,7 @@ use Rattle.audit_sweep.proofs.unpaid.dispatches.debtor.RowDebtor.first_in.Goals 
 
 pub after_time-next-requires-clause-device : goal.after_time-next-requires-clause-device
 after_time-next-requires-clause-device c =
-    let there = device_there c.args.self.now.network.now c.args.link c.args.row.now c.requires.fit.range c.requires.row in
+    let there = device_there c.requires.fit.range c.requires.row in
     let all = c.requires.fit.standing in
     omega (arith, there, all)
 
@@ -31,7 +31,7 @@ returns-then-is_some c befallen hs known =
     let ends = c.end_of-end.ensures in
     let near = end_near c.after_time-next.result.1 until in
     let shows : ShowsWithin s hs row.device after c.end_of-end.result c.after_time-next.result.0.now =
-    subst (λ (n : ℕ). ShowsWithin s hs row.device after n c.after_time-next.result.0.now) (sym ends)
+    subst (λ n. ShowsWithin s hs row.device after n c.after_time-next.result.0.now) (sym ends)
     (shows_within s hs row.device after until c.after_time-next.result.1 c.after_time-next.result.0.now (c.after_time-next.ensures.shows s hs known.stands)) in
     tells_behind (OwesFrame s hs row) (IsTold s hs c.args.link row) 0 after c.end_of-end.result until c.first_within-lacking.result (omega arith)
     (omega (arith, near, ends)) (sym c.is_some.ensures ∙ c.if-is_some.true) (c.stretches.invariant.1 befallen hs known)
@@ -61,7 +61,7 @@ stretches-preserved c =
       λ befallen hs known.
           let s = scenario_of c.args.self.now befallen in
           let shows : ShowsWithin s hs row.device after c.end_of-end.result c.after_time-next.result.0.now =
-          subst (λ (n : ℕ). ShowsWithin s hs row.device after n c.after_time-next.result.0.now) (sym ends)
+          subst (λ n. ShowsWithin s hs row.device after n c.after_time-next.result.0.now) (sym ends)
           (shows_within s hs row.device after until c.after_time-next.result.1 c.after_time-next.result.0.now
           (c.after_time-next.ensures.shows s hs known.stands)) in
           paid_both (OwesFrame s hs row) (IsTold s hs c.args.link row) 0 after (c.end_of-end.result + 1) (c.stretches.invariant.1 befallen hs known)

@@ -23,5 +23,5 @@ returns c befallen hs known =
     let most = c.links.auto.place-end in
     let least = c.links-test.false in
     first_among_all s hs until (λ (o : Dispatch). debts.dispatch o) (λ o. o.link.0 < c.links.place) c.links.first
-    (λ o owed. let there = link_within s hs until o owed in omega (arith, there, all, most, least))
+    (λ o owed. let there = link_within owed in omega (arith, there, all, most, least))
     (c.links.invariant befallen hs known)

@@ -8,7 +8,7 @@ pub is_undispatched-requires-clause-limit : goal.is_undispatched-requires-clause
 is_undispatched-requires-clause-limit c =
     let network = c.args.self.now.network.now in
     let known = c.requires.known in
-    let there = device_there network c.args.link c.args.row.now c.requires.fit.range c.requires.row in
+    let there = device_there c.requires.fit.range c.requires.row in
     let timely = (c.in-Some.ensures.is network known.0 known.2.remembers there).timely in
     let limit = c.requires.limit in
     omega (arith, timely, limit)
@@ -20,9 +20,9 @@ is_undispatched-requires-clause-few c =
     let row = c.args.row.now in
     let known = c.requires.known in
     let s = scenario_of c.args.self.now known.0 in
-    let there = device_there network c.args.link row range c.requires.row in
-    few_left network row c.args.series (s.reading row.device) c.args.shown.now c.left.from c.args.until c.in-Some.crossed range
-    (row_fit network c.args.link row range c.requires.row) c.requires.leavings (c.in-Some.ensures.is network known.0 known.2.remembers there)
+    let there = device_there range c.requires.row in
+    few_left range
+    (row_fit range c.requires.row) c.requires.leavings (c.in-Some.ensures.is network known.0 known.2.remembers there)
 
 pub returns-then-ne : goal.returns-then-ne
 returns-then-ne c befallen hs known shows =
@@ -40,7 +40,7 @@ returns-then-is_undispatched c befallen hs known shows =
     let from = c.left.from in
     let until = c.args.until in
     let crossed = c.in-Some.crossed in
-    let there = device_there network c.args.link row c.requires.fit.range c.requires.row in
+    let there = device_there c.requires.fit.range c.requires.row in
     let remembers = known.remembers in
     let on = c.reading_law.ensures network befallen row.device remembers.range remembers.within remembers.begun in
     let next = c.in-Some.ensures.is network befallen remembers there in
@@ -48,16 +48,16 @@ returns-then-is_undispatched c befallen hs known shows =
     let le = c.left.invariant.0 in
     let shown = shows crossed.time (omega (arith, later, le)) next.timely in
     let untold = c.is_undispatched.ensures.untold befallen hs known shown c.if-is_undispatched.true in
-    first_behind (OwesFrame s hs row) (IsTold s hs c.args.link row) c.args.after from until until crossed.time le (omega arith)
+    first_behind (OwesFrame s hs row) (IsTold s hs c.args.link row) c.args.after until le (omega arith)
     (c.left.invariant.1 befallen hs known shows)
-    (first_at s hs c.args.link c.args.shown.now row c.args.series from until crossed on c.requires.leavings
+    (first_at s hs c.args.link c.args.shown.now row on c.requires.leavings
     (λ t lt up. shows t (omega (arith, lt, le)) up) next untold.0 untold.1)
 
 pub left-smaller : goal.left-smaller
 left-smaller c =
     let network = c.args.self.now.network.now in
     let known = c.requires.known in
-    let there = device_there network c.args.link c.args.row.now c.requires.fit.range c.requires.row in
+    let there = device_there c.requires.fit.range c.requires.row in
     let next = c.in-Some.ensures.is network known.0 known.2.remembers there in
     let later = next.later in
     let timely = next.timely in
@@ -72,7 +72,7 @@ left-preserved c =
     let until = c.args.until in
     let crossed = c.in-Some.crossed in
     let le = c.left.invariant.0 in
-    let there = device_there network c.args.link row range c.requires.row in
+    let there = device_there range c.requires.row in
     let some = c.requires.known in
     let found = c.in-Some.ensures.is network some.0 some.2.remembers there in
     let after = found.later in (
@@ -86,7 +86,7 @@ left-preserved c =
           let shown = shows crossed.time (omega (arith, later, le)) next.timely in
           paid_both (OwesFrame s hs row) (IsTold s hs c.args.link row) c.args.after from (crossed.time + 1) (c.left.invariant.1 befallen hs known shows)
           (told_on s hs c.args.link c.args.shown.now row c.args.series from until crossed on
-          (wide_step network row c.args.series range (row_fit network c.args.link row range c.requires.row) c.requires.leavings) c.requires.leavings
+          (wide_step range (row_fit range c.requires.row) c.requires.leavings) c.requires.leavings
           (λ t lt up. shows t (omega (arith, lt, le)) up) next
           (c.is_undispatched.ensures.told befallen hs known shown c.if-is_undispatched.false)),
     )
@@ -99,8 +99,8 @@ returns c befallen hs known shows =
     let from = c.left.from in
     let until = c.args.until in
     let le = c.left.invariant.0 in
-    let there = device_there network c.args.link row c.requires.fit.range c.requires.row in
+    let there = device_there c.requires.fit.range c.requires.row in
     paid_both (OwesFrame s hs row) (IsTold s hs c.args.link row) c.args.after from (until + 1) (c.left.invariant.1 befallen hs known shows)
-    (told_without s hs c.args.link c.args.shown.now row c.args.series from until (until + 1) c.requires.leavings
+    (told_without s hs c.args.link c.args.shown.now row from until (until + 1) c.requires.leavings
     (λ t lt up. shows t (omega (arith, lt, le)) up) (omega arith)
     (c.in_default.ensures.is network befallen known.remembers there))

@@ -4,7 +4,7 @@ use Rattle.std.proofs.{Common.{◌∙◌, refl, subst, sym}, lemmas.Bool.false�
 use Rattle.audit_sweep.proofs.unpaid.dispatches.debtor.RowDebtor.is_undispatched.Goals as goal
 
 pub cycle_of-requires-clause-row : goal.cycle_of-requires-clause-row
-cycle_of-requires-clause-row c = row_fit c.args.self.now.network.now c.args.link c.args.row.now c.requires.fit.range c.requires.row
+cycle_of-requires-clause-row c = row_fit c.requires.fit.range c.requires.row
 
 pub returns-then-is_up-clause-untold : goal.returns-then-is_up-clause-untold
 returns-then-is_up-clause-untold c befallen hs known shows told =
@@ -12,7 +12,7 @@ returns-then-is_up-clause-untold c befallen hs known shows told =
     let row = c.args.row.now in
     let t = c.args.crossed.time in
     let s = scenario_of c.args.self.now befallen in
-    let there = device_there network c.args.link row c.requires.fit.range c.requires.row in
+    let there = device_there c.requires.fit.range c.requires.row in
     let stands : StandsAt s hs network row.device t c.of-moment.result c.args.shown.now =
     record { of_network = refl; befalls = c.of-moment.ensures network befallen known.remembers there; shows = shows } in (
       (c.is_up.ensures s hs network row.device t stands).0 c.if-is_up.true,
@@ -36,7 +36,7 @@ returns-else-is_up-clause-told c befallen hs known shows told up =
     let row = c.args.row.now in
     let t = c.args.crossed.time in
     let s = scenario_of c.args.self.now befallen in
-    let there = device_there network c.args.link row c.requires.fit.range c.requires.row in
+    let there = device_there c.requires.fit.range c.requires.row in
     let stands : StandsAt s hs network row.device t c.of-moment.result c.args.shown.now =
     record { of_network = refl; befalls = c.of-moment.ensures network befallen known.remembers there; shows = shows } in
     absurd (false≢true (sym c.if-is_up.false ∙ (c.is_up.ensures s hs network row.device t stands).1 up))

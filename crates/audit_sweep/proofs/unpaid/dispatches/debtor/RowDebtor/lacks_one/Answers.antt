@@ -5,15 +5,15 @@ use Rattle.audit_sweep.proofs.unpaid.dispatches.debtor.RowDebtor.lacks_one.Goals
 
 pub last_accepted-accepted-requires : goal.last_accepted-accepted-requires
 last_accepted-accepted-requires c =
-    let there = device_there c.args.self.now.network.now c.args.link c.args.row.now c.requires.fit.range c.requires.row in
+    let there = device_there c.requires.fit.range c.requires.row in
     let all = c.requires.fit.taking in
     omega (arith, there, all)
 
 pub lacks-requires : goal.lacks-requires
-lacks-requires c = record { link = link_there c.args.self.now.network.now c.args.link c.args.row.now c.requires.row }
+lacks-requires c = record { link = link_there c.requires.row }
 
 pub lacks-requires-in-Some : goal.lacks-requires-in-Some
-lacks-requires-in-Some c = record { link = link_there c.args.self.now.network.now c.args.link c.args.row.now c.requires.row }
+lacks-requires-in-Some c = record { link = link_there c.requires.row }
 
 pub returns-then-lacks : goal.returns-then-lacks
 returns-then-lacks c befallen hs known =
@@ -32,7 +32,7 @@ returns-in-Some c befallen hs known =
     c.in-Some.taking c.lacks-in-Some.result c.in-Some.is so
     (when_false c.lacks.result _ _ c.if-lacks.false (c.lacks.ensures befallen hs known so))
     (c.lacks-in-Some.ensures befallen hs known
-    (subst (λ (o : Option Taking). IsAcceptedLast network hs c.args.row.now.device c.args.row.now.vl c.args.time o) c.in-Some.is so))
+    (subst (λ o. IsAcceptedLast network hs c.args.row.now.device c.args.row.now.vl c.args.time o) c.in-Some.is so))
 
 pub returns-in-None : goal.returns-in-None
 returns-in-None c befallen hs known =
