@@ -37,9 +37,9 @@ nothing_of network d carried (notes.State other state cause why) not = apart d o
 nothing_of network d carried body not = refl
 
 -- a device that the record shows nothing of
-pub kept_still : (s : Scenario) (hs : List Happening) (d : DeviceId) (h : Happening) (history : History) → effect_of s.network d h ≡ Nothing
-    → Keeps s hs d history → Keeps s (hs ++ h ∷ []) d history
-kept_still s hs d h history nothing keeps = record {
+pub kept_still : {s : Scenario} {hs : List Happening} {d : DeviceId} (h : Happening) {history : History}
+    → effect_of s.network d h ≡ Nothing → Keeps s hs d history → Keeps s (hs ++ h ∷ []) d history
+kept_still {s} {hs} {d} h {history} nothing keeps = record {
   latest = quiet s hs d h (latest_of history) nothing keeps.latest;
   before = λ place. by_place place (keeps.before place) (is_before (place_of h) place) refl;
   places = λ e i. let old = keeps.places e i in record { h = old.h; there = in_left old.h hs (h ∷ []) old.there; place = old.place };
@@ -49,10 +49,10 @@ kept_still s hs d h history nothing keeps = record {
     by_place : (place : List ℕ) → Shows s (records_before place hs) d (shown_before place history) → (b : Bool)
         → is_before (place_of h) place ≡ b → Shows s (records_before place (hs ++ h ∷ [])) d (shown_before place history)
     by_place place old true e =
-        subst (λ (xs : List Happening). Shows s xs d (shown_before place history)) (sym (filter_on (λ x. is_before (place_of x) place) hs h e))
+        subst (λ xs. Shows s xs d (shown_before place history)) (sym (filter_on (λ x. is_before (place_of x) place) hs h e))
         (quiet s (records_before place hs) d h (shown_before place history) nothing old)
     by_place place old false e =
-        subst (λ (xs : List Happening). Shows s xs d (shown_before place history)) (sym (filter_off (λ x. is_before (place_of x) place) hs h e)) old
+        subst (λ xs. Shows s xs d (shown_before place history)) (sym (filter_off (λ x. is_before (place_of x) place) hs h e)) old
 
 -- ---- a device that it shows something of
 
@@ -62,10 +62,11 @@ shown_of first es = option_map_or (λ e. e.shown) (last_or None es) first
 abbrev entry_of : Happening → Shown → Entry
 entry_of h shown = record { place = place_of h; shown = shown }
 
-pub kept_on : (s : Scenario) (hs : List Happening) (d : DeviceId) (h : Happening) (old new : History) (shown : Shown)
-    → AllBefore place_of hs (place_of h) → new.first ≡ old.first → new.entries.items ≡ old.entries.items ++ record { place = place_of h; shown = shown } ∷ []
+pub kept_on : {s : Scenario} {hs : List Happening} {d : DeviceId} (h : Happening) {old : History} (new : History)
+    {shown : Shown} → AllBefore place_of hs (place_of h) → new.first ≡ old.first
+    → new.entries.items ≡ old.entries.items ++ record { place = place_of h; shown = shown } ∷ []
     → Shows s (hs ++ h ∷ []) d shown → Keeps s hs d old → Keeps s (hs ++ h ∷ []) d new
-kept_on s hs d h old new shown all first items shows keeps = record {
+kept_on {s} {hs} {d} h {old} new {shown} all first items shows keeps = record {
   latest = subst (Shows s (hs ++ h ∷ []) d) (sym (ap (shown_of new.first) items ∙ newest (old.entries.items))) shows;
   before = λ place. by_place place (is_before (place_of h) place) refl;
   places = λ e i. by_entry e (in_parts e old.entries.items (entry_of h shown ∷ []) (subst (IsIn e) items i));
@@ -84,17 +85,17 @@ kept_on s hs d h old new shown all first items shows keeps = record {
         let whole = filter_on records hs h e
         ∙ ap (λ (xs : List Happening). xs ++ h ∷ []) (all_kept records hs (λ x i.
         test_chain (place_of x) (place_of h) place (before_is (place_of x) (place_of h) (all x i)) e)) in
-        let last = ap (λ (xs : List Entry). shown_of new.first (filter test xs)) items
+        let last = ap (λ xs. shown_of new.first (filter test xs)) items
         ∙ ap (shown_of new.first) (filter_on test old.entries.items (entry_of h shown) e)
         ∙ newest (filter test old.entries.items) in
-        subst (λ (xs : List Happening). Shows s xs d (shown_before place new)) (sym whole) (subst (Shows s (hs ++ h ∷ []) d) (sym last) shows)
+        subst (λ xs. Shows s xs d (shown_before place new)) (sym whole) (subst (Shows s (hs ++ h ∷ []) d) (sym last) shows)
     by_place place false e =
         let test : Entry → Bool = λ x. is_before x.place place in
         let records : Happening → Bool = λ x. is_before (place_of x) place in
-        let last = ap (λ (xs : List Entry). shown_of new.first (filter test xs)) items
+        let last = ap (λ xs. shown_of new.first (filter test xs)) items
         ∙ ap (shown_of new.first) (filter_off test old.entries.items (entry_of h shown) e)
-        ∙ ap (λ (x : Shown). shown_of x (filter test old.entries.items)) first in
-        subst (λ (xs : List Happening). Shows s xs d (shown_before place new)) (sym (filter_off records hs h e))
+        ∙ ap (λ x. shown_of x (filter test old.entries.items)) first in
+        subst (λ xs. Shows s xs d (shown_before place new)) (sym (filter_off records hs h e))
         (subst (Shows s (records_before place hs) d) (sym last) (keeps.before place))
 
     by_entry : (e : Entry) → IsIn e old.entries.items ⊎ IsIn e (entry_of h shown ∷ []) → IsOfRecord (hs ++ h ∷ []) e
@@ -107,5 +108,5 @@ kept_on s hs d h old new shown all first items shows keeps = record {
     ordered : (place : List ℕ) → is_before (place_of h) place ≡ true → (y : Entry) → IsIn y old.entries.items → is_before y.place place ≡ true
     ordered place passes y i =
         let r = keeps.places y i in
-        ap (λ (p : List ℕ). is_before p place) r.place
+        ap (λ p. is_before p place) r.place
         ∙ test_chain (place_of r.h) (place_of h) place (before_is (place_of r.h) (place_of h) (all r.h r.there)) passes

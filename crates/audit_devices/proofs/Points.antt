@@ -23,49 +23,52 @@ come_on true false r m n more le = omega arith
 come_on true true true m n more le = omega (arith, le refl)
 come_on true true false m n more le = absurd (cc (more refl))
 
-points_on : (network : Network) (cycle : ℕ) (at_change a b : ℤ) → IsInRange network → a ≤ℤ b
+points_on : {network : Network} (cycle : ℕ) (at_change a b : ℤ) → IsInRange network → a ≤ℤ b
     → points_from network cycle at_change a ≤ points_from network cycle at_change b
-points_on network cycle at_change a b range le =
+points_on {network} cycle at_change a b range le =
     let first : ℤ = correction_value network cycle in
     come_on (int_lt at_change first) (int_le first a) (int_le first b) (natural (int_div_euclid (a -ℤ first) network.cycle.0))
     (natural (int_div_euclid (b -ℤ first) network.cycle.0)) (λ e. int_le-from first b (omega (arith, ints, int_le-is first a e, le)))
     (λ e. quotient_on (a -ℤ first) (b -ℤ first) network.cycle.0 (omega (arith, ints, range.cycle.least)) (omega (arith, ints, int_le-is first a e))
     (omega (arith, ints, le)))
 
-pub points_mono : (network : Network) (shown : Shown) (a b : ℕ) → IsInRange network → a ≤ b → points_by network shown a ≤ points_by network shown b
-points_mono network shown a b range le =
-    points_on network shown.cycle shown.at_change (pos a +ℤ shown.adjustment) (pos b +ℤ shown.adjustment) range (omega (arith, ints, le))
+pub points_mono : {network : Network} (shown : Shown) (a b : ℕ) → IsInRange network → a ≤ b
+    → points_by network shown a ≤ points_by network shown b
+points_mono shown a b range le =
+    points_on shown.cycle shown.at_change (pos a +ℤ shown.adjustment) (pos b +ℤ shown.adjustment) range
+    (omega (arith, ints, le))
 
 -- ---- how the count is found
 
 counted : (p q : Bool) (n m : ℕ) → p ≡ true → q ≡ true → n ≡ m → n + 1 ≡ (if p && q then m + 1 else 0)
-counted true true n m a b e = ap (λ (k : ℕ). k + 1) e
+counted true true n m a b e = ap (λ k. k + 1) e
 counted true false n m a b e = absurd cc
 counted false q n m a b e = absurd cc
 
 not_counted : (p q : Bool) (m : ℕ) → (p && q) ≡ false → 0 ≡ (if p && q then m + 1 else 0)
 not_counted p q m e = sym (ap (λ (b : Bool). if b then m + 1 else 0) e)
 
--- where the clock was below the first correction point's value, and is not now
-pub then_comes : (network : Network) (shown : Shown) (before first n r : ℕ) → pos first ≡ correction_value network shown.cycle
-    → shown.at_change <ℤ pos first → pos first ≤ℤ (pos before +ℤ shown.adjustment) → pos n ≡ ((pos before +ℤ shown.adjustment) -ℤ pos first)
-    → r ≡ natural (int_div_euclid (pos n) network.cycle.0) → r + 1 ≡ points_by network shown before
-then_comes network shown before first n r is below reached apart value = grind (arith, counted, int_lt-from, int_le-from)
+module _ (network : Network) (shown : Shown) (before first : ℕ) where
+  -- where the clock was below the first correction point's value, and is not now
+  pub then_comes : (n r : ℕ) → pos first ≡ correction_value network shown.cycle → shown.at_change <ℤ pos first
+      → pos first ≤ℤ (pos before +ℤ shown.adjustment) → pos n ≡ ((pos before +ℤ shown.adjustment) -ℤ pos first)
+      → r ≡ natural (int_div_euclid (pos n) network.cycle.0) → r + 1 ≡ points_by network shown before
+  then_comes n r is below reached apart value = grind (arith, counted, int_lt-from, int_le-from)
 
--- where it has passed that value at the change
-pub has_passed : (network : Network) (shown : Shown) (before first : ℕ) → pos first ≡ correction_value network shown.cycle
-    → pos first ≤ℤ shown.at_change → 0 ≡ points_by network shown before
-has_passed network shown before first is passed = grind (arith, not_below, not_counted)
+  -- where it has passed that value at the change
+  pub has_passed : pos first ≡ correction_value network shown.cycle → pos first ≤ℤ shown.at_change
+      → 0 ≡ points_by network shown before
+  has_passed is passed = grind (arith, not_below, not_counted)
 
--- where it has not come to it
-pub not_come : (network : Network) (shown : Shown) (before first : ℕ) → pos first ≡ correction_value network shown.cycle
-    → (pos before +ℤ shown.adjustment) <ℤ pos first → 0 ≡ points_by network shown before
-not_come network shown before first is below =
-    let v : ℤ = correction_value network shown.cycle in
-    let local : ℤ = pos before +ℤ shown.adjustment in
-    let no = subst (λ (z : ℤ). int_le z local ≡ false) is (int_le-false (pos first) local below) in
-    not_counted (int_lt shown.at_change v) (int_le v local) (natural (int_div_euclid (local -ℤ v) network.cycle.0))
-    (ap (λ (b : Bool). int_lt shown.at_change v && b) no ∙ none_shorter (int_lt shown.at_change v))
+  -- where it has not come to it
+  pub not_come : pos first ≡ correction_value network shown.cycle → (pos before +ℤ shown.adjustment) <ℤ pos first
+      → 0 ≡ points_by network shown before
+  not_come is below =
+      let v : ℤ = correction_value network shown.cycle in
+      let local : ℤ = pos before +ℤ shown.adjustment in
+      let no = subst (λ (z : ℤ). int_le z local ≡ false) is (int_le-false (pos first) local below) in
+      not_counted (int_lt shown.at_change v) (int_le v local) (natural (int_div_euclid (local -ℤ v) network.cycle.0))
+      (ap (λ (b : Bool). int_lt shown.at_change v && b) no ∙ none_shorter (int_lt shown.at_change v))
 
 -- ---- what tests tell
 

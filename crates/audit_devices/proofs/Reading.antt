@@ -14,13 +14,14 @@ pub record ShowsPoints (s : Scenario) (es : List Happening) (device : DeviceId) 
   pub cycle : shown.cycle ≡ recorded_cycle es device
   pub at_change : shown.at_change ≡ (pos (s.reading device (last_change es device)) +ℤ shown.adjustment)
 
--- so many correction points have come
-pub points_are : (s : Scenario) (hs : List Happening) (device : DeviceId) (shown : Shown) (t by : ℕ) → ShowsPoints s (earlier t hs) device shown
-    → points_come s hs device t by ≡ points_by s.network shown (s.reading device (by - 1))
-points_are s hs device shown t by is = grind arith
+module _ (s : Scenario) (hs : List Happening) (device : DeviceId) (shown : Shown) where
+  -- so many correction points have come
+  pub points_are : (t by : ℕ) → ShowsPoints s (earlier t hs) device shown
+      → points_come s hs device t by ≡ points_by s.network shown (s.reading device (by - 1))
+  points_are t by is = grind arith
 
-pub points_shown : (s : Scenario) (hs : List Happening) (device : DeviceId) (shown : Shown) → Shows s hs device shown → ShowsPoints s hs device shown
-points_shown s hs device shown sh = record { adjustment = sh.adjustment; cycle = sh.cycle; at_change = sh.at_change }
+  pub points_shown : Shows s hs device shown → ShowsPoints s hs device shown
+  points_shown sh = record { adjustment = sh.adjustment; cycle = sh.cycle; at_change = sh.at_change }
 
 -- ---- records that change nothing count for nothing
 
@@ -58,13 +59,13 @@ adjustment_still s device (Corrects cycle adjustment) old same = absurd cc
 adjustment_still s device (Turns state) old same = refl
 
 -- a record that is not earlier changes nothing
-still_then : (hs : List Happening) (device : DeviceId) (t : ℕ) → IsAfter hs device t → (h : Happening) → IsIn h hs → nat_lt (time_of h) t ≡ false
-    → changes_adjustment device h.note.body ≡ false
-still_then hs device t after h i late = after.unchanged h i (omega (arith, ltb-false (time_of h) t late, after.none_later h i))
+still_then : {hs : List Happening} {device : DeviceId} {t : ℕ} → IsAfter hs device t → (h : Happening) → IsIn h hs
+    → nat_lt (time_of h) t ≡ false → changes_adjustment device h.note.body ≡ false
+still_then {t} after h i late = after.unchanged h i (omega (arith, ltb-false (time_of h) t late, after.none_later h i))
 
-pub points_earlier : (s : Scenario) (hs : List Happening) (device : DeviceId) (shown : Shown) (t : ℕ) → IsAfter hs device t → Shows s hs device shown
-    → ShowsPoints s (earlier t hs) device shown
-points_earlier s hs device shown t after sh =
+pub points_earlier : {s : Scenario} {hs : List Happening} {device : DeviceId} {shown : Shown} {t : ℕ}
+    → IsAfter hs device t → Shows s hs device shown → ShowsPoints s (earlier t hs) device shown
+points_earlier after sh =
     grind (
       arith,
       nat_lt,
@@ -81,44 +82,48 @@ points_earlier s hs device shown t after sh =
       cycle_still,
     )
 
-since_same : (hs : List Happening) (device : DeviceId) (t : ℕ) → IsAfter hs device t → (h : Happening) → IsIn h hs
+since_same : {hs : List Happening} {device : DeviceId} {t : ℕ} → IsAfter hs device t → (h : Happening) → IsIn h hs
     → (nat_lt (time_of h) t && changes_adjustment device h.note.body) ≡ changes_adjustment device h.note.body
-since_same hs device t after h i = grind (arith, nat_lt, time_of, changes_adjustment, still_then)
+since_same after h i = grind (arith, nat_lt, time_of, changes_adjustment, still_then)
 
--- what was heard since the last correction point is what was heard where so many have come
-pub heard_are : (s : Scenario) (hs : List Happening) (device : DeviceId) (shown : Shown) (t : ℕ) → IsAfter hs device t → Shows s hs device shown
-    → heard_since_point s hs device t ≡ heard_at s hs device shown (points_by s.network shown (s.reading device (t - 1)))
-heard_are s hs device shown t after sh =
-    grind (arith, points_earlier, hearing_by, changes_adjustment, points_by, filter_map, filter, time_of, after_same, nat_lt, since_same, same_kept, points_are)
+module _ (s : Scenario) (hs : List Happening) (device : DeviceId) (shown : Shown) (t : ℕ) where
+  -- what was heard since the last correction point is what was heard where so many have come
+  pub heard_are : IsAfter hs device t → Shows s hs device shown
+      → heard_since_point s hs device t ≡ heard_at s hs device shown
+      (points_by s.network shown (s.reading device (t - 1)))
+  heard_are after sh =
+      grind (arith, points_earlier, hearing_by, changes_adjustment, points_by, filter_map, filter, time_of, after_same, nat_lt, since_same, same_kept, points_are)
 
-pub heard_since_is : (s : Scenario) (hs : List Happening) (device : DeviceId) (shown : Shown) (t : ℕ) → IsAfter hs device t → Shows s hs device shown
-    → Summarizes (heard_by_then shown (points_by s.network shown (s.reading device (t - 1)))) (heard_since_point s hs device t)
-heard_since_is s hs device shown t after sh =
-    let points = points_by s.network shown (s.reading device (t - 1)) in
-    subst (Summarizes (heard_by_then shown points)) (sym (heard_are s hs device shown t after sh))
-    (kept_then s hs device shown points sh (sh.come t after.none_later) silence_summarizes)
+  pub heard_since_is : IsAfter hs device t → Shows s hs device shown
+      → Summarizes (heard_by_then shown (points_by s.network shown (s.reading device (t - 1))))
+      (heard_since_point s hs device t)
+  heard_since_is after sh =
+      let points = points_by s.network shown (s.reading device (t - 1)) in
+      subst (Summarizes (heard_by_then shown points)) (sym (heard_are after sh))
+      (kept_then points sh (sh.come t after.none_later) silence_summarizes)
 
-pub number_is : (s : Scenario) (hs : List Happening) (device : DeviceId) (shown : Shown) (t : ℕ) → Shows s (earlier t hs) device shown
-    → shown.cycle + points_by s.network shown (s.reading device (t - 1)) ≡ next_number s hs device t
-number_is s hs device shown t sh = grind (arith, points_by, points_are, points_shown)
+  pub number_is : Shows s (earlier t hs) device shown → shown.cycle + points_by s.network shown
+      (s.reading device (t - 1)) ≡ next_number s hs device t
+  number_is sh = grind (arith, points_by, points_are, points_shown)
 
--- ---- when a frame is heard
+  -- ---- when a frame is heard
 
--- the adjustment at a hearing is that after these records, where only frames that told the time changed it at the time
-pub hearing_adjustment : (s : Scenario) (hs : List Happening) (device : DeviceId) (shown : Shown) (t : ℕ) → NoneLater t hs
-    → ((h : Happening) → IsIn h hs → time_of h ≡ t → is_joined_by device h.note.body ≡ changes_adjustment device h.note.body)
-    → Shows s hs device shown → shown.adjustment ≡ (adjustment_at_hearing s hs device t).0
-hearing_adjustment s hs device shown t late only sh =
-    let test : Happening → Bool = λ h. nat_lt (time_of h) t || is_joined_by device h.note.body in
-    sh.adjustment
-    ∙ ap (λ (u : Units). u.0)
-    (sym (fold_through _ test _ hs
-    (λ h i fails old.
-    let parts = neither (nat_lt (time_of h) t) (is_joined_by device h.note.body) fails in
-    let t' = tells s device h h.note.body in
-    let same : changes_adjustment device h.note.body ≡ false = sym (only h i (omega (arith, ltb-false (time_of h) t parts.0, late h i))) ∙ parts.1 in
-    t'.adjustment_is old ∙ adjustment_still s device (effect_of s.network device h) old (sym t'.changes_is ∙ same))))
-  where
-    neither : (a b : Bool) → (a || b) ≡ false → (a ≡ false) × (b ≡ false)
-    neither true b e = absurd cc
-    neither false b e = (refl, e)
+  -- the adjustment at a hearing is that after these records, where only frames that told the time changed it at the time
+  pub hearing_adjustment : NoneLater t hs → ((h : Happening) → IsIn h hs → time_of h ≡ t
+      → is_joined_by device h.note.body ≡ changes_adjustment device h.note.body) → Shows s hs device shown
+      → shown.adjustment ≡ (adjustment_at_hearing s hs device t).0
+  hearing_adjustment late only sh =
+      let test : Happening → Bool = λ h. nat_lt (time_of h) t || is_joined_by device h.note.body in
+      sh.adjustment
+      ∙ ap (λ (u : Units). u.0)
+      (sym (fold_through _ test _ hs
+      (λ h i fails old.
+      let parts = neither (nat_lt (time_of h) t) (is_joined_by device h.note.body) fails in
+      let t' = tells s device h h.note.body in
+      let same : changes_adjustment device h.note.body ≡ false =
+      sym (only h i (omega (arith, ltb-false (time_of h) t parts.0, late h i))) ∙ parts.1 in
+      t'.adjustment_is old ∙ adjustment_still s device (effect_of s.network device h) old (sym t'.changes_is ∙ same))))
+    where
+      neither : (a b : Bool) → (a || b) ≡ false → (a ≡ false) × (b ≡ false)
+      neither true b e = absurd cc
+      neither false b e = (refl, e)

@@ -27,26 +27,28 @@ told s device h e is = subst (TellsAs s device h) is (tells s device h h.note.bo
 
 -- ---- one more record, by what it tells
 
-pub state_on : (s : Scenario) (hs : List Happening) (device : DeviceId) (h : Happening) (e : Effect) → TellsAs s device h e
-    → state_by (state_after s hs device) e ≡ state_after s (with_one hs h) device
-state_on s hs device h e t = sym (t.state_is (state_after s hs device)) ∙ sym (fold-append _ _ hs (h ∷ []))
+module _ {s : Scenario} (hs : List Happening) {device : DeviceId} (h : Happening) {e : Effect}
+    (t : TellsAs s device h e) where
+  pub state_on : state_by (state_after s hs device) e ≡ state_after s (with_one hs h) device
+  state_on = sym (t.state_is (state_after s hs device)) ∙ sym (fold-append _ _ hs (h ∷ []))
 
-pub adjustment_on : (s : Scenario) (hs : List Happening) (device : DeviceId) (h : Happening) (e : Effect) → TellsAs s device h e
-    → adjustment_by s device (adjustment_after s hs device) e ≡ adjustment_after s (with_one hs h) device
-adjustment_on s hs device h e t = sym (t.adjustment_is (adjustment_after s hs device)) ∙ sym (fold-append _ _ hs (h ∷ []))
+  pub adjustment_on : adjustment_by s device (adjustment_after s hs device) e
+      ≡ adjustment_after s (with_one hs h) device
+  adjustment_on = sym (t.adjustment_is (adjustment_after s hs device)) ∙ sym (fold-append _ _ hs (h ∷ []))
 
-pub cycle_on : (s : Scenario) (hs : List Happening) (device : DeviceId) (h : Happening) (e : Effect) → TellsAs s device h e
-    → cycle_by (recorded_cycle hs device) e ≡ recorded_cycle (with_one hs h) device
-cycle_on s hs device h e t = sym (t.cycle_is (recorded_cycle hs device)) ∙ sym (fold-append _ _ hs (h ∷ []))
+  pub cycle_on : cycle_by (recorded_cycle hs device) e ≡ recorded_cycle (with_one hs h) device
+  cycle_on = sym (t.cycle_is (recorded_cycle hs device)) ∙ sym (fold-append _ _ hs (h ∷ []))
 
-pub integrated_on : (s : Scenario) (hs : List Happening) (device : DeviceId) (h : Happening) (e : Effect) → TellsAs s device h e
-    → (if joins_by e then Some (cycle_in h) else integration_cycle hs device) ≡ integration_cycle (with_one hs h) device
-integrated_on s hs device h e t =
-    ap (λ (b : Bool). if b then Some (cycle_in h) else integration_cycle hs device) (sym t.joins_is) ∙ sym (fold-append _ _ hs (h ∷ []))
+  pub integrated_on : (if joins_by e then Some (cycle_in h) else integration_cycle hs device)
+      ≡ integration_cycle (with_one hs h) device
+  integrated_on =
+      ap (λ (b : Bool). if b then Some (cycle_in h) else integration_cycle hs device) (sym t.joins_is) ∙ sym
+      (fold-append _ _ hs (h ∷ []))
 
-pub joined_on : (s : Scenario) (hs : List Happening) (device : DeviceId) (h : Happening) (e : Effect) → TellsAs s device h e
-    → (if joins_by e then Some (time_of h) else last_joining hs device) ≡ last_joining (with_one hs h) device
-joined_on s hs device h e t = ap (λ (b : Bool). if b then Some (time_of h) else last_joining hs device) (sym t.joins_is) ∙ sym (fold-append _ _ hs (h ∷ []))
+  pub joined_on : (if joins_by e then Some (time_of h) else last_joining hs device)
+      ≡ last_joining (with_one hs h) device
+  joined_on = ap (λ (b : Bool). if b then Some (time_of h) else last_joining hs device) (sym t.joins_is) ∙ sym
+      (fold-append _ _ hs (h ∷ []))
 
 changed_at_once : (hs : List Happening) (device : DeviceId) (h : Happening) → changes_adjustment device h.note.body ≡ true
     → time_of h ≡ last_change (with_one hs h) device
@@ -68,38 +70,39 @@ pub heard_on : (s : Scenario) (hs : List Happening) (device : DeviceId) (h : Hap
     ++ filter_map (λ x. hearing_by s.network device x x.note.body) (if kept_where s device shown points h then h ∷ [] else [])
 heard_on s hs device h shown points same = grind (arith, changes_adjustment, hearing_by, after_more, filter_map, filter, filter-append, filter_map-append)
 
--- nothing more is heard by a record that tells nothing heard
-heard_same : (s : Scenario) (hs : List Happening) (device : DeviceId) (h : Happening) (shown : Shown) (points : ℕ)
-    → changes_adjustment device h.note.body ≡ false → hearing_by s.network device h h.note.body ≡ None
-    → heard_at s (with_one hs h) device shown points ≡ heard_at s hs device shown points
-heard_same s hs device h shown points same none = grind (arith, hearing_by, heard_on, heard_at, append-nil, filter_map, cons_option)
+module _ (s : Scenario) (hs : List Happening) (device : DeviceId) (h : Happening) (shown : Shown) (points : ℕ) where
+  -- nothing more is heard by a record that tells nothing heard
+  heard_same : changes_adjustment device h.note.body ≡ false → hearing_by s.network device h h.note.body ≡ None
+      → heard_at s (with_one hs h) device shown points ≡ heard_at s hs device shown points
+  heard_same same none = grind (arith, hearing_by, heard_on, heard_at, append-nil, filter_map, cons_option)
 
--- nothing is heard since a change
-heard_none : (s : Scenario) (hs : List Happening) (device : DeviceId) (h : Happening) (shown : Shown) (points : ℕ)
-    → changes_adjustment device h.note.body ≡ true → heard_at s (with_one hs h) device shown points ≡ []
-heard_none s hs device h shown points is = grind (arith, changes_adjustment, hearing_by, filter_map, filter, after_one)
+  -- nothing is heard since a change
+  heard_none : changes_adjustment device h.note.body ≡ true → heard_at s (with_one hs h) device shown points ≡ []
+  heard_none is = grind (arith, changes_adjustment, hearing_by, filter_map, filter, after_one)
 
-has_joined_on : (s : Scenario) (hs : List Happening) (device : DeviceId) (h : Happening) (e : Effect) (t : ℕ) → TellsAs s device h e
-    → has_joined_at (with_one hs h) device t ≡ (has_joined_at hs device t || (time_of h == t && joins_by e))
-has_joined_on s hs device h e t told = grind (arith, list_any-append, time_of, is_joined_by)
+module _ {s : Scenario} (hs : List Happening) {device : DeviceId} (h : Happening) {e : Effect} (t : ℕ)
+    (told : TellsAs s device h e) where
+  has_joined_on : has_joined_at (with_one hs h) device t
+      ≡ (has_joined_at hs device t || (time_of h == t && joins_by e))
+  has_joined_on = grind (arith, list_any-append, time_of, is_joined_by)
 
--- no frame tells it the time at this time by a record that tells it of none
-pub not_joined : (s : Scenario) (hs : List Happening) (device : DeviceId) (h : Happening) (e : Effect) (t : ℕ) → TellsAs s device h e
-    → joins_by e ≡ false → has_joined_at (with_one hs h) device t ≡ has_joined_at hs device t
-not_joined s hs device h e t told none =
-    has_joined_on s hs device h e t told
-    ∙ ap (λ (b : Bool). has_joined_at hs device t || (time_of h == t && b)) none
-    ∙ none_more (has_joined_at hs device t) (time_of h == t)
+  -- no frame tells it the time at this time by a record that tells it of none
+  pub not_joined : joins_by e ≡ false → has_joined_at (with_one hs h) device t ≡ has_joined_at hs device t
+  not_joined none =
+      has_joined_on
+      ∙ ap (λ (b : Bool). has_joined_at hs device t || (time_of h == t && b)) none
+      ∙ none_more (has_joined_at hs device t) (time_of h == t)
 
 none_earlier : (hs : List Happening) (device : DeviceId) (t : ℕ) → ((x : Happening) → IsIn x hs → time_of x < t) → has_joined_at hs device t ≡ false
 none_earlier [] device t each = refl
 none_earlier (x ∷ hs) device t each = grind (arith, is_joined_by, ne_eqb, time_of, (none_earlier hs device t (λ y i. each y (inr i))))
 
 -- at the time of a record by which one does, it is that of the last that does
-joined_last : (s : Scenario) (hs : List Happening) (device : DeviceId) (h : Happening) (e : Effect) (t : ℕ) → TellsAs s device h e
-    → joins_by e ≡ true → NoneLater (time_of h) hs → time_of h ≤ t → has_joined_at (with_one hs h) device t ≡ (time_of h == t)
-joined_last s hs device h e t told joins late le =
-    has_joined_on s hs device h e t told
+joined_last : {s : Scenario} (hs : List Happening) {device : DeviceId} (h : Happening) {e : Effect} (t : ℕ)
+    → TellsAs s device h e → joins_by e ≡ true → NoneLater (time_of h) hs → time_of h ≤ t
+    → has_joined_at (with_one hs h) device t ≡ (time_of h == t)
+joined_last hs {device} h t told joins late le =
+    has_joined_on hs h t told
     ∙ ap (λ (b : Bool). has_joined_at hs device t || (time_of h == t && b)) joins
     ∙ elim (cases_lt (time_of h) t) [
       | inl lt ↦
@@ -118,93 +121,100 @@ joined_last s hs device h e t told joins late le =
     always true = refl
     always false = refl
 
-pub front_later : (t : ℕ) (hs : List Happening) (h : Happening) → NoneLater t (with_one hs h) → NoneLater t hs
-front_later t hs h later x i = later x (in_left x hs (h ∷ []) i)
+module _ (t : ℕ) (hs : List Happening) (h : Happening) (later : NoneLater t (with_one hs h)) where
+  pub front_later : NoneLater t hs
+  front_later x i = later x (in_left x hs (h ∷ []) i)
 
-pub one_later : (t : ℕ) (hs : List Happening) (h : Happening) → NoneLater t (with_one hs h) → time_of h ≤ t
-one_later t hs h later = later h (in_right h hs (h ∷ []) (inl refl))
+  pub one_later : time_of h ≤ t
+  one_later = later h (in_right h hs (h ∷ []) (inl refl))
 
 -- ---- the steps
 
--- a record that shows nothing, or a state, of the device
-pub turned : (s : Scenario) (hs : List Happening) (device : DeviceId) (h : Happening) (shown : Shown) (state : State)
-    → effect_of s.network device h ≡ Turns state → Shows s hs device shown → Shows s (hs ++ h ∷ []) device (record shown { state = state })
-turned s hs device h shown state is sh =
-    let t = told s device h (Turns state) is in
-    record {
-      state = state_on s hs device h (Turns state) t;
-      adjustment = sh.adjustment ∙ ap (λ (u : Units). u.0) (adjustment_on s hs device h (Turns state) t);
-      cycle = sh.cycle ∙ cycle_on s hs device h (Turns state) t;
-      integrated = sh.integrated ∙ integrated_on s hs device h (Turns state) t;
-      changed = sh.changed ∙ unchanged hs device h t.changes_is;
-      at_change = sh.at_change ∙ ap (λ (c : ℕ). pos (s.reading device c) +ℤ shown.adjustment) (unchanged hs device h t.changes_is);
-      joined = sh.joined ∙ joined_on s hs device h (Turns state) t;
-      joined_at = λ u later. not_joined s hs device h (Turns state) u t refl ∙ sh.joined_at u (front_later u hs h later);
-      heard = subst (Summarizes shown.heard) (sym (heard_same s hs device h shown shown.come t.changes_is t.hears_is)) sh.heard;
-      no_more = λ points more. heard_same s hs device h shown points t.changes_is t.hears_is ∙ sh.no_more points more;
-      come = λ u later. sh.come u (front_later u hs h later);
-    }
+module _ (s : Scenario) (hs : List Happening) (device : DeviceId) (h : Happening) (shown : Shown) where
+  -- a record that shows nothing, or a state, of the device
+  pub turned : (state : State) → effect_of s.network device h ≡ Turns state → Shows s hs device shown
+      → Shows s (hs ++ h ∷ []) device (record shown { state = state })
+  turned state is sh =
+      let t = told s device h (Turns state) is in
+      record {
+        state = state_on hs h t;
+        adjustment = sh.adjustment ∙ ap (λ (u : Units). u.0) (adjustment_on hs h t);
+        cycle = sh.cycle ∙ cycle_on hs h t;
+        integrated = sh.integrated ∙ integrated_on hs h t;
+        changed = sh.changed ∙ unchanged hs device h t.changes_is;
+        at_change = sh.at_change ∙ ap (λ (c : ℕ). pos (s.reading device c) +ℤ shown.adjustment)
+            (unchanged hs device h t.changes_is);
+        joined = sh.joined ∙ joined_on hs h t;
+        joined_at = λ u later. not_joined hs h u t refl ∙ sh.joined_at u (front_later u hs h later);
+        heard = subst (Summarizes shown.heard) (sym (heard_same s hs device h shown shown.come t.changes_is
+            t.hears_is)) sh.heard;
+        no_more = λ points more. heard_same s hs device h shown points t.changes_is t.hears_is ∙ sh.no_more points more;
+        come = λ u later. sh.come u (front_later u hs h later);
+      }
 
-pub quiet : (s : Scenario) (hs : List Happening) (device : DeviceId) (h : Happening) (shown : Shown) → effect_of s.network device h ≡ Nothing
-    → Shows s hs device shown → Shows s (hs ++ h ∷ []) device shown
-quiet s hs device h shown is sh =
-    let t = told s device h Nothing is in
-    record {
-      state = sh.state ∙ state_on s hs device h Nothing t;
-      adjustment = sh.adjustment ∙ ap (λ (u : Units). u.0) (adjustment_on s hs device h Nothing t);
-      cycle = sh.cycle ∙ cycle_on s hs device h Nothing t;
-      integrated = sh.integrated ∙ integrated_on s hs device h Nothing t;
-      changed = sh.changed ∙ unchanged hs device h t.changes_is;
-      at_change = sh.at_change ∙ ap (λ (c : ℕ). pos (s.reading device c) +ℤ shown.adjustment) (unchanged hs device h t.changes_is);
-      joined = sh.joined ∙ joined_on s hs device h Nothing t;
-      joined_at = λ u later. not_joined s hs device h Nothing u t refl ∙ sh.joined_at u (front_later u hs h later);
-      heard = subst (Summarizes shown.heard) (sym (heard_same s hs device h shown shown.come t.changes_is t.hears_is)) sh.heard;
-      no_more = λ points more. heard_same s hs device h shown points t.changes_is t.hears_is ∙ sh.no_more points more;
-      come = λ u later. sh.come u (front_later u hs h later);
-    }
+  pub quiet : effect_of s.network device h ≡ Nothing → Shows s hs device shown → Shows s (hs ++ h ∷ []) device shown
+  quiet is sh =
+      let t = told s device h Nothing is in
+      record {
+        state = sh.state ∙ state_on hs h t;
+        adjustment = sh.adjustment ∙ ap (λ (u : Units). u.0) (adjustment_on hs h t);
+        cycle = sh.cycle ∙ cycle_on hs h t;
+        integrated = sh.integrated ∙ integrated_on hs h t;
+        changed = sh.changed ∙ unchanged hs device h t.changes_is;
+        at_change = sh.at_change ∙ ap (λ (c : ℕ). pos (s.reading device c) +ℤ shown.adjustment)
+            (unchanged hs device h t.changes_is);
+        joined = sh.joined ∙ joined_on hs h t;
+        joined_at = λ u later. not_joined hs h u t refl ∙ sh.joined_at u (front_later u hs h later);
+        heard = subst (Summarizes shown.heard) (sym (heard_same s hs device h shown shown.come t.changes_is
+            t.hears_is)) sh.heard;
+        no_more = λ points more. heard_same s hs device h shown points t.changes_is t.hears_is ∙ sh.no_more points more;
+        come = λ u later. sh.come u (front_later u hs h later);
+      }
 
-pub corrected : (s : Scenario) (hs : List Happening) (device : DeviceId) (h : Happening) (shown : Shown) (cycle : ℕ) (adjustment : Units) (t reading : ℕ)
-    → effect_of s.network device h ≡ Corrects cycle adjustment → t ≡ time_of h → reading ≡ s.reading device (time_of h)
-    → Summarizes silence [] → Shows s hs device shown → Shows s (hs ++ h ∷ []) device (changed_to shown adjustment.0 (cycle + 1) t reading)
-corrected s hs device h shown cycle adjustment time reading is at reads none sh =
-    let t = told s device h (Corrects cycle adjustment) is in
-    let new = changed_to shown adjustment.0 (cycle + 1) time reading in
-    let last = changed_at_once hs device h t.changes_is in
-    record {
-      state = sh.state ∙ state_on s hs device h (Corrects cycle adjustment) t;
-      adjustment = ap (λ (u : Units). u.0) (adjustment_on s hs device h (Corrects cycle adjustment) t);
-      cycle = cycle_on s hs device h (Corrects cycle adjustment) t;
-      integrated = sh.integrated ∙ integrated_on s hs device h (Corrects cycle adjustment) t;
-      changed = at ∙ last;
-      at_change = ap (λ (r : ℕ). pos r +ℤ adjustment.0) (reads ∙ ap (s.reading device) last);
-      joined = sh.joined ∙ joined_on s hs device h (Corrects cycle adjustment) t;
-      joined_at = λ u later.
-          not_joined s hs device h (Corrects cycle adjustment) u t refl ∙ sh.joined_at u (front_later u hs h later);
-      heard = subst (Summarizes silence) (sym (heard_none s hs device h new 0 t.changes_is)) none;
-      no_more = λ points more. heard_none s hs device h new points t.changes_is;
-      come = λ u later. omega arith;
-    }
+  pub corrected : (cycle : ℕ) (adjustment : Units) (t reading : ℕ)
+      → effect_of s.network device h ≡ Corrects cycle adjustment → t ≡ time_of h
+      → reading ≡ s.reading device (time_of h) → Summarizes silence [] → Shows s hs device shown
+      → Shows s (hs ++ h ∷ []) device (changed_to shown adjustment.0 (cycle + 1) t reading)
+  corrected cycle adjustment time reading is at reads none sh =
+      let t = told s device h (Corrects cycle adjustment) is in
+      let new = changed_to shown adjustment.0 (cycle + 1) time reading in
+      let last = changed_at_once hs device h t.changes_is in
+      record {
+        state = sh.state ∙ state_on hs h t;
+        adjustment = ap (λ (u : Units). u.0) (adjustment_on hs h t);
+        cycle = cycle_on hs h t;
+        integrated = sh.integrated ∙ integrated_on hs h t;
+        changed = at ∙ last;
+        at_change = ap (λ r. pos r +ℤ adjustment.0) (reads ∙ ap (s.reading device) last);
+        joined = sh.joined ∙ joined_on hs h t;
+        joined_at = λ u later.
+            not_joined hs h u t refl ∙ sh.joined_at u (front_later u hs h later);
+        heard = subst (Summarizes silence) (sym (heard_none s hs device h new 0 t.changes_is)) none;
+        no_more = λ points more. heard_none s hs device h new points t.changes_is;
+        come = λ u later. omega arith;
+      }
 
-pub joined : (s : Scenario) (hs : List Happening) (device : DeviceId) (h : Happening) (shown : Shown) (cycle own : ℕ) (point : Units) (t reading : ℕ)
-    → effect_of s.network device h ≡ Joins cycle own point → NoneLater (time_of h) hs → t ≡ time_of h → reading ≡ s.reading device (time_of h)
-    → Summarizes silence [] → Shows s hs device shown → Shows s (hs ++ h ∷ []) device (joined_to shown (joined_adjustment s device own point).0 cycle t reading)
-joined s hs device h shown cycle own point time reading is late at reads none sh =
-    let e : Effect = Joins cycle own point in
-    let t = told s device h e is in
-    let adjustment : ℤ = (joined_adjustment s device own point).0 in
-    let new = joined_to shown adjustment cycle time reading in
-    let last = changed_at_once hs device h t.changes_is in
-    record {
-      state = state_on s hs device h e t;
-      adjustment = ap (λ (u : Units). u.0) (adjustment_on s hs device h e t);
-      cycle = cycle_on s hs device h e t;
-      integrated = ap (λ (n : ℕ). Some n) t.frame_is ∙ integrated_on s hs device h e t;
-      changed = at ∙ last;
-      at_change = ap (λ (r : ℕ). pos r +ℤ adjustment) (reads ∙ ap (s.reading device) last);
-      joined = ap (λ (n : ℕ). Some n) at ∙ joined_on s hs device h e t;
-      joined_at = λ u later.
-          joined_last s hs device h e u t refl late (one_later u hs h later) ∙ ap (λ (n : ℕ). n == u) (sym at);
-      heard = subst (Summarizes silence) (sym (heard_none s hs device h new 0 t.changes_is)) none;
-      no_more = λ points more. heard_none s hs device h new points t.changes_is;
-      come = λ u later. omega arith;
-    }
+  pub joined : (cycle own : ℕ) (point : Units) (t reading : ℕ) → effect_of s.network device h ≡ Joins cycle own point
+      → NoneLater (time_of h) hs → t ≡ time_of h → reading ≡ s.reading device (time_of h) → Summarizes silence []
+      → Shows s hs device shown → Shows s (hs ++ h ∷ []) device
+      (joined_to shown (joined_adjustment s device own point).0 cycle t reading)
+  joined cycle own point time reading is late at reads none sh =
+      let e : Effect = Joins cycle own point in
+      let t = told s device h e is in
+      let adjustment : ℤ = (joined_adjustment s device own point).0 in
+      let new = joined_to shown adjustment cycle time reading in
+      let last = changed_at_once hs device h t.changes_is in
+      record {
+        state = state_on hs h t;
+        adjustment = ap (λ (u : Units). u.0) (adjustment_on hs h t);
+        cycle = cycle_on hs h t;
+        integrated = ap (λ (n : ℕ). Some n) t.frame_is ∙ integrated_on hs h t;
+        changed = at ∙ last;
+        at_change = ap (λ r. pos r +ℤ adjustment) (reads ∙ ap (s.reading device) last);
+        joined = ap (λ (n : ℕ). Some n) at ∙ joined_on hs h t;
+        joined_at = λ u later.
+            joined_last hs h u t refl late (one_later u hs h later) ∙ ap (λ (n : ℕ). n == u) (sym at);
+        heard = subst (Summarizes silence) (sym (heard_none s hs device h new 0 t.changes_is)) none;
+        no_more = λ points more. heard_none s hs device h new points t.changes_is;
+        come = λ u later. omega arith;
+      }

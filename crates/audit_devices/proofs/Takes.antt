@@ -201,16 +201,18 @@ ascend_more network hs h device vl rightly right all old = subst AscendAll (sym 
         let first = placed network device vl (time_of m.h) m.h.note.number (members_in m.h) m.h.note.body y (rightly m.h m.there) m.made in
         let second = placed network device vl (time_of h) h.note.number (members_in h) h.note.body e right made in
         let before : IsBefore (taking_place r device y) (taking_place r device e) =
-        subst (λ (p : List ℕ). IsBefore p (taking_place r device e)) first (subst (IsBefore (place_of m.h)) second (all m.h m.there)) in
+        subst (λ p. IsBefore p (taking_place r device e)) first (subst (IsBefore (place_of m.h)) second (all m.h m.there)) in
         let came = came_first r device.0 y.time y.link.0 y.cause e.time e.link.0 e.cause before in
         test_chain (coming_of y) (coming_of e) (t ∷ link.0 ∷ cause ∷ []) (before_is (coming_of y) (coming_of e) came) passes)
 
 -- ---- one more record
 
-pub taken_on : (network : Network) (hs : List Happening) (h : Happening) (old new : Takings) → taker_count new ≡ taker_count old
-    → ((device : DeviceId) (vl : VlId) → device.0 < taker_count old → kept_of new device vl ≡ more_by (taking_of device vl h) (kept_of old device vl))
-    → TakesRightly network h.note.body → AllBefore place_of hs (place_of h) → HasTaken network hs old → HasTaken network (hs ++ h ∷ []) new
-taken_on network hs h old new count more right all has = record {
+pub taken_on : {network : Network} {hs : List Happening} (h : Happening) {old : Takings} (new : Takings)
+    → taker_count new ≡ taker_count old → ((device : DeviceId) (vl : VlId) → device.0 < taker_count old
+    → kept_of new device vl ≡ more_by (taking_of device vl h) (kept_of old device vl))
+    → TakesRightly network h.note.body → AllBefore place_of hs (place_of h) → HasTaken network hs old
+    → HasTaken network (hs ++ h ∷ []) new
+taken_on {network} {hs} h {old} new count more right all has = record {
   kept = λ device vl lt.
       let within : device.0 < taker_count old = omega (arith, lt, count) in
       more device vl within
@@ -238,15 +240,17 @@ nothing_taken h device vl taken none = ap (λ o. more_by (option_and_then (taken
 of_other : (device : DeviceId) (vl : VlId) (t : Taken) → (device.0 ≡ t.device.0 → ⊥) → taken_at device vl t ≡ None
 of_other device vl t not = ap (λ (b : Bool). if b && vl.0 == t.vl.0 then Some t.taking else None) (ne_eqb device.0 t.device.0 not)
 
--- a record by which another device took something
-pub other_taken : (h : Happening) (device : DeviceId) (vl : VlId) (t : Taken) (taken : List Taking) → taken_by (time_of h) h.note.number h.note.body ≡ Some t
-    → (device.0 ≡ t.device.0 → ⊥) → taken ≡ more_by (taking_of device vl h) taken
-other_taken h device vl t taken is not = ap (λ o. more_by o taken) (sym (ap (option_and_then (taken_at device vl)) is ∙ of_other device vl t not))
+module _ (h : Happening) (device : DeviceId) (vl : VlId) (t : Taken) (taken : List Taking)
+    (is : taken_by (time_of h) h.note.number h.note.body ≡ Some t) where
+  -- a record by which another device took something
+  pub other_taken : (device.0 ≡ t.device.0 → ⊥) → taken ≡ more_by (taking_of device vl h) taken
+  other_taken not =
+      ap (λ o. more_by o taken) (sym (ap (option_and_then (taken_at device vl)) is ∙ of_other device vl t not))
 
--- a record by which the device took something
-pub this_taken : (h : Happening) (device : DeviceId) (vl : VlId) (t : Taken) (taken : List Taking) → taken_by (time_of h) h.note.number h.note.body ≡ Some t
-    → device.0 ≡ t.device.0 → (if vl.0 == t.vl.0 then taken ++ t.taking ∷ [] else taken) ≡ more_by (taking_of device vl h) taken
-this_taken h device vl t taken is same = grind (arith, eq-eqb)
+  -- a record by which the device took something
+  pub this_taken : device.0 ≡ t.device.0 → (if vl.0 == t.vl.0 then taken ++ t.taking ∷ [] else taken)
+      ≡ more_by (taking_of device vl h) taken
+  this_taken same = grind (arith, eq-eqb)
 
 -- ---- what is kept of one device
 

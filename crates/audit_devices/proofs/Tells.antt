@@ -51,38 +51,39 @@ pub record Tells (s : Scenario) (device : DeviceId) (frame : ℕ) (state : State
   pub hears_is : hears ≡ hearing_of e
   pub frame_is : frame_by frame e ≡ frame
 
-quiet : (s : Scenario) (device : DeviceId) (frame : ℕ) → Tells s device frame (λ old. old) (λ old. old) (λ next. next) false false None Nothing
-quiet s device frame = grind arith
+module _ (s : Scenario) (device : DeviceId) where
+  quiet : (frame : ℕ) → Tells s device frame (λ old. old) (λ old. old) (λ next. next) false false None Nothing
+  quiet frame = grind arith
 
-quiet_if : (s : Scenario) (device : DeviceId) (frame : ℕ) (b : Bool)
-    → Tells s device frame (λ old. old) (λ old. old) (λ next. next) false false None (if b then Nothing else Nothing)
-quiet_if s device frame true = quiet s device frame
-quiet_if s device frame false = quiet s device frame
+  quiet_if : (frame : ℕ) (b : Bool) → Tells s device frame (λ old. old) (λ old. old) (λ next. next) false false None
+      (if b then Nothing else Nothing)
+  quiet_if frame true = quiet frame
+  quiet_if frame false = quiet frame
 
-integrates : (s : Scenario) (device : DeviceId) (b : Bool) (cycle own : ℕ) (point : Units)
-    → Tells s device cycle (λ old. if b then Joining else old) (λ old. if b then joined_adjustment s device own point else old)
-    (λ next. if b then cycle else next) b b None (if b then Joins cycle own point else Nothing)
-integrates s device true cycle own point = grind arith
-integrates s device false cycle own point = quiet s device cycle
+  integrates : (b : Bool) (cycle own : ℕ) (point : Units) → Tells s device cycle (λ old. if b then Joining else old)
+      (λ old. if b then joined_adjustment s device own point else old) (λ next. if b then cycle else next) b b None
+      (if b then Joins cycle own point else Nothing)
+  integrates true cycle own point = grind arith
+  integrates false cycle own point = quiet cycle
 
-hears : (s : Scenario) (device : DeviceId) (b : Bool) (h : Happening) (channel : Option Channel) (point : Units) (within : Bool)
-    → Tells s device (cycle_in h) (λ old. old) (λ old. old) (λ next. next) false false
-    (if b then option_map (λ on. heard_by on h point within) channel else None)
-    (if b then heard_on channel (carried_by h) point within else Nothing)
-hears s device true h (Some channel) point within = grind arith
-hears s device true h None point within = quiet s device (cycle_in h)
-hears s device false h channel point within = quiet s device (cycle_in h)
+  hears : (b : Bool) (h : Happening) (channel : Option Channel) (point : Units) (within : Bool)
+      → Tells s device (cycle_in h) (λ old. old) (λ old. old) (λ next. next) false false
+      (if b then option_map (λ on. heard_by on h point within) channel else None)
+      (if b then heard_on channel (carried_by h) point within else Nothing)
+  hears true h (Some channel) point within = grind arith
+  hears true h None point within = quiet (cycle_in h)
+  hears false h channel point within = quiet (cycle_in h)
 
-corrects : (s : Scenario) (device : DeviceId) (frame : ℕ) (b : Bool) (cycle : ℕ) (adjustment : Units)
-    → Tells s device frame (λ old. old) (λ old. if b then adjustment else old) (λ next. if b then cycle + 1 else next) false b None
-    (if b then Corrects cycle adjustment else Nothing)
-corrects s device frame true cycle adjustment = grind arith
-corrects s device frame false cycle adjustment = quiet s device frame
+  corrects : (frame : ℕ) (b : Bool) (cycle : ℕ) (adjustment : Units)
+      → Tells s device frame (λ old. old) (λ old. if b then adjustment else old)
+      (λ next. if b then cycle + 1 else next) false b None (if b then Corrects cycle adjustment else Nothing)
+  corrects frame true cycle adjustment = grind arith
+  corrects frame false cycle adjustment = quiet frame
 
-turns : (s : Scenario) (device : DeviceId) (frame : ℕ) (b : Bool) (state : State)
-    → Tells s device frame (λ old. if b then state else old) (λ old. old) (λ next. next) false false None (if b then Turns state else Nothing)
-turns s device frame true state = grind arith
-turns s device frame false state = quiet s device frame
+  turns : (frame : ℕ) (b : Bool) (state : State) → Tells s device frame (λ old. if b then state else old)
+      (λ old. old) (λ next. next) false false None (if b then Turns state else Nothing)
+  turns frame true state = grind arith
+  turns frame false state = quiet frame
 
 -- what a record of this body tells of the device
 abbrev pub TellsBody : Scenario → DeviceId → Happening → NoteBody → Type 0

@@ -23,10 +23,11 @@ last_early p t o (h ∷ hs) le =
 pub changed_early : (hs : List Happening) (device : DeviceId) (t : ℕ) → changed_at hs device t ≤ t - 1
 changed_early hs device t = last_early (λ h. changes_adjustment device h.note.body) t None hs (omega arith)
 
-pub come_reaches : (s : Scenario) (hs : List Happening) (device : DeviceId) (v : ℤ) (t : ℕ) (shown : Shown) (readings : Readings)
-    → IsReading s device t readings → IsSteady s device → Shows s (earlier t hs) device shown
-    → HasCrossed shown.at_change (pos readings.before +ℤ shown.adjustment) (pos readings.now +ℤ shown.adjustment) v → Reaches s hs device v t
-come_reaches s hs device v t shown readings reads steady sh come =
+pub come_reaches : {s : Scenario} (hs : List Happening) {device : DeviceId} {v : ℤ} {t : ℕ} {shown : Shown}
+    {readings : Readings} → IsReading s device t readings → IsSteady s device → Shows s (earlier t hs) device shown
+    → HasCrossed shown.at_change (pos readings.before +ℤ shown.adjustment) (pos readings.now +ℤ shown.adjustment) v
+    → Reaches s hs device v t
+come_reaches hs {device} {t} reads steady sh come =
     let changed = come.changed in
     let before = come.below in
     let now = come.reached in
@@ -54,10 +55,11 @@ short_before reading c (suc n) v early below short =
     let same : n ≡ suc n - 1 = omega arith in
     subst (λ (x : ℕ). pos (reading x) <ℤ v) same (short n (omega (arith, ints, early)) (omega (arith, ints)))
 
-pub reaches_come : (s : Scenario) (hs : List Happening) (device : DeviceId) (v : ℤ) (t : ℕ) (shown : Shown) (readings : Readings)
-    → IsReading s device t readings → Shows s (earlier t hs) device shown → Reaches s hs device v t
-    → HasCrossed shown.at_change (pos readings.before +ℤ shown.adjustment) (pos readings.now +ℤ shown.adjustment) v
-reaches_come s hs device v t shown readings reads sh r =
+pub reaches_come : {s : Scenario} {hs : List Happening} {device : DeviceId} {v : ℤ} {t : ℕ} {shown : Shown}
+    {readings : Readings} → IsReading s device t readings → Shows s (earlier t hs) device shown
+    → Reaches s hs device v t → HasCrossed shown.at_change (pos readings.before +ℤ shown.adjustment)
+    (pos readings.now +ℤ shown.adjustment) v
+reaches_come {s} {hs} {device} {v} {t} {shown} reads sh r =
     let below = r.below in
     let now = r.reach.reached in
     let at = sh.at_change in
@@ -72,7 +74,8 @@ reaches_come s hs device v t shown readings reads sh r =
       reached = omega (arith, ints, now, adjusted, read);
     }
 
-pub same_crossing : (a b n v a1 b1 n1 v1 : ℤ) → a ≡ a1 → b ≡ b1 → n ≡ n1 → v ≡ v1 → HasCrossed a b n v → HasCrossed a1 b1 n1 v1
-same_crossing a b n v a1 b1 n1 v1 p q r w crossed =
-    subst (λ (x : ℤ). HasCrossed x b1 n1 v1) p (subst (λ (x : ℤ).
-    HasCrossed a x n1 v1) q (subst (λ (x : ℤ). HasCrossed a b x v1) r (subst (λ (x : ℤ). HasCrossed a b n x) w crossed)))
+pub same_crossing : {a b n v : ℤ} (a1 b1 n1 v1 : ℤ) → a ≡ a1 → b ≡ b1 → n ≡ n1 → v ≡ v1 → HasCrossed a b n v
+    → HasCrossed a1 b1 n1 v1
+same_crossing {a} {b} {n} a1 b1 n1 v1 p q r w crossed =
+    subst (λ x. HasCrossed x b1 n1 v1) p (subst (λ x.
+    HasCrossed a x n1 v1) q (subst (λ x. HasCrossed a b x v1) r (subst (λ x. HasCrossed a b n x) w crossed)))

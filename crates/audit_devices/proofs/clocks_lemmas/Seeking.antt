@@ -20,60 +20,66 @@ values_on : (series : Series) (m n : ℕ) → m ≤ n → value_in series m ≤�
 values_on series m n le = let more : m * series.step ≤ n * series.step = mul-le-mul_right series.step le in omega (arith, ints, more)
 
 -- what is crossed after the time lies behind what is passed
-crossed_behind : (reading : ℕ → ℕ) (shown : Shown) (after t : ℕ) (passed v : ℤ) → ReadsOn reading → IsPassed reading shown after passed → after < t
-    → CrossesAt reading shown v t → passed <ℤ v
-crossed_behind reading shown after t passed v on is lt crosses =
+crossed_behind : {reading : ℕ → ℕ} {shown : Shown} {after : ℕ} (t : ℕ) {passed v : ℤ} → ReadsOn reading
+    → IsPassed reading shown after passed → after < t → CrossesAt reading shown v t → passed <ℤ v
+crossed_behind {after} t on is lt crosses =
     let up = on.never_falls after (t - 1) (omega (arith, lt)) in
     let changed = crosses.changed in
     let below = crosses.below in
     elim is.one [ inl e ↦ omega (arith, ints, e, changed) | inr e ↦ omega (arith, ints, e, up, below) ]
 
--- while the clock is short of the least value behind what is passed, it crosses none
-none_while_short : (reading : ℕ → ℕ) (shown : Shown) (series : Series) (after before number : ℕ) (passed : ℤ) → ReadsOn reading
-    → IsPassed reading shown after passed → IsBehind series passed number
-    → ((x : ℕ) → after ≤ x → x < before → (pos (reading x) +ℤ shown.adjustment) <ℤ value_in series number) → NoneCrossed reading shown series after before
-none_while_short reading shown series after before number passed on is behind short t n lt early crosses =
-    let le = behind.least n (crossed_behind reading shown after t passed (value_in series n) on is lt crosses) in
-    let values = values_on series number n le in
-    let there = crosses.reached in
-    let low = short t (omega (arith, lt)) early in
-    omega (arith, ints, values, there, low)
+module _ (reading : ℕ → ℕ) (shown : Shown) (series : Series) (after : ℕ) where
+  -- while the clock is short of the least value behind what is passed, it crosses none
+  none_while_short : (before : ℕ) {number : ℕ} {passed : ℤ} → ReadsOn reading → IsPassed reading shown after passed
+      → IsBehind series passed number → ((x : ℕ) → after ≤ x → x < before
+      → (pos (reading x) +ℤ shown.adjustment) <ℤ value_in series number)
+      → NoneCrossed reading shown series after before
+  none_while_short before {number} on is behind short t n lt early crosses =
+      let le = behind.least n (crossed_behind t on is lt crosses) in
+      let values = values_on series number n le in
+      let there = crosses.reached in
+      let low = short t (omega (arith, lt)) early in
+      omega (arith, ints, values, there, low)
 
-pub none_crossed : (reading : ℕ → ℕ) (shown : Shown) (series : Series) (after until number : ℕ) (passed sought : ℤ) → ReadsOn reading
-    → IsPassed reading shown after passed → IsBehind series passed number → sought ≡ (value_in series number -ℤ shown.adjustment)
-    → ((x : ℕ) → after ≤ x → x ≤ until → pos (reading x) <ℤ sought) → NoneCrossed reading shown series after (until + 1)
-none_crossed reading shown series after until number passed sought on is behind same short =
-    none_while_short reading shown series after (until + 1) number passed on is behind
-    (λ x from_on lt. let low = short x from_on (omega (arith, lt)) in omega (arith, ints, low, same))
+  pub none_crossed : (until : ℕ) {number : ℕ} {passed : ℤ} (sought : ℤ) → ReadsOn reading
+      → IsPassed reading shown after passed → IsBehind series passed number
+      → sought ≡ (value_in series number -ℤ shown.adjustment)
+      → ((x : ℕ) → after ≤ x → x ≤ until → pos (reading x) <ℤ sought)
+      → NoneCrossed reading shown series after (until + 1)
+  none_crossed until sought on is behind same short =
+      none_while_short (until + 1) on is behind
+      (λ x from_on lt. let low = short x from_on (omega (arith, lt)) in omega (arith, ints, low, same))
 
-pub next_crossed : (reading : ℕ → ℕ) (shown : Shown) (series : Series) (after until number : ℕ) (passed sought : ℤ) (time : ℕ) → ReadsOn reading
-    → IsPassed reading shown after passed → IsBehind series passed number → sought ≡ (value_in series number -ℤ shown.adjustment)
-    → IsReach reading (pos after) sought (pos time) → time ≤ until → until ≤ 2 ^ 60 → (pos (reading after) +ℤ shown.adjustment) ≤ℤ pos (2 ^ 82)
-    → IsNextCrossing reading shown series after until (record { time = time; number = number })
-next_crossed reading shown series after until number passed sought time on is behind same reach timely limit small =
-    let from_on = reach.from_on in
-    let there = reach.reached in
-    let local = is.local in
-    let change = is.change in
-    let more = behind.behind in
-    let later : after < time = elim (cases_lt after time) [
-      | inl lt ↦ lt
-      | inr ge ↦
-          let at : time ≡ after = omega (arith, ints, from_on, ge) in
-          let here : sought ≤ℤ pos (reading after) = subst (λ (x : ℕ). sought ≤ℤ pos (reading x)) at there in
-          absurd (omega (arith, ints, here, local, more, same))
-    ] in
-    let low = reach.not_before (time - 1) (omega (arith, ints, later)) (omega (arith, ints, later)) in
-    let most = on.bound time (omega (arith, timely, limit)) in
-    record {
-      later = later;
-      timely = timely;
-      least = λ t n lt crosses. behind.least n (crossed_behind reading shown after t passed (value_in series n) on is lt crosses);
-      near = omega (arith, ints, there, same, most, small);
-      crosses = record { changed = omega (arith, ints, change, more); below = omega (arith, ints, low, same); reached = omega (arith, ints, there, same) };
-      none_before = none_while_short reading shown series after time number passed on is behind
-          (λ x from_x lt. let short = reach.not_before x (omega (arith, ints, from_x)) (omega (arith, ints, lt)) in omega (arith, ints, short, same));
-    }
+  pub next_crossed : (until : ℕ) {number : ℕ} {passed sought : ℤ} (time : ℕ) → ReadsOn reading
+      → IsPassed reading shown after passed → IsBehind series passed number
+      → sought ≡ (value_in series number -ℤ shown.adjustment) → IsReach reading (pos after) sought (pos time)
+      → time ≤ until → until ≤ 2 ^ 60 → (pos (reading after) +ℤ shown.adjustment) ≤ℤ pos (2 ^ 82)
+      → IsNextCrossing reading shown series after until (record { time = time; number = number })
+  next_crossed until {sought} time on is behind same reach timely limit small =
+      let from_on = reach.from_on in
+      let there = reach.reached in
+      let local = is.local in
+      let change = is.change in
+      let more = behind.behind in
+      let later : after < time = elim (cases_lt after time) [
+        | inl lt ↦ lt
+        | inr ge ↦
+            let at : time ≡ after = omega (arith, ints, from_on, ge) in
+            let here : sought ≤ℤ pos (reading after) = subst (λ (x : ℕ). sought ≤ℤ pos (reading x)) at there in
+            absurd (omega (arith, ints, here, local, more, same))
+      ] in
+      let low = reach.not_before (time - 1) (omega (arith, ints, later)) (omega (arith, ints, later)) in
+      let most = on.bound time (omega (arith, timely, limit)) in
+      record {
+        later = later;
+        timely = timely;
+        least = λ t n lt crosses. behind.least n (crossed_behind t on is lt crosses);
+        near = omega (arith, ints, there, same, most, small);
+        crosses = record { changed = omega (arith, ints, change, more); below = omega (arith, ints, low, same); reached = omega (arith, ints, there, same) };
+        none_before = none_while_short time on is behind
+            (λ x from_x lt. let short = reach.not_before x (omega (arith, ints, from_x)) (omega (arith, ints, lt)) in
+            omega (arith, ints, short, same));
+      }
 
 -- ---- the number
 

@@ -5,15 +5,17 @@ use Rattle.{audit_law.specs.declared.collections.emitted.Emitted.Emitted, std.pr
 use Rattle.{compression.proofs.Standing.AreClusters-unique, net_plan.specs.declared.network.Network.Network}
 use Rattle.{compression.specs.Clusters.{AreClusters, Cluster, Point}, run_law.specs.control.Collections.observation_window, std.specs.Prelude.{◌&&◌, ◌==◌}}
 
-pub clusters_same : (network : Network) (points : List Point) (clusters : List Cluster) (h : History) (g : Gathering) → HasPoints network points h g
-    → AreClusters (observation_window network) points clusters → clusters_in h g ≡ clusters
-clusters_same network points clusters h g has are =
+pub clusters_same : {network : Network} {points : List Point} (clusters : List Cluster) {h : History} {g : Gathering}
+    → HasPoints network points h g → AreClusters (observation_window network) points clusters
+    → clusters_in h g ≡ clusters
+clusters_same {network} {points} clusters {h} {g} has are =
     AreClusters-unique (observation_window network) points (clusters_in h g) clusters
-    (subst (λ (w : ℤ). AreClusters w points (clusters_in h g)) has.ow has.gathers.are) are
+    (subst (λ w. AreClusters w points (clusters_in h g)) has.ow has.gathers.are) are
 
-pub emissions_same : (network : Network) (points : List Point) (clusters : List Cluster) (h : History) (g : Gathering) → HasPoints network points h g
-    → AreClusters (observation_window network) points clusters → emissions_in h g ≡ emissions_for network clusters
-emissions_same network points clusters h g has are = grind (arith, map, clusters_same)
+pub emissions_same : {network : Network} {points : List Point} (clusters : List Cluster) {h : History}
+    {g : Gathering} → HasPoints network points h g → AreClusters (observation_window network) points clusters
+    → emissions_in h g ≡ emissions_for network clusters
+emissions_same clusters has are = grind (arith, map, clusters_same)
 
 -- ---- the test of what is emitted
 

@@ -19,9 +19,9 @@ points_then hs h d (Gives p) is of = points_given hs h d p is of
 
 -- ---- a device whose collections the record does not change
 
-pub kept_still : (network : Network) (hs : List Happening) (d : DeviceId) (h : Happening) (kept : Stretches) → IsQuiet d h.note.body
-    → Keeps network hs d kept → Keeps network (hs ++ h ∷ []) d kept
-kept_still network hs d h kept quiet keeps = record {
+pub kept_still : {network : Network} {hs : List Happening} {d : DeviceId} (h : Happening) {kept : Stretches}
+    → IsQuiet d h.note.body → Keeps network hs d kept → Keeps network (hs ++ h ∷ []) d kept
+kept_still {hs} {d} h {kept} quiet keeps = record {
   ow = keeps.ow;
   calc = keeps.calc;
   latest = subst (Gathers kept.collections kept.latest) (sym (points_quiet hs h d quiet)) keeps.latest;
@@ -36,11 +36,11 @@ kept_still network hs d h kept quiet keeps = record {
         → StandsFor kept.collections (entry_before place kept.entries) (points_of (records_before place (hs ++ h ∷ [])) d)
     by_place place old true e =
         subst (StandsFor kept.collections (entry_before place kept.entries))
-        (sym (ap (λ (xs : List Happening). points_of xs d) (filter_on (λ x. is_before (place_of x) place) hs h e)
+        (sym (ap (λ xs. points_of xs d) (filter_on (λ x. is_before (place_of x) place) hs h e)
         ∙ points_quiet (records_before place hs) h d quiet)) old
     by_place place old false e =
         subst (StandsFor kept.collections (entry_before place kept.entries))
-        (sym (ap (λ (xs : List Happening). points_of xs d) (filter_off (λ x. is_before (place_of x) place) hs h e))) old
+        (sym (ap (λ xs. points_of xs d) (filter_off (λ x. is_before (place_of x) place) hs h e))) old
 
 -- ---- a device whose collections it changes
 
@@ -61,12 +61,13 @@ still_for : (old new : History) → ((other : Gathering) (points : List Point) �
 still_for old new kept None points stands = stands
 still_for old new kept (Some e) points stands = kept e.gathering points stands
 
-pub kept_on : (network : Network) (hs : List Happening) (d : DeviceId) (h : Happening) (old new : Stretches) (g : Gathering)
-    → AllBefore place_of hs (place_of h) → GoesOn hs d h old new g → Keeps network hs d old → Keeps network (hs ++ h ∷ []) d new
-kept_on network hs d h old new g all goes keeps = record {
+pub kept_on : {network : Network} {hs : List Happening} {d : DeviceId} {h : Happening} {old new : Stretches}
+    {g : Gathering} → AllBefore place_of hs (place_of h) → GoesOn hs d h old new g → Keeps network hs d old
+    → Keeps network (hs ++ h ∷ []) d new
+kept_on {hs} {d} {h} {old} {new} {g} all goes keeps = record {
   ow = goes.ow ∙ keeps.ow;
   calc = goes.calc ∙ keeps.calc;
-  latest = subst (λ (x : Gathering). Gathers new.collections x (points_of (hs ++ h ∷ []) d)) (sym goes.latest) goes.gathers;
+  latest = subst (λ x. Gathers new.collections x (points_of (hs ++ h ∷ []) d)) (sym goes.latest) goes.gathers;
   before = λ place. by_place place (is_before (place_of h) place) refl;
   places = λ e i. by_entry e (in_parts e old.entries (entry_of h g ∷ []) (subst (IsIn e) goes.entries i));
   order = λ place.
@@ -86,15 +87,15 @@ kept_on network hs d h old new g all goes keeps = record {
         let last : entry_before place new.entries ≡ Some (entry_of h g) = ap (entry_before place) goes.entries
         ∙ ap (λ (xs : List Entry). last_or None xs) (filter_on test old.entries (entry_of h g) e)
         ∙ last_pushed None (filter test old.entries) (entry_of h g) in
-        subst (λ (o : Option Entry). StandsFor new.collections o (points_of (records_before place (hs ++ h ∷ [])) d)) (sym last)
-        (subst (λ (xs : List Happening). Gathers new.collections g (points_of xs d)) (sym whole) goes.gathers)
+        subst (λ o. StandsFor new.collections o (points_of (records_before place (hs ++ h ∷ [])) d)) (sym last)
+        (subst (λ xs. Gathers new.collections g (points_of xs d)) (sym whole) goes.gathers)
     by_place place false e =
         let test : Entry → Bool = λ x. is_before x.place place in
         let records : Happening → Bool = λ x. is_before (place_of x) place in
         let last : entry_before place new.entries ≡ entry_before place old.entries = ap (entry_before place) goes.entries
         ∙ ap (λ (xs : List Entry). last_or None xs) (filter_off test old.entries (entry_of h g) e) in
-        subst (λ (o : Option Entry). StandsFor new.collections o (points_of (records_before place (hs ++ h ∷ [])) d)) (sym last)
-        (subst (λ (xs : List Happening). StandsFor new.collections (entry_before place old.entries) (points_of xs d)) (sym (filter_off records hs h e))
+        subst (λ o. StandsFor new.collections o (points_of (records_before place (hs ++ h ∷ [])) d)) (sym last)
+        (subst (λ xs. StandsFor new.collections (entry_before place old.entries) (points_of xs d)) (sym (filter_off records hs h e))
         (still_for old.collections new.collections goes.kept (entry_before place old.entries) (points_of (records_before place hs) d)
         (keeps.before place)))
 
@@ -113,33 +114,35 @@ kept_on network hs d h old new g all goes keeps = record {
     ordered : (place : List ℕ) → is_before (place_of h) place ≡ true → (y : Entry) → IsIn y old.entries → is_before y.place place ≡ true
     ordered place passes y i =
         let r = keeps.places y i in
-        ap (λ (p : List ℕ). is_before p place) r.place
+        ap (λ p. is_before p place) r.place
         ∙ test_chain (place_of r.h) (place_of h) place (before_is (place_of r.h) (place_of h) (all r.h r.there)) passes
 
 -- ---- all devices
 
 pub all_still : (network : Network) (hs : List Happening) (h : Happening) (all : List Stretches)
     → ((d : DeviceId) → d.0 < length all → is_cm network d ≡ true → IsQuiet d h.note.body) → KeepsAll network hs all → KeepsAll network (hs ++ h ∷ []) all
-all_still network hs h all quiet keeps d kept there cm = kept_still network hs d h kept (quiet d (got_within all d.0 kept there) cm) (keeps d kept there cm)
+all_still network hs h all quiet keeps d kept there cm =
+    kept_still h (quiet d (got_within all d.0 kept there) cm) (keeps d kept there cm)
 
-pub all_on : (network : Network) (hs : List Happening) (h : Happening) (d : DeviceId) (new : Stretches) (all : List Stretches)
-    → collector_in h.note.body ≡ Some d → d.0 < length all → Keeps network (hs ++ h ∷ []) d new → KeepsAll network hs all
+pub all_on : {network : Network} (hs : List Happening) (h : Happening) {d : DeviceId} {new : Stretches}
+    (all : List Stretches) → collector_in h.note.body ≡ Some d → d.0 < length all
+    → Keeps network (hs ++ h ∷ []) d new → KeepsAll network hs all
     → KeepsAll network (hs ++ h ∷ []) (slice_set all d.0 new)
-all_on network hs h d new all of within kept keeps device stretches there cm =
+all_on {network} hs h {d} {new} all of within kept keeps device stretches there cm =
     elim (cases_order d.0 device.0) [
       | inl same ↦
           let mk : ℕ → DeviceId = λ n. record { 0 = n } in
           let one : d ≡ device = ap mk same in
           let found : Some new ≡ Some stretches = sym (set_same all d.0 new within) ∙ ap (slice_get (slice_set all d.0 new)) same ∙ there in
           let is : new ≡ stretches = cc in
-          subst (λ (x : DeviceId). Keeps network (hs ++ h ∷ []) x stretches) one (subst (Keeps network (hs ++ h ∷ []) d) is kept)
+          subst (λ x. Keeps network (hs ++ h ∷ []) x stretches) one (subst (Keeps network (hs ++ h ∷ []) d) is kept)
       | inr (inl lt) ↦ other (λ e. absurd (omega (arith, e, lt)))
       | inr (inr gt) ↦ other (λ e. absurd (omega (arith, e, gt)))
     ]
   where
     other : (d.0 ≡ device.0 → ⊥) → Keeps network (hs ++ h ∷ []) device stretches
     other not =
-        kept_still network hs device h stretches
+        kept_still h
         (λ c is e. let one : Some d ≡ Some device = sym of ∙ e in let is : d ≡ device = cc in not (ap (λ (x : DeviceId). x.0) is))
         (keeps device stretches (sym (set_other all d.0 device.0 new not) ∙ there) cm)
 

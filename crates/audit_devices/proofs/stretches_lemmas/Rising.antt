@@ -22,12 +22,13 @@ all_given P f (x ∷ xs) each = grind (arith, All-cons, (all_given P f xs (λ y 
 -- ---- one point
 
 -- the point is no earlier than the reading at the frame's arrival
-at_arrival : (s : Scenario) (hs : List Happening) (device : DeviceId) (t : ℕ) (link : LinkId) (cause : ℕ) (frame : _) (point : Units) → IsInRange s.network
-    → IsFounded place_of (IsDue s) hs → (p : IsPermanent s hs device t link cause frame point) → pos (s.reading device (time_of p.arrival)) ≤ℤ point.0
-at_arrival s hs device t link cause frame point range founded p =
+at_arrival : {s : Scenario} {hs : List Happening} {device : DeviceId} {t : ℕ} {link : LinkId} {cause : ℕ} {frame : _}
+    {point : Units} → IsInRange s.network → IsFounded place_of (IsDue s) hs
+    → (p : IsPermanent s hs device t link cause frame point) → pos (s.reading device (time_of p.arrival)) ≤ℤ point.0
+at_arrival {s} {hs} {device} {link} {cause} {point} range founded p =
     let split = parted p.arrival hs (numbered_in hs cause p.arrival p.there) in
     let due = (founded split.0 split.1 p.arrival split.2).1 in
-    let arrived = subst (λ (body : NoteBody). IsCaused s split.0 p.arrival.note.time body) p.arrived due.cause in
+    let arrived = subst (λ body. IsCaused s split.0 p.arrival.note.time body) p.arrived due.cause in
     let young = arrived_young s split.0 device (amount p.arrival.note.time) link p.from p.clock arrived in
     after (s.reading device (time_of p.arrival)) p.clock s.network.dmax.0 point.0 range.dmax.least young p.at_point
   where
@@ -48,10 +49,11 @@ record IsRipe (s : Scenario) (hs : List Happening) (device : DeviceId) (t : ℕ)
   pub reached : point.0 ≤ℤ pos (s.reading device t)
   pub not_before : (x : ℕ) → from ≤ x → x < t → pos (s.reading device x) <ℤ point.0
 
-ripens : (s : Scenario) (hs : List Happening) (device : DeviceId) (t : ℕ) (link : LinkId) (cause : ℕ) (point : Units) (is : _) → IsInRange s.network
-    → IsFounded place_of (IsDue s) hs → BecomesPermanent s hs device t link cause point is → IsRipe s hs device t point
-ripens s hs device t link cause point is range founded b =
-    let later = at_arrival s hs device t link cause b.frame point range founded b.permanent in
+ripens : {s : Scenario} {hs : List Happening} {device : DeviceId} {t : ℕ} {link : LinkId} {cause : ℕ} {point : Units}
+    {is : _} → IsInRange s.network → IsFounded place_of (IsDue s) hs
+    → BecomesPermanent s hs device t link cause point is → IsRipe s hs device t point
+ripens range founded b =
+    let later = at_arrival range founded b.permanent in
     record {
       from = time_of b.permanent.arrival;
       later = later;
@@ -60,10 +62,10 @@ ripens s hs device t link cause point is range founded b =
       not_before = λ x a lt. b.permanent.reached.not_before x (omega (arith, ints, a)) (omega (arith, ints, lt));
     }
 
-in_order : (s : Scenario) (ps hs : List Happening) (device : DeviceId) (t u : ℕ) (p q : Units) → NeverFall s → IsRipe s ps device t p → IsRipe s hs device u q
-    → (t < u) ⊎ (amount p ≤ amount q) → p.0 ≤ℤ q.0
-in_order s ps hs device t u p q rises a b (inr le) = amounts p q a.natural b.natural le
-in_order s ps hs device t u p q rises a b (inl lt) =
+in_order : {s : Scenario} {ps hs : List Happening} {device : DeviceId} {t u : ℕ} {p q : Units} → NeverFall s
+    → IsRipe s ps device t p → IsRipe s hs device u q → (t < u) ⊎ (amount p ≤ amount q) → p.0 ≤ℤ q.0
+in_order {p} {q} rises a b (inr le) = amounts p q a.natural b.natural le
+in_order {device} {t} rises a b (inl lt) =
     elim (cases_lt t b.from) [
       | inl before ↦
           let more = rises device t b.from (omega (arith, before)) in
@@ -73,11 +75,11 @@ in_order s ps hs device t u p q rises a b (inl lt) =
 
 -- ---- the law
 
-due_ripe : (s : Scenario) (hs : List Happening) (h : Happening) (device : DeviceId) (link : LinkId) (cause : ℕ) (point : Units) (verdict : Judgement)
-    → IsInRange s.network → IsFounded place_of (IsDue s) hs → IsDue s hs h → h.note.body ≡ notes.Permanent device link cause point verdict
-    → IsRipe s hs device (time_of h) point
-due_ripe s hs h device link cause point verdict range founded due is =
-    ripens s hs device (time_of h) link cause point (ripe_as verdict) range founded (subst (λ (body : NoteBody). IsCaused s hs h.note.time body) is due.cause)
+due_ripe : {s : Scenario} {hs : List Happening} {h : Happening} (device : DeviceId) (link : LinkId) (cause : ℕ)
+    (point : Units) (verdict : Judgement) → IsInRange s.network → IsFounded place_of (IsDue s) hs → IsDue s hs h
+    → h.note.body ≡ notes.Permanent device link cause point verdict → IsRipe s hs device (time_of h) point
+due_ripe {s} {hs} {h} device link cause point verdict range founded due is =
+    ripens range founded (subst (λ body. IsCaused s hs h.note.time body) is due.cause)
 
 front_founded : (s : Scenario) (hs ps qs : List Happening) → hs ≡ ps ++ qs → IsFounded place_of (IsDue s) hs → IsFounded place_of (IsDue s) ps
 front_founded s hs ps qs e founded = λ ls rs x f. founded ls (rs ++ qs) x (e ∙ ap (λ (xs : List Happening). xs ++ qs) f ∙ assoc ls (x ∷ rs) qs)
@@ -87,23 +89,23 @@ front_founded s hs ps qs e founded = λ ls rs x f. founded ls (rs ++ qs) x (e �
     assoc (x ∷ xs) ys zs = ap (λ (ts : List Happening). x ∷ ts) (assoc xs ys zs)
 
 -- a point of the device before this one is no later
-given_before : (s : Scenario) (hs : List Happening) (h x : Happening) (device : DeviceId) (link other_link : LinkId) (cause other_cause : ℕ)
-    (point other : Units)
-    (verdict other_verdict : Judgement) → IsInRange s.network → NeverFall s → IsFounded place_of (IsDue s) hs → AllBefore place_of hs (place_of h)
+given_before : {s : Scenario} {hs : List Happening} {h : Happening} (x : Happening) (device : DeviceId)
+    (link other_link : LinkId) (cause other_cause : ℕ) (point other : Units) (verdict other_verdict : Judgement)
+    → IsInRange s.network → NeverFall s → IsFounded place_of (IsDue s) hs → AllBefore place_of hs (place_of h)
     → IsDue s hs h → h.note.body ≡ notes.Permanent device link cause point verdict → IsIn x hs
     → x.note.body ≡ notes.Permanent device other_link other_cause other other_verdict → other.0 ≤ℤ point.0
-given_before s hs h x device link other_link cause other_cause point other verdict other_verdict range rises founded all due is there was =
+given_before {s} {hs} {h} x device link other_link cause other_cause point other verdict other_verdict range rises
+    founded all due is there was =
     let split = parted x hs there in
     let x_due = (founded split.0 split.1 x split.2).1 in
     let front = front_founded s hs split.0 (x ∷ split.1) split.2 founded in
     let before : IsBefore (place_at (time_of x) (members_in x) x.note.body) (place_at (time_of h) (members_in h) h.note.body) = all x there in
-    let placed = subst (λ (body : NoteBody). IsBefore (place_at (time_of x) (members_in x) body) (place_at (time_of h) (members_in h) h.note.body)) was
+    let placed = subst (λ body. IsBefore (place_at (time_of x) (members_in x) body) (place_at (time_of h) (members_in h) h.note.body)) was
     before in
-    let both = subst (λ (body : NoteBody). IsBefore (place_at (time_of x) (members_in x) (notes.Permanent device other_link other_cause other other_verdict))
+    let both = subst (λ body. IsBefore (place_at (time_of x) (members_in x) (notes.Permanent device other_link other_cause other other_verdict))
     (place_at (time_of h) (members_in h) body)) is placed in
-    in_order s split.0 hs device (time_of x) (time_of h) other point rises
-    (due_ripe s split.0 x device other_link other_cause other other_verdict range front x_due was)
-    (due_ripe s hs h device link cause point verdict range founded due is)
+    in_order rises (due_ripe device other_link other_cause other other_verdict range front x_due was)
+    (due_ripe device link cause point verdict range founded due is)
     (place_order (time_of x) (time_of h) device.0 (amount other) (amount point) (members_in x ∷ other_link.0 ∷ other_cause ∷ []) (members_in h ∷ link.0 ∷ cause
     ∷ []) both)
 
@@ -122,31 +124,36 @@ gives device point x (notes.Permanent of link cause other verdict) each =
         each link cause other verdict (ap mk (sym (eqb-true device.0 of.0 e)))
 gives device point x body each = tt
 
-points_before : (s : Scenario) (hs : List Happening) (h : Happening) (device : DeviceId) (link : LinkId) (cause : ℕ) (point : Units) (verdict : Judgement)
-    → IsInRange s.network → NeverFall s → IsFounded place_of (IsDue s) hs → AllBefore place_of hs (place_of h) → IsDue s hs h
-    → h.note.body ≡ notes.Permanent device link cause point verdict → All (λ p. p.reading ≤ℤ point.0) (points_of hs device)
-points_before s hs h device link cause point verdict range rises founded all due is =
+points_before : {s : Scenario} {hs : List Happening} {h : Happening} (device : DeviceId) (link : LinkId) (cause : ℕ)
+    (point : Units) (verdict : Judgement) → IsInRange s.network → NeverFall s → IsFounded place_of (IsDue s) hs
+    → AllBefore place_of hs (place_of h) → IsDue s hs h
+    → h.note.body ≡ notes.Permanent device link cause point verdict
+    → All (λ p. p.reading ≤ℤ point.0) (points_of hs device)
+points_before {hs} device link cause point verdict range rises founded all due is =
     all_given (λ p. p.reading ≤ℤ point.0) (λ x. point_by device x x.note.body) (after_last (λ x. ends_stretch device x.note.body) hs)
     (λ x i.
     gives device point x x.note.body
-    (λ l c other v was. given_before s hs h x device link l cause c point other verdict v range rises founded all due is (in_drop _ hs x i) was))
+    (λ l c other v was. given_before x device link l cause c point other verdict v range rises founded all due is
+    (in_drop _ hs x i) was))
 
-stands : (s : Scenario) (hs : List Happening) (h : Happening) (body : NoteBody) → IsInRange s.network → NeverFall s → IsFounded place_of (IsDue s) hs
-    → AllBefore place_of hs (place_of h) → IsDue s hs h → h.note.body ≡ body → (device : DeviceId) → collector_in body ≡ Some device
-    → IfSome (change_by body) (MayBring (points_of hs device))
-stands s hs h (notes.Permanent other link cause point judgements.Integrates) range rises founded all due is device of = tt
-stands s hs h (notes.Permanent other link cause point verdict) range rises founded all due is device of =
+stands : {s : Scenario} {hs : List Happening} {h : Happening} (body : NoteBody) → IsInRange s.network → NeverFall s
+    → IsFounded place_of (IsDue s) hs → AllBefore place_of hs (place_of h) → IsDue s hs h → h.note.body ≡ body
+    → (device : DeviceId) → collector_in body ≡ Some device → IfSome (change_by body) (MayBring (points_of hs device))
+stands (notes.Permanent other link cause point judgements.Integrates) range rises founded all due is device of = tt
+stands {hs} (notes.Permanent other link cause point verdict) range rises founded all due is device of =
     let one : other ≡ device = cc in
     subst (λ (d : DeviceId). All (λ p. p.reading ≤ℤ point.0) (points_of hs d)) one
-    (points_before s hs h other link cause point verdict range rises founded all due is)
-stands s hs h (notes.Compressed other opened at cycle members judgements.Integrates) range rises founded all due is device of = tt
-stands s hs h (notes.Compressed other opened at cycle members verdict) range rises founded all due is device of = tt
-stands s hs h (notes.State other state cause On) range rises founded all due is device of = tt
-stands s hs h (notes.State other state cause why) range rises founded all due is device of = tt
-stands s hs h body range rises founded all due is device of = tt
+    (points_before other link cause point verdict range rises founded all due is)
+stands (notes.Compressed other opened at cycle members judgements.Integrates) range rises founded all due is device
+    of = tt
+stands (notes.Compressed other opened at cycle members verdict) range rises founded all due is device of = tt
+stands (notes.State other state cause On) range rises founded all due is device of = tt
+stands (notes.State other state cause why) range rises founded all due is device of = tt
+stands body range rises founded all due is device of = tt
 
 pub rising_law : RisingLaw
 rising_law s hs h range rises founded all due = record {
-  natural = λ device link cause point verdict is. (due_ripe s hs h device link cause point verdict range founded due is).natural;
-  stands = λ device of cm. stands s hs h h.note.body range rises founded all due refl device of;
+  natural = λ device link cause point verdict is. (due_ripe device link cause point verdict range founded due
+      is).natural;
+  stands = λ device of cm. stands h.note.body range rises founded all due refl device of;
 }

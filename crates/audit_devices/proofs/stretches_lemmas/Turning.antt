@@ -44,7 +44,7 @@ pub given_point : (d : DeviceId) (h : Happening) (body : NoteBody) (p : Units) �
     → point_by d h body ≡ Some (point_at p.0 (master_of (members_in h)) (cycle_in h))
 given_point d h (notes.Permanent other link cause point verdict) p c e =
     ap (λ (b : Bool). if b then Some (point_in h point) else None) (same_id d other e)
-    ∙ ap (λ (q : Units). Some (point_in h q)) (given_same point p verdict c)
+    ∙ ap (λ q. Some (point_in h q)) (given_same point p verdict c)
 given_point d h (notes.Compressed other opened at cycle members judgements.Integrates) p c e = absurd cc
 given_point d h (notes.Compressed other opened at cycle members verdict) p c e = absurd cc
 given_point d h (notes.State other state cause On) p c e = absurd cc
@@ -86,15 +86,16 @@ append_none : (ps : List Point) → ps ++ [] ≡ ps
 append_none [] = refl
 append_none (p ∷ ps) = ap (λ (t : List Point). p ∷ t) (append_none ps)
 
-pub points_quiet : (hs : List Happening) (h : Happening) (d : DeviceId) → IsQuiet d h.note.body → points_of (hs ++ h ∷ []) d ≡ points_of hs d
-points_quiet hs h d quiet = grind (arith, went_on, quiet_goes_on, quiet_point, append_none)
+module _ (hs : List Happening) (h : Happening) (d : DeviceId) where
+  pub points_quiet : IsQuiet d h.note.body → points_of (hs ++ h ∷ []) d ≡ points_of hs d
+  points_quiet quiet = grind (arith, went_on, quiet_goes_on, quiet_point, append_none)
 
-pub points_ended : (hs : List Happening) (h : Happening) (d : DeviceId) → change_by h.note.body ≡ Some Ends → collector_in h.note.body ≡ Some d
-    → points_of (hs ++ h ∷ []) d ≡ []
-points_ended hs h d change of = grind (arith, after_one, ended)
+  pub points_ended : change_by h.note.body ≡ Some Ends → collector_in h.note.body ≡ Some d
+      → points_of (hs ++ h ∷ []) d ≡ []
+  points_ended change of = grind (arith, after_one, ended)
 
-pub points_given : (hs : List Happening) (h : Happening) (d : DeviceId) (p : Units) → change_by h.note.body ≡ Some (Gives p)
-    → collector_in h.note.body ≡ Some d → points_of (hs ++ h ∷ []) d ≡ points_of hs d ++ point_at p.0 (master_of (members_in h)) (cycle_in h) ∷ []
-points_given hs h d p change of =
-    went_on hs h d (given_goes_on d h.note.body p change)
-    ∙ ap (λ (o : Option Point). points_of hs d ++ cons_option o []) (given_point d h h.note.body p change of)
+  pub points_given : (p : Units) → change_by h.note.body ≡ Some (Gives p) → collector_in h.note.body ≡ Some d
+      → points_of (hs ++ h ∷ []) d ≡ points_of hs d ++ point_at p.0 (master_of (members_in h)) (cycle_in h) ∷ []
+  points_given p change of =
+      went_on hs h d (given_goes_on d h.note.body p change)
+      ∙ ap (λ (o : Option Point). points_of hs d ++ cons_option o []) (given_point d h h.note.body p change of)

@@ -17,7 +17,7 @@ begins_crosses s hs device shown series t cycle are shows begins =
     let value : pos (cycle * amount s.network.cycle + 0) ≡ value_in series (cycle - 1) =
     ap pos (omega arith) ∙ ap (λ (c : ℕ). pos (c * amount s.network.cycle)) number ∙ sym (are (cycle - 1)) in
     subst (λ (v : ℤ). CrossesAt (s.reading device) shown v t) value
-    (reaches_come s hs device (pos (cycle * amount s.network.cycle + 0)) t shown (record { now = s.reading device t; before = s.reading device (t - 1) })
+    (reaches_come {readings = record { now = s.reading device t; before = s.reading device (t - 1) }}
     (record { now = refl; before = refl }) shows begins.reaches)
 
 crosses_begins : (s : Scenario) (hs : List Happening) (device : DeviceId) (shown : Shown) (series : Series) (t n : ℕ) → ReadsOn (s.reading device)
@@ -27,8 +27,8 @@ crosses_begins s hs device shown series t n on are shows crosses =
     let value : value_in series n ≡ pos ((n + 1) * amount s.network.cycle + 0) = are n ∙ ap pos (omega arith) in
     record {
       begun = omega arith;
-      reaches = come_reaches s hs device (pos ((n + 1) * amount s.network.cycle + 0)) t shown
-          (record { now = s.reading device t; before = s.reading device (t - 1) }) (record { now = refl; before = refl })
+      reaches = come_reaches hs {t = t}
+          {readings = record { now = s.reading device t; before = s.reading device (t - 1) }} (record { now = refl; before = refl })
           (record { begins = on.begins; never_falls = on.never_falls }) shows
           (subst (λ (v : ℤ). CrossesAt (s.reading device) shown v t) value crosses);
     }

@@ -13,12 +13,12 @@ reached_crosses : (s : Scenario) (hs : List Happening) (device : DeviceId) (v : 
     → Reaches s hs device v t → CrossesAt (s.reading device) shown (value_in (values_from v) 0) t
 reached_crosses s hs device v t shown shows r =
     subst (λ (x : ℤ). CrossesAt (s.reading device) shown x t) (sym (first_value v))
-    (reaches_come s hs device v t shown (record { now = s.reading device t; before = s.reading device (t - 1) }) (record { now = refl; before = refl }) shows r)
+    (reaches_come {readings = record { now = s.reading device t; before = s.reading device (t - 1) }} (record { now = refl; before = refl }) shows r)
 
 crossed_reaches : (s : Scenario) (hs : List Happening) (device : DeviceId) (v : ℤ) (t : ℕ) (shown : Shown) → ReadsOn (s.reading device)
     → Shows s (earlier t hs) device shown → CrossesAt (s.reading device) shown (value_in (values_from v) 0) t → Reaches s hs device v t
 crossed_reaches s hs device v t shown on shows crosses =
-    come_reaches s hs device v t shown (record { now = s.reading device t; before = s.reading device (t - 1) }) (record { now = refl; before = refl })
+    come_reaches hs {t = t} {readings = record { now = s.reading device t; before = s.reading device (t - 1) }} (record { now = refl; before = refl })
     (record { begins = on.begins; never_falls = on.never_falls }) shows
     (subst (λ (x : ℤ). CrossesAt (s.reading device) shown x t) (first_value v) crosses)
 

@@ -32,8 +32,8 @@ reached_some {s} hs {device} t {shown} {row} {series} are steady shows = (to, fr
     to (n, crosses) = record {
       cycle = cycle_of row n;
       occurs = are.occur n;
-      reached = come_reaches s hs device (pos (leaving_value s.network row (cycle_of row n))) t shown
-          (record { now = s.reading device t; before = s.reading device (t - 1) }) (record { now = refl; before = refl }) steady shows
+      reached = come_reaches hs {t = t}
+          {readings = record { now = s.reading device t; before = s.reading device (t - 1) }} (record { now = refl; before = refl }) steady shows
           (subst (λ v. CrossesAt (s.reading device) shown v t) (are.values n) crosses);
     }
 
@@ -44,8 +44,8 @@ reached_some {s} hs {device} t {shown} {row} {series} are steady shows = (to, fr
         ap (λ n. pos (leaving_value s.network row n)) k.1 ∙ sym (are.values k.0) in (
           k.0,
           subst (λ v. CrossesAt (s.reading device) shown v t) value
-              (reaches_come s hs device (pos (leaving_value s.network row due.cycle)) t shown
-              (record { now = s.reading device t; before = s.reading device (t - 1) }) (record { now = refl; before = refl }) shows due.reached),
+              (reaches_come
+              {readings = record { now = s.reading device t; before = s.reading device (t - 1) }} (record { now = refl; before = refl }) shows due.reached),
         )
 
 -- ---- the rows

@@ -27,8 +27,8 @@ module _ (s : Scenario) (hs : List Happening) (shown : Shown) (row : LeavingRow)
         number = k.0;
         cycle_is = k.1;
         crosses = subst (λ v. CrossesAt (s.reading row.device) shown v t) value
-            (reaches_come s hs row.device (pos (leaving_value s.network row frame.cycle)) t shown
-            (record { now = s.reading row.device t; before = s.reading row.device (t - 1) })
+            (reaches_come
+            {readings = record { now = s.reading row.device t; before = s.reading row.device (t - 1) }}
             (record { now = refl; before = refl }) shows owes.reached);
       }
 
@@ -40,8 +40,8 @@ module _ (s : Scenario) (hs : List Happening) (shown : Shown) (row : LeavingRow)
   crossed_owes {t} n up on are shows crosses hand = record {
     occurs = are.occur n;
     up = up;
-    reached = come_reaches s hs row.device (pos (leaving_value s.network row (cycle_of row n))) t shown
-        (record { now = s.reading row.device t; before = s.reading row.device (t - 1) })
+    reached = come_reaches hs {t = t}
+        {readings = record { now = s.reading row.device t; before = s.reading row.device (t - 1) }}
         (record { now = refl; before = refl })
         (record { begins = on.begins; never_falls = on.never_falls }) shows
         (subst (λ v. CrossesAt (s.reading row.device) shown v t) (are.values n) crosses);

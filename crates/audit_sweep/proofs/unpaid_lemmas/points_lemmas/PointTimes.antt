@@ -21,14 +21,14 @@ module _ (s : Scenario) (hs : List Happening) (device : DeviceId) (shown : Shown
       let here : Shows s (earlier t gs) device shown =
       subst (λ es. Shows s es device shown) (sym (earlier_up_to {hs = hs} t at)) shows in
       let n = points_come s gs device t t in
-      let number = number_is s gs device t cycle (has_point s gs device t cycle owes.verdict owes.comes) in
+      let number = number_is s gs device t cycle (has_point owes.comes) in
       let is : cycle ≡ shown.cycle + n = number ∙ ap (λ k. k + n) (sym here.cycle) in
       let value : correction_value s.network cycle ≡ value_in series n =
       ap (correction_value s.network) is ∙ sym (are n) in (
         n,
         subst (λ v. CrossesAt (s.reading device) shown v t) value
-            (reaches_come s gs device (correction_value s.network cycle) t shown
-            (record { now = s.reading device t; before = s.reading device (t - 1) })
+            (reaches_come
+            {readings = record { now = s.reading device t; before = s.reading device (t - 1) }}
             (record { now = refl; before = refl }) here owes.comes.reached),
       )
 

@@ -27,8 +27,8 @@ module _ (s : Scenario) (hs : List Happening) (device : DeviceId) (shown : Shown
       let value : pos (cycle * amount s.network.cycle) ≡ value_in series (cycle - 1) =
       ap (λ c. pos (c * amount s.network.cycle)) number ∙ sym (are (cycle - 1)) in
       subst (λ v. CrossesAt (s.reading device) shown v t) value
-      (reaches_come s hs device (pos (cycle * amount s.network.cycle)) t shown
-      (record { now = s.reading device t; before = s.reading device (t - 1) })
+      (reaches_come
+      {readings = record { now = s.reading device t; before = s.reading device (t - 1) }}
       (record { now = refl; before = refl }) shows sends.reached)
 
   pub crossing_sends : (n : ℕ) → has_role s.network is_master device ≡ true → IsUp s hs device t
@@ -38,8 +38,8 @@ module _ (s : Scenario) (hs : List Happening) (device : DeviceId) (shown : Shown
     master = master;
     up = up;
     begun = omega arith;
-    reached = come_reaches s hs device (pos ((n + 1) * amount s.network.cycle)) t shown
-        (record { now = s.reading device t; before = s.reading device (t - 1) })
+    reached = come_reaches hs {t = t}
+        {readings = record { now = s.reading device t; before = s.reading device (t - 1) }}
         (record { now = refl; before = refl }) (record { begins = on.begins; never_falls = on.never_falls }) shows
         (subst (λ v. CrossesAt (s.reading device) shown v t) (are n) crosses);
   }

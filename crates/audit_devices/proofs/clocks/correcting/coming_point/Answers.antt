@@ -8,5 +8,5 @@ returns c s hs t cycle verdict stands hears =
     let device = c.args.device in
     let has : HasPoint s hs device t n = (c.coming_cycle.ensures s hs device t n stands).0 c.in_ok-cycle.was in
     let same = c.standing-standing.ensures.is s hs c.args.network.now device t stands (number_is s hs device t n has) in
-    point_comes s hs device t n cycle c.args.heard.now (verdict_as c.verdict.result) verdict has hears
-    (subst (λ (x : Standing). HasVerdict x c.args.heard.now (verdict_as c.verdict.result)) same c.verdict.ensures)
+    point_comes cycle c.args.heard.now (verdict_as c.verdict.result) verdict has hears
+    (subst (λ x. HasVerdict x c.args.heard.now (verdict_as c.verdict.result)) same c.verdict.ensures)

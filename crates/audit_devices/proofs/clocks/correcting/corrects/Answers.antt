@@ -6,7 +6,7 @@ pub returns-then-comes_by : goal.returns-then-comes_by
 returns-then-comes_by c s hs t stands hears =
     let said = c.args.said in
     let point = c.coming_point.ensures s hs t said.cycle (Corrected said.by) stands hears in
-    let same = ap (λ (z : ℤ). z +ℤ said.by.0) stands.shows.adjustment in (
+    let same = ap (λ z. z +ℤ said.by.0) stands.shows.adjustment in (
       λ told. record { corrected = point.0 (c.comes_by.ensures.0 c.if-comes_by.true); sum = c.is_sum.ensures.0 told ∙ same },
       λ there. c.is_sum.ensures.1 (there.sum ∙ sym same),
     )

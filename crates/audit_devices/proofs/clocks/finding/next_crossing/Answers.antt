@@ -14,7 +14,7 @@ returns-in-Some-clause-is c network befallen remembers has =
     let second = c.greater-passed.ensures.second in
     let at = to_z-of_z w128 c.at_change.result (search rules) ∙ c.at_change.ensures.value in
     let here = to_z-of_z w128 c.local.result (search rules) ∙ c.local.ensures.value
-    ∙ ap (λ (n : ℕ). pos n +ℤ c.args.shown.now.adjustment) (c.reading.ensures network befallen remembers has) in
+    ∙ ap (λ n. pos n +ℤ c.args.shown.now.adjustment) (c.reading.ensures network befallen remembers has) in
     record {
       change = omega (arith, ints, first, at);
       local = omega (arith, ints, second, here);
@@ -23,22 +23,23 @@ returns-in-Some-clause-is c network befallen remembers has =
     let behind : IsBehind c.args.series passed number =
     let same = to_z-of_z w128 passed (search rules) in
     record {
-      behind = subst (λ (z : ℤ). z <ℤ value_in c.args.series number) same c.number_behind-number.ensures.behind;
-      least = λ n lt. c.number_behind-number.ensures.least n (subst (λ (z : ℤ). z <ℤ value_in c.args.series n) (sym same) lt);
+      behind = subst (λ z. z <ℤ value_in c.args.series number) same c.number_behind-number.ensures.behind;
+      least = λ n lt. c.number_behind-number.ensures.least n (subst (λ z. z <ℤ value_in c.args.series n) (sym same) lt);
     } in
     let small : (pos (reading c.args.after) +ℤ c.args.shown.now.adjustment) ≤ℤ pos (2 ^ 82) =
     let most = c.local.ensures.most in
     let here = to_z-of_z w128 c.local.result (search rules) ∙ c.local.ensures.value
-    ∙ ap (λ (n : ℕ). pos n +ℤ c.args.shown.now.adjustment) (c.reading.ensures network befallen remembers has) in
+    ∙ ap (λ n. pos n +ℤ c.args.shown.now.adjustment) (c.reading.ensures network befallen remembers has) in
     omega (arith, ints, most, here) in
     let sought = c.reading_for-sought.result in
     let same : sought ≡ (value_in c.args.series number -ℤ c.args.shown.now.adjustment) = c.reading_for-sought.ensures
-    ∙ ap (λ (z : ℤ). z -ℤ c.args.shown.now.adjustment) (to_z-of_z w128 c.value_in.result (search rules) ∙ c.value_in.ensures) in
+    ∙ ap (λ z. z -ℤ c.args.shown.now.adjustment) (to_z-of_z w128 c.value_in.result (search rules) ∙ c.value_in.ensures) in
     let found : IsFirstReach reading c.args.after sought c.args.until (Some c.in-Some.time) =
-    subst (λ (o : Option ℕ). IsFirstReach reading c.args.after sought c.args.until o) c.in-Some.is
-    (subst (λ (z : ℤ). IsFirstReach reading c.args.after z c.args.until c.reach.result) (to_z-of_z w128 sought (search rules))
+    subst (λ o. IsFirstReach reading c.args.after sought c.args.until o) c.in-Some.is
+    (subst (λ z. IsFirstReach reading c.args.after z c.args.until c.reach.result) (to_z-of_z w128 sought (search rules))
     (c.reach.ensures network befallen remembers has)) in
-    next_crossed reading c.args.shown.now c.args.series c.args.after c.args.until number passed sought c.in-Some.time on is behind same found.0 found.1
+    next_crossed reading c.args.shown.now c.args.series c.args.after c.args.until c.in-Some.time on is behind same
+    found.0 found.1
     c.requires.limit small
 
 pub returns-in-None-clause-is : goal.returns-in-None-clause-is
@@ -52,7 +53,7 @@ returns-in-None-clause-is c network befallen remembers has =
     let second = c.greater-passed.ensures.second in
     let at = to_z-of_z w128 c.at_change.result (search rules) ∙ c.at_change.ensures.value in
     let here = to_z-of_z w128 c.local.result (search rules) ∙ c.local.ensures.value
-    ∙ ap (λ (n : ℕ). pos n +ℤ c.args.shown.now.adjustment) (c.reading.ensures network befallen remembers has) in
+    ∙ ap (λ n. pos n +ℤ c.args.shown.now.adjustment) (c.reading.ensures network befallen remembers has) in
     record {
       change = omega (arith, ints, first, at);
       local = omega (arith, ints, second, here);
@@ -61,14 +62,14 @@ returns-in-None-clause-is c network befallen remembers has =
     let behind : IsBehind c.args.series passed number =
     let same = to_z-of_z w128 passed (search rules) in
     record {
-      behind = subst (λ (z : ℤ). z <ℤ value_in c.args.series number) same c.number_behind-number.ensures.behind;
-      least = λ n lt. c.number_behind-number.ensures.least n (subst (λ (z : ℤ). z <ℤ value_in c.args.series n) (sym same) lt);
+      behind = subst (λ z. z <ℤ value_in c.args.series number) same c.number_behind-number.ensures.behind;
+      least = λ n lt. c.number_behind-number.ensures.least n (subst (λ z. z <ℤ value_in c.args.series n) (sym same) lt);
     } in
     let sought = c.reading_for-sought.result in
     let same : sought ≡ (value_in c.args.series number -ℤ c.args.shown.now.adjustment) = c.reading_for-sought.ensures
-    ∙ ap (λ (z : ℤ). z -ℤ c.args.shown.now.adjustment) (to_z-of_z w128 c.value_in.result (search rules) ∙ c.value_in.ensures) in
+    ∙ ap (λ z. z -ℤ c.args.shown.now.adjustment) (to_z-of_z w128 c.value_in.result (search rules) ∙ c.value_in.ensures) in
     let found : IsFirstReach reading c.args.after sought c.args.until None =
-    subst (λ (o : Option ℕ). IsFirstReach reading c.args.after sought c.args.until o) c.in-None.is
-    (subst (λ (z : ℤ). IsFirstReach reading c.args.after z c.args.until c.reach.result) (to_z-of_z w128 sought (search rules))
+    subst (λ o. IsFirstReach reading c.args.after sought c.args.until o) c.in-None.is
+    (subst (λ z. IsFirstReach reading c.args.after z c.args.until c.reach.result) (to_z-of_z w128 sought (search rules))
     (c.reach.ensures network befallen remembers has)) in
-    none_crossed reading c.args.shown.now c.args.series c.args.after c.args.until number passed sought on is behind same found
+    none_crossed reading c.args.shown.now c.args.series c.args.after c.args.until sought on is behind same found

@@ -8,9 +8,8 @@ returns c s hs device t reads steady sh =
     let before = to_z-of_z w128 c.local.result (search rules) ∙ c.local.ensures.value in
     let now = to_z-of_z w128 c.local-2.result (search rules) ∙ c.local-2.ensures.value in
     let v = to_z-of_z w128 c.args.value (search rules) in (
-      λ told. come_reaches s hs device c.args.value t c.args.shown.now c.args.readings reads steady sh
-          (same_crossing _ _ _ _ _ _ _ _ at before now v (c.has_crossed.ensures.0 told)),
+      λ told. come_reaches hs reads steady sh (same_crossing _ _ _ _ at before now v (c.has_crossed.ensures.0 told)),
       λ r. c.has_crossed.ensures.1
-          (same_crossing _ _ _ _ _ _ _ _ (sym at) (sym before) (sym now) (sym v)
-          (reaches_come s hs device c.args.value t c.args.shown.now c.args.readings reads sh r)),
+          (same_crossing _ _ _ _ (sym at) (sym before) (sym now) (sym v)
+          (reaches_come reads sh r)),
     )

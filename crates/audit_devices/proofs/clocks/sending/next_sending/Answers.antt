@@ -8,7 +8,7 @@ returns-in-Some c befallen hs remembers has in_stretch =
     let on = c.reading_law.ensures c.args.network.now befallen c.args.device remembers.range remembers.within remembers.begun in
     let steady : IsSteady s c.args.device = record { begins = on.begins; never_falls = on.never_falls } in
     let state : c.args.shown.now.state ≡ Synchronised = search rules in
-    next_sent s hs c.args.device c.args.after c.args.until c.args.shown.now c.beginnings.result c.in-Some.crossed
+    next_sent s hs c.args.device c.args.after c.args.until
     (sym c.is_master.ensures ∙ c.if-not-is_master.false) state steady c.beginnings.ensures.values in_stretch
     (c.in-Some.ensures.is c.args.network.now befallen remembers has)
 
@@ -16,5 +16,5 @@ pub returns-in-None : goal.returns-in-None
 returns-in-None c befallen hs remembers has in_stretch =
     let s = scenario_under c.args.network.now befallen in
     none_sent s hs c.args.device c.args.after c.args.until (c.args.until
-    + 1) c.args.shown.now c.beginnings.result c.beginnings.ensures.values in_stretch (omega arith)
+    + 1) c.beginnings.result c.beginnings.ensures.values in_stretch (omega arith)
     (c.in-None.ensures.is c.args.network.now befallen remembers has)

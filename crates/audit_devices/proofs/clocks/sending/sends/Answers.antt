@@ -9,7 +9,7 @@ returns-then-is_up c s hs t stands =
       λ told.
           let begun = begins.0 told in
           record {
-            master = ap (λ (n : Network). has_role n is_master device) stands.of_network ∙ sym c.is_master.ensures
+            master = ap (λ n. has_role n is_master device) stands.of_network ∙ sym c.is_master.ensures
                 ∙ c.if-not-is_master.false;
             up = (c.is_up.ensures s hs c.args.network.now device t stands).0 c.if-is_up.true;
             begun = begun.0;

@@ -26,7 +26,7 @@ returns-in-Some-clause-lasts c order t lt le =
     let point = c.partition_point-point.result in
     let time = c.args.time in
     let test : Entry → Bool = λ e. nat_le (time_at e.place) time in
-    let bound : point ≤ length items = subst (λ (xs : List Entry). point ≤ length xs) c.deref.ensures.value c.partition_point-point.ensures.bound in
+    let bound : point ≤ length items = subst (λ xs. point ≤ length xs) c.deref.ensures.value c.partition_point-point.ensures.bound in
     let parts : IsPartitionPoint (λ e. test e ≡ true) (λ e. test e ≡ false) items point =
     subst (λ (xs : List Entry). IsPartitionPoint (λ e. test e ≡ true) (λ e. test e ≡ false) xs point) c.deref.ensures.value
     (c.partition_point-point.ensures.partitioned test (always_returns_same _ _ _ (λ a r f k. search (rules, of_calls)))
@@ -49,12 +49,12 @@ returns-in-None-clause-lasts c order t lt le =
     let point = c.partition_point-point.result in
     let time = c.args.time in
     let test : Entry → Bool = λ e. nat_le (time_at e.place) time in
-    let bound : point ≤ length items = subst (λ (xs : List Entry). point ≤ length xs) c.deref.ensures.value c.partition_point-point.ensures.bound in
+    let bound : point ≤ length items = subst (λ xs. point ≤ length xs) c.deref.ensures.value c.partition_point-point.ensures.bound in
     let parts : IsPartitionPoint (λ e. test e ≡ true) (λ e. test e ≡ false) items point =
     subst (λ (xs : List Entry). IsPartitionPoint (λ e. test e ≡ true) (λ e. test e ≡ false) xs point) c.deref.ensures.value
     (c.partition_point-point.ensures.partitioned test (always_returns_same _ _ _ (λ a r f k. search (rules, of_calls)))
     (subst (λ (xs : List Entry). IsPartitionedBy test xs) (sym c.deref.ensures.value) (ordered_by items time order))) in
-    let none : length items ≤ point = subst (λ (xs : List Entry). length xs ≤ point) c.deref-2.ensures.value
+    let none : length items ≤ point = subst (λ xs. length xs ≤ point) c.deref-2.ensures.value
     (not_less point (length c.deref-2.result.now) (sym c.in-None.ensures.lookup.0)) in
     lasting c.args.self.now time point None order bound parts
     (λ u e up is. let lt = got_within items point e is in absurd (omega (arith, lt, none)))

@@ -9,7 +9,7 @@ returns-in-Some c order =
     let first : Shown = c.args.self.now.first in
     let point = c.partition_point-point.result in
     let test : Entry → Bool = λ e. is_before e.place c.args.place.now in
-    let bound : point ≤ length items = subst (λ (xs : List Entry). point ≤ length xs) c.deref.ensures.value c.partition_point-point.ensures.bound in
+    let bound : point ≤ length items = subst (λ xs. point ≤ length xs) c.deref.ensures.value c.partition_point-point.ensures.bound in
     let parts : IsPartitionPoint (λ e. test e ≡ true) (λ e. test e ≡ false) items point =
     subst (λ (xs : List Entry). IsPartitionPoint (λ e. test e ≡ true) (λ e. test e ≡ false) xs point) c.deref.ensures.value
     (c.partition_point-point.ensures.partitioned test (always_returns_same _ _ _ (λ a r f k. search (rules, of_calls)))
@@ -25,7 +25,7 @@ returns-in-None c order =
     let first : Shown = c.args.self.now.first in
     let point = c.partition_point-point.result in
     let test : Entry → Bool = λ e. is_before e.place c.args.place.now in
-    let bound : point ≤ length items = subst (λ (xs : List Entry). point ≤ length xs) c.deref.ensures.value c.partition_point-point.ensures.bound in
+    let bound : point ≤ length items = subst (λ xs. point ≤ length xs) c.deref.ensures.value c.partition_point-point.ensures.bound in
     let parts : IsPartitionPoint (λ e. test e ≡ true) (λ e. test e ≡ false) items point =
     subst (λ (xs : List Entry). IsPartitionPoint (λ e. test e ≡ true) (λ e. test e ≡ false) xs point) c.deref.ensures.value
     (c.partition_point-point.ensures.partitioned test (always_returns_same _ _ _ (λ a r f k. search (rules, of_calls)))

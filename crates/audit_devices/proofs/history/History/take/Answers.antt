@@ -10,21 +10,21 @@ returns c s hs h is met all keeps =
     let shown = c.after-shown.result in
     let entry : List ℕ → Entry = λ p. record { place = p; shown = shown } in
     let shows = c.after-shown.ensures s hs h is met (none_later hs h all) (subst (Shows s hs device) (sym c.latest.ensures) keeps.latest) in
-    let place = c.of.ensures ∙ place_met s device h c.args.time c.args.body.now c.args.carried c.args.readings met in
+    let place = c.of.ensures ∙ place_met met in
     on_ok c.push.result (Keeps s (hs ++ h ∷ []) device new)
     (λ ok.
     let items = c.push.ensures.entries
     ∙ ap (λ (b : Bool). if b then old.entries.items ++ entry c.of.result ∷ [] else old.entries.items) ok
-    ∙ ap (λ (p : List ℕ). old.entries.items ++ entry p ∷ []) place in
-    kept_on s hs device h old new shown all c.push.ensures.first items shows keeps)
+    ∙ ap (λ p. old.entries.items ++ entry p ∷ []) place in
+    kept_on h new all c.push.ensures.first items shows keeps)
 
 pub returns-then-shows_nothing : goal.returns-then-shows_nothing
 returns-then-shows_nothing c s hs h is met all keeps =
     let device = c.args.device in
     let network = c.args.network.now in
     let carried = c.args.carried in
-    let nothing : effect_of s.network device h ≡ Nothing = ap (λ (n : Network). effect_by n device (carried_by h) h.note.body) is
-    ∙ ap (λ (x : Carried). effect_by network device x h.note.body) (sym met.frame)
+    let nothing : effect_of s.network device h ≡ Nothing = ap (λ n. effect_by n device (carried_by h) h.note.body) is
+    ∙ ap (λ x. effect_by network device x h.note.body) (sym met.frame)
     ∙ ap (effect_by network device carried) met.body_is
     ∙ c.shows_nothing.ensures.0 c.if-shows_nothing.true in
-    kept_still s hs device h c.args.self.now nothing keeps
+    kept_still h nothing keeps

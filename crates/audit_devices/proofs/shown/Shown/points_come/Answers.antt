@@ -32,7 +32,7 @@ returns-then-first-local-clause-value c =
     let below : c.self.inside.at_change <ℤ pos first = omega (arith, ints, lt, most, fits.sfits) in
     let reached : pos first ≤ℤ (pos before +ℤ c.self.inside.adjustment) =
     omega (arith, ints, le, most, c.ranges.before.fits, c.from.ensures, bounds.least, bounds.most) in
-    subst (λ (x : Shown). c.cycles_in.result + 1 ≡ points_by network x before) c.self.view_is
+    subst (λ x. c.cycles_in.result + 1 ≡ points_by network x before) c.self.view_is
     (then_comes network old before first _ c.cycles_in.result c.first_value-first.ensures.value below reached
     (omega (arith, ints, reached, most, c.ranges.before.fits, c.from.ensures, bounds.least, bounds.most)) c.cycles_in.ensures.value)
 
@@ -59,7 +59,7 @@ returns-else-self-first-clause-value c =
     let begin : ℤ = to_z w128 first in
     let local : ℤ = to_z w128 (of_z w128 (to_z w128 (of_z w128 c.from.result) +ℤ to_z w128 (of_z w128 inside.adjustment))) in
     let fits : FitsSigned w128 c.self.inside.at_change = search rules in
-    subst (λ (x : Shown). 0 ≡ points_by network x before) c.self.view_is
+    subst (λ x. 0 ≡ points_by network x before) c.self.view_is
     (elim c.else-self-first.branch [
       | else-self-first-via-then-self-first+else-first-local w ↦
           let lt = le_denied begin local w.if-first-local.false in

@@ -15,7 +15,7 @@ returns-clause-shows c s hs stands t lt le =
     let history = c.index-history.result.now in
     let keeps = stands device history (got_at c.args.self.now.histories.items device.0 history c.requires.device c.index-history.ensures) in
     let shown = c.before-2.ensures keeps.order
-    ∙ ap (λ (p : List ℕ). shown_before p history) c.of_time.ensures
+    ∙ ap (λ p. shown_before p history) c.of_time.ensures
     ∙ sym (c.next_after.ensures.lasts keeps.order t lt le) in
-    subst (λ (xs : List Happening). Shows s xs device c.before-2.result.now) (earlier_are t hs)
+    subst (λ xs. Shows s xs device c.before-2.result.now) (earlier_are t hs)
     (subst (Shows s (records_before (t ∷ []) hs) device) (sym shown) (keeps.before (t ∷ [])))

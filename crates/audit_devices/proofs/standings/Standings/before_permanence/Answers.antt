@@ -3,5 +3,5 @@ use Rattle.audit_devices.proofs.Words.{List, Shows, records_before, subst, ℕ}
 
 pub returns : goal.returns
 returns c s hs verdict stands =
-    subst (λ (p : List ℕ). Shows s (records_before p hs) c.args.device c.before-2.result.now) (c.of_permanence.ensures verdict)
+    subst (λ p. Shows s (records_before p hs) c.args.device c.before-2.result.now) (c.of_permanence.ensures verdict)
     (c.before-2.ensures s hs stands)

@@ -21,9 +21,10 @@ loop-place-preserved c =
     let last = subst (λ (n : ℕ). IsFresh network (mk n) x) (sym c.loop-place.invariant.0) fresh in (
       ap length items ∙ omega (arith, length-append xs (x ∷ []), c.loop-place.invariant.0),
       λ d history there.
-          fresh_more network xs x c.loop-place.invariant.1 last d history (ap (λ (ys : List History). slice_get ys d.0) (sym items) ∙ there),
+          fresh_more xs c.loop-place.invariant.1 last d history
+          (ap (λ (ys : List History). slice_get ys d.0) (sym items) ∙ there),
     )
 
 pub returns-clause-stands : goal.returns-clause-stands
 returns-clause-stands c s is steady device history there =
-    kept_first s c.args.network.now device history is (steady device) (c.loop-place.invariant.1 device history there)
+    kept_first is (steady device) (c.loop-place.invariant.1 device history there)

@@ -28,5 +28,5 @@ returns-clause-stands c s hs h is seen all stands =
     let subject : subject_of h.note.body ≡ Some here = ap subject_of seen.body_is ∙ sym c.in-Some.ensures in
     let keeps = stands here c.index_mut.result.now (got_at items here.0 c.index_mut.result.now within c.index_mut.ensures.value) in
     also_on_ok c.take.result (Keeps s (hs ++ h ∷ []) here new) (KeepsAll s (hs ++ h ∷ []) (slice_set items here.0 new))
-    (λ kept. all_on s hs h here new items subject within kept stands)
+    (λ kept. all_on hs h items subject within kept stands)
     (c.take.ensures s hs h is (seen.met here (sym c.in-Some.ensures)) all keeps)

@@ -12,7 +12,7 @@ returns c ascend =
     (got_at c.as_slice.result.now c.args.vl.0 c.in_ok-takings.takings.now c.in_ok-takings.ensures.lookup.3.0 c.in_ok-takings.ensures.lookup.1) in
     let point = c.partition_point-point.result in
     let test : Taking → Bool = is_taking_before c.args.time c.args.link c.args.cause in
-    let bound : point ≤ length items = subst (λ (xs : List Taking). point ≤ length xs) c.deref.ensures.value c.partition_point-point.ensures.bound in
+    let bound : point ≤ length items = subst (λ xs. point ≤ length xs) c.deref.ensures.value c.partition_point-point.ensures.bound in
     let order : IsPartitionedBy test items = subst (λ (xs : List Taking). IsPartitionedBy test xs) here (ascend c.args.time c.args.link c.args.cause) in
     let parts : IsPartitionPoint (λ e. test e ≡ true) (λ e. test e ≡ false) items point =
     subst (λ (xs : List Taking). IsPartitionPoint (λ e. test e ≡ true) (λ e. test e ≡ false) xs point) c.deref.ensures.value
@@ -24,4 +24,4 @@ returns c ascend =
     last
     ∙ slice_get-last c.split_at.result.0.now
     ∙ ap (λ (xs : List Taking). last_or None xs) front
-    ∙ ap (λ (xs : List Taking). last_or None (filter test xs)) (sym here)
+    ∙ ap (λ xs. last_or None (filter test xs)) (sym here)

@@ -12,7 +12,7 @@ returns-in_err-taking c network hs has =
     let test : Taking → Bool = is_taking_before c.args.time c.args.link c.args.cause in
     let last : None ≡ last_or None (filter test (takings_of hs device vl)) = sym c.in_err-taking.was
     ∙ c.last_before.ensures (subst AscendAll (sym kept) (has.ascend device vl))
-    ∙ ap (λ (xs : List Taking). last_or None (filter test xs)) kept in
+    ∙ ap (λ xs. last_or None (filter test xs)) kept in
     c.from_residual.ensures
     ∙ ap (λ (o : Option Taking). option_map (λ (e : Taking). e.cycle) o) last
     ∙ sym (last_taken_is hs device c.args.time c.args.link c.args.cause vl)
@@ -27,6 +27,6 @@ returns c network hs has =
     let test : Taking → Bool = is_taking_before c.args.time c.args.link c.args.cause in
     let last : Some c.in_ok-taking.taking ≡ last_or None (filter test (takings_of hs device vl)) = sym c.in_ok-taking.was
     ∙ c.last_before.ensures (subst AscendAll (sym kept) (has.ascend device vl))
-    ∙ ap (λ (xs : List Taking). last_or None (filter test xs)) kept in
+    ∙ ap (λ xs. last_or None (filter test xs)) kept in
     ap (λ (o : Option Taking). option_map (λ (e : Taking). e.cycle) o) last
     ∙ sym (last_taken_is hs device c.args.time c.args.link c.args.cause vl)

@@ -8,7 +8,7 @@ returns-in_default-clause-taken c network hs h at number is right all has =
     let old = c.args.self.now in
     let none : taken_by (time_of h) h.note.number h.note.body ≡ None =
     told_by h c.args.time c.args.number c.args.body.now at number is ∙ sym c.taken_by.ensures ∙ c.in_default.is in
-    taken_on network hs h old old refl (λ device vl lt. nothing_taken h device vl (kept_of old device vl) none)
+    taken_on h old refl (λ device vl lt. nothing_taken h device vl (kept_of old device vl) none)
     (subst (TakesRightly network) (sym is) right) all has
 
 pub returns-then-index-len-clause-taken : goal.returns-then-index-len-clause-taken
@@ -18,7 +18,7 @@ returns-then-index-len-clause-taken c network hs h at number is right all has =
     let long : c.len.result ≡ length old.devices.items = search rules in
     let some : taken_by (time_of h) h.note.number h.note.body ≡ Some t =
     told_by h c.args.time c.args.number c.args.body.now at number is ∙ sym c.taken_by.ensures ∙ c.in-Some.is in
-    taken_on network hs h old (record { devices = old.devices }) refl
+    taken_on h (record { devices = old.devices }) refl
     (λ device vl lt. other_taken h device vl t (kept_of old device vl) some (λ e. omega (arith, e, lt, long, c.if-index-len.true)))
     (subst (TakesRightly network) (sym is) right) all has
 
@@ -35,7 +35,7 @@ returns-clause-taken c network hs h at number is right all has =
     told_by h c.args.time c.args.number c.args.body.now at number is ∙ sym c.taken_by.ensures ∙ c.in-Some.is in
     let count : taker_count new ≡ taker_count old = search rules in
     on_ok c.push.result (HasTaken network (hs ++ h ∷ []) new)
-    (λ ok. taken_on network hs h old new count
+    (λ ok. taken_on h new count
     (λ device vl lt. kept_on h items t c.index_mut.result.now c.push.new.self some within there (λ other.
     of_ok c.push.result _ ok (c.push.ensures other)) device vl)
     (subst (TakesRightly network) (sym is) right) all has)

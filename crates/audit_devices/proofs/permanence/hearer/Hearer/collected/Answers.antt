@@ -10,5 +10,5 @@ returns-in-None c points has is =
     let point = c.args.point.0 in
     let at = point_at point (master_of frame.members.0) frame.cycle in
     let none : point_fault network c.args.self.now.state c.args.self.now.adjustment point frame.cycle ≡ None = search rules in
-    subst (λ (o : Option Reason). (is ≡ c.ripe_by_role.result) ↔ IsCollectedOrDropped network points at o is) (sym none)
+    subst (λ o. (is ≡ c.ripe_by_role.result) ↔ IsCollectedOrDropped network points at o is) (sym none)
     (collects_so network points at c.role.result c.ripe_by_role.result (c.role.ensures network points has) c.ripe_by_role.ensures is)

@@ -16,7 +16,7 @@ returns-then-not-sends c s hs hearer collects moment verdict = (λ e. absurd cc,
         let points = points_of hs device in
         let cm : is_cm network device ≡ true = sym c.if-not-is_cm.ensures in
         let for_s : IsSentFor s.network points sent = record { clusters = em.clusters; are = em.are; cluster = em.cluster; there = em.there; is = em.is } in
-        let for_network : IsSentFor network points sent = subst (λ (n : Network). IsSentFor n points sent) (sym hearer.network) for_s in
+        let for_network : IsSentFor network points sent = subst (λ n. IsSentFor n points sent) (sym hearer.network) for_s in
         elim c.then-not-sends.branch [
           | then-not-sends-via-then-not-sends w ↦
               let yes : c.sends.result ≡ true = (c.sends.ensures network points (collects cm)).1 for_network in
@@ -45,10 +45,10 @@ returns c s hs hearer collects moment verdict =
     let sends = c.sends.ensures network points (collects cm) in
     let reaches = c.reaches.ensures (s.reading device) moment.rises moment.now moment.before in (
       λ e.
-          let for_s : IsSentFor s.network points sent = subst (λ (n : Network). IsSentFor n points sent) hearer.network (sends.0 c.if-not-sends.false) in
+          let for_s : IsSentFor s.network points sent = subst (λ n. IsSentFor n points sent) hearer.network (sends.0 c.if-not-sends.false) in
           let one : c.heard.result ≡ verdict = cc in
           record {
-            cm = subst (λ (n : Network). is_cm n device ≡ true) hearer.network cm;
+            cm = subst (λ n. is_cm n device ≡ true) hearer.network cm;
             correct = sym moment.broken_is ∙ c.if-broken.false;
             clusters = for_s.clusters;
             are = for_s.are;

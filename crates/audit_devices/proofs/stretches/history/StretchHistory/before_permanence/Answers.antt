@@ -4,6 +4,6 @@ use Rattle.audit_devices.proofs.stretches.history.StretchHistory.before_permanen
 
 pub returns : goal.returns
 returns c network hs stands cm =
-    subst (λ (p : List ℕ).
+    subst (λ p.
     HasPoints network (points_of (records_before p hs) c.args.device) c.before-2.result.collections.now c.before-2.result.gathering)
     (c.of_permanence.ensures Ignored) (c.before-2.ensures network hs stands cm)

@@ -46,5 +46,5 @@ returns-clause-stands c hs h is all may stands =
     ∙ ap (λ (x : Carried). place_at (time_of h) x.members.0 c.args.body.now) is.frame
     ∙ ap (λ b. place_at (time_of h) (carried_by h).members.0 b) (sym is.body_is) in
     also_on_ok c.take.result (Keeps network (hs ++ h ∷ []) here new) (KeepsAll network (hs ++ h ∷ []) (slice_set items here.0 new))
-    (λ kept. all_on network hs h here new items of within kept stands)
+    (λ kept. all_on hs h items of within kept stands)
     (c.take.ensures network hs h here of changes place is.frame all (may_bring hs h here change changes (may here of cm)) keeps)

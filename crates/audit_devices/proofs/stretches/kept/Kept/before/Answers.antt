@@ -13,7 +13,7 @@ returns-in-Some c network hs device keeps =
     let count = c.partition_point-count.result in
     let test : Entry → Bool = λ e. is_before e.place place in
     let same : c.deref.result.now ≡ items = c.deref.ensures.value ∙ ap (λ (k : Stretches). k.entries) c.self.view_is in
-    let bound : count ≤ length items = subst (λ (xs : List Entry). count ≤ length xs) same c.partition_point-count.ensures.bound in
+    let bound : count ≤ length items = subst (λ xs. count ≤ length xs) same c.partition_point-count.ensures.bound in
     let parts : IsPartitionPoint (λ e. test e ≡ true) (λ e. test e ≡ false) items count =
     subst (λ (xs : List Entry). IsPartitionPoint (λ e. test e ≡ true) (λ e. test e ≡ false) xs count) same
     (c.partition_point-count.ensures.partitioned test (always_returns_same _ _ _ (λ a r f k. search (rules, of_calls)))
@@ -25,7 +25,7 @@ returns-in-Some c network hs device keeps =
     record {
       ow = keeps.ow;
       calc = keeps.calc;
-      gathers = subst (λ (o : Option Entry). StandsFor now.collections o (points_of (records_before place hs) device)) (sym found) (keeps.before place);
+      gathers = subst (λ o. StandsFor now.collections o (points_of (records_before place hs) device)) (sym found) (keeps.before place);
     }
 
 pub returns-in-None : goal.returns-in-None
@@ -36,7 +36,7 @@ returns-in-None c network hs device keeps =
     let count = c.partition_point-count.result in
     let test : Entry → Bool = λ e. is_before e.place place in
     let same : c.deref.result.now ≡ items = c.deref.ensures.value ∙ ap (λ (k : Stretches). k.entries) c.self.view_is in
-    let bound : count ≤ length items = subst (λ (xs : List Entry). count ≤ length xs) same c.partition_point-count.ensures.bound in
+    let bound : count ≤ length items = subst (λ xs. count ≤ length xs) same c.partition_point-count.ensures.bound in
     let parts : IsPartitionPoint (λ e. test e ≡ true) (λ e. test e ≡ false) items count =
     subst (λ (xs : List Entry). IsPartitionPoint (λ e. test e ≡ true) (λ e. test e ≡ false) xs count) same
     (c.partition_point-count.ensures.partitioned test (always_returns_same _ _ _ (λ a r f k. search (rules, of_calls)))
@@ -46,5 +46,5 @@ returns-in-None c network hs device keeps =
     let found : None ≡ entry_before place items =
     c.in-None.ensures.value ∙ slice_get-last c.split_at.result.0.now ∙ ap (λ (xs : List Entry). last_or None xs) front in
     let none : points_of (records_before place hs) device ≡ [] =
-    subst (λ (o : Option Entry). StandsFor now.collections o (points_of (records_before place hs) device)) (sym found) (keeps.before place) in
+    subst (λ o. StandsFor now.collections o (points_of (records_before place hs) device)) (sym found) (keeps.before place) in
     record { ow = keeps.ow; calc = keeps.calc; gathers = subst (Gathers now.collections c.none.result) (sym none) (c.none.ensures.gathers now.collections) }

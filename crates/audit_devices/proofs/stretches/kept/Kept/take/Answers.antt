@@ -19,10 +19,10 @@ returns c network hs h device of is place_is carried_is all may keeps =
       ow = ap (λ (x : History). x.ow) same ∙ told.same.0;
       calc = ap (λ (x : History). x.calc) same ∙ told.same.1;
       latest = refl;
-      gathers = subst (λ (x : History). Gathers x g (points_of (hs ++ h ∷ []) device)) (sym same)
+      gathers = subst (λ x. Gathers x g (points_of (hs ++ h ∷ []) device)) (sym same)
           (subst (Gathers middle.collections g) (sym points) (told.gathers (points_of hs device) keeps.latest may));
-      kept = λ other ps was. subst (λ (x : History). Gathers x other ps) (sym same) (told.kept other ps was);
+      kept = λ other ps was. subst (λ x. Gathers x other ps) (sym same) (told.kept other ps was);
       entries = c.in_ok-push.ensures.items ∙ ap (λ (xs : List Entry). xs ++ entry c.args.place ∷ []) (were ∙ told.entries)
-          ∙ ap (λ (p : List ℕ). old.entries ++ entry p ∷ []) place_is;
+          ∙ ap (λ p. old.entries ++ entry p ∷ []) place_is;
     } in
-    kept_on network hs device h old new g all goes keeps
+    kept_on all goes keeps

@@ -5,5 +5,4 @@ use Rattle.audit_devices.proofs.stretches.stretch.Stretch.emission.Goals as goal
 pub returns : goal.returns
 returns c network points clusters has are =
     c.emission.ensures
-    ∙ ap (λ (es : List Emitted). slice_get es c.args.place)
-    (emissions_same network points clusters c.args.self.now.collections.now c.args.self.now.gathering has are)
+    ∙ ap (λ (es : List Emitted). slice_get es c.args.place) (emissions_same clusters has are)

@@ -14,7 +14,7 @@ returns-in-Some c network points clusters has are =
     subst (λ (x : ℤ). All (λ (e : Emitted). e.opened ≡ x → c.opened_at.result ≡ Some e) (emissions_in h g)) (to_z-of_z w64 a.opened fits)
     c.opened_at.ensures.each in
     subst (λ (es : List Emitted). (IsTrue c.eq.result → Contains es a) × (Contains es a → IsTrue c.eq.result))
-    (emissions_same network points clusters h g has are) (
+    (emissions_same clusters has are) (
       λ told. subst (Contains (emissions_in h g)) (same_emitted found a c.eq.result c.eq.ensures told) c.in-Some.ensures.found.0,
       λ there.
           let is = All-contains (λ (e : Emitted). e.opened ≡ a.opened → c.opened_at.result ≡ Some e) (emissions_in h g) a each there refl in
@@ -34,7 +34,7 @@ returns-in-None c network points clusters has are =
     subst (λ (x : ℤ). All (λ (e : Emitted). e.opened ≡ x → c.opened_at.result ≡ Some e) (emissions_in h g)) (to_z-of_z w64 a.opened fits)
     c.opened_at.ensures.each in
     subst (λ (es : List Emitted). (IsTrue false → Contains es a) × (Contains es a → IsTrue false))
-    (emissions_same network points clusters h g has are) (
+    (emissions_same clusters has are) (
       λ never. absurd (true_not never),
       λ there.
           let is = All-contains (λ (e : Emitted). e.opened ≡ a.opened → c.opened_at.result ≡ Some e) (emissions_in h g) a each there refl in

@@ -6,5 +6,5 @@ use Rattle.audit_devices.proofs.stretches.stretch.Stretch.len.Goals as goal
 pub returns : goal.returns
 returns c network points clusters has are =
     c.len.ensures
-    ∙ ap (λ (es : List Emitted). length es) (emissions_same network points clusters c.args.self.now.collections.now c.args.self.now.gathering has are)
+    ∙ ap (λ es. length es) (emissions_same clusters has are)
     ∙ length-map clusters (emitted (observation_window network) (pos (amount network.calc)))

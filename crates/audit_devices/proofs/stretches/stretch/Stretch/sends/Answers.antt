@@ -9,8 +9,8 @@ returns c network points has =
     let g = c.args.self.now.gathering in
     let sent = c.args.sent.now in
     let are : AreClusters (observation_window network) points (clusters_in h g) =
-    subst (λ (w : ℤ). AreClusters w points (clusters_in h g)) has.ow has.gathers.are in
-    let sends = λ (x : Cluster). ap (λ (w : ℤ). compressed w h.calc x) has.ow ∙ ap (λ (w : ℤ). compressed (observation_window network) w x) has.calc in (
+    subst (λ w. AreClusters w points (clusters_in h g)) has.ow has.gathers.are in
+    let sends = λ (x : Cluster). ap (λ w. compressed w h.calc x) has.ow ∙ ap (λ w. compressed (observation_window network) w x) has.calc in (
       λ is.
           let found = c.sends.ensures.0 is in
           record { clusters = clusters_in h g; are = are; cluster = found.0; there = found.1; is = found.2 ∙ sends found.0 },
