@@ -18,7 +18,7 @@ pub report_linked : (network : Network) (octets : List ℕ) (ns : List Note) (en
 report_linked network octets ns end named r =
     let s = scenario_of network ns in
     let hs = happenings network ns in
-    let run = audit_run network ns end named r.events.right r.run in
+    let run = audit_run ns end named r.events.right r.run in
     (gap_law s (behind_time end) hs ((audit_laws s (behind_time end) hs).run.0 run).0).linked
 
 -- what is kept for the records so far holds of the last one too

@@ -102,7 +102,7 @@ module _ (network : Network) (octets : List ℕ) (ns : List Note) (end : Units) 
   own = scenario_of network ns
 
   abbrev audited : IsFounded place_of (audits.IsDue own) (happenings network ns)
-  audited = (audit_run network ns end named of.events.right of.run).founded
+  audited = (audit_run ns end named of.events.right of.run).founded
 
   -- what causes a record of this body
   pub caused : (body : NoteBody) → h.note.body ≡ body → audits.IsCaused own before h.note.time body

@@ -117,13 +117,13 @@ module _ (network : Network) (octets : List ℕ) (ns : List Note) (end : Units) 
   rises : (device : DeviceId) → is_cm network device ≡ true → ComeInOrder device before
   rises device cm ps qs x p parts on given =
       let named = kept_apart network rules of.range in
-      let founded = (audit_run network ns end named of.events.right of.run).founded in
+      let founded = (audit_run ns end named of.events.right of.run).founded in
       let at = parted_there network octets ns end of number h there in
       let whole : all ≡ ps ++ x ∷ (qs ++ h ∷ at.later) = at.parts ∙ ap (λ (hs : List Happening). hs ++ h ∷ at.later) parts
       ∙ append_assoc ps (x ∷ qs) (h ∷ at.later) in
       let here = founded ps (qs ++ h ∷ at.later) x whole in
       let front = front_founded place_of (audits.IsDue own) ps (x ∷ (qs ++ h ∷ at.later)) (subst (IsFounded place_of (audits.IsDue own)) whole founded) in
-      let order = rising_law own ps x of.range (λ d. ((clocked network ns named of.events.right).clocks d).never_falls) front here.0 here.1 in
+      let order = rising_law own ps x of.range (λ d. ((clocked ns named of.events.right).clocks d).never_falls) front here.0 here.1 in
       points_given device x (points_of ps device) x.note.body p on given (λ of_device. order.stands device of_device cm)
 
   -- where a frame is lost its way is cut

@@ -33,9 +33,9 @@ module _ (network : Network) (octets : List ℕ) (right : (n : ℕ) → IsFormFa
         some = λ e. cc;
         number = refl;
         no_line = λ line.
-            let less = shorter network line.note (o ∷ rest) line.rest (record { of_network = line.of_network; in_range = line.in_range; text = line.text }) in
+            let less = shorter {network = network} {note = line.note} {octets = o ∷ rest} {left = line.rest} (record { of_network = line.of_network; in_range = line.in_range; text = line.text }) in
             lines_from most line.rest (before ++ line.note ∷ [])
-            (begins_on network octets (o ∷ rest) line.rest before begins
+            (begins_on {left = line.rest} begins
             (record { note = line.note; of_network = line.of_network; in_range = line.in_range; number = line.number; text = line.text }))
             (omega (arith, few, less));
       })
@@ -75,7 +75,7 @@ end_with network ns right has =
   where
     by : (front : List Event) (event : Event) (behind : List Event) → events_of ns ≡ front ++ event ∷ behind → event.what ≡ End
         → (time : Units) × EndWith (events_of ns) time
-    by front event [] parts is = (event.time, subst (λ (es : List Event). EndWith es event.time) (sym parts) (ends_with front event is))
+    by front event [] parts is = (event.time, subst (λ es. EndWith es event.time) (sym parts) (ends_with front event is))
     by front event (e ∷ behind) parts is =
         let may = may_there network ns (front ++ event ∷ []) behind e right (moved (events_of ns) front (e ∷ behind) event parts) in
         absurd (may.1.unended (any_last front event is))

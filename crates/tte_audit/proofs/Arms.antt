@@ -38,27 +38,32 @@ IsOfNoPlain network text = (number : ℕ) (time : Units) (p : PlainKind) → IsT
 abbrev pub IsOfNoEvent : Network → List ℕ → Type 0
 IsOfNoEvent network text = (number : ℕ) (time : Units) (line : ℕ) (w : What) → IsTextOf network (saying number time (bodies.Event line w)) text → ⊥
 
-no_plain_says : (network : Network) (text : List ℕ) → IsOfNoPlain network text → (number : ℕ) (time : Units) (b : NoteBody)
-    → IsTextOf network (saying number time b) text → HasNoEvent b → ⊥
-no_plain_says network text plain n t (bodies.Event line w) h quiet = quiet
-no_plain_says network text plain n t (bodies.Arrived d l cause clock) h quiet = plain n t (said.Arrived d l cause clock) h
-no_plain_says network text plain n t (bodies.Permanent d l cause point verdict) h quiet = plain n t (said.Permanent d l cause point verdict) h
-no_plain_says network text plain n t (bodies.Compressed d opened at cycle m verdict) h quiet = plain n t (said.Compressed d opened at cycle m verdict) h
-no_plain_says network text plain n t (bodies.Sent d cycle) h quiet = plain n t (said.Sent d cycle) h
-no_plain_says network text plain n t (bodies.Corrected d cycle by adjustment) h quiet = plain n t (said.Corrected d cycle by adjustment) h
-no_plain_says network text plain n t (bodies.State d new cause y) h quiet = plain n t (said.State d new cause y) h
-no_plain_says network text plain n t (bodies.Left d l cause clock) h quiet = plain n t (said.Left d l cause clock) h
-no_plain_says network text plain n t (bodies.Lost d l cause) h quiet = plain n t (said.Lost d l cause) h
-no_plain_says network text plain n t (bodies.TtSent d l cause v cycle) h quiet = plain n t (said.TtSent d l cause v cycle) h
-no_plain_says network text plain n t (bodies.Accepted d l cause v cycle) h quiet = plain n t (said.Accepted d l cause v cycle) h
-no_plain_says network text plain n t (bodies.Delivered d l cause v cycle) h quiet = plain n t (said.Delivered d l cause v cycle) h
-no_plain_says network text plain n t (bodies.Dropped d l cause r) h quiet = plain n t (said.Dropped d l cause r) h
-no_plain_says network text plain n t (bodies.Clock d reading adjustment last) h quiet = plain n t (said.Clock d reading adjustment last) h
+module _ (network : Network) (text : List ℕ) where
+  no_plain_says : IsOfNoPlain network text → (number : ℕ) (time : Units) (b : NoteBody)
+      → IsTextOf network (saying number time b) text → HasNoEvent b → ⊥
+  no_plain_says plain n t (bodies.Event line w) h quiet = quiet
+  no_plain_says plain n t (bodies.Arrived d l cause clock) h quiet = plain n t (said.Arrived d l cause clock) h
+  no_plain_says plain n t (bodies.Permanent d l cause point verdict) h quiet =
+      plain n t (said.Permanent d l cause point verdict) h
+  no_plain_says plain n t (bodies.Compressed d opened at cycle m verdict) h quiet =
+      plain n t (said.Compressed d opened at cycle m verdict) h
+  no_plain_says plain n t (bodies.Sent d cycle) h quiet = plain n t (said.Sent d cycle) h
+  no_plain_says plain n t (bodies.Corrected d cycle by adjustment) h quiet =
+      plain n t (said.Corrected d cycle by adjustment) h
+  no_plain_says plain n t (bodies.State d new cause y) h quiet = plain n t (said.State d new cause y) h
+  no_plain_says plain n t (bodies.Left d l cause clock) h quiet = plain n t (said.Left d l cause clock) h
+  no_plain_says plain n t (bodies.Lost d l cause) h quiet = plain n t (said.Lost d l cause) h
+  no_plain_says plain n t (bodies.TtSent d l cause v cycle) h quiet = plain n t (said.TtSent d l cause v cycle) h
+  no_plain_says plain n t (bodies.Accepted d l cause v cycle) h quiet = plain n t (said.Accepted d l cause v cycle) h
+  no_plain_says plain n t (bodies.Delivered d l cause v cycle) h quiet = plain n t (said.Delivered d l cause v cycle) h
+  no_plain_says plain n t (bodies.Dropped d l cause r) h quiet = plain n t (said.Dropped d l cause r) h
+  no_plain_says plain n t (bodies.Clock d reading adjustment last) h quiet =
+      plain n t (said.Clock d reading adjustment last) h
 
-no_event_says : (network : Network) (text : List ℕ) → IsOfNoEvent network text → (number : ℕ) (time : Units) (b : NoteBody)
-    → IsTextOf network (saying number time b) text → HasNoEvent b
-no_event_says network text event n t (bodies.Event line w) h = absurd (event n t line w h)
-no_event_says network text event n t other h = tt
+  no_event_says : IsOfNoEvent network text → (number : ℕ) (time : Units) (b : NoteBody)
+      → IsTextOf network (saying number time b) text → HasNoEvent b
+  no_event_says event n t (bodies.Event line w) h = absurd (event n t line w h)
+  no_event_says event n t other h = tt
 
 abbrev said_text : (network : Network) (text : List ℕ) (note : Note) → IsTextOf network note text
     → IsTextOf network (saying note.number note.time note.body) text
@@ -68,16 +73,19 @@ said_text network text note h = record {
   same = h.same;
 }
 
--- a text of no record without an event is not that of such a record
-pub no_plain_read : (network : Network) (text : List ℕ) → IsOfNoPlain network text → (note : Note) → IsTextOf network note text → HasNoEvent note.body → ⊥
-no_plain_read network text plain note h = no_plain_says network text plain note.number note.time note.body (said_text network text note h)
+module _ (network : Network) (text : List ℕ) where
+  -- a text of no record without an event is not that of such a record
+  pub no_plain_read : IsOfNoPlain network text → {note : Note} → IsTextOf network note text → HasNoEvent note.body → ⊥
+  no_plain_read plain {note} h =
+      no_plain_says network text plain note.number note.time note.body (said_text network text note h)
 
--- and one of no record of an event is not that of any
-pub no_event_read : (network : Network) (text : List ℕ) → IsOfNoEvent network text → (note : Note) → IsTextOf network note text → HasNoEvent note.body
-no_event_read network text event note h = no_event_says network text event note.number note.time note.body (said_text network text note h)
+  -- and one of no record of an event is not that of any
+  pub no_event_read : IsOfNoEvent network text → {note : Note} → IsTextOf network note text → HasNoEvent note.body
+  no_event_read event {note} h =
+      no_event_says network text event note.number note.time note.body (said_text network text note h)
 
-pub none_read : (network : Network) (text : List ℕ) → IsOfNoPlain network text → IsOfNoEvent network text → (note : Note) → IsTextOf network note text → ⊥
-none_read network text plain event note h = no_plain_read network text plain note h (no_event_read network text event note h)
+  pub none_read : IsOfNoPlain network text → IsOfNoEvent network text → (note : Note) → IsTextOf network note text → ⊥
+  none_read plain event note h = no_plain_read plain h (no_event_read event h)
 
 -- what holds where there is no answer may be put in other words
 pub with_none : {A : Type 0} {P Q : Type 0} (S : A → Type 0) (r : Option A) → (P → Q) → MatchOption r P S → MatchOption r Q S

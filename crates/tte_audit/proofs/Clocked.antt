@@ -69,7 +69,7 @@ befalls network befallen time body event is may = absurd cc
 pub within : (network : Network) (ns : List Note) → AreEventsRight network ns → AreWithinHypothesis network (events_of ns)
 within network ns right before behind event e =
     let at = told ns before behind event e in
-    subst (λ (es : List Event). IsWithinHypothesis network es event) at.same
+    subst (λ es. IsWithinHypothesis network es event) at.same
     (befalls network (events_of at.front) at.note.time at.note.body event at.tells (right at.front at.rest at.note at.whole))
 
 begun_there : (network : Network) (befallen : List Event) (time : Units) (body : NoteBody) (event : Event) → event_by time body ≡ Some event
@@ -93,8 +93,9 @@ all_begun (e ∷ es) each = All-cons (λ e. pos 0 ≤ℤ e.time.0) e es (each e 
 -- ---- the scenario
 
 -- the scenario of records whose events are right
-pub clocked : (network : Network) (ns : List Note) → IsNamed network → AreEventsRight network ns → IsClocked (scenario_of network ns)
-clocked network ns named right =
+pub clocked : {network : Network} (ns : List Note) → IsNamed network → AreEventsRight network ns
+    → IsClocked (scenario_of network ns)
+clocked {network} ns named right =
     let range = named.in_range in
     let least = range.grain.least in
     let some : 1 ≤ amount network.grain = omega (arith, ints, least) in

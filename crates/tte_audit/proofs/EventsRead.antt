@@ -43,7 +43,7 @@ right_on network ns n right may before behind x e =
         let same : x ≡ n = cc in
         let all : ns ≡ before = whole ∙ append-nil before in
         subst (λ (y : Note). MayCome network (events_of before) y.time y.body) (sym same)
-        (subst (λ (ms : List Note). MayCome network (events_of ms) n.time n.body) all may)
+        (subst (λ ms. MayCome network (events_of ms) n.time n.body) all may)
     by_others ns n right may before behind x (o ∷ others) last whole =
         let same : x ≡ o = cc in
         right before others x (whole ∙ ap (λ (y : Note). before ++ y ∷ others) (sym same))
@@ -55,8 +55,9 @@ fault_here network ns n k right wrong number =
     record { before = ns; note = n; behind = []; parts = refl; number = number; right_before = right; wrong = wrong }
 
 -- what may not come first stays so
-pub fault_on : (network : Network) (ns : List Note) (n : Note) (k : ℕ) → IsEventFault network ns k → IsEventFault network (ns ++ n ∷ []) k
-fault_on network ns n k fault = record {
+pub fault_on : {network : Network} {ns : List Note} (n : Note) {k : ℕ} → IsEventFault network ns k
+    → IsEventFault network (ns ++ n ∷ []) k
+fault_on n fault = record {
   before = fault.before;
   note = fault.note;
   behind = fault.behind ++ n ∷ [];

@@ -24,13 +24,13 @@ pub may_there : (network : Network) (ns : List Note) (front behind : List Event)
     → events_of ns ≡ front ++ event ∷ behind → MayBefallThere network front event
 may_there network ns front behind event right parts =
     let at = told ns front behind event parts in
-    subst (λ (es : List Event). MayBefallThere network es event) at.same
+    subst (λ es. MayBefallThere network es event) at.same
     (may_by network (events_of at.front) at.note.time at.note.body event at.tells (right at.front at.rest at.note at.whole))
 
 -- the end comes no later than any clock may read
-pub ends_soon : (network : Network) (ns : List Note) (end : Units) → IsInRange network → AreEventsRight network ns → EndWith (events_of ns) end
-    → amount end ≤ 2 ^ 60
-ends_soon network ns end range right ends =
+pub ends_soon : {network : Network} (ns : List Note) (end : Units) → IsInRange network → AreEventsRight network ns
+    → EndWith (events_of ns) end → amount end ≤ 2 ^ 60
+ends_soon {network} ns end range right ends =
     let may = may_there network ns ends.0 [] (end_at end) right ends.1 in
     soon network ends.0 (end_at end) range may.1.within may.1.begun
 
@@ -63,7 +63,7 @@ pub only_end : (network : Network) (ns : List Note) (end : Units) → AreEventsR
     → (time ≡ end) ↔ EndsAt (events_of ns) time
 only_end network ns end right ends time = (
   λ same.
-      subst (λ (t : Units). EndsAt (events_of ns) t) (sym same)
+      subst (λ t. EndsAt (events_of ns) t) (sym same)
       (subst (λ (es : List Event). Contains es (end_at end)) (sym ends.1) (contains_last ends.0 (end_at end))),
   λ has.
       elim (in_front_or_last ends.0 (end_at end) (end_at time) (subst (λ (es : List Event). Contains es (end_at time)) ends.1 has)) [

@@ -58,9 +58,10 @@ tail_of : List (List ℕ) → List (List ℕ)
 tail_of [] = []
 tail_of (w ∷ ws) = ws
 
-split_line : (network : Network) (n : ℕ) (octets left : List ℕ) → IsNamed network → (h : LineThen network n octets left)
-    → slice_split is_line_end octets ≡ note_text network h.note ∷ slice_split is_line_end left
-split_line network n octets left named h =
+split_line : {network : Network} {n : ℕ} {octets left : List ℕ} → IsNamed network
+    → (h : LineThen network n octets left) → slice_split is_line_end octets ≡ note_text network h.note
+    ∷ slice_split is_line_end left
+split_line {network} {octets} {left} named h =
     let text = note_text network h.note in
     let whole : octets ≡ text ++ lf ∷ left = h.text ∙ append_assoc text (codes "\n") left in
     ap (slice_split is_line_end) whole
@@ -73,19 +74,20 @@ then_of network n octets h = record { note = h.note; of_network = h.of_network; 
 pub no_lf : (network : Network) (n : ℕ) (octets : List ℕ) → IsNamed network → position is_line_end octets ≡ None → BeginsWithLine network n octets → ⊥
 unfolding tail_of
 no_lf network n octets named e h =
-    some_part h.rest (sym (ap tail_of (split_line network n octets h.rest named (then_of network n octets h))) ∙ ap tail_of (split_whole octets e))
+    some_part h.rest (sym (ap tail_of (split_line named (then_of network n octets h))) ∙ ap tail_of
+    (split_whole octets e))
 
 -- the text of the line with which they begin
 pub text_at : (network : Network) (n : ℕ) (octets left : List ℕ) (i : ℕ) → IsNamed network → position is_line_end octets ≡ Some i
     → (h : LineThen network n octets left) → take i octets ≡ note_text network h.note
 unfolding head_of
-text_at network n octets left i named e h = ap (head_of []) (sym (split_at octets i e) ∙ split_line network n octets left named h)
+text_at network n octets left i named e h = ap (head_of []) (sym (split_at octets i e) ∙ split_line named h)
 
 -- the text of the first line is one
 pub one_text : (network : Network) (n m : ℕ) (octets left rest : List ℕ) → IsNamed network → (a : LineThen network n octets left)
     → (b : LineThen network m octets rest) → note_text network a.note ≡ note_text network b.note
 unfolding head_of
-one_text network n m octets left rest named a b = ap (head_of []) (sym (split_line network n octets left named a) ∙ split_line network m octets rest named b)
+one_text network n m octets left rest named a b = ap (head_of []) (sym (split_line named a) ∙ split_line named b)
 
 -- where the octets before the first LF are a record's text, its line is the first
 pub record_at : (network : Network) (octets : List ℕ) (i : ℕ) (note : Note) → position is_line_end octets ≡ Some i → IsTextOf network note (take i octets)
@@ -112,7 +114,7 @@ numbered_on notes note numbers next before behind x e =
         → x.number ≡ length before + 1
     by_others notes note numbers next before behind x [] last whole =
         let same : x ≡ note = cc in
-        ap (λ (n : Note). n.number) same ∙ next ∙ ap (λ (ns : List Note). length ns + 1) (whole ∙ append-nil before)
+        ap (λ (n : Note). n.number) same ∙ next ∙ ap (λ ns. length ns + 1) (whole ∙ append-nil before)
     by_others notes note numbers next before behind x (o ∷ others) last whole =
         let same : x ≡ o = cc in
         numbers before others x (whole ∙ ap (λ n. before ++ n ∷ others) (sym same))
@@ -123,9 +125,10 @@ report_on network [] note = append-nil (note_line network note)
 report_on network (n ∷ ns) note = ap (λ (t : List ℕ). note_line network n ++ t) (report_on network ns note)
     ∙ sym (append_assoc (note_line network n) (concat (report_of network ns)) (note_line network note))
 
-pub begins_on : (network : Network) (octets rest left : List ℕ) (notes : List Note) → BeginsWith network octets notes rest
-    → (h : LineThen network (length notes + 1) rest left) → BeginsWith network octets (notes ++ h.note ∷ []) left
-begins_on network octets rest left notes begins h = record {
+pub begins_on : {network : Network} {octets rest left : List ℕ} {notes : List Note}
+    → BeginsWith network octets notes rest → (h : LineThen network (length notes + 1) rest left)
+    → BeginsWith network octets (notes ++ h.note ∷ []) left
+begins_on {network} {left} {notes} begins h = record {
   records = record {
     of_network = All-push (IsNoteOf network) notes h.note begins.records.of_network h.of_network;
     in_range = All-push IsNoteInRange notes h.note begins.records.in_range h.in_range;
@@ -143,14 +146,16 @@ abbrev pub line_of : (network : Network) (note : Note) (n : ℕ) (octets left : 
     → LineThen network n octets left
 line_of network note n octets left h number = record { note = note; of_network = h.of_network; in_range = h.in_range; number = number; text = h.text }
 
-pub begins_more : (network : Network) (octets rest left : List ℕ) (notes : List Note) (note : Note) → BeginsWith network octets notes rest
-    → BeginsWithRecord network note rest left → note.number ≡ length notes + 1 → BeginsWith network octets (notes ++ note ∷ []) left
-begins_more network octets rest left notes note begins h next =
-    begins_on network octets rest left notes begins (line_of network note (length notes + 1) rest left h next)
+pub begins_more : {network : Network} {octets rest left : List ℕ} {notes : List Note} {note : Note}
+    → BeginsWith network octets notes rest → BeginsWithRecord network note rest left → note.number ≡ length notes + 1
+    → BeginsWith network octets (notes ++ note ∷ []) left
+begins_more {network} {rest} {left} {notes} {note} begins h next =
+    begins_on begins (line_of network note (length notes + 1) rest left h next)
 
 -- a line takes some octets
-pub shorter : (network : Network) (note : Note) (octets left : List ℕ) → BeginsWithRecord network note octets left → length left + 1 ≤ length octets
-shorter network note octets left h =
+pub shorter : {network : Network} {note : Note} {octets left : List ℕ} → BeginsWithRecord network note octets left
+    → length left + 1 ≤ length octets
+shorter {network} {note} {left} h =
     omega (arith, ap length h.text, length-append (note_line network note) left, length-append (note_text network note) (codes "\n"))
 
 -- at first no line is read

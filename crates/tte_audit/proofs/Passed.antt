@@ -7,15 +7,15 @@ pub passed_law : PassedLaw
 passed_law network octets ns time named of =
     let exactly = run_exactly place_of (IsDue (scenario_of network ns)) (behind_time time) (happenings network ns) in (
       λ a.
-          let same = same_of network octets a.notes ns a.time time named a.events of in
-          let run = audit_run network a.notes a.time named a.events.right a.run in
-          exactly.0 (subst (λ (t : Units). IsRun place_of (IsDue (scenario_of network ns)) (behind_time t) (happenings network ns)) same.times
-          (subst (λ (ms : List Note). IsRun place_of (IsDue (scenario_of network ms)) (behind_time a.time) (happenings network ms)) same.lists run)),
+          let same = same_of named a.events of in
+          let run = audit_run a.notes a.time named a.events.right a.run in
+          exactly.0 (subst (λ t. IsRun place_of (IsDue (scenario_of network ns)) (behind_time t) (happenings network ns)) same.times
+          (subst (λ ms. IsRun place_of (IsDue (scenario_of network ms)) (behind_time a.time) (happenings network ms)) same.lists run)),
       λ finds. record {
         notes = ns;
         time = time;
         events = of;
-        run = run_of_audit network ns time named of.right (exactly.1 finds);
+        run = run_of_audit ns time named of.right (exactly.1 finds);
         counted = refl;
       },
     )

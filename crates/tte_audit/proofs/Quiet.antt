@@ -9,34 +9,38 @@ pub record GoesBy (network : Network) (befallen : List Event) (time : Units) (bo
   pub may : MayCome network befallen time body
   pub same : with_event befallen time body ≡ befallen
 
-pub goes_by : (network : Network) (befallen : List Event) (time : Units) (body : NoteBody) → HasNoEvent body → GoesBy network befallen time body
-goes_by network befallen time (bodies.Event line what) h = absurd h
-goes_by network befallen time (bodies.Arrived device link cause clock) h = record { may = tt; same = refl }
-goes_by network befallen time (bodies.Permanent device link cause point verdict) h = record { may = tt; same = refl }
-goes_by network befallen time (bodies.Compressed device opened at cycle members verdict) h = record { may = tt; same = refl }
-goes_by network befallen time (bodies.Sent device cycle) h = record { may = tt; same = refl }
-goes_by network befallen time (bodies.Corrected device cycle by adjustment) h = record { may = tt; same = refl }
-goes_by network befallen time (bodies.State device state cause why) h = record { may = tt; same = refl }
-goes_by network befallen time (bodies.Left device link cause clock) h = record { may = tt; same = refl }
-goes_by network befallen time (bodies.Lost device link cause) h = record { may = tt; same = refl }
-goes_by network befallen time (bodies.TtSent device link cause vl cycle) h = record { may = tt; same = refl }
-goes_by network befallen time (bodies.Accepted device link cause vl cycle) h = record { may = tt; same = refl }
-goes_by network befallen time (bodies.Delivered device link cause vl cycle) h = record { may = tt; same = refl }
-goes_by network befallen time (bodies.Dropped device link cause reason) h = record { may = tt; same = refl }
-goes_by network befallen time (bodies.Clock device reading adjustment state) h = record { may = tt; same = refl }
+module _ (network : Network) (befallen : List Event) (time : Units) where
+  pub goes_by : (body : NoteBody) → HasNoEvent body → GoesBy network befallen time body
+  goes_by (bodies.Event line what) h = absurd h
+  goes_by (bodies.Arrived device link cause clock) h = record { may = tt; same = refl }
+  goes_by (bodies.Permanent device link cause point verdict) h = record { may = tt; same = refl }
+  goes_by (bodies.Compressed device opened at cycle members verdict) h = record { may = tt; same = refl }
+  goes_by (bodies.Sent device cycle) h = record { may = tt; same = refl }
+  goes_by (bodies.Corrected device cycle by adjustment) h = record { may = tt; same = refl }
+  goes_by (bodies.State device state cause why) h = record { may = tt; same = refl }
+  goes_by (bodies.Left device link cause clock) h = record { may = tt; same = refl }
+  goes_by (bodies.Lost device link cause) h = record { may = tt; same = refl }
+  goes_by (bodies.TtSent device link cause vl cycle) h = record { may = tt; same = refl }
+  goes_by (bodies.Accepted device link cause vl cycle) h = record { may = tt; same = refl }
+  goes_by (bodies.Delivered device link cause vl cycle) h = record { may = tt; same = refl }
+  goes_by (bodies.Dropped device link cause reason) h = record { may = tt; same = refl }
+  goes_by (bodies.Clock device reading adjustment state) h = record { may = tt; same = refl }
 
-by_fault : (network : Network) (notes : List Note) (note : Note) (old new : Told) (b : Bool) → is_some old.fault ≡ b → AreTold network notes old
-    → HasNoEvent note.body → new.fault ≡ old.fault → new.records ≡ old.records + 1 → new.befallen ≡ old.befallen → AreTold network (notes ++ note ∷ []) new
-by_fault network notes note old new true e told quiet fault next befallen = fault_stays network notes note old new told e fault next
-by_fault network notes note old new false e told quiet fault next befallen =
-    let by = goes_by network (events_of notes) note.time note.body quiet in
-    let own = (followed network notes old told e).follows in
-    let moved = subst (λ b. Follows network b.watch b.history b.count b.end (events_of notes)) (sym befallen) own in
-    goes_on network notes note old new told e fault next by.may
-    (subst (λ (es : List Event). Follows network new.befallen.watch new.befallen.history new.befallen.count new.befallen.end es) (sym by.same) moved)
+module _ (network : Network) (notes : List Note) (note : Note) (old new : Told) where
+  by_fault : (b : Bool) → is_some old.fault ≡ b → AreTold network notes old → HasNoEvent note.body
+      → new.fault ≡ old.fault → new.records ≡ old.records + 1 → new.befallen ≡ old.befallen
+      → AreTold network (notes ++ note ∷ []) new
+  by_fault true e told quiet fault next befallen = fault_stays note new told e fault next
+  by_fault false e told quiet fault next befallen =
+      let by = goes_by network (events_of notes) note.time note.body quiet in
+      let own = (followed network notes old told e).follows in
+      let moved = subst (λ b. Follows network b.watch b.history b.count b.end (events_of notes)) (sym befallen) own in
+      goes_on note new told e fault next by.may
+      (subst (λ es. Follows network new.befallen.watch new.befallen.history new.befallen.count
+      new.befallen.end es) (sym by.same) moved)
 
--- one record more that has no event
-pub passed_on : (network : Network) (notes : List Note) (note : Note) (old new : Told) → AreTold network notes old
-    → HasNoEvent note.body → new.fault ≡ old.fault → new.records ≡ old.records + 1 → new.befallen ≡ old.befallen → AreTold network (notes ++ note ∷ []) new
-passed_on network notes note old new told quiet fault next befallen =
-    by_fault network notes note old new (is_some old.fault) refl told quiet fault next befallen
+  -- one record more that has no event
+  pub passed_on : AreTold network notes old → HasNoEvent note.body → new.fault ≡ old.fault
+      → new.records ≡ old.records + 1 → new.befallen ≡ old.befallen → AreTold network (notes ++ note ∷ []) new
+  passed_on told quiet fault next befallen =
+      by_fault (is_some old.fault) refl told quiet fault next befallen

@@ -6,7 +6,7 @@ pub report_lack_law : ReportLackLaw
 report_lack_law network ns end time sound =
     let law = lack_law (scenario_of network ns) (happenings network ns) (amount end) time sound in (
       λ lack.
-          law.0 (subst (λ (t : ℕ). IsFirstLack (scenario_of network ns) (happenings network ns) (amount end) t)
+          law.0 (subst (λ t. IsFirstLack (scenario_of network ns) (happenings network ns) (amount end) t)
           (sym (ap amount lack.is)) lack.lack),
       λ debt. record { at = time; lack = law.1 debt; is = refl },
     )

@@ -35,10 +35,10 @@ over network notes taken [] rest is text =
 over network notes taken (m ∷ ms) rest is text = absurd (no_octets network m ms rest text)
 
 -- the records that were read first are a front of all
-pub front_of : (network : Network) (octets rest : List ℕ) (taken notes : List Note) → IsNamed network → BeginsWith network octets taken rest
-    → BeginsWith network octets notes [] → GoesOn network taken notes rest []
-front_of network octets rest taken notes named begins all =
-    elim (meet network taken notes rest [] (apart_of network named) begins.records all.records (sym begins.text ∙ all.text)) [
+pub front_of : {network : Network} {octets rest : List ℕ} {taken notes : List Note} → IsNamed network
+    → BeginsWith network octets taken rest → BeginsWith network octets notes [] → GoesOn network taken notes rest []
+front_of {network} {rest} {taken} {notes} named begins all =
+    elim (meet taken notes rest [] (apart_of named) begins.records all.records (sym begins.text ∙ all.text)) [
       | inl on ↦ on
       | inr on ↦ over network notes taken on.more rest on.is on.text
     ]
@@ -49,26 +49,28 @@ pub record IsNext (network : Network) (octets : List ℕ) (taken notes : List No
   pub parts : notes ≡ taken ++ note ∷ behind
   pub begins : BeginsWith network octets (taken ++ note ∷ []) left
 
-pub next_record : (network : Network) (octets rest left : List ℕ) (taken notes : List Note) (note : Note) (n : ℕ) → IsNamed network
-    → BeginsWith network octets taken rest → BeginsWith network octets notes [] → n ≡ length taken → BeginsWithRecord network note rest left
-    → note.number ≡ n + 1 → IsNext network octets taken notes note left
-next_record network octets rest left taken notes note n named begins all counted here number =
-    let next : note.number ≡ length taken + 1 = number ∙ ap (λ (k : ℕ). k + 1) counted in
-    let more = begins_more network octets rest left taken note begins here next in
-    let on = front_of network octets left (taken ++ note ∷ []) notes named more all in
+pub next_record : {network : Network} {octets rest left : List ℕ} {taken notes : List Note} {note : Note} (n : ℕ)
+    → IsNamed network → BeginsWith network octets taken rest → BeginsWith network octets notes [] → n ≡ length taken
+    → BeginsWithRecord network note rest left → note.number ≡ n + 1 → IsNext network octets taken notes note left
+next_record {taken} {note} n named begins all counted here number =
+    let next : note.number ≡ length taken + 1 = number ∙ ap (λ k. k + 1) counted in
+    let more = begins_more begins here next in
+    let on = front_of named more all in
     record { behind = on.more; parts = on.is ∙ append_assoc taken (note ∷ []) on.more; begins = more }
 
 -- where no line comes next, all were taken
-pub all_taken : (network : Network) (octets rest : List ℕ) (taken notes : List Note) (n : ℕ) → IsNamed network → BeginsWith network octets taken rest
-    → BeginsWith network octets notes [] → n ≡ length taken → (BeginsWithLine network (n + 1) rest → ⊥) → notes ≡ taken
-all_taken network octets rest taken notes n named begins all counted none =
-    let on = front_of network octets rest taken notes named begins all in
+pub all_taken : {network : Network} {octets rest : List ℕ} {taken notes : List Note} (n : ℕ) → IsNamed network
+    → BeginsWith network octets taken rest → BeginsWith network octets notes [] → n ≡ length taken
+    → (BeginsWithLine network (n + 1) rest → ⊥) → notes ≡ taken
+all_taken {network} {octets} {rest} {taken} {notes} n named begins all counted none =
+    let on = front_of named begins all in
     ended on.more on.is on.text
   where
     ended : (more : List Note) → notes ≡ taken ++ more → rest ≡ concat (report_of network more) ++ [] → notes ≡ taken
     ended [] is text = is ∙ append-nil taken
     ended (m ∷ ms) is text =
-        absurd (none (subst (λ (k : ℕ). BeginsWithLine network (k + 1) rest) (sym counted) (next_line network octets [] taken notes m ms rest all is text)))
+        absurd (none (subst (λ k. BeginsWithLine network (k + 1) rest) (sym counted)
+        (next_line network octets taken m ms rest all is text)))
 
 -- ---- the event of a record
 
@@ -116,23 +118,26 @@ happening_there network ns front behind note parts =
 
 -- ---- one record more
 
-pub swept_on : (network : Network) (befallen : List Event) (end : Units) (taken : List Note) (note : Note) (sweep : Sweep)
-    → IsSwept network befallen end (happenings network taken ++ happening network (happenings network taken) note ∷ []) sweep
+pub swept_on : {network : Network} {befallen : List Event} {end : Units} (taken : List Note) (note : Note)
+    {sweep : Sweep} → IsSwept network befallen end (happenings network taken
+    ++ happening network (happenings network taken) note ∷ []) sweep
     → IsSwept network befallen end (happenings network (taken ++ note ∷ [])) sweep
-swept_on network befallen end taken note sweep swept =
-    subst (λ (hs : List Happening). IsSwept network befallen end hs sweep) (sym (one_more network taken note)) swept
+swept_on {network} {befallen} {end} taken note {sweep} swept =
+    subst (λ hs. IsSwept network befallen end hs sweep) (sym (one_more network taken note)) swept
 
-pub swept_all : (network : Network) (octets : List ℕ) (ns taken : List Note) (end : Units) (sweep : Sweep) → ns ≡ taken
-    → IsSwept network (events_of ns) end (happenings network taken) sweep → IsSwept network (events_of ns) end (happenings network ns) sweep
-swept_all network octets ns taken end sweep all swept =
-    subst (λ (ms : List Note). IsSwept network (events_of ns) end (happenings network ms) sweep) (sym all) swept
+pub swept_all : {network : Network} (octets : List ℕ) (ns taken : List Note) {end : Units} {sweep : Sweep}
+    → ns ≡ taken → IsSwept network (events_of ns) end (happenings network taken) sweep
+    → IsSwept network (events_of ns) end (happenings network ns) sweep
+swept_all {network} octets ns taken {end} {sweep} all swept =
+    subst (λ ms. IsSwept network (events_of ns) end (happenings network ms) sweep) (sym all) swept
 
 -- a record that is not sound is the first
-pub unfounded_at : (network : Network) (octets : List ℕ) (ns taken behind : List Note) (note : Note) (end : Units) (n : ℕ) → IsOfEvents network octets ns end
-    → ns ≡ taken ++ note ∷ behind → n ≡ length taken + 1 → AreSound place_of (IsDue (scenario_of network ns)) (behind_time end) (happenings network taken)
-    → (IsSound place_of (IsDue (scenario_of network ns)) (behind_time end) (happenings network taken)
-    (happening network (happenings network taken) note) → ⊥) → IsRefusedBy network octets (refusals.Unfounded n)
-unfounded_at network octets ns taken behind note end n of parts number sound unsound =
+pub unfounded_at : {network : Network} {octets : List ℕ} {ns : List Note} (taken behind : List Note) (note : Note)
+    {end : Units} (n : ℕ) → IsOfEvents network octets ns end → ns ≡ taken ++ note ∷ behind → n ≡ length taken + 1
+    → AreSound place_of (IsDue (scenario_of network ns)) (behind_time end) (happenings network taken) →
+    (IsSound place_of (IsDue (scenario_of network ns)) (behind_time end) (happenings network taken) (happening
+    network (happenings network taken) note) → ⊥) → IsRefusedBy network octets (refusals.Unfounded n)
+unfounded_at {network} {ns} taken behind note {end} n of parts number sound unsound =
     let whole = happening_there network ns taken behind note parts in (
       ns,
       end,
@@ -142,7 +147,7 @@ unfounded_at network octets ns taken behind note end n of parts number sound uns
         record_there = happening network (happenings network taken) note;
         behind = whole.0;
         parts = whole.1;
-        number = number ∙ ap (λ (k : ℕ). k + 1) (sym (as_many network taken));
+        number = number ∙ ap (λ k. k + 1) (sym (as_many network taken));
         sound_before = sound;
         unsound = unsound;
       },
@@ -164,41 +169,45 @@ parted_at (x ∷ es) (suc i) event e =
     (x ∷ more.0, more.1, ap (λ (ys : List Event). x ∷ ys) more.2, ap suc more.3)
 
 -- each event of a report has its record
-pub events_paid : (network : Network) (ns : List Note) (until line : ℕ) → AreEventsRight network ns → OwesEvent (scenario_of network ns) until line
-    → IsPaid (happenings network ns) (Pays (scenario_of network ns)) (debts.event line)
-events_paid network ns until line right owes =
+pub events_paid : (network : Network) (ns : List Note) {until line : ℕ} → AreEventsRight network ns
+    → OwesEvent (scenario_of network ns) until line → IsPaid (happenings network ns) (Pays (scenario_of network ns))
+    (debts.event line)
+events_paid network ns {line} right owes =
     let at = parted_at (events_of ns) owes.before owes.event owes.is in
     let by = told ns at.0 at.1 owes.event at.2 in
     let whole = happening_there network ns by.front by.rest by.note by.whole in
     let h = happening network (happenings network by.front) by.note in
-    let number : line ≡ length (events_of by.front) + 1 = owes.line_is ∙ ap (λ (k : ℕ). k + 1) (sym at.3 ∙ ap length (sym by.same)) in (
+    let number : line ≡ length (events_of by.front) + 1 = owes.line_is ∙ ap (λ k. k + 1) (sym at.3 ∙ ap length (sym by.same)) in (
       h,
       subst (IsIn h) (sym whole.1) (in_right h (happenings network by.front) (h ∷ whole.0) (inl refl)),
       tells_line network (events_of by.front) by.note.time by.note.body owes.event line by.tells (right by.front by.rest by.note by.whole) number,
     )
 
--- a report whose records are all sound, and that lacks nothing, is passed
-pub passes : (network : Network) (octets : List ℕ) (ns : List Note) (end : Units) (n : ℕ) → IsNamed network → IsOfEvents network octets ns end
-    → n ≡ length ns → AreSoundNotes network ns end → LacksNothing place_of (IsDue (scenario_of network ns)) (behind_time end) (happenings network ns)
-    → IsAudited network octets n
-passes network octets ns end n named of counted sound lacks =
-    subst (IsAudited network octets) (sym counted) ((passed_law network octets ns end named of).1 (sound, lacks))
+module _ (network : Network) (octets : List ℕ) (ns : List Note) (end : Units) where
+  -- a report whose records are all sound, and that lacks nothing, is passed
+  pub passes : (n : ℕ) → IsNamed network → IsOfEvents network octets ns end → n ≡ length ns
+      → AreSoundNotes network ns end → LacksNothing place_of (IsDue (scenario_of network ns)) (behind_time end)
+      (happenings network ns) → IsAudited network octets n
+  passes n named of counted sound lacks =
+      subst (IsAudited network octets) (sym counted) ((passed_law network octets ns end named of).1 (sound, lacks))
 
--- what its records show is what the octets tell
-pub indexed : (network : Network) (octets : List ℕ) (ns : List Note) (end : Units) (index : Index) → IsNamed network → IsOfEvents network octets ns end
-    → IsIndex network (events_of ns) (happenings network ns) index → IsIndexOf network octets index
-indexed network octets ns end index named of h notes time other =
-    subst (λ (ms : List Note). IsIndex network (events_of ms) (happenings network ms) index) (same_of network octets ns notes end time named of other).lists h
+  -- what its records show is what the octets tell
+  pub indexed : {index : Index} → IsNamed network → IsOfEvents network octets ns end
+      → IsIndex network (events_of ns) (happenings network ns) index → IsIndexOf network octets index
+  indexed {index} named of h notes time other =
+      subst (λ ms. IsIndex network (events_of ms) (happenings network ms) index)
+      (same_of named of other).lists h
 
--- and one that lacks something is refused by the time of that
-pub lacks_at : (network : Network) (octets : List ℕ) (ns : List Note) (end : Units) (t : ℕ) → IsOfEvents network octets ns end → AreSoundNotes network ns end
-    → IsFirstDebt (scenario_of network ns) (happenings network ns) (amount end) t → IsRefusedBy network octets (refusals.Lacking (units_of t))
-lacks_at network octets ns end t of sound debt = (ns, end, of, sound, (report_lack_law network ns end t sound).1 debt)
+  -- and one that lacks something is refused by the time of that
+  pub lacks_at : {t : ℕ} → IsOfEvents network octets ns end → AreSoundNotes network ns end
+      → IsFirstDebt (scenario_of network ns) (happenings network ns) (amount end) t
+      → IsRefusedBy network octets (refusals.Lacking (units_of t))
+  lacks_at {t} of sound debt = (ns, end, of, sound, (report_lack_law network ns end t sound).1 debt)
 
 -- which is no later than the end
-pub lacks_by_end : (network : Network) (ns : List Note) (end : Units) (t : ℕ) → AreSoundNotes network ns end
+pub lacks_by_end : (network : Network) (ns : List Note) (end : Units) {t : ℕ} → AreSoundNotes network ns end
     → IsFirstDebt (scenario_of network ns) (happenings network ns) (amount end) t → t ≤ amount end
-lacks_by_end network ns end t sound debt =
+lacks_by_end network ns end {t} sound debt =
     let lack = (lack_law (scenario_of network ns) (happenings network ns) (amount end) t sound).1 debt in
     let x = lack.missing in
     let soon = timely (time_of x) (amount end) (rank x.note.body ∷ key (members_in x) x.note.body) lack.within in

@@ -15,7 +15,8 @@ line_behind network octets [] i named e h =
 line_behind network octets (n ∷ ns) i named e h =
     let line = line_then network octets n ns h in
     let same = text_at network n.number octets _ i named e line in
-    let here = record_at network octets i n e (record { of_network = line.of_network; in_range = line.in_range; same = same }) in
+    let here = record_at {network = network} octets i {note = n} e
+    (record { of_network = line.of_network; in_range = line.in_range; same = same }) in
     (n, first_then network n octets (drop (i + 1) octets) (n ∷ ns) named here h)
 
 -- ---- found one after another

@@ -63,7 +63,7 @@ first_then network note octets left notes named b h =
     let here = one_record network note octets left b in
     let lines : concat (report_of network (note ∷ [])) ++ left ≡ concat (report_of network notes) ++ [] =
     ap (λ (t : List ℕ). t ++ left) (append-nil (note_line network note)) ∙ sym b.text ∙ h.text ∙ sym (append-nil (concat (report_of network notes))) in
-    by_meeting network note left notes h (meet network (note ∷ []) notes left [] (apart_of network named) here h.of_network lines)
+    by_meeting network note left notes h (meet (note ∷ []) notes left [] (apart_of named) here h.of_network lines)
   where
     by_others : (network : Network) (note : Note) (left : List ℕ) (notes : List Note) (more : List Note) → AreOfNetwork network notes
         → notes ≡ note ∷ more → left ≡ concat (report_of network more) ++ [] → FirstThen network notes note left

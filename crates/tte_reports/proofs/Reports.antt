@@ -20,11 +20,11 @@ audited_of network octets notes end h = record { notes = notes; time = end; even
 
 pub one_notes : (network : Network) (octets : List ℕ) (notes others : List Note) (end last : Units) → IsNamed network
     → IsReportOf network octets notes end → IsReportOf network octets others last → notes ≡ others
-one_notes network octets notes others end last named a b = (same_of network octets notes others end last named a.events b.events).lists
+one_notes network octets notes others end last named a b = (same_of named a.events b.events).lists
 
 pub one_end : (network : Network) (octets : List ℕ) (notes others : List Note) (end last : Units) → IsNamed network
     → IsReportOf network octets notes end → IsReportOf network octets others last → end ≡ last
-one_end network octets notes others end last named a b = (same_of network octets notes others end last named a.events b.events).times
+one_end network octets notes others end last named a b = (same_of named a.events b.events).times
 
 -- ---- how an answer is given
 

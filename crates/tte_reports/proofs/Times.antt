@@ -7,7 +7,7 @@ use Rattle.{tte_reports.{proofs.Under.report_ends, specs.Reports.IsReportOf}, tt
 
 -- the end comes no later than 2^60
 pub end_soon : (network : Network) (octets : List ℕ) (notes : List Note) (end : Units) → IsReportOf network octets notes end → amount end ≤ 2 ^ 60
-end_soon network octets notes end r = ends_soon network notes end r.range r.events.right r.events.ends
+end_soon network octets notes end r = ends_soon notes end r.range r.events.right r.events.ends
 
 -- it is that of the index
 pub end_same : (network : Network) (octets : List ℕ) (notes : List Note) (end : Units) (index : Index) → IsReportOf network octets notes end

@@ -56,7 +56,7 @@ report_under network octets ns time named rules of =
       rules = rules;
       of_network = all_events (λ e. IsOfNetwork network e.what) (IsNoteOf network) (λ n h. of_network network n.time n.body h) ns text.of_network;
       times =
-          in_range (events_of ns) (clocked network ns named of.right).begun
+          in_range (events_of ns) (clocked ns named of.right).begun
           (all_events HoldsNoLess IsNoteInRange (λ n h. holds_no_less n.time n.body h.body) ns text.in_range);
       within = within network ns of.right;
     }

@@ -7,7 +7,7 @@ use Rattle.tte_audit.proofs.auditing.audit_records.Goals as goal
 pub new-requires-clause-timely : goal.new-requires-clause-timely
 new-requires-clause-timely c =
     let told = c.requires.told in
-    ends_soon c.args.network.now told.0 c.args.read.end c.requires.named.in_range told.1.of.right told.1.of.ends
+    ends_soon told.0 c.args.read.end c.requires.named.in_range told.1.of.right told.1.of.ends
 
 pub records-init : goal.records-init
 records-init c =
@@ -51,8 +51,7 @@ returns-in-Err-take_line c =
     let some : 0 < length rest = some_octets (length rest) c.is_empty.result c.is_empty.ensures (search rules) in
     let line = subst (λ r. IsLineSwept network (c.records.records + 1) c.records.sweep c.take_line.new.sweep rest r) c.in-Err-take_line.is
     c.take_line.ensures in
-    refused_line network c.args.report.now rest c.records.records c.records.sweep c.requires.named c.records.invariant.under some
-    c.in-Err-take_line.refusal line
+    refused_line c.requires.named c.records.invariant.under some c.in-Err-take_line.refusal line
 
 pub records-smaller : goal.records-smaller
 records-smaller c =
@@ -87,12 +86,12 @@ from_amount-requires c =
     let network = c.args.network.now in
     let octets = c.args.report.now in
     let under = c.records.invariant.under in
-    let all = all_taken network octets c.records.rest.now under.taken under.notes c.records.records c.requires.named under.begins under.of.text
-    under.counted (no_more_lines network (c.records.records + 1) c.records.rest.now (search rules)) in
-    let swept = swept_all network octets under.notes under.taken under.end c.records.sweep all under.swept in
+    let all = all_taken c.records.records c.requires.named under.begins under.of.text
+    under.counted (no_more_lines {network = network} {n = c.records.records + 1} {rest = c.records.rest.now} (search rules)) in
+    let swept = swept_all octets under.notes under.taken all under.swept in
     let debt = c.in-Some.ensures network (events_of under.notes) under.end (happenings network under.notes) swept
-    (λ line owes. events_paid network under.notes (amount under.end) line under.of.right owes) in
-    let soon = lacks_by_end network under.notes under.end c.in-Some.time swept.sound debt in
+    (λ line owes. events_paid network under.notes under.of.right owes) in
+    let soon = lacks_by_end network under.notes under.end swept.sound debt in
     let timely = swept.timely in
     omega (arith, soon, timely)
 
@@ -101,27 +100,27 @@ returns-in-Some c =
     let network = c.args.network.now in
     let octets = c.args.report.now in
     let under = c.records.invariant.under in
-    let all = all_taken network octets c.records.rest.now under.taken under.notes c.records.records c.requires.named under.begins under.of.text
-    under.counted (no_more_lines network (c.records.records + 1) c.records.rest.now (search rules)) in
-    let swept = swept_all network octets under.notes under.taken under.end c.records.sweep all under.swept in
+    let all = all_taken c.records.records c.requires.named under.begins under.of.text
+    under.counted (no_more_lines {network = network} {n = c.records.records + 1} {rest = c.records.rest.now} (search rules)) in
+    let swept = swept_all octets under.notes under.taken all under.swept in
     let debt = c.in-Some.ensures network (events_of under.notes) under.end (happenings network under.notes) swept
-    (λ line owes. events_paid network under.notes (amount under.end) line under.of.right owes) in
+    (λ line owes. events_paid network under.notes under.of.right owes) in
     subst (λ (t : Units). IsRefusedBy network octets (refusals.Lacking t)) (sym c.from_amount.ensures.value)
-    (lacks_at network octets under.notes under.end c.in-Some.time under.of swept.sound debt)
+    (lacks_at network octets under.notes under.end under.of swept.sound debt)
 
 pub returns-in-None : goal.returns-in-None
 returns-in-None c =
     let network = c.args.network.now in
     let octets = c.args.report.now in
     let under = c.records.invariant.under in
-    let all = all_taken network octets c.records.rest.now under.taken under.notes c.records.records c.requires.named under.begins under.of.text
-    under.counted (no_more_lines network (c.records.records + 1) c.records.rest.now (search rules)) in
-    let swept = swept_all network octets under.notes under.taken under.end c.records.sweep all under.swept in
+    let all = all_taken c.records.records c.requires.named under.begins under.of.text
+    under.counted (no_more_lines {network = network} {n = c.records.records + 1} {rest = c.records.rest.now} (search rules)) in
+    let swept = swept_all octets under.notes under.taken all under.swept in
     let lacks = c.in-None.ensures network (events_of under.notes) under.end (happenings network under.notes) swept
-    (λ line owes. events_paid network under.notes (amount under.end) line under.of.right owes) in
+    (λ line owes. events_paid network under.notes under.of.right owes) in
     record {
       audited = passes network octets under.notes under.end c.records.records c.requires.named under.of (under.counted ∙ ap length (sym all))
           swept.sound lacks;
-      index = indexed network octets under.notes under.end c.into_index.result c.requires.named under.of
+      index = indexed network octets under.notes under.end c.requires.named under.of
           (c.into_index.ensures network (events_of under.notes) under.end (happenings network under.notes) swept);
     }

@@ -21,7 +21,8 @@ returns-in_err-event_line c =
     λ note left h.
     let text = text_at network note.number octets left c.in_ok-place.place c.requires at
     (record { note = note; of_network = h.of_network; in_range = h.in_range; number = refl; text = h.text }) in
-    no_event_read network _ (λ number time line w g. c.event_line.ensures.is number time line w g (search rules)) note
+    no_event_read network _ (λ number time line w g. c.event_line.ensures.is number time line w g
+    (search rules)) {note = note}
     (record { of_network = h.of_network; in_range = h.in_range; same = text }) in
     rw c.from_residual-in_err-event_line.ensures quiet
 
@@ -30,5 +31,5 @@ returns c =
     let octets = c.args.octets.now in
     let place = c.in_ok-place.place in
     let at : position is_line_end octets ≡ Some place = search rules in
-    let here = record_at c.args.network.now octets place _ at c.in_ok-event_line.ensures.text in
+    let here = record_at {network = c.args.network.now} octets place at c.in_ok-event_line.ensures.text in
     subst (BeginsWithRecord c.args.network.now _ octets) (sym (take_rest octets (place + 1))) here

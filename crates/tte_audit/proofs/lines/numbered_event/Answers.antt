@@ -10,7 +10,7 @@ returns-in_err-left c =
 
 pub returns-then-read-number : goal.returns-then-read-number
 returns-then-read-number c note left h =
-    let same = one_record c.args.network.now _ note c.args.octets.now _ left c.requires c.in_ok-left.ensures h.begins in
+    let same = one_record c.requires c.in_ok-left.ensures h.begins in
     absurd (c.if-read-number.true (ap (λ (n : Note). n.number) (c.read.view_is ∙ same) ∙ h.numbered))
 
 pub returns : goal.returns

@@ -10,7 +10,7 @@ returns-then-read-number-clause-next c =
     let note = c.in_ok-read.read in
     let found : c.first_lf.result ≡ Some place = search rules in
     let at : position is_line_end octets ≡ Some place = sym c.first_lf.ensures.place ∙ found in
-    let here = record_at c.args.network.now octets place note at c.in_ok-read.ensures.text in
+    let here = record_at {network = c.args.network.now} octets place {note = note} at c.in_ok-read.ensures.text in
     record {
       begins = subst (BeginsWithRecord c.args.network.now note octets) (sym (take_rest octets (place + 1))) here;
       numbered = ap (λ (n : Note). n.number) (sym c.read.view_is) ∙ c.if-read-number.true;
@@ -38,7 +38,7 @@ returns-in_err-read-clause-none c =
     let g = h.begins in
     let text = text_at network c.args.number octets left c.in_ok-place.place c.requires at
     (record { note = note; of_network = g.of_network; in_range = g.in_range; number = h.numbered; text = g.text }) in
-    no_plain_read network _ (λ number time p t. c.plain_line.ensures.is number time p t (search rules)) note
+    no_plain_read network _ (λ number time p t. c.plain_line.ensures.is number time p t (search rules)) {note = note}
     (record { of_network = g.of_network; in_range = g.in_range; same = text }) quiet in
     rw c.from_residual-in_err-read.ensures no_line
 
@@ -49,6 +49,6 @@ returns-else-read-number-clause-none c note left h quiet =
     let place = c.in_ok-place.place in
     let read = c.in_ok-read.read in
     let at : position is_line_end octets ≡ Some place = search rules in
-    let here = record_at network octets place read at c.in_ok-read.ensures.text in
-    let same = one_record network read note octets _ left c.requires here h.begins in
+    let here = record_at {network = network} octets place {note = read} at c.in_ok-read.ensures.text in
+    let same = one_record c.requires here h.begins in
     c.if-read-number.false (search rules)

@@ -16,7 +16,7 @@ returns-in-Ok-clause-is c i within e =
 pub returns-in-Ok-clause-found : goal.returns-in-Ok-clause-found
 returns-in-Ok-clause-found c =
     let xs = c.args.network.now.link in
-    subst (λ (text : List ℕ). IfSome c.link_named.result (Bears number name xs text)) c.in-Ok.ensures.cases.0
+    subst (λ text. IfSome c.link_named.result (Bears number name xs text)) c.in-Ok.ensures.cases.0
     (first_bears number name xs c.in-Ok.name.now c.link_named.result c.link_named.ensures.first)
 
 pub returns-in-Err-clause-is : goal.returns-in-Err-clause-is

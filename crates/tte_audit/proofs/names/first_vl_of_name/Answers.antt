@@ -16,7 +16,7 @@ returns-in-Ok-clause-is c i within e =
 pub returns-in-Ok-clause-found : goal.returns-in-Ok-clause-found
 returns-in-Ok-clause-found c =
     let xs = c.args.network.now.vl in
-    subst (λ (text : List ℕ). IfSome c.vl_named.result (Bears number name xs text)) c.in-Ok.ensures.cases.0
+    subst (λ text. IfSome c.vl_named.result (Bears number name xs text)) c.in-Ok.ensures.cases.0
     (first_bears number name xs c.in-Ok.name.now c.vl_named.result c.vl_named.ensures.first)
 
 pub returns-in-Err-clause-is : goal.returns-in-Err-clause-is

@@ -11,22 +11,22 @@ lines-init c = record {
 pub take_line-requires-clause-told : goal.take_line-requires-clause-told
 take_line-requires-clause-told c =
     let old = c.lines.invariant.begun in
-    (old.0, subst (λ (n : Network). AreTold n old.0 c.lines.told) (sym c.named_network-network.ensures.value) old.2)
+    (old.0, subst (λ n. AreTold n old.0 c.lines.told) (sym c.named_network-network.ensures.value) old.2)
 
 pub lines-preserved : goal.lines-preserved
 lines-preserved c =
     let network = c.args.accepted.now in
     let left = c.in-Ok-take_line.left.now in
     let old = c.lines.invariant.begun in
-    let line = subst (λ (n : Network). IsLineTold n c.lines.told c.take_line.new.self c.lines.rest.now c.take_line.result) c.named_network-network.ensures.value
+    let line = subst (λ n. IsLineTold n c.lines.told c.take_line.new.self c.lines.rest.now c.take_line.result) c.named_network-network.ensures.value
     c.take_line.ensures in
     let h = subst (λ r. IsLineTold network c.lines.told c.take_line.new.self c.lines.rest.now r) c.in-Ok-take_line.is line in
     let note = h.0 in
     let next : note.number ≡ length old.0 + 1 = omega (arith, h.1.numbered, old.2.counted) in
     let more = h.2 old.0 old.2 in
-    let less = shorter network note c.lines.rest.now left h.1.begins in
+    let less = shorter h.1.begins in
     record {
-      begun = (old.0 ++ note ∷ [], begins_more network c.args.report.now c.lines.rest.now left old.0 note old.1 h.1.begins next, more);
+      begun = (old.0 ++ note ∷ [], begins_more old.1 h.1.begins next, more);
       few = omega (arith, less, c.lines.invariant.few, more.counted, old.2.counted, length-append old.0 (note ∷ []));
     }
 

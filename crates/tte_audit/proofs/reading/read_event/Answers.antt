@@ -7,4 +7,4 @@ returns-in_err-event_line c =
     rw c.from_residual.ensures none
 
 pub returns : goal.returns
-returns c = subst (λ (n : Note). IsTextOf c.args.network.now n c.args.text.now) (sym c.into_note.ensures) c.in_ok-event_line.ensures.text
+returns c = subst (λ n. IsTextOf c.args.network.now n c.args.text.now) (sym c.into_note.ensures) c.in_ok-event_line.ensures.text

@@ -2,7 +2,7 @@ use Rattle.tte_audit.proofs.{Arms.{none_read, with_none}, Words.{IsTextOf, Note,
 use Rattle.tte_audit.proofs.reading.read_note.Goals as goal
 
 pub returns-in-Some : goal.returns-in-Some
-returns-in-Some c = subst (λ (n : Note). IsTextOf c.args.network.now n c.args.text.now) (sym c.note_in.ensures) c.in-Some.ensures.text
+returns-in-Some c = subst (λ n. IsTextOf c.args.network.now n c.args.text.now) (sym c.note_in.ensures) c.in-Some.ensures.text
 
 pub returns-in-None : goal.returns-in-None
 returns-in-None c =

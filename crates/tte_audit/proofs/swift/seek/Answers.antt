@@ -15,7 +15,7 @@ pub look-requires-clause-sought : goal.look-requires-clause-sought
 look-requires-clause-sought c =
     let report = c.args.report.now in
     let told = c.lines.invariant.told in
-    (report, told.0, subst (λ (n : Network). IsSought n report told.0 c.lines.sought) (sym c.named_network-network.ensures.value) told.1)
+    (report, told.0, subst (λ n. IsSought n report told.0 c.lines.sought) (sym c.named_network-network.ensures.value) told.1)
 
 pub lines-smaller : goal.lines-smaller
 lines-smaller c = let fewer = c.in-Some-first_line.ensures.fewer in omega (arith, fewer)
@@ -26,8 +26,8 @@ lines-preserved c =
     let behind = c.in-Some-first_line.ensures in
     let begun = c.lines.invariant.begun in
     let told = c.lines.invariant.told in
-    let own = subst (λ (n : Network). IsSought n report told.0 c.lines.sought) (sym c.named_network-network.ensures.value) told.1 in
-    let on = subst (λ (n : Network). IsSoughtOn n report told.0 c.look.new.self) c.named_network-network.ensures.value
+    let own = subst (λ n. IsSought n report told.0 c.lines.sought) (sym c.named_network-network.ensures.value) told.1 in
+    let on = subst (λ n. IsSoughtOn n report told.0 c.look.new.self) c.named_network-network.ensures.value
     (c.in-Some-look.ensures report begun.0 told.0 begun.1 own) in
     record {
       begun = (

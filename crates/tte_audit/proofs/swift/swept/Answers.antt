@@ -5,7 +5,8 @@ use Rattle.tte_audit.proofs.swift.swept.Goals as goal
 pub new-requires-clause-timely : goal.new-requires-clause-timely
 new-requires-clause-timely c =
     let told = c.requires.sought in
-    ends_soon c.args.network.now told.0 c.in-Some.end c.requires.named.in_range told.1.right (told.1.follows.ends c.in-Some.end c.in-Some.is)
+    ends_soon told.0 c.in-Some.end c.requires.named.in_range told.1.right
+    (told.1.follows.ends c.in-Some.end c.in-Some.is)
 
 pub records-init : goal.records-init
 records-init c =
@@ -15,7 +16,7 @@ records-init c =
     let notes = told.0 in
     let end = c.in-Some.end in
     let ends = told.1.follows.ends end c.in-Some.is in
-    let placed = subst (λ (ps : List ℕ). AreAt network report ps notes) (sym c.as_slice.ensures.value) told.1.placed in
+    let placed = subst (λ ps. AreAt network report ps notes) (sym c.as_slice.ensures.value) told.1.placed in
     record {
       notes = notes;
       end = end;
@@ -78,12 +79,11 @@ returns c =
     let left = c.records.left in
     let empty : length left.octets.now ≡ 0 = search rules in
     let none : length left.places.now ≡ 0 = search rules in
-    let last = at_last network octets left.octets.now on.notes on.end left.places.now c.records.records c.records.sweep on.way on.ends
-    (no_octets_left left.octets.now empty) (no_octets_left left.places.now none) in
+    let last = at_last on.way on.ends (no_octets_left left.octets.now empty) (no_octets_left left.places.now none) in
     let lacks = c.in-None-first_lack.ensures network (events_of last.taken) on.end (happenings network last.taken) last.swept
-    (λ line owes. events_paid network last.taken (amount on.end) line last.of.right owes) in
+    (λ line owes. events_paid network last.taken last.of.right owes) in
     record {
       audited = passes network octets last.taken on.end c.records.records c.requires.named last.of last.counted last.swept.sound lacks;
-      index = indexed network octets last.taken on.end c.into_index.result c.requires.named last.of
+      index = indexed network octets last.taken on.end c.requires.named last.of
           (c.into_index.ensures network (events_of last.taken) on.end (happenings network last.taken) last.swept);
     }

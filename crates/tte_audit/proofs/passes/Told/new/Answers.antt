@@ -2,4 +2,4 @@ use Rattle.tte_audit.proofs.{Telling.none_told, Words.refl}
 use Rattle.tte_audit.proofs.passes.Told.new.Goals as goal
 
 pub returns : goal.returns
-returns c = none_told c.args.accepted.now _ refl refl c.in_ok-befallen.ensures
+returns c = none_told _ refl refl c.in_ok-befallen.ensures

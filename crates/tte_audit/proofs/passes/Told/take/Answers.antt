@@ -5,7 +5,7 @@ use Rattle.tte_audit.proofs.passes.Told.take.Goals as goal
 
 pub returns-then-is_some : goal.returns-then-is_some
 returns-then-is_some c network notes told of =
-    fault_stays network notes c.args.read.now c.args.self.now _ told (sym c.is_some.ensures ∙ c.if-is_some.true) refl refl
+    fault_stays c.args.read.now _ told (sym c.is_some.ensures ∙ c.if-is_some.true) refl refl
 
 pub admit-requires-clause-few : goal.admit-requires-clause-few
 admit-requires-clause-few c =
@@ -21,10 +21,10 @@ returns-then-not-branch c network notes told of =
       time = c.read.inside.event.time;
       body = Event c.read.inside.line c.read.inside.event.what;
     } in
-    let of' : IsNoteOf network note = subst (λ (n : Note). IsNoteOf network n) (sym c.read.view_is) of in
+    let of' : IsNoteOf network note = subst (λ n. IsNoteOf network n) (sym c.read.view_is) of in
     let wrong = match_false c.in_ok-admit.field-0 _ _ (c.in_ok-admit.ensures network (events_of notes) own.follows of') c.if-not-branch.true in
     let wrong' = subst (λ (n : Note). MayCome network (events_of notes) n.time n.body → ⊥) c.read.view_is wrong in
-    stops network notes c.args.read.now c.args.self.now _ told none refl refl wrong'
+    stops c.args.read.now _ told none refl refl wrong'
 
 pub returns-else-not-branch : goal.returns-else-not-branch
 returns-else-not-branch c network notes told of =
@@ -35,10 +35,10 @@ returns-else-not-branch c network notes told of =
       time = c.read.inside.event.time;
       body = Event c.read.inside.line c.read.inside.event.what;
     } in
-    let of' : IsNoteOf network note = subst (λ (n : Note). IsNoteOf network n) (sym c.read.view_is) of in
+    let of' : IsNoteOf network note = subst (λ n. IsNoteOf network n) (sym c.read.view_is) of in
     let more = match_true c.in_ok-admit.field-0 _ _ (c.in_ok-admit.ensures network (events_of notes) own.follows of') c.if-not-branch.false in
     let may = subst (λ (n : Note). MayCome network (events_of notes) n.time n.body) c.read.view_is more.0 in
     let new = c.admit.new.self in
     let follows =
     subst (λ (n : Note). Follows network new.watch new.history new.count new.end (with_event (events_of notes) n.time n.body)) c.read.view_is more.1 in
-    goes_on network notes c.args.read.now c.args.self.now _ told none refl refl may follows
+    goes_on c.args.read.now _ told none refl refl may follows

@@ -12,7 +12,7 @@ returns c report front notes parts sought =
       time = c.read.inside.event.time;
       body = Event c.read.inside.line c.read.inside.event.what;
     } in
-    let begins = subst (λ (n : Note). BeginsWithRecord network n octets left) (sym c.read.view_is) c.in_ok-event_record.ensures in
+    let begins = subst (λ n. BeginsWithRecord network n octets left) (sym c.read.view_is) c.in_ok-event_record.ensures in
     let more = match_true c.in-Ok-true.field-0 _ _ (c.in-Ok-true.ensures network (events_of notes) sought.follows begins.of_network)
     c.in-Ok-true.field-0-test in
-    one_sought network report front octets left notes note c.args.self.now _ sought parts begins more.0 more.1 c.in-Ok.ensures.items
+    one_sought network report front _ sought parts begins more.0 more.1 c.in-Ok.ensures.items

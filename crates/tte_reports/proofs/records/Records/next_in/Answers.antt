@@ -9,7 +9,8 @@ returns-in-Some-read_note c notes h =
     let octets = c.args.self.now.rest.now in
     let place = c.in-Some.place in
     let at : position is_line_end octets ≡ Some place = sym c.first_lf.ensures.place ∙ c.in-Some.is in
-    let here = record_at network octets place c.read_note.new.note at c.in-Some-read_note.ensures in
+    let here = record_at {network = network} octets
+    place {note = c.read_note.new.note} at c.in-Some-read_note.ensures in
     let next = first_then network c.read_note.new.note octets (drop (place + 1) octets) notes c.requires.named here h in
     let left = take_rest octets (place + 1) in
     (next.rest, next.is, subst (λ xs. AreLines network xs next.rest) (sym left) next.lines)
