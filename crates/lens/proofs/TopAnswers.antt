@@ -69,7 +69,7 @@ answer_one one words (Some Plan) range octets messages a b p q =
     network_answer_one one (IsPlanFor messages octets) octets
     (λ network accepted. plan_one_for messages octets network (rules_give_trees network (shape_rules network accepted.rules))) a b p q
 answer_one one words (Some (Report question)) range octets report a b p q =
-    report_one one report_limit (IsQuestionAnswer words question) (question_one words question) octets report a b p q
+    report_one one report_limit (IsQuestionAnswer words question) (question_one words question) report a b p q
 answer_one one words (Some (DrawNamed part name)) range octets report a b p q = named_one one words part name octets report a b p q
 answer_one one words (Some (Events seed cycles)) range octets report a b p q = events_one one seed cycles range.1 octets a b p q
 

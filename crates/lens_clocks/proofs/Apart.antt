@@ -17,7 +17,8 @@ spreads_are_within network octets ns end k ends rules r passed e =
     let first = (clocks_are_in_step s hs t low.0).0 low.1 in
     let last = (clocks_are_in_step s hs t high.0).0 high.1 in
     let soon = (cycles_have_passed s (amount end) k r.range).0 passed in
-    let close = (report_well network octets ns end rules r).safe.precision.after t high.0.device low.0.device soon last.in_step first.in_step in
+    let close = (report_well rules r).safe.precision.after t high.0.device low.0.device soon last.in_step
+    first.in_step in
     let far = close.one in
     let top : ends.greatest ≡ local s hs high.0.device t = sym high.2 ∙ last.shows in
     let bottom : ends.least ≡ local s hs low.0.device t = sym low.2 ∙ first.shows in

@@ -12,7 +12,7 @@ none_counted IsSo n none (t ∷ ts, are, is) = absurd (none t (are.each t (inl r
 none_at : (network : Network) (octets : List ℕ) (ns : List Note) (end : Units) (flow : Flow) (t : ℕ) → KeepsRules network → IsReportOf network octets ns end
     → IsMissingAt (scenario_under network (events_of ns)) (happenings network ns) (amount end) flow t → ⊥
 none_at network octets ns end flow t rules r m =
-    let d = (report_well network octets ns end rules r).safe.delivery flow.vl flow.of_vl m.cycle flow.device m.owed.owed in
+    let d = (report_well rules r).safe.delivery flow.vl flow.of_vl m.cycle flow.device m.owed.owed in
     m.none d.delivery d.link d.cause d.there d.is
 
 pub missing_none : (network : Network) (octets : List ℕ) (ns : List Note) (end : Units) (one : FlowTold) → KeepsRules network

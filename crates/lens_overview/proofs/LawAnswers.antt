@@ -119,7 +119,8 @@ spread_close network octets ns end note n rules r i e =
     let far = by_apart s hs (moment note) note.body n e in
     let at = note_before note ns i in
     let soon = none_later network octets ns end r at.0 at.1 note at.2 in
-    let close = (report_well network octets ns end rules r).safe.precision.after (moment note) far.high.device far.low.device soon far.high.in_step
+    let close = (report_well rules r).safe.precision.after (moment note) far.high.device far.low.device soon
+    far.high.in_step
     far.low.in_step in
     let one = close.one in
     let other = close.other in

@@ -7,7 +7,7 @@ use Rattle.{std.proofs.Common.{◌∷◌, ◌≡◌, List, [], inl, refl, ℕ}, 
 none_missed : (network : Network) (octets : List ℕ) (ns : List Note) (end : Units) (m : Missed) → KeepsRules network → IsReportOf network octets ns end
     → IsMissed (scenario_under network (events_of ns)) (happenings network ns) (amount end) m → ⊥
 none_missed network octets ns end m rules r missed =
-    let d = (report_well network octets ns end rules r).safe.delivery m.vl missed.of_vl m.cycle m.device missed.owed in
+    let d = (report_well rules r).safe.delivery m.vl missed.of_vl m.cycle m.device missed.owed in
     missed.none d.delivery d.link d.cause d.there d.is
 
 -- so these are all

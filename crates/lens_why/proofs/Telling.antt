@@ -123,9 +123,9 @@ module _ (network : Network) (octets : List ℕ) (first note : Note) (old now : 
       → GivesAnswer (IsWhyAnswer first.number network notes end) status old after
   among named notes end of status after given =
       subst (λ (ns : List Note). GivesAnswer (IsWhyAnswer first.number network ns end) status old after)
-      (one_notes network octets t.notes notes t.end end named t.of of)
+      (one_notes named t.of of)
       (subst (λ (e : Units). GivesAnswer (IsWhyAnswer first.number network t.notes e) status old after)
-      (one_end network octets t.notes notes t.end end named t.of of) given)
+      (one_end named t.of of) given)
 
   -- the record at hand comes from none, or from another
   there_or_none : IsNoneOrThere all (cause_of t.h.note.body)

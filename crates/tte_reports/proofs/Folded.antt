@@ -23,16 +23,16 @@ module _ {T : Type 0} (holds : Holds T) (network : Network) (notes : List Note) 
   pub taken_all : (begun taker : T) (records : Records) (so : IsTakenSoFar holds network notes begun taker records) → so.rest ≡ []
       → holds network notes notes begun taker
   taken_all begun taker records so none =
-      subst (λ (ns : List Note). holds network notes ns begun taker)
+      subst (λ ns. holds network notes ns begun taker)
       (sym (so.parts ∙ ap (λ (ns : List Note). so.before ++ ns) none ∙ append-nil so.before)) so.taken
 
 -- the next record takes octets
-pub fewer_left : (network : Network) (note : Note) (notes rest : List Note) (old new : Records) → notes ≡ note ∷ rest → AreLeft network old notes
-    → AreLeft network new rest → length new.rest.now < length old.rest.now
-fewer_left network note notes rest old new is before after =
+pub fewer_left : {network : Network} (note : Note) {notes rest : List Note} (old new : Records) → notes ≡ note ∷ rest
+    → AreLeft network old notes → AreLeft network new rest → length new.rest.now < length old.rest.now
+fewer_left {network} note {rest} old new is before after =
     let whole : old.rest.now ≡ note_line network note ++ concat (report_of network rest) =
-    before.text ∙ ap (λ (ns : List Note). concat (report_of network ns)) is in
-    let long = ap (λ (xs : List ℕ). length xs) whole ∙ length-append (note_line network note) (concat (report_of network rest)) in
-    let short = ap (λ (xs : List ℕ). length xs) after.text in
+    before.text ∙ ap (λ ns. concat (report_of network ns)) is in
+    let long = ap (λ xs. length xs) whole ∙ length-append (note_line network note) (concat (report_of network rest)) in
+    let short = ap (λ xs. length xs) after.text in
     let line = length-append (note_text network note) (10 ∷ []) in
     omega (arith, long, short, line)

@@ -8,16 +8,17 @@ use Rattle.{tte_audit.proofs.Parts.{record_at, text_at}, tte_units.proofs.genera
 use Rattle.tte_reports.{proofs.RecordLines.{FirstThen, first_then, line_then, none_left}, specs.{Places.{ArePlaces, BeginsAt, note_at}, Reports.AreLines}}
 
 -- behind the first LF the lines of the other records begin
-line_behind : (network : Network) (octets : List ℕ) (notes : List Note) (i : ℕ) → IsNamed network → position is_line_end octets ≡ Some i
-    → AreLines network octets notes → (n : Note) × FirstThen network notes n (drop (i + 1) octets)
-line_behind network octets [] i named e h =
+line_behind : {network : Network} {octets : List ℕ} (notes : List Note) (i : ℕ) → IsNamed network
+    → position is_line_end octets ≡ Some i → AreLines network octets notes
+    → (n : Note) × FirstThen network notes n (drop (i + 1) octets)
+line_behind {octets} [] i named e h =
     let none : position is_line_end octets ≡ None = ap (position is_line_end) h.text in absurd cc
-line_behind network octets (n ∷ ns) i named e h =
+line_behind {network} {octets} (n ∷ ns) i named e h =
     let line = line_then network octets n ns h in
     let same = text_at network n.number octets _ i named e line in
     let here = record_at {network = network} octets i {note = n} e
     (record { of_network = line.of_network; in_range = line.in_range; same = same }) in
-    (n, first_then network n octets (drop (i + 1) octets) (n ∷ ns) named here h)
+    (n, first_then named here h)
 
 -- ---- found one after another
 
@@ -51,13 +52,13 @@ found_none octets = record {
 }
 
 -- the place of what is left
-pub place_left : (octets rest places : List ℕ) → IsFoundSoFar octets rest places → length rest ≤ length octets
-place_left octets rest places h =
-    let long = ap (λ (xs : List ℕ). length xs) h.whole ∙ length-append h.front rest in omega (arith, long)
+pub place_left : {octets rest places : List ℕ} → IsFoundSoFar octets rest places → length rest ≤ length octets
+place_left {rest} h =
+    let long = ap (λ xs. length xs) h.whole ∙ length-append h.front rest in omega (arith, long)
 
 module _ (octets rest places : List ℕ) (so : IsFoundSoFar octets rest places) (i : ℕ) (e : position is_line_end rest ≡ Some i) where
   here : length octets - length rest ≡ length so.front
-  here = let long = ap (λ (xs : List ℕ). length xs) so.whole ∙ length-append so.front rest in omega (arith, long)
+  here = let long = ap (λ xs. length xs) so.whole ∙ length-append so.front rest in omega (arith, long)
 
   begins_here : drop (length octets - length rest) octets ≡ rest
   begins_here = ap (λ (n : ℕ). drop n octets) here ∙ ap (λ (xs : List ℕ). drop (length so.front) xs) so.whole ∙ drop-append_seam so.front rest
@@ -69,8 +70,8 @@ module _ (octets rest places : List ℕ) (so : IsFoundSoFar octets rest places) 
         ap (λ (ns : List Note). drop (length f.before) ns) f.parts ∙ drop-append_seam f.before f.behind in
         record {
           within = omega arith;
-          lines = subst (λ (xs : List ℕ). AreLines network xs (drop (length f.before) notes)) (sym begins_here)
-              (subst (λ (ns : List Note). AreLines network rest ns) (sym notes_left) f.left);
+          lines = subst (λ xs. AreLines network xs (drop (length f.before) notes)) (sym begins_here)
+              (subst (λ ns. AreLines network rest ns) (sym notes_left) f.left);
         }
 
     each_more : (k place : ℕ) → slice_get (places ++ (length octets - length rest) ∷ []) k ≡ Some place → BeginsAt network octets notes k place
@@ -78,13 +79,13 @@ module _ (octets rest places : List ℕ) (so : IsFoundSoFar octets rest places) 
         elim (pushed places (length octets - length rest) place k there) [
           | inl old ↦ f.each k place old
           | inr new ↦
-              subst (λ (n : ℕ). BeginsAt network octets notes k n) new.1
-              (subst (λ (n : ℕ). BeginsAt network octets notes n (length octets - length rest)) (sym (new.0 ∙ f.count)) begins_at)
+              subst (λ n. BeginsAt network octets notes k n) new.1
+              (subst (λ n. BeginsAt network octets notes n (length octets - length rest)) (sym (new.0 ∙ f.count)) begins_at)
         ]
 
     one_more : IsNamed network → AreFound network octets (drop (i + 1) rest) notes (places ++ (length octets - length rest) ∷ [])
     one_more named =
-        let next = line_behind network rest f.behind i named e f.left in
+        let next = line_behind f.behind i named e f.left in
         record {
           before = f.before ++ next.0 ∷ [];
           behind = next.1.rest;
@@ -97,9 +98,10 @@ module _ (octets rest places : List ℕ) (so : IsFoundSoFar octets rest places) 
           each = each_more;
         }
 
-pub found_one : (octets rest places : List ℕ) → IsFoundSoFar octets rest places → (i : ℕ) → position is_line_end rest ≡ Some i
-    → IsFoundSoFar octets (drop (i + 1) rest) (places ++ (length octets - length rest) ∷ [])
-found_one octets rest places so i e = record {
+pub found_one : {octets rest places : List ℕ} → IsFoundSoFar octets rest places → (i : ℕ)
+    → position is_line_end rest ≡ Some i → IsFoundSoFar octets (drop (i + 1) rest)
+    (places ++ (length octets - length rest) ∷ [])
+found_one {octets} {rest} {places} so i e = record {
   front = so.front ++ take (i + 1) rest;
   whole = so.whole ∙ ap (λ (xs : List ℕ). so.front ++ xs) (sym (take-append-drop (i + 1) rest))
       ∙ sym (append_assoc so.front (take (i + 1) rest) (drop (i + 1) rest));
@@ -107,13 +109,14 @@ found_one octets rest places so i e = record {
 }
 
 -- none is left
-pub found_all : (octets rest places : List ℕ) → IsFoundSoFar octets rest places → position is_line_end rest ≡ None → (network : Network) (notes : List Note)
-    → IsNamed network → AreLines network octets notes → ArePlaces network octets notes places
-found_all octets rest places so e network notes named h =
+pub found_all : {octets rest places : List ℕ} → IsFoundSoFar octets rest places → position is_line_end rest ≡ None
+    → {network : Network} {notes : List Note} → IsNamed network → AreLines network octets notes
+    → ArePlaces network octets notes places
+found_all so e {network} {notes} named h =
     let f = so.found network notes named h in
-    let none = none_left network rest f.behind named e f.left in
+    let none = none_left f.behind named e f.left in
     let all = f.parts ∙ ap (λ (ns : List Note). f.before ++ ns) none ∙ append-nil f.before in
-    record { count = f.count ∙ ap (λ (ns : List Note). length ns) (sym all); each = f.each }
+    record { count = f.count ∙ ap (λ ns. length ns) (sym all); each = f.each }
 
 -- ---- the record of a number
 
@@ -128,7 +131,7 @@ suc_of zero some = absurd (some refl)
 suc_of (suc k) some = omega arith
 
 at_number : (notes : List Note) (number : ℕ) → (number ≡ 0 → ⊥) → note_at notes number ≡ slice_get notes (number - 1)
-at_number notes number some = ap (λ (n : ℕ). note_at notes n) (suc_of number some)
+at_number notes number some = ap (λ n. note_at notes n) (suc_of number some)
 
 module _ (network : Network) (octets : List ℕ) (notes : List Note) (places : List ℕ) (are : ArePlaces network octets notes places) (number : ℕ)
     (some : number ≡ 0 → ⊥) where
@@ -142,7 +145,7 @@ module _ (network : Network) (octets : List ℕ) (notes : List Note) (places : L
       → MatchOption result (drop (number - 1) notes ≡ []) (λ note. (rest : List Note) × (drop (number - 1) notes ≡ note ∷ rest) × P note rest)
       → result ≡ note_at notes number
   note_read P less None none =
-      let left = sym (length-drop (number - 1) notes) ∙ ap (λ (ns : List Note). length ns) none in
+      let left = sym (length-drop (number - 1) notes) ∙ ap (λ ns. length ns) none in
       let count = are.count in absurd (omega (arith, left, less, count))
   note_read P less (Some note) h = sym (at_number notes number some ∙ got_at notes h.0 note (number - 1) h.1)
 

@@ -6,8 +6,9 @@ use Rattle.{std.specs.{List.concat, Prelude.position}, tte_audit.{proofs.Parts.{
 use Rattle.tte_audit.{proofs.Meet.{GoesOn, apart_of, meet, no_octets}, specs.Report.{BeginsWith, BeginsWithRecord, IsTextOf, LineThen, is_line_end}}
 use Rattle.tte_reports.specs.Reports.{AreLines}
 
-pub begun_lines : (network : Network) (octets : List ℕ) (notes : List Note) → BeginsWith network octets notes [] → AreLines network octets notes
-begun_lines network octets notes h =
+pub begun_lines : {network : Network} {octets : List ℕ} {notes : List Note} → BeginsWith network octets notes []
+    → AreLines network octets notes
+begun_lines {network} {notes} h =
     record { of_network = h.records; text = h.text ∙ append-nil (concat (report_of network notes)) }
 
 -- the records behind the first
@@ -25,19 +26,20 @@ line_then network octets n ns h = record {
 }
 
 -- no LF, no record
-pub none_left : (network : Network) (octets : List ℕ) (notes : List Note) → IsNamed network → position is_line_end octets ≡ None
-    → AreLines network octets notes → notes ≡ []
-none_left network octets [] named e h = refl
-none_left network octets (n ∷ ns) named e h =
+pub none_left : {network : Network} {octets : List ℕ} (notes : List Note) → IsNamed network
+    → position is_line_end octets ≡ None → AreLines network octets notes → notes ≡ []
+none_left [] named e h = refl
+none_left {network} {octets} (n ∷ ns) named e h =
     let line = line_then network octets n ns h in
     absurd (no_lf network n.number octets named e
     (record { note = n; of_network = line.of_network; in_range = line.in_range; number = refl; rest = concat (report_of network ns); text = h.text }))
 
 -- octets before an LF that are the text of no record are before none
-pub no_text_left : (network : Network) (octets : List ℕ) (notes : List Note) (i : ℕ) → IsNamed network → position is_line_end octets ≡ Some i
-    → ((n : Note) → IsTextOf network n (take i octets) → ⊥) → AreLines network octets notes → notes ≡ []
-no_text_left network octets [] i named e none h = refl
-no_text_left network octets (n ∷ ns) i named e none h =
+pub no_text_left : {network : Network} {octets : List ℕ} (notes : List Note) (i : ℕ) → IsNamed network
+    → position is_line_end octets ≡ Some i → ((n : Note) → IsTextOf network n (take i octets) → ⊥)
+    → AreLines network octets notes → notes ≡ []
+no_text_left [] i named e none h = refl
+no_text_left {network} {octets} (n ∷ ns) i named e none h =
     let line = line_then network octets n ns h in
     absurd (none n (record {
       of_network = line.of_network;
@@ -51,16 +53,17 @@ pub record FirstThen (network : Network) (notes : List Note) (note : Note) (left
   pub is : notes ≡ note ∷ rest
   pub lines : AreLines network left rest
 
-one_record : (network : Network) (note : Note) (octets left : List ℕ) → BeginsWithRecord network note octets left → AreOfNetwork network (note ∷ [])
-one_record network note octets left h = record {
+one_record : {network : Network} {note : Note} {octets left : List ℕ} → BeginsWithRecord network note octets left
+    → AreOfNetwork network (note ∷ [])
+one_record {network} {note} h = record {
   of_network = All-cons (IsNoteOf network) note [] h.of_network (All-nil (IsNoteOf network));
   in_range = All-cons IsNoteInRange note [] h.in_range (All-nil IsNoteInRange);
 }
 
-pub first_then : (network : Network) (note : Note) (octets left : List ℕ) (notes : List Note) → IsNamed network
+pub first_then : {network : Network} {note : Note} {octets left : List ℕ} {notes : List Note} → IsNamed network
     → BeginsWithRecord network note octets left → AreLines network octets notes → FirstThen network notes note left
-first_then network note octets left notes named b h =
-    let here = one_record network note octets left b in
+first_then {network} {note} {octets} {left} {notes} named b h =
+    let here = one_record b in
     let lines : concat (report_of network (note ∷ [])) ++ left ≡ concat (report_of network notes) ++ [] =
     ap (λ (t : List ℕ). t ++ left) (append-nil (note_line network note)) ∙ sym b.text ∙ h.text ∙ sym (append-nil (concat (report_of network notes))) in
     by_meeting network note left notes h (meet (note ∷ []) notes left [] (apart_of named) here h.of_network lines)

@@ -14,17 +14,18 @@ use Rattle.tte_reports.specs.declared.no_report.NoReport.TheVariants as causes
 
 -- ---- the records of a report are one list, with one end
 
-pub audited_of : (network : Network) (octets : List ℕ) (notes : List Note) (end : Units) → IsReportOf network octets notes end
-    → IsAudited network octets (length notes)
-audited_of network octets notes end h = record { notes = notes; time = end; events = h.events; run = h.run; counted = refl }
+pub audited_of : {network : Network} {octets : List ℕ} {notes : List Note} {end : Units}
+    → IsReportOf network octets notes end → IsAudited network octets (length notes)
+audited_of {notes} {end} h = record { notes = notes; time = end; events = h.events; run = h.run; counted = refl }
 
-pub one_notes : (network : Network) (octets : List ℕ) (notes others : List Note) (end last : Units) → IsNamed network
-    → IsReportOf network octets notes end → IsReportOf network octets others last → notes ≡ others
-one_notes network octets notes others end last named a b = (same_of named a.events b.events).lists
+module _ {network : Network} {octets : List ℕ} {notes others : List Note} {end last : Units}
+    (named : IsNamed network) (a : IsReportOf network octets notes end)
+    (b : IsReportOf network octets others last) where
+  pub one_notes : notes ≡ others
+  one_notes = (same_of named a.events b.events).lists
 
-pub one_end : (network : Network) (octets : List ℕ) (notes others : List Note) (end last : Units) → IsNamed network
-    → IsReportOf network octets notes end → IsReportOf network octets others last → end ≡ last
-one_end network octets notes others end last named a b = (same_of named a.events b.events).times
+  pub one_end : end ≡ last
+  one_end = (same_of named a.events b.events).times
 
 -- ---- how an answer is given
 
@@ -42,11 +43,13 @@ report_given limit IsAnswerFor network left report status old new h given =
     (λ a is. inr (fits, inr (notes, end, of, is))) (given notes end (subst (λ xs. IsReportOf network xs notes end) (sym same) of))) h
 
 -- that there is no report is the answer for the octets of the file
-pub no_report_answered : (limit : ℕ) (IsAnswerFor : AnswersFor) (network : Network) (left : Option (List ℕ)) (cause : NoReport)
-    (status : Status) (old new : Shown) → ForOctets left (λ octets. IsNoReport limit network octets cause) → Gives (no_report_answer cause) status old new
-    → ((cause ≡ causes.ReadFault) ⊎ (cause ≡ causes.OutOfMemory) → (status ≡ WriteFault → ⊥) × PutsNone old new)
-    → ForOctets left (λ octets. GivesAnswer (IsReportAnswer limit IsAnswerFor octets network) status old new)
-no_report_answered limit IsAnswerFor network left cause status old new h g unput =
+pub no_report_answered : (limit : ℕ) (IsAnswerFor : AnswersFor) (network : Network) (left : Option (List ℕ))
+    (cause : NoReport) (status : Status) {old new : Shown}
+    → ForOctets left (λ octets. IsNoReport limit network octets cause)
+    → Gives (no_report_answer cause) status old new → ((cause ≡ causes.ReadFault) ⊎ (cause ≡ causes.OutOfMemory)
+    → (status ≡ WriteFault → ⊥) × PutsNone old new) → ForOctets left
+    (λ octets. GivesAnswer (IsReportAnswer limit IsAnswerFor octets network) status old new)
+no_report_answered limit IsAnswerFor network left cause status {old} {new} h g unput =
     for_more left (λ octets. IsNoReport limit network octets cause)
     (λ octets. GivesAnswer (IsReportAnswer limit IsAnswerFor octets network) status old new)
     (λ octets none. no_report_given limit (IsReportAnswer limit IsAnswerFor octets network) network octets cause status old new
@@ -54,87 +57,102 @@ no_report_answered limit IsAnswerFor network left cause status old new h g unput
 
 -- ---- the answer is one
 
-report_or_fails : (network : Network) (octets : List ℕ) (notes : List Note) (end : Units) (refusal : AuditRefusal) → KeepsRules network
-    → IsReportOf network octets notes end → FailsAudit network octets refusal → ⊥
-report_or_fails network octets notes end refusal rules r f =
-    (answer_law network octets (kept_apart network rules r.range)).not_both (length notes) refusal f.of_report (audited_of network octets notes end r) f.refused
+report_or_fails : {network : Network} {octets : List ℕ} {notes : List Note} {end : Units} {refusal : AuditRefusal}
+    → KeepsRules network → IsReportOf network octets notes end → FailsAudit network octets refusal → ⊥
+report_or_fails {network} {octets} {notes} {refusal} rules r f =
+    (answer_law network octets (kept_apart network rules r.range)).not_both (length notes) refusal f.of_report
+    (audited_of r) f.refused
 
 -- a report has the answers for its records alone
-judged_alone : (IsAnswerFor : AnswersFor) (network : Network) (octets : List ℕ) (notes : List Note) (end : Units)
-    → KeepsRules network → IsReportOf network octets notes end → (b : Answer) → IsJudgedAnswer IsAnswerFor octets network b → IsAnswerFor network notes end b
-judged_alone IsAnswerFor network octets notes end rules r b (inl h) = absurd (report_or_fails network octets notes end h.0 rules r h.1)
-judged_alone IsAnswerFor network octets notes end rules r b (inr h) =
+judged_alone : (IsAnswerFor : AnswersFor) {network : Network} {octets : List ℕ} {notes : List Note} {end : Units}
+    → KeepsRules network → IsReportOf network octets notes end → (b : Answer)
+    → IsJudgedAnswer IsAnswerFor octets network b → IsAnswerFor network notes end b
+judged_alone IsAnswerFor rules r b (inl h) = absurd (report_or_fails rules r h.1)
+judged_alone IsAnswerFor {network} {end} rules r b (inr h) =
     let named = kept_apart network rules r.range in
-    let same = one_notes network octets h.0 notes h.1 end named h.2 r in
-    let ends = one_end network octets h.0 notes h.1 end named h.2 r in
+    let same = one_notes named h.2 r in
+    let ends = one_end named h.2 r in
     subst (λ (ns : List Note). IsAnswerFor network ns end b) same (subst (λ (e : Units). IsAnswerFor network h.0 e b) ends h.3)
 
-pub report_alone : (limit : ℕ) (IsAnswerFor : AnswersFor) (network : Network) (octets : List ℕ) (notes : List Note) (end : Units)
-    → KeepsRules network → length octets ≤ limit → IsReportOf network octets notes end → (b : Answer)
+pub report_alone : (limit : ℕ) (IsAnswerFor : AnswersFor) {network : Network} {octets : List ℕ} {notes : List Note}
+    {end : Units} → KeepsRules network → length octets ≤ limit → IsReportOf network octets notes end → (b : Answer)
     → IsReportAnswer limit IsAnswerFor octets network b → IsAnswerFor network notes end b
-report_alone limit IsAnswerFor network octets notes end rules fits r b (inl h) = absurd (omega (arith, h.0, fits))
-report_alone limit IsAnswerFor network octets notes end rules fits r b (inr h) = judged_alone IsAnswerFor network octets notes end rules r b h.1
+report_alone limit IsAnswerFor rules fits r b (inl h) = absurd (omega (arith, h.0, fits))
+report_alone limit IsAnswerFor rules fits r b (inr h) = judged_alone IsAnswerFor rules r b h.1
 
-judged_one : (IsAnswerFor : AnswersFor) → IsOneFor IsAnswerFor → (network : Network) (octets : List ℕ) (a b : Answer)
-    → KeepsRules network → IsJudgedAnswer IsAnswerFor octets network a → IsJudgedAnswer IsAnswerFor octets network b → a ≡ b
-judged_one IsAnswerFor one network octets a b rules (inl p) (inl q) =
+judged_one : (IsAnswerFor : AnswersFor) → IsOneFor IsAnswerFor → {network : Network} {octets : List ℕ} (a b : Answer)
+    → KeepsRules network → IsJudgedAnswer IsAnswerFor octets network a → IsJudgedAnswer IsAnswerFor octets network b
+    → a ≡ b
+judged_one IsAnswerFor one {network} {octets} a b rules (inl p) (inl q) =
     let same = (answer_law network octets (kept_apart network rules p.1.range)).one_refusal p.0 q.0 p.1.of_report q.1.of_report p.1.refused q.1.refused in
     p.2 ∙ ap report_refused_answer same ∙ sym q.2
-judged_one IsAnswerFor one network octets a b rules (inr p) q =
-    one network octets p.0 p.1 a b rules p.2 p.3 (judged_alone IsAnswerFor network octets p.0 p.1 rules p.2 b q)
-judged_one IsAnswerFor one network octets a b rules p (inr q) =
-    one network octets q.0 q.1 a b rules q.2 (judged_alone IsAnswerFor network octets q.0 q.1 rules q.2 a p) q.3
+judged_one IsAnswerFor one {network} {octets} a b rules (inr p) q =
+    one network octets p.0 p.1 a b rules p.2 p.3 (judged_alone IsAnswerFor rules p.2 b q)
+judged_one IsAnswerFor one {network} {octets} a b rules p (inr q) =
+    one network octets q.0 q.1 a b rules q.2 (judged_alone IsAnswerFor rules q.2 a p) q.3
 
-answers_one : (limit : ℕ) (IsAnswerFor : AnswersFor) → IsOneFor IsAnswerFor → (network : Network) (octets : List ℕ) (a b : Answer)
-    → KeepsRules network → IsReportAnswer limit IsAnswerFor octets network a → IsReportAnswer limit IsAnswerFor octets network b → a ≡ b
-answers_one limit IsAnswerFor one network octets a b rules (inl p) (inl q) = p.1 ∙ sym q.1
-answers_one limit IsAnswerFor one network octets a b rules (inl p) (inr q) = absurd (omega (arith, p.0, q.0))
-answers_one limit IsAnswerFor one network octets a b rules (inr p) (inl q) = absurd (omega (arith, q.0, p.0))
-answers_one limit IsAnswerFor one network octets a b rules (inr p) (inr q) = judged_one IsAnswerFor one network octets a b rules p.1 q.1
+answers_one : (limit : ℕ) (IsAnswerFor : AnswersFor) → IsOneFor IsAnswerFor
+    → {network : Network} {octets : List ℕ} (a b : Answer) → KeepsRules network
+    → IsReportAnswer limit IsAnswerFor octets network a → IsReportAnswer limit IsAnswerFor octets network b → a ≡ b
+answers_one limit IsAnswerFor one a b rules (inl p) (inl q) = p.1 ∙ sym q.1
+answers_one limit IsAnswerFor one a b rules (inl p) (inr q) = absurd (omega (arith, p.0, q.0))
+answers_one limit IsAnswerFor one a b rules (inr p) (inl q) = absurd (omega (arith, q.0, p.0))
+answers_one limit IsAnswerFor one a b rules (inr p) (inr q) = judged_one IsAnswerFor one a b rules p.1 q.1
 
 -- the octets of a network file and of a report have one answer, where its records have
-pub report_one : RefusalIsOne → (limit : ℕ) (IsAnswerFor : AnswersFor) → IsOneFor IsAnswerFor → (octets report : List ℕ) (a b : Answer)
-    → IsNetworkAnswer (IsReportAnswer limit IsAnswerFor report) octets a → IsNetworkAnswer (IsReportAnswer limit IsAnswerFor report) octets b → a ≡ b
-report_one refusal limit IsAnswerFor one octets report a b p q =
+pub report_one : RefusalIsOne → (limit : ℕ) (IsAnswerFor : AnswersFor) → IsOneFor IsAnswerFor
+    → {octets : List ℕ} (report : List ℕ) (a b : Answer)
+    → IsNetworkAnswer (IsReportAnswer limit IsAnswerFor report) octets a
+    → IsNetworkAnswer (IsReportAnswer limit IsAnswerFor report) octets b → a ≡ b
+report_one refusal limit IsAnswerFor one {octets} report a b p q =
     network_answer_one refusal (IsReportAnswer limit IsAnswerFor report) octets
-    (λ network accepted x y. answers_one limit IsAnswerFor one network report x y accepted.rules) a b p q
+    (λ network accepted x y. answers_one limit IsAnswerFor one {network = network} {octets = report} x y
+    accepted.rules) a b p q
 
 -- ---- valid input
 
 -- a report of an accepted network is answered to its end, where no count of faults rose
-pub answered_whole : (limit : ℕ) (IsAnswerFor : AnswersFor) (octets report : List ℕ) (status : Status) (old new : Shown)
-    (SourceRose SinkRose : Type 0) → GivesAnswer (IsNetworkAnswer (IsReportAnswer limit IsAnswerFor report) octets) status old new
+pub answered_whole : (limit : ℕ) (IsAnswerFor : AnswersFor) (octets report : List ℕ) (status : Status)
+    {old new : Shown} (SourceRose SinkRose : Type 0) → GivesAnswer
+    (IsNetworkAnswer (IsReportAnswer limit IsAnswerFor report) octets) status old new
     → (status ≡ ReadFault → SourceRose) → (status ≡ WriteFault → SinkRose) → (SourceRose → ⊥) → (SinkRose → ⊥)
     → AnswersWhole limit IsAnswerFor octets report status
-answered_whole limit IsAnswerFor octets report status old new SourceRose SinkRose (inl (a, is, inl g)) read write quiet calm network notes end m fits r =
-    inr (a, report_alone limit IsAnswerFor network report notes end m.rules fits r a (accepted_alone (IsReportAnswer limit IsAnswerFor report) octets network m a is), g.0)
-answered_whole limit IsAnswerFor octets report status old new SourceRose SinkRose (inl (a, is, inr (inl g))) read write quiet calm network notes end m fits r =
+answered_whole limit IsAnswerFor octets report status SourceRose SinkRose (inl (a, is, inl g)) read write quiet calm
+    network notes end m fits r =
+    inr (a, report_alone limit IsAnswerFor m.rules fits r a (accepted_alone (IsReportAnswer limit IsAnswerFor report) octets network m a is), g.0)
+answered_whole limit IsAnswerFor octets report status SourceRose SinkRose (inl (a, is, inr (inl g))) read write quiet
+    calm network notes end m fits r =
     absurd (calm (write g.0))
-answered_whole limit IsAnswerFor octets report status old new SourceRose SinkRose (inl (a, is, inr (inr (inl f, p)))) read write quiet calm network notes end m fits r =
+answered_whole limit IsAnswerFor octets report status SourceRose SinkRose (inl (a, is, inr (inr (inl f, p)))) read
+    write quiet calm network notes end m fits r =
     absurd (quiet (read f))
-answered_whole limit IsAnswerFor octets report status old new SourceRose SinkRose (inl (a, is, inr (inr (inr o, p)))) read write quiet calm network notes end m fits r =
+answered_whole limit IsAnswerFor octets report status SourceRose SinkRose (inl (a, is, inr (inr (inr o, p)))) read
+    write quiet calm network notes end m fits r =
     inl o
-answered_whole limit IsAnswerFor octets report status old new SourceRose SinkRose (inr (inl f, p)) read write quiet calm network notes end m fits r =
+answered_whole limit IsAnswerFor octets report status SourceRose SinkRose (inr (inl f, p)) read write quiet calm
+    network notes end m fits r =
     absurd (quiet (read f))
-answered_whole limit IsAnswerFor octets report status old new SourceRose SinkRose (inr (inr o, p)) read write quiet calm network notes end m fits r = inl o
+answered_whole limit IsAnswerFor octets report status SourceRose SinkRose (inr (inr o, p)) read write quiet calm
+    network notes end m fits r = inl o
 
 pub completed : (limit : ℕ) (IsAnswerFor : AnswersFor) (first second : Option (List ℕ)) (status : Status) (old new : Shown)
     (SourceRose SinkRose : Type 0) → GivesFiles (IsReportAnswer limit IsAnswerFor) first second status old new → (status ≡ ReadFault → SourceRose)
     → (status ≡ WriteFault → SinkRose) → CompletesReport limit IsAnswerFor first second SourceRose SinkRose status
 completed limit IsAnswerFor (Some octets) (Some report) status old new SourceRose SinkRose g read write = λ quiet calm.
-    answered_whole limit IsAnswerFor octets report status old new SourceRose SinkRose g read write quiet calm
+    answered_whole limit IsAnswerFor octets report status SourceRose SinkRose g read write quiet calm
 completed limit IsAnswerFor (Some octets) None status old new SourceRose SinkRose g read write = tt
 completed limit IsAnswerFor None second status old new SourceRose SinkRose g read write = tt
 
 -- a report of a run of an accepted network is audited
-done_of : (network : Network) (report : List ℕ) (count : ℕ) (a : Answer) → KeepsRules network → length report ≤ audit_limit
-    → IsAudited network report count → IsAuditAnswer report network a → a.status ≡ Done
-done_of network report count a rules fits audited (inl h) = absurd (omega (arith, h.0, fits))
-done_of network report count a rules fits audited (inr (within, inl h)) =
+done_of : {network : Network} {report : List ℕ} {count : ℕ} (a : Answer) → KeepsRules network
+    → length report ≤ audit_limit → IsAudited network report count → IsAuditAnswer report network a → a.status ≡ Done
+done_of a rules fits audited (inl h) = absurd (omega (arith, h.0, fits))
+done_of {network} {report} {count} a rules fits audited (inr (within, inl h)) =
     absurd ((answer_law network report (kept_apart network rules h.1.range)).not_both count h.0 h.1.of_report audited h.1.refused)
-done_of network report count a rules fits audited (inr (within, inr h)) = ap (λ (x : Answer). x.status) h.3
+done_of a rules fits audited (inr (within, inr h)) = ap (λ (x : Answer). x.status) h.3
 
-pub audit_done : (octets report : List ℕ) (network : Network) (count : ℕ) → MeansAccepted octets network → length report ≤ audit_limit
-    → IsAudited network report count → (a : Answer) → IsNetworkAnswer (IsAuditAnswer report) octets a → a.status ≡ Done
-audit_done octets report network count m fits audited a is =
-    done_of network report count a m.rules fits audited (accepted_alone (IsAuditAnswer report) octets network m a is)
+pub audit_done : {octets report : List ℕ} {network : Network} {count : ℕ} → MeansAccepted octets network
+    → length report ≤ audit_limit → IsAudited network report count → (a : Answer)
+    → IsNetworkAnswer (IsAuditAnswer report) octets a → a.status ≡ Done
+audit_done {octets} {report} {network} m fits audited a is =
+    done_of a m.rules fits audited (accepted_alone (IsAuditAnswer report) octets network m a is)

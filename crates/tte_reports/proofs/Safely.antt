@@ -12,9 +12,9 @@ use Rattle.{std.proofs.lemmas.List.append-nil, tte_forms.specs.{Answering.{Answe
 use Rattle.{std.specs.List.concat, tte_audit.specs.Named.IsNamed, tte_forms.{proofs.Octets.for_more, specs.Putting.Shown}}
 use Rattle.tte_audit.specs.declared.refusal.AuditRefusal.TheVariants as refusals
 
-safe_run : (octets report : List ℕ) (network : Network) (notes : List Note) (end : Units) → MeansAccepted octets network
-    → IsReportOf network report notes end → ReportsSafeRun octets report
-safe_run octets report network notes end accepted r =
+safe_run : {octets report : List ℕ} {network : Network} {notes : List Note} {end : Units}
+    → MeansAccepted octets network → IsReportOf network report notes end → ReportsSafeRun octets report
+safe_run {network} {notes} {end} accepted r =
     let events = events_of notes in
     let named : IsNamed network = kept_apart network accepted.rules r.range in
     record {
@@ -23,7 +23,7 @@ safe_run octets report network notes end accepted r =
       notes = notes;
       text = r.events.text.text ∙ append-nil (concat (report_of network notes));
       run = ended fresh_segment stepped_segment segment_reading exact_laws exact_begins network events end notes
-          (report_under network report notes end named accepted.rules r.events) (report_ends events end r.events.ends) r.run;
+          (report_under named accepted.rules r.events) (report_ends events end r.events.ends) r.run;
       time = end;
       events = r.events;
     }
@@ -47,7 +47,7 @@ module _ (limit : ℕ) (IsAnswerFor : AnswersFor) where
       → Done ≡ a.status → ReportsSafeRun octets report
   done_safely octets report network a accepted (inl h) done = let e = told a _ done h.1 in absurd cc
   done_safely octets report network a accepted (inr (fits, inl h)) done = absurd (not_done h.0 (told a _ done h.2))
-  done_safely octets report network a accepted (inr (fits, inr h)) done = safe_run octets report network h.0 h.1 accepted h.2
+  done_safely octets report network a accepted (inr (fits, inr h)) done = safe_run accepted h.2
 
   answered_safely : (octets report : List ℕ) (a : Answer) → IsNetworkAnswer (IsReportAnswer limit IsAnswerFor report) octets a → Done ≡ a.status
       → ReportsSafeRun octets report
@@ -74,10 +74,11 @@ module _ (limit : ℕ) (IsAnswerFor : AnswersFor) where
       (λ report. ReportsSafeRun octets report) (λ report. given_safely octets report status old new done) h) g
 
 -- the run that a report tells goes well up to its end
-pub report_well : (network : Network) (octets : List ℕ) (notes : List Note) (end : Units) → KeepsRules network → IsReportOf network octets notes end
-    → GoesWell (scenario_under network (events_of notes)) (happenings network notes) (amount end)
-report_well network octets notes end rules r =
+pub report_well : {network : Network} {octets : List ℕ} {notes : List Note} {end : Units} → KeepsRules network
+    → IsReportOf network octets notes end → GoesWell (scenario_under network (events_of notes))
+    (happenings network notes) (amount end)
+report_well {network} {notes} {end} rules r =
     let events = events_of notes in
-    let under = report_under network octets notes end (kept_apart network rules r.range) rules r.events in
+    let under = report_under (kept_apart network rules r.range) rules r.events in
     own fresh_segment stepped_segment segment_reading exact_laws exact_begins network events (amount end) notes under
     (end_in_time network events under end (report_ends events end r.events.ends)) r.run

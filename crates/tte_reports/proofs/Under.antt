@@ -47,9 +47,9 @@ in_range (e ∷ es) begun all =
     (in_range es (λ d i. begun d (inr i)) (All-tail HoldsNoLess e es all))
 
 -- the events of a report of a network that keeps the rules are such as the laws ask for
-pub report_under : (network : Network) (octets : List ℕ) (ns : List Note) (time : Units) → IsNamed network → KeepsRules network
-    → IsOfEvents network octets ns time → IsUnder network (events_of ns)
-report_under network octets ns time named rules of =
+pub report_under : {network : Network} {octets : List ℕ} {ns : List Note} {time : Units} → IsNamed network
+    → KeepsRules network → IsOfEvents network octets ns time → IsUnder network (events_of ns)
+report_under {network} {ns} named rules of =
     let text = of.text.records in
     record {
       range = named.in_range;

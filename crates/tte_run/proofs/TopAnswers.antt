@@ -55,7 +55,7 @@ module _ (status : Status) (old new : Shown) (SourceRose SinkRose : Type 0) (rea
       by (IsNetworkAnswer (IsStampAnswer granule trace) octets) g (stamp_done granule octets trace n events m.accepted fine (all_admitted m)) quiet calm
   completes Audit (Some octets) None g = λ quiet calm. tt
   completes Audit (Some octets) (Some report) g = λ quiet calm n count m fits audited.
-      by (IsNetworkAnswer (IsAuditAnswer report) octets) g (audit_done octets report n count m fits audited) quiet calm
+      by (IsNetworkAnswer (IsAuditAnswer report) octets) g (audit_done m fits audited) quiet calm
   completes (Wire name way) (Some octets) None g = λ quiet calm. tt
   completes (Wire name way) (Some octets) (Some trace) g = λ quiet calm n events link m named.
       by (IsWireNetworkAnswer (IsWireAnswer name way trace) octets) g
@@ -89,7 +89,8 @@ form_one unique one (Some Check) range octets trace a b p q = network_answer_one
 form_one unique one (Some Run) range octets trace a b p q = run_one one octets trace a b p q
 form_one unique one (Some (Storm seed cycles)) range octets trace a b p q = storm_one one seed cycles range.1 octets a b p q
 form_one unique one (Some (Stamp granule)) range octets trace a b p q = stamp_one one granule octets trace a b p q
-form_one unique one (Some Audit) range octets trace a b p q = report_one one audit_limit IsAuditedAnswer (λ network text notes end x y rules of i j. i ∙ sym j) octets trace a b p q
+form_one unique one (Some Audit) range octets trace a b p q =
+    report_one one audit_limit IsAuditedAnswer (λ network text notes end x y rules of i j. i ∙ sym j) trace a b p q
 form_one unique one (Some Capture) range octets trace a b p q = p ∙ sym q
 form_one unique one (Some (Wire link way)) range octets trace a b p q = wire_one one link way octets trace a b p q
 form_one unique one (Some (Vote x y z)) range octets trace a b p q = vote_one one (the_names x y z) octets trace a b p q

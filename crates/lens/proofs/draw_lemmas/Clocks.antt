@@ -316,7 +316,7 @@ module _ (network : Network) (octets : List ℕ) (ns : List Note) (end : Units) 
         let one = shows_told t a in
         let other = shows_told u b in
         close_by (local scene hs t.device (amount end)) (local scene hs u.device (amount end)) t u one.shows other.shows
-        ((report_well network octets ns end rules of).safe.precision.after (amount end) t.device u.device (omega arith) one.in_step other.in_step)
+        ((report_well rules of).safe.precision.after (amount end) t.device u.device (omega arith) one.in_step other.in_step)
 
     least_and_greatest : (ends : Ends) → ends_of told_here ≡ Some ends → IsShown told_here ends.least × IsShown told_here ends.greatest
     least_and_greatest ends is =

@@ -196,7 +196,7 @@ whole_named : (words : List (List ℕ)) (part : Part) (name octets report : List
     → IsKeptAnswer words part subject network ns end a
 whole_named words part name octets report network subject ns end a means names fits of (inl h) = absurd (not_unknown network name subject names h.0)
 whole_named words part name octets report network subject ns end a means names fits of (inr h) =
-    report_alone report_limit (IsKeptAnswer words part subject) network report ns end means.rules fits of a
+    report_alone report_limit (IsKeptAnswer words part subject) means.rules fits of a
     (subst (λ (s : Subject). IsReportAnswer report_limit (IsKeptAnswer words part s) report network a) (one_subject network name h.0 subject h.1 names) h.2)
 
 module _ (words : List (List ℕ)) (part : Part) (name octets report : List ℕ) (status : Status) (old new : Shown) (SourceRose SinkRose : Type 0)
@@ -246,7 +246,8 @@ named_both one words part name report octets network means a b (inl p) (inr q) =
 named_both one words part name report octets network means a b (inr p) (inl q) = absurd (not_unknown network name p.0 p.1 q.0)
 named_both one words part name report octets network means a b (inr p) (inr q) =
     let same = subst (λ (s : Subject). IsReportAnswer report_limit (IsKeptAnswer words part s) report network b) (one_subject network name q.0 p.0 q.1 p.1) q.2 in
-    report_one one report_limit (IsKeptAnswer words part p.0) (kept_one words part p.0) octets report a b (inr (inr (inr (network, means, p.2)))) (inr (inr (inr (network, means, same))))
+    report_one one report_limit (IsKeptAnswer words part p.0) (kept_one words part p.0) {octets = octets} report a b
+    (inr (inr (inr (network, means, p.2)))) (inr (inr (inr (network, means, same))))
 
 pub named_one : RefusalIsOne → (words : List (List ℕ)) (part : Part) (name octets report : List ℕ) (a b : Answer) → IsNetworkAnswer (IsNamedAnswer words part name report) octets a
     → IsNetworkAnswer (IsNamedAnswer words part name report) octets b → a ≡ b

@@ -18,7 +18,7 @@ tell_all-requires-clause-fit c =
     let shows = c.requires.read.index some.0 some.1 some.2 in
     let soon = end_soon network c.args.report.now.octets some.0 some.1 some.2 in
     let until = c.unsigned_abs-until.ensures.value ∙ ap (λ (z : ℤ). unsigned_abs z) (to_z-of_z w64 c.args.report.now.index.end.0 (search rules))
-    ∙ ap (λ (u : Units). amount u) (sym (end_same network c.args.report.now.octets some.0 some.1 c.args.report.now.index some.2 shows)) in
+    ∙ ap (λ (u : Units). amount u) (sym (end_same network c.args.report.now.octets some.0 some.1 some.2 shows)) in
     record { range = some.2.range; standing = shows.devices; timely = omega (arith, until, soon) }
 
 pub tell_all-requires-clause-known : goal.tell_all-requires-clause-known
@@ -45,7 +45,7 @@ returns c notes end r =
     let network = c.args.network.now in
     let shows = c.requires.read.index notes end r in
     let until = c.unsigned_abs-until.ensures.value ∙ ap (λ (z : ℤ). unsigned_abs z) (to_z-of_z w64 c.args.report.now.index.end.0 (search rules))
-    ∙ ap (λ (u : Units). amount u) (sym (end_same network c.args.report.now.octets notes end c.args.report.now.index r shows)) in
+    ∙ ap (λ (u : Units). amount u) (sym (end_same network c.args.report.now.octets notes end r shows)) in
     all_told network notes end c.unsigned_abs-until.result c.as_slice-deliveries.result.now c.as_slice-all.result.now c.in_ok-told.told.items
     (subst (AreFlows network) (sym c.as_slice-all.ensures.value) c.in_ok-flows.ensures) until
     (c.as_slice-deliveries.ensures.value ∙ c.in_ok-seen.ensures notes end r)

@@ -7,4 +7,4 @@ returns-clause-gives g c =
     let old = shown_by g.K.Sink c.args.out.now in
     let new = shown_by g.K.Sink c.put_last.new.out in
     let line : c.as_slice.result.now ≡ audited_line c.args.count = c.as_slice.ensures ∙ c.make_audited_line.ensures in
-    subst (λ (bytes : List ℕ). Gives (line_answer Done bytes) c.put_last.result old new) line c.put_last.ensures.gives
+    subst (λ bytes. Gives (line_answer Done bytes) c.put_last.result old new) line c.put_last.ensures.gives

@@ -11,8 +11,7 @@ pub returns-in-Err-clause-gives : goal.returns-in-Err-clause-gives
 returns-in-Err-clause-gives g c =
     let shown = shown_by g.K.Sink in
     no_report_answered c.args.limit (g.C.ReportCommand.answers c.args.command.now) c.args.accepted.now (g.B.Source.left c.args.second.now) c.in-Err.cause
-    c.put_no_report.result (shown c.args.out.now) (shown c.put_no_report.new.out) c.in-Err.ensures.judged c.put_no_report.ensures.gives
-    c.put_no_report.ensures.unput
+    c.put_no_report.result c.in-Err.ensures.judged c.put_no_report.ensures.gives c.put_no_report.ensures.unput
 
 pub returns-in-Err-clause-statuses : goal.returns-in-Err-clause-statuses
 returns-in-Err-clause-statuses g c = g.met.C.ReportCommand.audits c.args.command.now c.put_no_report.result c.put_no_report.ensures.statuses

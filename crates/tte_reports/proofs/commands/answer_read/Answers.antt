@@ -10,11 +10,11 @@ pub put-requires-clause-rules : goal.put-requires-clause-rules
 put-requires-clause-rules g c = subst KeepsRules (sym c.named_network.ensures.value) c.named_network.ensures.rules
 
 pub put-requires-clause-read : goal.put-requires-clause-read
-put-requires-clause-read g c = subst (λ (n : Network). IsRead n c.args.report.now) (sym c.named_network.ensures.value) c.requires
+put-requires-clause-read g c = subst (λ n. IsRead n c.args.report.now) (sym c.named_network.ensures.value) c.requires
 
 pub returns-clause-gives : goal.returns-clause-gives
 returns-clause-gives g c =
     let shown = shown_by g.K.Sink in
-    subst (λ (n : Network). (notes : List Note) (end : Units) → IsReportOf n c.args.report.now.octets notes end
+    subst (λ n. (notes : List Note) (end : Units) → IsReportOf n c.args.report.now.octets notes end
     → GivesAnswer (g.C.ReportCommand.answers c.args.command.now n notes end) c.put.result (shown c.args.out.now) (shown c.put.new.out)) c.named_network.ensures.value
     c.put.ensures.gives

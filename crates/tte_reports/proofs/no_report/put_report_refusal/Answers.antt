@@ -6,7 +6,7 @@ use Rattle.tte_reports.proofs.no_report.put_report_refusal.Goals as goal
 -- the answer about one refusal under two names
 same_refusal : {r refusal : AuditRefusal} {status : Status} {old new : Shown} → r ≡ refusal → Gives (report_refused_answer refusal) status old new
     → Gives (report_refused_answer r) status old new
-same_refusal {r} {refusal} {status} {old} {new} is g = subst (λ (x : AuditRefusal). Gives (report_refused_answer x) status old new) (sym is) g
+same_refusal {r} {refusal} {status} {old} {new} is g = subst (λ x. Gives (report_refused_answer x) status old new) (sym is) g
 
 pub returns-in-Form-clause-gives : goal.returns-in-Form-clause-gives
 returns-in-Form-clause-gives g c = same_refusal c.in-Form.is c.put_record_refusal.ensures.gives
@@ -22,4 +22,4 @@ returns-in-Lacking-clause-gives g c =
     let old = shown_by g.K.Sink c.args.out.now in
     let new = shown_by g.K.Sink c.put_last.new.out in
     let line : c.as_slice.result.now ≡ lack_line c.in-Lacking.time = c.as_slice.ensures ∙ c.make_lack_line.ensures in
-    same_refusal c.in-Lacking.is (subst (λ (bytes : List ℕ). Gives (line_answer AuditRefused bytes) c.put_last.result old new) line c.put_last.ensures.gives)
+    same_refusal c.in-Lacking.is (subst (λ bytes. Gives (line_answer AuditRefused bytes) c.put_last.result old new) line c.put_last.ensures.gives)

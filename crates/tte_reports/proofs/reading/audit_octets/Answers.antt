@@ -17,7 +17,8 @@ returns-in-Ok-places_of-clause-read c =
     record {
       some = (a.notes, a.time, record { range = c.audit.ensures.named.in_range; events = a.events; run = a.run });
       placed = λ notes end r. subst (λ xs. AreLines network xs notes → ArePlaces network xs notes c.in-Ok-places_of.places.items)
-          c.as_slice-in-Ok.ensures (c.in-Ok-places_of.ensures network notes named) (begun_lines network octets notes r.events.text);
-      counted = λ notes end r. (answer_law network octets named).one_count c.in-Ok.passed.count (length notes) a (audited_of network octets notes end r);
+          c.as_slice-in-Ok.ensures (c.in-Ok-places_of.ensures network notes named) (begun_lines r.events.text);
+      counted = λ notes end r. (answer_law network octets named).one_count c.in-Ok.passed.count (length notes) a
+          (audited_of r);
       index = λ notes end r. index notes end r.events;
     }

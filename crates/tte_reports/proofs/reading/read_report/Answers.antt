@@ -4,7 +4,7 @@ use Rattle.tte_reports.proofs.reading.read_report.Goals as goal
 
 pub returns-in-Ok-clause-judged : goal.returns-in-Ok-clause-judged
 returns-in-Ok-clause-judged g c =
-    let within = subst (λ (n : ℕ). length c.in-Ok.octets ≤ n) c.from.ensures c.in-Ok.ensures.within in
+    let within = subst (λ n. length c.in-Ok.octets ≤ n) c.from.ensures c.in-Ok.ensures.within in
     for_read (g.B.Source.left c.args.second.now) c.in-Ok.octets _ c.in-Ok.ensures.whole (c.audit_octets.ensures.judged c.args.limit within)
 
 pub returns-in-Ok-clause-whole : goal.returns-in-Ok-clause-whole
@@ -17,7 +17,7 @@ pub returns-in-Err-TooLong-clause-judged : goal.returns-in-Err-TooLong-clause-ju
 returns-in-Err-TooLong-clause-judged g c =
     for_too_many c.from.result (g.B.Source.left c.args.second.now) (λ octets. c.args.limit < length octets)
     (c.read_all.ensures.too_long_left (c.in-Err-TooLong.is ∙ ap Err c.in-Err-TooLong.field-0-is))
-    (λ octets many. subst (λ (n : ℕ). n < length octets) c.from.ensures many)
+    (λ octets many. subst (λ n. n < length octets) c.from.ensures many)
 
 pub returns-in-Err-OutOfMemory-clause-judged : goal.returns-in-Err-OutOfMemory-clause-judged
 returns-in-Err-OutOfMemory-clause-judged g c = for_all (g.B.Source.left c.args.second.now) _ (λ octets. tt)

@@ -21,7 +21,7 @@ put_cycles-requires-clause-limit g c =
     let soon = end_soon network octets some.0 some.1 some.2 in
     let until = c.unsigned_abs-until.ensures.value ∙ ap (λ (z : ℤ). unsigned_abs z) (to_z-of_z w64 c.args.report.now.index.end.0 (search rules))
     ∙ ap (λ (u : Units). amount u)
-    (sym (end_same network octets some.0 some.1 c.args.report.now.index some.2 (c.requires.read.index some.0 some.1 some.2))) in
+    (sym (end_same network octets some.0 some.1 some.2 (c.requires.read.index some.0 some.1 some.2))) in
     omega (arith, until, soon)
 
 pub returns-clause-gives : goal.returns-clause-gives
@@ -32,7 +32,7 @@ returns-clause-gives g c notes end r =
     let s = scenario_of network notes in
     let hs = happenings network notes in
     let until = c.unsigned_abs-until.ensures.value ∙ ap (λ (z : ℤ). unsigned_abs z) (to_z-of_z w64 c.args.report.now.index.end.0 (search rules))
-    ∙ ap (λ (u : Units). amount u) (sym (end_same network c.args.report.now.octets notes end c.args.report.now.index r shows)) in
+    ∙ ap (λ (u : Units). amount u) (sym (end_same network c.args.report.now.octets notes end r shows)) in
     inl (
       clocks_answer s hs (amount end),
       refl,

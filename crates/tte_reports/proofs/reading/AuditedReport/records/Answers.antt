@@ -3,5 +3,5 @@ use Rattle.tte_reports.proofs.reading.AuditedReport.records.Goals as goal
 
 pub returns : goal.returns
 returns c network notes end h =
-    let lines = begun_lines network c.args.self.now.octets notes h.events.text in
+    let lines = begun_lines h.events.text in
     record { of_network = lines.of_network; text = c.as_slice.ensures ∙ lines.text }
