@@ -52,7 +52,7 @@ module _ (status : Status) (old new : Shown) (SourceRose SinkRose : Type 0) (rea
       by (IsNetworkAnswer (IsRunAnswer trace) octets) g (run_done octets trace n events m.accepted (all_admitted m)) quiet calm
   completes (Stamp granule) (Some octets) None g = λ quiet calm. tt
   completes (Stamp granule) (Some octets) (Some trace) g = λ quiet calm n events m fine.
-      by (IsNetworkAnswer (IsStampAnswer granule trace) octets) g (stamp_done granule octets trace n events m.accepted fine (all_admitted m)) quiet calm
+      by (IsNetworkAnswer (IsStampAnswer granule trace) octets) g (stamp_done granule m.accepted fine (all_admitted m)) quiet calm
   completes Audit (Some octets) None g = λ quiet calm. tt
   completes Audit (Some octets) (Some report) g = λ quiet calm n count m fits audited.
       by (IsNetworkAnswer (IsAuditAnswer report) octets) g (audit_done m fits audited) quiet calm
@@ -63,7 +63,7 @@ module _ (status : Status) (old new : Shown) (SourceRose SinkRose : Type 0) (rea
   completes (Vote one two three) (Some octets) None g = λ quiet calm. tt
   completes (Vote one two three) (Some octets) (Some trace) g = λ quiet calm n events voters m named may.
       by (IsNetworkAnswer (IsVoteAnswer (the_names one two three) trace) octets) g
-      (vote_done (the_names one two three) octets trace n events voters m.accepted named may (all_admitted m)) quiet calm
+      (vote_done m.accepted named may (all_admitted m)) quiet calm
 
 -- what is answered for the form is answered for the words
 pub words_as : {f form : Option Form} → f ≡ form → (first second : Option (List ℕ)) (status : Status) (old new : Shown)
@@ -88,12 +88,12 @@ form_one unique one (Some Show) range octets trace a b p q = p ∙ sym q
 form_one unique one (Some Check) range octets trace a b p q = network_answer_one one IsAcceptance octets (λ n accepted. acceptance_one unique n) a b p q
 form_one unique one (Some Run) range octets trace a b p q = run_one one octets trace a b p q
 form_one unique one (Some (Storm seed cycles)) range octets trace a b p q = storm_one one seed cycles range.1 octets a b p q
-form_one unique one (Some (Stamp granule)) range octets trace a b p q = stamp_one one granule octets trace a b p q
+form_one unique one (Some (Stamp granule)) range octets trace a b p q = stamp_one one granule trace a b p q
 form_one unique one (Some Audit) range octets trace a b p q =
     report_one one audit_limit IsAuditedAnswer (λ network text notes end x y rules of i j. i ∙ sym j) trace a b p q
 form_one unique one (Some Capture) range octets trace a b p q = p ∙ sym q
 form_one unique one (Some (Wire link way)) range octets trace a b p q = wire_one one link way octets trace a b p q
-form_one unique one (Some (Vote x y z)) range octets trace a b p q = vote_one one (the_names x y z) octets trace a b p q
+form_one unique one (Some (Vote x y z)) range octets trace a b p q = vote_one one (the_names x y z) trace a b p q
 
 pub one_answer : BetaIsUnique → RefusalIsOne → AnswerIsOne
 one_answer unique one words octets trace a b p q = form_one unique one (form_of words) (form_in_range words) octets trace a b p q

@@ -35,8 +35,8 @@ module _ (link : LinkId) (way : Way) (network : Network) (octets : List ℕ) whe
 
   capture_one : (a b : Answer) → IsCapture link way octets network a → IsCapture link way octets network b → a ≡ b
   capture_one a b i j =
-      let same = stopped_one network octets j.events i.events j.admitted (either_stops link way network octets j.events b j.is) i.admitted
-      (either_stops link way network octets i.events a i.is) in
+      let same = stopped_one network octets j.events i.events j.admitted (either_stops link way network octets j.is) i.admitted
+      (either_stops link way network octets i.is) in
       either_one i.events a b i.admitted i.is (subst (λ (es : List Event). EndsEither (way_lines link way) network octets es b) same j.is)
 
   headed_one : (a b : Answer) → IsHeaded (IsCapture link way octets network) a → IsHeaded (IsCapture link way octets network) b → a ≡ b
@@ -72,7 +72,7 @@ done_of : (name : List ℕ) (way : Way) (octets trace : List ℕ) (network : Net
     → IsAllAdmitted network trace events → IsNamed network name link → (a : Answer) → IsWireAnswer name way trace network a → a.status ≡ Done
 done_of name way octets trace network events link all named a (inl h) = absurd (h.0 link.0 named.bears)
 done_of name way octets trace network events link all named a (inr h) =
-    let whole = all_whole h.0 way network trace events h.2.0 all h.2.1 in
+    let whole = all_whole h.0 way network trace events all h.2.1 in
     ap (λ (x : Answer). x.status) h.2.2 ∙ ap (λ (x : Answer). x.status) whole.answer
 
 -- of an accepted network whose whole trace is admitted, and which has the link, all is written

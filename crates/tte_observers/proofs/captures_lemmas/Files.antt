@@ -26,15 +26,16 @@ capture_answer-long : (file : List ℕ) → capture_limit < length file → capt
 unfolding capture_answer
 capture_answer-long file long = rw (lt-ltb capture_limit (length file) long) refl
 
-pub answers-read : (left : Option (List ℕ)) (file : List ℕ) (status : Status) (old new : Shown) → IfSome left (λ all. file ≡ all)
-    → length file ≤ capture_limit → Gives (opened_answer file (opened file)) status old new → Answers capture_answer left status old new
-answers-read left file status old new all short g =
+pub answers-read : (left : Option (List ℕ)) (file : List ℕ) (status : Status) {old new : Shown}
+    → IfSome left (λ all. file ≡ all) → length file ≤ capture_limit
+    → Gives (opened_answer file (opened file)) status old new → Answers capture_answer left status old new
+answers-read left file status {old} {new} all short g =
     for_read left file (λ xs. Gives (capture_answer xs) status old new) all
-    (subst (λ (a : Answer). Gives a status old new) (sym (capture_answer-fits file short)) g)
+    (subst (λ a. Gives a status old new) (sym (capture_answer-fits file short)) g)
 
 pub answers-long : (left : Option (List ℕ)) (status : Status) (old new : Shown) → IfSome left (λ all. capture_limit < length all)
     → Ends TooLong status old new → Answers capture_answer left status old new
 answers-long left status old new long ends =
     for_too_many capture_limit left (λ xs. Gives (capture_answer xs) status old new) long
-    (λ xs many. subst (λ (a : Answer). Gives a status old new) (sym (capture_answer-long xs many))
+    (λ xs many. subst (λ a. Gives a status old new) (sym (capture_answer-long xs many))
     (Ends-gives [] TooLong status old old new (PutsLines-none old) ends))

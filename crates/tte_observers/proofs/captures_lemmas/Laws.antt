@@ -15,29 +15,30 @@ use Rattle.tte_observers.specs.declared.captures.pcap.refusal.CaptureRefusal.The
 
 -- ---- octets
 
-pub has_type : (octets : List ℕ) → HasPcfType octets → has_pcf_type octets ≡ true
-has_type octets (size, is) =
-    let long : nat_le 14 (length octets) ≡ true = grind (arith, nat_tests, size) in
-    let same : (field 12 2 octets == pcf_type) ≡ true = grind (arith, nat_tests, is) in
-    rw (long, same) refl
+module _ (octets : List ℕ) where
+  pub has_type : HasPcfType octets → has_pcf_type octets ≡ true
+  has_type (size, is) =
+      let long : nat_le 14 (length octets) ≡ true = grind (arith, nat_tests, size) in
+      let same : (field 12 2 octets == pcf_type) ≡ true = grind (arith, nat_tests, is) in
+      rw (long, same) refl
 
-told_type : (octets : List ℕ) (b : Bool) → has_pcf_type octets ≡ b → (HasPcfType octets → ⊥) → has_pcf_type octets ≡ false
-told_type octets false e other = e
-told_type octets true e other =
-    let parts = and_parts (nat_le 14 (length octets)) (field 12 2 octets == pcf_type) e in
-    absurd (other (grind (arith, nat_tests, parts.0), grind (arith, nat_tests, parts.1)))
+  told_type : (b : Bool) → has_pcf_type octets ≡ b → (HasPcfType octets → ⊥) → has_pcf_type octets ≡ false
+  told_type false e other = e
+  told_type true e other =
+      let parts = and_parts (nat_le 14 (length octets)) (field 12 2 octets == pcf_type) e in
+      absurd (other (grind (arith, nat_tests, parts.0), grind (arith, nat_tests, parts.1)))
 
-pub has_other_type : (octets : List ℕ) → (HasPcfType octets → ⊥) → has_pcf_type octets ≡ false
-has_other_type octets other = told_type octets (has_pcf_type octets) refl other
+  pub has_other_type : (HasPcfType octets → ⊥) → has_pcf_type octets ≡ false
+  has_other_type other = told_type (has_pcf_type octets) refl other
 
-other_words : (octets : List ℕ) (r : Result Pcf PcfRefusal) → decoded octets ≡ r → (HasPcfType octets → ⊥)
-    → words_of octets r ≡ codes "other " ++ decimal (length octets)
-other_words octets (Ok p) is other =
-    let s = is_spelling.read octets p is in absurd (other (omega (arith, s.size), s.ethertype))
-other_words octets (Err e) is other = rw (has_other_type octets other) refl
+  other_words : (r : Result Pcf PcfRefusal) → decoded octets ≡ r → (HasPcfType octets → ⊥)
+      → words_of octets r ≡ codes "other " ++ decimal (length octets)
+  other_words (Ok p) is other =
+      let s = is_spelling.read octets p is in absurd (other (omega (arith, s.size), s.ethertype))
+  other_words (Err e) is other = rw (has_other_type other) refl
 
-refused_words : (octets : List ℕ) (e : PcfRefusal) → HasPcfType octets → no_frame_words octets e ≡ codes "refused " ++ refusal_text e
-refused_words octets e type = rw (has_type octets type) refl
+  refused_words : (e : PcfRefusal) → HasPcfType octets → no_frame_words octets e ≡ codes "refused " ++ refusal_text e
+  refused_words e type = rw (has_type type) refl
 
 pub shows_octets : ShowsOctets
 shows_octets = record {
@@ -65,28 +66,28 @@ packets_shown [] n k head file at to s =
 packets_shown (p ∷ ps) n k head file at to (i, s) =
     let count : length (p ∷ ps) + n ≡ suc (length ps + n) = omega arith in
     let behind_it : k + 1 + length ps ≡ k + length (p ∷ ps) = omega arith in
-    ap (λ (m : ℕ). packets_answer m k head file at) count
+    ap (λ m. packets_answer m k head file at) count
     ∙ packets_next (length ps + n) k head file at
-    ∙ ap (λ (r : Result (Option Packet) CaptureRefusal). found_answer k file r
+    ∙ ap (λ r. found_answer k file r
     (answer_behind (length ps + n) k head file)) (packet_stands head file at p i)
     ∙ ap (with_line (packet_line k file p)) (packets_shown ps n (k + 1) head file p.to to s
-    ∙ ap (λ (m : ℕ). behind (packet_lines (k + 1) file ps) (packets_answer n m head file to)) behind_it)
+    ∙ ap (λ m. behind (packet_lines (k + 1) file ps) (packets_answer n m head file to)) behind_it)
 
 -- the answer for a file with a header, and packets up to a place
-shown_up_to : (file : List ℕ) (head : CaptureHead) (ps : List Packet) (at : ℕ)
-    (r : Result (Option Packet) CaptureRefusal) → IsFile file
-    → IsHead file head → StandFrom head file head_length ps at → at ≤ length file → packet_at head file at ≡ r → capture_answer file
-    ≡ behind (packet_lines 1 file ps)
+shown_up_to : {file : List ℕ} {head : CaptureHead} (ps : List Packet) (at : ℕ)
+    (r : Result (Option Packet) CaptureRefusal) → IsFile file → IsHead file head
+    → StandFrom head file head_length ps at → at ≤ length file → packet_at head file at ≡ r
+    → capture_answer file ≡ behind (packet_lines 1 file ps)
     (found_answer (1 + length ps) file r (answer_behind (length file - length ps - 1) (1 + length ps) head file))
-shown_up_to file head ps at r f h s within is =
+shown_up_to {file} {head} ps at r f h s within is =
     let room = takes_room head file head_length ps at s in
     let count : length file ≡ length ps + suc (length file - length ps - 1) = omega (arith, room, within) in
     capture_answer-fits file f.short
     ∙ ap (opened_answer file) ((finds_head.found file head f.octets).1 h)
-    ∙ ap (λ (m : ℕ). packets_answer m 1 head file head_length) count
+    ∙ ap (λ m. packets_answer m 1 head file head_length) count
     ∙ packets_shown ps (suc (length file - length ps - 1)) 1 head file head_length at s
     ∙ ap (behind (packet_lines 1 file ps)) (packets_next (length file - length ps - 1) (1 + length ps) head file at
-    ∙ ap (λ (x : Result (Option Packet) CaptureRefusal). found_answer (1 + length ps) file x
+    ∙ ap (λ x. found_answer (1 + length ps) file x
     (answer_behind (length file - length ps - 1) (1 + length ps) head file)) is)
 
 unopened : (file : List ℕ) (e : CaptureRefusal) → IsFile file → HasHeadFault file e → capture_answer file ≡ line_answer CaptureRefused (head_refusal_line e)
@@ -97,8 +98,7 @@ whole : (file : List ℕ) (head : CaptureHead) (ps : List Packet) → IsFile fil
     → StandFrom head file head_length ps (length file) → capture_answer file ≡ whole_answer file ps
 whole file head ps f h s =
     let within : length file ≤ length file = omega arith in
-    shown_up_to file head ps (length file) (Ok None) f h s within
-    ((finds_packets.ended head file (length file) within).1 refl)
+    shown_up_to ps (length file) (Ok None) f h s within ((finds_packets.ended head file (length file) within).1 refl)
     ∙ ap (λ (ls : List (List ℕ)). record { status = Done; lines = ls }) (append-nil (packet_lines 1 file ps))
 
 -- a fault stands within the file
@@ -117,8 +117,9 @@ refused file head ps at e f h s bad =
     let within = fault_within head file at e bad in
     let number : 1 + length ps ≡ length ps + 1 = omega arith in
     let line_behind : List Packet → List ℕ → Answer = λ qs line. record { status = CaptureRefused; lines = packet_lines 1 file qs ++ line ∷ [] } in
-    shown_up_to file head ps at (Err e) f h s within ((finds_packets.refused head file at e within).1 bad)
-    ∙ ap (λ (n : ℕ). line_behind ps (packet_refusal_line n e)) number
+    shown_up_to {file = file} {head = head} ps at (Err e) f h s within
+    ((finds_packets.refused head file at e within).1 bad)
+    ∙ ap (λ n. line_behind ps (packet_refusal_line n e)) number
 
 -- ---- each file is judged
 
@@ -137,12 +138,13 @@ packets_by (suc n) head file at (Ok (Some p)) within few is =
     one_more head file at p i (packets_by n head file p.to (packet_at head file p.to) i.whole fewer refl)
 packets_by (suc n) head file at (Err e) within few is = ([], inr (at, e, refl, (finds_packets.refused head file at e within).0 is))
 
-judged_by : (file : List ℕ) (r : Result CaptureHead CaptureRefusal) → IsFile file → opened file ≡ r → IsJudged file
-judged_by file (Ok head) f is =
+judged_by : {file : List ℕ} (r : Result CaptureHead CaptureRefusal) → IsFile file → opened file ≡ r → IsJudged file
+judged_by {file} (Ok head) f is =
     let h = (finds_head.found file head f.octets).0 is in
     let few : length file < head_length + length file = omega arith in
     inr (head, h, packets_by (length file) head file head_length (packet_at head file head_length) h.size few refl)
-judged_by file (Err e) f is = inl (e, (finds_head.refused file e f.octets).0 is)
+judged_by {file} (Err e) f is = inl (e, (finds_head.refused file e f.octets).0 is)
 
 pub shows_packets : ShowsPackets
-shows_packets = record { each = λ file f. judged_by file (opened file) f refl; unopened = unopened; whole = whole; refused = refused }
+shows_packets =
+    record { each = λ file f. judged_by (opened file) f refl; unopened = unopened; whole = whole; refused = refused }

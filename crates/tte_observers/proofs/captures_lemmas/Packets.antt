@@ -29,58 +29,62 @@ pub IsShown-none : (head : CaptureHead) (file : List ℕ) (s : Shown) → IsShow
 IsShown-none head file s =
     record { done = []; puts = PutsLines-none s; turns = length file; enough = omega arith; rest = refl }
 
--- what stands at a place decides the answer from it on
-decided : (k : ℕ) (head : CaptureHead) (file : List ℕ) (at : ℕ) (old now : Shown)
-    (r : Result (Option Packet) CaptureRefusal) → (s : IsShown k head file at old now) → at ≤ length file → packet_at head file at ≡ r
-    → packets_answer (length file) 1 head file head_length ≡ behind s.done
-    (found_answer k file r (answer_behind (s.turns - 1) k head file))
-decided k head file at old now r s within is =
-    let more : s.turns ≡ suc (s.turns - 1) = omega (arith, s.enough, within) in
-    s.rest
-    ∙ ap (behind s.done) (ap (λ (n : ℕ). packets_answer n k head file at) more
-    ∙ packets_next (s.turns - 1) k head file at
-    ∙ ap (λ (x : Result (Option Packet) CaptureRefusal). found_answer k file x
-    (answer_behind (s.turns - 1) k head file)) is)
+module _ (k : ℕ) (head : CaptureHead) (file : List ℕ) where
+  -- what stands at a place decides the answer from it on
+  decided : (at : ℕ) (old now : Shown) (r : Result (Option Packet) CaptureRefusal)
+      (s : IsShown k head file at old now) → at ≤ length file → packet_at head file at ≡ r
+      → packets_answer (length file) 1 head file head_length
+      ≡ behind s.done (found_answer k file r (answer_behind (s.turns - 1) k head file))
+  decided at old now r s within is =
+      let more : s.turns ≡ suc (s.turns - 1) = omega (arith, s.enough, within) in
+      s.rest
+      ∙ ap (behind s.done) (ap (λ n. packets_answer n k head file at) more
+      ∙ packets_next (s.turns - 1) k head file at
+      ∙ ap (λ x. found_answer k file x
+      (answer_behind (s.turns - 1) k head file)) is)
 
-pub IsShown-more : (k : ℕ) (head : CaptureHead) (file : List ℕ) (at : ℕ) (p : Packet) (old now new : Shown) → IsShown k head file at old now
-    → at ≤ length file → at + stamp_length ≤ p.to → packet_at head file at ≡ Ok (Some p)
-    → Appends now.written new.written (packet_line k file p) → new.puts ≡ next_count now.puts → IsShown (k + 1) head file p.to old new
-IsShown-more k head file at p old now new s within further is w c =
-    let others = packets_answer (s.turns - 1) (k + 1) head file p.to in record {
-      done = s.done ++ packet_line k file p ∷ [];
-      puts = PutsLines-more s.done (packet_line k file p) old now new s.puts w c;
-      turns = s.turns - 1;
-      enough = omega (arith, s.enough, within, further);
-      rest =
-          decided k head file at old now (Ok (Some p)) s within is
-          ∙ sym (ap (λ (ls : List (List ℕ)). record { status = others.status; lines = ls })
-          (append_assoc s.done (packet_line k file p ∷ []) others.lines));
-    }
+  pub IsShown-more : (at : ℕ) (p : Packet) (old now new : Shown) → IsShown k head file at old now → at ≤ length file
+      → at + stamp_length ≤ p.to → packet_at head file at ≡ Ok (Some p)
+      → Appends now.written new.written (packet_line k file p) → new.puts ≡ next_count now.puts
+      → IsShown (k + 1) head file p.to old new
+  IsShown-more at p old now new s within further is w c =
+      let others = packets_answer (s.turns - 1) (k + 1) head file p.to in record {
+        done = s.done ++ packet_line k file p ∷ [];
+        puts = PutsLines-more s.done (packet_line k file p) old now new s.puts w c;
+        turns = s.turns - 1;
+        enough = omega (arith, s.enough, within, further);
+        rest =
+            decided at old now (Ok (Some p)) s within is
+            ∙ sym (ap (λ (ls : List (List ℕ)). record { status = others.status; lines = ls })
+            (append_assoc s.done (packet_line k file p ∷ []) others.lines));
+      }
 
--- all packets were shown
-pub IsShown-all : (k : ℕ) (head : CaptureHead) (file : List ℕ) (at : ℕ) (status : Status) (old now new : Shown) → IsShown k head file at old now
-    → at ≤ length file → packet_at head file at ≡ Ok None → Ends Done status now new
-    → Gives (packets_answer (length file) 1 head file head_length) status old new
-IsShown-all k head file at status old now new s within is ends =
-    let whole : packets_answer (length file) 1 head file head_length ≡ record { status = Done; lines = s.done } =
-    decided k head file at old now (Ok None) s within is
-    ∙ ap (λ (ls : List (List ℕ)). record { status = Done; lines = ls }) (append-nil s.done) in
-    subst (λ (a : Answer). Gives a status old new) (sym whole) (Ends-gives s.done Done status old now new s.puts ends)
+  -- all packets were shown
+  pub IsShown-all : (at : ℕ) (status : Status) (old now new : Shown) → IsShown k head file at old now
+      → at ≤ length file → packet_at head file at ≡ Ok None → Ends Done status now new
+      → Gives (packets_answer (length file) 1 head file head_length) status old new
+  IsShown-all at status old now new s within is ends =
+      let whole : packets_answer (length file) 1 head file head_length ≡ record { status = Done; lines = s.done } =
+      decided at old now (Ok None) s within is
+      ∙ ap (λ (ls : List (List ℕ)). record { status = Done; lines = ls }) (append-nil s.done) in
+      subst (λ a. Gives a status old new) (sym whole) (Ends-gives s.done Done status old now new s.puts ends)
 
--- the put of a packet's line failed
-pub IsShown-fails : (k : ℕ) (head : CaptureHead) (file : List ℕ) (at : ℕ) (p : Packet) (old now new : Shown) → IsShown k head file at old now
-    → at ≤ length file → packet_at head file at ≡ Ok (Some p) → AppendsFront now.written new.written (packet_line k file p)
-    → new.puts ≡ next_count now.puts → Gives (packets_answer (length file) 1 head file head_length) WriteFault old new
-IsShown-fails k head file at p old now new s within is w c =
-    let others = packets_answer (s.turns - 1) (k + 1) head file p.to in
-    let fails = PutsLines-fails s.done (packet_line k file p) others.lines old now new s.puts w c in
-    subst (λ (a : Answer). Gives a WriteFault old new)
-    (sym (decided k head file at old now (Ok (Some p)) s within is)) (inr (inl (refl, inl fails)))
+  -- the put of a packet's line failed
+  pub IsShown-fails : (at : ℕ) (p : Packet) (old now new : Shown) → IsShown k head file at old now → at ≤ length file
+      → packet_at head file at ≡ Ok (Some p) → AppendsFront now.written new.written (packet_line k file p)
+      → new.puts ≡ next_count now.puts
+      → Gives (packets_answer (length file) 1 head file head_length) WriteFault old new
+  IsShown-fails at p old now new s within is w c =
+      let others = packets_answer (s.turns - 1) (k + 1) head file p.to in
+      let fails = PutsLines-fails s.done (packet_line k file p) others.lines old now new s.puts w c in
+      subst (λ a. Gives a WriteFault old new)
+      (sym (decided at old now (Ok (Some p)) s within is)) (inr (inl (refl, inl fails)))
 
--- a packet is refused
-pub IsShown-refused : (k : ℕ) (head : CaptureHead) (file : List ℕ) (at : ℕ) (e : CaptureRefusal) (status : Status)
-    (old now new : Shown) → IsShown k head file at old now → at ≤ length file → packet_at head file at ≡ Err e
-    → Gives (line_answer CaptureRefused (packet_refusal_line k e)) status now new → Gives (packets_answer (length file) 1 head file head_length) status old new
-IsShown-refused k head file at e status old now new s within is g =
-    subst (λ (a : Answer). Gives a status old new) (sym (decided k head file at old now (Err e) s within is))
-    (Gives-behind s.done (line_answer CaptureRefused (packet_refusal_line k e)) status old now new s.puts g)
+  -- a packet is refused
+  pub IsShown-refused : (at : ℕ) (e : CaptureRefusal) (status : Status) (old : Shown) {now new : Shown}
+      → IsShown k head file at old now → at ≤ length file → packet_at head file at ≡ Err e
+      → Gives (line_answer CaptureRefused (packet_refusal_line k e)) status now new
+      → Gives (packets_answer (length file) 1 head file head_length) status old new
+  IsShown-refused at e status old {now} {new} s within is g =
+      subst (λ a. Gives a status old new) (sym (decided at old now (Err e) s within is))
+      (Gives-behind s.done (line_answer CaptureRefused (packet_refusal_line k e)) status old now new s.puts g)

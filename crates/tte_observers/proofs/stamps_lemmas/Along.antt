@@ -19,27 +19,30 @@ module _ {O : Type 0} (granule_of : O → ℕ) where
 
 -- ---- what it has put
 
-so_far : (granule : ℕ) (network : Network) (events : List Event) (notes : List Note) (old put : Told) → AreRecordsSoFar network events notes
-    → PutsStamps granule network events old put → PutsLines (stamp_lines granule network events notes) (shown_as old) (shown_as put)
-so_far granule network events notes old put run p =
+so_far : {granule : ℕ} {network : Network} {events : List Event} (notes : List Note) {old put : Told}
+    → AreRecordsSoFar network events notes → PutsStamps granule network events old put
+    → PutsLines (stamp_lines granule network events notes) (shown_as old) (shown_as put)
+so_far {granule} {network} {events} notes {old} {put} run p =
     let same = run_is_one network (clock_reading network events) events (behind_events (amount (last_time events))) p.notes notes p.records run in
-    subst (λ (ns : List Note). PutsLines (stamp_lines granule network events ns) (shown_as old) (shown_as put)) same p.puts
+    subst (λ ns. PutsLines (stamp_lines granule network events ns) (shown_as old) (shown_as put)) same p.puts
 
 -- by the end
-all_put : (granule : ℕ) (network : Network) (octets : List ℕ) (events : List Event) (notes : List Note) (old put : Told) → AreAdmitted network octets events
-    → AreAllRecords network events notes → PutsStamps granule network events old put
-    → PutsLines (stamp_lines granule network events notes) (shown_as old) (shown_as put)
-all_put granule network octets events notes old put all records p =
+all_put : {granule : ℕ} {network : Network} (octets : List ℕ) {events : List Event} (notes : List Note)
+    {old put : Told} → AreAdmitted network octets events → AreAllRecords network events notes
+    → PutsStamps granule network events old put → PutsLines (stamp_lines granule network events notes) (shown_as old)
+    (shown_as put)
+all_put {granule} {network} octets {events} notes {old} {put} all records p =
     let t = amount (last_time events) in
     let last = (admitted_in_order network octets events all).last records.0 records.1 in
-    let le : t ≤ amount records.0 + 1 = subst (λ (u : Units). t ≤ amount u + 1) (sym last) (omega arith) in
+    let le : t ≤ amount records.0 + 1 = subst (λ u. t ≤ amount u + 1) (sym last) (omega arith) in
     let mark = (amount records.0 + 1) ∷ [] in
-    let run = subst (λ (es : List Event). AreRecordsBefore network es mark notes) (sym (append-nil events)) records.2 in
-    let stay = stamps_stay granule network events [] p.notes notes mark (admitted_up_to_last network octets events all) (tt {0}) p.records run
+    let run = subst (λ es. AreRecordsBefore network es mark notes) (sym (append-nil events)) records.2 in
+    let stay = stamps_stay granule network events [] p.notes notes (admitted_up_to_last network octets events all)
+    (tt {0}) p.records run
     (up_to_mark t (amount records.0 + 1) [] le) in
     let same : stamp_lines granule network events notes ≡ stamp_lines granule network events p.notes =
-    ap (λ (es : List Event). stamp_lines granule network es notes) (sym (append-nil events)) ∙ stay ∙ append-nil (stamp_lines granule network events p.notes) in
-    subst (λ (ls : List (List ℕ)). PutsLines ls (shown_as old) (shown_as put)) (sym same) p.puts
+    ap (λ es. stamp_lines granule network es notes) (sym (append-nil events)) ∙ stay ∙ append-nil (stamp_lines granule network events p.notes) in
+    subst (λ ls. PutsLines ls (shown_as old) (shown_as put)) (sym same) p.puts
 
 -- the events that befell where a drive was cut short are admitted
 admitted_short : (network : Network) (octets : List ℕ) (events : List Event) (next : Option Event) (befallen : List Event) (notes : List Note)
@@ -54,9 +57,9 @@ pub stamps_along : {O : Type 0} (granule_of : O → ℕ) (begun : O)
     → PutsAlong begun (stamp_sees granule_of) (stamp_stops granule_of) (stamp_lines (granule_of begun)) (IsTraceAnswer (stamp_lines (granule_of begun)))
 stamps_along granule_of begun = record {
   at_first = λ network. refl;
-  so_far = λ network events notes old put o run seen. so_far (granule_of begun) network events notes old put run seen.1;
+  so_far = λ network events notes old put o run seen. so_far notes run seen.1;
   all = λ network octets events notes old put o admitted records seen.
-      all_put (granule_of begun) network octets events notes old put admitted records seen.1;
+      all_put octets notes admitted records seen.1;
   front = λ network octets events notes admitted run. stamps_begin (granule_of begun) network octets events notes run admitted;
   short = λ network octets events next befallen notes cut old put at stops. (
     stamp_lines (granule_of begun) network befallen stops.notes,

@@ -11,7 +11,7 @@ module _ (granule : ℕ) (network : Network) (octets : List ℕ) (events : List 
       → IsUpTo (amount (last_time (events ++ more))) mark → AreRecordsBefore network (events ++ more) mark others → AreAdmitted network octets events
       → stamp_lines granule network (events ++ more) others ≡ stamp_lines granule network events notes ++ stamps_behind granule network others events more
   stay more others mark all up whole own =
-      stamps_stay granule network events more notes others mark (admitted_up_to_last network octets events own)
+      stamps_stay granule network events more notes others (admitted_up_to_last network octets events own)
       (admitted_follow network octets events more all) run whole
       (λ p before. up p (up_to_mark (amount (last_time events)) (amount (last_time (events ++ more))) [] (last_grows network octets events more all) p before))
 
@@ -22,7 +22,7 @@ module _ (granule : ℕ) (network : Network) (octets : List ℕ) (events : List 
       let last = (admitted_in_order network octets (events ++ more) all).last w.records.0 w.records.1 in
       let up : IsUpTo (amount (last_time (events ++ more))) ((amount w.records.0 + 1) ∷ []) =
       up_to_mark (amount (last_time (events ++ more))) (amount w.records.0 + 1) []
-      (subst (λ (t : Units). amount (last_time (events ++ more)) ≤ amount t + 1) (sym last) (omega arith)) in (
+      (subst (λ t. amount (last_time (events ++ more)) ≤ amount t + 1) (sym last) (omega arith)) in (
         stamps_behind granule network w.notes events more,
         ap (λ (b : Answer). b.lines) w.answer ∙ stay more w.notes ((amount w.records.0 + 1) ∷ []) all up w.records.2 own,
       )
@@ -42,4 +42,4 @@ module _ (granule : ℕ) (network : Network) (octets : List ℕ) (events : List 
       let stop = answer_stops (stamp_lines granule) network octets i.events a i.is in
       let more = admitted_one network octets events i.events own i.admitted stop in
       begins more.0 a own (subst (AreAdmitted network octets) more.1 i.admitted)
-      (subst (λ (es : List Event). AnswersEither (stamp_lines granule) network octets es a) more.1 i.is)
+      (subst (λ es. AnswersEither (stamp_lines granule) network octets es a) more.1 i.is)

@@ -7,15 +7,16 @@ use Rattle.tte_observers.proofs.stamps_lemmas.Words.{◌≡◌, ◌≤ℤ◌, �
 use Rattle.tte_observers.proofs.stamps_lemmas.Words.{ReadFault, Shown, Status, Units, amount, arith, cases_lt, granule_answer, inl, inr, least_granule, pos}
 use Rattle.{tte_observers.specs.stamps.Answer.{IsStampStatus, StampEnds, StampStops, StampTakesLittle}, tte_traces.proofs.Existing.trace_answers_exist}
 
-pub refused_alone : (granule : Units) (network : Network) (trace : List ℕ) → amount granule < least_granule network → (b : Answer)
-    → IsStampAnswer granule trace network b → b ≡ granule_answer network
-refused_alone granule network trace low b (inl refused) = refused.1
-refused_alone granule network trace low b (inr run) = absurd (let le = run.0 in omega (arith, low, le))
+module _ (granule : Units) (network : Network) (trace : List ℕ) where
+  pub refused_alone : amount granule < least_granule network → {b : Answer} → IsStampAnswer granule trace network b
+      → b ≡ granule_answer network
+  refused_alone low (inl refused) = refused.1
+  refused_alone low (inr run) = absurd (let le = run.0 in omega (arith, low, le))
 
-pub run_alone : (granule : Units) (network : Network) (trace : List ℕ) → least_granule network ≤ amount granule → (b : Answer)
-    → IsStampAnswer granule trace network b → IsTraceAnswer (stamp_lines (amount granule)) trace network b
-run_alone granule network trace fine b (inl refused) = absurd (let low = refused.0 in omega (arith, low, fine))
-run_alone granule network trace fine b (inr run) = run.1
+  pub run_alone : least_granule network ≤ amount granule → {b : Answer} → IsStampAnswer granule trace network b
+      → IsTraceAnswer (stamp_lines (amount granule)) trace network b
+  run_alone fine (inl refused) = absurd (let low = refused.0 in omega (arith, low, fine))
+  run_alone fine (inr run) = run.1
 
 module _ (granule : Units) (network : Network) {Unread : Type 0} (second left : Option (List ℕ)) (status : Status) (old new : Shown) where
   -- an answer was given

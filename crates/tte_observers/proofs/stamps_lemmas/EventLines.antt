@@ -17,7 +17,7 @@ module _ (network : Network) (world : ExactWorld) (events : List Event) (notes :
         before = record {
           events = events ++ event ∷ [];
           notes = notes ++ note ∷ [];
-          is = subst (λ (n : Network). StandsExact n world (events ++ event ∷ []) (notes ++ note ∷ [])) (sym same) befell.stands;
+          is = subst (λ n. StandsExact n world (events ++ event ∷ []) (notes ++ note ∷ [])) (sym same) befell.stands;
           early = befell.reached.early;
         };
       }

@@ -20,7 +20,7 @@ module _ (granule : ℕ) (network : Network) (world : ExactWorld) (number : ℕ)
       → IsLocalClockBefore (scenario network (clock_reading network (before ++ event ∷ [])) (before ++ event ∷ [])) (happenings network notes) device
       world.now o → IsShownAt network (line_at network before event notes) device o
   shown_at_line o is =
-      subst (λ (t : ℕ). IsLocalClockBefore (scenario network (clock_reading network (before ++ event ∷ [])) (before ++ event ∷ []))
+      subst (λ t. IsLocalClockBefore (scenario network (clock_reading network (before ++ event ∷ [])) (before ++ event ∷ []))
       (happenings network notes) device t o) (ap unsigned_abs at.reached.now) is
 
   -- the lines of the stamp
@@ -31,7 +31,7 @@ module _ (granule : ℕ) (network : Network) (world : ExactWorld) (number : ℕ)
   lines_are o is =
       ap (λ (x : Option ℤ). option_to_list (option_map (stamp_line (length (before ++ event ∷ [])) (device_name network device)) x))
       (sym (of_locals granule network (line_at network before event notes) device o (shown_at_line o is)))
-      ∙ ap (λ (n : ℕ). option_to_list (option_map (stamp_line n (device_name network device)) (option_map (stamp_of granule) o))) number_is
+      ∙ ap (λ n. option_to_list (option_map (stamp_line n (device_name network device)) (option_map (stamp_of granule) o))) number_is
 
   -- it does not stamp the line
   pub none_put : {K : Type 0} (sink : Ghosts K) (out : K)
@@ -39,7 +39,7 @@ module _ (granule : ℕ) (network : Network) (world : ExactWorld) (number : ℕ)
       world.now None
       → PutsLines (lines_by granule network (line_at network before event notes) device) (shown_as (told_by sink out)) (shown_as (told_by sink out))
   none_put sink out is =
-      subst (λ (ls : List (List ℕ)). PutsLines ls (shown_as (told_by sink out)) (shown_as (told_by sink out))) (sym (lines_are None is))
+      subst (λ ls. PutsLines ls (shown_as (told_by sink out)) (shown_as (told_by sink out))) (sym (lines_are None is))
       (PutsLines-none (shown_as (told_by sink out)))
 
   -- it does, and the line of its stamp was put
@@ -52,7 +52,7 @@ module _ (granule : ℕ) (network : Network) (world : ExactWorld) (number : ℕ)
   one_put sink local text old new is same written counted =
       let from = shown_as (told_by sink old) in
       let now = shown_as (told_by sink new) in
-      subst (λ (ls : List (List ℕ)). PutsLines ls from now) (ap (λ (t : List ℕ). t ∷ []) same ∙ sym (lines_are (Some local) is))
+      subst (λ ls. PutsLines ls from now) (ap (λ (t : List ℕ). t ∷ []) same ∙ sym (lines_are (Some local) is))
       (PutsLines-more [] text from from now (PutsLines-none from) written counted)
 
   -- its put failed
@@ -65,7 +65,7 @@ module _ (granule : ℕ) (network : Network) (world : ExactWorld) (number : ℕ)
   one_fails sink local text old new is same front counted =
       let from = shown_as (told_by sink old) in
       let now = shown_as (told_by sink new) in
-      subst (λ (ls : List (List ℕ)). PutFails ls from now) (ap (λ (t : List ℕ). t ∷ []) same ∙ sym (lines_are (Some local) is))
+      subst (λ ls. PutFails ls from now) (ap (λ (t : List ℕ). t ∷ []) same ∙ sym (lines_are (Some local) is))
       (PutsLines-fails [] text [] from from now (PutsLines-none from) front counted)
 
 -- ---- the first devices
@@ -98,7 +98,7 @@ one_more_device sink network line k granule own old now new same first one =
     let more : PutsLines (lines_by_first granule network line (suc k)) from to =
     PutsLines-append (lines_by_first granule network line k) (lines_by granule network line (record { 0 = k })) from (shown_as (told_by sink now)) to first
     (subst (λ (n : ℕ). PutsLines (lines_by n network line (record { 0 = k })) (shown_as (told_by sink now)) to) same one) in
-    subst (λ (n : ℕ). PutsLines (lines_by_first granule network line n) from to) next more
+    subst (λ n. PutsLines (lines_by_first granule network line n) from to) next more
 
 -- the put of its line failed
 pub devices_fail : {K : Type 0} (sink : Ghosts K) (network : Network) (line : Line) (k n : ℕ) (granule own : ℕ) (old now new : K) → own ≡ granule
@@ -114,4 +114,4 @@ devices_fail sink network line k n granule own old now new same le first one =
     let rest = first_devices granule network line (suc k) n le in
     let more : PutFails (lines_by_first granule network line (suc k) ++ rest.0) from to =
     PutFails-more (lines_by_first granule network line (suc k)) rest.0 from to fails in
-    subst (λ (ls : List (List ℕ)). PutFails ls from to) (sym rest.1) more
+    subst (λ ls. PutFails ls from to) (sym rest.1) more

@@ -29,35 +29,38 @@ pub hypothesis_up_to_last : (network : Network) (events : List Event) → AreWit
 hypothesis_up_to_last network events within from_zero e i = elim (last_or_none events) [
   | inl none ↦ absurd (subst (IsIn e) none i)
   | inr some ↦
-      let time = ap (λ (es : List Event). amount (last_time es)) some.2 ∙ ap amount (last_is some.0 some.1) in
-      subst (λ (t : ℕ). amount e.time ≤ t) (sym time) (no_later network events some.0 some.1 some.2 within from_zero e (subst (IsIn e) some.2 i))
+      let time = ap (λ es. amount (last_time es)) some.2 ∙ ap amount (last_is some.0 some.1) in
+      subst (λ t. amount e.time ≤ t) (sym time) (no_later network events some.0 some.1 some.2 within from_zero e (subst (IsIn e) some.2 i))
 ]
 
 -- ---- of admitted events
 
-pub admitted_up_to_last : (network : Network) (octets : List ℕ) (events : List Event) → AreAdmitted network octets events → AreUpToLast events
-admitted_up_to_last network octets events all e i =
-    let at = parted e events i in
-    let order = (admitted_in_order network octets (at.0 ++ e ∷ at.1) (subst (AreAdmitted network octets) at.2 all)).order in
-    subst (λ (es : List Event). amount e.time ≤ amount (last_time es)) (sym at.2) (last_of at.0 at.1 e order)
+module _ (network : Network) (octets : List ℕ) (events : List Event) where
+  pub admitted_up_to_last : AreAdmitted network octets events → AreUpToLast events
+  admitted_up_to_last all e i =
+      let at = parted e events i in
+      let order = (admitted_in_order network octets (at.0 ++ e ∷ at.1)
+      (subst (AreAdmitted network octets) at.2 all)).order in
+      subst (λ es. amount e.time ≤ amount (last_time es)) (sym at.2) (last_of at.0 at.1 e order)
 
-pub admitted_follow : (network : Network) (octets : List ℕ) (events more : List Event) → AreAdmitted network octets (events ++ more) → FollowOn events more
-admitted_follow network octets events [] all = tt {0}
-admitted_follow network octets events (event ∷ others) all =
-    let order = (admitted_in_order network octets (events ++ event ∷ others) all).order in
-    let follows : MayFollow events event others = record {
-      from = λ k e is. not_earlier 0 events others event k e order is;
-      unended = (all events others event refl).has.is_open.unended;
-      order = last_before events others event order;
-    } in
-    follows
+  pub admitted_follow : (more : List Event) → AreAdmitted network octets (events ++ more) → FollowOn events more
+  admitted_follow [] all = tt {0}
+  admitted_follow (event ∷ others) all =
+      let order = (admitted_in_order network octets (events ++ event ∷ others) all).order in
+      let follows : MayFollow events event others = record {
+        from = λ k e is. not_earlier 0 events others event k e order is;
+        unended = (all events others event refl).has.is_open.unended;
+        order = last_before events others event order;
+      } in
+      follows
 
--- the last of some is no later than the last of all
-pub last_grows : (network : Network) (octets : List ℕ) (events more : List Event) → AreAdmitted network octets (events ++ more)
-    → amount (last_time events) ≤ amount (last_time (events ++ more))
-last_grows network octets events [] all = subst (λ (es : List Event). amount (last_time events) ≤ amount (last_time es)) (sym (append-nil events)) (omega arith)
-last_grows network octets events (event ∷ others) all =
-    let order = (admitted_in_order network octets (events ++ event ∷ others) all).order in
-    let one = last_before events others event order in
-    let two = last_of events others event order in
-    omega (arith, one, two)
+  -- the last of some is no later than the last of all
+  pub last_grows : (more : List Event) → AreAdmitted network octets (events ++ more)
+      → amount (last_time events) ≤ amount (last_time (events ++ more))
+  last_grows [] all = subst (λ es. amount (last_time events) ≤ amount (last_time es))
+      (sym (append-nil events)) (omega arith)
+  last_grows (event ∷ others) all =
+      let order = (admitted_in_order network octets (events ++ event ∷ others) all).order in
+      let one = last_before events others event order in
+      let two = last_of events others event order in
+      omega (arith, one, two)

@@ -12,7 +12,7 @@ module _ (granule : ℕ) (octets trace : List ℕ) (network : Network) (range : 
   tells_whole records =
       let t = amount (last_time events) in
       let last = (admitted_in_order network trace events admitted).last records.0 records.1 in
-      let le : t ≤ amount records.0 + 1 = subst (λ (u : Units). t ≤ amount u + 1) (sym last) (omega arith) in
+      let le : t ≤ amount records.0 + 1 = subst (λ u. t ≤ amount u + 1) (sym last) (omega arith) in
       stamps_tell granule network trace events ((amount records.0 + 1) ∷ []) notes (admitted_under octets trace network events range accepted admitted)
       admitted records.2 (up_to_mark t (amount records.0 + 1) [] le) fine
 

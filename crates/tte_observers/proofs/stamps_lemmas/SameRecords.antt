@@ -12,9 +12,10 @@ IsUpTo t mark = (p : List ℕ) → IsBefore p (t ∷ []) → IsBefore p mark
 pub up_to_mark : (t u : ℕ) (rest : List ℕ) → t ≤ u → IsUpTo t (u ∷ rest)
 up_to_mark t u rest le p before = before_of_time p u rest (before_later_time p t u le before)
 
-pub same_before : (s : Scenario) (mark later : List ℕ) (hs gs : List Happening) (t : ℕ) → IsUpTo t mark → IsUpTo t later
-    → IsRun place_of (IsDue s) mark hs → IsRun place_of (IsDue s) later gs → earlier t hs ≡ earlier t gs
-same_before s mark later hs gs t up down one other =
+pub same_before : (s : Scenario) {mark later : List ℕ} {hs gs : List Happening} (t : ℕ) → IsUpTo t mark
+    → IsUpTo t later → IsRun place_of (IsDue s) mark hs → IsRun place_of (IsDue s) later gs
+    → earlier t hs ≡ earlier t gs
+same_before s {mark} {later} {hs} {gs} t up down one other =
     let a = split place_of (IsDue s) hs (t ∷ []) one.founded in
     let b = split place_of (IsDue s) gs (t ∷ []) other.founded in
     let left = cut_run place_of (IsDue s) mark (t ∷ []) hs a up one in

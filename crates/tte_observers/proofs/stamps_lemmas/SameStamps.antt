@@ -18,7 +18,7 @@ module _ (granule : ℕ) (network : Network) (notes others : List Note) where
   same_stamp before event device same =
       let s = scenario_at network (line_at network before event []) in
       let t = amount event.time in
-      ap (λ (hs : List Happening). if not (is_broken s device t)
+      ap (λ hs. if not (is_broken s device t)
       && is_synchronised (if is_turned_on_at s device t then Integrating else state_after s hs device)
       then Some (stamp_of granule (pos (s.reading device t) +ℤ (adjustment_after s hs device).0)) else None) same
 
@@ -45,11 +45,11 @@ module _ (granule : ℕ) (network : Network) (notes others : List Note) where
 pub stamps_parts : (granule : ℕ) (network : Network) (notes : List Note) (before events more : List Event)
     → stamps_behind granule network notes before (events ++ more)
     ≡ stamps_behind granule network notes before events ++ stamps_behind granule network notes (before ++ events) more
-stamps_parts granule network notes before [] more = ap (λ (es : List Event). stamps_behind granule network notes es more) (sym (append-nil before))
+stamps_parts granule network notes before [] more = ap (λ es. stamps_behind granule network notes es more) (sym (append-nil before))
 stamps_parts granule network notes before (event ∷ events) more =
     let one = line_stamps granule network (line_at network before event notes) in
     ap (λ (ls : List (List ℕ)). one ++ ls) (stamps_parts granule network notes (before ++ event ∷ []) events more)
-    ∙ ap (λ (es : List Event). one ++ (stamps_behind granule network notes (before ++ event ∷ []) events ++ stamps_behind granule network notes es more))
+    ∙ ap (λ es. one ++ (stamps_behind granule network notes (before ++ event ∷ []) events ++ stamps_behind granule network notes es more))
     (append_assoc before (event ∷ []) events)
     ∙ sym (append_assoc one (stamps_behind granule network notes (before ++ event ∷ []) events)
     (stamps_behind granule network notes (before ++ event ∷ events) more))

@@ -29,15 +29,15 @@ module _ (granule : ℕ) (network : Network) (world : ExactWorld) (events : List
 
   -- the event is not earlier than those before it
   not_earlier : (e : Event) → IsIn e events → amount e.time ≤ amount event.time
-  not_earlier e i = subst (λ (t : ℕ). amount e.time ≤ t) last_is_it (up_to_it e (in_left e events (event ∷ []) i))
+  not_earlier e i = subst (λ t. amount e.time ≤ t) last_is_it (up_to_it e (in_left e events (event ∷ []) i))
 
   not_before_last : amount (last_time events) ≤ amount event.time
   not_before_last = elim (last_or_none events) [
-    | inl none ↦ subst (λ (es : List Event). amount (last_time es) ≤ amount event.time) (sym none) (omega arith)
+    | inl none ↦ subst (λ es. amount (last_time es) ≤ amount event.time) (sym none) (omega arith)
     | inr some ↦
         let there : IsIn some.1 events = subst (IsIn some.1) (sym some.2) (in_right some.1 some.0 (some.1 ∷ []) (inl refl)) in
-        let time = ap (λ (es : List Event). amount (last_time es)) some.2 ∙ ap amount (last_is some.0 some.1) in
-        subst (λ (t : ℕ). t ≤ amount event.time) (sym time) (not_earlier some.1 there)
+        let time = ap (λ es. amount (last_time es)) some.2 ∙ ap amount (last_is some.0 some.1) in
+        subst (λ t. t ≤ amount event.time) (sym time) (not_earlier some.1 there)
   ]
 
   only : AreFrom (amount event.time) (event ∷ [])
@@ -52,9 +52,9 @@ module _ (granule : ℕ) (network : Network) (world : ExactWorld) (events : List
       let last = amount (last_time (events ++ event ∷ [])) in
       let up_to : AreUpToLast events = hypothesis_up_to_last network events (within_front network events (event ∷ []) befell.stands.within)
       (λ e i. from_zero e (in_left e events (event ∷ []) i)) in
-      let le : amount (last_time events) ≤ last = subst (λ (t : ℕ). amount (last_time events) ≤ t) (sym last_is_it) not_before_last in
+      let le : amount (last_time events) ≤ last = subst (λ t. amount (last_time events) ≤ t) (sym last_is_it) not_before_last in
       let one = line_stamps granule network (line_at network events event (notes ++ note ∷ [])) in
-      stamps_stay granule network events (event ∷ []) others (notes ++ note ∷ []) (last ∷ 2 ∷ []) up_to follows run befell.so_far
+      stamps_stay granule network events (event ∷ []) others (notes ++ note ∷ []) up_to follows run befell.so_far
       (up_to_mark (amount (last_time events)) last (2 ∷ []) le)
       ∙ ap (λ (ls : List (List ℕ)). stamp_lines granule network events others ++ ls) (append-nil one)
 
@@ -66,7 +66,7 @@ module _ (granule : ℕ) (network : Network) (world : ExactWorld) (events : List
   stamps_go sink (Ok x) old now new p puts cut = record {
     notes = notes ++ note ∷ [];
     records = befell.so_far;
-    puts = subst (λ (ls : List (List ℕ)). PutsLines ls (shown_as old) (shown_as (told_by sink new))) (sym (one_line_more p.notes p.records))
+    puts = subst (λ ls. PutsLines ls (shown_as old) (shown_as (told_by sink new))) (sym (one_line_more p.notes p.records))
         (PutsLines-append (stamp_lines granule network events p.notes) (line_stamps granule network (line_at network events event (notes ++ note ∷ [])))
         (shown_as old) (shown_as (told_by sink now)) (shown_as (told_by sink new)) p.puts puts);
   }
@@ -74,7 +74,7 @@ module _ (granule : ℕ) (network : Network) (world : ExactWorld) (events : List
   stamps_go sink (Err WriteFault) old now new p puts cut = record {
     notes = notes ++ note ∷ [];
     records = befell.so_far;
-    stops = inl (subst (λ (ls : List (List ℕ)). PutFails ls (shown_as old) (shown_as (told_by sink new))) (sym (one_line_more p.notes p.records))
+    stops = inl (subst (λ ls. PutFails ls (shown_as old) (shown_as (told_by sink new))) (sym (one_line_more p.notes p.records))
         (PutFails-behind (stamp_lines granule network events p.notes) (line_stamps granule network (line_at network events event (notes ++ note ∷ [])))
         (shown_as old) (shown_as (told_by sink now)) (shown_as (told_by sink new)) p.puts puts));
   }

@@ -31,7 +31,7 @@ is_front : (network : Network) (events more : List Event) (notes : List Note) �
 is_front network events [] notes on run = record {
   mark = amount (last_time events) ∷ 2 ∷ [];
   up_to = λ t le. up_to_mark t (amount (last_time events)) (2 ∷ []) le;
-  run = subst (λ (es : List Event). AreRecordsBefore network es (amount (last_time events) ∷ 2 ∷ []) notes) (sym (append-nil events)) run;
+  run = subst (λ es. AreRecordsBefore network es (amount (last_time events) ∷ 2 ∷ []) notes) (sym (append-nil events)) run;
 }
 is_front network events (event ∷ others) notes on run =
     let t = amount (last_time events) in
@@ -43,15 +43,16 @@ is_front network events (event ∷ others) notes on run =
     }
 
 -- the stamps by the records so far are the first of those by the records of a run under further events
-pub stamps_stay : (granule : ℕ) (network : Network) (events more : List Event) (notes others : List Note) (mark : List ℕ) → AreUpToLast events
-    → FollowOn events more → AreRecordsSoFar network events notes → AreRecordsBefore network (events ++ more) mark others
-    → IsUpTo (amount (last_time events)) mark
-    → stamp_lines granule network (events ++ more) others ≡ stamp_lines granule network events notes ++ stamps_behind granule network others events more
-stamps_stay granule network events more notes others mark last on run whole up =
+pub stamps_stay : (granule : ℕ) (network : Network) (events more : List Event) (notes others : List Note)
+    {mark : List ℕ} → AreUpToLast events → FollowOn events more → AreRecordsSoFar network events notes
+    → AreRecordsBefore network (events ++ more) mark others → IsUpTo (amount (last_time events)) mark
+    → stamp_lines granule network (events ++ more) others ≡ stamp_lines granule network events notes
+    ++ stamps_behind granule network others events more
+stamps_stay granule network events more notes others last on run whole up =
     let front = is_front network events more notes on run in
     let s : Scenario = record { network = network; reading = clock_reading network (events ++ more); events = events ++ more } in
     let same : (e : Event) → IsIn e events → AreSameAt network others notes (amount e.time) = λ e i.
-    same_before s mark front.mark (happenings network others) (happenings network notes) (amount e.time)
+    same_before s (amount e.time)
     (λ p before. up p (up_to_mark (amount e.time) (amount (last_time events)) [] (last e i) p before))
     (front.up_to (amount e.time) (last e i)) whole front.run in
     stamps_parts granule network others [] events more

@@ -10,12 +10,12 @@ use Rattle.tte_observers.proofs.stamps_lemmas.{Words.{last_time, least_granule, 
 -- up to a time a clock reads what it read before further events, which are not earlier
 reads_on : (network : Network) (device : DeviceId) (x t : ℕ) → x ≤ t → (past more : List Event) → AreFrom t more
     → clock_reading network past device x ≡ clock_reading network (past ++ more) device x
-reads_on network device x t le past [] from = ap (λ (es : List Event). clock_reading network es device x) (sym (append-nil past))
+reads_on network device x t le past [] from = ap (λ es. clock_reading network es device x) (sym (append-nil past))
 reads_on network device x t le past (e ∷ more) from =
     let late = from 0 e refl in
     sym (reads_same fresh_segment stepped_segment segment_reading (λ c. c.grain) segment_count exact_steps network past e device x (omega (arith, le, late)))
     ∙ reads_on network device x t le (past ++ e ∷ []) more (λ k d is. from (suc k) d is)
-    ∙ ap (λ (es : List Event). clock_reading network es device x) (append_assoc past (e ∷ []) more)
+    ∙ ap (λ es. clock_reading network es device x) (append_assoc past (e ∷ []) more)
 
 -- the network under the events, where its clocks are exact
 abbrev exact_scenario : Network → List Event → Scenario
@@ -33,7 +33,7 @@ module _ (granule : ℕ) (network : Network) (octets : List ℕ) (events : List 
       let order = (admitted_in_order network octets (before ++ event ∷ behind) (subst (AreAdmitted network octets) is all)).order in
       let trace : events ≡ (before ++ event ∷ []) ++ behind = is ∙ sym (append_assoc before (event ∷ []) behind) in
       let last : amount event.time ≤ amount (last_time events) =
-      subst (λ (es : List Event). amount event.time ≤ amount (last_time es)) (sym is) (last_of before behind event order) in
+      subst (λ es. amount event.time ≤ amount (last_time es)) (sym is) (last_of before behind event order) in
       record {
         before = before;
         event = event;
@@ -44,7 +44,7 @@ module _ (granule : ℕ) (network : Network) (octets : List ℕ) (events : List 
         reads = λ device x le.
             reads_on network device x (amount event.time) le (before ++ event ∷ []) behind
             (λ k e at. not_earlier 0 before behind event (suc k) e order at)
-            ∙ ap (λ (es : List Event). clock_reading network es device x) (sym trace);
+            ∙ ap (λ es. clock_reading network es device x) (sym trace);
         records = refl;
         covers = λ place b. up place (up_to_mark (amount event.time) (amount (last_time events)) [] last place b);
       }

@@ -16,7 +16,7 @@ abbrev pub IsOwn : Voter → List ℕ → Network → Answer → Type 0
 IsOwn begun octets network a = IsTraceAnswer (vote_lines begun.votes.voters) octets network a
 
 none_along : (old put : Told) → put ≡ old → PutsLines [] (shown_as old) (shown_as put)
-none_along old put same = subst (λ (t : Told). PutsLines [] (shown_as old) (shown_as t)) (sym same) (PutsLines-none (shown_as old))
+none_along old put same = subst (λ t. PutsLines [] (shown_as old) (shown_as t)) (sym same) (PutsLines-none (shown_as old))
 
 none_stops : (cut : Cut) (old put : Told) → put ≡ old → StopsLines [] cut old put
 none_stops cuts.WriteFault old put same = inr (none_along old put same)

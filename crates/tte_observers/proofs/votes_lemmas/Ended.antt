@@ -51,7 +51,7 @@ module _ {B K : Type 0} (source : sources.Ghosts B) (sink : sinks.Ghosts K) (beg
       → Gives a status (shown_by sink old) (shown_by sink new)
   all_of a status new same g =
       let none : PutsLines [] (shown_as (told_by sink old)) (shown_as (told_by sink put)) =
-      subst (λ (t : Told). PutsLines [] (shown_as (told_by sink old)) (shown_as t)) (sym same) (PutsLines-none (shown_as (told_by sink old))) in
+      subst (λ t. PutsLines [] (shown_as (told_by sink old)) (shown_as t)) (sym same) (PutsLines-none (shown_as (told_by sink old))) in
       Gives-behind [] a status (shown_by sink old) (shown_by sink put) (shown_by sink new) (puts_shown sink [] old put none) g
 
   abbrev Ends : Status → K → Type 0
@@ -85,7 +85,7 @@ module _ {B K : Type 0} (source : sources.Ghosts B) (sink : sinks.Ghosts K) (beg
       → Gives (record { status = fault_status fault; lines = vote_lines begun.votes.voters network [] d.notes ++ fault_lines line fault }) status
       (shown_by sink put) (shown_by sink new) → (status ≡ fault_status fault) ⊎ ((status ≡ WriteFault) × X) → Ends status new
   ends_fault it stop fault line status new d is number g which =
-      let count : line ≡ length d.events + 1 = number ∙ ap (λ (n : ℕ). n + 1) d.stopped.lines in
+      let count : line ≡ length d.events + 1 = number ∙ ap (λ n. n + 1) d.stopped.lines in
       let a = faulty_answer (vote_lines begun.votes.voters) network d.events d.notes fault in
       let gives : Gives a status (shown_by sink put) (shown_by sink new) =
       subst (λ (n : ℕ). Gives (record { status = fault_status fault; lines = vote_lines begun.votes.voters network [] d.notes ++ fault_lines n fault }) status

@@ -12,8 +12,8 @@ pub vl_read : (xs ys : List VirtualLink) (i : ℕ) (x : VirtualLink) → xs ≡ 
 vl_read xs ys i x same less at = slice_get_read ys (length ys) i x refl less (at ∙ ap (λ (zs : List VirtualLink). get_or zs i x) same)
 
 -- a virtual link that is named is one of the network's
-pub named_there : (network : Network) (name : List ℕ) (vl : VlId) → IsNamed network name vl → vl.0 < length network.vl
-named_there network name vl named =
+pub named_there : (network : Network) {name : List ℕ} (vl : VlId) → IsNamed network name vl → vl.0 < length network.vl
+named_there network {name} vl named =
     let within = slice_get_within (vl_names network.vl) vl.0 name named.bears in
     let many = length-map network.vl (λ (v : VirtualLink). v.name) in omega (arith, within, many)
 

@@ -10,12 +10,12 @@ use Rattle.tte_observers.{proofs.votes_lemmas.Words.{lines_at, refl, shown_by, s
 use Rattle.tte_observers.specs.{declared.votes.ballots.votes.KeptVotes.KeptVotes, votes.{Putting.PutsAll, VoteLines.{is_cast, lines_before, vote_line}}}
 
 -- a record that the world gave has the next number
-pub number_given : (network : Network) (world : ExactWorld) (events : List Event) (notes : List Note) (note : Note)
+pub number_given : {network : Network} {world : ExactWorld} {events : List Event} (notes : List Note) (note : Note)
     → StandsExact network world events (notes ++ note ∷ []) → note.number ≡ length notes + 1
-number_given network world events notes note stands =
+number_given {network} notes note stands =
     let hs = happenings network notes in
     let due = (stands.is.run.founded hs [] (happening network hs note) (one_more network notes note)).1 in
-    due.number ∙ ap (λ (n : ℕ). n + 1) (as_many network notes)
+    due.number ∙ ap (λ n. n + 1) (as_many network notes)
 
 module _ (network : Network) (voters : Voters) (ns : List Note) where
   abbrev to : ℕ → List (List ℕ)
@@ -23,7 +23,7 @@ module _ (network : Network) (voters : Voters) (ns : List Note) where
 
   -- at first
   pub puts_first : (s : Shown) → PutsLines (lines_to network voters (happenings network ns) 0) s s
-  puts_first s = subst (λ (ls : List (List ℕ)). PutsLines ls s s) (sym (lines_none network voters (happenings network ns))) (PutsLines-none s)
+  puts_first s = subst (λ ls. PutsLines ls s s) (sym (lines_none network voters (happenings network ns))) (PutsLines-none s)
 
   module _ (from cycle : ℕ) (device : DeviceId) (ballot : Votes) (left : KeptVotes) (next : IsNext network voters ns from cycle device ballot left)
       (old now new : Shown) (puts : PutsLines (lines_to network voters (happenings network ns) from) old now) where
@@ -31,7 +31,7 @@ module _ (network : Network) (voters : Voters) (ns : List Note) where
     pub puts_next : PutsLines (lines_at network cycle device ballot) now new
         → PutsLines (lines_to network voters (happenings network ns) (key_of cycle device + 1)) old new
     puts_next own =
-        subst (λ (ls : List (List ℕ)). PutsLines ls old new) (sym (lines_given network voters ns from cycle device ballot left next))
+        subst (λ ls. PutsLines ls old new) (sym (lines_given network voters ns from cycle device ballot left next))
         (PutsLines-append (to from) (lines_at network cycle device ballot) old now new puts own)
 
     pub next_within : key_of cycle device + 1 ≤ 2 ^ 64
@@ -45,9 +45,9 @@ module _ (network : Network) (voters : Voters) (ns : List Note) where
         let key = key_of cycle device in
         let rest = lines_front network voters hs (key + 1) (2 ^ 64) next_within in
         let fails : PutFails (to (key + 1)) old new =
-        subst (λ (ls : List (List ℕ)). PutFails ls old new) (sym (lines_given network voters ns from cycle device ballot left next))
+        subst (λ ls. PutFails ls old new) (sym (lines_given network voters ns from cycle device ballot left next))
         (PutFails-behind (to from) (lines_at network cycle device ballot) old now new puts own) in
-        subst (λ (ls : List (List ℕ)). PutFails ls old new) (sym (lines_all network voters hs few ∙ rest.1)) (PutFails-more (to (key + 1)) rest.0 old new fails)
+        subst (λ ls. PutFails ls old new) (sym (lines_all network voters hs few ∙ rest.1)) (PutFails-more (to (key + 1)) rest.0 old new fails)
 
   -- none is left
   pub puts_all : (from : ℕ) (old new : Shown) → length network.device < 2 ^ 32 → from ≤ 2 ^ 64 → AreOpenFrom network voters ns from (2 ^ 64)
@@ -55,7 +55,7 @@ module _ (network : Network) (voters : Voters) (ns : List Note) where
       → PutsLines (lines_before network voters (happenings network ns) (2 ^ 32)) old new
   puts_all from old new few le none puts =
       let hs = happenings network ns in
-      subst (λ (ls : List (List ℕ)). PutsLines ls old new)
+      subst (λ ls. PutsLines ls old new)
       (sym (lines_all network voters hs few ∙ lines_open network voters ns from (2 ^ 64) le (omega arith) none)) puts
 
 -- ---- one line
@@ -76,7 +76,7 @@ line_of network cycle device v text less some is =
 -- what it is made of
 pub line_text : (text : List ℕ) (cycle : ℕ) (name own : List ℕ) (o p : Option (List ℕ)) → text ≡ vote_line cycle name o → name ≡ own → o ≡ p
     → text ≡ vote_line cycle own p
-line_text text cycle name own o p is same equal = is ∙ ap (λ (n : List ℕ). vote_line cycle n o) same ∙ ap (λ (x : Option (List ℕ)). vote_line cycle own x) equal
+line_text text cycle name own o p is same equal = is ∙ ap (λ n. vote_line cycle n o) same ∙ ap (λ x. vote_line cycle own x) equal
 
 -- it was put, or its put failed
 pub put_one : {T E K : Type 0} (sink : Ghosts K) (r : Result T E) (text : List ℕ) (lines : List (List ℕ)) (old new : K) → lines ≡ text ∷ []
@@ -85,7 +85,7 @@ pub put_one : {T E K : Type 0} (sink : Ghosts K) (r : Result T E) (text : List �
 put_one sink (Ok x) text lines old new is all front counted =
     let a = shown_by sink old in
     record {
-      all = subst (λ (ls : List (List ℕ)). PutsLines ls a (shown_by sink new)) (sym is)
+      all = subst (λ ls. PutsLines ls a (shown_by sink new)) (sym is)
           (PutsLines-more [] text a a (shown_by sink new) (PutsLines-none a) all counted);
       fails = tt {0};
     }
@@ -93,6 +93,6 @@ put_one sink (Err e) text lines old new is all front counted =
     let a = shown_by sink old in
     record {
       all = tt {0};
-      fails = subst (λ (ls : List (List ℕ)). PutFails ls a (shown_by sink new)) (sym is)
+      fails = subst (λ ls. PutFails ls a (shown_by sink new)) (sym is)
           (PutsLines-fails [] text [] a a (shown_by sink new) (PutsLines-none a) front counted);
     }

@@ -29,40 +29,43 @@ ballot_still : (hs : List Happening) (h : Happening) (voters : Voters) (cycle : 
     → ((vl : VlId) → is_delivery vl cycle device h.note.body ≡ false) → ballot_of voters (hs ++ h ∷ []) cycle device ≡ ballot_of voters hs cycle device
 ballot_still hs h voters cycle device e =
     let more = hs ++ h ∷ [] in
-    ap (λ (o : Option (List ℕ)). the_ballot o (payload_taken more voters.second cycle device) (payload_taken more voters.third cycle device))
+    ap (λ o. the_ballot o (payload_taken more voters.second cycle device) (payload_taken more voters.third cycle device))
     (taken_still hs h voters.first cycle device (e voters.first))
-    ∙ ap (λ (o : Option (List ℕ)). the_ballot (payload_taken hs voters.first cycle device) o (payload_taken more voters.third cycle device))
+    ∙ ap (λ o. the_ballot (payload_taken hs voters.first cycle device) o (payload_taken more voters.third cycle device))
     (taken_still hs h voters.second cycle device (e voters.second))
-    ∙ ap (λ (o : Option (List ℕ)). the_ballot (payload_taken hs voters.first cycle device) (payload_taken hs voters.second cycle device) o)
+    ∙ ap (λ o. the_ballot (payload_taken hs voters.first cycle device) (payload_taken hs voters.second cycle device) o)
     (taken_still hs h voters.third cycle device (e voters.third))
 
-no_delivery : (time : ℕ) (n : Note) (vl : VlId) (cycle : ℕ) (device : DeviceId) → IsEventOf time n → is_delivery vl cycle device n.body ≡ false
-no_delivery time n vl cycle device is = ap (λ (body : NoteBody). is_delivery vl cycle device body) is.is
+no_delivery : {time : ℕ} {n : Note} (vl : VlId) (cycle : ℕ) (device : DeviceId) → IsEventOf time n
+    → is_delivery vl cycle device n.body ≡ false
+no_delivery vl cycle device is = ap (λ body. is_delivery vl cycle device body) is.is
 
 events_still : (network : Network) (voters : Voters) (cycle : ℕ) (device : DeviceId) (time : ℕ) (front rest : List Note)
     → ((n : Note) → IsIn n rest → IsEventOf time n)
     → ballot_of voters (happenings network (front ++ rest)) cycle device ≡ ballot_of voters (happenings network front) cycle device
-events_still network voters cycle device time front [] only = ap (λ (ns : List Note). ballot_of voters (happenings network ns) cycle device) (append-nil front)
+events_still network voters cycle device time front [] only = ap (λ ns. ballot_of voters (happenings network ns) cycle device) (append-nil front)
 events_still network voters cycle device time front (n ∷ rest) only =
     let hs = happenings network front in
-    ap (λ (ns : List Note). ballot_of voters (happenings network ns) cycle device) (sym (append_assoc front (n ∷ []) rest))
+    ap (λ ns. ballot_of voters (happenings network ns) cycle device) (sym (append_assoc front (n ∷ []) rest))
     ∙ events_still network voters cycle device time (front ++ n ∷ []) rest (λ m i. only m (inr i))
-    ∙ ap (λ (gs : List Happening). ballot_of voters gs cycle device) (one_more network front n)
-    ∙ ballot_still hs (happening network hs n) voters cycle device (λ vl. no_delivery time n vl cycle device (only n (inl refl)))
+    ∙ ap (λ gs. ballot_of voters gs cycle device) (one_more network front n)
+    ∙ ballot_still hs (happening network hs n) voters cycle device
+    (λ vl. no_delivery vl cycle device (only n (inl refl)))
 
 -- ---- a frame that is owed is owed to a device of the network
 
-owed_there : (s : Scenario) (hs : List Happening) (until : ℕ) (vl : VlId) (of_vl : VirtualLink) (cycle : ℕ) (device : DeviceId)
-    → IsOwed s hs until vl of_vl cycle device → device.0 < length s.network.device
-owed_there s hs until vl of_vl cycle device owed =
-    let some = opened (λ (d : Device). is_end_system d.role ≡ true) (device_at s.network device) owed.end_system in
-    slice_get_within s.network.device device.0 some.0 some.1
+module _ (s : Scenario) (hs : List Happening) (until : ℕ) where
+  owed_there : {vl : VlId} {of_vl : VirtualLink} {cycle : ℕ} {device : DeviceId}
+      → IsOwed s hs until vl of_vl cycle device → device.0 < length s.network.device
+  owed_there {device} owed =
+      let some = opened (λ (d : Device). is_end_system d.role ≡ true) (device_at s.network device) owed.end_system in
+      slice_get_within s.network.device device.0 some.0 some.1
 
-two_there : (s : Scenario) (hs : List Happening) (until : ℕ) (voters : Voters) (a b c : VirtualLink) (cycle : ℕ) (device : DeviceId)
-    → AreTwoOwed s hs until voters a b c cycle device → device.0 < length s.network.device
-two_there s hs until voters a b c cycle device (inl two) = owed_there s hs until voters.first a cycle device two.0
-two_there s hs until voters a b c cycle device (inr (inl two)) = owed_there s hs until voters.first a cycle device two.0
-two_there s hs until voters a b c cycle device (inr (inr two)) = owed_there s hs until voters.second b cycle device two.0
+  two_there : (voters : Voters) {a b c : VirtualLink} {cycle : ℕ} {device : DeviceId}
+      → AreTwoOwed s hs until voters a b c cycle device → device.0 < length s.network.device
+  two_there voters (inl two) = owed_there two.0
+  two_there voters (inr (inl two)) = owed_there two.0
+  two_there voters (inr (inr two)) = owed_there two.0
 
 -- ---- two outvote the third
 
@@ -80,7 +83,8 @@ outvoted network events voters run written until rest delivered same a b c cycle
     record {
       value = value;
       told = in_left _ (vote_lines voters network events written) rest
-          (in_lines network voters gs cycle device.0 (sent_payload a cycle) value (2 ^ 32) small (two_there s hs until voters a b c cycle device two));
+          (in_lines network voters gs cycle device.0 (sent_payload a cycle) value (2 ^ 32) small
+          (two_there s hs until voters two));
     }
 
 -- behind the records of a run those of events are written
@@ -91,4 +95,4 @@ pub outvoted_before : (network : Network) (events : List Event) (voters : Voters
 outvoted_before network events voters time front rest written until behind delivered parts only =
     outvoted network events voters front written until behind delivered
     (λ cycle device.
-    ap (λ (ns : List Note). ballot_of voters (happenings network ns) cycle device) parts ∙ events_still network voters cycle device time front rest only)
+    ap (λ ns. ballot_of voters (happenings network ns) cycle device) parts ∙ events_still network voters cycle device time front rest only)

@@ -33,7 +33,7 @@ module _ (network : Network) (voters : Voters) (hs : List Happening) where
       let next : k + 1 ≡ suc k = omega arith in
       let one : k / 2 ^ 32 ≡ cycle = omega (arith, less) in
       let two : k % 2 ^ 32 ≡ device = omega (arith, less) in
-      ap lines_to next ∙ lines_more k ∙ ap (λ (c : ℕ). lines_to k ++ lines_of c (k % 2 ^ 32)) one ∙ ap (λ (d : ℕ). lines_to k ++ lines_of cycle d) two
+      ap lines_to next ∙ lines_more k ∙ ap (λ c. lines_to k ++ lines_of c (k % 2 ^ 32)) one ∙ ap (λ d. lines_to k ++ lines_of cycle d) two
 
   -- lines of more places begin with those of fewer
   pub lines_front : (k n : ℕ) → k ≤ n → (rest : List (List ℕ)) × (lines_to n ≡ lines_to k ++ rest)
@@ -145,7 +145,7 @@ module _ (network : Network) (voters : Voters) (hs : List Happening) where
 
 open_lines : (network : Network) (cycle device : ℕ) (votes : Votes) → votes ≡ no_votes → lines_at network cycle (the_device device) votes ≡ []
 open_lines network cycle device votes e =
-    ap (λ (v : Votes). lines_at network cycle (the_device device) v) e ∙ either (nat_lt device (length network.device))
+    ap (λ v. lines_at network cycle (the_device device) v) e ∙ either (nat_lt device (length network.device))
   where
     either : (b : Bool) → (if b then ballot_lines network cycle (the_device device) no_votes else []) ≡ []
     either true = refl
@@ -187,4 +187,4 @@ module _ (network : Network) (voters : Voters) (ns : List Note) where
       lines_next network voters hs cycle device.0 d
       ∙ ap (λ (ls : List (List ℕ)). ls ++ lines_of network voters hs cycle device.0)
       (lines_open from key next.not_before (omega (arith, c, d)) next.passed)
-      ∙ ap (λ (v : Votes). lines_to network voters hs from ++ lines_at network cycle device v) (sym next.is)
+      ∙ ap (λ v. lines_to network voters hs from ++ lines_at network cycle device v) (sym next.is)

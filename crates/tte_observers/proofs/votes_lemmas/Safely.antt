@@ -17,7 +17,7 @@ vote_safe names network range octets trace a m (inr (voters, named, may, is)) =
     trace_safe (IsVotedRun names octets trace) (IsVotedToFault names octets trace) IsNoVote (vote_lines voters) trace network
     (λ events notes admitted records.
     let run = good_run octets trace network range m events admitted notes records in
-    let two = subst (λ (ls : List (List ℕ)). TwoOutvote voters network events notes notes (amount run.end) ls)
+    let two = subst (λ ls. TwoOutvote voters network events notes notes (amount run.end) ls)
     (append-nil (vote_lines voters network events notes))
     (outvoted network events voters notes notes (amount run.end) [] run.well.safe.delivery (λ cycle device. refl)) in
     of_whole octets trace network range m events admitted notes _ records (voters, named, may, (two, refl)))

@@ -21,7 +21,7 @@ own_line : (network : Network) (cycle : ℕ) (device : DeviceId) (v : Votes) (pa
 own_line network cycle device v payload is =
     let line = vote_line cycle (device_name network device) (voted v) in
     cast (is_cast v) (line ∷ []) (cast_of v payload is)
-    ∙ ap (λ (o : Option (List ℕ)). vote_line cycle (device_name network device) o ∷ []) is
+    ∙ ap (λ o. vote_line cycle (device_name network device) o ∷ []) is
   where
     cast : (b : Bool) (ls : List (List ℕ)) → b ≡ true → (if b then ls else []) ≡ ls
     cast true ls e = refl
@@ -46,7 +46,7 @@ module _ (network : Network) (voters : Voters) (hs : List Happening) (cycle devi
         | inr ge ↦
             (let same : device ≡ m = omega (arith, ge, less) in
             in_right line front own
-            (subst (λ (d : ℕ). IsIn line (ballot_lines network cycle (the_device d) (ballot_of voters hs cycle (the_device d)))) same in_own))
+            (subst (λ d. IsIn line (ballot_lines network cycle (the_device d) (ballot_of voters hs cycle (the_device d)))) same in_own))
       ]
 
   -- before a later cycle
@@ -61,5 +61,5 @@ module _ (network : Network) (voters : Voters) (hs : List Happening) (cycle devi
         | inr ge ↦
             (let same : cycle ≡ m = omega (arith, ge, less) in
             in_right line front own
-            (subst (λ (c : ℕ). IsIn line (lines_by_first network voters hs c (length network.device))) same (in_cycle (length network.device) there)))
+            (subst (λ c. IsIn line (lines_by_first network voters hs c (length network.device))) same (in_cycle (length network.device) there)))
       ]

@@ -58,17 +58,17 @@ one_order : (file : List ℕ) → AreOctets file → number true 4 0 file ≡ ma
 unfolding number
 one_order file o big little = omega (arith, o 0, o 1, o 2, o 3, big, little)
 
-opened_known : (file : List ℕ) (big : Bool) → AreOctets file → HasMagic file big → opened file ≡ judged big file
-opened_known file true o m = opened_big file m
-opened_known file false o m = opened_little file (λ b. one_order file o b m.magic) m
+opened_known : {file : List ℕ} {big : Bool} → AreOctets file → HasMagic file big → opened file ≡ judged big file
+opened_known {file} o m = opened_big file m
+opened_known {file} o m = opened_little file (λ b. one_order file o b m.magic) m
 
 -- what opening finds
 data Opening (file : List ℕ) : Type 0 where
   found : (head : CaptureHead) → IsHead file head → opened file ≡ Ok head → Opening file
   refused : (e : CaptureRefusal) → HasHeadFault file e → opened file ≡ Err e → Opening file
 
-judged_told : (file : List ℕ) (big : Bool) → HasMagic file big → opened file ≡ judged big file → Opening file
-judged_told file big m known = elim (eqb_tells (number big 2 4 file) 2) [
+judged_told : {file : List ℕ} {big : Bool} → HasMagic file big → opened file ≡ judged big file → Opening file
+judged_told {file} {big} m known = elim (eqb_tells (number big 2 4 file) 2) [
   | inr e ↦ refused Version (big, m, λ v. e.1 v.0) (known ∙ judged_version big file (λ v. e.1 v.0))
   | inl major ↦ elim (eqb_tells (number big 2 6 file) 4) [
     | inr e ↦ refused Version (big, m, λ v. e.1 v.1) (known ∙ judged_version big file (λ v. e.1 v.1))
@@ -89,9 +89,10 @@ told : (file : List ℕ) → Opening file
 told file = elim (cases_lt (length file) head_length) [
   | inl short ↦ refused (Header (length file)) (refl, short) (opened_short file short)
   | inr size ↦ elim (eqb_tells (number true 4 0 file) magic) [
-    | inl b ↦ let m : HasMagic file true = record { size = size; magic = b.1 } in judged_told file true m (opened_big file m)
+    | inl b ↦ let m : HasMagic file true = record { size = size; magic = b.1 } in judged_told m (opened_big file m)
     | inr b ↦ elim (eqb_tells (number false 4 0 file) magic) [
-      | inl l ↦ let m : HasMagic file false = record { size = size; magic = l.1 } in judged_told file false m (opened_little file b.1 m)
+      | inl l ↦ let m : HasMagic file false = record { size = size; magic = l.1 } in judged_told m
+          (opened_little file b.1 m)
       | inr l ↦ refused Magic (size, in_neither file b.1 l.1) (opened_none file size (in_neither file b.1 l.1))
     ]
   ]
@@ -99,17 +100,18 @@ told file = elim (cases_lt (length file) head_length) [
 
 head_found : (file : List ℕ) (head : CaptureHead) → opened file ≡ Ok head → IsHead file head
 head_found file head is = elim (told file) [
-  | found h i r ↦ let same : h ≡ head = cc in subst (λ (h : CaptureHead). IsHead file h) same i
+  | found h i r ↦ let same : h ≡ head = cc in subst (λ h. IsHead file h) same i
   | refused e f r ↦ let no : ⊥ = cc in absurd no
 ]
 
-head_opens : (file : List ℕ) (head : CaptureHead) → AreOctets file → IsHead file head → opened file ≡ Ok head
-head_opens file head o i = opened_known file head.big o (record { size = i.size; magic = i.magic }) ∙ judged_right head.big file (i.major, i.minor) i.link_type
+head_opens : {file : List ℕ} {head : CaptureHead} → AreOctets file → IsHead file head → opened file ≡ Ok head
+head_opens {file} {head} o i = opened_known {file = file} {big = head.big} o
+    (record { size = i.size; magic = i.magic }) ∙ judged_right head.big file (i.major, i.minor) i.link_type
 
 fault_found : (file : List ℕ) (e : CaptureRefusal) → opened file ≡ Err e → HasHeadFault file e
 fault_found file e is = elim (told file) [
   | found h i r ↦ let no : ⊥ = cc in absurd no
-  | refused f h r ↦ let same : f ≡ e = cc in subst (λ (x : CaptureRefusal). HasHeadFault file x) same h
+  | refused f h r ↦ let same : f ≡ e = cc in subst (λ x. HasHeadFault file x) same h
 ]
 
 fault_refuses : (file : List ℕ) (e : CaptureRefusal) → AreOctets file → HasHeadFault file e → opened file ≡ Err e
@@ -117,13 +119,13 @@ fault_refuses file (Header n) o h =
     let refusal : ℕ → Result CaptureHead CaptureRefusal = λ n. Err (Header n) in
     opened_short file (omega (arith, h.0, h.1)) ∙ ap refusal h.0
 fault_refuses file Magic o h = opened_none file h.0 h.1
-fault_refuses file Version o (big, m, wrong) = opened_known file big o m ∙ judged_version big file wrong
-fault_refuses file LinkType o (big, m, v, wrong) = opened_known file big o m ∙ judged_link big file v wrong
+fault_refuses file Version o (big, m, wrong) = opened_known o m ∙ judged_version big file wrong
+fault_refuses file LinkType o (big, m, v, wrong) = opened_known o m ∙ judged_link big file v wrong
 fault_refuses file (PacketLength n) o h = absurd h
 fault_refuses file Cut o h = absurd h
 
 pub finds_head : FindsHead
 finds_head = record {
-  found = λ file head o. (head_found file head, head_opens file head o);
+  found = λ file head o. (head_found file head, head_opens {file = file} {head = head} o);
   refused = λ file e o. (fault_found file e, fault_refuses file e o);
 }

@@ -54,78 +54,84 @@ data Finding (head : CaptureHead) (file : List ℕ) (at : ℕ) : Type 0 where
   found : (p : Packet) → IsPacket head file at p → packet_at head file at ≡ Ok (Some p) → Finding head file at
   refused : (e : CaptureRefusal) → HasPacketFault head file at e → packet_at head file at ≡ Err e → Finding head file at
 
-stands_there : (head : CaptureHead) (file : List ℕ) (at : ℕ) → captured head file at ≤ most_captured
-    → at + stamp_length + captured head file at ≤ length file → IsPacket head file at (packet_of head file at (captured head file at))
-stands_there head file at small whole = record {
-  seconds = refl;
-  micros = refl;
-  from = refl;
-  to = refl;
-  original = refl;
-  small = omega arith;
-  whole = whole;
-}
+module _ (head : CaptureHead) (file : List ℕ) where
+  stands_there : (at : ℕ) → captured head file at ≤ most_captured
+      → at + stamp_length + captured head file at ≤ length file
+      → IsPacket head file at (packet_of head file at (captured head file at))
+  stands_there at small whole = record {
+    seconds = refl;
+    micros = refl;
+    from = refl;
+    to = refl;
+    original = refl;
+    small = omega arith;
+    whole = whole;
+  }
 
-told : (head : CaptureHead) (file : List ℕ) (at : ℕ) → at ≤ length file → Finding head file at
-told head file at within = elim (cases_lt at (length file)) [
-  | inr none ↦ let end : length file ≡ at = omega arith in ended (sym end) (at_end head file at end)
-  | inl more ↦ elim (cases_lt (length file) (at + stamp_length)) [
-    | inl short ↦ refused Cut (inl (more, short)) (at_cut_stamp head file at more short)
-    | inr stamp ↦ elim (cases_lt most_captured (captured head file at)) [
-      | inl long ↦ refused (PacketLength (captured head file at)) (stamp, refl, long) (at_long head file at stamp long)
-      | inr small ↦ elim (cases_lt (length file) (at + stamp_length + captured head file at)) [
-        | inl short ↦ refused Cut (inr (small, stamp, short)) (at_cut head file at stamp small short)
-        | inr whole ↦ found (packet_of head file at (captured head file at)) (stands_there head file at small whole)
-            (at_packet head file at stamp small whole)
+  told : (at : ℕ) → at ≤ length file → Finding head file at
+  told at within = elim (cases_lt at (length file)) [
+    | inr none ↦ let end : length file ≡ at = omega arith in ended (sym end) (at_end head file at end)
+    | inl more ↦ elim (cases_lt (length file) (at + stamp_length)) [
+      | inl short ↦ refused Cut (inl (more, short)) (at_cut_stamp head file at more short)
+      | inr stamp ↦ elim (cases_lt most_captured (captured head file at)) [
+        | inl long ↦ refused (PacketLength (captured head file at)) (stamp, refl, long)
+            (at_long head file at stamp long)
+        | inr small ↦ elim (cases_lt (length file) (at + stamp_length + captured head file at)) [
+          | inl short ↦ refused Cut (inr (small, stamp, short)) (at_cut head file at stamp small short)
+          | inr whole ↦ found (packet_of head file at (captured head file at)) (stands_there at small whole)
+              (at_packet head file at stamp small whole)
+        ]
       ]
     ]
   ]
-]
 
--- the octets fix the packet
-packet_is : (head : CaptureHead) (file : List ℕ) (at : ℕ) (p : Packet) → IsPacket head file at p → packet_of head file at (captured head file at) ≡ p
-packet_is head file at p i =
-    let behind : at + stamp_length + captured head file at ≡ p.to = ap (λ (n : ℕ). n + captured head file at) i.from ∙ i.to in
-    rw (i.seconds, i.micros, i.original, behind, i.from) refl
+  -- the octets fix the packet
+  packet_is : (at : ℕ) (p : Packet) → IsPacket head file at p → packet_of head file at (captured head file at) ≡ p
+  packet_is at p i =
+      let behind : at + stamp_length + captured head file at ≡ p.to =
+      ap (λ n. n + captured head file at) i.from ∙ i.to in
+      rw (i.seconds, i.micros, i.original, behind, i.from) refl
 
-pub packet_stands : (head : CaptureHead) (file : List ℕ) (at : ℕ) (p : Packet) → IsPacket head file at p → packet_at head file at ≡ Ok (Some p)
-packet_stands head file at p i =
-    let answer : Packet → Result (Option Packet) CaptureRefusal = λ p. Ok (Some p) in
-    at_packet head file at (omega (arith, i.from, i.to, i.whole)) (omega (arith, i.to, i.small)) (omega (arith, i.from, i.to, i.whole))
-    ∙ ap answer (packet_is head file at p i)
+  pub packet_stands : (at : ℕ) (p : Packet) → IsPacket head file at p → packet_at head file at ≡ Ok (Some p)
+  packet_stands at p i =
+      let answer : Packet → Result (Option Packet) CaptureRefusal = λ p. Ok (Some p) in
+      at_packet head file at (omega (arith, i.from, i.to, i.whole)) (omega (arith, i.to, i.small))
+      (omega (arith, i.from, i.to, i.whole))
+      ∙ ap answer (packet_is at p i)
 
-packet_found : (head : CaptureHead) (file : List ℕ) (at : ℕ) (p : Packet) → at ≤ length file → packet_at head file at ≡ Ok (Some p) → IsPacket head file at p
-packet_found head file at p within is = elim (told head file at within) [
-  | ended e r ↦ let no : ⊥ = cc in absurd no
-  | found q i r ↦ let same : q ≡ p = cc in subst (λ (x : Packet). IsPacket head file at x) same i
-  | refused e f r ↦ let no : ⊥ = cc in absurd no
-]
+  packet_found : (at : ℕ) (p : Packet) → at ≤ length file → packet_at head file at ≡ Ok (Some p)
+      → IsPacket head file at p
+  packet_found at p within is = elim (told at within) [
+    | ended e r ↦ let no : ⊥ = cc in absurd no
+    | found q i r ↦ let same : q ≡ p = cc in subst (λ x. IsPacket head file at x) same i
+    | refused e f r ↦ let no : ⊥ = cc in absurd no
+  ]
 
-end_found : (head : CaptureHead) (file : List ℕ) (at : ℕ) → at ≤ length file → packet_at head file at ≡ Ok None → at ≡ length file
-end_found head file at within is = elim (told head file at within) [
-  | ended e r ↦ e
-  | found q i r ↦ let no : ⊥ = cc in absurd no
-  | refused e f r ↦ let no : ⊥ = cc in absurd no
-]
+  end_found : (at : ℕ) → at ≤ length file → packet_at head file at ≡ Ok None → at ≡ length file
+  end_found at within is = elim (told at within) [
+    | ended e r ↦ e
+    | found q i r ↦ let no : ⊥ = cc in absurd no
+    | refused e f r ↦ let no : ⊥ = cc in absurd no
+  ]
 
-fault_found : (head : CaptureHead) (file : List ℕ) (at : ℕ) (e : CaptureRefusal) → at ≤ length file → packet_at head file at ≡ Err e
-    → HasPacketFault head file at e
-fault_found head file at e within is = elim (told head file at within) [
-  | ended h r ↦ let no : ⊥ = cc in absurd no
-  | found q i r ↦ let no : ⊥ = cc in absurd no
-  | refused f h r ↦ let same : f ≡ e = cc in subst (λ (x : CaptureRefusal). HasPacketFault head file at x) same h
-]
+  fault_found : (at : ℕ) (e : CaptureRefusal) → at ≤ length file → packet_at head file at ≡ Err e
+      → HasPacketFault head file at e
+  fault_found at e within is = elim (told at within) [
+    | ended h r ↦ let no : ⊥ = cc in absurd no
+    | found q i r ↦ let no : ⊥ = cc in absurd no
+    | refused f h r ↦ let same : f ≡ e = cc in subst (λ x. HasPacketFault head file at x) same h
+  ]
 
-fault_refuses : (head : CaptureHead) (file : List ℕ) (at : ℕ) (e : CaptureRefusal) → HasPacketFault head file at e → packet_at head file at ≡ Err e
-fault_refuses head file at (PacketLength n) (stamp, is, long) =
-    let refusal : ℕ → Result (Option Packet) CaptureRefusal = λ n. Err (PacketLength n) in
-    at_long head file at stamp (omega (arith, is, long)) ∙ ap refusal is
-fault_refuses head file at Cut (inl (more, short)) = at_cut_stamp head file at more short
-fault_refuses head file at Cut (inr (small, stamp, short)) = at_cut head file at stamp small short
-fault_refuses head file at (Header n) h = absurd h
-fault_refuses head file at Magic h = absurd h
-fault_refuses head file at Version h = absurd h
-fault_refuses head file at LinkType h = absurd h
+  fault_refuses : (at : ℕ) (e : CaptureRefusal) → HasPacketFault head file at e → packet_at head file at ≡ Err e
+  fault_refuses at (PacketLength n) (stamp, is, long) =
+      let refusal : ℕ → Result (Option Packet) CaptureRefusal = λ n. Err (PacketLength n) in
+      at_long head file at stamp (omega (arith, is, long)) ∙ ap refusal is
+  fault_refuses at Cut (inl (more, short)) = at_cut_stamp head file at more short
+  fault_refuses at Cut (inr (small, stamp, short)) = at_cut head file at stamp small short
+  fault_refuses at (Header n) h = absurd h
+  fault_refuses at Magic h = absurd h
+  fault_refuses at Version h = absurd h
+  fault_refuses at LinkType h = absurd h
 
 pub finds_packets : FindsPackets
 finds_packets = record {

@@ -19,7 +19,7 @@ length-stamp_octets seconds micros n = refl
 pub length-packet_octets : (seconds micros : ℕ) (octets : List ℕ) → length (packet_octets seconds micros octets) ≡ 16 + length octets
 length-packet_octets seconds micros octets =
     length-append (stamp_octets seconds micros (length octets)) octets
-    ∙ ap (λ (n : ℕ). n + length octets) (length-stamp_octets seconds micros (length octets))
+    ∙ ap (λ n. n + length octets) (length-stamp_octets seconds micros (length octets))
 
 -- sixteen octets and then others, written to the front of a room
 pub written_front : (stamp octets room rest : List ℕ) → length stamp ≡ 16
@@ -27,7 +27,7 @@ pub written_front : (stamp octets room rest : List ℕ) → length stamp ≡ 16
 written_front stamp octets room rest size =
     let first : take 16 (stamp ++ drop 16 room) ≡ stamp =
     subst (λ (n : ℕ). take n (stamp ++ drop 16 room) ≡ stamp) size (take-append_seam stamp (drop 16 room)) in
-    let whole : length (stamp ++ octets) ≡ 16 + length octets = length-append stamp octets ∙ ap (λ (n : ℕ). n + length octets) size in
+    let whole : length (stamp ++ octets) ≡ 16 + length octets = length-append stamp octets ∙ ap (λ n. n + length octets) size in
     let all : take (16 + length octets) ((stamp ++ octets) ++ rest) ≡ stamp ++ octets =
     subst (λ (n : ℕ). take n ((stamp ++ octets) ++ rest) ≡ stamp ++ octets) whole (take-append_seam (stamp ++ octets) rest) in
     ap (λ (xs : List ℕ). take (16 + length octets) (xs ++ (octets ++ rest))) first

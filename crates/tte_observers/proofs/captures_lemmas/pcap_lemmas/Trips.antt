@@ -69,12 +69,12 @@ stands front s rest w =
     let packet = packet_octets s.seconds s.micros s.octets in
     let few : length s.octets < 2 ^ 32 = omega (arith, w.short) in
     let size : length (front ++ (packet ++ rest)) ≡ length front + (length packet + length rest) =
-    length-append front (packet ++ rest) ∙ ap (λ (n : ℕ). length front + n) (length-append packet rest) in
+    length-append front (packet ++ rest) ∙ ap (λ n. length front + n) (length-append packet rest) in
     record {
       seconds = number_here false 4 front (packet ++ rest) ∙ seconds_read s.seconds s.micros s.octets rest w.seconds;
       micros = number_behind false 4 4 front (packet ++ rest) ∙ micros_read s.seconds s.micros s.octets rest w.micros;
       from = refl;
-      to = ap (λ (n : ℕ). length front + stamp_length + n)
+      to = ap (λ n. length front + stamp_length + n)
           (number_behind false 4 8 front (packet ++ rest) ∙ captured_read s.seconds s.micros s.octets rest few);
       original = number_behind false 4 12 front (packet ++ rest) ∙ original_read s.seconds s.micros s.octets rest few;
       small = omega (arith, w.short);
@@ -112,15 +112,15 @@ reads front (s ∷ ss) all =
     (stands front s rest (All-head IsWritable s ss all)) in
     let next : Reads written_head ((front ++ packet) ++ rest) (length (front ++ packet)) ss = reads (front ++ packet) ss (All-tail IsWritable s ss all) in
     let same : Reads written_head (front ++ (packet ++ rest)) (length (front ++ packet)) ss =
-    subst (λ (xs : List ℕ). Reads written_head xs (length (front ++ packet)) ss) (append_assoc front packet rest) next in (
+    subst (λ xs. Reads written_head xs (length (front ++ packet)) ss) (append_assoc front packet rest) next in (
       packet_there s (length front),
       there,
       shows front s rest,
-      subst (λ (n : ℕ). Reads written_head (front ++ (packet ++ rest)) n ss) (place_behind front s) same,
+      subst (λ n. Reads written_head (front ++ (packet ++ rest)) n ss) (place_behind front s) same,
     )
 
 pub reads_back : ReadsBack
 reads_back ss all = record {
   head = head_opened (packets_octets ss);
-  packets = subst (λ (n : ℕ). Reads written_head (capture_octets ss) n ss) length-head_octets (reads head_octets ss all);
+  packets = subst (λ n. Reads written_head (capture_octets ss) n ss) length-head_octets (reads head_octets ss all);
 }

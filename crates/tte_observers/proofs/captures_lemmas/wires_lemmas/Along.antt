@@ -34,37 +34,37 @@ module _ (begun : Capture) where
       → SeesWay network events notes (record { told = old; observer = begun }) put it → PutsLines (lines network events notes) (shown_as old) (shown_as put)
   seen_puts network events notes old put it seen =
       let hs = happenings network notes in
-      subst (λ (ls : List (List ℕ)). PutsLines ls (shown_as old) (shown_as put))
+      subst (λ ls. PutsLines ls (shown_as old) (shown_as put))
       (at_start network events hs (record { told = old; observer = begun }) put it seen events (settled hs)) seen.puts
 
   front_so : (network : Network) (octets : List ℕ) (events : List Event) (notes : List Note) → AreAdmitted network octets events
       → AreRecordsSoFar network events notes → IsFrontOf (IsOwn octets network) (lines network events notes)
   front_so network octets events notes admitted run a is =
-      let c = answer_captures begun.link begun.way network octets a is in
+      let c = answer_captures begun.link begun.way network octets is in
       let hs = happenings network notes in
       begins_so network events c.events notes c.notes (settled hs) (unsettled hs) a (settled_first hs (λ ps qs x is. (run.founded ps qs x is).0))
-      (λ h i. filter_has (is_settled hs) hs h i) (so_far_goes network octets events notes c.events c.notes admitted run c.out) c.lines
+      (λ h i. filter_has (is_settled hs) hs h i) (so_far_goes network octets events notes admitted run c.out) c.lines
 
   short_so : (network : Network) (octets : List ℕ) (events : List Event) (next : Option Event) (befallen : List Event) (notes : List Note)
       (front left : List Happening) → happenings network notes ≡ front ++ left
       → ((h : Happening) → IsIn h front → is_settled (happenings network notes) h ≡ true) → IsShortAt network octets events next befallen notes
       → IsFrontOf (IsOwn octets network) (packets_of (scenario_under network befallen) begun.link begun.way front)
   short_so network octets events (Some event) befallen notes front left parts held at a is =
-      let c = answer_captures begun.link begun.way network octets a is in
+      let c = answer_captures begun.link begun.way network octets is in
       elim at.1 [
         | inl way ↦
-            let goes = next_goes network octets events event way.1.mark notes c.events c.notes at.0 way.1.sooner way.1.run c.out in
-            subst (λ (es : List Event). BeginWith a.lines (packets_of (scenario_under network es) begun.link begun.way front)) (sym way.0)
+            let goes = next_goes network octets events event notes at.0 way.1.sooner way.1.run c.out in
+            subst (λ es. BeginWith a.lines (packets_of (scenario_under network es) begun.link begun.way front)) (sym way.0)
             (begins_so network events c.events notes c.notes front left a parts held goes c.lines)
         | inr own ↦
-            let goes = so_far_goes network octets befallen notes c.events c.notes (subst (AreAdmitted network octets) (sym own.0) at.0) own.1 c.out in
+            let goes = so_far_goes network octets befallen notes (subst (AreAdmitted network octets) (sym own.0) at.0) own.1 c.out in
             begins_so network befallen c.events notes c.notes front left a parts held goes c.lines
       ]
   short_so network octets events None befallen notes front left parts held at a is =
       let up = at.2 in
-      let w = all_whole begun.link begun.way network octets events a at.0 is in
-      let goes = ended_goes begun.link begun.way network octets events up.mark notes a at.0 up.up_to up.run w in
-      subst (λ (es : List Event). BeginWith a.lines (packets_of (scenario_under network es) begun.link begun.way front)) (sym at.1)
+      let w = all_whole begun.link begun.way network octets events at.0 is in
+      let goes = ended_goes begun.link begun.way network octets events notes at.0 up.up_to up.run w in
+      subst (λ es. BeginWith a.lines (packets_of (scenario_under network es) begun.link begun.way front)) (sym at.1)
       (begins_so network events events notes w.notes front left a parts held goes (ap (λ (b : Answer). b.lines) w.answer))
 
   pub way_along : PutsAlong begun way_sees way_stops lines IsOwn

@@ -42,11 +42,11 @@ module _ (network : Network) (world : ExactWorld) (events : List Event) (notes :
       → IfErr r (λ cut. cut ≡ OutOfMemory)
       → MatchResult r (λ _. SeesWay network under (notes ++ note ∷ []) start last new) (λ cut. StopsWay network under (notes ++ note ∷ []) cut start last)
   takes last mid new (Ok x) ready took err =
-      subst (λ (l : List Happening). SeesRecords network under l start last new) (sym (one_more network notes note))
+      subst (λ l. SeesRecords network under l start last new) (sym (one_more network notes note))
       (ready_seen network events (happenings network notes) start told it seen event (length notes + 1) (length events + 1) last mid new ready past limit took)
   takes last mid new (Err cut) ready took err =
-      subst (λ (c : Cut). StopsWay network under (notes ++ note ∷ []) c start last) (sym err)
-      (subst (λ (l : List Happening). StopsRecords network under l OutOfMemory start last) (sym (one_more network notes note))
+      subst (λ c. StopsWay network under (notes ++ note ∷ []) c start last) (sym err)
+      (subst (λ l. StopsRecords network under l OutOfMemory start last) (sym (one_more network notes note))
       (ready_out network events (happenings network notes) start told it seen event (length notes + 1) (length events + 1) last mid ready))
 
   sent : sends_of it.link it.way (last_happening network notes note ∷ [])
@@ -64,7 +64,7 @@ module _ (network : Network) (world : ExactWorld) (events : List Event) (notes :
     ready mid (inr later) =
         let is = later.2.0 in
         let puts =
-        subst (λ (t : Told). PutsLines (sent_packets it.cut it.time it.sends.items) (shown_as t) (shown_as (told_by sink after))) old_told later.1.all.0 in
+        subst (λ t. PutsLines (sent_packets it.cut it.time it.sends.items) (shown_as t) (shown_as (told_by sink after))) old_told later.1.all.0 in
         later_ready network events (happenings network notes) start told it seen event (length notes + 1) (length events + 1) order (λ e. later.0 (sym e)) mid
         (told_by sink after) (ap (λ (c : Capture). c.link) is) (ap (λ (c : Capture). c.way) is) (ap (λ (c : Capture). c.cut) is)
         (ap (λ (c : Capture). c.time) is) later.2.1
@@ -82,9 +82,9 @@ module _ (network : Network) (world : ExactWorld) (events : List Event) (notes :
     event_fails mid cut (inl here) = absurd (let e = here.1 in cc)
     event_fails mid cut (inr later) =
         let failed = later.1.failed in
-        let fails = subst (λ (t : Told). PutFails (sent_packets it.cut it.time it.sends.items) (shown_as t)
+        let fails = subst (λ t. PutFails (sent_packets it.cut it.time it.sends.items) (shown_as t)
         (shown_as (told_by sink after))) old_told failed.1 in
-        subst (λ (c : Cut). StopsWay network under (notes ++ note ∷ []) c start (told_by sink after)) (sym failed.0)
-        (subst (λ (l : List Happening). StopsRecords network under l WriteFault start (told_by sink after)) (sym (one_more network notes note))
+        subst (λ c. StopsWay network under (notes ++ note ∷ []) c start (told_by sink after)) (sym failed.0)
+        (subst (λ l. StopsRecords network under l WriteFault start (told_by sink after)) (sym (one_more network notes note))
         (later_stops network events (happenings network notes) start told it seen event (length notes + 1) (length events + 1) order (λ e. later.0 (sym e))
         (told_by sink after) (flush_failed network events (happenings network notes) start told it seen (shown_as (told_by sink after)) fails)))

@@ -45,31 +45,35 @@ cut_stays network events more link u t lt from =
     ap (λ (es : List Event). unwrap_or (last_or None (filter_map (λ e. cut_set link Up e.what) es)) false)
     (filter-append p events more ∙ ap (λ l. filter p events ++ l) (no_events u t more lt from) ∙ append-nil (filter p events))
 
-carried_same : (s other : Scenario) (link : LinkId) (way : Way) (t : ℕ) (body : NoteBody) → other.network ≡ s.network
-    → ((k : LinkId) → is_cut other k Up t ≡ is_cut s k Up t) → is_carried other link way t body ≡ is_carried s link way t body
-carried_same s other link way t (notes.Event line (events.Send k octets)) same cut = ap (λ (b : Bool). is_way_of link way k Up && not b) (cut k)
-carried_same s other link way t (notes.Event line (events.Rate device rate)) same cut = refl
-carried_same s other link way t (notes.Event line (events.Wire k turned delay)) same cut = refl
-carried_same s other link way t (notes.Event line (events.Hold k turned delay)) same cut = refl
-carried_same s other link way t (notes.Event line (events.Cut k turned)) same cut = refl
-carried_same s other link way t (notes.Event line (events.Heal k turned)) same cut = refl
-carried_same s other link way t (notes.Event line (events.On device)) same cut = refl
-carried_same s other link way t (notes.Event line (events.Break device)) same cut = refl
-carried_same s other link way t (notes.Event line events.End) same cut = refl
-carried_same s other link way t (notes.Left device k cause clock) same cut = ap (λ (n : Network). is_sent_on n link way (notes.Left device k cause clock)) same
-carried_same s other link way t (notes.TtSent device k cause vl cycle) same cut =
-    ap (λ (n : Network). is_sent_on n link way (notes.TtSent device k cause vl cycle)) same
-carried_same s other link way t (notes.Arrived device k cause clock) same cut = refl
-carried_same s other link way t (notes.Permanent device k cause point verdict) same cut = refl
-carried_same s other link way t (notes.Compressed device opened at cycle members verdict) same cut = refl
-carried_same s other link way t (notes.Sent device cycle) same cut = refl
-carried_same s other link way t (notes.Corrected device cycle by adjustment) same cut = refl
-carried_same s other link way t (notes.State device state cause why) same cut = refl
-carried_same s other link way t (notes.Lost device k cause) same cut = refl
-carried_same s other link way t (notes.Accepted device k cause vl cycle) same cut = refl
-carried_same s other link way t (notes.Delivered device k cause vl cycle) same cut = refl
-carried_same s other link way t (notes.Dropped device k cause reason) same cut = refl
-carried_same s other link way t (notes.Clock device reading adjustment state) same cut = refl
+module _ (s other : Scenario) (link : LinkId) (way : Way) (t : ℕ) where
+  carried_same : (body : NoteBody) → other.network ≡ s.network
+      → ((k : LinkId) → is_cut other k Up t ≡ is_cut s k Up t)
+      → is_carried other link way t body ≡ is_carried s link way t body
+  carried_same (notes.Event line (events.Send k octets)) same cut =
+      ap (λ (b : Bool). is_way_of link way k Up && not b) (cut k)
+  carried_same (notes.Event line (events.Rate device rate)) same cut = refl
+  carried_same (notes.Event line (events.Wire k turned delay)) same cut = refl
+  carried_same (notes.Event line (events.Hold k turned delay)) same cut = refl
+  carried_same (notes.Event line (events.Cut k turned)) same cut = refl
+  carried_same (notes.Event line (events.Heal k turned)) same cut = refl
+  carried_same (notes.Event line (events.On device)) same cut = refl
+  carried_same (notes.Event line (events.Break device)) same cut = refl
+  carried_same (notes.Event line events.End) same cut = refl
+  carried_same (notes.Left device k cause clock) same cut =
+      ap (λ n. is_sent_on n link way (notes.Left device k cause clock)) same
+  carried_same (notes.TtSent device k cause vl cycle) same cut =
+      ap (λ n. is_sent_on n link way (notes.TtSent device k cause vl cycle)) same
+  carried_same (notes.Arrived device k cause clock) same cut = refl
+  carried_same (notes.Permanent device k cause point verdict) same cut = refl
+  carried_same (notes.Compressed device opened at cycle members verdict) same cut = refl
+  carried_same (notes.Sent device cycle) same cut = refl
+  carried_same (notes.Corrected device cycle by adjustment) same cut = refl
+  carried_same (notes.State device state cause why) same cut = refl
+  carried_same (notes.Lost device k cause) same cut = refl
+  carried_same (notes.Accepted device k cause vl cycle) same cut = refl
+  carried_same (notes.Delivered device k cause vl cycle) same cut = refl
+  carried_same (notes.Dropped device k cause reason) same cut = refl
+  carried_same (notes.Clock device reading adjustment state) same cut = refl
 
 -- the packets of records that are earlier than all further events stay
 pub packets_stay : (network : Network) (events more : List Event) (link : LinkId) (way : Way) (t : ℕ) (hs : List Happening) → AreFrom t more
@@ -104,39 +108,40 @@ none_if : (cut : Bool) (t : ℕ) → None ≡ packet_if cut t None
 none_if true t = refl
 none_if false t = refl
 
-sent_is : (s : Scenario) (link : LinkId) (way : Way) (cut : Bool) (t : ℕ) (body : NoteBody) (frame : Option Pcf) (octets : List ℕ) → rank body ≤ 1
-    → ((k : LinkId) → is_way_of link way k Up ≡ true → is_cut s k Up t ≡ cut)
-    → (if is_carried s link way t body then option_map (packet_at t) (shown body frame octets) else None) ≡ packet_if cut t (sent_by link way octets body)
-sent_is s link way cut t (notes.Event line (events.Send k given)) frame octets low same =
-    let whole = sent_one link way k (is_way_of link way k Up) cut (is_cut s k Up t) t octets refl (same k) in whole
-sent_is s link way cut t (notes.Event line (events.Rate device rate)) frame octets low same = none_if cut t
-sent_is s link way cut t (notes.Event line (events.Wire k turned delay)) frame octets low same = none_if cut t
-sent_is s link way cut t (notes.Event line (events.Hold k turned delay)) frame octets low same = none_if cut t
-sent_is s link way cut t (notes.Event line (events.Cut k turned)) frame octets low same = none_if cut t
-sent_is s link way cut t (notes.Event line (events.Heal k turned)) frame octets low same = none_if cut t
-sent_is s link way cut t (notes.Event line (events.On device)) frame octets low same = none_if cut t
-sent_is s link way cut t (notes.Event line (events.Break device)) frame octets low same = none_if cut t
-sent_is s link way cut t (notes.Event line events.End) frame octets low same = none_if cut t
-sent_is s link way cut t (notes.Left device k cause clock) frame octets low same = absurd (omega (arith, low))
-sent_is s link way cut t (notes.TtSent device k cause vl cycle) frame octets low same = absurd (omega (arith, low))
-sent_is s link way cut t (notes.Arrived device k cause clock) frame octets low same = absurd (omega (arith, low))
-sent_is s link way cut t (notes.Permanent device k cause point verdict) frame octets low same = absurd (omega (arith, low))
-sent_is s link way cut t (notes.Compressed device opened at cycle members verdict) frame octets low same = absurd (omega (arith, low))
-sent_is s link way cut t (notes.Sent device cycle) frame octets low same = absurd (omega (arith, low))
-sent_is s link way cut t (notes.Corrected device cycle by adjustment) frame octets low same = absurd (omega (arith, low))
-sent_is s link way cut t (notes.State device state cause why) frame octets low same = absurd (omega (arith, low))
-sent_is s link way cut t (notes.Lost device k cause) frame octets low same = absurd (omega (arith, low))
-sent_is s link way cut t (notes.Accepted device k cause vl cycle) frame octets low same = absurd (omega (arith, low))
-sent_is s link way cut t (notes.Delivered device k cause vl cycle) frame octets low same = absurd (omega (arith, low))
-sent_is s link way cut t (notes.Dropped device k cause reason) frame octets low same = absurd (omega (arith, low))
-sent_is s link way cut t (notes.Clock device reading adjustment state) frame octets low same = absurd (omega (arith, low))
+module _ (s : Scenario) (link : LinkId) (way : Way) (cut : Bool) (t : ℕ) where
+  sent_is : (body : NoteBody) (frame : Option Pcf) (octets : List ℕ) → rank body ≤ 1
+      → ((k : LinkId) → is_way_of link way k Up ≡ true → is_cut s k Up t ≡ cut)
+      → (if is_carried s link way t body then option_map (packet_at t) (shown body frame octets) else None)
+      ≡ packet_if cut t (sent_by link way octets body)
+  sent_is (notes.Event line (events.Send k given)) frame octets low same =
+      let whole = sent_one link way k (is_way_of link way k Up) cut (is_cut s k Up t) t octets refl (same k) in whole
+  sent_is (notes.Event line (events.Rate device rate)) frame octets low same = none_if cut t
+  sent_is (notes.Event line (events.Wire k turned delay)) frame octets low same = none_if cut t
+  sent_is (notes.Event line (events.Hold k turned delay)) frame octets low same = none_if cut t
+  sent_is (notes.Event line (events.Cut k turned)) frame octets low same = none_if cut t
+  sent_is (notes.Event line (events.Heal k turned)) frame octets low same = none_if cut t
+  sent_is (notes.Event line (events.On device)) frame octets low same = none_if cut t
+  sent_is (notes.Event line (events.Break device)) frame octets low same = none_if cut t
+  sent_is (notes.Event line events.End) frame octets low same = none_if cut t
+  sent_is (notes.Left device k cause clock) frame octets low same = absurd (omega (arith, low))
+  sent_is (notes.TtSent device k cause vl cycle) frame octets low same = absurd (omega (arith, low))
+  sent_is (notes.Arrived device k cause clock) frame octets low same = absurd (omega (arith, low))
+  sent_is (notes.Permanent device k cause point verdict) frame octets low same = absurd (omega (arith, low))
+  sent_is (notes.Compressed device opened at cycle members verdict) frame octets low same = absurd (omega (arith, low))
+  sent_is (notes.Sent device cycle) frame octets low same = absurd (omega (arith, low))
+  sent_is (notes.Corrected device cycle by adjustment) frame octets low same = absurd (omega (arith, low))
+  sent_is (notes.State device state cause why) frame octets low same = absurd (omega (arith, low))
+  sent_is (notes.Lost device k cause) frame octets low same = absurd (omega (arith, low))
+  sent_is (notes.Accepted device k cause vl cycle) frame octets low same = absurd (omega (arith, low))
+  sent_is (notes.Delivered device k cause vl cycle) frame octets low same = absurd (omega (arith, low))
+  sent_is (notes.Dropped device k cause reason) frame octets low same = absurd (omega (arith, low))
+  sent_is (notes.Clock device reading adjustment state) frame octets low same = absurd (omega (arith, low))
 
--- a way up that is the way of a link is that of the link itself
-up_is : (s : Scenario) (link : LinkId) (way : Way) (cut : Bool) (t : ℕ) → is_cut s link Up t ≡ cut → (k : LinkId) → is_way_of link way k Up ≡ true
-    → is_cut s k Up t ≡ cut
-up_is s link way cut t is k here =
-    let same = eqb-true link.0 k.0 (and_parts (link.0 == k.0) (is_way way Up) here).0 in
-    ap (λ (l : LinkId). is_cut s l Up t) (same_link link k same) ∙ is
+  -- a way up that is the way of a link is that of the link itself
+  up_is : is_cut s link Up t ≡ cut → (k : LinkId) → is_way_of link way k Up ≡ true → is_cut s k Up t ≡ cut
+  up_is is k here =
+      let same = eqb-true link.0 k.0 (and_parts (link.0 == k.0) (is_way way Up) here).0 in
+      ap (λ l. is_cut s l Up t) (same_link link k same) ∙ is
 
 each_if : {X : Type 0} (cut : Bool) (t : ℕ) (f : X → Option (List ℕ)) (xs : List X)
     → filter_map (λ x. packet_if cut t (f x)) xs ≡ sent_packets cut t (filter_map f xs)
@@ -157,7 +162,7 @@ pub packets_sent : (s : Scenario) (link : LinkId) (way : Way) (cut : Bool) (t : 
 packets_sent s link way cut t hs each is =
     same_map (packet_of s link way) (λ h. packet_if cut t (sent_by link way h.octets h.note.body)) hs (λ h i.
     let at = each h i in
-    subst (λ (u : ℕ). (if is_carried s link way u h.note.body then option_map (packet_at u) (shown h.note.body h.frame h.octets) else None)
+    subst (λ u. (if is_carried s link way u h.note.body then option_map (packet_at u) (shown h.note.body h.frame h.octets) else None)
     ≡ packet_if cut t (sent_by link way h.octets h.note.body)) (sym at.0)
     (sent_is s link way cut t h.note.body h.frame h.octets at.1 (up_is s link way cut t is)))
     ∙ each_if cut t (λ h. sent_by link way h.octets h.note.body) hs

@@ -26,9 +26,9 @@ module _ (link : LinkId) (way : Way) (network : Network) (octets : List ℕ) (ev
 
   whole_is : (a : Answer) → IsAllAdmitted network octets events → AreAllRecords network events notes → IsCapture link way octets network a → a ≡ done_answer
   whole_is a all records i =
-      let w = all_whole link way network octets events a all i in
+      let w = all_whole link way network octets events all i in
       let time = same_end network octets events w.records.0 records.0 all.admitted w.records.1 records.1 in
-      let here = subst (λ (t : Units). AreRecordsBefore network events ((amount t + 1) ∷ []) w.notes) time w.records.2 in
+      let here = subst (λ t. AreRecordsBefore network events ((amount t + 1) ∷ []) w.notes) time w.records.2 in
       let same = run_is_one network (clock_reading network events) events ((amount records.0 + 1) ∷ []) w.notes notes here records.2 in
       w.answer ∙ ap (λ (ns : List Note). record { status = Done; lines = capture_of network link way events ns }) same
 
@@ -63,9 +63,9 @@ module _ (link : LinkId) (way : Way) (network : Network) (octets : List ℕ) (ev
 
     broken_is : (a : Answer) → IsCapture link way octets network a → a ≡ fault_answer fault
     broken_is a i =
-        let same = stopped_one network octets i.events events i.admitted (either_stops link way network octets i.events a i.is) admitted
-        (either_stops link way network octets events (fault_answer fault) broken) in
-        broken_alone a (subst (λ (es : List Event). EndsEither (way_lines link way) network octets es a) same i.is)
+        let same = stopped_one network octets i.events events i.admitted (either_stops link way network octets i.is) admitted
+        (either_stops link way network octets broken) in
+        broken_alone a (subst (λ es. EndsEither (way_lines link way) network octets es a) same i.is)
 
     pub fault_given : (status : Status) (old new : Shown) → Gives (fault_answer fault) status old new
         → GivesOne (IsCapture link way octets network) status old new
@@ -75,11 +75,14 @@ module _ (link : LinkId) (way : Way) (network : Network) (octets : List ℕ) (ev
 
 -- ---- the sends that wait are put behind the settled ones
 
-all_gives : {K : Type 0} (sink : sinks.Ghosts K) (network : Network) (events : List Event) (notes : List Note) (begun it : Capture) (wanted status : Status)
-    (old put new : K) → SeesWay network events notes (start_by sink old begun) (told_by sink put) it
-    → Gives (record { status = wanted; lines = sent_packets it.cut it.time it.sends.items }) status (shown_by sink put) (shown_by sink new)
-    → Gives (record { status = wanted; lines = capture_of network begun.link begun.way events notes }) status (shown_by sink old) (shown_by sink new)
-all_gives sink network events notes begun it wanted status old put new seen g =
+all_gives : {K : Type 0} (sink : sinks.Ghosts K) {network : Network} {events : List Event} (notes : List Note)
+    (begun : Capture) {it : Capture} (wanted status : Status) (old put new : K)
+    → SeesWay network events notes (start_by sink old begun) (told_by sink put) it
+    → Gives (record { status = wanted; lines = sent_packets it.cut it.time it.sends.items }) status
+    (shown_by sink put) (shown_by sink new)
+    → Gives (record { status = wanted; lines = capture_of network begun.link begun.way events notes }) status
+    (shown_by sink old) (shown_by sink new)
+all_gives sink {network} {events} notes begun {it} wanted status old put new seen g =
     let hs = happenings network notes in
     let start = start_by sink old begun in
     let front = packets_of (scenario_under network events) it.link it.way (settled hs) in
@@ -108,7 +111,7 @@ module _ {B K : Type 0} (source : sources.Ghosts B) (sink : sinks.Ghosts K) (beg
         (λ octets a.
         let all : IsAllAdmitted network octets d.events = record { admitted = a.0; ended = d.have_ended; none_left = a.1 } in
         whole_given begun.link begun.way network octets d.events d.notes status (shown_by sink old) (shown_by sink new) all d.records
-        (all_gives sink network d.events d.notes begun it Done status old put new d.sees g)) d.ended.some;
+        (all_gives sink d.notes begun Done status old put new d.sees g)) d.ended.some;
     cut = λ is. absurd (done_no_read status which is);
     little =
         little_so_far source sink begun way_sees way_stops (lines begun) (IsOwn begun) (way_along begun) network first origin now trace old put d.events
@@ -133,7 +136,7 @@ module _ {B K : Type 0} (source : sources.Ghosts B) (sink : sinks.Ghosts K) (beg
             let behind : IsFault network d.events (behind_lines (length d.events) octets) fault =
             subst (IsStopAt network d.events (behind_lines (length d.events) octets)) is at in
             fault_given begun.link begun.way network octets d.events d.notes fault admitted behind d.so_far status (shown_by sink old) (shown_by sink new)
-            (all_gives sink network d.events d.notes begun it (fault_status fault) status old put new d.sees gives));
+            (all_gives sink d.notes begun (fault_status fault) status old put new d.sees gives));
         cut = λ read. absurd (fault_no_read fault status (subst (λ (w : Status). (status ≡ w) ⊎ ((status ≡ WriteFault) × X)) told which) read);
         little =
             little_at source sink begun way_sees way_stops (lines begun) (IsOwn begun) (way_along begun) network first origin now trace old put it stop d

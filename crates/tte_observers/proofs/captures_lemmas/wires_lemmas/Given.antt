@@ -10,30 +10,31 @@ use Rattle.{tte_observers.specs.captures.wires.Packets.is_carried, world_drive.s
 use Rattle.run_law.specs.declared.note.NoteBody.TheVariants as notes
 use Rattle.run_law.specs.declared.plain.bodies.PlainKind.TheVariants as kinds
 
--- a way carries it exactly where its device sends there
-pub carried_is : (s : Scenario) (link : LinkId) (way : Way) (t : ℕ) (body : NoteBody) → 1 < rank body
-    → is_carried s link way t body ≡ is_sent_on s.network link way body
-carried_is s link way t (notes.Event line what) high = absurd (omega (arith, high))
-carried_is s link way t (notes.Arrived device k cause clock) high = refl
-carried_is s link way t (notes.Permanent device k cause point verdict) high = refl
-carried_is s link way t (notes.Compressed device opened at cycle members verdict) high = refl
-carried_is s link way t (notes.Sent device cycle) high = refl
-carried_is s link way t (notes.Corrected device cycle by adjustment) high = refl
-carried_is s link way t (notes.State device state cause why) high = refl
-carried_is s link way t (notes.Left device k cause clock) high = refl
-carried_is s link way t (notes.Lost device k cause) high = refl
-carried_is s link way t (notes.TtSent device k cause vl cycle) high = refl
-carried_is s link way t (notes.Accepted device k cause vl cycle) high = refl
-carried_is s link way t (notes.Delivered device k cause vl cycle) high = refl
-carried_is s link way t (notes.Dropped device k cause reason) high = refl
-carried_is s link way t (notes.Clock device reading adjustment state) high = refl
+module _ (s : Scenario) (link : LinkId) (way : Way) where
+  -- a way carries it exactly where its device sends there
+  pub carried_is : (t : ℕ) (body : NoteBody) → 1 < rank body
+      → is_carried s link way t body ≡ is_sent_on s.network link way body
+  carried_is t (notes.Event line what) high = absurd (omega (arith, high))
+  carried_is t (notes.Arrived device k cause clock) high = refl
+  carried_is t (notes.Permanent device k cause point verdict) high = refl
+  carried_is t (notes.Compressed device opened at cycle members verdict) high = refl
+  carried_is t (notes.Sent device cycle) high = refl
+  carried_is t (notes.Corrected device cycle by adjustment) high = refl
+  carried_is t (notes.State device state cause why) high = refl
+  carried_is t (notes.Left device k cause clock) high = refl
+  carried_is t (notes.Lost device k cause) high = refl
+  carried_is t (notes.TtSent device k cause vl cycle) high = refl
+  carried_is t (notes.Accepted device k cause vl cycle) high = refl
+  carried_is t (notes.Delivered device k cause vl cycle) high = refl
+  carried_is t (notes.Dropped device k cause reason) high = refl
+  carried_is t (notes.Clock device reading adjustment state) high = refl
 
--- where it does not, there is no packet
-pub not_carried : (s : Scenario) (link : LinkId) (way : Way) (z : Happening) → 1 < rank z.note.body → is_sent_on s.network link way z.note.body ≡ false
-    → packets_of s link way (z ∷ []) ≡ []
-not_carried s link way z high off =
-    ap (λ b. cons_option (if b then option_map (packet_at (time_of z)) (record_octets z) else None) [])
-    (carried_is s link way (time_of z) z.note.body high ∙ off)
+  -- where it does not, there is no packet
+  pub not_carried : (z : Happening) → 1 < rank z.note.body → is_sent_on s.network link way z.note.body ≡ false
+      → packets_of s link way (z ∷ []) ≡ []
+  not_carried z high off =
+      ap (λ b. cons_option (if b then option_map (packet_at (time_of z)) (record_octets z) else None) [])
+      (carried_is (time_of z) z.note.body high ∙ off)
 
 module _ (network : Network) (world : ExactWorld) (events : List Event) (notes : List Note) (note : Note) (start : Start Capture) (told : Told) (it : Capture)
     (stands : StandsExact network world events (notes ++ note ∷ [])) (high : 1 < rank note.body)
@@ -55,9 +56,9 @@ module _ (network : Network) (world : ExactWorld) (events : List Event) (notes :
       let front = packets_of s it.link it.way xs in
       let joined : front ++ lines ≡ packets_of s it.link it.way (xs ++ z ∷ []) =
       ap (λ (l : List (List ℕ)). front ++ l) own ∙ sym (filter_map-append (packet_of s it.link it.way) xs (z ∷ [])) in
-      let puts = subst (λ (ls : List (List ℕ)). PutsLines ls (shown_as start.told) (shown_as last)) joined
+      let puts = subst (λ ls. PutsLines ls (shown_as start.told) (shown_as last)) joined
       (PutsLines-append front lines (shown_as start.told) (shown_as mid) (shown_as last) (flushed network events xs start told it seen (shown_as mid) p) q) in
-      subst (λ (l : List Happening). SeesRecords network events l start last new) (sym (one_more network notes note))
+      subst (λ l. SeesRecords network events l start last new) (sym (one_more network notes note))
       (record_seen network events xs start told it seen z high order new last link way cut time none puts)
 
   -- the put of what waited fails
@@ -65,7 +66,7 @@ module _ (network : Network) (world : ExactWorld) (events : List Event) (notes :
       → StopsWay network events (notes ++ note ∷ []) WriteFault start last
   record_fails_first last p =
       let xs = happenings network notes in
-      subst (λ (l : List Happening). StopsRecords network events l WriteFault start last) (sym (one_more network notes note))
+      subst (λ l. StopsRecords network events l WriteFault start last) (sym (one_more network notes note))
       (record_stops network events xs start told it seen z high order xs (z
       ∷ []) last refl (flush_failed network events xs start told it seen (shown_as last) p))
 
@@ -79,7 +80,7 @@ module _ (network : Network) (world : ExactWorld) (events : List Event) (notes :
       let front = packets_of s it.link it.way xs in
       let joined : front ++ lines ≡ packets_of s it.link it.way (xs ++ z ∷ []) =
       ap (λ (l : List (List ℕ)). front ++ l) own ∙ sym (filter_map-append (packet_of s it.link it.way) xs (z ∷ [])) in
-      let fails = subst (λ (ls : List (List ℕ)). PutFails ls (shown_as start.told) (shown_as last)) joined
+      let fails = subst (λ ls. PutFails ls (shown_as start.told) (shown_as last)) joined
       (PutFails-behind front lines (shown_as start.told) (shown_as mid) (shown_as last) (flushed network events xs start told it seen (shown_as mid) p) q) in
-      subst (λ (l : List Happening). StopsRecords network events l WriteFault start last) (sym (one_more network notes note))
+      subst (λ l. StopsRecords network events l WriteFault start last) (sym (one_more network notes note))
       (record_stops network events xs start told it seen z high order (xs ++ z ∷ []) [] last (sym (append-nil (xs ++ z ∷ []))) fails)

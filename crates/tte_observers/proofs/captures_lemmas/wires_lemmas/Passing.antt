@@ -15,7 +15,7 @@ module _ {K : Type 0} (sink : Ghosts K) (time : ℕ) (old : Capture) where
   lines_put : (new : Capture) (before after : K) → PassesTo sink time old (Ok (tt {0})) new before after
       → (lines : List (List ℕ)) × PutsAll {T = Unit {0}} sink lines (Ok (tt {0})) before after
   lines_put new before after (inl here) =
-      ([], subst (λ (k : K). PutsAll {T = Unit {0}} sink [] (Ok (tt {0})) before k) (sym here.3) (puts_none sink (tt {0}) before))
+      ([], subst (λ k. PutsAll {T = Unit {0}} sink [] (Ok (tt {0})) before k) (sym here.3) (puts_none sink (tt {0}) before))
   lines_put new before after (inr later) = (sent_packets old.cut old.time old.sends.items, later.1)
 
   -- and then the event is taken, or memory runs out

@@ -52,7 +52,7 @@ module _ {K : Type 0} (sink : Ghosts K) where
     failed = (
       q.failed.0,
       PutFails-behind lines more (shown_as (told_by sink old)) (shown_as (told_by sink now)) (shown_as (told_by sink new)) p.all.0 q.failed.1,
-      subst (λ (n : ℕ). Rose n (sink.faults new)) p.all.1 q.failed.2,
+      subst (λ n. Rose n (sink.faults new)) p.all.1 q.failed.2,
     );
   }
 

@@ -45,14 +45,14 @@ module _ (network : Network) (events : List Event) (hs : List Happening) (start 
       let front = packets_of s it.link it.way (settled hs) in
       let cut = cut_known network events it.link it.time seen.past ∙ sym seen.cut in
       let waiting = packets_sent s it.link it.way it.cut it.time (unsettled hs) (λ h i. (seen.now h i, unsettled_rank hs h i)) cut in
-      ap (λ (l : List (List ℕ)). front ++ sent_packets it.cut it.time l) seen.sends ∙ ap (λ (l : List (List ℕ)). front ++ l) (sym waiting)
+      ap (λ l. front ++ sent_packets it.cut it.time l) seen.sends ∙ ap (λ (l : List (List ℕ)). front ++ l) (sym waiting)
       ∙ sym (filter_map-append (packet_of s it.link it.way) (settled hs) (unsettled hs)) ∙ ap (packets_of s it.link it.way) (sym seen.parts)
 
   -- they are put
   pub flushed : (new : Shown) → PutsLines (sent_packets it.cut it.time it.sends.items) (shown_as put) new
       → PutsLines (packets_of (scenario_under network events) it.link it.way hs) (shown_as start.told) new
   flushed new p =
-      subst (λ (ls : List (List ℕ)). PutsLines ls (shown_as start.told) new) whole
+      subst (λ ls. PutsLines ls (shown_as start.told) new) whole
       (PutsLines-append (packets_of (scenario_under network events) it.link it.way (settled hs)) (sent_packets it.cut it.time it.sends.items)
       (shown_as start.told) (shown_as put) new seen.puts p)
 
@@ -60,7 +60,7 @@ module _ (network : Network) (events : List Event) (hs : List Happening) (start 
   pub flush_failed : (new : Shown) → PutFails (sent_packets it.cut it.time it.sends.items) (shown_as put) new
       → PutFails (packets_of (scenario_under network events) it.link it.way hs) (shown_as start.told) new
   flush_failed new p =
-      subst (λ (ls : List (List ℕ)). PutFails ls (shown_as start.told) new) whole
+      subst (λ ls. PutFails ls (shown_as start.told) new) whole
       (PutFails-behind (packets_of (scenario_under network events) it.link it.way (settled hs)) (sent_packets it.cut it.time it.sends.items)
       (shown_as start.told) (shown_as put) new seen.puts p)
 
@@ -86,14 +86,14 @@ module _ (network : Network) (events : List Event) (hs : List Happening) (start 
       there = subst (HasLink network) (sym link) seen.there;
       parts = sym (ap (λ (l : List Happening). settled (hs ++ z ∷ []) ++ l) both.1 ∙ append-nil (settled (hs ++ z ∷ [])) ∙ both.0);
       puts =
-          subst (λ (ls : List (List ℕ)). PutsLines ls (shown_as start.told) (shown_as told))
-          (ap (λ (l : LinkId). packets_of (scenario_under network events) l it.way (hs ++ z ∷ [])) (sym link)
-          ∙ ap (λ (w : Way). packets_of (scenario_under network events) new.link w (hs ++ z ∷ [])) (sym way)
+          subst (λ ls. PutsLines ls (shown_as start.told) (shown_as told))
+          (ap (λ l. packets_of (scenario_under network events) l it.way (hs ++ z ∷ [])) (sym link)
+          ∙ ap (λ w. packets_of (scenario_under network events) new.link w (hs ++ z ∷ [])) (sym way)
           ∙ ap (packets_of (scenario_under network events) new.link new.way) (sym both.0)) puts;
       sends = none ∙ ap (sends_of new.link new.way) (sym both.1);
       now = λ h i. absurd (subst (IsIn h) both.1 i);
       past = λ e i. let le = seen.past e i in omega (arith, time, le);
-      cut = cut ∙ seen.cut ∙ ap (λ (l : LinkId). cut_after l events) (sym link);
+      cut = cut ∙ seen.cut ∙ ap (λ l. cut_after l events) (sym link);
       limit = let low = seen.limit in omega (arith, time, low);
     }
 
@@ -109,7 +109,7 @@ module _ (network : Network) (events : List Event) (hs : List Happening) (start 
           settles hs z h
           (behind_all h (subst (IsIn h) (sym parts) (in_left h front rest i)));
       stops = inl
-          (subst (λ (ls : List (List ℕ)). PutFails ls (shown_as start.told) (shown_as told)) (at_start network events hs start put it seen events front) fails);
+          (subst (λ ls. PutFails ls (shown_as start.told) (shown_as told)) (at_start network events hs start put it seen events front) fails);
     }
 
   -- ---- one more event
@@ -145,7 +145,7 @@ module _ (network : Network) (events : List Event) (hs : List Happening) (start 
       rest = unsettled more;
       parts = r.parts;
       settled = λ h i. filter_has (is_settled more) more h i;
-      stops = subst (λ (ls : List (List ℕ)). PutsLines ls (shown_as start.told) (shown_as told))
+      stops = subst (λ ls. PutsLines ls (shown_as start.told) (shown_as told))
           (at_start network events hs start put it seen under (settled more)) r.puts;
     }
 
@@ -163,19 +163,19 @@ module _ (network : Network) (events : List Event) (hs : List Happening) (start 
           there = subst (HasLink network) (sym link) seen.there;
           parts = r.parts;
           puts =
-              subst (λ (ls : List (List ℕ)). PutsLines ls (shown_as start.told) (shown_as told))
-              (ap (λ (l : LinkId). packets_of (scenario_under network under) l it.way (settled more)) (sym link)
-              ∙ ap (λ (w : Way). packets_of (scenario_under network under) new.link w (settled more)) (sym way)) r.puts;
+              subst (λ ls. PutsLines ls (shown_as start.told) (shown_as told))
+              (ap (λ l. packets_of (scenario_under network under) l it.way (settled more)) (sym link)
+              ∙ ap (λ w. packets_of (scenario_under network under) new.link w (settled more)) (sym way)) r.puts;
           sends =
-              takes.1 ∙ ap (λ (l : LinkId). mid.sends.items ++ octets_sent l mid.way event.what) r.same_link
-              ∙ ap (λ (w : Way). mid.sends.items ++ octets_sent it.link w event.what) r.same_way ∙ sym r.waits
-              ∙ ap (λ (l : LinkId). sends_of l it.way (unsettled more)) (sym link) ∙ ap (λ (w : Way). sends_of new.link w (unsettled more)) (sym way);
+              takes.1 ∙ ap (λ l. mid.sends.items ++ octets_sent l mid.way event.what) r.same_link
+              ∙ ap (λ w. mid.sends.items ++ octets_sent it.link w event.what) r.same_way ∙ sym r.waits
+              ∙ ap (λ l. sends_of l it.way (unsettled more)) (sym link) ∙ ap (λ w. sends_of new.link w (unsettled more)) (sym way);
           now = λ h i. r.now h i ∙ sym time;
           past = λ e i. let le = past e i in omega (arith, time, le);
           cut =
-              cut ∙ ap (λ (l : LinkId). unwrap_or (cut_set l Up event.what) mid.cut) r.same_link
+              cut ∙ ap (λ l. unwrap_or (cut_set l Up event.what) mid.cut) r.same_link
               ∙ ap (λ (b : Bool). unwrap_or (cut_set it.link Up event.what) b) (r.same_cut ∙ seen.cut) ∙ cut_more it.link events event
-              ∙ ap (λ (l : LinkId). cut_after l under) (sym link);
+              ∙ ap (λ l. cut_after l under) (sym link);
           limit = omega (arith, time, limit);
         }
 
@@ -204,7 +204,7 @@ module _ (network : Network) (events : List Event) (hs : List Happening) (start 
                 ap (λ (l : List Happening). l ++ newest ∷ []) seen.parts ∙ append_assoc (settled hs) (unsettled hs) (newest ∷ [])
                 ∙ ap (λ (l : List Happening). l ++ (unsettled hs ++ newest ∷ [])) (sym both.0) ∙ ap (λ (l : List Happening). settled more ++ l) (sym both.1);
             puts =
-                subst (λ (ls : List (List ℕ)). PutsLines ls (shown_as start.told) (shown_as put))
+                subst (λ ls. PutsLines ls (shown_as start.told) (shown_as put))
                 (sym (packets_stay network events (event ∷ []) it.link it.way t (settled hs) from_here
                 (λ h i. settled_sooner hs t (line ∷ []) order h (filter_has (is_settled hs) hs h i)))
                 ∙ ap (packets_of (scenario_under network under) it.link it.way) (sym both.0))
@@ -240,7 +240,7 @@ module _ (network : Network) (events : List Event) (hs : List Happening) (start 
             time = time;
             parts = sym (ap (λ (l : List Happening). l ++ unsettled more) both.0 ∙ ap (λ (l : List Happening). hs ++ l) both.1);
             puts =
-                subst (λ (ls : List (List ℕ)). PutsLines ls (shown_as start.told) (shown_as told))
+                subst (λ ls. PutsLines ls (shown_as start.told) (shown_as told))
                 (sym (stays_put apart) ∙ ap (packets_of (scenario_under network under) it.link it.way) (sym both.0)) puts;
             waits =
                 ap (sends_of it.link it.way) both.1 ∙ sent
@@ -257,7 +257,7 @@ module _ (network : Network) (events : List Event) (hs : List Happening) (start 
         parts = refl;
         settled = λ h i. settles hs newest h (inl (sooner apart h i));
         stops =
-            inl (subst (λ (ls : List (List ℕ)). PutFails ls (shown_as start.told) (shown_as told)) (sym (stays_put apart)
+            inl (subst (λ ls. PutFails ls (shown_as start.told) (shown_as told)) (sym (stays_put apart)
             ∙ at_start network events hs start put it seen under hs)
             fails);
       }

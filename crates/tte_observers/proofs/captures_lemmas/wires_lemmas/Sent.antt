@@ -37,16 +37,16 @@ sent_rank network link way (notes.Dropped device k cause reason) sent = absurd (
 sent_rank network link way (notes.Clock device reading adjustment state) sent = absurd (both_ways false refl sent)
 
 -- the record that the world gave last is of its present time
-pub of_now : (network : Network) (world : ExactWorld) (events : List Event) (notes : List Note) (note : Note)
+pub of_now : {network : Network} {world : ExactWorld} {events : List Event} (notes : List Note) (note : Note)
     → StandsExact network world events (notes ++ note ∷ []) → note.time ≡ units_of world.now → 2 < rank note.body
     → IsOfNow (happenings network (notes ++ note ∷ [])) world.now note.number (last_happening network notes note)
-of_now network world events notes note stands at behind =
+of_now {network} notes note stands at behind =
     let hs = happenings network notes in
     let z = last_happening network notes note in
     let due = (stands.is.run.founded hs [] z (one_more network notes note)).1 in
     record {
       there =
-          ap (λ (n : ℕ). numbered (happenings network (notes ++ note ∷ [])) n) (next_number note.number (length hs) due.number)
+          ap (λ n. numbered (happenings network (notes ++ note ∷ [])) n) (next_number note.number (length hs) due.number)
           ∙ ap (λ (l : List Happening). slice_get l (length hs)) (one_more network notes note) ∙ last_at hs z;
       at = ap amount at;
       behind = behind;
@@ -60,28 +60,34 @@ same_link link k way turned is = eqb-true link.0 k.0 (and_parts (link.0 == k.0) 
 within : (n : ℕ) (link k : LinkId) (way turned : Way) → link.0 < n → is_way_of link way k turned ≡ true → k.0 < n
 within n link k way turned lt is = let same = same_link link k way turned is in omega (arith, lt, same)
 
-launch_within : (s : Scenario) (link k : LinkId) (way turned : Way) (frame : Option Pcf) → HasLink s.network link → is_way_of link way k turned ≡ true
-    → IfSome (option_map (λ (f : Pcf). let l : Launch = record { link = k; way = turned; signal = control (Ok f) } in l) frame) (λ l. l.link.0
-    < length s.network.link)
-launch_within s link k way turned None there is = tt
-launch_within s link k way turned (Some f) there is = within (length s.network.link) link k way turned there is
+module _ (s : Scenario) (link : LinkId) where
+  launch_within : (k : LinkId) (way turned : Way) (frame : Option Pcf) → HasLink s.network link
+      → is_way_of link way k turned ≡ true → IfSome
+      (option_map (λ (f : Pcf). let l : Launch = record { link = k; way = turned; signal = control (Ok f) } in l)
+      frame) (λ l. l.link.0 < length s.network.link)
+  launch_within k way turned None there is = tt
+  launch_within k way turned (Some f) there is = within (length s.network.link) link k way turned there is
 
-pub on_own_link : (s : Scenario) (link : LinkId) (way : Way) (z : Happening) → HasLink s.network link → (body : NoteBody)
-    → is_sent_on s.network link way body ≡ true → IfSome (launched s z (time_of z) body) (λ l. l.link.0 < length s.network.link)
-on_own_link s link way z there (notes.Left device k cause clock) sent = launch_within s link k way (way_from s.network device k) z.frame there sent
-on_own_link s link way z there (notes.TtSent device k cause vl cycle) sent = within (length s.network.link) link k way (way_from s.network device k) there sent
-on_own_link s link way z there (notes.Event line what) sent = absurd (both_ways false refl sent)
-on_own_link s link way z there (notes.Arrived device k cause clock) sent = absurd (both_ways false refl sent)
-on_own_link s link way z there (notes.Permanent device k cause point verdict) sent = absurd (both_ways false refl sent)
-on_own_link s link way z there (notes.Compressed device opened at cycle members verdict) sent = absurd (both_ways false refl sent)
-on_own_link s link way z there (notes.Sent device cycle) sent = absurd (both_ways false refl sent)
-on_own_link s link way z there (notes.Corrected device cycle by adjustment) sent = absurd (both_ways false refl sent)
-on_own_link s link way z there (notes.State device state cause why) sent = absurd (both_ways false refl sent)
-on_own_link s link way z there (notes.Lost device k cause) sent = absurd (both_ways false refl sent)
-on_own_link s link way z there (notes.Accepted device k cause vl cycle) sent = absurd (both_ways false refl sent)
-on_own_link s link way z there (notes.Delivered device k cause vl cycle) sent = absurd (both_ways false refl sent)
-on_own_link s link way z there (notes.Dropped device k cause reason) sent = absurd (both_ways false refl sent)
-on_own_link s link way z there (notes.Clock device reading adjustment state) sent = absurd (both_ways false refl sent)
+  pub on_own_link : (way : Way) (z : Happening) → HasLink s.network link → (body : NoteBody)
+      → is_sent_on s.network link way body ≡ true → IfSome (launched s z (time_of z) body)
+      (λ l. l.link.0 < length s.network.link)
+  on_own_link way z there (notes.Left device k cause clock) sent =
+      launch_within k way (way_from s.network device k) z.frame there sent
+  on_own_link way z there (notes.TtSent device k cause vl cycle) sent =
+      within (length s.network.link) link k way (way_from s.network device k) there sent
+  on_own_link way z there (notes.Event line what) sent = absurd (both_ways false refl sent)
+  on_own_link way z there (notes.Arrived device k cause clock) sent = absurd (both_ways false refl sent)
+  on_own_link way z there (notes.Permanent device k cause point verdict) sent = absurd (both_ways false refl sent)
+  on_own_link way z there (notes.Compressed device opened at cycle members verdict) sent =
+      absurd (both_ways false refl sent)
+  on_own_link way z there (notes.Sent device cycle) sent = absurd (both_ways false refl sent)
+  on_own_link way z there (notes.Corrected device cycle by adjustment) sent = absurd (both_ways false refl sent)
+  on_own_link way z there (notes.State device state cause why) sent = absurd (both_ways false refl sent)
+  on_own_link way z there (notes.Lost device k cause) sent = absurd (both_ways false refl sent)
+  on_own_link way z there (notes.Accepted device k cause vl cycle) sent = absurd (both_ways false refl sent)
+  on_own_link way z there (notes.Delivered device k cause vl cycle) sent = absurd (both_ways false refl sent)
+  on_own_link way z there (notes.Dropped device k cause reason) sent = absurd (both_ways false refl sent)
+  on_own_link way z there (notes.Clock device reading adjustment state) sent = absurd (both_ways false refl sent)
 
 -- ---- the packet
 
@@ -97,37 +103,39 @@ pub record AreLinesOf (t : ℕ) (found : Option Signal) (lines : List (List ℕ)
   pub none : found ≡ None → lines ≡ []
   pub some : (signal : Signal) → found ≡ Some signal → (octets : List ℕ) → IsSpelt signal octets → lines ≡ packet_at t octets ∷ []
 
-left_lines : (k : LinkId) (turned : Way) (t : ℕ) (frame : Option Pcf) (lines : List (List ℕ))
-    → AreLinesOf t (put_of (option_map (λ (f : Pcf). let l : Launch = record { link = k; way = turned; signal = control (Ok f) } in l) frame)) lines
-    → lines ≡ line_of t (option_map encoded frame)
-left_lines k turned t None lines are = are.none refl
-left_lines k turned t (Some f) lines are = are.some (control (Ok f)) refl (encoded f) refl
+left_lines : (k : LinkId) (turned : Way) {t : ℕ} (frame : Option Pcf) {lines : List (List ℕ)} → AreLinesOf t
+    (put_of (option_map (λ (f : Pcf). let l : Launch = record { link = k; way = turned; signal = control (Ok f) } in
+    l) frame)) lines → lines ≡ line_of t (option_map encoded frame)
+left_lines k turned None are = are.none refl
+left_lines k turned (Some f) are = are.some (control (Ok f)) refl (encoded f) refl
 
-sent_lines : (s : Scenario) (link : LinkId) (way : Way) (z : Happening) (t : ℕ) (lines : List (List ℕ)) (body : NoteBody)
-    → is_sent_on s.network link way body ≡ true → AreLinesOf t (put_of (launched s z t body)) lines → lines ≡ line_of t (shown body z.frame z.octets)
-sent_lines s link way z t lines (notes.Left device k cause clock) sent are = left_lines k (way_from s.network device k) t z.frame lines are
-sent_lines s link way z t lines (notes.TtSent device k cause vl cycle) sent are = are.some (timed z.octets) refl z.octets refl
-sent_lines s link way z t lines (notes.Event line what) sent are = absurd (both_ways false refl sent)
-sent_lines s link way z t lines (notes.Arrived device k cause clock) sent are = absurd (both_ways false refl sent)
-sent_lines s link way z t lines (notes.Permanent device k cause point verdict) sent are = absurd (both_ways false refl sent)
-sent_lines s link way z t lines (notes.Compressed device opened at cycle members verdict) sent are = absurd (both_ways false refl sent)
-sent_lines s link way z t lines (notes.Sent device cycle) sent are = absurd (both_ways false refl sent)
-sent_lines s link way z t lines (notes.Corrected device cycle by adjustment) sent are = absurd (both_ways false refl sent)
-sent_lines s link way z t lines (notes.State device state cause why) sent are = absurd (both_ways false refl sent)
-sent_lines s link way z t lines (notes.Lost device k cause) sent are = absurd (both_ways false refl sent)
-sent_lines s link way z t lines (notes.Accepted device k cause vl cycle) sent are = absurd (both_ways false refl sent)
-sent_lines s link way z t lines (notes.Delivered device k cause vl cycle) sent are = absurd (both_ways false refl sent)
-sent_lines s link way z t lines (notes.Dropped device k cause reason) sent are = absurd (both_ways false refl sent)
-sent_lines s link way z t lines (notes.Clock device reading adjustment state) sent are = absurd (both_ways false refl sent)
+module _ (s : Scenario) (link : LinkId) (way : Way) (z : Happening) where
+  sent_lines : {t : ℕ} {lines : List (List ℕ)} (body : NoteBody) → is_sent_on s.network link way body ≡ true
+      → AreLinesOf t (put_of (launched s z t body)) lines → lines ≡ line_of t (shown body z.frame z.octets)
+  sent_lines (notes.Left device k cause clock) sent are = left_lines k (way_from s.network device k) z.frame are
+  sent_lines (notes.TtSent device k cause vl cycle) sent are = are.some (timed z.octets) refl z.octets refl
+  sent_lines (notes.Event line what) sent are = absurd (both_ways false refl sent)
+  sent_lines (notes.Arrived device k cause clock) sent are = absurd (both_ways false refl sent)
+  sent_lines (notes.Permanent device k cause point verdict) sent are = absurd (both_ways false refl sent)
+  sent_lines (notes.Compressed device opened at cycle members verdict) sent are = absurd (both_ways false refl sent)
+  sent_lines (notes.Sent device cycle) sent are = absurd (both_ways false refl sent)
+  sent_lines (notes.Corrected device cycle by adjustment) sent are = absurd (both_ways false refl sent)
+  sent_lines (notes.State device state cause why) sent are = absurd (both_ways false refl sent)
+  sent_lines (notes.Lost device k cause) sent are = absurd (both_ways false refl sent)
+  sent_lines (notes.Accepted device k cause vl cycle) sent are = absurd (both_ways false refl sent)
+  sent_lines (notes.Delivered device k cause vl cycle) sent are = absurd (both_ways false refl sent)
+  sent_lines (notes.Dropped device k cause reason) sent are = absurd (both_ways false refl sent)
+  sent_lines (notes.Clock device reading adjustment state) sent are = absurd (both_ways false refl sent)
 
--- the lines of what a record put on the wire are its packet
-pub packet_is : (s : Scenario) (link : LinkId) (way : Way) (z : Happening) (lines : List (List ℕ)) → is_sent_on s.network link way z.note.body ≡ true
-    → AreLinesOf (time_of z) (put_by s z) lines → lines ≡ packets_of s link way (z ∷ [])
-packet_is s link way z lines sent are =
-    let high = sent_rank s.network link way z.note.body sent in
-    sent_lines s link way z (time_of z) lines z.note.body sent are
-    ∙ sym (ap (λ (b : Bool). cons_option (if b then option_map (packet_at (time_of z)) (record_octets z) else None) [])
-    (carried_is s link way (time_of z) z.note.body (omega (arith, high)) ∙ sent))
+  -- the lines of what a record put on the wire are its packet
+  pub packet_is : {lines : List (List ℕ)} → is_sent_on s.network link way z.note.body ≡ true
+      → AreLinesOf (time_of z) (put_by s z) lines → lines ≡ packets_of s link way (z ∷ [])
+  packet_is sent are =
+      let high = sent_rank s.network link way z.note.body sent in
+      sent_lines z.note.body sent are
+      ∙ sym (ap (λ (b : Bool). cons_option (if b then option_map (packet_at (time_of z))
+      (record_octets z) else None) [])
+      (carried_is s link way (time_of z) z.note.body (omega (arith, high)) ∙ sent))
 
 -- the time of a record that a world gave
 pub timely : (time : Units) (now : ℕ) → time ≡ units_of now → now ≤ 2 ^ 60 → IsTimely time

@@ -198,5 +198,5 @@ settled_first hs order = part_first (is_settled hs) hs (λ ps x qs is holds y i.
     let here : IsIn y hs = subst (IsIn y) (sym is) (in_left y ps (x ∷ qs) i) in
     settled_by hs y s.0 s.1 (elim (before_record y x (order ps qs x is y i)) [
       | inl lt ↦ inl (elim s.2 [ inl later ↦ omega (arith, lt, later) | inr same ↦ (let e = same.0 in omega (arith, lt, e)) ])
-      | inr at ↦ subst (λ (t : ℕ). IsBehindEvents t s.0) (sym at) s.2
+      | inr at ↦ subst (λ t. IsBehindEvents t s.0) (sym at) s.2
     ]))

@@ -17,23 +17,26 @@ has_type octets frame is = by (length octets == pcf_length) (field 12 2 octets =
     by true false same ok = absurd cc
     by false t same ok = absurd cc
 
--- where they decode to a frame, it is spelt
-spelt_as : (octets : List ℕ) (b : Bool) (r : Result Pcf PcfRefusal) (frame : Pcf) → b ≡ true → r ≡ Ok frame → (spelt : List ℕ)
-    → IsSpelt (if b then control r else timed octets) spelt → encoded frame ≡ spelt
-spelt_as octets true (Ok f) frame here is spelt as_ = let same : f ≡ frame = cc in ap encoded (sym same) ∙ sym as_
-spelt_as octets true (Err e) frame here is spelt as_ = absurd as_
-spelt_as octets false r frame here is spelt as_ = absurd (both_ways false refl here)
+module _ (octets : List ℕ) where
+  -- where they decode to a frame, it is spelt
+  spelt_as : (b : Bool) (r : Result Pcf PcfRefusal) (frame : Pcf) → b ≡ true → r ≡ Ok frame → (spelt : List ℕ)
+      → IsSpelt (if b then control r else timed octets) spelt → encoded frame ≡ spelt
+  spelt_as true (Ok f) frame here is spelt as_ = let same : f ≡ frame = cc in ap encoded (sym same) ∙ sym as_
+  spelt_as true (Err e) frame here is spelt as_ = absurd as_
+  spelt_as false r frame here is spelt as_ = absurd (both_ways false refl here)
 
-pub spelt_frame : (octets : List ℕ) (frame : Pcf) → decoded octets ≡ Ok frame → (spelt : List ℕ) → IsSpelt (signal_of octets) spelt → encoded frame ≡ spelt
-spelt_frame octets frame is spelt as_ = spelt_as octets (field 12 2 octets == pcf_type) (decoded octets) frame (has_type octets frame is) is spelt as_
+  pub spelt_frame : (frame : Pcf) → decoded octets ≡ Ok frame → (spelt : List ℕ) → IsSpelt (signal_of octets) spelt
+      → encoded frame ≡ spelt
+  spelt_frame frame is spelt as_ =
+      spelt_as (field 12 2 octets == pcf_type) (decoded octets) frame (has_type octets frame is) is spelt as_
 
--- where they do not, they are none
-octets_as : (octets : List ℕ) (b : Bool) (r : Result Pcf PcfRefusal) (refusal : PcfRefusal) → r ≡ Err refusal → (spelt : List ℕ)
-    → IsSpelt (if b then control r else timed octets) spelt → octets ≡ spelt
-octets_as octets true (Ok f) refusal is spelt as_ = absurd (let e = is in cc)
-octets_as octets true (Err e) refusal is spelt as_ = absurd as_
-octets_as octets false r refusal is spelt as_ = sym as_
+  -- where they do not, they are none
+  octets_as : (b : Bool) (r : Result Pcf PcfRefusal) (refusal : PcfRefusal) → r ≡ Err refusal → (spelt : List ℕ)
+      → IsSpelt (if b then control r else timed octets) spelt → octets ≡ spelt
+  octets_as true (Ok f) refusal is spelt as_ = absurd (let e = is in cc)
+  octets_as true (Err e) refusal is spelt as_ = absurd as_
+  octets_as false r refusal is spelt as_ = sym as_
 
-pub spelt_octets : (octets : List ℕ) (refusal : PcfRefusal) → decoded octets ≡ Err refusal → (spelt : List ℕ) → IsSpelt (signal_of octets) spelt
-    → octets ≡ spelt
-spelt_octets octets refusal is spelt as_ = octets_as octets (field 12 2 octets == pcf_type) (decoded octets) refusal is spelt as_
+  pub spelt_octets : (refusal : PcfRefusal) → decoded octets ≡ Err refusal → (spelt : List ℕ)
+      → IsSpelt (signal_of octets) spelt → octets ≡ spelt
+  spelt_octets refusal is spelt as_ = octets_as (field 12 2 octets == pcf_type) (decoded octets) refusal is spelt as_

@@ -24,8 +24,9 @@ two_more granule (negsuc a) (negsuc b) le =
     omega (arith, ints, product)
 
 -- where a value is at most a granule more than another, its floor is at most one more
-pub floors_near : (granule : ℕ) (x y a b : ℤ) → IsFloor granule x a → IsFloor granule y b → x ≤ℤ (y +ℤ pos granule) → a ≤ℤ (b +ℤ pos 1)
-floors_near granule x y a b one other near =
+pub floors_near : {granule : ℕ} {x y a b : ℤ} → IsFloor granule x a → IsFloor granule y b → x ≤ℤ (y +ℤ pos granule)
+    → a ≤ℤ (b +ℤ pos 1)
+floors_near {granule} {a} {b} one other near =
     by_lt_z {P = a ≤ℤ (b +ℤ pos 1)} (b +ℤ pos 1) a
     (λ more. let twice = two_more granule a b (omega (arith, ints, more)) in absurd (omega (arith, ints, twice, one.least, other.most, near)))
     (λ le. le)

@@ -15,8 +15,9 @@ use Rattle.std.proofs.Common.{◌*◌, ◌+ℤ◌, ◌+◌, ◌-ℤ◌, ◌^◌,
 -- ---- at time 0
 
 -- a start is from 0 to settled
-start_within : (s : Scenario) (device : DeviceId) (u : Units) → IsLawful s → start_of s.network device ≡ Some u → (pos 0 ≤ℤ u.0) × (u.0 ≤ℤ s.network.settled.0)
-start_within s device u lawful e =
+start_within : {s : Scenario} (device : DeviceId) (u : Units) → IsLawful s → start_of s.network device ≡ Some u
+    → (pos 0 ≤ℤ u.0) × (u.0 ≤ℤ s.network.settled.0)
+start_within {s} device u lawful e =
     let n = s.network in
     let from = reached (λ (d : Device). d.start) (device_at n device) u e in
     let known : IsDeviceInRange from.0 = in_all IsDeviceInRange n.device device.0 from.0 lawful.range.devices from.1 in
@@ -41,28 +42,28 @@ module _ (s : Scenario) (mark : List ℕ) (hs : List Happening) (line : Line) (d
   -- at time 0 it shows its start
   pub at_start : line.time ≡ 0 → (pos 0 ≤ℤ shown_at s.network line device) × (shown_at s.network line device ≤ℤ s.network.settled.0)
   at_start now =
-      let none : earlier line.time line.records ≡ [] = ap (λ (x : ℕ). earlier x line.records) now ∙ none_at_start line.records in
-      let start = has_start (start_of s.network device) (timed_of _ (subst (λ (gs : List Happening). state_after s gs device ≡ Synchronised) none left)) in
-      let known = start_within s device start.0 lawful start.1 in
+      let none : earlier line.time line.records ≡ [] = ap (λ x. earlier x line.records) now ∙ none_at_start line.records in
+      let start = has_start (start_of s.network device) (timed_of _ (subst (λ gs. state_after s gs device ≡ Synchronised) none left)) in
+      let known = start_within device start.0 lawful start.1 in
       let reads : line.reading device line.time ≡ 0 = of.reads device line.time (omega arith) ∙ ap (s.reading device) now ∙ lawful.begins device in
       let shown : shown_at s.network line device ≡ (pos 0 +ℤ start.0.0) =
-      ap (λ (x : ℕ). pos x +ℤ (adjustment_after s (earlier line.time line.records) device).0) reads
-      ∙ ap (λ (gs : List Happening). pos 0 +ℤ (adjustment_after s gs device).0) none ∙ ap (λ (o : Option Units). pos 0 +ℤ (adjustment_at_start o).0) start.1 in
+      ap (λ x. pos x +ℤ (adjustment_after s (earlier line.time line.records) device).0) reads
+      ∙ ap (λ gs. pos 0 +ℤ (adjustment_after s gs device).0) none ∙ ap (λ o. pos 0 +ℤ (adjustment_at_start o).0) start.1 in
       (omega (arith, ints, shown, known.0), omega (arith, ints, shown, known.1))
 
   -- and a unit before a later line it is in step
   pub just_before : (u : ℕ) → line.time ≡ u + 1 → IsJustBefore s hs device u (shown_at s.network line device)
   just_before u next =
-      let same : earlier line.time line.records ≡ up_to u hs = of.records ∙ ap (λ (x : ℕ). earlier x hs) next ∙ sym (up_to_is u hs) in
+      let same : earlier line.time line.records ≡ up_to u hs = of.records ∙ ap (λ x. earlier x hs) next ∙ sym (up_to_is u hs) in
       let reads : line.reading device line.time ≡ s.reading device (u + 1) = of.reads device line.time (omega arith) ∙ ap (s.reading device) next in
       let shown : shown_at s.network line device ≡ (pos (s.reading device (u + 1)) +ℤ (adjustment_after s (up_to u hs) device).0) =
-      ap (λ (x : ℕ). pos x +ℤ (adjustment_after s (earlier line.time line.records) device).0) reads
-      ∙ ap (λ (gs : List Happening). pos (s.reading device (u + 1)) +ℤ (adjustment_after s gs device).0) same in
+      ap (λ x. pos x +ℤ (adjustment_after s (earlier line.time line.records) device).0) reads
+      ∙ ap (λ gs. pos (s.reading device (u + 1)) +ℤ (adjustment_after s gs device).0) same in
       let steady = clocks_are_steady s 0 device lawful in
       record {
         in_step = record {
           correct = unbroken s mark hs line lawful of device u (omega (arith, next)) ready.correct;
-          synchronised = subst (λ (gs : List Happening). state_after s gs device ≡ Synchronised) same left;
+          synchronised = subst (λ gs. state_after s gs device ≡ Synchronised) same left;
         };
         least = omega (arith, ints, shown, steady.never_falls u (u + 1) (omega arith));
         most = omega (arith, ints, shown, steady.steps u);
@@ -79,9 +80,10 @@ above_zero : (cycles t error : ℕ) (last shown : ℤ) → ((pos cycles +ℤ pos
 above_zero cycles t error last shown least come = omega (arith, ints, least, come)
 
 -- a clock in step shows at least 0, but for its error
-pub not_behind : (s : Scenario) (mark : List ℕ) (ns : List Note) (u path : ℕ) (device : DeviceId) → IsRunUpTo s mark ns u → IsBeta s.network (pos path)
-    → IsInStep s (happenings s.network ns) device u → pos 0 ≤ℤ (local s (happenings s.network ns) device u +ℤ pos (ideal_error s.network path))
-not_behind s mark ns u path device up beta step =
+pub not_behind : {s : Scenario} {mark : List ℕ} {ns : List Note} {u : ℕ} (path : ℕ) {device : DeviceId}
+    → IsRunUpTo s mark ns u → IsBeta s.network (pos path) → IsInStep s (happenings s.network ns) device u
+    → pos 0 ≤ℤ (local s (happenings s.network ns) device u +ℤ pos (ideal_error s.network path))
+not_behind {s} {mark} {ns} {u} path {device} up beta step =
     let hs = happenings s.network ns in
     let cycle = epoch_cycle (up_to u hs) device in
     let keeps = (cycles_kept s mark ns u path up beta u device (omega arith)).0 step in
@@ -90,17 +92,19 @@ not_behind s mark ns u path device up beta step =
 
 -- ---- all this is little against the precision
 
-small_sizes : (n : Sizes) → HaveRoom n → (2 * n.grain + 1 ≤ n.precision) × (n.settled ≤ n.precision) × (n.clock + n.drift ≤ n.precision)
-small_sizes n room = (omega (arith, room, room.errors), omega (arith, room, room.errors), omega (arith, room, room.errors))
+small_sizes : {n : Sizes} → HaveRoom n → (2 * n.grain + 1 ≤ n.precision) × (n.settled ≤ n.precision)
+    × (n.clock + n.drift ≤ n.precision)
+small_sizes room =
+    (omega (arith, room, room.errors), omega (arith, room, room.errors), omega (arith, room, room.errors))
 
 pub record AreSmall (n : Network) (path : ℕ) : Type 0 where
   pub step : pos (2 * amount n.grain + 1) ≤ℤ n.precision.0
   pub start : n.settled.0 ≤ℤ n.precision.0
   pub error : pos (ideal_error n path) ≤ℤ n.precision.0
 
-pub are_small : (n : Network) (path : ℕ) → IsInRange n → HaveRoom (sizes_of n path) → AreSmall n path
-are_small n path range room =
-    let small = small_sizes (sizes_of n path) room in
+pub are_small : {n : Network} (path : ℕ) → IsInRange n → HaveRoom (sizes_of n path) → AreSmall n path
+are_small path range room =
+    let small = small_sizes room in
     let least = range.precision.least in
     let start = range.settled.least in
     record { step = omega (arith, ints, small.0, least); start = omega (arith, ints, small.1, least, start); error = omega (arith, ints, small.2, least) }

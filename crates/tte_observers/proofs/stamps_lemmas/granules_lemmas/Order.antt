@@ -17,8 +17,8 @@ record HasSizes (s : Scenario) : Type 0 where
   pub beta : IsBeta s.network (pos path)
   pub small : AreSmall s.network path
 
-has_sizes : (s : Scenario) → IsLawful s → HasSizes s
-has_sizes s lawful =
+has_sizes : {s : Scenario} → IsLawful s → HasSizes s
+has_sizes {s} lawful =
     let n = s.network in
     let beta = (beta_exists n (rules_give_trees n (shape_rules n lawful.rules))).1 in
     let path = beta_at n beta.jitter beta.links in
@@ -26,13 +26,15 @@ has_sizes s lawful =
     record {
       path = path;
       beta = is;
-      small = are_small n path lawful.range (room_of n path lawful.rules (margins rules_give_trees n path lawful.range lawful.rules is));
+      small = are_small path lawful.range (room_of n path lawful.rules
+          (margins rules_give_trees n path lawful.range lawful.rules is));
     }
 
 -- it goes as far as just before a line
-run_before : (s : Scenario) (mark : List ℕ) (ns : List Note) (line : Line) (u : ℕ) → IsLawful s → IsScenarioRun s mark ns
-    → IsLineOf s mark (happenings s.network ns) line → line.time ≡ u + 1 → IsRunUpTo s mark ns u
-run_before s mark ns line u lawful run of next =
+run_before : {s : Scenario} {mark : List ℕ} (ns : List Note) {line : Line} (u : ℕ) → IsLawful s
+    → IsScenarioRun s mark ns → IsLineOf s mark (happenings s.network ns) line → line.time ≡ u + 1
+    → IsRunUpTo s mark ns u
+run_before {s} {mark} ns {line} u lawful run of next =
     let short = line_in_time s mark (happenings s.network ns) line lawful of in
     record { lawful = lawful; run = run; covers = λ more. of.covers (u ∷ more) (inl (omega (arith, next))); short = omega (arith, short, next) }
 
@@ -56,62 +58,67 @@ near granule s mark ns line later d e in_run of too one other le =
     by zero zero now then =
         let hs = happenings s.network ns in
         let least = in_run.lawful.range.precision.least in
-        let small = (has_sizes s in_run.lawful).small in
+        let small = (has_sizes in_run.lawful).small in
         let first = (at_start s mark hs line d in_run.lawful of one now).1 in
         let second = (at_start s mark hs later e in_run.lawful too other then).0 in
         omega (arith, ints, first, second, small.start, least)
     by zero (suc u) now then =
         let hs = happenings s.network ns in
-        let sizes = has_sizes s in_run.lawful in
+        let sizes = has_sizes in_run.lawful in
         let small = sizes.small in
         let next : later.time ≡ u + 1 = omega (arith, then) in
         let first = (at_start s mark hs line d in_run.lawful of one now).1 in
         let second = just_before s mark hs later e in_run.lawful too other u next in
-        let up = run_before s mark ns later u in_run.lawful in_run.run too next in
-        let above = not_behind s mark ns u sizes.path e up sizes.beta second.in_step in
+        let up = run_before ns u in_run.lawful in_run.run too next in
+        let above = not_behind sizes.path up sizes.beta second.in_step in
         omega (arith, ints, first, second.least, above, small.start, small.error)
     by (suc w) zero now then = absurd (omega (arith, now, then, le))
     by (suc w) (suc u) now then =
         let hs = happenings s.network ns in
-        let small = (has_sizes s in_run.lawful).small in
+        let small = (has_sizes in_run.lawful).small in
         let next : later.time ≡ u + 1 = omega (arith, then) in
         let first = just_before s mark hs line d in_run.lawful of one w (omega (arith, now)) in
         let second = just_before s mark hs later e in_run.lawful too other u next in
-        let up = run_before s mark ns later u in_run.lawful in_run.run too next in
+        let up = run_before ns u in_run.lawful in_run.run too next in
         let fall = never_fall s mark ns u up w u d e (local s hs d w) (local s hs e u) (omega (arith, now, then, le)) (omega arith)
         (inl (first.in_step, refl)) (inl (second.in_step, refl)) in
         omega (arith, ints, first.most, second.least, fall, small.step)
 
 -- ---- the laws
 
--- a stamp is the floor of what its device shows
-floor_of : (granule : ℕ) (s : Scenario) (mark : List ℕ) (ns : List Note) (line : Line) (device : DeviceId) (stamp : ℤ) → IsRunInGranules granule s mark ns
-    → stamp ≡ stamp_of granule (shown_at s.network line device) → IsFloor granule (shown_at s.network line device) stamp
-floor_of granule s mark ns line device stamp in_run is =
-    let least = in_run.lawful.range.precision.least in
-    let some : 1 ≤ granule = omega (arith, ints, least, in_run.fine) in
-    subst (IsFloor granule (shown_at s.network line device)) (sym is) (stamp_of-floor granule (shown_at s.network line device) some)
+module _ (granule : ℕ) (s : Scenario) (mark : List ℕ) (ns : List Note) where
+  -- a stamp is the floor of what its device shows
+  floor_of : (line : Line) (device : DeviceId) (stamp : ℤ) → IsRunInGranules granule s mark ns
+      → stamp ≡ stamp_of granule (shown_at s.network line device)
+      → IsFloor granule (shown_at s.network line device) stamp
+  floor_of line device stamp in_run is =
+      let least = in_run.lawful.range.precision.least in
+      let some : 1 ≤ granule = omega (arith, ints, least, in_run.fine) in
+      subst (IsFloor granule (shown_at s.network line device)) (sym is)
+      (stamp_of-floor granule (shown_at s.network line device) some)
 
--- a stamp of a line is at most one more than one of a line that is not earlier
-stamps_near : (granule : ℕ) (s : Scenario) (mark : List ℕ) (ns : List Note) (line later : Line) (d e : DeviceId) (stamp other : ℤ)
-    → IsRunInGranules granule s mark ns → IsLineOf s mark (happenings s.network ns) line → IsLineOf s mark (happenings s.network ns) later
-    → stamp_at granule s.network line d ≡ Some stamp → stamp_at granule s.network later e ≡ Some other → line.time ≤ later.time → stamp ≤ℤ (other +ℤ pos 1)
-stamps_near granule s mark ns line later d e stamp other in_run of too first second le =
-    let one = stamped granule s.network line d stamp first in
-    let two = stamped granule s.network later e other second in
-    floors_near granule (shown_at s.network line d) (shown_at s.network later e) stamp other (floor_of granule s mark ns line d stamp in_run one.is)
-    (floor_of granule s mark ns later e other in_run two.is) (near granule s mark ns line later d e in_run of too one.ready two.ready le)
+  -- a stamp of a line is at most one more than one of a line that is not earlier
+  stamps_near : {line later : Line} (d e : DeviceId) (stamp other : ℤ) → IsRunInGranules granule s mark ns
+      → IsLineOf s mark (happenings s.network ns) line → IsLineOf s mark (happenings s.network ns) later
+      → stamp_at granule s.network line d ≡ Some stamp → stamp_at granule s.network later e ≡ Some other
+      → line.time ≤ later.time → stamp ≤ℤ (other +ℤ pos 1)
+  stamps_near {line} {later} d e stamp other in_run of too first second le =
+      let one = stamped granule s.network line d stamp first in
+      let two = stamped granule s.network later e other second in
+      floors_near (floor_of line d stamp in_run one.is)
+      (floor_of later e other in_run two.is) (near granule s mark ns line later d e in_run of too one.ready two.ready
+      le)
 
 pub agree : StampsAgree
 agree granule s mark ns line d e stamp other in_run of one two = (
-  stamps_near granule s mark ns line line d e stamp other in_run of of one two (omega arith),
-  stamps_near granule s mark ns line line e d other stamp in_run of of two one (omega arith),
+  stamps_near granule s mark ns d e stamp other in_run of of one two (omega arith),
+  stamps_near granule s mark ns e d other stamp in_run of of two one (omega arith),
 )
 
 pub tell_order : StampsTellOrder
 tell_order granule s mark ns line later d e stamp more in_run of too one two apart = elim (cases_lt line.time later.time) [
   | inl lt ↦ lt
   | inr ge ↦
-      let near = stamps_near granule s mark ns later line e d more stamp in_run too of two one ge in
+      let near = stamps_near granule s mark ns e d more stamp in_run too of two one ge in
       absurd (omega (arith, ints, near, apart))
 ]

@@ -9,8 +9,9 @@ abbrev pub IsReady : Network → Line → DeviceId → Type 0
 IsReady network line device = IsInStepBefore (scenario_at network line) line.records device line.time
 
 -- such a device stamps the line
-ready_stamps : (network : Network) (line : Line) (device : DeviceId) → IsReady network line device → stamps network line device ≡ true
-ready_stamps network line device ready =
+ready_stamps : (network : Network) (line : Line) {device : DeviceId} → IsReady network line device
+    → stamps network line device ≡ true
+ready_stamps network line {device} ready =
     ap (λ (b : Bool). not b && is_synchronised (state_before (scenario_at network line) line.records device line.time)) ready.correct
     ∙ ap is_synchronised ready.synchronised
 
@@ -45,5 +46,6 @@ of_locals granule network line device None shown = none (stamps network line dev
     none true e = absurd (shown (stamps_ready network line device e))
     none false e = sym (ap (λ (b : Bool). if b then Some (stamp_of granule (shown_at network line device)) else None) e)
 of_locals granule network line device (Some l) shown =
-    ap (λ (x : ℤ). Some (stamp_of granule x)) shown.1
-    ∙ sym (ap (λ (b : Bool). if b then Some (stamp_of granule (shown_at network line device)) else None) (ready_stamps network line device shown.0))
+    ap (λ x. Some (stamp_of granule x)) shown.1
+    ∙ sym (ap (λ (b : Bool). if b then Some (stamp_of granule (shown_at network line device)) else None)
+    (ready_stamps network line shown.0))

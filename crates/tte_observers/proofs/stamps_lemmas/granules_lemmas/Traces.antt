@@ -15,8 +15,9 @@ begun : (s : Scenario) → IsLawful s → (event : Event) → IsIn event s.event
 begun s lawful event i = (All-contains IsEventInRange s.events event lawful.events (contains s.events event i)).time
 
 -- none is behind the last cycle
-in_time : (s : Scenario) → IsLawful s → (event : Event) → IsIn event s.events → amount event.time ≤ 2 ^ 20 * amount s.network.cycle
-in_time s lawful event i =
+in_time : {s : Scenario} → IsLawful s → (event : Event) → IsIn event s.events
+    → amount event.time ≤ 2 ^ 20 * amount s.network.cycle
+in_time {s} lawful event i =
     let parts = parted event s.events i in
     by_lt_z {P = amount event.time ≤ 2 ^ 20 * amount s.network.cycle} (pos (2 ^ 20 * amount s.network.cycle)) event.time.0
     (λ late. absurd (lawful.within parts.0 parts.1 event parts.2 outside.Late late)) (λ le. omega (arith, ints, le, begun s lawful event i))
@@ -43,7 +44,7 @@ module _ (s : Scenario) (mark : List ℕ) (hs : List Happening) (line : Line) (l
   pub line_in_time : line.time ≤ 2 ^ 20 * amount s.network.cycle
   line_in_time =
       let there : IsIn of.event line.befallen = subst (IsIn of.event) (sym of.befallen) (in_right of.event of.before (of.event ∷ []) (inl refl)) in
-      let short = in_time s lawful of.event (subst (IsIn of.event) (sym of.trace) (in_left of.event line.befallen of.behind there)) in
+      let short = in_time lawful of.event (subst (IsIn of.event) (sym of.trace) (in_left of.event line.befallen of.behind there)) in
       omega (arith, short, of.time)
 
   -- no event behind it is earlier

@@ -16,9 +16,10 @@ record IsApart (h : Happening) (voters : Voters) (cycle : ℕ) (device : DeviceI
   second : is_delivery voters.second cycle device h.note.body ≡ false
   third : is_delivery voters.third cycle device h.note.body ≡ false
 
-ballot_stays : (hs : List Happening) (h : Happening) (voters : Voters) (cycle : ℕ) (device : DeviceId) (seats : Seats)
-    → IsApart h voters cycle device → AreCast hs voters cycle device seats → AreCast (hs ++ h ∷ []) voters cycle device seats
-ballot_stays hs h voters cycle device seats apart cast = record {
+ballot_stays : {hs : List Happening} {h : Happening} {voters : Voters} {cycle : ℕ} {device : DeviceId}
+    {seats : Seats} → IsApart h voters cycle device → AreCast hs voters cycle device seats
+    → AreCast (hs ++ h ∷ []) voters cycle device seats
+ballot_stays {hs} {h} {voters} {cycle} {device} {seats} apart cast = record {
   first = seat_stays hs h voters.first cycle device seats.first apart.first cast.first;
   second = seat_stays hs h voters.second cycle device seats.second apart.second cast.second;
   third = seat_stays hs h voters.third cycle device seats.third apart.third cast.third;
@@ -28,7 +29,7 @@ ballot_stays hs h voters cycle device seats apart cast = record {
 pub ballots_none : (hs : List Happening) (h : Happening) (voters : Voters) (ballots : BTreeMap ℕ Seats) → delivery_in h.note.body ≡ None
     → AreBallots hs voters ballots → AreBallots (hs ++ h ∷ []) voters ballots
 ballots_none hs h voters ballots none are cycle device c d =
-    ballot_stays hs h voters cycle device (seats_at ballots (key_of cycle device)) (record {
+    ballot_stays {h = h} (record {
       first = none_taken h.note.body voters.first cycle device none;
       second = none_taken h.note.body voters.second cycle device none;
       third = none_taken h.note.body voters.third cycle device none;
@@ -50,7 +51,7 @@ pub ballots_other : (hs : List Happening) (h : Happening) (voters : Voters) (bal
 ballots_other hs h voters ballots d taken none are cycle device c e =
     let two = or_parts (d.vl.0 == voters.first.0 || d.vl.0 == voters.second.0) (d.vl.0 == voters.third.0) none in
     let one = or_parts (d.vl.0 == voters.first.0) (d.vl.0 == voters.second.0) two.0 in
-    ballot_stays hs h voters cycle device (seats_at ballots (key_of cycle device)) (record {
+    ballot_stays {h = h} (record {
       first = apart voters.first one.0;
       second = apart voters.second one.1;
       third = apart voters.third two.1;
@@ -116,7 +117,7 @@ module _ (hs : List Happening) (h : Happening) (voters : Voters) (old new : BTre
       let shown : seats_at new (key_of cycle device) ≡ seats_with voters d.vl number seats = ap found (put.0 (key_of cycle device))
       ∙ ap (λ (x : Bool). found (cond x (Some (seats_with voters d.vl number (seats_at old (key_of d.cycle d.device))))
       (get nat_cmp old (key_of cycle device)))) t
-      ∙ ap (λ (k : ℕ). seats_with voters d.vl number (seats_at old k)) keys in
+      ∙ ap (λ k. seats_with voters d.vl number (seats_at old k)) keys in
       let cast = are cycle device c e in
       subst (AreCast (hs ++ h ∷ []) voters cycle device) (sym shown) (record {
         first = seat_cast hs h voters.first d.vl cycle device number seats.first (own voters.first cycle device same.0 same.1) last cast.first;
@@ -128,7 +129,7 @@ module _ (hs : List Happening) (h : Happening) (voters : Voters) (old new : BTre
       let never : (cycle ≡ d.cycle) → (device.0 ≡ d.device.0) → ⊥ =
       (λ x y. apart_keys (key_of d.cycle d.device) (key_of cycle device) t (omega (arith, x, y))) in
       subst (AreCast (hs ++ h ∷ []) voters cycle device) (sym shown)
-      (ballot_stays hs h voters cycle device (seats_at old (key_of cycle device)) (record {
+      (ballot_stays {h = h} (record {
         first = other voters.first cycle device never;
         second = other voters.second cycle device never;
         third = other voters.third cycle device never;

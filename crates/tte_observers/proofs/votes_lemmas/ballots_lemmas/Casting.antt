@@ -33,25 +33,26 @@ found_last p (z ∷ zs) x e = more_by (p z) z (find p zs) (find p (zs ++ x ∷ [
 
 -- ---- a seat
 
-last_by : (hs : List Happening) (h : Happening) (vl : VlId) (cycle : ℕ) (device : DeviceId) (b : Bool) → is_delivery vl cycle device h.note.body ≡ b
-    → delivery_of hs vl cycle device ≡ None → delivery_of (hs ++ h ∷ []) vl cycle device ≡ cond b (Some h) None
-last_by hs h vl cycle device b e none =
-    found_last (λ (g : Happening). is_delivery vl cycle device g.note.body) hs h none
-    ∙ ap (λ (x : Bool). cond x (Some h) None) e
+module _ (hs : List Happening) (h : Happening) (vl : VlId) (cycle : ℕ) (device : DeviceId) where
+  last_by : (b : Bool) → is_delivery vl cycle device h.note.body ≡ b → delivery_of hs vl cycle device ≡ None
+      → delivery_of (hs ++ h ∷ []) vl cycle device ≡ cond b (Some h) None
+  last_by b e none =
+      found_last (λ (g : Happening). is_delivery vl cycle device g.note.body) hs h none
+      ∙ ap (λ (x : Bool). cond x (Some h) None) e
 
-stays : (hs : List Happening) (h : Happening) (vl : VlId) (cycle : ℕ) (device : DeviceId) (number : ℕ) → IsCastBy hs vl cycle device (Some number)
-    → IsCastBy (hs ++ h ∷ []) vl cycle device (Some number)
-stays hs h vl cycle device number (g, there, first) = (
-  g,
-  numbered_front hs (h ∷ []) number g there,
-  found_stays (λ (x : Happening). is_delivery vl cycle device x.note.body) hs h g first,
-)
+  stays : (number : ℕ) → IsCastBy hs vl cycle device (Some number)
+      → IsCastBy (hs ++ h ∷ []) vl cycle device (Some number)
+  stays number (g, there, first) = (
+    g,
+    numbered_front hs (h ∷ []) number g there,
+    found_stays (λ (x : Happening). is_delivery vl cycle device x.note.body) hs h g first,
+  )
 
--- a record that is none of its deliveries leaves it
-pub seat_stays : (hs : List Happening) (h : Happening) (vl : VlId) (cycle : ℕ) (device : DeviceId) (seat : Option ℕ)
-    → is_delivery vl cycle device h.note.body ≡ false → IsCastBy hs vl cycle device seat → IsCastBy (hs ++ h ∷ []) vl cycle device seat
-seat_stays hs h vl cycle device (Some number) e is = stays hs h vl cycle device number is
-seat_stays hs h vl cycle device None e is = last_by hs h vl cycle device false e is
+  -- a record that is none of its deliveries leaves it
+  pub seat_stays : (seat : Option ℕ) → is_delivery vl cycle device h.note.body ≡ false
+      → IsCastBy hs vl cycle device seat → IsCastBy (hs ++ h ∷ []) vl cycle device seat
+  seat_stays (Some number) e is = stays number is
+  seat_stays None e is = last_by false e is
 
 -- a record of its ballot casts it if it is of its virtual link, and it is not cast
 pub seat_cast : (hs : List Happening) (h : Happening) (vl of_vl : VlId) (cycle : ℕ) (device : DeviceId) (number : ℕ) (seat : Option ℕ)

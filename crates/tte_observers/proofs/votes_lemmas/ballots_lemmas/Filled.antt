@@ -25,20 +25,22 @@ three None (Some y) None = refl
 three None None (Some z) = refl
 three None None None = refl
 
-pub filled : (network : Network) (voters : Voters) (ns : List Note) (cycle : ℕ) (device : DeviceId) (seats : Seats) (empty first second third : Votes)
-    → AreCast (happenings network ns) voters cycle device seats → empty ≡ no_votes → first ≡ with_cast 0 (seat_payload network ns seats.first) empty
-    → second ≡ with_cast 1 (seat_payload network ns seats.second) first → third ≡ with_cast 2 (seat_payload network ns seats.third) second
+pub filled : (network : Network) {voters : Voters} (ns : List Note) {cycle : ℕ} {device : DeviceId} {seats : Seats}
+    (empty first second third : Votes) → AreCast (happenings network ns) voters cycle device seats → empty ≡ no_votes
+    → first ≡ with_cast 0 (seat_payload network ns seats.first) empty
+    → second ≡ with_cast 1 (seat_payload network ns seats.second) first
+    → third ≡ with_cast 2 (seat_payload network ns seats.third) second
     → third ≡ ballot_of voters (happenings network ns) cycle device
-filled network voters ns cycle device seats empty first second third cast none one two all =
+filled network {voters} ns {cycle} {device} {seats} empty first second third cast none one two all =
     let a = seat_payload network ns seats.first in
     let b = seat_payload network ns seats.second in
     let c = seat_payload network ns seats.third in
     all
     ∙ ap (with_cast 2 c) (two ∙ ap (with_cast 1 b) (one ∙ ap (with_cast 0 a) none))
     ∙ three a b c
-    ∙ ap (λ (x : Option (List ℕ)). the_ballot x b c) (taken_by network ns voters.first cycle device seats.first cast.first)
-    ∙ ap (λ (x : Option (List ℕ)). the_ballot (payload_taken (happenings network ns) voters.first cycle device) x c)
+    ∙ ap (λ x. the_ballot x b c) (taken_by network ns voters.first cycle device seats.first cast.first)
+    ∙ ap (λ x. the_ballot (payload_taken (happenings network ns) voters.first cycle device) x c)
     (taken_by network ns voters.second cycle device seats.second cast.second)
-    ∙ ap (λ (x : Option (List ℕ)). the_ballot (payload_taken (happenings network ns) voters.first cycle device)
+    ∙ ap (λ x. the_ballot (payload_taken (happenings network ns) voters.first cycle device)
     (payload_taken (happenings network ns) voters.second cycle device) x)
     (taken_by network ns voters.third cycle device seats.third cast.third)

@@ -12,9 +12,9 @@ use Rattle.tte_observers.specs.votes.ballots.Keeping.{AreCast, AreOpenFrom, Hold
 -- ---- all ballots
 
 -- ballots that are held are held from the first place on
-pub held_from_first : (network : Network) (voters : Voters) (ns : List Note) (votes : KeptVotes) → HoldsVotes network voters ns votes
-    → HoldsFrom network voters ns 0 votes
-held_from_first network voters ns votes h = record {
+pub held_from_first : {network : Network} {voters : Voters} {ns : List Note} {votes : KeptVotes}
+    → HoldsVotes network voters ns votes → HoldsFrom network voters ns 0 votes
+held_from_first h = record {
   frames = h.frames;
   voters_are = h.voters_are;
   ballots = λ cycle device c d from. h.ballots cycle device c d;
@@ -26,14 +26,14 @@ held_from_first network voters ns votes h = record {
 open_taken : (hs : List Happening) (vl : VlId) (cycle : ℕ) (device : DeviceId) → delivery_of hs vl cycle device ≡ None → payload_taken hs vl cycle device ≡ None
 open_taken hs vl cycle device none = ap (λ (o : Option Happening). option_map payload_in (option_and_then record_octets o)) none
 
-open_ballot : (hs : List Happening) (voters : Voters) (cycle : ℕ) (device : DeviceId) → AreCast hs voters cycle device none_cast
-    → ballot_of voters hs cycle device ≡ no_votes
-open_ballot hs voters cycle device cast =
+open_ballot : {hs : List Happening} {voters : Voters} {cycle : ℕ} {device : DeviceId}
+    → AreCast hs voters cycle device none_cast → ballot_of voters hs cycle device ≡ no_votes
+open_ballot {hs} {voters} {cycle} {device} cast =
     let b = payload_taken hs voters.second cycle device in
     let c = payload_taken hs voters.third cycle device in
-    ap (λ (x : Option (List ℕ)). the_ballot x b c) (open_taken hs voters.first cycle device cast.first)
-    ∙ ap (λ (x : Option (List ℕ)). the_ballot None x c) (open_taken hs voters.second cycle device cast.second)
-    ∙ ap (λ (x : Option (List ℕ)). the_ballot None None x) (open_taken hs voters.third cycle device cast.third)
+    ap (λ x. the_ballot x b c) (open_taken hs voters.first cycle device cast.first)
+    ∙ ap (λ x. the_ballot None x c) (open_taken hs voters.second cycle device cast.second)
+    ∙ ap (λ x. the_ballot None None x) (open_taken hs voters.third cycle device cast.third)
 
 -- ---- keys
 
@@ -62,12 +62,13 @@ pub none_in : {X : Type 0} (xs : List X) → (0 < length xs → false ≡ true) 
 none_in [] h = refl
 none_in (x ∷ xs) h = absurd (let no = h (omega arith) in cc)
 
-pub none_left : (network : Network) (voters : Voters) (ns : List Note) (from : ℕ) (votes : KeptVotes) → votes.ballots.entries ≡ []
-    → HoldsFrom network voters ns from votes → AreOpenFrom network voters ns from (2 ^ 64)
-none_left network voters ns from votes none h cycle device c d not_before before =
+pub none_left : {network : Network} {voters : Voters} {ns : List Note} {from : ℕ} {votes : KeptVotes}
+    → votes.ballots.entries ≡ [] → HoldsFrom network voters ns from votes
+    → AreOpenFrom network voters ns from (2 ^ 64)
+none_left {network} {voters} {ns} {votes} none h cycle device c d not_before before =
     let hs = happenings network ns in
     let empty : seats_at votes.ballots (key_of cycle device) ≡ none_cast = rw none refl in
-    open_ballot hs voters cycle device (subst (λ (s : Seats). AreCast hs voters cycle device s) empty (h.ballots cycle device c d not_before))
+    open_ballot (subst (λ s. AreCast hs voters cycle device s) empty (h.ballots cycle device c d not_before))
 
 -- ---- where one is
 
@@ -84,14 +85,14 @@ module _ (network : Network) (voters own : Voters) (ns : List Note) (from key : 
   first_open cycle device c d not_before before =
       let hs = happenings network ns in
       let empty : seats_at old (key_of cycle device) ≡ none_cast = ap found (none_less old key (key_of cycle device) least before) in
-      open_ballot hs voters cycle device (subst (λ (s : Seats). AreCast hs voters cycle device s) empty (held.ballots cycle device c d not_before))
+      open_ballot (subst (λ s. AreCast hs voters cycle device s) empty (held.ballots cycle device c d not_before))
 
   -- the seats of the ballot itself
   pub first_cast : (cycle : ℕ) (device : DeviceId) → cycle < 2 ^ 32 → device.0 < 2 ^ 32 → key ≡ key_of cycle device
       → AreCast (happenings network ns) voters cycle device seats
   first_cast cycle device c d at =
       let here : seats_at old (key_of cycle device) ≡ seats = ap (seats_at old) (sym at) ∙ ap found value in
-      subst (λ (s : Seats). AreCast (happenings network ns) voters cycle device s) here
+      subst (λ s. AreCast (happenings network ns) voters cycle device s) here
       (held.ballots cycle device c d (let le = first_from in omega (arith, le, at)))
 
   first_behind : HoldsFrom network voters ns (key + 1) (the_votes frames own new)
@@ -102,7 +103,7 @@ module _ (network : Network) (voters own : Voters) (ns : List Note) (from key : 
         let le = first_from in
         let same : seats_at new (key_of cycle device) ≡ seats_at old (key_of cycle device) =
         ap found (put.2 (key_of cycle device) (other_key key (key_of cycle device) (λ e. omega (arith, e, behind)))) in
-        subst (λ (s : Seats). AreCast (happenings network ns) voters cycle device s) (sym same)
+        subst (λ s. AreCast (happenings network ns) voters cycle device s) (sym same)
         (held.ballots cycle device c d (omega (arith, le, behind)));
     none_before = λ q less. elim (cases_lt q key) [
       | inl before ↦ put.2 q (other_key key q (λ e. omega (arith, e, before))) ∙ none_less old key q least before
@@ -115,8 +116,8 @@ module _ (network : Network) (voters own : Voters) (ns : List Note) (from key : 
   first_given cycle device ballot c d at is = record {
     in_cycle = c;
     of_device = d;
-    not_before = subst (λ (k : ℕ). from ≤ k) at first_from;
-    passed = subst (λ (k : ℕ). AreOpenFrom network voters ns from k) at first_open;
+    not_before = subst (λ k. from ≤ k) at first_from;
+    passed = subst (λ k. AreOpenFrom network voters ns from k) at first_open;
     is = is;
-    behind = subst (λ (k : ℕ). HoldsFrom network voters ns (k + 1) (the_votes frames own new)) at first_behind;
+    behind = subst (λ k. HoldsFrom network voters ns (k + 1) (the_votes frames own new)) at first_behind;
   }

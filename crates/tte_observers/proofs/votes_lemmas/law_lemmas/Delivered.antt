@@ -58,7 +58,7 @@ payload_made network vl cycle =
     ap (drop 14) split
     ∙ ap (λ (n : ℕ). drop n (front ++ (e ++ zeros))) (sym size)
     ∙ drop-append_seam front (e ++ zeros)
-    ∙ ap (λ (n : ℕ). e ++ replicate (vl.length - n) 0) long
+    ∙ ap (λ n. e ++ replicate (vl.length - n) 0) long
 
 -- ---- the record of the delivery
 
@@ -82,16 +82,17 @@ hits vl cycle device link cause =
     (and_from (vl.0 == vl.0) (cycle == cycle) (eq-eqb vl.0 vl.0 refl) (eq-eqb cycle cycle refl))
 
 -- what is taken of a frame that is delivered once, as it was sent
-pub payload_delivered : (s : Scenario) (hs : List Happening) (vl : VlId) (of_vl : VirtualLink) (cycle : ℕ) (device : DeviceId)
-    → IsDelivered s hs vl of_vl cycle device → payload_taken hs vl cycle device ≡ Some (sent_payload of_vl cycle)
-payload_delivered s hs vl of_vl cycle device d =
+pub payload_delivered : {s : Scenario} {hs : List Happening} {vl : VlId} {of_vl : VirtualLink} {cycle : ℕ}
+    {device : DeviceId} → IsDelivered s hs vl of_vl cycle device
+    → payload_taken hs vl cycle device ≡ Some (sent_payload of_vl cycle)
+payload_delivered {s} {hs} {vl} {of_vl} {cycle} {device} d =
     let only : (y : Happening) → IsIn y hs → is_delivery vl cycle device y.note.body ≡ true → y ≡ d.delivery =
     (λ y there passes. let such = told vl cycle device y.note.body passes in d.once y such.0 such.1 there such.2) in
     let hit : is_delivery vl cycle device d.delivery.note.body ≡ true = ap (is_delivery vl cycle device) d.is ∙ hits vl cycle device d.link d.cause in
     let found : delivery_of hs vl cycle device ≡ Some d.delivery =
     find_one (λ (h : Happening). is_delivery vl cycle device h.note.body) hs d.delivery d.there hit only in
-    let shows : record_octets d.delivery ≡ Some d.delivery.octets = ap (λ (body : NoteBody). shown body d.delivery.frame d.delivery.octets) d.is in
+    let shows : record_octets d.delivery ≡ Some d.delivery.octets = ap (λ body. shown body d.delivery.frame d.delivery.octets) d.is in
     ap (λ (o : Option Happening). option_map payload_in (option_and_then record_octets o)) found
     ∙ ap (option_map payload_in) shows
-    ∙ ap (λ (octets : List ℕ). Some (payload_in octets)) d.whole
+    ∙ ap (λ octets. Some (payload_in octets)) d.whole
     ∙ ap Some (payload_made s.network of_vl cycle)

@@ -14,12 +14,13 @@ same_length a b e =
 
 -- senders of virtual links of one length make one payload
 same_payload : (a b : VirtualLink) (cycle : ℕ) → is_match a b ≡ true → sent_payload b cycle ≡ sent_payload a cycle
-same_payload a b cycle e = ap (λ (n : ℕ). big_bytes 4 cycle ++ replicate (n - 18) 0) (sym (same_length a b e))
+same_payload a b cycle e = ap (λ n. big_bytes 4 cycle ++ replicate (n - 18) 0) (sym (same_length a b e))
 
 -- what is taken of a frame that is owed
-taken : (s : Scenario) (hs : List Happening) (until : ℕ) (vl : VlId) (of_vl : VirtualLink) (cycle : ℕ) (device : DeviceId)
-    → FramesAreDelivered s hs until → IsOwed s hs until vl of_vl cycle device → payload_taken hs vl cycle device ≡ Some (sent_payload of_vl cycle)
-taken s hs until vl of_vl cycle device delivered owed = payload_delivered s hs vl of_vl cycle device (delivered vl of_vl cycle device owed)
+taken : {s : Scenario} {hs : List Happening} {until : ℕ} {vl : VlId} {of_vl : VirtualLink} {cycle : ℕ}
+    {device : DeviceId} → FramesAreDelivered s hs until → IsOwed s hs until vl of_vl cycle device
+    → payload_taken hs vl cycle device ≡ Some (sent_payload of_vl cycle)
+taken {vl} {of_vl} {cycle} {device} delivered owed = payload_delivered (delivered vl of_vl cycle device owed)
 
 pub two_outvote_the_third : TwoOutvoteTheThird
 two_outvote_the_third s hs until voters a b c cycle device may delivered two =
@@ -30,12 +31,12 @@ two_outvote_the_third s hs until voters a b c cycle device may delivered two =
     let as_b = ap Some (same_payload a b cycle of_a) in
     let as_c = ap Some (same_payload a c cycle of_b) in
     elim two [
-      | inl owed ↦ first_and_second ballot p (taken s hs until voters.first a cycle device delivered owed.0)
-          (taken s hs until voters.second b cycle device delivered owed.1 ∙ as_b)
+      | inl owed ↦ first_and_second ballot p (taken delivered owed.0)
+          (taken delivered owed.1 ∙ as_b)
       | inr others ↦ elim others [
-        | inl owed ↦ first_and_third ballot p (taken s hs until voters.first a cycle device delivered owed.0)
-            (taken s hs until voters.third c cycle device delivered owed.1 ∙ as_c)
-        | inr owed ↦ second_and_third ballot p (taken s hs until voters.second b cycle device delivered owed.0 ∙ as_b)
-            (taken s hs until voters.third c cycle device delivered owed.1 ∙ as_c)
+        | inl owed ↦ first_and_third ballot p (taken delivered owed.0)
+            (taken delivered owed.1 ∙ as_c)
+        | inr owed ↦ second_and_third ballot p (taken delivered owed.0 ∙ as_b)
+            (taken delivered owed.1 ∙ as_c)
       ]
     ]

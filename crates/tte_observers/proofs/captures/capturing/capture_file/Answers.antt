@@ -5,11 +5,10 @@ use Rattle.tte_observers.proofs.captures.capturing.capture_file.Goals as goal
 pub returns-in-Ok-clause-general : goal.returns-in-Ok-clause-general
 returns-in-Ok-clause-general g c =
     let shown = shown_by g.K.Sink in
-    let gives = subst (λ (xs : List ℕ). Gives (opened_answer xs (opened xs)) c.show_file.result (shown c.args.out.now)
+    let gives = subst (λ xs. Gives (opened_answer xs (opened xs)) c.show_file.result (shown c.args.out.now)
     (shown c.show_file.new.out))
     c.as_slice.ensures c.show_file.ensures.gives in
-    answers-read (g.A.Source.left c.args.source.now) c.in-Ok.file c.show_file.result (shown c.args.out.now)
-    (shown c.show_file.new.out)
+    answers-read (g.A.Source.left c.args.source.now) c.in-Ok.file c.show_file.result
     c.in-Ok.ensures.whole c.in-Ok.ensures.within gives
 
 pub returns-in-Err-TooLong-clause-general : goal.returns-in-Err-TooLong-clause-general

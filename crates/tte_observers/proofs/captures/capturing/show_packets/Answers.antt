@@ -23,7 +23,7 @@ returns-in-Err-put-clause-gives g c =
     let is : packet_at c.args.head file c.packets.at ≡ Ok (Some p) = sym c.next_packet.ensures.exact ∙ c.in-Ok-Some.is ∙ ap answer c.in-Ok-Some.field-0-is in
     let line : c.as_slice.result.now ≡ packet_line c.packets.number file p = c.as_slice.ensures
     ∙ c.make_packet_line.ensures in
-    let front = subst (λ (bytes : List ℕ). AppendsFront (g.K.Sink.written c.packets.out) (g.K.Sink.written c.put.new.self) bytes)
+    let front = subst (λ bytes. AppendsFront (g.K.Sink.written c.packets.out) (g.K.Sink.written c.put.new.self) bytes)
     line c.in-Err-put.ensures.front in
     IsShown-fails c.packets.number c.args.head file c.packets.at p (shown c.args.out.now) (shown c.packets.out)
     (shown c.put.new.self)
@@ -71,9 +71,8 @@ returns-in-Err-clause-gives g c =
     let is : packet_at c.args.head file c.packets.at ≡ Err e = sym c.next_packet.ensures.exact ∙ c.in-Err.is in
     let line : c.as_slice-in-Err.result.now ≡ packet_refusal_line c.packets.number e = c.as_slice-in-Err.ensures
     ∙ c.make_packet_refusal_line.ensures in
-    let gives = subst (λ (bytes : List ℕ). Gives (line_answer CaptureRefused bytes) c.put_last.result (shown c.packets.out)
+    let gives = subst (λ bytes. Gives (line_answer CaptureRefused bytes) c.put_last.result (shown c.packets.out)
     (shown c.put_last.new.out)) line
     c.put_last.ensures.gives in
     IsShown-refused c.packets.number c.args.head file c.packets.at e c.put_last.result (shown c.args.out.now)
-    (shown c.packets.out) (shown c.put_last.new.out)
     c.packets.invariant.shown c.packets.invariant.within is gives

@@ -32,7 +32,7 @@ returns-in-None-clause-ends g c =
     let is : c.amount.result ≡ least_granule network = omega (arith, ints, least, whole) in
     inl (
       less_of c.args.granule.0 _ (least_granule network) c.requires.least refl (c.in-None.ensures.refused.0 refl),
-      subst (λ (n : ℕ). Gives (line_answer GranuleRefused (granule_line n)) c.put_refused_granule.result (shown_by g.K.Sink c.args.out.now)
+      subst (λ n. Gives (line_answer GranuleRefused (granule_line n)) c.put_refused_granule.result (shown_by g.K.Sink c.args.out.now)
           (shown_by g.K.Sink c.put_refused_granule.new.out)) is c.put_refused_granule.ensures.gives,
       not_read c.put_refused_granule.result c.put_refused_granule.ensures.status,
       refl,

@@ -19,7 +19,7 @@ returns-in-Err-clause-gives g c = λ voters notes holds.
 
 pub returns-in-Ok-clause-status : goal.returns-in-Ok-clause-status
 returns-in-Ok-clause-status g c =
-    subst (λ (n : ℕ). IsWanted (fault_status c.args.fault) c.put_fault.result (Rose n (g.K.Sink.faults c.put_fault.new.out))) c.in-Ok.ensures.cause.quiet
+    subst (λ n. IsWanted (fault_status c.args.fault) c.put_fault.result (Rose n (g.K.Sink.faults c.put_fault.new.out))) c.in-Ok.ensures.cause.quiet
     c.put_fault.ensures.status
 
 pub returns-in-Err-clause-status : goal.returns-in-Err-clause-status

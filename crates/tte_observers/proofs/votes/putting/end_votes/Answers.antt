@@ -13,7 +13,7 @@ returns-in-Err-clause-gives g c = λ voters notes holds. inr (inl (refl, inl (c.
 
 pub returns-in-Ok-clause-status : goal.returns-in-Ok-clause-status
 returns-in-Ok-clause-status g c =
-    subst (λ (n : ℕ). IsWanted Done c.end_with.result (Rose n (g.K.Sink.faults c.end_with.new.out))) c.in-Ok.ensures.cause.quiet c.end_with.ensures.status
+    subst (λ n. IsWanted Done c.end_with.result (Rose n (g.K.Sink.faults c.end_with.new.out))) c.in-Ok.ensures.cause.quiet c.end_with.ensures.status
 
 pub returns-in-Err-clause-status : goal.returns-in-Err-clause-status
 returns-in-Err-clause-status g c = inr (refl, c.in-Err.ensures.cause.rose)

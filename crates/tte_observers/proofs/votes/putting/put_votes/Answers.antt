@@ -7,7 +7,7 @@ ballots-init g c = record {
   votes = λ voters notes holds.
       let network = c.args.network.now in (
         0,
-        held_from_first network voters notes c.args.votes.now holds,
+        held_from_first holds,
         puts_first network voters notes (shown_by g.K.Sink c.args.out.now),
         omega arith,
       );

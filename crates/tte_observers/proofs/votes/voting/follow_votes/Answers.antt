@@ -6,7 +6,7 @@ use Rattle.tte_observers.proofs.votes.voting.follow_votes.Goals as goal
 
 pub drive-requires-clause-source : goal.drive-requires-clause-source
 drive-requires-clause-source g c =
-    subst (λ (m : Network). GaveEvents g.B.Source m c.args.second.now [] c.args.second.now c.new-trace.result) (sym c.network-network.ensures.value)
+    subst (λ m. GaveEvents g.B.Source m c.args.second.now [] c.args.second.now c.new-trace.result) (sym c.network-network.ensures.value)
     (gave_none g.B.Source c.args.accepted.now c.args.second.now c.new-trace.result c.new-trace.ensures.follows c.new-trace.ensures.reads)
 
 pub returns-in-All-clause-ends : goal.returns-in-All-clause-ends
@@ -30,7 +30,7 @@ returns-in-Stopped-Fault-clause-ends g c =
     let gives = subst (λ (f : TraceFault). Gives (record { status = fault_status f; lines = vote_lines begun.votes.voters n [] d.notes ++ fault_lines line f })
     c.end_at_fault.result (shown mid) (shown c.end_at_fault.new.out)) c.in-Stopped-Fault.fault-is
     (c.end_at_fault.ensures.gives begun.votes.voters d.notes d.sees.votes) in
-    let status = subst (λ (f : TraceFault). IsStatusOf f c.end_at_fault.result (PutFailed g.K.Sink mid c.end_at_fault.new.out)) c.in-Stopped-Fault.fault-is
+    let status = subst (λ f. IsStatusOf f c.end_at_fault.result (PutFailed g.K.Sink mid c.end_at_fault.new.out)) c.in-Stopped-Fault.fault-is
     c.end_at_fault.ensures.status in
     ends_for (IsOwn begun) no_lines c.network-network.ensures.value
     (ends_fault g.B.Source g.K.Sink begun _ _ _ _ _ _ _ _ _ c.in-Stopped-Fault.fault line c.end_at_fault.result c.end_at_fault.new.out d

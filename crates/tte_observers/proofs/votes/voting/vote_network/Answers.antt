@@ -8,20 +8,21 @@ returns-in-Err-clause-ends g c =
     let names = the_names c.args.one.now c.args.two.now c.args.three.now in
     inl (
       line_answer NameRefused (name_line c.in-Err.place),
-      inl (c.in-Err.place, subst (λ (n : Network). IsFirstUnknown n names c.in-Err.place) c.network-network.ensures.value c.in-Err.ensures, refl),
+      inl (c.in-Err.place, subst (λ n. IsFirstUnknown n names c.in-Err.place) c.network-network.ensures.value c.in-Err.ensures, refl),
       c.put_refused_name.ensures.gives,
       not_read NameRefused c.put_refused_name.result (λ e. cc) c.put_refused_name.ensures.status,
       refl,
     )
 
 pub may_vote-requires-clause-first : goal.may_vote-requires-clause-first
-may_vote-requires-clause-first g c = named_there c.network-network.result.now c.args.one.now c.in-Ok.voters.first c.in-Ok.ensures.first
+may_vote-requires-clause-first g c = named_there c.network-network.result.now c.in-Ok.voters.first c.in-Ok.ensures.first
 
 pub may_vote-requires-clause-second : goal.may_vote-requires-clause-second
-may_vote-requires-clause-second g c = named_there c.network-network.result.now c.args.two.now c.in-Ok.voters.second c.in-Ok.ensures.second
+may_vote-requires-clause-second g c =
+    named_there c.network-network.result.now c.in-Ok.voters.second c.in-Ok.ensures.second
 
 pub may_vote-requires-clause-third : goal.may_vote-requires-clause-third
-may_vote-requires-clause-third g c = named_there c.network-network.result.now c.args.three.now c.in-Ok.voters.third c.in-Ok.ensures.third
+may_vote-requires-clause-third g c = named_there c.network-network.result.now c.in-Ok.voters.third c.in-Ok.ensures.third
 
 pub returns-then-not-may_vote-clause-ends : goal.returns-then-not-may_vote-clause-ends
 returns-then-not-may_vote-clause-ends g c =
@@ -32,9 +33,9 @@ returns-then-not-may_vote-clause-ends g c =
       line_answer VoteRefused vote_refused,
       inr (
         voters,
-        subst (λ (m : Network). AreNamed m names voters) c.network-network.ensures.value c.in-Ok.ensures,
-        subst (λ (m : Network). MayThey m voters false) c.network-network.ensures.value
-            (subst (λ (b : Bool). MayThey n voters b) c.if-not-may_vote.true c.may_vote.ensures),
+        subst (λ m. AreNamed m names voters) c.network-network.ensures.value c.in-Ok.ensures,
+        subst (λ m. MayThey m voters false) c.network-network.ensures.value
+            (subst (λ b. MayThey n voters b) c.if-not-may_vote.true c.may_vote.ensures),
         refl,
       ),
       c.put_refused_vote.ensures.gives,
@@ -49,9 +50,9 @@ returns-clause-ends g c =
     let n = c.network-network.result.now in
     inr (
       voters,
-      subst (λ (m : Network). AreNamed m names voters) c.network-network.ensures.value c.in-Ok.ensures,
-      subst (λ (m : Network). MayThey m voters true) c.network-network.ensures.value
-          (subst (λ (b : Bool). MayThey n voters b) c.if-not-may_vote.false c.may_vote.ensures),
+      subst (λ m. AreNamed m names voters) c.network-network.ensures.value c.in-Ok.ensures,
+      subst (λ m. MayThey m voters true) c.network-network.ensures.value
+          (subst (λ b. MayThey n voters b) c.if-not-may_vote.false c.may_vote.ensures),
       c.vote_run.ensures.ends,
       of_run c.vote_run.result c.vote_run.ensures.statuses,
     )

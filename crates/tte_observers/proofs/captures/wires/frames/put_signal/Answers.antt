@@ -6,12 +6,12 @@ pub returns-in-Control : goal.returns-in-Control
 returns-in-Control g c = (
   _,
   c.put_control.ensures,
-  λ spelt is. ap (packet_at c.args.time) (sym (subst (λ (s : Signal). IsSpelt (signal_as c.args.network.now s) spelt) c.in-Control.is is)),
+  λ spelt is. ap (packet_at c.args.time) (sym (subst (λ s. IsSpelt (signal_as c.args.network.now s) spelt) c.in-Control.is is)),
 )
 
 pub returns-in-Timed : goal.returns-in-Timed
 returns-in-Timed g c = (
   _,
   c.put_timed.ensures,
-  λ spelt is. ap (packet_at c.args.time) (sym (subst (λ (s : Signal). IsSpelt (signal_as c.args.network.now s) spelt) c.in-Timed.is is)),
+  λ spelt is. ap (packet_at c.args.time) (sym (subst (λ s. IsSpelt (signal_as c.args.network.now s) spelt) c.in-Timed.is is)),
 )

@@ -6,7 +6,7 @@ use Rattle.tte_observers.proofs.captures.wires.running.follow_way.Goals as goal
 
 pub drive-requires-clause-source : goal.drive-requires-clause-source
 drive-requires-clause-source g c =
-    subst (λ (m : Network). GaveEvents g.B.Source m c.args.second.now [] c.args.second.now c.new-trace.result) (sym c.network-network.ensures.value)
+    subst (λ m. GaveEvents g.B.Source m c.args.second.now [] c.args.second.now c.new-trace.result) (sym c.network-network.ensures.value)
     (gave_none g.B.Source c.args.accepted.now c.args.second.now c.new-trace.result c.new-trace.ensures.follows c.new-trace.ensures.reads)
 
 pub end_capture-requires : goal.end_capture-requires
@@ -25,7 +25,7 @@ returns-in-Stopped-Fault-clause-ends g c =
     let end = c.end_capture-in-Stopped-Fault in
     ends_for (IsOwn begun) (lines begun) c.network-network.ensures.value
     (ends_fault g.B.Source g.K.Sink begun _ _ _ _ _ _ _ _ _ c.in-Stopped-Fault.fault end.result end.new.out c.in-Stopped-Fault.ensures
-    c.in-Stopped-Fault.field-0-is c.status_of.result (c.status_of.ensures ∙ ap (λ (f : TraceFault). fault_status f) c.in-Stopped-Fault.fault-is)
+    c.in-Stopped-Fault.field-0-is c.status_of.result (c.status_of.ensures ∙ ap (λ f. fault_status f) c.in-Stopped-Fault.fault-is)
     end.ensures.gives end.ensures.status)
 
 pub returns-in-Stopped-ReadFault-clause-ends : goal.returns-in-Stopped-ReadFault-clause-ends

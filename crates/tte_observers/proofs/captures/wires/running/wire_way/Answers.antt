@@ -6,7 +6,7 @@ pub follow_way-requires-clause-seen : goal.follow_way-requires-clause-seen
 follow_way-requires-clause-seen g c =
     let begun = c.new-capture in
     seen_first c.args.accepted.now (told_by g.K.Sink c.args.out.now) begun.result
-    (subst (λ (l : LinkId). HasLink c.args.accepted.now l) (sym begun.ensures.link) c.requires) begun.ensures.open begun.ensures.first begun.ensures.none
+    (subst (λ l. HasLink c.args.accepted.now l) (sym begun.ensures.link) c.requires) begun.ensures.open begun.ensures.first begun.ensures.none
 
 pub returns-in-Ok-clause-ends : goal.returns-in-Ok-clause-ends
 returns-in-Ok-clause-ends g c =

@@ -22,7 +22,7 @@ returns-in-Ok-clause-stamps g c = λ before event notes at.
     to_z-of_z w64 stamp (search rules) ∙ c.stamp_wide-stamp.ensures ∙ ap (stamp_of granule) (to_z-of_z w128 local (search rules)) in
     let text : c.as_slice.result.now ≡ stamp_line c.args.number (device_name n c.args.device) (stamp_of granule local) =
     c.as_slice.ensures ∙ c.make_stamp_line.ensures
-    ∙ ap (λ (name : List ℕ). stamp_line c.args.number name (to_z w64 (of_z w64 stamp))) c.device_name.ensures.text
+    ∙ ap (λ name. stamp_line c.args.number name (to_z w64 (of_z w64 stamp))) c.device_name.ensures.text
     ∙ ap (stamp_line c.args.number (device_name n c.args.device)) value in
     one_put granule n c.args.world.now c.args.number before event notes c.args.device at g.K.Sink local c.as_slice.result.now c.args.out.now c.put.new.self
     (c.in-Some.ensures.local n (before ++ event ∷ []) notes at.stands at.reached.early) text c.in-Ok.ensures.all c.put.ensures.counted
@@ -37,7 +37,7 @@ returns-in-Err-clause-stamps g c = λ before event notes at.
     to_z-of_z w64 stamp (search rules) ∙ c.stamp_wide-stamp.ensures ∙ ap (stamp_of granule) (to_z-of_z w128 local (search rules)) in
     let text : c.as_slice.result.now ≡ stamp_line c.args.number (device_name n c.args.device) (stamp_of granule local) =
     c.as_slice.ensures ∙ c.make_stamp_line.ensures
-    ∙ ap (λ (name : List ℕ). stamp_line c.args.number name (to_z w64 (of_z w64 stamp))) c.device_name.ensures.text
+    ∙ ap (λ name. stamp_line c.args.number name (to_z w64 (of_z w64 stamp))) c.device_name.ensures.text
     ∙ ap (stamp_line c.args.number (device_name n c.args.device)) value in
     one_fails granule n c.args.world.now c.args.number before event notes c.args.device at g.K.Sink local c.as_slice.result.now c.args.out.now c.put.new.self
     (c.in-Some.ensures.local n (before ++ event ∷ []) notes at.stands at.reached.early) text c.in-Err.ensures.front c.put.ensures.counted

@@ -38,7 +38,7 @@ returns-clause-stamps g c = λ before event notes at.
     let upper = c.devices.auto.place-end in
     let len = ap length c.as_slice-place-end.ensures in
     let all : c.devices.place ≡ length c.args.network.now.device = omega (arith, done, upper, len) in
-    subst (λ (k : ℕ). PutsLines (lines_by_first c.args.self.now.granule c.args.network.now (line_at c.args.network.now before event notes) k)
+    subst (λ k. PutsLines (lines_by_first c.args.self.now.granule c.args.network.now (line_at c.args.network.now before event notes) k)
     (shown_as (told_by g.K.Sink c.args.out.now)) (shown_as (told_by g.K.Sink c.devices.out))) all
     (c.devices.invariant.stamps before event notes at)
 

@@ -17,7 +17,7 @@ returns-clause-goes g c events notes old befell seen =
     let new = c.put_stamps.new.out in
     let at = at_line network c.args.world.now events notes event note befell c.note.inside.line c.note.inside.event.now.what
     (sym (ap (λ (n : Note). n.body) c.note.view_is)) in
-    let puts = subst (λ (n : ℕ). PutsAll g.K.Sink r (line_stamps n network (line_at network events event (notes ++ note ∷ []))) c.args.out.now new) seen.0
+    let puts = subst (λ n. PutsAll g.K.Sink r (line_stamps n network (line_at network events event (notes ++ note ∷ []))) c.args.out.now new) seen.0
     (c.put_stamps.ensures.stamps events event (notes ++ note ∷ []) at) in
     seen_go g.K.Sink r granule c.put_stamps.new.self.granule network (events ++ event ∷ []) old.told new (c.put_stamps.ensures.granule ∙ seen.0)
     (stamps_go granule network c.args.world.now events notes event note befell g.K.Sink r old.told c.args.out.now new seen.1 puts c.put_stamps.ensures.cut)

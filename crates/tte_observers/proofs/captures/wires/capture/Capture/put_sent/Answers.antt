@@ -16,17 +16,17 @@ returns-in-Some-clause-puts g c =
       λ events notes stands at there sent.
           let z = last_happening network notes note in
           let s = scenario_under network events in
-          let of = of_now network c.args.world.now events notes note stands at (sent_rank network link way note.body sent) in
+          let of = of_now notes note stands at (sent_rank network link way note.body sent) in
           let number : c.note.inside.number ≡ note.number = ap (λ (n : Note). n.number) c.note.view_is in
           let time : c.amount.result ≡ amount note.time = c.amount.ensures.value ∙ ap (λ (n : Note). amount n.time) c.note.view_is in
           let on = c.in-Some.ensures network events (notes ++ note ∷ []) z stands
-          (subst (λ (k : ℕ). IsOfNow (happenings network (notes ++ note ∷ [])) c.args.world.now.now k z) (sym number) of)
+          (subst (λ k. IsOfNow (happenings network (notes ++ note ∷ [])) c.args.world.now.now k z) (sym number) of)
           (on_own_link s link way z there note.body sent) in
-          packet_is s link way z (p.0 ∷ []) sent (record {
+          packet_is s link way z {lines = p.0 ∷ []} sent (record {
             none = λ no. absurd (let e = on ∙ no in cc);
             some = λ signal is octets spelt.
                 let same : signal_as network c.in-Some.signal.now ≡ signal = (let e = on ∙ is in cc) in
-                ap (λ (l : List ℕ). l ∷ []) (p.2 octets (subst (λ (t : Signal). IsSpelt t octets) (sym same) spelt) ∙ ap (λ (t : ℕ). packet_at t octets) time);
+                ap (λ (l : List ℕ). l ∷ []) (p.2 octets (subst (λ t. IsSpelt t octets) (sym same) spelt) ∙ ap (λ t. packet_at t octets) time);
           }),
     )
 
@@ -41,10 +41,11 @@ returns-in-None-clause-puts g c =
       λ events notes stands at there sent.
           let z = last_happening network notes note in
           let s = scenario_under network events in
-          let of = of_now network c.args.world.now events notes note stands at (sent_rank network link way note.body sent) in
+          let of = of_now notes note stands at (sent_rank network link way note.body sent) in
           let number : c.note.inside.number ≡ note.number = ap (λ (n : Note). n.number) c.note.view_is in
           let on = c.in-None.ensures network events (notes ++ note ∷ []) z stands
-          (subst (λ (k : ℕ). IsOfNow (happenings network (notes ++ note ∷ [])) c.args.world.now.now k z) (sym number) of)
+          (subst (λ k. IsOfNow (happenings network (notes ++ note ∷ [])) c.args.world.now.now k z) (sym number) of)
           (on_own_link s link way z there note.body sent) in
-          packet_is s link way z [] sent (record { none = λ no. refl; some = λ signal is octets spelt. absurd (let e = on ∙ is in cc) }),
+          packet_is s link way z {lines = []} sent
+          (record { none = λ no. refl; some = λ signal is octets spelt. absurd (let e = on ∙ is in cc) }),
     )

@@ -14,11 +14,11 @@ returns-in-Err-clause-goes g c events notes old befell seen =
     let network = c.args._network.now in
     let event = c.args.event.now in
     let told = told_by g.K.Sink in
-    let own = subst (λ (m : Note). Befell network c.args._world.now events notes event m) befell.is befell in
+    let own = subst (λ m. Befell network c.args._world.now events notes event m) befell.is befell in
     subst (λ (m : Note). StopsWay network (events ++ event ∷ []) (notes ++ m ∷ []) c.in-Err.cut old (told c.pass_to.new.out)) (sym befell.is)
     (event_fails network c.args._world.now events notes event old (told c.args.out.now) c.args.self.now own seen g.K.Sink c.args.out.now c.pass_to.new.out refl
     c.pass_to.new.self c.in-Err.cut
-    (subst (λ (n : ℕ). PassesTo g.K.Sink n c.args.self.now (Err c.in-Err.cut) c.pass_to.new.self c.args.out.now c.pass_to.new.out) c.amount.ensures.value
+    (subst (λ n. PassesTo g.K.Sink n c.args.self.now (Err c.in-Err.cut) c.pass_to.new.self c.args.out.now c.pass_to.new.out) c.amount.ensures.value
     c.in-Err.ensures))
 
 pub returns-clause-goes : goal.returns-clause-goes
@@ -26,12 +26,12 @@ returns-clause-goes g c events notes old befell seen =
     let network = c.args._network.now in
     let event = c.args.event.now in
     let told = told_by g.K.Sink in
-    let own = subst (λ (m : Note). Befell network c.args._world.now events notes event m) befell.is befell in
+    let own = subst (λ m. Befell network c.args._world.now events notes event m) befell.is befell in
     subst (λ (m : Note). MatchResult c.take.result (λ _. SeesWay network (events ++ event ∷ []) (notes ++ m ∷ []) old (told c.pass_to.new.out) c.take.new.self)
     (λ cut. StopsWay network (events ++ event ∷ []) (notes ++ m ∷ []) cut old (told c.pass_to.new.out))) (sym befell.is)
     (event_goes network c.args._world.now events notes event old (told c.args.out.now) c.args.self.now own seen g.K.Sink c.args.out.now c.pass_to.new.out refl
     c.pass_to.new.self c.take.new.self c.take.result
-    (subst (λ (n : ℕ). PassesTo g.K.Sink n c.args.self.now (Ok (tt {0})) c.pass_to.new.self c.args.out.now c.pass_to.new.out) c.amount.ensures.value
+    (subst (λ n. PassesTo g.K.Sink n c.args.self.now (Ok (tt {0})) c.pass_to.new.self c.args.out.now c.pass_to.new.out) c.amount.ensures.value
     c.in-Ok.ensures)
     c.take.ensures.takes c.take.ensures.err)
 

@@ -20,9 +20,9 @@ pub returns-in-Err-clause-goes : goal.returns-in-Err-clause-goes
 returns-in-Err-clause-goes g c events notes instant old given seen =
     let told = told_by g.K.Sink in
     let failed = c.in-Err.ensures.puts.failed in
-    subst (λ (e : Cut). StopsWay c.args.network.now events (notes ++ c.args.note.now ∷ []) e old (told c.put_sends.new.out)) (sym failed.0)
+    subst (λ e. StopsWay c.args.network.now events (notes ++ c.args.note.now ∷ []) e old (told c.put_sends.new.out)) (sym failed.0)
     (record_fails_first c.args.network.now c.args.world.now events notes c.args.note.now old (told c.args.out.now) c.args.self.now given.stands
-    (subst (λ (b : NoteBody). 1 < rank b) c.body.ensures c.is_sent_on-sent.ensures.behind) seen (told c.put_sends.new.out) failed.1)
+    (subst (λ b. 1 < rank b) c.body.ensures c.is_sent_on-sent.ensures.behind) seen (told c.put_sends.new.out) failed.1)
 
 -- it is not sent on the way
 pub returns-then-not-sent-clause-goes : goal.returns-then-not-sent-clause-goes
@@ -31,7 +31,7 @@ returns-then-not-sent-clause-goes g c events notes instant old given seen =
     let it = c.args.self.now in
     let network = c.args.network.now in
     let note = c.args.note.now in
-    let high = (subst (λ (b : NoteBody). 1 < rank b) c.body.ensures c.is_sent_on-sent.ensures.behind) in
+    let high = (subst (λ b. 1 < rank b) c.body.ensures c.is_sent_on-sent.ensures.behind) in
     let s = scenario_under network events in
     let is = c.in-Ok.ensures.same in
     let none = not_carried s it.link it.way (last_happening network notes note) high (ap (is_sent_on network it.link it.way) (sym c.body.ensures)
@@ -60,7 +60,7 @@ returns-in-Ok-put_sent-clause-goes g c events notes instant old given seen =
     (ap (λ l. is_sent_on network l mid.way note.body) link
     ∙ ap (λ w. is_sent_on network it.link w note.body) way ∙ sent) in
     record_goes network c.args.world.now events notes note old (told c.args.out.now) it given.stands
-    (subst (λ (b : NoteBody). 1 < rank b) c.body.ensures c.is_sent_on-sent.ensures.behind) seen p.0
+    (subst (λ b. 1 < rank b) c.body.ensures c.is_sent_on-sent.ensures.behind) seen p.0
     (told c.put_sends.new.out) (told c.put_sent.new.out) c.put_sent.new.self
     (lines ∙ ap (λ l. packets_of s l mid.way (z ∷ [])) link ∙ ap (λ w. packets_of s it.link w (z ∷ [])) way) c.in-Ok.ensures.puts.all.0 p.1.all.0
     (ap (λ (x : Capture). x.link) made ∙ link) (ap (λ (x : Capture). x.way) made ∙ way)
@@ -84,9 +84,9 @@ returns-in-Err-put_sent-clause-goes g c events notes instant old given seen =
     let mid = c.put_sends.new.self in
     let lines = p.2 events notes given.stands given.at (subst (λ l. HasLink network l) (sym link) seen.there)
     (ap (λ l. is_sent_on network l mid.way note.body) link ∙ ap (λ w. is_sent_on network it.link w note.body) way ∙ sent) in
-    subst (λ (e : Cut). StopsWay network events (notes ++ note ∷ []) e old (told c.put_sent.new.out)) (sym p.1.failed.0)
+    subst (λ e. StopsWay network events (notes ++ note ∷ []) e old (told c.put_sent.new.out)) (sym p.1.failed.0)
     (record_fails_own network c.args.world.now events notes note old (told c.args.out.now) it given.stands
-    (subst (λ (b : NoteBody). 1 < rank b) c.body.ensures c.is_sent_on-sent.ensures.behind) seen p.0
+    (subst (λ b. 1 < rank b) c.body.ensures c.is_sent_on-sent.ensures.behind) seen p.0
     (told c.put_sends.new.out) (told c.put_sent.new.out)
     (lines ∙ ap (λ l. packets_of s l mid.way (z ∷ [])) link ∙ ap (λ w. packets_of s it.link w (z ∷ [])) way) c.in-Ok.ensures.puts.all.0 p.1.failed.1)
 

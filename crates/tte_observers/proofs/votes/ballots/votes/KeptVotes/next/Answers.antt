@@ -5,13 +5,13 @@ use Rattle.tte_observers.proofs.votes.ballots.votes.KeptVotes.next.Goals as goal
 pub cast-requires-in-Some : goal.cast-requires-in-Some
 cast-requires-in-Some c = (
   omega arith,
-  c.cast.ensures.others 1 (λ e. cc) ∙ ap (λ (v : Votes). payload_of v 1) c.clear.ensures,
+  c.cast.ensures.others 1 (λ e. cc) ∙ ap (λ v. payload_of v 1) c.clear.ensures,
 )
 
 pub cast-requires-in-Some-2 : goal.cast-requires-in-Some-2
 cast-requires-in-Some-2 c = (
   omega arith,
-  c.cast-in-Some.ensures.others 2 (λ e. cc) ∙ c.cast.ensures.others 2 (λ e. cc) ∙ ap (λ (v : Votes). payload_of v 2) c.clear.ensures,
+  c.cast-in-Some.ensures.others 2 (λ e. cc) ∙ c.cast.ensures.others 2 (λ e. cc) ∙ ap (λ v. payload_of v 2) c.clear.ensures,
 )
 
 pub returns-in-Some-clause-next : goal.returns-in-Some-clause-next
@@ -34,11 +34,11 @@ returns-in-Some-clause-next c = λ network voters notes from held.
     first_given network voters was.voters notes from key was.frames was.ballots c.pop_first.new.self seats held found.value found.least found.updates cycle
     device
     c.cast-in-Some-2.new.ballot small few at
-    (filled network voters notes cycle device seats c.clear.new.self c.cast.new.ballot c.cast-in-Some.new.ballot c.cast-in-Some-2.new.ballot cast
+    (filled network notes c.clear.new.self c.cast.new.ballot c.cast-in-Some.new.ballot c.cast-in-Some-2.new.ballot cast
     c.clear.ensures
     (c.cast.ensures.casts network notes held.frames) (c.cast-in-Some.ensures.casts network notes held.frames)
     (c.cast-in-Some-2.ensures.casts network notes held.frames))
 
 pub returns-in-None-clause-next : goal.returns-in-None-clause-next
 returns-in-None-clause-next c = λ network voters notes from held.
-    none_left network voters notes from c.args.self.now (none_in c.args.self.now.ballots.entries c.in-None.ensures.variant.1) held
+    none_left (none_in c.args.self.now.ballots.entries c.in-None.ensures.variant.1) held
