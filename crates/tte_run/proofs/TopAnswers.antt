@@ -49,7 +49,7 @@ module _ (status : Status) (old new : Shown) (SourceRose SinkRose : Type 0) (rea
       (λ a is. ap (λ (x : Answer). x.status) (is ∙ shows_packets.whole octets head ps m.file m.opened m.packets)) quiet calm
   completes Run (Some octets) None g = λ quiet calm. tt
   completes Run (Some octets) (Some trace) g = λ quiet calm n events m.
-      by (IsNetworkAnswer (IsRunAnswer trace) octets) g (run_done octets trace n events m.accepted (all_admitted m)) quiet calm
+      by (IsNetworkAnswer (IsRunAnswer trace) octets) g (run_done m.accepted (all_admitted m)) quiet calm
   completes (Stamp granule) (Some octets) None g = λ quiet calm. tt
   completes (Stamp granule) (Some octets) (Some trace) g = λ quiet calm n events m fine.
       by (IsNetworkAnswer (IsStampAnswer granule trace) octets) g (stamp_done granule m.accepted fine (all_admitted m)) quiet calm
@@ -86,8 +86,8 @@ form_one : BetaIsUnique → RefusalIsOne → (form : Option Form) → IfSome for
 form_one unique one None range octets trace a b p q = p ∙ sym q
 form_one unique one (Some Show) range octets trace a b p q = p ∙ sym q
 form_one unique one (Some Check) range octets trace a b p q = network_answer_one one IsAcceptance octets (λ n accepted. acceptance_one unique n) a b p q
-form_one unique one (Some Run) range octets trace a b p q = run_one one octets trace a b p q
-form_one unique one (Some (Storm seed cycles)) range octets trace a b p q = storm_one one seed cycles range.1 octets a b p q
+form_one unique one (Some Run) range octets trace a b p q = run_one one trace a b p q
+form_one unique one (Some (Storm seed cycles)) range octets trace a b p q = storm_one one seed cycles range.1 a b p q
 form_one unique one (Some (Stamp granule)) range octets trace a b p q = stamp_one one granule trace a b p q
 form_one unique one (Some Audit) range octets trace a b p q =
     report_one one audit_limit IsAuditedAnswer (λ network text notes end x y rules of i j. i ∙ sym j) trace a b p q

@@ -13,7 +13,8 @@ whole_stops network octets events none event a = a.has.is_open.some none
 
 faulty_stops : (network : Network) (octets : List ℕ) (events : List Event) (fault : TraceFault)
     → IsFault network events (behind_lines (length events) octets) fault → IsStopped network octets events
-faulty_stops network octets events fault is event a = fault_stops network events (behind_lines (length events) octets) fault event is a
+faulty_stops network octets events fault is event a =
+    fault_stops network events (behind_lines (length events) octets) fault is a
 
 -- the answer is a whole one of these events, or one of a fault behind them
 abbrev pub AnswersEither : LinesOf → Network → List ℕ → List Event → Answer → Type 0
@@ -38,7 +39,7 @@ pub all_records : (events : List Event) (network : Network) (octets : List ℕ) 
 all_records events network octets notes all run =
     let end = ended_at events all.ended in
     let last = (admitted_in_order network octets events all.admitted).last end.0 end.1 in
-    (end.0, end.1, subst (λ (t : Units). AreRecordsBefore network events ((amount t + 1) ∷ []) notes) (sym last) run)
+    (end.0, end.1, subst (λ t. AreRecordsBefore network events ((amount t + 1) ∷ []) notes) (sym last) run)
 
 -- behind the admitted events the trace goes on with the fault
 pub record IsFaultBehind (network : Network) (octets : List ℕ) (events : List Event) (fault : TraceFault) : Type 0 where
@@ -52,7 +53,7 @@ module _ (lines : LinesOf) where
   all_is_whole network octets events a all i =
       let same = stopped_one network octets i.events events i.admitted (answer_stops lines network octets i.events a i.is) all.admitted
       (whole_stops network octets events all.none_left) in
-      elim (subst (λ (es : List Event). AnswersEither lines network octets es a) same i.is) [
+      elim (subst (λ es. AnswersEither lines network octets es a) same i.is) [
         | inl w ↦ w
         | inr f ↦ absurd (end_has_no_fault network events (behind_lines (length events) octets) f.fault all.none_left all.ended f.is)
       ]
@@ -63,7 +64,7 @@ module _ (lines : LinesOf) where
   whole_is network octets events notes a all records i =
       let w = all_is_whole network octets events a all i in
       let time = same_end network octets events w.records.0 records.0 all.admitted w.records.1 records.1 in
-      let here = subst (λ (t : Units). AreRecordsBefore network events ((amount t + 1) ∷ []) w.notes) time w.records.2 in
+      let here = subst (λ t. AreRecordsBefore network events ((amount t + 1) ∷ []) w.notes) time w.records.2 in
       let same = run_is_one network (clock_reading network events) events ((amount records.0 + 1) ∷ []) w.notes notes here records.2 in
       w.answer ∙ ap (λ (ns : List Note). record { status = Done; lines = lines network events ns }) same
 
@@ -90,7 +91,7 @@ module _ (lines : LinesOf) where
   faulty_is network octets events notes fault a b run i =
       let same = stopped_one network octets i.events events i.admitted (answer_stops lines network octets i.events a i.is) b.admitted
       (faulty_stops network octets events fault b.is) in
-      faulty_alone network octets events notes fault a b run (subst (λ (es : List Event). AnswersEither lines network octets es a) same i.is)
+      faulty_alone network octets events notes fault a b run (subst (λ es. AnswersEither lines network octets es a) same i.is)
 
   -- ---- there is one answer
 

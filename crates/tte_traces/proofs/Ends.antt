@@ -40,27 +40,29 @@ done_no_read status (inr w) is = let e = w.0 in cc
 
 -- ---- what is told of a sink is what it shows
 
-pub puts_shown : {K : Type 0} (sink : sinks.Ghosts K) (lines : List (List ℕ)) (old new : K)
-    → PutsLines lines (shown_as (told_by sink old)) (shown_as (told_by sink new)) → PutsLines lines (shown_by sink old) (shown_by sink new)
-puts_shown sink lines old new p = record { written = p.written; counted = p.counted }
+module _ {K : Type 0} (sink : sinks.Ghosts K) (lines : List (List ℕ)) (old : K) where
+  pub puts_shown : (new : K) → PutsLines lines (shown_as (told_by sink old)) (shown_as (told_by sink new))
+      → PutsLines lines (shown_by sink old) (shown_by sink new)
+  puts_shown new p = record { written = p.written; counted = p.counted }
 
-puts_from : {K : Type 0} (sink : sinks.Ghosts K) (lines : List (List ℕ)) (old : K) (new : Shown) → PutsLines lines (shown_as (told_by sink old)) new
-    → PutsLines lines (shown_by sink old) new
-puts_from sink lines old new p = record { written = p.written; counted = p.counted }
+  puts_from : {new : Shown} → PutsLines lines (shown_as (told_by sink old)) new
+      → PutsLines lines (shown_by sink old) new
+  puts_from p = record { written = p.written; counted = p.counted }
 
-stops_shown : {K : Type 0} (sink : sinks.Ghosts K) (lines : List (List ℕ)) (old new : K)
-    → StopsWriting lines (shown_as (told_by sink old)) (shown_as (told_by sink new)) → StopsWriting lines (shown_by sink old) (shown_by sink new)
-stops_shown sink lines old new (inl f) = inl (record {
+stops_shown : {K : Type 0} (sink : sinks.Ghosts K) {lines : List (List ℕ)} (old new : K)
+    → StopsWriting lines (shown_as (told_by sink old)) (shown_as (told_by sink new))
+    → StopsWriting lines (shown_by sink old) (shown_by sink new)
+stops_shown sink old new (inl f) = inl (record {
   done = f.done;
   line = f.line;
   left = f.left;
   order = f.order;
   before = f.before;
-  puts = puts_from sink f.done old f.before f.puts;
+  puts = puts_from sink f.done old f.puts;
   front = f.front;
   counted = f.counted;
 })
-stops_shown sink lines old new (inr p) = inr (puts_shown sink lines old new p)
+stops_shown sink {lines} old new (inr p) = inr (puts_shown sink lines old new p)
 
 -- ---- what was taken of a trace
 
@@ -69,12 +71,13 @@ abbrev pub Admits : {B : Type 0} → sources.Ghosts B → Network → B → List
 Admits source network first events now =
     (octets : List ℕ) → source.left first ≡ Some octets → (rest : List ℕ) × (source.left now ≡ Some rest) × AreAdmitted network octets events
 
-takes_little : {B K : Type 0} (source : sources.Ghosts B) (sink : sinks.Ghosts K) (lines : LinesOf) (network : Network) (first now : B) (events : List Event)
-    (notes : List Note) (old : K) (between : Shown) (new : Shown) → Admits source network first events now
-    → TakesFewFrom (source.left first) (source.left now) (length events)
-    → AreRecordsSoFar network events notes → PutsLines (lines network events notes) (shown_by sink old) between → WritesSome between new
+takes_little : {B K : Type 0} (source : sources.Ghosts B) (sink : sinks.Ghosts K) (lines : LinesOf)
+    (network : Network) (first now : B) (events : List Event) (notes : List Note) (old : K) {between : Shown}
+    (new : Shown) → Admits source network first events now
+    → TakesFewFrom (source.left first) (source.left now) (length events) → AreRecordsSoFar network events notes
+    → PutsLines (lines network events notes) (shown_by sink old) between → WritesSome between new
     → Little lines network (source.left first) (source.left now) (shown_by sink old) new
-takes_little source sink lines network first now events notes old between new admitted few records puts more =
+takes_little source sink lines network first now events notes old {between} new admitted few records puts more =
     for_trace (source.left first) (source.left now) (λ octets rest. TakesLittle lines network octets rest (shown_by sink old) new) (λ octets told.
     let a = admitted octets told in (
       a.0,
@@ -105,12 +108,14 @@ trace_stopped source sink at f o events stop n it before after = StoppedBehind s
 pub memory_cause : {X : Type 0} (status : Status) (old now new : ℕ) → (status ≡ OutOfMemory) ⊎ ((status ≡ WriteFault) × Rose now new) → now ≡ old
     → HasCause status X (Rose old new)
 memory_cause status old now new (inl e) same = record { read = λ is. absurd cc; write = λ is. absurd cc }
-memory_cause status old now new (inr w) same = record { read = λ is. absurd (let e = w.0 in cc); write = λ is. subst (λ (n : ℕ). Rose n new) same w.1 }
+memory_cause status old now new (inr w) same = record { read = λ is. absurd (let e = w.0 in cc); write = λ is. subst (λ n. Rose n new) same w.1 }
 
 -- what ended so for a network ended so for the same one
-pub ends_for : (Is : List ℕ → Network → Answer → Type 0) (lines : LinesOf) {n m : Network} {first left : Option (List ℕ)} {status : Status} {old new : Shown}
-    → n ≡ m → RunEnds (λ octets. Is octets n) lines n first left status old new → RunEnds (λ octets. Is octets m) lines m first left status old new
-ends_for Is lines {n} {m} {first} {left} {status} {old} {new} same ends =
+pub ends_for : (Is : List ℕ → Network → Answer → Type 0) {lines : LinesOf} {n m : Network}
+    {first left : Option (List ℕ)} {status : Status} {old new : Shown} → n ≡ m
+    → RunEnds (λ octets. Is octets n) lines n first left status old new
+    → RunEnds (λ octets. Is octets m) lines m first left status old new
+ends_for Is {lines} {n} {m} {first} {left} {status} {old} {new} same ends =
     subst (λ (x : Network). RunEnds (λ octets. Is octets x) lines x first left status old new) same ends
 
 -- ---- the lines that an observer puts of a run
@@ -130,8 +135,8 @@ module _ {B K O : Type 0} (source : sources.Ghosts B) (sink : sinks.Ghosts K) (b
       → Little lines network (source.left first) (source.left now) (shown_by sink old) new
   little_so_far events new admitted few s more =
       let told : Told = told_by sink old in
-      takes_little source sink lines network first now events s.notes old (shown_as s.between) new admitted few s.records
-      (puts_from sink (lines network events s.notes) old (shown_as s.between)
+      takes_little source sink lines network first now events s.notes old new admitted few s.records
+      (puts_from sink (lines network events s.notes) old
       (along.so_far network events s.notes told s.between s.observer s.records s.sees))
       (s.grew.0 ++ more.0, Appends-trans s.between.written (sink.written put) new.written s.grew.0 more.0 s.grew.1 more.1)
 
@@ -157,14 +162,14 @@ module _ {B K O : Type 0} (source : sources.Ghosts B) (sink : sinks.Ghosts K) (b
 
     pub little_at : (new : Shown) → WritesSome (shown_by sink put) new → Little lines network (source.left first) (source.left now) (shown_by sink old) new
     little_at new more =
-        takes_little source sink lines network first now d.events d.notes old (shown_by sink put) new admits_so_far d.stopped.few d.so_far seen_so_far more
+        takes_little source sink lines network first now d.events d.notes old new admits_so_far d.stopped.few d.so_far seen_so_far more
 
     -- where a read failed
     pub ends_read : stop ≡ ends.ReadFault → EndsSo ReadFault (shown_by sink put)
     ends_read is = record {
       general = for_stopped (λ octets. GivesOne (Is octets network) ReadFault (shown_by sink old) (shown_by sink put))
           (λ octets admitted at.
-          front_given (Is octets network) (lines network d.events d.notes) ReadFault (shown_by sink old) (shown_by sink put)
+          front_given (Is octets network) ReadFault
           (along.front network octets d.events d.notes admitted d.so_far) (inl refl) seen_so_far);
       cut = λ read. (
         (d.stopped.read is).1,
@@ -195,7 +200,7 @@ module _ {B K O : Type 0} (source : sources.Ghosts B) (sink : sinks.Ghosts K) (b
     ends_unpassed = record {
       general = for_stopped (λ octets. GivesOne (Is octets network) WriteFault (shown_by sink old) (shown_by sink put))
           (λ octets admitted at.
-          front_failed (Is octets network) (lines network d.events d.notes) WriteFault (shown_by sink old) (shown_by sink put)
+          front_failed (Is octets network) {lines = lines network d.events d.notes} WriteFault {old = shown_by sink old} {new = shown_by sink put}
           (along.front network octets d.events d.notes admitted d.so_far) refl (inr seen_so_far));
       cut = λ read. absurd cc;
       little = little_at (shown_by sink put) (writes_nothing (shown_by sink put));
@@ -224,7 +229,7 @@ module _ {B K O : Type 0} (source : sources.Ghosts B) (sink : sinks.Ghosts K) (b
     short_at : (next : Option Event) → IsCutShort next → ForOctets (source.left first) (λ octets. IsShort octets next)
     short_at (Some event) at =
         for_more (source.left first) (λ octets. AreAdmitted network octets (d.events ++ event ∷ [])) (λ octets. IsShort octets (Some event))
-        (λ octets admitted. (admitted, at.1)) (gave_some source network first (d.events ++ event ∷ []) now trace at.0)
+        (λ octets admitted. (admitted, at.1)) (gave_some at.0)
     short_at None at =
         for_more (source.left first) (λ octets. AreAdmitted network octets d.events × (behind_lines (length d.events) octets ≡ []))
         (λ octets. IsShort octets None)
@@ -250,8 +255,8 @@ module _ {B K O : Type 0} (source : sources.Ghosts B) (sink : sinks.Ghosts K) (b
     ends_write is = record {
       general = for_front (λ octets. GivesOne (Is octets network) WriteFault (shown_by sink old) (shown_by sink put))
           (λ octets f.
-          let halts = subst (λ (c : Cut). StopsLines f.0 c (told_by sink old) (told_by sink put)) is f.1 in
-          front_failed (Is octets network) f.0 WriteFault (shown_by sink old) (shown_by sink put) f.2 refl (stops_shown sink f.0 old put halts));
+          let halts = subst (λ c. StopsLines f.0 c (told_by sink old) (told_by sink put)) is f.1 in
+          front_failed (Is octets network) WriteFault f.2 refl (stops_shown sink old put halts));
       cut = λ read. absurd cc;
       little = little_cut (shown_by sink put) (writes_nothing (shown_by sink put));
     }
@@ -262,11 +267,11 @@ module _ {B K O : Type 0} (source : sources.Ghosts B) (sink : sinks.Ghosts K) (b
     ends_memory status new is e = record {
       general = for_front (λ octets. GivesOne (Is octets network) status (shown_by sink old) (shown_by sink new))
           (λ octets f.
-          let seen = subst (λ (c : Cut). StopsLines f.0 c (told_by sink old) (told_by sink put)) is f.1 in
+          let seen = subst (λ c. StopsLines f.0 c (told_by sink old) (told_by sink put)) is f.1 in
           let puts = PutsLines-still f.0 (shown_by sink old) (shown_by sink put) (shown_by sink new) (puts_shown sink f.0 old put seen) e.0 in
           elim e.1 [
-            | inl m ↦ front_given (Is octets network) f.0 status (shown_by sink old) (shown_by sink new) f.2 (inr m.0) puts
-            | inr w ↦ front_failed (Is octets network) f.0 status (shown_by sink old) (shown_by sink new) f.2 w (inr puts)
+            | inl m ↦ front_given (Is octets network) status f.2 (inr m.0) puts
+            | inr w ↦ front_failed (Is octets network) {lines = f.0} status {old = shown_by sink old} {new = shown_by sink new} f.2 w (inr puts)
           ]);
       cut = λ read. absurd (elim e.1 [ inl m ↦ (let s = m.0 in cc) | inr w ↦ cc ]);
       little = little_cut (shown_by sink new) (writes_none (shown_by sink put) (shown_by sink new) e.0);
@@ -316,7 +321,7 @@ module _ {B K O : Type 0} (source : sources.Ghosts B) (sink : sinks.Ghosts K) (b
       → RunEnds (λ octets. IsTraceAnswer lines octets network) lines network (source.left first) (source.left now) status (shown_by sink old)
       (shown_by sink new)
   ends_fault observer stop d fault line status new is number gives which =
-      let count : line ≡ length d.events + 1 = number ∙ ap (λ (n : ℕ). n + 1) d.stopped.lines in
+      let count : line ≡ length d.events + 1 = number ∙ ap (λ n. n + 1) d.stopped.lines in
       record {
         general = for_stopped source sink begun see stops lines (IsTraceAnswer lines) along network first origin now trace old put observer stop d
             (λ octets. GivesOne (IsTraceAnswer lines octets network) status (shown_by sink old) (shown_by sink new))
@@ -326,9 +331,9 @@ module _ {B K O : Type 0} (source : sources.Ghosts B) (sink : sinks.Ghosts K) (b
             faulty_given lines network octets d.events d.notes fault status (shown_by sink old) (shown_by sink put) (shown_by sink new)
             (record { admitted = admitted; is = behind }) d.so_far
             (seen_so_far source sink begun see stops lines (IsTraceAnswer lines) along network first origin now trace old put observer stop d)
-            (subst (λ (n : ℕ). Gives (fault_answer n fault) status (shown_by sink put) (shown_by sink new)) count gives));
+            (subst (λ n. Gives (fault_answer n fault) status (shown_by sink put) (shown_by sink new)) count gives));
         cut = λ read. absurd (fault_no_read fault status which read);
         little = little_at source sink begun see stops lines (IsTraceAnswer lines) along network first origin now trace old put observer stop d
             (shown_by sink new)
-            (writes_answer (fault_answer line fault) status (shown_by sink put) (shown_by sink new) gives);
+            (writes_answer (fault_answer line fault) status gives);
       }

@@ -34,21 +34,22 @@ last_least : (time : Units) (es : List Event) → IsInOrder (amount time) es →
 last_least time [] o = omega arith
 last_least time (e ∷ es) o = let more = last_least e.time es o.2 in omega (arith, o.1, more)
 
--- an event is no later than the last
-pub last_of : (front behind : List Event) (event : Event) → IsInOrder 0 (front ++ event ∷ behind)
-    → amount event.time ≤ amount (last_time (front ++ event ∷ behind))
-last_of front behind event order = go (units_of 0) 0 front order
-  where
-    go : (time : Units) (least : ℕ) (front : List Event) → IsInOrder least (front ++ event ∷ behind)
-        → amount event.time ≤ amount (last_from time (front ++ event ∷ behind))
-    go time least [] o = last_least event.time behind o.2
-    go time least (d ∷ front) o = go d.time (amount d.time) front o.2
+module _ (front behind : List Event) (event : Event) (order : IsInOrder 0 (front ++ event ∷ behind)) where
+  -- an event is no later than the last
+  pub last_of : amount event.time ≤ amount (last_time (front ++ event ∷ behind))
+  last_of = go (units_of 0) 0 front order
+    where
+      go : (time : Units) (least : ℕ) (front : List Event) → IsInOrder least (front ++ event ∷ behind)
+          → amount event.time ≤ amount (last_from time (front ++ event ∷ behind))
+      go time least [] o = last_least event.time behind o.2
+      go time least (d ∷ front) o = go d.time (amount d.time) front o.2
 
--- the last of those before an event is no later than it
-pub last_before : (front behind : List Event) (event : Event) → IsInOrder 0 (front ++ event ∷ behind) → amount (last_time front) ≤ amount event.time
-last_before front behind event order = go (units_of 0) 0 front (omega arith) order
-  where
-    go : (time : Units) (least : ℕ) (front : List Event) → amount time ≤ least → IsInOrder least (front ++ event ∷ behind)
-        → amount (last_from time front) ≤ amount event.time
-    go time least [] le o = omega (arith, le, o.1)
-    go time least (d ∷ front) le o = go d.time (amount d.time) front (omega arith) o.2
+  -- the last of those before an event is no later than it
+  pub last_before : amount (last_time front) ≤ amount event.time
+  last_before = go (units_of 0) 0 front (omega arith) order
+    where
+      go : (time : Units) (least : ℕ) (front : List Event) → amount time ≤ least → IsInOrder least
+          (front ++ event ∷ behind)
+          → amount (last_from time front) ≤ amount event.time
+      go time least [] le o = omega (arith, le, o.1)
+      go time least (d ∷ front) le o = go d.time (amount d.time) front (omega arith) o.2

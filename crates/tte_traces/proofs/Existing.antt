@@ -11,10 +11,11 @@ pub records_before : (network : Network) (events : List Event) (mark : List ℕ)
 records_before network events mark range =
     runs_exist_to_each_mark (record { network = network; reading = clock_reading network events; events = events }) mark range
 
-pub all_records : (network : Network) (events : List Event) → IsInRange network → HaveEnded events → (notes : List Note) × AreAllRecords network events notes
-all_records network events range ended =
+pub all_records : {network : Network} (events : List Event) → IsInRange network → HaveEnded events
+    → (notes : List Note) × AreAllRecords network events notes
+all_records events range ended =
     let end = ended_at events ended in
-    let run = records_before network events ((amount end.0 + 1) ∷ []) range in
+    let run = records_before events ((amount end.0 + 1) ∷ []) range in
     (run.0, (end.0, end.1, run.1))
 
 -- ---- answers
@@ -23,7 +24,7 @@ module _ (lines : LinesOf) where
   whole : (network : Network) (octets : List ℕ) (events : List Event) → IsInRange network → HaveEnded events
       → behind_lines (length events) octets ≡ [] → (a : Answer) × AnswersAll lines network octets events a
   whole network octets events range ended none =
-      let run = all_records network events range ended in (
+      let run = all_records events range ended in (
         record { status = Done; lines = lines network events run.0 },
         record { ended = ended; none_left = none; notes = run.0; records = run.1; answer = refl },
       )
@@ -31,7 +32,7 @@ module _ (lines : LinesOf) where
   faulty : (network : Network) (octets : List ℕ) (events : List Event) (fault : TraceFault) → IsInRange network
       → IsFault network events (behind_lines (length events) octets) fault → (a : Answer) × AnswersFault lines network octets events a
   faulty network octets events fault range is =
-      let run = records_before network events (behind_events (amount (last_time events))) range in (
+      let run = records_before events (behind_events (amount (last_time events))) range in (
         record { status = fault_status fault; lines = lines network events run.0 ++ fault_lines (length events + 1) fault },
         record { fault = fault; is = is; notes = run.0; records = run.1; answer = refl },
       )

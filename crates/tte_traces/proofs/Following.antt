@@ -20,7 +20,7 @@ none_ended ended = any_none (λ (e : Event). e.what ≡ End) ended
 
 -- so many lines and one more
 pub behind_one : (n m : ℕ) (octets : List ℕ) → m ≡ n + 1 → behind_lines m octets ≡ behind_line (behind_lines n octets)
-behind_one n m octets e = let s : m ≡ suc n = omega (arith, e) in ap (λ (k : ℕ). behind_lines k octets) s
+behind_one n m octets e = let s : m ≡ suc n = omega (arith, e) in ap (λ k. behind_lines k octets) s
 
 pub behind_more : (events : List Event) (event : Event) (octets : List ℕ)
     → behind_lines (length (events ++ event ∷ [])) octets ≡ behind_line (behind_lines (length events) octets)
@@ -50,13 +50,14 @@ more_whole events event octets rest behind text here =
     let f = front_of_lines (length events) octets in
     let whole : octets ≡ (f.0 ++ text) ++ lf ∷ rest = f.1 ∙ ap (λ (t : List ℕ). f.0 ++ t) here ∙ sym (append_assoc f.0 text (lf ∷ rest)) in
     let long : length (events ++ event ∷ []) ≡ suc (length events) = length-append events (event ∷ []) ∙ omega arith in
-    let next : behind_lines (suc (length events)) octets ≡ rest = ap (λ (k : ℕ). behind_lines k octets) (sym long) ∙ behind in
-    subst (λ (k : ℕ). StandWhole k octets) (sym long) (f.0 ++ text, whole ∙ ap (λ (t : List ℕ). (f.0 ++ text) ++ lf ∷ t) (sym next))
+    let next : behind_lines (suc (length events)) octets ≡ rest = ap (λ k. behind_lines k octets) (sym long) ∙ behind in
+    subst (λ k. StandWhole k octets) (sym long) (f.0 ++ text, whole ∙ ap (λ (t : List ℕ). (f.0 ++ text) ++ lf ∷ t) (sym next))
 
 -- one more event is admitted
-pub more_admitted : (network : Network) (octets : List ℕ) (events : List Event) (event : Event) → AreAdmitted network octets events
-    → IsAdmitted network events (behind_lines (length events) octets) event → AreAdmitted network octets (events ++ event ∷ [])
-more_admitted network octets events event all here before behind e order =
+pub more_admitted : {network : Network} (octets : List ℕ) {events : List Event} {event : Event}
+    → AreAdmitted network octets events → IsAdmitted network events (behind_lines (length events) octets) event
+    → AreAdmitted network octets (events ++ event ∷ [])
+more_admitted octets {events} {event} all here before behind e order =
     elim (stands_where events event before e behind order) [
       | inl s ↦ all before s.rest e s.whole
       | inr s ↦ rw (s.before_is, s.same) here
@@ -75,10 +76,11 @@ pub event_as : (network at : Network) (line shown : List ℕ) (text : Option (Li
 event_as network at line shown text read is over is_shown is_line = cc
 
 -- a trace follows the events and one more
-pub more_followed : (network : Network) (events : List Event) (event : Event) (before after : Trace) → Follows network events before
-    → length events + 1 < 2 ^ 32 → after.accepted.now ≡ before.accepted.now → Watches network after.watch (events ++ event ∷ [])
-    → after.lines ≡ before.lines + 1 → (HaveEnded events → ⊥) → (after.ended ≡ true) ↔ (event.what ≡ End) → Follows network (events ++ event ∷ []) after
-more_followed network events event before after f number over watch lines unended ends =
+pub more_followed : {network : Network} {events : List Event} (event : Event) {before : Trace} (after : Trace)
+    → Follows network events before → length events + 1 < 2 ^ 32 → after.accepted.now ≡ before.accepted.now
+    → Watches network after.watch (events ++ event ∷ []) → after.lines ≡ before.lines + 1 → (HaveEnded events → ⊥)
+    → (after.ended ≡ true) ↔ (event.what ≡ End) → Follows network (events ++ event ∷ []) after
+more_followed {events} event after f number over watch lines unended ends =
     let more = more_ended events event unended in
     record {
       over = over ∙ f.over;
@@ -89,9 +91,10 @@ more_followed network events event before after f number over watch lines unende
     }
 
 -- a trace without events
-pub none_followed : (accepted : Bor Accepted) (watch : Watch) (reader : LineReaderState) → Watches accepted.now watch []
-    → Follows accepted.now [] (record { accepted = accepted; watch = watch; reader = reader; lines = 0; ended = false })
-none_followed accepted watch reader watches = record {
+pub none_followed : (accepted : Bor Accepted) {watch : Watch} (reader : LineReaderState)
+    → Watches accepted.now watch [] → Follows accepted.now []
+    (record { accepted = accepted; watch = watch; reader = reader; lines = 0; ended = false })
+none_followed accepted {watch} reader watches = record {
   over = refl;
   watch = watches;
   lines = refl;
@@ -101,12 +104,12 @@ none_followed accepted watch reader watches = record {
 
 -- octets behind a long line
 pub long_some : (rest : List ℕ) → line_limit < length (first_line rest) → rest ≢ []
-long_some rest long none = omega (arith, long, ap (λ (t : List ℕ). length (first_line t)) none)
+long_some rest long none = omega (arith, long, ap (λ t. length (first_line t)) none)
 
 -- the reader is no part of what a trace knows of its events
-pub followed_with : (network : Network) (events : List Event) (trace : Trace) (reader : LineReaderState) → Follows network events trace
-    → Follows network events (record trace { reader = reader })
-followed_with network events trace reader f = record { over = f.over; watch = f.watch; lines = f.lines; number = f.number; ended = f.ended }
+pub followed_with : {network : Network} {events : List Event} {trace : Trace} (reader : LineReaderState)
+    → Follows network events trace → Follows network events (record trace { reader = reader })
+followed_with reader f = record { over = f.over; watch = f.watch; lines = f.lines; number = f.number; ended = f.ended }
 
 -- all that is left is to come where none is left at the end
 to_come_all : (pending : List ℕ) (ended : Bool) (left : List ℕ) → (ended ≡ true → left ≡ []) → to_come pending ended left ≡ pending ++ left
@@ -114,20 +117,22 @@ to_come_all pending true left none = ap (λ (t : List ℕ). pending ++ t) (sym (
 to_come_all pending false left none = refl
 
 -- what comes of told octets
-told_outcome : (before : List ℕ) (had : Bool) (left : List ℕ) (after : LineReaderState) (left_before left_after : Option (List ℕ))
-    (result : Result LineTaken TraceStop) → left_before ≡ Some left → (had ≡ true → left ≡ [])
-    → NextLine before had left_before after left_after result → TellsOutcome before had left_before after left_after result
-    → (rest : List ℕ) × (left_after ≡ Some rest) × Outcome (before ++ left) result after (pending after ++ rest) × (after.ended ≡ true → rest ≡ [])
-told_outcome before had left after None left_after result told none n o = absurd cc
-told_outcome before had left after (Some l) None result told none n o = absurd o
-told_outcome before had left after (Some l) (Some rest) result told none n o =
+told_outcome : {before : List ℕ} {had : Bool} (left : List ℕ) {after : LineReaderState}
+    (left_before left_after : Option (List ℕ)) {result : Result LineTaken TraceStop} → left_before ≡ Some left
+    → (had ≡ true → left ≡ []) → NextLine before had left_before after left_after result
+    → TellsOutcome before had left_before after left_after result
+    → (rest : List ℕ) × (left_after ≡ Some rest) × Outcome (before ++ left) result after (pending after ++ rest)
+    × (after.ended ≡ true → rest ≡ [])
+told_outcome left None left_after told none n o = absurd cc
+told_outcome left (Some l) None told none n o = absurd o
+told_outcome {before} {had} left {after} (Some l) (Some rest) {result} told none n o =
     let same : l ≡ left = cc in
     let next = subst (λ (t : List ℕ). NextLine before had (Some t) after (Some rest) result) same n in
-    let none_after = none_left_after before had left after rest result none next in
+    let none_after = none_left_after left rest result none next in
     let before_is : to_come before had l ≡ before ++ left = to_come_all before had l (λ is. same ∙ none is) ∙ ap (λ (t : List ℕ). before ++ t) same in
     let after_is = to_come_all (pending after) after.ended rest none_after in
-    let out = subst (λ (t : List ℕ). Outcome t result after (to_come (pending after) after.ended rest)) before_is o in
-    (rest, refl, subst (λ (t : List ℕ). Outcome (before ++ left) result after t) after_is out, none_after)
+    let out = subst (λ t. Outcome t result after (to_come (pending after) after.ended rest)) before_is o in
+    (rest, refl, subst (λ t. Outcome (before ++ left) result after t) after_is out, none_after)
 
 -- what is found in told octets
 found_of : (octets : List ℕ) (t : LineTaken) (after : LineReaderState) (rest : List ℕ) → Outcome {E = TraceStop} octets (Ok t) after rest
@@ -137,9 +142,10 @@ found_of octets found.Long after rest o = o.0
 found_of octets found.End after rest o = o.0
 
 -- something is found in some octets, also where they are not told
-pub some_found : (before : List ℕ) (had : Bool) (left : Option (List ℕ)) (after : LineReaderState) (left_after : Option (List ℕ)) (t : LineTaken)
-    → NextLine {E = TraceStop} before had left after left_after (Ok t) → (rest : List ℕ) × IsFound rest t after
-some_found before had left after left_after found.Whole n =
+pub some_found : {before : List ℕ} {had : Bool} {left : Option (List ℕ)} {after : LineReaderState}
+    {left_after : Option (List ℕ)} (t : LineTaken) → NextLine {E = TraceStop} before had left after left_after (Ok t)
+    → (rest : List ℕ) × IsFound rest t after
+some_found found.Whole n =
     let text = n.answer.text in
     let first : first_line (text ++ lf ∷ []) ≡ text = first_line-append text (lf ∷ []) n.answer.line.unbroken ∙ append-nil text in (
       text ++ lf ∷ [],
@@ -150,8 +156,8 @@ some_found before had left after left_after found.Whole n =
             (λ (r : LineReaderState). r.text) n.answer.reader ∙ ap (λ (l : List ℕ). Some l) (sym first),
       ),
     )
-some_found before had left after left_after found.Long n = (pending after ++ [], first_line-too_long (pending after) [] n.answer.line)
-some_found before had left after left_after found.End n = ([], refl)
+some_found {after} found.Long n = (pending after ++ [], first_line-too_long (pending after) [] n.answer.line)
+some_found found.End n = ([], refl)
 
 -- how a trace goes on, by how the events go on with what was found
 pub goes_on : (network : Network) (events : List Event) (rest : List ℕ) (event : Option Event) (trace : Trace) → Judges network events rest (Ok event) trace
@@ -165,48 +171,57 @@ goes_on network events rest (Some event) trace j of_network range = record {
   follows = j.1;
 }
 
--- the same where the octets are told
-on_told : (network : Network) (octets : List ℕ) (events : List Event) (left : List ℕ) (old new : Trace) (reader : LineReaderState) (rest : List ℕ)
-    (t : LineTaken) (event : Option Event) → Reads network octets events old left
-    → Outcome {E = TraceStop} (pending old.reader ++ left) (Ok t) reader (pending reader ++ rest) → (reader.ended ≡ true → rest ≡ [])
-    → Judges network events (pending old.reader ++ left) (Ok event) new → new.reader ≡ reader → ReadsOn network octets events (Ok event) new rest
-on_told network octets events left old new reader rest t None r o none j same = (r.coming ∙ j.0, j.1)
-on_told network octets events left old new reader rest found.Whole (Some event) r o none j same = record {
-  follows = j.1;
-  admitted = more_admitted network octets events event r.admitted (subst (λ (coming : List ℕ). IsAdmitted network events coming event) (sym r.coming) j.0);
-  coming = behind_more events event octets ∙ ap behind_line r.coming ∙ sym o.3 ∙ ap (λ (s : LineReaderState). pending s ++ rest) (sym same);
-  none_left = λ is. none (sym (ap (λ (s : LineReaderState). s.ended) same) ∙ is);
-  whole = λ is.
-      more_whole events event octets (pending reader ++ rest) (behind_more events event octets ∙ ap behind_line r.coming ∙ sym o.3)
-      (first_line (pending old.reader ++ left)) (r.coming ∙ o.4 (sym (ap (λ (s : LineReaderState). s.ended) same) ∙ is));
-}
-on_told network octets events left old new reader rest found.Long (Some event) r o none j same = absurd (omega (arith, o.0, j.0.has.short))
-on_told network octets events left old new reader rest found.End (Some event) r o none j same = absurd (j.0.has.is_open.some o.0)
+module _ (network : Network) (octets : List ℕ) (events : List Event) (left : List ℕ) (old new : Trace)
+    (reader : LineReaderState) where
+  -- the same where the octets are told
+  on_told : (rest : List ℕ) (t : LineTaken) (event : Option Event) → Reads network octets events old left
+      → Outcome {E = TraceStop} (pending old.reader ++ left) (Ok t) reader (pending reader ++ rest)
+      → (reader.ended ≡ true → rest ≡ []) → Judges network events (pending old.reader ++ left) (Ok event) new
+      → new.reader ≡ reader → ReadsOn network octets events (Ok event) new rest
+  on_told rest t None r o none j same = (r.coming ∙ j.0, j.1)
+  on_told rest found.Whole (Some event) r o none j same = record {
+    follows = j.1;
+    admitted = more_admitted octets r.admitted (subst (λ coming. IsAdmitted network events coming event)
+        (sym r.coming) j.0);
+    coming = behind_more events event octets ∙ ap behind_line r.coming ∙ sym o.3 ∙ ap
+        (λ s. pending s ++ rest) (sym same);
+    none_left = λ is. none (sym (ap (λ (s : LineReaderState). s.ended) same) ∙ is);
+    whole = λ is.
+        more_whole events event octets (pending reader ++ rest)
+        (behind_more events event octets ∙ ap behind_line r.coming ∙ sym o.3)
+        (first_line (pending old.reader ++ left)) (r.coming ∙ o.4
+        (sym (ap (λ (s : LineReaderState). s.ended) same) ∙ is));
+  }
+  on_told rest found.Long (Some event) r o none j same = absurd (omega (arith, o.0, j.0.has.short))
+  on_told rest found.End (Some event) r o none j same = absurd (j.0.has.is_open.some o.0)
 
-pub reads_on : (network : Network) (octets : List ℕ) (events : List Event) (left : List ℕ) (old new : Trace) (reader : LineReaderState)
-    (left_before left_after : Option (List ℕ)) (t : LineTaken) (event : Option Event) → left_before ≡ Some left → Reads network octets events old left
-    → NextLine {E = TraceStop} (pending old.reader) old.reader.ended left_before reader left_after (Ok t)
-    → TellsOutcome {E = TraceStop} (pending old.reader) old.reader.ended left_before reader left_after (Ok t)
-    → ((rest : List ℕ) → IsFound rest t reader → Judges network events rest (Ok event) new) → new.reader ≡ reader
-    → (rest : List ℕ) × (left_after ≡ Some rest) × ReadsOn network octets events (Ok event) new rest
-reads_on network octets events left old new reader left_before left_after t event told r n outcome judged same =
-    let o = told_outcome (pending old.reader) old.reader.ended left reader left_before left_after (Ok t) told r.none_left n outcome in (
-      o.0,
-      o.1,
-      on_told network octets events left old new reader o.0 t event r o.2 o.3
-          (judged (pending old.reader ++ left) (found_of (pending old.reader ++ left) t reader (pending reader ++ o.0) o.2)) same,
-    )
+  pub reads_on : {left_before left_after : Option (List ℕ)} (t : LineTaken) (event : Option Event)
+      → left_before ≡ Some left → Reads network octets events old left
+      → NextLine {E = TraceStop} (pending old.reader) old.reader.ended left_before reader left_after (Ok t)
+      → TellsOutcome {E = TraceStop} (pending old.reader) old.reader.ended left_before reader left_after (Ok t)
+      → ((rest : List ℕ) → IsFound rest t reader → Judges network events rest (Ok event) new) → new.reader ≡ reader
+      → (rest : List ℕ) × (left_after ≡ Some rest) × ReadsOn network octets events (Ok event) new rest
+  reads_on {left_before} {left_after} t event told r n outcome judged same =
+      let o = told_outcome left left_before left_after told r.none_left n outcome in (
+        o.0,
+        o.1,
+        on_told o.0 t event r o.2 o.3
+            (judged (pending old.reader ++ left) (found_of (pending old.reader ++ left) t reader
+            (pending reader ++ o.0) o.2)) same,
+      )
 
-pub reads_fault : (network : Network) (octets : List ℕ) (events : List Event) (left : List ℕ) (old new : Trace) (reader : LineReaderState)
-    (left_before left_after : Option (List ℕ)) (t : LineTaken) (fault : TraceFault) → left_before ≡ Some left → Reads network octets events old left
-    → NextLine {E = TraceStop} (pending old.reader) old.reader.ended left_before reader left_after (Ok t)
-    → TellsOutcome {E = TraceStop} (pending old.reader) old.reader.ended left_before reader left_after (Ok t)
-    → ((rest : List ℕ) → IsFound rest t reader → Judges network events rest (Err fault) new)
-    → (rest : List ℕ) × (left_after ≡ Some rest) × IsFault network events (behind_lines (length events) octets) fault
-reads_fault network octets events left old new reader left_before left_after t fault told r n outcome judged =
-    let o = told_outcome (pending old.reader) old.reader.ended left reader left_before left_after (Ok t) told r.none_left n outcome in
-    let j = judged (pending old.reader ++ left) (found_of (pending old.reader ++ left) t reader (pending reader ++ o.0) o.2) in
-    (o.0, o.1, subst (λ (coming : List ℕ). IsFault network events coming fault) (sym r.coming) j.0)
+  pub reads_fault : {left_before left_after : Option (List ℕ)} (t : LineTaken) (fault : TraceFault)
+      → left_before ≡ Some left → Reads network octets events old left
+      → NextLine {E = TraceStop} (pending old.reader) old.reader.ended left_before reader left_after (Ok t)
+      → TellsOutcome {E = TraceStop} (pending old.reader) old.reader.ended left_before reader left_after (Ok t)
+      → ((rest : List ℕ) → IsFound rest t reader → Judges network events rest (Err fault) new)
+      → (rest : List ℕ) × (left_after ≡ Some rest) × IsFault network events
+      (behind_lines (length events) octets) fault
+  reads_fault {left_before} {left_after} t fault told r n outcome judged =
+      let o = told_outcome left left_before left_after told r.none_left n outcome in
+      let j = judged (pending old.reader ++ left) (found_of (pending old.reader ++ left) t reader
+      (pending reader ++ o.0) o.2) in
+      (o.0, o.1, subst (λ coming. IsFault network events coming fault) (sym r.coming) j.0)
 
 -- how a trace goes on, by how it was judged
 pub goes_so : (network : Network) (events : List Event) (rest : List ℕ) (result : Result (Option Event) TraceStop) (trace : Trace)
@@ -217,45 +232,48 @@ goes_so network events rest (Err (stops.Fault fault)) trace j of_network range =
 goes_so network events rest (Err stops.ReadFault) trace j of_network range = absurd j
 goes_so network events rest (Err stops.WriteFault) trace j of_network range = absurd j
 
--- the same where the octets are told
-pub reads_so : (network : Network) (octets : List ℕ) (events : List Event) (left : List ℕ) (old new : Trace) (reader : LineReaderState)
-    (left_before left_after : Option (List ℕ)) (t : LineTaken) (result : Result (Option Event) TraceStop) → left_before ≡ Some left
-    → Reads network octets events old left → NextLine {E = TraceStop} (pending old.reader) old.reader.ended left_before reader left_after (Ok t)
-    → TellsOutcome {E = TraceStop} (pending old.reader) old.reader.ended left_before reader left_after (Ok t)
-    → ((rest : List ℕ) → IsFound rest t reader → JudgesSo network events rest result new) → new.reader ≡ reader → IfErr result IsRefused
-    → (rest : List ℕ) × (left_after ≡ Some rest) × ReadsOn network octets events result new rest
-reads_so network octets events left old new reader left_before left_after t (Ok event) told r n outcome judged same refused =
-    reads_on network octets events left old new reader left_before left_after t event told r n outcome judged same
-reads_so network octets events left old new reader left_before left_after t (Err (stops.Fault fault)) told r n outcome judged same refused =
-    reads_fault network octets events left old new reader left_before left_after t fault told r n outcome judged
-reads_so network octets events left old new reader left_before left_after t (Err stops.ReadFault) told r n outcome judged same refused =
-    let is : stops.ReadFault ≡ stops.Fault refused.0 = refused.1 in absurd cc
-reads_so network octets events left old new reader left_before left_after t (Err stops.WriteFault) told r n outcome judged same refused =
-    let is : stops.WriteFault ≡ stops.Fault refused.0 = refused.1 in absurd cc
+module _ (network : Network) (octets : List ℕ) (events : List Event) (left : List ℕ) (old : Trace) where
+  -- the same where the octets are told
+  pub reads_so : (new : Trace) {reader : LineReaderState} {left_before left_after : Option (List ℕ)} (t : LineTaken)
+      (result : Result (Option Event) TraceStop) → left_before ≡ Some left → Reads network octets events old left
+      → NextLine {E = TraceStop} (pending old.reader) old.reader.ended left_before reader left_after (Ok t)
+      → TellsOutcome {E = TraceStop} (pending old.reader) old.reader.ended left_before reader left_after (Ok t)
+      → ((rest : List ℕ) → IsFound rest t reader → JudgesSo network events rest result new) → new.reader ≡ reader
+      → IfErr result IsRefused → (rest : List ℕ) × (left_after ≡ Some rest)
+      × ReadsOn network octets events result new rest
+  reads_so new {reader} t (Ok event) told r n outcome judged same refused =
+      reads_on network octets events left old new reader t event told r n outcome judged same
+  reads_so new {reader} t (Err (stops.Fault fault)) told r n outcome judged same refused =
+      reads_fault network octets events left old new reader t fault told r n outcome judged
+  reads_so new t (Err stops.ReadFault) told r n outcome judged same refused =
+      let is : stops.ReadFault ≡ stops.Fault refused.0 = refused.1 in absurd cc
+  reads_so new t (Err stops.WriteFault) told r n outcome judged same refused =
+      let is : stops.WriteFault ≡ stops.Fault refused.0 = refused.1 in absurd cc
 
--- a failed read leaves the trace where it stands, and so does failing to pass on before one
-pub reads_same : (network : Network) (octets : List ℕ) (events : List Event) (left : List ℕ) (old : Trace) (reader : LineReaderState)
-    (left_before left_after : Option (List ℕ)) (stop : TraceStop) → left_before ≡ Some left → Reads network octets events old left
-    → (stop ≡ stops.ReadFault) ⊎ (stop ≡ stops.WriteFault)
-    → NextLine {E = TraceStop} (pending old.reader) old.reader.ended left_before reader left_after (Err stop)
-    → TellsOutcome {E = TraceStop} (pending old.reader) old.reader.ended left_before reader left_after (Err stop)
-    → (rest : List ℕ) × (left_after ≡ Some rest) × ReadsOn network octets events (Err stop) (record old { reader = reader }) rest
-reads_same network octets events left old reader left_before left_after stop told r which n outcome =
-    let o = told_outcome (pending old.reader) old.reader.ended left reader left_before left_after (Err stop) told r.none_left n outcome in
-    let unread : reader.ahead ≡ [] = ap (λ (s : LineReaderState). s.ahead) n.answer.reader in
-    let line : pending reader ≡ reader.kept = ap (λ (a : List ℕ). reader.kept ++ a) unread ∙ append-nil reader.kept in
-    let unended : old.reader.ended ≡ false = false_from_ne_true old.reader.ended (λ is. n.ends is) in
-    let next = record old { reader = reader } in
-    let reads : Reads network octets events next o.0 = record {
-      follows = followed_with network events old reader r.follows;
-      admitted = r.admitted;
-      coming = r.coming ∙ sym o.2;
-      none_left = o.3;
-      whole = λ _. r.whole unended;
-    } in
-    let P : TraceStop → Type 0 = λ s. ReadsOn network octets events (Err s) next o.0 in
-    let same : P stops.ReadFault = (reads, subst IsUnbroken (sym line) n.answer.line.unbroken, r.whole unended) in
-    (o.0, o.1, elim which [ inl e ↦ subst P (sym e) same | inr e ↦ subst P (sym e) same ])
+  -- a failed read leaves the trace where it stands, and so does failing to pass on before one
+  pub reads_same : {reader : LineReaderState} {left_before left_after : Option (List ℕ)} (stop : TraceStop)
+      → left_before ≡ Some left → Reads network octets events old left
+      → (stop ≡ stops.ReadFault) ⊎ (stop ≡ stops.WriteFault)
+      → NextLine {E = TraceStop} (pending old.reader) old.reader.ended left_before reader left_after (Err stop)
+      → TellsOutcome {E = TraceStop} (pending old.reader) old.reader.ended left_before reader left_after (Err stop)
+      → (rest : List ℕ) × (left_after ≡ Some rest) × ReadsOn network octets events (Err stop)
+      (record old { reader = reader }) rest
+  reads_same {reader} {left_before} {left_after} stop told r which n outcome =
+      let o = told_outcome left left_before left_after told r.none_left n outcome in
+      let unread : reader.ahead ≡ [] = ap (λ (s : LineReaderState). s.ahead) n.answer.reader in
+      let line : pending reader ≡ reader.kept = ap (λ (a : List ℕ). reader.kept ++ a) unread ∙ append-nil reader.kept in
+      let unended : old.reader.ended ≡ false = false_from_ne_true old.reader.ended (λ is. n.ends is) in
+      let next = record old { reader = reader } in
+      let reads : Reads network octets events next o.0 = record {
+        follows = followed_with reader r.follows;
+        admitted = r.admitted;
+        coming = r.coming ∙ sym o.2;
+        none_left = o.3;
+        whole = λ _. r.whole unended;
+      } in
+      let P : TraceStop → Type 0 = λ s. ReadsOn network octets events (Err s) next o.0 in
+      let same : P stops.ReadFault = (reads, subst IsUnbroken (sym line) n.answer.line.unbroken, r.whole unended) in
+      (o.0, o.1, elim which [ inl e ↦ subst P (sym e) same | inr e ↦ subst P (sym e) same ])
 
 -- ---- where the octets are not told
 
@@ -272,8 +290,8 @@ behind_more_octets : (network : Network) (came more left : List ℕ) (events : L
     → AreAdmitted network ((came ++ more) ++ left) events × ReadsOn network ((came ++ more) ++ left) events result next left
 behind_more_octets network came more left events result next admitted reads =
     let same = sym (append_assoc came more left) in (
-      subst (λ (t : List ℕ). AreAdmitted network t events) same admitted,
-      subst (λ (t : List ℕ). ReadsOn network t events result next left) same reads,
+      subst (λ t. AreAdmitted network t events) same admitted,
+      subst (λ t. ReadsOn network t events result next left) same reads,
     )
 
 -- what was left before a line was taken is what it took, and any that may follow
@@ -302,7 +320,7 @@ module _ (network : Network) (came : List ℕ) (events : List Event) (old : Trac
         behind_more_octets network came read left events result new r.admitted
         (reads_told network (came ++ (read ++ left)) events result new left
         (reads_so network (came ++ (read ++ left)) events (read
-        ++ left) old new reader (Some (read ++ left)) (Some left) t result refl r told outcome judged same
+        ++ left) old new t result refl r told outcome judged same
         refused));
   }
 
@@ -319,7 +337,7 @@ module _ (network : Network) (came : List ℕ) (events : List Event) (old : Trac
         let outcome = outcome_told (pending old.reader) old.reader.ended (Some (read ++ left)) reader (Some left) (Err stop) told in
         behind_more_octets network came read left events (Err stop) (record old { reader = reader }) r.admitted
         (reads_told network (came ++ (read ++ left)) events (Err stop) (record old { reader = reader }) left
-        (reads_same network (came ++ (read ++ left)) events (read ++ left) old reader (Some (read ++ left)) (Some left) stop refl r which told outcome));
+        (reads_same network (came ++ (read ++ left)) events (read ++ left) old stop refl r which told outcome));
   }
 
 -- the octets of the first line and those behind it
@@ -332,35 +350,37 @@ line_length (x ∷ xs) =
     ]
 
 -- little more than the next line was taken
-few_told : (coming : List ℕ) (after : LineReaderState) (had : Bool) (left : Option (List ℕ)) (rest before : List ℕ) (result : Result LineTaken TraceStop)
-    → NextLine before had left after (Some rest) result → Outcome coming result after (pending after ++ rest) → length after.kept ≤ line_limit
+few_told : (coming : List ℕ) {after : LineReaderState} {had : Bool} {left : Option (List ℕ)} (rest : List ℕ)
+    {before : List ℕ} (result : Result LineTaken TraceStop) → NextLine before had left after (Some rest) result
+    → Outcome coming result after (pending after ++ rest) → length after.kept ≤ line_limit
     → length after.ahead ≤ ahead_limit → length (behind_line coming) ≤ length rest + ahead_limit
-few_told coming after had left rest before (Ok found.Whole) n o kept ahead =
+few_told coming {after} rest (Ok found.Whole) n o kept ahead =
     let unkept : after.kept ≡ [] = ap (λ (r : LineReaderState). r.kept) n.answer.reader in
     omega (arith, ap length o.3, ap length unkept, length-append (pending after) rest, length-append after.kept after.ahead, ahead)
-few_told coming after had left rest before (Ok found.End) n o kept ahead = omega (arith, ap (λ (t : List ℕ). length (behind_line t)) o.0)
-few_told coming after had left rest before (Ok found.Long) n o kept ahead =
+few_told coming rest (Ok found.End) n o kept ahead = omega (arith, ap (λ t. length (behind_line t)) o.0)
+few_told coming {after} rest (Ok found.Long) n o kept ahead =
     omega (arith, o.0, ap length o.1, line_length coming, length-append (pending after) rest, length-append after.kept after.ahead, kept, ahead)
-few_told coming after had left rest before (Err e) n o kept ahead =
+few_told coming {after} rest (Err e) n o kept ahead =
     let unread : after.ahead ≡ [] = ap (λ (r : LineReaderState). r.ahead) n.answer.reader in
     let line : pending after ≡ after.kept = ap (λ (a : List ℕ). after.kept ++ a) unread ∙ append-nil after.kept in
     let behind : behind_line coming ≡ behind_line rest =
     ap behind_line (sym o ∙ ap (λ (p : List ℕ). p ++ rest) line) ∙ behind_line-append after.kept rest n.answer.line.unbroken in
     omega (arith, ap length behind, line_length rest)
 
-pub takes_few : (octets : List ℕ) (lines : ℕ) (before : List ℕ) (had : Bool) (left : List ℕ) (after : LineReaderState)
-    (left_before left_after : Option (List ℕ))
-    (result : Result LineTaken TraceStop) → left_before ≡ Some left → (had ≡ true → left ≡ []) → behind_lines lines octets ≡ before ++ left
-    → NextLine before had left_before after left_after result → TellsOutcome before had left_before after left_after result
-    → length after.kept ≤ line_limit → length after.ahead ≤ ahead_limit → IfSome left_after (TakesFew octets lines)
-takes_few octets lines before had left after left_before None result told none coming n o kept ahead = tt
-takes_few octets lines before had left after left_before (Some rest) result told none coming n outcome kept ahead =
-    let o = told_outcome before had left after left_before (Some rest) result told none n outcome in
+pub takes_few : (octets : List ℕ) (lines : ℕ) {before : List ℕ} {had : Bool} (left : List ℕ)
+    {after : LineReaderState} {left_before : Option (List ℕ)} (left_after : Option (List ℕ))
+    {result : Result LineTaken TraceStop} → left_before ≡ Some left → (had ≡ true → left ≡ [])
+    → behind_lines lines octets ≡ before ++ left → NextLine before had left_before after left_after result
+    → TellsOutcome before had left_before after left_after result → length after.kept ≤ line_limit
+    → length after.ahead ≤ ahead_limit → IfSome left_after (TakesFew octets lines)
+takes_few octets lines left None told none coming n o kept ahead = tt
+takes_few octets lines {before} left {after} {left_before} (Some rest) {result} told none coming n outcome kept ahead =
+    let o = told_outcome left left_before (Some rest) told none n outcome in
     let same : o.0 ≡ rest = let e = o.1 in cc in
     let behind : behind_lines (lines + 1) octets ≡ behind_line (before ++ left) = behind_one lines (lines + 1) octets refl ∙ ap behind_line coming in
     omega (
       arith,
       ap length behind,
-      few_told (before ++ left) after had left_before rest before result n
+      few_told (before ++ left) rest result n
           (subst (λ (t : List ℕ). Outcome (before ++ left) result after (pending after ++ t)) same o.2) kept ahead,
     )

@@ -22,85 +22,96 @@ pub up_to_end : (octets : List ℕ) (network : Network) (events : List Event) (t
     → (p : List ℕ) → IsBefore p (behind_events (amount (last_time events))) → IsBefore p ((amount time + 1) ∷ [])
 up_to_end octets network events time all ends p before =
     let last = (admitted_in_order network octets events all).last time ends in
-    subst (λ (t : Units). IsBefore p ((amount t + 1) ∷ [])) (sym last) (before_next_time p (amount (last_time events)) (2 ∷ []) before)
+    subst (λ t. IsBefore p ((amount t + 1) ∷ [])) (sym last) (before_next_time p (amount (last_time events)) (2 ∷ []) before)
 
 -- ---- what an answer begins with
 
 -- an answer of all admitted events begins with the records of their run up to a place of the last event's time
-stopped_begins : (network : Network) (octets : List ℕ) (events : List Event) (mark : List ℕ) (notes : List Note) (a : Answer)
-    → AreAdmitted network octets events → ((p : List ℕ) → IsBefore p mark → IsBefore p (behind_events (amount (last_time events))))
-    → AreRecordsBefore network events mark notes → AnswersEither report_lines network octets events a → BeginWith a.lines (report_of network notes)
-stopped_begins network octets events mark notes a all low run (inl w) =
+stopped_begins : {network : Network} {octets : List ℕ} {events : List Event} {mark : List ℕ} (notes : List Note)
+    {a : Answer} → AreAdmitted network octets events → ((p : List ℕ) → IsBefore p mark
+    → IsBefore p (behind_events (amount (last_time events)))) → AreRecordsBefore network events mark notes
+    → AnswersEither report_lines network octets events a → BeginWith a.lines (report_of network notes)
+stopped_begins {network} {octets} {events} {mark} notes all low run (inl w) =
     let r = earlier_run_is_front network (clock_reading network events) events mark ((amount w.records.0 + 1) ∷ []) notes w.notes
     (λ p b. up_to_end octets network events w.records.0 all w.records.1 p (low p b)) run w.records.2 in
     let report = report_begins network w.notes notes r.0 r.1 in
     (report.0, ap (λ (b : Answer). b.lines) w.answer ∙ report.1)
-stopped_begins network octets events mark notes a all low run (inr f) =
+stopped_begins {network} {events} {mark} notes {a} all low run (inr f) =
     let r =
     earlier_run_is_front network (clock_reading network events) events mark (behind_events (amount (last_time events))) notes f.notes low run f.records in
     let report = report_begins network f.notes notes r.0 r.1 in
     begin_further a.lines (report_of network f.notes) (report_of network notes) report
     (fault_lines (length events + 1) f.fault, ap (λ (b : Answer). b.lines) f.answer)
 
--- the place of an event's record is one of the last event's time at most
-pub place_low : (network : Network) (octets : List ℕ) (events others : List Event) (event : Event) → AreAdmitted network octets (events ++ event ∷ others)
-    → (p : List ℕ) → IsBefore p (place_of_event events event) → IsBefore p (behind_events (amount (last_time (events ++ event ∷ others))))
-place_low network octets events others event all p b =
-    low _ _ p (no_further (amount event.time) _ (length events + 1) (last_of events others event (admitted_in_order network octets _ all).order) p b)
-  where
-    low : (t line : ℕ) (p : List ℕ) → IsBefore p (t ∷ 1 ∷ line ∷ []) → IsBefore p (behind_events t)
-    low t line [] b = tt
-    low t line (x ∷ []) (inl lt) = inl lt
-    low t line (x ∷ []) (inr b) = inr (b.0, tt)
-    low t line (x ∷ r ∷ more) (inl lt) = inl lt
-    low t line (x ∷ r ∷ more) (inr (e, inl lt)) = inr (e, inl (omega (arith, lt)))
-    low t line (x ∷ r ∷ more) (inr (e, inr (f, b))) = inr (e, inl (omega (arith, f)))
+module _ (network : Network) (octets : List ℕ) (events : List Event) where
+  -- the place of an event's record is one of the last event's time at most
+  pub place_low : (others : List Event) (event : Event) → AreAdmitted network octets (events ++ event ∷ others)
+      → (p : List ℕ) → IsBefore p (place_of_event events event)
+      → IsBefore p (behind_events (amount (last_time (events ++ event ∷ others))))
+  place_low others event all p b =
+      low _ _ p (no_further (amount event.time) _ (length events + 1)
+      (last_of events others event (admitted_in_order network octets _ all).order) p b)
+    where
+      low : (t line : ℕ) (p : List ℕ) → IsBefore p (t ∷ 1 ∷ line ∷ []) → IsBefore p (behind_events t)
+      low t line [] b = tt
+      low t line (x ∷ []) (inl lt) = inl lt
+      low t line (x ∷ []) (inr b) = inr (b.0, tt)
+      low t line (x ∷ r ∷ more) (inl lt) = inl lt
+      low t line (x ∷ r ∷ more) (inr (e, inl lt)) = inr (e, inl (omega (arith, lt)))
+      low t line (x ∷ r ∷ more) (inr (e, inr (f, b))) = inr (e, inl (omega (arith, f)))
 
--- the answer begins with the records up to the place of a next event that is admitted
-pub next_begins : (network : Network) (octets : List ℕ) (events : List Event) (event : Event) (mark : List ℕ) (notes : List Note) (a : Answer)
-    → AreAdmitted network octets (events ++ event ∷ []) → ((p : List ℕ) → IsBefore p mark → IsBefore p (place_of_event events event))
-    → AreRecordsBefore network events mark notes → IsRunAnswer octets network a → BeginWith a.lines (report_of network notes)
-next_begins network octets events event mark notes a all sooner run i =
-    let stop = answer_stops report_lines network octets i.events a i.is in
-    let more = admitted_one network octets (events ++ event ∷ []) i.events all i.admitted stop in
-    let whole : i.events ≡ events ++ event ∷ more.0 = more.1 ∙ append_assoc events (event ∷ []) more.0 in
-    let admitted = subst (AreAdmitted network octets) whole i.admitted in
-    stopped_begins network octets (events ++ event ∷ more.0) mark notes a admitted
-    (λ p b. place_low network octets events more.0 event admitted p (sooner p b)) (lasts network octets events event more.0 mark notes admitted sooner run)
-    (subst (λ (es : List Event). AnswersEither report_lines network octets es a) whole i.is)
+  -- the answer begins with the records up to the place of a next event that is admitted
+  pub next_begins : (event : Event) {mark : List ℕ} (notes : List Note) {a : Answer}
+      → AreAdmitted network octets (events ++ event ∷ [])
+      → ((p : List ℕ) → IsBefore p mark → IsBefore p (place_of_event events event))
+      → AreRecordsBefore network events mark notes → IsRunAnswer octets network a
+      → BeginWith a.lines (report_of network notes)
+  next_begins event notes {a} all sooner run i =
+      let stop = answer_stops report_lines network octets i.events a i.is in
+      let more = admitted_one network octets (events ++ event ∷ []) i.events all i.admitted stop in
+      let whole : i.events ≡ events ++ event ∷ more.0 = more.1 ∙ append_assoc events (event ∷ []) more.0 in
+      let admitted = subst (AreAdmitted network octets) whole i.admitted in
+      stopped_begins notes admitted
+      (λ p b. place_low more.0 event admitted p (sooner p b))
+      (lasts network octets events event more.0 notes admitted sooner run)
+      (subst (λ es. AnswersEither report_lines network octets es a) whole i.is)
 
--- it begins with the records so far, of whichever first events
-pub answer_begins : (network : Network) (octets : List ℕ) (events : List Event) (notes : List Note) (a : Answer)
-    → AreAdmitted network octets events → AreRecordsSoFar network events notes → IsRunAnswer octets network a → BeginWith a.lines (report_of network notes)
-answer_begins network octets events notes a all run i =
-    let stop = answer_stops report_lines network octets i.events a i.is in
-    let more = admitted_one network octets events i.events all i.admitted stop in
-    by more.0 more.1
-  where
-    by : (more : List Event) → i.events ≡ events ++ more → BeginWith a.lines (report_of network notes)
-    by [] whole =
-        let same : i.events ≡ events = whole ∙ append-nil events in
-        stopped_begins network octets events (behind_events (amount (last_time events))) notes a all (λ p b. b) run
-        (subst (λ (es : List Event). AnswersEither report_lines network octets es a) same i.is)
-    by (event ∷ others) whole =
-        let admitted = subst (AreAdmitted network octets) whole i.admitted in
-        let order = admitted_in_order network octets (events ++ event ∷ others) admitted in
-        let le = last_before events others event order.order in
-        let one = front_admitted network octets events event others admitted in
-        next_begins network octets events event (amount (last_time events) ∷ 1 ∷ (length events + 1) ∷ []) notes a one
-        (no_further (amount (last_time events)) (amount event.time) (length events + 1) le) (so_far_at network events notes run) i
+  -- it begins with the records so far, of whichever first events
+  pub answer_begins : (notes : List Note) {a : Answer} → AreAdmitted network octets events
+      → AreRecordsSoFar network events notes → IsRunAnswer octets network a
+      → BeginWith a.lines (report_of network notes)
+  answer_begins notes {a} all run i =
+      let stop = answer_stops report_lines network octets i.events a i.is in
+      let more = admitted_one network octets events i.events all i.admitted stop in
+      by more.0 more.1
+    where
+      by : (more : List Event) → i.events ≡ events ++ more → BeginWith a.lines (report_of network notes)
+      by [] whole =
+          let same : i.events ≡ events = whole ∙ append-nil events in
+          stopped_begins notes all (λ p b. b) run
+          (subst (λ es. AnswersEither report_lines network octets es a) same i.is)
+      by (event ∷ others) whole =
+          let admitted = subst (AreAdmitted network octets) whole i.admitted in
+          let order = admitted_in_order network octets (events ++ event ∷ others) admitted in
+          let le = last_before events others event order.order in
+          let one = front_admitted network octets events event others admitted in
+          next_begins event notes one
+          (no_further (amount (last_time events)) (amount event.time) (length events + 1) le)
+          (so_far_at network events notes run) i
 
--- ---- where a trace ends with its end
+  -- ---- where a trace ends with its end
 
--- it begins with the records up to any mark that is not behind the end
-pub ended_begins : (network : Network) (octets : List ℕ) (events : List Event) (mark : List ℕ) (notes : List Note) (a : Answer)
-    → IsAllAdmitted network octets events
-    → ((p : List ℕ) → IsBefore p mark → IsBefore p ((amount (last_time events) + 1) ∷ [])) → AreRecordsBefore network events mark notes
-    → IsRunAnswer octets network a → BeginWith a.lines (report_of network notes)
-ended_begins network octets events mark notes a all up run i =
-    let w = all_is_whole report_lines network octets events a all i in
-    let last = (admitted_in_order network octets events all.admitted).last w.records.0 w.records.1 in
-    let later = subst (λ (t : Units). AreRecordsBefore network events ((amount t + 1) ∷ []) w.notes) last w.records.2 in
-    let rest = earlier_run_is_front network (clock_reading network events) events mark ((amount (last_time events) + 1) ∷ []) notes w.notes up run later in
-    let report = report_begins network w.notes notes rest.0 rest.1 in
-    (report.0, ap (λ (b : Answer). b.lines) w.answer ∙ report.1)
+  -- it begins with the records up to any mark that is not behind the end
+  pub ended_begins : {mark : List ℕ} (notes : List Note) {a : Answer} → IsAllAdmitted network octets events
+      → ((p : List ℕ) → IsBefore p mark → IsBefore p ((amount (last_time events) + 1) ∷ []))
+      → AreRecordsBefore network events mark notes → IsRunAnswer octets network a
+      → BeginWith a.lines (report_of network notes)
+  ended_begins {mark} notes {a} all up run i =
+      let w = all_is_whole report_lines network octets events a all i in
+      let last = (admitted_in_order network octets events all.admitted).last w.records.0 w.records.1 in
+      let later = subst (λ t. AreRecordsBefore network events ((amount t + 1) ∷ []) w.notes) last
+      w.records.2 in
+      let rest = earlier_run_is_front network (clock_reading network events) events mark
+      ((amount (last_time events) + 1) ∷ []) notes w.notes up run later in
+      let report = report_begins network w.notes notes rest.0 rest.1 in
+      (report.0, ap (λ (b : Answer). b.lines) w.answer ∙ report.1)

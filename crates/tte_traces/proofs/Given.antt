@@ -9,21 +9,22 @@ use Rattle.tte_traces.proofs.Words.{List, Network, Note, PutFails, PutsLines, Sh
 -- ---- a front of each answer was put
 
 -- where a read failed or memory ran out
-pub front_given : (Is : Answer → Type 0) (lines : List (List ℕ)) (status : Status) (old new : Shown) → IsFrontOf Is lines
-    → (status ≡ ReadFault) ⊎ (status ≡ OutOfMemory) → PutsLines lines old new → GivesOne Is status old new
-front_given Is lines status old new begins cause puts =
+pub front_given : (Is : Answer → Type 0) {lines : List (List ℕ)} (status : Status) {old new : Shown}
+    → IsFrontOf Is lines → (status ≡ ReadFault) ⊎ (status ≡ OutOfMemory) → PutsLines lines old new
+    → GivesOne Is status old new
+front_given Is {lines} status begins cause puts =
     inr (inr (cause, λ a is. let b = begins a is in record { done = lines; left = b.0; order = b.1; puts = puts }))
 
 -- where writing failed
-pub front_failed : (Is : Answer → Type 0) (lines : List (List ℕ)) (status : Status) (old new : Shown) → IsFrontOf Is lines
-    → status ≡ WriteFault → StopsWriting lines old new → GivesOne Is status old new
-front_failed Is lines status old new begins cause (inl fails) =
+pub front_failed : (Is : Answer → Type 0) {lines : List (List ℕ)} (status : Status) {old new : Shown}
+    → IsFrontOf Is lines → status ≡ WriteFault → StopsWriting lines old new → GivesOne Is status old new
+front_failed Is {lines} status {old} {new} begins cause (inl fails) =
     inr (inl (
       cause,
-      λ a is. let b = begins a is in inl (subst (λ (ls : List (List ℕ)).
+      λ a is. let b = begins a is in inl (subst (λ ls.
           PutFails ls old new) (sym b.1) (PutFails-more lines b.0 old new fails)),
     ))
-front_failed Is lines status old new begins cause (inr puts) =
+front_failed Is {lines} status begins cause (inr puts) =
     inr (inl (cause, λ a is. let b = begins a is in inr (record { done = lines; left = b.0; order = b.1; puts = puts })))
 
 -- ---- the lines of a run
@@ -53,7 +54,7 @@ module _ (lines : LinesOf) where
       → IsAllAdmitted network octets events → AreAllRecords network events notes
       → status ≡ WriteFault → PutsLines (lines network events notes) old new → GivesOne (IsTraceAnswer lines octets network) status old new
   whole_failed network octets events notes status old new all records failed puts =
-      front_failed (IsTraceAnswer lines octets network) (lines network events notes) status old new
+      front_failed (IsTraceAnswer lines octets network) {lines = lines network events notes} status {old = old} {new = new}
       (λ a i. let is = whole_is lines network octets events notes a all records i in
       ([], ap (λ (b : Answer). b.lines) is ∙ sym (append-nil (lines network events notes)))) failed (inr puts)
 

@@ -39,7 +39,7 @@ reads_still network events more device x t lt from =
     ap (up_to x) (filter_map-append f events more) ∙ filter-append (λ s. nat_le s.at x) (rate_steps events device) (rate_steps more device)
     ∙ ap (λ (l : List RateStep). up_to x (rate_steps events device) ++ l) (no_steps x t device more lt from)
     ∙ append-nil (up_to x (rate_steps events device)) in
-    ap (λ (l : List RateStep). segment_reading (value_after stepped_segment (fresh_segment (amount network.grain)) l) x) (sym parts)
+    ap (λ l. segment_reading (value_after stepped_segment (fresh_segment (amount network.grain)) l) x) (sym parts)
 
 pub no_events : (u t : ℕ) (more : List Event) → u < t → AreFrom t more → filter (λ e. nat_le (amount e.time) u) more ≡ []
 no_events u t [] lt from = refl
@@ -60,10 +60,11 @@ agree network events more t u lt from = record {
 }
 
 -- the run up to the next event lasts, where the events before it have no end and those behind it are not earlier
-pub lasts_under : (network : Network) (events : List Event) (event : Event) (others : List Event) (mark : List ℕ) (notes : List Note)
-    → AreFrom (amount event.time) (event ∷ others) → (HaveEnded events → ⊥) → ((p : List ℕ) → IsBefore p mark → IsBefore p (place_of_event events event))
+pub lasts_under : (network : Network) (events : List Event) (event : Event) (others : List Event) {mark : List ℕ}
+    (notes : List Note) → AreFrom (amount event.time) (event ∷ others) → (HaveEnded events → ⊥)
+    → ((p : List ℕ) → IsBefore p mark → IsBefore p (place_of_event events event))
     → AreRecordsBefore network events mark notes → AreRecordsBefore network (events ++ event ∷ others) mark notes
-lasts_under network events event others mark notes from unended sooner run =
+lasts_under network events event others {mark} notes from unended sooner run =
     run_stays_under_more network (clock_reading network events) (clock_reading network (events ++ event ∷ others)) events event others mark notes
     (record {
       agree = λ t lt. agree network events (event ∷ others) (amount event.time) t lt from;
@@ -74,10 +75,11 @@ lasts_under network events event others mark notes from unended sooner run =
 
 -- ---- admitted events
 
-pub lasts : (network : Network) (octets : List ℕ) (events : List Event) (event : Event) (others : List Event) (mark : List ℕ) (notes : List Note)
-    → AreAdmitted network octets (events ++ event ∷ others) → ((p : List ℕ) → IsBefore p mark → IsBefore p (place_of_event events event))
+pub lasts : (network : Network) (octets : List ℕ) (events : List Event) (event : Event) (others : List Event)
+    {mark : List ℕ} (notes : List Note) → AreAdmitted network octets (events ++ event ∷ others)
+    → ((p : List ℕ) → IsBefore p mark → IsBefore p (place_of_event events event))
     → AreRecordsBefore network events mark notes → AreRecordsBefore network (events ++ event ∷ others) mark notes
-lasts network octets events event others mark notes all sooner run =
+lasts network octets events event others notes all sooner run =
     let order = (admitted_in_order network octets (events ++ event ∷ others) all).order in
     let from : AreFrom (amount event.time) (event ∷ others) = λ k e is. not_earlier 0 events others event k e order is in
-    lasts_under network events event others mark notes from (all events others event refl).has.is_open.unended sooner run
+    lasts_under network events event others notes from (all events others event refl).has.is_open.unended sooner run

@@ -26,111 +26,132 @@ received_link network way link device f e = by (link_at network link) refl e
     by (Some l) is e = slice_get_within network.link link.0 l is
 
 -- where something arrives
-arrives_at : (s : Scenario) (h : Happening) (device : DeviceId) (link : LinkId) (t : ℕ) (signal : Signal) → IsInRange s.network
-    → Arrives s h device link t signal → HasPassage s.network device link
-arrives_at s h device link t signal range a =
+arrives_at : {s : Scenario} {h : Happening} {device : DeviceId} {link : LinkId} {t : ℕ} {signal : Signal}
+    → IsInRange s.network → Arrives s h device link t signal → HasPassage s.network device link
+arrives_at {s} {device} {link} range a =
     (receiver_in s.network a.way link (link_at s.network link) device refl range a.receiver, received_link s.network a.way link device _ a.receiver)
 
-arrived_at : (s : Scenario) (hs : List Happening) (device : DeviceId) (t : ℕ) (link : LinkId) (cause clock : ℕ) → IsInRange s.network
-    → IsArrivedRecord s hs device t link cause clock → HasPassage s.network device link
-arrived_at s hs device t link cause clock range c = elim c.taken [
-  | inl w ↦ arrives_at s w.putting device link t w.signal range w.arrives
-  | inr (inl p) ↦ arrives_at s p.putting device link t p.signal range p.arrives
-  | inr (inr b) ↦ arrives_at s b.putting device link t b.signal range b.arrives
-]
+module _ (s : Scenario) (hs : List Happening) (device : DeviceId) (t : ℕ) (link : LinkId) (cause : ℕ) where
+  arrived_at : {clock : ℕ} → IsInRange s.network → IsArrivedRecord s hs device t link cause clock
+      → HasPassage s.network device link
+  arrived_at range c = elim c.taken [
+    | inl w ↦ arrives_at range w.arrives
+    | inr (inl p) ↦ arrives_at range p.arrives
+    | inr (inr b) ↦ arrives_at range b.arrives
+  ]
 
-departs_at : (s : Scenario) (hs : List Happening) (device : DeviceId) (t : ℕ) (link : LinkId) (cause : ℕ) (is : Departure) → IsInRange s.network
-    → Departs s hs device t link cause is → HasPassage s.network device link
-departs_at s hs device t link cause is range d =
-    (gives_in s.network d.giving.note.body device link range d.gives, gives_within s.network d.giving.note.body device link d.gives)
+  departs_at : {is : Departure} → IsInRange s.network → Departs s hs device t link cause is
+      → HasPassage s.network device link
+  departs_at range d =
+      (gives_in s.network d.giving.note.body device link range d.gives, gives_within s.network d.giving.note.body device link d.gives)
 
-source_by_in : (network : Network) (way : Way) (l : Link) → IsLinkInRange network l → (source_by way l).0 < length network.device
-source_by_in network Up l range = range.child
-source_by_in network Down l range = range.parent
+source_by_in : {network : Network} (way : Way) {l : Link} → IsLinkInRange network l
+    → (source_by way l).0 < length network.device
+source_by_in Up range = range.child
+source_by_in Down range = range.parent
 
-source_in : (network : Network) (place : ℕ) (entry : Entry) (device : DeviceId) → IsInRange network → IsEntry network place entry → source_of entry ≡ device
-    → device.0 < length network.device
-source_in network place entry device range is leaves =
+source_in : {network : Network} {place : ℕ} {entry : Entry} (device : DeviceId) → IsInRange network
+    → IsEntry network place entry → source_of entry ≡ device → device.0 < length network.device
+source_in {network} {entry} device range is leaves =
     subst (λ (d : DeviceId). d.0 < length network.device) leaves
-    (source_by_in network entry.row.way entry.link (all_at (IsLinkInRange network) network.link entry.row.link.0 entry.link range.links is.link))
+    (source_by_in entry.row.way (all_at (IsLinkInRange network) network.link entry.row.link.0 entry.link range.links
+    is.link))
 
--- where a row's frame is dispatched
-dispatched_at : (s : Scenario) (hs : List Happening) (device : DeviceId) (t : ℕ) (link : LinkId) (cause : ℕ) (vl : VlId) (cycle : ℕ) → IsInRange s.network
-    → Dispatches s hs device t link cause vl cycle → HasStream s.network device link vl
-dispatched_at s hs device t link cause vl cycle range d =
-    let there : link.0 < length s.network.link =
-    subst (λ (l : LinkId). l.0 < length s.network.link) d.by (slice_get_within s.network.link d.entry.row.link.0 d.entry.link d.row.link) in
-    let stream : vl.0 < length s.network.vl =
-    subst (λ (v : VlId). v.0 < length s.network.vl) d.of_vl (slice_get_within s.network.vl d.entry.row.vl.0 d.entry.vl d.row.vl) in
-    (source_in s.network d.place d.entry device range d.row d.leaves, there, stream)
+module _ (s : Scenario) (hs : List Happening) (device : DeviceId) (t : ℕ) (link : LinkId) (cause : ℕ) where
+  -- where a row's frame is dispatched
+  dispatched_at : {vl : VlId} {cycle : ℕ} → IsInRange s.network → Dispatches s hs device t link cause vl cycle
+      → HasStream s.network device link vl
+  dispatched_at {vl} range d =
+      let there : link.0 < length s.network.link =
+      subst (λ (l : LinkId). l.0 < length s.network.link) d.by
+      (slice_get_within s.network.link d.entry.row.link.0 d.entry.link d.row.link) in
+      let stream : vl.0 < length s.network.vl =
+      subst (λ (v : VlId). v.0 < length s.network.vl) d.of_vl
+      (slice_get_within s.network.vl d.entry.row.vl.0 d.entry.vl d.row.vl) in
+      (source_in device range d.row d.leaves, there, stream)
 
--- ---- a record
+  -- ---- a record
 
--- the record of a frame that was taken came in by a passage of the network
-arrival_at : (s : Scenario) (hs : List Happening) (device : DeviceId) (t : ℕ) (link : LinkId) (cause : ℕ) (is : _) → IsInRange s.network
-    → ArrivesAs s hs device t link cause is → HasPassage s.network device link
-arrival_at s hs device t link cause is range a = arrives_at s a.putting device link t a.signal range a.arrives
+  -- the record of a frame that was taken came in by a passage of the network
+  arrival_at : {is : _} → IsInRange s.network → ArrivesAs s hs device t link cause is
+      → HasPassage s.network device link
+  arrival_at range a = arrives_at range a.arrives
 
--- what is permanent arrived
-permanent_at : (s : Scenario) (hs : List Happening) (h : Happening) (device : DeviceId) (link : LinkId) (cause clock : ℕ) → IsInRange s.network
-    → IsFounded place_of (IsDue s) hs → IsIn h hs → h.note.body ≡ kinds.Arrived device link cause clock → HasPassage s.network device link
-permanent_at s hs h device link cause clock range founded i is =
-    let at = parted h hs i in
-    let due = (founded at.0 at.1 h at.2).1 in
-    arrived_at s at.0 device (time_of h) link cause clock range (subst (IsCaused s at.0 h.note.time) is due.cause)
+module _ (s : Scenario) (hs : List Happening) where
+  -- what is permanent arrived
+  permanent_at : (h : Happening) (device : DeviceId) (link : LinkId) (cause clock : ℕ) → IsInRange s.network
+      → IsFounded place_of (IsDue s) hs → IsIn h hs → h.note.body ≡ kinds.Arrived device link cause clock
+      → HasPassage s.network device link
+  permanent_at h device link cause clock range founded i is =
+      let at = parted h hs i in
+      let due = (founded at.0 at.1 h at.2).1 in
+      arrived_at s at.0 device (time_of h) link cause range (subst (IsCaused s at.0 h.note.time) is due.cause)
 
-body_of : (s : Scenario) (hs : List Happening) (time : Units) (body : NoteBody) → IsInRange s.network → AreEventsOf s.network s.events
-    → IsFounded place_of (IsDue s) hs → ((device : DeviceId) → moves device body ≡ true → device.0 < length s.network.device) → IsCaused s hs time body
-    → IsBodyOf s.network body
-body_of s hs time (kinds.Event line what) range all founded own c =
-    let mine : IsOfNetwork s.network c.event.what = all_at (λ e. IsOfNetwork s.network e.what) s.events c.before c.event all c.is in
-    subst (λ (w : What). IsOfNetwork s.network w) (sym c.same) mine
-body_of s hs time (kinds.Arrived device link cause clock) range all founded own c = arrived_at s hs device (amount time) link cause clock range c
-body_of s hs time (kinds.Permanent device link cause point verdict) range all founded own c =
-    let p = c.permanent in
-    permanent_at s hs p.arrival device link p.from p.clock range founded (numbered_in hs cause p.arrival p.there) p.arrived
-body_of s hs time (kinds.Compressed device opened at cycle members verdict) range all founded own c = device_there s.network _ device c.cm
-body_of s hs time (kinds.Sent device cycle) range all founded own c = device_there s.network _ device c.master
-body_of s hs time (kinds.Corrected device cycle by adjustment) range all founded own c = own device (eq-eqb device.0 device.0 refl)
-body_of s hs time (kinds.State device state cause why) range all founded own c = own device (eq-eqb device.0 device.0 refl)
-body_of s hs time (kinds.Left device link cause clock) range all founded own c = departs_at s hs device (amount time) link cause _ range c
-body_of s hs time (kinds.Lost device link cause) range all founded own (inl d) = departs_at s hs device (amount time) link cause _ range d
-body_of s hs time (kinds.Lost device link cause) range all founded own (inr (inl d)) =
-    let at = dispatched_at s hs device (amount time) link cause d.0 d.1 range d.2 in (at.0, at.1)
-body_of s hs time (kinds.Lost device link cause) range all founded own (inr (inr l)) = (
-  subst (λ (d : DeviceId). d.0 < length s.network.device) (sym l.by)
-      (all_at (IsLinkInRange s.network) s.network.link link.0 l.way range.links l.there).child,
-  slice_get_within s.network.link link.0 l.way l.there,
-)
-body_of s hs time (kinds.TtSent device link cause vl cycle) range all founded own c =
-    dispatched_at s hs device (amount time) link cause vl cycle range c.dispatches
-body_of s hs time (kinds.Accepted device link cause vl cycle) range all founded own c =
-    let at = arrival_at s hs device (amount time) link cause _ range c in
-    let it = taken_at s hs device (amount time) link cause vl cycle c in
-    let stream = subst (λ (v : VlId). v.0 < length s.network.vl) it.of_vl (slice_get_within s.network.vl it.entry.row.vl.0 it.entry.vl it.is.vl) in
-    (at.0, at.1, stream)
-body_of s hs time (kinds.Delivered device link cause vl cycle) range all founded own c =
-    let at = arrival_at s hs device (amount time) link cause _ range c in (at.0, at.1, delivered_of s hs device (amount time) link cause vl cycle c)
-body_of s hs time (kinds.Dropped device link cause reason) range all founded own (inl a) = arrival_at s hs device (amount time) link cause _ range a
-body_of s hs time (kinds.Dropped device link cause reason) range all founded own (inr (inl r)) =
-    let p = r.1.permanent in
-    permanent_at s hs p.arrival device link p.from p.clock range founded (numbered_in hs cause p.arrival p.there) p.arrived
-body_of s hs time (kinds.Dropped device link cause reason) range all founded own (inr (inr d)) = departs_at s hs device (amount time) link cause _ range d.0
-body_of s hs time (kinds.Clock device reading adjustment state) range all founded own c = slice_get_within s.network.device device.0 c.is c.there
+  body_of : (time : Units) (body : NoteBody) → IsInRange s.network → AreEventsOf s.network s.events
+      → IsFounded place_of (IsDue s) hs → ((device : DeviceId) → moves device body ≡ true
+      → device.0 < length s.network.device) → IsCaused s hs time body → IsBodyOf s.network body
+  body_of time (kinds.Event line what) range all founded own c =
+      let mine : IsOfNetwork s.network c.event.what =
+      all_at (λ e. IsOfNetwork s.network e.what) s.events c.before c.event all c.is in
+      subst (λ w. IsOfNetwork s.network w) (sym c.same) mine
+  body_of time (kinds.Arrived device link cause clock) range all founded own c =
+      arrived_at s hs device (amount time) link cause range c
+  body_of time (kinds.Permanent device link cause point verdict) range all founded own c =
+      let p = c.permanent in
+      permanent_at p.arrival device link p.from p.clock range founded (numbered_in hs cause p.arrival p.there) p.arrived
+  body_of time (kinds.Compressed device opened at cycle members verdict) range all founded own c =
+      device_there s.network _ device c.cm
+  body_of time (kinds.Sent device cycle) range all founded own c = device_there s.network _ device c.master
+  body_of time (kinds.Corrected device cycle by adjustment) range all founded own c =
+      own device (eq-eqb device.0 device.0 refl)
+  body_of time (kinds.State device state cause why) range all founded own c = own device (eq-eqb device.0 device.0 refl)
+  body_of time (kinds.Left device link cause clock) range all founded own c =
+      departs_at s hs device (amount time) link cause range c
+  body_of time (kinds.Lost device link cause) range all founded own (inl d) =
+      departs_at s hs device (amount time) link cause range d
+  body_of time (kinds.Lost device link cause) range all founded own (inr (inl d)) =
+      let at = dispatched_at s hs device (amount time) link cause range d.2 in (at.0, at.1)
+  body_of time (kinds.Lost device link cause) range all founded own (inr (inr l)) = (
+    subst (λ (d : DeviceId). d.0 < length s.network.device) (sym l.by)
+        (all_at (IsLinkInRange s.network) s.network.link link.0 l.way range.links l.there).child,
+    slice_get_within s.network.link link.0 l.way l.there,
+  )
+  body_of time (kinds.TtSent device link cause vl cycle) range all founded own c =
+      dispatched_at s hs device (amount time) link cause range c.dispatches
+  body_of time (kinds.Accepted device link cause vl cycle) range all founded own c =
+      let at = arrival_at s hs device (amount time) link cause range c in
+      let it = taken_at s hs device (amount time) link cause vl cycle c in
+      let stream = subst (λ (v : VlId). v.0 < length s.network.vl) it.of_vl
+      (slice_get_within s.network.vl it.entry.row.vl.0 it.entry.vl it.is.vl) in
+      (at.0, at.1, stream)
+  body_of time (kinds.Delivered device link cause vl cycle) range all founded own c =
+      let at = arrival_at s hs device (amount time) link cause range c in
+      (at.0, at.1, delivered_of s hs device (amount time) link cause vl cycle c)
+  body_of time (kinds.Dropped device link cause reason) range all founded own (inl a) =
+      arrival_at s hs device (amount time) link cause range a
+  body_of time (kinds.Dropped device link cause reason) range all founded own (inr (inl r)) =
+      let p = r.1.permanent in
+      permanent_at p.arrival device link p.from p.clock range founded (numbered_in hs cause p.arrival p.there) p.arrived
+  body_of time (kinds.Dropped device link cause reason) range all founded own (inr (inr d)) =
+      departs_at s hs device (amount time) link cause range d.0
+  body_of time (kinds.Clock device reading adjustment state) range all founded own c =
+      slice_get_within s.network.device device.0 c.is c.there
 
--- the front of founded records is founded
-front_founded : (s : Scenario) (hs more : List Happening) → IsFounded place_of (IsDue s) (hs ++ more) → IsFounded place_of (IsDue s) hs
-front_founded s hs more founded ps qs x e = founded ps (qs ++ more) x (ap (λ (l : List Happening). l ++ more) e ∙ append_assoc ps (x ∷ qs) more)
+  -- the front of founded records is founded
+  front_founded : (more : List Happening) → IsFounded place_of (IsDue s) (hs ++ more)
+      → IsFounded place_of (IsDue s) hs
+  front_founded more founded ps qs x e =
+      founded ps (qs ++ more) x (ap (λ (l : List Happening). l ++ more) e ∙ append_assoc ps (x ∷ qs) more)
 
 -- the last record of a run, of which no record moves a device that the network does not have
-pub note_of : (s : Scenario) (mark : List ℕ) (notes : List Note) (note : Note) (coming : List Happening) → IsInRange s.network
-    → AreEventsOf s.network s.events → IsScenarioRun s mark (notes ++ note ∷ [])
+pub note_of : {s : Scenario} {mark : List ℕ} (notes : List Note) (note : Note) (coming : List Happening)
+    → IsInRange s.network → AreEventsOf s.network s.events → IsScenarioRun s mark (notes ++ note ∷ [])
     → AreOfNetwork s (happenings s.network (notes ++ note ∷ []) ++ coming) → IsNoteOf s.network note
-note_of s mark notes note coming range all run known =
+note_of {s} notes note coming range all run known =
     let hs = happenings s.network notes in
     let h = happening s.network hs note in
     let whole = one_more s.network notes note in
-    let there : IsIn h (happenings s.network (notes ++ note ∷ [])) = subst (λ (l : List Happening). IsIn h l) (sym whole) (in_right h hs (h ∷ []) (inl refl)) in
+    let there : IsIn h (happenings s.network (notes ++ note ∷ [])) = subst (λ l. IsIn h l) (sym whole) (in_right h hs (h ∷ []) (inl refl)) in
     let founded : IsFounded place_of (IsDue s) (hs ++ h ∷ []) = subst (IsFounded place_of (IsDue s)) whole run.founded in
     let own : (device : DeviceId) → moves device note.body ≡ true → device.0 < length s.network.device = λ device moved.
     elim (cases_lt device.0 (length s.network.device)) [

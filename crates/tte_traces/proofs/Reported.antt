@@ -7,11 +7,10 @@ use Rattle.{tte_traces.specs.Report.{PutsReport, StopsReport, shown_as}, world_d
 use Rattle.{world_drive.specs.{Observing.{PutsFurther, Told, told_by}, exact.Worlds.{ExactWorld, StandsExact}}, world_law.specs.source.Agreeing.scenario}
 
 -- the record that a world gave last is the network's
-pub own_note : (network : Network) (events : List Event) (notes : List Note) (note : Note) (world : ExactWorld)
+pub own_note : {network : Network} {events : List Event} (notes : List Note) (note : Note) {world : ExactWorld}
     → StandsExact network world events (notes ++ note ∷ []) → IsNoteOf network note
-own_note network events notes note world stands =
-    note_of (scenario network (clock_reading network events) events) stands.is.mark notes note world.settled stands.is.range stands.of_network stands.is.run
-    stands.is.known
+own_note notes note {world} stands =
+    note_of notes note world.settled stands.is.range stands.of_network stands.is.run stands.is.known
 
 report_one : (network : Network) (notes : List Note) (note : Note)
     → report_of network notes ++ note_line network note ∷ [] ≡ report_of network (notes ++ note ∷ [])
@@ -24,43 +23,49 @@ pub record PutsNote {T K : Type 0} (sink : Ghosts K) (network : Network) (note :
   pub counted : sink.puts new ≡ next_count (sink.puts now)
   pub cut : IfErr r (λ cut. cut ≡ WriteFault)
 
--- it was put
-pub report_more : {T K : Type 0} (sink : Ghosts K) (network : Network) (notes : List Note) (note : Note) (x : T) (old : Told) (now new : K)
-    → PutsReport network notes old (told_by sink now) → PutsNote {T = T} sink network note (Ok x) now new
-    → PutsReport network (notes ++ note ∷ []) old (told_by sink new)
-report_more sink network notes note x old now new p n =
-    subst (λ (ls : List (List ℕ)). PutsLines ls (shown_as old) (shown_as (told_by sink new))) (report_one network notes note)
-    (PutsLines-more (report_of network notes) (note_line network note) (shown_as old) (shown_as (told_by sink now)) (shown_as (told_by sink new)) p n.all.0
-    n.counted)
+module _ {T K : Type 0} (sink : Ghosts K) (network : Network) (notes : List Note) (note : Note) where
+  -- it was put
+  pub report_more : (x : T) (old : Told) {now new : K} → PutsReport network notes old (told_by sink now)
+      → PutsNote {T = T} sink network note (Ok x) now new
+      → PutsReport network (notes ++ note ∷ []) old (told_by sink new)
+  report_more x old {now} {new} p n =
+      subst (λ ls. PutsLines ls (shown_as old) (shown_as (told_by sink new)))
+      (report_one network notes note)
+      (PutsLines-more (report_of network notes) (note_line network note) (shown_as old) (shown_as (told_by sink now))
+      (shown_as (told_by sink new)) p n.all.0
+      n.counted)
 
--- its put failed
-pub report_fails : {T K : Type 0} (sink : Ghosts K) (network : Network) (notes : List Note) (note : Note) (e : Cut) (old : Told) (now new : K)
-    → PutsReport network notes old (told_by sink now) → PutsNote {T = T} sink network note (Err e) now new
-    → StopsReport network (notes ++ note ∷ []) e old (told_by sink new)
-report_fails sink network notes note OutOfMemory old now new p n = absurd (let is = n.cut in cc)
-report_fails sink network notes note WriteFault old now new p n =
-    inl (subst (λ (ls : List (List ℕ)). PutFails ls (shown_as old) (shown_as (told_by sink new))) (report_one network notes note)
-    (PutsLines-fails (report_of network notes) (note_line network note) [] (shown_as old) (shown_as (told_by sink now)) (shown_as (told_by sink new)) p
-    n.front.0 n.counted))
+  -- its put failed
+  pub report_fails : (e : Cut) (old : Told) {now new : K} → PutsReport network notes old (told_by sink now)
+      → PutsNote {T = T} sink network note (Err e) now new
+      → StopsReport network (notes ++ note ∷ []) e old (told_by sink new)
+  report_fails OutOfMemory old p n = absurd (let is = n.cut in cc)
+  report_fails WriteFault old {now} {new} p n =
+      inl (subst (λ ls. PutFails ls (shown_as old) (shown_as (told_by sink new)))
+      (report_one network notes note)
+      (PutsLines-fails (report_of network notes) (note_line network note) [] (shown_as old)
+      (shown_as (told_by sink now)) (shown_as (told_by sink new)) p
+      n.front.0 n.counted))
 
-pub report_goes : {T K : Type 0} (sink : Ghosts K) (network : Network) (notes : List Note) (note : Note) (r : Result T Cut) (old : Told) (now new : K)
-    → PutsReport network notes old (told_by sink now) → PutsNote sink network note r now new
-    → MatchResult r (λ _. PutsReport network (notes ++ note ∷ []) old (told_by sink new)) (λ cut.
-    StopsReport network (notes ++ note ∷ []) cut old (told_by sink new))
-report_goes sink network notes note (Ok x) old now new p n = report_more sink network notes note x old now new p n
-report_goes sink network notes note (Err e) old now new p n = report_fails sink network notes note e old now new p n
+  pub report_goes : (r : Result T Cut) (old : Told) {now new : K} → PutsReport network notes old (told_by sink now)
+      → PutsNote sink network note r now new → MatchResult r
+      (λ _. PutsReport network (notes ++ note ∷ []) old (told_by sink new))
+      (λ cut. StopsReport network (notes ++ note ∷ []) cut old (told_by sink new))
+  report_goes (Ok x) old p n = report_more x old p n
+  report_goes (Err e) old p n = report_fails e old p n
 
-pub further_ok : {T U K : Type 0} (sink : Ghosts K) (network : Network) (note : Note) (x : T) (y : U) (now new : K)
-    → PutsNote {T = T} sink network note (Ok x) now new → PutsFurther {T = U} sink (Ok y) now new
-further_ok sink network note x y now new n = record { grew = (note_line network note, n.all.0); quiet = n.all.1; cause = tt {0} }
+module _ {T U K : Type 0} (sink : Ghosts K) (network : Network) (note : Note) where
+  pub further_ok : (x : T) (y : U) {now new : K} → PutsNote {T = T} sink network note (Ok x) now new
+      → PutsFurther {T = U} sink (Ok y) now new
+  further_ok x y n = record { grew = (note_line network note, n.all.0); quiet = n.all.1; cause = tt {0} }
 
-pub further_err : {T U K : Type 0} (sink : Ghosts K) (network : Network) (note : Note) (e : Cut) (now new : K)
-    → PutsNote {T = T} sink network note (Err e) now new → PutsFurther {T = U} sink (Err e) now new
-further_err sink network note OutOfMemory now new n = absurd (let is = n.cut in cc)
-further_err sink network note WriteFault now new n =
-    let f = n.front.0 in record { grew = (f.0, f.3); quiet = tt {0}; cause = n.front.1 }
+  pub further_err : (e : Cut) {now new : K} → PutsNote {T = T} sink network note (Err e) now new
+      → PutsFurther {T = U} sink (Err e) now new
+  further_err OutOfMemory n = absurd (let is = n.cut in cc)
+  further_err WriteFault n =
+      let f = n.front.0 in record { grew = (f.0, f.3); quiet = tt {0}; cause = n.front.1 }
 
-pub further : {T K : Type 0} (sink : Ghosts K) (network : Network) (note : Note) (r : Result T Cut) (now new : K)
+pub further : {T K : Type 0} {sink : Ghosts K} {network : Network} {note : Note} (r : Result T Cut) {now new : K}
     → PutsNote sink network note r now new → PutsFurther sink r now new
-further sink network note (Ok x) now new n = further_ok sink network note x x now new n
-further sink network note (Err e) now new n = further_err sink network note e now new n
+further {sink} {network} {note} (Ok x) n = further_ok sink network note x x n
+further {sink} {network} {note} (Err e) n = further_err sink network note e n

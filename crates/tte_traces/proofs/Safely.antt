@@ -20,9 +20,9 @@ all_parts P [] h = All-nil P
 all_parts P (x ∷ xs) h = All-cons P x xs (h [] xs x refl) (all_parts P xs (λ before behind y e. h (x ∷ before) behind y (ap (λ t. x ∷ t) e)))
 
 -- admitted events of an accepted network are such as they ask for
-pub admitted_under : (octets trace : List ℕ) (network : Network) (events : List Event) → IsInRange network → MeansAccepted octets network
-    → AreAdmitted network trace events → IsUnder network events
-admitted_under octets trace network events range accepted all = record {
+pub admitted_under : {octets : List ℕ} (trace : List ℕ) {network : Network} (events : List Event) → IsInRange network
+    → MeansAccepted octets network → AreAdmitted network trace events → IsUnder network events
+admitted_under trace {network} events range accepted all = record {
   range = range;
   rules = accepted.rules;
   of_network =
@@ -35,12 +35,12 @@ admitted_under octets trace network events range accepted all = record {
 }
 
 -- the run up to the time of the last event, this time and all
-begins_run : (network : Network) (events : List Event) (notes : List Note) → IsUnder network events → AreRecordsSoFar network events notes
-    → BeginsRunTo network events (amount (last_time events)) notes
-begins_run network events notes under records =
+begins_run : {network : Network} {events : List Event} (notes : List Note) → IsUnder network events
+    → AreRecordsSoFar network events notes → BeginsRunTo network events (amount (last_time events)) notes
+begins_run {network} {events} notes under records =
     let time = amount (last_time events) in
     let mark : List ℕ = (time + 1) ∷ [] in
-    let there = records_before network events mark under.range in
+    let there = records_before events mark under.range in
     let front = earlier_run_is_front network (clock_reading network events) events (behind_events time) mark notes there.0
     (λ p b. before_next_time p time (2 ∷ []) b) records there.1 in
     record {
@@ -59,12 +59,12 @@ module _ (octets trace : List ℕ) (network : Network) (range : IsInRange networ
     pub good_run : AreAllRecords network events notes → IsGoodRun network events notes
     good_run records =
         ended fresh_segment stepped_segment segment_reading exact_laws exact_begins network events records.0 notes
-        (admitted_under octets trace network events range accepted admitted) records.1 records.2
+        (admitted_under trace events range accepted admitted) records.1 records.2
 
     pub good_before : AreRecordsSoFar network events notes → IsGoodRunBefore network events notes
     good_before records =
         so_far fresh_segment stepped_segment segment_reading exact_laws exact_begins network events notes
-        (admitted_under octets trace network events range accepted admitted) records
+        (admitted_under trace events range accepted admitted) records
 
     pub of_whole : (Tells : (n : Network) (es : List Event) (ns : List Note) → IsGoodRun n es ns → Type 0) (records : AreAllRecords network events notes)
         → Tells network events notes (good_run records) → OfWholeRun octets trace Tells
@@ -90,7 +90,7 @@ module _ (octets trace : List ℕ) (network : Network) (range : IsInRange networ
       there = there;
       notes = notes;
       run = good_before records;
-      begins = begins_run network events notes (admitted_under octets trace network events range accepted admitted) records;
+      begins = begins_run notes (admitted_under trace events range accepted admitted) records;
       tells = tells;
     }
 
@@ -167,9 +167,10 @@ module _ (IsWhole IsToFault : List ℕ → List ℕ → List (List ℕ) → Type
 
 -- ---- what `run` writes
 
-pub report_safe : (octets trace : List ℕ) (network : Network) (IsRefusal : List (List ℕ) → Type 0) → IsInRange network → (a : Answer)
-    → MeansAccepted octets network → IsRunAnswer trace network a → IsSafe (IsWholeReport octets trace) (IsReportToFault octets trace) IsRefusal a
-report_safe octets trace network IsRefusal range a m is =
+pub report_safe : {octets trace : List ℕ} {network : Network} (IsRefusal : List (List ℕ) → Type 0)
+    → IsInRange network → {a : Answer} → MeansAccepted octets network → IsRunAnswer trace network a
+    → IsSafe (IsWholeReport octets trace) (IsReportToFault octets trace) IsRefusal a
+report_safe {octets} {trace} {network} IsRefusal range {a} m is =
     trace_safe (IsWholeReport octets trace) (IsReportToFault octets trace) IsRefusal report_lines trace network
     (λ events notes admitted records. of_whole octets trace network range m events admitted notes _ records refl)
     (λ events notes fault admitted there records. of_fault octets trace network range m events admitted notes _ fault there records refl) a is

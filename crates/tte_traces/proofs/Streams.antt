@@ -13,21 +13,21 @@ writes_nothing s = ([], Appends-nil s.written)
 pub writes_none : (old new : Shown) → PutsNone old new → WritesSome old new
 writes_none old new none = ([], subst (λ w. Appends old.written w []) (sym none.0) (Appends-nil old.written))
 
-pub writes_lines : (lines : List (List ℕ)) (old new : Shown) → PutsLines lines old new → WritesSome old new
-writes_lines lines old new p = (concat lines, p.written)
+pub writes_lines : {lines : List (List ℕ)} {old new : Shown} → PutsLines lines old new → WritesSome old new
+writes_lines {lines} p = (concat lines, p.written)
 
-pub writes_fails : (lines : List (List ℕ)) (old new : Shown) → PutFails lines old new → WritesSome old new
-writes_fails lines old new p =
+pub writes_fails : {lines : List (List ℕ)} {old new : Shown} → PutFails lines old new → WritesSome old new
+writes_fails {old} {new} p =
     (concat p.done ++ p.front.0, Appends-trans old.written p.before.written new.written (concat p.done) p.front.0 p.puts.written p.front.3)
 
-writes_failing : (lines : List (List ℕ)) (old new : Shown) → WriteFails lines old new → WritesSome old new
-writes_failing lines old new (inl f) = writes_fails lines old new f
-writes_failing lines old new (inr p) = writes_lines p.done old new p.puts
+writes_failing : {lines : List (List ℕ)} {old new : Shown} → WriteFails lines old new → WritesSome old new
+writes_failing (inl f) = writes_fails f
+writes_failing (inr p) = writes_lines p.puts
 
-pub writes_answer : (a : Answer) (status : Status) (old new : Shown) → Gives a status old new → WritesSome old new
-writes_answer a status old new (inl g) = writes_lines a.lines old new g.1
-writes_answer a status old new (inr (inl g)) = writes_failing a.lines old new g.1
-writes_answer a status old new (inr (inr g)) = writes_lines g.1.done old new g.1.puts
+pub writes_answer : (a : Answer) (status : Status) {old new : Shown} → Gives a status old new → WritesSome old new
+writes_answer a status (inl g) = writes_lines g.1
+writes_answer a status (inr (inl g)) = writes_failing g.1
+writes_answer a status (inr (inr g)) = writes_lines g.1.puts
 
 -- ---- what was taken
 
@@ -35,7 +35,7 @@ writes_answer a status old new (inr (inr g)) = writes_lines g.1.done old new g.1
 pub for_trace : (first after : Option (List ℕ)) (P : List ℕ → List ℕ → Type 0)
     → ((octets : List ℕ) → first ≡ Some octets → (rest : List ℕ) × (after ≡ Some rest) × P octets rest) → ForTrace first after P
 for_trace None after P h = tt {0}
-for_trace (Some octets) after P h = let at = h octets refl in subst (λ (a : Option (List ℕ)). ForTrace (Some octets) a P) (sym at.1) at.2
+for_trace (Some octets) after P h = let at = h octets refl in subst (λ a. ForTrace (Some octets) a P) (sym at.1) at.2
 
 -- where no call was made, nothing was taken
 length-behind_line : (octets : List ℕ) → length (behind_line octets) ≤ length octets
@@ -58,7 +58,7 @@ untouched lines network left old new none more =
         notes = [];
         records = records_none network;
         between = old;
-        puts = subst (λ (ls : List (List ℕ)). PutsLines ls old old) (sym none) (PutsLines-none old);
+        puts = subst (λ ls. PutsLines ls old old) (sym none) (PutsLines-none old);
         more = more;
         few = omega (arith, length-behind_line octets);
       },

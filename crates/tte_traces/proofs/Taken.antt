@@ -22,8 +22,9 @@ holds_a_time (kinds.Send link octets) range = tt
 holds_a_time kinds.End range = tt
 
 -- the event that it gives may befall the network
-may_give : (network : Network) (events : List Event) (event : Event) (trace : Trace) → GivesEvent network events event trace → MayGive network events event
-may_give network events event trace gives =
+may_give : {network : Network} {events : List Event} {event : Event} {trace : Trace}
+    → GivesEvent network events event trace → MayGive network events event
+may_give {events} {event} gives =
     let few = gives.follows.number in
     let long = length-append events (event ∷ []) in
     record {
@@ -36,9 +37,9 @@ may_give network events event trace gives =
       within = gives.within;
     }
 
-fewer_lines : (network : Network) (events : List Event) (event : Event) (old new : Trace) → Follows network events old → GivesEvent network events event new
-    → 2 ^ 32 - new.lines < 2 ^ 32 - old.lines
-fewer_lines network events event old new follows gives =
+fewer_lines : {network : Network} {events : List Event} {event : Event} {old new : Trace}
+    → Follows network events old → GivesEvent network events event new → 2 ^ 32 - new.lines < 2 ^ 32 - old.lines
+fewer_lines {events} {event} follows gives =
     let own = follows.lines in
     let more = gives.follows.lines in
     let few = gives.follows.number in
@@ -72,9 +73,10 @@ for_octets None P told any = any
 for_octets (Some octets) P told any = told octets refl
 
 -- the octets that were read have the events in their first lines
-pub gave_some : {B : Type 0} (source : sources.Ghosts B) (network : Network) (first : B) (events : List Event) (now : B) (trace : Trace)
-    → GaveEvents source network first events now trace → ForOctets (source.left first) (λ octets. AreAdmitted network octets events)
-gave_some source network first events now trace gave =
+pub gave_some : {B : Type 0} {source : sources.Ghosts B} {network : Network} {first : B} {events : List Event}
+    {now : B} {trace : Trace} → GaveEvents source network first events now trace
+    → ForOctets (source.left first) (λ octets. AreAdmitted network octets events)
+gave_some {source} {network} {first} {events} gave =
     for_octets (source.left first) (λ octets. AreAdmitted network octets events) (λ octets told. (gave.reads octets told).2.admitted)
     (gave.any.0 ++ [], (gave.any.1 [] (λ _. refl)).admitted)
 
@@ -112,14 +114,14 @@ module _ {B K : Type 0} (source : sources.Ghosts B) (sink : sinks.Ghosts K) (net
       old new before after
   trace_gives (Ok (Some event)) t =
       let gives = t.follows network events gave.follows in (
-        may_give network events event new gives,
-        fewer_lines network events event old new gave.follows gives,
+        may_give gives,
+        fewer_lines gave.follows gives,
         record {
           follows = gives.follows;
           reads = λ octets told. let h = gave.reads octets told in t.takes.reads network octets events h.0 h.1 h.2;
           any = let m = more_any (Ok (Some event)) t.takes in (gave.any.0 ++ m.more, λ left none. (m.reads left none).1);
           few = λ front last same octets told.
-              subst (λ (n : ℕ). IfSome (source.left now) (TakesFew octets n)) (sym (front_same events front event last same))
+              subst (λ n. IfSome (source.left now) (TakesFew octets n)) (sym (front_same events front event last same))
               (few_now (Ok (Some event)) t.takes octets told);
           calm = t.unchanged (λ is. cc) ∙ gave.calm;
         },
@@ -153,7 +155,7 @@ module _ {B K : Type 0} (source : sources.Ghosts B) (sink : sinks.Ghosts K) (net
     few = few_now (Err stop) t.takes;
     lines = (t.follows network events gave.follows).lines;
     read = λ is. (
-      subst (λ (n : ℕ). Rose n (source.faults now)) gave.calm (t.failed_rose (ap Err is)),
+      subst (λ n. Rose n (source.faults now)) gave.calm (t.failed_rose (ap Err is)),
       t.passed (ap Err is),
     );
     write = λ is. t.unpassed (ap Err is);
@@ -161,9 +163,10 @@ module _ {B K : Type 0} (source : sources.Ghosts B) (sink : sinks.Ghosts K) (net
   }
 
 -- nothing was given
-pub gave_none : {B : Type 0} (source : sources.Ghosts B) (network : Network) (now : B) (trace : Trace) → Follows network [] trace
-    → ((octets : List ℕ) → Reads network octets [] trace octets) → GaveEvents source network now [] now trace
-gave_none source network now trace follows reads = record {
+pub gave_none : {B : Type 0} (source : sources.Ghosts B) {network : Network} (now : B) {trace : Trace}
+    → Follows network [] trace → ((octets : List ℕ) → Reads network octets [] trace octets)
+    → GaveEvents source network now [] now trace
+gave_none source now follows reads = record {
   follows = follows;
   reads = λ octets told. (octets, told, reads octets);
   any = ([], λ left none. reads left);

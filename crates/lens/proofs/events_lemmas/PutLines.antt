@@ -52,7 +52,7 @@ module _ (network : Network) (seed cycles : ℕ) (it : StormEvents) (old now : S
       let first = h.events ++ event ∷ [] in
       let number = storm_number network seed cycles h.events (length h.events) event (given.each h.events [] event refl) in
       let few : length first ≤ 8 * cycles + 1 = omega (arith, number, length-append h.events (event ∷ [])) in
-      let rest = storm_behind network seed cycles first stormy given.each few in
+      let rest = storm_behind seed first stormy given.each few in
       let all = first ++ rest.0 in
       let lines : event_lines network all ≡ event_lines network h.events ++ event_line network event ∷ event_lines network rest.0 =
       ap (event_lines network) (append_assoc h.events (event ∷ []) rest.0) ∙ lines_of_both network h.events (event ∷ rest.0) in

@@ -120,5 +120,5 @@ storm_report seed cycles network trace report summary few range rules e r s =
 pub events_answers_exist : EventsAnswersExist
 events_answers_exist seed cycles network few range rules fits =
     let stormy : IsStormy network cycles = record { few = few; range = range; rules = rules; fits = fits } in
-    let all = storm_behind network seed cycles [] stormy (no_events network seed cycles) (omega arith) in
+    let all = storm_behind seed [] stormy (no_events network seed cycles) (omega arith) in
     (record { status = Done; lines = event_lines network all.0 }, record { events = all.0; storm = all.1; answer = refl })

@@ -13,13 +13,13 @@ module _ (granule : ℕ) (octets trace : List ℕ) (network : Network) (range : 
       let t = amount (last_time events) in
       let last = (admitted_in_order network trace events admitted).last records.0 records.1 in
       let le : t ≤ amount records.0 + 1 = subst (λ u. t ≤ amount u + 1) (sym last) (omega arith) in
-      stamps_tell granule network trace events ((amount records.0 + 1) ∷ []) notes (admitted_under octets trace network events range accepted admitted)
+      stamps_tell granule network trace events ((amount records.0 + 1) ∷ []) notes (admitted_under trace events range accepted admitted)
       admitted records.2 (up_to_mark t (amount records.0 + 1) [] le) fine
 
   tells_to_fault : AreRecordsSoFar network events notes → StampsTell granule network events notes
   tells_to_fault records =
       let t = amount (last_time events) in
-      stamps_tell granule network trace events (t ∷ 2 ∷ []) notes (admitted_under octets trace network events range accepted admitted) admitted records
+      stamps_tell granule network trace events (t ∷ 2 ∷ []) notes (admitted_under trace events range accepted admitted) admitted records
       (up_to_mark t t (2 ∷ []) (omega arith)) fine
 
 -- an answer of `stamp` for an accepted network is safe

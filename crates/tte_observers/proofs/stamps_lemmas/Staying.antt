@@ -38,7 +38,7 @@ is_front network events (event ∷ others) notes on run =
     record {
       mark = t ∷ 1 ∷ (length events + 1) ∷ [];
       up_to = λ u le. up_to_mark u t (1 ∷ (length events + 1) ∷ []) le;
-      run = lasts_under network events event others (t ∷ 1 ∷ (length events + 1) ∷ []) notes on.from on.unended
+      run = lasts_under network events event others notes on.from on.unended
           (no_further t (amount event.time) (length events + 1) on.order) (so_far_at network events notes run);
     }
 

@@ -75,7 +75,7 @@ module _ {B K : Type 0} (source : sources.Ghosts B) (sink : sinks.Ghosts K) (beg
         little =
             little_so_far source sink begun vote_sees vote_stops no_lines (IsOwn begun) (votes_along begun) network first origin now trace old put d.events
             (shown_by sink new) (λ octets told. let e = d.ended.all octets told in (e.0, e.1, e.2)) d.ended.few d.so_far
-            (writes_answer a status (shown_by sink put) (shown_by sink new) g);
+            (writes_answer a status g);
       }
 
   -- the trace has a fault
@@ -102,5 +102,5 @@ module _ {B K : Type 0} (source : sources.Ghosts B) (sink : sinks.Ghosts K) (beg
         cut = λ read. absurd (fault_no_read fault status which read);
         little =
             little_at source sink begun vote_sees vote_stops no_lines (IsOwn begun) (votes_along begun) network first origin now trace old put it stop d
-            (shown_by sink new) (writes_answer a status (shown_by sink put) (shown_by sink new) gives);
+            (shown_by sink new) (writes_answer a status gives);
       }

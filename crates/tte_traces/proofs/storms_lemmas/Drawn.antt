@@ -12,9 +12,10 @@ use Rattle.net_plan.specs.declared.event.What.TheVariants as kinds
 
 -- ---- the beginning
 
-pub storm_first : (network : Network) (seed cycles : ℕ) (it : StormEvents) → 1 ≤ cycles → cycles ≤ 100000 → it.accepted.now ≡ network
-    → Watches network it.watch [] → it.storm ≡ record { seed = seed; cycles = cycles; given = 0 } → IsStormTo network seed cycles [] it
-storm_first network seed cycles it least most over watches storm = record {
+pub storm_first : {network : Network} (seed cycles : ℕ) (it : StormEvents) → 1 ≤ cycles → cycles ≤ 100000
+    → it.accepted.now ≡ network → Watches network it.watch []
+    → it.storm ≡ record { seed = seed; cycles = cycles; given = 0 } → IsStormTo network seed cycles [] it
+storm_first {network} seed cycles it least most over watches storm = record {
   over = over;
   least = least;
   most = most;
@@ -26,9 +27,9 @@ storm_first network seed cycles it least most over watches storm = record {
 }
 
 -- as the source's own parts tell it
-pub own_storm : (network : Network) (seed cycles : ℕ) (events : List Event) (it : StormEvents) → IsStormTo network seed cycles events it
-    → IsStormTo network it.storm.seed it.storm.cycles events it
-own_storm network seed cycles events it is =
+pub own_storm : {network : Network} {seed cycles : ℕ} {events : List Event} {it : StormEvents}
+    → IsStormTo network seed cycles events it → IsStormTo network it.storm.seed it.storm.cycles events it
+own_storm {network} {seed} {events} {it} is =
     subst (λ k. IsStormTo network k it.storm.cycles events it) (sym is.seed_is) (subst (λ k. IsStormTo network seed k events it) (sym is.cycles_is) is)
 
 -- ---- the next event
@@ -39,7 +40,7 @@ pub none_ended : (network : Network) (seed cycles : ℕ) (events : List Event) �
 none_ended network seed cycles events each few (k, e, lt, at, is) =
     let p = parted events e (k, lt, at) in
     let last = end_is_behind network seed cycles p.0 (length p.0) e (each p.0 p.1 e p.2) is in
-    let long = ap (λ (l : List Event). length l) p.2 in
+    let long = ap (λ l. length l) p.2 in
     let longer = length-append p.0 (e ∷ p.1) in
     omega (arith, last, few, long, longer)
 
@@ -55,7 +56,7 @@ pub record IsDrawnFor (network : Network) (it : StormEvents) (event : Event) : T
 module _ (network : Network) (seed cycles : ℕ) (events : List Event) (it : StormEvents) (given : IsStormTo network seed cycles events it) (event : Event)
     (d : IsDrawnFor network it event) where
   own : IsStormTo network it.storm.seed it.storm.cycles events it
-  own = own_storm network seed cycles events it given
+  own = own_storm given
 
   few : length events ≤ 8 * it.storm.cycles
   few = let early = d.early in let count = given.given_is in omega (arith, early, count)
@@ -116,11 +117,11 @@ gives_as_source false event network first from origin old new events before afte
 pub all_ended : (network : Network) (seed cycles : ℕ) (events : List Event) → AreStormEvents network seed cycles events → length events ≡ 8 * cycles + 1
     → HaveEnded events
 all_ended network seed cycles events each whole = elim (last_or_none events) [
-  | inl none ↦ let empty = ap (λ (l : List Event). length l) none in absurd (omega (arith, whole, empty))
+  | inl none ↦ let empty = ap (λ l. length l) none in absurd (omega (arith, whole, empty))
   | inr some ↦
       let front = some.0 in
       let last = some.1 in
-      let long = ap (λ (l : List Event). length l) some.2 in
+      let long = ap (λ l. length l) some.2 in
       let longer = length-append front (last ∷ []) in
       let number : length front ≡ 8 * cycles = omega (arith, whole, long, longer) in
       let what : last.what ≡ kinds.End = elim (each front [] last some.2) [
@@ -130,10 +131,11 @@ all_ended network seed cycles events each whole = elim (last_or_none events) [
       subst HaveEnded (sym some.2) (Any-push (λ (e : Event). e.what ≡ kinds.End) front last what)
 ]
 
-pub has_stormed : (network : Network) (seed cycles : ℕ) (events : List Event) (notes : List Note) (world : ExactWorld) (it : StormEvents) (old put : Told)
-    (seen : Seen) → IsStormTo network seed cycles events it → length events ≡ 8 * cycles + 1 → StandsExact network world events notes
-    → AreAllRecords network events notes → IsSeen network events notes None old put seen → HasStormed network seed cycles seen
-has_stormed network seed cycles events notes world it old put seen given whole stands records is = record {
+pub has_stormed : {network : Network} {seed cycles : ℕ} {events : List Event} {notes : List Note}
+    {world : ExactWorld} {it : StormEvents} {old put : Told} {seen : Seen} → IsStormTo network seed cycles events it
+    → length events ≡ 8 * cycles + 1 → StandsExact network world events notes → AreAllRecords network events notes
+    → IsSeen network events notes None old put seen → HasStormed network seed cycles seen
+has_stormed {events} {notes} given whole stands records is = record {
   events = events;
   storm = record { whole = whole; each = given.each };
   range = stands.times;

@@ -119,9 +119,9 @@ numbered None some small = absurd cc
 numbered (Some m) some small = (m, refl, small)
 
 -- a master sends its forged frame
-sends_forged : (network : Network) (device : DeviceId) (time : Units) (seed n : ℕ) → IsReady network time → IsMaster network device
-    → (what : What) × SendsForged network device time (draw_at seed n) what
-sends_forged network device time seed n ready is =
+sends_forged : {network : Network} (device : DeviceId) {time : Units} (seed n : ℕ) → IsReady network time
+    → IsMaster network device → (what : What) × SendsForged network device time (draw_at seed n) what
+sends_forged {network} device {time} seed n ready is =
     let found = master_found network device is in
     let here = in_all IsDeviceInRange network.device device.0 found.0 ready.range.devices found.1 in
     let member = numbered found.0.member (here.masters ∙ found.2) here.member in
@@ -158,14 +158,14 @@ sends_forged network device time seed n ready is =
     )
 
 -- a strike: the broken master sends, or the last one breaks
-strike : (network : Network) (before : List Event) (time : Units) (seed n : ℕ) → IsReady network time → AreWithinHypothesis network before
-    → (what : What) × Strikes network before time (draw_at seed n) what
-strike network before time seed n ready within =
+strike : {network : Network} (before : List Event) {time : Units} (seed n : ℕ) → IsReady network time
+    → AreWithinHypothesis network before → (what : What) × Strikes network before time (draw_at seed n) what
+strike {network} before seed n ready within =
     elim (some_broken before) [
       | inl some ↦
           (let device = some.4.0 in
           let broken : IsBroken before device = (some.0, some.1, some.2, some.3, some.4.1) in
-          let sends = sends_forged network device time seed n ready (broken_is_master network before within device broken) in
+          let sends = sends_forged device seed n ready (broken_is_master network before within device broken) in
           (sends.0, inr (device, broken, sends.1)))
       | inr none ↦
           (let last = last_master network ready.rules in (
@@ -193,49 +193,55 @@ either_way : {X : Type 0} (P : X → Type 0) (b : Bool) (x y : X) → P x → P 
 either_way P true x y p q = p
 either_way P false x y p q = q
 
--- by the number of what is drawn, since no other crate names the kinds
-drawn : (network : Network) (before : List Event) (time : Units) (seed n : ℕ) → IsReady network time → AreWithinHypothesis network before
-    → (what : What) × IsDrawn network before time (draw_at seed n) what
-drawn network before time seed n ready within =
-    let draw = draw_at seed n in
-    let rest = draw.kind % 8 in
-    let link = link_there network seed n ready.rules in
-    let wire : Link → What = λ l. kinds.Wire (link_of network draw) (way_of draw) (wire_of l draw) in
-    let hold : Link → What = λ l. kinds.Hold (link_of network draw) (way_of draw) (hold_of l draw) in
-    let six = if rest == 6 then choice_of 6 else choice_of 7 in
-    let five = if rest == 5 then choice_of 5 else six in
-    let four = if rest == 4 then choice_of 4 else five in
-    let three = if rest == 3 then choice_of 3 else four in
-    let two = if rest == 2 then choice_of 2 else three in
-    either_way (λ choice. (what : What) × IsChosen network before time draw choice what) (rest == 0 || rest == 1) (choice_of 0) two
-    (kinds.Rate (device_of network draw) (rate_of network draw), refl)
-    (either_way (λ choice. (what : What) × IsChosen network before time draw choice what) (rest == 2) (choice_of 2) three
-    (wire link.0, chosen_link (link_at network (link_of network draw)) link.0 wire link.1)
-    (either_way (λ choice. (what : What) × IsChosen network before time draw choice what) (rest == 3) (choice_of 3) four
-    (hold link.0, chosen_link (link_at network (link_of network draw)) link.0 hold link.1)
-    (either_way (λ choice. (what : What) × IsChosen network before time draw choice what) (rest == 4) (choice_of 4) five
-    (kinds.Cut (link_of network draw) (way_of draw), refl)
-    (either_way (λ choice. (what : What) × IsChosen network before time draw choice what) (rest == 5) (choice_of 5) six
-    (kinds.Heal (link_of network draw) (way_of draw), refl)
-    (either_way (λ choice. (what : What) × IsChosen network before time draw choice what) (rest == 6) (choice_of 6) (choice_of 7)
-    (kinds.On (device_of network draw), refl)
-    (strike network before time seed n ready within))))))
+module _ {network : Network} (before : List Event) {time : Units} (seed n : ℕ) (ready : IsReady network time)
+    (within : AreWithinHypothesis network before) where
+  -- by the number of what is drawn, since no other crate names the kinds
+  drawn : (what : What) × IsDrawn network before time (draw_at seed n) what
+  drawn =
+      let draw = draw_at seed n in
+      let rest = draw.kind % 8 in
+      let link = link_there network seed n ready.rules in
+      let wire : Link → What = λ l. kinds.Wire (link_of network draw) (way_of draw) (wire_of l draw) in
+      let hold : Link → What = λ l. kinds.Hold (link_of network draw) (way_of draw) (hold_of l draw) in
+      let six = if rest == 6 then choice_of 6 else choice_of 7 in
+      let five = if rest == 5 then choice_of 5 else six in
+      let four = if rest == 4 then choice_of 4 else five in
+      let three = if rest == 3 then choice_of 3 else four in
+      let two = if rest == 2 then choice_of 2 else three in
+      either_way (λ choice. (what : What) × IsChosen network before time draw choice what) (rest == 0 || rest == 1)
+      (choice_of 0) two
+      (kinds.Rate (device_of network draw) (rate_of network draw), refl)
+      (either_way (λ choice. (what : What) × IsChosen network before time draw choice what) (rest == 2) (choice_of 2)
+      three
+      (wire link.0, chosen_link (link_at network (link_of network draw)) link.0 wire link.1)
+      (either_way (λ choice. (what : What) × IsChosen network before time draw choice what) (rest == 3) (choice_of 3)
+      four
+      (hold link.0, chosen_link (link_at network (link_of network draw)) link.0 hold link.1)
+      (either_way (λ choice. (what : What) × IsChosen network before time draw choice what) (rest == 4) (choice_of 4)
+      five
+      (kinds.Cut (link_of network draw) (way_of draw), refl)
+      (either_way (λ choice. (what : What) × IsChosen network before time draw choice what) (rest == 5) (choice_of 5)
+      six
+      (kinds.Heal (link_of network draw) (way_of draw), refl)
+      (either_way (λ choice. (what : What) × IsChosen network before time draw choice what) (rest == 6) (choice_of 6)
+      (choice_of 7)
+      (kinds.On (device_of network draw), refl)
+      (strike before seed n ready within))))))
 
--- the event of a step: what is drawn, or what stands for it
-step : (network : Network) (before : List Event) (time : Units) (seed n : ℕ) → IsReady network time → AreWithinHypothesis network before
-    → (event : Event) × IsEventOf network before time (draw_at seed n) event
-step network before time seed n ready within =
-    let what = drawn network before time seed n ready within in
-    elim ((hypothesis_is_decided network before (record { time = time; what = what.0 })).some) [
-      | inl keeps ↦ (
-        record { time = time; what = what.0 },
-        record { drawn = what.0; is_drawn = what.1; becomes = inl (keeps, refl) },
-      )
-      | inr outside ↦ (
-        record { time = time; what = substitute },
-        record { drawn = what.0; is_drawn = what.1; becomes = inr (λ keeps. keeps outside.0 outside.1.violates, refl) },
-      )
-    ]
+  -- the event of a step: what is drawn, or what stands for it
+  step : (event : Event) × IsEventOf network before time (draw_at seed n) event
+  step =
+      let what = drawn in
+      elim ((hypothesis_is_decided network before (record { time = time; what = what.0 })).some) [
+        | inl keeps ↦ (
+          record { time = time; what = what.0 },
+          record { drawn = what.0; is_drawn = what.1; becomes = inl (keeps, refl) },
+        )
+        | inr outside ↦ (
+          record { time = time; what = substitute },
+          record { drawn = what.0; is_drawn = what.1; becomes = inr (λ keeps. keeps outside.0 outside.1.violates, refl) },
+        )
+      ]
 
 -- ---- the storm
 
@@ -246,66 +252,72 @@ pub record IsStormy (network : Network) (cycles : ℕ) : Type 0 where
   pub rules : KeepsRules network
   pub fits : FitsFrames network
 
-ready_at : (network : Network) (cycles n : ℕ) → IsStormy network cycles → n ≤ 8 * cycles → IsReady network (time_of network n)
-ready_at network cycles n stormy within =
+ready_at : {network : Network} {cycles : ℕ} (n : ℕ) → IsStormy network cycles → n ≤ 8 * cycles
+    → IsReady network (time_of network n)
+ready_at {network} n stormy within =
     let few = stormy.few in
     let early = time_in_run network n (omega (arith, few, within)) in
     record { range = stormy.range; rules = stormy.rules; fits = stormy.fits; early = omega (arith, ints, early) }
 
 -- so many more events of the storm behind the first ones
-more_steps : (network : Network) (seed cycles n : ℕ) (front : List Event) → IsStormy network cycles → AreStormEvents network seed cycles front
-    → length front + n ≤ 8 * cycles → (behind : List Event) × (length behind ≡ n) × AreStormEvents network seed cycles (front ++ behind)
-more_steps network seed cycles zero front stormy each within = ([], refl, subst (AreStormEvents network seed cycles) (sym (append-nil front)) each)
-more_steps network seed cycles (suc n) front stormy each within =
+more_steps : {network : Network} (seed : ℕ) {cycles : ℕ} (n : ℕ) (front : List Event) → IsStormy network cycles
+    → AreStormEvents network seed cycles front → length front + n ≤ 8 * cycles
+    → (behind : List Event) × (length behind ≡ n) × AreStormEvents network seed cycles (front ++ behind)
+more_steps {network} seed {cycles} zero front stormy each within =
+    ([], refl, subst (AreStormEvents network seed cycles) (sym (append-nil front)) each)
+more_steps {network} seed {cycles} (suc n) front stormy each within =
     let keeps = storms_within network seed cycles front stormy.few each in
-    let ready = ready_at network cycles (length front) stormy (omega (arith, within)) in
-    let next = step network front (time_of network (length front)) seed (length front) ready keeps in
+    let ready = ready_at (length front) stormy (omega (arith, within)) in
+    let next = step front seed (length front) ready keeps in
     let one : AreStormEvents network seed cycles (front ++ next.0 ∷ []) =
     more_events network seed cycles front next.0 each (inl (omega (arith, within), next.1)) in
     let size = length-append front (next.0 ∷ []) in
-    let rest = more_steps network seed cycles n (front ++ next.0 ∷ []) stormy one (omega (arith, within, size)) in
+    let rest = more_steps seed n (front ++ next.0 ∷ []) stormy one (omega (arith, within, size)) in
     let count = rest.1 in (
       next.0 ∷ rest.0,
       omega (arith, count),
       subst (AreStormEvents network seed cycles) (append_assoc front (next.0 ∷ []) rest.0) rest.2,
     )
 
--- behind the first events of a storm, all others, and the end with them
-pub rest_of_storm : (network : Network) (seed cycles : ℕ) (front : List Event) → IsStormy network cycles → AreStormEvents network seed cycles front
-    → length front ≤ 8 * cycles → (behind : List Event) × IsStorm network seed cycles (front ++ behind) × HaveEnded (front ++ behind)
-rest_of_storm network seed cycles front stormy each within =
-    let steps = more_steps network seed cycles (8 * cycles - length front) front stormy each (omega (arith, within)) in
-    let all = front ++ steps.0 in
-    let count = steps.1 in
-    let long = length-append front steps.0 in
-    let size : length all ≡ 8 * cycles = omega (arith, within, count, long) in
-    let end : Event = record { time = time_of network (length all); what = kinds.End } in
-    let moved = append_assoc front steps.0 (end ∷ []) in
-    let is : IsStorm network seed cycles (all ++ end ∷ []) = record {
-      whole = omega (arith, size, length-append all (end ∷ []));
-      each = more_events network seed cycles all end steps.2 (inr (size, refl));
-    } in (
-      steps.0 ++ end ∷ [],
-      subst (IsStorm network seed cycles) moved is,
-      subst HaveEnded moved (Any-push (λ (e : Event). e.what ≡ kinds.End) all end refl),
-    )
+module _ {network : Network} (seed : ℕ) {cycles : ℕ} (front : List Event) (stormy : IsStormy network cycles)
+    (each : AreStormEvents network seed cycles front) where
+  -- behind the first events of a storm, all others, and the end with them
+  pub rest_of_storm : length front ≤ 8 * cycles → (behind : List Event)
+      × IsStorm network seed cycles (front ++ behind) × HaveEnded (front ++ behind)
+  rest_of_storm within =
+      let steps = more_steps seed (8 * cycles - length front) front stormy each (omega (arith, within)) in
+      let all = front ++ steps.0 in
+      let count = steps.1 in
+      let long = length-append front steps.0 in
+      let size : length all ≡ 8 * cycles = omega (arith, within, count, long) in
+      let end : Event = record { time = time_of network (length all); what = kinds.End } in
+      let moved = append_assoc front steps.0 (end ∷ []) in
+      let is : IsStorm network seed cycles (all ++ end ∷ []) = record {
+        whole = omega (arith, size, length-append all (end ∷ []));
+        each = more_events network seed cycles all end steps.2 (inr (size, refl));
+      } in (
+        steps.0 ++ end ∷ [],
+        subst (IsStorm network seed cycles) moved is,
+        subst HaveEnded moved (Any-push (λ (e : Event). e.what ≡ kinds.End) all end refl),
+      )
 
--- behind the first events that were given, whatever is left
-pub storm_behind : (network : Network) (seed cycles : ℕ) (front : List Event) → IsStormy network cycles → AreStormEvents network seed cycles front
-    → length front ≤ 8 * cycles + 1 → (behind : List Event) × IsStorm network seed cycles (front ++ behind)
-storm_behind network seed cycles front stormy each within = elim (cases_lt (length front) (8 * cycles + 1)) [
-  | inl less ↦ let rest = rest_of_storm network seed cycles front stormy each (omega (arith, less)) in (rest.0, rest.1)
-  | inr all ↦ (
-    [],
-    subst (IsStorm network seed cycles) (sym (append-nil front)) (record { whole = omega (arith, within, all); each = each }),
-  )
-]
+  -- behind the first events that were given, whatever is left
+  pub storm_behind : length front ≤ 8 * cycles + 1 → (behind : List Event)
+      × IsStorm network seed cycles (front ++ behind)
+  storm_behind within = elim (cases_lt (length front) (8 * cycles + 1)) [
+    | inl less ↦ let rest = rest_of_storm (omega (arith, less)) in (rest.0, rest.1)
+    | inr all ↦ (
+      [],
+      subst (IsStorm network seed cycles) (sym (append-nil front))
+          (record { whole = omega (arith, within, all); each = each }),
+    )
+  ]
 
 pub storm_answers_exist : StormAnswersExist
 storm_answers_exist seed cycles network few range rules fits =
     let stormy : IsStormy network cycles = record { few = few; range = range; rules = rules; fits = fits } in
-    let events = rest_of_storm network seed cycles [] stormy (no_events network seed cycles) (omega arith) in
-    let run = all_records network events.0 range events.2 in
+    let events = rest_of_storm seed [] stormy (no_events network seed cycles) (omega arith) in
+    let run = all_records events.0 range events.2 in
     let widest = greatest_spread (exact_scenario network events.0) (happenings network run.0) in (
       record { status = Done; lines = summary_lines seed cycles (counts_of run.0) widest.0 network.precision },
       record {

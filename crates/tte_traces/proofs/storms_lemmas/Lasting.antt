@@ -32,20 +32,21 @@ pub record Alike (s : Scenario) (hs : List Happening) (other : Scenario) (js : L
   pub back : (d : DeviceId) → IsInStep other js d t → IsInStep s hs d t
   pub shows : (d : DeviceId) → local other js d t ≡ local s hs d t
 
-turned : (s : Scenario) (hs : List Happening) (other : Scenario) (js : List Happening) (t : ℕ) → Alike s hs other js t → Alike other js s hs t
-turned s hs other js t a = record { same = sym a.same; on = a.back; back = a.on; shows = λ d. sym (a.shows d) }
+module _ (s : Scenario) (hs : List Happening) (other : Scenario) (js : List Happening) (t : ℕ) where
+  turned : Alike s hs other js t → Alike other js s hs t
+  turned a = record { same = sym a.same; on = a.back; back = a.on; shows = λ d. sym (a.shows d) }
 
-apart_on : (s : Scenario) (hs : List Happening) (other : Scenario) (js : List Happening) (t : ℕ) (apart : ℤ) → Alike s hs other js t → AreApart s hs t apart
-    → AreApart other js t apart
-apart_on s hs other js t apart a x = record {
-  ahead = x.ahead;
-  behind = x.behind;
-  ahead_there = subst (λ (n : Network). HasDevice n x.ahead) (sym a.same) x.ahead_there;
-  behind_there = subst (λ (n : Network). HasDevice n x.behind) (sym a.same) x.behind_there;
-  ahead_in_step = a.on x.ahead x.ahead_in_step;
-  behind_in_step = a.on x.behind x.behind_in_step;
-  is = x.is ∙ ap (λ (z : ℤ). z -ℤ local s hs x.behind t) (sym (a.shows x.ahead)) ∙ ap (λ (z : ℤ). local other js x.ahead t -ℤ z) (sym (a.shows x.behind));
-}
+  apart_on : {apart : ℤ} → Alike s hs other js t → AreApart s hs t apart → AreApart other js t apart
+  apart_on a x = record {
+    ahead = x.ahead;
+    behind = x.behind;
+    ahead_there = subst (λ n. HasDevice n x.ahead) (sym a.same) x.ahead_there;
+    behind_there = subst (λ n. HasDevice n x.behind) (sym a.same) x.behind_there;
+    ahead_in_step = a.on x.ahead x.ahead_in_step;
+    behind_in_step = a.on x.behind x.behind_in_step;
+    is = x.is ∙ ap (λ z. z -ℤ local s hs x.behind t) (sym (a.shows x.ahead)) ∙ ap
+        (λ z. local other js x.ahead t -ℤ z) (sym (a.shows x.behind));
+  }
 
 -- under more records that are later
 pub alike_more : (s : Scenario) (hs tail : List Happening) (c t : ℕ) → t < c → ((h : Happening) → IsIn h tail → c ≤ time_of h) → Alike s hs s (hs ++ tail) t
@@ -53,9 +54,9 @@ alike_more s hs tail c t lt later =
     let same = up_to_more t c hs tail lt later in
     record {
       same = refl;
-      on = λ d i. record { correct = i.correct; synchronised = ap (λ (l : List Happening). state_after s l d) same ∙ i.synchronised };
-      back = λ d i. record { correct = i.correct; synchronised = ap (λ (l : List Happening). state_after s l d) (sym same) ∙ i.synchronised };
-      shows = λ d. ap (λ (l : List Happening). pos (s.reading d t) +ℤ (adjustment_after s l d).0) same;
+      on = λ d i. record { correct = i.correct; synchronised = ap (λ l. state_after s l d) same ∙ i.synchronised };
+      back = λ d i. record { correct = i.correct; synchronised = ap (λ l. state_after s l d) (sym same) ∙ i.synchronised };
+      shows = λ d. ap (λ l. pos (s.reading d t) +ℤ (adjustment_after s l d).0) same;
     }
 
 -- an event befalls at a later time
@@ -81,15 +82,15 @@ alike_event network events event hs tail t lt later =
       same = refl;
       on = λ d i. record {
         correct = broken_before network events event d t lt ∙ i.correct;
-        synchronised = ap (λ (l : List Happening). state_after s l d) same ∙ i.synchronised;
+        synchronised = ap (λ l. state_after s l d) same ∙ i.synchronised;
       };
       back = λ d i. record {
         correct = sym (broken_before network events event d t lt) ∙ i.correct;
-        synchronised = ap (λ (l : List Happening). state_after s l d) (sym same) ∙ i.synchronised;
+        synchronised = ap (λ l. state_after s l d) (sym same) ∙ i.synchronised;
       };
       shows = λ d.
-          ap (λ (x : ℕ). pos x +ℤ (adjustment_after s (up_to t (hs ++ tail)) d).0) (reads d)
-          ∙ ap (λ (l : List Happening). pos (s.reading d t) +ℤ (adjustment_after s l d).0) same;
+          ap (λ x. pos x +ℤ (adjustment_after s (up_to t (hs ++ tail)) d).0) (reads d)
+          ∙ ap (λ l. pos (s.reading d t) +ℤ (adjustment_after s l d).0) same;
     }
 
 -- ---- the greatest spread
@@ -101,7 +102,7 @@ module _ (s other : Scenario) (hs tail : List Happening) (c : ℕ) (past : (h : 
     seen_at = a.seen_at;
     there = in_left a.seen_at hs tail a.there;
     correction = a.correction;
-    apart_then = apart_on s hs other (hs ++ tail) (time_of a.seen_at) apart (alike (time_of a.seen_at) (past a.seen_at a.there a.correction)) a.apart_then;
+    apart_then = apart_on s hs other (hs ++ tail) (time_of a.seen_at) (alike (time_of a.seen_at) (past a.seen_at a.there a.correction)) a.apart_then;
   }
 
   seen_back : (apart : ℤ) (a : AreSeenApart other (hs ++ tail) apart) → IsIn a.seen_at hs → AreSeenApart s hs apart
@@ -110,7 +111,7 @@ module _ (s other : Scenario) (hs tail : List Happening) (c : ℕ) (past : (h : 
     there = there;
     correction = a.correction;
     apart_then =
-        apart_on other (hs ++ tail) s hs (time_of a.seen_at) apart
+        apart_on other (hs ++ tail) s hs (time_of a.seen_at)
         (turned s hs other (hs ++ tail) (time_of a.seen_at) (alike (time_of a.seen_at) (past a.seen_at there a.correction))) a.apart_then;
   }
 
@@ -133,7 +134,7 @@ module _ (s other : Scenario) (hs tail : List Happening) (c : ℕ) (past : (h : 
     bound = λ apart a. elim (in_parts a.seen_at hs tail a.there) [
       | inl before ↦ let le = g.bound apart (seen_back apart a before) in omega (arith, ints, le, first)
       | inr now ↦
-          let le = is.bound apart (subst (λ (u : ℕ). AreApart other (hs ++ tail) u apart) (then_ a.seen_at now) a.apart_then) in
+          let le = is.bound apart (subst (λ u. AreApart other (hs ++ tail) u apart) (then_ a.seen_at now) a.apart_then) in
           omega (arith, ints, le, second)
     ];
     reached = elim either [
@@ -144,7 +145,7 @@ module _ (s other : Scenario) (hs tail : List Happening) (c : ℕ) (past : (h : 
           seen_at = one;
           there = in_right one hs tail there;
           correction = correction;
-          apart_then = subst (λ (u : ℕ). AreApart other (hs ++ tail) u at) (sym (then_ one there)) a;
+          apart_then = subst (λ u. AreApart other (hs ++ tail) u at) (sym (then_ one there)) a;
         }))
       ]
     ];

@@ -44,8 +44,8 @@ correction_of h (kinds.Dropped d link cause reason) is c = absurd cc
 correction_of h (kinds.Clock d reading adjustment state) is c = absurd cc
 
 -- another is none
-pub no_correction : (h : Happening) → corrects h.note.body ≡ false → IsCorrection h → ⊥
-no_correction h not c = let is : corrects h.note.body ≡ true = ap corrects c.is in cc
+pub no_correction : {h : Happening} → corrects h.note.body ≡ false → IsCorrection h → ⊥
+no_correction {h} not c = let is : corrects h.note.body ≡ true = ap corrects c.is in cc
 
 -- only a record behind those of events is asked for
 pub behind_events : (note : Note) (asks : Bool) → asks ≡ corrects note.body → asks ≡ true → 2 < rank note.body
@@ -67,7 +67,7 @@ module _ (network : Network) (events : List Event) (notes : List Note) (note : N
   -- where corrections are past, they still are behind a record that is none
   past_on : (t : ℕ) → amount note.time ≡ t → ((h : Happening) → IsIn h hs → IsCorrection h → time_of h < t) → (IsCorrection y → ⊥)
       → ArePastCorrections network events (notes ++ note ∷ [])
-  past_on t here past none next further more h i c = elim (in_parts h hs (y ∷ []) (subst (λ (l : List Happening). IsIn h l) joined i)) [
+  past_on t here past none next further more h i c = elim (in_parts h hs (y ∷ []) (subst (λ l. IsIn h l) joined i)) [
     | inl old ↦
         let lt = past h old c in
         let from = given_from network events (notes ++ note ∷ []) further world next stands more in
@@ -90,8 +90,8 @@ module _ (network : Network) (events : List Event) (notes : List Note) (note : N
   plain_on spread plain before =
       let s = exact_scenario network events in
       let past = before.1 world note stands in
-      let none = no_correction y plain in (
-        subst (λ (l : List Happening). IsGreatestSpread s l spread) (sym joined)
+      let none = no_correction {h = y} plain in (
+        subst (λ l. IsGreatestSpread s l spread) (sym joined)
             (spread_stays s s hs (y ∷ []) (amount note.time) past (λ t lt.
             alike_more s hs (y ∷ []) (amount note.time) t lt behind) spread (none_in none) before.0),
         past_on (amount note.time) refl past none,
@@ -130,11 +130,12 @@ module _ (network : Network) (events : List Event) (notes : List Note) (note : N
     past = o.past;
   }
 
-pub seen_record : (network : Network) (events : List Event) (notes : List Note) (note : Note) (world : ExactWorld) (instant : Option ℕ) (asks : Bool)
-    (old put : Told) (seen new : Seen) → IsGiven network world instant events notes note → IsSeen network events notes instant old put seen
+pub seen_record : {network : Network} {events : List Event} {notes : List Note} {note : Note} {world : ExactWorld}
+    {instant : Option ℕ} (asks : Bool) {old put : Told} {seen : Seen} (new : Seen)
+    → IsGiven network world instant events notes note → IsSeen network events notes instant old put seen
     → asks ≡ corrects note.body → new.tally ≡ counts_of (notes ++ note ∷ []) → new.spread ≡ seen.spread
     → IsSeen network events (notes ++ note ∷ []) (instant_of instant asks note.time) old put new
-seen_record network events notes note world instant asks old put seen new given is same tallied still = record {
+seen_record {network} {events} {notes} {note} {world} {instant} asks {seen} new given is same tallied still = record {
   tallied = tallied;
   spread_is =
       subst (λ z. IsSpreadSoFar network events (notes ++ note ∷ []) (instant_of instant asks note.time) (record { 0 = z })) (sym still)
@@ -171,7 +172,7 @@ module _ (network : Network) (events : List Event) (notes : List Note) (event : 
   e_now = e_time ∙ sym (ap unsigned_abs b.reached.now)
 
   e_plain : IsCorrection e → ⊥
-  e_plain c = no_correction e (ap (λ (n : Note). corrects n.body) b.is) c
+  e_plain c = no_correction (ap (λ (n : Note). corrects n.body) b.is) c
 
   -- corrections before it are of an earlier time
   earlier : (h : Happening) → IsIn h gs → IsCorrection h → time_of h < amount event.time
@@ -218,10 +219,10 @@ seen_settled network events notes t world at old put seen new complete is spread
             (spread_grows s s fs o.tail t o.past
             (λ u lt. alike_more s fs o.tail t u lt (λ h i. (let now = o.of_now h i in omega (arith, now)))) t (record { 0 = seen.spread })
             (record { 0 = new.spread }) at o.one o.of_now o.there o.correction
-            (subst (λ (l : List Happening). IsSpreadAt s l t at) o.is spread) o.widest first second either),
+            (subst (λ l. IsSpreadAt s l t at) o.is spread) o.widest first second either),
         λ next note more h i c.
             let behind_it = given_behind network events notes note next (t + 1) complete.all more in
-            elim (in_parts h fs o.tail (subst (λ (l : List Happening). IsIn h l) o.is i)) [
+            elim (in_parts h fs o.tail (subst (λ l. IsIn h l) o.is i)) [
               | inl old_one ↦ let lt = o.past h old_one c in omega (arith, lt, behind_it)
               | inr new_one ↦ let now = o.of_now h new_one in omega (arith, now, behind_it)
             ],

@@ -29,53 +29,56 @@ next_line [] [] line is = absurd cc
 next_line [] (l ∷ left) line is = (left, let same : l ≡ line = cc in ap (λ (x : List ℕ). x ∷ left) same)
 next_line (d ∷ done) left line is = next_line done left line is
 
-next_of : (lines : List (List ℕ)) (count : ℕ) (old new : Shown) (line : List ℕ) (h : HasPutLines lines count old new) → slice_get lines count ≡ Some line
-    → (rest : List (List ℕ)) × (lines ≡ h.done ++ line ∷ rest)
-next_of lines count old new line h is =
+next_of : {lines : List (List ℕ)} {count : ℕ} {old new : Shown} (line : List ℕ) (h : HasPutLines lines count old new)
+    → slice_get lines count ≡ Some line → (rest : List (List ℕ)) × (lines ≡ h.done ++ line ∷ rest)
+next_of {lines} line h is =
     let next = next_line h.done h.left line
     (ap (λ (l : List (List ℕ)). slice_get l (length h.done)) (sym h.order) ∙ ap (λ (n : ℕ). slice_get lines n) h.counted ∙ is) in
     (next.0, h.order ∙ ap (λ (l : List (List ℕ)). h.done ++ l) next.1)
 
-pub lines_more : (lines : List (List ℕ)) (count : ℕ) (old now new : Shown) (line : List ℕ) → HasPutLines lines count old now → slice_get lines count ≡ Some line
-    → Appends now.written new.written line → new.puts ≡ next_count now.puts → HasPutLines lines (count + 1) old new
-lines_more lines count old now new line h is written puts =
-    let next = next_of lines count old now line h is in
-    let long = length-append h.done (line ∷ []) in
-    let counted = h.counted in
-    record {
-      done = h.done ++ line ∷ [];
-      left = next.0;
-      order = next.1 ∙ sym (append_assoc h.done (line ∷ []) next.0);
-      counted = omega (arith, long, counted);
-      puts = PutsLines-more h.done line old now new h.puts written puts;
-    }
+module _ {lines : List (List ℕ)} {count : ℕ} {old now : Shown} (new : Shown) (line : List ℕ)
+    (h : HasPutLines lines count old now) (is : slice_get lines count ≡ Some line) where
+  pub lines_more : Appends now.written new.written line → new.puts ≡ next_count now.puts
+      → HasPutLines lines (count + 1) old new
+  lines_more written puts =
+      let next = next_of line h is in
+      let long = length-append h.done (line ∷ []) in
+      let counted = h.counted in
+      record {
+        done = h.done ++ line ∷ [];
+        left = next.0;
+        order = next.1 ∙ sym (append_assoc h.done (line ∷ []) next.0);
+        counted = omega (arith, long, counted);
+        puts = PutsLines-more h.done line old now new h.puts written puts;
+      }
 
-pub lines_fail : (lines : List (List ℕ)) (count : ℕ) (old now new : Shown) (line : List ℕ) → HasPutLines lines count old now → slice_get lines count ≡ Some line
-    → AppendsFront now.written new.written line → new.puts ≡ next_count now.puts → Gives (record { status = Done; lines = lines }) WriteFault old new
-lines_fail lines count old now new line h is front puts =
-    let next = next_of lines count old now line h is in
-    inr (inl (
-      refl,
-      subst (λ (l : List (List ℕ)). WriteFails l old new) (sym next.1)
-          (inl (PutsLines-fails h.done line next.0 old now new h.puts front puts)),
-    ))
+  pub lines_fail : AppendsFront now.written new.written line → new.puts ≡ next_count now.puts
+      → Gives (record { status = Done; lines = lines }) WriteFault old new
+  lines_fail front puts =
+      let next = next_of line h is in
+      inr (inl (
+        refl,
+        subst (λ l. WriteFails l old new) (sym next.1)
+            (inl (PutsLines-fails h.done line next.0 old now new h.puts front puts)),
+      ))
 
 none_left : (done left : List (List ℕ)) → length (done ++ left) ≡ length done → left ≡ []
 none_left done [] is = refl
 none_left done (l ∷ left) is = absurd (let long = length-append done (l ∷ left) in omega (arith, long, is))
 
-pub lines_all : (lines : List (List ℕ)) (count : ℕ) (status : Status) (old now new : Shown) → HasPutLines lines count old now → length lines ≡ count
-    → Ends Done status now new → Gives (record { status = Done; lines = lines }) status old new
-lines_all lines count status old now new h all ends =
-    let none = none_left h.done h.left (ap (λ (l : List (List ℕ)). length l) (sym h.order) ∙ all ∙ sym h.counted) in
+pub lines_all : {lines : List (List ℕ)} {count : ℕ} (status : Status) {old now : Shown} (new : Shown)
+    → HasPutLines lines count old now → length lines ≡ count → Ends Done status now new
+    → Gives (record { status = Done; lines = lines }) status old new
+lines_all {lines} status {old} {now} new h all ends =
+    let none = none_left h.done h.left (ap (λ l. length l) (sym h.order) ∙ all ∙ sym h.counted) in
     let whole : lines ≡ h.done = h.order ∙ ap (λ (l : List (List ℕ)). h.done ++ l) none ∙ append-nil h.done in
-    Ends-gives lines Done status old now new (subst (λ (l : List (List ℕ)). PutsLines l old now) (sym whole) h.puts) ends
+    Ends-gives lines Done status old now new (subst (λ l. PutsLines l old now) (sym whole) h.puts) ends
 
 -- ---- what the summary tells
 
 -- so far apart as nothing at least
-not_below : (s : Scenario) (hs : List Happening) (spread : Units) → IsGreatestSpread s hs spread → pos 0 ≤ℤ spread.0
-not_below s hs spread g = elim g.reached [
+not_below : {s : Scenario} {hs : List Happening} {spread : Units} → IsGreatestSpread s hs spread → pos 0 ≤ℤ spread.0
+not_below {s} {hs} g = elim g.reached [
   | inl none ↦ omega (arith, ints, none)
   | inr seen ↦
       let pair = seen.apart_then in
@@ -103,9 +106,9 @@ pub record IsFine (network : Network) (seed cycles : ℕ) (seen : Seen) (h : Has
   pub within : seen.spread ≤ℤ network.precision.0
   pub small : network.precision.0 ≤ℤ pos (2 ^ 40)
 
-pub is_fine : (network : Network) (seed cycles : ℕ) (seen : Seen) (h : HasStormed network seed cycles seen) → cycles ≤ 100000 → IsInRange network
-    → KeepsRules network → IsFine network seed cycles seen h
-is_fine network seed cycles seen h few range rules =
+pub is_fine : {network : Network} {seed cycles : ℕ} {seen : Seen} (h : HasStormed network seed cycles seen)
+    → cycles ≤ 100000 → IsInRange network → KeepsRules network → IsFine network seed cycles seen h
+is_fine {network} {seed} {cycles} {seen} h few range rules =
     let under : IsUnder network h.events = record {
       range = range;
       rules = rules;
@@ -121,15 +124,16 @@ is_fine network seed cycles seen h few range rules =
     elim (run.run.within g i) [ inl lt ↦ omega (arith, lt) | inr bad ↦ absurd bad.1 ] in
     record {
       run = run;
-      least = not_below s hs (record { 0 = seen.spread }) h.widest;
+      least = not_below h.widest;
       within = within_precision s hs (amount run.end) (record { 0 = seen.spread }) (omega (arith, ints, precision)) bounded run.well.safe.precision h.widest;
       small = range.precision.most;
     }
 
-pub sums_up : (network : Network) (seed cycles : ℕ) (seen : Seen) (h : HasStormed network seed cycles seen) → IsFine network seed cycles seen h
-    → (summary : Summary) → summary.seed ≡ seed → summary.cycles ≡ cycles → summary.counts ≡ seen.tally → summary.spread.0 ≡ seen.spread
-    → summary.precision ≡ network.precision → Summarises network seed cycles summary
-sums_up network seed cycles seen h fine summary of_seed of_cycles of_counts of_spread of_precision =
+pub sums_up : {network : Network} {seed cycles : ℕ} {seen : Seen} {h : HasStormed network seed cycles seen}
+    → IsFine network seed cycles seen h → (summary : Summary) → summary.seed ≡ seed → summary.cycles ≡ cycles
+    → summary.counts ≡ seen.tally → summary.spread.0 ≡ seen.spread → summary.precision ≡ network.precision
+    → Summarises network seed cycles summary
+sums_up {seed} {cycles} {seen} {h} fine summary of_seed of_cycles of_counts of_spread of_precision =
     let made : ℕ → ℕ → Counts → Units → Units → Summary = λ a b c d e. record { seed = a; cycles = b; counts = c; spread = d; precision = e } in
     let spread : Units = record { 0 = seen.spread } in
     record {
@@ -144,7 +148,7 @@ sums_up network seed cycles seen h fine summary of_seed of_cycles of_counts of_s
       is =
           ap (λ k. made k summary.cycles summary.counts summary.spread summary.precision) of_seed
           ∙ ap (λ k. made seed k summary.counts summary.spread summary.precision) of_cycles
-          ∙ ap (λ (k : Counts). made seed cycles k summary.spread summary.precision) (of_counts ∙ h.tallied)
+          ∙ ap (λ k. made seed cycles k summary.spread summary.precision) (of_counts ∙ h.tallied)
           ∙ ap (λ (z : ℤ). made seed cycles (counts_of h.notes) (record { 0 = z }) summary.precision) of_spread
           ∙ ap (made seed cycles (counts_of h.notes) spread) of_precision;
     }
@@ -156,9 +160,9 @@ spread_fits z least most = (search rules, search rules)
 
 -- ---- the answer
 
-pub storm_given : (seed cycles : ℕ) (network : Network) (status : Status) (old new : Shown) → EndsStorm network seed cycles status old new
-    → GivesAnswer (IsStormAnswer seed cycles network) status old new
-storm_given seed cycles network status old new (inl (summary, sums, gives)) = inl (
+pub storm_given : {seed cycles : ℕ} {network : Network} (status : Status) {old new : Shown}
+    → EndsStorm network seed cycles status old new → GivesAnswer (IsStormAnswer seed cycles network) status old new
+storm_given status (inl (summary, sums, gives)) = inl (
   record { status = Done; lines = lines_of summary },
   record {
     events = sums.events;
@@ -171,10 +175,11 @@ storm_given seed cycles network status old new (inl (summary, sums, gives)) = in
   },
   gives,
 )
-storm_given seed cycles network status old new (inr (memory, same)) = inr (inr memory, same)
+storm_given status (inr (memory, same)) = inr (inr memory, same)
 
-pub storm_accepted : (seed cycles : ℕ) (left : Option (List ℕ)) (network : Network) (status : Status) (old new : Shown)
-    → ForOctets left (λ octets. MeansAccepted octets network) → EndsStorm network seed cycles status old new
-    → AnswersOne (IsNetworkAnswer (IsStormAnswer seed cycles)) left status old new
-storm_accepted seed cycles left network status old new means ends =
-    answered_accepted (IsStormAnswer seed cycles) left network status old new means (storm_given seed cycles network status old new ends)
+pub storm_accepted : {seed cycles : ℕ} (left : Option (List ℕ)) {network : Network} (status : Status)
+    {old new : Shown} → ForOctets left (λ octets. MeansAccepted octets network)
+    → EndsStorm network seed cycles status old new → AnswersOne
+    (IsNetworkAnswer (IsStormAnswer seed cycles)) left status old new
+storm_accepted {seed} {cycles} left {network} status {old} {new} means ends =
+    answered_accepted (IsStormAnswer seed cycles) left network status old new means (storm_given status ends)

@@ -116,7 +116,7 @@ module _ {B K : Type 0} (source : sources.Ghosts B) (sink : sinks.Ghosts K) (beg
     little =
         little_so_far source sink begun way_sees way_stops (lines begun) (IsOwn begun) (way_along begun) network first origin now trace old put d.events
         (shown_by sink new) (λ octets told. let a = d.ended.all octets told in (a.0, a.1, a.2)) d.ended.few d.so_far
-        (writes_answer (record { status = Done; lines = sent_packets it.cut it.time it.sends.items }) status (shown_by sink put) (shown_by sink new) g);
+        (writes_answer (record { status = Done; lines = sent_packets it.cut it.time it.sends.items }) status g);
   }
 
   -- the trace has a fault
@@ -141,5 +141,5 @@ module _ {B K : Type 0} (source : sources.Ghosts B) (sink : sinks.Ghosts K) (beg
         little =
             little_at source sink begun way_sees way_stops (lines begun) (IsOwn begun) (way_along begun) network first origin now trace old put it stop d
             (shown_by sink new)
-            (writes_answer (record { status = wanted; lines = sent_packets it.cut it.time it.sends.items }) status (shown_by sink put) (shown_by sink new) g);
+            (writes_answer (record { status = wanted; lines = sent_packets it.cut it.time it.sends.items }) status g);
       }

@@ -74,7 +74,7 @@ module _ (link : LinkId) (way : Way) (network : Network) (octets : List ℕ) whe
       → IsStopped network octets events
   either_stops (inl w) event admitted = admitted.has.is_open.some w.none_left
   either_stops {events} (inr f) event admitted =
-      fault_stops network events (behind_lines (length events) octets) f.fault event f.is admitted
+      fault_stops network events (behind_lines (length events) octets) f.fault f.is admitted
 
   pub answer_captures : {a : Answer} → IsCapture link way octets network a → Captures link way network octets a
   answer_captures {a} i = by i.is
@@ -121,7 +121,7 @@ module _ (network : Network) (octets : List ℕ) (events : List Event) where
       let joined = events ++ event ∷ more.0 in
       let r = earlier_run_is_front network (clock_reading network joined) joined mark o.mark notes others
       (λ p b. o.high p (place_low network octets events more.0 event o.admitted p (sooner p b)))
-      (lasts network octets events event more.0 mark notes o.admitted sooner run) o.run in
+      (lasts network octets events event more.0 notes o.admitted sooner run) o.run in
       let order = (admitted_in_order network octets joined o.admitted).order in
       record {
         more = event ∷ more.0;

@@ -73,7 +73,7 @@ module _ {K : Type 0} (sink : Ghosts K) where
       → PutsFurther {T = U} sink (Err e) old new
   failed_further lines OutOfMemory old new p = absurd (let is = p.failed.0 in cc)
   failed_further lines WriteFault old new p = record {
-    grew = writes_fails lines (shown_as (told_by sink old)) (shown_as (told_by sink new)) p.failed.1;
+    grew = writes_fails p.failed.1;
     quiet = tt {0};
     cause = p.failed.2;
   }

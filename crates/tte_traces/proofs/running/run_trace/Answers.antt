@@ -22,7 +22,7 @@ returns-in-Ok-clause-safe g c =
     let n = c.in-Ok.accepted in
     safely_accepted IsWholeReport IsReportToFault IsRefusalText refusal_lines (λ reason. (reason, refl)) (g.A.Source.left c.args.first.now)
     (g.B.Source.left c.args.second.now) c.run_network.result _ _ n (λ trace. IsRunAnswer trace n)
-    (λ octets trace a m is. report_safe octets trace n IsRefusalText c.in-Ok.ensures.range a m is) c.in-Ok.ensures.accepted
+    (λ octets trace a m is. report_safe IsRefusalText c.in-Ok.ensures.range m is) c.in-Ok.ensures.accepted
     (trace_given (λ trace. IsRunAnswer trace n) (g.B.Source.left c.args.second.now) c.run_network.result _ _
     (λ trace. trace_answers_exist report_lines n trace c.in-Ok.ensures.range) c.run_network.ensures.ends.general)
 

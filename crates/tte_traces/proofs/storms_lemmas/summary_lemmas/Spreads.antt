@@ -4,8 +4,8 @@ use Rattle.{run_law.specs.scenario.Scenarios.Scenario, std.proofs.lemmas.Int.int
 use Rattle.tte_traces.specs.storms.summary.{Laws.{SpreadIsOne, SpreadIsWithinPrecision}, Spread.{AreSeenApart, IsGreatestSpread}}
 
 -- where two devices are seen, one is seen with itself
-alone : (s : Scenario) (hs : List Happening) (apart : ℤ) → AreSeenApart s hs apart → AreSeenApart s hs (pos 0)
-alone s hs apart seen =
+alone : {s : Scenario} {hs : List Happening} {apart : ℤ} → AreSeenApart s hs apart → AreSeenApart s hs (pos 0)
+alone {s} {hs} seen =
     let seen_then = seen.apart_then in
     let here = local s hs seen_then.ahead (time_of seen.seen_at) in
     record {
@@ -24,20 +24,21 @@ alone s hs apart seen =
     }
 
 -- one is at most the other
-at_most : (s : Scenario) (hs : List Happening) (a b : Units) → IsGreatestSpread s hs a → IsGreatestSpread s hs b → a.0 ≤ℤ b.0
-at_most s hs a b one other =
+at_most : {s : Scenario} {hs : List Happening} {a b : Units} → IsGreatestSpread s hs a → IsGreatestSpread s hs b
+    → a.0 ≤ℤ b.0
+at_most {a} one other =
     elim one.reached [
       | inl none ↦
           elim other.reached [
             | inl zero ↦ omega (arith, ints, none, zero)
-            | inr seen ↦ omega (arith, ints, none, other.bound (pos 0) (alone s hs b.0 seen))
+            | inr seen ↦ omega (arith, ints, none, other.bound (pos 0) (alone seen))
           ]
       | inr seen ↦ other.bound a.0 seen
     ]
 
 pub spread_is_one : SpreadIsOne
 spread_is_one s hs a b one other =
-    let same : a.0 ≡ b.0 = omega (arith, ints, at_most s hs a b one other, at_most s hs b a other one) in
+    let same : a.0 ≡ b.0 = omega (arith, ints, at_most one other, at_most other one) in
     ap (λ (z : ℤ). let u : Units = record { 0 = z } in u) same
 
 pub within_precision : SpreadIsWithinPrecision

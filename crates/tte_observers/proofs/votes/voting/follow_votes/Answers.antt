@@ -7,13 +7,13 @@ use Rattle.tte_observers.proofs.votes.voting.follow_votes.Goals as goal
 pub drive-requires-clause-source : goal.drive-requires-clause-source
 drive-requires-clause-source g c =
     subst (λ m. GaveEvents g.B.Source m c.args.second.now [] c.args.second.now c.new-trace.result) (sym c.network-network.ensures.value)
-    (gave_none g.B.Source c.args.accepted.now c.args.second.now c.new-trace.result c.new-trace.ensures.follows c.new-trace.ensures.reads)
+    (gave_none g.B.Source c.args.second.now c.new-trace.ensures.follows c.new-trace.ensures.reads)
 
 pub returns-in-All-clause-ends : goal.returns-in-All-clause-ends
 returns-in-All-clause-ends g c =
     let begun = c.args.voter.now in
     let d = c.in-All.ensures in
-    ends_for (IsOwn begun) no_lines c.network-network.ensures.value
+    ends_for (IsOwn begun) c.network-network.ensures.value
     (ends_all g.B.Source g.K.Sink begun _ _ _ _ _ _ _ _ _ c.end_votes.result c.end_votes.new.out d
     (c.end_votes.ensures.gives begun.votes.voters d.notes d.sees.votes) c.end_votes.ensures.status)
 
@@ -32,35 +32,35 @@ returns-in-Stopped-Fault-clause-ends g c =
     (c.end_at_fault.ensures.gives begun.votes.voters d.notes d.sees.votes) in
     let status = subst (λ f. IsStatusOf f c.end_at_fault.result (PutFailed g.K.Sink mid c.end_at_fault.new.out)) c.in-Stopped-Fault.fault-is
     c.end_at_fault.ensures.status in
-    ends_for (IsOwn begun) no_lines c.network-network.ensures.value
+    ends_for (IsOwn begun) c.network-network.ensures.value
     (ends_fault g.B.Source g.K.Sink begun _ _ _ _ _ _ _ _ _ c.in-Stopped-Fault.fault line c.end_at_fault.result c.end_at_fault.new.out d
     c.in-Stopped-Fault.field-0-is (omega (arith, a, b)) gives status)
 
 pub returns-in-Stopped-ReadFault-clause-ends : goal.returns-in-Stopped-ReadFault-clause-ends
 returns-in-Stopped-ReadFault-clause-ends g c =
     let begun = c.args.voter.now in
-    ends_for (IsOwn begun) no_lines c.network-network.ensures.value
+    ends_for (IsOwn begun) c.network-network.ensures.value
     (ends_read g.B.Source g.K.Sink begun vote_sees vote_stops no_lines (IsOwn begun) (votes_along begun) _ _ _ _ _ _ _ _ _ c.in-Stopped-ReadFault.ensures
     c.in-Stopped-ReadFault.field-0-is)
 
 pub returns-in-Stopped-WriteFault-clause-ends : goal.returns-in-Stopped-WriteFault-clause-ends
 returns-in-Stopped-WriteFault-clause-ends g c =
     let begun = c.args.voter.now in
-    ends_for (IsOwn begun) no_lines c.network-network.ensures.value
+    ends_for (IsOwn begun) c.network-network.ensures.value
     (ends_unpassed g.B.Source g.K.Sink begun vote_sees vote_stops no_lines (IsOwn begun) (votes_along begun) _ _ _ _ _ _ _ _ _
     c.in-Stopped-WriteFault.ensures)
 
 pub returns-in-Cut-WriteFault-clause-ends : goal.returns-in-Cut-WriteFault-clause-ends
 returns-in-Cut-WriteFault-clause-ends g c =
     let begun = c.args.voter.now in
-    ends_for (IsOwn begun) no_lines c.network-network.ensures.value
+    ends_for (IsOwn begun) c.network-network.ensures.value
     (ends_write g.B.Source g.K.Sink begun vote_sees vote_stops no_lines (IsOwn begun) (votes_along begun) _ _ _ _ _ _ _ _ c.in-Cut-WriteFault.ensures
     c.in-Cut-WriteFault.field-0-is)
 
 pub returns-in-Cut-OutOfMemory-clause-ends : goal.returns-in-Cut-OutOfMemory-clause-ends
 returns-in-Cut-OutOfMemory-clause-ends g c =
     let begun = c.args.voter.now in
-    ends_for (IsOwn begun) no_lines c.network-network.ensures.value
+    ends_for (IsOwn begun) c.network-network.ensures.value
     (ends_memory g.B.Source g.K.Sink begun vote_sees vote_stops no_lines (IsOwn begun) (votes_along begun) _ _ _ _ _ _ _ _ c.in-Cut-OutOfMemory.ensures
     c.end_with.result c.end_with.new.out c.in-Cut-OutOfMemory.field-0-is c.end_with.ensures.ends)
 

@@ -20,11 +20,11 @@ returns-in-Err-admit-clause-judged c network events rest f found =
       short = found.1;
       read = event_as network _ _ c.text.result.now _ (Ok c.line_in.new.event) c.in-Ok.ensures.value over c.text.ensures found.2;
     } in
-    let of_network = subst (λ (n : Network). IsOfNetwork n c.line_in.new.event.what) over c.in-Ok.ensures.of_network in (
+    let of_network = subst (λ n. IsOfNetwork n c.line_in.new.event.what) over c.in-Ok.ensures.of_network in (
       (c.line_in.new.event, has, c.in-Err-admit.ensures.judged network events f.watch of_network),
       record {
         over = f.over;
-        watch = subst (λ (w : Watch). Watches network w events) (sym c.in-Err-admit.ensures.unchanged) f.watch;
+        watch = subst (λ w. Watches network w events) (sym c.in-Err-admit.ensures.unchanged) f.watch;
         lines = f.lines;
         number = f.number;
         ended = f.ended;
@@ -39,12 +39,12 @@ returns-clause-judged c network events rest f found =
       short = found.1;
       read = event_as network _ _ c.text.result.now _ (Ok c.line_in.new.event) c.in-Ok.ensures.value over c.text.ensures found.2;
     } in
-    let of_network = subst (λ (n : Network). IsOfNetwork n c.line_in.new.event.what) over c.in-Ok.ensures.of_network in
+    let of_network = subst (λ n. IsOfNetwork n c.line_in.new.event.what) over c.in-Ok.ensures.of_network in
     let admitted = c.in-Ok-admit.ensures.judged network events f.watch of_network in
     let ends : (c.match-matches.self ≡ true) ↔ (c.line_in.new.event.what ≡ End) = elim c.match-matches.branch [
       | in-End w ↦ (λ t. w.in-End.is, λ e. w.self-is)
       | in_default w ↦ (λ t. absurd cc, λ e. absurd (w.in_default.not-End e))
     ] in (
       record { has = has; within = admitted.0 },
-      more_followed network events c.line_in.new.event c.args.self.now _ f has.is_open.number refl admitted.1 refl has.is_open.unended ends,
+      more_followed c.line_in.new.event _ f has.is_open.number refl admitted.1 refl has.is_open.unended ends,
     )

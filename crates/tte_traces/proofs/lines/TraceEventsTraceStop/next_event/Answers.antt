@@ -10,9 +10,9 @@ returns-clause-gives g c network first origin events gave =
     c.next_event.new.out gave (given_in result event) (record {
       follows = c.next_event.ensures.follows;
       takes = c.next_event.ensures.takes;
-      unchanged = λ not. c.next_event.ensures.unchanged (λ is. not (ap (λ (r : Result Bool TraceStop). given_in r event) is));
+      unchanged = λ not. c.next_event.ensures.unchanged (λ is. not (ap (λ r. given_in r event) is));
       failed_rose = λ is. c.next_event.ensures.failed_rose (stop_given result event ReadFault is);
       passed = λ is. c.next_event.ensures.passed (stop_given result event ReadFault is);
-      quiet = λ not. c.next_event.ensures.quiet (λ is. not (ap (λ (r : Result Bool TraceStop). given_in r event) is));
+      quiet = λ not. c.next_event.ensures.quiet (λ is. not (ap (λ r. given_in r event) is));
       unpassed = λ is. c.next_event.ensures.unpassed (stop_given result event WriteFault is);
     })

@@ -4,7 +4,7 @@ use Rattle.tte_traces.proofs.report.ReportObserver.event.Goals as goal
 pub put_event-requires-clause-of_network : goal.put_event-requires-clause-of_network
 put_event-requires-clause-of_network g c =
     let m = c.requires.may in
-    own_note c.args.network.now (m.events ++ c.args._event.now ∷ []) m.notes c.args.note.now c.args._world.now m.befell.stands
+    own_note m.notes c.args.note.now m.befell.stands
 
 pub returns-clause-goes : goal.returns-clause-goes
 returns-clause-goes g c events notes old befell seen =
@@ -14,7 +14,7 @@ returns-clause-goes g c events notes old befell seen =
       counted = c.put_event.ensures.counted;
       cut = c.put_event.ensures.cut;
     } in
-    report_goes g.K.Sink c.args.network.now notes c.args.note.now c.put_event.result old.told c.args.out.now c.put_event.new.out seen n
+    report_goes g.K.Sink c.args.network.now notes c.args.note.now c.put_event.result old.told seen n
 
 pub returns-clause-puts : goal.returns-clause-puts
 returns-clause-puts g c =
@@ -24,4 +24,4 @@ returns-clause-puts g c =
       counted = c.put_event.ensures.counted;
       cut = c.put_event.ensures.cut;
     } in
-    further g.K.Sink c.args.network.now c.args.note.now c.put_event.result c.args.out.now c.put_event.new.out n
+    further c.put_event.result n

@@ -4,7 +4,7 @@ use Rattle.tte_traces.proofs.report.ReportObserver.record.Goals as goal
 pub put_note-requires-clause-of_network : goal.put_note-requires-clause-of_network
 put_note-requires-clause-of_network g c =
     let m = c.requires.may in
-    own_note c.args.network.now m.events m.notes c.args.note.now c.args._world.now m.given.stands
+    own_note m.notes c.args.note.now m.given.stands
 
 pub returns-in-Ok-clause-goes : goal.returns-in-Ok-clause-goes
 returns-in-Ok-clause-goes g c events notes instant old given seen =
@@ -14,7 +14,7 @@ returns-in-Ok-clause-goes g c events notes instant old given seen =
       counted = c.in-Ok.ensures.counted;
       cut = c.in-Ok.ensures.cut;
     } in
-    report_more g.K.Sink c.args.network.now notes c.args.note.now (tt {0}) old.told c.args.out.now c.put_note.new.out seen n
+    report_more g.K.Sink c.args.network.now notes c.args.note.now (tt {0}) old.told seen n
 
 pub returns-in-Ok-clause-puts : goal.returns-in-Ok-clause-puts
 returns-in-Ok-clause-puts g c =
@@ -24,7 +24,7 @@ returns-in-Ok-clause-puts g c =
       counted = c.in-Ok.ensures.counted;
       cut = c.in-Ok.ensures.cut;
     } in
-    further_ok g.K.Sink c.args.network.now c.args.note.now (tt {0}) _ c.args.out.now c.put_note.new.out n
+    further_ok g.K.Sink c.args.network.now c.args.note.now (tt {0}) _ n
 
 pub returns-in-Err-clause-goes : goal.returns-in-Err-clause-goes
 returns-in-Err-clause-goes g c events notes instant old given seen =
@@ -34,7 +34,7 @@ returns-in-Err-clause-goes g c events notes instant old given seen =
       counted = c.in-Err.ensures.counted;
       cut = c.in-Err.ensures.cut;
     } in
-    report_fails g.K.Sink c.args.network.now notes c.args.note.now c.in-Err.cut old.told c.args.out.now c.put_note.new.out seen n
+    report_fails g.K.Sink c.args.network.now notes c.args.note.now c.in-Err.cut old.told seen n
 
 pub returns-in-Err-clause-puts : goal.returns-in-Err-clause-puts
 returns-in-Err-clause-puts g c =
@@ -44,4 +44,4 @@ returns-in-Err-clause-puts g c =
       counted = c.in-Err.ensures.counted;
       cut = c.in-Err.ensures.cut;
     } in
-    further_err g.K.Sink c.args.network.now c.args.note.now c.in-Err.cut c.args.out.now c.put_note.new.out n
+    further_err g.K.Sink c.args.network.now c.args.note.now c.in-Err.cut n

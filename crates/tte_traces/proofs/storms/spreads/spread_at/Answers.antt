@@ -33,9 +33,9 @@ devices-preserved c = record {
               greatest_is = w.with_local.ensures.greatest_is;
             } in
             subst (AreEnds s hs t (n + 1)) (sym w.ends-is)
-            (ends_widen s hs t n c.devices.ends w.in-Some.local w.with_local.result
-            (subst (λ (l : List _). n < length l) c.as_slice.ensures c.devices-test.true) shown.0 shown.1
-            (subst (λ z. Widens c.devices.ends z w.with_local.result) (value_is w.in-Some.local w.in-Some.ensures.range) widens) old)
+            (ends_widen s hs t n c.devices.ends
+            (subst (λ l. n < length l) c.as_slice.ensures c.devices-test.true) shown.0 shown.1
+            (subst (λ z. Widens c.devices.ends z w.with_local.result) (value_is w.in-Some.ensures.range) widens) old)
         | in-None w ↦
             subst (AreEnds s hs t (n + 1)) (sym w.ends-is)
             (ends_stay s hs t n c.devices.ends (subst (λ (o : Option _). IsLocalClock s hs (record { 0 = n }) t o) w.in-None.is is) old)
@@ -50,8 +50,8 @@ pub overflow_sub-result : goal.overflow_sub-result
 overflow_sub-result c =
     let ends = c.in-Some-ends.ends in
     let wide = subst (λ (o : Option Ends). IfSome o (λ e. IsWide e.least × IsWide e.greatest)) c.in-Some-ends.is c.devices.invariant.wide in
-    subst (λ z. FitsSigned w128 (z -ℤ to_z w128 (of_z w128 ends.least))) (sym (value_is ends.greatest wide.1))
-    (subst (λ z. FitsSigned w128 (ends.greatest -ℤ z)) (sym (value_is ends.least wide.0)) (apart_fits ends.greatest ends.least wide.1 wide.0))
+    subst (λ z. FitsSigned w128 (z -ℤ to_z w128 (of_z w128 ends.least))) (sym (value_is wide.1))
+    (subst (λ z. FitsSigned w128 (ends.greatest -ℤ z)) (sym (value_is wide.0)) (apart_fits wide.1 wide.0))
 
 pub returns-in-Some-ends : goal.returns-in-Some-ends
 returns-in-Some-ends c = λ events notes complete.
@@ -63,8 +63,8 @@ returns-in-Some-ends c = λ events notes complete.
     let wide = subst (λ (o : Option Ends). IfSome o (λ e. IsWide e.least × IsWide e.greatest)) c.in-Some-ends.is c.devices.invariant.wide in
     let are = subst (AreEnds s hs t c.devices.device) c.in-Some-ends.is (c.devices.invariant.ends events notes complete) in
     let all : c.devices.device ≡ length network.device =
-    omega (arith, c.devices-test.false, c.devices.auto.device-end) ∙ ap (λ (l : List _). length l) c.as_slice.ensures in
-    subst (IsSpreadAt s hs t) (sym (apart_is ends.greatest ends.least wide.1 wide.0))
+    omega (arith, c.devices-test.false, c.devices.auto.device-end) ∙ ap (λ l. length l) c.as_slice.ensures in
+    subst (IsSpreadAt s hs t) (sym (apart_is wide.1 wide.0))
     (spread_of s hs t ends (subst (λ n. AreEnds s hs t n (Some ends)) all are))
 
 pub returns-in-None-ends : goal.returns-in-None-ends
@@ -75,5 +75,5 @@ returns-in-None-ends c = λ events notes complete.
     let t = amount c.args.t in
     let are = subst (AreEnds s hs t c.devices.device) c.in-None-ends.is (c.devices.invariant.ends events notes complete) in
     let all : c.devices.device ≡ length network.device =
-    omega (arith, c.devices-test.false, c.devices.auto.device-end) ∙ ap (λ (l : List _). length l) c.as_slice.ensures in
+    omega (arith, c.devices-test.false, c.devices.auto.device-end) ∙ ap (λ l. length l) c.as_slice.ensures in
     no_spread s hs t (subst (λ n. AreEnds s hs t n None) all are)

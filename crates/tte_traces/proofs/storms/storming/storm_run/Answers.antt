@@ -5,8 +5,8 @@ use Rattle.tte_traces.proofs.storms.storming.storm_run.Goals as goal
 pub returns-in-Ok-clause-general : goal.returns-in-Ok-clause-general
 returns-in-Ok-clause-general g c =
     let shown = shown_by g.K.Sink in
-    storm_accepted c.args.seed c.args.cycles (g.A.Source.left c.args.source.now) c.in-Ok.accepted c.run_storm.result (shown c.args.out.now)
-    (shown c.run_storm.new.out) c.in-Ok.ensures.accepted c.run_storm.ensures.ends
+    storm_accepted (g.A.Source.left c.args.source.now) c.run_storm.result c.in-Ok.ensures.accepted
+    c.run_storm.ensures.ends
 
 pub returns-in-Ok-clause-safe : goal.returns-in-Ok-clause-safe
 returns-in-Ok-clause-safe g c =

@@ -5,14 +5,14 @@ use Rattle.tte_traces.proofs.storms.summing.put_summary.Goals as goal
 pub returns-in-Err-clause-gives : goal.returns-in-Err-clause-gives
 returns-in-Err-clause-gives g c =
     let shown = shown_by g.K.Sink in
-    lines_fail (lines_of c.args.summary.now) c.lines.number (shown c.args.out.now) (shown c.lines.out) (shown c.put.new.self) c.as_slice.result.now
+    lines_fail (shown c.put.new.self) c.as_slice.result.now
     c.lines.invariant.puts (c.make_line.ensures ∙ ap Some (sym c.as_slice.ensures)) c.in-Err.ensures.front c.put.ensures.counted
 
 pub lines-preserved : goal.lines-preserved
 lines-preserved g c =
     let shown = shown_by g.K.Sink in
     record {
-      puts = lines_more (lines_of c.args.summary.now) c.lines.number (shown c.args.out.now) (shown c.lines.out) (shown c.put.new.self) c.as_slice.result.now
+      puts = lines_more (shown c.put.new.self) c.as_slice.result.now
           c.lines.invariant.puts (c.make_line.ensures ∙ ap Some (sym c.as_slice.ensures)) c.in-Ok.ensures.all c.put.ensures.counted;
       quiet = c.in-Ok.ensures.ok_unchanged ∙ c.lines.invariant.quiet;
     }
@@ -20,5 +20,5 @@ lines-preserved g c =
 pub returns-clause-gives : goal.returns-clause-gives
 returns-clause-gives g c =
     let shown = shown_by g.K.Sink in
-    lines_all (lines_of c.args.summary.now) c.lines.number c.end_with.result (shown c.args.out.now) (shown c.lines.out) (shown c.end_with.new.out)
+    lines_all c.end_with.result (shown c.end_with.new.out)
     c.lines.invariant.puts (omega (arith, c.lines-test.false, c.lines.auto.number-end)) c.end_with.ensures.ends

@@ -8,8 +8,7 @@ told-requires-clause-stormed g c =
     let seen = c.drive.new.observer in
     let origin = c.new-storm.result in
     let storm = c.new-storm.ensures in
-    let has = has_stormed c.network-network.result.now origin.storm.seed origin.storm.cycles d.events d.notes c.drive.new.world c.drive.new.source _ _ seen
-    d.ended.0 d.ended.1 d.stands d.records d.sees in
-    subst (λ (n : Network). HasStormed n c.args.seed c.args.cycles seen) c.network-network.ensures.value
-    (subst (λ (k : ℕ). HasStormed c.network-network.result.now c.args.seed k seen) storm.cycles_is
-    (subst (λ (k : ℕ). HasStormed c.network-network.result.now k origin.storm.cycles seen) storm.seed_is has))
+    let has = has_stormed d.ended.0 d.ended.1 d.stands d.records d.sees in
+    subst (λ n. HasStormed n c.args.seed c.args.cycles seen) c.network-network.ensures.value
+    (subst (λ k. HasStormed c.network-network.result.now c.args.seed k seen) storm.cycles_is
+    (subst (λ k. HasStormed c.network-network.result.now k origin.storm.cycles seen) storm.seed_is has))

@@ -6,7 +6,7 @@ pub overflow_cast-result : goal.overflow_cast-result
 overflow_cast-result c =
     let network = c.args.accepted.now in
     let seen = c.args.seen.now in
-    let fine = is_fine network c.args.seed c.args.cycles seen c.requires.stormed c.requires.most c.network.ensures.range c.network.ensures.rules in
+    let fine = is_fine c.requires.stormed c.requires.most c.network.ensures.range c.network.ensures.rules in
     let z = seen.spread in
     let least = fine.least in
     let within = fine.within in
@@ -18,12 +18,12 @@ pub returns : goal.returns
 returns c =
     let network = c.args.accepted.now in
     let seen = c.args.seen.now in
-    let fine = is_fine network c.args.seed c.args.cycles seen c.requires.stormed c.requires.most c.network.ensures.range c.network.ensures.rules in
+    let fine = is_fine c.requires.stormed c.requires.most c.network.ensures.range c.network.ensures.rules in
     let z = seen.spread in
     let least = fine.least in
     let within = fine.within in
     let small = fine.small in
     let fits = spread_fits z least (omega (arith, ints, within, small)) in
-    sums_up network c.args.seed c.args.cycles seen c.requires.stormed fine _ refl refl c.counts.ensures
+    sums_up fine _ refl refl c.counts.ensures
     (ap (λ (x : ℤ). to_z w64 (of_z w64 x)) (to_z-of_z w128 z fits.0) ∙ to_z-of_z w64 z fits.1)
     (ap (λ (n : Network). n.precision) c.network.ensures.value)

@@ -12,7 +12,7 @@ spread_at-spread-requires-clause-complete g c =
     record {
       events = m.events;
       notes = m.notes;
-      is = subst (λ (n : Network). IsCompleteExact n c.args.world.now (amount c.args.time) m.events m.notes) (sym m.complete.is.is.same) m.complete;
+      is = subst (λ n. IsCompleteExact n c.args.world.now (amount c.args.time) m.events m.notes) (sym m.complete.is.is.same) m.complete;
     }
 
 pub returns-then-self-spread-clause-goes : goal.returns-then-self-spread-clause-goes

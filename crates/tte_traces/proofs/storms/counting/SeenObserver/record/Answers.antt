@@ -9,8 +9,8 @@ add-requires g c =
 
 pub returns-clause-goes : goal.returns-clause-goes
 returns-clause-goes g c events notes instant old given seen =
-    seen_record c.args._network.now events notes c.args.note.now c.args._world.now instant c.is_correction.result old.told (told_by g.K.Sink c.args._out.now)
-    c.args.self.now _ given seen (c.is_correction.ensures ∙ (ap corrects c.behind-note.view_is ∙ ap corrects c.body.ensures))
+    seen_record c.is_correction.result _ given seen
+    (c.is_correction.ensures ∙ (ap corrects c.behind-note.view_is ∙ ap corrects c.body.ensures))
     (c.add.ensures notes c.args.note.now (c.counted_as.ensures ∙ (ap counted_as c.behind-note.view_is ∙ ap counted_as c.body.ensures)) seen.tallied) refl
 
 pub returns-clause-asks : goal.returns-clause-asks
