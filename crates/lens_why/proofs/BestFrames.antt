@@ -67,26 +67,28 @@ better_is (Some best) later =
       | inr lacks ↦ inr (λ b. not_both (is_behind later best) (behind_from later best b) lacks, ap (λ (b : Bool). if b then best else later) lacks)
     ]
 
-step : (s : Summary) (before : List Hearing) (channel : Channel) (frame : HeardFrame) (within : Bool) → Summarizes s before
-    → Summarizes (with_hearing s (record { channel = channel; frame = frame; within = within }))
+step : {s : Summary} {before : List Hearing} (channel : Channel) (frame : HeardFrame) (within : Bool)
+    → Summarizes s before → Summarizes (with_hearing s (record { channel = channel; frame = frame; within = within }))
     (before ++ record { channel = channel; frame = frame; within = within } ∷ [])
-step s before A frame true is = hears_on_a s before frame (better s.best_a frame) (better_is s.best_a frame) is
-step s before B frame true is = hears_on_b s before frame (better s.best_b frame) (better_is s.best_b frame) is
-step s before channel frame false is = hears_outside s before (record { channel = channel; frame = frame; within = false }) refl is
+step {s} {before} A frame true is = hears_on_a s before frame (better s.best_a frame) (better_is s.best_a frame) is
+step {s} {before} B frame true is = hears_on_b s before frame (better s.best_b frame) (better_is s.best_b frame) is
+step {s} {before} channel frame false is =
+    hears_outside s before (record { channel = channel; frame = frame; within = false }) refl is
 
-summarizes_from : (s : Summary) (before rest : List Hearing) → Summarizes s before → Summarizes (fold with_hearing s rest) (before ++ rest)
-summarizes_from s before [] is = subst (Summarizes s) (sym (append-nil before)) is
-summarizes_from s before (h ∷ rest) is =
+summarizes_from : {s : Summary} {before : List Hearing} (rest : List Hearing) → Summarizes s before
+    → Summarizes (fold with_hearing s rest) (before ++ rest)
+summarizes_from {s} {before} [] is = subst (Summarizes s) (sym (append-nil before)) is
+summarizes_from {s} {before} (h ∷ rest) is =
     subst (Summarizes (fold with_hearing (with_hearing s h) rest)) (append_assoc before (h ∷ []) rest)
-    (summarizes_from (with_hearing s h) (before ++ h ∷ []) rest (step s before h.channel h.frame h.within is))
+    (summarizes_from rest (step h.channel h.frame h.within is))
 
 -- what is kept of what was heard sums it up
 pub summarized : (heard : List Hearing) → Summarizes (summary_of heard) heard
-summarized heard = summarizes_from _ [] heard silence_summarizes
+summarized heard = summarizes_from heard silence_summarizes
 
 -- what is kept is one
-pub summary_is : (s : Summary) (heard : List Hearing) → Summarizes s heard → s ≡ summary_of heard
-summary_is s heard is = one_summary heard s (summary_of heard) is (summarizes_from _ [] heard silence_summarizes)
+pub summary_is : {s : Summary} {heard : List Hearing} → Summarizes s heard → s ≡ summary_of heard
+summary_is {s} {heard} is = one_summary heard s (summary_of heard) is (summarizes_from heard silence_summarizes)
 
 -- ---- before a correction
 
@@ -121,7 +123,7 @@ module _ (network : Network) (octets : List ℕ) (ns : List Note) (end : Units) 
   stands_before high g i b =
       elim (in_parts g before (h ∷ later) (subst (IsIn g) parts i)) [
         | inl there ↦ there
-        | inr (inl same) ↦ absurd (never_before h high (subst (λ (x : Happening). IsBefore (place_of x) (time_of h ∷ 6 ∷ [])) same b))
+        | inr (inl same) ↦ absurd (never_before h high (subst (λ x. IsBefore (place_of x) (time_of h ∷ 6 ∷ [])) same b))
         | inr (inr more) ↦
             let ahead = behind_first place_of (audits.IsDue own) before later h g (subst (IsFounded place_of (audits.IsDue own)) parts audited) more in
             absurd (never_before h high (chain (place_of h) (place_of g) (time_of h ∷ 6 ∷ []) ahead b))
@@ -138,7 +140,7 @@ module _ (network : Network) (octets : List ℕ) (ns : List Note) (end : Units) 
       ∙ append-nil (filter test before))
     where
       never : (g : Happening) → IsIn g (h ∷ later) → IsBefore (place_of g) (time_of h ∷ 6 ∷ []) → ⊥
-      never g (inl same) b = never_before h high (subst (λ (x : Happening). IsBefore (place_of x) (time_of h ∷ 6 ∷ [])) same b)
+      never g (inl same) b = never_before h high (subst (λ x. IsBefore (place_of x) (time_of h ∷ 6 ∷ [])) same b)
       never g (inr more) b =
           let ahead = behind_first place_of (audits.IsDue own) before later h g (subst (IsFounded place_of (audits.IsDue own)) parts audited) more in
           never_before h high (chain (place_of h) (place_of g) (time_of h ∷ 6 ∷ []) ahead b)
@@ -183,24 +185,27 @@ module _ (network : Network) (octets : List ℕ) (ns : List Note) (end : Units) 
 abbrev pub best : ℕ → Members → ℤ → Best
 best n members v = record { number = n; members = members; value = v }
 
--- what a best frame of enough members says
-pub said_is : (s : Scenario) (hs : List Happening) (h : Happening) (device : DeviceId) (cycle : ℕ) (adjustment : ℤ) (channel : Channel) (frame : HeardFrame)
-    (number : ℕ) (value : ℤ) → nat_le s.network.sync_threshold (count_of frame.members) ≡ true
-    → number ≡ last_sought s.network (Frame device channel frame) (records_before (place_of h) hs)
-    → value ≡ value_of s.network device cycle adjustment frame.point
-    → Some (best number frame.members value) ≡ said_by s hs h device cycle adjustment channel frame
-said_is s hs h device cycle adjustment channel frame number value enough told is =
-    let last = last_sought s.network (Frame device channel frame) (records_before (place_of h) hs) in
-    ap (λ (n : ℕ). Some (best n frame.members value)) told
-    ∙ ap (λ (v : ℤ). Some (best last frame.members v)) is
-    ∙ sym (ap (λ (b : Bool). if b then Some (best last frame.members (value_of s.network device cycle adjustment frame.point)) else None) enough)
+module _ (s : Scenario) (hs : List Happening) (h : Happening) (device : DeviceId) (cycle : ℕ) (adjustment : ℤ)
+    (channel : Channel) (frame : HeardFrame) where
+  -- what a best frame of enough members says
+  pub said_is : (number : ℕ) (value : ℤ) → nat_le s.network.sync_threshold (count_of frame.members) ≡ true
+      → number ≡ last_sought s.network (Frame device channel frame) (records_before (place_of h) hs)
+      → value ≡ value_of s.network device cycle adjustment frame.point
+      → Some (best number frame.members value) ≡ said_by s hs h device cycle adjustment channel frame
+  said_is number value enough told is =
+      let last = last_sought s.network (Frame device channel frame) (records_before (place_of h) hs) in
+      ap (λ n. Some (best n frame.members value)) told
+      ∙ ap (λ v. Some (best last frame.members v)) is
+      ∙ sym (ap (λ (b : Bool). if b then Some (best last frame.members
+      (value_of s.network device cycle adjustment frame.point)) else None) enough)
 
--- one of too few members says nothing
-pub said_none : (s : Scenario) (hs : List Happening) (h : Happening) (device : DeviceId) (cycle : ℕ) (adjustment : ℤ) (channel : Channel) (frame : HeardFrame)
-    → nat_le s.network.sync_threshold (count_of frame.members) ≡ false → None ≡ said_by s hs h device cycle adjustment channel frame
-said_none s hs h device cycle adjustment channel frame few =
-    let last = last_sought s.network (Frame device channel frame) (records_before (place_of h) hs) in
-    sym (ap (λ (b : Bool). if b then Some (best last frame.members (value_of s.network device cycle adjustment frame.point)) else None) few)
+  -- one of too few members says nothing
+  pub said_none : nat_le s.network.sync_threshold (count_of frame.members) ≡ false
+      → None ≡ said_by s hs h device cycle adjustment channel frame
+  said_none few =
+      let last = last_sought s.network (Frame device channel frame) (records_before (place_of h) hs) in
+      sym (ap (λ (b : Bool). if b then Some (best last frame.members
+      (value_of s.network device cycle adjustment frame.point)) else None) few)
 
 -- so what both channels say is the ground
 pub corrected_is : (s : Scenario) (hs : List Happening) (h : Happening) (device : DeviceId) (cycle t : ℕ) (heard : Summary) (adjustment : ℤ)
@@ -209,11 +214,11 @@ pub corrected_is : (s : Scenario) (hs : List Happening) (h : Happening) (device 
     → b ≡ option_and_then (said_by s hs h device cycle adjustment B) (best_on B heard) → Corrected a b ≡ corrected_ground s hs h device cycle
 corrected_is s hs h device cycle t heard adjustment a b at is changed said_a said_b =
     let heard_so : heard ≡ heard_at_point s hs device (time_of h) = is ∙ ap (heard_at_point s hs device) at in
-    let changed_so : adjustment ≡ (adjustment_before s hs device (time_of h)).0 = changed ∙ ap (λ (u : ℕ). (adjustment_before s hs device u).0) at in
+    let changed_so : adjustment ≡ (adjustment_before s hs device (time_of h)).0 = changed ∙ ap (λ u. (adjustment_before s hs device u).0) at in
     let each : (channel : Channel) → option_and_then (said_by s hs h device cycle adjustment channel) (best_on channel heard)
     ≡ channel_ground s hs h device cycle channel = λ channel.
-    ap (λ (z : ℤ). option_and_then (said_by s hs h device cycle z channel) (best_on channel heard)) changed_so
-    ∙ ap (λ (m : Summary). option_and_then (said_by s hs h device cycle (adjustment_before s hs device (time_of h)).0 channel) (best_on channel m)) heard_so in
+    ap (λ z. option_and_then (said_by s hs h device cycle z channel) (best_on channel heard)) changed_so
+    ∙ ap (λ m. option_and_then (said_by s hs h device cycle (adjustment_before s hs device (time_of h)).0 channel) (best_on channel m)) heard_so in
     ap (λ (o : Option Best). Corrected o b) (said_a ∙ each A)
     ∙ ap (λ (o : Option Best). Corrected (channel_ground s hs h device cycle A) o) (said_b ∙ each B)
 

@@ -9,56 +9,58 @@ abbrev pub Along : List Happening → ℕ → List Happening → ℕ → Type 0
 Along hs n [] m = n ≡ m
 Along hs n (g ∷ gs) m = (numbered hs n ≡ Some g) × Along hs (cause_of g.note.body) gs m
 
--- 0 is the number of none
-pub none_at_zero : (hs : List Happening) (n : ℕ) (h : Happening) → n ≡ 0 → numbered hs n ≡ Some h → ⊥
-none_at_zero hs zero h e there = cc
-none_at_zero hs (suc n) h e there = cc
+module _ (hs : List Happening) where
+  -- 0 is the number of none
+  pub none_at_zero : (n : ℕ) (h : Happening) → n ≡ 0 → numbered hs n ≡ Some h → ⊥
+  none_at_zero zero h e there = cc
+  none_at_zero (suc n) h e there = cc
 
--- one more record
-pub along_more : (hs : List Happening) (n : ℕ) (xs : List Happening) (m : ℕ) (g : Happening) → Along hs n xs m → numbered hs m ≡ Some g
-    → Along hs n (xs ++ g ∷ []) (cause_of g.note.body)
-along_more hs n [] m g a there = (subst (λ (k : ℕ). numbered hs k ≡ Some g) (sym a) there, refl)
-along_more hs n (x ∷ xs) m g a there = (a.0, along_more hs (cause_of x.note.body) xs m g a.1 there)
+  -- one more record
+  pub along_more : (n : ℕ) (xs : List Happening) (m : ℕ) (g : Happening) → Along hs n xs m → numbered hs m ≡ Some g
+      → Along hs n (xs ++ g ∷ []) (cause_of g.note.body)
+  along_more n [] m g a there = (subst (λ k. numbered hs k ≡ Some g) (sym a) there, refl)
+  along_more n (x ∷ xs) m g a there = (a.0, along_more (cause_of x.note.body) xs m g a.1 there)
 
--- some records and then others
-pub along_both : (hs : List Happening) (n : ℕ) (xs : List Happening) (m : ℕ) (ys : List Happening) (k : ℕ) → Along hs n xs m → Along hs m ys k
-    → Along hs n (xs ++ ys) k
-along_both hs n [] m ys k a b = subst (λ (i : ℕ). Along hs i ys k) (sym a) b
-along_both hs n (x ∷ xs) m ys k a b = (a.0, along_both hs (cause_of x.note.body) xs m ys k a.1 b)
+  -- some records and then others
+  pub along_both : (n : ℕ) (xs : List Happening) (m : ℕ) (ys : List Happening) (k : ℕ) → Along hs n xs m
+      → Along hs m ys k → Along hs n (xs ++ ys) k
+  along_both n [] m ys k a b = subst (λ i. Along hs i ys k) (sym a) b
+  along_both n (x ∷ xs) m ys k a b = (a.0, along_both (cause_of x.note.body) xs m ys k a.1 b)
 
--- there is one way to a record without a cause
-pub one_along : (hs : List Happening) (n : ℕ) (xs ys : List Happening) → Along hs n xs 0 → Along hs n ys 0 → xs ≡ ys
-one_along hs n [] [] a b = refl
-one_along hs n [] (y ∷ ys) a b = absurd (none_at_zero hs n y a b.0)
-one_along hs n (x ∷ xs) [] a b = absurd (none_at_zero hs n x b a.0)
-one_along hs n (x ∷ xs) (y ∷ ys) a b =
-    let same : x ≡ y = some_same x y (numbered hs n) a.0 b.0 in
-    let rest : xs ≡ ys = one_along hs (cause_of y.note.body) xs ys (subst (λ (h : Happening). Along hs (cause_of h.note.body) xs 0) same a.1) b.1 in
-    ap (λ (h : Happening). h ∷ xs) same ∙ ap (λ (hs : List Happening). y ∷ hs) rest
+  -- there is one way to a record without a cause
+  pub one_along : (n : ℕ) (xs ys : List Happening) → Along hs n xs 0 → Along hs n ys 0 → xs ≡ ys
+  one_along n [] [] a b = refl
+  one_along n [] (y ∷ ys) a b = absurd (none_at_zero n y a b.0)
+  one_along n (x ∷ xs) [] a b = absurd (none_at_zero n x b a.0)
+  one_along n (x ∷ xs) (y ∷ ys) a b =
+      let same : x ≡ y = some_same x y (numbered hs n) a.0 b.0 in
+      let rest : xs ≡ ys = one_along (cause_of y.note.body) xs ys
+      (subst (λ (h : Happening). Along hs (cause_of h.note.body) xs 0) same a.1) b.1 in
+      ap (λ (h : Happening). h ∷ xs) same ∙ ap (λ (hs : List Happening). y ∷ hs) rest
 
--- what is behind a record of the way
-pub along_behind : (hs : List Happening) (n : ℕ) (front : List Happening) (h : Happening) (rest : List Happening) → Along hs n (front ++ h ∷ rest) 0
-    → (m : ℕ) × (numbered hs m ≡ Some h) × Along hs (cause_of h.note.body) rest 0
-along_behind hs n [] h rest a = (n, a.0, a.1)
-along_behind hs n (x ∷ front) h rest a = along_behind hs (cause_of x.note.body) front h rest a.1
+  -- what is behind a record of the way
+  pub along_behind : (n : ℕ) (front : List Happening) (h : Happening) (rest : List Happening)
+      → Along hs n (front ++ h ∷ rest) 0 → (m : ℕ) × (numbered hs m ≡ Some h) × Along hs (cause_of h.note.body) rest 0
+  along_behind n [] h rest a = (n, a.0, a.1)
+  along_behind n (x ∷ front) h rest a = along_behind (cause_of x.note.body) front h rest a.1
 
--- ---- as a chain
+  -- ---- as a chain
 
-pub chain_of : (hs : List Happening) (h : Happening) (gs : List Happening) → Along hs (cause_of h.note.body) gs 0
-    → IsChain hs h gs × (cause_of (last_from h gs).note.body ≡ 0)
-chain_of hs h [] a = (tt, a)
-chain_of hs h (g ∷ gs) a = let r = chain_of hs g gs a.1 in ((a.0, r.0), r.1)
+  pub chain_of : (h : Happening) (gs : List Happening) → Along hs (cause_of h.note.body) gs 0
+      → IsChain hs h gs × (cause_of (last_from h gs).note.body ≡ 0)
+  chain_of h [] a = (tt, a)
+  chain_of h (g ∷ gs) a = let r = chain_of g gs a.1 in ((a.0, r.0), r.1)
 
-pub along_of : (hs : List Happening) (h : Happening) (gs : List Happening) → IsChain hs h gs → cause_of (last_from h gs).note.body ≡ 0
-    → Along hs (cause_of h.note.body) gs 0
-along_of hs h [] c e = e
-along_of hs h (g ∷ gs) c e = (c.0, along_of hs g gs c.1 e)
+  pub along_of : (h : Happening) (gs : List Happening) → IsChain hs h gs → cause_of (last_from h gs).note.body ≡ 0
+      → Along hs (cause_of h.note.body) gs 0
+  along_of h [] c e = e
+  along_of h (g ∷ gs) c e = (c.0, along_of g gs c.1 e)
 
-pub whole_of : (hs : List Happening) (n : ℕ) (h : Happening) (gs : List Happening) → Along hs n (h ∷ gs) 0 → IsWholeChain hs n h gs
-whole_of hs n h gs a = let r = chain_of hs h gs a.1 in record { there = a.0; chain = r.0; ends = r.1 }
+  pub whole_of : (n : ℕ) (h : Happening) (gs : List Happening) → Along hs n (h ∷ gs) 0 → IsWholeChain hs n h gs
+  whole_of n h gs a = let r = chain_of h gs a.1 in record { there = a.0; chain = r.0; ends = r.1 }
 
-pub along_whole : (hs : List Happening) (n : ℕ) (h : Happening) (gs : List Happening) → IsWholeChain hs n h gs → Along hs n (h ∷ gs) 0
-along_whole hs n h gs w = (w.there, along_of hs h gs w.chain w.ends)
+  pub along_whole : {n : ℕ} {h : Happening} {gs : List Happening} → IsWholeChain hs n h gs → Along hs n (h ∷ gs) 0
+  along_whole {h} {gs} w = (w.there, along_of h gs w.chain w.ends)
 
 -- ---- in a run
 

@@ -93,7 +93,7 @@ one_point ow points cs p some are past Joined is =
     record {
       clusters = split.0 ++ joined ow j.c p.reading p.master ∷ [];
       are = are-joined ow points split.0 j.c p some (subst (AreClusters ow points) split.1 are) past
-          (sym is ∙ ap (λ (ks : List Cluster). role ks p) split.1);
+          (sym is ∙ ap (λ ks. role ks p) split.1);
       is = ap (λ (o : Option Cluster). option_map (λ (c : Cluster). joined ow c p.reading p.master) o) at.0
           ∙ sym (last_pushed None split.0 (joined ow j.c p.reading p.master));
     }
@@ -102,20 +102,21 @@ one_point ow points cs p some are past Repeat is =
 one_point ow points cs p some are past OtherCycle is =
     record { clusters = cs; are = are-ignored ow points cs p some are past (inr is); is = refl }
 
-all_points : (ow : ℤ) (before after : List Point) (last : Option Cluster) → pos 0 ≤ℤ ow → IsLastOf ow before last → Rises before after
-    → IsLastOf ow (before ++ after) (fold (behind_point ow) last after)
-all_points ow before [] last some of up = subst (λ (ps : List Point). IsLastOf ow ps last) (sym (append-nil before)) of
-all_points ow before (p ∷ after) last some of up =
+all_points : {ow : ℤ} {before : List Point} (after : List Point) {last : Option Cluster} → pos 0 ≤ℤ ow
+    → IsLastOf ow before last → Rises before after → IsLastOf ow (before ++ after) (fold (behind_point ow) last after)
+all_points {ow} {before} [] {last} some of up =
+    subst (λ ps. IsLastOf ow ps last) (sym (append-nil before)) of
+all_points {ow} {before} (p ∷ after) {last} some of up =
     let one = one_point ow before of.clusters p some of.are up.0 (role of.clusters p) refl in
     let next : IsLastOf ow (before ++ p ∷ []) (behind_point ow last p) =
-    subst (λ (o : Option Cluster). IsLastOf ow (before ++ p ∷ []) (behind_point ow o p)) (sym of.is) one in
-    subst (λ (ps : List Point). IsLastOf ow ps (fold (behind_point ow) (behind_point ow last p) after)) (append_assoc before (p ∷ []) after)
-    (all_points ow (before ++ p ∷ []) after (behind_point ow last p) some next up.1)
+    subst (λ o. IsLastOf ow (before ++ p ∷ []) (behind_point ow o p)) (sym of.is) one in
+    subst (λ ps. IsLastOf ow ps (fold (behind_point ow) (behind_point ow last p) after)) (append_assoc before (p ∷ []) after)
+    (all_points after some next up.1)
 
 pub last_is_of_clusters : LastIsOfClusters
 last_is_of_clusters ow points clusters some up are =
     let none : IsLastOf ow [] None = record { clusters = []; are = tt; is = refl } in
-    let all = all_points ow [] points None some none (rises_from [] points (Ordered-from points up)) in
+    let all = all_points points some none (rises_from [] points (Ordered-from points up)) in
     all.is ∙ ap (λ (cs : List Cluster). last_or None cs) (AreClusters-unique ow points all.clusters clusters all.are are)
 
 -- ---- the stretch of a device
@@ -129,44 +130,54 @@ ComeInOrder d hs = (ps qs : List Happening) (x : Happening) (p : Point) → hs �
 abbrev Stands : Network → DeviceId → List Happening → Type 0
 Stands network d hs = IsLastOf (observation_window network) (points_of hs d) (last_collection network d hs)
 
-ended_there : (network : Network) (d : DeviceId) (hs : List Happening) (x : Happening) → ends_stretch d x.note.body ≡ true → Stands network d (hs ++ x ∷ [])
-ended_there network d hs x ends =
-    let none : points_of (hs ++ x ∷ []) d ≡ [] = ap (filter_map (λ y. point_by d y y.note.body))
-    (after_last_at (λ y. ends_stretch d y.note.body) hs x [] ends (All-nil (λ y. not (ends_stretch d y.note.body) ≡ true))) in
-    subst (λ (ps : List Point). IsLastOf (observation_window network) ps (last_of (observation_window network) ps)) (sym none)
-    (record { clusters = []; are = tt; is = refl })
+module _ (network : Network) (d : DeviceId) where
+  ended_there : (hs : List Happening) (x : Happening) → ends_stretch d x.note.body ≡ true
+      → Stands network d (hs ++ x ∷ [])
+  ended_there hs x ends =
+      let none : points_of (hs ++ x ∷ []) d ≡ [] = ap (filter_map (λ y. point_by d y y.note.body))
+      (after_last_at (λ y. ends_stretch d y.note.body) hs x [] ends
+      (All-nil (λ y. not (ends_stretch d y.note.body) ≡ true))) in
+      subst (λ ps. IsLastOf (observation_window network) ps (last_of (observation_window network) ps))
+      (sym none)
+      (record { clusters = []; are = tt; is = refl })
 
-went_further : (network : Network) (d : DeviceId) (hs : List Happening) (x : Happening) (o : Option Point) → Stands network d hs
-    → ends_stretch d x.note.body ≡ false → point_by d x x.note.body ≡ o → ((p : Point) → o ≡ Some p → AreBefore (points_of hs d) p.reading)
-    → Stands network d (hs ++ x ∷ [])
-went_further network d hs x None so on given rises =
-    let same : points_of (hs ++ x ∷ []) d ≡ points_of hs d = went_on hs x d on ∙ ap (λ (o : Option Point). points_of hs d ++ cons_option o []) given
-    ∙ append-nil (points_of hs d) in
-    subst (λ (ps : List Point). IsLastOf (observation_window network) ps (last_of (observation_window network) ps)) (sym same) so
-went_further network d hs x (Some p) so on given rises =
-    let ow = observation_window network in
-    let more : points_of (hs ++ x ∷ []) d ≡ points_of hs d ++ p ∷ [] = went_on hs x d on
-    ∙ ap (λ (o : Option Point). points_of hs d ++ cons_option o []) given in
-    let one = one_point ow (points_of hs d) so.clusters p (omega (arith, ints)) so.are (rises p refl) (role so.clusters p) refl in
-    let next : IsLastOf ow (points_of hs d ++ p ∷ []) (behind_point ow (last_collection network d hs) p) =
-    subst (λ (o : Option Cluster). IsLastOf ow (points_of hs d ++ p ∷ []) (behind_point ow o p)) (sym so.is) one in
-    subst (λ (ps : List Point). IsLastOf ow ps (last_of ow ps)) (sym more)
-    (subst (IsLastOf ow (points_of hs d ++ p ∷ [])) (sym (fold_push (behind_point ow) None (points_of hs d) p)) next)
+  went_further : (hs : List Happening) (x : Happening) (o : Option Point) → Stands network d hs
+      → ends_stretch d x.note.body ≡ false → point_by d x x.note.body ≡ o
+      → ((p : Point) → o ≡ Some p → AreBefore (points_of hs d) p.reading) → Stands network d (hs ++ x ∷ [])
+  went_further hs x None so on given rises =
+      let same : points_of (hs ++ x ∷ []) d ≡ points_of hs d =
+      went_on hs x d on ∙ ap (λ (o : Option Point). points_of hs d ++ cons_option o []) given
+      ∙ append-nil (points_of hs d) in
+      subst (λ ps. IsLastOf (observation_window network) ps (last_of (observation_window network) ps))
+      (sym same) so
+  went_further hs x (Some p) so on given rises =
+      let ow = observation_window network in
+      let more : points_of (hs ++ x ∷ []) d ≡ points_of hs d ++ p ∷ [] = went_on hs x d on
+      ∙ ap (λ (o : Option Point). points_of hs d ++ cons_option o []) given in
+      let one = one_point ow (points_of hs d) so.clusters p (omega (arith, ints)) so.are (rises p refl)
+      (role so.clusters p) refl in
+      let next : IsLastOf ow (points_of hs d ++ p ∷ []) (behind_point ow (last_collection network d hs) p) =
+      subst (λ o. IsLastOf ow (points_of hs d ++ p ∷ []) (behind_point ow o p)) (sym so.is) one in
+      subst (λ ps. IsLastOf ow ps (last_of ow ps)) (sym more)
+      (subst (IsLastOf ow (points_of hs d ++ p ∷ [])) (sym (fold_push (behind_point ow) None (points_of hs d) p)) next)
 
-all_stand : (network : Network) (d : DeviceId) (all ps qs : List Happening) → ComeInOrder d all → all ≡ ps ++ qs → Stands network d ps → Stands network d all
-all_stand network d all ps [] rises parts so = subst (Stands network d) (sym (parts ∙ append-nil ps)) so
-all_stand network d all ps (x ∷ qs) rises parts so =
-    let next : Stands network d (ps ++ x ∷ []) = elim (cases_Bool (ends_stretch d x.note.body)) [
-      | inl ends ↦ ended_there network d ps x ends
-      | inr on ↦ went_further network d ps x (point_by d x x.note.body) so on refl (λ p given. rises ps qs x p parts on given)
-    ] in
-    all_stand network d all (ps ++ x ∷ []) qs rises (parts ∙ sym (append_assoc ps (x ∷ []) qs)) next
+  all_stand : (all ps qs : List Happening) → ComeInOrder d all → all ≡ ps ++ qs → Stands network d ps
+      → Stands network d all
+  all_stand all ps [] rises parts so = subst (Stands network d) (sym (parts ∙ append-nil ps)) so
+  all_stand all ps (x ∷ qs) rises parts so =
+      let next : Stands network d (ps ++ x ∷ []) = elim (cases_Bool (ends_stretch d x.note.body)) [
+        | inl ends ↦ ended_there ps x ends
+        | inr on ↦ went_further ps x (point_by d x x.note.body) so on refl (λ p given. rises ps qs x p parts on given)
+      ] in
+      all_stand all (ps ++ x ∷ []) qs rises (parts ∙ sym (append_assoc ps (x ∷ []) qs)) next
 
-pub last_stands : (network : Network) (d : DeviceId) (hs : List Happening) (clusters : List Cluster) → ComeInOrder d hs
-    → AreClusters (observation_window network) (points_of hs d) clusters → last_collection network d hs ≡ last_or None clusters
-last_stands network d hs clusters rises are =
-    let all = all_stand network d hs [] hs rises refl (record { clusters = []; are = tt; is = refl }) in
-    all.is ∙ ap (λ (cs : List Cluster). last_or None cs) (AreClusters-unique (observation_window network) (points_of hs d) all.clusters clusters all.are are)
+  pub last_stands : (hs : List Happening) (clusters : List Cluster) → ComeInOrder d hs
+      → AreClusters (observation_window network) (points_of hs d) clusters
+      → last_collection network d hs ≡ last_or None clusters
+  last_stands hs clusters rises are =
+      let all = all_stand hs [] hs rises refl (record { clusters = []; are = tt; is = refl }) in
+      all.is ∙ ap (λ (cs : List Cluster). last_or None cs)
+      (AreClusters-unique (observation_window network) (points_of hs d) all.clusters clusters all.are are)
 
 -- ---- the records of a report
 
@@ -192,7 +203,7 @@ module _ (network : Network) (octets : List ℕ) (ns : List Note) (end : Units) 
       record {
         within = omega (arith, less);
         is = is o.own (take (at - 1) (happenings network ns)) o.there so.is
-            ∙ ap (λ (gs : List Happening). option_map told_of (last_collection network device gs)) (sym o.taken)
+            ∙ ap (λ gs. option_map told_of (last_collection network device gs)) (sym o.taken)
             ∙ ap (λ (n : ℕ). option_map told_of (last_collection network device (take n (happenings network ns)))) (sym next);
       }
 
@@ -203,8 +214,8 @@ module _ (network : Network) (octets : List ℕ) (ns : List Note) (end : Units) 
       let b = before_number network octets ns end of number h there in
       let reached : at ≡ number = omega (arith, past, within) in
       so.is
-      ∙ ap (λ (n : ℕ). option_map told_of (last_collection network device (take (n - 1) (happenings network ns)))) reached
-      ∙ ap (λ (gs : List Happening). option_map told_of (last_collection network device gs)) (sym b.are)
+      ∙ ap (λ n. option_map told_of (last_collection network device (take (n - 1) (happenings network ns)))) reached
+      ∙ ap (λ gs. option_map told_of (last_collection network device gs)) (sym b.are)
 
 -- what is told is the ground
 pub collected_is : (network : Network) (hs : List Happening) (device : DeviceId) (h : Happening) (carried : Carried) (master : ℕ) (last : Option Collection)

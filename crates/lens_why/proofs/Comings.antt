@@ -22,7 +22,7 @@ module _ (s : Scenario) (ps : List Happening) (founded : IsFounded place_of (IsD
         | inr has ↦
             let taken = has.1.taken in
             let found = by_number s ps taken founded (accepted_in ps device _ t cause cycle has.1) in
-            inr (taken, subst (λ (n : ℕ). numbered ps n ≡ Some taken) (sym has.1.number) found)
+            inr (taken, subst (λ n. numbered ps n ≡ Some taken) (sym has.1.number) found)
       ]
 
   of_lost : (device : DeviceId) (t : ℕ) (link : LinkId) (cause : ℕ) → IsLost s ps device t link cause → IsNoneOrThere ps cause
@@ -74,7 +74,7 @@ comes_from_earlier s hs founded n h there =
       | inl none ↦ inl none
       | inr g ↦
           let within = numbered_within at.front cause g.0 g.1 in
-          let whole : numbered hs cause ≡ Some g.0 = subst (λ (t : List Happening). numbered t cause ≡ Some g.0) (sym at.whole)
+          let whole : numbered hs cause ≡ Some g.0 = subst (λ t. numbered t cause ≡ Some g.0) (sym at.whole)
           (numbered_front at.front (h ∷ at.rest) cause g.0 g.1) in
           inr (g.0, whole, omega (arith, within, at.due.number, number))
     ]

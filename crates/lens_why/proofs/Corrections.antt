@@ -48,25 +48,26 @@ said_so s hs h device cycle adjustment channel (Some frame) = by (nat_le s.netwo
     by true e = rw e refl
     by false e = rw e refl
 
--- the best frame of too few masters is told so, and one that is outnumbered
-few_told : (tell : HeardFrame → Told) → ((f : HeardFrame) → (tell f).members ≡ f.members) → (threshold : ℕ) (o : Option HeardFrame)
-    → (IsSomeAnd o (λ f. threshold ≤ count_of f.members) → ⊥) → IfSome (option_map tell o) (λ told. count_of told.members < threshold)
-few_told tell same threshold None few = tt
-few_told tell same threshold (Some f) few =
-    elim (cases_lt (count_of f.members) threshold) [
-      | inl less ↦ subst (λ (m : Members). count_of m < threshold) (sym (same f)) less
-      | inr more ↦ absurd (few more)
-    ]
+module _ (tell : HeardFrame → Told) (same : ((f : HeardFrame) → (tell f).members ≡ f.members)) where
+  -- the best frame of too few masters is told so, and one that is outnumbered
+  few_told : (threshold : ℕ) (o : Option HeardFrame) → (IsSomeAnd o (λ f. threshold ≤ count_of f.members) → ⊥)
+      → IfSome (option_map tell o) (λ told. count_of told.members < threshold)
+  few_told threshold None few = tt
+  few_told threshold (Some f) few =
+      elim (cases_lt (count_of f.members) threshold) [
+        | inl less ↦ subst (λ m. count_of m < threshold) (sym (same f)) less
+        | inr more ↦ absurd (few more)
+      ]
 
-most_told : (tell : HeardFrame → Told) → ((f : HeardFrame) → (tell f).members ≡ f.members) → (most : ℕ) (o : Option HeardFrame)
-    → IfSome o (λ f. count_of f.members ≤ most) → IfSome (option_map tell o) (λ told. count_of told.members ≤ most)
-most_told tell same most None all = tt
-most_told tell same most (Some f) all = subst (λ (m : Members). count_of m ≤ most) (sym (same f)) all
+  most_told : (most : ℕ) (o : Option HeardFrame) → IfSome o (λ f. count_of f.members ≤ most)
+      → IfSome (option_map tell o) (λ told. count_of told.members ≤ most)
+  most_told most None all = tt
+  most_told most (Some f) all = subst (λ m. count_of m ≤ most) (sym (same f)) all
 
-enough_told : (tell : HeardFrame → Told) → ((f : HeardFrame) → (tell f).members ≡ f.members) → (threshold : ℕ) (o : Option HeardFrame)
-    → IsSomeAnd o (λ f. threshold ≤ count_of f.members) → IsSomeAnd (option_map tell o) (λ told. threshold ≤ count_of told.members)
-enough_told tell same threshold None all = absurd all
-enough_told tell same threshold (Some f) all = subst (λ (m : Members). threshold ≤ count_of m) (sym (same f)) all
+  enough_told : (threshold : ℕ) (o : Option HeardFrame) → IsSomeAnd o (λ f. threshold ≤ count_of f.members)
+      → IsSomeAnd (option_map tell o) (λ told. threshold ≤ count_of told.members)
+  enough_told threshold None all = absurd all
+  enough_told threshold (Some f) all = subst (λ m. threshold ≤ count_of m) (sym (same f)) all
 
 module _ (network : Network) (octets : List ℕ) (ns : List Note) (end : Units) (rules : KeepsRules network) (of : IsReportOf network octets ns end)
     (number : ℕ) (h : Happening) (there : numbered (happenings network ns) number ≡ Some h) (device : DeviceId) where
@@ -77,34 +78,34 @@ module _ (network : Network) (octets : List ℕ) (ns : List Note) (end : Units) 
   all = happenings network ns
 
   abbrev before : List Happening
-  before = (parted_there network octets ns end of number h there).before
+  before = (parted_there of number h there).before
 
   abbrev named : IsNamed network
   named = kept_apart network rules of.range
 
   caused_so : (body : NoteBody) → h.note.body ≡ body → audits.IsCaused own before h.note.time body
   caused_so body is =
-      let p = parted_there network octets ns end of number h there in caused network octets ns end of named p.before p.later h p.parts device body is
+      let p = parted_there of number h there in caused network octets ns end of named p.before p.later h p.parts device body is
 
   -- what it had heard is what is told
   heard_is : 6 ≤ rank h.note.body → (cycle : ℕ) (v : Verdict) (comes : ComesToPoint own before device (time_of h) cycle v)
       → comes.summary ≡ heard_at_point own all device (time_of h)
   heard_is high cycle v comes =
-      let p = parted_there network octets ns end of number h there in
+      let p = parted_there of number h there in
       let t = time_of h in
       let founded = before_founded network octets ns end of named p.before p.later h p.parts device in
       let none = none_later network octets ns end of named p.before p.later h p.parts device in
       let same : heard_since_point own before device t ≡ heard_since_point own (before_corrections t all) device t =
       sym (heard_before_corrections own p.before device t founded none)
-      ∙ ap (λ (hs : List Happening). heard_since_point own hs device t) (before_all network octets ns end of named p.before p.later h p.parts device high) in
-      summary_is comes.summary (heard_since_point own (before_corrections t all) device t) (subst (Summarizes comes.summary) same comes.heard)
+      ∙ ap (λ hs. heard_since_point own hs device t) (before_all network octets ns end of named p.before p.later h p.parts device high) in
+      summary_is (subst (Summarizes comes.summary) same comes.heard)
 
   -- the adjustment before it is that of the records of earlier times
   adjusted : (adjustment_before own before device (time_of h)).0 ≡ (adjustment_before own all device (time_of h)).0
   adjusted =
-      let p = parted_there network octets ns end of number h there in
+      let p = parted_there of number h there in
       let at = split place_of (IsDue own) all (place_of h) of.run.founded in
-      ap (λ (es : List Happening). (adjustment_after own es device).0)
+      ap (λ es. (adjustment_after own es device).0)
       (ap (earlier (time_of h)) (sym p.are ∙ before_is_front all (place_of h) at)
       ∙ same_earlier (time_of h) (rank h.note.body ∷ key (members_in h) h.note.body) all at)
 
@@ -119,13 +120,13 @@ module _ (network : Network) (octets : List ℕ) (ns : List Note) (end : Units) 
       let heard = heard_is (omega (arith, six)) cycle (verdicts.Corrected by) comes in
       let cycle_is : standing.number ≡ cycle = number_is standing.state standing.number cycle comes.next in
       let each : (channel : Channel) → deviation_on standing comes.summary channel ≡ value_told (channel_ground own all h device cycle channel) = λ channel.
-      ap (λ (m : Summary). deviation_on standing m channel) heard
+      ap (λ m. deviation_on standing m channel) heard
       ∙ said_so own all h device standing.number standing.adjustment.0 channel (best_on channel (heard_at_point own all device t))
-      ∙ ap (λ (n : ℕ). value_told (option_and_then (said_by own all h device n standing.adjustment.0 channel) (best_on channel
+      ∙ ap (λ n. value_told (option_and_then (said_by own all h device n standing.adjustment.0 channel) (best_on channel
       (heard_at_point own all device t)))) cycle_is
-      ∙ ap (λ (a : ℤ). value_told (option_and_then (said_by own all h device cycle a channel) (best_on channel (heard_at_point own all device t)))) adjusted in
-      sym (ap (λ (o : Option Units). correction_of o (deviation_on standing comes.summary B)) (each A)
-      ∙ ap (λ (o : Option Units). correction_of (value_told (channel_ground own all h device cycle A)) o) (each B))
+      ∙ ap (λ a. value_told (option_and_then (said_by own all h device cycle a channel) (best_on channel (heard_at_point own all device t)))) adjusted in
+      sym (ap (λ o. correction_of o (deviation_on standing comes.summary B)) (each A)
+      ∙ ap (λ o. correction_of (value_told (channel_ground own all h device cycle A)) o) (each B))
       ∙ comes.comes.3
 
   -- what a clique tells of a channel has the members of its best frame
@@ -139,7 +140,7 @@ module _ (network : Network) (octets : List ℕ) (ns : List Note) (end : Units) 
       let seven : rank h.note.body ≡ 7 = ap rank is in
       let changed : audits.ChangesState own before device t state cause whys.SyncClique = caused_so (notes.State device state cause whys.SyncClique) is in
       let comes = changed.2.1 in
-      let so = subst (λ (m : Summary). HasVerdict (standing_at own before device t) m verdicts.SyncClique)
+      let so = subst (λ m. HasVerdict (standing_at own before device t) m verdicts.SyncClique)
       (heard_is (omega (arith, seven)) changed.2.0 verdicts.SyncClique comes) comes.comes in
       let heard = heard_at_point own all device t in (
         few_told (told_by network all h device A) (tells A) network.sync_threshold heard.best_a (λ q. so.1 (inl q)),
@@ -153,7 +154,7 @@ module _ (network : Network) (octets : List ℕ) (ns : List Note) (end : Units) 
       let seven : rank h.note.body ≡ 7 = ap rank is in
       let changed : audits.ChangesState own before device t state cause whys.AsyncClique = caused_so (notes.State device state cause whys.AsyncClique) is in
       let comes = changed.2.1 in
-      let so = subst (λ (m : Summary). HasVerdict (standing_at own before device t) m verdicts.AsyncClique)
+      let so = subst (λ m. HasVerdict (standing_at own before device t) m verdicts.AsyncClique)
       (heard_is (omega (arith, seven)) changed.2.0 verdicts.AsyncClique comes) comes.comes in
       let heard = heard_at_point own all device t in (
         elim so.1 [

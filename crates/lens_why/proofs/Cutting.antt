@@ -97,7 +97,7 @@ module _ (link : LinkId) (way : Way) where
           cut,
         )
         | inr was ↦ inr (
-          subst (IsCutBy (hs ++ g ∷ [])) (stays since g.note.number (subst (λ (n : ℕ). 1 ≤ n) (sym was.0.number) was.0.some))
+          subst (IsCutBy (hs ++ g ∷ [])) (stays since g.note.number (subst (λ n. 1 ≤ n) (sym was.0.number) was.0.some))
               (grown hs since g (λ f. no_heal (sym e ∙ f)) was.0),
           cut,
         )
@@ -106,7 +106,7 @@ module _ (link : LinkId) (way : Way) where
   -- so it is behind all
   leaves : (before rest : List Happening) (since : ℕ) → ((g : Happening) → IsIn g rest → 1 ≤ g.note.number) → Leaves before since
       → Leaves (before ++ rest) (fold (λ n g. cut_with n g.note.number (told g)) since rest)
-  leaves before [] since some so = subst (λ (gs : List Happening). Leaves gs since) (sym (append-nil before)) so
+  leaves before [] since some so = subst (λ gs. Leaves gs since) (sym (append-nil before)) so
   leaves before (g ∷ rest) since some so =
       subst (λ (gs : List Happening). Leaves gs (fold (λ n g. cut_with n g.note.number (told g)) (cut_with since g.note.number (told g)) rest))
       (append_assoc before (g ∷ []) rest)
@@ -148,8 +148,8 @@ module _ (network : Network) (octets : List ℕ) (ns : List Note) (end : Units) 
       record {
         within = omega (arith, less);
         is = is o.own o.there
-            ∙ ap (λ (n : ℕ). cut_with since n (cut_told link way o.own.note.body)) (sym o.there.own)
-            ∙ ap (λ (n : ℕ). cut_with n o.own.note.number (cut_told link way o.own.note.body)) so.is
+            ∙ ap (λ n. cut_with since n (cut_told link way o.own.note.body)) (sym o.there.own)
+            ∙ ap (λ n. cut_with n o.own.note.number (cut_told link way o.own.note.body)) so.is
             ∙ sym (fold_push (λ (n : ℕ) (g : Happening). cut_with n g.note.number (cut_told link way g.note.body)) 0 front o.own)
             ∙ ap (cut_by link way) (sym o.taken)
             ∙ ap (λ (n : ℕ). cut_by link way (take n (happenings network ns))) (sym next);
@@ -161,4 +161,4 @@ module _ (network : Network) (octets : List ℕ) (ns : List Note) (end : Units) 
       let within = so.within in
       let b = before_number network octets ns end of number h there in
       let reached : at ≡ number = omega (arith, past, within) in
-      so.is ∙ ap (λ (n : ℕ). cut_by link way (take (n - 1) (happenings network ns))) reached ∙ ap (cut_by link way) (sym b.are)
+      so.is ∙ ap (λ n. cut_by link way (take (n - 1) (happenings network ns))) reached ∙ ap (cut_by link way) (sym b.are)

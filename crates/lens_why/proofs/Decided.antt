@@ -65,16 +65,17 @@ cut_away false true n e = refl
 cut_away false false n e = absurd cc
 
 -- a path never goes through a link that leads to its own device
-no_loop_on : (n : Network) (channel : Channel) (device : DeviceId) (link : LinkId) (l : Link) → IsTree n → link_at n link ≡ Some l
-    → IsUplink n channel device link → l.parent ≡ device → (links : List LinkId) → IsPath n channel device links → ⊥
-no_loop_on n channel device link l tree at up parent [] path = tree.root channel device link path up
-no_loop_on n channel device link l tree at up parent (first ∷ links) path =
+no_loop_on : {n : Network} (channel : Channel) (device : DeviceId) (link : LinkId) (l : Link) → IsTree n
+    → link_at n link ≡ Some l → IsUplink n channel device link → l.parent ≡ device → (links : List LinkId)
+    → IsPath n channel device links → ⊥
+no_loop_on channel device link l tree at up parent [] path = tree.root channel device link path up
+no_loop_on {n} channel device link l tree at up parent (first ∷ links) path =
     let m = opened (λ (k : Link). (k.child ≡ device) × IsSwitchOf n channel k.parent × IsPath n channel k.parent links) (link_at n first) path in
     let one : first ≡ link = tree.one_uplink channel device first link
     (closed (λ (k : Link). (k.child ≡ device) × IsSwitchOf n channel k.parent) (link_at n first) m.0 m.1 (m.2.0, m.2.1)) up in
-    let same : m.0 ≡ l = same_some (link_at n link) m.0 l (subst (λ (x : LinkId). link_at n x ≡ Some m.0) one m.1) at in
-    no_loop_on n channel device link l tree at up parent links
-    (subst (λ (d : DeviceId). IsPath n channel d links) (ap (λ (k : Link). k.parent) same ∙ parent) m.2.2)
+    let same : m.0 ≡ l = same_some (link_at n link) m.0 l (subst (λ x. link_at n x ≡ Some m.0) one m.1) at in
+    no_loop_on channel device link l tree at up parent links
+    (subst (λ d. IsPath n channel d links) (ap (λ (k : Link). k.parent) same ∙ parent) m.2.2)
 
 -- so no link's child is its parent
 no_loop : (n : Network) → KeepsRules n → (link : LinkId) (l : Link) → link_at n link ≡ Some l → l.child ≡ l.parent → ⊥
@@ -85,7 +86,7 @@ no_loop n rules link l at same =
     let member = closed (λ (d : Device). (is_end_system d.role ≡ true) ⊎ (d.channel ≡ Some joint.0)) (device_at n l.parent) p.0 p.1 (inr p.2) in
     let path = tree.reach joint.0 l.parent member in
     let up = closed (λ (k : Link). (k.child ≡ l.parent) × IsSwitchOf n joint.0 k.parent) (link_at n link) l at (same, joint.1) in
-    no_loop_on n joint.0 l.parent link l tree at up refl path.0 path.2
+    no_loop_on joint.0 l.parent link l tree at up refl path.0 path.2
 
 -- the child of a link sends up
 goes_up : (n : Network) → KeepsRules n → (device : DeviceId) (link : LinkId) (l : Link) → link_at n link ≡ Some l → device ≡ l.child
@@ -111,14 +112,14 @@ module _ (network : Network) (octets : List ℕ) (ns : List Note) (end : Units) 
   all = happenings network ns
 
   abbrev before : List Happening
-  before = (parted_there network octets ns end of number h there).before
+  before = (parted_there of number h there).before
 
   -- the points of a compression master come in order
   rises : (device : DeviceId) → is_cm network device ≡ true → ComeInOrder device before
   rises device cm ps qs x p parts on given =
       let named = kept_apart network rules of.range in
       let founded = (audit_run ns end named of.events.right of.run).founded in
-      let at = parted_there network octets ns end of number h there in
+      let at = parted_there of number h there in
       let whole : all ≡ ps ++ x ∷ (qs ++ h ∷ at.later) = at.parts ∙ ap (λ (hs : List Happening). hs ++ h ∷ at.later) parts
       ∙ append_assoc ps (x ∷ qs) (h ∷ at.later) in
       let here = founded ps (qs ++ h ∷ at.later) x whole in
@@ -135,19 +136,19 @@ module _ (network : Network) (octets : List ℕ) (ns : List Note) (end : Units) 
       (time_of h)) departs.becomes
   way_is_cut device link cause (inr (inl dispatch)) = dispatch.3
   way_is_cut device link cause (inr (inr sent)) =
-      ap (λ (w : Way). is_cut own link w (time_of h)) (goes_up network rules device link sent.way sent.there sent.by) ∙ sent.cut
+      ap (λ w. is_cut own link w (time_of h)) (goes_up network rules device link sent.way sent.there sent.by) ∙ sent.cut
 
   lost_by : (device : DeviceId) (link : LinkId) (cause : ℕ) → h.note.body ≡ notes.Lost device link cause
       → IsCutBefore all h link (way_from network device link) (lost_ground network all h device link)
   lost_by device link cause is =
-      let p = parted_there network octets ns end of number h there in
+      let p = parted_there of number h there in
       let nine : rank h.note.body ≡ 9 = ap rank is in
-      let lost : IsLost own before device (time_of h) link cause = subst (λ (b : NoteBody). IsCaused own before h.note.time b) is
+      let lost : IsLost own before device (time_of h) link cause = subst (λ b. IsCaused own before h.note.time b) is
       (of.run.founded p.before p.later h p.parts).1.cause in
       cut_before network octets ns end of number h there link (way_from network device link) (omega (arith, nine)) (way_is_cut device link cause lost)
 
   by_body : (body : NoteBody) → h.note.body ≡ body → IsDecidedBy own all h body (ground_by own all h body)
-  by_body (notes.Left device link cause clock) is = left_by network octets ns end of number h there device link cause clock is
+  by_body (notes.Left device link cause clock) is = left_by of number h there device link cause clock is
   by_body (notes.Corrected device cycle by adjustment) is = corrected_by network octets ns end rules of number h there device cycle by adjustment is
   by_body (notes.State device state cause whys.SyncClique) is = clique_by network octets ns end rules of number h there device state cause is
   by_body (notes.State device state cause whys.AsyncClique) is = outnumbered_by network octets ns end rules of number h there device state cause is

@@ -9,12 +9,12 @@ use Rattle.{tte_audit.specs.Report.scenario_of, tte_reports.specs.Reports.IsRepo
 use Rattle.run_law.specs.declared.note.NoteBody.TheVariants as notes
 
 -- a frame that leaves was held so, and its clock has grown so
-pub left_by : (network : Network) (octets : List ℕ) (ns : List Note) (end : Units) → IsReportOf network octets ns end → (number : ℕ) (h : Happening)
-    → numbered (happenings network ns) number ≡ Some h → (device : DeviceId) (link : LinkId) (cause clock : ℕ)
-    → h.note.body ≡ notes.Left device link cause clock
-    → IsLeftBy (happenings network ns) cause (time_of h) clock (ground_by (scenario_of network ns) (happenings network ns) h
-    (notes.Left device link cause clock))
-left_by network octets ns end of number h there device link cause clock is =
+pub left_by : {network : Network} {octets : List ℕ} {ns : List Note} {end : Units} → IsReportOf network octets ns end
+    → (number : ℕ) (h : Happening) → numbered (happenings network ns) number ≡ Some h
+    → (device : DeviceId) (link : LinkId) (cause clock : ℕ) → h.note.body ≡ notes.Left device link cause clock
+    → IsLeftBy (happenings network ns) cause (time_of h) clock
+    (ground_by (scenario_of network ns) (happenings network ns) h (notes.Left device link cause clock))
+left_by {network} {ns} of number h there device link cause clock is =
     let s : Scenario = scenario_of network ns in
     let hs = happenings network ns in
     let by = held_by s hs of.run.founded number h device link cause clock there is in

@@ -254,18 +254,19 @@ last_test P (t ∷ tests) b q r all own e =
       | inr next ↦ last_test P tests b q r all.1 own next.1
     ]
 
--- a gate that drops one is shut
-gate_fault : (network : Network) (device : DeviceId) (link : LinkId) (at : Standpoint) (frame : Pcf)
-    → frame_fault network device link at frame ≡ Some reasons.Gate → is_gate_shut network device at ≡ true
-gate_fault network device link at frame e =
-    last_test of_gate (frame_tests network device link at frame) (is_gate_shut network device at) reasons.Gate reasons.Gate
-    (refl, (refl, (refl, (refl, (refl, tt))))) refl e
+module _ (network : Network) (device : DeviceId) (link : LinkId) (at : Standpoint) (frame : Pcf) where
+  -- a gate that drops one is shut
+  gate_fault : frame_fault network device link at frame ≡ Some reasons.Gate → is_gate_shut network device at ≡ true
+  gate_fault e =
+      last_test of_gate (frame_tests network device link at frame) (is_gate_shut network device at) reasons.Gate
+      reasons.Gate
+      (refl, (refl, (refl, (refl, (refl, tt))))) refl e
 
-row_control : (network : Network) (device : DeviceId) (link : LinkId) (at : Standpoint) (frame : Pcf) (r : Reason)
-    → frame_fault network device link at frame ≡ Some r → of_row r ≡ false
-row_control network device link at frame r e =
-    never_first of_row (frame_tests network device link at frame ++ (is_gate_shut network device at, reasons.Gate) ∷ []) r
-    (refl, (refl, (refl, (refl, (refl, (refl, tt)))))) e
+  row_control : (r : Reason) → frame_fault network device link at frame ≡ Some r → of_row r ≡ false
+  row_control r e =
+      never_first of_row (frame_tests network device link at frame ++ (is_gate_shut network device at, reasons.Gate)
+      ∷ []) r
+      (refl, (refl, (refl, (refl, (refl, (refl, tt)))))) e
 
 -- ---- permanences
 
@@ -279,9 +280,10 @@ never_judged judgements.Integrates r e = cc
 never_judged judgements.Ignored r e = cc
 
 -- only a compression master drops a frame at its permanence, and for no window
-permanent_drop : (s : Scenario) (hs : List Happening) (device : DeviceId) (t : ℕ) (link : LinkId) (cause : ℕ) (point : Units) (r : Reason)
-    → BecomesPermanent s hs device t link cause point (ripe.Dropped r) → (is_cm s.network device ≡ true) × (of_row r ≡ false)
-permanent_drop s hs device t link cause point r b =
+permanent_drop : {s : Scenario} {hs : List Happening} {device : DeviceId} {t : ℕ} {link : LinkId} {cause : ℕ}
+    {point : Units} (r : Reason) → BecomesPermanent s hs device t link cause point (ripe.Dropped r)
+    → (is_cm s.network device ≡ true) × (of_row r ≡ false)
+permanent_drop {s} {hs} {device} {t} {link} {cause} {point} r b =
     let judged = before_permanence hs device t link cause b.frame point in
     let state = state_at_hearing s judged device t in
     let adjustment = (adjustment_at_hearing s judged device t).0 in
@@ -426,22 +428,22 @@ module _ (network : Network) (octets : List ℕ) (ns : List Note) (end : Units) 
   all = happenings network ns
 
   abbrev before : List Happening
-  before = (parted_there network octets ns end of number h there).before
+  before = (parted_there of number h there).before
 
   abbrev at : Standpoint
   at = standpoint own before device (time_of h)
 
   dropped : IsDropped own before device (time_of h) link cause reason
   dropped =
-      let p = parted_there network octets ns end of number h there in
-      subst (λ (b : NoteBody). IsCaused own p.before h.note.time b) is (of.run.founded p.before p.later h p.parts).1.cause
+      let p = parted_there of number h there in
+      subst (λ b. IsCaused own p.before h.note.time b) is (of.run.founded p.before p.later h p.parts).1.cause
 
   -- the clock that it is judged by is the one that is told
   clock_same : clock_of at ≡ clock_of (standpoint own all device (time_of h))
   clock_same =
-      let p = parted_there network octets ns end of number h there in
+      let p = parted_there of number h there in
       let f = split place_of (IsDue own) all (place_of h) of.run.founded in
-      ap (λ (es : List Happening). shown_by own device (time_of h) es)
+      ap (λ es. shown_by own device (time_of h) es)
       (ap (earlier (time_of h)) (sym p.are ∙ before_is_front all (place_of h) f)
       ∙ same_earlier (time_of h) (rank h.note.body ∷ key (members_in h) h.note.body) all f)
 
@@ -454,10 +456,10 @@ module _ (network : Network) (octets : List ℕ) (ns : List Note) (end : Units) 
   arrived row a = by a.signal refl
     where
       p : IsParted network ns h
-      p = parted_there network octets ns end of number h there
+      p = parted_there of number h there
 
       put_there : numbered all cause ≡ Some a.putting
-      put_there = subst (λ (hs : List Happening). numbered hs cause ≡ Some a.putting) (sym p.parts) (numbered_front p.before
+      put_there = subst (λ hs. numbered hs cause ≡ Some a.putting) (sym p.parts) (numbered_front p.before
           (h ∷ p.later) cause a.putting a.there)
 
       own_octets : (line : ℕ) (l : LinkId) (sent : List ℕ) → a.putting.note.body ≡ notes.Event line (Send l sent) → a.putting.octets ≡ sent
@@ -480,7 +482,7 @@ module _ (network : Network) (octets : List ℕ) (ns : List Note) (end : Units) 
           let same = launched_octets own a.putting (time_of a.putting) link a.arrives.way found a.putting.note.body own_octets put in (
             f.entry,
             ap (option_and_then (λ (g : Happening). entry_entering network device link (field 4 2 g.octets))) put_there
-                ∙ ap (λ (os : List ℕ). entry_entering network device link (field 4 2 os)) (sym same)
+                ∙ ap (λ os. entry_entering network device link (field 4 2 os)) (sym same)
                 ∙ f.enters,
             length found,
             last_taken before device (time_of h) link cause f.entry.row.vl,
@@ -491,7 +493,7 @@ module _ (network : Network) (octets : List ℕ) (ns : List Note) (end : Units) 
   from_row row =
       elim dropped [
         | inl a ↦ arrived row a
-        | inr (inl b) ↦ absurd (true_is_false (sym row ∙ (permanent_drop own before device (time_of h) link cause b.0 reason b.1).1))
+        | inr (inl b) ↦ absurd (true_is_false (sym row ∙ (permanent_drop reason b.1).1))
         | inr (inr d) ↦ absurd (true_is_false (sym row ∙ ap of_row d.1))
       ]
 
@@ -500,16 +502,16 @@ module _ (network : Network) (octets : List ℕ) (ns : List Note) (end : Units) 
   early_so same =
       let f = from_row (ap of_row same) in
       let found = row_early network at f.0 f.2 f.3 (f.4 ∙ ap Some same) in
-      subst (λ (o : Option Entry). IsDroppedBy network device o reasons.Early (beside_ground own all device (time_of h) o)) (sym f.1)
-      (subst (λ (z : ℤ). (occurs_in f.0.vl (cycle_at network z) ≡ false) ⊎ (offset_in_cycle network z <ℤ (window_of network f.0).from.0)) clock_same found)
+      subst (λ o. IsDroppedBy network device o reasons.Early (beside_ground own all device (time_of h) o)) (sym f.1)
+      (subst (λ z. (occurs_in f.0.vl (cycle_at network z) ≡ false) ⊎ (offset_in_cycle network z <ℤ (window_of network f.0).from.0)) clock_same found)
 
   pub late_so : reason ≡ reasons.Late → IsDroppedBy network device (entry_given network device link (numbered all cause)) reasons.Late
       (beside_ground own all device (time_of h) (entry_given network device link (numbered all cause)))
   late_so same =
       let f = from_row (ap of_row same) in
       let found = row_late network at f.0 f.2 f.3 (f.4 ∙ ap Some same) in
-      subst (λ (o : Option Entry). IsDroppedBy network device o reasons.Late (beside_ground own all device (time_of h) o)) (sym f.1)
-      (subst (λ (z : ℤ). (occurs_in f.0.vl (cycle_at network z) ≡ true) × ((window_of network f.0).to.0 <ℤ offset_in_cycle network z)) clock_same found)
+      subst (λ o. IsDroppedBy network device o reasons.Late (beside_ground own all device (time_of h) o)) (sym f.1)
+      (subst (λ z. (occurs_in f.0.vl (cycle_at network z) ≡ true) × ((window_of network f.0).to.0 <ℤ offset_in_cycle network z)) clock_same found)
 
   old_gate : reasons.Old ≡ reasons.Gate → ⊥
   old_gate e = cc
@@ -549,5 +551,5 @@ module _ (network : Network) (octets : List ℕ) (ns : List Note) (end : Units) 
       shuts : IsDropped own before device (time_of h) link cause reason → is_gate_shut network device at ≡ true
       shuts (inl a) = by_signal a.signal a.becomes
       shuts (inr (inl b)) =
-          absurd (relay_is_none network device (permanent_drop own before device (time_of h) link cause b.0 reason b.1).0 relay)
+          absurd (relay_is_none network device (permanent_drop reason b.1).0 relay)
       shuts (inr (inr d)) = absurd (old_gate (sym d.1 ∙ same))

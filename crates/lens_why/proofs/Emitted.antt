@@ -13,11 +13,11 @@ left at opened middle ow calc e = omega (arith, ints, e)
 pub middles_are_of_clusters : MiddlesAreOfClusters
 middles_are_of_clusters network octets ns end h device opened at of e =
     let s : Scenario = scenario_of network ns in
-    let p = parted_there network octets ns end of e.number h e.there in
+    let p = parted_there of e.number h e.there in
     let due = (of.run.founded p.before p.later h p.parts).1 in
     let body = notes.Compressed device opened at e.cycle e.members e.verdict in
     let emits : Emits s p.before device (time_of h) (record { opened = opened; at = at; cycle = e.cycle; members = e.members }) e.verdict =
-    subst (λ (b : NoteBody). IsCaused s p.before h.note.time b) e.is due.cause in
+    subst (λ b. IsCaused s p.before h.note.time b) e.is due.cause in
     let cluster = emits.cluster in
     let opens : opened.0 ≡ cluster.opened = ap (λ (c : Compressed). c.opened.0) emits.is in
     let reading = ap (λ (c : Compressed). c.at.0) emits.is in
@@ -27,7 +27,7 @@ middles_are_of_clusters network octets ns end h device opened at of e =
       cluster = cluster;
       there = emits.there;
       opens = opens;
-      middle = ap (λ (z : ℤ). (at.0 -ℤ z) -ℤ pos (2 * amount network.precision + amount network.calc)) opens
+      middle = ap (λ z. (at.0 -ℤ z) -ℤ pos (2 * amount network.precision + amount network.calc)) opens
           ∙ left at.0 cluster.opened (middle_of (relative cluster.points)) (amount network.precision) (amount network.calc) reading;
     } in
-    subst (λ (hs : List Happening). IsMiddle network hs device opened at) (sym p.are) own
+    subst (λ hs. IsMiddle network hs device opened at) (sym p.are) own

@@ -9,8 +9,9 @@ use Rattle.{sync_state.specs.declared.state.State.State, tte_audit.specs.Report.
 use Rattle.run_law.specs.declared.note.NoteBody.TheVariants as notes
 
 -- what the records of the report show is what some records show
-pub index_there : (network : Network) (report : AuditedReport) → IsRead network report → IsSomeIndex network report.index
-index_there network report read =
+pub index_there : {network : Network} {report : AuditedReport} → IsRead network report
+    → IsSomeIndex network report.index
+index_there {network} read =
     let r = read.some in (events_of r.0, happenings network r.0, read.index r.0 r.1 r.2)
 
 module _ (s : Scenario) (hs : List Happening) (h : Happening) (note : Note) (giving : Option Note) (from : ComesFrom s hs h note giving) where
@@ -24,7 +25,7 @@ module _ (s : Scenario) (hs : List Happening) (h : Happening) (note : Note) (giv
   pub there_so : numbered hs note.number ≡ Some h
   there_so =
       let own : h.note.number ≡ from.number = number_is s hs from.number h from.founded from.there in
-      subst (λ (n : ℕ). numbered hs n ≡ Some h) (sym own ∙ own_number) from.there
+      subst (λ n. numbered hs n ≡ Some h) (sym own ∙ own_number) from.there
 
   -- where the frame came that the record tells of
   pub position_so : (device : DeviceId) (at : ℤ) → at ≡ position_at s hs device (amount note.time) → at ≡ position_at s hs device (time_of h)
@@ -50,8 +51,8 @@ module _ (s : Scenario) (hs : List Happening) (h : Happening) (note : Note) (giv
   }
 
 -- the record of a report is there by its number
-pub is_there : (network : Network) (ns : List Note) (h : Happening) (note : Note) (giving : Option Note)
+pub is_there : (network : Network) (ns : List Note) {h : Happening} {note : Note} {giving : Option Note}
     → ComesFrom (scenario_of network ns) (happenings network ns) h note giving → IsThere network ns note.number h
-is_there network ns h note giving from =
+is_there network ns {h} {note} {giving} from =
     let s = scenario_of network ns in
     record { there = there_so s (happenings network ns) h note giving from; own = own_number s (happenings network ns) h note giving from }

@@ -8,17 +8,18 @@ use Rattle.{run_law.specs.records.Happenings.Happening, std.specs.{Option.option
 abbrev headed : Option Happening → Option Heading
 headed giving = option_map (λ h. heading_of h.octets) giving
 
-pub heading_some : (network : Network) (device : DeviceId) (link : LinkId) (giving : Option Happening) (heading : Heading) → headed giving ≡ Some heading
-    → entry_entering network device link heading.id ≡ entry_given network device link giving
-heading_some network device link None heading e = absurd cc
-heading_some network device link (Some g) heading e =
-    let is : heading_of g.octets ≡ heading = cc in
-    sym (ap (λ (h : Heading). entry_entering network device link h.id) is)
+module _ (network : Network) (device : DeviceId) (link : LinkId) where
+  pub heading_some : (giving : Option Happening) (heading : Heading) → headed giving ≡ Some heading
+      → entry_entering network device link heading.id ≡ entry_given network device link giving
+  heading_some None heading e = absurd cc
+  heading_some (Some g) heading e =
+      let is : heading_of g.octets ≡ heading = cc in
+      sym (ap (λ (h : Heading). entry_entering network device link h.id) is)
 
-pub heading_none : (network : Network) (device : DeviceId) (link : LinkId) (giving : Option Happening) → headed giving ≡ None
-    → None ≡ entry_given network device link giving
-heading_none network device link None e = refl
-heading_none network device link (Some g) e = absurd cc
+  pub heading_none : (giving : Option Happening) → headed giving ≡ None
+      → None ≡ entry_given network device link giving
+  heading_none None e = refl
+  heading_none (Some g) e = absurd cc
 
 pub size_some : (giving : Option Happening) (heading : Heading) → headed giving ≡ Some heading
     → heading.length ≡ option_map_or (λ (g : Happening). length g.octets) giving 0

@@ -36,7 +36,7 @@ pub held_by : (s : Scenario) (hs : List Happening) → IsFounded place_of (IsDue
     → (giving : Happening) × IsHeldBy s hs device link (time_of h) cause clock giving
 held_by s hs founded n h device link cause clock there is =
     let at = founded_at s hs h founded (numbered_in hs n h there) in
-    let d : Departs s at.front device (time_of h) link cause (leaves clock) = subst (λ (b : NoteBody). IsCaused s at.front h.note.time b) is at.due.cause in
+    let d : Departs s at.front device (time_of h) link cause (leaves clock) = subst (λ b. IsCaused s at.front h.note.time b) is at.due.cause in
     let giving = d.giving in
     let own = founded_at s at.front giving at.founded (numbered_in at.front cause giving d.there) in
     let frame = ap (λ (g : Happening). g.frame) (sym own.due.same) ∙ d.of_frame in
@@ -45,17 +45,18 @@ held_by s hs founded n h device link cause clock there is =
     (is_cut s link (way_from s.network device link) (time_of h)) clock (clock_at_leaving s device d.frame (time_of giving) (time_of h)) d.becomes in (
       giving,
       record {
-        there = subst (λ (t : List Happening). numbered t cause ≡ Some giving) (sym at.whole) (numbered_front at.front (h ∷ at.rest) cause giving d.there);
+        there = subst (λ t. numbered t cause ≡ Some giving) (sym at.whole) (numbered_front at.front (h ∷ at.rest) cause giving d.there);
         held = omega (arith, d.held);
         measured = omega (arith, left, given);
       },
     )
 
 -- what the two records say is the ground
-pub held_is : (s : Scenario) (hs : List Happening) (h : Happening) (note : Note) (giving : Option Note) (device : DeviceId) (link : LinkId)
-    (cause clock : ℕ) (result : Ground) → ComesFrom s hs h note giving → note.body ≡ notes.Left device link cause clock
-    → ((g : Note) → giving ≡ Some g → result ≡ Held (amount note.time - amount g.time) (clock - clock_given g.body)) → result ≡ ground_of s hs h
-held_is s hs h note giving device link cause clock result from is told =
+pub held_is : {s : Scenario} {hs : List Happening} {h : Happening} {note : Note} {giving : Option Note}
+    (device : DeviceId) (link : LinkId) (cause clock : ℕ) (result : Ground) → ComesFrom s hs h note giving
+    → note.body ≡ notes.Left device link cause clock → ((g : Note) → giving ≡ Some g
+    → result ≡ Held (amount note.time - amount g.time) (clock - clock_given g.body)) → result ≡ ground_of s hs h
+held_is {s} {hs} {h} {note} device link cause clock result from is told =
     let body : h.note.body ≡ notes.Left device link cause clock = ap (λ (n : Note). n.body) (sym from.is) ∙ is in
     let by = held_by s hs from.founded from.number h device link cause clock from.there body in
     let g = by.0 in
@@ -72,4 +73,4 @@ held_is s hs h note giving device link cause clock result from is told =
     said
     ∙ ap (λ (t : ℕ). Held t (clock - clock_given g.note.body)) held
     ∙ ap (λ (m : ℕ). Held (hold_at s link (way_from s.network device link) (time_of g)) m) measured
-    ∙ sym (ap (λ (b : NoteBody). ground_by s hs h b) body ∙ ap (held_ground s device link (time_of h)) by.1.there)
+    ∙ sym (ap (λ b. ground_by s hs h b) body ∙ ap (held_ground s device link (time_of h)) by.1.there)

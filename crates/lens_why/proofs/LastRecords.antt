@@ -12,9 +12,10 @@ use Rattle.std.{proofs.lemmas.{Bool.false_from_ne_true, List.append-nil, List.El
 use Rattle.{tte_units.proofs.general_lemmas.Lists.last_pushed, tte_units.specs.declared.units.Units.Units}
 
 -- the records before the place of one are those that stand before it
-split_before : (network : Network) (octets : List ℕ) (ns : List Note) (end : Units) → IsReportOf network octets ns end → (before later : List Happening)
-    (h : Happening) → happenings network ns ≡ before ++ h ∷ later → records_before (place_of h) (happenings network ns) ≡ before
-split_before network octets ns end of before later h parts =
+split_before : {network : Network} {octets : List ℕ} {ns : List Note} {end : Units}
+    → IsReportOf network octets ns end → (before later : List Happening) (h : Happening)
+    → happenings network ns ≡ before ++ h ∷ later → records_before (place_of h) (happenings network ns) ≡ before
+split_before {network} {ns} of before later h parts =
     let test : Happening → Bool = λ g. is_before (place_of g) (place_of h) in
     let founded = subst (IsFounded place_of (IsDue (scenario_of network ns))) parts of.run.founded in
     let ahead : (g : Happening) → IsIn g before → test g ≡ true = λ g i.
@@ -29,7 +30,7 @@ split_before network octets ns end of before later h parts =
   where
     never_behind : (before later : List Happening) (h g : Happening)
         → IsFounded place_of (IsDue (scenario_of network ns)) (before ++ h ∷ later) → IsIn g (h ∷ later) → IsBefore (place_of g) (place_of h) → ⊥
-    never_behind before later h g founded (inl same) b = never_self (place_of h) (subst (λ (x : Happening). IsBefore (place_of x) (place_of h)) same b)
+    never_behind before later h g founded (inl same) b = never_self (place_of h) (subst (λ x. IsBefore (place_of x) (place_of h)) same b)
     never_behind before later h g founded (inr more) b =
         never_self (place_of h) (chain (place_of h) (place_of g) (place_of h)
         (behind_first place_of (IsDue (scenario_of network ns)) before later h g founded more) b)
@@ -41,11 +42,12 @@ pub record IsParted (network : Network) (ns : List Note) (h : Happening) : Type 
   pub parts : happenings network ns ≡ before ++ h ∷ later
   pub are : records_before (place_of h) (happenings network ns) ≡ before
 
-pub parted_there : (network : Network) (octets : List ℕ) (ns : List Note) (end : Units) → IsReportOf network octets ns end → (number : ℕ) (h : Happening)
+pub parted_there : {network : Network} {octets : List ℕ} {ns : List Note} {end : Units}
+    → IsReportOf network octets ns end → (number : ℕ) (h : Happening)
     → numbered (happenings network ns) number ≡ Some h → IsParted network ns h
-parted_there network octets ns end of number h there =
+parted_there {network} {ns} of number h there =
     let at = parted h (happenings network ns) (numbered_in (happenings network ns) number h there) in
-    record { before = at.0; later = at.1; parts = at.2; are = split_before network octets ns end of at.0 at.1 h at.2 }
+    record { before = at.0; later = at.1; parts = at.2; are = split_before of at.0 at.1 h at.2 }
 
 -- ---- records by their numbers
 
@@ -73,9 +75,9 @@ module _ (network : Network) (octets : List ℕ) (ns : List Note) (end : Units) 
 
   pub before_number : (number : ℕ) (h : Happening) → IsThere network ns number h → HasBefore number h
   before_number number h at =
-      let p = parted_there network octets ns end of number h at.there in
+      let p = parted_there of number h at.there in
       let due = (of.run.founded p.before p.later h p.parts).1 in
-      let long = ap (λ (hs : List Happening). length hs) p.parts ∙ length-append p.before (h ∷ p.later) in
+      let long = ap (λ hs. length hs) p.parts ∙ length-append p.before (h ∷ p.later) in
       let count : number - 1 ≡ length p.before = omega (arith, at.own, due.number) in
       record {
         some = omega (arith, at.own, due.number);

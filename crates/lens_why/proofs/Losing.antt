@@ -63,11 +63,12 @@ says_none link way (notes.Event line what) other = absurd (other refl)
 says_none link way body other = refl
 
 -- the records before one have numbers
-pub some_number : (network : Network) (octets : List ℕ) (ns : List Note) (end : Units) (of : IsReportOf network octets ns end) (number : ℕ) (h : Happening)
-    (there : numbered (happenings network ns) number ≡ Some h) (g : Happening) → IsIn g (parted_there network octets ns end of number h there).before
-    → 1 ≤ g.note.number
-some_number network octets ns end of number h there g i =
-    let p = parted_there network octets ns end of number h there in
+pub some_number : {network : Network} {octets : List ℕ} {ns : List Note} {end : Units}
+    (of : IsReportOf network octets ns end) (number : ℕ) (h : Happening)
+    (there : numbered (happenings network ns) number ≡ Some h) (g : Happening)
+    → IsIn g (parted_there of number h there).before → 1 ≤ g.note.number
+some_number {network} {ns} of number h there g i =
+    let p = parted_there of number h there in
     let founded = subst (IsFounded place_of (IsDue (scenario_of network ns))) p.parts of.run.founded in
     let at = founded_at (scenario_of network ns) p.before g (front_founded place_of (IsDue (scenario_of network ns)) p.before (h ∷ p.later) founded) i in
     omega (arith, at.due.number)
@@ -81,13 +82,13 @@ module _ (network : Network) (octets : List ℕ) (ns : List Note) (end : Units) 
   all = happenings network ns
 
   abbrev before : List Happening
-  before = (parted_there network octets ns end of number h there).before
+  before = (parted_there of number h there).before
 
   abbrev later : List Happening
-  later = (parted_there network octets ns end of number h there).later
+  later = (parted_there of number h there).later
 
   parts : all ≡ before ++ h ∷ later
-  parts = (parted_there network octets ns end of number h there).parts
+  parts = (parted_there of number h there).parts
 
   none_later : (g : Happening) → IsIn g before → nat_le (time_of g) (time_of h) ≡ true
   none_later g i =
@@ -123,7 +124,7 @@ module _ (network : Network) (octets : List ℕ) (ns : List Note) (end : Units) 
       ap (λ (bs : List Bool). unwrap_or (last_or None bs) false)
       (ap (λ (xs : List Note). filter_map (λ e. cut_set link way e.what) (filter (λ e. nat_le (amount e.time) t) (events_of xs))) (sym (same_notes network ns))
       ∙ same_told link way t all
-      ∙ ap (λ (hs : List Happening). filter_map told (filter test hs)) parts
+      ∙ ap (λ hs. filter_map told (filter test hs)) parts
       ∙ ap (filter_map told) (filter-append test before (h ∷ later))
       ∙ filter_map-append told (filter test before) (filter test (h ∷ later))
       ∙ ap (λ (bs : List Bool). filter_map told (filter test before) ++ bs) (makes_none told (filter test (h ∷ later)) quiet)
@@ -133,15 +134,15 @@ module _ (network : Network) (octets : List ℕ) (ns : List Note) (end : Units) 
   -- and so one of them cut it, where it is cut
   pub cut_before : is_cut own link way (time_of h) ≡ true → IsCutBefore all h link way (CutBy (cut_by link way (records_before (place_of h) all)))
   cut_before cut =
-      let found = cut_found link way before (some_number network octets ns end of number h there) (sym cut_is ∙ cut) in
-      let are = (parted_there network octets ns end of number h there).are in
+      let found = cut_found link way before (some_number of number h there) (sym cut_is ∙ cut) in
+      let are = (parted_there of number h there).are in
       record {
         cutting = found.cutting;
         before = found.front;
         between = found.between;
         later = later;
         parts = parts ∙ ap (λ (hs : List Happening). hs ++ h ∷ later) found.parts ∙ append_assoc found.front (found.cutting ∷ found.between) (h ∷ later);
-        is = ap (λ (hs : List Happening). CutBy (cut_by link way hs)) are ∙ ap CutBy found.number;
+        is = ap (λ hs. CutBy (cut_by link way hs)) are ∙ ap CutBy found.number;
         whole = found.whole;
         cuts = found.cuts;
         unhealed = found.unhealed;

@@ -48,26 +48,26 @@ module _ (network : Network) (octets : List ℕ) (ns : List Note) (end : Units) 
           let due = (of.run.founded before later h parts).1 in
           let founded = front_founded place_of (IsDue own) before (h ∷ later) (subst (IsFounded place_of (IsDue own)) parts of.run.founded) in
           let found = by_number own before g founded (in_filter test before g (last_in (filter test before) g e)) in
-          let whole : numbered all g.note.number ≡ Some g = subst (λ (hs : List Happening). numbered hs g.note.number ≡ Some g) (sym parts)
+          let whole : numbered all g.note.number ≡ Some g = subst (λ hs. numbered hs g.note.number ≡ Some g) (sym parts)
           (numbered_front before (h ∷ later) g.note.number g found) in
           let within = numbered_within before g.note.number g found in
           inr (
             g,
-            subst (λ (n : ℕ). numbered all n ≡ Some g) (sym is) whole,
+            subst (λ n. numbered all n ≡ Some g) (sym is) whole,
             omega (arith, is, within, due.number),
           )
 
   pub earlier_by : (sought : Sought) → IsEarlier all h (last_sought network sought (records_before (place_of h) all))
   earlier_by sought =
-      let p = parted_there network octets ns end of number h there in
-      subst (λ (hs : List Happening). IsEarlier all h (last_sought network sought hs)) (sym p.are) (in_front sought p.before p.later p.parts)
+      let p = parted_there of number h there in
+      subst (λ hs. IsEarlier all h (last_sought network sought hs)) (sym p.are) (in_front sought p.before p.later p.parts)
 
   -- the one that cut a way is none, or stands earlier
   pub cut_earlier : (link : LinkId) (way : Way) → IsEarlier all h (cut_by link way (records_before (place_of h) all))
   cut_earlier link way =
-      let p = parted_there network octets ns end of number h there in
-      subst (λ (hs : List Happening). IsEarlier all h (cut_by link way hs)) (sym p.are)
-      (elim (cut_or_whole link way p.before (some_number network octets ns end of number h there)) [
+      let p = parted_there of number h there in
+      subst (λ hs. IsEarlier all h (cut_by link way hs)) (sym p.are)
+      (elim (cut_or_whole link way p.before (some_number of number h there)) [
         | inl whole ↦ inl whole.0
         | inr cut ↦ by p.before p.later p.parts (cut_by link way p.before) cut.0
       ])
@@ -79,11 +79,11 @@ module _ (network : Network) (octets : List ℕ) (ns : List Note) (end : Units) 
           let due = (of.run.founded before later h parts).1 in
           let founded = front_founded place_of (IsDue own) before (h ∷ later) (subst (IsFounded place_of (IsDue own)) parts of.run.founded) in
           let found = by_number own before g founded i in
-          let whole : numbered all g.note.number ≡ Some g = subst (λ (hs : List Happening). numbered hs g.note.number ≡ Some g) (sym parts)
+          let whole : numbered all g.note.number ≡ Some g = subst (λ hs. numbered hs g.note.number ≡ Some g) (sym parts)
           (numbered_front before (h ∷ later) g.note.number g found) in
           let within = numbered_within before g.note.number g found in
           let is = cut.number in
-          inr (g, subst (λ (n : ℕ). numbered all n ≡ Some g) (sym is) whole, omega (arith, is, within, due.number))
+          inr (g, subst (λ n. numbered all n ≡ Some g) (sym is) whole, omega (arith, is, within, due.number))
 
   -- the records that it names stand earlier
   abbrev Names : Ground → Type 0

@@ -32,24 +32,23 @@ note_in notes (suc k) note there = in_at notes k note there
 pub none_there : (network : Network) (notes : List Note) (n : ℕ) → note_at notes n ≡ None → numbered (happenings network notes) n ≡ None
 none_there network notes n none = none_mapped (λ (h : Happening). h.note) (numbered (happenings network notes) n) (note_numbered network notes n ∙ none)
 
--- each record of a report is due given those before it
-pub founded_of : (network : Network) (octets : List ℕ) (notes : List Note) (end : Units) → IsReportOf network octets notes end
-    → IsFounded place_of (IsDue (scenario_of network notes)) (happenings network notes)
-founded_of network octets notes end of = of.run.founded
+module _ {network : Network} {octets : List ℕ} {notes : List Note} {end : Units}
+    (of : IsReportOf network octets notes end) where
+  -- each record of a report is due given those before it
+  pub founded_of : IsFounded place_of (IsDue (scenario_of network notes)) (happenings network notes)
+  founded_of = of.run.founded
 
--- a record of a report has its number
-pub number_of : (network : Network) (octets : List ℕ) (notes : List Note) (end : Units) → IsReportOf network octets notes end → (n : ℕ) (note : Note)
-    → note_at notes n ≡ Some note → note.number ≡ n
-number_of network octets notes end of n note there =
-    let h = happening_at network notes n note there in
-    ap (λ (x : Note). x.number) (sym h.2)
-    ∙ number_is (scenario_of network notes) (happenings network notes) n h.0 (founded_of network octets notes end of) h.1
+  -- a record of a report has its number
+  pub number_of : (n : ℕ) (note : Note) → note_at notes n ≡ Some note → note.number ≡ n
+  number_of n note there =
+      let h = happening_at network notes n note there in
+      ap (λ (x : Note). x.number) (sym h.2)
+      ∙ number_is (scenario_of network notes) (happenings network notes) n h.0 (founded_of) h.1
 
--- and is one of the network
-pub note_of : (network : Network) (octets : List ℕ) (notes : List Note) (end : Units) → IsReportOf network octets notes end → (n : ℕ) (note : Note)
-    → note_at notes n ≡ Some note → IsNoteOf network note
-note_of network octets notes end of zero note there = absurd cc
-note_of network octets notes end of (suc k) note there = in_all (IsNoteOf network) notes k note of.events.text.records.of_network there
+  -- and is one of the network
+  pub note_of : (n : ℕ) (note : Note) → note_at notes n ≡ Some note → IsNoteOf network note
+  note_of zero note there = absurd cc
+  note_of (suc k) note there = in_all (IsNoteOf network) notes k note of.events.text.records.of_network there
 
 -- what was read by the number of a record is that record
 pub note_there : (network : Network) (notes : List Note) (n : ℕ) (note : Note) (h : Happening) → Some note ≡ note_at notes n

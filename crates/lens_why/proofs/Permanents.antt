@@ -63,23 +63,27 @@ never_outside : (b : Bool) → ripe_as judgements.Outside ≡ ripe_as (heard_eno
 never_outside true e = cc
 never_outside false e = cc
 
-heard_within : (plan : SyncPlan) (precision : ℤ) (state : State) (adjustment point : ℤ) (cycle : ℕ) (members : Members)
-    → ripe_as judgements.Within ≡ ripe_as (heard_as plan precision state adjustment point cycle members)
-    → in_time plan precision (point +ℤ adjustment) cycle ≡ true
-heard_within plan precision Off adjustment point cycle members e = absurd cc
-heard_within plan precision Integrating adjustment point cycle members e =
-    absurd (never_within (nat_le plan.threshold (count_of members) && nat_le cycle last_cycle) e)
-heard_within plan precision Joining adjustment point cycle members e = by_time (in_time plan precision (point +ℤ adjustment) cycle) e
-heard_within plan precision Synchronised adjustment point cycle members e = by_time (in_time plan precision (point +ℤ adjustment) cycle) e
+module _ (plan : SyncPlan) (precision : ℤ) where
+  heard_within : (state : State) (adjustment point : ℤ) (cycle : ℕ) (members : Members)
+      → ripe_as judgements.Within ≡ ripe_as (heard_as plan precision state adjustment point cycle members)
+      → in_time plan precision (point +ℤ adjustment) cycle ≡ true
+  heard_within Off adjustment point cycle members e = absurd cc
+  heard_within Integrating adjustment point cycle members e =
+      absurd (never_within (nat_le plan.threshold (count_of members) && nat_le cycle last_cycle) e)
+  heard_within Joining adjustment point cycle members e = by_time (in_time plan precision (point +ℤ adjustment) cycle) e
+  heard_within Synchronised adjustment point cycle members e =
+      by_time (in_time plan precision (point +ℤ adjustment) cycle) e
 
-heard_outside : (plan : SyncPlan) (precision : ℤ) (state : State) (adjustment point : ℤ) (cycle : ℕ) (members : Members)
-    → ripe_as judgements.Outside ≡ ripe_as (heard_as plan precision state adjustment point cycle members)
-    → in_time plan precision (point +ℤ adjustment) cycle ≡ false
-heard_outside plan precision Off adjustment point cycle members e = absurd cc
-heard_outside plan precision Integrating adjustment point cycle members e =
-    absurd (never_outside (nat_le plan.threshold (count_of members) && nat_le cycle last_cycle) e)
-heard_outside plan precision Joining adjustment point cycle members e = not_by_time (in_time plan precision (point +ℤ adjustment) cycle) e
-heard_outside plan precision Synchronised adjustment point cycle members e = not_by_time (in_time plan precision (point +ℤ adjustment) cycle) e
+  heard_outside : (state : State) (adjustment point : ℤ) (cycle : ℕ) (members : Members)
+      → ripe_as judgements.Outside ≡ ripe_as (heard_as plan precision state adjustment point cycle members)
+      → in_time plan precision (point +ℤ adjustment) cycle ≡ false
+  heard_outside Off adjustment point cycle members e = absurd cc
+  heard_outside Integrating adjustment point cycle members e =
+      absurd (never_outside (nat_le plan.threshold (count_of members) && nat_le cycle last_cycle) e)
+  heard_outside Joining adjustment point cycle members e =
+      not_by_time (in_time plan precision (point +ℤ adjustment) cycle) e
+  heard_outside Synchronised adjustment point cycle members e =
+      not_by_time (in_time plan precision (point +ℤ adjustment) cycle) e
 
 -- what lies so is no farther from the expected than the precision
 near : (plan : SyncPlan) (precision cycle : ℕ) (value : ℤ) → is_in_schedule plan (pos precision) cycle value ≡ true
@@ -269,16 +273,16 @@ module _ (network : Network) (octets : List ℕ) (ns : List Note) (end : Units) 
   all = happenings network ns
 
   abbrev before : List Happening
-  before = (parted_there network octets ns end of number h there).before
+  before = (parted_there of number h there).before
 
   are : records_before (place_of h) all ≡ before
-  are = (parted_there network octets ns end of number h there).are
+  are = (parted_there of number h there).are
 
   due : IsDue own before h
-  due = let p = parted_there network octets ns end of number h there in (of.run.founded p.before p.later h p.parts).1
+  due = let p = parted_there of number h there in (of.run.founded p.before p.later h p.parts).1
 
   permanence : BecomesPermanent own before device (time_of h) link cause point (ripe_as verdict)
-  permanence = subst (λ (b : NoteBody). IsCaused own before h.note.time b) is due.cause
+  permanence = subst (λ b. IsCaused own before h.note.time b) is due.cause
 
   frame_is : h.frame ≡ Some permanence.frame
   frame_is =
@@ -297,9 +301,9 @@ module _ (network : Network) (octets : List ℕ) (ns : List Note) (end : Units) 
   judged : before_permanence before device (time_of h) link cause permanence.frame point ≡ before
   judged =
       let place : place_at (time_of h) permanence.frame.members.0 (notes.Permanent device link cause point judgements.Ignored) ≡ place_of h =
-      ap (λ (n : ℕ). place_at (time_of h) n (notes.Permanent device link cause point verdict)) members_are
+      ap (λ n. place_at (time_of h) n (notes.Permanent device link cause point verdict)) members_are
       ∙ ap (place_at (time_of h) (members_in h)) (sym is) in
-      let p = parted_there network octets ns end of number h there in
+      let p = parted_there of number h there in
       ap (λ (q : List ℕ). filter (λ g. is_before (place_of g) q) before) place
       ∙ all_kept (λ g. is_before (place_of g) (place_of h)) before
       (λ g i. before_is (place_of g) (place_of h) ((of.run.founded p.before p.later h p.parts).0 g i))
@@ -307,7 +311,7 @@ module _ (network : Network) (octets : List ℕ) (ns : List Note) (end : Units) 
   outcome : IsPermanenceOutcome network device (state_at_hearing own before device (time_of h)) (adjustment_at_hearing own before device (time_of h)).0
       (points_of before device) permanence.frame point.0 (ripe_as verdict)
   outcome =
-      subst (λ (hs : List Happening). IsPermanenceOutcome network device (state_at_hearing own hs device (time_of h))
+      subst (λ hs. IsPermanenceOutcome network device (state_at_hearing own hs device (time_of h))
       (adjustment_at_hearing own hs device (time_of h)).0 (points_of hs device) permanence.frame point.0 (ripe_as verdict)) judged permanence.becomes
 
   abbrev heard_so : Judgement
@@ -333,7 +337,7 @@ module _ (network : Network) (octets : List ℕ) (ns : List Note) (end : Units) 
       elim by_device [ inl both ↦ absurd (never_collected network _ _ _ verdict scheduled both.1) | inr e ↦ e ]
 
   adjustment_is : (adjustment_at_hearing own before device (time_of h)).0 ≡ hearing_adjustment own all device h
-  adjustment_is = ap (λ (hs : List Happening). (adjustment_at_hearing own hs device (time_of h)).0) (sym are)
+  adjustment_is = ap (λ hs. (adjustment_at_hearing own hs device (time_of h)).0) (sym are)
 
   pub within_so : verdict ≡ judgements.Within → IsPermanentBy point (cycle_in h) judgements.Within (scheduled_ground own all device point h)
   within_so same =
@@ -341,9 +345,9 @@ module _ (network : Network) (octets : List ℕ) (ns : List Note) (end : Units) 
       let heard = sym (ap ripe_as same) ∙ by_plan (ap is_by_schedule same) in
       let time = heard_within plan (observation_window network) (state_at_hearing own before device (time_of h))
       (adjustment_at_hearing own before device (time_of h)).0 point.0 permanence.frame.cycle permanence.frame.members heard in
-      let there = ap (λ (a : ℤ). in_time plan (observation_window network) (point.0 +ℤ a) permanence.frame.cycle) (sym adjustment_is)
+      let there = ap (λ a. in_time plan (observation_window network) (point.0 +ℤ a) permanence.frame.cycle) (sym adjustment_is)
       ∙ time in
-      let so = ap (λ (c : ℕ). in_time plan (observation_window network) (point.0 +ℤ hearing_adjustment own all device h) c) (sym cycle_is) ∙ there in
+      let so = ap (λ c. in_time plan (observation_window network) (point.0 +ℤ hearing_adjustment own all device h) c) (sym cycle_is) ∙ there in
       let used = both_left (nat_le (cycle_in h) last_cycle)
       (is_in_schedule plan (observation_window network) (cycle_in h) (point.0 +ℤ hearing_adjustment own all device h)) so in
       let close = both_right (nat_le (cycle_in h) last_cycle)
@@ -363,9 +367,9 @@ module _ (network : Network) (octets : List ℕ) (ns : List Note) (end : Units) 
       let heard = sym (ap ripe_as same) ∙ by_plan (ap is_by_schedule same) in
       let time = heard_outside plan (observation_window network) (state_at_hearing own before device (time_of h))
       (adjustment_at_hearing own before device (time_of h)).0 point.0 permanence.frame.cycle permanence.frame.members heard in
-      let there = ap (λ (a : ℤ). in_time plan (observation_window network) (point.0 +ℤ a) permanence.frame.cycle) (sym adjustment_is)
+      let there = ap (λ a. in_time plan (observation_window network) (point.0 +ℤ a) permanence.frame.cycle) (sym adjustment_is)
       ∙ time in
-      let so = ap (λ (c : ℕ). in_time plan (observation_window network) (point.0 +ℤ hearing_adjustment own all device h) c) (sym cycle_is) ∙ there in (
+      let so = ap (λ c. in_time plan (observation_window network) (point.0 +ℤ hearing_adjustment own all device h) c) (sym cycle_is) ∙ there in (
         refl,
         refl,
         λ used close.
@@ -404,10 +408,10 @@ module _ (network : Network) (octets : List ℕ) (ns : List Note) (end : Units) 
             ap (last_collection network device) are ∙ last_stands network device before so.collected.clusters (rises cm) so.collected.are in (
               so.taken,
               so.becomes,
-              ap (λ (o : Option Cluster). role_in (open_in o point.0) (point_at point.0 (master_of (members_in h)) (cycle_in h))) last
-                  ∙ sym (ap (λ (m : ℕ). role_in (open_in (last_or None so.collected.clusters) point.0) (point_at point.0 (master_of m)
+              ap (λ o. role_in (open_in o point.0) (point_at point.0 (master_of (members_in h)) (cycle_in h))) last
+                  ∙ sym (ap (λ m. role_in (open_in (last_or None so.collected.clusters) point.0) (point_at point.0 (master_of m)
                   (cycle_in h))) members_are)
-                  ∙ sym (ap (λ (c : ℕ). role_in (open_in (last_or None so.collected.clusters) point.0)
+                  ∙ sym (ap (λ c. role_in (open_in (last_or None so.collected.clusters) point.0)
                   (point_at point.0 (master_of permanence.frame.members.0) c)) cycle_is)
                   ∙ sym so.collected.is,
             )

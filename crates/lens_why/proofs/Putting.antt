@@ -23,18 +23,18 @@ module _ (network : Network) (note : Note) (said : Ground) where
   -- it was put, and the ground says nothing
   pub put_alone : (old new : Shown) → is_told said ≡ false → Appends old.written new.written line → new.puts ≡ next_count old.puts
       → PutsLines (told_lines network note said) old new
-  put_alone old new silent whole counted = subst (λ (b : Bool). PutsLines (lines_by b) old new) (sym silent) (one_line old new whole counted)
+  put_alone old new silent whole counted = subst (λ b. PutsLines (lines_by b) old new) (sym silent) (one_line old new whole counted)
 
   -- both were put
   pub put_both : (old mid new : Shown) → is_told said ≡ true → Appends old.written mid.written line → mid.puts ≡ next_count old.puts
       → Appends mid.written new.written (ground_line said) → new.puts ≡ next_count mid.puts → PutsLines (told_lines network note said) old new
   put_both old mid new told whole counted more again =
-      subst (λ (b : Bool). PutsLines (lines_by b) old new) (sym told)
+      subst (λ b. PutsLines (lines_by b) old new) (sym told)
       (PutsLines-more (line ∷ []) (ground_line said) old mid new (one_line old mid whole counted) more again)
 
   -- the put of the ground's line failed
   pub put_half : (old mid new : Shown) → is_told said ≡ true → Appends old.written mid.written line → mid.puts ≡ next_count old.puts
       → AppendsFront mid.written new.written (ground_line said) → new.puts ≡ next_count mid.puts → PutFails (told_lines network note said) old new
   put_half old mid new told whole counted front again =
-      subst (λ (b : Bool). PutFails (lines_by b) old new) (sym told)
+      subst (λ b. PutFails (lines_by b) old new) (sym told)
       (PutsLines-fails (line ∷ []) (ground_line said) [] old mid new (one_line old mid whole counted) front again)

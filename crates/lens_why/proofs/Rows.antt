@@ -33,9 +33,9 @@ own_row : (row : Row) → is_of row.vl row.link row ≡ true
 own_row row = ap (λ (b : Bool). b && row.link.0 == row.link.0) (eqb_same row.vl.0) ∙ eqb_same row.link.0
 
 -- no earlier row is of both
-none_earlier : (network : Network) (place : ℕ) (entry : Entry) → KeepsRules network → IsEntry network place entry → (k : ℕ) → k < place
-    → is_of entry.row.vl entry.row.link (get_or network.row k entry.row) ≡ false
-none_earlier network place entry rules is k lt =
+none_earlier : {network : Network} {place : ℕ} {entry : Entry} → KeepsRules network → IsEntry network place entry
+    → (k : ℕ) → k < place → is_of entry.row.vl entry.row.link (get_or network.row k entry.row) ≡ false
+none_earlier {network} {place} {entry} rules is k lt =
     let earlier = get_or network.row k entry.row in
     let within = got_within network.row place entry.row is.row in
     let there = slice_get-get_or network.row k entry.row (omega (arith, lt, within)) in
@@ -51,7 +51,7 @@ row_is_one network place entry rules is =
     let within : place < length rows = got_within rows place row is.row in
     let here : get_or rows place row ≡ row = get_or_from_slice_get rows place row row is.row in
     let at : position_or_len (is_of row.vl row.link) rows ≡ place =
-    position_or_len_is (is_of row.vl row.link) rows place row (omega (arith, within)) (none_earlier network place entry rules is)
+    position_or_len_is (is_of row.vl row.link) rows place row (omega (arith, within)) (none_earlier rules is)
     (λ lt. ap (is_of row.vl row.link) here ∙ own_row row) in
     as_place (is_of row.vl row.link) rows place at within
   where

@@ -104,16 +104,16 @@ module _ (network : Network) (octets : List ℕ) (ns : List Note) (end : Units) 
   all = happenings network ns
 
   abbrev before : List Happening
-  before = (parted_there network octets ns end of number h there).before
+  before = (parted_there of number h there).before
 
   abbrev later : List Happening
-  later = (parted_there network octets ns end of number h there).later
+  later = (parted_there of number h there).later
 
   abbrev start : State
   start = state_at_start (start_of network device)
 
   parts : all ≡ before ++ h ∷ later
-  parts = (parted_there network octets ns end of number h there).parts
+  parts = (parted_there of number h there).parts
 
   founded : IsFounded place_of (IsDue own) (before ++ h ∷ later)
   founded = subst (IsFounded place_of (IsDue own)) parts of.run.founded
@@ -179,7 +179,7 @@ module _ (network : Network) (octets : List ℕ) (ns : List Note) (end : Units) 
 
     sought_is : filter (sought device (time_of h)) (records_before (place_of h) all) ≡ filter (turning device) (earlier (time_of h) before)
     sought_is =
-        ap (filter (sought device (time_of h))) (parted_there network octets ns end of number h there).are
+        ap (filter (sought device (time_of h))) (parted_there of number h there).are
         ∙ same_kept device (time_of h) before only_early
 
     abbrev number_of : List Happening → ℕ

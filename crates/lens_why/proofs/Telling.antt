@@ -25,9 +25,10 @@ pub record IsToldTo (network : Network) (octets : List ℕ) (first note : Note) 
   pub is : h.note ≡ note
   pub puts : PutsLines (chain_lines (scenario_of network notes) (happenings network notes) done) old now
 
-pub told_none : (network : Network) (octets : List ℕ) (first : Note) (s : Shown) (notes : List Note) (end : Units) → IsReportOf network octets notes end
-    → (number : ℕ) → note_at notes number ≡ Some first → IsToldTo network octets first first s s
-told_none network octets first s notes end of number there =
+pub told_none : {network : Network} {octets : List ℕ} (first : Note) (s : Shown) {notes : List Note} {end : Units}
+    → IsReportOf network octets notes end → (number : ℕ) → note_at notes number ≡ Some first
+    → IsToldTo network octets first first s s
+told_none {network} first s {notes} {end} of number there =
     let h = happening_at network notes number first there in
     record {
       notes = notes;
@@ -35,7 +36,7 @@ told_none network octets first s notes end of number there =
       of = of;
       done = [];
       at = number;
-      along = number_of network octets notes end of number first there;
+      along = number_of of number first there;
       h = h.0;
       here = h.1;
       is = h.2;
@@ -76,7 +77,7 @@ module _ (network : Network) (octets : List ℕ) (first note : Note) (old now : 
   -- the record at hand comes from this one
   pub comes_from : (giving : Option Note) → giving ≡ note_at t.notes (cause_of note.body) → ComesFrom own all t.h note giving
   comes_from giving is = record {
-    founded = founded_of network octets t.notes t.end t.of;
+    founded = founded_of t.of;
     number = t.at;
     there = t.here;
     is = sym t.is;
@@ -94,51 +95,51 @@ module _ (network : Network) (octets : List ℕ) (first note : Note) (old now : 
 
   -- it is one of the network
   pub network_of : IsNoteOf network note
-  network_of = note_of network octets t.notes t.end t.of t.at note there_at
+  network_of = note_of t.of t.at note there_at
 
   -- it is of a time that clocks have
   pub timely : IsTimely network note
-  timely = timely_in network octets t.notes t.end t.of note (note_in t.notes t.at note there_at)
+  timely = timely_in t.of note (note_in t.notes t.at note there_at)
 
   -- and its cause has a lower number
   pub smaller : (next : Note) → note_at t.notes (cause_of note.body) ≡ Some next → next.number < note.number
   smaller next there =
       let at = cause_of t.h.note.body in
       let found : note_at t.notes at ≡ Some next = ap (λ (n : Note). note_at t.notes (cause_of n.body)) t.is ∙ there in
-      let its = number_of network octets t.notes t.end t.of at next found in
-      let own_number = number_of network octets t.notes t.end t.of t.at note there_at in
+      let its = number_of t.of at next found in
+      let own_number = number_of t.of t.at note there_at in
       let g = happening_at network t.notes at next found in
-      elim (comes_from_earlier own all (founded_of network octets t.notes t.end t.of) t.at t.h t.here) [
+      elim (comes_from_earlier own all (founded_of t.of) t.at t.h t.here) [
         | inl none ↦ absurd (none_at_zero all at g.0 none g.1)
         | inr e ↦ omega (arith, its, own_number, e.2)
       ]
 
   -- its lines are these
   lines_at : (said : Ground) → said ≡ ground_of own all t.h → told_lines network note said ≡ record_lines own all t.h
-  lines_at said is = ap (λ (n : Note). told_lines network n said) (sym t.is) ∙ ap (told_lines network t.h.note) is
+  lines_at said is = ap (λ n. told_lines network n said) (sym t.is) ∙ ap (told_lines network t.h.note) is
 
   -- an answer for these records is one for any that the octets are the report of
   among : IsNamed network → (notes : List Note) (end : Units) → IsReportOf network octets notes end → (status : Status) (after : Shown)
       → GivesAnswer (IsWhyAnswer first.number network t.notes t.end) status old after
       → GivesAnswer (IsWhyAnswer first.number network notes end) status old after
   among named notes end of status after given =
-      subst (λ (ns : List Note). GivesAnswer (IsWhyAnswer first.number network ns end) status old after)
+      subst (λ ns. GivesAnswer (IsWhyAnswer first.number network ns end) status old after)
       (one_notes named t.of of)
-      (subst (λ (e : Units). GivesAnswer (IsWhyAnswer first.number network t.notes e) status old after)
+      (subst (λ e. GivesAnswer (IsWhyAnswer first.number network t.notes e) status old after)
       (one_end named t.of of) given)
 
   -- the record at hand comes from none, or from another
   there_or_none : IsNoneOrThere all (cause_of t.h.note.body)
   there_or_none =
-      elim (comes_from_earlier own all (founded_of network octets t.notes t.end t.of) t.at t.h t.here) [ inl none ↦ inl none | inr g ↦ inr (g.0, g.1) ]
+      elim (comes_from_earlier own all (founded_of t.of) t.at t.h t.here) [ inl none ↦ inl none | inr g ↦ inr (g.0, g.1) ]
 
   module _ (new : Shown) (said : Ground) (is : said ≡ ground_of own all t.h) where
     -- with those before
     put_on : PutsLines (told_lines network note said) now new → PutsLines (chain_lines own all (t.done ++ t.h ∷ [])) old new
     put_on puts =
-        let here = subst (λ (ls : List (List ℕ)). PutsLines ls now new) (lines_at said is) puts in
+        let here = subst (λ ls. PutsLines ls now new) (lines_at said is) puts in
         let whole = lines_parts own all t.done t.h [] ∙ ap (λ (ls : List (List ℕ)). chain_lines own all t.done ++ ls) (append-nil (record_lines own all t.h)) in
-        subst (λ (ls : List (List ℕ)). PutsLines ls old new) (sym whole)
+        subst (λ ls. PutsLines ls old new) (sym whole)
         (PutsLines-append (chain_lines own all t.done) (record_lines own all t.h) old now new t.puts here)
 
     -- they were put
@@ -167,36 +168,36 @@ module _ (network : Network) (octets : List ℕ) (first note : Note) (old now : 
         → GivesAnswer (IsWhyAnswer first.number network notes end) status old after
     told_all named puts none status after ends notes end of =
         let along = along_more all first.number t.done t.at t.h t.along t.here in
-        let last : cause_of t.h.note.body ≡ 0 = elim (comes_from_earlier own all (founded_of network octets t.notes t.end t.of) t.at t.h t.here) [
+        let last : cause_of t.h.note.body ≡ 0 = elim (comes_from_earlier own all (founded_of t.of) t.at t.h t.here) [
           | inl e ↦ e
           | inr g ↦ absurd (not_both all (cause_of t.h.note.body) g.0
               (none_there network t.notes (cause_of t.h.note.body) (ap (λ (n : Note). note_at t.notes (cause_of n.body)) t.is ∙ none)) g.1)
         ] in
-        let chain = subst (λ (m : ℕ). Along all first.number (t.done ++ t.h ∷ []) m) last along in
-        let parted = subst (λ (c : List Happening). Along all first.number c 0) (parts_of t.done t.h []) chain in
+        let chain = subst (λ m. Along all first.number (t.done ++ t.h ∷ []) m) last along in
+        let parted = subst (λ c. Along all first.number c 0) (parts_of t.done t.h []) chain in
         let whole = whole_of all first.number (first_of t.done t.h) (rest_of t.done t.h []) parted in
         let answer = chain_answer network t.notes (first_of t.done t.h ∷ rest_of t.done t.h []) in
         let lines = ap (chain_lines own all) (parts_of t.done t.h []) in
         let given = Ends-gives (chain_lines own all (first_of t.done t.h ∷ rest_of t.done t.h [])) Done status old new after
-        (subst (λ (ls : List (List ℕ)). PutsLines ls old new) lines (put_on puts)) ends in
+        (subst (λ ls. PutsLines ls old new) lines (put_on puts)) ends in
         among named notes end of status after (inl (answer, inr (first_of t.done t.h, rest_of t.done t.h [], whole, refl), given))
 
     -- the put of one of them failed
     pub told_fails : IsNamed network → PutFails (told_lines network note said) now new → (notes : List Note) (end : Units)
         → IsReportOf network octets notes end → GivesAnswer (IsWhyAnswer first.number network notes end) WriteFault old new
     told_fails named fails notes end of =
-        let founded = founded_of network octets t.notes t.end t.of in
+        let founded = founded_of t.of in
         let along = along_more all first.number t.done t.at t.h t.along t.here in
         let more = along_there own all founded (cause_of t.h.note.body) there_or_none in
-        let chain = subst (λ (c : List Happening). Along all first.number c 0) (append_one t.done t.h more.0)
+        let chain = subst (λ c. Along all first.number c 0) (append_one t.done t.h more.0)
         (along_both all first.number (t.done ++ t.h ∷ []) (cause_of t.h.note.body) more.0 0 along more.1) in
-        let parted = subst (λ (c : List Happening). Along all first.number c 0) (parts_of t.done t.h more.0) chain in
+        let parted = subst (λ c. Along all first.number c 0) (parts_of t.done t.h more.0) chain in
         let whole = whole_of all first.number (first_of t.done t.h) (rest_of t.done t.h more.0) parted in
         let answer = chain_answer network t.notes (first_of t.done t.h ∷ rest_of t.done t.h more.0) in
-        let here = subst (λ (ls : List (List ℕ)). PutFails ls now new) (lines_at said is) fails in
+        let here = subst (λ ls. PutFails ls now new) (lines_at said is) fails in
         let behind = PutFails-behind (chain_lines own all t.done) (record_lines own all t.h ++ chain_lines own all more.0) old now new t.puts
         (PutFails-more (record_lines own all t.h) (chain_lines own all more.0) now new here) in
         let lines = lines_parts own all t.done t.h more.0 in
-        let failed = subst (λ (ls : List (List ℕ)). PutFails ls old new) (sym lines ∙ ap (chain_lines own all) (parts_of t.done t.h more.0)) behind in
+        let failed = subst (λ ls. PutFails ls old new) (sym lines ∙ ap (chain_lines own all) (parts_of t.done t.h more.0)) behind in
         among named notes end of WriteFault new
         (inl (answer, inr (first_of t.done t.h, rest_of t.done t.h more.0, whole, refl), inr (inl (refl, inl failed))))

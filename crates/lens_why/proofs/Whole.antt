@@ -31,13 +31,13 @@ module _ (network : Network) (octets : List ℕ) (ns : List Note) (end : Units) 
   one_chain : (number : ℕ) (first other : Happening) (causes others : List Happening) → IsWholeChain all number first causes
       → IsWholeChain all number other others → first ∷ causes ≡ other ∷ others
   one_chain number first other causes others a b =
-      one_along all number (first ∷ causes) (other ∷ others) (along_whole all number first causes a) (along_whole all number other others b)
+      one_along all number (first ∷ causes) (other ∷ others) (along_whole all a) (along_whole all b)
 
   there_is : (number : ℕ) → (a : Answer) × IsWhyAnswer number network ns end a
   there_is number =
       elim (some_or_none (numbered all number)) [
         | inl h ↦
-            let chain = along_there (scenario_of network ns) all (founded_of network octets ns end of) number (inr h) in
+            let chain = along_there (scenario_of network ns) all (founded_of of) number (inr h) in
             as_answer chain.0 chain.1 h.0 h.1
         | inr none ↦ (number_refused_answer number (length ns), inl (none, refl))
       ]
@@ -63,7 +63,7 @@ module _ (network : Network) (octets : List ℕ) (ns : List Note) (end : Units) 
       subst (λ (h : Happening). cause_of h.note.body ≡ 0) to.begins (begins_alone back.0.note.body back.2) in
       let other : IsWholeChain all number first to.causes = record { there = whole.there; chain = to.chain; ends = last } in
       let same : to.causes ≡ causes = same_rest first first to.causes causes (one_chain number first first to.causes causes other whole) in
-      subst (λ (gs : List Happening). IsBeginning (last_from first gs).note.body) same
+      subst (λ gs. IsBeginning (last_from first gs).note.body) same
       (subst (λ (h : Happening). IsBeginning h.note.body) to.begins back.2)
 
   pub has_why : HasWhy network ns end
@@ -71,8 +71,8 @@ module _ (network : Network) (octets : List ℕ) (ns : List Note) (end : Units) 
     answer = there_is;
     one = is_one;
     goes_back = λ number first causes whole front rest h g parts.
-        goes_back (scenario_of network ns) all (founded_of network octets ns end of) number front rest h g
-        (subst (λ (chain : List Happening). Along all number chain 0) parts (along_whole all number first causes whole));
+        goes_back (scenario_of network ns) all (founded_of of) number front rest h g
+        (subst (λ chain. Along all number chain 0) parts (along_whole all whole));
     delivered = begins;
   }
 

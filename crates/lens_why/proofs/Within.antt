@@ -36,17 +36,17 @@ module _ (network : Network) (octets : List ℕ) (ns : List Note) (end : Units) 
   all = happenings network ns
 
   abbrev before : List Happening
-  before = (parted_there network octets ns end of number h there).before
+  before = (parted_there of number h there).before
 
   caused : (body : NoteBody) → h.note.body ≡ body → IsCaused own before h.note.time body
   caused body is =
-      let p = parted_there network octets ns end of number h there in
-      subst (λ (b : NoteBody). IsCaused own p.before h.note.time b) is (of.run.founded p.before p.later h p.parts).1.cause
+      let p = parted_there of number h there in
+      subst (λ b. IsCaused own p.before h.note.time b) is (of.run.founded p.before p.later h p.parts).1.cause
 
   -- the records of earlier times are those before the record
   same_times : earlier (time_of h) before ≡ earlier (time_of h) all
   same_times =
-      let p = parted_there network octets ns end of number h there in
+      let p = parted_there of number h there in
       let at = split place_of (IsDue own) all (place_of h) of.run.founded in
       ap (earlier (time_of h)) (sym p.are ∙ before_is_front all (place_of h) at)
       ∙ same_earlier (time_of h) (rank h.note.body ∷ key (members_in h) h.note.body) all at
@@ -71,19 +71,19 @@ module _ (network : Network) (octets : List ℕ) (ns : List Note) (end : Units) 
       let t = time_of h in
       let at = position_at own all device t in
       let clock : clock_of (standpoint own before device t) ≡ clock_of (standpoint own all device t) =
-      ap (λ (es : List Happening). shown_by own device t es) same_times in
+      ap (λ es. shown_by own device t es) same_times in
       let same : offset_in_cycle network (clock_of (standpoint own before device t)) ≡ at = ap (offset_in_cycle network) clock in
-      let row : row_of network vl link ≡ Some f.enters.place = ap (λ (l : LinkId). row_of network vl l) (sym f.enters.by)
-      ∙ ap (λ (v : VlId). row_of network v f.entry.row.link) (sym f.of_vl)
+      let row : row_of network vl link ≡ Some f.enters.place = ap (λ l. row_of network vl l) (sym f.enters.by)
+      ∙ ap (λ v. row_of network v f.entry.row.link) (sym f.of_vl)
       ∙ row_is_one network f.enters.place f.entry rules f.enters.row in
       let places = window_of network f.entry in
       record {
         position = at;
         from = places.from;
         to = places.to;
-        is = said takes ∙ ap (λ (o : Option ℕ). window_ground network at o) row ∙ sym (window_is network at f.enters.place f.entry f.enters.row);
-        not_before = subst (λ (z : ℤ). places.from.0 ≤ℤ z) same f.fits.not_before;
-        not_behind = subst (λ (z : ℤ). z ≤ℤ places.to.0) same f.fits.not_behind;
+        is = said takes ∙ ap (λ o. window_ground network at o) row ∙ sym (window_is network at f.enters.place f.entry f.enters.row);
+        not_before = subst (λ z. places.from.0 ≤ℤ z) same f.fits.not_before;
+        not_behind = subst (λ z. z ≤ℤ places.to.0) same f.fits.not_behind;
       }
 
 pub taken_in_windows : TakenInWindows

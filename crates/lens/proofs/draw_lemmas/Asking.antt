@@ -75,4 +75,4 @@ pub report_askable : (network : Network) (view : View) (octets : List ℕ) (ns :
     → All (IsAskable network) (plan_of network view ns).marks
 report_askable network view octets ns end of =
     all_askable network (plan_of network view ns).marks (shown view ns) (pictures_show_runs network view octets ns end of).marks
-    (λ n i. timely_in network octets ns end of n (in_shown view ns n i))
+    (λ n i. timely_in of n (in_shown view ns n i))

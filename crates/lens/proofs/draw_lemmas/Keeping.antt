@@ -267,7 +267,7 @@ module _ (network : Network) (subject : Subject) (octets : List ℕ) (ns : List 
   hs = happenings network ns
 
   founded : IsFounded place_of (IsDue (scenario_of network ns)) hs
-  founded = founded_of network octets ns end of
+  founded = founded_of of
 
   pub spread_first : (flags : List Bool) → AreOwn network subject ns ns flags → IsSpread network subject ns (length ns) flags
   spread_first flags so =

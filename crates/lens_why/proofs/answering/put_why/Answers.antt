@@ -11,8 +11,8 @@ put_chain-requires-clause-record g c =
 pub returns-in-Ok-clause-gives : goal.returns-in-Ok-clause-gives
 returns-in-Ok-clause-gives g c notes end of =
     let shown = shown_by g.K.Sink in
-    let number = number_of c.args.network.now c.args.report.now.octets notes end of c.args.number c.in-Ok.first (c.in-Ok.ensures notes end of) in
-    subst (λ (n : ℕ). GivesAnswer (IsWhyAnswer n c.args.network.now notes end) c.put_chain.result (shown c.args.out.now) (shown c.put_chain.new.out)) number
+    let number = number_of of c.args.number c.in-Ok.first (c.in-Ok.ensures notes end of) in
+    subst (λ n. GivesAnswer (IsWhyAnswer n c.args.network.now notes end) c.put_chain.result (shown c.args.out.now) (shown c.put_chain.new.out)) number
     (c.put_chain.ensures.gives notes end of)
 
 pub returns-in-Err-clause-gives : goal.returns-in-Err-clause-gives
@@ -21,6 +21,6 @@ returns-in-Err-clause-gives g c notes end of =
     let none = c.in-Err.ensures notes end of in
     let line : c.as_slice.result.now ≡ number_refused_line c.args.number c.in-Err.count = c.as_slice.ensures ∙ c.make_refused_line.ensures in
     let whole = line ∙ ap (number_refused_line c.args.number) none.0 in
-    let given = subst (λ (bytes : List ℕ). Gives (line_answer NumberRefused bytes) c.put_last.result (shown c.args.out.now) (shown c.put_last.new.out)) whole
+    let given = subst (λ bytes. Gives (line_answer NumberRefused bytes) c.put_last.result (shown c.args.out.now) (shown c.put_last.new.out)) whole
     c.put_last.ensures.gives in
     inl (_, inl (none_there c.args.network.now notes c.args.number none.1, refl), given)

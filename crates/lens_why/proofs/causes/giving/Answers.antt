@@ -2,4 +2,4 @@ use Rattle.{std.proofs.Common.{◌∙◌, ap, ℕ}, tte_reports.specs.Places.not
 use Rattle.lens_why.proofs.causes.giving.Goals as goal
 
 pub returns : goal.returns
-returns c notes end of = c.record.ensures notes end of ∙ ap (λ (n : ℕ). note_at notes n) c.cause_of.ensures
+returns c notes end of = c.record.ensures notes end of ∙ ap (λ n. note_at notes n) c.cause_of.ensures

@@ -11,7 +11,7 @@ returns-in-Some c hs h body carried last =
     let on : ends_stretch d h.note.body ≡ false = ap (ends_stretch d) body ∙ sym c.ends_stretch.ensures ∙ c.if-ends_stretch.false in
     let point : point_by d h h.note.body ≡ Some p = ap (point_by d h) body ∙ sym (c.in-Some.ensures.is h carried) in
     c.behind_point.ensures (last_collection network d hs) last
-    ∙ ap (λ (w : ℕ). option_map told_of (behind_point (pos w) (last_collection network d hs) p)) c.magnitude.ensures
+    ∙ ap (λ w. option_map told_of (behind_point (pos w) (last_collection network d hs) p)) c.magnitude.ensures
     ∙ sym (ap (λ (o : Option Cluster). option_map told_of o) (behind_given network d hs h p on point))
 
 pub returns-in-None : goal.returns-in-None

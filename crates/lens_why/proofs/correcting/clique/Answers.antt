@@ -16,11 +16,11 @@ returns c ns end h why of there state told =
     let s = scenario_of network ns in
     let d = c.args.device in
     let t = c.magnitude.result in
-    let at = parted_there network c.args.report.now.octets ns end of c.args.number h there.there in
-    let time : t ≡ time_of h = c.magnitude.ensures ∙ ap (λ (u : Units). amount u) (sym state.at) in
-    let after = subst (λ (u : ℕ). IsAfter (before_corrections u hs) d u) (sym time)
+    let at = parted_there of c.args.number h there.there in
+    let time : t ≡ time_of h = c.magnitude.ensures ∙ ap (λ u. amount u) (sym state.at) in
+    let after = subst (λ u. IsAfter (before_corrections u hs) d u) (sym time)
     (after_clique network c.args.report.now.octets ns end of c.requires.named at.before at.later h at.parts d state.state state.cause why told
     state.is) in
-    let heard = summary_is _ _ (c.heard-heard.ensures (events_of ns) hs (c.requires.read.index ns end of) after) in
+    let heard = summary_is (c.heard-heard.ensures (events_of ns) hs (c.requires.read.index ns end of) after) in
     clique_is s hs h d t c.heard-heard.result c.told_on-a.result c.told_on-b.result c.outside.result network.sync_threshold time heard
     (c.told_on-a.ensures ns end h of there) (c.told_on-b.ensures ns end h of there) c.outside.ensures.value refl

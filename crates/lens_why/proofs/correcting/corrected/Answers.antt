@@ -22,13 +22,13 @@ returns c ns end h of there correction =
     let s = scenario_of network ns in
     let d = c.args.device in
     let t = c.magnitude-at.result in
-    let at = parted_there network c.args.report.now.octets ns end of c.args.number h there.there in
-    let time : t ≡ time_of h = c.magnitude-at.ensures ∙ ap (λ (u : Units). amount u) (sym correction.at) in
+    let at = parted_there of c.args.number h there.there in
+    let time : t ≡ time_of h = c.magnitude-at.ensures ∙ ap (λ u. amount u) (sym correction.at) in
     let index = c.requires.read.index ns end of in
-    let after = subst (λ (u : ℕ). IsAfter (before_corrections u hs) d u) (sym time)
+    let after = subst (λ u. IsAfter (before_corrections u hs) d u) (sym time)
     (after_change network c.args.report.now.octets ns end of c.requires.named at.before at.later h at.parts d c.args.cycle correction.by
     correction.adjustment correction.is) in
-    let heard = summary_is _ _ (c.heard-heard.ensures (events_of ns) hs index after) in
+    let heard = summary_is (c.heard-heard.ensures (events_of ns) hs index after) in
     let changed = to_z-of_z w128 c.adjustment_before-adjustment.result (search rules) ∙ c.adjustment_before-adjustment.ensures.is (events_of ns) hs index in
     let adjustment : ℤ = to_z w128 (of_z w128 c.adjustment_before-adjustment.result) in
     corrected_is s hs h d c.args.cycle t c.heard-heard.result adjustment c.said_on-a.result c.said_on-b.result time heard changed

@@ -9,7 +9,7 @@ told n members = record { number = n; members = members }
 pub returns-in-Some : goal.returns-in-Some
 returns-in-Some c ns end h of there =
     let network = c.args.network.now in
-    ap (λ (n : ℕ). Some (told n c.in-Some.frame.members)) (c.last_before.ensures ns end h of there)
+    ap (λ n. Some (told n c.in-Some.frame.members)) (c.last_before.ensures ns end h of there)
     ∙ sym (ap (λ (o : Option HeardFrame). option_map (told_by network (happenings network ns) h c.args.device c.args.channel) o)
     (sym c.best.ensures.value ∙ c.in-Some.is))
 

@@ -10,10 +10,10 @@ returns-in-Some c befallen hs k =
     let s = scenario_under c.args.network.now befallen in
     let p = c.args.passage in
     c.missed.ensures befallen hs k
-    ∙ ap (λ (o : Option Entry). beside_ground s hs p.device (amount p.time) o) (sym c.in-Some.is ∙ c.entry_given.ensures.is befallen hs k)
+    ∙ ap (λ o. beside_ground s hs p.device (amount p.time) o) (sym c.in-Some.is ∙ c.entry_given.ensures.is befallen hs k)
 
 pub returns-in-None : goal.returns-in-None
 returns-in-None c befallen hs k =
     let s = scenario_under c.args.network.now befallen in
     let p = c.args.passage in
-    ap (λ (o : Option Entry). beside_ground s hs p.device (amount p.time) o) (sym c.in-None.is ∙ c.entry_given.ensures.is befallen hs k)
+    ap (λ o. beside_ground s hs p.device (amount p.time) o) (sym c.in-None.is ∙ c.entry_given.ensures.is befallen hs k)

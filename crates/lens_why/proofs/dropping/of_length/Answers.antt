@@ -7,7 +7,7 @@ returns-in-Some c befallen hs k =
     let size = option_map_or (λ (g : Happening). length g.octets) (numbered hs c.args.passage.cause) 0 in
     let of : c.from.result ≡ c.in-Some.entry.vl.length = search rules in
     ap (λ (n : ℕ). Length c.size.result n) of
-    ∙ ap (λ (n : ℕ). length_ground n (Some c.in-Some.entry)) (c.size.ensures c.args.network.now befallen hs k)
+    ∙ ap (λ n. length_ground n (Some c.in-Some.entry)) (c.size.ensures c.args.network.now befallen hs k)
     ∙ ap (length_ground size) (sym c.in-Some.is ∙ c.entry_given.ensures.is befallen hs k)
 
 pub returns-in-None : goal.returns-in-None

@@ -8,7 +8,7 @@ returns-in-Some c ns end h of there at =
     let hs = happenings network ns in
     let p = c.args.passage in
     c.taken.ensures ns end h of there at
-    ∙ ap (λ (o : Option Entry). repeat_ground (scenario_of network ns) hs h p.device p.link p.cause o)
+    ∙ ap (λ o. repeat_ground (scenario_of network ns) hs h p.device p.link p.cause o)
     (sym c.in-Some.is ∙ c.entry_given.ensures.is (events_of ns) hs (c.requires.read.index ns end of))
 
 pub returns-in-None : goal.returns-in-None
@@ -16,5 +16,5 @@ returns-in-None c ns end h of there at =
     let network = c.args.network.now in
     let hs = happenings network ns in
     let p = c.args.passage in
-    ap (λ (o : Option Entry). repeat_ground (scenario_of network ns) hs h p.device p.link p.cause o)
+    ap (λ o. repeat_ground (scenario_of network ns) hs h p.device p.link p.cause o)
     (sym c.in-None.is ∙ c.entry_given.ensures.is (events_of ns) hs (c.requires.read.index ns end of))

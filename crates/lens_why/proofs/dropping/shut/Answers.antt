@@ -13,5 +13,5 @@ returns-then-is_relay c befallen hs k =
     (amount network.correction + 2 * amount network.precision) in
     c.gate.ensures
     ∙ ap at (to_z-of_z w128 c.clock_at.result (search rules) ∙ c.clock_at.ensures.is befallen hs k
-    ∙ ap (λ (t : ℕ). clock_at s hs d t) c.magnitude.ensures)
+    ∙ ap (λ t. clock_at s hs d t) c.magnitude.ensures)
     ∙ sym (ap (λ (b : Bool). if b then at (clock_at s hs d (amount c.args.time)) else Untold) (sym c.is_relay.ensures ∙ c.if-is_relay.true))

@@ -9,28 +9,28 @@ use Rattle.lens_why.proofs.ground.ground_of.Goals as goal
 -- ---- what the calls ask for
 
 pub taken-requires-clause-index : goal.taken-requires-clause-index
-taken-requires-clause-index c = index_there c.args.network.now c.args.report.now c.requires.read
+taken-requires-clause-index c = index_there c.requires.read
 
 pub taken-requires-clause-there : goal.taken-requires-clause-there
-taken-requires-clause-there c = (subst (λ (b : NoteBody). IsBodyOf c.args.network.now b) c.in-Accepted.is c.requires.timely.of_network).0
+taken-requires-clause-there c = (subst (λ b. IsBodyOf c.args.network.now b) c.in-Accepted.is c.requires.timely.of_network).0
 
 pub taken-requires-in-Delivered-clause-index : goal.taken-requires-in-Delivered-clause-index
-taken-requires-in-Delivered-clause-index c = index_there c.args.network.now c.args.report.now c.requires.read
+taken-requires-in-Delivered-clause-index c = index_there c.requires.read
 
 pub taken-requires-in-Delivered-clause-there : goal.taken-requires-in-Delivered-clause-there
-taken-requires-in-Delivered-clause-there c = (subst (λ (b : NoteBody). IsBodyOf c.args.network.now b) c.in-Delivered.is c.requires.timely.of_network).0
+taken-requires-in-Delivered-clause-there c = (subst (λ b. IsBodyOf c.args.network.now b) c.in-Delivered.is c.requires.timely.of_network).0
 
 pub dropped-requires-clause-there : goal.dropped-requires-clause-there
-dropped-requires-clause-there c = (subst (λ (b : NoteBody). IsBodyOf c.args.network.now b) c.in-Dropped.is c.requires.timely.of_network).0
+dropped-requires-clause-there c = (subst (λ b. IsBodyOf c.args.network.now b) c.in-Dropped.is c.requires.timely.of_network).0
 
 pub permanent-requires-clause-there : goal.permanent-requires-clause-there
-permanent-requires-clause-there c = (subst (λ (b : NoteBody). IsBodyOf c.args.network.now b) c.in-Permanent.is c.requires.timely.of_network).0
+permanent-requires-clause-there c = (subst (λ b. IsBodyOf c.args.network.now b) c.in-Permanent.is c.requires.timely.of_network).0
 
 pub corrected-requires-clause-there : goal.corrected-requires-clause-there
-corrected-requires-clause-there c = subst (λ (b : NoteBody). IsBodyOf c.args.network.now b) c.in-Corrected.is c.requires.timely.of_network
+corrected-requires-clause-there c = subst (λ b. IsBodyOf c.args.network.now b) c.in-Corrected.is c.requires.timely.of_network
 
 pub state_by-requires-clause-there : goal.state_by-requires-clause-there
-state_by-requires-clause-there c = subst (λ (b : NoteBody). IsBodyOf c.args.network.now b) c.in-State.is c.requires.timely.of_network
+state_by-requires-clause-there c = subst (λ b. IsBodyOf c.args.network.now b) c.in-State.is c.requires.timely.of_network
 
 -- ---- the ground of each kind
 
@@ -43,7 +43,7 @@ returns-in-Accepted c ns end h of from =
     let note = c.args.note.now in
     let at = position_so s hs h note c.args.giving.now from a.device (position_at s hs a.device (amount note.time)) refl in
     ground_as s hs h note c.args.giving.now from (notes.Accepted a.device a.link a.cause a.vl a.cycle) a.is c.taken.result
-    (c.taken.ensures (events_of ns) hs (c.requires.read.index ns end of) ∙ ap (λ (z : ℤ). window_ground network z (row_of network a.vl a.link)) at)
+    (c.taken.ensures (events_of ns) hs (c.requires.read.index ns end of) ∙ ap (λ z. window_ground network z (row_of network a.vl a.link)) at)
 
 pub returns-in-Delivered : goal.returns-in-Delivered
 returns-in-Delivered c ns end h of from =
@@ -55,7 +55,7 @@ returns-in-Delivered c ns end h of from =
     let at = position_so s hs h note c.args.giving.now from a.device (position_at s hs a.device (amount note.time)) refl in
     ground_as s hs h note c.args.giving.now from (notes.Delivered a.device a.link a.cause a.vl a.cycle) a.is c.taken-in-Delivered.result
     (c.taken-in-Delivered.ensures (events_of ns) hs (c.requires.read.index ns end of)
-    ∙ ap (λ (z : ℤ). window_ground network z (row_of network a.vl a.link)) at)
+    ∙ ap (λ z. window_ground network z (row_of network a.vl a.link)) at)
 
 pub returns-in-Dropped : goal.returns-in-Dropped
 returns-in-Dropped c ns end h of from =
@@ -65,11 +65,11 @@ returns-in-Dropped c ns end h of from =
     let d = c.in-Dropped in
     let note = c.args.note.now in
     ground_as s hs h note c.args.giving.now from (notes.Dropped d.device d.link d.cause d.reason) d.is c.dropped.result
-    (c.dropped.ensures ns end h of (is_there network ns h note c.args.giving.now from) (sym (ap (λ (n : Note). n.time) from.is)))
+    (c.dropped.ensures ns end h of (is_there network ns from) (sym (ap (λ (n : Note). n.time) from.is)))
 
 pub returns-in-Left : goal.returns-in-Left
 returns-in-Left c ns end h of from =
-    held_is (scenario_of c.args.network.now ns) (happenings c.args.network.now ns) h c.args.note.now c.args.giving.now c.in-Left.device c.in-Left.link
+    held_is c.in-Left.device c.in-Left.link
     c.in-Left.cause c.in-Left.clock c.held.result from c.in-Left.is c.held.ensures.some
 
 pub returns-in-Permanent : goal.returns-in-Permanent
@@ -80,8 +80,8 @@ returns-in-Permanent c ns end h of from =
     let p = c.in-Permanent in
     let frame : Permanence = record { device = p.device; link = p.link; cause = p.cause; point = p.point } in
     ground_as s hs h c.args.note.now c.args.giving.now from (notes.Permanent p.device p.link p.cause p.point p.verdict) p.is c.permanent.result
-    (c.permanent.ensures ns end h of (is_there network ns h c.args.note.now c.args.giving.now from)
-    (permanence_so s hs h c.args.note.now c.args.giving.now frame p.verdict from p.is))
+    (c.permanent.ensures ns end h of (is_there network ns from)
+    (permanence_so frame p.verdict from p.is))
 
 pub returns-in-Corrected : goal.returns-in-Corrected
 returns-in-Corrected c ns end h of from =
@@ -90,7 +90,7 @@ returns-in-Corrected c ns end h of from =
     let hs = happenings network ns in
     let k = c.in-Corrected in
     ground_as s hs h c.args.note.now c.args.giving.now from (notes.Corrected k.device k.cycle k.by k.adjustment) k.is c.corrected.result
-    (c.corrected.ensures ns end h of (is_there network ns h c.args.note.now c.args.giving.now from)
+    (c.corrected.ensures ns end h of (is_there network ns from)
     (correction_so s hs h c.args.note.now c.args.giving.now from k.device k.cycle k.by k.adjustment k.is))
 
 pub returns-in-Lost : goal.returns-in-Lost
@@ -100,7 +100,7 @@ returns-in-Lost c ns end h of from =
     let hs = happenings network ns in
     let l = c.in-Lost in
     ground_as s hs h c.args.note.now c.args.giving.now from (notes.Lost l.device l.link l.cause) l.is c.lost.result
-    (c.lost.ensures ns end h of (is_there network ns h c.args.note.now c.args.giving.now from))
+    (c.lost.ensures ns end h of (is_there network ns from))
 
 pub returns-in-State : goal.returns-in-State
 returns-in-State c ns end h of from =
@@ -109,7 +109,7 @@ returns-in-State c ns end h of from =
     let hs = happenings network ns in
     let k = c.in-State in
     ground_as s hs h c.args.note.now c.args.giving.now from (notes.State k.device k.state k.cause k.why) k.is c.state_by.result
-    (c.state_by.ensures ns end h of (is_there network ns h c.args.note.now c.args.giving.now from)
+    (c.state_by.ensures ns end h of (is_there network ns from)
     (state_so s hs h c.args.note.now c.args.giving.now from k.device k.state k.cause k.why k.is))
 
 pub returns-in-Compressed : goal.returns-in-Compressed
@@ -119,4 +119,4 @@ returns-in-Compressed c ns end h of from =
     let hs = happenings network ns in
     let k = c.in-Compressed in
     ground_as s hs h c.args.note.now c.args.giving.now from (notes.Compressed k.device k.opened k.at k.cycle k.members k.verdict) k.is c.sent_for.result
-    (c.sent_for.ensures ns end h of (is_there network ns h c.args.note.now c.args.giving.now from))
+    (c.sent_for.ensures ns end h of (is_there network ns from))

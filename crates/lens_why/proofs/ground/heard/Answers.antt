@@ -10,6 +10,6 @@ returns c =
     (to_z-of_z w128 c.beyond-off.result (search rules)) c.magnitude.ensures
     ∙ heard_is c.args.point c.args.adjustment expected c.joined_adjustment-joined.result c.local_at-expected.result c.beyond-off.result
     (amount c.args.network.now.precision) c.joined_adjustment-joined.ensures.value
-    (c.local_at-expected.ensures ∙ ap (λ (z : ℤ). z +ℤ c.args.point.0) (to_z-of_z w128 c.joined_adjustment-joined.result (search rules)))
-    (c.beyond-off.ensures ∙ ap (λ (z : ℤ). z -ℤ to_z w128 (of_z w128 c.joined_adjustment-joined.result)) (to_z-of_z w128 c.args.adjustment (search rules))
-    ∙ ap (λ (z : ℤ). c.args.adjustment -ℤ z) (to_z-of_z w128 c.joined_adjustment-joined.result (search rules)))
+    (c.local_at-expected.ensures ∙ ap (λ z. z +ℤ c.args.point.0) (to_z-of_z w128 c.joined_adjustment-joined.result (search rules)))
+    (c.beyond-off.ensures ∙ ap (λ z. z -ℤ to_z w128 (of_z w128 c.joined_adjustment-joined.result)) (to_z-of_z w128 c.args.adjustment (search rules))
+    ∙ ap (λ z. c.args.adjustment -ℤ z) (to_z-of_z w128 c.joined_adjustment-joined.result (search rules)))

@@ -7,4 +7,4 @@ pub returns : goal.returns
 returns c ns end h of there =
     let hs = happenings c.args.network.now ns in
     ap (λ (n : ℕ). CutBy n) (c.cut_before.ensures ns end h of there)
-    ∙ ap (λ (w : Way). CutBy (cut_by c.args.link w (records_before (place_of h) hs))) c.way_from-way.ensures
+    ∙ ap (λ w. CutBy (cut_by c.args.link w (records_before (place_of h) hs))) c.way_from-way.ensures

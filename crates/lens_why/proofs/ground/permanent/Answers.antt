@@ -3,7 +3,7 @@ use Rattle.{lens_why.proofs.Hearing.{permanent_collected, permanent_scheduled, p
 use Rattle.lens_why.proofs.ground.permanent.Goals as goal
 
 pub scheduled-requires-clause-index : goal.scheduled-requires-clause-index
-scheduled-requires-clause-index c = index_there c.args.network.now c.args.report.now c.requires.read
+scheduled-requires-clause-index c = index_there c.requires.read
 
 pub returns-then-is_by_schedule : goal.returns-then-is_by_schedule
 returns-then-is_by_schedule c ns end h of there p =

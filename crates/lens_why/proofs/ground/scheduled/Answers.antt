@@ -7,5 +7,5 @@ returns c befallen hs h verdict k there p =
     scheduled_is (scenario_under c.args.network.now befallen) hs h c.args.time c.args.frame verdict c.carried-carried.result c.magnitude.result
     c.adjustment_at-adjustment.result c.heard.result p
     (c.carried-carried.ensures c.args.network.now befallen hs h k there) c.magnitude.ensures (c.adjustment_at-adjustment.ensures.is befallen hs k)
-    (c.heard.ensures ∙ ap (λ (z : ℤ). heard_ground c.args.network.now c.args.frame.device z c.carried-carried.result.cycle c.args.frame.point)
+    (c.heard.ensures ∙ ap (λ z. heard_ground c.args.network.now c.args.frame.device z c.carried-carried.result.cycle c.args.frame.point)
     (to_z-of_z w128 c.adjustment_at-adjustment.result (search rules)))

@@ -8,5 +8,5 @@ returns-clause-text c =
     five _ _ _ _ _ _ _ _ _ _ _ c.push.ensures.text c.push_units.ensures.text c.push-2.ensures.text
     (c.push_signed.ensures.text ∙ ap (λ (z : ℤ). c.push-2.new.self ++ signed_decimal z) (to_z-of_z w128 c.args.adjustment (search rules)))
     (c.push_against.ensures.text
-    ∙ ap (λ (z : ℤ). c.push_signed.new.line ++ against_text z (to_z w128 (of_z w128 c.args.off)) c.args.most) (to_z-of_z w128 c.args.expected (search rules))
-    ∙ ap (λ (z : ℤ). c.push_signed.new.line ++ against_text c.args.expected z c.args.most) (to_z-of_z w128 c.args.off (search rules)))
+    ∙ ap (λ z. c.push_signed.new.line ++ against_text z (to_z w128 (of_z w128 c.args.off)) c.args.most) (to_z-of_z w128 c.args.expected (search rules))
+    ∙ ap (λ z. c.push_signed.new.line ++ against_text c.args.expected z c.args.most) (to_z-of_z w128 c.args.off (search rules)))

@@ -27,7 +27,7 @@ pub returns-in-Err-put-clause-puts : goal.returns-in-Err-put-clause-puts
 returns-in-Err-put-clause-puts g c =
     let shown = shown_by g.K.Sink in
     let line = c.as_slice.ensures ∙ c.make_ground_line.ensures in
-    let front = subst (λ (bytes : List ℕ). AppendsFront (g.K.Sink.written c.write_in.new.out) (g.K.Sink.written c.put.new.self) bytes) line
+    let front = subst (λ bytes. AppendsFront (g.K.Sink.written c.write_in.new.out) (g.K.Sink.written c.put.new.self) bytes) line
     c.in-Err-put.ensures.front in
     put_half c.args.network.now c.args.note.now c.args.said (shown c.args.out.now) (shown c.write_in.new.out) (shown c.put.new.self)
     (sym c.is_told.ensures ∙ c.if-not-is_told.false) c.in-Ok.ensures.all c.write_in.ensures.counted front c.put.ensures.counted

@@ -7,7 +7,7 @@ returns-in-Some c notes end h of there =
     let hs = happenings c.args.network.now notes in
     let same = note_there c.args.network.now notes c.args.number c.in-Some.note h (c.in-Some.ensures notes end of) there.there in
     let own : c.args.number ≡ c.in-Some.note.number = sym there.own ∙ ap (λ (n : Note). n.number) same in
-    c.is_sought.ensures (events_of notes) hs h (c.requires.read.index notes end of) (subst (λ (n : ℕ). numbered hs n ≡ Some h) own there.there) same
+    c.is_sought.ensures (events_of notes) hs h (c.requires.read.index notes end of) (subst (λ n. numbered hs n ≡ Some h) own there.there) same
 
 pub returns-in-None : goal.returns-in-None
 returns-in-None c notes end h of there =
