@@ -13,29 +13,32 @@ in_map one [] i = i
 in_map one (t ∷ told) (inl same) = inl (ap (λ (x : FlowTold). x.flow) same)
 in_map one (t ∷ told) (inr i) = inr (in_map one told i)
 
-pub writable_all : (network : Network) (ns : List Note) (end : Units) (told : List FlowTold) → AreAllTold network ns end told → All (IsWritable network) told
-writable_all network ns end told all =
+pub writable_all : {network : Network} {ns : List Note} {end : Units} {told : List FlowTold}
+    → AreAllTold network ns end told → All (IsWritable network) told
+writable_all {network} {told} all =
     all_of (IsWritable network) told (λ one i.
     let is = all.are.each one.flow (in_map one told i) in
-    record { vl = slice_get_within network.vl one.flow.vl.0 one.flow.of_vl is.there; device = receiver_there network one.flow is })
+    record { vl = slice_get_within network.vl one.flow.vl.0 one.flow.of_vl is.there; device = receiver_there is })
 
 -- what is told of each of the flows
-pub all_told : (network : Network) (ns : List Note) (end : Units) (until : ℕ) (ds : List Delivery) (flows : List Flow) (told : List FlowTold)
-    → AreFlows network flows → until ≡ amount end → ds ≡ deliveries_of ns
-    → AreToldOf (scenario_under network (events_of ns)) (happenings network ns) until ds flows told → AreAllTold network ns end told
-all_told network ns end until ds flows told are ends same of =
+pub all_told : (network : Network) (ns : List Note) (end : Units) {until : ℕ} {ds : List Delivery}
+    {flows : List Flow} {told : List FlowTold} → AreFlows network flows → until ≡ amount end → ds ≡ deliveries_of ns
+    → AreToldOf (scenario_under network (events_of ns)) (happenings network ns) until ds flows told
+    → AreAllTold network ns end told
+all_told network ns end {ds} {flows} {told} are ends same of =
     let s = scenario_under network (events_of ns) in
     let hs = happenings network ns in
-    let last = subst (λ (n : ℕ). AreToldOf s hs n ds flows told) ends of in
-    let whole = subst (λ (xs : List Delivery). AreToldOf s hs (amount end) xs flows told) same last in
+    let last = subst (λ n. AreToldOf s hs n ds flows told) ends of in
+    let whole = subst (λ xs. AreToldOf s hs (amount end) xs flows told) same last in
     record { are = subst (AreFlows network) (sym whole.flows) are; each = whole.each }
 
-pub flows_each : (network : Network) (flows : List Flow) → AreFlows network flows → All (IsFlow network) flows
-flows_each network flows are = all_of (IsFlow network) flows are.each
+pub flows_each : (network : Network) {flows : List Flow} → AreFlows network flows → All (IsFlow network) flows
+flows_each network {flows} are = all_of (IsFlow network) flows are.each
 
-pub answer_there : (network : Network) (octets : List ℕ) (ns : List Note) (end : Units) (told : List FlowTold) → KeepsRules network
-    → IsReportOf network octets ns end → AreAllTold network ns end told → IsFlowsAnswer network ns end (told_answer network told)
-answer_there network octets ns end told rules r all = record {
+pub answer_there : {network : Network} {octets : List ℕ} {ns : List Note} {end : Units} {told : List FlowTold}
+    → KeepsRules network → IsReportOf network octets ns end → AreAllTold network ns end told
+    → IsFlowsAnswer network ns end (told_answer network told)
+answer_there {network} {octets} {ns} {end} {told} rules r all = record {
   told = told;
   all = all;
   missing = λ one. 0;

@@ -20,17 +20,18 @@ lines_same network told m n same =
     ap (λ (ls : List (List ℕ)). ls ++ sum_line told (sum_by m told) ∷ []) (flow_lines_same network told m n same)
     ∙ ap (λ (k : ℕ). map (λ (one : FlowTold). flow_line network one (n one)) told ++ sum_line told k ∷ []) (sum_same m n told same)
 
-answers_one : (network : Network) (ns : List Note) (end : Units) (a b : Answer) → IsFlowsAnswer network ns end a → IsFlowsAnswer network ns end b → a ≡ b
-answers_one network ns end a b p q =
+answers_one : {network : Network} {ns : List Note} {end : Units} {a b : Answer} → IsFlowsAnswer network ns end a
+    → IsFlowsAnswer network ns end b → a ≡ b
+answers_one {network} {ns} {end} p q =
     let s = scenario_under network (events_of ns) in
     let hs = happenings network ns in
     let until = amount end in
-    let flows = flows_one network (map (λ (t : FlowTold). t.flow) p.told) (map (λ (t : FlowTold). t.flow) q.told) p.all.are q.all.are in
+    let flows = flows_one network p.all.are q.all.are in
     let told = all_told_one s hs until (deliveries_of ns) p.told q.told flows p.all.each q.all.each in
     let there = λ (one : FlowTold) (i : IsIn one p.told). subst (IsIn one) told i in
     let lines = lines_same network p.told p.missing q.missing
     (λ one i. count_one (IsMissingAt s hs until one.flow) (p.missing one) (q.missing one) (p.counted one i) (q.counted one (there one i))) in
-    p.is ∙ ap (λ (ls : List (List ℕ)). answer ls) (lines ∙ ap (λ (ts : List FlowTold). told_lines network ts q.missing) told)
+    p.is ∙ ap (λ (ls : List (List ℕ)). answer ls) (lines ∙ ap (λ ts. told_lines network ts q.missing) told)
     ∙ sym q.is
   where
     answer : List (List ℕ) → Answer
@@ -38,4 +39,4 @@ answers_one network ns end a b p q =
 
 -- for each network and its report there is one answer at most
 pub flows_answer_one : IsOneFor IsFlowsAnswer
-flows_answer_one network octets ns end a b rules r p q = answers_one network ns end a b p q
+flows_answer_one network octets ns end a b rules r p q = answers_one p q

@@ -16,9 +16,9 @@ told_time time (notes.Delivered device link cause vl cycle) d e = cc
 told_time time body d e = absurd cc
 
 -- the deliveries come no later than 2^60
-pub deliveries_soon : (network : Network) (octets : List ℕ) (ns : List Note) (end : Units) → IsReportOf network octets ns end
-    → All (λ (d : Delivery). d.time ≤ 2 ^ 60) (deliveries_of ns)
-deliveries_soon network octets ns end r =
+pub deliveries_soon : {network : Network} {octets : List ℕ} {ns : List Note} {end : Units}
+    → IsReportOf network octets ns end → All (λ (d : Delivery). d.time ≤ 2 ^ 60) (deliveries_of ns)
+deliveries_soon {network} {octets} {ns} {end} r =
     all_of (λ (d : Delivery). d.time ≤ 2 ^ 60) (deliveries_of ns) (λ d i.
     let by = given_of (λ (n : Note). delivery_by (amount n.time) n.body) ns d i in
     let at = split_at by.0 ns by.1 in

@@ -8,8 +8,8 @@ use Rattle.std.proofs.lemmas.List.{Sums.{sum_by-cons, sum_by_push}, take_more}
 pub sum_more : {X : Type 0} (f : X → ℕ) (all : List X) (d : X) (n sum one : ℕ) → n < length all → sum ≡ sum_by f (take n all) → one ≡ f (get_or all n d)
     → sum + one ≡ sum_by f (take (n + 1) all)
 sum_more f all d n sum one within summed same =
-    ap (λ (k : ℕ). sum + k) same
-    ∙ ap (λ (k : ℕ). k + f (get_or all n d)) summed
+    ap (λ k. sum + k) same
+    ∙ ap (λ k. k + f (get_or all n d)) summed
     ∙ sym (sum_by_push f (take n all) (get_or all n d))
     ∙ ap (sum_by f) (sym (take_more all n d within))
 

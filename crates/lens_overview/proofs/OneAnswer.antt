@@ -9,5 +9,6 @@ overview_answer_one words network octets ns end a b rules r p q =
     p.is
     ∙ ap (λ (missed : List Missed). pieces_answer network (title_of words) (picture_for network ns missed p.flows)) (none_are network octets ns end p.missed rules r p.each
     ∙ sym (none_are network octets ns end q.missed rules r q.each))
-    ∙ ap (λ (flows : List Flow). pieces_answer network (title_of words) (picture_for network ns q.missed flows)) (flows_one network p.flows q.flows p.are q.are)
+    ∙ ap (λ (flows : List Flow). pieces_answer network (title_of words) (picture_for network ns q.missed flows))
+    (flows_one network p.are q.are)
     ∙ sym q.is

@@ -12,25 +12,28 @@ use Rattle.schedule_tables.specs.Windows.{OccursIn}
 use Rattle.std.proofs.Common.{◌*◌, ◌+◌, ◌<◌, ◌^◌, ◌≡◌, ◌≤◌, List, arith, inl, inr, pos, subst, sym, ℕ}
 use Rattle.{std.proofs.lemmas.Bool.cases_lt, tte_units.{proofs.general_lemmas.Integers.amount_least, specs.Amount.amount}}
 
-later : (s : Scenario) (hs : List Happening) (until : ℕ) (flow : Flow) (t : ℕ) → IsCertainAt s hs until flow t → 0 < t
-later s hs until flow t c = not_at_first t c.begun.begins
+module _ (s : Scenario) (hs : List Happening) (until : ℕ) (flow : Flow) where
+  later : (t : ℕ) → IsCertainAt s hs until flow t → 0 < t
+  later t c = not_at_first t c.begun.begins
 
--- before the next cycle that the clock begins there is none
-between : (s : Scenario) (hs : List Happening) (until : ℕ) (flow : Flow) (after before : ℕ)
-    → NoneWithin (BeginsOne s hs flow.device) after before → NoneWithin (IsCertainAt s hs until flow) after before
-between s hs until flow after before none t lt early c =
-    none t lt early (c.cycle, record { begun = c.begun.occurs.begun; reaches = c.begun.begins })
+  -- before the next cycle that the clock begins there is none
+  between : (after before : ℕ) → NoneWithin (BeginsOne s hs flow.device) after before
+      → NoneWithin (IsCertainAt s hs until flow) after before
+  between after before none t lt early c =
+      none t lt early (c.cycle, record { begun = c.begun.occurs.begun; reaches = c.begun.begins })
 
-pub certain_none : (s : Scenario) (hs : List Happening) (until : ℕ) (flow : Flow) → CountsUpTo (IsCertainAt s hs until flow) 0 0
-certain_none s hs until flow = counts_none (IsCertainAt s hs until flow) (later s hs until flow)
+  pub certain_none : CountsUpTo (IsCertainAt s hs until flow) 0 0
+  certain_none = counts_none (IsCertainAt s hs until flow) (later)
 
 -- with the cycle that begins next
-pub certain_next : (course : Course) (befallen : List Event) (hs : List Happening) (flow : Flow) (after old new : ℕ) (begun : Begun)
-    → IsCourse befallen hs course → IsInRange course.network.now → ReadsOn ((scenario_of course befallen).reading flow.device)
+pub certain_next : {course : Course} {befallen : List Event} {hs : List Happening} (flow : Flow) {after : ℕ}
+    (old new : ℕ) {begun : Begun} → IsCourse befallen hs course → IsInRange course.network.now
+    → ReadsOn ((scenario_of course befallen).reading flow.device)
     → CountsUpTo (IsCertainAt (scenario_of course befallen) hs course.until flow) after old
-    → IsFirstBegun (scenario_of course befallen) hs flow.device after course.until begun → IsCertainCounted course flow begun old new
-    → CountsUpTo (IsCertainAt (scenario_of course befallen) hs course.until flow) begun.time new
-certain_next course befallen hs flow after old new begun known range on are first (inl is) =
+    → IsFirstBegun (scenario_of course befallen) hs flow.device after course.until begun
+    → IsCertainCounted course flow begun old new → CountsUpTo
+    (IsCertainAt (scenario_of course befallen) hs course.until flow) begun.time new
+certain_next {course} {befallen} {hs} flow {after} old new {begun} known range on are first (inl is) =
     let s = scenario_of course befallen in
     let IsSo = IsCertainAt s hs course.until flow in
     let none = between s hs course.until flow after begun.time first.first.none_before in
@@ -38,7 +41,7 @@ certain_next course befallen hs flow after old new begun known range on are firs
     record { occurs = is.0; begins = first.begins.reaches; in_run = first.first.timely } in
     subst (CountsUpTo IsSo begun.time) (sym is.1) (counts_more IsSo after begun.time old are first.first.later
     (record { cycle = begun.cycle; begun = at; certain = is.2 befallen hs known at }) none)
-certain_next course befallen hs flow after old new begun known range on are first (inr is) =
+certain_next {course} {befallen} {hs} flow {after} old new {begun} known range on are first (inr is) =
     let s = scenario_of course befallen in
     let IsSo = IsCertainAt s hs course.until flow in
     let none = between s hs course.until flow after begun.time first.first.none_before in
@@ -49,13 +52,13 @@ certain_next course befallen hs flow after old new begun known range on are firs
       | inr more ↦
           let same : t ≡ begun.time = omega (arith, early, more) in
           let here = subst IsSo same c in
-          let cycles = same_cycle s hs flow.device begun.time here.cycle begun.cycle on wide here.begun.begins first.begins.reaches in
+          let cycles = same_cycle here.cycle begun.cycle on wide here.begun.begins first.begins.reaches in
           let at : IsBegun s hs course.until flow begun.cycle begun.time = record {
-            occurs = subst (λ (k : ℕ). OccursIn flow.of_vl k) cycles here.begun.occurs;
+            occurs = subst (λ k. OccursIn flow.of_vl k) cycles here.begun.occurs;
             begins = first.begins.reaches;
             in_run = first.first.timely;
           } in
-          is.1 befallen hs known at (subst (λ (k : ℕ). IsCertainFrom s hs course.until flow k begun.time) cycles here.certain)
+          is.1 befallen hs known at (subst (λ k. IsCertainFrom s hs course.until flow k begun.time) cycles here.certain)
     ]))
 
 -- where the clock begins no more, all are counted

@@ -28,17 +28,21 @@ pub few_next : (course : Course) (flow : Flow) (begun : Begun) (after : ℕ) (ol
 few_next course flow begun after old new few lt (inl out) = subst (AreUpTo begun.time) (sym out.1) (few_still old after begun.time few lt)
 few_next course flow begun after old new few lt (inr is) = subst (AreUpTo begun.time) (sym is.2) (few_more old after begun.time is.0 few lt)
 
-pub next_counted : (course : Course) (befallen : List Event) (hs : List Happening) (flow : Flow) (after : ℕ) (old new : FateCounts) (begun : Begun)
-    → IsCourse befallen hs course → IsInRange course.network.now → IsFlow course.network.now flow
-    → ReadsOn ((scenario_of course befallen).reading flow.device) → AreCountsUpTo (scenario_of course befallen) hs course.until flow after old
-    → IsFirstBegun (scenario_of course befallen) hs flow.device after course.until begun → IsCycleCounted course flow begun old new
-    → AreCountsUpTo (scenario_of course befallen) hs course.until flow begun.time new
-next_counted course befallen hs flow after old new begun known range is on are first (inl out) =
+pub next_counted : {course : Course} {befallen : List Event} {hs : List Happening} {flow : Flow} {after : ℕ}
+    (old new : FateCounts) {begun : Begun} → IsCourse befallen hs course → IsInRange course.network.now
+    → IsFlow course.network.now flow → ReadsOn ((scenario_of course befallen).reading flow.device)
+    → AreCountsUpTo (scenario_of course befallen) hs course.until flow after old
+    → IsFirstBegun (scenario_of course befallen) hs flow.device after course.until begun
+    → IsCycleCounted course flow begun old new → AreCountsUpTo
+    (scenario_of course befallen) hs course.until flow begun.time new
+next_counted {course} {befallen} {hs} {flow} old new {begun} known range is on are first (inl out) =
     let s = scenario_of course befallen in
     subst (AreCountsUpTo s hs course.until flow begun.time) (sym out.1)
-    (passed_on s hs course.until flow after old begun on (amount_least (2 ^ 32) s.network.cycle.0 range.cycle.least) are first out.0)
-next_counted course befallen hs flow after old new begun known range is on are first (inr has) =
+    (passed_on s hs course.until flow old on (amount_least (2 ^ 32) s.network.cycle.0 range.cycle.least) are first
+    out.0)
+next_counted {course} {befallen} {hs} {flow} old new {begun} known range is on are first (inr has) =
     let s = scenario_of course befallen in
     subst (AreCountsUpTo s hs course.until flow begun.time) (sym has.2)
-    (counted_on s hs course.until flow after old begun has.0 is on (amount_least (2 ^ 32) s.network.cycle.0 range.cycle.least) are first has.1
+    (counted_on s hs course.until flow old has.0 is on (amount_least (2 ^ 32) s.network.cycle.0 range.cycle.least)
+    are first has.1
     (has.3 befallen hs known (record { occurs = has.1; begins = first.begins.reaches; in_run = first.first.timely })))

@@ -45,7 +45,7 @@ ends_more network vl device place last end new is before here =
       | inr more ↦
           let lt = h.1 in
           let same : h.0 ≡ place = omega (arith, lt, more) in
-          inr (subst (λ (k : ℕ). EndsAt network vl device k n) same h.2)
+          inr (subst (λ k. EndsAt network vl device k n) same h.2)
     ]) before here)
 
 greatest_same : (P Q : ℕ → Type 0) (a : Option ℕ) → ((n : ℕ) → P n → Q n) → ((n : ℕ) → Q n → P n) → TellsGreatest P a → TellsGreatest Q a

@@ -11,37 +11,37 @@ use Rattle.lens_flows.specs.declared.judge.fate.Fate.TheVariants as fates
 
 -- ---- a cycle has one fate
 
-owed_ready : (s : Scenario) (hs : List Happening) (until : ℕ) (flow : Flow) (cycle from : ℕ) → IsFlow s.network flow
-    → IsOwedFrom s hs until flow cycle from → IsReady s hs until flow cycle from
-owed_ready s hs until flow cycle from is o t ge le most =
-    owed_stays s hs until flow cycle from o t ge (most o.owed.to (owed_ends s hs until flow cycle from is o))
+module _ (s : Scenario) (hs : List Happening) (until : ℕ) {flow : Flow} (cycle from : ℕ)
+    (is : IsFlow s.network flow) where
+  owed_ready : IsOwedFrom s hs until flow cycle from → IsReady s hs until flow cycle from
+  owed_ready o t ge le most =
+      owed_stays s hs until flow cycle from o t ge (most o.owed.to (owed_ends s hs until flow cycle from is o))
 
-pub fate_one : (s : Scenario) (hs : List Happening) (until : ℕ) (flow : Flow) (cycle from : ℕ) → IsFlow s.network flow → (f g : Fate)
-    → HasFate s hs until flow cycle from f → HasFate s hs until flow cycle from g → f ≡ g
-fate_one s hs until flow cycle from is fates.Owed fates.Owed hf hg = refl
-fate_one s hs until flow cycle from is fates.Owed fates.Receiver hf hg = absurd (hg (owed_ready s hs until flow cycle from is hf))
-fate_one s hs until flow cycle from is fates.Owed fates.Sender hf hg = absurd (hg.2 hf)
-fate_one s hs until flow cycle from is fates.Owed fates.End hf hg = absurd (hg.1 hf.owed.to (owed_ends s hs until flow cycle from is hf))
-fate_one s hs until flow cycle from is fates.Receiver fates.Owed hf hg = absurd (hf (owed_ready s hs until flow cycle from is hg))
-fate_one s hs until flow cycle from is fates.Receiver fates.Receiver hf hg = refl
-fate_one s hs until flow cycle from is fates.Receiver fates.Sender hf hg = absurd (hf hg.0)
-fate_one s hs until flow cycle from is fates.Receiver fates.End hf hg = absurd (hf hg.0)
-fate_one s hs until flow cycle from is fates.Sender fates.Owed hf hg = absurd (hf.2 hg)
-fate_one s hs until flow cycle from is fates.Sender fates.Receiver hf hg = absurd (hg hf.0)
-fate_one s hs until flow cycle from is fates.Sender fates.Sender hf hg = refl
-fate_one s hs until flow cycle from is fates.Sender fates.End hf hg = absurd (hg.1 hf.1.0 hf.1.1)
-fate_one s hs until flow cycle from is fates.End fates.Owed hf hg = absurd (hf.1 hg.owed.to (owed_ends s hs until flow cycle from is hg))
-fate_one s hs until flow cycle from is fates.End fates.Receiver hf hg = absurd (hg hf.0)
-fate_one s hs until flow cycle from is fates.End fates.Sender hf hg = absurd (hf.1 hg.1.0 hg.1.1)
-fate_one s hs until flow cycle from is fates.End fates.End hf hg = refl
+  pub fate_one : (f g : Fate) → HasFate s hs until flow cycle from f → HasFate s hs until flow cycle from g → f ≡ g
+  fate_one fates.Owed fates.Owed hf hg = refl
+  fate_one fates.Owed fates.Receiver hf hg = absurd (hg (owed_ready hf))
+  fate_one fates.Owed fates.Sender hf hg = absurd (hg.2 hf)
+  fate_one fates.Owed fates.End hf hg = absurd (hg.1 hf.owed.to (owed_ends s hs until flow cycle from is hf))
+  fate_one fates.Receiver fates.Owed hf hg = absurd (hf (owed_ready hg))
+  fate_one fates.Receiver fates.Receiver hf hg = refl
+  fate_one fates.Receiver fates.Sender hf hg = absurd (hf hg.0)
+  fate_one fates.Receiver fates.End hf hg = absurd (hf hg.0)
+  fate_one fates.Sender fates.Owed hf hg = absurd (hf.2 hg)
+  fate_one fates.Sender fates.Receiver hf hg = absurd (hg hf.0)
+  fate_one fates.Sender fates.Sender hf hg = refl
+  fate_one fates.Sender fates.End hf hg = absurd (hg.1 hf.1.0 hf.1.1)
+  fate_one fates.End fates.Owed hf hg = absurd (hf.1 hg.owed.to (owed_ends s hs until flow cycle from is hg))
+  fate_one fates.End fates.Receiver hf hg = absurd (hg hf.0)
+  fate_one fates.End fates.Sender hf hg = absurd (hf.1 hg.1.0 hg.1.1)
+  fate_one fates.End fates.End hf hg = refl
 
 -- ---- at one time a clock begins one cycle
 
-never_less : (s : Scenario) (hs : List Happening) (device : DeviceId) (t c d : ℕ) → ReadsOn (s.reading device) → 2 ^ 32 ≤ amount s.network.cycle
-    → ReachesPlace s hs device c 0 t → ReachesPlace s hs device d 0 t → c < d → ⊥
-never_less s hs device zero c d on wide first second lt =
+never_less : {s : Scenario} {hs : List Happening} {device : DeviceId} (t c d : ℕ) → ReadsOn (s.reading device)
+    → 2 ^ 32 ≤ amount s.network.cycle → ReachesPlace s hs device c 0 t → ReachesPlace s hs device d 0 t → c < d → ⊥
+never_less zero c d on wide first second lt =
     absurd (let none = not_at_first 0 first in omega (arith, none))
-never_less s hs device (suc t) c d on wide first second lt =
+never_less {s} {hs} {device} (suc t) c d on wide first second lt =
     let r = amount s.network.cycle in
     let more : (c + 1) * r ≤ d * r = mul-le-mul_right r (omega (arith, lt)) in
     let early = changed_early hs device (suc t) in
@@ -52,13 +52,14 @@ never_less s hs device (suc t) c d on wide first second lt =
     let reached = second.reach.reached in
     omega (arith, ints, more, now, before, reached, wide)
 
-pub same_cycle : (s : Scenario) (hs : List Happening) (device : DeviceId) (t c d : ℕ) → ReadsOn (s.reading device) → 2 ^ 32 ≤ amount s.network.cycle
-    → ReachesPlace s hs device c 0 t → ReachesPlace s hs device d 0 t → c ≡ d
-same_cycle s hs device t c d on wide first second =
+pub same_cycle : {s : Scenario} {hs : List Happening} {device : DeviceId} {t : ℕ} (c d : ℕ)
+    → ReadsOn (s.reading device) → 2 ^ 32 ≤ amount s.network.cycle → ReachesPlace s hs device c 0 t
+    → ReachesPlace s hs device d 0 t → c ≡ d
+same_cycle {t} c d on wide first second =
     elim (cases_lt c d) [
-      | inl less ↦ absurd (never_less s hs device t c d on wide first second less)
+      | inl less ↦ absurd (never_less t c d on wide first second less)
       | inr ge ↦ elim (cases_lt d c) [
-        | inl more ↦ absurd (never_less s hs device t d c on wide second first more)
+        | inl more ↦ absurd (never_less t d c on wide second first more)
         | inr le ↦ omega (arith, ge, le)
       ]
     ]
@@ -88,71 +89,75 @@ on_count P counts fates.End fates.Receiver more same = same (λ e. cc)
 on_count P counts fates.End fates.Sender more same = same (λ e. cc)
 on_count P counts fates.End fates.End more same = more refl
 
-begun_later : (s : Scenario) (hs : List Happening) (until : ℕ) (flow : Flow) (fate : Fate) (t : ℕ) → HasFateAt s hs until flow fate t → 0 < t
-begun_later s hs until flow fate t (cycle, begun, has) = not_at_first t begun.begins
+module _ (s : Scenario) (hs : List Happening) (until : ℕ) (flow : Flow) where
+  begun_later : (fate : Fate) (t : ℕ) → HasFateAt s hs until flow fate t → 0 < t
+  begun_later fate t (cycle, begun, has) = not_at_first t begun.begins
 
-pub none_counted : (s : Scenario) (hs : List Happening) (until : ℕ) (flow : Flow) (counts : FateCounts) → ((fate : Fate) → count_of counts fate ≡ 0)
-    → AreCountsUpTo s hs until flow 0 counts
-none_counted s hs until flow counts zeros fate =
-    subst (λ (n : ℕ). CountsUpTo (HasFateAt s hs until flow fate) 0 n) (sym (zeros fate))
-    (counts_none (HasFateAt s hs until flow fate) (begun_later s hs until flow fate))
+  pub none_counted : (counts : FateCounts) → ((fate : Fate) → count_of counts fate ≡ 0)
+      → AreCountsUpTo s hs until flow 0 counts
+  none_counted counts zeros fate =
+      subst (λ n. CountsUpTo (HasFateAt s hs until flow fate) 0 n) (sym (zeros fate))
+      (counts_none (HasFateAt s hs until flow fate) (begun_later fate))
 
--- before the next cycle that the clock begins there is none
-none_between : (s : Scenario) (hs : List Happening) (until : ℕ) (flow : Flow) (fate : Fate) (after before : ℕ)
-    → NoneWithin (BeginsOne s hs flow.device) after before → NoneWithin (HasFateAt s hs until flow fate) after before
-none_between s hs until flow fate after before none t lt early (cycle, begun, has) =
-    none t lt early (cycle, record { begun = begun.occurs.begun; reaches = begun.begins })
+  -- before the next cycle that the clock begins there is none
+  none_between : (fate : Fate) (after before : ℕ) → NoneWithin (BeginsOne s hs flow.device) after before
+      → NoneWithin (HasFateAt s hs until flow fate) after before
+  none_between fate after before none t lt early (cycle, begun, has) =
+      none t lt early (cycle, record { begun = begun.occurs.begun; reaches = begun.begins })
 
--- the cycle that begins next has this fate
-pub counted_on : (s : Scenario) (hs : List Happening) (until : ℕ) (flow : Flow) (after : ℕ) (counts : FateCounts) (begun : Begun) (fate : Fate)
-    → IsFlow s.network flow → ReadsOn (s.reading flow.device) → 2 ^ 32 ≤ amount s.network.cycle → AreCountsUpTo s hs until flow after counts
-    → IsFirstBegun s hs flow.device after until begun → OccursIn flow.of_vl begun.cycle
-    → HasFate s hs until flow begun.cycle begun.time fate → AreCountsUpTo s hs until flow begun.time (counted counts fate)
-counted_on s hs until flow after counts begun fate is on wide are first occurs has g =
-    let later = first.first.later in
-    let none = none_between s hs until flow g after begun.time first.first.none_before in
-    let IsSo = HasFateAt s hs until flow g in
-    on_count (λ f n. CountsUpTo (HasFateAt s hs until flow f) begun.time n) counts fate g
-    (λ e. counts_more IsSo after begun.time (count_of counts g) (are g) later (
-      begun.cycle,
-      record { occurs = occurs; begins = first.begins.reaches; in_run = first.first.timely },
-      subst (HasFate s hs until flow begun.cycle begun.time) e has,
-    ) none)
-    (λ other. counts_same IsSo after begun.time (count_of counts g) (are g) (omega (arith, later))
-    (λ t lt early so. elim (cases_lt t begun.time) [
-      | inl less ↦ none t lt less so
-      | inr more ↦
-          let same : t ≡ begun.time = omega (arith, early, more) in
-          let here = subst IsSo same so in
-          let cycles = same_cycle s hs flow.device begun.time here.0 begun.cycle on wide here.1.begins first.begins.reaches in
-          other (fate_one s hs until flow begun.cycle begun.time is fate g has
-          (subst (λ (c : ℕ). HasFate s hs until flow c begun.time g) cycles here.2))
-    ]))
+  -- the cycle that begins next has this fate
+  pub counted_on : {after : ℕ} (counts : FateCounts) {begun : Begun} (fate : Fate) → IsFlow s.network flow
+      → ReadsOn (s.reading flow.device) → 2 ^ 32 ≤ amount s.network.cycle
+      → AreCountsUpTo s hs until flow after counts → IsFirstBegun s hs flow.device after until begun
+      → OccursIn flow.of_vl begun.cycle → HasFate s hs until flow begun.cycle begun.time fate
+      → AreCountsUpTo s hs until flow begun.time (counted counts fate)
+  counted_on {after} counts {begun} fate is on wide are first occurs has g =
+      let later = first.first.later in
+      let none = none_between g after begun.time first.first.none_before in
+      let IsSo = HasFateAt s hs until flow g in
+      on_count (λ f n. CountsUpTo (HasFateAt s hs until flow f) begun.time n) counts fate g
+      (λ e. counts_more IsSo after begun.time (count_of counts g) (are g) later (
+        begun.cycle,
+        record { occurs = occurs; begins = first.begins.reaches; in_run = first.first.timely },
+        subst (HasFate s hs until flow begun.cycle begun.time) e has,
+      ) none)
+      (λ other. counts_same IsSo after begun.time (count_of counts g) (are g) (omega (arith, later))
+      (λ t lt early so. elim (cases_lt t begun.time) [
+        | inl less ↦ none t lt less so
+        | inr more ↦
+            let same : t ≡ begun.time = omega (arith, early, more) in
+            let here = subst IsSo same so in
+            let cycles = same_cycle here.0 begun.cycle on wide here.1.begins first.begins.reaches in
+            other (fate_one s hs until begun.cycle begun.time is fate g has
+            (subst (λ c. HasFate s hs until flow c begun.time g) cycles here.2))
+      ]))
 
--- the virtual link does not occur in it
-pub passed_on : (s : Scenario) (hs : List Happening) (until : ℕ) (flow : Flow) (after : ℕ) (counts : FateCounts) (begun : Begun)
-    → ReadsOn (s.reading flow.device) → 2 ^ 32 ≤ amount s.network.cycle → AreCountsUpTo s hs until flow after counts
-    → IsFirstBegun s hs flow.device after until begun → (OccursIn flow.of_vl begun.cycle → ⊥) → AreCountsUpTo s hs until flow begun.time counts
-passed_on s hs until flow after counts begun on wide are first out g =
-    let later = first.first.later in
-    let none = none_between s hs until flow g after begun.time first.first.none_before in
-    let IsSo = HasFateAt s hs until flow g in
-    counts_same IsSo after begun.time (count_of counts g) (are g) (omega (arith, later))
-    (λ t lt early so. elim (cases_lt t begun.time) [
-      | inl less ↦ none t lt less so
-      | inr more ↦
-          let same : t ≡ begun.time = omega (arith, early, more) in
-          let here = subst IsSo same so in
-          let cycles = same_cycle s hs flow.device begun.time here.0 begun.cycle on wide here.1.begins first.begins.reaches in
-          out (subst (λ (c : ℕ). OccursIn flow.of_vl c) cycles here.1.occurs)
-    ])
+  -- the virtual link does not occur in it
+  pub passed_on : {after : ℕ} (counts : FateCounts) {begun : Begun} → ReadsOn (s.reading flow.device)
+      → 2 ^ 32 ≤ amount s.network.cycle → AreCountsUpTo s hs until flow after counts
+      → IsFirstBegun s hs flow.device after until begun → (OccursIn flow.of_vl begun.cycle → ⊥)
+      → AreCountsUpTo s hs until flow begun.time counts
+  passed_on {after} counts {begun} on wide are first out g =
+      let later = first.first.later in
+      let none = none_between g after begun.time first.first.none_before in
+      let IsSo = HasFateAt s hs until flow g in
+      counts_same IsSo after begun.time (count_of counts g) (are g) (omega (arith, later))
+      (λ t lt early so. elim (cases_lt t begun.time) [
+        | inl less ↦ none t lt less so
+        | inr more ↦
+            let same : t ≡ begun.time = omega (arith, early, more) in
+            let here = subst IsSo same so in
+            let cycles = same_cycle here.0 begun.cycle on wide here.1.begins first.begins.reaches in
+            out (subst (λ c. OccursIn flow.of_vl c) cycles here.1.occurs)
+      ])
 
--- where the clock begins no more, all are counted
-pub all_counted : (s : Scenario) (hs : List Happening) (until : ℕ) (flow : Flow) (after : ℕ) (counts : FateCounts)
-    → AreCountsUpTo s hs until flow after counts → NoneWithin (BeginsOne s hs flow.device) after (until + 1) → AreFateCounts s hs until flow counts
-all_counted s hs until flow after counts are none fate =
-    counts_whole (HasFateAt s hs until flow fate) after until (count_of counts fate) (are fate) (none_between s hs until flow fate after (until + 1) none)
-    (λ t so. so.1.in_run)
+  -- where the clock begins no more, all are counted
+  pub all_counted : (after : ℕ) (counts : FateCounts) → AreCountsUpTo s hs until flow after counts
+      → NoneWithin (BeginsOne s hs flow.device) after (until + 1) → AreFateCounts s hs until flow counts
+  all_counted after counts are none fate =
+      counts_whole (HasFateAt s hs until flow fate) after until (count_of counts fate) (are fate)
+      (none_between fate after (until + 1) none)
+      (λ t so. so.1.in_run)
 
 -- ---- no count is above the time
 

@@ -28,9 +28,9 @@ device_of : (device : DeviceId) (other : DeviceId) → other.0 ≡ device.0 → 
 device_of device other e = ap (λ (n : ℕ). let x : DeviceId = record { 0 = n } in x) e
 
 -- a flow that comes before the next device comes before this one, or is the one to it
-next_device : (network : Network) (vl : VlId) (device : DeviceId) (flow : Flow) → IsFlowOf network vl.0 (device.0 + 1) flow
-    → IsFlowOf network vl.0 device.0 flow ⊎ IsTo network vl device flow
-next_device network vl device flow is =
+next_device : {network : Network} (vl : VlId) (device : DeviceId) {flow : Flow}
+    → IsFlowOf network vl.0 (device.0 + 1) flow → IsFlowOf network vl.0 device.0 flow ⊎ IsTo network vl device flow
+next_device vl device {flow} is =
     elim is.before [
       | inl lt ↦ inl (record { is = is.is; before = inl lt })
       | inr at ↦ elim (cases_lt flow.device.0 device.0) [
@@ -42,26 +42,27 @@ next_device network vl device flow is =
       ]
     ]
 
-greatest_one : (Has : ℕ → Type 0) (m n : ℕ) → IsGreatest Has m → IsGreatest Has n → m ≤ n
-greatest_one Has m n a b = elim a.reached [
+greatest_one : (Has : ℕ → Type 0) {m n : ℕ} → IsGreatest Has m → IsGreatest Has n → m ≤ n
+greatest_one Has {m} a b = elim a.reached [
   | inl zero ↦ omega (arith, zero)
   | inr has ↦ b.most m has
 ]
 
 -- there is one flow of a virtual link to a device
-to_one : (network : Network) (vl : VlId) (device : DeviceId) (a b : Flow) → IsTo network vl device a → IsTo network vl device b → a ≡ b
-to_one network vl device a b p q =
+to_one : {network : Network} {vl : VlId} {device : DeviceId} {a b : Flow} → IsTo network vl device a
+    → IsTo network vl device b → a ≡ b
+to_one {network} {vl} {device} {a} {b} p q =
     let vls : a.vl ≡ b.vl = p.of_vl ∙ sym q.of_vl in
     let devices : a.device ≡ b.device = p.to ∙ sym q.to in
     let there = subst (λ (v : VlId). slice_get network.vl v.0 ≡ Some a.of_vl) vls p.is.there in
     let of_vls : a.of_vl ≡ b.of_vl = some_same (sym there ∙ q.is.there) in
-    let greatest = subst (λ (d : DeviceId). IsGreatest (IsWindowEnd network b.vl d) a.last) devices
-    (subst (λ (v : VlId). IsGreatest (IsWindowEnd network v a.device) a.last) vls p.is.greatest) in
-    let le = greatest_one (IsWindowEnd network b.vl b.device) a.last b.last greatest q.is.greatest in
-    let ge = greatest_one (IsWindowEnd network b.vl b.device) b.last a.last q.is.greatest greatest in
+    let greatest = subst (λ d. IsGreatest (IsWindowEnd network b.vl d) a.last) devices
+    (subst (λ v. IsGreatest (IsWindowEnd network v a.device) a.last) vls p.is.greatest) in
+    let le = greatest_one (IsWindowEnd network b.vl b.device) greatest q.is.greatest in
+    let ge = greatest_one (IsWindowEnd network b.vl b.device) q.is.greatest greatest in
     let lasts : a.last ≡ b.last = omega (arith, le, ge) in
-    ap (λ (v : VlId). made v a.of_vl a.device a.last) vls ∙ ap (λ (o : VirtualLink). made b.vl o a.device a.last) of_vls
-    ∙ ap (λ (d : DeviceId). made b.vl b.of_vl d a.last) devices ∙ ap (λ (n : ℕ). made b.vl b.of_vl b.device n) lasts
+    ap (λ v. made v a.of_vl a.device a.last) vls ∙ ap (λ o. made b.vl o a.device a.last) of_vls
+    ∙ ap (λ d. made b.vl b.of_vl d a.last) devices ∙ ap (λ n. made b.vl b.of_vl b.device n) lasts
   where
     made : VlId → VirtualLink → DeviceId → ℕ → Flow
     made v o d n = record { vl = v; of_vl = o; device = d; last = n }
@@ -69,16 +70,17 @@ to_one network vl device a b p q =
     some_same : Some a.of_vl ≡ Some b.of_vl → a.of_vl ≡ b.of_vl
     some_same e = cc
 
-pub flow_more : (network : Network) (vl : VlId) (device : DeviceId) (flows new : List Flow) (flow : Flow) → IsTo network vl device flow
-    → new ≡ flows ++ flow ∷ [] → AreFlowsBefore network vl.0 device.0 flows → AreFlowsBefore network vl.0 (device.0 + 1) new
-flow_more network vl device flows new flow to grown are =
+pub flow_more : {network : Network} {vl : VlId} {device : DeviceId} {flows : List Flow} (new : List Flow)
+    {flow : Flow} → IsTo network vl device flow → new ≡ flows ++ flow ∷ []
+    → AreFlowsBefore network vl.0 device.0 flows → AreFlowsBefore network vl.0 (device.0 + 1) new
+flow_more {network} {vl} {device} new {flow} to grown are =
     subst (AreFlowsBefore network vl.0 (device.0 + 1)) (sym grown)
-    (all_more (IsFlowOf network vl.0 device.0) (IsFlowOf network vl.0 (device.0 + 1)) IsFlowBefore flows flow are
+    (all_more (IsFlowOf network vl.0 device.0) (IsFlowOf network vl.0 (device.0 + 1)) IsFlowBefore flow are
     (λ f is. record { is = is.is; before = later_device vl.0 device.0 f is.before })
     (record { is = to.is; before = inr (ap (λ (v : VlId). v.0) to.of_vl, let same = ap (λ (d : DeviceId). d.0) to.to in omega (arith, same)) })
-    (λ f is. elim (next_device network vl device f is) [
+    (λ f is. elim (next_device vl device is) [
       | inl old ↦ inl old
-      | inr here ↦ inr (to_one network vl device f flow here to)
+      | inr here ↦ inr (to_one here to)
     ])
     (λ f is.
     let vls = ap (λ (v : VlId). v.0) to.of_vl in
@@ -88,22 +90,23 @@ flow_more network vl device flows new flow to grown are =
       | inr at ↦ let same = at.0 in let lt = at.1 in inr (omega (arith, same, vls), omega (arith, lt, devices))
     ]))
 
-pub flow_none : (network : Network) (vl : VlId) (device : DeviceId) (flows : List Flow) → ((flow : Flow) → IsTo network vl device flow → ⊥)
-    → AreFlowsBefore network vl.0 device.0 flows → AreFlowsBefore network vl.0 (device.0 + 1) flows
-flow_none network vl device flows none are =
-    all_same (IsFlowOf network vl.0 device.0) (IsFlowOf network vl.0 (device.0 + 1)) IsFlowBefore flows are
+pub flow_none : (network : Network) (vl : VlId) (device : DeviceId) {flows : List Flow}
+    → ((flow : Flow) → IsTo network vl device flow → ⊥) → AreFlowsBefore network vl.0 device.0 flows
+    → AreFlowsBefore network vl.0 (device.0 + 1) flows
+flow_none network vl device none are =
+    all_same (IsFlowOf network vl.0 device.0) (IsFlowOf network vl.0 (device.0 + 1)) IsFlowBefore are
     (λ f is. record { is = is.is; before = later_device vl.0 device.0 f is.before })
-    (λ f is. elim (next_device network vl device f is) [
+    (λ f is. elim (next_device vl device is) [
       | inl old ↦ old
       | inr here ↦ absurd (none f here)
     ])
 
 -- ---- one virtual link more
 
-pub next_vl : (network : Network) (vl device : ℕ) (flows : List Flow) → length network.device ≤ device → AreFlowsBefore network vl device flows
-    → AreFlowsBefore network (vl + 1) 0 flows
-next_vl network vl device flows all are =
-    all_same (IsFlowOf network vl device) (IsFlowOf network (vl + 1) 0) IsFlowBefore flows are
+pub next_vl : (network : Network) (vl device : ℕ) {flows : List Flow} → length network.device ≤ device
+    → AreFlowsBefore network vl device flows → AreFlowsBefore network (vl + 1) 0 flows
+next_vl network vl device all are =
+    all_same (IsFlowOf network vl device) (IsFlowOf network (vl + 1) 0) IsFlowBefore are
     (λ f is. record {
       is = is.is;
       before = elim is.before [
@@ -116,15 +119,16 @@ next_vl network vl device flows all are =
       before = elim is.before [
         | inl lt ↦ elim (cases_lt f.vl.0 vl) [
           | inl less ↦ inl less
-          | inr more ↦ let there = receiver_there network f is.is in inr (omega (arith, lt, more), omega (arith, there, all))
+          | inr more ↦ let there = receiver_there is.is in inr (omega (arith, lt, more), omega (arith, there, all))
         ]
         | inr at ↦ let lt = at.1 in absurd (omega (arith, lt))
       ];
     })
 
-pub all_vls : (network : Network) (vl : ℕ) (flows : List Flow) → length network.vl ≤ vl → AreFlowsBefore network vl 0 flows → AreFlows network flows
-all_vls network vl flows all are =
-    all_same (IsFlowOf network vl 0) (IsFlow network) IsFlowBefore flows are (λ f is. is.is)
+pub all_vls : (network : Network) (vl : ℕ) {flows : List Flow} → length network.vl ≤ vl
+    → AreFlowsBefore network vl 0 flows → AreFlows network flows
+all_vls network vl all are =
+    all_same (IsFlowOf network vl 0) (IsFlow network) IsFlowBefore are (λ f is. is.is)
     (λ f is.
     let there = slice_get_within network.vl f.vl.0 f.of_vl is.there in
     record { is = is; before = inl (omega (arith, there, all)) })
@@ -135,18 +139,19 @@ end_role : (o : Option Device) → IsSomeAnd o (λ d. is_end_system d.role ≡ t
 end_role None h = absurd h
 end_role (Some d) h = h
 
-pub no_end_system : (network : Network) (vl : VlId) (device : DeviceId) (flow : Flow) → is_end network device ≡ false → IsTo network vl device flow → ⊥
-no_end_system network vl device flow out to =
+pub no_end_system : {network : Network} {vl : VlId} {device : DeviceId} {flow : Flow} → is_end network device ≡ false
+    → IsTo network vl device flow → ⊥
+no_end_system {network} {device} out to =
     let end : IsEndSystem network device = subst (IsEndSystem network) to.to to.is.end_system in
     false≢true (sym out ∙ end_role (device_at network device) end)
 
-pub no_window : (network : Network) (vl : VlId) (device : DeviceId) (flow : Flow) → ((n : ℕ) → IsWindowEnd network vl device n → ⊥)
-    → IsTo network vl device flow → ⊥
-no_window network vl device flow none to =
+pub no_window : {network : Network} {vl : VlId} {device : DeviceId} {flow : Flow}
+    → ((n : ℕ) → IsWindowEnd network vl device n → ⊥) → IsTo network vl device flow → ⊥
+no_window {network} {vl} {flow} none to =
     elim to.is.greatest.reached [
       | inl zero ↦ let end = window_end network to.is.into in
-          none end (subst (λ (d : DeviceId). IsWindowEnd network vl d end) to.to
-          (subst (λ (v : VlId). IsWindowEnd network v flow.device end) to.of_vl (to.is.into, to.is.enters, refl)))
-      | inr has ↦ none flow.last (subst (λ (d : DeviceId). IsWindowEnd network vl d flow.last) to.to
-          (subst (λ (v : VlId). IsWindowEnd network v flow.device flow.last) to.of_vl has))
+          none end (subst (λ d. IsWindowEnd network vl d end) to.to
+          (subst (λ v. IsWindowEnd network v flow.device end) to.of_vl (to.is.into, to.is.enters, refl)))
+      | inr has ↦ none flow.last (subst (λ d. IsWindowEnd network vl d flow.last) to.to
+          (subst (λ v. IsWindowEnd network v flow.device flow.last) to.of_vl has))
     ]

@@ -67,29 +67,35 @@ inside_least window place early late behind before = record {
 abbrev pub IsInsideBefore : Network → Flow → LinkId → ℤ → ℕ → ℕ → ℕ → Type 0
 IsInsideBefore network flow link place n early late = (k : ℕ) × (k < n) × IsInsideRow network flow link place k early late
 
-pub inside_none : (network : Network) (flow : Flow) (link : LinkId) (place : ℤ) (x y : ℕ) → IsInsideBefore network flow link place 0 x y → ⊥
-inside_none network flow link place x y (k, lt, at) = omega (arith, lt)
+module _ (network : Network) (flow : Flow) (link : LinkId) (place : ℤ) where
+  pub inside_none : (x y : ℕ) → IsInsideBefore network flow link place 0 x y → ⊥
+  inside_none x y (k, lt, at) = omega (arith, lt)
 
-pub inside_more : (network : Network) (flow : Flow) (link : LinkId) (place : ℤ) (n : ℕ) (last found new : Option Nearest) → new ≡ nearer last found
-    → TellsLeast (IsInsideBefore network flow link place n) last → TellsLeast (IsInsideRow network flow link place n) found
-    → TellsLeast (IsInsideBefore network flow link place (n + 1)) new
-inside_more network flow link place n last found new is before here =
-    subst (TellsLeast (IsInsideBefore network flow link place (n + 1))) (sym is)
-    (least_both (IsInsideBefore network flow link place n) (IsInsideRow network flow link place n) (IsInsideBefore network flow link place (n + 1)) last found
-    (λ x y h. let lt = h.1 in (h.0, omega (arith, lt), h.2)) (λ x y at. (n, omega arith, at))
-    (λ x y h. elim (cases_lt h.0 n) [
-      | inl less ↦ inl (h.0, less, h.2)
-      | inr more ↦
-          let lt = h.1 in
-          let same : h.0 ≡ n = omega (arith, lt, more) in
-          inr (subst (λ (k : ℕ). IsInsideRow network flow link place k x y) same h.2)
-    ]) before here)
+  pub inside_more : (n : ℕ) (last found new : Option Nearest) → new ≡ nearer last found
+      → TellsLeast (IsInsideBefore network flow link place n) last
+      → TellsLeast (IsInsideRow network flow link place n) found
+      → TellsLeast (IsInsideBefore network flow link place (n + 1)) new
+  inside_more n last found new is before here =
+      subst (TellsLeast (IsInsideBefore network flow link place (n + 1))) (sym is)
+      (least_both (IsInsideBefore network flow link place n) (IsInsideRow network flow link place n)
+      (IsInsideBefore network flow link place (n + 1)) last found
+      (λ x y h. let lt = h.1 in (h.0, omega (arith, lt), h.2)) (λ x y at. (n, omega arith, at))
+      (λ x y h. elim (cases_lt h.0 n) [
+        | inl less ↦ inl (h.0, less, h.2)
+        | inr more ↦
+            let lt = h.1 in
+            let same : h.0 ≡ n = omega (arith, lt, more) in
+            inr (subst (λ k. IsInsideRow network flow link place k x y) same h.2)
+      ]) before here)
 
-pub inside_all : (network : Network) (flow : Flow) (link : LinkId) (place : ℤ) (n : ℕ) (last : Option Nearest) → length network.row ≤ n
-    → TellsLeast (IsInsideBefore network flow link place n) last → TellsLeast (IsInsideSome network flow link place) last
-inside_all network flow link place n last all tells =
-    least_same (IsInsideBefore network flow link place n) (IsInsideSome network flow link place) last (λ x y h. (h.0, h.2))
-    (λ x y h. let within = slice_get_within network.row h.0 h.1.entry.row h.1.is.row in (h.0, omega (arith, within, all), h.1)) tells
+  pub inside_all : (n : ℕ) (last : Option Nearest) → length network.row ≤ n
+      → TellsLeast (IsInsideBefore network flow link place n) last
+      → TellsLeast (IsInsideSome network flow link place) last
+  inside_all n last all tells =
+      least_same (IsInsideBefore network flow link place n) (IsInsideSome network flow link place) last
+      (λ x y h. (h.0, h.2))
+      (λ x y h. let within = slice_get_within network.row h.0 h.1.entry.row h.1.is.row in
+      (h.0, omega (arith, within, all), h.1)) tells
 
 -- ---- the place in a cycle
 

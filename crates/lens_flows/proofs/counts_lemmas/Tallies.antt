@@ -16,7 +16,7 @@ counts_none IsSo later =
 pub counts_more : (IsSo : ℕ → Type 0) (after u n : ℕ) → CountsUpTo IsSo after n → after < u → IsSo u → NoneWithin IsSo after u → CountsUpTo IsSo u (n + 1)
 counts_more IsSo after u n (ts, are, is) lt here none = (
   ts ++ u ∷ [],
-  all_more (IsSoUpTo IsSo after) (IsSoUpTo IsSo u) (λ x y. x < y) ts u are
+  all_more (IsSoUpTo IsSo after) (IsSoUpTo IsSo u) (λ x y. x < y) u are
       (λ t so. let le = so.1 in (so.0, omega (arith, le, lt)))
       (here, omega arith)
       (λ t so. elim (cases_lt after t) [
@@ -33,7 +33,7 @@ counts_more IsSo after u n (ts, are, is) lt here none = (
 pub counts_same : (IsSo : ℕ → Type 0) (after u n : ℕ) → CountsUpTo IsSo after n → after ≤ u → NoneWithin IsSo after (u + 1) → CountsUpTo IsSo u n
 counts_same IsSo after u n (ts, are, is) le none = (
   ts,
-  all_same (IsSoUpTo IsSo after) (IsSoUpTo IsSo u) (λ x y. x < y) ts are
+  all_same (IsSoUpTo IsSo after) (IsSoUpTo IsSo u) (λ x y. x < y) are
       (λ t so. let early = so.1 in (so.0, omega (arith, early, le)))
       (λ t so. elim (cases_lt after t) [
         | inl more ↦ let early = so.1 in absurd (none t more (omega (arith, early)) so.0)
@@ -47,7 +47,7 @@ pub counts_whole : (IsSo : ℕ → Type 0) (after until n : ℕ) → CountsUpTo 
     → IsCountOf IsSo n
 counts_whole IsSo after until n (ts, are, is) none timely = (
   ts,
-  all_same (IsSoUpTo IsSo after) IsSo (λ x y. x < y) ts are (λ t so. so.0)
+  all_same (IsSoUpTo IsSo after) IsSo (λ x y. x < y) are (λ t so. so.0)
       (λ t so. elim (cases_lt after t) [
         | inl more ↦ let early = timely t so in absurd (none t more (omega (arith, early)) so)
         | inr less ↦ (so, less)

@@ -10,9 +10,9 @@ none_both IsSo after mid before first second t lt early is =
     ]
 
 -- the first one behind a time, before which there is none
-pub first_behind : (IsSo : ℕ → Type 0) (after mid until last time : ℕ) → after ≤ mid → until ≤ last → NoneWithin IsSo after (mid + 1)
-    → IsFirstTime IsSo mid until time → IsFirstTime IsSo after last time
-first_behind IsSo after mid until last time le most none first =
+pub first_behind : (IsSo : ℕ → Type 0) (after : ℕ) {mid until : ℕ} (last : ℕ) {time : ℕ} → after ≤ mid → until ≤ last
+    → NoneWithin IsSo after (mid + 1) → IsFirstTime IsSo mid until time → IsFirstTime IsSo after last time
+first_behind IsSo after {mid} last {time} le most none first =
     let later = first.later in
     let timely = first.timely in
     record {
@@ -25,7 +25,7 @@ first_behind IsSo after mid until last time le most none first =
 pub tells_behind : (IsSo : ℕ → Type 0) (after mid until last : ℕ) (r : Option ℕ) → after ≤ mid → until ≤ last → is_some r ≡ true
     → NoneWithin IsSo after (mid + 1) → TellsFirstTime IsSo mid until r → TellsFirstTime IsSo after last r
 tells_behind IsSo after mid until last None le most some none told = absurd cc
-tells_behind IsSo after mid until last (Some t) le most some none told = first_behind IsSo after mid until last t le most none told
+tells_behind IsSo after mid until last (Some t) le most some none told = first_behind IsSo after last le most none told
 
 pub none_tells : (IsSo : ℕ → Type 0) (after until : ℕ) (r : Option ℕ) → r ≡ None → TellsFirstTime IsSo after until r → NoneWithin IsSo after (until + 1)
-none_tells IsSo after until r is told = subst (λ (o : Option ℕ). TellsFirstTime IsSo after until o) is told
+none_tells IsSo after until r is told = subst (λ o. TellsFirstTime IsSo after until o) is told

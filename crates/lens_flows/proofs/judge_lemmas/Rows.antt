@@ -5,15 +5,18 @@ use Rattle.net_plan.specs.{Places.{device_at, is_end_system}, Ranges.{IsInRange,
 use Rattle.{net_plan.specs.declared.network.Network.Network, std.proofs.Common.{◌+◌, ◌<◌, ◌≡◌, ◌≤◌, List, arith, inl, inr, length, refl, subst, true, ℕ}}
 use Rattle.{run_law.specs.{records.Happenings.Happening, scenario.Scenarios.Scenario}, tte_units.proofs.general_lemmas.Lists.in_all}
 
-pub sender_there : (network : Network) (flow : Flow) → IsInRange network → IsFlow network flow → HasDevice network flow.of_vl.sender
-sender_there network flow range is = (in_all (IsVlInRange network) network.vl flow.vl.0 flow.of_vl range.vls is.there).sender
+pub sender_there : {network : Network} {flow : Flow} → IsInRange network → IsFlow network flow
+    → HasDevice network flow.of_vl.sender
+sender_there {network} {flow} range is =
+    (in_all (IsVlInRange network) network.vl flow.vl.0 flow.of_vl range.vls is.there).sender
 
 found_there : (xs : List Device) (k : ℕ) (o : Option Device) (P : Device → Type 0) → slice_get xs k ≡ o → IsSomeAnd o P → k < length xs
 found_there xs k None P at some = absurd some
 found_there xs k (Some d) P at some = slice_get_within xs k d at
 
-pub receiver_there : (network : Network) (flow : Flow) → IsFlow network flow → HasDevice network flow.device
-receiver_there network flow is = found_there network.device flow.device.0 (device_at network flow.device) (λ d. is_end_system d.role ≡ true) refl is.end_system
+pub receiver_there : {network : Network} {flow : Flow} → IsFlow network flow → HasDevice network flow.device
+receiver_there {network} {flow} is = found_there network.device flow.device.0 (device_at network flow.device)
+    (λ d. is_end_system d.role ≡ true) refl is.end_system
 
 pub one_more : (P : ℕ → Type 0) (n : ℕ) → ((k : ℕ) → k < n → P k) → P n → (k : ℕ) → k < n + 1 → P k
 one_more P n before here k lt =

@@ -13,9 +13,10 @@ up_to_is t hs = same_kept (λ h. nat_le (time_of h) t) (λ h. nat_lt (time_of h)
 ])
 
 -- what is shown before the next unit of time is so after this one
-pub shown_state : (s : Scenario) (hs : List Happening) (device : DeviceId) (t : ℕ) (shown : Shown) → Shows s (earlier (t + 1) hs) device shown
-    → shown.state ≡ state_after s (up_to t hs) device
-shown_state s hs device t shown shows = shows.state ∙ ap (λ (xs : List Happening). state_after s xs device) (sym (up_to_is t hs))
+pub shown_state : {s : Scenario} (hs : List Happening) {device : DeviceId} (t : ℕ) {shown : Shown}
+    → Shows s (earlier (t + 1) hs) device shown → shown.state ≡ state_after s (up_to t hs) device
+shown_state {s} hs {device} t shows =
+    shows.state ∙ ap (λ xs. state_after s xs device) (sym (up_to_is t hs))
 
 -- a time that has not come by then has not come before
 pub not_come : (from : Option ℕ) (t u : ℕ) → t ≤ u → has_come from u ≡ false → has_come from t ≡ false
@@ -35,7 +36,7 @@ pub stays_on : (s : Scenario) (hs : List Happening) (device : DeviceId) (from af
 stays_on s hs device from after end shown so shows is t ge lt =
     elim (cases_lt t after) [
       | inl less ↦ so t ge less
-      | inr more ↦ sym (shown_state s hs device t shown (shows (t + 1) (omega (arith, more)) (omega (arith, lt)))) ∙ is
+      | inr more ↦ sym (shown_state hs t (shows (t + 1) (omega (arith, more)) (omega (arith, lt)))) ∙ is
     ]
 
 pub in_step : (s : Scenario) (hs : List Happening) (device : DeviceId) (from to after : ℕ) (broken : Option ℕ)

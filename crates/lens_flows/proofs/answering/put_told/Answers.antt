@@ -17,7 +17,7 @@ flows-preserved g c =
     let whole = subst (λ (bytes : List ℕ). Appends (g.K.Sink.written c.flows.out) (g.K.Sink.written c.put.new.self) bytes) next.line c.in-Ok.ensures.all in
     record {
       puts =
-          subst (λ (ls : List (List ℕ)). PutsLines ls (shown c.args.out.now) (shown c.put.new.self)) (sym lines)
+          subst (λ ls. PutsLines ls (shown c.args.out.now) (shown c.put.new.self)) (sym lines)
           (PutsLines-more (map line_of (take n all)) (line_of next.one) (shown c.args.out.now) (shown c.flows.out)
           (shown c.put.new.self) c.flows.invariant.puts whole c.put.ensures.counted);
       quiet = c.in-Ok.ensures.ok_unchanged ∙ c.flows.invariant.quiet;
@@ -33,7 +33,7 @@ returns-clause-gives g c =
     let sums = c.as_slice-2.ensures ∙ c.make_sum_line.ensures ∙ ap (sum_line all) (sym (sum_none all)) in
     Gives-behind (map line_of all) (line_answer Done (sum_line all (sum_by (λ (one : FlowTold). 0) all))) c.put_last.result (shown c.args.out.now)
     (shown c.flows.out) (shown c.put_last.new.out) puts
-    (subst (λ (bytes : List ℕ). Gives (line_answer Done bytes) c.put_last.result (shown c.flows.out) (shown c.put_last.new.out)) sums
+    (subst (λ bytes. Gives (line_answer Done bytes) c.put_last.result (shown c.flows.out) (shown c.put_last.new.out)) sums
     c.put_last.ensures.gives)
 
 pub returns-in-Err-clause-gives : goal.returns-in-Err-clause-gives
@@ -54,8 +54,8 @@ returns-in-Err-clause-gives g c =
     ∙ ap (λ (ls : List (List ℕ)). ls ++ sums) (map-append line_of (take n all) (next.one ∷ rest))
     ∙ append_assoc first (line_of next.one ∷ map line_of rest) sums in
     let front =
-    subst (λ (bytes : List ℕ). AppendsFront (g.K.Sink.written c.flows.out) (g.K.Sink.written c.put.new.self) bytes) next.line c.in-Err.ensures.front in
+    subst (λ bytes. AppendsFront (g.K.Sink.written c.flows.out) (g.K.Sink.written c.put.new.self) bytes) next.line c.in-Err.ensures.front in
     let fails =
     PutsLines-fails first (line_of next.one) others (shown c.args.out.now) (shown c.flows.out) (shown c.put.new.self)
     c.flows.invariant.puts front c.put.ensures.counted in
-    inr (inl (refl, inl (subst (λ (ls : List (List ℕ)). PutFails ls (shown c.args.out.now) (shown c.put.new.self)) (sym lines) fails)))
+    inr (inl (refl, inl (subst (λ ls. PutFails ls (shown c.args.out.now) (shown c.put.new.self)) (sym lines) fails)))

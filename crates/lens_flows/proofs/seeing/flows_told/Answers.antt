@@ -18,7 +18,7 @@ tell_all-requires-clause-fit c =
     let shows = c.requires.read.index some.0 some.1 some.2 in
     let soon = end_soon network c.args.report.now.octets some.0 some.1 some.2 in
     let until = c.unsigned_abs-until.ensures.value ∙ ap (λ (z : ℤ). unsigned_abs z) (to_z-of_z w64 c.args.report.now.index.end.0 (search rules))
-    ∙ ap (λ (u : Units). amount u) (sym (end_same network c.args.report.now.octets some.0 some.1 some.2 shows)) in
+    ∙ ap (λ u. amount u) (sym (end_same network c.args.report.now.octets some.0 some.1 some.2 shows)) in
     record { range = some.2.range; standing = shows.devices; timely = omega (arith, until, soon) }
 
 pub tell_all-requires-clause-known : goal.tell_all-requires-clause-known
@@ -31,22 +31,21 @@ tell_all-requires-clause-known c =
 pub tell_all-requires-clause-flows : goal.tell_all-requires-clause-flows
 tell_all-requires-clause-flows c =
     let network = c.args.network.now in
-    flows_each network c.as_slice-all.result.now (subst (AreFlows network) (sym c.as_slice-all.ensures.value) c.in_ok-flows.ensures)
+    flows_each network (subst (AreFlows network) (sym c.as_slice-all.ensures.value) c.in_ok-flows.ensures)
 
 pub tell_all-requires-clause-timely : goal.tell_all-requires-clause-timely
 tell_all-requires-clause-timely c =
     let some = c.requires.read.some in
     subst (λ (ds : List Delivery). All (λ (d : Delivery). d.time ≤ 2 ^ 60) ds)
-    (sym (c.as_slice-deliveries.ensures.value ∙ c.in_ok-seen.ensures some.0 some.1 some.2))
-    (deliveries_soon c.args.network.now c.args.report.now.octets some.0 some.1 some.2)
+    (sym (c.as_slice-deliveries.ensures.value ∙ c.in_ok-seen.ensures some.0 some.1 some.2)) (deliveries_soon some.2)
 
 pub returns : goal.returns
 returns c notes end r =
     let network = c.args.network.now in
     let shows = c.requires.read.index notes end r in
     let until = c.unsigned_abs-until.ensures.value ∙ ap (λ (z : ℤ). unsigned_abs z) (to_z-of_z w64 c.args.report.now.index.end.0 (search rules))
-    ∙ ap (λ (u : Units). amount u) (sym (end_same network c.args.report.now.octets notes end r shows)) in
-    all_told network notes end c.unsigned_abs-until.result c.as_slice-deliveries.result.now c.as_slice-all.result.now c.in_ok-told.told.items
+    ∙ ap (λ u. amount u) (sym (end_same network c.args.report.now.octets notes end r shows)) in
+    all_told network notes end
     (subst (AreFlows network) (sym c.as_slice-all.ensures.value) c.in_ok-flows.ensures) until
     (c.as_slice-deliveries.ensures.value ∙ c.in_ok-seen.ensures notes end r)
     (c.in_ok-told.ensures (events_of notes) (happenings network notes) (record { remembers = shows.events; stands = shows.standings }))

@@ -8,13 +8,13 @@ put_told-requires-clause-writable g c =
     let some = c.requires.read.some in
     let told = c.in-Ok.told.items in
     subst (λ (ts : List FlowTold). All (IsWritable c.args.network.now) ts) (sym c.as_slice.ensures.value)
-    (writable_all c.args.network.now some.0 some.1 told (c.in-Ok.ensures some.0 some.1 some.2))
+    (writable_all (c.in-Ok.ensures some.0 some.1 some.2))
 
 pub returns-in-Ok-clause-gives : goal.returns-in-Ok-clause-gives
 returns-in-Ok-clause-gives g c notes end r =
     let shown = shown_by g.K.Sink in
     let network = c.args.network.now in
     let told = c.in-Ok.told.items in
-    let whole = subst (λ (ts : List FlowTold). Gives (told_answer network ts) c.put_told.result (shown c.args.out.now) (shown c.put_told.new.out))
+    let whole = subst (λ ts. Gives (told_answer network ts) c.put_told.result (shown c.args.out.now) (shown c.put_told.new.out))
     c.as_slice.ensures.value c.put_told.ensures.gives in
-    inl (told_answer network told, answer_there network c.args.report.now.octets notes end told c.requires.rules r (c.in-Ok.ensures notes end r), whole)
+    inl (told_answer network told, answer_there c.requires.rules r (c.in-Ok.ensures notes end r), whole)

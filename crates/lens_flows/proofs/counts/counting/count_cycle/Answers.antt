@@ -25,7 +25,8 @@ returns-clause-certain c =
           | else-eq-via-then-eq+else-were_on x ↦ false≢true (sym x.if-were_on.false ∙ (x.were_on.ensures befallen hs known).1 certain.on)
           | else-eq-via-else-eq x ↦
               let other : c.fate-fate.result ≡ fates.Owed → ⊥ = λ same. search rules in
-              other (sym (fate_one (scenario_of c.args.course.now befallen) hs c.args.course.now.until c.args.flow.now c.args.begun.cycle
+              other (sym (fate_one (scenario_of c.args.course.now befallen) hs c.args.course.now.until
+              c.args.begun.cycle
               c.args.begun.time c.requires.flow fates.Owed c.fate-fate.result certain.owed (c.fate-fate.ensures befallen hs known begun)))
         ],
       )

@@ -4,7 +4,7 @@ use Rattle.{lens_flows.{proofs.judge_lemmas.Rows.receiver_there, specs.judge.Cou
 use Rattle.lens_flows.proofs.counts.counting.count_cycles.Goals as goal
 
 pub next_begun-requires-clause-device : goal.next_begun-requires-clause-device
-next_begun-requires-clause-device c = receiver_there c.args.course.now.network.now c.args.flow.now c.requires.flow
+next_begun-requires-clause-device c = receiver_there c.requires.flow
 
 pub count_cycle-counts-requires-clause-few : goal.count_cycle-counts-requires-clause-few
 count_cycle-counts-requires-clause-few c =
@@ -52,10 +52,10 @@ begun-preserved c =
           known.remembers.within known.remembers.begun in
           let before = c.begun.invariant.3 befallen hs known in
           let next = c.in-Some.ensures befallen hs known in (
-            next_counted c.args.course.now befallen hs c.args.flow.now c.begun.after c.begun.counts.fates c.count_cycle-counts.result.fates
-                c.in-Some.begun known c.requires.fit.range c.requires.flow reads before.0 next c.count_cycle-counts.ensures.fates,
-            certain_next c.args.course.now befallen hs c.args.flow.now c.begun.after c.begun.counts.certain c.count_cycle-counts.result.certain
-                c.in-Some.begun known c.requires.fit.range reads before.1 next c.count_cycle-counts.ensures.certain,
+            next_counted c.begun.counts.fates c.count_cycle-counts.result.fates known c.requires.fit.range
+                c.requires.flow reads before.0 next c.count_cycle-counts.ensures.fates,
+            certain_next c.args.flow.now c.begun.counts.certain c.count_cycle-counts.result.certain known
+                c.requires.fit.range reads before.1 next c.count_cycle-counts.ensures.certain,
           )),
     )
 

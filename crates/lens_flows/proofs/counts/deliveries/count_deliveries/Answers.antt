@@ -8,8 +8,7 @@ pub one_more-counted-requires-clause-few : goal.one_more-counted-requires-clause
 one_more-counted-requires-clause-few c =
     let some = c.requires.known in
     let s = scenario_of c.args.course.now some.0 in
-    let few = few_counted s some.1 (take c.deliveries.delivery-index c.args.deliveries.now) c.args.flow.now c.deliveries.counted
-    (c.deliveries.invariant some.0 some.1 some.2) in
+    let few = few_counted (c.deliveries.invariant some.0 some.1 some.2) in
     let short = taken_short c.deliveries.delivery-index c.args.deliveries.now in
     let total = few.0 in
     let by_a = few.1 in
@@ -32,12 +31,12 @@ deliveries-preserved c befallen hs known =
       | then-is_of w ↦
           let new = w.one_more-counted.result in
           let of = sym c.is_of.ensures ∙ w.if-is_of.true in
-          rw w.counted-is (subst (λ (xs : List Delivery). AreDeliveries s hs xs flow new) (sym (take_more ds n _ c.deliveries-test.true))
-          (next_delivered c.args.course.now befallen hs (take n ds) _ flow old new known so of w.one_more-counted.ensures))
+          rw w.counted-is (subst (λ xs. AreDeliveries s hs xs flow new) (sym (take_more ds n _ c.deliveries-test.true))
+          (next_delivered _ new known so of w.one_more-counted.ensures))
       | else-is_of w ↦
           let other = sym c.is_of.ensures ∙ w.if-is_of.false in
-          rw w.counted-is (subst (λ (xs : List Delivery). AreDeliveries s hs xs flow old) (sym (take_more ds n _ c.deliveries-test.true))
-          (others_delivered s hs (take n ds) _ flow old so other))
+          rw w.counted-is (subst (λ xs. AreDeliveries s hs xs flow old) (sym (take_more ds n _ c.deliveries-test.true))
+          (others_delivered _ so other))
     ]
 
 pub returns : goal.returns
@@ -46,4 +45,4 @@ returns c befallen hs known =
     let ds = c.args.deliveries.now in
     let whole : take c.deliveries.delivery-index ds ≡ ds =
     ap (λ (i : ℕ). take i ds) (omega (arith, c.deliveries-test.false, c.deliveries.auto.delivery-index-end)) ∙ take-length ds in
-    subst (λ (xs : List Delivery). AreDeliveries s hs xs c.args.flow.now c.deliveries.counted) whole (c.deliveries.invariant befallen hs known)
+    subst (λ xs. AreDeliveries s hs xs c.args.flow.now c.deliveries.counted) whole (c.deliveries.invariant befallen hs known)

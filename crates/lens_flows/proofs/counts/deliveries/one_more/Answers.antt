@@ -3,7 +3,7 @@ use Rattle.lens_flows.{proofs.judge_lemmas.Rows.receiver_there, specs.counts.Nea
 use Rattle.lens_flows.proofs.counts.deliveries.one_more.Goals as goal
 
 pub place_at-place-requires-clause-device : goal.place_at-place-requires-clause-device
-place_at-place-requires-clause-device c = receiver_there c.args.course.now.network.now c.args.flow.now c.requires.flow
+place_at-place-requires-clause-device c = receiver_there c.requires.flow
 
 pub returns : goal.returns
 returns c =
@@ -13,7 +13,7 @@ returns c =
     let found = c.nearest_by-found.result in (
       found,
       λ befallen hs known.
-          subst (λ (z : ℤ). TellsLeast (IsInsideSome network flow d.link z) found) (c.place_at-place.ensures.place befallen hs known)
+          subst (λ z. TellsLeast (IsInsideSome network flow d.link z) found) (c.place_at-place.ensures.place befallen hs known)
           c.nearest_by-found.ensures,
       search rules,
     )

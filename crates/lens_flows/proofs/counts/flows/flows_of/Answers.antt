@@ -10,6 +10,6 @@ vls-preserved c = c.in_ok-push_flows.ensures c.vls.invariant
 
 pub returns : goal.returns
 returns c =
-    let e = ap (λ (vls : List VirtualLink). length vls) c.as_slice-place-end.ensures in
+    let e = ap (λ vls. length vls) c.as_slice-place-end.ensures in
     let h = c.vls-test.false in
-    all_vls c.args.network.now c.vls.place c.vls.flows.items (omega (arith, h, e)) c.vls.invariant
+    all_vls c.args.network.now c.vls.place (omega (arith, h, e)) c.vls.invariant

@@ -12,6 +12,6 @@ rows-preserved c =
 
 pub returns : goal.returns
 returns c =
-    let e = ap (λ (rows : List Row). length rows) c.as_slice-place-end.ensures in
+    let e = ap (λ rows. length rows) c.as_slice-place-end.ensures in
     let h = c.rows-test.false in
     ends_all c.args.network.now c.args.vl c.args.device c.rows.place c.rows.last (omega (arith, h, e)) c.rows.invariant

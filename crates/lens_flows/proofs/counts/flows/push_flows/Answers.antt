@@ -6,6 +6,6 @@ devices-preserved c before = c.in_ok-push_flow.ensures (c.devices.invariant befo
 
 pub returns : goal.returns
 returns c before =
-    let e = ap (λ (devices : List Device). length devices) c.as_slice-place-end.ensures in
+    let e = ap (λ devices. length devices) c.as_slice-place-end.ensures in
     let h = c.devices-test.false in
-    next_vl c.args.network.now c.args.vl.0 c.devices.place c.devices.flows.items (omega (arith, h, e)) (c.devices.invariant before)
+    next_vl c.args.network.now c.args.vl.0 c.devices.place (omega (arith, h, e)) (c.devices.invariant before)

@@ -6,7 +6,7 @@ pub returns : goal.returns
 returns c =
     let network = c.args.network.now in
     let entry = c.entry_of-entry.result in
-    let inside = subst (λ (w : Window). TellsLeast (IsInside w (pos c.args.place)) c.inside.result) c.window_of.ensures c.inside.ensures in
+    let inside = subst (λ w. TellsLeast (IsInside w (pos c.args.place)) c.inside.result) c.window_of.ensures c.inside.ensures in
     least_same (IsInside (window_of network entry) (pos c.args.place)) (IsInsideRow network c.args.flow.now c.args.link (pos c.args.place) c.args.row.0)
     c.inside.result
     (λ x y in_it. record {
@@ -19,4 +19,4 @@ returns c =
     })
     (λ x y at.
     let same = c.entries_law.ensures.one network c.args.row.0 entry at.entry c.entry_of-entry.ensures.is at.is in
-    subst (λ (e : Entry). IsInside (window_of network e) (pos c.args.place) x y) (sym same) at.inside) inside
+    subst (λ e. IsInside (window_of network e) (pos c.args.place) x y) (sym same) at.inside) inside

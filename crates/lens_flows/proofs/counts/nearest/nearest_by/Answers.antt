@@ -12,6 +12,6 @@ rows-preserved c =
 
 pub returns : goal.returns
 returns c =
-    let e = ap (λ (rows : List Row). length rows) c.as_slice-row-end.ensures in
+    let e = ap (λ rows. length rows) c.as_slice-row-end.ensures in
     let h = c.rows-test.false in
     inside_all c.args.network.now c.args.flow.now c.args.link (pos c.args.place) c.rows.row c.rows.nearest (omega (arith, h, e)) c.rows.invariant

@@ -11,9 +11,9 @@ flows-preserved c befallen hs known =
     let s = scenario_of c.args.course.now befallen in
     let n = c.flows.flow-index in
     let all = c.args.flows.now in
-    let grown = told_more s hs c.args.course.now.until c.args.deliveries.now (take n all) c.flows.told.items c.tell.result c.push.new.self.items
+    let grown = told_more c.push.new.self.items
     c.in_ok-push.ensures.items (c.flows.invariant befallen hs known) (c.tell.ensures.told befallen hs known) in
-    subst (λ (fs : List Flow). AreToldOf s hs c.args.course.now.until c.args.deliveries.now fs c.push.new.self.items)
+    subst (λ fs. AreToldOf s hs c.args.course.now.until c.args.deliveries.now fs c.push.new.self.items)
     (ap (λ (f : Flow). take n all ++ f ∷ []) (c.tell.ensures.flow ∙ c.flow-item.is) ∙ sym (take_more all n _ c.flows-test.true)) grown
 
 pub returns : goal.returns
@@ -22,4 +22,4 @@ returns c befallen hs known =
     let all = c.args.flows.now in
     let whole : take c.flows.flow-index all ≡ all =
     ap (λ (i : ℕ). take i all) (omega (arith, c.flows-test.false, c.flows.auto.flow-index-end)) ∙ take-length all in
-    subst (λ (fs : List Flow). AreToldOf s hs c.args.course.now.until c.args.deliveries.now fs c.flows.told.items) whole (c.flows.invariant befallen hs known)
+    subst (λ fs. AreToldOf s hs c.args.course.now.until c.args.deliveries.now fs c.flows.told.items) whole (c.flows.invariant befallen hs known)

@@ -9,5 +9,5 @@ returns c octets notes before begun next holds =
     let time : c.unsigned_abs-time.result ≡ amount note.time =
     c.unsigned_abs-time.ensures.value ∙ ap (λ (z : ℤ). unsigned_abs z) (to_z-of_z w64 note.time.0 (search rules)) in
     c.in_ok-push_some.ensures ∙ ap (λ (ds : List Delivery). ds ++ some_delivery c.delivery_by.result) holds
-    ∙ ap (λ (o : Option Delivery). deliveries_of before ++ some_delivery o) (c.delivery_by.ensures ∙ ap (λ (t : ℕ). delivery_by t note.body) time)
+    ∙ ap (λ o. deliveries_of before ++ some_delivery o) (c.delivery_by.ensures ∙ ap (λ t. delivery_by t note.body) time)
     ∙ sym (deliveries_more before note)

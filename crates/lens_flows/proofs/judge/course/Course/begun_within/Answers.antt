@@ -14,7 +14,7 @@ overflow_cast-result c =
     let s = scenario_of c.args.self.now known.0 in
     let next = c.in-Some.ensures.is c.args.self.now.network.now known.0 known.2.remembers c.requires.device in
     let begins : pos 0 ≤ℤ value_in c.beginnings-series.result 0 =
-    subst (λ (v : ℤ). pos 0 ≤ℤ v) (sym (c.beginnings-series.ensures.values 0)) (omega (arith, ints)) in
+    subst (λ v. pos 0 ≤ℤ v) (sym (c.beginnings-series.ensures.values 0)) (omega (arith, ints)) in
     let few = few_crossed s c.args.device c.beginnings-series.ensures.step begins next in
     omega (arith, few)
 
@@ -25,7 +25,7 @@ returns-in-Some c befallen hs known shows =
     let r = known.remembers in
     let on = c.reading_law.ensures network befallen c.args.device r.range r.within r.begun in
     let next = c.in-Some.ensures.is network befallen r c.requires.device in
-    first_begun s hs c.args.device c.args.shown.now c.beginnings-series.result c.args.after c.args.until c.in-Some.crossed _ on
+    first_begun s hs c.args.device c.args.shown.now c.beginnings-series.result _ on
     c.beginnings-series.ensures.values shows next refl (search rules)
 
 pub returns-in-None : goal.returns-in-None

@@ -40,7 +40,7 @@ times-preserved c =
           let first = c.in-Some.ensures befallen hs known in
           none_both (ReachesInStep s hs c.args.device c.args.cycle c.args.place) c.args.after c.times.from (c.in-Some.time + 1)
           (c.times.invariant.1 befallen hs known)
-          (passed_in_step s hs c.args.device c.args.cycle c.args.place c.times.from (c.args.before - 1) c.in-Some.time first
+          (passed_in_step s hs c.args.device c.args.cycle c.args.place first
           (λ is. false≢true (sym c.if-is_synchronised_at.false ∙ (c.is_synchronised_at.ensures befallen hs known).1 is))),
     )
 

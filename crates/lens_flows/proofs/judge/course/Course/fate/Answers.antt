@@ -4,13 +4,13 @@ use Rattle.lens_flows.specs.judge.{Courses.scenario_of, Times.{IsFirstTime, None
 use Rattle.lens_flows.proofs.judge.course.Course.fate.Goals as goal
 
 pub first_reached-requires-clause-device : goal.first_reached-requires-clause-device
-first_reached-requires-clause-device c = receiver_there c.args.self.now.network.now c.args.flow.now c.requires.flow
+first_reached-requires-clause-device c = receiver_there c.requires.flow
 
 pub first_reached-requires-clause-limit : goal.first_reached-requires-clause-limit
 first_reached-requires-clause-limit c = c.requires.fit.timely
 
 pub stays_in_step-requires-clause-device : goal.stays_in_step-requires-clause-device
-stays_in_step-requires-clause-device c = receiver_there c.args.self.now.network.now c.args.flow.now c.requires.flow
+stays_in_step-requires-clause-device c = receiver_there c.requires.flow
 
 pub stays_in_step-requires-clause-in_order : goal.stays_in_step-requires-clause-in_order
 stays_in_step-requires-clause-in_order c =
@@ -26,7 +26,7 @@ stays_in_step-requires-clause-limit c =
     omega (arith, timely, limit)
 
 pub stays_in_step-requires-in-None-clause-device : goal.stays_in_step-requires-in-None-clause-device
-stays_in_step-requires-in-None-clause-device c = receiver_there c.args.self.now.network.now c.args.flow.now c.requires.flow
+stays_in_step-requires-in-None-clause-device c = receiver_there c.requires.flow
 
 pub returns-then-not-stays_in_step : goal.returns-then-not-stays_in_step
 returns-then-not-stays_in_step c befallen hs known begun ready =
@@ -35,7 +35,7 @@ returns-then-not-stays_in_step c befallen hs known begun ready =
     let until = c.args.self.now.until in
     let first : IsFirstTime (IsEndOf s hs flow c.args.cycle) c.args.from until c.in-Some.to = c.in-Some.ensures befallen hs known in
     false≢true (sym c.if-not-stays_in_step.true
-    ∙ (c.stays_in_step.ensures befallen hs known).1 (ready_stays s hs until flow c.args.cycle c.args.from c.in-Some.to first ready))
+    ∙ (c.stays_in_step.ensures befallen hs known).1 (ready_stays s hs until flow c.args.cycle c.args.from first ready))
 
 pub returns-then-is_owed : goal.returns-then-is_owed
 returns-then-is_owed c befallen hs known begun = (c.is_owed.ensures befallen hs known begun).0 c.if-is_owed.true
@@ -46,8 +46,8 @@ returns-else-is_owed c befallen hs known begun =
     let flow = c.args.flow.now in
     let until = c.args.self.now.until in
     let first : IsFirstTime (IsEndOf s hs flow c.args.cycle) c.args.from until c.in-Some.to = c.in-Some.ensures befallen hs known in
-    let ends = end_there s hs until flow c.args.cycle c.args.from c.args.from c.in-Some.to (omega arith) first in (
-      stays_ready s hs until flow c.args.cycle c.args.from c.in-Some.to ends
+    let ends = end_there s hs until flow c.args.cycle c.args.from (omega arith) first in (
+      stays_ready s hs until flow c.args.cycle c.args.from ends
           ((c.stays_in_step.ensures befallen hs known).0 c.if-not-stays_in_step.false),
       (c.in-Some.to, ends),
       λ owed. false≢true (sym c.if-is_owed.false ∙ (c.is_owed.ensures befallen hs known begun).1 owed),

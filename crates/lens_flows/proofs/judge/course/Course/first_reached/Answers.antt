@@ -31,7 +31,7 @@ returns-then-is_some c befallen hs known =
     let ends = c.end_of-end.ensures in
     let near = end_near c.after_time-next.result.1 until in
     let shows : ShowsWithin s hs device from c.end_of-end.result c.after_time-next.result.0.now =
-    subst (λ (n : ℕ). ShowsWithin s hs device from n c.after_time-next.result.0.now) (sym ends)
+    subst (λ n. ShowsWithin s hs device from n c.after_time-next.result.0.now) (sym ends)
     (shows_within s hs device from until c.after_time-next.result.1 c.after_time-next.result.0.now (c.after_time-next.ensures.shows s hs known.stands)) in
     tells_behind (ReachesPlace s hs device c.args.cycle c.args.place) c.args.after from c.end_of-end.result until c.first_within-reached.result
     c.stretches.invariant.0
@@ -65,7 +65,7 @@ stretches-preserved c =
       λ befallen hs known.
           let s = scenario_of c.args.self.now befallen in
           let shows : ShowsWithin s hs device from c.end_of-end.result c.after_time-next.result.0.now =
-          subst (λ (n : ℕ). ShowsWithin s hs device from n c.after_time-next.result.0.now) (sym ends)
+          subst (λ n. ShowsWithin s hs device from n c.after_time-next.result.0.now) (sym ends)
           (shows_within s hs device from until c.after_time-next.result.1 c.after_time-next.result.0.now (c.after_time-next.ensures.shows s hs known.stands)) in
           none_both (ReachesPlace s hs device c.args.cycle c.args.place) c.args.after from (c.end_of-end.result + 1) (c.stretches.invariant.1 befallen hs known)
           (none_tells (ReachesPlace s hs device c.args.cycle c.args.place) from c.end_of-end.result c.first_within-reached.result

@@ -17,13 +17,13 @@ before_time-shown-requires c =
 pub returns-then-eq : goal.returns-then-eq
 returns-then-eq c befallen hs known =
     let s = scenario_of c.args.self.now befallen in
-    let shown = shown_state s hs c.args.device c.args.time c.before_time-shown.result.now (c.before_time-shown.ensures s hs known.stands) in
+    let shown = shown_state hs c.args.time (c.before_time-shown.ensures s hs known.stands) in
     let same : c.before_time-shown.result.now.state ≡ Off = search rules in
     (λ e. absurd (false≢true e), λ on. absurd (false≢true (sym on ∙ ap is_off (sym shown ∙ same))))
 
 pub returns : goal.returns
 returns c befallen hs known =
     let s = scenario_of c.args.self.now befallen in
-    let shown = shown_state s hs c.args.device c.args.time c.before_time-shown.result.now (c.before_time-shown.ensures s hs known.stands) in
+    let shown = shown_state hs c.args.time (c.before_time-shown.ensures s hs known.stands) in
     let other : c.before_time-shown.result.now.state ≡ Off → ⊥ = λ same. search rules in
     (λ e. ap is_off (sym shown) ∙ not_off c.before_time-shown.result.now.state other, λ on. refl)

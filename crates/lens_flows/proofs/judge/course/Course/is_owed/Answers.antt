@@ -4,13 +4,13 @@ use Rattle.lens_flows.specs.judge.{Courses.scenario_of, Times.{IsFirstTime, None
 use Rattle.lens_flows.proofs.judge.course.Course.is_owed.Goals as goal
 
 pub first_reached-requires-clause-device : goal.first_reached-requires-clause-device
-first_reached-requires-clause-device c = receiver_there c.args.self.now.network.now c.args.flow.now c.requires.flow
+first_reached-requires-clause-device c = receiver_there c.requires.flow
 
 pub first_reached-requires-clause-limit : goal.first_reached-requires-clause-limit
 first_reached-requires-clause-limit c = c.requires.fit.timely
 
 pub stays_in_step-requires-clause-device : goal.stays_in_step-requires-clause-device
-stays_in_step-requires-clause-device c = receiver_there c.args.self.now.network.now c.args.flow.now c.requires.flow
+stays_in_step-requires-clause-device c = receiver_there c.requires.flow
 
 pub stays_in_step-requires-clause-in_order : goal.stays_in_step-requires-clause-in_order
 stays_in_step-requires-clause-in_order c =
@@ -45,7 +45,7 @@ returns-then-not-stays_in_step c befallen hs known begun =
     let flow = c.args.flow.now in
     let first : IsFirstTime (IsEndOf s hs flow c.args.cycle) c.ends.after c.args.self.now.until c.in-Some.to = c.in-Some.ensures befallen hs known in (
       λ e. absurd (false≢true e),
-      λ owed. absurd (not_in_step s hs c.args.self.now.until flow c.args.cycle c.args.from c.ends.after c.in-Some.to c.requires.flow
+      λ owed. absurd (not_in_step s hs c.args.self.now.until flow c.args.cycle c.args.from c.requires.flow
           (c.ends.invariant.1 befallen hs known) first
           (λ stays. false≢true (sym c.if-not-stays_in_step.true ∙ (c.stays_in_step.ensures befallen hs known).1 stays)) owed),
     )
@@ -55,8 +55,8 @@ returns-then-is_sent c befallen hs known begun =
     let s = scenario_of c.args.self.now befallen in
     let flow = c.args.flow.now in
     let first : IsFirstTime (IsEndOf s hs flow c.args.cycle) c.ends.after c.args.self.now.until c.in-Some.to = c.in-Some.ensures befallen hs known in (
-      λ e. made_owed s hs c.args.self.now.until flow c.args.cycle c.args.from c.in-Some.to c.requires.flow begun
-          (end_there s hs c.args.self.now.until flow c.args.cycle c.args.from c.ends.after c.in-Some.to c.ends.invariant.0 first)
+      λ e. made_owed s hs c.args.self.now.until flow c.args.cycle c.args.from c.requires.flow begun
+          (end_there s hs c.args.self.now.until flow c.args.cycle c.args.from c.ends.invariant.0 first)
           ((c.stays_in_step.ensures befallen hs known).0 c.if-not-stays_in_step.false) ((c.is_sent.ensures befallen hs known).0 c.if-is_sent.true),
       λ owed. refl,
     )
@@ -83,7 +83,7 @@ ends-preserved c =
           let s = scenario_of c.args.self.now befallen in
           let flow = c.args.flow.now in
           let first : IsFirstTime (IsEndOf s hs flow c.args.cycle) c.ends.after c.args.self.now.until c.in-Some.to = c.in-Some.ensures befallen hs known in
-          none_on s hs c.args.self.now.until flow c.args.cycle c.args.from c.ends.after c.in-Some.to (c.ends.invariant.1 befallen hs known) first
+          none_on s hs c.args.self.now.until flow c.args.cycle c.args.from (c.ends.invariant.1 befallen hs known) first
           (λ sent. false≢true (sym c.if-is_sent.false ∙ (c.is_sent.ensures befallen hs known).1 sent)),
     )
 

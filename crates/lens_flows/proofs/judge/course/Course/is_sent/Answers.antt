@@ -6,7 +6,7 @@ use Rattle.lens_flows.proofs.judge.course.Course.is_sent.Goals as goal
 pub returns-then-is_broken : goal.returns-then-is_broken
 returns-then-is_broken c befallen hs known =
     let network = c.args.self.now.network.now in
-    let there = sender_there network c.args.flow.now c.requires.fit.range c.requires.flow in (
+    let there = sender_there c.requires.fit.range c.requires.flow in (
       λ e. absurd (false≢true e),
       λ sent. absurd (false≢true (sym sent.correct ∙ sym (c.is_broken.ensures network befallen known.remembers there) ∙ c.if-is_broken.true)),
     )
@@ -35,8 +35,8 @@ pub returns : goal.returns
 returns c befallen hs known =
     let network = c.args.self.now.network.now in
     let s = scenario_of c.args.self.now befallen in
-    let there = sender_there network c.args.flow.now c.requires.fit.range c.requires.flow in
-    let all = ap (λ (rows : List Row). length rows) c.as_slice-place-end.ensures in
+    let there = sender_there c.requires.fit.range c.requires.flow in
+    let all = ap (λ rows. length rows) c.as_slice-place-end.ensures in
     let most = c.rows-test.false in (
       λ e. record {
         rows = all_rows s hs c.args.flow.now c.args.cycle c.args.before c.rows.place (omega (arith, all, most)) (c.rows.invariant befallen hs known);

@@ -11,13 +11,13 @@ before_time-shown-requires c =
 pub returns-then-ne : goal.returns-then-ne
 returns-then-ne c befallen hs known =
     let s = scenario_of c.args.self.now befallen in
-    let shown = shown_state s hs c.args.device c.args.time c.before_time-shown.result.now (c.before_time-shown.ensures s hs known.stands) in
+    let shown = shown_state hs c.args.time (c.before_time-shown.ensures s hs known.stands) in
     let other : c.before_time-shown.result.now.state ≡ Synchronised → ⊥ = λ same. search rules in
     (λ e. absurd (false≢true e), λ is. absurd (other (shown ∙ is)))
 
 pub returns : goal.returns
 returns c befallen hs known =
     let s = scenario_of c.args.self.now befallen in
-    let shown = shown_state s hs c.args.device c.args.time c.before_time-shown.result.now (c.before_time-shown.ensures s hs known.stands) in
+    let shown = shown_state hs c.args.time (c.before_time-shown.ensures s hs known.stands) in
     let state : c.before_time-shown.result.now.state ≡ Synchronised = search rules in
     (λ e. sym shown ∙ state, λ is. refl)

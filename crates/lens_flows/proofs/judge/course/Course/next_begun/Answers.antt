@@ -31,7 +31,7 @@ returns-then-is_some c befallen hs known =
     let ends = c.end_of-end.ensures in
     let near = end_near c.after_time-next.result.1 until in
     let shows : ShowsWithin s hs device from c.end_of-end.result c.after_time-next.result.0.now =
-    subst (λ (n : ℕ). ShowsWithin s hs device from n c.after_time-next.result.0.now) (sym ends)
+    subst (λ n. ShowsWithin s hs device from n c.after_time-next.result.0.now) (sym ends)
     (shows_within s hs device from until c.after_time-next.result.1 c.after_time-next.result.0.now (c.after_time-next.ensures.shows s hs known.stands)) in
     begun_behind s hs device c.args.after from c.end_of-end.result until c.begun_within-begun.result c.stretches.invariant.0
     (omega (arith, near, ends)) (sym c.is_some.ensures ∙ c.if-is_some.true) (c.stretches.invariant.1 befallen hs known)
@@ -64,7 +64,7 @@ stretches-preserved c =
       λ befallen hs known.
           let s = scenario_of c.args.self.now befallen in
           let shows : ShowsWithin s hs device from c.end_of-end.result c.after_time-next.result.0.now =
-          subst (λ (n : ℕ). ShowsWithin s hs device from n c.after_time-next.result.0.now) (sym ends)
+          subst (λ n. ShowsWithin s hs device from n c.after_time-next.result.0.now) (sym ends)
           (shows_within s hs device from until c.after_time-next.result.1 c.after_time-next.result.0.now (c.after_time-next.ensures.shows s hs known.stands)) in
           none_both (BeginsOne s hs device) c.args.after from (c.end_of-end.result + 1) (c.stretches.invariant.1 befallen hs known)
           (none_next s hs device from c.end_of-end.result c.begun_within-begun.result

@@ -35,7 +35,7 @@ returns-then-ne c befallen hs known =
     (c.after_time-next.ensures.shows s hs known.stands) (after + 1) (omega arith) (omega (arith, ends)) in
     let other : c.after_time-next.result.0.now.state ≡ Synchronised → ⊥ = λ same. search rules in (
       λ e. absurd (false≢true e),
-      λ stays. absurd (other (shown_state s hs device after c.after_time-next.result.0.now shown ∙ (stays after ge le).synchronised)),
+      λ stays. absurd (other (shown_state hs after shown ∙ (stays after ge le).synchronised)),
     )
 
 pub stretches-init : goal.stretches-init
@@ -68,7 +68,7 @@ stretches-preserved c =
           let s = scenario_of c.args.self.now befallen in
           let device = c.args.device in
           let shows : ShowsWithin s hs device c.stretches.after c.end_of-after.result c.after_time-next.result.0.now =
-          subst (λ (n : ℕ). ShowsWithin s hs device c.stretches.after n c.after_time-next.result.0.now) (sym ends)
+          subst (λ n. ShowsWithin s hs device c.stretches.after n c.after_time-next.result.0.now) (sym ends)
           (shows_within s hs device c.stretches.after (c.args.to + 1) c.after_time-next.result.1 c.after_time-next.result.0.now
           (c.after_time-next.ensures.shows s hs known.stands)) in
           stays_on s hs device c.args.from c.stretches.after c.end_of-after.result c.after_time-next.result.0.now (c.stretches.invariant.2 befallen hs known)

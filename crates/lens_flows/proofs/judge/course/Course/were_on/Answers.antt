@@ -10,7 +10,7 @@ returns-then-not-is_on_at c befallen hs known =
     let same : 3 * c.amount-long.result ≡ three_cycles s = ap (λ (n : ℕ). 3 * n) c.amount-long.ensures.value in (
       λ e. absurd (false≢true e),
       λ w. absurd (false≢true (sym c.if-not-is_on_at.true ∙ (c.is_on_at.ensures befallen hs known).1
-          (subst (λ (n : ℕ). is_off (state_after s (up_to (c.args.from - n) hs) c.args.flow.now.of_vl.sender) ≡ false) (sym same) w.sender))),
+          (subst (λ n. is_off (state_after s (up_to (c.args.from - n) hs) c.args.flow.now.of_vl.sender) ≡ false) (sym same) w.sender))),
     )
 
 pub returns : goal.returns
