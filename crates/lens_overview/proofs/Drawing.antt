@@ -14,7 +14,7 @@ pub picture_same : (network : Network) (grid : Grid) (last : ℕ) (told all : Li
     → told ≡ all → last ≡ last_cycle told → grid ≡ grid_of last → flows ≡ fs
     → picture_by network grid last told flows ≡ pieces_of network all [] fs
 picture_same network grid last told all flows fs news end columns same =
-    ap (λ (x : Grid). picture_by network x last told flows) columns
-    ∙ ap (λ (x : ℕ). picture_by network (grid_of x) x told flows) end
-    ∙ ap (λ (x : List News). picture_by network (grid_of (last_cycle x)) (last_cycle x) x flows) news
-    ∙ ap (λ (x : List Flow). picture_by network (grid_of (last_cycle all)) (last_cycle all) all x) same
+    ap (λ x. picture_by network x last told flows) columns
+    ∙ ap (λ x. picture_by network (grid_of x) x told flows) end
+    ∙ ap (λ x. picture_by network (grid_of (last_cycle x)) (last_cycle x) x flows) news
+    ∙ ap (λ x. picture_by network (grid_of (last_cycle all)) (last_cycle all) all x) same

@@ -32,4 +32,4 @@ alike_differ [] [] other = absurd (other refl)
 alike_differ [] (y ∷ ys) other = refl
 alike_differ (x ∷ xs) [] other = refl
 alike_differ (x ∷ xs) (y ∷ ys) other =
-    ap (λ (b : Bool). is_same x y && b) (alike_differ xs ys (λ e. other (ap (λ (n : ℕ). suc n) e))) ∙ and_false (is_same x y)
+    ap (λ (b : Bool). is_same x y && b) (alike_differ xs ys (λ e. other (ap (λ n. suc n) e))) ∙ and_false (is_same x y)

@@ -35,7 +35,7 @@ line_there : (words : List (List ℕ)) (network : Network) (ns : List Note) (end
     → (piece : Piece) → IsIn piece (pieces_of network (news_by network ns ns) answer.missed answer.flows)
     → IsIn (piece_line network (title_of words) piece) a.lines
 line_there words network ns end a answer piece i =
-    subst (λ (ls : List (List ℕ)). IsIn (piece_line network (title_of words) piece) ls) (sym (answer_lines words network ns end a answer))
+    subst (λ ls. IsIn (piece_line network (title_of words) piece) ls) (sym (answer_lines words network ns end a answer))
     (line_in network (title_of words) (pieces_of network (news_by network ns ns) answer.missed answer.flows) piece i)
 
 pub head_is_drawn : HeadIsDrawn
@@ -48,7 +48,7 @@ head_is_drawn words network ns end a answer =
       title = there pieces.Title (inr (inl refl));
       heading = there pieces.Heading (inr (inr (inr (inr (inl refl)))));
       extent =
-          subst (λ (n : ℕ). IsIn (extent_line n (amount network.precision)) a.lines) many
+          subst (λ n. IsIn (extent_line n (amount network.precision)) a.lines) many
           (there (pieces.Extent records) (inr (inr (inr (inr (inr (inl refl)))))));
     }
 
@@ -57,22 +57,22 @@ none_is_red words network octets ns end a rules r answer line rest i e =
     let none = none_are network octets ns end answer.missed rules r answer.each in
     let same = answer_lines words network ns end a answer
     ∙ ap (λ (missed : List Missed). lines network (title_of words) (news_by network ns ns) missed answer.flows) none in
-    none_red network (title_of words) (news_by network ns ns) answer.flows line rest (subst (λ (ls : List (List ℕ)). IsIn line ls) same i) e
+    none_red network (title_of words) (news_by network ns ns) answer.flows line rest (subst (λ ls. IsIn line ls) same i) e
 
 pub flows_are_drawn : FlowsAreDrawn
 flows_are_drawn words network ns end a answer flow is =
-    subst (λ (ls : List (List ℕ)). HasRow network (grid_for network ns) ls flow (cells_for network ns answer.missed flow))
+    subst (λ ls. HasRow network (grid_for network ns) ls flow (cells_for network ns answer.missed flow))
     (sym (answer_lines words network ns end a answer))
     (flow_row network (title_of words) (news_by network ns ns) answer.missed answer.flows flow (answer.are.all flow is))
 
 pub strokes_are_of_flows : StrokesAreOfFlows
 strokes_are_of_flows words network ns end a answer line rest i e =
     let same = answer_lines words network ns end a answer in
-    let h = line_drawn network (title_of words) (news_by network ns ns) answer.missed answer.flows line rest (subst (λ (ls : List (List ℕ)). IsIn line ls) same i) e in
+    let h = line_drawn network (title_of words) (news_by network ns ns) answer.missed answer.flows line rest (subst (λ ls. IsIn line ls) same i) e in
     let drawn = h.3 in (
       drawn.flow,
       answer.are.each drawn.flow drawn.among,
-      subst (λ (ls : List (List ℕ)). IsStrokeOf network (grid_for network ns) ls drawn.flow (cells_for network ns answer.missed drawn.flow) line)
+      subst (λ ls. IsStrokeOf network (grid_for network ns) ls drawn.flow (cells_for network ns answer.missed drawn.flow) line)
           (sym same) drawn.stroke,
     )
 
@@ -94,13 +94,13 @@ come_filled : (network : Network) (ns : List Note) (flow : Flow) (column : ℕ) 
 come_filled network ns flow column come =
     let h = delivered_brought network (scenario_under network (events_of ns)) (happenings network ns) ns flow come.0 come.2 in
     let seen = (brought_cell (news_by network ns ns) flow.vl flow.device come.0 h.0 h.1 h.2).1 in
-    subst (λ (k : ℕ). IsFilled network ns [] flow k) come.1 seen
+    subst (λ k. IsFilled network ns [] flow k) come.1 seen
 
 pub cells_are_delivered : CellsAreDelivered
 cells_are_delivered words network octets ns end a rules r answer flow column =
     let none = none_are network octets ns end answer.missed rules r answer.each in (
-      λ seen. filled_come network ns flow column (subst (λ (m : List Missed). IsFilled network ns m flow column) none seen),
-      λ come. subst (λ (m : List Missed). IsFilled network ns m flow column) (sym none) (come_filled network ns flow column come),
+      λ seen. filled_come network ns flow column (subst (λ m. IsFilled network ns m flow column) none seen),
+      λ come. subst (λ m. IsFilled network ns m flow column) (sym none) (come_filled network ns flow column come),
     )
 
 -- ---- bars
@@ -167,7 +167,7 @@ bar_true title network octets ns end line rules r pen width height spread is bar
       spread = bar.spread;
       is =
           is ∙ ap (piece_line network title) bar.is
-          ∙ ap (λ (k : ℕ). piece_line network title (pieces.Bar (pen_at (grid_for network ns) k) ((grid_for network ns).pitch - 1) bar.height bar.spread)) place;
+          ∙ ap (λ k. piece_line network title (pieces.Bar (pen_at (grid_for network ns) k) ((grid_for network ns).pitch - 1) bar.height bar.spread)) place;
       low = bar.low;
       greatest = greatest;
       close = spread_close network octets ns end greatest.note bar.spread rules r greatest.there greatest.is;
@@ -179,9 +179,9 @@ bars_are_true words network octets ns end a rules r answer line rest i e =
     let news = news_by network ns ns in
     let grid = grid_for network ns in
     let all = pieces_of network news answer.missed answer.flows in
-    let at = piece_of network (title_of words) all line (subst (λ (ls : List (List ℕ)). IsIn line ls) same i) in
+    let at = piece_of network (title_of words) all line (subst (λ ls. IsIn line ls) same i) in
     let bar = bar_of network (title_of words) at.0 rest (sym at.2 ∙ e) in
-    let there : IsIn (pieces.Bar bar.0 bar.1 bar.2 bar.3) all = subst (λ (p : Piece). IsIn p all) bar.4 at.1 in
+    let there : IsIn (pieces.Bar bar.0 bar.1 bar.2 bar.3) all = subst (λ p. IsIn p all) bar.4 at.1 in
     bar_true (title_of words) network octets ns end line rules r bar.0 bar.1 bar.2 bar.3 (at.2 ∙ ap (piece_line network (title_of words)) bar.4)
     (picture_bar bar.0 bar.1 bar.2 bar.3 grid (rows_of network (told_of news) answer.missed answer.flows) (bars_of grid news) (greatest_of news) (length news) there)
 
@@ -189,32 +189,32 @@ bars_are_true words network octets ns end a rules r answer line rest i e =
 
 pub devices_are_drawn : DevicesAreDrawn
 devices_are_drawn words network ns end a answer device d note at i turn =
-    subst (λ (ls : List (List ℕ)). HasCells network (grid_for network ns) ls (labels.Lane device)
+    subst (λ ls. HasCells network (grid_for network ns) ls (labels.Lane device)
     (device_cell network (grid_for network ns) ns device (start_of d.start))) (sym (answer_lines words network ns end a answer))
     (lane_drawn network (scenario_under network (events_of ns)) (happenings network ns) ns (title_of words) answer.missed answer.flows device d note at i turn)
 
 pub ways_are_drawn : WaysAreDrawn
 ways_are_drawn words network ns end a answer link way column there within seen =
-    subst (λ (ls : List (List ℕ)). HasCells network (grid_for network ns) ls (labels.Passage link way)
+    subst (λ ls. HasCells network (grid_for network ns) ls (labels.Passage link way)
     (way_cell network (grid_for network ns) ns link way)) (sym (answer_lines words network ns end a answer))
     (passage_drawn network (scenario_under network (events_of ns)) (happenings network ns) ns (title_of words) answer.missed answer.flows link way column there within seen)
 
 pub device_strokes_are_true : DeviceStrokesAreTrue
 device_strokes_are_true words network ns end a answer line rest i e =
     let same = answer_lines words network ns end a answer in
-    subst (λ (ls : List (List ℕ)). ((device : DeviceId) × (d : Device) × (slice_get network.device device.0 ≡ Some d)
+    subst (λ ls. ((device : DeviceId) × (d : Device) × (slice_get network.device device.0 ≡ Some d)
     × IsStrokeAlong network (grid_for network ns) ls (labels.Lane device) (device_cell network (grid_for network ns) ns device (start_of d.start)) line)
     ⊎ ((ribbon : Ribbon) × (synchronised : ℕ) × (off : ℕ) × (ribbon.label ≡ labels.Others synchronised off) × (line ≡ ribbon_line network ribbon)))
     (sym same) (lane_true network (scenario_under network (events_of ns)) (happenings network ns) ns (title_of words) answer.missed answer.flows line rest
-    (subst (λ (ls : List (List ℕ)). IsIn line ls) same i) e)
+    (subst (λ ls. IsIn line ls) same i) e)
 
 pub way_strokes_are_true : WayStrokesAreTrue
 way_strokes_are_true words network ns end a answer line rest i e =
     let same = answer_lines words network ns end a answer in
     let h = passage_true network (scenario_under network (events_of ns)) (happenings network ns) ns (title_of words) answer.missed answer.flows line rest
-    (subst (λ (ls : List (List ℕ)). IsIn line ls) same i) e in (
+    (subst (λ ls. IsIn line ls) same i) e in (
       h.0,
       h.1,
-      subst (λ (ls : List (List ℕ)). IsStrokeAlong network (grid_for network ns) ls (labels.Passage h.0 h.1)
+      subst (λ ls. IsStrokeAlong network (grid_for network ns) ls (labels.Passage h.0 h.1)
           (way_cell network (grid_for network ns) ns h.0 h.1) line) (sym same) h.2,
     )

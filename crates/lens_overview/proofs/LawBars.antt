@@ -94,7 +94,7 @@ first_bar grid (Some greatest) (Some spread) column bars piece (inl e) = record 
   column = 0;
   height = bar_height spread greatest;
   spread = spread;
-  is = e ∙ ap (λ (k : ℕ). pieces.Bar (pen_at grid k) (grid.pitch - 1) (bar_height spread greatest) spread) (let k : column ≡ column + 0 = omega arith in k);
+  is = e ∙ ap (λ k. pieces.Bar (pen_at grid k) (grid.pitch - 1) (bar_height spread greatest) spread) (let k : column ≡ column + 0 = omega arith in k);
   low = omega arith;
   of = refl;
 }
@@ -116,7 +116,7 @@ bars_are grid greatest from (bar ∷ bars) piece i =
           column = suc rest.column;
           height = rest.height;
           spread = rest.spread;
-          is = rest.is ∙ ap (λ (k : ℕ). pieces.Bar (pen_at grid k) (grid.pitch - 1) rest.height rest.spread) place;
+          is = rest.is ∙ ap (λ k. pieces.Bar (pen_at grid k) (grid.pitch - 1) rest.height rest.spread) place;
           low = rest.low;
           of = rest.of;
         }
@@ -341,7 +341,7 @@ module _ (grid : Grid) (k : ℕ) where
           → bar_in (raised grid bars news) k ≡ (if b then greater (bar_in bars k) news.spread else bar_in bars k)
       by true e =
           let same : column_of grid news.cycle ≡ k = grind (arith, nat_tests, e) in
-          ap (λ (c : ℕ). bar_in (with_at bars c (greater (bar_in bars c) news.spread)) k) same ∙ bar_same bars (greater (bar_in bars k) news.spread) within
+          ap (λ c. bar_in (with_at bars c (greater (bar_in bars c) news.spread)) k) same ∙ bar_same bars (greater (bar_in bars k) news.spread) within
       by false e =
           let apart : k ≡ column_of grid news.cycle → ⊥ = λ same. let s = same in grind (arith, nat_tests, e, s) in
           bar_other bars (column_of grid news.cycle) (greater (bar_in bars (column_of grid news.cycle)) news.spread) apart

@@ -164,7 +164,7 @@ module _ (network : Network) (ns : List Note) (flow : Flow) where
 -- no frame is missing
 none_missed : (network : Network) (ns : List Note) (flow : Flow) (missed : List Missed) (column : ℕ) → missed ≡ []
     → shade_at (cells_for network ns missed flow) column ≡ shade_at (cells_for network ns [] flow) column
-none_missed network ns flow missed column none = ap (λ (m : List Missed). shade_at (cells_for network ns m flow) column) none
+none_missed network ns flow missed column none = ap (λ m. shade_at (cells_for network ns m flow) column) none
 
 pub green_is_by_both : GreenIsByBoth
 green_is_by_both words network octets ns end a rules r answer flow column =

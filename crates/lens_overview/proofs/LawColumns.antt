@@ -113,7 +113,7 @@ module _ (cells : List Shade) (from many : ℕ) where
   part_in k within there =
       let taken = length-take many (drop from cells) in
       let dropped = length-drop from cells in
-      subst (λ (s : Shade). IsIn s part) (part_get k within) (at_place part k (omega (arith, taken, dropped, within, there)))
+      subst (λ s. IsIn s part) (part_get k within) (at_place part k (omega (arith, taken, dropped, within, there)))
 
 divides : (n column k : ℕ) → 1 ≤ n → k < n → (n * column + k) / n ≡ column
 divides n column k some less =

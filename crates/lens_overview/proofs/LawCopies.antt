@@ -183,7 +183,7 @@ module _ (vl : VlId) (device : DeviceId) (cycle : ℕ) where
           → Brings vl device cycle (changes.Delivers copied) ⊎ BringsMore (changes.Delivers copied)
           ⊎ ((shade : Shade) → (if b then delivered shade copied.channel else shade) ≡ shade)
       by false e o is = inr (inr (λ shade. refl))
-      by true e None is = inr (inr (λ shade. ap (λ (x : Option Channel). delivered shade x) is))
+      by true e None is = inr (inr (λ shade. ap (λ x. delivered shade x) is))
       by true e (Some channel) is = inl (record { copied = copied; is = refl; copy = e; channel = channel; by = is })
   effect (changes.Repeats copied) = by (is_copy vl device cycle copied) refl copied.channel refl
     where
@@ -195,7 +195,7 @@ module _ (vl : VlId) (device : DeviceId) (cycle : ℕ) where
           → Brings vl device cycle (changes.Repeats copied) ⊎ BringsMore (changes.Repeats copied)
           ⊎ ((shade : Shade) → (if b then repeated shade copied.channel else shade) ≡ shade)
       by false e o is = inr (inr (λ shade. refl))
-      by true e None is = inr (inr (λ shade. ap (λ (x : Option Channel). repeated shade x) is ∙ none shade (is_blank shade)))
+      by true e None is = inr (inr (λ shade. ap (λ x. repeated shade x) is ∙ none shade (is_blank shade)))
       by true e (Some channel) is = inr (inl (record { copied = copied; is = refl; copy = e; channel = channel; by = is }))
   effect change = inr (inr (λ shade. refl))
 
@@ -203,14 +203,14 @@ module _ (vl : VlId) (device : DeviceId) (cycle : ℕ) where
   after_delivery : (change : Change) (shade : Shade) → (b : Brings vl device cycle change)
       → frame_after vl device cycle change shade ≡ delivered shade (Some b.channel)
   after_delivery change shade b =
-      ap (λ (c : Change). frame_after vl device cycle c shade) b.is
-      ∙ ap (λ (t : Bool). if t then delivered shade b.copied.channel else shade) b.copy ∙ ap (λ (o : Option Channel). delivered shade o) b.by
+      ap (λ c. frame_after vl device cycle c shade) b.is
+      ∙ ap (λ (t : Bool). if t then delivered shade b.copied.channel else shade) b.copy ∙ ap (λ o. delivered shade o) b.by
 
   after_repeat : (change : Change) (shade : Shade) → (b : BringsMore change)
       → frame_after vl device cycle change shade ≡ repeated shade (Some b.channel)
   after_repeat change shade b =
-      ap (λ (c : Change). frame_after vl device cycle c shade) b.is
-      ∙ ap (λ (t : Bool). if t then repeated shade b.copied.channel else shade) b.copy ∙ ap (λ (o : Option Channel). repeated shade o) b.by
+      ap (λ c. frame_after vl device cycle c shade) b.is
+      ∙ ap (λ (t : Bool). if t then repeated shade b.copied.channel else shade) b.copy ∙ ap (λ o. repeated shade o) b.by
 
   repeated_keeps : (shade : Shade) (by channel : Channel) → code_of shade ≤ 3 → has channel shade ≡ true → has channel (repeated shade (Some by)) ≡ true
   repeated_keeps shade by channel most e = at (is_blank shade)
@@ -268,7 +268,7 @@ module _ (network : Network) (s : Scenario) (hs : List Happening) where
   news_there (n ∷ ns) (f ∷ fs) zero note told e =
       let same : n ≡ note = one (Some n) n note refl e in (
         told.0.0,
-        ap (λ (x : News). Some x) told.0.1 ∙ ap (λ (x : Note). Some (news_of network s hs told.0.0 x)) same,
+        ap (λ (x : News). Some x) told.0.1 ∙ ap (λ x. Some (news_of network s hs told.0.0 x)) same,
       )
   news_there (n ∷ ns) (f ∷ fs) (suc k) note told e = news_there ns fs k note told.1 e
 
@@ -307,7 +307,7 @@ module _ (network : Network) (s : Scenario) (hs : List Happening) where
       let h = news_there ns fs sent.place sent.note told sent.there in
       ap (change_at fs) (sent.counted ∙ add-one sent.place)
       ∙ ap (λ (o : Option News). Rattle.std.specs.Prelude.option_map (λ (n : News). n.change) o) h.1
-      ∙ ap (λ (body : NoteBody). Some (change_of network h.0 body)) sent.is
+      ∙ ap (λ body. Some (change_of network h.0 body)) sent.is
 
   module _ (flow : Flow) (cycle : ℕ) where
     abbrev told : List Note → List News
@@ -449,7 +449,7 @@ module _ (network : Network) (s : Scenario) (hs : List Happening) where
               by = d.by;
             } in
             ap (has channel) (after_delivery flow.vl flow.device cycle (change_of network (told ns) x.body) (shade_by ns) brings)
-            ∙ subst (λ (c : Channel). has c (delivered (shade_by ns) (Some d.channel)) ≡ true) same (delivered_has (shade_by ns) d.channel (most ns))
+            ∙ subst (λ c. has c (delivered (shade_by ns) (Some d.channel)) ≡ true) same (delivered_has (shade_by ns) d.channel (most ns))
     next_shows ns x known channel (inr r) = elim (last_or_first r.before r.rest ns r.note x r.there) [
       | inl h ↦ new h.0 h.1
       | inr h ↦
@@ -474,8 +474,8 @@ module _ (network : Network) (s : Scenario) (hs : List Happening) where
         new all is =
             let body : x.body ≡ notes.Dropped flow.device r.link r.cause reasons.Repeat = ap (λ (n : Note). n.body) is ∙ r.is in
             let sent = by_sent ns (told ns) r.cause flow.vl cycle known.told
-            (subst (λ (ms : List Note). IsSentBy ms r.cause flow.vl cycle) (sym all) r.sent) in
-            let d = subst (λ (ms : List Note). IsDeliveredIn network ms flow cycle) (sym all) r.delivered in
+            (subst (λ ms. IsSentBy ms r.cause flow.vl cycle) (sym all) r.sent) in
+            let d = subst (λ ms. IsDeliveredIn network ms flow cycle) (sym all) r.delivered in
             let seen = has_seen (shade_by ns) d.channel (known.shows d.channel (inl (d, refl))) in
             let more : BringsMore flow.vl flow.device cycle (change_of network (told ns) x.body) =
             record {
@@ -522,4 +522,4 @@ module _ (network : Network) (s : Scenario) (hs : List Happening) where
     pub come_delivered : (ns : List Note) (channel : Channel) → ComesBy network ns flow cycle channel → IsDeliveredIn network ns flow cycle
     come_delivered ns channel (inl (d, same)) = d
     come_delivered ns channel (inr r) =
-        subst (λ (ms : List Note). IsDeliveredIn network ms flow cycle) (sym r.there) (delivered_longer r.before (r.note ∷ r.rest) r.delivered).0
+        subst (λ ms. IsDeliveredIn network ms flow cycle) (sym r.there) (delivered_longer r.before (r.note ∷ r.rest) r.delivered).0

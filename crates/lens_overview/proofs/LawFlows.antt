@@ -211,7 +211,7 @@ module _ (cells_for : Flow → List Shade) where
           record {
             flow = flow;
             among = among;
-            of_flow = subst (λ (x : Label). IsRowOf x flow) (sym (ap (λ (x : Row). x.label) is)) (with_row r.label flow like.0);
+            of_flow = subst (λ x. IsRowOf x flow) (sym (ap (λ (x : Row). x.label) is)) (with_row r.label flow like.0);
             cells = ap (λ (x : Row). x.cells) is ∙ like.1;
           }
       by true e (inr i) more = each row (inr i) f

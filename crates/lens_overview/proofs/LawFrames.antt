@@ -18,54 +18,58 @@ use Rattle.lens_overview.specs.declared.shade.Shade.TheVariants as shades
 abbrev HasCome : Shade → Type 0
 HasCome shade = (1 ≤ code_of shade) × (code_of shade ≤ 3)
 
-seen_code : (shade : Shade) → is_blank shade ≡ false → 1 ≤ code_of shade
-seen_code shade e = grind (arith, nat_tests, e)
+module _ (shade : Shade) where
+  seen_code : is_blank shade ≡ false → 1 ≤ code_of shade
+  seen_code e = grind (arith, nat_tests, e)
 
-pub code_seen : (shade : Shade) → 1 ≤ code_of shade → is_blank shade ≡ false
-code_seen shade some = grind (arith, nat_tests, some)
+  pub code_seen : 1 ≤ code_of shade → is_blank shade ≡ false
+  code_seen some = grind (arith, nat_tests, some)
 
-blank_code : (shade : Shade) → is_blank shade ≡ true → code_of shade ≡ 0
-blank_code shade e = grind (arith, nat_tests, e)
+  blank_code : is_blank shade ≡ true → code_of shade ≡ 0
+  blank_code e = grind (arith, nat_tests, e)
 
-with_come : (shade alone other : Shade) → HasCome alone → code_of shade ≤ 3 → HasCome (with_copy shade alone other)
-with_come shade alone other come most = by (is_blank shade) refl
-  where
-    both : (c : Bool) → 1 ≤ code_of shade → HasCome (if c then shades.Both else shade)
-    both true some = (omega arith, omega arith)
-    both false some = (some, most)
+  with_come : (alone other : Shade) → HasCome alone → code_of shade ≤ 3 → HasCome (with_copy shade alone other)
+  with_come alone other come most = by (is_blank shade) refl
+    where
+      both : (c : Bool) → 1 ≤ code_of shade → HasCome (if c then shades.Both else shade)
+      both true some = (omega arith, omega arith)
+      both false some = (some, most)
 
-    by : (b : Bool) → is_blank shade ≡ b → HasCome (if b then alone else if is_same shade other then shades.Both else shade)
-    by true e = come
-    by false e = both (is_same shade other) (seen_code shade e)
+      by : (b : Bool) → is_blank shade ≡ b → HasCome
+          (if b then alone else if is_same shade other then shades.Both else shade)
+      by true e = come
+      by false e = both (is_same shade other) (seen_code e)
 
-delivered_come : (shade : Shade) (channel : Channel) → code_of shade ≤ 3 → HasCome (delivered shade (Some channel))
-delivered_come shade A most = with_come shade shades.AloneA shades.AloneB (omega arith, omega arith) most
-delivered_come shade B most = with_come shade shades.AloneB shades.AloneA (omega arith, omega arith) most
+  delivered_come : (channel : Channel) → code_of shade ≤ 3 → HasCome (delivered shade (Some channel))
+  delivered_come A most = with_come shades.AloneA shades.AloneB (omega arith, omega arith) most
+  delivered_come B most = with_come shades.AloneB shades.AloneA (omega arith, omega arith) most
 
-delivered_most : (shade : Shade) (channel : Option Channel) → code_of shade ≤ 3 → code_of (delivered shade channel) ≤ 3
-delivered_most shade (Some channel) most = (delivered_come shade channel most).1
-delivered_most shade None most = most
+  delivered_most : (channel : Option Channel) → code_of shade ≤ 3 → code_of (delivered shade channel) ≤ 3
+  delivered_most (Some channel) most = (delivered_come channel most).1
+  delivered_most None most = most
 
-delivered_stays : (shade : Shade) (channel : Option Channel) → code_of shade ≤ 3 → 1 ≤ code_of shade → 1 ≤ code_of (delivered shade channel)
-delivered_stays shade (Some channel) most some = (delivered_come shade channel most).0
-delivered_stays shade None most some = some
+  delivered_stays : (channel : Option Channel) → code_of shade ≤ 3 → 1 ≤ code_of shade
+      → 1 ≤ code_of (delivered shade channel)
+  delivered_stays (Some channel) most some = (delivered_come channel most).0
+  delivered_stays None most some = some
 
-repeated_most : (shade : Shade) (channel : Option Channel) → code_of shade ≤ 3 → code_of (repeated shade channel) ≤ 3
-repeated_most shade channel most = by (is_blank shade)
-  where
-    by : (b : Bool) → code_of (if b then shade else delivered shade channel) ≤ 3
-    by true = most
-    by false = delivered_most shade channel most
+module _ (shade : Shade) (channel : Option Channel) where
+  repeated_most : code_of shade ≤ 3 → code_of (repeated shade channel) ≤ 3
+  repeated_most most = by (is_blank shade)
+    where
+      by : (b : Bool) → code_of (if b then shade else delivered shade channel) ≤ 3
+      by true = most
+      by false = delivered_most shade channel most
 
-repeated_stays : (shade : Shade) (channel : Option Channel) → code_of shade ≤ 3 → 1 ≤ code_of shade → 1 ≤ code_of (repeated shade channel)
-repeated_stays shade channel most some = by (is_blank shade)
-  where
-    by : (b : Bool) → 1 ≤ code_of (if b then shade else delivered shade channel)
-    by true = some
-    by false = delivered_stays shade channel most some
+  repeated_stays : code_of shade ≤ 3 → 1 ≤ code_of shade → 1 ≤ code_of (repeated shade channel)
+  repeated_stays most some = by (is_blank shade)
+    where
+      by : (b : Bool) → 1 ≤ code_of (if b then shade else delivered shade channel)
+      by true = some
+      by false = delivered_stays shade channel most some
 
-repeated_none : (shade : Shade) (channel : Option Channel) → is_blank shade ≡ true → repeated shade channel ≡ shade
-repeated_none shade channel e = ap (λ (b : Bool). if b then shade else delivered shade channel) e
+  repeated_none : is_blank shade ≡ true → repeated shade channel ≡ shade
+  repeated_none e = ap (λ (b : Bool). if b then shade else delivered shade channel) e
 
 -- ---- one record
 
@@ -117,7 +121,7 @@ module _ (vl : VlId) (device : DeviceId) (cycle : ℕ) where
       by : (b : Bool) → is_copy copied ≡ b → (o : Option Channel) → copied.channel ≡ o
           → ((if b then delivered shade copied.channel else shade) ≡ shade) ⊎ Brings (changes.Delivers copied)
       by false e o is = inl refl
-      by true e None is = inl (ap (λ (x : Option Channel). delivered shade x) is)
+      by true e None is = inl (ap (λ x. delivered shade x) is)
       by true e (Some channel) is = inr (record { copied = copied; is = refl; copy = e; channel = channel; by = is })
   after_none (changes.Repeats copied) shade blank = by (is_copy copied)
     where
@@ -129,9 +133,9 @@ module _ (vl : VlId) (device : DeviceId) (cycle : ℕ) where
   after_brings : (change : Change) (shade : Shade) → code_of shade ≤ 3 → Brings change → 1 ≤ code_of (frame_after change shade)
   after_brings change shade most brings =
       let come = (delivered_come shade brings.channel most).0 in
-      subst (λ (x : Change). 1 ≤ code_of (frame_after x shade)) (sym brings.is)
+      subst (λ x. 1 ≤ code_of (frame_after x shade)) (sym brings.is)
       (subst (λ (b : Bool). 1 ≤ code_of (if b then delivered shade brings.copied.channel else shade)) (sym brings.copy)
-      (subst (λ (o : Option Channel). 1 ≤ code_of (delivered shade o)) (sym brings.by) come))
+      (subst (λ o. 1 ≤ code_of (delivered shade o)) (sym brings.by) come))
 
   -- ---- all records
 
@@ -210,7 +214,7 @@ module _ (vl : VlId) (device : DeviceId) where
           → shade_at (with_at cells copied.cycle (make (shade_at cells copied.cycle))) c ≡ (if b then make (shade_at cells c) else shade_at cells c)
       hit true e =
           let same : copied.cycle ≡ c = grind (arith, nat_tests, e) in
-          ap (λ (k : ℕ). shade_at (with_at cells k (make (shade_at cells k))) c) same ∙ put_same cells c (make (shade_at cells c)) within
+          ap (λ k. shade_at (with_at cells k (make (shade_at cells k))) c) same ∙ put_same cells c (make (shade_at cells c)) within
       hit false e =
           let apart : c ≡ copied.cycle → ⊥ = λ same. let s = same in grind (arith, nat_tests, e, s) in
           put_other cells copied.cycle c (make (shade_at cells copied.cycle)) apart
@@ -253,20 +257,21 @@ both_true : (a b : Bool) → (a && b) ≡ true → (a ≡ true) × (b ≡ true)
 both_true true b e = (refl, e)
 both_true false b e = absurd (false≢true e)
 
--- whose copy it is
-pub cycle_of_copy : (vl : VlId) (device : DeviceId) (cycle : ℕ) (copied : Copied) → is_copy vl device cycle copied ≡ true → copied.cycle ≡ cycle
-cycle_of_copy vl device cycle copied e =
-    let own = (both_true (is_of vl device copied) (copied.cycle == cycle) e).1 in
-    grind (arith, nat_tests, own)
+module _ (vl : VlId) (device : DeviceId) (cycle : ℕ) (copied : Copied)
+    (e : is_copy vl device cycle copied ≡ true) where
+  -- whose copy it is
+  pub cycle_of_copy : copied.cycle ≡ cycle
+  cycle_of_copy =
+      let own = (both_true (is_of vl device copied) (copied.cycle == cycle) e).1 in
+      grind (arith, nat_tests, own)
 
-pub flow_of_copy : (vl : VlId) (device : DeviceId) (cycle : ℕ) (copied : Copied) → is_copy vl device cycle copied ≡ true
-    → (copied.vl ≡ vl) × (copied.device ≡ device)
-flow_of_copy vl device cycle copied e =
-    let own = (both_true (is_of vl device copied) (copied.cycle == cycle) e).0 in
-    let parts = both_true (copied.vl.0 == vl.0) (copied.device.0 == device.0) own in
-    let first = parts.0 in
-    let vls : copied.vl.0 ≡ vl.0 = grind (arith, nat_tests, first) in
-    (same_vl copied.vl vl vls, alike copied.device device parts.1)
+  pub flow_of_copy : (copied.vl ≡ vl) × (copied.device ≡ device)
+  flow_of_copy =
+      let own = (both_true (is_of vl device copied) (copied.cycle == cycle) e).0 in
+      let parts = both_true (copied.vl.0 == vl.0) (copied.device.0 == device.0) own in
+      let first = parts.0 in
+      let vls : copied.vl.0 ≡ vl.0 = grind (arith, nat_tests, first) in
+      (same_vl copied.vl vl vls, alike copied.device device parts.1)
 
 pub is_own : (vl : VlId) (device : DeviceId) (cycle : ℕ) (channel : Option Channel)
     → is_copy vl device cycle (record { vl = vl; device = device; cycle = cycle; channel = channel }) ≡ true

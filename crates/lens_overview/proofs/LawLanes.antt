@@ -136,47 +136,54 @@ cut_at link way column change cells k within = refl
 
 -- ---- what its change is
 
-no_turn : (network : Network) (d : DeviceId) (link : LinkId) (o : Option Change) (device : DeviceId) (shade : Shade)
-    → turn_by device (repeats_by network d link o) shade ≡ shade
-no_turn network d link None device shade = refl
-no_turn network d link (Some (changes.Sends vl cycle)) device shade = refl
-no_turn network d link (Some change) device shade = refl
+module _ (network : Network) where
+  no_turn : (d : DeviceId) (link : LinkId) (o : Option Change) (device : DeviceId) (shade : Shade)
+      → turn_by device (repeats_by network d link o) shade ≡ shade
+  no_turn d link None device shade = refl
+  no_turn d link (Some (changes.Sends vl cycle)) device shade = refl
+  no_turn d link (Some change) device shade = refl
 
-turn_told : (network : Network) (before : List News) (device : DeviceId) (body : NoteBody) (shade : Shade)
-    → turn_by device (change_of network before body) shade ≡ device_after device body shade
-turn_told network before device (notes.Event line (events.Break other)) shade = refl
-turn_told network before device (notes.Event line what) shade = refl
-turn_told network before device (notes.Dropped d link cause reasons.Repeat) shade = no_turn network d link (change_at before cause) device shade
-turn_told network before device body shade = refl
+  turn_told : (before : List News) (device : DeviceId) (body : NoteBody) (shade : Shade)
+      → turn_by device (change_of network before body) shade ≡ device_after device body shade
+  turn_told before device (notes.Event line (events.Break other)) shade = refl
+  turn_told before device (notes.Event line what) shade = refl
+  turn_told before device (notes.Dropped d link cause reasons.Repeat) shade =
+      no_turn d link (change_at before cause) device shade
+  turn_told before device body shade = refl
 
-no_cut : (network : Network) (d : DeviceId) (l : LinkId) (o : Option Change) (link : LinkId) (way : Way) (at k : ℕ) (shade : Shade)
-    → cut_by link way at k (repeats_by network d l o) shade ≡ shade
-no_cut network d l None link way at k shade = refl
-no_cut network d l (Some (changes.Sends vl cycle)) link way at k shade = refl
-no_cut network d l (Some change) link way at k shade = refl
+  no_cut : (d : DeviceId) (l : LinkId) (o : Option Change) (link : LinkId) (way : Way) (at k : ℕ) (shade : Shade)
+      → cut_by link way at k (repeats_by network d l o) shade ≡ shade
+  no_cut d l None link way at k shade = refl
+  no_cut d l (Some (changes.Sends vl cycle)) link way at k shade = refl
+  no_cut d l (Some change) link way at k shade = refl
 
-cut_told : (network : Network) (before : List News) (link : LinkId) (way : Way) (at k : ℕ) (body : NoteBody) (shade : Shade)
-    → cut_by link way at k (change_of network before body) shade ≡ way_after link way at k body shade
-cut_told network before link way at k (notes.Event line what) shade = by what
-  where
-    by : (what : What) → cut_by link way at k (struck what) shade ≡ way_after link way at k (notes.Event line what) shade
-    by (events.Cut other of) = refl
-    by (events.Heal other of) = refl
-    by (events.Break device) = refl
-    by what = refl
-cut_told network before link way at k (notes.Dropped d l cause reasons.Repeat) shade = no_cut network d l (change_at before cause) link way at k shade
-cut_told network before link way at k body shade = refl
+  cut_told : (before : List News) (link : LinkId) (way : Way) (at k : ℕ) (body : NoteBody) (shade : Shade)
+      → cut_by link way at k (change_of network before body) shade ≡ way_after link way at k body shade
+  cut_told before link way at k (notes.Event line what) shade = by what
+    where
+      by : (what : What) → cut_by link way at k (struck what) shade ≡ way_after link way at k (notes.Event line what)
+          shade
+      by (events.Cut other of) = refl
+      by (events.Heal other of) = refl
+      by (events.Break device) = refl
+      by what = refl
+  cut_told before link way at k (notes.Dropped d l cause reasons.Repeat) shade =
+      no_cut d l (change_at before cause) link way at k shade
+  cut_told before link way at k body shade = refl
 
--- ---- all records
+  -- ---- all records
 
--- what is folded over the news is so over the records
-fold_told : (network : Network) (s : Scenario) (hs : List Happening) (f : Shade → News → Shade) (g : Shade → Note → Shade)
-    → ((before : List News) (note : Note) (shade : Shade) → f shade (news_of network s hs before note) ≡ g shade note)
-    → (ns : List Note) (before : List News) (shade : Shade) → fold f shade (told_from network s hs before ns) ≡ fold g (fold f shade before) ns
-fold_told network s hs f g same [] before shade = refl
-fold_told network s hs f g same (note ∷ ns) before shade =
-    fold_told network s hs f g same ns (before ++ news_of network s hs before note ∷ []) shade
-    ∙ ap (λ (x : Shade). fold g x ns) (fold-append f shade before (news_of network s hs before note ∷ []) ∙ same before note (fold f shade before))
+  -- what is folded over the news is so over the records
+  fold_told : (s : Scenario) (hs : List Happening) (f : Shade → News → Shade) (g : Shade → Note → Shade)
+      → ((before : List News) (note : Note) (shade : Shade)
+      → f shade (news_of network s hs before note) ≡ g shade note)
+      → (ns : List Note) (before : List News) (shade : Shade)
+      → fold f shade (told_from network s hs before ns) ≡ fold g (fold f shade before) ns
+  fold_told s hs f g same [] before shade = refl
+  fold_told s hs f g same (note ∷ ns) before shade =
+      fold_told s hs f g same ns (before ++ news_of network s hs before note ∷ []) shade
+      ∙ ap (λ (x : Shade). fold g x ns) (fold-append f shade before (news_of network s hs before note ∷ []) ∙ same
+      before note (fold f shade before))
 
 lane_cells : (grid : Grid) (device : DeviceId) (all : List News) (cells : List Shade) (k : ℕ) → k < length cells
     → shade_at (fold (taken grid (labels.Lane device)) cells all) k
@@ -225,7 +232,7 @@ module _ (network : Network) (s : Scenario) (hs : List Happening) (ns : List Not
       (λ shade note. if nat_le (column_of grid (cycle_of network note)) k then device_after device note.body shade else shade)
       (λ before note shade. ap (λ (x : Shade). if nat_le (column_of grid (cycle_of network note)) k then x else shade) (turn_told network before device note.body shade))
       ns [] (shade_at (replicate (grid.columns - 1 + 1) start) k)
-      ∙ ap (λ (x : Shade). device_cell network grid ns device x k) (even_at (grid.columns - 1 + 1) k start (omega (arith, some, within)))
+      ∙ ap (λ x. device_cell network grid ns device x k) (even_at (grid.columns - 1 + 1) k start (omega (arith, some, within)))
 
   pub passage_is : (link : LinkId) (way : Way) (k : ℕ) → k < grid.columns
       → shade_at (cells_of grid all_told (labels.Passage link way) shades.Blank) k ≡ way_cell network grid ns link way k
@@ -357,8 +364,8 @@ module _ (network : Network) (s : Scenario) (hs : List Happening) (ns : List Not
   turn_is before device body turn =
       let same : (device.0 == device.0) ≡ true = grind (arith, nat_tests) in
       elim turn.is [
-        | inl (line, is) ↦ ap (λ (b : NoteBody). is_turn device (change_of network before b)) is ∙ same
-        | inr (state, cause, why, is) ↦ ap (λ (b : NoteBody). is_turn device (change_of network before b)) is ∙ same
+        | inl (line, is) ↦ ap (λ b. is_turn device (change_of network before b)) is ∙ same
+        | inr (state, cause, why, is) ↦ ap (λ b. is_turn device (change_of network before b)) is ∙ same
       ]
 
   turned_there : (device : DeviceId) (note : Note) → IsIn note ns → IsTurn device note.body → is_turned news device ≡ true
@@ -408,7 +415,7 @@ module _ (network : Network) (s : Scenario) (hs : List Happening) (ns : List Not
       let get : get_or (cut_cells link way) k shades.Blank ≡ way_cell network grid_here ns link way k =
       sym (unwrap_or-slice_get (cut_cells link way) k shades.Blank) ∙ own in
       any_in (λ (x : Shade). not (is_blank x)) (get_or (cut_cells link way) k shades.Blank) (cut_cells link way) at
-      (ap (λ (x : Shade). not (is_blank x)) get ∙ ap not seen)
+      (ap (λ x. not (is_blank x)) get ∙ ap not seen)
 
   cut_row : (link : LinkId) (way : Way) → is_any (cut_cells link way) ≡ true
       → IsIn (record { label = labels.Passage link way; cells = cut_cells link way }) (filled_row (told_of news) (labels.Passage link way))

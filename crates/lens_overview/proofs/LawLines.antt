@@ -12,16 +12,18 @@ use Rattle.std.specs.Prelude.{codes}
 use Rattle.lens_overview.specs.declared.pieces.Piece.TheVariants as pieces
 use Rattle.lens_overview.specs.declared.shade.Shade.TheVariants as shades
 
-pub line_in : (network : Network) (title : List ℕ) (all : List Piece) (piece : Piece) → IsIn piece all → IsIn (piece_line network title piece) (map (piece_line network title) all)
-line_in network title [] piece i = absurd i
-line_in network title (p ∷ all) piece (inl is) = inl (ap (piece_line network title) is)
-line_in network title (p ∷ all) piece (inr i) = inr (line_in network title all piece i)
+module _ (network : Network) (title : List ℕ) where
+  pub line_in : (all : List Piece) (piece : Piece) → IsIn piece all
+      → IsIn (piece_line network title piece) (map (piece_line network title) all)
+  line_in [] piece i = absurd i
+  line_in (p ∷ all) piece (inl is) = inl (ap (piece_line network title) is)
+  line_in (p ∷ all) piece (inr i) = inr (line_in all piece i)
 
-pub piece_of : (network : Network) (title : List ℕ) (all : List Piece) (line : List ℕ) → IsIn line (map (piece_line network title) all)
-    → (piece : Piece) × IsIn piece all × (line ≡ piece_line network title piece)
-piece_of network title [] line i = absurd i
-piece_of network title (p ∷ all) line (inl is) = (p, inl refl, is)
-piece_of network title (p ∷ all) line (inr i) = let h = piece_of network title all line i in (h.0, inr h.1, h.2)
+  pub piece_of : (all : List Piece) (line : List ℕ) → IsIn line (map (piece_line network title) all)
+      → (piece : Piece) × IsIn piece all × (line ≡ piece_line network title piece)
+  piece_of [] line i = absurd i
+  piece_of (p ∷ all) line (inl is) = (p, inl refl, is)
+  piece_of (p ∷ all) line (inr i) = let h = piece_of all line i in (h.0, inr h.1, h.2)
 
 ribbon_in : Ribbon → Piece → Ribbon
 ribbon_in d (pieces.Stroke ribbon) = ribbon
@@ -63,11 +65,11 @@ module _ (network : Network) (title : List ℕ) (news : List News) (missed : Lis
         y = laid.0;
         name = name_there row laid.0 laid.1;
         each = λ column within seen.
-            let own : is_blank (shade_at row.cells column) ≡ false = ap (λ (cs : List Shade). is_blank (shade_at cs column)) has.cells ∙ seen in
+            let own : is_blank (shade_at row.cells column) ≡ false = ap (λ cs. is_blank (shade_at cs column)) has.cells ∙ seen in
             let struck = all_struck grid row.label laid.0 row.cells not_begun 0 row.cells column (at_first grid row.label laid.0 row.cells size)
             (omega arith) within own in
             drawn row laid.0 laid.1 column (shade_at (cells flow) column)
-            (ap (λ (cs : List Shade). shade_at cs column) has.cells) struck;
+            (ap (λ cs. shade_at cs column) has.cells) struck;
       }
     where
       drawn : (row : Row) (y : ℕ) → IsLaid grid all row y → (column : ℕ) (shade : Shade) → shade_at row.cells column ≡ shade
@@ -119,7 +121,7 @@ module _ (network : Network) (title : List ℕ) (news : List News) (missed : Lis
           is = is ∙ ap (ribbon_line network) same;
           some = own.some;
           seen = own.seen;
-          each = λ column low high. ap (λ (cs : List Shade). shade_at cs column) (sym some.cells) ∙ own.each column low high;
+          each = λ column low high. ap (λ cs. shade_at cs column) (sym some.cells) ∙ own.each column low high;
         };
         shade = sym (ap (λ (r : Ribbon). r.shade) same);
       }
@@ -134,7 +136,7 @@ module _ (network : Network) (title : List ℕ) (news : List News) (missed : Lis
         stroke.0,
         stroke.2,
         is,
-        stroke_drawn stroke.0 line (subst (λ (p : Piece). IsIn p all) stroke.1 at.1) stroke.2 is,
+        stroke_drawn stroke.0 line (subst (λ p. IsIn p all) stroke.1 at.1) stroke.2 is,
       )
 
 -- no line says that a frame is missing, where none is

@@ -83,7 +83,7 @@ module _ (network : Network) (s : Scenario) (hs : List Happening) where
   note_told [] before note i = absurd i
   note_told (n ∷ ns) before note (inl is) = (
     before,
-    subst (λ (x : Note). IsIn (news_of network s hs before x) (told_from (before ++ news_of network s hs before n ∷ []) ns)) (sym is)
+    subst (λ x. IsIn (news_of network s hs before x) (told_from (before ++ news_of network s hs before n ∷ []) ns)) (sym is)
         (told_stays ns (before ++ news_of network s hs before n ∷ []) (news_of network s hs before n)
         (in_right (news_of network s hs before n) before (news_of network s hs before n ∷ []) (inl refl))),
   )

@@ -18,23 +18,26 @@ use Rattle.lens_overview.specs.declared.pieces.Piece.TheVariants as pieces
 pub record IsLaid (grid : Grid) (among : List Piece) (row : Row) (y : ℕ) : Type 0 where
   pub all : (piece : Piece) → IsIn piece (row_pieces grid row y) → IsIn piece among
 
-laid_right : (grid : Grid) (ps qs : List Piece) (row : Row) (y : ℕ) → IsLaid grid qs row y → IsLaid grid (ps ++ qs) row y
-laid_right grid ps qs row y laid = record { all = λ piece i. in_right piece ps qs (laid.all piece i) }
+laid_right : {grid : Grid} (ps : List Piece) {qs : List Piece} {row : Row} {y : ℕ} → IsLaid grid qs row y
+    → IsLaid grid (ps ++ qs) row y
+laid_right ps {qs} laid = record { all = λ piece i. in_right piece ps qs (laid.all piece i) }
 
-laid_left : (grid : Grid) (ps qs : List Piece) (row : Row) (y : ℕ) → IsLaid grid ps row y → IsLaid grid (ps ++ qs) row y
-laid_left grid ps qs row y laid = record { all = λ piece i. in_left piece ps qs (laid.all piece i) }
+laid_left : {grid : Grid} {ps : List Piece} (qs : List Piece) {row : Row} {y : ℕ} → IsLaid grid ps row y
+    → IsLaid grid (ps ++ qs) row y
+laid_left {ps} qs laid = record { all = λ piece i. in_left piece ps qs (laid.all piece i) }
 
 -- each row does somewhere
 row_laid : (grid : Grid) (y : ℕ) (rows : List Row) (row : Row) → IsIn row rows → (z : ℕ) × IsLaid grid (rows_from grid y rows) row z
 row_laid grid y [] row i = absurd i
 row_laid grid y (r ∷ rows) row (inl is) = (
   below y r.label,
-  laid_left grid (row_pieces grid r (below y r.label)) (rows_from grid (below y r.label) rows) row (below y r.label)
-      (record { all = λ piece i. subst (λ (x : Row). IsIn piece (row_pieces grid x (below y r.label))) is i }),
+  laid_left {grid = grid} {ps = row_pieces grid r (below y r.label)} (rows_from grid (below y r.label)
+      rows) {row = row} {y = below y r.label}
+      (record { all = λ piece i. subst (λ x. IsIn piece (row_pieces grid x (below y r.label))) is i }),
 )
 row_laid grid y (r ∷ rows) row (inr i) =
     let rest = row_laid grid (below y r.label) rows row i in
-    (rest.0, laid_right grid (row_pieces grid r (below y r.label)) (rows_from grid (below y r.label) rows) row rest.0 rest.1)
+    (rest.0, laid_right (row_pieces grid r (below y r.label)) rest.1)
 
 -- the stroke is one of the row, which stands so far down
 pub record IsOfRow (grid : Grid) (among : List Piece) (rows : List Row) (ribbon : Ribbon) : Type 0 where
@@ -67,12 +70,12 @@ stroke_of_row grid y (r ∷ rows) ribbon i =
       row = r;
       y = below y r.label;
       there = inl refl;
-      laid = laid_left grid own rest r (below y r.label) (record { all = λ piece j. j });
+      laid = laid_left {grid = grid} {ps = own} rest {row = r} {y = below y r.label} (record { all = λ piece j. j });
       stroke = first i;
     }
     by (inr i) more =
         let s = more i in
-        record { row = s.row; y = s.y; there = inr s.there; laid = laid_right grid own rest s.row s.y s.laid; stroke = s.stroke }
+        record { row = s.row; y = s.y; there = inr s.there; laid = laid_right own s.laid; stroke = s.stroke }
 
 -- ---- the whole picture
 
@@ -107,18 +110,19 @@ no_ticks grid bottom ribbon i =
     other : (pen : Pen) (down : ℕ) → pieces.Stroke ribbon ≡ pieces.Tick pen down → ⊥
     other pen down e = cc
 
-no_front : (grid : Grid) (bottom : ℕ) (greatest : Option ℕ) (records : ℕ) (ribbon : Ribbon) → IsIn (pieces.Stroke ribbon) (front grid bottom greatest records) → ⊥
-no_front grid bottom greatest records ribbon (inl e) = cc
-no_front grid bottom greatest records ribbon (inr (inl e)) = cc
-no_front grid bottom greatest records ribbon (inr (inr (inl e))) = cc
-no_front grid bottom greatest records ribbon (inr (inr (inr (inl e)))) = cc
-no_front grid bottom greatest records ribbon (inr (inr (inr (inr (inl e))))) = cc
-no_front grid bottom greatest records ribbon (inr (inr (inr (inr (inr (inl e)))))) = cc
-no_front grid bottom greatest records ribbon (inr (inr (inr (inr (inr (inr (inl e))))))) = cc
-no_front grid bottom greatest records ribbon (inr (inr (inr (inr (inr (inr (inr (inl e)))))))) = cc
-no_front grid bottom greatest records ribbon (inr (inr (inr (inr (inr (inr (inr (inr (inl e))))))))) = cc
-no_front grid bottom greatest records ribbon (inr (inr (inr (inr (inr (inr (inr (inr (inr (inl e)))))))))) = cc
-no_front grid bottom greatest records ribbon (inr (inr (inr (inr (inr (inr (inr (inr (inr (inr none)))))))))) = absurd none
+module _ (grid : Grid) (bottom : ℕ) (greatest : Option ℕ) (records : ℕ) (ribbon : Ribbon) where
+  no_front : IsIn (pieces.Stroke ribbon) (front grid bottom greatest records) → ⊥
+  no_front (inl e) = cc
+  no_front (inr (inl e)) = cc
+  no_front (inr (inr (inl e))) = cc
+  no_front (inr (inr (inr (inl e)))) = cc
+  no_front (inr (inr (inr (inr (inl e))))) = cc
+  no_front (inr (inr (inr (inr (inr (inl e)))))) = cc
+  no_front (inr (inr (inr (inr (inr (inr (inl e))))))) = cc
+  no_front (inr (inr (inr (inr (inr (inr (inr (inl e)))))))) = cc
+  no_front (inr (inr (inr (inr (inr (inr (inr (inr (inl e))))))))) = cc
+  no_front (inr (inr (inr (inr (inr (inr (inr (inr (inr (inl e)))))))))) = cc
+  no_front (inr (inr (inr (inr (inr (inr (inr (inr (inr (inr none)))))))))) = absurd none
 
 module _ (grid : Grid) (rows : List Row) (bars : List (Option ℕ)) (greatest : Option ℕ) (records : ℕ) where
   abbrev bottom : ℕ
@@ -134,9 +138,9 @@ module _ (grid : Grid) (rows : List Row) (bars : List (Option ℕ)) (greatest : 
   picture_laid row i =
       let h = row_laid grid top rows row i in (
         h.0,
-        laid_right grid (front grid bottom greatest records) (ticks grid bottom ++ lower) row h.0
-            (laid_right grid (ticks grid bottom) lower row h.0 (laid_right grid (bars_from grid greatest 0 bars) (rows_from grid top rows ++ end) row h.0
-            (laid_left grid (rows_from grid top rows) end row h.0 h.1))),
+        laid_right (front grid bottom greatest records)
+            (laid_right (ticks grid bottom) (laid_right (bars_from grid greatest 0 bars)
+            (laid_left end h.1))),
       )
 
   in_rows : (ribbon : Ribbon) → IsIn (pieces.Stroke ribbon) (rows_from grid top rows ++ end) → IsIn (pieces.Stroke ribbon) (rows_from grid top rows)
@@ -170,8 +174,8 @@ module _ (grid : Grid) (rows : List Row) (bars : List (Option ℕ)) (greatest : 
         y = s.y;
         there = s.there;
         laid =
-            laid_right grid (front grid bottom greatest records) (ticks grid bottom ++ lower) s.row s.y
-            (laid_right grid (ticks grid bottom) lower s.row s.y (laid_right grid (bars_from grid greatest 0 bars) (rows_from grid top rows ++ end) s.row s.y
-            (laid_left grid (rows_from grid top rows) end s.row s.y s.laid)));
+            laid_right (front grid bottom greatest records)
+            (laid_right (ticks grid bottom) (laid_right (bars_from grid greatest 0 bars)
+            (laid_left end s.laid)));
         stroke = s.stroke;
       }

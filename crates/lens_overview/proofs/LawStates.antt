@@ -164,7 +164,7 @@ module _ (network : Network) (s : Scenario) (hs : List Happening) (ns : List Not
       let made : Ribbon =
       record { label = of.row.label; y = of.y; shade = own.shade; from = pen_at grid_here own.first; to = pen_at grid_here own.last } in
       let same : ribbon ≡ made = one_ribbon ribbon made own.is in
-      subst (λ (l : Label). IsStrokeAlong network grid_here (lines network title news missed flows) l cell line) named (record {
+      subst (λ l. IsStrokeAlong network grid_here (lines network title news missed flows) l cell line) named (record {
         y = of.y;
         name = name_there network title news missed flows of.row of.y of.laid;
         first = own.first;
@@ -195,7 +195,7 @@ module _ (network : Network) (s : Scenario) (hs : List Happening) (ns : List Not
       let ribbon = stroke.0 in
       let is : line ≡ ribbon_line network ribbon = at.2 ∙ ap (piece_line network title) stroke.1 in
       let of = picture_stroke grid_here (rows network title news missed flows) (bars_of grid_here news) (greatest_of news) (length news) ribbon
-      (subst (λ (p : Piece). IsIn p (all network title news missed flows)) stroke.1 at.1) in
+      (subst (λ p. IsIn p (all network title news missed flows)) stroke.1 at.1) in
       by ribbon is of (lane_label ribbon.label stroke.2)
     where
       by : (ribbon : Ribbon) → line ≡ ribbon_line network ribbon
@@ -218,7 +218,7 @@ module _ (network : Network) (s : Scenario) (hs : List Happening) (ns : List Not
             made.1,
             along ribbon line (labels.Lane device) (device_cell network grid_here ns device (start_of d.start)) is of own
                 (ap length made.2 ∙ lane_size network s hs ns grid_here some_columns device (start_of d.start))
-                (λ k within. ap (λ (cs : List Shade). shade_at cs k) made.2 ∙ lane_is network s hs ns grid_here some_columns device (start_of d.start) k within),
+                (λ k within. ap (λ cs. shade_at cs k) made.2 ∙ lane_is network s hs ns grid_here some_columns device (start_of d.start) k within),
           )
 
   pub passage_true : (line rest : List ℕ) → IsIn line (lines network title news missed flows) → line ≡ codes "<path class=\"passage " ++ rest
@@ -230,7 +230,7 @@ module _ (network : Network) (s : Scenario) (hs : List Happening) (ns : List Not
       let ribbon = stroke.0 in
       let is : line ≡ ribbon_line network ribbon = at.2 ∙ ap (piece_line network title) stroke.1 in
       let of = picture_stroke grid_here (rows network title news missed flows) (bars_of grid_here news) (greatest_of news) (length news) ribbon
-      (subst (λ (p : Piece). IsIn p (all network title news missed flows)) stroke.1 at.1) in
+      (subst (λ p. IsIn p (all network title news missed flows)) stroke.1 at.1) in
       let named = passage_label ribbon.label stroke.2 in
       let own : of.row.label ≡ labels.Passage named.0 named.1 =
       sym (stroke_label grid_here of.row.label of.y not_begun 0 of.row.cells ribbon of.stroke) ∙ named.2 in
@@ -239,5 +239,5 @@ module _ (network : Network) (s : Scenario) (hs : List Happening) (ns : List Not
         named.1,
         along ribbon line (labels.Passage named.0 named.1) (way_cell network grid_here ns named.0 named.1) is of own
             (ap length made ∙ passage_size network s hs ns grid_here some_columns named.0 named.1)
-            (λ k within. ap (λ (cs : List Shade). shade_at cs k) made ∙ passage_is network s hs ns grid_here some_columns named.0 named.1 k within),
+            (λ k within. ap (λ cs. shade_at cs k) made ∙ passage_is network s hs ns grid_here some_columns named.0 named.1 k within),
       )

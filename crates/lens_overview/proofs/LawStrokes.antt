@@ -151,8 +151,8 @@ module _ (grid : Grid) (label : Label) (y : ℕ) (all : List Shade) where
   strokes_are begun column [] piece at i =
       let size = at.whole in
       let end : column ≡ grid.columns = omega (arith, size) in
-      stroke_is begun grid.columns piece (λ seen. subst (λ (n : ℕ). begun.column < n) end (at.has seen))
-      (subst (λ (n : ℕ). AreOf begun.shade begun.column n) end at.each) i
+      stroke_is begun grid.columns piece (λ seen. subst (λ n. begun.column < n) end (at.has seen))
+      (subst (λ n. AreOf begun.shade begun.column n) end at.each) i
   strokes_are begun column (shade ∷ cells) piece at i =
       by (is_same begun.shade shade) refl i (strokes_are begun (column + 1) cells piece)
       (strokes_are (record { shade = shade; column = column }) (column + 1) cells piece)

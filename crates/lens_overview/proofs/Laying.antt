@@ -19,7 +19,7 @@ joins_at flow cells rows p d within like =
     let row = get_or rows p d in
     let rest = drop (suc p) rows in
     set_at rows p d (raised row) within
-    ∙ ap (λ (xs : List Row). take p rows ++ xs) (sym (ap (λ (xs : List Row). joined flow cells xs) (drop-cons rows p d within)
+    ∙ ap (λ (xs : List Row). take p rows ++ xs) (sym (ap (λ xs. joined flow cells xs) (drop-cons rows p d within)
     ∙ ap (λ (b : Bool). if b then raised row ∷ rest else row ∷ joined flow cells rest) like))
 
 -- one flow more
@@ -28,7 +28,7 @@ pub flows_more : (told : Told) (missed : List Missed) (base now next : List Row)
     → next ≡ with_flows told missed base (take (n + 1) flows)
 flows_more told missed base now next flows n x d within so is more =
     more ∙ ap (λ (flow : Flow). with_flows told missed now (flow ∷ [])) is
-    ∙ ap (λ (rows : List Row). with_flows told missed rows (get_or flows n d ∷ [])) so
+    ∙ ap (λ rows. with_flows told missed rows (get_or flows n d ∷ [])) so
     ∙ sym (fold-append (λ rows flow. joined flow (flow_cells told.grid told.news told.last missed flow.vl flow.device) rows) base (take n flows)
     (get_or flows n d ∷ []))
-    ∙ ap (λ (fs : List Flow). with_flows told missed base fs) (sym (take_more flows n d within))
+    ∙ ap (λ fs. with_flows told missed base fs) (sym (take_more flows n d within))

@@ -7,8 +7,8 @@ use Rattle.{lens_svg.specs.Titles.title_of, std.proofs.Common.{◌∙◌, List, 
 pub overview_answer_one : (words : List (List ℕ)) → IsOneFor (IsOverviewAnswer words)
 overview_answer_one words network octets ns end a b rules r p q =
     p.is
-    ∙ ap (λ (missed : List Missed). pieces_answer network (title_of words) (picture_for network ns missed p.flows)) (none_are network octets ns end p.missed rules r p.each
+    ∙ ap (λ missed. pieces_answer network (title_of words) (picture_for network ns missed p.flows)) (none_are network octets ns end p.missed rules r p.each
     ∙ sym (none_are network octets ns end q.missed rules r q.each))
-    ∙ ap (λ (flows : List Flow). pieces_answer network (title_of words) (picture_for network ns q.missed flows))
+    ∙ ap (λ flows. pieces_answer network (title_of words) (picture_for network ns q.missed flows))
     (flows_one network p.are q.are)
     ∙ sym q.is

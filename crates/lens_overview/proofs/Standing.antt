@@ -13,9 +13,10 @@ up_to_is t hs = same_kept (λ h. nat_le (time_of h) t) (λ h. nat_lt (time_of h)
 ])
 
 -- what is shown before the next unit of time is so after this one
-pub shows_up_to : (s : Scenario) (hs : List Happening) (device : DeviceId) (t : ℕ) (shown : Shown) → Shows s (earlier (t + 1) hs) device shown
-    → Shows s (up_to t hs) device shown
-shows_up_to s hs device t shown shows = subst (λ (xs : List Happening). Shows s xs device shown) (sym (up_to_is t hs)) shows
+pub shows_up_to : {s : Scenario} (hs : List Happening) {device : DeviceId} (t : ℕ) {shown : Shown}
+    → Shows s (earlier (t + 1) hs) device shown → Shows s (up_to t hs) device shown
+shows_up_to {s} hs {device} t {shown} shows =
+    subst (λ xs. Shows s xs device shown) (sym (up_to_is t hs)) shows
 
 -- a device that is broken has no clock that counts
 pub local_broken : (s : Scenario) (hs : List Happening) (t : ℕ) (device : DeviceId) → is_broken s device t ≡ true → local_at s hs t device ≡ None
@@ -30,16 +31,20 @@ not_synchronised Integrating other = refl
 not_synchronised Joining other = refl
 not_synchronised Synchronised other = absurd (other refl)
 
--- nor has one that is not synchronised
-pub local_other : (s : Scenario) (hs : List Happening) (t : ℕ) (device : DeviceId) → is_broken s device t ≡ false
-    → (state_after s (up_to t hs) device ≡ Synchronised → ⊥) → local_at s hs t device ≡ None
-local_other s hs t device correct other =
-    ap (λ (b : Bool). if b then None else if is_synchronised (state_after s (up_to t hs) device) then Some (local s hs device t) else None) correct
-    ∙ ap (λ (b : Bool). if b then Some (local s hs device t) else None) (not_synchronised (state_after s (up_to t hs) device) other)
+module _ (s : Scenario) (hs : List Happening) (t : ℕ) (device : DeviceId)
+    (correct : is_broken s device t ≡ false) where
+  -- nor has one that is not synchronised
+  pub local_other : (state_after s (up_to t hs) device ≡ Synchronised → ⊥) → local_at s hs t device ≡ None
+  local_other other =
+      ap (λ (b : Bool). if b then None else if is_synchronised (state_after s (up_to t hs) device) then Some
+      (local s hs device t) else None) correct
+      ∙ ap (λ (b : Bool). if b then Some (local s hs device t) else None)
+      (not_synchronised (state_after s (up_to t hs) device) other)
 
--- one that is correct and synchronised has
-pub local_in_step : (s : Scenario) (hs : List Happening) (t : ℕ) (device : DeviceId) → is_broken s device t ≡ false
-    → state_after s (up_to t hs) device ≡ Synchronised → local_at s hs t device ≡ Some (local s hs device t)
-local_in_step s hs t device correct state =
-    ap (λ (b : Bool). if b then None else if is_synchronised (state_after s (up_to t hs) device) then Some (local s hs device t) else None) correct
-    ∙ ap (λ (st : State). if is_synchronised st then Some (local s hs device t) else None) state
+  -- one that is correct and synchronised has
+  pub local_in_step : state_after s (up_to t hs) device ≡ Synchronised
+      → local_at s hs t device ≡ Some (local s hs device t)
+  local_in_step state =
+      ap (λ (b : Bool). if b then None else if is_synchronised (state_after s (up_to t hs) device) then Some
+      (local s hs device t) else None) correct
+      ∙ ap (λ st. if is_synchronised st then Some (local s hs device t) else None) state

@@ -8,27 +8,27 @@ pub returns-in-Count : goal.returns-in-Count
 returns-in-Count c cells =
     let run = c.args.run in
     let shown = λ (label : Label) (all : List News). fold (taken run.grid label) cells all in
-    subst (λ (label : Label). shown label run.counts.now ≡ shown label run.news.now) (sym c.in-Count.is)
-    (ap (λ (all : List News). shown (labels.Count c.in-Count.field-0) all) run.counts_are ∙ counts_skip run.grid c.in-Count.field-0 cells run.news.now)
+    subst (λ label. shown label run.counts.now ≡ shown label run.news.now) (sym c.in-Count.is)
+    (ap (λ all. shown (labels.Count c.in-Count.field-0) all) run.counts_are ∙ counts_skip run.grid c.in-Count.field-0 cells run.news.now)
 
 pub returns-in-Lane : goal.returns-in-Lane
 returns-in-Lane c cells =
     let run = c.args.run in
     let shown = λ (label : Label) (all : List News). fold (taken run.grid label) cells all in
-    subst (λ (label : Label). shown label run.changes.now ≡ shown label run.news.now) (sym c.in-Lane.is)
-    (ap (λ (all : List News). shown (labels.Lane c.in-Lane.field-0) all) run.changes_are ∙ lane_skips run.grid c.in-Lane.field-0 cells run.news.now)
+    subst (λ label. shown label run.changes.now ≡ shown label run.news.now) (sym c.in-Lane.is)
+    (ap (λ all. shown (labels.Lane c.in-Lane.field-0) all) run.changes_are ∙ lane_skips run.grid c.in-Lane.field-0 cells run.news.now)
 
 pub returns-in-Passage : goal.returns-in-Passage
 returns-in-Passage c cells =
     let run = c.args.run in
     let shown = λ (label : Label) (all : List News). fold (taken run.grid label) cells all in
-    subst (λ (label : Label). shown label run.changes.now ≡ shown label run.news.now) (sym c.in-Passage.is)
-    (ap (λ (all : List News). shown (labels.Passage c.in-Passage.field-0 c.in-Passage.field-1) all) run.changes_are
+    subst (λ label. shown label run.changes.now ≡ shown label run.news.now) (sym c.in-Passage.is)
+    (ap (λ all. shown (labels.Passage c.in-Passage.field-0 c.in-Passage.field-1) all) run.changes_are
     ∙ passage_skips run.grid c.in-Passage.field-0 c.in-Passage.field-1 cells run.news.now)
 
 pub returns-in-Flow : goal.returns-in-Flow
 returns-in-Flow c cells =
     let run = c.args.run in
     let shown = λ (label : Label) (all : List News). fold (taken run.grid label) cells all in
-    subst (λ (label : Label). shown label run.copies.now ≡ shown label run.news.now) (sym c.in-Flow.is)
-    (ap (λ (all : List News). shown (labels.Flow c.in-Flow.field-0 c.in-Flow.field-1) all) run.copies_are ∙ flow_skips run.grid c.in-Flow.field-0 c.in-Flow.field-1 cells run.news.now)
+    subst (λ label. shown label run.copies.now ≡ shown label run.news.now) (sym c.in-Flow.is)
+    (ap (λ all. shown (labels.Flow c.in-Flow.field-0 c.in-Flow.field-1) all) run.copies_are ∙ flow_skips run.grid c.in-Flow.field-0 c.in-Flow.field-1 cells run.news.now)

@@ -8,4 +8,4 @@ returns-in-Some-clause-text c =
     let o = c.args.line.now in
     joined o (codes "spread of clocks up to ") (apart_text c.in-Some.greatest) c.push.new.self c.push_apart.new.line c.push.ensures.text
     c.push_apart.ensures.text
-    ∙ ap (λ (g : Option ℕ). o ++ greatest_text g) (sym c.in-Some.is)
+    ∙ ap (λ g. o ++ greatest_text g) (sym c.in-Some.is)

@@ -6,4 +6,4 @@ pub returns : goal.returns
 returns c =
     let network = c.args.network.now in
     let count = length network.device in
-    c.calm_of.ensures ∙ ap (λ (all : List News). calm_below network all count) c.args.run.changes_are ∙ calm_skips network c.args.run.news.now count
+    c.calm_of.ensures ∙ ap (λ all. calm_below network all count) c.args.run.changes_are ∙ calm_skips network c.args.run.news.now count

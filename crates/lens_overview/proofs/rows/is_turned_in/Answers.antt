@@ -4,4 +4,4 @@ use Rattle.lens_overview.proofs.rows.is_turned_in.Goals as goal
 
 pub returns : goal.returns
 returns c =
-    c.is_turned.ensures ∙ ap (λ (all : List News). is_turned all c.args.device) c.args.run.changes_are ∙ turned_skips c.args.device c.args.run.news.now
+    c.is_turned.ensures ∙ ap (λ all. is_turned all c.args.device) c.args.run.changes_are ∙ turned_skips c.args.device c.args.run.news.now

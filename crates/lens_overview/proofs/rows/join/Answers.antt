@@ -18,12 +18,12 @@ returns-then-is_like c =
     get_or_read rows p c.index.result.now within
     (subst (λ (xs : List Row). c.index.result.now ≡ get_or xs p c.index.result.now) same c.index.ensures) none in
     let raises : c.add_receiver.new.row ≡ raised (get_or rows p none) =
-    c.add_receiver.ensures ∙ ap (λ (x : Row). raised x)
+    c.add_receiver.ensures ∙ ap (λ x. raised x)
     (get_or_read rows p c.index_mut.result.now within
     (subst (λ (xs : List Row). c.index_mut.result.now ≡ get_or xs p c.index_mut.result.now) same c.index_mut.ensures.value) none) in
     let cells : c.as_slice.result.now ≡ c.args.cells.items = c.as_slice.ensures.value in
     let like : is_like vl c.args.cells.items (get_or rows p none) ≡ true =
-    ap (λ (x : Row). is_like vl c.args.cells.items x) (sym row) ∙ ap (λ (xs : List Shade). is_like vl xs c.index.result.now) (sym cells)
+    ap (λ x. is_like vl c.args.cells.items x) (sym row) ∙ ap (λ xs. is_like vl xs c.index.result.now) (sym cells)
     ∙ sym c.is_like.ensures ∙ c.if-is_like.true in
     ap (λ (xs : List Row). set xs p c.add_receiver.new.row) same ∙ ap (λ (row : Row). set rows p row) raises
     ∙ joins_at c.args.flow.now c.args.cells.items rows p none within like ∙ sym c.rows.invariant.joins

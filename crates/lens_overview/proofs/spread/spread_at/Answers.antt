@@ -10,4 +10,4 @@ returns-in-Some c befallen hs k =
     let all : c.devices.place ≡ length c.args.network.now.device = grind (arith, c.devices-test.false, c.devices.auto.place-end, size, few) in
     ap (λ (n : ℕ). Some n) c.apart.ensures
     ∙ ap (λ (e : Option Ends). option_map apart e)
-    (sym c.in-Some.is ∙ c.devices.invariant.value befallen hs k ∙ ap (λ (n : ℕ). ends_at s hs c.args.time n) all)
+    (sym c.in-Some.is ∙ c.devices.invariant.value befallen hs k ∙ ap (λ n. ends_at s hs c.args.time n) all)

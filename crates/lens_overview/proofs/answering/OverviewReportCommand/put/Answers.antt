@@ -20,7 +20,7 @@ returns-in-Ok-clause-gives g c notes end r =
         each = missed_none network c.args.report.now.octets notes end c.requires.rules r;
         is = refl;
       },
-      subst (λ (all : List Piece). Gives (pieces_answer network title all) c.put_pieces.result (shown c.args.out.now) (shown c.put_pieces.new.out)) same
-          (subst (λ (t : List ℕ). Gives (pieces_answer network t c.as_slice.result.now) c.put_pieces.result (shown c.args.out.now)
+      subst (λ all. Gives (pieces_answer network title all) c.put_pieces.result (shown c.args.out.now) (shown c.put_pieces.new.out)) same
+          (subst (λ t. Gives (pieces_answer network t c.as_slice.result.now) c.put_pieces.result (shown c.args.out.now)
           (shown c.put_pieces.new.out)) c.of-title.ensures c.put_pieces.ensures.gives),
     )

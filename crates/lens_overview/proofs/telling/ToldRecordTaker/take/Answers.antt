@@ -27,7 +27,7 @@ returns-in-Ok c octets notes before begun next holds =
     let hs = happenings network notes in
     let old = c.args.self.now.news.items in
     let told = c.news_of-news.ensures (events_of notes) hs holds.index
-    ∙ ap (λ (all : List News). news_of network s hs all note) (c.as_slice.ensures.value ∙ holds.news) in
+    ∙ ap (λ all. news_of network s hs all note) (c.as_slice.ensures.value ∙ holds.news) in
     record {
       index = holds.index;
       news =
